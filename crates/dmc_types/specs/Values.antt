@@ -1,0 +1,39 @@
+-- What contracts see of the checked values.
+use Rattle.std.specs.Prelude.{ℕ, ◌≤◌, ◌<◌, ◌^◌, Option, IfSome}
+use Rattle.dmc_types.specs.declared.config.AtLimit.{AtLimit}
+
+-- the counts of a stamp
+pub record Params : Type 0 where
+  pub delta : ℕ
+  pub rho : ℕ
+
+-- the rates of a client, in requests a second
+pub record Rates : Type 0 where
+  pub reservation : Option ℕ
+  pub weight : ℕ
+  pub limit : Option ℕ
+
+-- how a queue is set up
+pub record Setting : Type 0 where
+  pub hz : ℕ
+  pub idle_age : ℕ
+  pub erase_age : ℕ
+  pub at_limit : AtLimit
+
+-- a rate is 1 or more
+abbrev pub IsRate : ℕ → Type 0
+IsRate q = 0 < q
+
+-- each rate that is there is 1 or more
+pub record AreRates (reservation : Option ℕ) (weight : ℕ) (limit : Option ℕ) : Type 0 where
+  pub reserved : IfSome reservation IsRate
+  pub weighed : IsRate weight
+  pub limited : IfSome limit IsRate
+
+-- the limits of a configuration
+pub record IsSetting (hz idle_age erase_age : ℕ) : Type 0 where
+  pub some_hz : 0 < hz
+  pub hz_limit : hz ≤ 1000000000
+  pub some_age : 0 < idle_age
+  pub in_order : idle_age ≤ erase_age
+  pub age_limit : erase_age ≤ 2 ^ 62

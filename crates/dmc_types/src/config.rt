@@ -1,0 +1,123 @@
+//! How a queue is set up.
+ghost use Rattle.std.specs.Prelude.{◌≡◌, ◌<◌, ◌≤◌, ◌^◌};
+ghost use Rattle.dmc_types.specs.Values.{IsSetting};
+ghost use Rattle.dmc_types.specs.declared.refusal.ValueFault.{ValueFault};
+
+use crate::refusal::ValueFault;
+use std::marker::Model;
+
+/// What a pull does while each queued request is past its limit.
+#[derive(Clone, Copy, Debug, PartialEq, Eq)]
+pub enum AtLimit {
+    /// It answers when a request will be due.
+    Wait,
+    /// It grants the best by shares, beyond its limit.
+    Allow,
+}
+
+/// Which completions a stamp counts.
+#[derive(Clone, Copy, Debug, PartialEq, Eq)]
+pub enum Counting {
+    /// Those at all servers since the last stamp to this one.
+    All,
+    /// Those at the other servers since then, and the request itself.
+    Others,
+}
+
+/// The phase in which a request was granted.
+#[derive(Clone, Copy, Debug, PartialEq, Eq)]
+pub enum PhaseType {
+    /// The constraint phase: its reservation was due.
+    Reservation,
+    /// The weight phase: it was the best by shares.
+    Priority,
+}
+
+/// Which tags a program runs on.
+#[derive(Clone, Copy, Debug, PartialEq, Eq)]
+pub enum TagKind {
+    /// Whole ticks.
+    Tick,
+    /// Fractions of ticks.
+    Ratio,
+}
+
+/// A queue's configuration: `hz` ticks a second (1 to 1,000,000,000), the ages in ticks after which a clean marks a
+/// client idle and erases it (1 to 2^62, `idle_age` at most `erase_age`), and what is done at the limit.
+#[derive(Clone, Copy, Debug, PartialEq, Eq)]
+pub struct QueueConfig {
+    hz: u32,
+    idle_age: u64,
+    erase_age: u64,
+    at_limit: AtLimit,
+}
+
+impl Model for QueueConfig {
+    ghost use Rattle.dmc_types.specs.Values.{Setting, IsSetting};
+
+    ghost Value = { Setting };
+
+    ghost view = { λ c. record { hz = c.hz; idle_age = c.idle_age; erase_age = c.erase_age; at_limit = c.at_limit } };
+
+    ghost invariant = { λ c. IsSetting c.hz c.idle_age c.erase_age };
+
+    ghost inverse = { λ c. record { hz = c.hz; idle_age = c.idle_age; erase_age = c.erase_age; at_limit = c.at_limit } };
+}
+
+impl QueueConfig {
+    /// A configuration; refused `Config` where one of its limits is broken.
+    pub fn new(
+        hz: u64,
+        idle_age: u64,
+        erase_age: u64,
+        at_limit: AtLimit,
+    ) -> Result<QueueConfig, ValueFault>
+        ensures ok { IsSetting hz idle_age erase_age →
+            result ≡ Ok (record { hz = hz; idle_age = idle_age; erase_age = erase_age; at_limit = at_limit }) }
+        ensures refused { (IsSetting hz idle_age erase_age → ⊥) → result ≡ Err ValueFault.Config }
+    {
+        let in_order = 1 <= idle_age && idle_age <= erase_age && erase_age <= 1 << 62;
+        if hz < 1 || hz > 1_000_000_000 || !in_order {
+            return Err(ValueFault::Config);
+        }
+        Ok(QueueConfig {
+            hz: hz as u32,
+            idle_age,
+            erase_age,
+            at_limit,
+        })
+    }
+
+    /// Ticks a second.
+    pub fn hz(self) -> u32
+        ensures value { result ≡ self.hz }
+        ensures some { 0 < result }
+        ensures limit { result ≤ 1000000000 }
+    {
+        self.hz
+    }
+
+    /// The age in ticks from which a clean marks a client idle.
+    pub fn idle_age(self) -> u64
+        ensures value { result ≡ self.idle_age }
+        ensures some { 0 < result }
+        ensures in_order { result ≤ self.erase_age }
+    {
+        self.idle_age
+    }
+
+    /// The age in ticks from which a clean erases a client.
+    pub fn erase_age(self) -> u64
+        ensures value { result ≡ self.erase_age }
+        ensures limit { result ≤ 2 ^ 62 }
+    {
+        self.erase_age
+    }
+
+    /// What a pull does at the limit.
+    pub fn at_limit(self) -> AtLimit
+        ensures { result ≡ self.at_limit }
+    {
+        self.at_limit
+    }
+}

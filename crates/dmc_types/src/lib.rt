@@ -1,0 +1,11 @@
+//! The checked values of dmClock: ids, moments, parameters, client infos, configurations and commands. None of them
+//! takes memory.
+#![tactic(auto)]
+
+pub mod command;
+pub mod config;
+pub mod ids;
+pub mod info;
+pub mod moment;
+pub mod params;
+pub mod refusal;

@@ -1,0 +1,50 @@
+//! Why a value or a command is refused.
+
+/// A value out of its limits.
+#[derive(Clone, Copy, Debug, PartialEq, Eq)]
+pub enum ValueFault {
+    /// A moment past 2^62 ticks.
+    Moment,
+    /// A rho past its delta.
+    Params,
+    /// A rate of 0.
+    Rate,
+    /// A configuration out of its limits.
+    Config,
+}
+
+/// Which rate of a client is meant.
+#[derive(Clone, Copy, Debug, PartialEq, Eq)]
+pub enum Field {
+    Reservation,
+    Weight,
+    Limit,
+}
+
+/// Why a queue refuses a command. A refused command changes nothing.
+#[derive(Clone, Copy, Debug, PartialEq, Eq)]
+pub enum Refusal {
+    /// The client is registered already.
+    Known,
+    /// The client is not registered.
+    Unknown,
+    /// A rate whose spacing is no value of the tag type.
+    Inexact(Field),
+    /// 65,536 clients are registered.
+    Clients,
+    /// 2^20 requests are queued.
+    QueueFull,
+    /// A sum that the command needs is no value of the tag type.
+    Range,
+    /// An update that gives or takes a reservation while the client has a queued request.
+    Busy,
+}
+
+/// Why a queue's call that may grow fails.
+#[derive(Clone, Copy, Debug, PartialEq, Eq)]
+pub enum QueueFault {
+    /// The rules refuse the command.
+    Refused(Refusal),
+    /// The allocator refused a growth. Nothing has changed.
+    Memory,
+}

@@ -1,0 +1,3 @@
+pub use Rattle.dmc_types.specs.Values
+pub mod Tag
+pub mod Rank

@@ -1,0 +1,124 @@
+//! Ranks: what the indexes over clients order by. Each compares its fields in turn.
+ghost use Rattle.std.proofs.Common.{refl};
+ghost use Rattle.std.specs.Cmp.{partial_order_from_agreeing_total, partial_equiv_from_equiv, eq_by_cmp_equiv};
+ghost use Rattle.std.specs.Ordering.{as_partial_cmp, eq_by_cmp};
+ghost use Rattle.dmc_tag.specs.Rank.{tag_rank_cmp, tag_rank_total, ready_rank_cmp, ready_rank_total};
+
+use dmc_types::ids::ClientId;
+use std::cmp::Ordering;
+
+/// A lawful total order: that of `Ord`, whose laws each implementation proves.
+pub trait Rank: Copy + Ord {}
+
+/// By tag, and then by client. An absent tag is last.
+#[derive(Clone, Copy, Debug)]
+pub struct TagRank<T> {
+    pub tag: Option<T>,
+    pub client: ClientId,
+}
+
+/// Unready first, then by tag, and then by client.
+#[derive(Clone, Copy, Debug, PartialEq, Eq, PartialOrd, Ord)]
+pub struct LimitRank<T> {
+    pub ready: bool,
+    pub tag: T,
+    pub client: ClientId,
+}
+
+/// Ready first, then by tag, and then by client.
+#[derive(Clone, Copy, Debug)]
+pub struct ReadyRank<T> {
+    pub ready: bool,
+    pub tag: T,
+    pub client: ClientId,
+}
+
+impl<T: Copy + Ord> Rank for TagRank<T> {}
+
+impl<T: Copy + Ord> Rank for LimitRank<T> {}
+
+impl<T: Copy + Ord> Rank for ReadyRank<T> {}
+
+impl<T: Ord> Ord for TagRank<T> {
+    ghost cmp = { tag_rank_cmp T.cmp };
+
+    ghost total = { tag_rank_total T.total };
+
+    ghost matches_partial_cmp = { λ a b. refl };
+
+    ghost matches_eq = { λ a b. refl };
+
+    fn cmp(&self, other: &TagRank<T>) -> Ordering {
+        let by_tag = match (&self.tag, &other.tag) {
+            (None, None) => Ordering::Equal,
+            (None, Some(_)) => Ordering::Greater,
+            (Some(_), None) => Ordering::Less,
+            (Some(a), Some(b)) => a.cmp(b),
+        };
+        by_tag.then(self.client.cmp(&other.client))
+    }
+}
+
+impl<T: Ord> PartialOrd for TagRank<T> {
+    ghost partial_cmp = { as_partial_cmp (tag_rank_cmp T.cmp) };
+
+    ghost laws = { partial_order_from_agreeing_total (tag_rank_cmp T.cmp) (tag_rank_total T.total) (λ a b. refl) (λ a b. refl) };
+
+    fn partial_cmp(&self, other: &TagRank<T>) -> Option<Ordering> {
+        Some(self.cmp(other))
+    }
+}
+
+impl<T: Ord> PartialEq for TagRank<T> {
+    ghost eq = { eq_by_cmp (tag_rank_cmp T.cmp) };
+
+    ghost laws = { partial_equiv_from_equiv (eq_by_cmp_equiv (tag_rank_total T.total)) };
+
+    fn eq(&self, other: &TagRank<T>) -> bool {
+        self.cmp(other).is_eq()
+    }
+}
+
+impl<T: Ord> Eq for TagRank<T> {
+    ghost laws = { eq_by_cmp_equiv (tag_rank_total T.total) };
+}
+
+impl<T: Ord> Ord for ReadyRank<T> {
+    ghost cmp = { ready_rank_cmp T.cmp };
+
+    ghost total = { ready_rank_total T.total };
+
+    ghost matches_partial_cmp = { λ a b. refl };
+
+    ghost matches_eq = { λ a b. refl };
+
+    fn cmp(&self, other: &ReadyRank<T>) -> Ordering {
+        let by_tag = self.tag.cmp(&other.tag);
+        let by_tag = by_tag.then(self.client.cmp(&other.client));
+        other.ready.cmp(&self.ready).then(by_tag)
+    }
+}
+
+impl<T: Ord> PartialOrd for ReadyRank<T> {
+    ghost partial_cmp = { as_partial_cmp (ready_rank_cmp T.cmp) };
+
+    ghost laws = { partial_order_from_agreeing_total (ready_rank_cmp T.cmp) (ready_rank_total T.total) (λ a b. refl) (λ a b. refl) };
+
+    fn partial_cmp(&self, other: &ReadyRank<T>) -> Option<Ordering> {
+        Some(self.cmp(other))
+    }
+}
+
+impl<T: Ord> PartialEq for ReadyRank<T> {
+    ghost eq = { eq_by_cmp (ready_rank_cmp T.cmp) };
+
+    ghost laws = { partial_equiv_from_equiv (eq_by_cmp_equiv (ready_rank_total T.total)) };
+
+    fn eq(&self, other: &ReadyRank<T>) -> bool {
+        self.cmp(other).is_eq()
+    }
+}
+
+impl<T: Ord> Eq for ReadyRank<T> {
+    ghost laws = { eq_by_cmp_equiv (ready_rank_total T.total) };
+}

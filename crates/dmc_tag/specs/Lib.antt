@@ -1,3 +1,10 @@
 pub use Rattle.dmc_types.specs.Values
 pub mod Tag
 pub mod Rank
+pub mod Outcome
+pub mod Spacing
+pub mod State
+pub mod Best
+pub mod Rules
+pub mod Step
+pub mod Replay

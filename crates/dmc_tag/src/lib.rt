@@ -1,5 +1,9 @@
 //! What dmClock is here: tags and their laws, the plain state and its rules, and what a scheduler promises.
 #![tactic(auto)]
 
+pub mod event;
+pub mod plain;
 pub mod rank;
+pub mod reply;
+pub mod spacing;
 pub mod tag;

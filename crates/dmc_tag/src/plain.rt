@@ -1,0 +1,32 @@
+//! The parts of a plain state: what dmClock knows of a request and of a client.
+use crate::reply::Tags;
+use dmc_types::ids::{ClientId, Token};
+use dmc_types::info::ClientInfo;
+use dmc_types::moment::Moment;
+
+/// A queued request.
+#[derive(Clone, Copy, Debug)]
+pub struct PlainRequest<T> {
+    pub client: ClientId,
+    pub token: Token,
+    pub tags: Tags<T>,
+}
+
+/// The tags of a client's last request, less what was taken off since. They are 0 at registration.
+#[derive(Clone, Copy, Debug)]
+pub struct Previous<T> {
+    pub r: T,
+    pub l: T,
+    pub p: T,
+}
+
+/// A registered client.
+#[derive(Clone, Copy, Debug)]
+pub struct PlainClient<T> {
+    pub id: ClientId,
+    pub info: ClientInfo,
+    pub previous: Previous<T>,
+    pub idle: bool,
+    /// The effective moment of its last accepted request, or of its registration if there is none.
+    pub last_arrival: Moment,
+}

@@ -1,0 +1,57 @@
+//! What a queue answers.
+use dmc_types::config::PhaseType;
+use dmc_types::ids::{ClientId, Token};
+use dmc_types::refusal::Refusal;
+
+/// The tags of a request: reservation (absent without one), limit and shares.
+#[derive(Clone, Copy, Debug, PartialEq, Eq)]
+pub struct Tags<T> {
+    pub r: Option<T>,
+    pub l: T,
+    pub p: T,
+}
+
+/// What a pull answers.
+#[derive(Clone, Copy, Debug, PartialEq, Eq)]
+pub enum Pulled {
+    /// A request is granted. `beyond` says that it is past its limit.
+    Returning {
+        client: ClientId,
+        token: Token,
+        phase: PhaseType,
+        beyond: bool,
+    },
+    /// No request is due before this moment, in ticks, and one is due then.
+    Future(u128),
+    /// Nothing is queued.
+    Nothing,
+}
+
+/// What a command is answered.
+#[derive(Clone, Copy, Debug, PartialEq, Eq)]
+pub enum Reply<T> {
+    Registered,
+    Updated,
+    /// A request was queued with these tags.
+    Tagged(Tags<T>),
+    /// A request is granted. `beyond` says that it is past its limit.
+    Granted {
+        client: ClientId,
+        token: Token,
+        phase: PhaseType,
+        beyond: bool,
+    },
+    /// No request is due before this moment, in ticks, and one is due then.
+    Later(u128),
+    /// Nothing is queued.
+    Nothing,
+    /// So many requests were taken out.
+    Removed(u32),
+    /// So many clients became idle, and so many were erased.
+    Cleaned {
+        idled: u32,
+        erased: u32,
+    },
+    /// The command is refused, and nothing has changed.
+    Refused(Refusal),
+}

@@ -1,0 +1,3 @@
+pub mod Tick
+pub mod TickExact
+pub mod Examples

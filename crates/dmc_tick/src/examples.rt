@@ -1,0 +1,122 @@
+//! Worked examples on the definitions: each contract holds by computation.
+ghost use Rattle.std.specs.Prelude.{◌≡◌, ◌∷◌, [], Some, None, pos};
+ghost use Rattle.dmc_types.specs.declared.config.AtLimit.TheVariants.{Wait};
+ghost use Rattle.dmc_types.specs.declared.refusal.Field.TheVariants as fields;
+ghost use Rattle.dmc_types.specs.declared.refusal.Refusal.TheVariants.{Known, Unknown, Inexact, Busy};
+ghost use Rattle.dmc_tag.specs.declared.reply.Reply.TheVariants.{Registered, Updated, Later, Nothing, Removed, Cleaned, Refused};
+ghost use Rattle.dmc_tick.specs.Examples.{waiting, allowing, setting, client, update, add, pull, drop_all, clean, tags, by_reservation, by_priority, by_priority_beyond, replies};
+
+/// A request over its limit waits until the limit lets it.
+pub fn granted_at_limit()
+    ensures { replies waiting
+        (client 1 (Some 10) 1 (Some 20) 0 ∷ add 1 7 1 1 0 ∷ pull 0 ∷ pull 50 ∷ pull 50 ∷ [])
+        ≡ (Registered ∷ tags (Some (pos 100)) (pos 50) (pos 1000) ∷ Later 50 ∷ by_priority 1 7 ∷ Nothing ∷ []) }
+{}
+
+/// A reservation that is due is granted in the constraint phase.
+pub fn granted_by_reservation()
+    ensures { replies waiting
+        (client 1 (Some 10) 1 None 0 ∷ add 1 9 0 0 0 ∷ pull 0 ∷ [])
+        ≡ (Registered ∷ tags (Some (pos 0)) (pos 0) (pos 0) ∷ by_reservation 1 9 ∷ []) }
+{}
+
+/// A client is registered once, and before its first request.
+pub fn unknown_and_known()
+    ensures { replies waiting
+        (add 5 1 1 1 0 ∷ client 1 None 1 None 0 ∷ client 1 None 2 None 0 ∷ [])
+        ≡ (Refused Unknown ∷ Registered ∷ Refused Known ∷ []) }
+{}
+
+/// Equal tags go to the least client.
+pub fn tie_by_client()
+    ensures { replies waiting
+        (client 2 (Some 10) 1 None 0 ∷ client 1 (Some 10) 1 None 0 ∷ add 2 1 1 1 0 ∷ add 1 1 1 1 0 ∷ pull 100 ∷
+        pull 100 ∷ [])
+        ≡ (Registered ∷ Registered ∷ tags (Some (pos 100)) (pos 0) (pos 1000) ∷
+        tags (Some (pos 100)) (pos 0) (pos 1000) ∷ by_reservation 1 1 ∷ by_reservation 2 1 ∷ []) }
+{}
+
+/// A Priority grant takes one spacing off the R tags that are left.
+pub fn reduced_reservation()
+    ensures { replies waiting
+        (client 1 (Some 10) 1 None 0 ∷ add 1 1 1 1 0 ∷ add 1 2 1 1 0 ∷ pull 0 ∷ pull 100 ∷ [])
+        ≡ (Registered ∷ tags (Some (pos 100)) (pos 0) (pos 1000) ∷ tags (Some (pos 200)) (pos 0) (pos 2000) ∷
+        by_priority 1 1 ∷ by_reservation 1 2 ∷ []) }
+{}
+
+/// A newcomer finds the shares of all others shifted to its moment.
+pub fn newcomer_shift()
+    ensures { replies waiting
+        (client 1 None 1 None 0 ∷ client 2 None 1 None 0 ∷ add 1 11 1 0 0 ∷ add 1 12 1 0 0 ∷ pull 0 ∷
+        add 2 21 1 0 500 ∷ pull 500 ∷ [])
+        ≡ (Registered ∷ Registered ∷ tags None (pos 0) (pos 1000) ∷ tags None (pos 0) (pos 2000) ∷
+        by_priority 1 11 ∷ tags None (pos 500) (pos 1000) ∷ by_priority 1 12 ∷ []) }
+{}
+
+/// In ticks a rate has to divide hz.
+pub fn inexact_weight()
+    ensures { replies waiting
+        (client 1 None 3 None 0 ∷ [])
+        ≡ (Refused (Inexact fields.Weight) ∷ []) }
+{}
+
+/// A moment that goes back counts as the last effective one.
+pub fn moment_goes_back()
+    ensures { replies waiting
+        (client 1 None 1 None 0 ∷ pull 50 ∷ add 1 1 0 0 30 ∷ pull 30 ∷ [])
+        ≡ (Registered ∷ Nothing ∷ tags None (pos 50) (pos 50) ∷ by_priority 1 1 ∷ []) }
+{}
+
+/// Requests are taken out; the previous tags stay.
+pub fn dropped_requests()
+    ensures { replies waiting
+        (client 1 None 1 None 0 ∷ add 1 1 1 0 0 ∷ add 1 2 1 0 0 ∷ drop_all 1 ∷ drop_all 1 ∷ add 1 3 1 0 0 ∷ [])
+        ≡ (Registered ∷ tags None (pos 0) (pos 1000) ∷ tags None (pos 0) (pos 2000) ∷ Removed 2 ∷ Removed 0 ∷
+        tags None (pos 0) (pos 3000) ∷ []) }
+{}
+
+/// A clean marks a client idle, and later erases it.
+pub fn idle_then_erased()
+    ensures { replies (setting 1000 100 1000 Wait)
+        (client 1 None 1 None 0 ∷ clean 100 ∷ add 1 1 0 0 100 ∷ pull 100 ∷ clean 199 ∷ clean 200 ∷ clean 1099 ∷
+        clean 1100 ∷ add 1 2 0 0 1100 ∷ [])
+        ≡ (Registered ∷ Cleaned 0 0 ∷ tags None (pos 100) (pos 100) ∷ by_priority 1 1 ∷ Cleaned 0 0 ∷ Cleaned 1 0 ∷
+        Cleaned 0 0 ∷ Cleaned 0 1 ∷ Refused Unknown ∷ []) }
+{}
+
+/// An adjustment may shift up.
+pub fn shifted_up()
+    ensures { replies waiting
+        (client 1 None 1 None 0 ∷ client 2 None 1 None 0 ∷ add 2 21 0 0 0 ∷ add 1 11 0 0 500 ∷ pull 500 ∷ pull 500 ∷ [])
+        ≡ (Registered ∷ Registered ∷ tags None (pos 0) (pos 0) ∷ tags None (pos 500) (pos 500) ∷ by_priority 1 11 ∷
+        by_priority 2 21 ∷ []) }
+{}
+
+/// A previous P tag may be shifted below 0.
+pub fn previous_below_zero()
+    ensures { replies waiting
+        (client 1 None 1 None 0 ∷ client 2 None 1 None 0 ∷ client 3 None 1 None 0 ∷ add 1 1 0 0 0 ∷ pull 0 ∷
+        add 2 1 1 0 0 ∷ add 3 1 1 0 0 ∷ add 1 2 1 0 0 ∷ pull 0 ∷ [])
+        ≡ (Registered ∷ Registered ∷ Registered ∷ tags None (pos 0) (pos 0) ∷ by_priority 1 1 ∷
+        tags None (pos 0) (pos 1000) ∷ tags None (pos 0) (pos 1000) ∷ tags None (pos 0) (pos 0) ∷
+        by_priority 1 2 ∷ []) }
+{}
+
+/// At limit Allow a request is granted beyond its limit where none is early or free.
+pub fn allowed_beyond()
+    ensures { replies allowing
+        (client 1 (Some 10) 1 (Some 20) 0 ∷ add 1 1 1 1 0 ∷ add 1 2 1 1 0 ∷ pull 0 ∷ pull 100 ∷ pull 100 ∷ [])
+        ≡ (Registered ∷ tags (Some (pos 100)) (pos 50) (pos 1000) ∷ tags (Some (pos 200)) (pos 100) (pos 2000) ∷
+        by_priority_beyond 1 1 ∷ by_reservation 1 2 ∷ Nothing ∷ []) }
+{}
+
+/// An update changes the rates of requests to come, and is refused where it gives or takes a reservation while one is queued.
+pub fn updates()
+    ensures { replies waiting
+        (client 1 None 1 None 0 ∷ add 1 1 1 0 0 ∷ update 1 None 2 None 0 ∷ add 1 2 1 0 0 ∷
+        update 1 (Some 10) 2 None 0 ∷ drop_all 1 ∷ update 1 (Some 10) 2 None 0 ∷ add 1 3 1 1 0 ∷
+        update 1 None 3 None 0 ∷ update 2 None 1 None 0 ∷ [])
+        ≡ (Registered ∷ tags None (pos 0) (pos 1000) ∷ Updated ∷ tags None (pos 0) (pos 1500) ∷ Refused Busy ∷
+        Removed 2 ∷ Updated ∷ tags (Some (pos 100)) (pos 0) (pos 2000) ∷ Refused (Inexact fields.Weight) ∷
+        Refused Unknown ∷ []) }
+{}

@@ -1,0 +1,5 @@
+//! Tick tags: whole numbers of ticks.
+#![tactic(auto)]
+
+pub mod examples;
+pub mod tick;

@@ -1,0 +1,91 @@
+//! The tick tag.
+ghost use Rattle.std.specs.Prelude.{◌≡◌};
+ghost use Rattle.std.proofs.Common.{refl};
+ghost use Rattle.dmc_tick.specs.Tick.{tick, tick_ops, tick_fraction, IsTickValue};
+ghost use Rattle.dmc_tick.specs.TickExact.{tick_exact};
+
+use dmc_tag::tag::Tag;
+use dmc_types::moment::Moment;
+use std::marker::Model;
+
+/// A whole number of ticks, of absolute value at most 2^90. Contracts see it as that number.
+#[derive(Clone, Copy, Debug, PartialEq, Eq, PartialOrd, Ord)]
+pub struct TickTag {
+    ticks: i128,
+}
+
+impl Model for TickTag {
+    ghost use Rattle.std.specs.Prelude.{ℤ, ◌≤◌, unsigned_abs};
+    ghost use Rattle.dmc_tick.specs.Tick.{greatest};
+
+    ghost Value = { ℤ };
+
+    ghost view = { λ a. a.ticks };
+
+    ghost invariant = { λ a. unsigned_abs a.ticks ≤ greatest };
+
+    ghost inverse = { λ z. record { ticks = z } };
+}
+
+/// The greatest absolute value of a tag.
+const GREATEST: i128 = 1 << 90;
+
+impl TickTag {
+    /// The tag of so many ticks; None past 2^90 or below -2^90.
+    pub fn new(ticks: i128) -> Option<TickTag>
+        ensures { result ≡ tick ticks }
+    {
+        if ticks < -GREATEST || ticks > GREATEST {
+            return None;
+        }
+        Some(TickTag { ticks })
+    }
+
+    /// How many ticks it is.
+    pub fn ticks(self) -> i128
+        ensures { result ≡ self }
+    {
+        self.ticks
+    }
+}
+
+impl Tag for TickTag {
+    ghost ops = { tick_ops };
+
+    ghost fraction = { tick_fraction };
+
+    ghost is_value = { IsTickValue };
+
+    ghost compares = { λ a b. refl };
+
+    ghost exact = { tick_exact };
+
+    fn of_moment(at: Moment) -> TickTag {
+        TickTag {
+            ticks: at.ticks() as i128,
+        }
+    }
+
+    fn spacing(hz: u32, rate: u32) -> Option<TickTag> {
+        if rate == 0 || !hz.is_multiple_of(rate) {
+            return None;
+        }
+        TickTag::new((hz / rate) as i128)
+    }
+
+    fn steps(self, k: u32) -> Option<TickTag> {
+        TickTag::new(k as i128 * self.ticks)
+    }
+
+    fn plus(self, other: TickTag) -> Option<TickTag> {
+        TickTag::new(self.ticks + other.ticks)
+    }
+
+    fn minus(self, other: TickTag) -> Option<TickTag> {
+        TickTag::new(self.ticks - other.ticks)
+    }
+
+    fn ceil(self) -> i128 {
+        self.ticks
+    }
+}

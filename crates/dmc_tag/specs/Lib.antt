@@ -8,3 +8,5 @@ pub mod Best
 pub mod Rules
 pub mod Step
 pub mod Replay
+pub mod Answers
+pub mod Steps

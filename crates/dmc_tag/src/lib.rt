@@ -1,9 +1,12 @@
 //! What dmClock is here: tags and their laws, the plain state and its rules, and what a scheduler promises.
 #![tactic(auto)]
 
+pub mod answers;
+pub mod assignment;
 pub mod event;
 pub mod plain;
 pub mod rank;
 pub mod reply;
+pub mod scheduler;
 pub mod spacing;
 pub mod tag;

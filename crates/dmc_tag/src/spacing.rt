@@ -1,4 +1,7 @@
 //! The spacings of a client's rates.
+ghost use Rattle.std.specs.Prelude.{◌≡◌};
+ghost use Rattle.dmc_tag.specs.Spacing.{spacing_of, optional_spacing, spacings_of};
+
 use crate::tag::Tag;
 use dmc_types::info::ClientInfo;
 use dmc_types::moment::Moment;
@@ -10,4 +13,34 @@ pub struct Spacings<T> {
     pub r: Option<T>,
     pub l: T,
     pub p: T,
+}
+
+fn spacing_for<T: Tag>(hz: u32, field: Field, rate: u32) -> Result<T, Field>
+    ensures { result ≡ spacing_of T.ops hz field rate }
+{
+    T::spacing(hz, rate).ok_or(field)
+}
+
+fn optional_spacing_for<T: Tag>(
+    hz: u32,
+    field: Field,
+    rate: Option<u32>,
+) -> Result<Option<T>, Field>
+    ensures { result ≡ optional_spacing T.ops hz field rate }
+{
+    match rate {
+        None => Ok(None),
+        Some(rate) => Ok(Some(spacing_for(hz, field, rate)?)),
+    }
+}
+
+/// The spacings of a client's rates, or the first whose spacing is no value: reservation, weight, limit (own).
+pub fn spacings_for<T: Tag>(hz: u32, info: ClientInfo) -> Result<Spacings<T>, Field>
+    ensures { result ≡ spacings_of T.ops hz info }
+{
+    let r = optional_spacing_for(hz, Field::Reservation, info.reservation())?;
+    let p = spacing_for(hz, Field::Weight, info.weight())?;
+    let l = optional_spacing_for(hz, Field::Limit, info.limit())?;
+    let l = l.unwrap_or(T::of_moment(Moment::zero()));
+    Ok(Spacings { r, l, p })
 }

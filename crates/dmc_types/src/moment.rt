@@ -1,5 +1,5 @@
 //! Time, which the caller hands in.
-ghost use Rattle.std.specs.Prelude.{◌≡◌, ◌<◌, ◌≤◌, ◌^◌};
+ghost use Rattle.std.specs.Prelude.{◌≡◌, ◌<◌, ◌≤◌, ◌^◌, max};
 ghost use Rattle.dmc_types.specs.declared.refusal.ValueFault.{ValueFault};
 
 use crate::refusal::ValueFault;
@@ -33,6 +33,20 @@ impl Moment {
             return Err(ValueFault::Moment);
         }
         Ok(Moment { ticks })
+    }
+
+    /// Where time starts.
+    pub fn zero() -> Moment
+        ensures { result ≡ 0 }
+    {
+        Moment { ticks: 0 }
+    }
+
+    /// The later of the two.
+    pub fn later(self, other: Moment) -> Moment
+        ensures { result ≡ max self other }
+    {
+        if other.ticks > self.ticks { other } else { self }
     }
 
     /// How many ticks it is.

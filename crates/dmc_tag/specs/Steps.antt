@@ -1,0 +1,13 @@
+-- What a scheduler promises of a call.
+use Rattle.std.specs.Prelude.{◌≡◌, Option, Some, None, List, Result, Ok, Err, IsOk, ◌<◌, ℕ, take, length}
+use Rattle.dmc_types.specs.declared.command.Command.{Command}
+use Rattle.dmc_tag.specs.Tag.{Tagging}
+use Rattle.dmc_tag.specs.State.{State, StandsFor}
+use Rattle.dmc_tag.specs.Step.{outcome, step}
+use Rattle.dmc_tag.specs.declared.reply.Reply.{Reply}
+
+-- From each plain state that the scheduler stands for, a call is that step; or it answers nothing for want of memory,
+-- where step refuses nothing, and stands for what it stood for.
+abbrev pub Steps : {T : Type 0} → Tagging T → State T → State T → Command → Option (Reply T) → Type 0
+Steps {T} ops old new command (Some reply) = (s : State T) → StandsFor old s → (reply ≡ (step ops s command).1) × StandsFor new ((step ops s command).0)
+Steps {T} ops old new command None = (s : State T) → StandsFor old s → IsOk (outcome ops s command) × StandsFor new s

@@ -1,0 +1,81 @@
+//! What a scheduler's calls answer, as replies. Want of memory is an error.
+ghost use Rattle.std.specs.Prelude.{◌≡◌};
+ghost use Rattle.std.specs.Result.{result_ok};
+ghost use Rattle.dmc_tag.specs.Answers.{told, told_surely, pull_reply, clean_reply};
+ghost use Rattle.dmc_tag.specs.declared.reply.Reply.TheVariants as replies;
+
+use crate::reply::{Pulled, Reply, Tags};
+use dmc_types::refusal::{QueueFault, Refusal};
+use std::alloc::AllocError;
+
+/// What `register` answered.
+pub fn registered<T>(answer: Result<(), QueueFault>) -> Result<Reply<T>, AllocError>
+    ensures { result_ok result ≡ told (λ _. replies.Registered) answer }
+{
+    match answer {
+        Ok(()) => Ok(Reply::Registered),
+        Err(QueueFault::Refused(refusal)) => Ok(Reply::Refused(refusal)),
+        Err(QueueFault::Memory) => Err(AllocError),
+    }
+}
+
+/// What `update_info` answered.
+pub fn updated<T>(answer: Result<(), Refusal>) -> Reply<T>
+    ensures { Some result ≡ told_surely (λ _. replies.Updated) answer }
+{
+    match answer {
+        Ok(()) => Reply::Updated,
+        Err(refusal) => Reply::Refused(refusal),
+    }
+}
+
+/// What `add_request` answered.
+pub fn tagged<T>(answer: Result<Tags<T>, QueueFault>) -> Result<Reply<T>, AllocError>
+    ensures { result_ok result ≡ told replies.Tagged answer }
+{
+    match answer {
+        Ok(tags) => Ok(Reply::Tagged(tags)),
+        Err(QueueFault::Refused(refusal)) => Ok(Reply::Refused(refusal)),
+        Err(QueueFault::Memory) => Err(AllocError),
+    }
+}
+
+/// What `pull_request` answered.
+pub fn pulled<T>(answer: Result<Pulled, Refusal>) -> Reply<T>
+    ensures { Some result ≡ told_surely pull_reply answer }
+{
+    match answer {
+        Ok(Pulled::Returning {
+            client,
+            token,
+            phase,
+            beyond,
+        }) => Reply::Granted {
+            client,
+            token,
+            phase,
+            beyond,
+        },
+        Ok(Pulled::Future(moment)) => Reply::Later(moment),
+        Ok(Pulled::Nothing) => Reply::Nothing,
+        Err(refusal) => Reply::Refused(refusal),
+    }
+}
+
+/// What `remove_by_client` answered.
+pub fn removed<T>(answer: Result<u32, Refusal>) -> Reply<T>
+    ensures { Some result ≡ told_surely replies.Removed answer }
+{
+    match answer {
+        Ok(count) => Reply::Removed(count),
+        Err(refusal) => Reply::Refused(refusal),
+    }
+}
+
+/// What `clean` answered.
+pub fn cleaned<T>(counts: (u32, u32)) -> Reply<T>
+    ensures { result ≡ clean_reply counts }
+{
+    let (idled, erased) = counts;
+    Reply::Cleaned { idled, erased }
+}

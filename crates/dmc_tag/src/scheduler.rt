@@ -1,0 +1,90 @@
+//! What every queue promises.
+ghost use Rattle.std.specs.Prelude.{◌≡◌, length, Some};
+ghost use Rattle.std.specs.Result.{result_ok};
+ghost use Rattle.dmc_tag.specs.Answers.{told, told_surely, pull_reply, clean_reply};
+ghost use Rattle.dmc_tag.specs.State.{State};
+ghost use Rattle.dmc_tag.specs.Steps.{Steps};
+ghost use Rattle.dmc_types.specs.declared.command.Command.TheVariants as commands;
+ghost use Rattle.dmc_tag.specs.declared.reply.Reply.TheVariants as replies;
+
+use crate::answers;
+use crate::reply::{Pulled, Reply, Tags};
+use crate::tag::Tag;
+use dmc_types::command::Command;
+use dmc_types::ids::{ClientId, Token};
+use dmc_types::info::ClientInfo;
+use dmc_types::moment::Moment;
+use dmc_types::params::ReqParams;
+use dmc_types::refusal::{QueueFault, Refusal};
+use std::alloc::AllocError;
+
+/// A queue of dmClock: each call is a step of the rules.
+pub trait Scheduler<T: Tag> {
+    /// A plain state of the scheduler. It stands for each state that agrees with this one client by client.
+    ghost state: { Self → State T };
+
+    /// Registers a client; refused `Known`, `Inexact`, `Clients`, in this order, and `Memory` last.
+    fn register(&mut self, client: ClientId, info: ClientInfo, at: Moment) -> Result<(), QueueFault>
+        ensures { Steps T.ops (state self.old) (state self.new) (commands.Register client info at)
+            (told (λ _. replies.Registered) result) };
+
+    /// Replaces a client's rates; refused `Unknown`, `Inexact`, `Busy`, in this order.
+    fn update_info(&mut self, client: ClientId, info: ClientInfo, at: Moment) -> Result<(), Refusal>
+        ensures { Steps T.ops (state self.old) (state self.new) (commands.Update client info at)
+            (told_surely (λ _. replies.Updated) result) };
+
+    /// Queues a request, and answers its tags; refused `Unknown`, `QueueFull`, `Range`, in this order, and `Memory` last.
+    fn add_request(
+        &mut self,
+        client: ClientId,
+        token: Token,
+        params: ReqParams,
+        at: Moment,
+    ) -> Result<Tags<T>, QueueFault>
+        ensures { Steps T.ops (state self.old) (state self.new) (commands.Add client token params at)
+            (told replies.Tagged result) };
+
+    /// Grants the next request, or tells when one is due; refused `Range`.
+    fn pull_request(&mut self, at: Moment) -> Result<Pulled, Refusal>
+        ensures { Steps T.ops (state self.old) (state self.new) (commands.Pull at) (told_surely pull_reply result) };
+
+    /// Takes out a client's queued requests, and answers how many; refused `Unknown`.
+    fn remove_by_client(&mut self, client: ClientId) -> Result<u32, Refusal>
+        ensures { Steps T.ops (state self.old) (state self.new) (commands.Remove client)
+            (told_surely replies.Removed result) };
+
+    /// Marks idle clients and erases old ones, and answers how many became idle and how many were erased.
+    fn clean(&mut self, at: Moment) -> (u32, u32)
+        ensures { Steps T.ops (state self.old) (state self.new) (commands.Clean at) (Some (clean_reply result)) };
+
+    /// How many clients are registered.
+    fn client_count(&self) -> u32
+        ensures { result ≡ length (state self.now).clients };
+
+    /// How many requests are queued.
+    fn request_count(&self) -> u32
+        ensures { result ≡ length (state self.now).requests };
+
+    /// The reply to a command. An error is want of memory, and changes nothing.
+    fn apply(&mut self, command: &Command) -> Result<Reply<T>, AllocError>
+        ensures { Steps T.ops (state self.old) (state self.new) command.now (result_ok result) }
+    {
+        match *command {
+            Command::Register { client, info, at } => {
+                answers::registered(self.register(client, info, at))
+            }
+            Command::Update { client, info, at } => {
+                Ok(answers::updated(self.update_info(client, info, at)))
+            }
+            Command::Add {
+                client,
+                token,
+                params,
+                at,
+            } => answers::tagged(self.add_request(client, token, params, at)),
+            Command::Pull { at } => Ok(answers::pulled(self.pull_request(at))),
+            Command::Remove { client } => Ok(answers::removed(self.remove_by_client(client))),
+            Command::Clean { at } => Ok(answers::cleaned(self.clean(at))),
+        }
+    }
+}

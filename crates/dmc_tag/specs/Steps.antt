@@ -11,3 +11,9 @@ use Rattle.dmc_tag.specs.declared.reply.Reply.{Reply}
 abbrev pub Steps : {T : Type 0} → Tagging T → State T → State T → Command → Option (Reply T) → Type 0
 Steps {T} ops old new command (Some reply) = (s : State T) → StandsFor old s → (reply ≡ (step ops s command).1) × StandsFor new ((step ops s command).0)
 Steps {T} ops old new command None = (s : State T) → StandsFor old s → IsOk (outcome ops s command) × StandsFor new s
+
+-- One step from this very state: its reply and its state; or nothing for want of memory, where step refuses nothing,
+-- and the state as it was.
+abbrev pub Exactly : {T : Type 0} → Tagging T → State T → State T → Command → Option (Reply T) → Type 0
+Exactly ops old new command (Some reply) = (new, reply) ≡ step ops old command
+Exactly ops old new command None = IsOk (outcome ops old command) × (new ≡ old)

@@ -45,12 +45,14 @@ pub fn pulled<T>(answer: Result<Pulled, Refusal>) -> Reply<T>
     ensures { Some result ≡ told_surely pull_reply answer }
 {
     match answer {
-        Ok(Pulled::Returning {
-            client,
-            token,
-            phase,
-            beyond,
-        }) => Reply::Granted {
+        Ok(
+            Pulled::Returning {
+                client,
+                token,
+                phase,
+                beyond,
+            },
+        ) => Reply::Granted {
             client,
             token,
             phase,

@@ -36,3 +36,14 @@ pub fn next_tags<T: Tag>(
     let p = next_tag(previous.p, params.delta(), spacings.p, t)?;
     Some(Tags { r, l, p })
 }
+
+/// The previous tags after a request with these. Without an R, the previous one stays.
+pub fn previous_after<T: Copy>(tags: Tags<T>, previous: Previous<T>) -> Previous<T>
+    ensures { result ≡ rules_of.previous_after tags previous }
+{
+    Previous {
+        r: tags.r.unwrap_or(previous.r),
+        l: tags.l,
+        p: tags.p,
+    }
+}

@@ -8,5 +8,6 @@ pub mod plain;
 pub mod rank;
 pub mod reply;
 pub mod scheduler;
+pub mod shifting;
 pub mod spacing;
 pub mod tag;

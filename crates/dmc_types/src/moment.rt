@@ -46,7 +46,11 @@ impl Moment {
     pub fn later(self, other: Moment) -> Moment
         ensures { result ≡ max self other }
     {
-        if other.ticks > self.ticks { other } else { self }
+        if other.ticks > self.ticks {
+            other
+        } else {
+            self
+        }
     }
 
     /// How many ticks it is.

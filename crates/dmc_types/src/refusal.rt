@@ -1,4 +1,9 @@
 //! Why a value or a command is refused.
+ghost use Rattle.std.specs.Prelude.{◌≡◌};
+ghost use Rattle.dmc_types.specs.declared.refusal.QueueFault.TheVariants.{Refused, Memory};
+ghost use Rattle.dmc_types.specs.declared.refusal.Refusal.TheVariants.{Inexact};
+
+use std::alloc::AllocError;
 
 /// A value out of its limits.
 #[derive(Clone, Copy, Debug, PartialEq, Eq)]
@@ -47,4 +52,28 @@ pub enum QueueFault {
     Refused(Refusal),
     /// The allocator refused a growth. Nothing has changed.
     Memory,
+}
+
+impl From<Refusal> for QueueFault {
+    ghost from_gives = { λ refusal fault. fault ≡ Refused refusal };
+
+    fn from(refusal: Refusal) -> QueueFault {
+        QueueFault::Refused(refusal)
+    }
+}
+
+impl From<AllocError> for QueueFault {
+    ghost from_gives = { λ _ fault. fault ≡ Memory };
+
+    fn from(_: AllocError) -> QueueFault {
+        QueueFault::Memory
+    }
+}
+
+impl From<Field> for Refusal {
+    ghost from_gives = { λ field refusal. refusal ≡ Inexact field };
+
+    fn from(field: Field) -> Refusal {
+        Refusal::Inexact(field)
+    }
 }

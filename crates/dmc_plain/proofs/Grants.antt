@@ -1,0 +1,24 @@
+-- What a grant or a removal gives once its test has passed.
+use Rattle.std.proofs.Common.{◌≡◌, ℕ, Bool, not, List, length, Option, Ok, Err, ap}
+use Rattle.dmc_types.specs.declared.config.PhaseType.TheVariants as phases
+use Rattle.dmc_tag.specs.Tag.{Tagging}
+use Rattle.dmc_tag.specs.State.{State, is_client, requests_of}
+use Rattle.dmc_tag.specs.Step.{step, settled}
+use Rattle.dmc_tag.specs.declared.reply.Reply.{Reply}
+use Rattle.dmc_tag.specs.declared.reply.Reply.TheVariants.{Removed}
+use Rattle.dmc_types.specs.declared.ids.ClientId.{ClientId}
+use Rattle.dmc_types.specs.declared.command.Command.TheVariants.{Remove}
+use Rattle.std.specs.Prelude.{filter, ⊤}
+use Rattle.dmc_tag.specs.Rules.{can_grant, without, grant_priority, reduced_by, granted, can_remove}
+use Rattle.dmc_tag.specs.Outcome.{◌>>=◌}
+use Rattle.dmc_tag.specs.declared.plain.PlainRequest.{PlainRequest}
+
+pub granted_as : {T : Type 0} (ops : Tagging T) (s : State T) (t : ℕ) (r : PlainRequest T) (others : List (PlainRequest T)) (beyond : Bool) (amount : Option T) → can_grant ops s.config.hz r.client s.clients others ≡ Ok amount → grant_priority ops s t (r, others) beyond ≡ Ok (reduced_by ops r.client amount (without s t others), granted r phases.Priority beyond)
+granted_as ops s t r others beyond amount e = ap (λ outcome. outcome >>= (λ amount. Ok (reduced_by ops r.client amount (without s t others), granted r phases.Priority beyond))) e
+
+-- the state and the reply of a removal
+abbrev pub removal : {T : Type 0} → ClientId → State T → State T × Reply T
+removal id s = (record s { requests = filter (λ r. not (is_client id r.client)) s.requests }, Removed (length (requests_of id s.requests)))
+
+pub removed_as : {T : Type 0} (ops : Tagging T) (s : State T) (id : ClientId) (x : ⊤) → can_remove s id ≡ Ok x → step ops s (Remove id) ≡ removal id s
+removed_as ops s id x e = ap (λ outcome. settled s (outcome >>= (λ _. Ok (removal id s)))) e

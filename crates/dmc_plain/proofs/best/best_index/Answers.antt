@@ -1,0 +1,21 @@
+use Rattle.std.proofs.Common.{◌≡◌, ◌<◌, ◌-◌, suc, length, drop, subst, arith}
+use Rattle.dmc_plain.specs.Sets.{members, order}
+use Rattle.dmc_plain.proofs.Found.{Found, found_more, found_all}
+use Rattle.dmc_plain.proofs.best.best_index.Goals as goal
+
+pub loop-i-preserved : goal.loop-i-preserved
+loop-i-preserved g c =
+    let before = order g.T.Tag.ops c.args.set.now in
+    let member = members g.T.Tag.ops c.args.set.now in
+    let next : c.loop-i.i ≡ suc (c.loop-i.i - 1) = omega arith in
+    let within : c.loop-i.i - 1 < length c.args.requests.now = omega arith in
+    let behind = subst (λ n. Found before member (drop n c.args.requests.now) n c.loop-i.found) next c.loop-i.invariant in
+    rw c.better_index-found.ensures (found_more before member c.args.requests.now c.index-requests-i.result (c.loop-i.i - 1) c.loop-i.found within c.index-requests-i.is behind)
+
+pub returns-clause-found : goal.returns-clause-found
+returns-clause-found g c =
+    let before = order g.T.Tag.ops c.args.set.now in
+    let member = members g.T.Tag.ops c.args.set.now in
+    let first : c.loop-i.i ≡ 0 = omega arith in
+    let all = subst (λ n. Found before member (drop n c.args.requests.now) n c.loop-i.found) first c.loop-i.invariant in
+    found_all before member c.args.requests.now c.loop-i.found all

@@ -1,0 +1,10 @@
+use Rattle.std.proofs.Common.{drop}
+use Rattle.dmc_plain.specs.Sets.{members, order}
+use Rattle.dmc_plain.proofs.Found.{Found}
+use Rattle.dmc_plain.proofs.best.best_index.Given as goal
+
+-- what is found is the best of those from i on
+abbrev pub invariant-loop-i : goal.invariant-loop-i
+invariant-loop-i g l =
+    let ops = g.T.Tag.ops in
+    Found (order ops l.set) (members ops l.set) (drop l.i l.requests) l.i l.found

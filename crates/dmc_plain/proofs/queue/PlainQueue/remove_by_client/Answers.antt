@@ -1,0 +1,8 @@
+use Rattle.std.proofs.Common.{ap, sym, ◌∙◌}
+use Rattle.dmc_plain.proofs.Grants.{removal, removed_as}
+use Rattle.dmc_plain.proofs.queue.PlainQueue.remove_by_client.Goals as goal
+
+pub returns : goal.returns
+returns g c =
+    let e = removed_as g.T.Tag.ops c.args.self.now c.args.client _ (sym c.can_remove.ensures ∙ c.in_ok-can_remove.was) in
+    rw (c.drop_of.ensures.items, c.count_of-count.ensures.value, c.deref.ensures.value) (ap (removal c.args.client) c.self.view_is ∙ sym e)

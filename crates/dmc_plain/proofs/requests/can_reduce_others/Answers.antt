@@ -1,0 +1,15 @@
+use Rattle.std.proofs.Common.{◌≡◌, ◌≤◌, ◌-◌, ◌&&◌, suc, true, length, take, drop, sym, ap, ◌∙◌, arith, add-one, length-drop}
+use Rattle.std.proofs.lemmas.List.{take_all}
+use Rattle.std.proofs.lemmas.List.Folds.{list_all-append}
+use Rattle.dmc_tag.specs.Rules.{requests_can_reduce}
+use Rattle.dmc_plain.proofs.requests.can_reduce_others.Goals as goal
+
+pub returns-then-can_reduce : goal.returns-then-can_reduce
+returns-then-can_reduce g c =
+    let all = requests_can_reduce g.T.Tag.ops c.args.id c.args.amount in
+    let front = take c.args.index c.args.requests.now in
+    let back = drop (suc c.args.index) c.args.requests.now in
+    let passed : all front ≡ true = sym c.can_reduce.ensures ∙ c.if-can_reduce.true in
+    let short : length back ≤ length c.args.requests.now - suc c.args.index = omega (arith, length-drop (suc c.args.index) c.args.requests.now) in
+    let rest : c.can_reduce-then-can_reduce.result ≡ all back = c.can_reduce-then-can_reduce.ensures ∙ ap all (rw add-one (take_all _ back short)) in
+    rest ∙ sym (list_all-append _ front back ∙ ap (λ b. b && all back) passed)

@@ -1,0 +1,215 @@
+//! Changes of each element of a list.
+ghost use Rattle.std.specs.Prelude.{◌≡◌, ◌≤◌, ◌++◌, ◌||◌, map, take, drop, if◌then◌else◌, vec_len};
+ghost use Rattle.std.specs.Option.{option_map};
+ghost use Rattle.dmc_tag.specs.State.{is_client};
+ghost use Rattle.dmc_tag.specs.Rules as rules_of;
+
+use crate::clients::is_active;
+use crate::requests::has_queued;
+use dmc_tag::assignment::previous_after;
+use dmc_tag::plain::{PlainClient, PlainRequest, Previous};
+use dmc_tag::reply::Tags;
+use dmc_tag::shifting::less;
+use dmc_tag::tag::Tag;
+use dmc_types::ids::ClientId;
+use dmc_types::info::ClientInfo;
+use dmc_types::moment::Moment;
+
+/// What a rule makes of an element.
+pub trait Change<X> {
+    ghost changed: { Self → X → X };
+
+    fn apply(&self, item: X) -> X
+        ensures { result ≡ changed self.now item };
+}
+
+/// Changes each element.
+pub fn change_each<X: Copy, C: Change<X>>(items: &mut [X], change: &C)
+    ensures { items.new ≡ map (C.changed change.now) items.old }
+{
+    for item in items.iter_mut() {
+        *item = change.apply(*item);
+    }
+}
+
+/// Changes each element of a vector.
+pub fn change_all<X: Copy, C: Change<X>>(items: &mut Vec<X>, change: &C)
+    ensures items { items.new.items ≡ map (C.changed change.now) items.old.items }
+    ensures len { vec_len items.new ≡ vec_len items.old }
+{
+    change_each(items, change)
+}
+
+/// Changes the first n elements of a vector.
+pub fn change_first<X: Copy, C: Change<X>>(items: &mut Vec<X>, n: usize, change: &C)
+    requires { n ≤ vec_len items.old }
+    ensures items { items.new.items ≡ map (C.changed change.now) (take n items.old.items) ++ drop n items.old.items }
+    ensures len { vec_len items.new ≡ vec_len items.old }
+{
+    for i in 0..n {
+        items[i] = change.apply(items[i]);
+    }
+}
+
+/// An update of a client's rates.
+#[derive(Drop)]
+pub struct Update {
+    pub client: ClientId,
+    pub info: ClientInfo,
+}
+
+impl<T> Change<PlainClient<T>> for Update {
+    ghost changed = { λ s c. if is_client s.client c.id then rules_of.with_info s.info c else c };
+
+    fn apply(&self, client: PlainClient<T>) -> PlainClient<T> {
+        if client.id != self.client {
+            return client;
+        }
+        PlainClient {
+            info: self.info,
+            ..client
+        }
+    }
+}
+
+/// The arrival of a client's request.
+#[derive(Drop)]
+pub struct Arrival<T> {
+    pub client: ClientId,
+    pub tags: Tags<T>,
+    pub at: Moment,
+}
+
+impl<T: Copy> Change<PlainClient<T>> for Arrival<T> {
+    ghost changed = { λ s c. if is_client s.client c.id then rules_of.after_arrival s.tags s.at c else c };
+
+    fn apply(&self, client: PlainClient<T>) -> PlainClient<T> {
+        if client.id != self.client {
+            return client;
+        }
+        PlainClient {
+            previous: previous_after(self.tags, client.previous),
+            idle: false,
+            last_arrival: self.at,
+            ..client
+        }
+    }
+}
+
+/// An adjustment of a client that is not idle.
+#[derive(Drop)]
+pub struct ClientShift<T> {
+    pub amount: T,
+}
+
+impl<T: Tag> Change<PlainClient<T>> for ClientShift<T> {
+    ghost changed = { λ s c. rules_of.shifted_client T.ops s.amount c };
+
+    fn apply(&self, client: PlainClient<T>) -> PlainClient<T> {
+        if client.idle {
+            return client;
+        }
+        let p = less(client.previous.p, self.amount);
+        let previous = Previous {
+            p,
+            ..client.previous
+        };
+        PlainClient { previous, ..client }
+    }
+}
+
+/// An adjustment of the requests of clients that are not idle.
+#[derive(Drop)]
+pub struct RequestShift<'a, T> {
+    pub amount: T,
+    pub clients: &'a [PlainClient<T>],
+}
+
+impl<'a, T: Tag> Change<PlainRequest<T>> for RequestShift<'a, T> {
+    ghost changed = { λ s r. rules_of.shifted_request T.ops s.amount s.clients.now r };
+
+    fn apply(&self, request: PlainRequest<T>) -> PlainRequest<T> {
+        if !is_active(self.clients, request.client) {
+            return request;
+        }
+        let p = less(request.tags.p, self.amount);
+        let tags = Tags { p, ..request.tags };
+        PlainRequest { tags, ..request }
+    }
+}
+
+/// A reduction of a client.
+#[derive(Drop)]
+pub struct ClientReduction<T> {
+    pub client: ClientId,
+    pub amount: T,
+}
+
+impl<T: Tag> Change<PlainClient<T>> for ClientReduction<T> {
+    ghost changed = { λ s c. if is_client s.client c.id then rules_of.reduced_client T.ops s.amount c else c };
+
+    fn apply(&self, client: PlainClient<T>) -> PlainClient<T> {
+        if client.id != self.client {
+            return client;
+        }
+        let r = less(client.previous.r, self.amount);
+        let previous = Previous {
+            r,
+            ..client.previous
+        };
+        PlainClient { previous, ..client }
+    }
+}
+
+/// A reduction of a client's requests.
+#[derive(Drop)]
+pub struct RequestReduction<T> {
+    pub client: ClientId,
+    pub amount: T,
+}
+
+impl<T: Tag> Change<PlainRequest<T>> for RequestReduction<T> {
+    ghost changed = { λ s r. rules_of.reduced_request T.ops s.client s.amount r };
+
+    fn apply(&self, request: PlainRequest<T>) -> PlainRequest<T> {
+        if request.client != self.client {
+            return request;
+        }
+        let r = match request.tags.r {
+            None => None,
+            Some(r) => Some(less(r, self.amount)),
+        };
+        let tags = Tags { r, ..request.tags };
+        PlainRequest { tags, ..request }
+    }
+}
+
+/// A clean of a client that is not erased.
+#[derive(Drop)]
+pub struct Mark<'a, T> {
+    pub requests: &'a [PlainRequest<T>],
+    pub at: Moment,
+    pub idle_age: u64,
+}
+
+impl<'a, T> Change<PlainClient<T>> for Mark<'a, T> {
+    ghost changed = { λ s c. record c { idle = c.idle || rules_of.is_stale s.requests.now s.at s.idle_age c } };
+
+    fn apply(&self, client: PlainClient<T>) -> PlainClient<T> {
+        let idle = client.idle || is_stale(self.requests, self.at, self.idle_age, &client);
+        PlainClient { idle, ..client }
+    }
+}
+
+/// Whether the client has nothing queued and its last arrival is so long ago.
+pub fn is_stale<T>(
+    requests: &[PlainRequest<T>],
+    at: Moment,
+    age: u64,
+    client: &PlainClient<T>,
+) -> bool
+    ensures { result ≡ rules_of.is_stale requests.now at age client.now }
+{
+    !has_queued(requests, client.id)
+        && at.ticks().saturating_sub(client.last_arrival.ticks()) >= age
+}

@@ -1,0 +1,3 @@
+pub mod Swaps
+pub mod Before
+pub mod BestSwaps

@@ -1,3 +1,4 @@
 pub mod Swaps
 pub mod Before
 pub mod BestSwaps
+pub mod Agreement

@@ -10,3 +10,4 @@ pub mod Step
 pub mod Replay
 pub mod Answers
 pub mod Steps
+pub mod Laws

@@ -4,6 +4,7 @@
 pub mod answers;
 pub mod assignment;
 pub mod event;
+pub mod laws;
 pub mod plain;
 pub mod rank;
 pub mod reply;

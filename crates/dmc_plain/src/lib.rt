@@ -8,3 +8,4 @@ mod clients;
 mod due;
 pub mod queue;
 mod requests;
+mod scheduler;

@@ -2,3 +2,4 @@ pub mod Swaps
 pub mod Before
 pub mod BestSwaps
 pub mod Agreement
+pub mod Running

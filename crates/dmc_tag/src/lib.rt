@@ -8,6 +8,7 @@ pub mod laws;
 pub mod plain;
 pub mod rank;
 pub mod reply;
+pub mod run;
 pub mod scheduler;
 pub mod shifting;
 pub mod spacing;

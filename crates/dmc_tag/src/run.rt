@@ -1,0 +1,39 @@
+//! Whole runs of commands.
+ghost use Rattle.std.specs.Prelude.{◌≤◌, length, take, IfOk, IfErr};
+ghost use Rattle.dmc_tag.specs.Steps.{Runs, Reaches};
+
+use crate::reply::Reply;
+use crate::scheduler::Scheduler;
+use crate::tag::Tag;
+use dmc_types::command::Command;
+use std::alloc::Global;
+
+/// Want of memory. The first `done` commands were carried out, and no other.
+#[derive(Clone, Copy, Debug, PartialEq, Eq)]
+pub struct Stop {
+    pub done: usize,
+}
+
+/// Hands the commands to the scheduler in order, and answers their replies.
+pub fn run_commands<T: Tag, S: Scheduler<T>>(
+    alloc: Global,
+    scheduler: &mut S,
+    commands: &[Command],
+) -> Result<Vec<Reply<T>>, Stop>
+    ensures replies { IfOk result (λ replies. Runs T.ops (S.state scheduler.old) (S.state scheduler.new) commands.now replies.items) }
+    ensures stop { IfErr result (λ stop. (stop.done ≤ length commands.now) × Reaches T.ops (S.state scheduler.old) (S.state scheduler.new) (take stop.done commands.now)) }
+{
+    let Ok(mut replies) = Vec::with_capacity(alloc, commands.len()) else {
+        return Err(Stop { done: 0 });
+    };
+    for (done, command) in commands.iter().enumerate() {
+        let reply = match scheduler.apply(command) {
+            Ok(reply) => reply,
+            Err(_) => return Err(Stop { done }),
+        };
+        if replies.push(reply).is_err() {
+            return Err(Stop { done: done + 1 });
+        }
+    }
+    Ok(replies)
+}

@@ -1,5 +1,5 @@
 -- What a grant or a removal gives once its test has passed.
-use Rattle.std.proofs.Common.{◌≡◌, ℕ, Bool, not, List, length, Option, Ok, Err, ap}
+use Rattle.std.proofs.Common.{◌≡◌, ℕ, Bool, not, List, length, Option, Ok, ap}
 use Rattle.dmc_types.specs.declared.config.PhaseType.TheVariants as phases
 use Rattle.dmc_tag.specs.Tag.{Tagging}
 use Rattle.dmc_tag.specs.State.{State, is_client, requests_of}

@@ -9,3 +9,5 @@ mod due;
 pub mod queue;
 mod requests;
 mod scheduler;
+#[cfg(test)]
+mod tests;

@@ -1,23 +1,21 @@
 -- States that agree client by client get the same replies, and still agree.
-use Rattle.std.proofs.Common.{◌≡◌, ℕ, suc, ◌-◌, ◌<◌, min, Bool, true, false, not, ◌&&◌, ◌||◌, cond, List, [], ◌∷◌, ◌++◌, map, length, Option, Some, None, Result, Ok, Err, refl, sym, ap, ◌∙◌, subst, arith}
+use Rattle.std.proofs.Common.{◌≡◌, ℕ, ◌-◌, min, Bool, true, false, not, ◌&&◌, ◌||◌, cond, List, [], ◌∷◌, map, length, Option, Some, None, Result, Ok, Err, refl, sym, ap, ◌∙◌, subst, arith}
 use mathlib.Core.Path.{fun_ext}
-use Rattle.std.specs.Prelude.{filter, fold, nat_le, IsOk, ⊤}
+use Rattle.std.specs.Prelude.{filter, fold, nat_le, IsOk}
 use Rattle.std.specs.Option.{ok_or, option_map, unwrap_or}
 use Rattle.std.specs.Cmp.{IsTotalOrder}
-use Rattle.dmc_types.specs.Values.{Setting, Rates, Params}
+use Rattle.dmc_types.specs.Values.{Setting, Params}
 use Rattle.dmc_types.specs.declared.ids.ClientId.{ClientId}
-use Rattle.dmc_types.specs.declared.ids.Token.{Token}
 use Rattle.dmc_types.specs.declared.config.AtLimit.{AtLimit}
 use Rattle.dmc_types.specs.declared.config.AtLimit.TheVariants.{Wait, Allow}
 use Rattle.dmc_types.specs.declared.config.PhaseType.TheVariants as phases
 use Rattle.dmc_types.specs.declared.refusal.Refusal.{Refusal}
-use Rattle.dmc_types.specs.declared.refusal.Refusal.TheVariants.{Unknown, QueueFull, Range, Busy}
+use Rattle.dmc_types.specs.declared.refusal.Refusal.TheVariants.{Unknown, QueueFull}
 use Rattle.dmc_types.specs.declared.command.Command.{Command}
 use Rattle.dmc_types.specs.declared.command.Command.TheVariants.{Register, Update, Add, Pull, Remove, Clean}
 use Rattle.dmc_tag.specs.Tag.{Tagging}
-use Rattle.dmc_tag.specs.Outcome.{◌>>=◌, refuse_if, in_range, exactly}
-use Rattle.dmc_tag.specs.Spacing.{spacings_of}
-use Rattle.dmc_tag.specs.State.{State, StandsFor, effective, is_client, has_queued, client_named, is_active, requests_of}
+use Rattle.dmc_tag.specs.Outcome.{◌>>=◌, refuse_if, in_range}
+use Rattle.dmc_tag.specs.State.{State, StandsFor, is_client, has_queued, client_named, is_active}
 use Rattle.dmc_tag.specs.Best.{best, by_reservation, by_shares, is_early, is_free, is_any}
 use Rattle.dmc_tag.specs.Rules as rules_of
 use Rattle.dmc_tag.specs.Rules.{Outcome}
@@ -29,7 +27,7 @@ use Rattle.dmc_tag.specs.declared.plain.PlainRequest.{PlainRequest}
 use Rattle.dmc_tag.specs.declared.plain.PlainClient.{PlainClient}
 use Rattle.dmc_tag.specs.declared.reply.Reply.{Reply}
 use Rattle.dmc_tag.specs.declared.reply.Reply.TheVariants.{Later, Removed, Cleaned, Refused}
-use Rattle.dmc_tag.proofs.Swaps.{Swaps, keep, of_key-swaps, folded-swaps, list_all-swaps, list_any-swaps, length-swaps, map-swaps, filter-swaps, append-swaps, agree-swaps}
+use Rattle.dmc_tag.proofs.Swaps.{Swaps, of_key-swaps, folded-swaps, list_all-swaps, list_any-swaps, length-swaps, map-swaps, filter-swaps, append-swaps, agree-swaps}
 use Rattle.dmc_tag.proofs.Before.{before_order}
 use Rattle.dmc_tag.proofs.BestSwaps.{SameBest, best-swaps}
 

@@ -1,5 +1,5 @@
 -- The best of a set is the same in lists that differ only by the order between requests of different clients.
-use Rattle.std.proofs.Common.{◌≡◌, ℕ, Bool, true, false, not, ◌&&◌, cond, List, [], ◌∷◌, Option, Some, None, refl, sym, ap, ◌∙◌}
+use Rattle.std.proofs.Common.{◌≡◌, ℕ, Bool, true, false, not, ◌&&◌, cond, List, ◌∷◌, Option, Some, None, refl, ◌∙◌}
 use Rattle.dmc_tag.specs.Best.{best, better}
 use Rattle.dmc_tag.proofs.Swaps.{Swaps, keep, swap, more, join}
 use Rattle.dmc_tag.proofs.Before.{IsOrder}

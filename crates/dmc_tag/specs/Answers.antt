@@ -1,13 +1,12 @@
 -- What a scheduler's calls answer, as replies. A call that wants memory has none.
-use Rattle.std.specs.Prelude.{ℕ, ⊤, Option, Some, None, Result, Ok, Err}
+use Rattle.std.specs.Prelude.{ℕ, Option, Some, None, Result, Ok, Err}
 use Rattle.dmc_types.specs.declared.refusal.Refusal.{Refusal}
 use Rattle.dmc_types.specs.declared.refusal.QueueFault.{QueueFault}
 use Rattle.dmc_types.specs.declared.refusal.QueueFault.TheVariants as faults
-use Rattle.dmc_tag.specs.declared.reply.Tags.{Tags}
 use Rattle.dmc_tag.specs.declared.reply.Pulled.{Pulled}
 use Rattle.dmc_tag.specs.declared.reply.Pulled.TheVariants as pulls
 use Rattle.dmc_tag.specs.declared.reply.Reply.{Reply}
-use Rattle.dmc_tag.specs.declared.reply.Reply.TheVariants.{Tagged, Granted, Later, Nothing, Removed, Cleaned, Refused}
+use Rattle.dmc_tag.specs.declared.reply.Reply.TheVariants.{Granted, Later, Nothing, Cleaned, Refused}
 
 -- a value is told as a reply, and so is a refusal; memory is not
 abbrev pub told : {T X : Type 0} → (X → Reply T) → Result X QueueFault → Option (Reply T)

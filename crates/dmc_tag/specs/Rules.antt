@@ -1,10 +1,10 @@
 -- The rules of dmClock over the plain state, each under its name.
-use Rattle.std.specs.Prelude.{◌≡◌, ℕ, ◌-◌, Bool, true, false, not, ◌&&◌, ◌||◌, List, [], ◌∷◌, ◌++◌, map, length, min, fold, Option, Some, None, is_some, is_none, Result, Ok, Err, if◌then◌else◌, nat_le, ◌==◌, ℤ, pos, negsuc, filter, ⊤}
+use Rattle.std.specs.Prelude.{ℕ, ◌-◌, Bool, true, false, not, ◌&&◌, ◌||◌, List, [], ◌∷◌, ◌++◌, map, length, min, fold, Option, Some, None, is_some, is_none, Result, Ok, if◌then◌else◌, nat_le, ℤ, pos, negsuc, filter, ⊤}
 use Rattle.std.specs.Option.{ok_or, unwrap_or, option_map, option_map_or, option_and_then}
 use Rattle.std.specs.Result.{result_ok}
 use Rattle.std.specs.List.{list_all}
 use Rattle.std.specs.Ordering.{ord_max}
-use Rattle.dmc_types.specs.Values.{Rates, Params, Setting}
+use Rattle.dmc_types.specs.Values.{Rates, Params}
 use Rattle.dmc_types.specs.declared.ids.ClientId.{ClientId}
 use Rattle.dmc_types.specs.declared.ids.Token.{Token}
 use Rattle.dmc_types.specs.declared.config.AtLimit.{AtLimit}
@@ -12,7 +12,7 @@ use Rattle.dmc_types.specs.declared.config.AtLimit.TheVariants.{Wait, Allow}
 use Rattle.dmc_types.specs.declared.config.PhaseType.{PhaseType}
 use Rattle.dmc_types.specs.declared.config.PhaseType.TheVariants as phases
 use Rattle.dmc_types.specs.declared.refusal.Refusal.{Refusal}
-use Rattle.dmc_types.specs.declared.refusal.Refusal.TheVariants.{Known, Unknown, Inexact, Clients, QueueFull, Range, Busy}
+use Rattle.dmc_types.specs.declared.refusal.Refusal.TheVariants.{Known, Unknown, Clients, QueueFull, Range, Busy}
 use Rattle.dmc_tag.specs.Tag.{Tagging}
 use Rattle.dmc_tag.specs.Outcome.{◌>>=◌, refuse_if, in_range, exactly}
 use Rattle.dmc_tag.specs.Spacing.{spacings_of}

@@ -1,5 +1,5 @@
 -- What a scheduler promises of a call.
-use Rattle.std.specs.Prelude.{◌≡◌, Option, Some, None, List, Result, Ok, Err, IsOk, ◌<◌, ℕ, take, length}
+use Rattle.std.specs.Prelude.{◌≡◌, Option, Some, None, List, IsOk}
 use Rattle.dmc_types.specs.declared.command.Command.{Command}
 use Rattle.dmc_tag.specs.Tag.{Tagging}
 use Rattle.dmc_tag.specs.State.{State, StandsFor}

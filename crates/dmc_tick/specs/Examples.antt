@@ -1,16 +1,13 @@
 -- Worked examples: the replies that the rules give, computed.
-use Rattle.std.specs.Prelude.{ℕ, ℤ, pos, List, [], ◌∷◌, Bool, true, false, Option, Some, None}
+use Rattle.std.specs.Prelude.{ℕ, ℤ, List, true, false, Option}
 use Rattle.dmc_types.specs.Values.{Setting}
-use Rattle.dmc_types.specs.declared.ids.ClientId.{ClientId}
 use Rattle.dmc_types.specs.declared.config.AtLimit.{AtLimit}
 use Rattle.dmc_types.specs.declared.config.AtLimit.TheVariants.{Wait, Allow}
 use Rattle.dmc_types.specs.declared.config.PhaseType.TheVariants as phases
-use Rattle.dmc_types.specs.declared.refusal.Field.TheVariants as fields
-use Rattle.dmc_types.specs.declared.refusal.Refusal.TheVariants.{Known, Unknown, Inexact, Busy}
 use Rattle.dmc_types.specs.declared.command.Command.{Command}
 use Rattle.dmc_types.specs.declared.command.Command.TheVariants.{Register, Update, Add, Pull, Remove, Clean}
 use Rattle.dmc_tag.specs.declared.reply.Reply.{Reply}
-use Rattle.dmc_tag.specs.declared.reply.Reply.TheVariants.{Registered, Updated, Tagged, Granted, Later, Nothing, Removed, Cleaned, Refused}
+use Rattle.dmc_tag.specs.declared.reply.Reply.TheVariants.{Tagged, Granted}
 use Rattle.dmc_tag.specs.Replay.{replies_of}
 use Rattle.dmc_tag.specs.State.{opening}
 use Rattle.dmc_tick.specs.Tick.{tick_ops}

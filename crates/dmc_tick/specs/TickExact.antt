@@ -1,5 +1,5 @@
 -- The operations of tick tags are exact.
-use Rattle.std.specs.Prelude.{◌≡◌, ℕ, suc, ◌+◌, ◌*◌, ◌/◌, ◌%◌, ◌<◌, ◌≤◌, ◌≤ℤ◌, Bool, true, false, not, ◌||◌, ℤ, pos, negsuc, neg_ℤ, ◌+ℤ◌, ◌-ℤ◌, ◌*ℤ◌, Option, Some, None, cond, nat_le, nat_eq, unsigned_abs}
+use Rattle.std.specs.Prelude.{◌≡◌, ℕ, suc, ◌+◌, ◌*◌, ◌/◌, ◌%◌, ◌<◌, ◌≤◌, ◌≤ℤ◌, Bool, true, false, not, ◌||◌, ℤ, pos, negsuc, neg_ℤ, ◌+ℤ◌, ◌-ℤ◌, ◌*ℤ◌, Some, None, cond, nat_le, nat_eq, unsigned_abs}
 use Rattle.std.specs.declared.cmp.Ordering.TheVariants.{Equal}
 use Rattle.std.specs.Ordering.{int_cmp}
 use Rattle.std.proofs.Common.{refl, sym, ap, ◌∙◌, subst, arith}
@@ -9,7 +9,7 @@ use Rattle.std.proofs.lemmas.Int.{unsigned_abs-mul}
 use Rattle.std.proofs.lemmas.Nat.{mod-mul-add, div-add-mod'}
 use Rattle.std.proofs.Math.Nat.{mul-le-mul_left}
 use Rattle.dmc_tag.specs.Tag.{Fraction, Gives, IsExact, ratio}
-use Rattle.dmc_tick.specs.Tick.{tick, tick_spacing, tick_ops, tick_fraction, IsTickValue, greatest}
+use Rattle.dmc_tick.specs.Tick.{tick, tick_ops, tick_fraction, IsTickValue, greatest}
 
 times_one : (z : ℤ) → z *ℤ pos 1 ≡ z
 times_one (pos n) = ap pos (omega arith)

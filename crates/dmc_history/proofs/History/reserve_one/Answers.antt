@@ -1,0 +1,35 @@
+use Rattle.std.proofs.Common.{arith}
+use Rattle.std.proofs.lemmas.Grind.{common_steps}
+use Rattle.dmc_history.proofs.BlockLemmas.{length-events_of, len-le, AreFilled-push}
+use Rattle.dmc_history.proofs.History.reserve_one.Goals as goal
+
+pub returns-then-self-clause-full : goal.returns-then-self-clause-full
+returns-then-self-clause-full g c =
+    let counted = length-events_of _ _ c.self.invariant.0 in
+    rw (← c.self.view_is) (grind (arith, common_steps, counted))
+
+pub invariant_of-self : goal.invariant_of-self
+invariant_of-self g c =
+    let (b, added, empty, memory) = c.in_ok-add_block.ensures.ok in
+    let bound = len-le _ _ c.self.invariant.0 in
+    (rw added (AreFilled-push _ _ b c.self.invariant.0 (omega arith) empty memory), c.self.invariant.1)
+
+pub returns-in_err-add_block-clause-full : goal.returns-in_err-add_block-clause-full
+returns-in_err-add_block-clause-full g c =
+    let counted = length-events_of _ _ c.self.invariant.0 in
+    rw (← c.self.view_is) (grind (arith, common_steps, counted))
+
+pub returns-in_ok-add_block-clause-full : goal.returns-in_ok-add_block-clause-full
+returns-in_ok-add_block-clause-full g c =
+    let counted = length-events_of _ _ c.self.invariant.0 in
+    rw (← c.self.view_is) (grind (arith, common_steps, counted))
+
+pub returns-else-self-len-clause-ok : goal.returns-else-self-len-clause-ok
+returns-else-self-len-clause-ok g c =
+    let bound = len-le _ _ c.self.invariant.0 in
+    rw (← c.self.view_is) (omega arith)
+
+pub returns-else-self-len-clause-full : goal.returns-else-self-len-clause-full
+returns-else-self-len-clause-full g c =
+    let counted = length-events_of _ _ c.self.invariant.0 in
+    rw (← c.self.view_is) (grind (arith, common_steps, counted))

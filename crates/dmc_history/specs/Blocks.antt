@@ -1,0 +1,24 @@
+-- How a history keeps its events. No public clause cites this module.
+use Rattle.std.specs.Prelude.{◌≡◌, ℕ, ◌-◌, ◌*◌, ◌<◌, ◌≤◌, ◌^◌, List, [], ◌∷◌, length, min, vec_capacity}
+use Rattle.std.specs.List.{flat_map}
+use Rattle.std.specs.Global.{Vec}
+
+module _ {E : Type 0} where
+  -- the events of all blocks, oldest first
+  abbrev pub events_of : List (Vec E) → List E
+  events_of blocks = flat_map (λ b. b.items) blocks
+
+  -- the blocks hold so many events: each has memory for 1,024, and is full before the next begins
+  abbrev pub AreFilled : List (Vec E) → ℕ → Type 0
+  AreFilled [] len = len ≡ 0
+  AreFilled (b ∷ bs) len = (1024 ≤ vec_capacity b) × (length b.items ≡ min len 1024) × AreFilled bs (len - 1024)
+
+  -- for how many more events there is a place, of at most `most`
+  abbrev pub room_of : List (Vec E) → ℕ → ℕ → ℕ
+  room_of blocks len most = min (1024 * length blocks) most - len
+
+-- the limits of a history
+pub record AreLimits (len most : ℕ) : Type 0 where
+  pub some : 0 < most
+  pub greatest : most ≤ 2 ^ 30
+  pub within : len ≤ most

@@ -1,0 +1,211 @@
+//! A history: a list of events that only grows, kept in blocks of 1,024, so that a growth copies no event.
+#![tactic(auto)]
+
+ghost use Rattle.std.specs.Prelude.{◌≡◌, ◌↔◌, ◌+◌, ◌-◌, ◌<◌, ◌≤◌, ◌^◌, [], ◌∷◌, ◌++◌, length, IsTrue, OnOk, OnErr, IsErrOf, IsOk, option_copied, slice_get, vec_capacity};
+ghost use Rattle.std.specs.Global.{Vec};
+
+use std::alloc::{AllocError, Global};
+use std::marker::Model;
+
+// How many events a block has room for.
+const BLOCK: usize = 1024;
+
+/// A history that could not be made: `most` was not 1 to 2^30.
+#[derive(Clone, Copy, Debug, PartialEq, Eq)]
+pub enum LimitFault {
+    Limit,
+}
+
+/// Why no place was reserved. The history is as it was.
+#[derive(Clone, Copy, Debug, PartialEq, Eq)]
+pub enum ReserveFault {
+    /// It has its `most` events.
+    HistoryFull,
+    /// The allocator refused a growth.
+    Memory,
+}
+
+impl From<AllocError> for ReserveFault {
+    ghost use Rattle.dmc_history.specs.declared.ReserveFault.TheVariants.{Memory};
+
+    ghost from_gives = { λ _ e. e ≡ Memory };
+
+    fn from(_error: AllocError) -> ReserveFault {
+        ReserveFault::Memory
+    }
+}
+
+/// A list of at most `most` events (1 to 2^30), oldest first.
+///
+/// An event goes in by two calls: `reserve_one`, which may need memory, and `push_reserved`, which needs none. Each push
+/// uses up one reserved place. Contracts see the events, `most`, and how many places are reserved.
+#[derive(Drop)]
+pub struct History<E> {
+    alloc: Global,
+    blocks: Vec<Vec<E>>,
+    len: usize,
+    most: u32,
+}
+
+impl<E> Model for History<E> {
+    ghost use Rattle.std.specs.Prelude.{vec_len};
+    ghost use Rattle.dmc_history.specs.Log.{Log};
+
+    ghost Value = { Log E };
+
+    ghost use Rattle.dmc_history.specs.Blocks.{events_of, room_of, AreFilled, AreLimits};
+
+    ghost view = { λ h. record {
+      events = events_of h.blocks.items;
+      most = h.most;
+      room = room_of h.blocks.items h.len h.most;
+    } };
+
+    ghost invariant = { λ h. AreFilled h.blocks.items h.len × AreLimits h.len h.most };
+}
+
+impl<E: Drop> History<E> {
+    /// An empty history of at most `most` events, which takes no memory; refused `Limit` where `most` is not 1 to 2^30.
+    pub fn new(alloc: Global, most: u32) -> Result<History<E>, LimitFault>
+        ensures ok { (0 < most) × (most ≤ 2 ^ 30) → result ≡ Ok (record { events = []; most = most; room = 0 }) }
+        ensures refused { ((0 < most) × (most ≤ 2 ^ 30) → ⊥) → result ≡ Err LimitFault.Limit }
+    {
+        if most < 1 || most > 1 << 30 {
+            return Err(LimitFault::Limit);
+        }
+        Ok(History {
+            alloc,
+            blocks: Vec::new(alloc),
+            len: 0,
+            most,
+        })
+    }
+
+    /// How many events it has.
+    pub fn len(&self) -> usize
+        ensures value { result ≡ length self.now.events }
+        ensures bound { result + self.now.room ≤ self.now.most }
+    {
+        self.len
+    }
+
+    /// Whether it has no event.
+    pub fn is_empty(&self) -> bool
+        ensures { IsTrue result ↔ (self.now.events ≡ []) }
+    {
+        self.len == 0
+    }
+
+    /// How many events it may have.
+    pub fn most(&self) -> u32
+        ensures value { result ≡ self.now.most }
+        ensures some { 0 < result }
+        ensures limit { result ≤ 2 ^ 30 }
+    {
+        self.most
+    }
+
+    /// The event at an index, counted from 0, or `None` past the end.
+    pub fn at(&self, index: usize) -> Option<&E>
+        ensures { option_copied result ≡ slice_get self.now.events index }
+    {
+        self.blocks.get(index / BLOCK)?.get(index % BLOCK)
+    }
+
+    /// Reserves a place, which the next push uses: refused `HistoryFull` exactly where it has its `most` events, then
+    /// `Memory` where the allocator refused a growth. A place that is reserved already serves again, and needs no memory.
+    pub fn reserve_one(&mut self) -> Result<(), ReserveFault>
+        ensures ok { OnOk result (0 < self.new.room) }
+        ensures full { IsErrOf result ReserveFault.HistoryFull ↔ (length self.old.events ≡ self.old.most) }
+        ensures reserved { 0 < self.old.room → IsOk result }
+
+        // The events stay, whatever the result, and so does a place that was there.
+        ensures events { self.new.events ≡ self.old.events }
+        ensures most { self.new.most ≡ self.old.most }
+        ensures kept { 0 < self.old.room → self.new.room ≡ self.old.room }
+        ensures err { OnErr result (self.new.room ≡ self.old.room) }
+    {
+        if self.len == self.most as usize {
+            return Err(ReserveFault::HistoryFull);
+        }
+        if self.len / BLOCK == self.blocks.len() {
+            add_block(self.alloc, &mut self.blocks)?;
+        }
+        Ok(())
+    }
+
+    /// Puts an event at the end, in a reserved place.
+    pub fn push_reserved(&mut self, event: E)
+        requires { 0 < self.old.room }
+        ensures events { self.new.events ≡ self.old.events ++ event ∷ [] }
+        ensures most { self.new.most ≡ self.old.most }
+        ensures used { self.new.room + 1 ≡ self.old.room }
+    {
+        let block = &mut self.blocks[self.len / BLOCK];
+        block.push(event).unwrap();
+        self.len += 1;
+    }
+}
+
+// Adds an empty block at the end.
+fn add_block<E: Drop>(alloc: Global, blocks: &mut Vec<Vec<E>>) -> Result<(), AllocError>
+    ensures ok { OnOk result
+        ((b : Vec E) × (blocks.new.items ≡ blocks.old.items ++ b ∷ []) × (b.items ≡ []) × (1024 ≤ vec_capacity b)) }
+    ensures err { OnErr result (blocks.new.items ≡ blocks.old.items) }
+{
+    let block = Vec::with_capacity(alloc, BLOCK)?;
+    blocks.push(block)?;
+    Ok(())
+}
+
+#[cfg(test)]
+mod tests {
+    use super::*;
+    use std::process::Abort;
+    use std::test::Fail;
+
+    // Records one event. Where a growth is refused the history has as many events as before, and the next try is Ok.
+    fn record(rt: &impl Abort, history: &mut History<u32>, event: u32) -> Result<(), Fail> {
+        let before = history.len();
+        if let Err(fault) = history.reserve_one() {
+            assert_eq!(rt; fault, ReserveFault::Memory);
+            assert_eq!(rt; history.len(), before);
+            history.reserve_one()?;
+        }
+        history.push_reserved(event);
+        Ok(())
+    }
+
+    #[test]
+    fn history_limit(rt: HostRuntime) -> Result<(), Fail> {
+        assert!(rt; History::<u32>::new(rt.alloc(), 0).is_err());
+        assert!(rt; History::<u32>::new(rt.alloc(), (1 << 30) + 1).is_err());
+        let mut history = History::new(rt.alloc(), 2)?;
+        assert_eq!(rt; history.most(), 2);
+        assert!(rt; history.is_empty());
+        for event in [7, 8] {
+            history.reserve_one()?;
+            history.push_reserved(event);
+        }
+        assert_eq!(rt; history.reserve_one(), Err(ReserveFault::HistoryFull));
+        assert_eq!(rt; history.len(), 2);
+        assert!(rt; !history.is_empty());
+        assert_eq!(rt; history.at(1).copied(), Some(8));
+        assert_eq!(rt; history.at(2).copied(), None);
+        Ok(())
+    }
+
+    #[test]
+    fn history_blocks(rt: HostRuntime) -> Result<(), Fail> {
+        let mut history = History::new(rt.alloc(), 3000)?;
+        for event in 0..2049 {
+            record(&rt, &mut history, event)?;
+        }
+        assert_eq!(rt; history.len(), 2049);
+        for index in [0, 1023, 1024, 2048] {
+            assert_eq!(rt; history.at(index).copied(), Some(index as u32));
+        }
+        assert_eq!(rt; history.at(2049).copied(), None);
+        Ok(())
+    }
+}

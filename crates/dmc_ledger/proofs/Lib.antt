@@ -1,0 +1,6 @@
+mod Agreed
+mod Ledger
+mod Rows
+mod Shared
+mod Sums
+mod Walks

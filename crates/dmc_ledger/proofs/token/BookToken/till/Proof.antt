@@ -1,0 +1,27 @@
+-- `till` adds a row behind the last one of its book.
+use Rattle.dmc_ledger.proofs.Walks.{◌≡◌, ℕ, zero, ◌+◌, List, [], ◌∷◌, refl, proved, ftrue, flft, fex, Fn, a_type, dcons, dnil, named, Val, vptr, inst_fn, tables, ‵, raw, ◌⊛◌, later, ◌$◌, ◌∵◌, !, qed, by, move, keep, split, join, fsplit, fsplit3, fjoin, fjoin3, fpick, suffices, frame, use0, use1, await, feq_i, no_more, and_then, returns, enter, alloc_all, pass_all, free_all, look_at, get, sets, agg, RattleType, owns, types_at, plain, mut_vals, mut_Tells, nothing, opens, closes, param, bounded, Stays, stay_ref, walk_of, ends_at, Goes-ref, token, Mark, made, tells_all, book_owns, till_owns}
+use Rattle.dmc_ledger.specs.contracts.token.BookToken as Book
+use Rattle.dmc_ledger.specs.contracts.token.TillToken as Till
+use Rattle.dmc_ledger.proofs.Ledger.{opens_till}
+use Rattle.dmc_ledger.specs.contracts.token.BookToken.till.{ended, clauses}
+use Rattle.dmc_ledger.specs.contracts.token.BookToken.till.Key.{name as #self}
+use Rattle.dmc_ledger.proofs.token.BookToken.till.Statement.{statement}
+use Rattle.dmc_ledger.proofs.token.BookToken.till.Code as code
+
+pub till_spec : {M : Type 1} → statement M
+till_spec 𝓤 𝓛 𝓜 𝓡 wired S _ g d _ =
+    let H = 𝓛.H in let 𝓣 = tables 𝓤 H 𝓜 𝓡 𝓡.env in let En = ended S g d in let inst = bounded (a_type ∷ []) (S, tt) (dcons d dnil) in let fn : Fn = inst_fn inst code.function in
+    let c = clauses S g d 𝓛 𝓜.mem 𝓡.returns in let A : RattleType = Book.the_row (param 0 S) g in let N : RattleType = Till.the_row (param 0 S) g in
+    let hs : Stays En.signature.params En.kept = (stay_ref (0 ∷ []) tt (plain (λ _. A)), tt) in
+    proved 𝓛 En hs c 𝓜 𝓡 (Goes-ref 𝓛 2 0 tt (plain (λ _. A)), tt) (#self inst) fn (code.unfolded 𝓤 H 𝓜 𝓡 wired (S, tt) d)
+    (λ κs. (mut_vals, tt)) (λ κs. (mut_Tells (named 0) κs.0 A, tt)) (λ κs qs bounds a gh are.
+    let r = a.0 in let old : A.Denot = r.now in let u : Val = vptr r.ref_ptr.0 r.ref_ptr.1 in
+    let y : (walk_of 𝓛 En hs c).Ghost = ((κs, qs, bounds, a, (u ∷ [], tt)), gh) in let old' : A.Denot = record old { tills = old.tills + 1 } in
+    qed 𝓛 (((‵ (flft κs.0 qs.0) ⊛ ‵ (flft κs.1.0 qs.1.0) ⊛ ‵ ftrue) ⊛ ‵ (owns (types_at En.signature.params κs) a y.0.4)) ∷ raw ((c κs a).requires gh) ∷ []) ∵ split ! $ split ! $ move ! (2 ∷ []) $ fsplit ! $ fsplit3 ! $ keep ! (1 ∷ 2 ∷ 4 ∷ 5 ∷ []) $
+    enter ! 𝓣.C 𝓣.Λ fn (u ∷ []) _ $ alloc_all ! (λ l. pass_all ! refl ((tt, tt), tt) $ opens ! tt A r.ref_ptr.0 r.ref_ptr.1 (λ cs. move ! (1 ∷ []) $ fsplit ! $ move ! (1 ∷ []) $
+    use1 𝓛 (later (‵ (book_owns g.name old.number old.rows (old.tills + 1) old.held) ⊛ ‵ (fex ℕ (λ k. till_owns g.name old.number old.rows k 0)))) (opens_till 𝓛 g.name old.number old.rows old.tills old.held) $ await ! tt $ split ! $ move ! (1 ∷ []) $ fpick ! (λ k. let new : N.Denot = record { marker = record {}; number = old.number; rows = old.rows; row = k; amount = 0 } in
+    move ! (2 ∷ 1 ∷ []) $ fjoin ! $ move ! (2 ∷ 0 ∷ 3 ∷ 4 ∷ 5 ∷ []) $ closes ! tt A old' cs r.ref_ptr.0 r.ref_ptr.1 $
+    sets ! (agg ! (no_more !)) refl (tt, tt) $ sets ! (agg ! (and_then ! (get ! refl) (no_more !))) refl (tt, (tt, tt)) $ returns ! (look_at ! 0 refl) $ free_all ! refl $ suffices ! _ (ends_at 𝓛 En hs c y token new (old', tt) (tt, tt)) $
+    feq_i ! (List Val) (u ∷ []) (u ∷ []) refl $ fjoin3 ! $ nothing ! $ move ! (1 ∷ 0 ∷ []) $ fjoin ! $ move ! (2 ∷ []) $
+    use0 𝓛 (‵ ((Mark (Till.the_type (param 0 S) g).name (param 0 S ∷ []) (param 0 S)).own_val (tt, tt) (token ∷ []))) (made (Till.the_type (param 0 S) g).name (param 0 S ∷ []) (param 0 S) 𝓛) $ fjoin ! $
+    move ! (1 ∷ 0 ∷ []) $ join ! $ move ! (1 ∷ 2 ∷ []) $ join ! $ join ! $ frame ! $ by ! (tells_all 𝓤 ((old.number ≡ old.number) ∷ (zero ≡ zero) ∷ (old.number ≡ old.number) ∷ (old.tills + 1 ≡ old.tills + 1) ∷ (old.held ≡ old.held) ∷ []) (refl, (refl, (refl, (refl, refl)))))))))

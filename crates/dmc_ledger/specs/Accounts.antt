@@ -1,0 +1,46 @@
+-- What contracts see of a set-up.
+use Rattle.std.specs.Prelude.{◌≡◌, ℕ, ◌+◌, ◌≤◌, ◌^◌}
+
+-- a set-up that no type stands for yet: its name and how many books it may have
+pub record Unopened : Type 0 where
+  pub name : ℕ
+  pub books : ℕ
+
+-- a mint: how many books it opened, and how many it may still open
+pub record Stock : Type 0 where
+  pub opened : ℕ
+  pub left : ℕ
+
+-- a book: its number, what was gathered, what its open tills hold together, and how many they are
+pub record Account : Type 0 where
+  pub number : ℕ
+  pub gathered : ℕ
+  pub held : ℕ
+  pub open_tills : ℕ
+
+-- a till: the number of its book, and what it holds
+pub record Holding : Type 0 where
+  pub number : ℕ
+  pub amount : ℕ
+
+-- a book's total is what was gathered plus what its open tills hold
+abbrev pub total_of : Account → ℕ
+total_of b = b.gathered + b.held
+
+-- the book with its only till gathered
+abbrev pub closed : Account → Account
+closed b = record { number = b.number; gathered = total_of b; held = 0; open_tills = 0 }
+
+-- a book of which one till is open, and that till, both new
+abbrev pub new_book : ℕ → Account
+new_book n = record { number = n; gathered = 0; held = 0; open_tills = 1 }
+
+abbrev pub new_till : ℕ → Holding
+new_till n = record { number = n; amount = 0 }
+
+-- how the numbers of a book stand to its token's
+pub record IsCounted (total gathered open_tills tills held : ℕ) : Type 0 where
+  pub sum : total ≡ gathered + held
+  pub limit : total ≤ 2 ^ 63
+  pub open_is : tills ≡ open_tills
+  pub none_open : open_tills ≡ 0 → held ≡ 0

@@ -1,0 +1,105 @@
+-- What contracts see of the bundles and desks of a pair.
+use Rattle.std.specs.Prelude.{◌≡◌, ℕ, ◌+◌}
+use Rattle.dmc_types.specs.Values.{Params}
+use Rattle.dmc_ledger.specs.Accounts.{Account, Holding, closed, new_book, new_till}
+use Rattle.dmc_ledger.specs.declared.bundle.StampTills.{StampTills}
+use Rattle.dmc_ledger.specs.declared.bundle.GrantTills.{GrantTills}
+use Rattle.dmc_ledger.specs.declared.bundle.StampBooks.{StampBooks}
+use Rattle.dmc_ledger.specs.declared.bundle.GrantBooks.{GrantBooks}
+use Rattle.dmc_ledger.specs.declared.desk.ClientDesk.{ClientDesk}
+use Rattle.dmc_ledger.specs.declared.desk.ServerDesk.{ServerDesk}
+
+-- the tills of stamps, deltas and rhos
+pub record StampHoldings : Type 0 where
+  pub stamps : Holding
+  pub delta : Holding
+  pub rho : Holding
+
+-- the tills of grants in the constraint phase and in the weight phase
+pub record GrantHoldings : Type 0 where
+  pub reservation : Holding
+  pub priority : Holding
+
+pub record StampAccounts : Type 0 where
+  pub stamps : Account
+  pub delta : Account
+  pub rho : Account
+
+pub record GrantAccounts : Type 0 where
+  pub reservation : Account
+  pub priority : Account
+
+-- the queue's side of a pair, and the tracker's
+pub record ClientSide : Type 0 where
+  pub client : ℕ
+  pub server : ℕ
+  pub held : StampHoldings
+  pub books : GrantAccounts
+
+pub record ServerSide : Type 0 where
+  pub client : ℕ
+  pub server : ℕ
+  pub books : StampAccounts
+  pub held : GrantHoldings
+
+-- each as plain data, whatever set-up it is of
+module _ {S : Type 0} where
+  abbrev pub stamp_holdings : StampTills S → StampHoldings
+  stamp_holdings t = record { stamps = t.stamps; delta = t.delta; rho = t.rho }
+
+  abbrev pub grant_holdings : GrantTills S → GrantHoldings
+  grant_holdings t = record { reservation = t.reservation; priority = t.priority }
+
+  abbrev pub stamp_accounts : StampBooks S → StampAccounts
+  stamp_accounts b = record { stamps = b.stamps; delta = b.delta; rho = b.rho }
+
+  abbrev pub grant_accounts : GrantBooks S → GrantAccounts
+  grant_accounts b = record { reservation = b.reservation; priority = b.priority }
+
+  abbrev pub client_side : ClientDesk S → ClientSide
+  client_side d = record { client = d.client.0; server = d.server.0; held = stamp_holdings d.held; books = grant_accounts d.books }
+
+  abbrev pub server_side : ServerDesk S → ServerSide
+  server_side d = record { client = d.client.0; server = d.server.0; books = stamp_accounts d.books; held = grant_holdings d.held }
+
+-- the tills hold one stamp with these params
+pub record Covers (tills : StampHoldings) (params : Params) : Type 0 where
+  pub one_stamp : tills.stamps.amount ≡ 1
+  pub its_delta : tills.delta.amount ≡ params.delta
+  pub its_rho : tills.rho.amount ≡ params.rho
+
+-- the pair of a client and a server, as it is opened with the five books from the n-th on
+abbrev pub new_client_side : ℕ → ℕ → ℕ → ClientSide
+new_client_side client server n = record {
+  client = client;
+  server = server;
+  held = record { stamps = new_till n; delta = new_till (n + 1); rho = new_till (n + 2) };
+  books = record { reservation = new_book (n + 3); priority = new_book (n + 4) };
+}
+
+abbrev pub new_server_side : ℕ → ℕ → ℕ → ServerSide
+new_server_side client server n = record {
+  client = client;
+  server = server;
+  books = record { stamps = new_book n; delta = new_book (n + 1); rho = new_book (n + 2) };
+  held = record { reservation = new_till (n + 3); priority = new_till (n + 4) };
+}
+
+-- the till is the only one that is open of the book
+pub record IsOnlyTill (book : Account) (till : Holding) : Type 0 where
+  pub same_number : till.number ≡ book.number
+  pub alone : book.open_tills ≡ 1
+
+-- two desks are those of one pair, and no other till of it is open
+pub record IsPair (c : ClientSide) (s : ServerSide) : Type 0 where
+  pub stamps : IsOnlyTill s.books.stamps c.held.stamps
+  pub delta : IsOnlyTill s.books.delta c.held.delta
+  pub rho : IsOnlyTill s.books.rho c.held.rho
+  pub reservation : IsOnlyTill c.books.reservation s.held.reservation
+  pub priority : IsOnlyTill c.books.priority s.held.priority
+
+abbrev pub closed_stamps : StampAccounts → StampAccounts
+closed_stamps b = record { stamps = closed b.stamps; delta = closed b.delta; rho = closed b.rho }
+
+abbrev pub closed_grants : GrantAccounts → GrantAccounts
+closed_grants b = record { reservation = closed b.reservation; priority = closed b.priority }

@@ -1,0 +1,3 @@
+pub mod Accounts
+pub mod Bundles
+pub mod Rows

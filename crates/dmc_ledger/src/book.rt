@@ -1,0 +1,138 @@
+//! A book, which keeps the total of one quantity.
+ghost use Rattle.std.specs.Prelude.{◌≡◌, ◌+◌, ◌-◌, ◌<◌, ◌≤◌, ◌^◌, ◌↔◌, IfOk, OnOk, OnErr, IsErr};
+ghost use Rattle.dmc_ledger.specs.Accounts.{total_of};
+
+use crate::full::Full;
+use crate::setup::Setup;
+use crate::till::Till;
+use crate::token::BookToken;
+use std::marker::Model;
+
+/// The most that a book counts to.
+const MOST: u64 = 1 << 63;
+
+/// The total of one quantity: what was gathered, and what the open tills hold. Contracts see an `Account`.
+#[derive(Drop)]
+pub struct Book<S: Setup> {
+    total: u64,
+    gathered: u64,
+    number: u32,
+    open_tills: u32,
+    token: BookToken<S>,
+}
+
+impl<S: Setup> Model for Book<S> {
+    ghost use Rattle.std.specs.Prelude.{◌≡◌};
+    ghost use Rattle.dmc_ledger.specs.Accounts.{Account, IsCounted};
+
+    ghost Value = { Account };
+
+    ghost view = { λ b. record { number = b.number; gathered = b.gathered; held = b.token.held; open_tills = b.open_tills } };
+
+    ghost invariant = { λ b. (b.token.number ≡ b.number) × IsCounted b.total b.gathered b.open_tills b.token.tills b.token.held };
+}
+
+impl<S: Setup> Book<S> {
+    /// The book of a new token.
+    pub(crate) fn new(number: u32, token: BookToken<S>) -> Book<S>
+        requires number { token.number ≡ number }
+        requires no_till { token.tills ≡ 0 }
+        requires nothing { token.held ≡ 0 }
+        ensures { result ≡ record { number = number; gathered = 0; held = 0; open_tills = 0 } }
+    {
+        Book {
+            total: 0,
+            gathered: 0,
+            number,
+            open_tills: 0,
+            token,
+        }
+    }
+
+    /// The book's number, which no other book of the set-up has.
+    pub fn number(&self) -> u32
+        ensures { result ≡ self.now.number }
+    {
+        self.number
+    }
+
+    /// All that was ever issued into tills of this book.
+    pub fn total(&self) -> u64
+        ensures value { result ≡ total_of self.now }
+        ensures limit { result ≤ 2 ^ 63 }
+    {
+        self.total
+    }
+
+    /// What was gathered.
+    pub fn gathered(&self) -> u64
+        ensures value { result ≡ self.now.gathered }
+        ensures within { result ≤ total_of self.now }
+    {
+        self.gathered
+    }
+
+    /// How many tills are open. A dropped till stays open.
+    pub fn open_tills(&self) -> u32
+        ensures value { result ≡ self.now.open_tills }
+        ensures none { result ≡ 0 → total_of self.now ≡ self.now.gathered }
+    {
+        self.open_tills
+    }
+
+    /// Opens a till, which holds nothing. `Full` at 2^32-1 open tills.
+    pub fn till(&mut self) -> Result<Till<S>, Full>
+        ensures full { IsErr result ↔ (self.old.open_tills ≡ 4294967295) }
+        ensures till { IfOk result (λ till. till ≡ record { number = self.old.number; amount = 0 }) }
+        ensures book { OnOk result (self.new ≡ record self.old { open_tills = self.old.open_tills + 1 }) }
+        ensures kept { OnErr result (self.new ≡ self.old) }
+    {
+        if self.open_tills == u32::MAX {
+            return Err(Full);
+        }
+        let till = Till::new(self.number, self.token.till());
+        self.open_tills += 1;
+        Ok(till)
+    }
+
+    /// Adds an amount to a till of this book, and so to the total. `Full` where the total would pass 2^63.
+    pub fn issue(&mut self, till: &mut Till<S>, amount: u64) -> Result<(), Full>
+        requires { till.old.number ≡ self.old.number }
+        ensures full { IsErr result ↔ (2 ^ 63 < total_of self.old + amount) }
+        ensures book { OnOk result (self.new ≡ record self.old { held = self.old.held + amount }) }
+        ensures till { OnOk result (till.new ≡ record till.old { amount = till.old.amount + amount }) }
+        ensures kept { OnErr result (self.new ≡ self.old) }
+        ensures till_kept { OnErr result (till.new ≡ till.old) }
+    {
+        if amount > MOST - self.total {
+            return Err(Full);
+        }
+        till.issue(&mut self.token, amount);
+        self.total += amount;
+        Ok(())
+    }
+
+    /// Ends a till of this book, and gathers what it held.
+    pub fn gather(&mut self, till: Till<S>)
+        requires { till.number ≡ self.old.number }
+        ensures number { self.new.number ≡ self.old.number }
+        ensures gathered { self.new.gathered ≡ self.old.gathered + till.amount }
+        ensures total { total_of self.new ≡ total_of self.old }
+        ensures open_tills { self.new.open_tills + 1 ≡ self.old.open_tills }
+        ensures none { self.new.open_tills ≡ 0 → self.new.held ≡ 0 }
+    {
+        self.gathered += till.gather(&mut self.token);
+        self.open_tills -= 1;
+    }
+
+    /// Changes nothing, and tells how a till of this book stands to it: the till holds at most the total less what was
+    /// gathered, and exactly that where no other till is open.
+    pub fn audit(&self, till: &Till<S>)
+        requires { till.now.number ≡ self.now.number }
+        ensures some { 0 < self.now.open_tills }
+        ensures within { self.now.gathered + till.now.amount ≤ total_of self.now }
+        ensures alone { self.now.open_tills ≡ 1 → self.now.gathered + till.now.amount ≡ total_of self.now }
+    {
+        till.audit(&self.token);
+    }
+}

@@ -1,0 +1,49 @@
+//! Tills and books that go together.
+ghost use Rattle.std.specs.Prelude.{◌≡◌, ◌↔◌, IsTrue};
+ghost use Rattle.dmc_ledger.specs.Bundles.{Covers, stamp_holdings};
+
+use crate::book::Book;
+use crate::setup::Setup;
+use crate::till::Till;
+use dmc_types::params::ReqParams;
+
+/// Stamps that a client made for a server, with the deltas and the rhos that they carry.
+#[derive(Drop)]
+pub struct StampTills<S: Setup> {
+    pub stamps: Till<S>,
+    pub delta: Till<S>,
+    pub rho: Till<S>,
+}
+
+impl<S: Setup> StampTills<S> {
+    /// Whether the tills hold exactly one stamp with these params.
+    pub fn covers(&self, params: &ReqParams) -> bool
+        ensures { IsTrue result ↔ Covers (stamp_holdings self.now) params.now }
+    {
+        self.stamps.amount() == 1
+            && self.delta.amount() == u64::from(params.delta())
+            && self.rho.amount() == u64::from(params.rho())
+    }
+}
+
+/// Grants of a client at a server, by phase.
+#[derive(Drop)]
+pub struct GrantTills<S: Setup> {
+    pub reservation: Till<S>,
+    pub priority: Till<S>,
+}
+
+/// The books of a client's stamps for a server.
+#[derive(Drop)]
+pub struct StampBooks<S: Setup> {
+    pub stamps: Book<S>,
+    pub delta: Book<S>,
+    pub rho: Book<S>,
+}
+
+/// The books of a client's grants at a server.
+#[derive(Drop)]
+pub struct GrantBooks<S: Setup> {
+    pub reservation: Book<S>,
+    pub priority: Book<S>,
+}

@@ -1,0 +1,168 @@
+//! The two desks of a client at a server. Each keeps the books of what it hands out, and a till of the other's books
+//! for what it has taken in.
+ghost use Rattle.std.specs.Prelude.{◌≡◌, ◌+◌, ◌-◌, ◌<◌, ◌↔◌, IfOk, OnOk, OnErr, IsErr};
+ghost use Rattle.dmc_ledger.specs.Accounts.{closed, new_book, new_till};
+ghost use Rattle.dmc_ledger.specs.Bundles.{IsOnlyTill, IsPair, client_side, server_side, stamp_accounts, grant_accounts, new_client_side, new_server_side, closed_stamps, closed_grants};
+
+use crate::book::Book;
+use crate::bundle::{GrantBooks, GrantTills, StampBooks, StampTills};
+use crate::full::Full;
+use crate::mint::Mint;
+use crate::setup::Setup;
+use crate::till::Till;
+use dmc_types::ids::{ClientId, ServerId};
+
+/// The queue's desk for a client: the stamps that it accepted, and the books of the grants that it gave.
+#[derive(Drop)]
+pub struct ClientDesk<S: Setup> {
+    pub client: ClientId,
+    pub server: ServerId,
+    pub held: StampTills<S>,
+    pub books: GrantBooks<S>,
+}
+
+/// The tracker's desk for a server: the books of the stamps that it made, and the grants that it counted.
+#[derive(Drop)]
+pub struct ServerDesk<S: Setup> {
+    pub client: ClientId,
+    pub server: ServerId,
+    pub books: StampBooks<S>,
+    pub held: GrantTills<S>,
+}
+
+/// The desks of a client at a server, with five new books, each with one open till at the other desk. `Full` where
+/// fewer than five books are left.
+pub fn open_pair<S: Setup>(
+    mint: &mut Mint<S>,
+    client: ClientId,
+    server: ServerId,
+) -> Result<(ClientDesk<S>, ServerDesk<S>), Full>
+    ensures full { IsErr result ↔ (mint.old.left < 5) }
+    ensures client_desk { IfOk result (λ pair. client_side pair.0 ≡ new_client_side client.0 server.0 mint.old.opened) }
+    ensures server_desk { IfOk result (λ pair. server_side pair.1 ≡ new_server_side client.0 server.0 mint.old.opened) }
+    ensures mint { OnOk result (mint.new ≡ record { opened = mint.old.opened + 5; left = mint.old.left - 5 }) }
+    ensures kept { OnErr result (mint.new ≡ mint.old) }
+{
+    if mint.left() < 5 {
+        return Err(Full);
+    }
+    let (stamps, stamp_till) = open_one(mint);
+    let (delta, delta_till) = open_one(mint);
+    let (rho, rho_till) = open_one(mint);
+    let (reservation, reservation_till) = open_one(mint);
+    let (priority, priority_till) = open_one(mint);
+    let client_desk = ClientDesk {
+        client,
+        server,
+        held: StampTills {
+            stamps: stamp_till,
+            delta: delta_till,
+            rho: rho_till,
+        },
+        books: GrantBooks {
+            reservation,
+            priority,
+        },
+    };
+    let server_desk = ServerDesk {
+        client,
+        server,
+        books: StampBooks { stamps, delta, rho },
+        held: GrantTills {
+            reservation: reservation_till,
+            priority: priority_till,
+        },
+    };
+    Ok((client_desk, server_desk))
+}
+
+/// A new book and its first till.
+fn open_one<S: Setup>(mint: &mut Mint<S>) -> (Book<S>, Till<S>)
+    requires { 0 < mint.old.left }
+    ensures book { result.0 ≡ new_book mint.old.opened }
+    ensures till { result.1 ≡ new_till mint.old.opened }
+    ensures mint { mint.new ≡ record { opened = mint.old.opened + 1; left = mint.old.left - 1 } }
+{
+    let Ok(mut book) = mint.open() else {
+        unreachable!()
+    };
+    let Ok(till) = book.till() else {
+        unreachable!()
+    };
+    (book, till)
+}
+
+/// Gathers both held bundles of a pair, so that none of its tills is open. Each book's total is then what was gathered.
+pub fn close_pair<S: Setup>(
+    client: ClientDesk<S>,
+    server: ServerDesk<S>,
+) -> (StampBooks<S>, GrantBooks<S>)
+    requires { IsPair (client_side client) (server_side server) }
+    ensures stamps { stamp_accounts result.0 ≡ closed_stamps (stamp_accounts server.books) }
+    ensures grants { grant_accounts result.1 ≡ closed_grants (grant_accounts client.books) }
+{
+    let ClientDesk {
+        client: _,
+        server: _,
+        held: stamps,
+        books: grants,
+    } = client;
+    let ServerDesk {
+        client: _,
+        server: _,
+        books: stamp_books,
+        held: grant_tills,
+    } = server;
+    (
+        gather_stamps(stamp_books, stamps),
+        gather_grants(grants, grant_tills),
+    )
+}
+
+fn gather_stamps<S: Setup>(books: StampBooks<S>, tills: StampTills<S>) -> StampBooks<S>
+    requires stamps { IsOnlyTill books.stamps tills.stamps }
+    requires delta { IsOnlyTill books.delta tills.delta }
+    requires rho { IsOnlyTill books.rho tills.rho }
+    ensures { stamp_accounts result ≡ closed_stamps (stamp_accounts books) }
+{
+    let StampBooks { stamps, delta, rho } = books;
+    let StampTills {
+        stamps: stamp_till,
+        delta: delta_till,
+        rho: rho_till,
+    } = tills;
+    StampBooks {
+        stamps: gather_last(stamps, stamp_till),
+        delta: gather_last(delta, delta_till),
+        rho: gather_last(rho, rho_till),
+    }
+}
+
+fn gather_grants<S: Setup>(books: GrantBooks<S>, tills: GrantTills<S>) -> GrantBooks<S>
+    requires reservation { IsOnlyTill books.reservation tills.reservation }
+    requires priority { IsOnlyTill books.priority tills.priority }
+    ensures { grant_accounts result ≡ closed_grants (grant_accounts books) }
+{
+    let GrantBooks {
+        reservation,
+        priority,
+    } = books;
+    let GrantTills {
+        reservation: reservation_till,
+        priority: priority_till,
+    } = tills;
+    GrantBooks {
+        reservation: gather_last(reservation, reservation_till),
+        priority: gather_last(priority, priority_till),
+    }
+}
+
+/// The book with its only till gathered.
+fn gather_last<S: Setup>(book: Book<S>, till: Till<S>) -> Book<S>
+    requires { IsOnlyTill book till }
+    ensures { result ≡ closed book }
+{
+    let mut book = book;
+    book.gather(till);
+    book
+}

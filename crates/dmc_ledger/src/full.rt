@@ -1,0 +1,6 @@
+//! Why a call of a set-up is refused.
+
+/// A limit is reached: all books of the set-up are open, 2^32-1 tills of the book are, or the total would pass 2^63.
+/// Nothing has changed.
+#[derive(Clone, Copy, Debug, PartialEq, Eq)]
+pub struct Full;

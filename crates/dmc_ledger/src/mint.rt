@@ -1,0 +1,100 @@
+//! A set-up, and its one mint, which opens the books.
+ghost use Rattle.std.specs.Prelude.{◌≡◌, ◌+◌, ◌-◌, ◌<◌, ◌≤◌, ◌^◌, ◌↔◌, IfOk, OnOk, OnErr, IsErr};
+
+use crate::book::Book;
+use crate::full::Full;
+use crate::setup::Setup;
+use crate::token::{BlankToken, MintToken};
+use std::marker::Model;
+
+/// A set-up that no type stands for yet.
+#[derive(Drop)]
+pub struct Blank {
+    books: u64,
+    token: BlankToken,
+}
+
+impl Model for Blank {
+    ghost use Rattle.std.specs.Prelude.{◌≤◌, ◌^◌};
+    ghost use Rattle.dmc_ledger.specs.Accounts.{Unopened};
+
+    ghost Value = { Unopened };
+
+    ghost view = { λ b. record { name = b.token.name; books = b.books } };
+
+    ghost invariant = { λ b. b.books ≤ 2 ^ 32 };
+}
+
+impl Blank {
+    /// A new set-up of so many books, from 1 to 2^32. To use it, call a function that is generic in a `Setup` at
+    /// `std::marker::Brand`, and `open` the set-up there.
+    pub fn new(books: u64) -> Blank
+        requires some { 0 < books }
+        requires limit { books ≤ 2 ^ 32 }
+        ensures { result.books ≡ books }
+    {
+        Blank {
+            books,
+            token: BlankToken::new(),
+        }
+    }
+
+    /// The mint of the set-up, which has opened no book.
+    pub fn open<S: Setup>(self) -> Mint<S>
+        requires { self.name ≡ S.name }
+        ensures { result ≡ record { opened = 0; left = self.books } }
+    {
+        let Blank { books, token } = self;
+        Mint {
+            opened: 0,
+            left: books,
+            token: token.open(),
+        }
+    }
+}
+
+/// Opens the books of a set-up, each once.
+#[derive(Drop)]
+pub struct Mint<S: Setup> {
+    opened: u64,
+    left: u64,
+    token: MintToken<S>,
+}
+
+impl<S: Setup> Model for Mint<S> {
+    ghost use Rattle.std.specs.Prelude.{◌≡◌, ◌+◌, ◌≤◌, ◌^◌};
+    ghost use Rattle.dmc_ledger.specs.Accounts.{Stock};
+
+    ghost Value = { Stock };
+
+    ghost view = { λ m. record { opened = m.opened; left = m.left } };
+
+    ghost invariant = { λ m. (m.token.opened ≡ m.opened) × (m.opened + m.left ≤ 2 ^ 32) };
+}
+
+impl<S: Setup> Mint<S> {
+    /// The next book. Books are numbered from 0 in the order in which they are opened, so no two have one number.
+    /// `Full` when all books of the set-up are open.
+    pub fn open(&mut self) -> Result<Book<S>, Full>
+        ensures full { IsErr result ↔ (self.old.left ≡ 0) }
+        ensures book { IfOk result (λ book. book ≡ record { number = self.old.opened; gathered = 0; held = 0; open_tills = 0 }) }
+        ensures mint { OnOk result (self.new ≡ record { opened = self.old.opened + 1; left = self.old.left - 1 }) }
+        ensures kept { OnErr result (self.new ≡ self.old) }
+    {
+        if self.left == 0 {
+            return Err(Full);
+        }
+        let book = Book::new(self.opened as u32, self.token.open());
+        self.opened += 1;
+        self.left -= 1;
+        Ok(book)
+    }
+
+    /// How many books may still be opened.
+    pub fn left(&self) -> u64
+        ensures value { result ≡ self.now.left }
+        ensures limit { self.now.opened + result ≤ 2 ^ 32 }
+    {
+        self.left
+    }
+}

@@ -1,0 +1,14 @@
+//! How a set-up is named.
+ghost use Rattle.std.specs.Prelude.{ℕ};
+
+use std::marker::Brand;
+
+/// Names one set-up: a mint with the books that it opened and their tills. A function that works in a set-up is generic
+/// in it, and whoever opens one calls that function at `std::marker::Brand`.
+pub trait Setup {
+    ghost name: { ℕ };
+}
+
+impl Setup for Brand {
+    ghost name = { 0 };
+}

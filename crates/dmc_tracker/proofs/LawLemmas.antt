@@ -1,0 +1,216 @@
+-- The laws of a tracker list.
+use Rattle.std.proofs.Common.{◌≡◌, ℕ, ◌+◌, ◌≤◌, List, [], ◌∷◌, ◌++◌, refl, sym, ap, ◌∙◌, subst, arith, true, false, cond, inl, inr, ◌⊎◌, ◌==◌, append_assoc}
+use Rattle.std.proofs.lemmas.List.Sums.{sum_by_push, sum_by-append}
+use Rattle.std.proofs.lemmas.List.{append-nil}
+use Rattle.std.proofs.lemmas.Bool.{eq-eqb}
+use Rattle.std.proofs.lemmas.Bool.Decides.{eqb_tells}
+use Rattle.dmc_types.specs.Values.{Params}
+use Rattle.dmc_types.specs.declared.ids.ServerId.{ServerId}
+use Rattle.dmc_types.specs.declared.config.Counting.{Counting}
+use Rattle.dmc_types.specs.declared.config.Counting.TheVariants.{All, Others}
+use Rattle.dmc_types.specs.declared.config.PhaseType.{PhaseType}
+use Rattle.dmc_tracker.specs.declared.event.TrackerEvent.{TrackerEvent}
+use Rattle.dmc_tracker.specs.declared.event.TrackerEvent.TheVariants.{Stamp, Response}
+use Rattle.dmc_tracker.specs.TrackerList.{no_counts, plus, total, one_in, completed_by, counted_by, sent_by, is_stamp_to, own_share, completions, others, stamps, sent, pending, demanded, IsTracked}
+use Rattle.dmc_tracker.proofs.StandsLemmas.{same_server}
+use Rattle.dmc_tracker.proofs.ListLemmas.{same_params, plus-none, none-plus, total-push, completions-stamp, sent-response, sent-stamp_same, sent-stamp_other, pending-response, pending-stamp_same, pending-stamp_other}
+
+-- the front of a tracked list is tracked
+pub IsTracked-front : (counting : Counting) (events more : List TrackerEvent) → IsTracked counting (events ++ more) → IsTracked counting events
+IsTracked-front counting events more h = λ before after s params e.
+    h before (after ++ more) s params (ap (λ xs. xs ++ more) e ∙ append_assoc before (Stamp s params ∷ after) more)
+
+-- induction over a list from its end
+snoc : (P : List TrackerEvent → Type 0) → P [] → ((events : List TrackerEvent) (e : TrackerEvent) → P events → P (events ++ e ∷ []))
+    → (done rest : List TrackerEvent) → P done → P (done ++ rest)
+snoc P none more done [] h = subst P (sym (append-nil done)) h
+snoc P none more done (e ∷ rest) h =
+    subst P (append_assoc done (e ∷ []) rest) (snoc P none more (done ++ e ∷ []) rest (more done e h))
+
+-- what the stamps to s count for their own requests
+abbrev own_by : Counting → ServerId → TrackerEvent → Params
+own_by counting s (Stamp server params) = cond (server.0 == s.0) (own_share counting) no_counts
+own_by counting s (Response server phase) = no_counts
+
+-- what was sent to s and is pending there is what was counted for s, and the own shares
+abbrev IsSum : Counting → ServerId → List TrackerEvent → Type 0
+IsSum counting s events =
+    plus (sent s events) (pending counting s events) ≡ plus (total (own_by counting s) events) (total (counted_by counting s) events)
+
+-- one entry more: a part k becomes pending, or a stamp sends all that is pending and its own share
+grows : (S P O C k S' P' O' C' : Params) → S' ≡ S → P' ≡ plus P k → O' ≡ plus O no_counts → C' ≡ plus C k
+    → plus S P ≡ plus O C → plus S' P' ≡ plus O' C'
+grows S P O C k S' P' O' C' s p o c h =
+    let d = ap (λ (x : Params). x.delta) h in
+    let r = ap (λ (x : Params). x.rho) h in
+    rw (s, p, o, c) (same_params _ _ (omega (arith, d)) (omega (arith, r)))
+
+sends : (S P O C k share S' P' O' C' : Params) → k ≡ plus P share → S' ≡ plus S k → P' ≡ no_counts → O' ≡ plus O share
+    → C' ≡ plus C no_counts → plus S P ≡ plus O C → plus S' P' ≡ plus O' C'
+sends S P O C k share S' P' O' C' e s p o c h =
+    let d = ap (λ (x : Params). x.delta) h in
+    let r = ap (λ (x : Params). x.rho) h in
+    rw (s, p, o, c, e) (same_params _ _ (omega (arith, d)) (omega (arith, r)))
+
+sums-push : (counting : Counting) (s : ServerId) (events : List TrackerEvent) (e : TrackerEvent)
+    → (IsTracked counting events → IsSum counting s events) → IsTracked counting (events ++ e ∷ []) → IsSum counting s (events ++ e ∷ [])
+sums-push counting s events (Response q phase) h tracked =
+    grows _ _ _ _ (counted_by counting s (Response q phase)) _ _ _ _
+    (sent-response counting s events q phase) (pending-response counting s events q phase)
+    (total-push (own_by counting s) events (Response q phase))
+    (total-push (counted_by counting s) events (Response q phase))
+    (h (IsTracked-front counting events (Response q phase ∷ []) tracked))
+sums-push counting s events (Stamp q params) h tracked =
+    let before = h (IsTracked-front counting events (Stamp q params ∷ []) tracked) in
+    let own = total-push (own_by counting s) events (Stamp q params) in
+    let counted = total-push (counted_by counting s) events (Stamp q params) in
+    elim (eqb_tells q.0 s.0) [
+      | inl here ↦
+          sends _ _ _ _ params (own_share counting) _ _ _ _
+          (tracked events [] q params refl ∙ ap (λ x. demanded counting x events) (same_server q s here.1))
+          (sent-stamp_same counting s events q params here.0) (pending-stamp_same counting s events q params here.0)
+          (own ∙ ap (λ b. plus (total (own_by counting s) events) (cond b (own_share counting) no_counts)) here.0)
+          counted before
+      | inr there ↦
+          grows _ _ _ _ no_counts _ _ _ _
+          (sent-stamp_other counting s events q params there.0)
+          (pending-stamp_other counting s events q params there.0 ∙ sym (plus-none _))
+          (own ∙ ap (λ b. plus (total (own_by counting s) events) (cond b (own_share counting) no_counts)) there.0)
+          counted before
+    ]
+
+sums : (counting : Counting) (s : ServerId) (events : List TrackerEvent) → IsTracked counting events → IsSum counting s events
+sums counting s events =
+    snoc (λ es. IsTracked counting es → IsSum counting s es) (λ _. refl) (sums-push counting s) [] events (λ _. refl)
+
+-- in `All` the own shares are nothing, and what is counted are the completions
+own-all : (s : ServerId) (events : List TrackerEvent) → total (own_by All s) events ≡ no_counts
+own-all s events = snoc (λ es. total (own_by All s) es ≡ no_counts) refl (step) [] events refl
+  where
+    step : (es : List TrackerEvent) (e : TrackerEvent) → total (own_by All s) es ≡ no_counts → total (own_by All s) (es ++ e ∷ []) ≡ no_counts
+    step es (Response q phase) h = total-push (own_by All s) es (Response q phase) ∙ ap (λ x. plus x no_counts) h
+    step es (Stamp q params) h =
+        total-push (own_by All s) es (Stamp q params)
+        ∙ elim (q.0 == s.0) as (λ b. plus (total (own_by All s) es) (cond b no_counts no_counts) ≡ no_counts) [
+          | true ↦ ap (λ x. plus x no_counts) h
+          | false ↦ ap (λ x. plus x no_counts) h
+        ]
+
+counted-all : (s : ServerId) (events : List TrackerEvent) → total (counted_by All s) events ≡ completions events
+counted-all s events = snoc (λ es. total (counted_by All s) es ≡ completions es) refl step [] events refl
+  where
+    step : (es : List TrackerEvent) (e : TrackerEvent) → total (counted_by All s) es ≡ completions es
+        → total (counted_by All s) (es ++ e ∷ []) ≡ completions (es ++ e ∷ [])
+    step es (Response q phase) h =
+        total-push (counted_by All s) es (Response q phase) ∙ ap (λ x. plus x (one_in phase)) h
+        ∙ sym (total-push completed_by es (Response q phase))
+    step es (Stamp q params) h =
+        total-push (counted_by All s) es (Stamp q params) ∙ ap (λ x. plus x no_counts) h
+        ∙ sym (total-push completed_by es (Stamp q params))
+
+abbrev pair : ℕ → Params
+pair n = record { delta = n; rho = n }
+
+-- in `Others` each stamp to s has a share of 1
+own-others : (s : ServerId) (events : List TrackerEvent) → total (own_by Others s) events ≡ record { delta = stamps s events; rho = stamps s events }
+own-others s events =
+    snoc (λ es. total (own_by Others s) es ≡ record { delta = stamps s es; rho = stamps s es }) refl step [] events refl
+  where
+    step : (es : List TrackerEvent) (e : TrackerEvent) → total (own_by Others s) es ≡ record { delta = stamps s es; rho = stamps s es }
+        → total (own_by Others s) (es ++ e ∷ []) ≡ record { delta = stamps s (es ++ e ∷ []); rho = stamps s (es ++ e ∷ []) }
+    step es (Response q phase) h =
+        total-push (own_by Others s) es (Response q phase) ∙ ap (λ x. plus x no_counts) h
+        ∙ ap pair (sym (sum_by_push (λ x. cond (is_stamp_to s x) 1 0) es (Response q phase)))
+    step es (Stamp q params) h =
+        total-push (own_by Others s) es (Stamp q params)
+        ∙ (elim (q.0 == s.0) as (λ b. plus (total (own_by Others s) es) (cond b (own_share Others) no_counts) ≡ pair (stamps s es + cond b 1 0)) [
+          | true ↦ ap (λ x. plus x (own_share Others)) h
+          | false ↦ ap (λ x. plus x no_counts) h
+        ])
+        ∙ ap pair (sym (sum_by_push (λ x. cond (is_stamp_to s x) 1 0) es (Stamp q params)))
+
+-- what was sent to s and is pending there are the completions
+pub sums-all : (s : ServerId) (events : List TrackerEvent) → IsTracked All events
+    → plus (sent s events) (pending All s events) ≡ completions events
+sums-all s events h =
+    sums All s events h ∙ ap (λ x. plus x (total (counted_by All s) events)) (own-all s events)
+    ∙ none-plus (total (counted_by All s) events) ∙ counted-all s events
+
+-- in `Others` they are the stamps to s and the completions at the other servers
+pub sums-others : (s : ServerId) (events : List TrackerEvent) → IsTracked Others events
+    → plus (sent s events) (pending Others s events) ≡ plus (record { delta = stamps s events; rho = stamps s events }) (others s events)
+sums-others s events h = sums Others s events h ∙ ap (λ x. plus x (others s events)) (own-others s events)
+
+-- the empty list is tracked
+pub IsTracked-nil : (counting : Counting) → IsTracked counting []
+IsTracked-nil counting = λ before after s params e. absurd (nil-ne before after s params e)
+  where
+    nil-ne : (before after : List TrackerEvent) (s : ServerId) (params : Params) → [] ≡ before ++ Stamp s params ∷ after → ⊥
+    nil-ne [] after s params e = cc
+    nil-ne (x ∷ before) after s params e = cc
+
+-- a list with one entry more is parted before its end or at it
+parted : (xs before after : List TrackerEvent) (x y : TrackerEvent) → xs ++ x ∷ [] ≡ before ++ y ∷ after
+    → ((rest : List TrackerEvent) × (xs ≡ before ++ y ∷ rest)) ⊎ ((xs ≡ before) × (x ≡ y))
+parted [] [] after x y e = inr (refl, cc)
+parted [] (b ∷ []) after x y e = absurd (cc)
+parted [] (b ∷ (c ∷ before)) after x y e = absurd (cc)
+parted (a ∷ xs) [] after x y e = inl (xs, (let h : a ≡ y = cc in ap (λ z. z ∷ xs) h))
+parted (a ∷ xs) (b ∷ before) after x y e =
+    let tail : xs ++ x ∷ [] ≡ before ++ y ∷ after = cc in
+    let head : a ≡ b = cc in
+    elim (parted xs before after x y tail) [
+      | inl w ↦ inl (w.0, ap (λ z. z ∷ xs) head ∙ ap (λ zs. b ∷ zs) w.1)
+      | inr w ↦ inr (ap (λ z. z ∷ xs) head ∙ ap (λ zs. b ∷ zs) w.0, w.1)
+    ]
+
+pub IsTracked-stamp : (counting : Counting) (events : List TrackerEvent) (s : ServerId) → IsTracked counting events
+    → IsTracked counting (events ++ Stamp s (demanded counting s events) ∷ [])
+IsTracked-stamp counting events s h = λ before after q params e.
+    elim (parted events before after (Stamp s (demanded counting s events)) (Stamp q params) e) [
+      | inl w ↦ h before w.0 q params w.1
+      | inr w ↦
+          (let same : s ≡ q = cc in
+          let carried : demanded counting s events ≡ params = cc in
+          sym carried ∙ ap (λ x. demanded counting x events) same ∙ ap (demanded counting q) w.0)
+    ]
+
+pub IsTracked-response : (counting : Counting) (events : List TrackerEvent) (s : ServerId) (phase : PhaseType) → IsTracked counting events
+    → IsTracked counting (events ++ Response s phase ∷ [])
+IsTracked-response counting events s phase h = λ before after q params e.
+    elim (parted events before after (Response s phase) (Stamp q params) e) [
+      | inl w ↦ h before w.0 q params w.1
+      | inr w ↦ absurd (let differ = w.1 in cc)
+    ]
+
+total-append : (f : TrackerEvent → Params) (xs ys : List TrackerEvent) → total f (xs ++ ys) ≡ plus (total f xs) (total f ys)
+total-append f xs ys =
+    same_params _ _ (sum_by-append (λ x. (f x).delta) xs ys) (sum_by-append (λ x. (f x).rho) xs ys)
+
+-- up to a stamp to s, all completions were sent to s
+sent-all : (s : ServerId) (params : Params) (events : List TrackerEvent) → IsTracked All (events ++ Stamp s params ∷ [])
+    → sent s (events ++ Stamp s params ∷ []) ≡ completions events
+sent-all s params events h =
+    let none = pending-stamp_same All s events s params (eq-eqb s.0 s.0 refl) in
+    sym (ap (λ x. plus (sent s (events ++ Stamp s params ∷ [])) x) none ∙ plus-none _)
+    ∙ sums-all s (events ++ Stamp s params ∷ []) h
+    ∙ completions-stamp All s events s params
+
+pub sent-between : (before between after : List TrackerEvent) (s : ServerId) (first last : Params)
+    → IsTracked All (before ++ Stamp s first ∷ (between ++ Stamp s last ∷ after))
+    → plus (completions before) (sent s (between ++ Stamp s last ∷ [])) ≡ completions (before ++ Stamp s first ∷ between)
+sent-between before between after s first last h =
+    let whole = before ++ Stamp s first ∷ between in
+    let joined : (before ++ Stamp s first ∷ []) ++ (between ++ Stamp s last ∷ []) ≡ whole ++ Stamp s last ∷ [] = simp append_assoc in
+    let to_first = IsTracked-front All (before ++ Stamp s first ∷ []) (between ++ Stamp s last ∷ after) (rw append_assoc h) in
+    let to_last = IsTracked-front All (whole ++ Stamp s last ∷ []) after (rw (append_assoc, append_assoc) h) in
+    ap (λ x. plus x (sent s (between ++ Stamp s last ∷ []))) (sym (sent-all s first before to_first))
+    ∙ sym (total-append (sent_by s) (before ++ Stamp s first ∷ []) (between ++ Stamp s last ∷ []))
+    ∙ ap (sent s) joined
+    ∙ sent-all s last whole to_last
+
+pub next-all : (events : List TrackerEvent) (s : ServerId) → IsTracked All events
+    → (sent s events).delta + (demanded All s events).delta ≤ (completions events).delta
+next-all events s h =
+    let e = ap (λ (x : Params). x.delta) (sums-all s events h) in
+    omega (arith, e)

@@ -1,0 +1,89 @@
+-- What one more entry does to the counts of a tracker list.
+use Rattle.std.proofs.Common.{◌≡◌, ℕ, ◌+◌, ◌-◌, ◌≤◌, List, [], ◌∷◌, ◌++◌, length, drop, ap, ◌∙◌, arith, Bool, true, false, cond, not, ◌==◌}
+use Rattle.std.specs.List.{after_last, suffix_len, prefix_len}
+use Rattle.std.proofs.lemmas.List.{length-append, drop-append-le, reverse-append}
+use Rattle.std.proofs.lemmas.List.Sums.{sum_by_push, suffix_len-le-length}
+use Rattle.std.proofs.Math.Seq.{drop-length}
+use Rattle.dmc_types.specs.Values.{Params}
+use Rattle.dmc_types.specs.declared.ids.ServerId.{ServerId}
+use Rattle.dmc_types.specs.declared.config.Counting.{Counting}
+use Rattle.dmc_types.specs.declared.config.PhaseType.{PhaseType}
+use Rattle.dmc_tracker.specs.declared.event.TrackerEvent.{TrackerEvent}
+use Rattle.dmc_tracker.specs.declared.event.TrackerEvent.TheVariants.{Stamp, Response}
+use Rattle.dmc_tracker.specs.TrackerList.{no_counts, plus, total, one_in, completed_by, counted_by, sent_by, is_stamp_to, completions, sent, pending}
+
+pub same_params : (a b : Params) → a.delta ≡ b.delta → a.rho ≡ b.rho → a ≡ b
+same_params a b d r = ap (λ x. record { delta = x; rho = a.rho }) d ∙ ap (λ x. record { delta = b.delta; rho = x }) r
+
+pub plus-none : (a : Params) → plus a no_counts ≡ a
+plus-none a = same_params _ _ (omega arith) (omega arith)
+
+pub none-plus : (a : Params) → plus no_counts a ≡ a
+none-plus a = same_params _ _ (omega arith) (omega arith)
+
+pub total-push : (f : TrackerEvent → Params) (events : List TrackerEvent) (e : TrackerEvent)
+    → total f (events ++ e ∷ []) ≡ plus (total f events) (f e)
+total-push f events e =
+    same_params _ _ (sum_by_push (λ x. (f x).delta) events e) (sum_by_push (λ x. (f x).rho) events e)
+
+cut : {X : Type 0} (xs : List X) (x : X) (n : ℕ) (b : Bool) → n ≤ length xs
+    → drop (length (xs ++ x ∷ []) - cond (not b) (1 + n) 0) (xs ++ x ∷ []) ≡ cond b [] (drop (length xs - n) xs ++ x ∷ [])
+cut xs x n true h =
+    let e : length (xs ++ x ∷ []) - 0 ≡ length (xs ++ x ∷ []) = omega arith in
+    rw e (drop-length (xs ++ x ∷ []))
+cut xs x n false h =
+    let e : length (xs ++ x ∷ []) - (1 + n) ≡ length xs - n = omega (arith, length-append xs (x ∷ [])) in
+    rw e (drop-append-le (length xs - n) xs (x ∷ []) (omega arith))
+
+-- one more element ends what stands after the last that passes, or belongs to it
+pub after_last-push : {X : Type 0} (p : X → Bool) (xs : List X) (x : X)
+    → after_last p (xs ++ x ∷ []) ≡ cond (p x) [] (after_last p xs ++ x ∷ [])
+after_last-push {X} p xs x =
+    let q : X → Bool = λ y. not (p y) in
+    let turned = ap (prefix_len q) (reverse-append xs (x ∷ [])) in
+    ap (λ n. drop (length (xs ++ x ∷ []) - n) (xs ++ x ∷ [])) turned
+    ∙ cut xs x (suffix_len q xs) (p x) (suffix_len-le-length q xs)
+
+module _ (counting : Counting) (s : ServerId) (events : List TrackerEvent) where
+  -- a response
+  pub completions-response : (q : ServerId) (phase : PhaseType)
+      → completions (events ++ Response q phase ∷ []) ≡ plus (completions events) (one_in phase)
+  completions-response q phase = total-push completed_by events (Response q phase)
+
+  pub sent-response : (q : ServerId) (phase : PhaseType) → sent s (events ++ Response q phase ∷ []) ≡ sent s events
+  sent-response q phase = total-push (sent_by s) events (Response q phase) ∙ plus-none (sent s events)
+
+  pub pending-response : (q : ServerId) (phase : PhaseType)
+      → pending counting s (events ++ Response q phase ∷ []) ≡ plus (pending counting s events) (counted_by counting s (Response q phase))
+  pending-response q phase =
+      ap (total (counted_by counting s)) (after_last-push (is_stamp_to s) events (Response q phase))
+      ∙ total-push (counted_by counting s) (after_last (is_stamp_to s) events) (Response q phase)
+
+  -- a stamp
+  pub completions-stamp : (q : ServerId) (params : Params) → completions (events ++ Stamp q params ∷ []) ≡ completions events
+  completions-stamp q params = total-push completed_by events (Stamp q params) ∙ plus-none (completions events)
+
+  pub sent-stamp_same : (q : ServerId) (params : Params) → (q.0 == s.0) ≡ true
+      → sent s (events ++ Stamp q params ∷ []) ≡ plus (sent s events) params
+  sent-stamp_same q params here =
+      total-push (sent_by s) events (Stamp q params) ∙ ap (λ b. plus (sent s events) (cond b params no_counts)) here
+
+  pub sent-stamp_other : (q : ServerId) (params : Params) → (q.0 == s.0) ≡ false
+      → sent s (events ++ Stamp q params ∷ []) ≡ sent s events
+  sent-stamp_other q params there =
+      total-push (sent_by s) events (Stamp q params) ∙ ap (λ b. plus (sent s events) (cond b params no_counts)) there
+      ∙ plus-none (sent s events)
+
+  pub pending-stamp_same : (q : ServerId) (params : Params) → (q.0 == s.0) ≡ true
+      → pending counting s (events ++ Stamp q params ∷ []) ≡ no_counts
+  pending-stamp_same q params here =
+      ap (total (counted_by counting s)) (after_last-push (is_stamp_to s) events (Stamp q params)
+      ∙ ap (λ b. cond b [] (after_last (is_stamp_to s) events ++ Stamp q params ∷ [])) here)
+
+  pub pending-stamp_other : (q : ServerId) (params : Params) → (q.0 == s.0) ≡ false
+      → pending counting s (events ++ Stamp q params ∷ []) ≡ pending counting s events
+  pending-stamp_other q params there =
+      ap (total (counted_by counting s)) (after_last-push (is_stamp_to s) events (Stamp q params)
+      ∙ ap (λ b. cond b [] (after_last (is_stamp_to s) events ++ Stamp q params ∷ [])) there)
+      ∙ total-push (counted_by counting s) (after_last (is_stamp_to s) events) (Stamp q params)
+      ∙ plus-none (pending counting s events)

@@ -1,0 +1,126 @@
+-- What a tracker keeps for its servers, through a stamp and a response.
+use Rattle.std.proofs.Common.{◌≡◌, ℕ, zero, suc, ◌<◌, List, [], ◌∷◌, length, map, set, get_or, replicate, refl, sym, ap, ◌∙◌, arith}
+use Rattle.std.specs.Prelude.{All as Each}
+use Rattle.std.proofs.lemmas.List.{get_or-map, map-set}
+use Rattle.std.proofs.Math.Seq.{map-set_same}
+use Rattle.dmc_types.specs.Values.{Params}
+use Rattle.dmc_types.specs.declared.ids.ServerId.{ServerId}
+use Rattle.dmc_types.specs.declared.config.Counting.{Counting}
+use Rattle.dmc_types.specs.declared.config.Counting.TheVariants.{All, Others}
+use Rattle.dmc_types.specs.declared.config.PhaseType.{PhaseType}
+use Rattle.dmc_tracker.specs.declared.server.ServerCounts.{ServerCounts}
+use Rattle.dmc_tracker.specs.TrackerList.{no_counts, plus, one_in, own_share}
+use Rattle.dmc_tracker.specs.Numbers.{Numbers, ServerNumbers, no_numbers, new_numbers, numbers_at, next_params, after_stamp, after_response, grown, servers_grown}
+use Rattle.dmc_tracker.specs.Server.{minus, IsPart, counted_at, numbers_now, view_of, IsKept, AreKept}
+use Rattle.dmc_tracker.proofs.ListLemmas.{same_params}
+use Rattle.dmc_tracker.proofs.StandsLemmas.{same_numbers}
+
+minus_self : (a : Params) → minus a a ≡ no_counts
+minus_self a = same_params _ _ (omega arith) (omega arith)
+
+-- counts that grow together
+minus-plus : (a b k : Params) → IsPart b a → minus (plus a k) b ≡ plus (minus a b) k
+minus-plus a b k h = same_params _ _ (omega (arith, h.delta)) (omega (arith, h.rho))
+
+minus-both : (a b k : Params) → minus (plus a k) (plus b k) ≡ minus a b
+minus-both a b k = same_params _ _ (omega arith) (omega arith)
+
+-- a stamp that carries params
+abbrev stamped : Counting → Params → Params → ServerCounts → ServerCounts
+stamped counting comps params x = record x { sent = plus x.sent params; mark = counted_at counting comps x }
+
+-- a response of the server
+abbrev answered : PhaseType → ServerCounts → ServerCounts
+answered phase x = record x { own = plus x.own (one_in phase) }
+
+-- what contracts see of a server, after a stamp and after a response
+now-stamped : (counting : Counting) (comps params : Params) (x : ServerCounts)
+    → numbers_now counting comps (stamped counting comps params x) ≡ record { sent = plus x.sent params; pending = no_counts }
+now-stamped All comps params x = same_numbers _ _ refl (minus_self comps)
+now-stamped Others comps params x = same_numbers _ _ refl (minus_self (minus comps x.own))
+
+now-grown : (counting : Counting) (most : ℕ) (comps : Params) (phase : PhaseType) (x : ServerCounts) → IsKept counting most comps x
+    → numbers_now counting (plus comps (one_in phase)) x ≡ grown phase (numbers_now counting comps x)
+now-grown All most comps phase x h = same_numbers _ _ refl (minus-plus comps x.mark (one_in phase) h.mark)
+now-grown Others most comps phase x h =
+    same_numbers _ _ refl (ap (λ c. minus c x.mark) (minus-plus comps x.own (one_in phase) h.own)
+    ∙ minus-plus (minus comps x.own) x.mark (one_in phase) h.mark)
+
+map-grown : (counting : Counting) (most : ℕ) (comps : Params) (phase : PhaseType) (servers : List ServerCounts)
+    → Each (IsKept counting most comps) servers
+    → map (numbers_now counting (plus comps (one_in phase))) servers ≡ map (grown phase) (map (numbers_now counting comps) servers)
+map-grown counting most comps phase [] h = refl
+map-grown counting most comps phase (x ∷ servers) h =
+    ap (λ y. y ∷ map (numbers_now counting (plus comps (one_in phase))) servers) (now-grown counting most comps phase x (h 0 x (omega arith)))
+    ∙ ap (λ ys. grown phase (numbers_now counting comps x) ∷ ys)
+    (map-grown counting most comps phase servers (λ k e inside. h (suc k) e (omega arith)))
+
+now-answered : (comps : Params) (phase : PhaseType) (x : ServerCounts)
+    → numbers_now Others (plus comps (one_in phase)) (answered phase x) ≡ numbers_now Others comps x
+now-answered comps phase x = same_numbers _ _ refl (ap (λ c. minus c x.mark) (minus-both comps x.own (one_in phase)))
+
+-- the numbers that contracts see of a server
+pub seen_at : (counting : Counting) (most : ℕ) (comps : Params) (servers : List ServerCounts) (s : ServerId) (x : ServerCounts)
+    → s.0 < length servers → x ≡ get_or servers s.0 x
+    → numbers_at (view_of counting most comps servers) s ≡ numbers_now counting comps x
+seen_at counting most comps servers s x within at =
+    get_or-map (numbers_now counting comps) servers s.0 x no_numbers within ∙ ap (numbers_now counting comps) (sym at)
+
+pub next_params-view : (counting : Counting) (most : ℕ) (comps : Params) (servers : List ServerCounts) (s : ServerId) (x : ServerCounts)
+    → s.0 < length servers → x ≡ get_or servers s.0 x
+    → next_params (view_of counting most comps servers) s ≡ plus (numbers_now counting comps x).pending (own_share counting)
+next_params-view counting most comps servers s x within at =
+    ap (λ (n : ServerNumbers). plus n.pending (own_share counting)) (seen_at counting most comps servers s x within at)
+
+-- a stamp
+pub view-stamp : (counting : Counting) (most : ℕ) (comps params : Params) (servers : List ServerCounts) (s : ServerId) (x : ServerCounts)
+    → s.0 < length servers → x ≡ get_or servers s.0 x
+    → params ≡ plus (numbers_now counting comps x).pending (own_share counting)
+    → view_of counting most comps (set servers s.0 (stamped counting comps params x)) ≡ after_stamp s (view_of counting most comps servers)
+view-stamp counting most comps params servers s x within at e =
+    let f = numbers_now counting comps in
+    let view = view_of counting most comps servers in
+    ap (λ (ys : List ServerNumbers). let n : Numbers = record view { servers = ys } in n) (
+    map-set f servers s.0 (stamped counting comps params x)
+    ∙ ap (λ (y : ServerNumbers). set (map f servers) s.0 y) (now-stamped counting comps params x)
+    ∙ ap (λ (p : Params). let y : ServerNumbers = record { sent = plus x.sent p; pending = no_counts } in set (map f servers) s.0 y) e
+    ∙ ap (λ (n : ServerNumbers). let y : ServerNumbers = record { sent = plus n.sent (plus n.pending (own_share counting)); pending = no_counts } in set (map f servers) s.0 y)
+    (sym (seen_at counting most comps servers s x within at)))
+
+-- a response, seen at all servers
+servers-response : (counting : Counting) (most : ℕ) (comps : Params) (servers : List ServerCounts) (s : ServerId) (x : ServerCounts)
+    (phase : PhaseType) → AreKept counting most comps servers → s.0 < length servers → x ≡ get_or servers s.0 x
+    → map (numbers_now counting (plus comps (one_in phase))) (set servers s.0 (answered phase x))
+    ≡ servers_grown counting s phase (map (numbers_now counting comps) servers)
+servers-response All most comps servers s x phase kept within at =
+    map-set_same (numbers_now All (plus comps (one_in phase))) servers s.0 (answered phase x) x
+    (ap (λ (y : ServerCounts). numbers_now All (plus comps (one_in phase)) y) at)
+    ∙ map-grown All most comps phase servers kept.each
+servers-response Others most comps servers s x phase kept within at =
+    let f = numbers_now Others comps in
+    let after = numbers_now Others (plus comps (one_in phase)) in
+    map-set after servers s.0 (answered phase x)
+    ∙ ap (λ (ys : List ServerNumbers). set ys s.0 (after (answered phase x))) (map-grown Others most comps phase servers kept.each)
+    ∙ ap (λ (y : ServerNumbers). set (map (grown phase) (map f servers)) s.0 y)
+    (now-answered comps phase x ∙ sym (seen_at Others most comps servers s x within at))
+
+pub view-response : (counting : Counting) (most : ℕ) (comps : Params) (servers : List ServerCounts) (s : ServerId) (x : ServerCounts)
+    (phase : PhaseType) → AreKept counting most comps servers → s.0 < length servers → x ≡ get_or servers s.0 x
+    → view_of counting most (plus comps (one_in phase)) (set servers s.0 (answered phase x))
+    ≡ after_response s phase (view_of counting most comps servers)
+view-response counting most comps servers s x phase kept within at =
+    let view = view_of counting most (plus comps (one_in phase)) servers in
+    ap (λ (ys : List ServerNumbers). let n : Numbers = record view { servers = ys } in n)
+    (servers-response counting most comps servers s x phase kept within at)
+
+map-replicate : {X Y : Type 0} (f : X → Y) (n : ℕ) (x : X) → map f (replicate n x) ≡ replicate n (f x)
+map-replicate f zero x = refl
+map-replicate f (suc n) x = ap (λ ys. f x ∷ ys) (map-replicate f n x)
+
+-- a new tracker
+pub view-new : (counting : Counting) (most n : ℕ) (d : ServerCounts) → numbers_now counting no_counts d ≡ no_numbers
+    → view_of counting most no_counts (replicate n d) ≡ new_numbers counting most n
+view-new counting most n d e =
+    let view = new_numbers counting most n in
+    ap (λ (ys : List ServerNumbers). let m : Numbers = record view { servers = ys } in m)
+    (map-replicate (numbers_now counting no_counts) n d ∙ ap (replicate n) e)

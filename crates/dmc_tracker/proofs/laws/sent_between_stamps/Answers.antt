@@ -1,0 +1,5 @@
+use Rattle.dmc_tracker.proofs.LawLemmas.{sent-between}
+use Rattle.dmc_tracker.proofs.laws.sent_between_stamps.Goals as goal
+
+pub returns : goal.returns
+returns c = sent-between

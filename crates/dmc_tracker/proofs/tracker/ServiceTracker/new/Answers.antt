@@ -1,0 +1,21 @@
+use Rattle.std.proofs.Common.{◌≡◌, replicate, rules, refl}
+use Rattle.dmc_types.specs.declared.config.Counting.{Counting}
+use Rattle.dmc_types.specs.declared.config.Counting.TheVariants.{All, Others}
+use Rattle.dmc_tracker.specs.TrackerList.{no_counts}
+use Rattle.dmc_tracker.specs.Numbers.{no_numbers}
+use Rattle.dmc_tracker.specs.Server.{numbers_now}
+use Rattle.dmc_tracker.proofs.ServerLemmas.{view-new}
+use Rattle.dmc_tracker.proofs.StandsLemmas.{Stands-new}
+use Rattle.dmc_tracker.proofs.tracker.ServiceTracker.new.Goals as goal
+
+none_now : (counting : Counting) → numbers_now counting no_counts (record { sent = no_counts; own = no_counts; mark = no_counts }) ≡ no_numbers
+none_now All = refl
+none_now Others = refl
+
+pub returns-clause-ok : goal.returns-clause-ok
+returns-clause-ok c =
+    let items : c.in_ok-servers.servers.items ≡ replicate c.args.servers c.none.result = search rules in
+    rw (c.none-2.ensures, items, c.none.ensures) (view-new c.args.counting c.args.most c.args.servers _ (none_now c.args.counting))
+
+pub returns-clause-stands : goal.returns-clause-stands
+returns-clause-stands c = rw (returns-clause-ok c) (Stands-new c.args.counting c.args.most c.args.servers)

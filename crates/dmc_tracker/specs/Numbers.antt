@@ -1,0 +1,92 @@
+-- What contracts see of a tracker: the numbers of a tracker list, and no list.
+use Rattle.std.specs.Prelude.{◌≡◌, ℕ, ◌<◌, ◌≤◌, List, length, map, replicate, slice_set, slice_index_or, ◌+◌}
+use Rattle.dmc_types.specs.Values.{Params}
+use Rattle.dmc_types.specs.declared.ids.ServerId.{ServerId}
+use Rattle.dmc_types.specs.declared.config.Counting.{Counting}
+use Rattle.dmc_types.specs.declared.config.Counting.TheVariants.{All, Others}
+use Rattle.dmc_types.specs.declared.config.PhaseType.{PhaseType}
+use Rattle.dmc_tracker.specs.declared.event.TrackerEvent.{TrackerEvent}
+use Rattle.dmc_tracker.specs.TrackerList.{no_counts, plus, one_in, own_share, completions, sent, pending}
+
+-- what was sent to a server, and what is pending there
+pub record ServerNumbers : Type 0 where
+  pub sent : Params
+  pub pending : Params
+
+pub record Numbers : Type 0 where
+  pub counting : Counting
+  pub most : ℕ
+  pub completions : Params
+  pub servers : List ServerNumbers
+
+abbrev pub no_numbers : ServerNumbers
+no_numbers = record { sent = no_counts; pending = no_counts }
+
+-- the limits of a tracker
+pub record AreLimits (servers most : ℕ) : Type 0 where
+  pub some_servers : 0 < servers
+  pub servers_limit : servers ≤ 64
+  pub some_most : 0 < most
+
+-- no entry yet
+abbrev pub new_numbers : Counting → ℕ → ℕ → Numbers
+new_numbers counting most servers = record {
+  counting = counting;
+  most = most;
+  completions = no_counts;
+  servers = replicate servers no_numbers;
+}
+
+abbrev pub sent_pair : ServerNumbers → ℕ × ℕ
+sent_pair server = (server.sent.delta, server.sent.rho)
+
+abbrev pub pending_pair : ServerNumbers → ℕ × ℕ
+pending_pair server = (server.pending.delta, server.pending.rho)
+
+-- the numbers of a server
+abbrev pub numbers_at : Numbers → ServerId → ServerNumbers
+numbers_at numbers s = slice_index_or numbers.servers s.0 no_numbers
+
+-- what the next stamp to s carries
+abbrev pub next_params : Numbers → ServerId → Params
+next_params numbers s = plus (numbers_at numbers s).pending (own_share numbers.counting)
+
+-- in `Others`: the next delta would take what was sent to s past `most`
+pub record IsSentFull (numbers : Numbers) (s : ServerId) : Type 0 where
+  pub within : s.0 < length numbers.servers
+  pub form : numbers.counting ≡ Others
+  pub past : numbers.most < (numbers_at numbers s).sent.delta + (next_params numbers s).delta
+
+-- a stamp to s sends what was pending there, and its own share
+abbrev pub after_stamp : ServerId → Numbers → Numbers
+after_stamp s numbers = record numbers {
+  servers = slice_set numbers.servers s.0 (record {
+    sent = plus (numbers_at numbers s).sent (next_params numbers s);
+    pending = no_counts;
+  });
+}
+
+-- a response becomes pending
+abbrev pub grown : PhaseType → ServerNumbers → ServerNumbers
+grown phase server = record server { pending = plus server.pending (one_in phase) }
+
+-- a response of s becomes pending at each server, in `Others` at each but s
+abbrev pub servers_grown : Counting → ServerId → PhaseType → List ServerNumbers → List ServerNumbers
+servers_grown All s phase servers = map (grown phase) servers
+servers_grown Others s phase servers = slice_set (map (grown phase) servers) s.0 (slice_index_or servers s.0 no_numbers)
+
+abbrev pub after_response : ServerId → PhaseType → Numbers → Numbers
+after_response s phase numbers = record numbers {
+  completions = plus numbers.completions (one_in phase);
+  servers = servers_grown numbers.counting s phase numbers.servers;
+}
+
+-- the numbers of s in a list
+abbrev pub numbers_of : Counting → ServerId → List TrackerEvent → ServerNumbers
+numbers_of counting s events = record { sent = sent s events; pending = pending counting s events }
+
+-- the numbers are those of the list
+pub record Stands (numbers : Numbers) (events : List TrackerEvent) : Type 0 where
+  pub completed : numbers.completions ≡ completions events
+  pub each : (s : ServerId) → s.0 < length numbers.servers
+      → numbers_at numbers s ≡ numbers_of numbers.counting s events

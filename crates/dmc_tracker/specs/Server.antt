@@ -1,0 +1,53 @@
+-- What a tracker keeps for a server, in the place of a list. No public clause cites this module.
+use Rattle.std.specs.Prelude.{◌≡◌, ℕ, ◌+◌, ◌-◌, ◌<◌, ◌≤◌, ◌^◌, List, length, map, All as Each}
+use Rattle.dmc_types.specs.Values.{Params}
+use Rattle.dmc_types.specs.declared.config.Counting.{Counting}
+use Rattle.dmc_types.specs.declared.config.Counting.TheVariants.{All, Others}
+use Rattle.dmc_tracker.specs.declared.server.ServerCounts.{ServerCounts}
+use Rattle.dmc_tracker.specs.Numbers.{Numbers, ServerNumbers}
+
+abbrev pub minus : Params → Params → Params
+minus a b = record { delta = a.delta - b.delta; rho = a.rho - b.rho }
+
+-- the first counts are a part of the second: so are their parts in the constraint phase, and what is left of them
+pub record IsPart (part whole : Params) : Type 0 where
+  pub delta : part.delta ≤ whole.delta
+  pub rho : part.rho ≤ whole.rho
+  pub rest : part.delta + whole.rho ≤ whole.delta + part.rho
+
+-- the completions that the stamps to a server count
+abbrev pub counted_at : Counting → Params → ServerCounts → Params
+counted_at All completions server = completions
+counted_at Others completions server = minus completions server.own
+
+-- what contracts see of it
+abbrev pub numbers_now : Counting → Params → ServerCounts → ServerNumbers
+numbers_now counting completions server = record {
+  sent = server.sent;
+  pending = minus (counted_at counting completions server) server.mark;
+}
+
+-- what contracts see of a tracker
+abbrev pub view_of : Counting → ℕ → Params → List ServerCounts → Numbers
+view_of counting most completions servers = record {
+  counting = counting;
+  most = most;
+  completions = completions;
+  servers = map (numbers_now counting completions) servers;
+}
+
+pub record IsKept (counting : Counting) (most : ℕ) (completions : Params) (server : ServerCounts) : Type 0 where
+  pub own : IsPart server.own completions
+  pub mark : IsPart server.mark (counted_at counting completions server)
+  pub sent_rho : server.sent.rho ≤ server.sent.delta
+  pub sent_most : server.sent.delta ≤ most
+  pub sent_all : counting ≡ All → server.sent ≡ server.mark
+
+pub record AreKept (counting : Counting) (most : ℕ) (completions : Params) (servers : List ServerCounts) : Type 0 where
+  pub some_most : 0 < most
+  pub most_limit : most < 2 ^ 32
+  pub some_servers : 0 < length servers
+  pub servers_limit : length servers ≤ 64
+  pub completions_rho : completions.rho ≤ completions.delta
+  pub completions_most : completions.delta ≤ most
+  pub each : Each (IsKept counting most completions) servers

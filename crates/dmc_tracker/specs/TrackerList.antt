@@ -1,0 +1,81 @@
+-- A tracker's list of stamps and responses, oldest first, and what its counts are. Two counts always go together: delta,
+-- of all responses, and rho, of those of them in the constraint phase.
+use Rattle.std.specs.Prelude.{◌≡◌, ℕ, ◌+◌, ◌==◌, Bool, false, if◌then◌else◌, List, ◌∷◌, ◌++◌, sum_by, count_by}
+use Rattle.std.specs.List.{after_last}
+use Rattle.dmc_types.specs.Values.{Params}
+use Rattle.dmc_types.specs.declared.ids.ServerId.{ServerId}
+use Rattle.dmc_types.specs.declared.config.Counting.{Counting}
+use Rattle.dmc_types.specs.declared.config.Counting.TheVariants.{All, Others}
+use Rattle.dmc_types.specs.declared.config.PhaseType.{PhaseType}
+use Rattle.dmc_types.specs.declared.config.PhaseType.TheVariants.{Reservation, Priority}
+use Rattle.dmc_tracker.specs.declared.event.TrackerEvent.{TrackerEvent}
+use Rattle.dmc_tracker.specs.declared.event.TrackerEvent.TheVariants.{Stamp, Response}
+
+abbrev pub no_counts : Params
+no_counts = record { delta = 0; rho = 0 }
+
+abbrev pub plus : Params → Params → Params
+plus a b = record { delta = a.delta + b.delta; rho = a.rho + b.rho }
+
+-- the sum of what each entry of a list counts
+abbrev pub total : (TrackerEvent → Params) → List TrackerEvent → Params
+total f events = record { delta = sum_by (λ e. (f e).delta) events; rho = sum_by (λ e. (f e).rho) events }
+
+-- one response in a phase
+abbrev pub one_in : PhaseType → Params
+one_in Reservation = record { delta = 1; rho = 1 }
+one_in Priority = record { delta = 1; rho = 0 }
+
+-- what an entry completes
+abbrev pub completed_by : TrackerEvent → Params
+completed_by (Stamp server params) = no_counts
+completed_by (Response server phase) = one_in phase
+
+-- what an entry counts for the next stamp to s: in `Others` the responses of s count nothing
+abbrev pub counted_by : Counting → ServerId → TrackerEvent → Params
+counted_by counting s (Stamp server params) = no_counts
+counted_by All s (Response server phase) = one_in phase
+counted_by Others s (Response server phase) = if server.0 == s.0 then no_counts else one_in phase
+
+-- what an entry sends to s
+abbrev pub sent_by : ServerId → TrackerEvent → Params
+sent_by s (Stamp server params) = if server.0 == s.0 then params else no_counts
+sent_by s (Response server phase) = no_counts
+
+abbrev pub is_stamp_to : ServerId → TrackerEvent → Bool
+is_stamp_to s (Stamp server params) = server.0 == s.0
+is_stamp_to s (Response server phase) = false
+
+-- what a stamp counts for its own request
+abbrev pub own_share : Counting → Params
+own_share All = no_counts
+own_share Others = record { delta = 1; rho = 1 }
+
+-- the completions at all servers
+abbrev pub completions : List TrackerEvent → Params
+completions events = total completed_by events
+
+-- the completions at servers other than s
+abbrev pub others : ServerId → List TrackerEvent → Params
+others s events = total (counted_by Others s) events
+
+-- how many stamps to s there are
+abbrev pub stamps : ServerId → List TrackerEvent → ℕ
+stamps s events = count_by (is_stamp_to s) events
+
+-- the sum of the counts stamped to s
+abbrev pub sent : ServerId → List TrackerEvent → Params
+sent s events = total (sent_by s) events
+
+-- the responses after the last stamp to s, or all where there is none, as the form counts them
+abbrev pub pending : Counting → ServerId → List TrackerEvent → Params
+pending counting s events = total (counted_by counting s) (after_last (is_stamp_to s) events)
+
+-- what a stamp to s must carry after these entries
+abbrev pub demanded : Counting → ServerId → List TrackerEvent → Params
+demanded counting s events = plus (pending counting s events) (own_share counting)
+
+-- each stamp of the list carries what the entries before it demand
+abbrev pub IsTracked : Counting → List TrackerEvent → Type 0
+IsTracked counting events = (before after : List TrackerEvent) (s : ServerId) (params : Params)
+    → events ≡ before ++ Stamp s params ∷ after → params ≡ demanded counting s before

@@ -1,0 +1,58 @@
+//! What follows from a tracker list alone. Each law is the contract of a function that does nothing: a caller that calls it
+//! knows the law.
+ghost use Rattle.std.specs.Prelude.{◌≡◌, ℕ, ◌+◌, ◌≤◌, List, [], ◌∷◌, ◌++◌};
+ghost use Rattle.dmc_types.specs.Values.{Params};
+ghost use Rattle.dmc_types.specs.declared.ids.ServerId.{ServerId};
+ghost use Rattle.dmc_types.specs.declared.config.Counting.{Counting};
+ghost use Rattle.dmc_types.specs.declared.config.PhaseType.{PhaseType};
+ghost use Rattle.dmc_tracker.specs.declared.event.TrackerEvent.{TrackerEvent};
+ghost use Rattle.dmc_tracker.specs.TrackerList.{plus, completions, others, stamps, sent, pending, demanded, IsTracked};
+
+use crate::event::TrackerEvent;
+use dmc_types::config::Counting;
+
+/// The empty list is tracked.
+pub fn empty_list_is_tracked()
+    ensures { (counting : Counting) → IsTracked counting [] }
+{}
+
+/// A tracked list stays tracked by a stamp that carries what the list demands.
+pub fn stamp_keeps_tracked()
+    ensures { (counting : Counting) (events : List TrackerEvent) (s : ServerId) → IsTracked counting events
+        → IsTracked counting (events ++ TrackerEvent.Stamp s (demanded counting s events) ∷ []) }
+{}
+
+/// A tracked list stays tracked by a response.
+pub fn response_keeps_tracked()
+    ensures { (counting : Counting) (events : List TrackerEvent) (s : ServerId) (phase : PhaseType) → IsTracked counting events
+        → IsTracked counting (events ++ TrackerEvent.Response s phase ∷ []) }
+{}
+
+/// In the form `All` what was sent to a server and what is pending there are the completions, in both counts.
+pub fn sent_and_pending_in_all()
+    ensures { (events : List TrackerEvent) (s : ServerId) → IsTracked Counting.All events
+        → plus (sent s events) (pending Counting.All s events) ≡ completions events }
+{}
+
+/// In the form `Others` what was sent to a server and what is pending there are the stamps to it and the completions at the
+/// other servers, in both counts.
+pub fn sent_and_pending_in_others()
+    ensures { (events : List TrackerEvent) (s : ServerId) → IsTracked Counting.Others events
+        → plus (sent s events) (pending Counting.Others s events)
+        ≡ plus (record { delta = stamps s events; rho = stamps s events }) (others s events) }
+{}
+
+/// In the form `All` the counts stamped to a server after one of its stamps, up to a later one, sum to the difference of
+/// the completions at these two stamps.
+pub fn sent_between_stamps()
+    ensures { (before between after : List TrackerEvent) (s : ServerId) (first last : Params)
+        → IsTracked Counting.All (before ++ TrackerEvent.Stamp s first ∷ (between ++ TrackerEvent.Stamp s last ∷ after))
+        → plus (completions before) (sent s (between ++ TrackerEvent.Stamp s last ∷ []))
+        ≡ completions (before ++ TrackerEvent.Stamp s first ∷ between) }
+{}
+
+/// In the form `All` the next stamp takes what was sent to its server no further than the completions.
+pub fn next_stamp_in_all()
+    ensures { (events : List TrackerEvent) (s : ServerId) → IsTracked Counting.All events
+        → (sent s events).delta + (demanded Counting.All s events).delta ≤ (completions events).delta }
+{}

@@ -1,0 +1,10 @@
+//! A client's service tracker: it counts the client's completions at the servers, and stamps each request with what its
+//! server has not been told. A tracker keeps running counters; what they are is said of the list of its stamps and
+//! responses, which it does not keep.
+#![tactic(auto)]
+
+mod counts;
+pub mod event;
+pub mod laws;
+mod server;
+pub mod tracker;

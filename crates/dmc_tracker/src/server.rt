@@ -1,0 +1,42 @@
+//! What a tracker keeps for a server.
+ghost use Rattle.std.specs.Prelude.{◌≡◌, ◌≤◌};
+ghost use Rattle.dmc_tracker.specs.TrackerList.{no_counts};
+ghost use Rattle.dmc_types.specs.Values.{Params};
+
+use crate::counts::Counts;
+use dmc_types::config::Counting;
+
+// What was sent to the server, the completions there, and the completions that its stamps count, as they were at its
+// last stamp.
+#[derive(Clone, Copy, Debug, PartialEq, Eq)]
+pub struct ServerCounts {
+    pub sent: Counts,
+    pub own: Counts,
+    pub mark: Counts,
+}
+
+impl ServerCounts {
+    ghost use Rattle.dmc_tracker.specs.Server.{counted_at, IsPart};
+
+    // Nothing was sent, and nothing completed.
+    pub fn none() -> ServerCounts
+        ensures { result ≡ record { sent = no_counts; own = no_counts; mark = no_counts } }
+    {
+        ServerCounts {
+            sent: Counts::none(),
+            own: Counts::none(),
+            mark: Counts::none(),
+        }
+    }
+
+    // The completions that stamps to the server count, of all since the start.
+    pub fn counted(&self, counting: Counting, completions: Counts) -> Counts
+        requires { IsPart self.now.own completions }
+        ensures { result ≡ counted_at counting completions self.now }
+    {
+        match counting {
+            Counting::All => completions,
+            Counting::Others => completions.minus(self.own),
+        }
+    }
+}

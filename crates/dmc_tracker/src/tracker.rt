@@ -1,0 +1,306 @@
+//! The tracker.
+ghost use Rattle.std.specs.Prelude.{◌≡◌, ℕ, ◌<◌, ◌≤◌, ◌^◌, ◌+◌, ◌↔◌, Option, List, [], ◌∷◌, ◌++◌, length, replicate, IfOk, OnOk, OnErr, IsErrOf, IsOkUnless, slice_get, option_map};
+ghost use Rattle.dmc_types.specs.declared.config.Counting.{Counting};
+ghost use Rattle.dmc_tracker.specs.declared.event.TrackerEvent.{TrackerEvent};
+ghost use Rattle.dmc_tracker.specs.TrackerList.{demanded, no_counts};
+ghost use Rattle.dmc_tracker.specs.Numbers.{Numbers, ServerNumbers, no_numbers, new_numbers, numbers_at, next_params, after_stamp, after_response, sent_pair, pending_pair, AreLimits, IsSentFull, Stands};
+
+use crate::counts::Counts;
+use crate::event::TrackerEvent;
+use crate::server::ServerCounts;
+use dmc_types::config::{Counting, PhaseType};
+use dmc_types::ids::ServerId;
+use dmc_types::params::ReqParams;
+use std::alloc::{AllocError, Global};
+use std::marker::Model;
+
+/// Why a tracker could not be made.
+#[derive(Clone, Copy, Debug, PartialEq, Eq)]
+pub enum MakeFault {
+    /// The servers are not 1 to 64, or `most` is not 1 to 2^32-1.
+    Limit,
+    /// The allocator refused the room.
+    Memory,
+}
+
+/// Why a stamp or a response is refused. The tracker is as it was.
+#[derive(Clone, Copy, Debug, PartialEq, Eq)]
+pub enum TrackFault {
+    /// The tracker has no such server.
+    NoServer,
+    /// The call would take a count past the tracker's `most`.
+    TrackFull,
+}
+
+impl From<AllocError> for MakeFault {
+    ghost use Rattle.dmc_tracker.specs.declared.tracker.MakeFault.TheVariants.{Memory};
+
+    ghost from_gives = { λ _ e. e ≡ Memory };
+
+    fn from(_error: AllocError) -> MakeFault {
+        MakeFault::Memory
+    }
+}
+
+/// The service tracker of one client, for servers 0, 1, .. (dmClock section of the mClock paper, and Ceph's
+/// `ServiceTracker`).
+///
+/// It counts the client's completions, and stamps each request with two counts, delta of all of them and rho of those in
+/// the constraint phase, since the last stamp to the same server. Which completions a stamp counts is its `Counting`. A
+/// stamp and a response take constant time and no memory.
+#[derive(Drop)]
+pub struct ServiceTracker {
+    counting: Counting,
+    most: u32,
+    completions: Counts,
+    servers: Vec<ServerCounts>,
+}
+
+impl Model for ServiceTracker {
+    ghost use Rattle.dmc_tracker.specs.Numbers.{Numbers};
+
+    ghost Value = { Numbers };
+
+    ghost use Rattle.dmc_tracker.specs.Server.{view_of, AreKept};
+
+    ghost view = { λ t. view_of t.counting t.most t.completions t.servers.items };
+
+    ghost invariant = { λ t. AreKept t.counting t.most t.completions t.servers.items };
+}
+
+impl ServiceTracker {
+    /// A tracker of `servers` servers (1 to 64), which counts `most` completions (1 to 2^32-1): refused `Limit`, then
+    /// `Memory`. It stands for the empty list.
+    pub fn new(
+        alloc: Global,
+        servers: u32,
+        most: u32,
+        counting: Counting,
+    ) -> Result<ServiceTracker, MakeFault>
+        ensures ok { IfOk result (λ tracker. tracker ≡ new_numbers counting most servers) }
+        ensures stands { IfOk result (λ tracker. Stands tracker []) }
+        ensures limit { (AreLimits servers most → ⊥) → result ≡ Err MakeFault.Limit }
+        ensures memory { AreLimits servers most → IsOkUnless result MakeFault.Memory }
+    {
+        if servers < 1 || servers > 64 || most < 1 {
+            return Err(MakeFault::Limit);
+        }
+        let servers = vec![in alloc; ServerCounts::none(); servers as usize]?;
+        Ok(ServiceTracker {
+            counting,
+            most,
+            completions: Counts::none(),
+            servers,
+        })
+    }
+
+    /// Stamps a request to a server: refused `NoServer`, then `TrackFull`, in the form `Others` alone, where the delta would
+    /// take what was sent to the server past `most`.
+    pub fn get_req_params(&mut self, server: ServerId) -> Result<ReqParams, TrackFault>
+        ensures params { IfOk result (λ params. params ≡ next_params self.old server) }
+        ensures after { OnOk result (self.new ≡ after_stamp server self.old) }
+
+        // Of each list that the tracker stands for, it takes the numbers to those of the list with this stamp, which
+        // carries what the list demands.
+        ensures stands { IfOk result (λ params. (events : List TrackerEvent) → Stands self.old events
+            → (params ≡ demanded self.old.counting server events) × Stands self.new (events ++ TrackerEvent.Stamp server params ∷ [])) }
+
+        ensures no_server { IsErrOf result TrackFault.NoServer ↔ (length self.old.servers ≤ server.0) }
+        ensures full { IsErrOf result TrackFault.TrackFull ↔ IsSentFull self.old server }
+        ensures err { OnErr result (self.new ≡ self.old) }
+    {
+        let index = server.0 as usize;
+        if index >= self.servers.len() {
+            return Err(TrackFault::NoServer);
+        }
+        let counts = self.servers[index];
+        let counted = counts.counted(self.counting, self.completions);
+        let pending = counted.minus(counts.mark);
+        if self.counting == Counting::Others && pending.delta >= self.most - counts.sent.delta {
+            return Err(TrackFault::TrackFull);
+        }
+        let params = pending.plus(Counts::own_share(self.counting));
+        self.servers[index] = ServerCounts {
+            sent: counts.sent.plus(params),
+            mark: counted,
+            ..counts
+        };
+        Ok(ReqParams::new(params.delta, params.rho).unwrap())
+    }
+
+    /// Counts a completion: a server answered a request that it granted in a phase. Refused `NoServer`, then `TrackFull`
+    /// where the completions are `most`.
+    pub fn track_resp(&mut self, server: ServerId, phase: PhaseType) -> Result<(), TrackFault>
+        ensures after { OnOk result (self.new ≡ after_response server phase self.old) }
+
+        // Of each list that the tracker stands for, it takes the numbers to those of the list with this response.
+        ensures stands { OnOk result ((events : List TrackerEvent) → Stands self.old events
+            → Stands self.new (events ++ TrackerEvent.Response server phase ∷ [])) }
+
+        ensures no_server { IsErrOf result TrackFault.NoServer ↔ (length self.old.servers ≤ server.0) }
+        ensures full { IsErrOf result TrackFault.TrackFull
+            ↔ ((server.0 < length self.old.servers) × (self.old.completions.delta ≡ self.old.most)) }
+        ensures err { OnErr result (self.new ≡ self.old) }
+    {
+        let index = server.0 as usize;
+        if index >= self.servers.len() {
+            return Err(TrackFault::NoServer);
+        }
+        if self.completions.delta == self.most {
+            return Err(TrackFault::TrackFull);
+        }
+        let one = Counts::one(phase);
+        self.completions = self.completions.plus(one);
+        let counts = self.servers[index];
+        self.servers[index] = ServerCounts {
+            own: counts.own.plus(one),
+            ..counts
+        };
+        Ok(())
+    }
+
+    /// The sums of the deltas and of the rhos stamped to a server, or `None` where the tracker has no such server.
+    pub fn sent(&self, server: ServerId) -> Option<(u32, u32)>
+        ensures { result ≡ option_map sent_pair (slice_get self.now.servers server.0) }
+    {
+        let counts = self.servers.get(server.0 as usize)?;
+        Some((counts.sent.delta, counts.sent.rho))
+    }
+
+    /// The completions that a stamp to a server would count now, of all and in the constraint phase, without the request
+    /// itself; `None` where the tracker has no such server.
+    pub fn pending(&self, server: ServerId) -> Option<(u32, u32)>
+        ensures { result ≡ option_map pending_pair (slice_get self.now.servers server.0) }
+    {
+        let counts = self.servers.get(server.0 as usize)?;
+        let counted = counts.counted(self.counting, self.completions);
+        let pending = counted.minus(counts.mark);
+        Some((pending.delta, pending.rho))
+    }
+
+    /// The completions at all servers, of all and in the constraint phase.
+    pub fn completions(&self) -> (u32, u32)
+        ensures all { result.0 ≡ self.now.completions.delta }
+        ensures constraint { result.1 ≡ self.now.completions.rho }
+        ensures bound { result.0 ≤ self.now.most }
+        ensures part { result.1 ≤ result.0 }
+    {
+        (self.completions.delta, self.completions.rho)
+    }
+
+    /// How many servers it has.
+    pub fn servers(&self) -> u32
+        ensures value { result ≡ length self.now.servers }
+        ensures some { 0 < result }
+        ensures limit { result ≤ 64 }
+    {
+        self.servers.len() as u32
+    }
+
+    /// How many completions it counts.
+    pub fn most(&self) -> u32
+        ensures value { result ≡ self.now.most }
+        ensures some { 0 < result }
+    {
+        self.most
+    }
+
+    /// Which completions its stamps count.
+    pub fn counting(&self) -> Counting
+        ensures { result ≡ self.now.counting }
+    {
+        self.counting
+    }
+}
+
+#[cfg(test)]
+mod tests {
+    use super::*;
+    use dmc_types::params::ReqParams;
+    use std::test::Fail;
+
+    const ZERO: ServerId = ServerId(0);
+
+    const ONE: ServerId = ServerId(1);
+
+    // Stamp 0, response 0 reservation, stamp 1, response 1 priority, stamp 0.
+    fn three_stamps(tracker: &mut ServiceTracker) -> Result<[ReqParams; 3], TrackFault> {
+        let first = tracker.get_req_params(ZERO)?;
+        tracker.track_resp(ZERO, PhaseType::Reservation)?;
+        let second = tracker.get_req_params(ONE)?;
+        tracker.track_resp(ONE, PhaseType::Priority)?;
+        let third = tracker.get_req_params(ZERO)?;
+        Ok([first, second, third])
+    }
+
+    fn pair(params: ReqParams) -> (u32, u32) {
+        (params.delta(), params.rho())
+    }
+
+    #[test]
+    fn two_server_tracker(rt: HostRuntime) -> Result<(), Fail> {
+        let mut tracker = ServiceTracker::new(rt.alloc(), 2, 10, Counting::All)?;
+        let [first, second, third] = three_stamps(&mut tracker)?;
+        assert_eq!(rt; pair(first), (0, 0));
+        assert_eq!(rt; pair(second), (1, 1));
+        assert_eq!(rt; pair(third), (2, 1));
+        assert_eq!(rt; tracker.sent(ZERO), Some((2, 1)));
+        assert_eq!(rt; tracker.pending(ZERO), Some((0, 0)));
+        assert_eq!(rt; tracker.sent(ONE), Some((1, 1)));
+        assert_eq!(rt; tracker.pending(ONE), Some((1, 0)));
+        assert_eq!(rt; tracker.completions(), (2, 1));
+        assert_eq!(rt; tracker.servers(), 2);
+        assert_eq!(rt; tracker.most(), 10);
+        assert_eq!(rt; tracker.counting(), Counting::All);
+        Ok(())
+    }
+
+    #[test]
+    fn others_tracker(rt: HostRuntime) -> Result<(), Fail> {
+        let mut tracker = ServiceTracker::new(rt.alloc(), 2, 10, Counting::Others)?;
+        let [first, second, third] = three_stamps(&mut tracker)?;
+        assert_eq!(rt; pair(first), (1, 1));
+        assert_eq!(rt; pair(second), (2, 2));
+        assert_eq!(rt; pair(third), (2, 1));
+        assert_eq!(rt; tracker.sent(ZERO), Some((3, 2)));
+        assert_eq!(rt; tracker.pending(ZERO), Some((0, 0)));
+        assert_eq!(rt; tracker.sent(ONE), Some((2, 2)));
+        assert_eq!(rt; tracker.pending(ONE), Some((0, 0)));
+        assert_eq!(rt; tracker.completions(), (2, 1));
+        let mut small = ServiceTracker::new(rt.alloc(), 2, 1, Counting::Others)?;
+        assert_eq!(rt; pair(small.get_req_params(ZERO)?), (1, 1));
+        assert_eq!(rt;
+            small.get_req_params(ZERO).err(),
+            Some(TrackFault::TrackFull)
+        );
+        assert_eq!(rt; small.sent(ZERO), Some((1, 1)));
+        Ok(())
+    }
+
+    #[test]
+    fn tracker_limits(rt: HostRuntime) -> Result<(), Fail> {
+        let mut tracker = ServiceTracker::new(rt.alloc(), 1, 1, Counting::All)?;
+        tracker.track_resp(ZERO, PhaseType::Reservation)?;
+        assert_eq!(rt;
+            tracker.track_resp(ZERO, PhaseType::Priority),
+            Err(TrackFault::TrackFull)
+        );
+        assert_eq!(rt;
+            tracker.track_resp(ONE, PhaseType::Priority),
+            Err(TrackFault::NoServer)
+        );
+        assert_eq!(rt;
+            tracker.get_req_params(ONE).err(),
+            Some(TrackFault::NoServer)
+        );
+        assert_eq!(rt; tracker.sent(ONE), None);
+        assert_eq!(rt; tracker.pending(ONE), None);
+        for servers in [0, 65] {
+            let refused = ServiceTracker::new(rt.alloc(), servers, 1, Counting::All);
+            assert_eq!(rt; refused.err(), Some(MakeFault::Limit));
+        }
+        let refused = ServiceTracker::new(rt.alloc(), 1, 0, Counting::All);
+        assert_eq!(rt; refused.err(), Some(MakeFault::Limit));
+        Ok(())
+    }
+}

@@ -1,5 +1,6 @@
 -- Sets of requests, and the best of a set: the member with the least (tag, client, place in the list).
-use Rattle.std.specs.Prelude.{ℕ, Bool, true, false, not, ◌&&◌, List, [], ◌∷◌, Option, Some, None, if◌then◌else◌}
+use Rattle.std.specs.List.{AllByRecursion}
+use Rattle.std.specs.Prelude.{◌≡◌, ◌++◌, ℕ, Bool, true, false, not, ◌&&◌, List, [], ◌∷◌, Option, Some, None, if◌then◌else◌}
 use Rattle.std.specs.Ordering.{is_lt, is_gt, ordering_then}
 use Rattle.dmc_tag.specs.Rank.{last_if_absent, client_cmp}
 use Rattle.dmc_tag.specs.Tag.{Tagging}
@@ -40,3 +41,18 @@ better before member x xs (Some (y, others)) = if member && not (before y x) the
 abbrev pub best : {R : Type 0} → (R → R → Bool) → (R → Bool) → List R → Option (R × List R)
 best before member [] = None
 best before member (x ∷ xs) = better before (member x) x xs (best before member xs)
+
+-- r is a member, no member of the list is before it in (tag, client, place), and the others are the list without it
+pub record IsBest {R : Type 0} (before : R → R → Bool) (member : R → Bool) (xs : List R) (r : R) (others : List R) : Type 0 where
+  pub front : List R
+  pub back : List R
+  pub whole : xs ≡ front ++ r ∷ back
+  pub rest : others ≡ front ++ back
+  pub is_member : member r ≡ true
+  -- it is before each member that came earlier, and no member that came later is before it
+  pub ahead : AllByRecursion (λ x. member x ≡ true → before r x ≡ true) front
+  pub behind : AllByRecursion (λ x. member x ≡ true → before x r ≡ false) back
+
+-- the list has no member
+abbrev pub HasNone : {R : Type 0} → (R → Bool) → List R → Type 0
+HasNone member xs = AllByRecursion (λ x. member x ≡ false) xs

@@ -3,3 +3,5 @@ pub mod Before
 pub mod BestSwaps
 pub mod Agreement
 pub mod Running
+pub mod BestIs
+pub mod PullLaw

@@ -7,6 +7,7 @@ use Rattle.std.specs.Cmp.{IsTotalOrder, on_total, then_total, back_total, nat_cm
 use Rattle.std.proofs.Common.{refl}
 use Rattle.dmc_types.specs.declared.ids.ClientId.{ClientId}
 use Rattle.dmc_tag.specs.declared.rank.TagRank.{TagRank}
+use Rattle.dmc_tag.specs.declared.rank.LimitRank.{LimitRank}
 use Rattle.dmc_tag.specs.declared.rank.ReadyRank.{ReadyRank}
 
 -- an absent tag is last
@@ -22,6 +23,10 @@ client_cmp = on (λ c. c.0) nat_cmp
 -- by tag, an absent one last, and then by client
 abbrev pub tag_rank_cmp : {T : Type 0} → (T → T → Ordering) → TagRank T → TagRank T → Ordering
 tag_rank_cmp compare = then_cmp (on (λ r. r.tag) (last_if_absent compare)) (on (λ r. r.client) client_cmp)
+
+-- what is unready first, then by tag, and then by client
+abbrev pub limit_rank_cmp : {T : Type 0} → (T → T → Ordering) → LimitRank T → LimitRank T → Ordering
+limit_rank_cmp compare = then_cmp (on (λ r. r.ready) bool_cmp) (then_cmp (on (λ r. r.tag) compare) (on (λ r. r.client) client_cmp))
 
 -- what is ready first, then by tag, and then by client
 abbrev pub ready_rank_cmp : {T : Type 0} → (T → T → Ordering) → ReadyRank T → ReadyRank T → Ordering
@@ -62,3 +67,6 @@ module _ {T : Type 0} {R : T → T → Ordering} (o : IsTotalOrder R) where
 
   pub ready_rank_total : IsTotalOrder (ready_rank_cmp R)
   ready_rank_total = then_total (on_total (λ r. r.ready) (back_total bool_cmp_total)) (then_total (on_total (λ r. r.tag) o) (on_total (λ r. r.client) client_total))
+
+  pub limit_rank_total : IsTotalOrder (limit_rank_cmp R)
+  limit_rank_total = then_total (on_total (λ r. r.ready) bool_cmp_total) (then_total (on_total (λ r. r.tag) o) (on_total (λ r. r.client) client_total))

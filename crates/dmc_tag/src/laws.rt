@@ -1,9 +1,13 @@
 //! What follows from the rules alone. Each law is the contract of a function that does nothing.
-ghost use Rattle.std.specs.Prelude.{Option};
+ghost use Rattle.std.specs.Prelude.{◌≡◌, ℕ, Option};
 ghost use Rattle.dmc_types.specs.declared.command.Command.{Command};
-ghost use Rattle.dmc_tag.specs.State.{State, StandsFor};
+ghost use Rattle.dmc_tag.specs.State.{State, StandsFor, effective};
 ghost use Rattle.dmc_tag.specs.Steps.{Exactly, Steps};
-ghost use Rattle.dmc_tag.specs.Laws.{SameStep};
+ghost use Rattle.dmc_tag.specs.Laws.{SameStep, Pulls};
+ghost use Rattle.dmc_tag.specs.Step.{outcome, step};
+ghost use Rattle.dmc_types.specs.declared.refusal.Refusal.{Refusal};
+ghost use Rattle.dmc_tag.specs.declared.reply.Reply.TheVariants as replies;
+ghost use Rattle.dmc_types.specs.declared.command.Command.TheVariants as commands;
 ghost use Rattle.dmc_tag.specs.declared.reply.Reply.{Reply};
 
 use crate::tag::Tag;
@@ -17,4 +21,15 @@ pub fn agreeing_states<T: Tag>()
 pub fn steps_exactly<T: Tag>()
     ensures { (old new : State T) (command : Command) (answer : Option (Reply T)) →
         Exactly T.ops old new command answer → Steps T.ops old new command answer }
+{}
+
+/// The request that is granted is in its set, and no member of the set is before it in (tag, client, place); the reply
+/// to a pull says which set it was, and that the sets before it have no member.
+pub fn pulls_grant_the_best<T: Tag>()
+    ensures { (s : State T) (at : ℕ) → Pulls T.ops (effective s at) s ((step T.ops s (commands.Pull at)).0) ((step T.ops s (commands.Pull at)).1) }
+{}
+
+/// A refused command leaves the state.
+pub fn refusals_change_nothing<T: Tag>()
+    ensures { (s : State T) (command : Command) (refusal : Refusal) → outcome T.ops s command ≡ Err refusal → step T.ops s command ≡ (s, replies.Refused refusal) }
 {}

@@ -2,7 +2,7 @@
 ghost use Rattle.std.proofs.Common.{refl};
 ghost use Rattle.std.specs.Cmp.{partial_order_from_agreeing_total, partial_equiv_from_equiv, eq_by_cmp_equiv};
 ghost use Rattle.std.specs.Ordering.{as_partial_cmp, eq_by_cmp};
-ghost use Rattle.dmc_tag.specs.Rank.{tag_rank_cmp, tag_rank_total, ready_rank_cmp, ready_rank_total};
+ghost use Rattle.dmc_tag.specs.Rank.{tag_rank_cmp, tag_rank_total, limit_rank_cmp, limit_rank_total, ready_rank_cmp, ready_rank_total};
 
 use dmc_types::ids::ClientId;
 use std::cmp::Ordering;
@@ -18,7 +18,7 @@ pub struct TagRank<T> {
 }
 
 /// Unready first, then by tag, and then by client.
-#[derive(Clone, Copy, Debug, PartialEq, Eq, PartialOrd, Ord)]
+#[derive(Clone, Copy, Debug)]
 pub struct LimitRank<T> {
     pub ready: bool,
     pub tag: T,
@@ -81,6 +81,46 @@ impl<T: Ord> PartialEq for TagRank<T> {
 
 impl<T: Ord> Eq for TagRank<T> {
     ghost laws = { eq_by_cmp_equiv (tag_rank_total T.total) };
+}
+
+impl<T: Ord> Ord for LimitRank<T> {
+    ghost cmp = { limit_rank_cmp T.cmp };
+
+    ghost total = { limit_rank_total T.total };
+
+    ghost matches_partial_cmp = { λ a b. refl };
+
+    ghost matches_eq = { λ a b. refl };
+
+    fn cmp(&self, other: &LimitRank<T>) -> Ordering {
+        let by_tag = self.tag.cmp(&other.tag);
+        let by_tag = by_tag.then(self.client.cmp(&other.client));
+        self.ready.cmp(&other.ready).then(by_tag)
+    }
+}
+
+impl<T: Ord> PartialOrd for LimitRank<T> {
+    ghost partial_cmp = { as_partial_cmp (limit_rank_cmp T.cmp) };
+
+    ghost laws = { partial_order_from_agreeing_total (limit_rank_cmp T.cmp) (limit_rank_total T.total) (λ a b. refl) (λ a b. refl) };
+
+    fn partial_cmp(&self, other: &LimitRank<T>) -> Option<Ordering> {
+        Some(self.cmp(other))
+    }
+}
+
+impl<T: Ord> PartialEq for LimitRank<T> {
+    ghost eq = { eq_by_cmp (limit_rank_cmp T.cmp) };
+
+    ghost laws = { partial_equiv_from_equiv (eq_by_cmp_equiv (limit_rank_total T.total)) };
+
+    fn eq(&self, other: &LimitRank<T>) -> bool {
+        self.cmp(other).is_eq()
+    }
+}
+
+impl<T: Ord> Eq for LimitRank<T> {
+    ghost laws = { eq_by_cmp_equiv (limit_rank_total T.total) };
 }
 
 impl<T: Ord> Ord for ReadyRank<T> {

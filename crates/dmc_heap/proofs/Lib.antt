@@ -1,0 +1,3 @@
+pub mod LinkLemmas
+pub mod OrderLemmas
+pub mod SlotLemmas

@@ -1,0 +1,638 @@
+-- The map that a heap and its places are, after each edit of the two.
+use Rattle.std.proofs.Common.{◌≡◌, ◌≢◌, ℕ, zero, suc, ◌+◌, ◌-◌, ◌<◌, ◌≤◌, ◌⊎◌, List, [], ◌∷◌, ◌++◌, Option, Some, None, IsSome, length, get_or, set, map, replicate, slice_get, option_and_then, count_by, is_some, cond, refl, sym, ap, ◌∙◌, subst, inl, inr, false, arith}
+use Rattle.std.specs.Option.{option_map}
+use Rattle.std.specs.declared.cmp.Ordering.{Ordering}
+use Rattle.std.specs.declared.cmp.Ordering.TheVariants.{Less, Equal, Greater}
+use Rattle.std.specs.Ordering.{is_gt, ordering_reverse}
+use Rattle.std.specs.Cmp.{IsTotalOrder}
+use Rattle.std.proofs.lemmas.Cmp.{tied_back}
+use Rattle.std.proofs.lemmas.Bool.{cases_lt, cases_eq}
+use Rattle.std.proofs.lemmas.List.{length-set, length-map, length-append, length-replicate, map-append, get_or-replicate, get_or_past, get_or_append_left, get_or-append_right, get_or-set_same, get_or-set_other, set_at, set-append_left, set-set, set_comm, get_or_default, same_lists}
+use Rattle.std.proofs.lemmas.List.Sums.{sum_by-set, sum_by-append, sum_by-cons, count_by-le-length}
+use Rattle.std.proofs.lemmas.List.Folds.{sum_by-replicate}
+use Rattle.std.proofs.lemmas.Option.{slice_get_within, slice_get_past, slice_get-get_or, get_or_from_slice_get}
+use Rattle.dmc_index.specs.Index.{held, IsApart, IsApartFromOthers, AreApart, IsLeast, KeepsOrder, IsMapped}
+use Rattle.dmc_heap.specs.Heap.{rank_at, rank_of, slots_of, parent_of, IsLinked, IsUpto, IsHeap, IsHole, IsSettled, IsSound, MapsEntries}
+use Rattle.dmc_heap.specs.declared.indexed_heap.Entry.{Entry}
+use Rattle.dmc_heap.specs.declared.indexed_heap.TheConstants.{VACANT}
+use Rattle.dmc_heap.proofs.LinkLemmas.{slice_get-set_same, slice_get-set_other, option_cases, rank_of_some, rank_of_none, IsLinked-move, rank_of-move, keys_apart}
+use Rattle.dmc_heap.proofs.OrderLemmas.{upto_trans, upto_itself, same_some}
+
+-- ---- an element of a longer list
+
+module _ {X : Type 0} where
+  pub append_some : (xs ys : List X) (i : ℕ) (x : X) → slice_get xs i ≡ Some x → slice_get (xs ++ ys) i ≡ Some x
+  append_some [] ys i x h = cc
+  append_some (x' ∷ xs) ys zero x h = h
+  append_some (x' ∷ xs) ys (suc i) x h = append_some xs ys i x h
+
+  pub push_at : (xs : List X) (y : X) → slice_get (xs ++ y ∷ []) (length xs) ≡ Some y
+  push_at [] y = refl
+  push_at (x ∷ xs) y = push_at xs y
+
+  pub push_cases : (xs : List X) (y : X) (i : ℕ) (x : X) → slice_get (xs ++ y ∷ []) i ≡ Some x → (slice_get xs i ≡ Some x) ⊎ ((i ≡ length xs) × (x ≡ y))
+  push_cases [] y zero x h = inr (refl, sym (same_some y x h))
+  push_cases [] y (suc i) x h = cc
+  push_cases (x' ∷ xs) y zero x h = inl h
+  push_cases (x' ∷ xs) y (suc i) x h =
+      elim (push_cases xs y i x h) [ inl w ↦ inl w | inr w ↦ inr (ap suc w.0, w.1) ]
+
+  pub push_none : (xs : List X) (y : X) (i : ℕ) → slice_get (xs ++ y ∷ []) i ≡ None → slice_get xs i ≡ None
+  push_none [] y i h = refl
+  push_none (x ∷ xs) y zero h = h
+  push_none (x ∷ xs) y (suc i) h = push_none xs y i h
+
+  pub replicate_cases : (xs : List X) (n : ℕ) (v : X) (i : ℕ) (x : X) → slice_get (xs ++ replicate n v) i ≡ Some x → (slice_get xs i ≡ Some x) ⊎ (x ≡ v)
+  replicate_cases [] zero v i x h = cc
+  replicate_cases [] (suc n) v zero x h = inr (sym (same_some v x h))
+  replicate_cases [] (suc n) v (suc i) x h = elim (replicate_cases [] n v i x h) [ inl w ↦ cc | inr w ↦ inr w ]
+  replicate_cases (x' ∷ xs) n v zero x h = inl h
+  replicate_cases (x' ∷ xs) n v (suc i) x h = replicate_cases xs n v i x h
+
+-- ---- maps
+
+module _ {R : Type 0} where
+  held-replicate : (n key : ℕ) → held {R = R} (replicate n None) key ≡ None
+  held-replicate n key =
+      elim (cases_lt key n) [
+        | inl l ↦ get_or-replicate n key None None l
+        | inr l ↦ get_or_past (replicate n None) key None (rw length-replicate l)
+      ]
+
+  pub held-slots_of : (heap : List (Entry R)) (places : List ℕ) (key : ℕ) → held (slots_of heap places) key ≡ rank_of heap places key
+  held-slots_of heap [] key = refl
+  held-slots_of heap (p ∷ ps) zero = refl
+  held-slots_of heap (p ∷ ps) (suc key) = held-slots_of heap ps key
+
+  pub same_slots : (xs ys : List (Option R)) → length xs ≡ length ys → ((key : ℕ) → held xs key ≡ held ys key) → xs ≡ ys
+  same_slots xs ys e h =
+      same_lists xs ys e (λ k d l. get_or_default xs k d None l ∙ h k ∙ get_or_default ys k None d (omega arith))
+
+  -- one key has another rank, or none, and the others have theirs
+  pub slots_of-set : (heap new_heap : List (Entry R)) (places new_places : List ℕ) (key : ℕ) (v : Option R) → length new_places ≡ length places → key < length places → rank_of new_heap new_places key ≡ v → ((k : ℕ) → k ≢ key → rank_of new_heap new_places k ≡ rank_of heap places k) → slots_of new_heap new_places ≡ set (slots_of heap places) key v
+  slots_of-set heap new_heap places new_places key v e l at else' =
+      let old = slots_of heap places in
+      let in' : key < length old = omega (arith, length-map places (rank_at heap)) in
+      same_slots (slots_of new_heap new_places) (set old key v) (length-map new_places (rank_at new_heap) ∙ e ∙ sym (length-map places (rank_at heap)) ∙ sym (length-set old key v)) (λ k. elim (cases_eq k key) [
+        | inl s ↦ held-slots_of new_heap new_places k ∙ ap (rank_of new_heap new_places) s ∙ at ∙ sym (get_or-set_same old key v None in') ∙ ap (held (set old key v)) (sym s)
+        | inr p ↦ held-slots_of new_heap new_places k ∙ else' k p ∙ sym (held-slots_of heap places k) ∙ sym (get_or-set_other old key k v None p)
+      ])
+
+  -- what a map holds after a write was written, or held before
+  held-set : (slots : List (Option R)) (i key : ℕ) (v : Option R) (rank : R) → held (set slots i v) key ≡ Some rank → ((key ≡ i) × (v ≡ Some rank)) ⊎ (((key ≡ i → ⊥) × (held slots key ≡ Some rank)) ⊎ (length slots ≤ i))
+  held-set slots i key v rank h =
+      elim (cases_lt i (length slots)) [
+        | inr l ↦ inr (inr l)
+        | inl l ↦ elim (cases_eq key i) [
+          | inr ne ↦ inr (inl (ne, sym (get_or-set_other slots i key v None ne) ∙ h))
+          | inl e ↦ inl (e, sym (get_or-set_same slots i v None l) ∙ subst (λ k. get_or (set slots i v) k None ≡ Some rank) e h)
+        ]
+      ]
+
+  pub AreApart-set : (compare : R → R → Ordering) (o : IsTotalOrder compare) (slots : List (Option R)) (key : ℕ) (v : Option R) → key < length slots → AreApart compare slots → ((rank : R) → v ≡ Some rank → IsApartFromOthers compare slots key rank) → AreApart compare (set slots key v)
+  AreApart-set compare o slots key v l apart new a r h b s ne q =
+      elim (held-set slots key a v r h) [
+        | inl w ↦ elim (held-set slots key b v s q) [
+          | inl u ↦ absurd (ne (u.0 ∙ sym w.0))
+          | inr (inl u) ↦ new r w.1 b s u.0 u.1
+          | inr (inr u) ↦ absurd (omega arith)
+        ]
+        | inr (inl w) ↦ elim (held-set slots key b v s q) [
+          | inl u ↦ λ e. new s u.1 a r w.0 w.1 (tied_back o r s e)
+          | inr (inl u) ↦ apart a r w.1 b s ne u.1
+          | inr (inr u) ↦ absurd (omega arith)
+        ]
+        | inr (inr w) ↦ absurd (omega arith)
+      ]
+
+  count-set : (slots : List (Option R)) (key : ℕ) (v : Option R) → key < length slots → count_by is_some (set slots key v) + cond (is_some (held slots key)) 1 0 ≡ count_by is_some slots + cond (is_some v) 1 0
+  count-set slots key v l = sum_by-set (λ (o : Option R). cond (is_some o) 1 0) slots key v None l
+
+  bit_of : (v w : Option R) → v ≡ w → ◌≡◌ {A = ℕ} (cond (is_some v) 1 0) (cond (is_some w) 1 0)
+  bit_of v w e = ap (λ (o : Option R). cond (is_some o) 1 0) e
+
+  pub count_inserted : (slots : List (Option R)) (key : ℕ) (rank : R) → key < length slots → held slots key ≡ None → count_by is_some (set slots key (Some rank)) ≡ count_by is_some slots + 1
+  count_inserted slots key rank l h = omega (arith, count-set slots key (Some rank) l, bit_of _ _ h)
+
+  pub count_changed : (slots : List (Option R)) (key : ℕ) (old rank : R) → key < length slots → held slots key ≡ Some old → count_by is_some (set slots key (Some rank)) ≡ count_by is_some slots
+  count_changed slots key old rank l h = omega (arith, count-set slots key (Some rank) l, bit_of _ _ h)
+
+  pub count_removed : (slots : List (Option R)) (key : ℕ) (old : R) → key < length slots → held slots key ≡ Some old → count_by is_some (set slots key None) + 1 ≡ count_by is_some slots
+  count_removed slots key old l h = omega (arith, count-set slots key None l, bit_of _ _ h)
+
+  -- a map with a vacant key holds fewer keys than its room
+  pub count_below : (slots : List (Option R)) (key : ℕ) (rank : R) → key < length slots → held slots key ≡ None → count_by is_some slots < length slots
+  count_below slots key rank l h =
+      omega (arith, count_inserted slots key rank l h, count_by-le-length is_some (set slots key (Some rank)), length-set slots key (Some rank))
+
+-- ---- where a key is
+
+module _ {R : Type 0} (heap : List (Entry R)) (places : List ℕ) (linked : IsLinked heap places) where
+  -- a key that is held has a place, where its entry stands
+  pub place_of_held : (key : ℕ) (rank : R) → rank_of heap places key ≡ Some rank → (place : ℕ) × ((entry : Entry R) × (slice_get places key ≡ Some place) × (slice_get heap place ≡ Some entry) × (entry.key ≡ key) × (entry.rank ≡ rank))
+  place_of_held key rank h =
+      option_cases (slice_get places key) (λ none. cc (rank_of_none heap places key none)) (λ place some. option_cases (slice_get heap place) (λ none. cc (ap (option_and_then (rank_at heap)) some ∙ ap (option_map (λ (e : Entry R). e.rank)) none)) (λ entry there. (place, (entry, some, there, linked.keyed key place entry some there, same_some entry.rank rank (sym (rank_of_some heap places key place entry some there) ∙ h)))))
+
+  pub key_of_held : (key : ℕ) → rank_of heap places key ≡ None → (place : ℕ) (entry : Entry R) → slice_get heap place ≡ Some entry → entry.key ≢ key
+  key_of_held key h place entry there e =
+      cc (rank_of_some heap places key place entry (ap (slice_get places) (sym e) ∙ linked.placed place entry there) there)
+
+-- ---- the edits
+
+module _ {R : Type 0} (compare : R → R → Ordering) (o : IsTotalOrder compare) (heap : List (Entry R)) (places : List ℕ) (linked : IsLinked heap places) (ordered : IsHeap compare heap) where
+  -- another entry for a key
+  module _ (e : Entry R) (place : ℕ) (old : Entry R) (at : slice_get places e.key ≡ Some place) (there : slice_get heap place ≡ Some old) where
+    within_heap : place < length heap
+    within_heap = slice_get_within heap place old there
+
+    same_places : (k : ℕ) → slice_get (set places e.key place) k ≡ slice_get places k
+    same_places k =
+        elim (cases_eq k e.key) [
+          | inl s ↦ ap (slice_get (set places e.key place)) s ∙ slice_get-set_same places e.key place (slice_get_within places e.key place at) ∙ sym at ∙ ap (slice_get places) (sym s)
+          | inr p ↦ slice_get-set_other places e.key k place p
+        ]
+
+    IsLinked-change : IsLinked (set heap place e) (set places e.key place)
+    IsLinked-change = record {
+      placed = λ i x h. elim (cases_eq i place) [
+        | inl s ↦ let same : x ≡ e = same_some x e (sym h ∙ ap (slice_get (set heap place e)) s ∙ slice_get-set_same heap place e within_heap) in ap (λ (x : Entry R). slice_get (set places e.key place) x.key) same ∙ same_places e.key ∙ at ∙ ap Some (sym s)
+        | inr p ↦ same_places x.key ∙ linked.placed i x (sym (slice_get-set_other heap place i e p) ∙ h)
+      ];
+      keyed = λ k i x h m. let was = sym (same_places k) ∙ h in elim (cases_eq i place) [
+        | inl s ↦ let same : x ≡ e = same_some x e (sym m ∙ ap (slice_get (set heap place e)) s ∙ slice_get-set_same heap place e within_heap) in ap (λ (x : Entry R). x.key) same ∙ sym (linked.keyed e.key place old at there) ∙ linked.keyed k place old (was ∙ ap Some s) there
+        | inr p ↦ linked.keyed k i x was (sym (slice_get-set_other heap place i e p) ∙ m)
+      ];
+      vacant = λ k i h m. elim (cases_eq i place) [
+        | inl s ↦ cc (sym m ∙ ap (slice_get (set heap place e)) s ∙ slice_get-set_same heap place e within_heap)
+        | inr p ↦ linked.vacant k i (sym (same_places k) ∙ h) (sym (slice_get-set_other heap place i e p) ∙ m)
+      ];
+    }
+
+    pub IsHole-change : IsHole compare heap places place e
+    IsHole-change = record {
+      within = within_heap;
+      linked = IsLinked-change;
+      ordered = λ i above below pos p q qa qb. ordered i above below pos qa qb;
+      across = λ i above below pos pos' s qa qb. upto_trans compare o above old below (ordered place above old pos' qa there) (ordered i old below pos (ap (slice_get heap) s ∙ there) qb);
+    }
+
+    pub rank_of_changed : rank_of (set heap place e) (set places e.key place) e.key ≡ Some e.rank
+    rank_of_changed =
+        rank_of_some (set heap place e) (set places e.key place) e.key place e (same_places e.key ∙ at) (slice_get-set_same heap place e within_heap)
+
+    pub rank_of_others : (k : ℕ) → k ≢ e.key → rank_of (set heap place e) (set places e.key place) k ≡ rank_of heap places k
+    rank_of_others k p =
+        option_cases (slice_get places k) (λ none. rank_of_none (set heap place e) (set places e.key place) k (same_places k ∙ none) ∙ sym (rank_of_none heap places k none)) (λ i some. let other : i ≢ place = λ s. p (sym (linked.keyed k place old (some ∙ ap Some s) there) ∙ linked.keyed e.key place old at there) in ap (option_and_then (rank_at (set heap place e))) (same_places k ∙ some) ∙ ap (option_map (λ (e : Entry R). e.rank)) (slice_get-set_other heap place i e other) ∙ sym (ap (option_and_then (rank_at heap)) some))
+
+-- an entry for a vacant key, at the end
+module _ {R : Type 0} (compare : R → R → Ordering) (heap : List (Entry R)) (places : List ℕ) (linked : IsLinked heap places) (ordered : IsHeap compare heap) (e : Entry R) (within : e.key < length places) (none : rank_of heap places e.key ≡ None) (small : length heap < VACANT) where
+  filled : set (heap ++ e ∷ []) (length heap) e ≡ heap ++ e ∷ []
+  filled = set_at heap e [] e (length heap) refl
+
+  new_place : slice_get (set places e.key (length heap)) e.key ≡ Some (length heap)
+  new_place = slice_get-set_same places e.key (length heap) within
+
+  -- the end of the heap is no key's place
+  no_place : (k : ℕ) → slice_get places k ≡ Some (length heap) → ⊥
+  no_place k h =
+      let e : length heap ≡ VACANT = linked.vacant k (length heap) h (slice_get_past heap (length heap) (omega arith)) in
+      omega arith
+
+  IsLinked-push : IsLinked (heap ++ e ∷ []) (set places e.key (length heap))
+  IsLinked-push = record {
+    placed = λ i x h. elim (push_cases heap e i x h) [
+      | inl w ↦ slice_get-set_other places e.key x.key (length heap) (key_of_held heap places linked e.key none i x w) ∙ linked.placed i x w
+      | inr w ↦ ap (λ (x : Entry R). slice_get (set places e.key (length heap)) x.key) w.1 ∙ new_place ∙ ap Some (sym w.0)
+    ];
+    keyed = λ k i x h m. elim (cases_eq k e.key) [
+      | inl s ↦ let at : i ≡ length heap = same_some i (length heap) (sym h ∙ ap (slice_get (set places e.key (length heap))) s ∙ new_place) in let same : x ≡ e = same_some x e (sym m ∙ ap (slice_get (heap ++ e ∷ [])) at ∙ push_at heap e) in ap (λ (x : Entry R). x.key) same ∙ sym s
+      | inr p ↦ let was = sym (slice_get-set_other places e.key k (length heap) p) ∙ h in elim (push_cases heap e i x m) [
+        | inl w ↦ linked.keyed k i x was w
+        | inr w ↦ absurd (no_place k (was ∙ ap Some w.0))
+      ]
+    ];
+    vacant = λ k i h m. elim (cases_eq k e.key) [
+      | inl s ↦ let at : i ≡ length heap = same_some i (length heap) (sym h ∙ ap (slice_get (set places e.key (length heap))) s ∙ new_place) in cc (sym m ∙ ap (slice_get (heap ++ e ∷ [])) at ∙ push_at heap e)
+      | inr p ↦ linked.vacant k i (sym (slice_get-set_other places e.key k (length heap) p) ∙ h) (push_none heap e i m)
+    ];
+  }
+
+  pub IsHole-push : IsHole compare (heap ++ e ∷ []) places (length heap) e
+  IsHole-push = record {
+    within = omega (arith, length-append heap (e ∷ []));
+    linked = subst (λ h. IsLinked h (set places e.key (length heap))) (sym filled) IsLinked-push;
+    ordered = λ i above below pos p q qa qb. elim (push_cases heap e i below qb) [
+      | inl w ↦ elim (push_cases heap e (parent_of i) above qa) [
+        | inl u ↦ ordered i above below pos u w
+        | inr u ↦ absurd (q u.0)
+      ]
+      | inr w ↦ absurd (p w.0)
+    ];
+    across = λ i above below pos pos' s qa qb. absurd (omega (arith, slice_get_within (heap ++ e ∷ []) i below qb, length-append heap (e ∷ [])));
+  }
+
+  pub rank_of_pushed : rank_of (set (heap ++ e ∷ []) (length heap) e) (set places e.key (length heap)) e.key ≡ Some e.rank
+  rank_of_pushed =
+      rank_of_some (set (heap ++ e ∷ []) (length heap) e) (set places e.key (length heap)) e.key (length heap) e new_place (ap (λ h. slice_get h (length heap)) filled ∙ push_at heap e)
+
+  pub rank_of_others_pushed : (k : ℕ) → k ≢ e.key → rank_of (set (heap ++ e ∷ []) (length heap) e) (set places e.key (length heap)) k ≡ rank_of heap places k
+  rank_of_others_pushed k p =
+      let same = slice_get-set_other places e.key k (length heap) p in
+      let longer = ap (λ h. rank_of h (set places e.key (length heap)) k) filled in
+      longer ∙ option_cases (slice_get places k) (λ none. rank_of_none (heap ++ e ∷ []) (set places e.key (length heap)) k (same ∙ none) ∙ sym (rank_of_none heap places k none)) (λ i some. option_cases (slice_get (heap ++ e ∷ []) i) (λ past. ap (option_and_then (rank_at (heap ++ e ∷ []))) (same ∙ some) ∙ ap (option_map (λ (e : Entry R). e.rank)) past ∙ sym (ap (option_and_then (rank_at heap)) some ∙ ap (option_map (λ (e : Entry R). e.rank)) (push_none heap e i past))) (λ x there. elim (push_cases heap e i x there) [
+        | inl w ↦ rank_of_some (heap ++ e ∷ []) (set places e.key (length heap)) k i x (same ∙ some) there ∙ sym (rank_of_some heap places k i x some w)
+        | inr w ↦ absurd (no_place k (some ∙ ap Some w.0))
+      ]))
+
+-- the last entry goes
+module _ {R : Type 0} (heap : List (Entry R)) (y : Entry R) (places : List ℕ) (linked : IsLinked (heap ++ y ∷ []) places) (small : length heap < VACANT) where
+  in_places : y.key < length places
+  in_places = slice_get_within places y.key (length heap) (linked.placed (length heap) y (push_at heap y))
+
+  gone : slice_get (set places y.key VACANT) y.key ≡ Some VACANT
+  gone = slice_get-set_same places y.key VACANT in_places
+
+  past : slice_get heap VACANT ≡ None
+  past = slice_get_past heap VACANT (omega arith)
+
+  pub IsLinked-pop : IsLinked heap (set places y.key VACANT)
+  IsLinked-pop = record {
+    placed = λ i x h. let at = linked.placed i x (append_some heap (y ∷ []) i x h) in slice_get-set_other places y.key x.key VACANT (λ s. let e : i ≡ length heap = same_some i (length heap) (sym at ∙ ap (slice_get places) s ∙ linked.placed (length heap) y (push_at heap y)) in omega (arith, slice_get_within heap i x h)) ∙ at;
+    keyed = λ k i x h m. elim (cases_eq k y.key) [
+      | inl s ↦ let e : i ≡ VACANT = same_some i VACANT (sym h ∙ ap (slice_get (set places y.key VACANT)) s ∙ gone) in cc (sym m ∙ ap (slice_get heap) e ∙ past)
+      | inr p ↦ linked.keyed k i x (sym (slice_get-set_other places y.key k VACANT p) ∙ h) (append_some heap (y ∷ []) i x m)
+    ];
+    vacant = λ k i h m. elim (cases_eq k y.key) [
+      | inl s ↦ same_some i VACANT (sym h ∙ ap (slice_get (set places y.key VACANT)) s ∙ gone)
+      | inr p ↦ let was = sym (slice_get-set_other places y.key k VACANT p) ∙ h in option_cases (slice_get (heap ++ y ∷ []) i) (λ none. linked.vacant k i was none) (λ x there. elim (push_cases heap y i x there) [ inl w ↦ cc (sym m ∙ w) | inr w ↦ absurd (p (sym (linked.keyed k i x was there) ∙ ap (λ (e : Entry R). e.key) w.1)) ])
+    ];
+  }
+
+  pub rank_of_popped : rank_of heap (set places y.key VACANT) y.key ≡ None
+  rank_of_popped = ap (option_and_then (rank_at heap)) gone ∙ ap (option_map (λ (e : Entry R). e.rank)) past
+
+  pub rank_of_others_popped : (k : ℕ) → k ≢ y.key → rank_of heap (set places y.key VACANT) k ≡ rank_of (heap ++ y ∷ []) places k
+  rank_of_others_popped k p =
+      let same = slice_get-set_other places y.key k VACANT p in
+      option_cases (slice_get places k) (λ none. rank_of_none heap (set places y.key VACANT) k (same ∙ none) ∙ sym (rank_of_none (heap ++ y ∷ []) places k none)) (λ i some. option_cases (slice_get (heap ++ y ∷ []) i) (λ none. ap (option_and_then (rank_at heap)) (same ∙ some) ∙ ap (option_map (λ (e : Entry R). e.rank)) (push_none heap y i none) ∙ sym (ap (option_and_then (rank_at (heap ++ y ∷ []))) some ∙ ap (option_map (λ (e : Entry R). e.rank)) none)) (λ x there. elim (push_cases heap y i x there) [
+        | inl w ↦ rank_of_some heap (set places y.key VACANT) k i x (same ∙ some) w ∙ sym (rank_of_some (heap ++ y ∷ []) places k i x some there)
+        | inr w ↦ absurd (p (sym (linked.keyed k i x some there) ∙ ap (λ (e : Entry R). e.key) w.1))
+      ]))
+
+pub IsHeap-pop : {R : Type 0} (compare : R → R → Ordering) (heap : List (Entry R)) (y : Entry R) → IsHeap compare (heap ++ y ∷ []) → IsHeap compare heap
+IsHeap-pop compare heap y ordered i above below pos qa qb =
+    ordered i above below pos (append_some heap (y ∷ []) (parent_of i) above qa) (append_some heap (y ∷ []) i below qb)
+
+-- another entry goes, and the last entry is to stand in its place
+module _ {R : Type 0} (compare : R → R → Ordering) (o : IsTotalOrder compare) (heap : List (Entry R)) (last : Entry R) (places : List ℕ) (linked : IsLinked (heap ++ last ∷ []) places) (ordered : IsHeap compare (heap ++ last ∷ [])) (small : length heap < VACANT) (place : ℕ) (old : Entry R) (there : slice_get heap place ≡ Some old) where
+  whole : List (Entry R)
+  whole = heap ++ last ∷ []
+
+  inside : place < length heap
+  inside = slice_get_within heap place old there
+
+  there' : slice_get (heap ++ last ∷ []) place ≡ Some old
+  there' = append_some heap (last ∷ []) place old there
+
+  before_end : length heap ≢ place
+  before_end e = omega (arith, inside)
+
+  fits : place < length (heap ++ last ∷ [])
+  fits = slice_get_within (heap ++ last ∷ []) place old there'
+
+  at_place : slice_get places old.key ≡ Some place
+  at_place = linked.placed place old there'
+
+  stays : IsLinked (set (heap ++ last ∷ []) place old) (set places old.key place)
+  stays = (IsHole-change compare o (heap ++ last ∷ []) places linked ordered old place old at_place there').linked
+
+  lists : set (set (heap ++ last ∷ []) place last) (length heap) old ≡ set heap place last ++ old ∷ []
+  lists =
+      ap (λ h. set h (length heap) old) (set-append_left heap (last ∷ []) place last inside) ∙ set_at (set heap place last) last [] old (length heap) (length-set heap place last)
+
+  other_key : last.key ≢ old.key
+  other_key = keys_apart (heap ++ last ∷ []) places old last place (length heap) before_end fits stays (push_at heap last)
+
+  keys : set (set (set places last.key place) old.key (length heap)) old.key VACANT ≡ set (set places old.key VACANT) last.key place
+  keys =
+      set-set (set places last.key place) old.key (length heap) VACANT ∙ set_comm places last.key old.key place VACANT other_key
+
+  swapped : IsLinked (set heap place last ++ old ∷ []) (set (set places last.key place) old.key (length heap))
+  swapped =
+      subst (λ h. IsLinked h (set (set places last.key place) old.key (length heap))) lists (IsLinked-move (heap ++ last ∷ []) places old last place (length heap) before_end fits stays (push_at heap last))
+
+  small' : length (set heap place last) < VACANT
+  small' = omega (arith, length-set heap place last)
+
+  pub IsHole-remove : IsHole compare heap (set places old.key VACANT) place last
+  IsHole-remove = record {
+    within = inside;
+    linked = subst (IsLinked (set heap place last)) keys (IsLinked-pop (set heap place last) old (set (set places last.key place) old.key (length heap)) swapped small');
+    ordered = λ i above below pos p q qa qb. IsHeap-pop compare heap last ordered i above below pos qa qb;
+    across = λ i above below pos pos' s qa qb. upto_trans compare o above old below (IsHeap-pop compare heap last ordered place above old pos' qa there) (IsHeap-pop compare heap last ordered i old below pos (ap (slice_get heap) s ∙ there) qb);
+  }
+
+  pub rank_of_removed : rank_of (set heap place last) (set (set places old.key VACANT) last.key place) old.key ≡ None
+  rank_of_removed =
+      subst (λ ps. rank_of (set heap place last) ps old.key ≡ None) keys (rank_of_popped (set heap place last) old (set (set places last.key place) old.key (length heap)) swapped small')
+
+  pub rank_of_others_left : (k : ℕ) → k ≢ old.key → rank_of (set heap place last) (set (set places old.key VACANT) last.key place) k ≡ rank_of (heap ++ last ∷ []) places k
+  rank_of_others_left k p =
+      subst (λ ps. rank_of (set heap place last) ps k ≡ rank_of (heap ++ last ∷ []) places k) keys (rank_of_others_popped (set heap place last) old (set (set places last.key place) old.key (length heap)) swapped small' k p
+      ∙ sym (ap (λ h. rank_of h (set (set places last.key place) old.key (length heap)) k) lists)
+      ∙ rank_of-move (heap ++ last ∷ []) places old last place (length heap) before_end fits stays (push_at heap last) k
+      ∙ rank_of_others compare o (heap ++ last ∷ []) places linked ordered old place old at_place there' k p)
+
+-- ---- the type's invariant after an edit
+
+module _ {R : Type 0} (compare : R → R → Ordering) (o : IsTotalOrder compare) (capacity : ℕ) (heap : List (Entry R)) (places : List ℕ) (sound : IsSound compare capacity heap places) where
+  pub length-slots : length (slots_of heap places) ≡ length places
+  length-slots = length-map places (rank_at heap)
+
+  pub heap_in_room : length heap ≤ length places
+  heap_in_room = omega (arith, sound.counted, count_by-le-length is_some (slots_of heap places), length-slots)
+
+  pub heap_short : (key : ℕ) (rank : R) → key < length places → held (slots_of heap places) key ≡ None → length heap < length places
+  heap_short key rank l h =
+      omega (arith, sound.counted, count_below (slots_of heap places) key rank (omega (arith, length-slots)) h, length-slots)
+
+  -- the entry of a key that is held
+  pub found : (key place : ℕ) → slice_get places key ≡ Some place → IsSome (held (slots_of heap places) key) → (old : Entry R) × (slice_get heap place ≡ Some old) × (old.key ≡ key) × (held (slots_of heap places) key ≡ Some old.rank)
+  found key place at h =
+      option_cases (slice_get heap place) (λ none. cc (subst IsSome (held-slots_of heap places key ∙ ap (option_and_then (rank_at heap)) at ∙ ap (option_map (λ (e : Entry R). e.rank)) none) h)) (λ old there. (old, there, sound.linked.keyed key place old at there, held-slots_of heap places key ∙ rank_of_some heap places key place old at there))
+
+  pub key_in_room_if_held : (key : ℕ) → IsSome (held (slots_of heap places) key) → key < length places
+  key_in_room_if_held key h =
+      option_cases (slice_get places key) (λ none. cc (subst IsSome (held-slots_of heap places key ∙ rank_of_none heap places key none) h)) (λ place some. slice_get_within places key place some)
+
+  module _ (key : ℕ) (v : Option R) (in' : key < length places) (new_heap : List (Entry R)) (new_places : List ℕ) (room : length new_places ≡ length places) (at : rank_of new_heap new_places key ≡ v) (others : (k : ℕ) → k ≢ key → rank_of new_heap new_places k ≡ rank_of heap places k) where
+    pub slots_of-edit : slots_of new_heap new_places ≡ set (slots_of heap places) key v
+    slots_of-edit = slots_of-set heap new_heap places new_places key v room in' at others
+
+    pub IsSound-edit : IsLinked new_heap new_places → IsHeap compare new_heap → ((rank : R) → v ≡ Some rank → IsApartFromOthers compare (slots_of heap places) key rank) → count_by is_some (set (slots_of heap places) key v) ≡ length new_heap → (more : ℕ) → capacity ≤ more → IsSound compare more new_heap new_places
+    IsSound-edit linked ordered apart count more m = record {
+      linked = linked;
+      ordered = ordered;
+      apart = subst (AreApart compare) (sym slots_of-edit) (AreApart-set compare o (slots_of heap places) key v (omega (arith, length-slots)) sound.apart apart);
+      counted = ap (count_by is_some) slots_of-edit ∙ count;
+      memory = omega (arith, sound.memory);
+    }
+
+  -- ---- change
+
+  module _ (key : ℕ) (rank : R) (place : ℕ) (at : slice_get places key ≡ Some place) (here : IsSome (held (slots_of heap places) key)) where
+    pub hole_to_change : IsHole compare heap places place (record { rank = rank; key = key })
+    hole_to_change =
+        let old = found key place at here in
+        IsHole-change compare o heap places sound.linked sound.ordered (record { rank = rank; key = key }) place old.0 at old.1
+
+    pub changed : IsApartFromOthers compare (slots_of heap places) key rank → (new_heap : List (Entry R)) (new_places : List ℕ) → IsSettled compare heap places place (record { rank = rank; key = key }) new_heap new_places → IsSound compare capacity new_heap new_places × (slots_of new_heap new_places ≡ set (slots_of heap places) key (Some rank))
+    changed apart new_heap new_places s =
+        let e : Entry R = record { rank = rank; key = key } in
+        let old = found key place at here in
+        let in' = slice_get_within places key place at in
+        let has = s.ranks key ∙ rank_of_changed compare o heap places sound.linked sound.ordered e place old.0 at old.1 in
+        let others = λ (k : ℕ) (p : k ≢ key). s.ranks k ∙ rank_of_others compare o heap places sound.linked sound.ordered e place old.0 at old.1 k p in
+        let count = count_changed (slots_of heap places) key old.0.rank rank (omega (arith, length-slots)) old.3 ∙ sound.counted ∙ sym s.size in
+        (IsSound-edit key (Some rank) in' new_heap new_places s.room has others s.linked s.ordered (λ r e. subst (IsApartFromOthers compare (slots_of heap places) key) (same_some rank r e) apart) count capacity (omega arith), slots_of-edit key (Some rank) in' new_heap new_places s.room has others)
+
+  -- ---- insert
+
+  module _ (key : ℕ) (rank : R) (in' : key < length places) (none : held (slots_of heap places) key ≡ None) (fits : length places ≤ VACANT) where
+    small_heap : length heap < VACANT
+    small_heap = omega (arith, heap_short key rank in' none)
+
+    vacant_key : rank_of heap places key ≡ None
+    vacant_key = sym (held-slots_of heap places key) ∙ none
+
+    pub hole_to_insert : IsHole compare (heap ++ (record { rank = rank; key = key }) ∷ []) places (length heap) (record { rank = rank; key = key })
+    hole_to_insert =
+        IsHole-push compare heap places sound.linked sound.ordered (record { rank = rank; key = key }) in' vacant_key small_heap
+
+    pub inserted : IsApart compare (slots_of heap places) rank → (new_heap : List (Entry R)) (new_places : List ℕ) → IsSettled compare (heap ++ (record { rank = rank; key = key }) ∷ []) places (length heap) (record { rank = rank; key = key }) new_heap new_places → (more : ℕ) → capacity ≤ more → IsSound compare more new_heap new_places × (slots_of new_heap new_places ≡ set (slots_of heap places) key (Some rank))
+    inserted apart new_heap new_places s more m =
+        let e : Entry R = record { rank = rank; key = key } in
+        let has = s.ranks key ∙ rank_of_pushed compare heap places sound.linked sound.ordered e in' vacant_key small_heap in
+        let others = λ (k : ℕ) (p : k ≢ key). s.ranks k ∙ rank_of_others_pushed compare heap places sound.linked sound.ordered e in' vacant_key small_heap k p in
+        let count : count_by is_some (set (slots_of heap places) key (Some rank)) ≡ length new_heap = omega (arith, count_inserted (slots_of heap places) key rank (omega (arith, length-slots)) none, sound.counted, s.size, length-append heap (e ∷ [])) in
+        (IsSound-edit key (Some rank) in' new_heap new_places s.room has others s.linked s.ordered (λ r e k other ne q. subst (λ r. compare r other ≢ Equal) (same_some rank r e) (apart k other q)) count more m, slots_of-edit key (Some rank) in' new_heap new_places s.room has others)
+
+-- ---- remove
+
+module _ {R : Type 0} (compare : R → R → Ordering) (o : IsTotalOrder compare) (capacity : ℕ) (heap : List (Entry R)) (last : Entry R) (places : List ℕ) (sound : IsSound compare capacity (heap ++ last ∷ []) places) (fits : length places ≤ VACANT) (key place : ℕ) (at : slice_get places key ≡ Some place) (here : IsSome (held (slots_of (heap ++ last ∷ []) places) key)) where
+  small_rest : length heap < VACANT
+  small_rest =
+      omega (arith, heap_in_room compare o capacity (heap ++ last ∷ []) places sound, length-append heap (last ∷ []))
+
+  old_of : (old : Entry R) × (slice_get (heap ++ last ∷ []) place ≡ Some old) × (old.key ≡ key) × (held (slots_of (heap ++ last ∷ []) places) key ≡ Some old.rank)
+  old_of = found compare o capacity (heap ++ last ∷ []) places sound key place at here
+
+  key_within : key < length places
+  key_within = slice_get_within places key place at
+
+  fewer : (new_heap : List (Entry R)) → length new_heap ≡ length heap → count_by is_some (set (slots_of (heap ++ last ∷ []) places) key None) ≡ length new_heap
+  fewer new_heap size =
+      omega (arith, count_removed (slots_of (heap ++ last ∷ []) places) key old_of.0.rank (omega (arith, key_within, length-slots compare o capacity (heap ++ last ∷ []) places sound)) old_of.3, sound.counted, length-append heap (last ∷ []))
+
+  module _ (inner : place < length heap) where
+    there_before : slice_get heap place ≡ Some old_of.0
+    there_before =
+        elim (push_cases heap last place old_of.0 old_of.1) [ inl w ↦ w | inr w ↦ absurd (omega arith) ]
+
+    pub hole_to_remove : IsHole compare heap (set places key VACANT) place last
+    hole_to_remove =
+        subst (λ k. IsHole compare heap (set places k VACANT) place last) old_of.2 (IsHole-remove compare o heap last places sound.linked sound.ordered small_rest place old_of.0 there_before)
+
+    pub removed_inner : (new_heap : List (Entry R)) (new_places : List ℕ) → IsSettled compare heap (set places key VACANT) place last new_heap new_places → IsSound compare capacity new_heap new_places × (slots_of new_heap new_places ≡ set (slots_of (heap ++ last ∷ []) places) key None)
+    removed_inner new_heap new_places s =
+        let gone = subst (λ k. rank_of (set heap place last) (set (set places k VACANT) last.key place) k ≡ None) old_of.2 (rank_of_removed compare o heap last places sound.linked sound.ordered small_rest place old_of.0 there_before) in
+        let left = subst (λ q. (k : ℕ) → k ≢ q → rank_of (set heap place last) (set (set places q VACANT) last.key place) k ≡ rank_of (heap ++ last ∷ []) places k) old_of.2 (rank_of_others_left compare o heap last places sound.linked sound.ordered small_rest place old_of.0 there_before) in
+        let room = s.room ∙ length-set places key VACANT in
+        let has = s.ranks key ∙ gone in
+        let others = λ (k : ℕ) (p : k ≢ key). s.ranks k ∙ left k p in
+        (IsSound-edit compare o capacity (heap ++ last ∷ []) places sound key None key_within new_heap new_places room has others s.linked s.ordered (λ r e. cc) (fewer new_heap s.size) capacity (omega arith), slots_of-edit compare o capacity (heap ++ last ∷ []) places sound key None key_within new_heap new_places room has others)
+
+  module _ (end : length heap ≤ place) where
+    is_last : last.key ≡ key
+    is_last =
+        elim (push_cases heap last place old_of.0 old_of.1) [
+          | inl w ↦ absurd (omega (arith, slice_get_within heap place old_of.0 w))
+          | inr w ↦ ap (λ (e : Entry R). e.key) (sym w.1) ∙ old_of.2
+        ]
+
+    pub removed_last : IsSound compare capacity heap (set places key VACANT) × (slots_of heap (set places key VACANT) ≡ set (slots_of (heap ++ last ∷ []) places) key None)
+    removed_last =
+        let linked = subst (λ k. IsLinked heap (set places k VACANT)) is_last (IsLinked-pop heap last places sound.linked small_rest) in
+        let has = subst (λ k. rank_of heap (set places k VACANT) k ≡ None) is_last (rank_of_popped heap last places sound.linked small_rest) in
+        let others = subst (λ q. (k : ℕ) → k ≢ q → rank_of heap (set places q VACANT) k ≡ rank_of (heap ++ last ∷ []) places k) is_last (rank_of_others_popped heap last places sound.linked small_rest) in
+        let room = length-set places key VACANT in
+        (IsSound-edit compare o capacity (heap ++ last ∷ []) places sound key None key_within heap (set places key VACANT) room has others linked (IsHeap-pop compare heap last sound.ordered) (λ r e. cc) (fewer heap refl) capacity (omega arith), slots_of-edit compare o capacity (heap ++ last ∷ []) places sound key None key_within heap (set places key VACANT) room has others)
+
+-- ---- least
+
+less_from : (r : Ordering) → is_gt r ≡ false → r ≢ Equal → r ≡ Less
+less_from Less e p = refl
+less_from Equal e p = absurd (p refl)
+less_from Greater e p = cc
+
+order_cases : {G : Type 0} (r : Ordering) → (r ≡ Less → G) → (r ≡ Equal → G) → (r ≡ Greater → G) → G
+order_cases Less less equal greater = less refl
+order_cases Equal less equal greater = equal refl
+order_cases Greater less equal greater = greater refl
+
+module _ {R : Type 0} (compare : R → R → Ordering) (o : IsTotalOrder compare) (heap : List (Entry R)) (ordered : IsHeap compare heap) where
+  -- the first rank is not above any other
+  root_upto : (n i : ℕ) → i ≤ n → (first e : Entry R) → slice_get heap 0 ≡ Some first → slice_get heap i ≡ Some e → IsUpto compare first e
+  root_upto zero i l first e h q =
+      let none : i ≡ 0 = omega arith in
+      upto_itself compare o first e (same_some first e (sym h ∙ ap (slice_get heap) (sym none) ∙ q))
+  root_upto (suc n) i l first e h q =
+      elim (cases_eq i 0) [
+        | inl s ↦ upto_itself compare o first e (same_some first e (sym h ∙ ap (slice_get heap) (sym s) ∙ q))
+        | inr p ↦
+            let in' : i < length heap = slice_get_within heap i e q in
+            let above = slice_get-get_or heap (parent_of i) e (omega arith) in
+            upto_trans compare o first (get_or heap (parent_of i) e) e (root_upto n (parent_of i) (omega arith) first (get_or heap (parent_of i) e) h above) (ordered i (get_or heap (parent_of i) e) e (omega arith) above q)
+      ]
+
+module _ {R : Type 0} (compare : R → R → Ordering) (o : IsTotalOrder compare) (capacity : ℕ) (heap : List (Entry R)) (places : List ℕ) (sound : IsSound compare capacity heap places) where
+  pub held_entry : (key place : ℕ) (e : Entry R) → slice_get places key ≡ Some place → slice_get heap place ≡ Some e → held (slots_of heap places) key ≡ Some e.rank
+  held_entry key place e at there = held-slots_of heap places key ∙ rank_of_some heap places key place e at there
+
+  pub IsLeast-first : (first : Entry R) → slice_get heap 0 ≡ Some first → IsLeast compare (slots_of heap places) first.key first.rank
+  IsLeast-first first h =
+      let here = held_entry first.key 0 first (sound.linked.placed 0 first h) h in
+      record {
+        here = here;
+        below = λ k other ne q.
+            let at = place_of_held heap places sound.linked k other (sym (held-slots_of heap places k) ∙ q) in
+            let u = root_upto compare o heap sound.ordered at.0 at.0 (omega arith) first at.1.0 h at.1.2 in
+            less_from (compare first.rank other) (subst (λ r. is_gt (compare first.rank r) ≡ false) at.1.4 u) (sound.apart first.key first.rank here k other ne q);
+      }
+
+  -- ---- reserve_keys
+
+  module _ (n : ℕ) (fits : length heap ≤ VACANT) where
+    past_heap : slice_get heap VACANT ≡ None
+    past_heap = slice_get_past heap VACANT (omega arith)
+
+    vacant_slots : (m : ℕ) → map (rank_at heap) (replicate m VACANT) ≡ replicate m None
+    vacant_slots zero = refl
+    vacant_slots (suc m) = cc (ap (option_map (λ (e : Entry R). e.rank)) past_heap, vacant_slots m)
+
+    pub slots_of-more : slots_of heap (places ++ replicate n VACANT) ≡ slots_of heap places ++ replicate n None
+    slots_of-more = map-append (rank_at heap) places (replicate n VACANT) ∙ ap (λ s. slots_of heap places ++ s) (vacant_slots n)
+
+    IsLinked-more : IsLinked heap (places ++ replicate n VACANT)
+    IsLinked-more = record {
+      placed = λ i x h. append_some places (replicate n VACANT) x.key i (sound.linked.placed i x h);
+      keyed = λ k i x h m. elim (replicate_cases places n VACANT k i h) [
+        | inl w ↦ sound.linked.keyed k i x w m
+        | inr w ↦ cc (sym m ∙ ap (slice_get heap) w ∙ past_heap)
+      ];
+      vacant = λ k i h m. elim (replicate_cases places n VACANT k i h) [
+        | inl w ↦ sound.linked.vacant k i w m
+        | inr w ↦ w
+      ];
+    }
+
+    held-more : (slots : List (Option R)) (key : ℕ) → held (slots ++ replicate n None) key ≡ held slots key
+    held-more slots key =
+        elim (cases_lt key (length slots)) [
+          | inl l ↦ get_or_append_left slots (replicate n None) None key l
+          | inr l ↦ get_or-append_right slots (replicate n None) (length slots) key None refl l ∙ held-replicate n (key - length slots) ∙ sym (get_or_past slots key None l)
+        ]
+
+    pub IsSound-more : (more : ℕ) → length places + n ≤ more → IsSound compare more heap (places ++ replicate n VACANT)
+    IsSound-more more m = record {
+      linked = IsLinked-more;
+      ordered = sound.ordered;
+      apart = subst (AreApart compare) (sym slots_of-more) (λ key r h k s ne q. sound.apart key r (sym (held-more (slots_of heap places) key) ∙ h) k s ne (sym (held-more (slots_of heap places) k) ∙ q));
+      counted = ap (count_by is_some) slots_of-more ∙ (omega (arith, sum_by-append (λ (v : Option R). cond (is_some v) 1 0) (slots_of heap places) (replicate n None), sum_by-replicate (λ (v : Option R). cond (is_some v) 1 0) n None, sound.counted));
+      memory = omega (arith, length-append places (replicate n VACANT), length-replicate n VACANT);
+    }
+
+  -- ---- map_ranks
+
+  module _ (gives : R → R → Type 0) (new : List (Entry R)) (maps : MapsEntries gives heap new) where
+    mapped_entry : (i : ℕ) (x : Entry R) → slice_get heap i ≡ Some x → (slice_get new i ≡ Some (get_or new i x)) × ((get_or new i x).key ≡ x.key) × gives x.rank (get_or new i x).rank
+    mapped_entry i x h =
+        let size = maps.size in
+        let in' : i < length heap = slice_get_within heap i x h in
+        let same : get_or heap i x ≡ x = get_or_from_slice_get heap i x x h in
+        (slice_get-get_or new i x (omega arith), maps.keys i x in' ∙ ap (λ (e : Entry R). e.key) same, subst (λ (e : Entry R). gives e.rank (get_or new i x).rank) same (maps.ranks i x in'))
+
+    -- where a mapped entry comes from
+    old_entry : (i : ℕ) (y : Entry R) → slice_get new i ≡ Some y → (slice_get heap i ≡ Some (get_or heap i y)) × (y.key ≡ (get_or heap i y).key) × gives (get_or heap i y).rank y.rank
+    old_entry i y h =
+        let size = maps.size in
+        let in' : i < length new = slice_get_within new i y h in
+        let there = slice_get-get_or heap i y (omega arith) in
+        let same : get_or new i y ≡ y = get_or_from_slice_get new i y y h in
+        (there, ap (λ (e : Entry R). e.key) (sym same) ∙ maps.keys i y (omega arith), subst (λ (e : Entry R). gives (get_or heap i y).rank e.rank) same (maps.ranks i y (omega arith)))
+
+    IsLinked-mapped : IsLinked new places
+    IsLinked-mapped = record {
+      placed = λ i y h. let old = old_entry i y h in ap (slice_get places) old.1 ∙ sound.linked.placed i (get_or heap i y) old.0;
+      keyed = λ k i y h m. let old = old_entry i y m in old.1 ∙ sound.linked.keyed k i (get_or heap i y) h old.0;
+      vacant = λ k i h m. option_cases (slice_get heap i) (λ none. sound.linked.vacant k i h none) (λ x some. cc (sym m ∙ (mapped_entry i x some).0));
+    }
+
+    same_kind : (place : ℕ) → is_some (rank_at new place) ≡ is_some (rank_at heap place)
+    same_kind place =
+        option_cases (slice_get heap place) (λ none. option_cases (slice_get new place) (λ none'. ap is_some (ap (option_map (λ (e : Entry R). e.rank)) none' ∙ sym (ap (option_map (λ (e : Entry R). e.rank)) none))) (λ y some. cc (sym none ∙ (old_entry place y some).0))) (λ x some. ap is_some (ap (option_map (λ (e : Entry R). e.rank)) (mapped_entry place x some).0) ∙ sym (ap is_some (ap (option_map (λ (e : Entry R). e.rank)) some)))
+
+    same_count : (ps : List ℕ) → count_by is_some (map (rank_at new) ps) ≡ count_by is_some (map (rank_at heap) ps)
+    same_count [] = refl
+    same_count (p ∷ ps) =
+        let bit : ◌≡◌ {A = ℕ} (cond (is_some (rank_at new p)) 1 0) (cond (is_some (rank_at heap p)) 1 0) = ap (λ b. cond b 1 0) (same_kind p) in
+        omega (arith, bit, same_count ps, sum_by-cons (λ (v : Option R). cond (is_some v) 1 0) (rank_at new p) (map (rank_at new) ps), sum_by-cons (λ (v : Option R). cond (is_some v) 1 0) (rank_at heap p) (map (rank_at heap) ps))
+
+    -- the rank of a key, before and after
+    rank_before : (key : ℕ) (y : R) → held (slots_of new places) key ≡ Some y → (x : R) × (held (slots_of heap places) key ≡ Some x) × gives x y
+    rank_before key y h =
+        let at = place_of_held new places IsLinked-mapped key y (sym (held-slots_of new places key) ∙ h) in
+        let old = old_entry at.0 at.1.0 at.1.2 in
+        ((get_or heap at.0 at.1.0).rank, held_entry key at.0 (get_or heap at.0 at.1.0) at.1.1 old.0, subst (gives (get_or heap at.0 at.1.0).rank) at.1.4 old.2)
+
+    rank_after : (key : ℕ) (x : R) → held (slots_of heap places) key ≡ Some x → (y : R) × (held (slots_of new places) key ≡ Some y) × gives x y
+    rank_after key x h =
+        let at = place_of_held heap places sound.linked key x (sym (held-slots_of heap places key) ∙ h) in
+        let next = mapped_entry at.0 at.1.0 at.1.2 in
+        ((get_or new at.0 at.1.0).rank, held-slots_of new places key ∙ rank_of_some new places key at.0 (get_or new at.0 at.1.0) at.1.1 next.0, subst (λ r. gives r (get_or new at.0 at.1.0).rank) at.1.4 next.2)
+
+    pub IsMapped-slots_of : IsMapped gives (slots_of heap places) (slots_of new places)
+    IsMapped-slots_of = record {
+      room = length-map places (rank_at new) ∙ sym (length-map places (rank_at heap));
+      ranks = λ key. option_cases (held (slots_of heap places) key) (λ none. rw none (option_cases (held (slots_of new places) key) (λ none'. none') (λ y some. cc (sym none ∙ (rank_before key y some).1)))) (λ x some. let next = rank_after key x some in rw (some, next.1) next.2);
+    }
+
+    module _ (keeps : KeepsOrder compare (slots_of heap places) gives) where
+      apart_after : AreApart compare (slots_of new places)
+      apart_after key y h k z ne q e =
+          let a = rank_before key y h in
+          let b = rank_before k z q in
+          order_cases (compare a.0 b.0) (λ less. cc (e, keeps key k a.0 b.0 y z a.1 b.1 less a.2 b.2)) (λ equal. sound.apart key a.0 a.1 k b.0 ne b.1 equal) (λ greater. let back : compare b.0 a.0 ≡ Less = o.antisymm b.0 a.0 ∙ ap ordering_reverse greater in cc (e, o.antisymm y z ∙ ap ordering_reverse (keeps k key b.0 a.0 z y b.1 a.1 back b.2 a.2)))
+
+      IsHeap-mapped : IsHeap compare new
+      IsHeap-mapped i above below pos qa qb =
+          let a = old_entry (parent_of i) above qa in
+          let b = old_entry i below qb in
+          let x = get_or heap (parent_of i) above in
+          let z = get_or heap i below in
+          let in_a = sound.linked.placed (parent_of i) x a.0 in
+          let in_b = sound.linked.placed i z b.0 in
+          let has_a = held_entry x.key (parent_of i) x in_a a.0 in
+          let has_b = held_entry z.key i z in_b b.0 in
+          let ne : z.key ≢ x.key = λ s. let same : i ≡ parent_of i = same_some i (parent_of i) (sym in_b ∙ ap (slice_get places) s ∙ in_a) in omega arith in
+          let less = less_from (compare x.rank z.rank) (sound.ordered i x z pos a.0 b.0) (sound.apart x.key x.rank has_a z.key z.rank ne has_b) in
+          ap is_gt (keeps x.key z.key x.rank z.rank above.rank below.rank has_a has_b less a.2 b.2)
+
+      pub IsSound-mapped : IsSound compare capacity new places
+      IsSound-mapped = record {
+        linked = IsLinked-mapped;
+        ordered = IsHeap-mapped;
+        apart = apart_after;
+        counted = same_count places ∙ sound.counted ∙ sym maps.size;
+        memory = sound.memory;
+      }

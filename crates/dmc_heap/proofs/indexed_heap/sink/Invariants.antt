@@ -1,0 +1,14 @@
+use Rattle.std.proofs.Common.{◌-◌, length}
+use Rattle.dmc_heap.specs.Heap.{IsHole, IsMoved, IsUnderParent}
+use Rattle.dmc_heap.proofs.indexed_heap.sink.Given as goal
+
+-- the hole was moved, and what is below the entry's rank was moved above the hole
+abbrev pub invariant-loop-at : goal.invariant-loop-at
+invariant-loop-at g l = record {
+  hole : IsHole g.R.Ord.cmp l.heap l.places l.at l.entry;
+  moved : IsMoved l.fn.heap l.fn.places l.fn.at l.entry l.heap l.places l.at;
+  under : IsUnderParent g.R.Ord.cmp l.heap l.at l.entry;
+}
+
+abbrev pub decreases-loop-at : goal.decreases-loop-at
+decreases-loop-at g l = length l.initial.heap - l.at

@@ -1,0 +1,2 @@
+pub use Rattle.dmc_index.specs.Index
+pub mod Heap

@@ -1,0 +1,213 @@
+//! An index as a binary heap and a place for each key.
+ghost use Rattle.std.specs.Prelude.{◌≡◌, ◌≢◌, ◌<◌, ◌/◌, length, slice_set};
+ghost use Rattle.std.specs.List.{All};
+ghost use Rattle.dmc_heap.specs.Heap.{IsHole, IsMoved, IsUnderParent, IsOverChildren, IsLowerChild, IsSettled, MapsEntries};
+
+use dmc_index::index::{Indexes, OrderIndex};
+use dmc_tag::rank::{LimitRank, Rank, ReadyRank, TagRank};
+use dmc_tag::tag::Tag;
+use std::alloc::{AllocError, Global};
+use std::marker::Model;
+
+/// A held key and its rank.
+#[derive(Clone, Copy)]
+struct Entry<R> {
+    rank: R,
+    key: usize,
+}
+
+// The place of a key that is not held, which is past every heap.
+const VACANT: usize = usize::MAX;
+
+/// An index as a binary heap. The least rank is at hand, and the other changes take a number of steps that is
+/// logarithmic in the number of keys that are held.
+#[derive(Drop)]
+pub struct IndexedHeap<R: Rank> {
+    // No rank is above those of the two children, which for place i are at 2i + 1 and 2i + 2.
+    heap: Vec<Entry<R>>,
+    // Each key's place in the heap.
+    places: Vec<usize>,
+}
+
+impl<R: Rank> Model for IndexedHeap<R> {
+    ghost use Rattle.std.specs.Prelude.{List, Option, vec_capacity};
+    ghost use Rattle.dmc_heap.specs.Heap.{slots_of, IsSound};
+
+    ghost Value = { List (Option R) };
+
+    ghost view = { λ x. slots_of x.heap.items x.places.items };
+
+    ghost invariant = { λ x. IsSound R.cmp (vec_capacity x.heap) x.heap.items x.places.items };
+}
+
+// Puts an entry at a place, and keeps the place.
+fn put<R: Copy>(heap: &mut [Entry<R>], places: &mut [usize], at: usize, entry: Entry<R>)
+    requires in_heap { at < length heap.old }
+    requires in_room { entry.key < length places.old }
+    ensures heap { heap.new ≡ slice_set heap.old at entry }
+    ensures places { places.new ≡ slice_set places.old entry.key at }
+{
+    heap[at] = entry;
+    places[entry.key] = at;
+}
+
+// Moves the hole for an entry up, past each rank above the entry's.
+fn rise<R: Rank>(
+    heap: &mut [Entry<R>],
+    places: &mut [usize],
+    mut at: usize,
+    entry: Entry<R>,
+) -> usize
+    requires { IsHole R.cmp heap.old places.old at entry }
+    ensures hole { IsHole R.cmp heap.new places.new result entry }
+    ensures moved { IsMoved heap.old places.old at entry heap.new places.new result }
+    ensures under_parent { IsUnderParent R.cmp heap.new result entry }
+    ensures over_children { result ≢ at → IsOverChildren R.cmp heap.new result entry }
+{
+    while at > 0 {
+        let parent = (at - 1) / 2;
+        let above = heap[parent];
+        if !entry.rank.cmp(&above.rank).is_lt() {
+            return at;
+        }
+        put(heap, places, at, above);
+        at = parent;
+    }
+    at
+}
+
+// The child with the lower rank.
+fn lower_child<R: Rank>(heap: &[Entry<R>], at: usize) -> usize
+    requires { at < length heap.now / 2 }
+    ensures { IsLowerChild R.cmp heap.now at result }
+{
+    let left = 2 * at + 1;
+    let right = left + 1;
+    if right < heap.len() && heap[right].rank.cmp(&heap[left].rank).is_lt() {
+        return right;
+    }
+    left
+}
+
+// Moves the hole for an entry down, past each rank below the entry's.
+fn sink<R: Rank>(
+    heap: &mut [Entry<R>],
+    places: &mut [usize],
+    mut at: usize,
+    entry: Entry<R>,
+) -> usize
+    requires hole { IsHole R.cmp heap.old places.old at entry }
+    requires under_parent { IsUnderParent R.cmp heap.old at entry }
+    ensures hole { IsHole R.cmp heap.new places.new result entry }
+    ensures moved { IsMoved heap.old places.old at entry heap.new places.new result }
+    ensures under_parent { IsUnderParent R.cmp heap.new result entry }
+    ensures over_children { IsOverChildren R.cmp heap.new result entry }
+{
+    while at < heap.len() / 2 {
+        let child = lower_child(heap, at);
+        let below = heap[child];
+        if !below.rank.cmp(&entry.rank).is_lt() {
+            return at;
+        }
+        put(heap, places, at, below);
+        at = child;
+    }
+    at
+}
+
+// Moves the hole for an entry to where the entry belongs, up or down, and fills it.
+fn settle<R: Rank>(heap: &mut [Entry<R>], places: &mut [usize], at: usize, entry: Entry<R>)
+    requires { IsHole R.cmp heap.old places.old at entry }
+    ensures { IsSettled R.cmp heap.old places.old at entry heap.new places.new }
+{
+    let risen = rise(heap, places, at, entry);
+    let place = if risen == at {
+        sink(heap, places, at, entry)
+    } else {
+        risen
+    };
+    put(heap, places, place, entry);
+}
+
+// Maps each rank.
+fn map_entries<R: Rank, F: Fn(R) -> R>(entries: &mut [Entry<R>], f: F)
+    requires { All (λ entry. F.pre f entry.rank) entries.old }
+    ensures { MapsEntries (F.post f) entries.old entries.new }
+{
+    for entry in entries.iter_mut() {
+        entry.rank = f(entry.rank);
+    }
+}
+
+impl<R: Rank> OrderIndex<R> for IndexedHeap<R> {
+    ghost slots = { λ index. index };
+
+    fn new(alloc: Global) -> IndexedHeap<R> {
+        IndexedHeap {
+            heap: Vec::new(alloc),
+            places: Vec::new(alloc),
+        }
+    }
+
+    fn reserve_keys(&mut self, n: usize) -> Result<(), AllocError> {
+        if n > self.places.len() {
+            self.heap.reserve(n - self.heap.len())?;
+            self.places.resize(n, VACANT)?;
+        }
+        Ok(())
+    }
+
+    fn insert(&mut self, key: usize, rank: R) {
+        let at = self.heap.len();
+        let entry = Entry { rank, key };
+        self.heap.push(entry).unwrap();
+        settle(&mut self.heap, &mut self.places, at, entry);
+    }
+
+    fn change(&mut self, key: usize, rank: R) {
+        let at = self.places[key];
+        settle(&mut self.heap, &mut self.places, at, Entry { rank, key });
+    }
+
+    fn remove(&mut self, key: usize) -> R {
+        let at = self.places[key];
+        let removed = self.heap[at];
+        let last = self.heap.pop().unwrap();
+        self.places[key] = VACANT;
+        if at < self.heap.len() {
+            settle(&mut self.heap, &mut self.places, at, last);
+        }
+        removed.rank
+    }
+
+    fn get(&self, key: usize) -> Option<&R> {
+        let place = *self.places.get(key)?;
+        let entry = self.heap.get(place)?;
+        Some(&entry.rank)
+    }
+
+    fn least(&self) -> Option<(usize, &R)> {
+        let first = self.heap.first()?;
+        Some((first.key, &first.rank))
+    }
+
+    fn map_ranks<F: Fn(R) -> R>(&mut self, f: F) {
+        map_entries(&mut self.heap, f);
+    }
+
+    fn len(&self) -> usize {
+        self.heap.len()
+    }
+}
+
+/// The three indexes of a queue as heaps.
+#[derive(Drop)]
+pub struct HeapIndexes;
+
+impl<T: Tag> Indexes<T> for HeapIndexes {
+    type TagIndex = IndexedHeap<TagRank<T>>;
+
+    type LimitIndex = IndexedHeap<LimitRank<T>>;
+
+    type ReadyIndex = IndexedHeap<ReadyRank<T>>;
+}

@@ -1,0 +1,6 @@
+//! An ordered index as a binary heap that knows each key's place.
+#![tactic(auto)]
+
+pub mod indexed_heap;
+#[cfg(test)]
+mod tests;

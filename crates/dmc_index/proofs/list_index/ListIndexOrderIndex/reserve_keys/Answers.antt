@@ -1,0 +1,26 @@
+use Rattle.std.proofs.Common.{ap, ◌∙◌, arith}
+use Rattle.dmc_index.specs.Entries.{slots_of}
+use Rattle.dmc_index.proofs.EntryLemmas.{within_room, length-slots_of, slots_of-more, same_room}
+use Rattle.dmc_index.proofs.list_index.ListIndexOrderIndex.reserve_keys.Goals as goal
+
+pub overflow_sub-n : goal.overflow_sub-n
+overflow_sub-n g c =
+    let x = c.self.inside in
+    omega (arith, within_room g.R.Ord.cmp g.met.R.Ord.total x.room _ x.entries.items c.self.invariant, x.entries.ok.0)
+
+pub returns-in_err-reserve-clause-succeeds : goal.returns-in_err-reserve-clause-succeeds
+returns-in_err-reserve-clause-succeeds g c l =
+    let x = c.self.inside in
+    let size = rw c.self.view_is at (length-slots_of x.room x.entries.items) in
+    absurd (omega arith)
+
+pub returns-in_ok-reserve-clause-ok : goal.returns-in_ok-reserve-clause-ok
+returns-in_ok-reserve-clause-ok g c =
+    let x = c.self.inside in
+    ap (slots_of c.args.n) c.in_ok-reserve.ensures.items ∙ rw c.self.view_is at (slots_of-more x.room c.args.n x.entries.items c.self.invariant.in_room (omega arith))
+
+pub returns-else-n-self-clause-ok : goal.returns-else-n-self-clause-ok
+returns-else-n-self-clause-ok g c =
+    let x = c.self.inside in
+    let size = rw c.self.view_is at (length-slots_of x.room x.entries.items) in
+    same_room c.args.self.now c.args.n (omega arith)

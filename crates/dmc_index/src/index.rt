@@ -1,0 +1,81 @@
+//! What an index over ranks promises.
+ghost use Rattle.std.specs.Prelude.{◌≡◌, ◌≢◌, ℕ, ◌-◌, ◌≤◌, ◌<◌, ◌++◌, ◌==◌, List, [], Option, Some, None, MatchOption, OnOk, OnErr, IsOk, IsSome, length, replicate, count_by, is_some, slice_set, option_copied};
+ghost use Rattle.dmc_index.specs.Index.{held, IsEmpty, IsApart, IsApartFromOthers, AreApart, IsLeast, KeepsOrder, IsMapped};
+
+use dmc_tag::rank::{LimitRank, Rank, ReadyRank, TagRank};
+use dmc_tag::tag::Tag;
+use std::alloc::{AllocError, Global};
+
+/// A finite map from keys to distinct ranks, with a room: the keys below it can be held. No call but `reserve_keys`
+/// takes memory.
+pub trait OrderIndex<R: Rank>: Drop {
+    /// What each key below the room holds.
+    ghost slots: { Self → List (Option R) };
+
+    /// An empty index without room.
+    fn new(alloc: Global) -> Self
+        ensures { slots result ≡ [] };
+
+    /// Makes room for the keys below `n`. Room never shrinks.
+    fn reserve_keys(&mut self, n: usize) -> Result<(), AllocError>
+        ensures ok { OnOk result (slots self.new ≡ slots self.old ++ replicate (n - length (slots self.old)) None) }
+        ensures err { OnErr result (slots self.new ≡ slots self.old) }
+        ensures succeeds { n ≤ length (slots self.old) → IsOk result };
+
+    /// Gives a rank to a key that has none.
+    fn insert(&mut self, key: usize, rank: R)
+        requires in_room { key < length (slots self.old) }
+        requires vacant { held (slots self.old) key ≡ None }
+        requires apart { IsApart R.cmp (slots self.old) rank }
+        ensures { slots self.new ≡ slice_set (slots self.old) key (Some rank) };
+
+    /// Gives a key another rank.
+    fn change(&mut self, key: usize, rank: R)
+        requires here { IsSome (held (slots self.old) key) }
+        requires apart { IsApartFromOthers R.cmp (slots self.old) key rank }
+        ensures { slots self.new ≡ slice_set (slots self.old) key (Some rank) };
+
+    /// Takes a key out, and answers the rank that it had.
+    fn remove(&mut self, key: usize) -> R
+        requires { IsSome (held (slots self.old) key) }
+        ensures value { held (slots self.old) key ≡ Some result }
+        ensures rest { slots self.new ≡ slice_set (slots self.old) key None };
+
+    /// The rank of a key, if it has one.
+    fn get(&self, key: usize) -> Option<&R>
+        ensures { option_copied result ≡ held (slots self.now) key };
+
+    /// The key whose rank is below all others, and that rank.
+    fn least(&self) -> Option<(usize, &R)>
+        ensures { MatchOption result (IsEmpty (slots self.now)) (λ p. IsLeast R.cmp (slots self.now) p.0 p.1.now) };
+
+    /// Maps every rank by `f`, which keeps their order. The keys stay.
+    fn map_ranks<F: Fn(R) -> R>(&mut self, f: F)
+        requires callable { (key : ℕ) (rank : R) → held (slots self.old) key ≡ Some rank → F.pre f rank }
+        requires ordered { KeepsOrder R.cmp (slots self.old) (F.post f) }
+        ensures { IsMapped (F.post f) (slots self.old) (slots self.new) };
+
+    /// How many keys are held.
+    fn len(&self) -> usize
+        ensures value { result ≡ count_by is_some (slots self.now) }
+        ensures distinct { AreApart R.cmp (slots self.now) };
+
+    /// Whether no key is held.
+    fn is_empty(&self) -> bool
+        ensures { result ≡ (count_by is_some (slots self.now) == 0) }
+    {
+        self.len() == 0
+    }
+}
+
+/// Names the three indexes of a queue.
+pub trait Indexes<T: Tag> {
+    /// By reservation tag.
+    type TagIndex: OrderIndex<TagRank<T>>;
+
+    /// By limit tag, what is unready first.
+    type LimitIndex: OrderIndex<LimitRank<T>>;
+
+    /// By shares tag, what is ready first.
+    type ReadyIndex: OrderIndex<ReadyRank<T>>;
+}

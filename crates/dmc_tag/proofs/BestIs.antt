@@ -1,0 +1,111 @@
+-- The best that the scan finds is the best of the set, and the only one.
+use Rattle.std.proofs.Common.{◌≡◌, ℕ, Bool, true, false, not, ◌&&◌, cond, List, [], ◌∷◌, ◌++◌, Option, Some, None, refl, sym, ap, ◌∙◌, subst}
+use Rattle.std.specs.Prelude.{unwrap_or}
+use Rattle.std.specs.List.{AllByRecursion}
+use Rattle.dmc_tag.specs.Best.{best, better, IsBest, HasNone}
+use Rattle.dmc_tag.proofs.Before.{IsOrder}
+
+is_false : (b : Bool) → (b ≡ true → ⊥) → b ≡ false
+is_false true h = absurd (h refl)
+is_false false h = refl
+
+weaker : {R : Type 0} (P Q : R → Type 0) → ((x : R) → P x → Q x) → (xs : List R) → AllByRecursion P xs → AllByRecursion Q xs
+weaker P Q h [] a = tt
+weaker P Q h (x ∷ xs) a = (h x a.0, weaker P Q h xs a.1)
+
+joined : {R : Type 0} (P : R → Type 0) (front : List R) (x : R) (back : List R) → AllByRecursion P front → P x → AllByRecursion P back → AllByRecursion P (front ++ x ∷ back)
+joined P [] x back a p b = (p, b)
+joined P (y ∷ front) x back a p b = (a.0, joined P front x back a.1 p b)
+
+some_or_some : {A : Type 0} (a b : A) (t : Bool) → cond t (Some a) (Some b) ≡ None → ⊥
+some_or_some a b true e = cc
+some_or_some a b false e = cc
+
+module _ {R : Type 0} (key : R → ℕ) (before : R → R → Bool) (o : IsOrder key before) (member : R → Bool) where
+  none_at : (x : R) (xs : List R) (b : Option (R × List R)) → best before member xs ≡ b → (m : Bool) → member x ≡ m → better before m x xs b ≡ None → (best before member xs ≡ None → HasNone member xs) → HasNone member (x ∷ xs)
+  none_at x xs None q true p e rec = cc
+  none_at x xs None q false p e rec = (p, rec q)
+  none_at x xs (Some (y, ys)) q m p e rec = absurd (some_or_some (x, xs) (y, x ∷ ys) (m && not (before y x)) e)
+
+  -- where the scan finds none there is no member
+  pub none_found : (xs : List R) → best before member xs ≡ None → HasNone member xs
+  none_found [] e = tt
+  none_found (x ∷ xs) e = none_at x xs (best before member xs) refl (member x) refl e (none_found xs)
+
+  -- ---- x is the best of x ∷ xs: none behind it is before it
+
+  alone : (x : R) (xs : List R) → HasNone member xs → member x ≡ true → IsBest before member (x ∷ xs) x xs
+  alone x xs none p = record {
+    front = [];
+    back = xs;
+    whole = refl;
+    rest = refl;
+    is_member = p;
+    ahead = tt;
+    behind = weaker (λ z. member z ≡ false) (λ z. member z ≡ true → before z x ≡ false) (λ z f t. cc) xs none;
+  }
+
+  front_behind : (x y z : R) → before y x ≡ false → (member z ≡ true → before y z ≡ true) → member z ≡ true → before z x ≡ false
+  front_behind x y z f h m = is_false (before z x) (λ t. let chain = o.trans y z x (h m) t in cc)
+
+  back_behind : (x y z : R) → before y x ≡ false → (member z ≡ true → before z y ≡ false) → member z ≡ true → before z x ≡ false
+  back_behind x y z f h m = is_false (before z x) (λ t. let chain = o.chain y x z (h m) t in cc)
+
+  stays : (x y : R) (xs ys : List R) → IsBest before member xs y ys → member x ≡ true → before y x ≡ false → IsBest before member (x ∷ xs) x xs
+  stays x y xs ys b p f =
+      let Behind : R → Type 0 = λ z. member z ≡ true → before z x ≡ false in
+      record {
+        front = [];
+        back = xs;
+        whole = refl;
+        rest = refl;
+        is_member = p;
+        ahead = tt;
+        behind = subst (AllByRecursion Behind) (sym b.whole) (joined Behind b.front y b.back
+            (weaker _ Behind (λ z h. front_behind x y z f h) b.front b.ahead) (λ _. f)
+            (weaker _ Behind (λ z h. back_behind x y z f h) b.back b.behind));
+      }
+
+  -- ---- the best of xs is the best of x ∷ xs
+
+  yields : (x y : R) (xs ys : List R) → IsBest before member xs y ys → (member x ≡ true → before y x ≡ true) → IsBest before member (x ∷ xs) y (x ∷ ys)
+  yields x y xs ys b h = record {
+    front = x ∷ b.front;
+    back = b.back;
+    whole = ap (λ zs. x ∷ zs) b.whole;
+    rest = ap (λ zs. x ∷ zs) b.rest;
+    is_member = b.is_member;
+    ahead = (h, b.ahead);
+    behind = b.behind;
+  }
+
+  beaten : (m t : Bool) → (m && not t) ≡ false → m ≡ true → t ≡ true
+  beaten true true e p = refl
+  beaten true false e p = cc
+  beaten false t e p = cc
+
+  unbeaten : (m t : Bool) → (m && not t) ≡ true → (m ≡ true) × (t ≡ false)
+  unbeaten true true e = cc
+  unbeaten true false e = (refl, refl)
+  unbeaten false t e = cc
+
+  one_of_two : (x y : R) (xs ys : List R) → IsBest before member xs y ys → (b : Bool) → (member x && not (before y x)) ≡ b → (p : R × List R) → cond b (Some (x, xs)) (Some (y, x ∷ ys)) ≡ Some p → IsBest before member (x ∷ xs) p.0 p.1
+  one_of_two x y xs ys is true e p s =
+      let same : (x, xs) ≡ p = ap (λ o. unwrap_or o (x, xs)) s in
+      let test = unbeaten (member x) (before y x) e in
+      subst (λ q. IsBest before member (x ∷ xs) q.0 q.1) same (stays x y xs ys is test.0 test.1)
+  one_of_two x y xs ys is false e p s =
+      let same : (y, x ∷ ys) ≡ p = ap (λ o. unwrap_or o (x, xs)) s in
+      subst (λ q. IsBest before member (x ∷ xs) q.0 q.1) same (yields x y xs ys is (beaten (member x) (before y x) e))
+
+  found_at : (x : R) (xs : List R) (b : Option (R × List R)) → best before member xs ≡ b → (m : Bool) → member x ≡ m → (p : R × List R) → better before m x xs b ≡ Some p → ((q : R × List R) → best before member xs ≡ Some q → IsBest before member xs q.0 q.1) → IsBest before member (x ∷ xs) p.0 p.1
+  found_at x xs None q true e p s rec =
+      let same : (x, xs) ≡ p = ap (λ o. unwrap_or o (x, xs)) s in
+      subst (λ q. IsBest before member (x ∷ xs) q.0 q.1) same (alone x xs (none_found xs q) e)
+  found_at x xs None q false e p s rec = cc
+  found_at x xs (Some (y, ys)) q m e p s rec = one_of_two x y xs ys (rec (y, ys) q) (member x && not (before y x)) refl p (ap (λ n. cond (n && not (before y x)) (Some (x, xs)) (Some (y, x ∷ ys))) e ∙ s)
+
+  -- what the scan finds is the best
+  pub found_is : (xs : List R) (p : R × List R) → best before member xs ≡ Some p → IsBest before member xs p.0 p.1
+  found_is [] p s = cc
+  found_is (x ∷ xs) p s = found_at x xs (best before member xs) refl (member x) refl p s (found_is xs)

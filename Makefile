@@ -2,13 +2,8 @@
 test:
 	rt ci
 
-# Every crate's tests with each allocation refused in turn: a run may end with the want of memory, never with another
-# answer.
+# Every crate's tests with each allocation refused in turn. It proves nothing.
 refusals:
-	@set -e; for crate in crates/*/; do \
-	  if grep -rqs '#\[test\]' $$crate/src; then \
-	    echo "== $$crate"; (cd $$crate && rt try --test --fail-alloc 1..); \
-	  fi; \
-	done
+	scripts/refusals
 
 .PHONY: test refusals

@@ -4,6 +4,7 @@
 ghost use Rattle.std.specs.Prelude.{◌≡◌, ◌↔◌, ◌+◌, ◌-◌, ◌<◌, ◌≤◌, ◌^◌, [], ◌∷◌, ◌++◌, length, IsTrue, OnOk, OnErr, IsErrOf, IsOk, option_copied, slice_get, vec_capacity};
 ghost use Rattle.std.specs.Global.{Vec};
 
+pub use dmc_tag::event::Event;
 use std::alloc::{AllocError, Global};
 use std::marker::Model;
 

@@ -5,3 +5,4 @@ pub mod Agreement
 pub mod Running
 pub mod BestIs
 pub mod PullLaw
+pub mod FutureLaw

@@ -1,5 +1,5 @@
 -- What is granted is the best of its set.
-use Rattle.std.proofs.Common.{◌≡◌, ℕ, ◌<◌, Bool, true, false, not, List, [], ◌∷◌, length, Option, Some, None, Result, Ok, Err, refl, sym, subst, arith}
+use Rattle.std.proofs.Common.{◌≡◌, ℕ, Bool, true, false, not, List, [], ◌∷◌, Option, Some, None, Result, Ok, Err, refl, sym, subst}
 use Rattle.std.specs.Prelude.{⊤}
 use Rattle.std.specs.Cmp.{IsTotalOrder}
 use Rattle.dmc_types.specs.declared.config.AtLimit.{AtLimit}
@@ -7,14 +7,17 @@ use Rattle.dmc_types.specs.declared.config.AtLimit.TheVariants.{Wait, Allow}
 use Rattle.dmc_types.specs.declared.config.PhaseType.TheVariants as phases
 use Rattle.dmc_types.specs.declared.refusal.Refusal.{Refusal}
 use Rattle.dmc_types.specs.declared.refusal.Refusal.TheVariants.{Range}
-use Rattle.dmc_tag.specs.Tag.{Tagging}
+use Rattle.dmc_tag.specs.Tag.{Tagging, Fraction, IsExact}
 use Rattle.dmc_tag.specs.Outcome.{◌>>=◌, refuse_if, in_range}
 use Rattle.dmc_tag.specs.State.{State}
 use Rattle.dmc_tag.specs.Best.{best, by_reservation, by_shares, is_early, is_free, is_any, IsBest, HasNone}
 use Rattle.dmc_tag.specs.Rules as rules_of
 use Rattle.dmc_tag.specs.Rules.{Outcome}
 use Rattle.dmc_tag.specs.Step.{settled}
-use Rattle.dmc_tag.specs.Laws.{Grants, Pulls}
+use Rattle.dmc_tag.specs.Laws.{Grants, Pulls, IsNextDue}
+use Rattle.dmc_tag.proofs.FutureLaw.{next_due}
+use Rattle.dmc_tag.specs.declared.reply.Reply.{Reply}
+use Rattle.dmc_tag.specs.declared.reply.Reply.TheVariants.{Later}
 use Rattle.dmc_tag.specs.declared.plain.PlainRequest.{PlainRequest}
 use Rattle.dmc_tag.proofs.Before.{before_order}
 use Rattle.dmc_tag.proofs.BestIs.{none_found, found_is}
@@ -36,7 +39,7 @@ range_if : {X : Type 0} (b : Bool) (x : X) → OnlyRange (refuse_if b Range >>= 
 range_if true x = refl
 range_if false x = tt
 
-module _ {T : Type 0} (ops : Tagging T) (o : IsTotalOrder ops.compare) where
+module _ {T : Type 0} (ops : Tagging T) (fraction : T → Fraction) (is_value : Fraction → Type 0) (exact : IsExact ops fraction is_value) (o : IsTotalOrder ops.compare) where
   range_at : (hz : ℕ) (rate : Option ℕ) → OnlyRange (rules_of.reduction_at ops hz rate)
   range_at hz None = tt
   range_at hz (Some rate) = range_bind (in_range (ops.spacing hz rate)) _ (range_of (ops.spacing hz rate)) (λ _. tt)
@@ -66,7 +69,7 @@ module _ {T : Type 0} (ops : Tagging T) (o : IsTotalOrder ops.compare) where
       beyond_grant t s r others early free allow (subst (λ zs. IsBest (by_shares ops) is_any zs r others) (sym e) is) _ (can_grant_range s r others)
 
   at_limit_says : (t : ℕ) (s : State T) (x : PlainRequest T) (xs : List (PlainRequest T)) → s.requests ≡ x ∷ xs → HasNone (is_early ops t) s.requests → HasNone (is_free ops t) s.requests → (mode : AtLimit) → s.config.at_limit ≡ mode → Says t s (rules_of.at_limit ops s t mode x xs)
-  at_limit_says t s x xs e early free Wait m = (early, free, m, subst (λ zs. 0 < length zs) (sym e) (omega arith))
+  at_limit_says t s x xs e early free Wait m = (early, free, m, subst (λ zs. IsNextDue ops (rules_of.least_due ops x xs) zs) (sym e) (next_due ops fraction is_value exact x xs))
   at_limit_says t s x xs e early free Allow m = any_found t s x xs e early free m _ refl
 
   nothing_says : (t : ℕ) (s : State T) (xs : List (PlainRequest T)) → s.requests ≡ xs → HasNone (is_early ops t) s.requests → HasNone (is_free ops t) s.requests → Says t s (rules_of.nothing_due ops s t xs)
@@ -83,3 +86,9 @@ module _ {T : Type 0} (ops : Tagging T) (o : IsTotalOrder ops.compare) where
 
   pub pull_says : (t : ℕ) (s : State T) → Says t s (rules_of.pulled ops s t)
   pull_says t s = early_says t s _ refl
+
+  later_says : (t m : ℕ) (s new : State T) (reply : Reply T) → reply ≡ Later m → Pulls ops t s new reply → IsNextDue ops m s.requests
+  later_says t m s new reply e says = let p = subst (Pulls ops t s new) e says in p.3
+
+  pub future_says : (t m : ℕ) (s : State T) → (settled s (rules_of.pulled ops s t)).1 ≡ Later m → IsNextDue ops m s.requests
+  future_says t m s e = later_says t m s _ _ e (pull_says t s)

@@ -1,5 +1,5 @@
 -- What follows from the rules, in the subject's own words.
-use Rattle.std.specs.Prelude.{◌≡◌, ℕ, ◌<◌, Bool, true, false, List, [], length, Option}
+use Rattle.std.specs.Prelude.{◌≡◌, ℕ, ◌<◌, ◌⊎◌, Bool, true, false, List, [], ◌∷◌, ◌++◌, Option}
 use Rattle.dmc_types.specs.declared.ids.ClientId.{ClientId}
 use Rattle.dmc_types.specs.declared.ids.Token.{Token}
 use Rattle.dmc_types.specs.declared.config.AtLimit.TheVariants.{Wait, Allow}
@@ -29,12 +29,26 @@ pub record Grants {T : Type 0} (ops : Tagging T) (before : PlainRequest T → Pl
   pub token_is : token ≡ request.token
   pub left : new.requests ≡ reduced_requests ops request.client reduction others
 
+-- some request of the list is early or free at m
+pub record HasDue {T : Type 0} (ops : Tagging T) (m : ℕ) (requests : List (PlainRequest T)) : Type 0 where
+  pub request : PlainRequest T
+  pub front : List (PlainRequest T)
+  pub back : List (PlainRequest T)
+  pub whole : requests ≡ front ++ request ∷ back
+  pub due : (is_early ops m request ≡ true) ⊎ (is_free ops m request ≡ true)
+
+-- Before m no request is early or free, and at m one is.
+pub record IsNextDue {T : Type 0} (ops : Tagging T) (m : ℕ) (requests : List (PlainRequest T)) : Type 0 where
+  pub none_early : (n : ℕ) → n < m → HasNone (is_early ops n) requests
+  pub none_free : (n : ℕ) → n < m → HasNone (is_free ops n) requests
+  pub some : HasDue ops m requests
+
 -- what the reply to a pull at t says
 abbrev pub Pulls : {T : Type 0} → Tagging T → ℕ → State T → State T → Reply T → Type 0
 Pulls ops t old new (Granted client token phases.Reservation beyond) = (beyond ≡ false) × Grants ops (by_reservation ops) (is_early ops t) old new client token
 Pulls ops t old new (Granted client token phases.Priority false) = HasNone (is_early ops t) old.requests × Grants ops (by_shares ops) (is_free ops t) old new client token
 Pulls ops t old new (Granted client token phases.Priority true) = HasNone (is_early ops t) old.requests × HasNone (is_free ops t) old.requests × (old.config.at_limit ≡ Allow) × Grants ops (by_shares ops) is_any old new client token
-Pulls ops t old new (Later m) = HasNone (is_early ops t) old.requests × HasNone (is_free ops t) old.requests × (old.config.at_limit ≡ Wait) × (0 < length old.requests)
+Pulls ops t old new (Later m) = HasNone (is_early ops t) old.requests × HasNone (is_free ops t) old.requests × (old.config.at_limit ≡ Wait) × IsNextDue ops m old.requests
 Pulls ops t old new Nothing = old.requests ≡ []
 Pulls ops t old new (Refused refusal) = (refusal ≡ Range) × (new ≡ old)
 -- no other reply is given

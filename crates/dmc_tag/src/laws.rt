@@ -3,7 +3,7 @@ ghost use Rattle.std.specs.Prelude.{◌≡◌, ℕ, Option};
 ghost use Rattle.dmc_types.specs.declared.command.Command.{Command};
 ghost use Rattle.dmc_tag.specs.State.{State, StandsFor, effective};
 ghost use Rattle.dmc_tag.specs.Steps.{Exactly, Steps};
-ghost use Rattle.dmc_tag.specs.Laws.{SameStep, Pulls};
+ghost use Rattle.dmc_tag.specs.Laws.{SameStep, Pulls, IsNextDue};
 ghost use Rattle.dmc_tag.specs.Step.{outcome, step};
 ghost use Rattle.dmc_types.specs.declared.refusal.Refusal.{Refusal};
 ghost use Rattle.dmc_tag.specs.declared.reply.Reply.TheVariants as replies;
@@ -27,6 +27,11 @@ pub fn steps_exactly<T: Tag>()
 /// to a pull says which set it was, and that the sets before it have no member.
 pub fn pulls_grant_the_best<T: Tag>()
     ensures { (s : State T) (at : ℕ) → Pulls T.ops (effective s at) s ((step T.ops s (commands.Pull at)).0) ((step T.ops s (commands.Pull at)).1) }
+{}
+
+/// Future is exact: before the moment that it names no request is early or free, and at it one is.
+pub fn future_is_exact<T: Tag>()
+    ensures { (s : State T) (at m : ℕ) → (step T.ops s (commands.Pull at)).1 ≡ replies.Later m → IsNextDue T.ops m s.requests }
 {}
 
 /// A refused command leaves the state.

@@ -6,7 +6,7 @@ ghost use Rattle.dmc_tracker.specs.Server.{minus};
 use dmc_types::config::{Counting, PhaseType};
 use std::marker::Model;
 
-// How many responses, and how many of them in the constraint phase.
+/// How many responses, and how many of them in the constraint phase.
 #[derive(Clone, Copy, Debug, PartialEq, Eq)]
 pub struct Counts {
     pub delta: u32,
@@ -24,14 +24,14 @@ impl Model for Counts {
 }
 
 impl Counts {
-    // No response.
+    /// No response.
     pub fn none() -> Counts
         ensures { result ≡ no_counts }
     {
         Counts { delta: 0, rho: 0 }
     }
 
-    // One response.
+    /// One response.
     pub fn one(phase: PhaseType) -> Counts
         ensures { result ≡ one_in phase }
     {
@@ -42,7 +42,7 @@ impl Counts {
         Counts { delta: 1, rho }
     }
 
-    // What a stamp counts for its own request.
+    /// What a stamp counts for its own request.
     pub fn own_share(counting: Counting) -> Counts
         ensures { result ≡ own_share counting }
     {
@@ -52,6 +52,7 @@ impl Counts {
         }
     }
 
+    /// The sums.
     pub fn plus(self, other: Counts) -> Counts
         requires delta { self.delta + other.delta < 2 ^ 32 }
         requires rho { self.rho + other.rho < 2 ^ 32 }
@@ -63,6 +64,7 @@ impl Counts {
         }
     }
 
+    /// The differences.
     pub fn minus(self, other: Counts) -> Counts
         requires delta { other.delta ≤ self.delta }
         requires rho { other.rho ≤ self.rho }

@@ -6,8 +6,8 @@ ghost use Rattle.dmc_types.specs.Values.{Params};
 use crate::counts::Counts;
 use dmc_types::config::Counting;
 
-// What was sent to the server, the completions there, and the completions that its stamps count, as they were at its
-// last stamp.
+/// What was sent to the server, the completions there, and the completions that its stamps count, as they were at its
+/// last stamp.
 #[derive(Clone, Copy, Debug, PartialEq, Eq)]
 pub struct ServerCounts {
     pub sent: Counts,
@@ -18,7 +18,7 @@ pub struct ServerCounts {
 impl ServerCounts {
     ghost use Rattle.dmc_tracker.specs.Server.{counted_at, IsPart};
 
-    // Nothing was sent, and nothing completed.
+    /// Nothing was sent, and nothing completed.
     pub fn none() -> ServerCounts
         ensures { result ≡ record { sent = no_counts; own = no_counts; mark = no_counts } }
     {
@@ -29,7 +29,7 @@ impl ServerCounts {
         }
     }
 
-    // The completions that stamps to the server count, of all since the start.
+    /// The completions that stamps to the server count, of all since the start.
     pub fn counted(&self, counting: Counting, completions: Counts) -> Counts
         requires { IsPart self.now.own completions }
         ensures { result ≡ counted_at counting completions self.now }

@@ -4,4 +4,6 @@ use Rattle.dmc_tag.proofs.PullLaw.{pull_says}
 use Rattle.dmc_tag.proofs.laws.pulls_grant_the_best.Goals as goal
 
 pub returns : goal.returns
-returns g c = λ s at. pull_says g.T.Tag.ops (same_total g.T.Ord.cmp g.T.Tag.ops.compare g.met.T.Ord.total g.met.T.Tag.compares) (effective s at) s
+returns g c =
+    let order = same_total g.T.Ord.cmp g.T.Tag.ops.compare g.met.T.Ord.total g.met.T.Tag.compares in
+    λ s at. pull_says g.T.Tag.ops g.T.Tag.fraction g.T.Tag.is_value g.met.T.Tag.exact order (effective s at) s

@@ -109,3 +109,33 @@ module _ {R : Type 0} (key : R → ℕ) (before : R → R → Bool) (o : IsOrder
   pub found_is : (xs : List R) (p : R × List R) → best before member xs ≡ Some p → IsBest before member xs p.0 p.1
   found_is [] p s = cc
   found_is (x ∷ xs) p s = found_at x xs (best before member xs) refl (member x) refl p s (found_is xs)
+
+  -- ---- and the only one
+
+  all_at : (P : R → Type 0) (front : List R) (x : R) (back : List R) → AllByRecursion P (front ++ x ∷ back) → P x
+  all_at P [] x back a = a.0
+  all_at P (y ∷ front) x back a = all_at P front x back a.1
+
+  kept : (r : R) (back : List R) (b : Option (R × List R)) → best before member back ≡ b → member r ≡ true → AllByRecursion (λ x. member x ≡ true → before x r ≡ false) back → better before (member r) r back b ≡ Some (r, back)
+  kept r back None q m behind = rw m refl
+  kept r back (Some (y, ys)) q m behind =
+      let is = found_is back (y, ys) q in
+      let Behind : R → Type 0 = λ x. member x ≡ true → before x r ≡ false in
+      let unbeaten_by : before y r ≡ false = all_at Behind is.front y is.back (subst (AllByRecursion Behind) is.whole behind) is.is_member in
+      rw (m, unbeaten_by) refl
+
+  passes : (m t : Bool) → (m ≡ true → t ≡ true) → (m && not t) ≡ false
+  passes true t h = rw (h refl) refl
+  passes false t h = refl
+
+  found_behind : (front : List R) (r : R) (back : List R) → member r ≡ true → AllByRecursion (λ x. member x ≡ true → before r x ≡ true) front → AllByRecursion (λ x. member x ≡ true → before x r ≡ false) back → best before member (front ++ r ∷ back) ≡ Some (r, front ++ back)
+  found_behind [] r back m ahead behind = kept r back (best before member back) refl m behind
+  found_behind (x ∷ front) r back m ahead behind = rw (found_behind front r back m ahead.1 behind, passes (member x) (before r x) ahead.0) refl
+
+  -- the scan finds the best
+  pub best_is_found : (xs : List R) (r : R) (others : List R) → IsBest before member xs r others → best before member xs ≡ Some (r, others)
+  best_is_found xs r others b = ap (best before member) b.whole ∙ found_behind b.front r b.back b.is_member b.ahead b.behind ∙ ap (λ ys. Some (r, ys)) (sym b.rest)
+
+  pub none_is_found : (xs : List R) → HasNone member xs → best before member xs ≡ None
+  none_is_found [] a = refl
+  none_is_found (x ∷ xs) a = rw (none_is_found xs a.1, a.0) refl

@@ -1,8 +1,10 @@
 //! What follows from the rules alone. Each law is the contract of a function that does nothing.
-ghost use Rattle.std.specs.Prelude.{◌≡◌, ℕ, Option};
+ghost use Rattle.std.specs.Prelude.{◌≡◌, ℕ, Bool, List, Option, Some, None};
 ghost use Rattle.dmc_types.specs.declared.command.Command.{Command};
 ghost use Rattle.dmc_tag.specs.State.{State, StandsFor, effective};
 ghost use Rattle.dmc_tag.specs.Steps.{Exactly, Steps};
+ghost use Rattle.dmc_tag.specs.Best.{best, is_before, IsBest, HasNone};
+ghost use Rattle.dmc_tag.specs.declared.plain.PlainRequest.{PlainRequest};
 ghost use Rattle.dmc_tag.specs.Laws.{SameStep, Pulls, IsNextDue};
 ghost use Rattle.dmc_tag.specs.Step.{outcome, step};
 ghost use Rattle.dmc_types.specs.declared.refusal.Refusal.{Refusal};
@@ -27,6 +29,14 @@ pub fn steps_exactly<T: Tag>()
 /// to a pull says which set it was, and that the sets before it have no member.
 pub fn pulls_grant_the_best<T: Tag>()
     ensures { (s : State T) (at : ℕ) → Pulls T.ops (effective s at) s ((step T.ops s (commands.Pull at)).0) ((step T.ops s (commands.Pull at)).1) }
+{}
+
+/// The best of a set is what the scan for it finds, and nothing where the set has no member.
+pub fn the_best_is_found<T: Tag>()
+    ensures some { (tag : PlainRequest T → Option T) (member : PlainRequest T → Bool) (xs others : List (PlainRequest T)) (r : PlainRequest T) →
+        IsBest (is_before T.ops tag) member xs r others → best (is_before T.ops tag) member xs ≡ Some (r, others) }
+    ensures none { (tag : PlainRequest T → Option T) (member : PlainRequest T → Bool) (xs : List (PlainRequest T)) →
+        HasNone member xs → best (is_before T.ops tag) member xs ≡ None }
 {}
 
 /// Future is exact: before the moment that it names no request is early or free, and at it one is.

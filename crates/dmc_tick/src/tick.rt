@@ -1,7 +1,7 @@
 //! The tick tag.
-ghost use Rattle.std.specs.Prelude.{◌≡◌};
+ghost use Rattle.std.specs.Prelude.{◌≡◌, ◌≤◌, unsigned_abs};
 ghost use Rattle.std.proofs.Common.{refl};
-ghost use Rattle.dmc_tick.specs.Tick.{tick, tick_ops, tick_fraction, IsTickValue};
+ghost use Rattle.dmc_tick.specs.Tick.{greatest, tick, tick_ops, tick_fraction, IsTickValue};
 ghost use Rattle.dmc_tick.specs.TickExact.{tick_exact};
 
 use dmc_tag::tag::Tag;
@@ -43,7 +43,8 @@ impl TickTag {
 
     /// How many ticks it is.
     pub fn ticks(self) -> i128
-        ensures { result ≡ self }
+        ensures value { result ≡ self }
+        ensures bound { unsigned_abs result ≤ greatest }
     {
         self.ticks
     }

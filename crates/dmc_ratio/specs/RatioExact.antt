@@ -1,0 +1,105 @@
+-- The operations of ratio tags are exact.
+use Rattle.std.specs.Prelude.{◌≡◌, ℕ, zero, suc, ◌+◌, ◌*◌, ◌/◌, ◌%◌, ◌<◌, ◌≤◌, ◌≤ℤ◌, ◌<ℤ◌, Bool, true, false, ◌&&◌, ℤ, pos, negsuc, ◌*ℤ◌, Some, None, cond, nat_le, unsigned_abs, ◌↔◌, min}
+use Rattle.std.specs.declared.cmp.Ordering.TheVariants.{Equal}
+use Rattle.std.proofs.Common.{refl, sym, ap, ◌∙◌, subst, arith}
+use Rattle.std.proofs.lemmas.Bool.{leb-true, leb-false}
+use Rattle.std.proofs.lemmas.Cmp.{int_ranked}
+use Rattle.std.proofs.lemmas.Int.{ints, by_lt_z, unsigned_abs-mul}
+use Rattle.std.proofs.lemmas.Nat.Gcd.{same_from_IsGcd}
+use Rattle.std.proofs.lemmas.Nat.{div-add-mod'}
+use Rattle.std.proofs.Math.Nat.{div-mul_cancel, mul-le-mul_right, mod-lt}
+use borrow.Author.Differences.{up, down}
+use Rattle.dmc_tag.specs.Tag.{Fraction, Gives, IsExact, ratio, sum_of, difference_of, multiple_of}
+use Rattle.dmc_ratio.specs.Gcd.{gcd}
+use Rattle.dmc_ratio.specs.GcdLaws.{gcd_is, same_denom}
+use Rattle.dmc_ratio.specs.Lowest.{over, over_same, unsigned_abs-over, lowest_pos, lowest_apart}
+use Rattle.dmc_ratio.specs.Products.{up_scale, down_scale, up_neg, down_neg, cancel_same}
+use Rattle.dmc_ratio.specs.Ratio.{Ratio, same_ratio, lowest_terms, reduced, ceil_of, ratio_ops, ratio_fraction, from_fraction, IsRatioValue, greatest_numer, greatest_denom}
+
+-- ---- a sum, a difference, a multiple, a spacing
+gives_at : (n : ℤ) (d : ℕ) (small big : Bool) → nat_le (unsigned_abs (lowest_terms n d).numer) greatest_numer ≡ small → nat_le (lowest_terms n d).denom greatest_denom ≡ big → Gives ratio_fraction IsRatioValue (cond (small && big) (Some (lowest_terms n d)) None) (record { numer = n; denom = suc d })
+gives_at n d true true p q =
+    let g = gcd (unsigned_abs n) (suc d) in
+    let is = gcd_is (unsigned_abs n) (suc d) in
+    let numer : unsigned_abs n / g ≤ greatest_numer = subst (λ (x : ℕ). x ≤ greatest_numer) (unsigned_abs-over n g) (leb-true _ greatest_numer p) in
+    let denom : suc d / g ≤ greatest_denom = leb-true _ greatest_denom q in (
+      record {
+        some = omega arith;
+        numer_fits = λ k h. subst (λ (x : ℕ). unsigned_abs n / x ≤ greatest_numer) (same_from_IsGcd _ _ g k is h) numer;
+        denom_fits = λ k h. subst (λ (x : ℕ). suc d / x ≤ greatest_denom) (same_from_IsGcd _ _ g k is h) denom;
+      },
+      over_same n (suc d) g (div-mul_cancel g is.0) (div-mul_cancel g is.1),
+    )
+gives_at n d false big p q = λ v.
+    let g = gcd (unsigned_abs n) (suc d) in
+    let above : greatest_numer < unsigned_abs (over n g) = leb-false _ greatest_numer p in
+    let fits : unsigned_abs n / g ≤ greatest_numer = v.numer_fits g (gcd_is (unsigned_abs n) (suc d)) in
+    omega (arith, unsigned_abs-over n g)
+gives_at n d true false p q = λ v.
+    let g = gcd (unsigned_abs n) (suc d) in
+    let above : greatest_denom < suc d / g = leb-false _ greatest_denom q in
+    let fits : suc d / g ≤ greatest_denom = v.denom_fits g (gcd_is (unsigned_abs n) (suc d)) in
+    omega arith
+
+pub reduced_gives : (n : ℤ) (d : ℕ) → Gives ratio_fraction IsRatioValue (reduced n d) (record { numer = n; denom = d })
+reduced_gives n zero = λ v. let h = v.some in omega arith
+reduced_gives n (suc d) = gives_at n d _ _ refl refl
+
+gives : (f : Fraction) → Gives ratio_fraction IsRatioValue (from_fraction f) f
+gives f = reduced_gives f.numer f.denom
+
+-- ---- ratios of one value are one ratio
+pub same_value : (a b : Ratio) → a.numer *ℤ pos b.denom ≡ b.numer *ℤ pos a.denom → a ≡ b
+same_value a b e =
+    let sizes : unsigned_abs a.numer * b.denom ≡ unsigned_abs b.numer * a.denom = sym (unsigned_abs-mul a.numer (pos b.denom)) ∙ ap unsigned_abs e ∙ unsigned_abs-mul b.numer (pos a.denom) in
+    let a_some = lowest_pos a.numer a.denom a.lowest in
+    let b_some = lowest_pos b.numer b.denom b.lowest in
+    let denom : a.denom ≡ b.denom = same_denom (unsigned_abs a.numer) a.denom (unsigned_abs b.numer) b.denom (lowest_apart a.numer a.denom a.lowest) (lowest_apart b.numer b.denom b.lowest) a_some b_some sizes in
+    same_ratio a b (cancel_same a.numer b.numer b.denom b_some (e ∙ ap (λ d. b.numer *ℤ pos d) denom)) denom
+
+-- ---- the least whole number not below
+ceil_bounds : (n : ℤ) (d : ℕ) → 0 < d → (up n + down (ceil_of n d) * d ≤ up (ceil_of n d) * d + down n) × (up (ceil_of n d) * d + down n < up n + down (ceil_of n d) * d + d)
+ceil_bounds (pos n) d some =
+    let whole = div-add-mod' n d in
+    let below : n % d < d = mod-lt n some in
+    elim_rest (n % d) below whole
+  where
+    elim_rest : (r : ℕ) → r < d → n / d * d + r ≡ n → (n + 0 * d ≤ (n / d + min 1 r) * d + 0) × ((n / d + min 1 r) * d + 0 < n + 0 * d + d)
+    elim_rest zero h e = (omega arith, omega arith)
+    elim_rest (suc r) h e = (let m : min 1 (suc r) ≡ 1 = omega arith in rw m (omega arith), let m : min 1 (suc r) ≡ 1 = omega arith in rw m (omega arith))
+ceil_bounds (negsuc n) d some =
+    let whole = div-add-mod' (suc n) d in
+    let below : suc n % d < d = mod-lt (suc n) some in
+    rw (up_neg (suc n / d), down_neg (suc n / d)) (omega arith, omega arith)
+
+least_from : (n c z : ℤ) (d : ℕ) → 0 < d → up n + down c * d ≤ up c * d + down n → up c * d + down n < up n + down c * d + d → (c ≤ℤ z) ↔ (n ≤ℤ (z *ℤ pos d))
+least_from n c z d some p q = (λ h. forth h, λ h. back h)
+  where
+    forth : c ≤ℤ z → n ≤ℤ (z *ℤ pos d)
+    forth h =
+        let le : up c + down z ≤ up z + down c = omega (arith, ints) in
+        let scaled : (up c + down z) * d ≤ (up z + down c) * d = mul-le-mul_right d le in
+        omega (arith, ints, up_scale z d, down_scale z d)
+
+    back : n ≤ℤ (z *ℤ pos d) → c ≤ℤ z
+    back h = by_lt_z z c (λ lt. absurd (above lt)) (λ le. le)
+      where
+        above : z <ℤ c → ⊥
+        above lt =
+            let le : up n + down (z *ℤ pos d) ≤ up (z *ℤ pos d) + down n = omega (arith, ints) in
+            let more : suc (up z + down c) ≤ up c + down z = omega (arith, ints) in
+            let scaled : suc (up z + down c) * d ≤ (up c + down z) * d = mul-le-mul_right d more in
+            omega (arith, up_scale z d, down_scale z d)
+
+pub ratio_exact : IsExact ratio_ops ratio_fraction IsRatioValue
+ratio_exact = record {
+  denom = λ a. lowest_pos a.numer a.denom a.lowest;
+  order = λ a b. refl;
+  same = λ a b e. same_value a b (int_ranked _ _ Equal (sym e));
+  of_moment = λ n. refl;
+  spacing = λ hz rate. gives (ratio hz rate);
+  steps = λ a k. gives (multiple_of k (ratio_fraction a));
+  plus = λ a b. gives (sum_of (ratio_fraction a) (ratio_fraction b));
+  minus = λ a b. gives (difference_of (ratio_fraction a) (ratio_fraction b));
+  ceil = λ a z. let some = lowest_pos a.numer a.denom a.lowest in let bounds = ceil_bounds a.numer a.denom some in least_from a.numer (ceil_of a.numer a.denom) z a.denom some bounds.0 bounds.1;
+}

@@ -1,0 +1,8 @@
+//! Ratio tags: exact fractions of ticks.
+#![tactic(auto)]
+
+pub mod divisor;
+pub mod examples;
+pub mod ratio;
+#[cfg(test)]
+mod tests;

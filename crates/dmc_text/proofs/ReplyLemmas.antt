@@ -1,0 +1,160 @@
+-- Replies that were written are read again.
+use Rattle.std.proofs.Common.{◌≡◌, ℕ, suc, ◌^◌, ◌<◌, Bool, true, false, List, [], ◌∷◌, ◌++◌, refl, sym, ap, subst, ◌∙◌, arith, Option, Some, None, Ok, ℤ, pos, negsuc, eqb, cond}
+use Rattle.std.specs.Prelude.{codes, option_and_then}
+use Rattle.std.specs.List.{list_all}
+use Rattle.std.specs.Option.{ok_or}
+use Rattle.std.specs.Str.{bytes_eq}
+use Rattle.std.specs.Fmt.{decimal, signed_decimal}
+use Rattle.std.proofs.lemmas.Slice.Eq.{bytes_eq-Decides}
+use Rattle.dmc_types.specs.declared.ids.ClientId.{ClientId}
+use Rattle.dmc_types.specs.declared.ids.Token.{Token}
+use Rattle.dmc_types.specs.declared.config.PhaseType.{PhaseType}
+use Rattle.dmc_types.specs.declared.config.PhaseType.TheVariants as phases
+use Rattle.dmc_types.specs.declared.refusal.Field.TheVariants as fields
+use Rattle.dmc_types.specs.declared.refusal.Refusal.{Refusal}
+use Rattle.dmc_types.specs.declared.refusal.Refusal.TheVariants as refusals
+use Rattle.dmc_tag.specs.declared.reply.Tags.{Tags}
+use Rattle.dmc_tag.specs.declared.reply.Reply.{Reply}
+use Rattle.dmc_tag.specs.declared.reply.Reply.TheVariants.{Registered, Updated, Tagged, Granted, Later, Nothing, Removed, Cleaned, Refused}
+use Rattle.dmc_text.specs.declared.cause.LineCause.TheVariants as causes
+use Rattle.dmc_text.specs.Words.{is_word}
+use Rattle.dmc_text.specs.Tags.{fraction_text, fraction_of, signed}
+use Rattle.dmc_text.specs.Replies.{IsPhase, tag, optional_tag, tag_word, tag_text, reply_words, reply_of, saying, reply_said, count, instant}
+use Rattle.dmc_text.specs.RoundTrip.{is_plain, ReadsAgain, ReadsEach, IsReadBack}
+use Rattle.dmc_text.proofs.TextLemmas.{is_other, both_true, words_joined, number_again, decimal_plain, Fits128, fraction_again}
+
+all_joined : (p : ℕ → Bool) (xs ys : List ℕ) → list_all p xs ≡ true → list_all p ys ≡ true → list_all p (xs ++ ys) ≡ true
+all_joined p [] ys h k = k
+all_joined p (x ∷ xs) ys h k =
+    let q = both_true (p x) (list_all p xs) h in
+    rw (q.0, all_joined p xs ys q.1 k) refl
+
+still_word : (xs ys : List ℕ) → is_word xs ≡ true → is_word (xs ++ ys) ≡ true
+still_word [] ys h = absurd (cc)
+still_word (x ∷ xs) ys h = refl
+
+plain_parts : (w : List ℕ) → is_word w ≡ true → list_all is_other w ≡ true → is_plain w ≡ true
+plain_parts w h k = rw (h, k) refl
+
+signed_plain : (z : ℤ) → Fits128 z → is_plain (signed_decimal z) ≡ true
+signed_plain (pos n) h = decimal_plain n (omega arith)
+signed_plain (negsuc m) h =
+    let p = both_true (is_word (decimal (suc m))) (list_all is_other (decimal (suc m))) (decimal_plain (suc m) (omega arith)) in
+    p.1
+
+fraction_plain : (n : ℤ) (d : ℕ) (b : Bool) → eqb d 1 ≡ b → Fits128 n → d < 2 ^ 64 → is_plain (fraction_text n d) ≡ true
+fraction_plain n d true e h small = ap (λ t. is_plain (cond t (signed_decimal n) (signed_decimal n ++ (47 ∷ decimal d)))) e ∙ signed_plain n h
+fraction_plain n d false e h small =
+    let p = both_true (is_word (signed_decimal n)) (list_all is_other (signed_decimal n)) (signed_plain n h) in
+    let q = both_true (is_word (decimal d)) (list_all is_other (decimal d)) (decimal_plain d (omega arith)) in
+    ap (λ t. is_plain (cond t (signed_decimal n) (signed_decimal n ++ (47 ∷ decimal d)))) e
+    ∙ plain_parts (signed_decimal n ++ (47 ∷ decimal d)) (still_word (signed_decimal n) (47 ∷ decimal d) p.0) (all_joined is_other (signed_decimal n) (47 ∷ decimal d) p.1 q.1)
+
+dash_none : fraction_of (codes "-") ≡ None
+unfolding fraction_of signed
+dash_none = refl
+
+not_dash : (w : List ℕ) (x : ℤ × ℕ) (b : Bool) → bytes_eq w (codes "-") ≡ b → fraction_of w ≡ Some x → bytes_eq w (codes "-") ≡ false
+not_dash w x false e h = e
+not_dash w x true e h =
+    let same : w ≡ codes "-" = (bytes_eq-Decides w (codes "-")).0 e in
+    let none : fraction_of w ≡ None = ap fraction_of same ∙ dash_none in
+    absurd (cc)
+
+-- a tag of whose parts it is made again reads again
+pub tag_again : {T : Type 0} (made : ℤ → ℕ → Option T) (numer : T → ℤ) (denom : T → ℕ) (a : T) → Fits128 (numer a) → 0 < denom a → denom a < 2 ^ 64 → made (numer a) (denom a) ≡ Some a
+    → ReadsAgain made (tag_text numer denom) a
+unfolding tag
+tag_again {T} made numer denom a h some small e =
+    let parts = fraction_again (numer a) (denom a) h some small in
+    record {
+      plain = fraction_plain (numer a) (denom a) (eqb (denom a) 1) refl h small;
+      some = not_dash (fraction_text (numer a) (denom a)) (numer a, denom a) (bytes_eq (fraction_text (numer a) (denom a)) (codes "-")) refl parts;
+      read = ap (λ o. ok_or (option_and_then (λ x. made x.0 x.1) o) causes.Number) parts ∙ ap (λ o. ok_or o causes.Number) e;
+    }
+
+-- the same of the parts that a call gave
+pub parts_again : {T : Type 0} (made : ℤ → ℕ → Option T) (numer : T → ℤ) (denom : T → ℕ) (a : T) (n : ℤ) (d : ℕ) → n ≡ numer a → d ≡ denom a → Fits128 n → 0 < d → d < 2 ^ 64 → made n d ≡ Some a
+    → ReadsAgain made (tag_text numer denom) a
+parts_again made numer denom a n d n-is d-is h some small e =
+    tag_again made numer denom a (subst Fits128 n-is h) (omega arith) (omega arith) (ap (λ z. made z (denom a)) (sym n-is) ∙ ap (made n) (sym d-is) ∙ e)
+
+-- ---- each reply
+
+count_again : (n : ℕ) → n < 2 ^ 32 → count (decimal n) ≡ Ok n
+unfolding count
+count_again n h = ap (λ o. ok_or o causes.Number) (number_again (2 ^ 32) n h (omega arith))
+
+instant_again : (n : ℕ) → n < 2 ^ 128 → instant (decimal n) ≡ Ok n
+unfolding instant
+instant_again n h = ap (λ o. ok_or o causes.Number) (number_again (2 ^ 128) n h (omega arith))
+
+optional_again : {T : Type 0} (made : ℤ → ℕ → Option T) (text : T → List ℕ) (o : Option T) → ReadsEach made text o → (is_plain (tag_word text o) ≡ true) × (optional_tag made (tag_word text o) ≡ Ok o)
+unfolding optional_tag
+optional_again made text None h = (refl, refl)
+optional_again made text (Some a) h = (h.plain, rw (h.some, h.read) refl)
+
+module _ {T : Type 0} (made : ℤ → ℕ → Option T) (text : T → List ℕ) where
+  -- words in one piece each, which are read as the reply
+  joined : (reply : Reply T) → list_all is_plain (reply_words text reply) ≡ true → reply_of made (reply_words text reply) ≡ Ok reply → IsReadBack made text reply
+  joined reply plain e = record { read = ap (reply_of made) (words_joined (reply_words text reply) plain) ∙ e }
+
+  pub back_registered : IsReadBack made text Registered
+  unfolding saying reply_said
+  back_registered = joined Registered refl refl
+
+  pub back_updated : IsReadBack made text Updated
+  unfolding saying reply_said
+  back_updated = joined Updated refl refl
+
+  pub back_nothing : IsReadBack made text Nothing
+  unfolding saying reply_said
+  back_nothing = joined Nothing refl refl
+
+  pub back_later : (m : ℕ) → m < 2 ^ 128 → IsReadBack made text (Later m)
+  unfolding saying reply_said
+  back_later m h = joined (Later m) (rw (decimal_plain m (omega arith)) refl) (rw (instant_again m h) refl)
+
+  pub back_removed : (n : ℕ) → n < 2 ^ 32 → IsReadBack made text (Removed n)
+  unfolding saying reply_said
+  back_removed n h = joined (Removed n) (rw (decimal_plain n (omega arith)) refl) (rw (count_again n h) refl)
+
+  pub back_cleaned : (i e : ℕ) → i < 2 ^ 32 → e < 2 ^ 32 → IsReadBack made text (Cleaned i e)
+  unfolding saying reply_said
+  back_cleaned i e h k = joined (Cleaned i e) (rw (decimal_plain i (omega arith), decimal_plain e (omega arith)) refl) (rw (count_again i h, count_again e k) refl)
+
+  pub back_refused : (refusal : Refusal) → IsReadBack made text (Refused refusal)
+  unfolding saying reply_said
+  back_refused refusals.Known = joined (Refused refusals.Known) refl refl
+  back_refused refusals.Unknown = joined (Refused refusals.Unknown) refl refl
+  back_refused (refusals.Inexact fields.Reservation) = joined (Refused (refusals.Inexact fields.Reservation)) refl refl
+  back_refused (refusals.Inexact fields.Weight) = joined (Refused (refusals.Inexact fields.Weight)) refl refl
+  back_refused (refusals.Inexact fields.Limit) = joined (Refused (refusals.Inexact fields.Limit)) refl refl
+  back_refused refusals.Clients = joined (Refused refusals.Clients) refl refl
+  back_refused refusals.QueueFull = joined (Refused refusals.QueueFull) refl refl
+  back_refused refusals.Range = joined (Refused refusals.Range) refl refl
+  back_refused refusals.Busy = joined (Refused refusals.Busy) refl refl
+
+  pub back_reserved : (c : ClientId) (k : Token) → c.0 < 2 ^ 32 → k.0 < 2 ^ 32 → IsReadBack made text (Granted c k phases.Reservation false)
+  unfolding saying reply_said
+  back_reserved c k h j = joined (Granted c k phases.Reservation false) (rw (decimal_plain c.0 (omega arith), decimal_plain k.0 (omega arith)) refl) (rw (count_again c.0 h, count_again k.0 j) refl)
+
+  pub back_shared : (c : ClientId) (k : Token) → c.0 < 2 ^ 32 → k.0 < 2 ^ 32 → IsReadBack made text (Granted c k phases.Priority false)
+  unfolding saying reply_said
+  back_shared c k h j = joined (Granted c k phases.Priority false) (rw (decimal_plain c.0 (omega arith), decimal_plain k.0 (omega arith)) refl) (rw (count_again c.0 h, count_again k.0 j) refl)
+
+  pub back_beyond : (c : ClientId) (k : Token) → c.0 < 2 ^ 32 → k.0 < 2 ^ 32 → IsReadBack made text (Granted c k phases.Priority true)
+  unfolding saying reply_said
+  back_beyond c k h j = joined (Granted c k phases.Priority true) (rw (decimal_plain c.0 (omega arith), decimal_plain k.0 (omega arith)) refl) (rw (count_again c.0 h, count_again k.0 j) refl)
+
+  pub back_tagged : (t : Tags T) → ReadsEach made text t.r → ReadsAgain made text t.l → ReadsAgain made text t.p → IsReadBack made text (Tagged t)
+  unfolding saying reply_said
+  back_tagged t r l p =
+      let first = optional_again made text t.r r in
+      joined (Tagged t) (rw (first.0, l.plain, p.plain) refl) (rw (first.1, l.read, p.read) refl)
+
+  pub back_granted : (c : ClientId) (k : Token) (phase : PhaseType) (beyond : Bool) → IsPhase phase beyond → c.0 < 2 ^ 32 → k.0 < 2 ^ 32 → IsReadBack made text (Granted c k phase beyond)
+  back_granted c k phases.Reservation true told h j = absurd (cc)
+  back_granted c k phases.Reservation false told h j = back_reserved c k h j
+  back_granted c k phases.Priority true told h j = back_beyond c k h j
+  back_granted c k phases.Priority false told h j = back_shared c k h j

@@ -1,0 +1,53 @@
+-- Each reply is read again from its text.
+use Rattle.std.proofs.Common.{arith}
+use Rattle.dmc_text.specs.Replies.{tag_text}
+use Rattle.dmc_text.proofs.ReplyLemmas.{back_registered, back_updated, back_nothing, back_later, back_removed, back_cleaned, back_refused, back_granted}
+use Rattle.dmc_text.proofs.write.write_reply.Goals as goal
+
+pub returns-in-Registered-clause-again : goal.returns-in-Registered-clause-again
+returns-in-Registered-clause-again g c =
+    let made = g.T.TagText.made in
+    let text = tag_text g.T.TagText.numerator g.T.TagText.denominator in
+    rw c.in-Registered.is (back_registered made text)
+
+pub returns-in-Updated-clause-again : goal.returns-in-Updated-clause-again
+returns-in-Updated-clause-again g c =
+    let made = g.T.TagText.made in
+    let text = tag_text g.T.TagText.numerator g.T.TagText.denominator in
+    rw c.in-Updated.is (back_updated made text)
+
+pub returns-in-Granted-clause-again : goal.returns-in-Granted-clause-again
+returns-in-Granted-clause-again g c =
+    let made = g.T.TagText.made in
+    let text = tag_text g.T.TagText.numerator g.T.TagText.denominator in
+    rw c.in-Granted.is (back_granted made text c.in-Granted.client c.in-Granted.token c.in-Granted.phase c.in-Granted.beyond (rw c.in-Granted.is at c.requires) c.write_grant.ensures.ids.0 c.write_grant.ensures.ids.1)
+
+pub returns-in-Later-clause-again : goal.returns-in-Later-clause-again
+returns-in-Later-clause-again g c =
+    let made = g.T.TagText.made in
+    let text = tag_text g.T.TagText.numerator g.T.TagText.denominator in
+    rw c.in-Later.is (back_later made text c.in-Later.at (omega arith))
+
+pub returns-in-Nothing-clause-again : goal.returns-in-Nothing-clause-again
+returns-in-Nothing-clause-again g c =
+    let made = g.T.TagText.made in
+    let text = tag_text g.T.TagText.numerator g.T.TagText.denominator in
+    rw c.in-Nothing.is (back_nothing made text)
+
+pub returns-in-Removed-clause-again : goal.returns-in-Removed-clause-again
+returns-in-Removed-clause-again g c =
+    let made = g.T.TagText.made in
+    let text = tag_text g.T.TagText.numerator g.T.TagText.denominator in
+    rw c.in-Removed.is (back_removed made text c.in-Removed.removed (omega arith))
+
+pub returns-in-Cleaned-clause-again : goal.returns-in-Cleaned-clause-again
+returns-in-Cleaned-clause-again g c =
+    let made = g.T.TagText.made in
+    let text = tag_text g.T.TagText.numerator g.T.TagText.denominator in
+    rw c.in-Cleaned.is (back_cleaned made text c.in-Cleaned.idled c.in-Cleaned.erased (omega arith) (omega arith))
+
+pub returns-in-Refused-clause-again : goal.returns-in-Refused-clause-again
+returns-in-Refused-clause-again g c =
+    let made = g.T.TagText.made in
+    let text = tag_text g.T.TagText.numerator g.T.TagText.denominator in
+    rw c.in-Refused.is (back_refused made text c.in-Refused.refusal)

@@ -1,0 +1,122 @@
+-- The lines of a script.
+use Rattle.std.specs.Prelude.{ℕ, ◌^◌, ◌==◌, Bool, false, ◌&&◌, List, [], ◌∷◌, length, Option, Some, None, Result, Ok, Err, nat_lt, nat_le, if◌then◌else◌, codes}
+use Rattle.std.specs.List.{list_all}
+use Rattle.std.specs.Option.{ok_or, option_map}
+use denote.Ref.{Bor}
+use Rattle.dmc_text.specs.declared.line.ConfigWords.{ConfigWords}
+use Rattle.std.specs.Str.{bytes_eq}
+use Rattle.dmc_types.specs.declared.config.AtLimit.{AtLimit}
+use Rattle.dmc_types.specs.declared.config.AtLimit.TheVariants.{Wait, Allow}
+use Rattle.dmc_text.specs.declared.cause.LineCause.{LineCause}
+use Rattle.dmc_text.specs.declared.cause.LineCause.TheVariants.{Bytes, Hz, Words, Number}
+use Rattle.dmc_text.specs.declared.command.CommandFault.{CommandFault}
+use Rattle.dmc_text.specs.declared.command.CommandFault.TheVariants as unread
+use Rattle.dmc_types.specs.declared.command.Command.{Command}
+use Rattle.dmc_text.specs.declared.line.Line.{Line}
+use Rattle.dmc_text.specs.declared.line.Line.TheVariants.{Skip, Config, Ask, Value}
+use Rattle.dmc_text.specs.Numbers.{number}
+use Rattle.dmc_text.specs.Words.{words}
+use Rattle.dmc_text.specs.Answers.{◌>>=◌}
+use Rattle.dmc_text.specs.Commands.{Phrase, phrase, command}
+
+-- ---- bytes
+
+abbrev pub is_line_byte : ℕ → Bool
+is_line_byte b = nat_le 32 b && nat_le b 126
+
+-- at most 256 bytes, each 32 to 126
+unfoldable pub is_clean : List ℕ → Bool
+is_clean line = nat_le (length line) 256 && list_all is_line_byte line
+
+-- ---- the hz line
+
+-- the words of an hz line: hz, and the ages where they are given
+pub record Heading : Type 0 where
+  pub hz : List ℕ
+  pub ages : Option (List ℕ × List ℕ)
+  pub at_limit : AtLimit
+
+-- what the last words of an hz line set: nothing, or `allow`
+abbrev pub limit_of : List (List ℕ) → Result AtLimit LineCause
+limit_of [] = Ok Wait
+limit_of (last ∷ []) = if bytes_eq last (codes "allow") then Ok Allow else Err Words
+limit_of (a ∷ b ∷ ws) = Err Words
+
+abbrev pub with_limit : List ℕ → Option (List ℕ × List ℕ) → List (List ℕ) → Result Heading LineCause
+with_limit hz ages last = limit_of last >>= λ at_limit. Ok (record { hz = hz; ages = ages; at_limit = at_limit })
+
+-- what stands behind `hz`: H or H IDLE ERASE, and `allow` or nothing
+unfoldable pub heading : List (List ℕ) → Result Heading LineCause
+heading [] = Err Words
+heading (h ∷ []) = with_limit h None []
+heading (h ∷ last ∷ []) = with_limit h None (last ∷ [])
+heading (h ∷ idle ∷ erase ∷ last) = with_limit h (Some (idle, erase)) last
+
+unfoldable pub figure : List ℕ → Result ℕ LineCause
+figure word = ok_or (number (2 ^ 64) word) Number
+
+-- the ages that are given, or else 2^62
+abbrev pub ages_of : Option (List ℕ × List ℕ) → Result (ℕ × ℕ) LineCause
+ages_of None = Ok (2 ^ 62, 2 ^ 62)
+ages_of (Some words) = do
+  idle ← figure words.0
+  erase ← figure words.1
+  Ok (idle, erase)
+
+-- a configuration within its limits
+unfoldable pub configured : ℕ → ℕ → ℕ → AtLimit → Result Line LineCause
+configured hz idle erase at_limit =
+    if nat_lt 0 hz && nat_le hz 1000000000 && nat_lt 0 idle && nat_le idle erase && nat_le erase (2 ^ 62)
+    then Ok (Config (record { hz = hz; idle_age = idle; erase_age = erase; at_limit = at_limit }))
+    else Err Hz
+
+unfoldable pub setting : Heading → Result Line LineCause
+setting h = do
+  hz ← figure h.hz
+  ages ← ages_of h.ages
+  configured hz ages.0 ages.1 h.at_limit
+
+-- the code's words
+abbrev pub seen_ages : Option (Bor (List ℕ) × Bor (List ℕ)) → Option (List ℕ × List ℕ)
+seen_ages ages = option_map (λ x. (x.0.now, x.1.now)) ages
+
+abbrev pub seen_heading : ConfigWords → Heading
+seen_heading c = record { hz = c.hz.now; ages = seen_ages c.ages; at_limit = c.at_limit }
+
+-- ---- commands
+
+-- a value out of its limits is told; a word that is no number ends the run
+abbrev pub told : Result Command CommandFault → Result Line LineCause
+told (Ok c) = Ok (Ask c)
+told (Err (unread.Value v)) = Ok (Value v)
+told (Err unread.Number) = Err Number
+
+-- a command, and no word behind it
+abbrev pub alone : Phrase × List (List ℕ) → Result Phrase LineCause
+alone (p, []) = Ok p
+alone (p, w ∷ ws) = Err Words
+
+unfoldable pub asked : List (List ℕ) → Result Line LineCause
+asked ws = do
+  x ← phrase ws
+  p ← alone x
+  told (command p)
+
+-- ---- lines
+
+-- a line whose first word begins with `#` says nothing
+abbrev pub is_comment : List ℕ → Bool
+is_comment [] = false
+is_comment (b ∷ bs) = b == 35
+
+-- what the words of a line say: an hz line comes first, and once
+abbrev pub said : Bool → List (List ℕ) → Result Line LineCause
+said headed [] = Ok Skip
+said headed (name ∷ args) =
+    if is_comment name then Ok Skip
+    else (if headed then (if bytes_eq name (codes "hz") then Err Hz else asked (name ∷ args))
+    else (if bytes_eq name (codes "hz") then heading args >>= setting else Err Hz))
+
+-- what a line says; headed: an hz line was read before
+abbrev pub line_of : Bool → List ℕ → Result Line LineCause
+line_of headed line = if is_clean line then said headed (words line) else Err Bytes

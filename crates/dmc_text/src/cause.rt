@@ -1,0 +1,15 @@
+//! Why a line is refused.
+
+/// What is wrong with a line. Where several things are, the first of these.
+#[derive(Clone, Copy, Debug, PartialEq, Eq)]
+pub enum LineCause {
+    /// It has more than 256 bytes, or one out of 32 to 126.
+    Bytes,
+    /// It is the first line that says something and is no `hz` line, or a later `hz` line; or an `hz` line that
+    /// breaks a limit.
+    Hz,
+    /// Its first word is unknown, or it has too few words or too many.
+    Words,
+    /// A word that has to be a number is none of its type.
+    Number,
+}

@@ -1,0 +1,296 @@
+//! The commands of a line. Their words are judged before any is read as a number.
+ghost use Rattle.std.specs.Prelude.{◌≡◌, ℕ, List, ◌∷◌, [], MatchResult};
+ghost use Rattle.dmc_text.specs.Words.{words};
+ghost use Rattle.dmc_text.specs.Answers.{Gives};
+ghost use Rattle.dmc_types.specs.Values.{Rates};
+ghost use Rattle.dmc_text.specs.Commands.{phrase_of, Phrase, adding, verb_of, with_five, phrase, small, long, optional, moment, params, rates, with_info, with_params, at_moment, command, seen};
+
+use crate::cause::LineCause;
+use crate::number::{read_u32, read_u64};
+use crate::word::first_word;
+use dmc_types::command::Command;
+use dmc_types::ids::{ClientId, Token};
+use dmc_types::info::ClientInfo;
+use dmc_types::moment::Moment;
+use dmc_types::params::ReqParams;
+use dmc_types::refusal::ValueFault;
+
+/// The first word of a command.
+#[derive(Clone, Copy, Debug, PartialEq, Eq)]
+pub enum Verb {
+    Client,
+    Update,
+    Add,
+    Pull,
+    Drop,
+    Clean,
+}
+
+/// The words behind `client` or `update`.
+#[derive(Clone, Copy, Debug)]
+pub struct InfoWords<'a> {
+    pub client: &'a [u8],
+    pub reservation: &'a [u8],
+    pub weight: &'a [u8],
+    pub limit: &'a [u8],
+    pub at: &'a [u8],
+}
+
+/// The words behind `add`.
+#[derive(Clone, Copy, Debug)]
+pub struct AddWords<'a> {
+    pub client: &'a [u8],
+    pub token: &'a [u8],
+    pub delta: &'a [u8],
+    pub rho: &'a [u8],
+    pub at: &'a [u8],
+}
+
+/// A command whose words are not read as numbers yet.
+#[derive(Clone, Copy, Debug)]
+pub enum CommandWords<'a> {
+    Register(InfoWords<'a>),
+    Update(InfoWords<'a>),
+    Add(AddWords<'a>),
+    Pull(&'a [u8]),
+    Remove(&'a [u8]),
+    Clean(&'a [u8]),
+}
+
+/// Why the words of a command name none.
+#[derive(Clone, Copy, Debug, PartialEq, Eq)]
+pub enum CommandFault {
+    /// A word that has to be a number is none of its type.
+    Number,
+    /// A value is out of its limits: the moment, and then the params or a rate.
+    Value(ValueFault),
+}
+
+/// The command that a word names.
+fn verb_of(word: &[u8]) -> Option<Verb>
+    ensures { result ≡ verb_of word.now }
+{
+    match word {
+        b"client" => Some(Verb::Client),
+        b"update" => Some(Verb::Update),
+        b"add" => Some(Verb::Add),
+        b"pull" => Some(Verb::Pull),
+        b"drop" => Some(Verb::Drop),
+        b"clean" => Some(Verb::Clean),
+        _ => None,
+    }
+}
+
+/// The next word, and what stands behind it.
+pub fn next_word(text: &[u8]) -> Result<(&[u8], &[u8]), LineCause>
+    ensures { MatchResult result (λ x. words text.now ≡ x.0.now ∷ words x.1.now)
+        (λ e. (words text.now ≡ []) × (e ≡ LineCause.Words)) }
+{
+    first_word(text).ok_or(LineCause::Words)
+}
+
+/// The words of an info at the front of a text, and what stands behind them.
+fn info_words(text: &[u8]) -> Result<(InfoWords<'_>, &[u8]), LineCause>
+    ensures { (make : List ℕ → List ℕ → List ℕ → List ℕ → List ℕ → Phrase) → Gives
+        (λ x. (make x.0.client.now x.0.reservation.now x.0.weight.now x.0.limit.now x.0.at.now, words x.1.now))
+        result (with_five make (words text.now)) }
+{
+    let (client, rest) = next_word(text)?;
+    let (reservation, rest) = next_word(rest)?;
+    let (weight, rest) = next_word(rest)?;
+    let (limit, rest) = next_word(rest)?;
+    let (at, rest) = next_word(rest)?;
+    let info = InfoWords {
+        client,
+        reservation,
+        weight,
+        limit,
+        at,
+    };
+    Ok((info, rest))
+}
+
+/// The words of a request at the front of a text, and what stands behind them.
+fn add_words(text: &[u8]) -> Result<(AddWords<'_>, &[u8]), LineCause>
+    ensures { Gives
+        (λ x. (adding x.0.client.now x.0.token.now x.0.delta.now x.0.rho.now x.0.at.now, words x.1.now))
+        result (with_five adding (words text.now)) }
+{
+    let (client, rest) = next_word(text)?;
+    let (token, rest) = next_word(rest)?;
+    let (delta, rest) = next_word(rest)?;
+    let (rho, rest) = next_word(rest)?;
+    let (at, rest) = next_word(rest)?;
+    let add = AddWords {
+        client,
+        token,
+        delta,
+        rho,
+        at,
+    };
+    Ok((add, rest))
+}
+
+/// The words behind the first word of a command, and what stands behind them.
+#[tactic(auto, unfolding(crate::specs::Commands::phrase))]
+fn words_behind(verb: Verb, text: &[u8]) -> Result<(CommandWords<'_>, &[u8]), LineCause>
+    ensures { Gives (λ x. (seen x.0, words x.1.now)) result (phrase_of verb (words text.now)) }
+{
+    match verb {
+        Verb::Client => {
+            let (info, rest) = info_words(text)?;
+            Ok((CommandWords::Register(info), rest))
+        }
+        Verb::Update => {
+            let (info, rest) = info_words(text)?;
+            Ok((CommandWords::Update(info), rest))
+        }
+        Verb::Add => {
+            let (add, rest) = add_words(text)?;
+            Ok((CommandWords::Add(add), rest))
+        }
+        Verb::Pull => {
+            let (at, rest) = next_word(text)?;
+            Ok((CommandWords::Pull(at), rest))
+        }
+        Verb::Drop => {
+            let (client, rest) = next_word(text)?;
+            Ok((CommandWords::Remove(client), rest))
+        }
+        Verb::Clean => {
+            let (at, rest) = next_word(text)?;
+            Ok((CommandWords::Clean(at), rest))
+        }
+    }
+}
+
+/// The command at the front of a text, its words alone, and what stands behind it. The only cause is `Words`.
+#[tactic(auto, unfolding(crate::specs::Commands::phrase))]
+pub fn command_words(text: &[u8]) -> Result<(CommandWords<'_>, &[u8]), LineCause>
+    ensures { Gives (λ x. (seen x.0, words x.1.now)) result (phrase (words text.now)) }
+{
+    let (name, rest) = next_word(text)?;
+    let verb = verb_of(name).ok_or(LineCause::Words)?;
+    words_behind(verb, rest)
+}
+
+/// A number of 32 bits.
+#[tactic(auto, unfolding(crate::specs::Commands::small))]
+fn small(word: &[u8]) -> Result<u32, CommandFault>
+    ensures { result ≡ small word.now }
+{
+    read_u32(word).ok_or(CommandFault::Number)
+}
+
+/// A number of 64 bits.
+#[tactic(auto, unfolding(crate::specs::Commands::long))]
+fn long(word: &[u8]) -> Result<u64, CommandFault>
+    ensures { result ≡ long word.now }
+{
+    read_u64(word).ok_or(CommandFault::Number)
+}
+
+/// A number of 32 bits, or `-` for none.
+#[tactic(auto, unfolding(crate::specs::Commands::optional))]
+fn optional(word: &[u8]) -> Result<Option<u32>, CommandFault>
+    ensures { result ≡ optional word.now }
+{
+    if word == b"-".as_slice() {
+        return Ok(None);
+    }
+    Ok(Some(small(word)?))
+}
+
+/// A moment within its limit.
+#[tactic(auto, unfolding(crate::specs::Commands::moment))]
+fn moment(ticks: u64) -> Result<Moment, CommandFault>
+    ensures { result ≡ moment ticks }
+{
+    Moment::new(ticks).map_err(CommandFault::Value)
+}
+
+/// The counts of a stamp.
+#[tactic(auto, unfolding(crate::specs::Commands::params))]
+fn params(delta: u32, rho: u32) -> Result<ReqParams, CommandFault>
+    ensures { result ≡ params delta rho }
+{
+    ReqParams::new(delta, rho).map_err(CommandFault::Value)
+}
+
+/// The rates of a client.
+#[tactic(auto, unfolding(crate::specs::Commands::rates))]
+fn rates(
+    reservation: Option<u32>,
+    weight: u32,
+    limit: Option<u32>,
+) -> Result<ClientInfo, CommandFault>
+    ensures { result ≡ rates reservation weight limit }
+{
+    ClientInfo::new(reservation, weight, limit).map_err(CommandFault::Value)
+}
+
+/// The client, the rates and the moment that words name.
+fn read_info(words: InfoWords<'_>) -> Result<(ClientId, ClientInfo, Moment), CommandFault>
+    ensures { (make : ClientId → Rates → ℕ → Command) → Gives (λ x. make x.0 x.1 x.2) result
+        (with_info make words.entry.client.now words.entry.reservation.now words.entry.weight.now words.entry.limit.now words.entry.at.now) }
+{
+    let client = ClientId(small(words.client)?);
+    let reservation = optional(words.reservation)?;
+    let weight = small(words.weight)?;
+    let limit = optional(words.limit)?;
+    let at = moment(long(words.at)?)?;
+    Ok((client, rates(reservation, weight, limit)?, at))
+}
+
+/// The request that words name.
+fn read_add(words: AddWords<'_>) -> Result<Command, CommandFault>
+    ensures { result ≡ with_params words.entry.client.now words.entry.token.now words.entry.delta.now words.entry.rho.now words.entry.at.now }
+{
+    let client = ClientId(small(words.client)?);
+    let token = Token(small(words.token)?);
+    let delta = small(words.delta)?;
+    let rho = small(words.rho)?;
+    let ticks = long(words.at)?;
+    let at = moment(ticks)?;
+    let params = params(delta, rho)?;
+    Ok(Command::Add {
+        client,
+        token,
+        params,
+        at,
+    })
+}
+
+/// The moment that a word names.
+fn read_moment(word: &[u8]) -> Result<Moment, CommandFault>
+    ensures { (make : ℕ → Command) → Gives make result (at_moment make word.now) }
+{
+    moment(long(word)?)
+}
+
+/// The command that words name: all numbers are read, and then its values are judged.
+#[tactic(auto, unfolding(crate::specs::Commands::command))]
+pub fn read_command(words: CommandWords<'_>) -> Result<Command, CommandFault>
+    ensures { result ≡ command (seen words.entry) }
+{
+    match words {
+        CommandWords::Register(words) => {
+            let (client, info, at) = read_info(words)?;
+            Ok(Command::Register { client, info, at })
+        }
+        CommandWords::Update(words) => {
+            let (client, info, at) = read_info(words)?;
+            Ok(Command::Update { client, info, at })
+        }
+        CommandWords::Add(words) => read_add(words),
+        CommandWords::Pull(word) => Ok(Command::Pull {
+            at: read_moment(word)?,
+        }),
+        CommandWords::Remove(word) => Ok(Command::Remove {
+            client: ClientId(small(word)?),
+        }),
+        CommandWords::Clean(word) => Ok(Command::Clean {
+            at: read_moment(word)?,
+        }),
+    }
+}

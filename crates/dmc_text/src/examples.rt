@@ -1,0 +1,65 @@
+//! Worked examples on the definitions: each contract holds by computation.
+ghost use Rattle.std.specs.Prelude.{◌≡◌, ◌∷◌, [], true, false, codes, pos, negsuc, Some, None, Ok, Err};
+ghost use Rattle.dmc_types.specs.declared.config.AtLimit.TheVariants.{Wait, Allow};
+ghost use Rattle.dmc_types.specs.declared.config.PhaseType.TheVariants.{Priority};
+ghost use Rattle.dmc_types.specs.declared.refusal.ValueFault.TheVariants as faults;
+ghost use Rattle.dmc_types.specs.declared.command.Command.TheVariants.{Pull, Remove};
+ghost use Rattle.dmc_tag.specs.declared.reply.Reply.TheVariants.{Tagged, Granted, Later};
+ghost use Rattle.dmc_text.specs.declared.cause.LineCause.TheVariants as causes;
+ghost use Rattle.dmc_text.specs.declared.line.Line.TheVariants.{Skip, Config, Ask, Value};
+ghost use Rattle.dmc_text.specs.Words.{words};
+ghost use Rattle.dmc_text.specs.Numbers.{number};
+ghost use Rattle.dmc_text.specs.Tags.{fraction_of, fraction_text};
+ghost use Rattle.dmc_text.specs.Lines.{line_of};
+ghost use Rattle.dmc_text.specs.Replies.{reply_text, in_ticks};
+
+/// Words are parted by one or more spaces, and spaces at either end say nothing.
+pub fn words_of_a_line()
+    ensures { words (codes "  drop   1 ") ≡ codes "drop" ∷ codes "1" ∷ [] }
+{}
+
+/// A number has no 0 in front, and fits its type.
+pub fn numbers_of_words()
+    ensures zero { number 10 (codes "0") ≡ Some 0 }
+    ensures digits { number 1000 (codes "105") ≡ Some 105 }
+    ensures led { number 1000 (codes "01") ≡ None }
+    ensures fits { number 100 (codes "100") ≡ None }
+    ensures sign { number 100 (codes "+1") ≡ None }
+    ensures empty { number 100 [] ≡ None }
+{}
+
+/// A tag is a whole number or a fraction, with no `-0` and no `/1`.
+#[tactic(auto, unfolding(crate::specs::Tags::fraction_of, crate::specs::Tags::signed))]
+pub fn tags_of_words()
+    ensures whole { fraction_of (codes "1000") ≡ Some (pos 1000, 1) }
+    ensures below { fraction_of (codes "-1000/3") ≡ Some (negsuc 999, 3) }
+    ensures no_zero { fraction_of (codes "-0") ≡ None }
+    ensures no_one { fraction_of (codes "5/1") ≡ None }
+{}
+
+/// The order of the causes.
+#[tactic(auto, unfolding(crate::specs::Lines::is_clean, crate::specs::Lines::asked, crate::specs::Lines::heading, crate::specs::Lines::setting, crate::specs::Lines::figure, crate::specs::Lines::configured, crate::specs::Commands::phrase, crate::specs::Commands::command, crate::specs::Commands::small, crate::specs::Commands::long, crate::specs::Commands::optional, crate::specs::Commands::moment, crate::specs::Commands::params, crate::specs::Commands::rates))]
+pub fn lines_of_a_script()
+    ensures comment { line_of true (codes "# pull") ≡ Ok Skip }
+    ensures bytes { line_of true (13 ∷ codes "hz") ≡ Err causes.Bytes }
+    ensures first { line_of false (codes "pull 0") ≡ Err causes.Hz }
+    ensures later { line_of true (codes "hz 1 2") ≡ Err causes.Hz }
+    ensures missing { line_of true (codes "drop") ≡ Err causes.Words }
+    ensures unknown { line_of true (codes "push 01") ≡ Err causes.Words }
+    ensures number { line_of true (codes "pull 01") ≡ Err causes.Number }
+    ensures limit { line_of false (codes "hz 0") ≡ Err causes.Hz }
+    ensures moment { line_of true (codes "add 1 1 1 2 4611686018427387905") ≡ Ok (Value faults.Moment) }
+    ensures params { line_of true (codes "add 1 1 1 2 0") ≡ Ok (Value faults.Params) }
+    ensures rate { line_of true (codes "client 2 0 1 - 0") ≡ Ok (Value faults.Rate) }
+    ensures pull { line_of true (codes "pull 50") ≡ Ok (Ask (Pull 50)) }
+    ensures dropped { line_of true (codes "drop 7") ≡ Ok (Ask (Remove (record { 0 = 7 }))) }
+    ensures allow { line_of false (codes "hz 1000 1 2 allow") ≡ Ok (Config (record { hz = 1000; idle_age = 1; erase_age = 2; at_limit = Allow })) }
+{}
+
+/// The text of each kind of reply is its words, parted by one space each.
+pub fn texts_of_replies()
+    ensures future { reply_text in_ticks (Later 50) ≡ codes "future 50" }
+    ensures tags { reply_text in_ticks (Tagged (record { r = None; l = pos 0; p = negsuc 999 })) ≡ codes "tags - 0 -1000" }
+    ensures thirds { fraction_text (pos 1000) 3 ≡ codes "1000/3" }
+    ensures grant { reply_text in_ticks (Granted (record { 0 = 1 }) (record { 0 = 7 }) Priority true) ≡ codes "grant 1 7 priority beyond" }
+{}

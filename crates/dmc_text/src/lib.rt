@@ -1,0 +1,14 @@
+//! The texts of scripts and replies: their words and numbers, lines, and the text of each reply.
+#![tactic(auto)]
+
+pub mod cause;
+pub mod command;
+pub mod examples;
+pub mod line;
+pub mod number;
+pub mod reply;
+pub mod tag;
+#[cfg(test)]
+mod tests;
+pub mod word;
+pub mod write;

@@ -1,0 +1,185 @@
+//! The lines of a script.
+ghost use Rattle.std.specs.Prelude.{◌≡◌};
+ghost use Rattle.std.specs.List.{list_all};
+ghost use Rattle.dmc_text.specs.Words.{words};
+ghost use Rattle.dmc_text.specs.Answers.{Gives};
+ghost use Rattle.dmc_text.specs.Lines.{is_line_byte, limit_of, seen_ages, seen_heading, is_clean, heading, figure, ages_of, configured, setting, asked, is_comment, line_of};
+
+use crate::cause::LineCause;
+use crate::command::{CommandFault, command_words, next_word, read_command};
+use crate::number::read_u64;
+use crate::word::first_word;
+use dmc_types::command::Command;
+use dmc_types::config::{AtLimit, QueueConfig};
+use dmc_types::refusal::ValueFault;
+
+/// What a line says.
+#[derive(Clone, Copy, Debug, PartialEq, Eq)]
+pub enum Line {
+    /// Nothing: it has no word, or its first begins with `#`.
+    Skip,
+    /// How the queue is set up.
+    Config(QueueConfig),
+    /// A command.
+    Ask(Command),
+    /// A command with a value out of its limits.
+    Value(ValueFault),
+}
+
+/// The most bytes of a line, without its LF.
+const LONGEST: usize = 256;
+
+/// The words behind `hz`.
+#[derive(Clone, Copy, Debug)]
+struct ConfigWords<'a> {
+    hz: &'a [u8],
+    ages: Option<(&'a [u8], &'a [u8])>,
+    at_limit: AtLimit,
+}
+
+/// Whether a byte may stand in a line.
+fn is_line_byte(byte: u8) -> bool
+    ensures { result ≡ is_line_byte byte }
+{
+    32 <= byte && byte <= 126
+}
+
+/// Whether each byte may stand in a line.
+fn are_line_bytes(line: &[u8]) -> bool
+    ensures { result ≡ list_all is_line_byte line.now }
+{
+    line.iter().all(|byte| is_line_byte(*byte))
+}
+
+/// Whether a line is not too long and each of its bytes is in range.
+#[tactic(auto, unfolding(crate::specs::Lines::is_clean))]
+fn is_clean(line: &[u8]) -> bool
+    ensures { result ≡ is_clean line.now }
+{
+    line.len() <= LONGEST && are_line_bytes(line)
+}
+
+/// Whether a line's first word makes it a comment.
+fn is_comment(word: &[u8]) -> bool
+    ensures { result ≡ is_comment word.now }
+{
+    matches!(word, [b'#', ..])
+}
+
+/// A number of 64 bits.
+#[tactic(auto, unfolding(crate::specs::Lines::figure))]
+fn figure(word: &[u8]) -> Result<u64, LineCause>
+    ensures { result ≡ figure word.now }
+{
+    read_u64(word).ok_or(LineCause::Number)
+}
+
+/// A configuration within its limits.
+#[tactic(auto, unfolding(crate::specs::Lines::configured))]
+fn configured(hz: u64, idle_age: u64, erase_age: u64, at_limit: AtLimit) -> Result<Line, LineCause>
+    ensures { result ≡ configured hz idle_age erase_age at_limit }
+{
+    match QueueConfig::new(hz, idle_age, erase_age, at_limit) {
+        Ok(config) => Ok(Line::Config(config)),
+        Err(_) => Err(LineCause::Hz),
+    }
+}
+
+/// The one command of a line.
+#[tactic(auto, unfolding(crate::specs::Lines::asked))]
+fn asked(line: &[u8]) -> Result<Line, LineCause>
+    ensures { result ≡ asked (words line.now) }
+{
+    let (command, rest) = command_words(line)?;
+    if first_word(rest).is_some() {
+        return Err(LineCause::Words);
+    }
+    match read_command(command) {
+        Ok(command) => Ok(Line::Ask(command)),
+        Err(CommandFault::Value(fault)) => Ok(Line::Value(fault)),
+        Err(CommandFault::Number) => Err(LineCause::Number),
+    }
+}
+
+/// Whether `allow` stands at the end of an `hz` line, alone.
+fn at_limit(text: &[u8]) -> Result<AtLimit, LineCause>
+    ensures { result ≡ limit_of (words text.now) }
+{
+    let Some((last, rest)) = first_word(text) else {
+        return Ok(AtLimit::Wait);
+    };
+    if last != b"allow".as_slice() || first_word(rest).is_some() {
+        return Err(LineCause::Words);
+    }
+    Ok(AtLimit::Allow)
+}
+
+/// The words behind `hz`.
+#[tactic(auto, unfolding(crate::specs::Lines::heading))]
+fn config_words(text: &[u8]) -> Result<ConfigWords<'_>, LineCause>
+    ensures { Gives seen_heading result (heading (words text.now)) }
+{
+    let (hz, rest) = next_word(text)?;
+    let Some((idle, behind)) = first_word(rest) else {
+        return Ok(ConfigWords {
+            hz,
+            ages: None,
+            at_limit: AtLimit::Wait,
+        });
+    };
+    let Some((erase, behind)) = first_word(behind) else {
+        return Ok(ConfigWords {
+            hz,
+            ages: None,
+            at_limit: at_limit(rest)?,
+        });
+    };
+    Ok(ConfigWords {
+        hz,
+        ages: Some((idle, erase)),
+        at_limit: at_limit(behind)?,
+    })
+}
+
+/// The ages that are given, or else 2^62.
+fn ages_of(ages: Option<(&[u8], &[u8])>) -> Result<(u64, u64), LineCause>
+    ensures { result ≡ ages_of (seen_ages ages.entry) }
+{
+    let Some((idle, erase)) = ages else {
+        return Ok((1 << 62, 1 << 62));
+    };
+    Ok((figure(idle)?, figure(erase)?))
+}
+
+/// The configuration that words name.
+#[tactic(auto, unfolding(crate::specs::Lines::setting))]
+fn read_config(words: ConfigWords<'_>) -> Result<Line, LineCause>
+    ensures { result ≡ setting (seen_heading words.entry) }
+{
+    let hz = figure(words.hz)?;
+    let (idle_age, erase_age) = ages_of(words.ages)?;
+    configured(hz, idle_age, erase_age, words.at_limit)
+}
+
+/// What a line says, without its LF. `headed`: an `hz` line was read before.
+pub fn read_line(line: &[u8], headed: bool) -> Result<Line, LineCause>
+    ensures { result ≡ line_of headed line.now }
+{
+    if !is_clean(line) {
+        return Err(LineCause::Bytes);
+    }
+    let Some((name, rest)) = first_word(line) else {
+        return Ok(Line::Skip);
+    };
+    if is_comment(name) {
+        return Ok(Line::Skip);
+    }
+    let heads = name == b"hz".as_slice();
+    if heads == headed {
+        return Err(LineCause::Hz);
+    }
+    if headed {
+        return asked(line);
+    }
+    read_config(config_words(rest)?)
+}

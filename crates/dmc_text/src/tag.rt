@@ -1,0 +1,86 @@
+//! The texts of tags.
+ghost use Rattle.std.specs.Prelude.{◌≡◌, ◌<◌, ℕ, ℤ, Option, Some, position, option_and_then};
+ghost use Rattle.dmc_tag.specs.Tag.{IsSame};
+ghost use Rattle.dmc_text.specs.Tags.{is_slash, below_zero, signed, fraction_of};
+
+use crate::number::{read_u64, read_u128};
+use dmc_tag::tag::Tag;
+
+/// A tag with a text: its fraction in the form that the type keeps, `N` where the denominator is 1, and else `N/D`.
+pub trait TagText: Tag {
+    /// The numerator of a tag's text.
+    ghost numerator: { Self → ℤ };
+
+    /// Its denominator.
+    ghost denominator: { Self → ℕ };
+
+    /// The tag whose text has this numerator and this denominator.
+    ghost made: { ℤ → ℕ → Option Self };
+
+    /// The numerator and the denominator, of which the tag is made again.
+    fn parts(self) -> (i128, u64)
+        ensures over { result.0 ≡ numerator self }
+        ensures under { result.1 ≡ denominator self }
+        ensures some { 0 < result.1 }
+        ensures value { IsSame (Self.fraction self) (record { numer = result.0; denom = result.1 }) }
+        ensures again { made result.0 result.1 ≡ Some self };
+
+    /// The tag of these parts. None where they are no tag's.
+    fn of_parts(numer: i128, denom: u64) -> Option<Self>
+        ensures { result ≡ made numer denom };
+
+    /// What is made of parts has them.
+    ghost only: { (n : ℤ) (d : ℕ) (a : Self) → made n d ≡ Some a → (numerator a ≡ n) × (denominator a ≡ d) };
+}
+
+/// The number below 0 of this size. None where it does not fit, and for 0.
+fn below_zero(size: u128) -> Option<i128>
+    ensures { result ≡ below_zero size }
+{
+    if size == 0 || size > 1 << 127 {
+        return None;
+    }
+    Some(-1 - (size - 1) as i128)
+}
+
+/// A whole number, with `-` before one below 0.
+#[tactic(auto, unfolding(crate::specs::Tags::signed))]
+fn read_i128(word: &[u8]) -> Option<i128>
+    ensures { result ≡ signed word.now }
+{
+    match word {
+        [b'-', digits @ ..] => below_zero(read_u128(digits)?),
+        _ => i128::try_from(read_u128(word)?).ok(),
+    }
+}
+
+/// Where the first slash stands.
+fn first_slash(word: &[u8]) -> Option<usize>
+    ensures { result ≡ position is_slash word.now }
+{
+    word.iter().position(|byte| *byte == b'/')
+}
+
+/// The numerator and the denominator that a word spells.
+#[tactic(auto, unfolding(crate::specs::Tags::fraction_of))]
+fn read_fraction(word: &[u8]) -> Option<(i128, u64)>
+    ensures { result ≡ fraction_of word.now }
+{
+    let Some(at) = first_slash(word) else {
+        return Some((read_i128(word)?, 1));
+    };
+    let numer = read_i128(&word[..at])?;
+    let denom = read_u64(&word[at + 1..])?;
+    if denom < 2 {
+        return None;
+    }
+    Some((numer, denom))
+}
+
+/// The tag that a word spells.
+pub fn read_tag<T: TagText>(word: &[u8]) -> Option<T>
+    ensures { result ≡ option_and_then (λ x. T.made x.0 x.1) (fraction_of word.now) }
+{
+    let (numer, denom) = read_fraction(word)?;
+    T::of_parts(numer, denom)
+}

@@ -1,0 +1,27 @@
+//! The words of a line.
+ghost use Rattle.std.specs.Prelude.{◌≡◌, [], ◌∷◌, not, MatchOption, position};
+ghost use Rattle.dmc_text.specs.Words.{is_space, words};
+
+/// Where the first byte stands that is no space.
+fn first_other(text: &[u8]) -> Option<usize>
+    ensures { result ≡ position (λ b. not (is_space b)) text.now }
+{
+    text.iter().position(|byte| *byte != b' ')
+}
+
+/// Where the first space stands.
+fn first_space(text: &[u8]) -> Option<usize>
+    ensures { result ≡ position is_space text.now }
+{
+    text.iter().position(|byte| *byte == b' ')
+}
+
+/// The first word of a text, and what stands behind it. None where there is no word.
+pub fn first_word(text: &[u8]) -> Option<(&[u8], &[u8])>
+    ensures { MatchOption result (words text.now ≡ [])
+        (λ found. words text.now ≡ found.0.now ∷ words found.1.now) }
+{
+    let text = &text[first_other(text)?..];
+    let end = first_space(text).unwrap_or(text.len());
+    Some(text.split_at(end))
+}

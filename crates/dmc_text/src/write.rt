@@ -1,0 +1,140 @@
+//! Replies are written.
+ghost use Rattle.std.specs.Prelude.{◌≡◌, ◌∷◌, ◌<◌, ◌^◌, Some, OnOk, codes};
+ghost use Rattle.std.specs.List.{join_with_byte};
+ghost use Rattle.std.specs.Io.KnownBytes.{Appends};
+ghost use Rattle.dmc_text.specs.Replies.{refusal_words, tag_text, reply_text, IsTellable, IsPhase, word_text, tag_word as word_of, grant_words};
+ghost use Rattle.dmc_text.specs.RoundTrip.{ReadsAgain, ReadsEach, IsReadBack};
+ghost use Rattle.dmc_tag.specs.declared.reply.Reply.TheVariants.{Tagged};
+ghost use Rattle.std.specs.Fmt.{decimal};
+
+use crate::tag::TagText;
+use dmc_tag::reply::{Reply, Tags};
+use dmc_types::config::PhaseType;
+use dmc_types::ids::{ClientId, Token};
+use dmc_types::refusal::{Field, Refusal};
+use std::{fmt, io};
+
+/// The text of a tag, or `-` for none.
+#[derive(Clone, Copy)]
+struct TagWord(Option<(i128, u64)>);
+
+impl fmt::Display for TagWord {
+    ghost output = { λ w. Some (word_text w.0) };
+
+    fn fmt<W: fmt::Write>(&self, f: &mut fmt::Formatter<W>) -> fmt::Result {
+        match self.0 {
+            None => write!(f, "-"),
+            Some((numer, 1)) => write!(f, "{numer}"),
+            Some((numer, denom)) => write!(f, "{numer}/{denom}"),
+        }
+    }
+}
+
+/// The text of a refusal.
+fn refusal_text(refusal: Refusal) -> &'static [u8]
+    ensures { result.now ≡ join_with_byte 32 (codes "refused" ∷ refusal_words refusal) }
+{
+    match refusal {
+        Refusal::Known => b"refused known",
+        Refusal::Unknown => b"refused unknown",
+        Refusal::Inexact(Field::Reservation) => b"refused inexact reservation",
+        Refusal::Inexact(Field::Weight) => b"refused inexact weight",
+        Refusal::Inexact(Field::Limit) => b"refused inexact limit",
+        Refusal::Clients => b"refused clients",
+        Refusal::QueueFull => b"refused full",
+        Refusal::Range => b"refused range",
+        Refusal::Busy => b"refused busy",
+    }
+}
+
+/// The word of a tag.
+#[tactic(auto, using(crate::proofs::ReplyLemmas::tag_again))]
+fn tag_word<T: TagText>(tag: T) -> TagWord
+    ensures shown { result.0 ≡ Some (T.numerator tag, T.denominator tag) }
+    ensures again { ReadsAgain T.made (tag_text T.numerator T.denominator) tag }
+{
+    TagWord(Some(tag.parts()))
+}
+
+/// The word of a tag, if there is one.
+fn optional_word<T: TagText>(tag: Option<T>) -> TagWord
+    ensures shown { word_text result.0 ≡ word_of (tag_text T.numerator T.denominator) tag }
+    ensures again { ReadsEach T.made (tag_text T.numerator T.denominator) tag }
+{
+    match tag {
+        None => TagWord(None),
+        Some(tag) => tag_word(tag),
+    }
+}
+
+/// Writes tags.
+#[tactic(auto, using(crate::proofs::ReplyLemmas::back_tagged))]
+fn write_tags<T: TagText, W: io::Write>(tags: Tags<T>, out: &mut W) -> io::Result<()>
+    ensures text { OnOk result
+        (Appends (W.contents out.old) (W.contents out.new) (reply_text (tag_text T.numerator T.denominator) (Tagged tags))) }
+    ensures again { IsReadBack T.made (tag_text T.numerator T.denominator) (Tagged tags) }
+{
+    let r = optional_word(tags.r);
+    let l = tag_word(tags.l);
+    let p = tag_word(tags.p);
+    write!(out, "tags {r} {l} {p}")
+}
+
+/// How a grant's text ends.
+fn phase_text(phase: PhaseType, beyond: bool) -> &'static str
+    requires { IsPhase phase beyond }
+    ensures { result.now ≡ join_with_byte 32 (grant_words phase beyond) }
+{
+    match phase {
+        PhaseType::Reservation => "reservation",
+        PhaseType::Priority => {
+            if beyond {
+                "priority beyond"
+            } else {
+                "priority"
+            }
+        }
+    }
+}
+
+/// Writes a grant.
+fn write_grant<W: io::Write>(
+    client: ClientId,
+    token: Token,
+    phase: PhaseType,
+    beyond: bool,
+    out: &mut W,
+) -> io::Result<()>
+    requires { IsPhase phase beyond }
+    ensures text { OnOk result (Appends (W.contents out.old) (W.contents out.new)
+        (join_with_byte 32 (codes "grant" ∷ decimal client.0 ∷ decimal token.0 ∷ grant_words phase beyond))) }
+    ensures ids { (client.0 < 2 ^ 32) × (token.0 < 2 ^ 32) }
+{
+    let last = phase_text(phase, beyond);
+    write!(out, "grant {} {} {last}", client.0, token.0)
+}
+
+/// Writes the text of a reply, without its LF. What went out where the writer fails is left open.
+pub fn write_reply<T: TagText, W: io::Write>(reply: &Reply<T>, out: &mut W) -> io::Result<()>
+    requires { IsTellable reply.now }
+    ensures text { OnOk result
+        (Appends (W.contents out.old) (W.contents out.new) (reply_text (tag_text T.numerator T.denominator) reply.now)) }
+    ensures again { IsReadBack T.made (tag_text T.numerator T.denominator) reply.now }
+{
+    match *reply {
+        Reply::Registered => write!(out, "ok"),
+        Reply::Updated => write!(out, "updated"),
+        Reply::Tagged(tags) => write_tags(tags, out),
+        Reply::Granted {
+            client,
+            token,
+            phase,
+            beyond,
+        } => write_grant(client, token, phase, beyond, out),
+        Reply::Later(at) => write!(out, "future {at}"),
+        Reply::Nothing => write!(out, "none"),
+        Reply::Removed(removed) => write!(out, "dropped {removed}"),
+        Reply::Cleaned { idled, erased } => write!(out, "cleaned {idled} {erased}"),
+        Reply::Refused(refusal) => out.write_all(refusal_text(refusal)),
+    }
+}

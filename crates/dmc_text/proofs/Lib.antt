@@ -2,3 +2,9 @@ pub mod WordLemmas
 pub mod NumberLemmas
 pub mod TextLemmas
 pub mod ReplyLemmas
+pub mod ReadingLemmas
+pub mod Tellable
+pub mod RunLemmas
+pub mod LineLemmas
+pub mod RunSteps
+pub mod RunEnds

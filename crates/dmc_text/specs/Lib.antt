@@ -6,3 +6,7 @@ pub mod Lines
 pub mod Tags
 pub mod Replies
 pub mod RoundTrip
+pub mod Texts
+pub mod Reading
+pub mod Runs
+pub mod RatioText

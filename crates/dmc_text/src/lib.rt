@@ -5,9 +5,12 @@ pub mod cause;
 pub mod command;
 pub mod examples;
 pub mod line;
+pub mod lines;
 pub mod number;
 pub mod reply;
+pub mod script;
 pub mod tag;
+pub mod tags;
 #[cfg(test)]
 mod tests;
 pub mod word;

@@ -1,13 +1,8 @@
 //! Lines and replies, one of each kind, and the faults of scripts.
-ghost use Rattle.std.specs.Prelude.{◌==◌, None, if◌then◌else◌};
-ghost use Rattle.std.proofs.Common.{arith};
-ghost use Rattle.std.proofs.lemmas.Bool.Decides.{nat_tests};
-ghost use Rattle.dmc_tick.specs.Tick.{tick};
 
 use crate::cause::LineCause;
 use crate::line::{Line, read_line};
 use crate::reply::read_reply;
-use crate::tag::TagText;
 use crate::write::write_reply;
 use dmc_tag::reply::{Reply, Tags};
 use dmc_tick::tick::TickTag;
@@ -117,27 +112,6 @@ fn refused_values(rt: HostRuntime) -> Result<(), Fail> {
     assert_eq!(rt; ask(b"pull 0 0"), Err(LineCause::Words));
     assert_eq!(rt; ask(b"push 01"), Err(LineCause::Words));
     Ok(())
-}
-
-impl TagText for TickTag {
-    ghost numerator = { λ a. a };
-
-    ghost denominator = { λ a. 1 };
-
-    ghost made = { λ n d. if d == 1 then tick n else None };
-
-    ghost only = { λ n d a e. Prim.grind (arith, nat_tests) };
-
-    fn parts(self) -> (i128, u64) {
-        (self.ticks(), 1)
-    }
-
-    fn of_parts(numer: i128, denom: u64) -> Option<TickTag> {
-        if denom != 1 {
-            return None;
-        }
-        TickTag::new(numer)
-    }
 }
 
 #[test]

@@ -1,0 +1,44 @@
+-- Runs of scripts.
+use Rattle.std.proofs.Common.{◌≡◌, ℕ, suc, ◌+◌, ◌<◌, Bool, true, false, not, cond, List, [], ◌∷◌, ◌++◌, refl, sym, ap, subst, ◌∙◌, arith, append_assoc, Option, Some, None, Result, Ok, Err}
+use Rattle.std.specs.Prelude.{OnOk}
+use Rattle.dmc_types.specs.declared.command.Command.{Command}
+use Rattle.dmc_tag.specs.Tag.{Tagging}
+use Rattle.dmc_tag.specs.State.{State, StandsFor, opening}
+use Rattle.dmc_tag.specs.Step.{step}
+use Rattle.dmc_tag.specs.Laws.{SameStep}
+use Rattle.dmc_tag.specs.declared.reply.Reply.{Reply}
+use Rattle.dmc_text.specs.declared.line.Line.{Line}
+use Rattle.dmc_text.specs.declared.line.Line.TheVariants.{Skip, Config, Ask, Value}
+use Rattle.dmc_text.specs.Replies.{reply_text}
+use Rattle.dmc_text.specs.Texts.{ended, value_text, written}
+
+-- each state stands for itself
+pub same_state : {T : Type 0} (s : State T) → StandsFor s s
+same_state s = record { config = refl; requests = λ id. refl; clients = refl; last_moment = refl }
+
+-- states that agree client by client are answered alike
+pub written_alike : {T : Type 0} (ops : Tagging T) (text : T → List ℕ) (law : (s u : State T) (command : Command) → StandsFor s u → SameStep ops s u command)
+    (lines : List Line) (s u : State T) → StandsFor s u → written ops text (Some s) lines ≡ written ops text (Some u) lines
+written_alike ops text law [] s u h = refl
+written_alike ops text law (Skip ∷ lines) s u h = written_alike ops text law lines s u h
+written_alike ops text law (Config config ∷ lines) s u h = refl
+written_alike ops text law (Value fault ∷ lines) s u h = ap (λ more. ended (value_text fault) ++ more) (written_alike ops text law lines s u h)
+written_alike ops text law (Ask command ∷ lines) s u h =
+    let same = law s u command h in
+    ap (λ reply. ended (reply_text text reply) ++ written ops text (Some ((step ops s command).0)) lines) same.0
+    ∙ ap (λ more. ended (reply_text text ((step ops u command).1)) ++ more) (written_alike ops text law lines ((step ops s command).0) ((step ops u command).0) same.1)
+
+-- of two facts of an Ok a third follows
+pub on_both : {X E : Type 0} {A B C : Type 0} (r : Result X E) → OnOk r A → OnOk r B → (A → B → C) → OnOk r C
+on_both (Ok x) a b f = f a b
+on_both (Err e) a b f = tt
+
+-- a command is answered, and then the rest from the state that is reached, or from one that agrees
+pub asked_alike : {T : Type 0} (ops : Tagging T) (text : T → List ℕ) (law : (s u : State T) (command : Command) → StandsFor s u → SameStep ops s u command)
+    (old new : List ℕ) (s u : State T) (command : Command) → new ≡ old ++ ended (reply_text text ((step ops s command).1)) → StandsFor u ((step ops s command).0)
+    → (rest : List Line) → new ++ written ops text (Some u) rest ≡ old ++ written ops text (Some s) (Ask command ∷ rest)
+asked_alike ops text law old new s u command e h rest =
+    let reply = ended (reply_text text ((step ops s command).1)) in
+    ap (λ w. w ++ written ops text (Some u) rest) e
+    ∙ append_assoc old reply (written ops text (Some u) rest)
+    ∙ ap (λ w. old ++ (reply ++ w)) (written_alike ops text law rest u ((step ops s command).0) h)

@@ -1,0 +1,213 @@
+-- The steps of a run, and what they keep.
+use Rattle.std.proofs.Common.{◌≡◌, ℕ, suc, ◌+◌, ◌-◌, ◌*◌, ◌^◌, ◌<◌, ◌≤◌, Bool, true, false, cond, List, [], ◌∷◌, ◌++◌, refl, sym, ap, subst, ◌∙◌, arith, length, length-append, Option, Some, None, is_some, Result, Ok, Err, inl, inr, leb}
+use Rattle.std.specs.Prelude.{◌⊎◌, ◌&&◌, IfOk, OnErr, OnOk, is_err}
+use Rattle.std.specs.Option.{option_map}
+use Rattle.std.specs.List.{list_all}
+use Rattle.std.specs.Io.KnownBytes.{Consumes, Appends}
+use Rattle.std.proofs.lemmas.Bool.{lt-leb}
+use Rattle.std.proofs.lemmas.List.{append_assoc}
+use Rattle.dmc_tag.specs.Tag.{Tagging}
+use Rattle.dmc_tag.specs.State.{State}
+use Rattle.dmc_text.specs.declared.cause.LineCause.{LineCause}
+use Rattle.dmc_text.specs.declared.cause.LineCause.TheVariants.{Bytes}
+use Rattle.dmc_text.specs.declared.line.Line.{Line}
+use Rattle.dmc_text.specs.declared.script.Running.{Running}
+use Rattle.dmc_text.specs.Lines.{line_of, said, is_clean, is_line_byte}
+use Rattle.dmc_text.specs.Words.{words}
+use Rattle.dmc_text.specs.Reading.{Reading, next_line}
+use Rattle.dmc_text.specs.Texts.{and_on, fault_or, headed_by, lines_of, commands, written, written_for, first_fault, fault_of, whole_lines, out, AppendsSome}
+use Rattle.std.specs.declared.alloc.AllocError.{AllocError}
+use Rattle.dmc_text.specs.Runs.{seen, Progress, CarriedOut, CarriesOut, IsCut, IsCounted, IsFaultHere, Stopped, Turns, turn_of, left}
+use Rattle.dmc_text.proofs.ReadingLemmas.{appends_twice}
+use Rattle.dmc_text.proofs.LineLemmas.{first_line, no_line, line_first, lines_behind, leads, whole_on, ends_whole}
+
+pub consumes_twice : (a b c : Option (List ℕ)) (xs ys : List ℕ) → Consumes a b xs → Consumes b c ys → Consumes a c (xs ++ ys)
+consumes_twice None b c xs ys h k = tt
+consumes_twice (Some as') None c xs ys h k = absurd h
+consumes_twice (Some as') (Some bs) None xs ys h k = k
+consumes_twice (Some as') (Some bs) (Some cs) xs ys h k = h ∙ ap (λ w. xs ++ w) k ∙ sym (append_assoc xs ys cs)
+
+-- a line and its LF, and what stands behind them
+behind_line : (done line more : List ℕ) → done ++ (line ++ (10 ∷ more)) ≡ (done ++ (line ++ 10 ∷ [])) ++ more
+behind_line done line more = ap (λ w. done ++ w) (sym (append_assoc line (10 ∷ []) more)) ∙ sym (append_assoc done (line ++ 10 ∷ []) more)
+
+-- the line that was found, in front of what follows it
+line_and_more : (rest : List ℕ) (l : Reading) (more : List ℕ) → next_line rest ≡ Some (l.line, l.rest) → lines_of (rest ++ more) ≡ l.line ∷ lines_of (l.rest ++ more)
+line_and_more rest l more found =
+    let f = first_line rest l.line l.rest found in
+    ap (λ w. lines_of (w ++ more)) f.whole ∙ ap lines_of (append_assoc l.line (10 ∷ l.rest) more) ∙ line_first l.line (l.rest ++ more) f.plain
+
+pub shorter : (rest : List ℕ) (l : Reading) → next_line rest ≡ Some (l.line, l.rest) → length l.rest < length rest
+shorter rest l found =
+    let f = first_line rest l.line l.rest found in
+    let whole : length rest ≡ length (l.line ++ (10 ∷ l.rest)) = ap length f.whole in
+    omega (arith, whole, length-append l.line (10 ∷ l.rest))
+
+-- a line that was found is carried out
+pub answered : {T Q : Type 0} (ops : Tagging T) (text : T → List ℕ) (state : Q → State T) (input output r w : Option (List ℕ)) (old new : Running Q) (l : Reading)
+    → Progress ops text state input output r w old → next_line old.lines.rest ≡ Some (l.line, l.rest)
+    → CarriedOut ops text state (record { lines = l; queue = old.queue; number = old.number; out = old.out }) new
+    → Progress ops text state input output r w new
+answered ops text state input output r w old new l p found c =
+    let f = first_line old.lines.rest l.line l.rest found in
+    let h : Bool = is_some (seen state old) in
+    let rest-is : p.done ++ old.lines.rest ≡ (p.done ++ (l.line ++ 10 ∷ [])) ++ new.lines.rest =
+        ap (λ w. p.done ++ w) f.whole ∙ behind_line p.done l.line l.rest ∙ ap (λ k. (p.done ++ (l.line ++ 10 ∷ [])) ++ k.rest) (sym c.lines) in
+    record {
+      done = p.done ++ (l.line ++ 10 ∷ []);
+      sent = p.sent;
+      whole = whole_on p.done (l.line ++ 10 ∷ []) p.whole ∙ ap (λ w. p.done ++ w) (ends_whole l.line);
+      reads = subst (Consumes input r) rest-is p.reads;
+      sends = p.sends;
+      out_is = λ more.
+        ap (λ b. p.sent ++ (new.out.items ++ written ops text (seen state new) (commands b (lines_of more)))) c.headed
+        ∙ ap (λ w. p.sent ++ w) (c.out_is (commands (headed_by h c.said) (lines_of more)))
+        ∙ ap (λ o. p.sent ++ (old.out.items ++ written ops text (seen state old) (and_on o (λ k. commands (headed_by h k) (lines_of more))))) (sym c.is_said)
+        ∙ ap (λ ls. p.sent ++ (old.out.items ++ written ops text (seen state old) (commands h ls))) (sym (line_first l.line more f.plain))
+        ∙ p.out_is (l.line ++ (10 ∷ more))
+        ∙ ap (out ops text) (behind_line p.done l.line more);
+      fault_is = λ more.
+        ap (λ b. first_fault b new.number (lines_of more)) c.headed
+        ∙ ap (λ n. first_fault (headed_by h c.said) n (lines_of more)) c.number
+        ∙ ap (λ o. fault_or old.number o (λ k. first_fault (headed_by h k) (suc old.number) (lines_of more))) (sym c.is_said)
+        ∙ ap (first_fault h old.number) (sym (line_first l.line more f.plain))
+        ∙ p.fault_is (l.line ++ (10 ∷ more))
+        ∙ ap fault_of (behind_line p.done l.line more);
+    }
+
+pub counted : {T Q : Type 0} (ops : Tagging T) (text : T → List ℕ) (state : Q → State T) (old new : Running Q) (l : Reading)
+    → next_line old.lines.rest ≡ Some (l.line, l.rest) → l.taken ≡ old.lines.taken → IsCounted old
+    → CarriedOut ops text state (record { lines = l; queue = old.queue; number = old.number; out = old.out }) new
+    → IsCounted new × (left new < left old)
+counted ops text state old new l found taken k c =
+    let less : length l.rest < length old.lines.rest = shorter old.lines.rest l found in
+    let rest-is : length new.lines.rest ≡ length l.rest = ap (λ x. length x.rest) c.lines in
+    let taken-is : new.lines.taken ≡ old.lines.taken = ap (λ x. x.taken) c.lines ∙ taken in
+    (record { taken = omega (arith, k.taken, taken-is); number = omega (arith, k.number, c.number, less, rest-is, taken-is) }, omega (arith, less, rest-is, taken-is))
+
+-- the first line is faulty
+pub fault_first : {T : Type 0} (ops : Tagging T) (text : T → List ℕ) (s : Option (State T)) (n : ℕ) (cause : LineCause) (bytes line : List ℕ) (others : List (List ℕ))
+    → lines_of bytes ≡ line ∷ others → line_of (is_some s) line ≡ Err cause → (first_fault (is_some s) n (lines_of bytes) ≡ Some (n, cause)) × (written_for ops text s bytes ≡ [])
+fault_first ops text s n cause bytes line others split e =
+    (ap (first_fault (is_some s) n) split ∙ ap (λ o. fault_or n o (λ k. first_fault (headed_by (is_some s) k) (suc n) others)) e,
+     ap (λ ls. written ops text s (commands (is_some s) ls)) split ∙ ap (λ o. written ops text s (and_on o (λ k. commands (headed_by (is_some s) k) others))) e)
+
+pub faulty : {T Q : Type 0} (ops : Tagging T) (text : T → List ℕ) (state : Q → State T) (old : Running Q) (l : Reading) (cause : LineCause)
+    → next_line old.lines.rest ≡ Some (l.line, l.rest) → line_of (is_some (seen state old)) l.line ≡ Err cause → IsFaultHere ops text state old cause
+faulty ops text state old l cause found e = λ more.
+    fault_first ops text (seen state old) old.number cause (old.lines.rest ++ more) l.line (lines_of (l.rest ++ more)) (line_and_more old.lines.rest l more found) e
+
+-- a line that is too long
+unclean : (line : List ℕ) → 256 < length line → is_clean line ≡ false
+unfolding is_clean
+unclean line h = ap (λ b. b && list_all is_line_byte line) (lt-leb (length line) 256 h)
+
+long_line : (headed : Bool) (line : List ℕ) → 256 < length line → line_of headed line ≡ Err Bytes
+long_line headed line h = ap (λ b. cond b (said headed (words line)) (Err Bytes)) (unclean line h)
+
+pub long : {T Q : Type 0} (ops : Tagging T) (text : T → List ℕ) (state : Q → State T) (old : Running Q) (rest : List ℕ) → old.lines.rest ≡ rest
+    → next_line rest ≡ None → 256 < length rest → IsFaultHere ops text state old Bytes
+long ops text state old [] same none h = absurd (omega (arith, h))
+long ops text state old (b ∷ bs) same none h = λ more.
+    let ls = leads b bs (lines_of more) in
+    let split : lines_of (old.lines.rest ++ more) ≡ ls.line ∷ ls.others = ap (λ w. lines_of (w ++ more)) same ∙ lines_behind (b ∷ bs) more (no_line (b ∷ bs) none) ∙ ls.split in
+    fault_first ops text (seen state old) old.number Bytes (old.lines.rest ++ more) ls.line ls.others split (long_line (is_some (seen state old)) ls.line (omega (arith, h, ls.long)))
+
+-- what was to be written is written, and more is read
+pub read_more : {T Q : Type 0} (ops : Tagging T) (text : T → List ℕ) (state : Q → State T) (input output r w r' w' : Option (List ℕ)) (old new : Running Q) (bytes : List ℕ)
+    → new.queue ≡ old.queue → new.number ≡ old.number → new.out.items ≡ [] → new.lines.rest ≡ old.lines.rest ++ bytes
+    → Appends w w' old.out.items → Consumes r r' bytes → Progress ops text state input output r w old → Progress ops text state input output r' w' new
+read_more ops text state input output r w r' w' old new bytes queue-is number-is empty rest-is sent taken p =
+    record {
+      done = p.done;
+      sent = p.sent ++ old.out.items;
+      whole = p.whole;
+      reads = subst (Consumes input r') (append_assoc p.done old.lines.rest bytes ∙ ap (λ w. p.done ++ w) (sym rest-is)) (consumes_twice input r r' (p.done ++ old.lines.rest) bytes p.reads taken);
+      sends = appends_twice output w w' p.sent old.out.items p.sends sent;
+      out_is = λ more.
+        ap (λ o. (p.sent ++ old.out.items) ++ (o ++ written_for ops text (seen state new) more)) empty
+        ∙ append_assoc p.sent old.out.items (written_for ops text (seen state new) more)
+        ∙ ap (λ q. p.sent ++ (old.out.items ++ written_for ops text (option_map state q) more)) queue-is
+        ∙ p.out_is more;
+      fault_is = λ more.
+        ap (λ q. first_fault (is_some (option_map state q)) new.number (lines_of more)) queue-is
+        ∙ ap (λ n. first_fault (is_some (seen state old)) n (lines_of more)) number-is
+        ∙ p.fault_is more;
+    }
+
+-- ---- what ends a run before its end
+
+cut_out : {T : Type 0} (ops : Tagging T) (text : T → List ℕ) (input output r w : Option (List ℕ)) (read sent old new rest : List ℕ) → Consumes input r read → Appends output w sent
+    → IsCut old new → sent ++ (old ++ rest) ≡ out ops text read → Stopped ops text (λ xs. xs) input output r w new
+cut_out ops text input output r w read sent old new rest reads sends (inl same) e =
+    record { read = read; sent = sent; unsaid = rest; reads = reads; sends = sends; out_is = ap (λ o. sent ++ (o ++ rest)) same ∙ e }
+cut_out ops text input output r w read sent old new rest reads sends (inr none) e =
+    record { read = read; sent = sent; unsaid = old ++ rest; reads = reads; sends = sends; out_is = ap (λ o. sent ++ (o ++ (old ++ rest))) none ∙ e }
+
+pub no_memory : {T Q : Type 0} (ops : Tagging T) (text : T → List ℕ) (state : Q → State T) (input output r w : Option (List ℕ)) (old : Running Q) (new : List ℕ)
+    → IsCut old.out.items new → Progress ops text state input output r w old → Stopped ops text (λ xs. xs) input output r w new
+no_memory ops text state input output r w old new cut p =
+    cut_out ops text input output r w (p.done ++ old.lines.rest) p.sent old.out.items new (written_for ops text (seen state old) old.lines.rest) p.reads p.sends cut (p.out_is old.lines.rest)
+
+pub not_written : {T Q : Type 0} (ops : Tagging T) (text : T → List ℕ) (state : Q → State T) (input output r w w' : Option (List ℕ)) (old : Running Q) (new : List ℕ) → new ≡ []
+    → AppendsSome w w' old.out.items → Progress ops text state input output r w old → Stopped ops text (λ xs. xs) input output r w' new
+not_written ops text state input output r w w' old new empty (s1, s2, app, parts) p =
+    let rest = written_for ops text (seen state old) old.lines.rest in
+    record {
+      read = p.done ++ old.lines.rest;
+      sent = p.sent ++ s1;
+      unsaid = s2 ++ rest;
+      reads = p.reads;
+      sends = appends_twice output w w' p.sent s1 p.sends app;
+      out_is =
+        ap (λ o. (p.sent ++ s1) ++ (o ++ (s2 ++ rest))) empty
+        ∙ append_assoc p.sent s1 (s2 ++ rest)
+        ∙ ap (λ o. p.sent ++ o) (sym (append_assoc s1 s2 rest) ∙ ap (λ o. o ++ rest) parts)
+        ∙ p.out_is old.lines.rest;
+    }
+
+pub not_read : {T Q : Type 0} (ops : Tagging T) (text : T → List ℕ) (state : Q → State T) (input output r w r' w' : Option (List ℕ)) (old : Running Q) (new bytes : List ℕ) → new ≡ []
+    → Appends w w' old.out.items → Consumes r r' bytes → Progress ops text state input output r w old → Stopped ops text whole_lines input output r' w' new
+not_read ops text state input output r w r' w' old new bytes empty app taken p =
+    let more : List ℕ = whole_lines (old.lines.rest ++ bytes) in
+    let rest : List ℕ = written_for ops text (seen state old) more in
+    record {
+      read = (p.done ++ old.lines.rest) ++ bytes;
+      sent = p.sent ++ old.out.items;
+      unsaid = rest;
+      reads = consumes_twice input r r' (p.done ++ old.lines.rest) bytes p.reads taken;
+      sends = appends_twice output w w' p.sent old.out.items p.sends app;
+      out_is =
+        ap (λ o. (p.sent ++ old.out.items) ++ (o ++ rest)) empty
+        ∙ append_assoc p.sent old.out.items rest
+        ∙ p.out_is more
+        ∙ ap (out ops text) (sym (ap whole_lines (append_assoc p.done old.lines.rest bytes) ∙ whole_on p.done (old.lines.rest ++ bytes) p.whole));
+    }
+
+-- ---- turns
+
+pub turn_by : {T Q : Type 0} (ops : Tagging T) (text : T → List ℕ) (state : Q → State T) (r w : Option (List ℕ)) (old new : Running Q) (l : Reading) (answer : Result (Option LineCause) AllocError)
+    → IsCounted old → next_line old.lines.rest ≡ Some (l.line, l.rest) → l.taken ≡ old.lines.taken
+    → IfOk answer (CarriesOut ops text state (record { lines = l; queue = old.queue; number = old.number; out = old.out }) new)
+    → OnErr answer (IsCut old.out.items new.out.items)
+    → Turns ops text state r w old r w new (turn_of answer)
+turn_by ops text state r w old new l (Ok None) k found taken ok err =
+    let c = counted ops text state old new l found taken k ok in
+    (λ input output p. answered ops text state input output r w old new l p found ok, c.0, c.1)
+turn_by ops text state r w old new l (Ok (Some cause)) k found taken ok err =
+    (refl, refl, ap (λ x. x.out) ok.1, ap (λ x. x.number) ok.1, faulty ops text state old l cause found ok.0)
+turn_by ops text state r w old new l (Err e) k found taken ok err =
+    λ input output p. no_memory ops text state input output r w old new.out.items err p
+
+pub err_is : {X E A : Type 0} (r : Result X E) → true ≡ is_err r → OnErr r A → A
+err_is (Ok x) e a = absurd (cc)
+err_is (Err x) e a = a
+
+pub ok_is : {X E A : Type 0} (r : Result X E) → false ≡ is_err r → OnOk r A → A
+ok_is (Ok x) e a = a
+ok_is (Err x) e a = absurd (cc)
+
+-- a fact of an error, less a part of it
+pub err_less : {X E A B : Type 0} (r : Result X E) → (A → B) → OnErr r A → OnErr r B
+err_less (Ok x) f a = tt
+err_less (Err e) f a = f a

@@ -1,0 +1,51 @@
+-- The replies of steps can be told: no grant by reservation is beyond its limit.
+use Rattle.std.proofs.Common.{ℕ, Bool, true, false, List, [], ◌∷◌, Option, Some, None, Result, Ok, Err, refl}
+use Rattle.dmc_types.specs.declared.config.AtLimit.{AtLimit}
+use Rattle.dmc_types.specs.declared.config.AtLimit.TheVariants.{Wait, Allow}
+use Rattle.dmc_types.specs.declared.refusal.Refusal.{Refusal}
+use Rattle.dmc_types.specs.declared.command.Command.{Command}
+use Rattle.dmc_types.specs.declared.command.Command.TheVariants.{Register, Update, Add, Pull, Remove, Clean}
+use Rattle.dmc_tag.specs.Tag.{Tagging}
+use Rattle.dmc_tag.specs.Outcome.{◌>>=◌}
+use Rattle.dmc_tag.specs.State.{State, effective}
+use Rattle.dmc_tag.specs.Best.{best, by_reservation, by_shares, is_early, is_free, is_any}
+use Rattle.dmc_tag.specs.Rules.{Outcome, can_register, can_update, can_add, can_remove, can_grant, grant_priority, grant_found, at_limit, nothing_due, pulled_free, pulled_early, pulled}
+use Rattle.dmc_tag.specs.Step.{settled, step}
+use Rattle.dmc_tag.specs.declared.plain.PlainRequest.{PlainRequest}
+use Rattle.dmc_text.specs.Replies.{IsTellable}
+
+told_of : {T A : Type 0} (s : State T) (r : Result A Refusal) (f : A → Outcome T) → ((a : A) → IsTellable ((settled s (f a)).1)) → IsTellable ((settled s (r >>= f)).1)
+told_of s (Ok a) f h = h a
+told_of s (Err e) f h = tt
+
+told_priority : {T : Type 0} (ops : Tagging T) (u s : State T) (t : ℕ) (found : PlainRequest T × List (PlainRequest T)) (beyond : Bool) → IsTellable ((settled u (grant_priority ops s t found beyond)).1)
+told_priority ops u s t found beyond = told_of u (can_grant ops s.config.hz found.0.client s.clients found.1) _ (λ a. tt)
+
+told_found : {T : Type 0} (ops : Tagging T) (u s : State T) (t : ℕ) (found : Option (PlainRequest T × List (PlainRequest T))) → IsTellable ((settled u (grant_found ops s t true found)).1)
+told_found ops u s t None = tt
+told_found ops u s t (Some found) = told_priority ops u s t found true
+
+told_limit : {T : Type 0} (ops : Tagging T) (u s : State T) (t : ℕ) (kind : AtLimit) (x : PlainRequest T) (xs : List (PlainRequest T)) → IsTellable ((settled u (at_limit ops s t kind x xs)).1)
+told_limit ops u s t Wait x xs = tt
+told_limit ops u s t Allow x xs = told_found ops u s t (best (by_shares ops) is_any (x ∷ xs))
+
+told_none : {T : Type 0} (ops : Tagging T) (u s : State T) (t : ℕ) (requests : List (PlainRequest T)) → IsTellable ((settled u (nothing_due ops s t requests)).1)
+told_none ops u s t [] = tt
+told_none ops u s t (x ∷ xs) = told_limit ops u s t s.config.at_limit x xs
+
+told_free : {T : Type 0} (ops : Tagging T) (u s : State T) (t : ℕ) (found : Option (PlainRequest T × List (PlainRequest T))) → IsTellable ((settled u (pulled_free ops s t found)).1)
+told_free ops u s t (Some found) = told_priority ops u s t found false
+told_free ops u s t None = told_none ops u s t s.requests
+
+told_early : {T : Type 0} (ops : Tagging T) (u s : State T) (t : ℕ) (found : Option (PlainRequest T × List (PlainRequest T))) → IsTellable ((settled u (pulled_early ops s t found)).1)
+told_early ops u s t (Some (r, others)) = refl
+told_early ops u s t None = told_free ops u s t (best (by_shares ops) (is_free ops t) s.requests)
+
+-- each reply of a step can be told
+pub tellable : {T : Type 0} (ops : Tagging T) (s : State T) (command : Command) → IsTellable ((step ops s command).1)
+tellable ops s (Register client info at) = told_of s (can_register ops s client info) _ (λ a. tt)
+tellable ops s (Update client info at) = told_of s (can_update ops s client info) _ (λ a. tt)
+tellable ops s (Add client token params at) = told_of s (can_add ops s client params (ops.of_moment (effective s at))) _ (λ a. tt)
+tellable ops s (Pull at) = told_early ops s s (effective s at) (best (by_reservation ops) (is_early ops (effective s at)) s.requests)
+tellable ops s (Remove client) = told_of s (can_remove s client) _ (λ a. tt)
+tellable ops s (Clean at) = tt

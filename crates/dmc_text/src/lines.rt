@@ -1,0 +1,203 @@
+//! The lines of a reader, read in pieces into a buffer that is made once.
+ghost use Rattle.std.specs.Prelude.{◌≡◌, ℕ, List, false, ◌+◌, ◌-◌, ◌^◌, ◌<◌, ◌≤◌, [], ◌++◌, length, take, drop, slice_range, IfOk, OnOk, OnErr, MatchResult, vec_len, position, nat_lt};
+ghost use Rattle.std.specs.Io.KnownBytes.{Keeps, Consumes, IsAtEnd, ReadConsumes};
+ghost use Rattle.dmc_text.specs.Reading.{Reading, is_end, Finds, FindsLast, Fills};
+
+use std::alloc::{AllocError, Global};
+use std::io::{self, ErrorKind, Read};
+use std::marker::Model;
+
+/// How many bytes are kept at most.
+const CAPACITY: usize = 1 << 16;
+
+/// The most bytes of a line, without its LF.
+const LONGEST: usize = 256;
+
+/// The most bytes of a text.
+const MOST: u64 = 1 << 32;
+
+/// Reads the lines of a text. Contracts see the line that was found last, what is read and not handed out yet, how many
+/// bytes there is room for behind it, and how many were read.
+#[derive(Drop)]
+pub struct LineReader {
+    buffer: Vec<u8>,
+    line_start: usize,
+    line_end: usize,
+    start: usize,
+    end: usize,
+    taken: u64,
+}
+
+impl Model for LineReader {
+    ghost use Rattle.std.specs.Prelude.{◌≡◌, ◌≤◌, ◌-◌, ◌^◌, length, slice_range};
+    ghost use Rattle.dmc_text.specs.Reading.{Reading};
+
+    ghost Value = { Reading };
+
+    ghost view = { λ r. record { line = slice_range r.buffer.items r.line_start r.line_end; rest = slice_range r.buffer.items r.start r.end; room = 65536 - r.end; taken = r.taken } };
+
+    ghost invariant = { λ r. (length r.buffer.items ≡ 65536) × (r.line_start ≤ r.line_end) × (r.line_end ≤ 65536) × (r.start ≤ r.end) × (r.end ≤ 65536) × (r.taken ≤ 2 ^ 32) };
+}
+
+/// A buffer of zeros.
+fn zeros(alloc: Global) -> Result<Vec<u8>, AllocError>
+    ensures { IfOk result (λ buffer. vec_len buffer ≡ 65536) }
+{
+    let mut buffer = Vec::with_capacity(alloc, CAPACITY)?;
+    buffer.resize(CAPACITY, 0)?;
+    Ok(buffer)
+}
+
+/// Where the first LF stands.
+fn first_end(text: &[u8]) -> Option<usize>
+    ensures { result ≡ position is_end text.now }
+{
+    text.iter().position(|byte| *byte == b'\n')
+}
+
+impl LineReader {
+    /// A reader of lines that has read nothing yet.
+    pub fn new(alloc: Global) -> Result<LineReader, AllocError>
+        ensures { IfOk result (λ r. r ≡ record { line = []; rest = []; room = 65536; taken = 0 }) }
+    {
+        Ok(LineReader {
+            buffer: zeros(alloc)?,
+            line_start: 0,
+            line_end: 0,
+            start: 0,
+            end: 0,
+            taken: 0,
+        })
+    }
+
+    /// The line that was found last, without its LF.
+    pub fn line(&self) -> &[u8]
+        ensures { result.now ≡ self.now.line }
+    {
+        &self.buffer[self.line_start..self.line_end]
+    }
+
+    /// What is read and not handed out yet.
+    fn rest(&self) -> &[u8]
+        ensures { result.now ≡ self.now.rest }
+    {
+        &self.buffer[self.start..self.end]
+    }
+
+    /// Finds the next whole line in what is read.
+    pub fn find(&mut self) -> bool
+        ensures { Finds self.old self.new result }
+    {
+        let Some(len) = first_end(self.rest()) else {
+            return false;
+        };
+        self.line_start = self.start;
+        self.line_end = self.start + len;
+        self.start = self.line_end + 1;
+        true
+    }
+
+    /// Finds the last line of a text that is read to its end, which lacks its LF.
+    pub fn find_last(&mut self) -> bool
+        ensures { FindsLast self.old self.new result }
+    {
+        if self.start == self.end {
+            return false;
+        }
+        self.line_start = self.start;
+        self.line_end = self.end;
+        self.start = self.end;
+        true
+    }
+
+    /// Whether what is left has more bytes than a line may have.
+    pub fn is_long(&self) -> bool
+        ensures value { result ≡ nat_lt 256 (length self.now.rest) }
+    {
+        self.end - self.start > LONGEST
+    }
+
+    /// Moves what is left to the front of the buffer.
+    fn move_to_front(&mut self)
+        ensures rest { self.new.rest ≡ self.old.rest }
+        ensures room { self.new.room ≡ 65536 - length self.old.rest }
+        ensures taken { self.new.taken ≡ self.old.taken }
+    {
+        self.buffer.copy_within(self.start..self.end, 0);
+        self.end -= self.start;
+        self.start = 0;
+        self.line_start = 0;
+        self.line_end = 0;
+    }
+
+    /// Reads more of the text behind what is left; false at its end. A text of more than 2^32 bytes is an error once they
+    /// are read.
+    pub fn fill<R: Read>(&mut self, reader: &mut R) -> io::Result<bool>
+        requires { length self.old.rest ≤ 256 }
+        ensures bytes { Fills (R.remaining reader.old) (R.remaining reader.new) self.old self.new result }
+        ensures taken { self.new.taken ≤ 2 ^ 32 }
+    {
+        self.move_to_front();
+        if self.taken == MOST {
+            return reads_too_much(reader);
+        }
+        let most = MOST - self.taken;
+        match read_at(reader, &mut self.buffer, self.end, most) {
+            Ok(0) => Ok(false),
+            Ok(n) => {
+                self.end += n;
+                self.taken += n as u64;
+                Ok(true)
+            }
+            Err(fault) => Err(fault),
+        }
+    }
+}
+
+/// Reads once, again where a read was interrupted.
+fn read_once<R: Read>(reader: &mut R, buffer: &mut [u8]) -> io::Result<usize>
+    ensures bound { IfOk result (λ n. n ≤ length buffer.new) }
+    ensures bytes { ReadConsumes (R.remaining reader.old) (R.remaining reader.new) result buffer.new }
+    ensures len { length buffer.new ≡ length buffer.old }
+{
+    for _ in 0..u64::MAX {
+        match reader.read(buffer) {
+            Err(fault) if fault.kind() == ErrorKind::Interrupted => {}
+            result => return result,
+        }
+    }
+    reader.read(buffer)
+}
+
+/// Reads at most so many bytes into the buffer from a place on.
+fn read_at<R: Read>(
+    reader: &mut R,
+    buffer: &mut Vec<u8>,
+    at: usize,
+    most: u64,
+) -> io::Result<usize>
+    requires { at ≤ vec_len buffer.old }
+    ensures len { vec_len buffer.new ≡ vec_len buffer.old }
+    ensures front { take at buffer.new.items ≡ take at buffer.old.items }
+    ensures bound { IfOk result (λ n. (n ≤ most) × (at + n ≤ vec_len buffer.new)) }
+    ensures bytes { MatchResult result
+        (λ n. Consumes (R.remaining reader.old) (R.remaining reader.new) (take n (drop at buffer.new.items)))
+        (λ _. Keeps (R.remaining reader.old) (R.remaining reader.new)) }
+    ensures end { IfOk result (λ n. n ≡ 0 → at < vec_len buffer.old → 0 < most → IsAtEnd (R.remaining reader.new)) }
+{
+    let room = buffer.len() - at;
+    let most = room.min(usize::try_from(most).unwrap_or(room));
+    read_once(reader, &mut buffer[at..at + most])
+}
+
+/// Whether a text that has all the bytes that it may have goes on. That is an error.
+fn reads_too_much<R: Read>(reader: &mut R) -> io::Result<bool>
+    ensures { MatchResult result (λ more. (more ≡ false) × IsAtEnd (R.remaining reader.new) × Keeps (R.remaining reader.old) (R.remaining reader.new))
+        (λ _. (bytes : List ℕ) × Consumes (R.remaining reader.old) (R.remaining reader.new) bytes) }
+{
+    let mut one = [0];
+    if read_once(reader, &mut one)? > 0 {
+        return Err(io::Error::from(ErrorKind::FileTooLarge));
+    }
+    Ok(false)
+}

@@ -1,9 +1,20 @@
+# The program, proved and built: crates/dmc_cli/out/dmc_cli, which ./dmclock runs.
+program:
+	cd crates/dmc_cli && rt run -- script < stdin
+
 # The gate: every proof from nothing, the must-fail edits, the tests and the programs.
 test:
 	rt ci
+
+# The main job on an example, by a build that is not proved. It takes about a minute.
+demo:
+	@echo "an unproved build, for a first look; make builds the proved one" >&2
+	@cat examples/two_clients.script
+	@echo "--- the replies:"
+	@cd crates/dmc_cli && rt try -- script < ../../examples/two_clients.script
 
 # Every crate's tests with each allocation refused in turn. It proves nothing.
 refusals:
 	scripts/refusals
 
-.PHONY: test refusals
+.PHONY: program test demo refusals

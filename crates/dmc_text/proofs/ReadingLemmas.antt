@@ -1,14 +1,12 @@
 -- Lines in a buffer, and of a text that is read in pieces.
-use Rattle.std.proofs.Common.{◌≡◌, ℕ, zero, suc, Ok, ◌+◌, ◌-◌, ◌<◌, ◌≤◌, Bool, true, false, not, cond, List, [], ◌∷◌, ◌++◌, refl, sym, ap, subst, ◌∙◌, arith, append-nil, length, take, drop, Option, Some, None, position, eqb}
+use Rattle.std.proofs.Common.{◌≡◌, ℕ, Ok, ◌+◌, ◌-◌, ◌≤◌, List, [], ◌++◌, sym, ap, subst, ◌∙◌, arith, length, take, drop, Option, Some, None, position}
 use Rattle.std.specs.Prelude.{slice_range, OnErr, Result, Err}
 use Rattle.std.specs.Option.{option_map}
-use Rattle.std.specs.List.{position_or_len}
 use Rattle.std.proofs.lemmas.List.{take-take, drop-drop, drop-take, append_assoc, take-append-drop, take_rest}
 use Rattle.std.proofs.Math.Seq.{take-add}
 use Rattle.std.specs.Io.KnownBytes.{Keeps, Consumes, Appends}
 use Rattle.dmc_text.specs.Texts.{AppendsSome}
-use Rattle.std.proofs.lemmas.List.Quantifiers.{position-Some}
-use Rattle.dmc_text.specs.Reading.{Reading, Filled, is_end, next_line}
+use Rattle.dmc_text.specs.Reading.{is_end, next_line}
 
 -- the first n of a range
 pub front_of_range : (items : List ℕ) (start end n : ℕ) → start + n ≤ end → take n (slice_range items start end) ≡ slice_range items start (start + n)

@@ -1,25 +1,23 @@
 -- How a run ends.
-use Rattle.std.proofs.Common.{◌≡◌, ℕ, suc, ◌+◌, ◌<◌, Bool, true, false, cond, List, [], ◌∷◌, ◌++◌, refl, sym, ap, subst, ◌∙◌, arith, length, append-nil, Option, Some, None, is_some, Result, Ok, Err}
-use Rattle.std.specs.Prelude.{IfOk, IfSome, OnErr, OnOk, ⊤}
+use Rattle.std.proofs.Common.{◌≡◌, ℕ, suc, ◌<◌, Bool, true, false, List, [], ◌∷◌, ◌++◌, refl, sym, ap, subst, ◌∙◌, arith, length, append-nil, Option, Some, None, is_some, Result, Ok, Err}
+use Rattle.std.specs.Prelude.{IfSome, ⊤}
 use Rattle.std.specs.Option.{option_map}
-use Rattle.std.specs.Io.KnownBytes.{Consumes, Appends, IsAtEnd, Keeps}
-use Rattle.std.specs.declared.alloc.AllocError.{AllocError}
+use Rattle.std.specs.Io.KnownBytes.{Consumes, Appends, IsAtEnd}
 use Rattle.std.proofs.lemmas.List.{append_assoc}
 use Rattle.dmc_tag.specs.Tag.{Tagging}
 use Rattle.dmc_tag.specs.State.{State}
 use Rattle.dmc_text.specs.declared.cause.LineCause.{LineCause}
 use Rattle.dmc_text.specs.declared.cause.LineCause.TheVariants.{Hz}
-use Rattle.dmc_text.specs.declared.line.Line.{Line}
 use Rattle.dmc_text.specs.declared.script.Running.{Running}
 use Rattle.dmc_text.specs.declared.script.ScriptFault.{ScriptFault}
 use Rattle.dmc_text.specs.declared.script.ScriptFault.TheVariants as ends
 use Rattle.dmc_text.specs.Lines.{line_of}
 use Rattle.dmc_text.specs.Reading.{Reading, next_line}
 use Rattle.dmc_text.specs.Texts.{and_on, fault_or, headed_by, lines_of, commands, written, written_for, first_fault, fault_of, whole_lines, out, AppendsSome, RunsAs}
-use Rattle.dmc_text.specs.Runs.{seen, Progress, CarriedOut, CarriesOut, IsCut, IsFaultHere, Stopped, Starts, Goes, Ended, Ends, Finished, closed_of, settled_of}
+use Rattle.dmc_text.specs.Runs.{seen, Progress, CarriedOut, IsFaultHere, Stopped, Starts, Goes, Ended, Ends, Finished, closed_of, settled_of}
 use Rattle.dmc_text.proofs.ReadingLemmas.{appends_twice}
 use Rattle.dmc_text.proofs.LineLemmas.{no_line, one_line}
-use Rattle.dmc_text.proofs.RunSteps.{fault_first, no_memory}
+use Rattle.dmc_text.proofs.RunSteps.{fault_first}
 
 -- ---- the beginning
 
@@ -49,8 +47,8 @@ pub fault_ends : {T Q : Type 0} (ops : Tagging T) (text : T → List ℕ) (state
     → Progress ops text state input output r w run → IsFaultHere ops text state run cause → Ended ops text (Some (run.number, cause)) input output r w run.out.items
 fault_ends ops text state input output r w run cause p here =
     let told = λ (more : List ℕ).
-        let none : p.sent ++ (run.out.items ++ written_for ops text (seen state run) (run.lines.rest ++ more)) ≡ p.sent ++ run.out.items = ap (λ o. p.sent ++ (run.out.items ++ o)) (here more).1 ∙ ap (λ o. p.sent ++ o) (append-nil run.out.items) in
-        sym none ∙ p.out_is (run.lines.rest ++ more) ∙ ap (out ops text) (sym (append_assoc p.done run.lines.rest more)) in
+    let none : p.sent ++ (run.out.items ++ written_for ops text (seen state run) (run.lines.rest ++ more)) ≡ p.sent ++ run.out.items = ap (λ o. p.sent ++ (run.out.items ++ o)) (here more).1 ∙ ap (λ o. p.sent ++ o) (append-nil run.out.items) in
+    sym none ∙ p.out_is (run.lines.rest ++ more) ∙ ap (out ops text) (sym (append_assoc p.done run.lines.rest more)) in
     record {
       read = p.done ++ run.lines.rest;
       sent = p.sent;
@@ -96,16 +94,16 @@ finished_last ops text state input output r w old new l none some line-is c p =
       reads = p.reads;
       sends = p.sends;
       out_is =
-        ap (λ o. p.sent ++ o) (sym (append-nil new.out.items) ∙ c.out_is [])
-        ∙ ap (λ o. p.sent ++ (old.out.items ++ written ops text (seen state old) (and_on o (λ k. commands (headed_by h k) [])))) (sym said-is)
-        ∙ ap (λ ls. p.sent ++ (old.out.items ++ written ops text (seen state old) (commands h ls))) (sym one)
-        ∙ p.out_is old.lines.rest;
+          ap (λ o. p.sent ++ o) (sym (append-nil new.out.items) ∙ c.out_is [])
+          ∙ ap (λ o. p.sent ++ (old.out.items ++ written ops text (seen state old) (and_on o (λ k. commands (headed_by h k) [])))) (sym said-is)
+          ∙ ap (λ ls. p.sent ++ (old.out.items ++ written ops text (seen state old) (commands h ls))) (sym one)
+          ∙ p.out_is old.lines.rest;
       fault_is =
-        ap (λ b. first_fault b new.number []) c.headed
-        ∙ ap (λ n. first_fault (headed_by h c.said) n []) c.number
-        ∙ ap (λ o. fault_or old.number o (λ k. first_fault (headed_by h k) (suc old.number) [])) (sym said-is)
-        ∙ ap (first_fault h old.number) (sym one)
-        ∙ p.fault_is old.lines.rest;
+          ap (λ b. first_fault b new.number []) c.headed
+          ∙ ap (λ n. first_fault (headed_by h c.said) n []) c.number
+          ∙ ap (λ o. fault_or old.number o (λ k. first_fault (headed_by h k) (suc old.number) [])) (sym said-is)
+          ∙ ap (first_fault h old.number) (sym one)
+          ∙ p.fault_is old.lines.rest;
     }
 
 -- the last line is faulty
@@ -115,7 +113,7 @@ pub fault_last : {T Q : Type 0} (ops : Tagging T) (text : T → List ℕ) (state
 fault_last ops text state input output r w old cause end none some e p =
     let here = fault_first ops text (seen state old) old.number cause old.lines.rest old.lines.rest [] (last_line old.lines.rest none some) e in
     let told : p.sent ++ old.out.items ≡ out ops text (p.done ++ old.lines.rest) =
-        ap (λ o. p.sent ++ o) (sym (append-nil old.out.items) ∙ ap (λ o. old.out.items ++ o) (sym here.1)) ∙ p.out_is old.lines.rest in
+    ap (λ o. p.sent ++ o) (sym (append-nil old.out.items) ∙ ap (λ o. old.out.items ++ o) (sym here.1)) ∙ p.out_is old.lines.rest in
     let faulty : fault_of (p.done ++ old.lines.rest) ≡ Some (old.number, cause) = sym (p.fault_is old.lines.rest) ∙ here.0 in
     let same = λ (more : List ℕ) (goes : Goes r more). sym (ap (λ m. (p.done ++ old.lines.rest) ++ m) (nothing_more r more end goes) ∙ append-nil (p.done ++ old.lines.rest)) in
     record {
@@ -161,15 +159,18 @@ known_end (Some xs) None read h P f = absurd h
 known_end (Some xs) (Some ys) read h P f = subst P (sym h) (f ys refl)
 
 more_sent : (output w w' : Option (List ℕ)) (sent pending unsaid bytes : List ℕ) → Appends output w sent → AppendsSome w w' pending → sent ++ (pending ++ unsaid) ≡ bytes → AppendsSome output w' bytes
-more_sent output w w' sent pending unsaid bytes h (s1, s2, app, parts) e =
-    (sent ++ s1, s2 ++ unsaid, appends_twice output w w' sent s1 h app,
-     append_assoc sent s1 (s2 ++ unsaid) ∙ ap (λ o. sent ++ o) (sym (append_assoc s1 s2 unsaid) ∙ ap (λ o. o ++ unsaid) parts) ∙ e)
+more_sent output w w' sent pending unsaid bytes h (s1, s2, app, parts) e = (
+  sent ++ s1,
+  s2 ++ unsaid,
+  appends_twice output w w' sent s1 h app,
+  append_assoc sent s1 (s2 ++ unsaid) ∙ ap (λ o. sent ++ o) (sym (append_assoc s1 s2 unsaid) ∙ ap (λ o. o ++ unsaid) parts) ∙ e,
+)
 
 all_sent : {T : Type 0} (ops : Tagging T) (text : T → List ℕ) (fault : Option (ℕ × LineCause)) (input output r w w' : Option (List ℕ)) (pending : List ℕ)
     → Ended ops text fault input output r w pending → Appends w w' pending → IfSome input (λ i. (fault_of i ≡ fault) × Appends output w' (out ops text i))
 all_sent ops text fault input output r w w' pending e app =
     known_end input r e.read e.reads (λ i. (fault_of i ≡ fault) × Appends output w' (out ops text i))
-        (λ more goes. (e.fault_is more goes, subst (Appends output w') (e.out_is more goes) (appends_twice output w w' e.sent pending e.sends app)))
+    (λ more goes. (e.fault_is more goes, subst (Appends output w') (e.out_is more goes) (appends_twice output w w' e.sent pending e.sends app)))
 
 some_sent : {T : Type 0} (ops : Tagging T) (text : T → List ℕ) (fault : Option (ℕ × LineCause)) (input output r w w' : Option (List ℕ)) (pending : List ℕ)
     → Ended ops text fault input output r w pending → AppendsSome w w' pending → (read : List ℕ) × Consumes input r read × AppendsSome output w' (out ops text read)

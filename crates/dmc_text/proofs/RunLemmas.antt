@@ -1,12 +1,11 @@
 -- Runs of scripts.
-use Rattle.std.proofs.Common.{◌≡◌, ℕ, suc, ◌+◌, ◌<◌, Bool, true, false, not, cond, List, [], ◌∷◌, ◌++◌, refl, sym, ap, subst, ◌∙◌, arith, append_assoc, Option, Some, None, Result, Ok, Err}
+use Rattle.std.proofs.Common.{◌≡◌, ℕ, List, [], ◌∷◌, ◌++◌, refl, ap, ◌∙◌, append_assoc, Some, Result, Ok, Err}
 use Rattle.std.specs.Prelude.{OnOk}
 use Rattle.dmc_types.specs.declared.command.Command.{Command}
 use Rattle.dmc_tag.specs.Tag.{Tagging}
-use Rattle.dmc_tag.specs.State.{State, StandsFor, opening}
+use Rattle.dmc_tag.specs.State.{State, StandsFor}
 use Rattle.dmc_tag.specs.Step.{step}
 use Rattle.dmc_tag.specs.Laws.{SameStep}
-use Rattle.dmc_tag.specs.declared.reply.Reply.{Reply}
 use Rattle.dmc_text.specs.declared.line.Line.{Line}
 use Rattle.dmc_text.specs.declared.line.Line.TheVariants.{Skip, Config, Ask, Value}
 use Rattle.dmc_text.specs.Replies.{reply_text}

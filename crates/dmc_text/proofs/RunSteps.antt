@@ -1,6 +1,6 @@
 -- The steps of a run, and what they keep.
-use Rattle.std.proofs.Common.{◌≡◌, ℕ, suc, ◌+◌, ◌-◌, ◌*◌, ◌^◌, ◌<◌, ◌≤◌, Bool, true, false, cond, List, [], ◌∷◌, ◌++◌, refl, sym, ap, subst, ◌∙◌, arith, length, length-append, Option, Some, None, is_some, Result, Ok, Err, inl, inr, leb}
-use Rattle.std.specs.Prelude.{◌⊎◌, ◌&&◌, IfOk, OnErr, OnOk, is_err}
+use Rattle.std.proofs.Common.{◌≡◌, ℕ, suc, ◌<◌, Bool, true, false, cond, List, [], ◌∷◌, ◌++◌, refl, sym, ap, subst, ◌∙◌, arith, length, length-append, Option, Some, None, is_some, Result, Ok, Err, inl, inr}
+use Rattle.std.specs.Prelude.{◌&&◌, IfOk, OnErr, OnOk, is_err}
 use Rattle.std.specs.Option.{option_map}
 use Rattle.std.specs.List.{list_all}
 use Rattle.std.specs.Io.KnownBytes.{Consumes, Appends}
@@ -10,7 +10,6 @@ use Rattle.dmc_tag.specs.Tag.{Tagging}
 use Rattle.dmc_tag.specs.State.{State}
 use Rattle.dmc_text.specs.declared.cause.LineCause.{LineCause}
 use Rattle.dmc_text.specs.declared.cause.LineCause.TheVariants.{Bytes}
-use Rattle.dmc_text.specs.declared.line.Line.{Line}
 use Rattle.dmc_text.specs.declared.script.Running.{Running}
 use Rattle.dmc_text.specs.Lines.{line_of, said, is_clean, is_line_byte}
 use Rattle.dmc_text.specs.Words.{words}
@@ -52,7 +51,7 @@ answered ops text state input output r w old new l p found c =
     let f = first_line old.lines.rest l.line l.rest found in
     let h : Bool = is_some (seen state old) in
     let rest-is : p.done ++ old.lines.rest ≡ (p.done ++ (l.line ++ 10 ∷ [])) ++ new.lines.rest =
-        ap (λ w. p.done ++ w) f.whole ∙ behind_line p.done l.line l.rest ∙ ap (λ k. (p.done ++ (l.line ++ 10 ∷ [])) ++ k.rest) (sym c.lines) in
+    ap (λ w. p.done ++ w) f.whole ∙ behind_line p.done l.line l.rest ∙ ap (λ k. (p.done ++ (l.line ++ 10 ∷ [])) ++ k.rest) (sym c.lines) in
     record {
       done = p.done ++ (l.line ++ 10 ∷ []);
       sent = p.sent;
@@ -60,19 +59,19 @@ answered ops text state input output r w old new l p found c =
       reads = subst (Consumes input r) rest-is p.reads;
       sends = p.sends;
       out_is = λ more.
-        ap (λ b. p.sent ++ (new.out.items ++ written ops text (seen state new) (commands b (lines_of more)))) c.headed
-        ∙ ap (λ w. p.sent ++ w) (c.out_is (commands (headed_by h c.said) (lines_of more)))
-        ∙ ap (λ o. p.sent ++ (old.out.items ++ written ops text (seen state old) (and_on o (λ k. commands (headed_by h k) (lines_of more))))) (sym c.is_said)
-        ∙ ap (λ ls. p.sent ++ (old.out.items ++ written ops text (seen state old) (commands h ls))) (sym (line_first l.line more f.plain))
-        ∙ p.out_is (l.line ++ (10 ∷ more))
-        ∙ ap (out ops text) (behind_line p.done l.line more);
+          ap (λ b. p.sent ++ (new.out.items ++ written ops text (seen state new) (commands b (lines_of more)))) c.headed
+          ∙ ap (λ w. p.sent ++ w) (c.out_is (commands (headed_by h c.said) (lines_of more)))
+          ∙ ap (λ o. p.sent ++ (old.out.items ++ written ops text (seen state old) (and_on o (λ k. commands (headed_by h k) (lines_of more))))) (sym c.is_said)
+          ∙ ap (λ ls. p.sent ++ (old.out.items ++ written ops text (seen state old) (commands h ls))) (sym (line_first l.line more f.plain))
+          ∙ p.out_is (l.line ++ (10 ∷ more))
+          ∙ ap (out ops text) (behind_line p.done l.line more);
       fault_is = λ more.
-        ap (λ b. first_fault b new.number (lines_of more)) c.headed
-        ∙ ap (λ n. first_fault (headed_by h c.said) n (lines_of more)) c.number
-        ∙ ap (λ o. fault_or old.number o (λ k. first_fault (headed_by h k) (suc old.number) (lines_of more))) (sym c.is_said)
-        ∙ ap (first_fault h old.number) (sym (line_first l.line more f.plain))
-        ∙ p.fault_is (l.line ++ (10 ∷ more))
-        ∙ ap fault_of (behind_line p.done l.line more);
+          ap (λ b. first_fault b new.number (lines_of more)) c.headed
+          ∙ ap (λ n. first_fault (headed_by h c.said) n (lines_of more)) c.number
+          ∙ ap (λ o. fault_or old.number o (λ k. first_fault (headed_by h k) (suc old.number) (lines_of more))) (sym c.is_said)
+          ∙ ap (first_fault h old.number) (sym (line_first l.line more f.plain))
+          ∙ p.fault_is (l.line ++ (10 ∷ more))
+          ∙ ap fault_of (behind_line p.done l.line more);
     }
 
 pub counted : {T Q : Type 0} (ops : Tagging T) (text : T → List ℕ) (state : Q → State T) (old new : Running Q) (l : Reading)
@@ -88,9 +87,10 @@ counted ops text state old new l found taken k c =
 -- the first line is faulty
 pub fault_first : {T : Type 0} (ops : Tagging T) (text : T → List ℕ) (s : Option (State T)) (n : ℕ) (cause : LineCause) (bytes line : List ℕ) (others : List (List ℕ))
     → lines_of bytes ≡ line ∷ others → line_of (is_some s) line ≡ Err cause → (first_fault (is_some s) n (lines_of bytes) ≡ Some (n, cause)) × (written_for ops text s bytes ≡ [])
-fault_first ops text s n cause bytes line others split e =
-    (ap (first_fault (is_some s) n) split ∙ ap (λ o. fault_or n o (λ k. first_fault (headed_by (is_some s) k) (suc n) others)) e,
-     ap (λ ls. written ops text s (commands (is_some s) ls)) split ∙ ap (λ o. written ops text s (and_on o (λ k. commands (headed_by (is_some s) k) others))) e)
+fault_first ops text s n cause bytes line others split e = (
+  ap (first_fault (is_some s) n) split ∙ ap (λ o. fault_or n o (λ k. first_fault (headed_by (is_some s) k) (suc n) others)) e,
+  ap (λ ls. written ops text s (commands (is_some s) ls)) split ∙ ap (λ o. written ops text s (and_on o (λ k. commands (headed_by (is_some s) k) others))) e,
+)
 
 pub faulty : {T Q : Type 0} (ops : Tagging T) (text : T → List ℕ) (state : Q → State T) (old : Running Q) (l : Reading) (cause : LineCause)
     → next_line old.lines.rest ≡ Some (l.line, l.rest) → line_of (is_some (seen state old)) l.line ≡ Err cause → IsFaultHere ops text state old cause
@@ -125,14 +125,14 @@ read_more ops text state input output r w r' w' old new bytes queue-is number-is
       reads = subst (Consumes input r') (append_assoc p.done old.lines.rest bytes ∙ ap (λ w. p.done ++ w) (sym rest-is)) (consumes_twice input r r' (p.done ++ old.lines.rest) bytes p.reads taken);
       sends = appends_twice output w w' p.sent old.out.items p.sends sent;
       out_is = λ more.
-        ap (λ o. (p.sent ++ old.out.items) ++ (o ++ written_for ops text (seen state new) more)) empty
-        ∙ append_assoc p.sent old.out.items (written_for ops text (seen state new) more)
-        ∙ ap (λ q. p.sent ++ (old.out.items ++ written_for ops text (option_map state q) more)) queue-is
-        ∙ p.out_is more;
+          ap (λ o. (p.sent ++ old.out.items) ++ (o ++ written_for ops text (seen state new) more)) empty
+          ∙ append_assoc p.sent old.out.items (written_for ops text (seen state new) more)
+          ∙ ap (λ q. p.sent ++ (old.out.items ++ written_for ops text (option_map state q) more)) queue-is
+          ∙ p.out_is more;
       fault_is = λ more.
-        ap (λ q. first_fault (is_some (option_map state q)) new.number (lines_of more)) queue-is
-        ∙ ap (λ n. first_fault (is_some (seen state old)) n (lines_of more)) number-is
-        ∙ p.fault_is more;
+          ap (λ q. first_fault (is_some (option_map state q)) new.number (lines_of more)) queue-is
+          ∙ ap (λ n. first_fault (is_some (seen state old)) n (lines_of more)) number-is
+          ∙ p.fault_is more;
     }
 
 -- ---- what ends a run before its end
@@ -160,10 +160,10 @@ not_written ops text state input output r w w' old new empty (s1, s2, app, parts
       reads = p.reads;
       sends = appends_twice output w w' p.sent s1 p.sends app;
       out_is =
-        ap (λ o. (p.sent ++ s1) ++ (o ++ (s2 ++ rest))) empty
-        ∙ append_assoc p.sent s1 (s2 ++ rest)
-        ∙ ap (λ o. p.sent ++ o) (sym (append_assoc s1 s2 rest) ∙ ap (λ o. o ++ rest) parts)
-        ∙ p.out_is old.lines.rest;
+          ap (λ o. (p.sent ++ s1) ++ (o ++ (s2 ++ rest))) empty
+          ∙ append_assoc p.sent s1 (s2 ++ rest)
+          ∙ ap (λ o. p.sent ++ o) (sym (append_assoc s1 s2 rest) ∙ ap (λ o. o ++ rest) parts)
+          ∙ p.out_is old.lines.rest;
     }
 
 pub not_read : {T Q : Type 0} (ops : Tagging T) (text : T → List ℕ) (state : Q → State T) (input output r w r' w' : Option (List ℕ)) (old : Running Q) (new bytes : List ℕ) → new ≡ []
@@ -178,10 +178,10 @@ not_read ops text state input output r w r' w' old new bytes empty app taken p =
       reads = consumes_twice input r r' (p.done ++ old.lines.rest) bytes p.reads taken;
       sends = appends_twice output w w' p.sent old.out.items p.sends app;
       out_is =
-        ap (λ o. (p.sent ++ old.out.items) ++ (o ++ rest)) empty
-        ∙ append_assoc p.sent old.out.items rest
-        ∙ p.out_is more
-        ∙ ap (out ops text) (sym (ap whole_lines (append_assoc p.done old.lines.rest bytes) ∙ whole_on p.done (old.lines.rest ++ bytes) p.whole));
+          ap (λ o. (p.sent ++ old.out.items) ++ (o ++ rest)) empty
+          ∙ append_assoc p.sent old.out.items rest
+          ∙ p.out_is more
+          ∙ ap (out ops text) (sym (ap whole_lines (append_assoc p.done old.lines.rest bytes) ∙ whole_on p.done (old.lines.rest ++ bytes) p.whole));
     }
 
 -- ---- turns

@@ -9,7 +9,7 @@ use Rattle.dmc_tag.specs.Tag.{Tagging}
 use Rattle.dmc_tag.specs.Outcome.{◌>>=◌}
 use Rattle.dmc_tag.specs.State.{State, effective}
 use Rattle.dmc_tag.specs.Best.{best, by_reservation, by_shares, is_early, is_free, is_any}
-use Rattle.dmc_tag.specs.Rules.{Outcome, can_register, can_update, can_add, can_remove, can_grant, grant_priority, grant_found, at_limit, nothing_due, pulled_free, pulled_early, pulled}
+use Rattle.dmc_tag.specs.Rules.{Outcome, can_register, can_update, can_add, can_remove, can_grant, grant_priority, grant_found, at_limit, nothing_due, pulled_free, pulled_early}
 use Rattle.dmc_tag.specs.Step.{settled, step}
 use Rattle.dmc_tag.specs.declared.plain.PlainRequest.{PlainRequest}
 use Rattle.dmc_text.specs.Replies.{IsTellable}

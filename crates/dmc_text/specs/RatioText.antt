@@ -1,5 +1,5 @@
 -- The text of a ratio tag: a fraction in lowest terms.
-use Rattle.std.proofs.Common.{◌≡◌, ℕ, zero, suc, ◌*◌, ◌/◌, ◌<◌, Bool, true, false, cond, eqb, ℤ, pos, negsuc, Option, Some, None, refl, sym, ap, ◌∙◌, arith}
+use Rattle.std.proofs.Common.{◌≡◌, ℕ, zero, suc, ◌*◌, ◌/◌, Bool, true, false, cond, eqb, ℤ, pos, negsuc, Option, Some, None, refl, sym, ap, ◌∙◌, arith}
 use Rattle.std.specs.Prelude.{◌==◌, if◌then◌else◌, option_and_then, unsigned_abs, T, ◌≤◌, ◌&&◌, nat_le}
 use Rattle.std.proofs.Math.Nat.{div-mul_cancel}
 use Rattle.std.proofs.lemmas.Bool.{eqb-true, eq-eqb, le-leb}
@@ -38,13 +38,13 @@ kept_by : (n : ℤ) (d : ℕ) (a : Ratio) (small whole : Bool) → is_small (low
 kept_by n d a false whole s w e = let none : None ≡ Some a = ap (λ b. option_and_then (λ x. cond (eqb x.denom (suc d)) (Some x) None) (cond b (Some (lowest_terms n d)) None)) (sym s) ∙ e in absurd (cc)
 kept_by n d a true false s w e =
     let none : None ≡ Some a =
-        ap (λ b. cond b (Some (lowest_terms n d)) None) (sym w)
-        ∙ ap (λ b. option_and_then (λ x. cond (eqb x.denom (suc d)) (Some x) None) (cond b (Some (lowest_terms n d)) None)) (sym s) ∙ e in
+    ap (λ b. cond b (Some (lowest_terms n d)) None) (sym w)
+    ∙ ap (λ b. option_and_then (λ x. cond (eqb x.denom (suc d)) (Some x) None) (cond b (Some (lowest_terms n d)) None)) (sym s) ∙ e in
     absurd (cc)
 kept_by n d a true true s w e =
     let some : Some (lowest_terms n d) ≡ Some a =
-        ap (λ b. cond b (Some (lowest_terms n d)) None) (sym w)
-        ∙ ap (λ b. option_and_then (λ x. cond (eqb x.denom (suc d)) (Some x) None) (cond b (Some (lowest_terms n d)) None)) (sym s) ∙ e in
+    ap (λ b. cond b (Some (lowest_terms n d)) None) (sym w)
+    ∙ ap (λ b. option_and_then (λ x. cond (eqb x.denom (suc d)) (Some x) None) (cond b (Some (lowest_terms n d)) None)) (sym s) ∙ e in
     let same : lowest_terms n d ≡ a = of_some (lowest_terms n d) a some in
     let whole : suc d / gcd (unsigned_abs n) (suc d) ≡ suc d = eqb-true _ _ w in
     let one = same_denominator n d whole in
@@ -77,6 +77,6 @@ kept_again a small = again a.numer a.denom a.lowest small
 pub made_again : (a : Ratio) (n : ℤ) (d : ℕ) → n ≡ a.numer → d ≡ a.denom → unsigned_abs n ≤ greatest_numer → d ≤ greatest_denom → kept n d ≡ Some a
 made_again a n d n-is d-is over under =
     let small : is_small a ≡ true = ap (λ z. nat_le (unsigned_abs z) greatest_numer && nat_le a.denom greatest_denom) (sym n-is)
-        ∙ ap (λ k. nat_le (unsigned_abs n) greatest_numer && nat_le k greatest_denom) (sym d-is)
-        ∙ ap (λ b. b && nat_le d greatest_denom) (le-leb (unsigned_abs n) greatest_numer over) ∙ le-leb d greatest_denom under in
+    ∙ ap (λ k. nat_le (unsigned_abs n) greatest_numer && nat_le k greatest_denom) (sym d-is)
+    ∙ ap (λ b. b && nat_le d greatest_denom) (le-leb (unsigned_abs n) greatest_numer over) ∙ le-leb d greatest_denom under in
     ap (λ z. kept z d) n-is ∙ ap (kept a.numer) d-is ∙ kept_again a small

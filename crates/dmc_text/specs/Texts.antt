@@ -4,7 +4,6 @@ use Rattle.std.specs.List.{list_any}
 use Rattle.std.specs.Io.KnownBytes.{Consumes, Appends, IsAtEnd}
 use Rattle.dmc_types.specs.declared.refusal.ValueFault.{ValueFault}
 use Rattle.dmc_types.specs.declared.refusal.ValueFault.TheVariants as faults
-use Rattle.dmc_types.specs.declared.command.Command.{Command}
 use Rattle.dmc_tag.specs.Tag.{Tagging}
 use Rattle.dmc_tag.specs.State.{State, opening}
 use Rattle.dmc_tag.specs.Step.{step}

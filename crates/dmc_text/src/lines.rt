@@ -170,12 +170,7 @@ fn read_once<R: Read>(reader: &mut R, buffer: &mut [u8]) -> io::Result<usize>
 }
 
 /// Reads at most so many bytes into the buffer from a place on.
-fn read_at<R: Read>(
-    reader: &mut R,
-    buffer: &mut Vec<u8>,
-    at: usize,
-    most: u64,
-) -> io::Result<usize>
+fn read_at<R: Read>(reader: &mut R, buffer: &mut Vec<u8>, at: usize, most: u64) -> io::Result<usize>
     requires { at ≤ vec_len buffer.old }
     ensures len { vec_len buffer.new ≡ vec_len buffer.old }
     ensures front { take at buffer.new.items ≡ take at buffer.old.items }

@@ -1,6 +1,5 @@
 -- The rest is answered from the queue on.
-use Rattle.std.proofs.Common.{◌≡◌, ◌∷◌, ◌++◌, ap, sym, ◌∙◌, Some}
-use Rattle.std.specs.Option.{option_map}
+use Rattle.std.proofs.Common.{◌++◌, ap}
 use Rattle.dmc_tag.specs.State.{opening}
 use Rattle.dmc_text.specs.Replies.{tag_text}
 use Rattle.dmc_text.proofs.RunLemmas.{written_alike, asked_alike, on_both}
@@ -17,4 +16,4 @@ returns-in-Some-clause-out g c =
     let text = tag_text g.T.TagText.numerator g.T.TagText.denominator in
     let state = g.M.Queue.Scheduler.state in
     rw (c.in-Ask.is, c.in-Some.is) (on_both c.ask.result c.ask.ensures.reply c.ask.ensures.state
-        (λ e h. asked_alike g.T.Tag.ops text c.agreeing_states.ensures c.args.out.now.items c.ask.new.out.items (state c.in-Some.queue) (state c.ask.new.queue) c.in-Ask.command e h))
+    (λ e h. asked_alike g.T.Tag.ops text c.agreeing_states.ensures c.args.out.now.items c.ask.new.out.items (state c.in-Some.queue) (state c.ask.new.queue) c.in-Ask.command e h))

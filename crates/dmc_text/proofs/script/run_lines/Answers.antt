@@ -1,8 +1,8 @@
 -- From a run's beginning on, a faulty line ends it as its text says.
-use Rattle.std.proofs.Common.{◌≡◌, refl, sym, ap, subst, ◌∙◌, Some, Ok}
+use Rattle.std.proofs.Common.{subst, Ok}
 use Rattle.dmc_text.specs.Replies.{tag_text}
-use Rattle.dmc_text.specs.Runs.{Ended, Turns}
-use Rattle.dmc_text.proofs.RunEnds.{fault_ends, beginning}
+use Rattle.dmc_text.specs.Runs.{Turns}
+use Rattle.dmc_text.proofs.RunEnds.{fault_ends}
 use Rattle.dmc_text.proofs.script.run_lines.Goals as goal
 
 pub returns-in-Ok-Faulty : goal.returns-in-Ok-Faulty

@@ -12,5 +12,5 @@ returns g c =
     let at = g.R.Read.remaining in
     let of = g.W.Write.contents in
     subst (RunsAs ops text (at c.args.reader.now) (at c.run_lines-result.new.reader) (of c.args.writer.now) (of c.send_last-is_sent.new.writer)) (sym c.settled.ensures)
-        (runs_as ops text (at c.args.reader.now) (of c.args.writer.now) (at c.run_lines-result.new.reader) (of c.run_lines-result.new.writer) (of c.send_last-is_sent.new.writer)
-            c.run_lines-result.new.run.out.items c.run_lines-result.result c.send_last-is_sent.result c.run_lines-result.ensures c.send_last-is_sent.ensures.all c.send_last-is_sent.ensures.some)
+    (runs_as ops text (at c.args.reader.now) (of c.args.writer.now) (at c.run_lines-result.new.reader) (of c.run_lines-result.new.writer) (of c.send_last-is_sent.new.writer)
+    c.run_lines-result.new.run.out.items c.run_lines-result.result c.send_last-is_sent.result c.run_lines-result.ensures c.send_last-is_sent.ensures.all c.send_last-is_sent.ensures.some)

@@ -1,5 +1,5 @@
 -- What is written is a first part.
-use Rattle.std.proofs.Common.{◌≡◌, ◌+◌, take, drop, length, length-drop, arith}
+use Rattle.std.proofs.Common.{◌+◌, take, length-drop, arith}
 use Rattle.dmc_text.proofs.ReadingLemmas.{appends_then_keeps, appends_next, appends_some, of_err}
 use Rattle.dmc_text.proofs.script.send_all.Goals as goal
 

@@ -1,5 +1,5 @@
 -- A turn keeps the progress of a run.
-use Rattle.std.proofs.Common.{◌≡◌, ◌+◌, ◌<◌, [], ◌++◌, length, length-append, refl, sym, ap, subst, ◌∙◌, arith, append-nil, true, false, Ok, Some, None}
+use Rattle.std.proofs.Common.{◌≡◌, ◌+◌, ◌<◌, [], ◌++◌, length, length-append, refl, sym, ap, subst, ◌∙◌, arith, append-nil, true, false}
 use Rattle.std.proofs.lemmas.Bool.{ltb-true}
 use Rattle.dmc_text.specs.Replies.{tag_text}
 use Rattle.dmc_text.specs.Reading.{next_line, Filled}
@@ -16,8 +16,8 @@ returns-then-find g c =
     let r = g.R.Read.remaining c.args.reader.now in
     let w = g.W.Write.contents c.args.writer.now in
     subst (Turns ops text state r w c.args.run.now r w c.answer_line.new.run) (sym c.answered.ensures)
-        (turn_by ops text state r w c.args.run.now c.answer_line.new.run c.find.new.self c.answer_line.result c.requires c.if-find.ensures.0 c.if-find.ensures.1 c.answer_line.ensures.ok
-            (err_less c.answer_line.result (λ x. x.0) c.answer_line.ensures.err))
+    (turn_by ops text state r w c.args.run.now c.answer_line.new.run c.find.new.self c.answer_line.result c.requires c.if-find.ensures.0 c.if-find.ensures.1 c.answer_line.ensures.ok
+    (err_less c.answer_line.result (λ x. x.0) c.answer_line.ensures.err))
 
 pub returns-then-is_long : goal.returns-then-is_long
 returns-then-is_long g c =
@@ -51,11 +51,12 @@ returns-in-Ok-true g c =
     let sent = ok_is c.send.result c.if-is_err.ensures.value c.send.ensures.ok in
     let rest-is : c.fill.new.self.rest ≡ old.lines.rest ++ bytes = f.2 ∙ ap (λ l. l.rest ++ bytes) c.if-find.ensures.1 in
     let taken-is : c.fill.new.self.taken ≡ old.lines.taken + length bytes = f.4 ∙ ap (λ l. l.taken + length bytes) c.if-find.ensures.1 in
-    let len-is : length c.fill.new.self.rest ≡ length old.lines.rest + length bytes = ap length rest-is ∙ length-append old.lines.rest bytes in
-    (λ input output p. read_more ops text state input output (at c.args.reader.now) (of c.args.writer.now) (at c.fill.new.reader) (of c.send.new.writer) old _ bytes
-            refl refl c.send.ensures.empty rest-is sent f.1 p,
-     record { taken = c.fill.ensures.taken; number = omega (arith, c.requires.number, taken-is, len-is) },
-     omega (arith, c.fill.ensures.taken, taken-is, len-is, f.3))
+    let len-is : length c.fill.new.self.rest ≡ length old.lines.rest + length bytes = ap length rest-is ∙ length-append old.lines.rest bytes in (
+      λ input output p. read_more ops text state input output (at c.args.reader.now) (of c.args.writer.now) (at c.fill.new.reader) (of c.send.new.writer) old _ bytes
+          refl refl c.send.ensures.empty rest-is sent f.1 p,
+      record { taken = c.fill.ensures.taken; number = omega (arith, c.requires.number, taken-is, len-is) },
+      omega (arith, c.fill.ensures.taken, taken-is, len-is, f.3),
+    )
 
 pub returns-in-Ok-false : goal.returns-in-Ok-false
 returns-in-Ok-false g c =
@@ -69,12 +70,13 @@ returns-in-Ok-false g c =
     let sent = ok_is c.send.result c.if-is_err.ensures.value c.send.ensures.ok in
     let rest-is : c.fill.new.self.rest ≡ old.lines.rest = f.2 ∙ ap (λ l. l.rest) c.if-find.ensures.1 in
     let taken-is : c.fill.new.self.taken ≡ old.lines.taken = f.3 ∙ ap (λ l. l.taken) c.if-find.ensures.1 in
-    let len-is : length c.fill.new.self.rest ≡ length old.lines.rest = ap length rest-is in
-    (λ input output p. read_more ops text state input output (at c.args.reader.now) (of c.args.writer.now) (at c.fill.new.reader) (of c.send.new.writer) old _ []
-            refl refl c.send.ensures.empty (rest-is ∙ sym (append-nil old.lines.rest)) sent (none_taken (at c.args.reader.now) (at c.fill.new.reader) f.1) p,
-     record { taken = c.fill.ensures.taken; number = omega (arith, c.requires.number, taken-is, len-is) },
-     f.0,
-     ap next_line rest-is ∙ c.if-find.ensures.0)
+    let len-is : length c.fill.new.self.rest ≡ length old.lines.rest = ap length rest-is in (
+      λ input output p. read_more ops text state input output (at c.args.reader.now) (of c.args.writer.now) (at c.fill.new.reader) (of c.send.new.writer) old _ []
+          refl refl c.send.ensures.empty (rest-is ∙ sym (append-nil old.lines.rest)) sent (none_taken (at c.args.reader.now) (at c.fill.new.reader) f.1) p,
+      record { taken = c.fill.ensures.taken; number = omega (arith, c.requires.number, taken-is, len-is) },
+      f.0,
+      ap next_line rest-is ∙ c.if-find.ensures.0,
+    )
 
 pub returns-in-Err : goal.returns-in-Err
 returns-in-Err g c =
@@ -86,4 +88,4 @@ returns-in-Err g c =
     let f = c.in-Err.ensures.bytes in
     let sent = ok_is c.send.result c.if-is_err.ensures.value c.send.ensures.ok in
     λ input output p. not_read ops text state input output (at c.args.reader.now) (of c.args.writer.now) (at c.fill.new.reader) (of c.send.new.writer) c.args.run.now c.send.new.out.items f.0
-        c.send.ensures.empty sent f.1 p
+    c.send.ensures.empty sent f.1 p

@@ -7,5 +7,5 @@ use Rattle.dmc_text.proofs.tags.RatioTagTagText.parts.Goals as goal
 pub returns-clause-again : goal.returns-clause-again
 returns-clause-again c =
     let made : kept c.numer.result c.denom.result ≡ Some c.args.self =
-        made_again c.args.self c.numer.result c.denom.result c.numer.ensures.value c.denom.ensures.value c.numer.ensures.bound c.denom.ensures.bound in
+    made_again c.args.self c.numer.result c.denom.result c.numer.ensures.value c.denom.ensures.value c.numer.ensures.bound c.denom.ensures.bound in
     grind (arith, to_z-of_z, made)

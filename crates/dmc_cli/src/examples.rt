@@ -1,0 +1,468 @@
+//! The worked examples of scripts, each under its name. Lines are parted by `; `.
+use crate::tool::run_tool;
+use std::alloc::{AllocError, Global};
+use std::io::{self, Read, Write};
+use std::process::Abort;
+use std::test::Fail;
+
+/// The lines of a text, each with its LF.
+fn lines(alloc: Global, text: &str) -> Result<Vec<u8>, AllocError> {
+    let mut bytes = Vec::new(alloc);
+    if text.is_empty() {
+        return Ok(bytes);
+    }
+    let mut was_end = false;
+    for byte in text.as_bytes() {
+        match *byte {
+            b';' => bytes.push(b'\n')?,
+            b' ' if was_end => {}
+            byte => bytes.push(byte)?,
+        }
+        was_end = *byte == b';';
+    }
+    bytes.push(b'\n')?;
+    Ok(bytes)
+}
+
+/// Runs a script of these bytes, and checks all that it writes and its status. Want of memory is an error.
+fn runs<T: AllocGlobal + Abort>(
+    rt: &T,
+    tags: &str,
+    input: &[u8],
+    output: &[u8],
+    fault: &[u8],
+    status: u8,
+) -> Result<(), Fail> {
+    let mut written = Vec::new(rt.alloc());
+    let mut told = Vec::new(rt.alloc());
+    let mut reader = input;
+    let words = ["script", "--tags", tags];
+    let ended = run_tool(rt, words.as_slice(), &mut reader, &mut written, &mut told);
+    if told.as_slice() == b"dmclock: memory\n".as_slice() {
+        return Err(AllocError.into());
+    }
+    assert_eq!(rt; written.as_slice(), output);
+    assert_eq!(rt; told.as_slice(), fault);
+    assert_eq!(rt; ended, status);
+    Ok(())
+}
+
+/// A script that writes these lines and no fault.
+fn gives<T: AllocGlobal + Abort>(
+    rt: &T,
+    tags: &str,
+    input: &str,
+    output: &str,
+) -> Result<(), Fail> {
+    let input = lines(rt.alloc(), input)?;
+    let output = lines(rt.alloc(), output)?;
+    runs(rt, tags, input.as_slice(), output.as_slice(), b"", 0)
+}
+
+/// A script that writes these lines and then the fault.
+fn faults<T: AllocGlobal + Abort>(
+    rt: &T,
+    input: &[u8],
+    output: &[u8],
+    fault: &[u8],
+) -> Result<(), Fail> {
+    runs(rt, "tick", input, output, fault, 1)
+}
+
+#[test]
+fn granted_at_limit(rt: HostRuntime) -> Result<(), Fail> {
+    gives(
+        &rt,
+        "tick",
+        "hz 1000; client 1 10 1 20 0; add 1 7 1 1 0; pull 0; pull 50; pull 50",
+        "ok; tags 100 50 1000; future 50; grant 1 7 priority; none",
+    )
+}
+
+#[test]
+fn granted_by_reservation(rt: HostRuntime) -> Result<(), Fail> {
+    gives(
+        &rt,
+        "tick",
+        "hz 1000; client 1 10 1 - 0; add 1 9 0 0 0; pull 0",
+        "ok; tags 0 0 0; grant 1 9 reservation",
+    )
+}
+
+#[test]
+fn unknown_and_known(rt: HostRuntime) -> Result<(), Fail> {
+    gives(
+        &rt,
+        "tick",
+        "hz 1000; add 5 1 1 1 0; client 1 - 1 - 0; client 1 - 2 - 0",
+        "refused unknown; ok; refused known",
+    )
+}
+
+#[test]
+fn tie_by_client(rt: HostRuntime) -> Result<(), Fail> {
+    gives(
+        &rt,
+        "tick",
+        "hz 1000; client 2 10 1 - 0; client 1 10 1 - 0; add 2 1 1 1 0; add 1 1 1 1 0; pull 100; pull 100",
+        "ok; ok; tags 100 0 1000; tags 100 0 1000; grant 1 1 reservation; grant 2 1 reservation",
+    )
+}
+
+#[test]
+fn reduced_reservation(rt: HostRuntime) -> Result<(), Fail> {
+    gives(
+        &rt,
+        "tick",
+        "hz 1000; client 1 10 1 - 0; add 1 1 1 1 0; add 1 2 1 1 0; pull 0; pull 100",
+        "ok; tags 100 0 1000; tags 200 0 2000; grant 1 1 priority; grant 1 2 reservation",
+    )
+}
+
+#[test]
+fn newcomer_shift(rt: HostRuntime) -> Result<(), Fail> {
+    gives(
+        &rt,
+        "tick",
+        "hz 1000; client 1 - 1 - 0; client 2 - 1 - 0; add 1 11 1 0 0; add 1 12 1 0 0; pull 0; \
+         add 2 21 1 0 500; pull 500",
+        "ok; ok; tags - 0 1000; tags - 0 2000; grant 1 11 priority; tags - 500 1000; grant 1 12 priority",
+    )
+}
+
+#[test]
+fn inexact_weight(rt: HostRuntime) -> Result<(), Fail> {
+    gives(
+        &rt,
+        "tick",
+        "hz 1000; client 1 - 3 - 0",
+        "refused inexact weight",
+    )
+}
+
+#[test]
+fn exact_thirds(rt: HostRuntime) -> Result<(), Fail> {
+    gives(
+        &rt,
+        "ratio",
+        "hz 1000; client 1 - 3 - 0; add 1 1 1 0 0; add 1 2 1 0 0; add 1 3 1 0 0",
+        "ok; tags - 0 1000/3; tags - 0 2000/3; tags - 0 1000",
+    )
+}
+
+#[test]
+fn ratio_future(rt: HostRuntime) -> Result<(), Fail> {
+    gives(
+        &rt,
+        "ratio",
+        "hz 1000; client 1 - 1 3 0; add 1 1 1 0 0; pull 0; pull 333; pull 334",
+        "ok; tags - 1000/3 1000; future 334; future 334; grant 1 1 priority",
+    )
+}
+
+#[test]
+fn moment_goes_back(rt: HostRuntime) -> Result<(), Fail> {
+    gives(
+        &rt,
+        "tick",
+        "hz 1000; client 1 - 1 - 0; pull 50; add 1 1 0 0 30; pull 30",
+        "ok; none; tags - 50 50; grant 1 1 priority",
+    )
+}
+
+#[test]
+fn moment_past_limit(rt: HostRuntime) -> Result<(), Fail> {
+    gives(
+        &rt,
+        "tick",
+        "hz 1000; client 1 - 1 - 0; pull 4611686018427387905; add 1 1 0 0 0; pull 0",
+        "ok; refused moment; tags - 0 0; grant 1 1 priority",
+    )
+}
+
+#[test]
+fn refused_values(rt: HostRuntime) -> Result<(), Fail> {
+    gives(
+        &rt,
+        "tick",
+        "hz 1000; client 1 - 1 - 0; add 1 1 1 2 0; client 2 0 1 - 0",
+        "ok; refused params; refused rate",
+    )
+}
+
+#[test]
+fn dropped_requests(rt: HostRuntime) -> Result<(), Fail> {
+    gives(
+        &rt,
+        "tick",
+        "hz 1000; client 1 - 1 - 0; add 1 1 1 0 0; add 1 2 1 0 0; drop 1; drop 1; add 1 3 1 0 0",
+        "ok; tags - 0 1000; tags - 0 2000; dropped 2; dropped 0; tags - 0 3000",
+    )
+}
+
+#[test]
+fn idle_then_erased(rt: HostRuntime) -> Result<(), Fail> {
+    gives(
+        &rt,
+        "tick",
+        "hz 1000 100 1000; client 1 - 1 - 0; clean 100; add 1 1 0 0 100; pull 100; clean 199; clean 200; \
+         clean 1099; clean 1100; add 1 2 0 0 1100",
+        "ok; cleaned 0 0; tags - 100 100; grant 1 1 priority; cleaned 0 0; cleaned 1 0; cleaned 0 0; \
+         cleaned 0 1; refused unknown",
+    )
+}
+
+#[test]
+fn sum_out_of_range(rt: HostRuntime) -> Result<(), Fail> {
+    gives(
+        &rt,
+        "ratio",
+        "hz 1; client 1 - 65521 - 0; client 2 - 65519 - 0; client 3 - 2 - 0; client 4 - 1 - 0; \
+         add 1 1 1 0 0; add 2 1 1 0 0; add 1 2 1 0 0; pull 0; add 3 1 1 0 0; pull 0; add 4 1 1 0 0; pull 0; \
+         pull 0; pull 0",
+        "ok; ok; ok; ok; tags - 0 1/65521; tags - 0 1/65519; tags - 0 1/65521; grant 1 1 priority; \
+         tags - 0 1/2; grant 1 2 priority; refused range; grant 2 1 priority; grant 3 1 priority; none",
+    )
+}
+
+#[test]
+fn shifted_up(rt: HostRuntime) -> Result<(), Fail> {
+    gives(
+        &rt,
+        "tick",
+        "hz 1000; client 1 - 1 - 0; client 2 - 1 - 0; add 2 21 0 0 0; add 1 11 0 0 500; pull 500; pull 500",
+        "ok; ok; tags - 0 0; tags - 500 500; grant 1 11 priority; grant 2 21 priority",
+    )
+}
+
+#[test]
+fn previous_below_zero(rt: HostRuntime) -> Result<(), Fail> {
+    gives(
+        &rt,
+        "tick",
+        "hz 1000; client 1 - 1 - 0; client 2 - 1 - 0; client 3 - 1 - 0; add 1 1 0 0 0; pull 0; \
+         add 2 1 1 0 0; add 3 1 1 0 0; add 1 2 1 0 0; pull 0",
+        "ok; ok; ok; tags - 0 0; grant 1 1 priority; tags - 0 1000; tags - 0 1000; tags - 0 0; \
+         grant 1 2 priority",
+    )
+}
+
+#[test]
+fn allowed_beyond(rt: HostRuntime) -> Result<(), Fail> {
+    gives(
+        &rt,
+        "tick",
+        "hz 1000 allow; client 1 10 1 20 0; add 1 1 1 1 0; add 1 2 1 1 0; pull 0; pull 100; pull 100",
+        "ok; tags 100 50 1000; tags 200 100 2000; grant 1 1 priority beyond; grant 1 2 reservation; none",
+    )
+}
+
+#[test]
+fn updates(rt: HostRuntime) -> Result<(), Fail> {
+    gives(
+        &rt,
+        "tick",
+        "hz 1000; client 1 - 1 - 0; add 1 1 1 0 0; update 1 - 2 - 0; add 1 2 1 0 0; update 1 10 2 - 0; \
+         drop 1; update 1 10 2 - 0; add 1 3 1 1 0; update 1 - 3 - 0; update 2 - 1 - 0",
+        "ok; tags - 0 1000; updated; tags - 0 1500; refused busy; dropped 2; updated; tags 100 0 2000; \
+         refused inexact weight; refused unknown",
+    )
+}
+
+#[test]
+fn reduction_out_of_range(rt: HostRuntime) -> Result<(), Fail> {
+    gives(
+        &rt,
+        "ratio",
+        "hz 1; client 1 65537 1 - 0; add 1 1 1 1 0; add 1 2 1 1 0; update 1 65539 1 - 0; pull 0; pull 1; \
+         pull 1",
+        "ok; tags 1/65537 0 1; tags 2/65537 0 2; updated; refused range; grant 1 1 reservation; \
+         grant 1 2 reservation",
+    )
+}
+
+#[test]
+fn marks_set_back(rt: HostRuntime) -> Result<(), Fail> {
+    gives(
+        &rt,
+        "ratio",
+        "hz 1; client 1 65537 1 - 0; client 2 - 1 1 0; add 1 1 131075 131075 0; add 1 2 1 1 0; \
+         update 1 65539 1 - 0; add 2 1 1 0 0; pull 1; drop 1; pull 0",
+        "ok; ok; tags 131075/65537 0 131075; tags 131076/65537 0 131076; updated; tags - 1 1; refused range; \
+         dropped 2; future 1",
+    )
+}
+
+#[test]
+fn empty_script(rt: HostRuntime) -> Result<(), Fail> {
+    gives(&rt, "tick", "hz 1000", "")
+}
+
+#[test]
+fn no_header(rt: HostRuntime) -> Result<(), Fail> {
+    faults(&rt, b"", b"", b"dmclock: line 1 hz\n")
+}
+
+#[test]
+fn missing_words(rt: HostRuntime) -> Result<(), Fail> {
+    let input = b"hz 1000\nclient 1 - 1 - 0\nadd 1 7 1\n";
+    faults(&rt, input, b"ok\n", b"dmclock: line 3 words\n")
+}
+
+#[test]
+fn last_line_without_end(rt: HostRuntime) -> Result<(), Fail> {
+    let input = b"hz 1000\nclient 1 10 1 20 0\nadd 1 7 1 1 0\npull 0\npull 50\npull 50";
+    let output = b"ok\ntags 100 50 1000\nfuture 50\ngrant 1 7 priority\nnone\n";
+    runs(&rt, "tick", input, output, b"", 0)
+}
+
+/// An `hz` line and a line of so many spaces.
+fn blanks(alloc: Global, n: usize) -> Result<Vec<u8>, AllocError> {
+    let mut input = lines(alloc, "hz 1000")?;
+    for _ in 0..n {
+        input.push(b' ')?;
+    }
+    input.push(b'\n')?;
+    Ok(input)
+}
+
+#[test]
+fn script_faults(rt: HostRuntime) -> Result<(), Fail> {
+    let most = blanks(rt.alloc(), 256)?;
+    runs(&rt, "tick", most.as_slice(), b"", b"", 0)?;
+    let long = blanks(rt.alloc(), 257)?;
+    faults(&rt, long.as_slice(), b"", b"dmclock: line 2 bytes\n")?;
+    faults(&rt, b"hz 1000\npull 0\r\n", b"", b"dmclock: line 2 bytes\n")?;
+    faults(&rt, b"hz 1000\npull 01\n", b"", b"dmclock: line 2 number\n")?;
+    let large = b"hz 1000\npull 18446744073709551616\n";
+    faults(&rt, large, b"", b"dmclock: line 2 number\n")?;
+    let token = b"hz 1000\nadd 1 4294967296 0 0 0\n";
+    faults(&rt, token, b"", b"dmclock: line 2 number\n")?;
+    faults(&rt, b"hz 1000\nhz 1000\n", b"", b"dmclock: line 2 hz\n")?;
+    faults(&rt, b"hz 1000 100\n", b"", b"dmclock: line 1 words\n")?;
+    faults(&rt, b"hz 0\n", b"", b"dmclock: line 1 hz\n")?;
+    faults(&rt, b"hz 1000 2 1\n", b"", b"dmclock: line 1 hz\n")
+}
+
+/// Gives its bytes one at a time, and fails in the place of the n-th read.
+#[derive(Drop)]
+struct FailingReader<'a> {
+    bytes: &'a [u8],
+    left: usize,
+}
+
+impl<'a> Read for FailingReader<'a> {
+    fn read(&mut self, buffer: &mut [u8]) -> io::Result<usize> {
+        if self.left == 0 {
+            return Err(io::Error::from(io::ErrorKind::Other));
+        }
+        self.left -= 1;
+        match (self.bytes.split_first(), buffer.first_mut()) {
+            (Some((first, rest)), Some(place)) => {
+                *place = *first;
+                self.bytes = rest;
+                Ok(1)
+            }
+            _ => Ok(0),
+        }
+    }
+}
+
+/// Takes a byte at a time, and fails in the place of the n-th write.
+#[derive(Drop)]
+struct FailingWriter {
+    written: Vec<u8>,
+    left: usize,
+}
+
+impl Write for FailingWriter {
+    fn write(&mut self, bytes: &[u8]) -> io::Result<usize> {
+        if self.left == 0 {
+            return Err(io::Error::from(io::ErrorKind::Other));
+        }
+        self.left -= 1;
+        match bytes.first() {
+            None => Ok(0),
+            Some(byte) => {
+                self.written.push(*byte)?;
+                Ok(1)
+            }
+        }
+    }
+
+    fn flush(&mut self) -> io::Result<()> {
+        Ok(())
+    }
+}
+
+const AT_LIMIT: &[u8] = b"hz 1000\nclient 1 10 1 20 0\nadd 1 7 1 1 0\npull 0\npull 50\npull 50\n";
+
+const AT_LIMIT_OUT: &[u8] = b"ok\ntags 100 50 1000\nfuture 50\ngrant 1 7 priority\nnone\n";
+
+#[test]
+fn failing_reader(rt: HostRuntime) -> Result<(), Fail> {
+    for left in 0..AT_LIMIT.len() + 1 {
+        let mut reader = FailingReader {
+            bytes: AT_LIMIT,
+            left,
+        };
+        let mut written = Vec::new(rt.alloc());
+        let mut told = Vec::new(rt.alloc());
+        let words = ["script"];
+        let status = run_tool(&rt, words.as_slice(), &mut reader, &mut written, &mut told);
+        if told.as_slice() == b"dmclock: memory\n".as_slice() {
+            return Err(AllocError.into());
+        }
+        assert_eq!(&rt; told.as_slice(), b"dmclock: read\n".as_slice());
+        assert_eq!(&rt; status, 1);
+        assert!(&rt; AT_LIMIT_OUT.starts_with(written.as_slice()));
+    }
+    Ok(())
+}
+
+#[test]
+fn failing_writer(rt: HostRuntime) -> Result<(), Fail> {
+    for left in 0..AT_LIMIT_OUT.len() {
+        let mut reader = AT_LIMIT;
+        let mut writer = FailingWriter {
+            written: Vec::new(rt.alloc()),
+            left,
+        };
+        let mut told = Vec::new(rt.alloc());
+        let words = ["script"];
+        let status = run_tool(&rt, words.as_slice(), &mut reader, &mut writer, &mut told);
+        if told.as_slice() == b"dmclock: memory\n".as_slice() {
+            return Err(AllocError.into());
+        }
+        assert_eq!(&rt; told.as_slice(), b"dmclock: write\n".as_slice());
+        assert_eq!(&rt; status, 1);
+        assert_eq!(&rt; writer.written.as_slice(), &AT_LIMIT_OUT[..left]);
+    }
+    Ok(())
+}
+
+#[test]
+fn byte_by_byte(rt: HostRuntime) -> Result<(), Fail> {
+    let mut reader = FailingReader {
+        bytes: AT_LIMIT,
+        left: AT_LIMIT.len() + 1,
+    };
+    let mut writer = FailingWriter {
+        written: Vec::new(rt.alloc()),
+        left: AT_LIMIT_OUT.len(),
+    };
+    let mut told = Vec::new(rt.alloc());
+    let status = run_tool(
+        &rt,
+        ["script"].as_slice(),
+        &mut reader,
+        &mut writer,
+        &mut told,
+    );
+    if told.as_slice() == b"dmclock: memory\n".as_slice() {
+        return Err(AllocError.into());
+    }
+    assert_eq!(&rt; writer.written.as_slice(), AT_LIMIT_OUT);
+    assert_eq!(&rt; status, 0);
+    Ok(())
+}

@@ -1,0 +1,51 @@
+//! The command `script`.
+ghost use Rattle.std.specs.Prelude.{◌≡◌};
+ghost use Rattle.dmc_types.specs.declared.config.TagKind.TheVariants as kinds;
+ghost use Rattle.dmc_text.specs.Replies.{tag_text};
+ghost use Rattle.dmc_text.specs.Texts.{RunsAs};
+ghost use Rattle.dmc_cli.specs.Faults.{fault_of_script};
+
+use crate::fault::Fault;
+use crate::makers::PlainMaker;
+use dmc_ratio::ratio::RatioTag;
+use dmc_tag::tag::Tag;
+use dmc_text::script::{ScriptFault, run_script};
+use dmc_text::tag::TagText;
+use dmc_tick::tick::TickTag;
+use dmc_types::config::TagKind;
+use std::alloc::Global;
+use std::io::{Read, Write};
+
+impl From<ScriptFault> for Fault {
+    ghost from_gives = { λ script fault. fault ≡ fault_of_script script };
+
+    fn from(fault: ScriptFault) -> Fault {
+        match fault {
+            ScriptFault::Line(number, cause) => Fault::Line { number, cause },
+            ScriptFault::Read => Fault::Read,
+            ScriptFault::Write => Fault::Write,
+            ScriptFault::Memory => Fault::Memory,
+        }
+    }
+}
+
+/// Runs a script on a queue of tags of this kind.
+pub fn run_on<R: Read, W: Write>(
+    alloc: Global,
+    tags: TagKind,
+    reader: &mut R,
+    writer: &mut W,
+) -> Result<(), ScriptFault>
+    ensures ticks { tags ≡ kinds.Tick → RunsAs ⟦<TickTag as Tag>⟧.ops (tag_text ⟦<TickTag as TagText>⟧.numerator ⟦<TickTag as TagText>⟧.denominator)
+        (R.remaining reader.old) (R.remaining reader.new) (W.contents writer.old) (W.contents writer.new) result }
+    ensures ratios { tags ≡ kinds.Ratio → RunsAs ⟦<RatioTag as Tag>⟧.ops (tag_text ⟦<RatioTag as TagText>⟧.numerator ⟦<RatioTag as TagText>⟧.denominator)
+        (R.remaining reader.old) (R.remaining reader.new) (W.contents writer.old) (W.contents writer.new) result }
+{
+    let mut maker = PlainMaker { alloc };
+    match tags {
+        TagKind::Tick => run_script::<TickTag, PlainMaker, R, W>(alloc, &mut maker, reader, writer),
+        TagKind::Ratio => {
+            run_script::<RatioTag, PlainMaker, R, W>(alloc, &mut maker, reader, writer)
+        }
+    }
+}

@@ -1,0 +1,50 @@
+//! One run of the program, over any streams.
+ghost use Rattle.std.specs.Prelude.{◌≡◌, ◌≤◌};
+ghost use Rattle.dmc_cli.specs.Faults.{status_of};
+
+use crate::fault::Fault;
+use crate::script;
+use crate::words::{Tool, ToolCommand, read_words};
+use std::alloc::Global;
+use std::convert::AsStr;
+use std::io::{Read, Write};
+
+/// Runs the tool that the words name: replies go to the writer, a fault's text to the fault writer as one line. The
+/// words are those after the program's name. The answer is the exit status: 0 where all is done, 1 at a fault, 2 where
+/// the words name no tool.
+pub fn run_tool<T: AllocGlobal, S: AsStr, R: Read, W: Write, E: Write>(
+    rt: &T,
+    words: &[S],
+    reader: &mut R,
+    writer: &mut W,
+    fault_writer: &mut E,
+) -> u8
+    ensures { result ≤ 4 }
+{
+    match run_words(rt.alloc(), words, reader, writer) {
+        Ok(()) => 0,
+        Err(fault) => tell(fault, fault_writer),
+    }
+}
+
+/// Writes a fault's text as one line, and answers its exit status. Where the text can't be written, the status tells.
+pub fn tell<E: Write>(fault: Fault, fault_writer: &mut E) -> u8
+    ensures { result ≡ status_of fault }
+{
+    let _ = writeln!(fault_writer, "{fault}");
+    fault.status()
+}
+
+/// Runs the tool that the words name.
+fn run_words<S: AsStr, R: Read, W: Write>(
+    alloc: Global,
+    words: &[S],
+    reader: &mut R,
+    writer: &mut W,
+) -> Result<(), Fault> {
+    let Tool { command, tags } = read_words(alloc, words)?;
+    match command {
+        ToolCommand::Script => Ok(script::run_on(alloc, tags, reader, writer)?),
+        _ => Err(Fault::Usage),
+    }
+}

@@ -1,0 +1,3 @@
+pub mod SceneValue
+pub mod Keys
+pub mod Reading

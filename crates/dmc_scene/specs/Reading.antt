@@ -1,0 +1,124 @@
+-- The scene that a table is, or the first fault, in the order of the keys.
+use Rattle.std.specs.Prelude.{ℕ, ◌^◌, ◌-◌, ◌==◌, ◌&&◌, nat_le, not, ℤ, Bool, true, is_some, if◌then◌else◌, List, [], ◌∷◌, ◌++◌, length, Option, Some, None, Result, Ok, codes}
+use Rattle.std.specs.List.{list_any}
+use Rattle.std.specs.Option.{ok_or, option_and_then, option_to_list}
+use Rattle.std.specs.Str.{bytes_eq, is_utf8}
+use Rattle.dmc_types.specs.declared.config.AtLimit.{AtLimit}
+use Rattle.dmc_types.specs.declared.config.AtLimit.TheVariants.{Wait, Allow}
+use Rattle.dmc_types.specs.declared.config.Counting.{Counting}
+use Rattle.dmc_types.specs.declared.config.Counting.TheVariants.{All, Others}
+use Rattle.dmc_types.specs.declared.config.TagKind.{TagKind}
+use Rattle.dmc_types.specs.declared.config.TagKind.TheVariants.{Tick, Ratio}
+use Rattle.dmc_tag.specs.Outcome.{◌>>=◌}
+use Rattle.toml.specs.Data.{Data, Items, no_items, item, Members, as_integer, as_str, as_array, as_table}
+use Rattle.toml.specs.Parse.{parse_document}
+use Rattle.dmc_scene.specs.declared.key.Key.TheVariants as key
+use Rattle.dmc_scene.specs.declared.fault.SceneFault.{SceneFault}
+use Rattle.dmc_scene.specs.declared.fault.SceneFault.TheVariants.{Text}
+use Rattle.dmc_scene.specs.SceneValue.{SceneValue, ClientValue, has_spacing}
+use Rattle.dmc_scene.specs.Keys.{required, optional, defaulted, number, passing}
+
+abbrev pub tags_named : List ℕ → Option TagKind
+tags_named text =
+    if bytes_eq text (codes "tick") then Some Tick
+    else if bytes_eq text (codes "ratio") then Some Ratio
+    else None
+
+abbrev pub counting_named : List ℕ → Option Counting
+counting_named text =
+    if bytes_eq text (codes "all") then Some All
+    else if bytes_eq text (codes "others") then Some Others
+    else None
+
+abbrev pub at_limit_named : List ℕ → Option AtLimit
+at_limit_named text =
+    if bytes_eq text (codes "wait") then Some Wait
+    else if bytes_eq text (codes "allow") then Some Allow
+    else None
+
+-- a rate that has a spacing
+abbrev pub rate : TagKind → ℕ → ℤ → Option ℕ
+rate tags hz z = passing (has_spacing tags hz) (number 1 (2 ^ 32 - 1) z)
+
+-- an id that none of these clients has
+abbrev pub id_beside : List ClientValue → ℤ → Option ℕ
+id_beside clients z = passing (λ id. not (list_any (λ c. c.id.0 == id) clients)) (number 0 (2 ^ 32 - 1) z)
+
+-- whether each item of a list is a table
+abbrev pub are_tables : Items → Bool
+are_tables no_items = true
+are_tables (item d ds) = is_some (as_table d) && are_tables ds
+
+-- the tables of a list
+abbrev pub tables_in : Items → List Members
+tables_in no_items = []
+tables_in (item d ds) = option_to_list (as_table d) ++ tables_in ds
+
+-- the tables of a list that has nothing else
+abbrev pub tables_alone : Items → Option (List Members)
+tables_alone ds = if are_tables ds then Some (tables_in ds) else None
+
+abbrev pub as_tables : Data → Option (List Members)
+as_tables held = option_and_then tables_alone (as_array held)
+
+-- 1 to 256 of them
+abbrev pub some_clients : List Members → Option (List Members)
+some_clients tables = if nat_le 1 (length tables) && nat_le (length tables) 256 then Some tables else None
+
+-- the client that a table is, beside those before it
+abbrev pub client_of : TagKind → ℕ → List ClientValue → Members → Result ClientValue SceneFault
+client_of tags hz before table = do
+  id ← required as_integer (id_beside before) key.Id table
+  reservation ← optional as_integer (rate tags hz) key.Reservation table
+  weight ← required as_integer (rate tags hz) key.Weight table
+  limit ← optional as_integer (rate tags hz) key.Limit table
+  requests ← required as_integer (number 0 1000000) key.Requests table
+  window ← required as_integer (number 1 1024) key.Window table
+  Ok (record {
+    id = record { 0 = id };
+    info = record { reservation = reservation; weight = weight; limit = limit };
+    requests = requests;
+    window = window;
+  })
+
+-- those before, and the clients that the tables are
+abbrev pub clients_of : TagKind → ℕ → List ClientValue → List Members → Result (List ClientValue) SceneFault
+clients_of tags hz before [] = Ok before
+clients_of tags hz before (table ∷ tables) =
+    client_of tags hz before table >>= λ client. clients_of tags hz (before ++ client ∷ []) tables
+
+-- the scene that a table is
+abbrev pub scene_of : Members → Result SceneValue SceneFault
+scene_of table = do
+  hz ← required as_integer (number 1 1000000000) key.Hz table
+  idle_age ← defaulted (2 ^ 62) as_integer (number 1 (2 ^ 62)) key.IdleAge table
+  erase_age ← defaulted (2 ^ 62) as_integer (number idle_age (2 ^ 62)) key.EraseAge table
+  tags ← required as_str tags_named key.Tags table
+  servers ← required as_integer (number 1 64) key.Servers table
+  workers ← required as_integer (number 1 16) key.Workers table
+  step ← required as_integer (number 1 1000000000) key.Step table
+  seed ← required as_integer (number 0 (2 ^ 63 - 1)) key.Seed table
+  max_pulls ← required as_integer (number 1 (2 ^ 30)) key.MaxPulls table
+  counting ← defaulted All as_str counting_named key.Counting table
+  at_limit ← defaulted Wait as_str at_limit_named key.AtLimit table
+  tables ← required as_tables some_clients key.Client table
+  clients ← clients_of tags hz [] tables
+  Ok (record {
+    config = record { hz = hz; idle_age = idle_age; erase_age = erase_age; at_limit = at_limit };
+    tags = tags;
+    servers = servers;
+    workers = workers;
+    step = step;
+    seed = seed;
+    max_pulls = max_pulls;
+    counting = counting;
+    clients = clients;
+  })
+
+-- the table that a text is: UTF-8 of at most 2^20 bytes, and TOML
+abbrev pub table_of : List ℕ → Option Members
+table_of text = if nat_le (length text) (2 ^ 20) && is_utf8 text then parse_document text else None
+
+-- the scene that a text is
+abbrev pub scene_in : List ℕ → Result SceneValue SceneFault
+scene_in text = ok_or (table_of text) Text >>= scene_of

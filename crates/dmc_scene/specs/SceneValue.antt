@@ -1,0 +1,72 @@
+-- What contracts see of a scene, and the limits that each scene keeps.
+use Rattle.std.specs.Prelude.{◌≢◌, ℕ, ◌%◌, ◌<◌, ◌≤◌, ◌^◌, ◌==◌, Bool, true, IsTrue, IfSome, List, length, All, AllPairs}
+use Rattle.dmc_types.specs.Values.{Rates, Setting}
+use Rattle.dmc_types.specs.declared.ids.ClientId.{ClientId}
+use Rattle.dmc_types.specs.declared.config.Counting.{Counting}
+use Rattle.dmc_types.specs.declared.config.TagKind.{TagKind}
+use Rattle.dmc_types.specs.declared.config.TagKind.TheVariants.{Tick, Ratio}
+
+-- a client of a scene
+pub record ClientValue : Type 0 where
+  pub id : ClientId
+  pub info : Rates
+  pub requests : ℕ
+  pub window : ℕ
+
+pub record SceneValue : Type 0 where
+  pub config : Setting
+  pub tags : TagKind
+  pub servers : ℕ
+  pub workers : ℕ
+  pub step : ℕ
+  pub seed : ℕ
+  pub max_pulls : ℕ
+  pub counting : Counting
+  pub clients : List ClientValue
+
+-- in ticks a rate has a spacing where it divides hz; in ratios each rate has one
+abbrev pub has_spacing : TagKind → ℕ → ℕ → Bool
+has_spacing Tick hz rate = hz % rate == 0
+has_spacing Ratio hz rate = true
+
+abbrev pub HasSpacing : TagKind → ℕ → ℕ → Type 0
+HasSpacing tags hz rate = IsTrue (has_spacing tags hz rate)
+
+-- each rate that is there has a spacing
+pub record AreSpaced (tags : TagKind) (hz : ℕ) (info : Rates) : Type 0 where
+  pub reserved : IfSome info.reservation (HasSpacing tags hz)
+  pub weighed : HasSpacing tags hz info.weight
+  pub limited : IfSome info.limit (HasSpacing tags hz)
+
+-- the limits of a client
+pub record IsClient (requests window : ℕ) : Type 0 where
+  pub requests_limit : requests ≤ 1000000
+  pub some_window : 0 < window
+  pub window_limit : window ≤ 1024
+
+-- none of the clients has the id
+abbrev pub IsFresh : List ClientValue → ℕ → Type 0
+IsFresh clients id = All (λ c. c.id.0 ≢ id) clients
+
+-- two clients have different ids
+abbrev pub AreApart : ClientValue → ClientValue → Type 0
+AreApart a b = a.id ≢ b.id
+
+-- the limits of the numbers of a scene
+pub record AreSizes (servers workers step seed max_pulls : ℕ) : Type 0 where
+  pub some_servers : 0 < servers
+  pub servers_limit : servers ≤ 64
+  pub some_workers : 0 < workers
+  pub workers_limit : workers ≤ 16
+  pub some_step : 0 < step
+  pub step_limit : step ≤ 1000000000
+  pub seed_limit : seed < 2 ^ 63
+  pub some_pulls : 0 < max_pulls
+  pub pulls_limit : max_pulls ≤ 2 ^ 30
+
+-- the limits of its clients
+pub record AreClients (tags : TagKind) (hz : ℕ) (clients : List ClientValue) : Type 0 where
+  pub some : 0 < length clients
+  pub limit : length clients ≤ 256
+  pub apart : AllPairs AreApart clients
+  pub spaced : All (λ c. AreSpaced tags hz c.info) clients

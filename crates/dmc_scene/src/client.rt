@@ -1,0 +1,178 @@
+//! The clients of a scene.
+ghost use Rattle.std.specs.Prelude.{◌≡◌, ◌<◌, ◌≤◌, ◌==◌, IfOk, IfSome, false};
+ghost use Rattle.std.specs.List.{list_any};
+ghost use Rattle.toml.specs.Data.{as_integer};
+ghost use Rattle.toml.specs.View.{view, table_view};
+ghost use Rattle.dmc_scene.specs.SceneValue.{has_spacing, HasSpacing, AreSpaced, IsFresh};
+ghost use Rattle.dmc_scene.specs.Keys.{meaning, required, optional, name_of, optional_meaning};
+ghost use Rattle.dmc_scene.specs.Reading.{rate, id_beside, client_of};
+
+use crate::fault::SceneFault;
+use crate::held::{integer, integer_of, number, required, value_at};
+use crate::key::Key;
+use dmc_types::config::TagKind;
+use dmc_types::ids::ClientId;
+use dmc_types::info::ClientInfo;
+use std::marker::Model;
+use toml::{Table, Value};
+
+/// A client of a scene: its id and rates, how many requests it makes (at most 1,000,000), and how many of them may be
+/// outstanding (1 to 1,024).
+#[derive(Clone, Copy, Debug, PartialEq, Eq)]
+pub struct SceneClient {
+    id: ClientId,
+    info: ClientInfo,
+    requests: u32,
+    window: u32,
+}
+
+impl Model for SceneClient {
+    ghost use Rattle.dmc_scene.specs.SceneValue.{ClientValue, IsClient};
+
+    ghost Value = { ClientValue };
+
+    ghost view = { λ c. record { id = c.id; info = c.info; requests = c.requests; window = c.window } };
+
+    ghost invariant = { λ c. IsClient c.requests c.window };
+
+    ghost inverse = { λ c. record { id = c.id; info = c.info; requests = c.requests; window = c.window } };
+}
+
+impl SceneClient {
+    /// Its id.
+    pub fn id(self) -> ClientId
+        ensures { result ≡ self.id }
+    {
+        self.id
+    }
+
+    /// Its rates.
+    pub fn info(self) -> ClientInfo
+        ensures { result ≡ self.info }
+    {
+        self.info
+    }
+
+    /// How many requests it makes.
+    pub fn requests(self) -> u32
+        ensures value { result ≡ self.requests }
+        ensures limit { result ≤ 1000000 }
+    {
+        self.requests
+    }
+
+    /// How many of its requests may be outstanding.
+    pub fn window(self) -> u32
+        ensures value { result ≡ self.window }
+        ensures some { 0 < result }
+        ensures limit { result ≤ 1024 }
+    {
+        self.window
+    }
+}
+
+/// Whether the rate has a spacing: in ticks where it divides hz.
+fn has_spacing(tags: TagKind, hz: u32, rate: u32) -> bool
+    requires { 0 < rate }
+    ensures { result ≡ has_spacing tags hz rate }
+{
+    match tags {
+        TagKind::Tick => hz.is_multiple_of(rate),
+        TagKind::Ratio => true,
+    }
+}
+
+/// The number, if it is a rate that has a spacing.
+fn rate_of(z: i64, tags: TagKind, hz: u32) -> Option<u32>
+    ensures value { result ≡ rate tags hz z }
+    ensures some { IfSome result (λ n. 0 < n) }
+    ensures spaced { IfSome result (HasSpacing tags hz) }
+{
+    let rate = number(z, 1, u64::from(u32::MAX))? as u32;
+    if has_spacing(tags, hz, rate) {
+        Some(rate)
+    } else {
+        None
+    }
+}
+
+/// The rate that a key's value is.
+fn rate_in(value: &Value, key: Key, tags: TagKind, hz: u32) -> Result<u32, SceneFault>
+    ensures value { result ≡ meaning as_integer (rate tags hz) key (view value.now) }
+    ensures some { IfOk result (λ n. 0 < n) }
+    ensures spaced { IfOk result (HasSpacing tags hz) }
+{
+    rate_of(integer_of(value, key)?, tags, hz).ok_or(SceneFault::Value(key))
+}
+
+/// The rate at a key.
+fn rate(table: &Table, key: Key, tags: TagKind, hz: u32) -> Result<u32, SceneFault>
+    ensures value { result ≡ required as_integer (rate tags hz) key (table_view table.now) }
+    ensures some { IfOk result (λ n. 0 < n) }
+    ensures spaced { IfOk result (HasSpacing tags hz) }
+{
+    rate_in(required(table, key)?, key, tags, hz)
+}
+
+/// The rate at a key, if it is there.
+fn optional_rate(table: &Table, key: Key, tags: TagKind, hz: u32) -> Result<Option<u32>, SceneFault>
+    ensures value { result ≡ optional as_integer (rate tags hz) key (table_view table.now) }
+    ensures some { IfOk result (λ o. IfSome o (λ n. 0 < n)) }
+    ensures spaced { IfOk result (λ o. IfSome o (HasSpacing tags hz)) }
+{
+    match value_at(table, key) {
+        None => Ok(None),
+        Some(value) => Ok(Some(rate_in(value, key, tags, hz)?)),
+    }
+}
+
+/// Whether one of the clients has the id.
+fn has_id(clients: &[SceneClient], id: u32) -> bool
+    ensures value { result ≡ list_any (λ c. c.id.0 == id) clients.now }
+    ensures fresh { result ≡ false → IsFresh clients.now id }
+{
+    clients.iter().any(|client| client.id().0 == id)
+}
+
+/// The number, if it is an id that none of the clients before has.
+fn id_of(z: i64, before: &[SceneClient]) -> Option<u32>
+    ensures value { result ≡ id_beside before.now z }
+    ensures fresh { IfSome result (IsFresh before.now) }
+{
+    let id = number(z, 0, u64::from(u32::MAX))? as u32;
+    if has_id(before, id) { None } else { Some(id) }
+}
+
+/// The id at its key.
+fn id_beside(table: &Table, before: &[SceneClient]) -> Result<u32, SceneFault>
+    ensures value { result ≡ required as_integer (id_beside before.now) Key.Id (table_view table.now) }
+    ensures fresh { IfOk result (IsFresh before.now) }
+{
+    let number = integer_of(required(table, Key::Id)?, Key::Id)?;
+    id_of(number, before).ok_or(SceneFault::Value(Key::Id))
+}
+
+/// The client that a table is, beside those before it.
+pub fn read_client(
+    table: &Table,
+    tags: TagKind,
+    hz: u32,
+    before: &[SceneClient],
+) -> Result<SceneClient, SceneFault>
+    ensures value { result ≡ client_of tags hz before.now (table_view table.now) }
+    ensures fresh { IfOk result (λ client. IsFresh before.now client.id.0) }
+    ensures spaced { IfOk result (λ client. AreSpaced tags hz client.info) }
+{
+    let id = id_beside(table, before)?;
+    let reservation = optional_rate(table, Key::Reservation, tags, hz)?;
+    let weight = rate(table, Key::Weight, tags, hz)?;
+    let limit = optional_rate(table, Key::Limit, tags, hz)?;
+    let requests = integer(table, Key::Requests, 0, 1_000_000)? as u32;
+    let window = integer(table, Key::Window, 1, 1024)? as u32;
+    Ok(SceneClient {
+        id: ClientId(id),
+        info: ClientInfo::new(reservation, weight, limit).unwrap(),
+        requests,
+        window,
+    })
+}

@@ -1,0 +1,72 @@
+//! The keys of a scene.
+ghost use Rattle.std.specs.Prelude.{◌≡◌};
+ghost use Rattle.dmc_scene.specs.Keys.{name_of};
+
+/// A key of a scene, in the order in which they are judged. The last six stand in each client's table.
+#[derive(Clone, Copy, Debug, PartialEq, Eq)]
+pub enum Key {
+    /// Ticks a second.
+    Hz,
+    /// The age in ticks from which a clean marks a client idle.
+    IdleAge,
+    /// The age in ticks from which a clean erases a client.
+    EraseAge,
+    /// Which tags the queues run on.
+    Tags,
+    /// How many servers there are.
+    Servers,
+    /// How many workers each server has.
+    Workers,
+    /// The ticks of a round of the simulation.
+    Step,
+    /// What the plans of the clients are made from.
+    Seed,
+    /// The most rounds of a simulation, and the most turns of a server's worker.
+    MaxPulls,
+    /// Which completions a stamp counts.
+    Counting,
+    /// What a pull does while each queued request is past its limit.
+    AtLimit,
+    /// The list of the clients.
+    Client,
+    /// A client's id.
+    Id,
+    /// Its least rate, in requests a second.
+    Reservation,
+    /// Its share of the rest.
+    Weight,
+    /// Its greatest rate, in requests a second.
+    Limit,
+    /// How many requests it makes.
+    Requests,
+    /// How many of them may be outstanding.
+    Window,
+}
+
+impl Key {
+    /// How the key is written in a scene.
+    pub fn name(&self) -> &'static str
+        ensures { result.now ≡ name_of self.now }
+    {
+        match self {
+            Key::Hz => "hz",
+            Key::IdleAge => "idle_age",
+            Key::EraseAge => "erase_age",
+            Key::Tags => "tags",
+            Key::Servers => "servers",
+            Key::Workers => "workers",
+            Key::Step => "step",
+            Key::Seed => "seed",
+            Key::MaxPulls => "max_pulls",
+            Key::Counting => "counting",
+            Key::AtLimit => "at_limit",
+            Key::Client => "client",
+            Key::Id => "id",
+            Key::Reservation => "reservation",
+            Key::Weight => "weight",
+            Key::Limit => "limit",
+            Key::Requests => "requests",
+            Key::Window => "window",
+        }
+    }
+}

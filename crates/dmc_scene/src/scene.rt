@@ -1,0 +1,323 @@
+//! The scene.
+ghost use Rattle.std.specs.Prelude.{◌≡◌, ◌≢◌, ◌<◌, ◌≤◌, ◌^◌, IfOk, IfErr, IsUtf8, Some, None, Ok, Err, true, List, [], length, All, AllPairs};
+ghost use Rattle.std.specs.Option.{ok_or};
+ghost use Rattle.std.specs.Result.{result_map_both};
+ghost use Rattle.toml.specs.Data.{as_str, as_array, get_member};
+ghost use Rattle.toml.specs.Parse.{parse_document};
+ghost use Rattle.toml.specs.View.{view, items_view, array_view, table_view};
+ghost use Rattle.dmc_types.specs.declared.config.Counting.TheVariants as counting;
+ghost use Rattle.dmc_types.specs.declared.config.AtLimit.TheVariants as at_limit;
+ghost use Rattle.dmc_scene.specs.declared.fault.SceneFault.TheVariants.{Kind, Memory};
+ghost use Rattle.dmc_scene.specs.SceneValue.{AreApart, AreSpaced};
+ghost use Rattle.dmc_scene.specs.Keys.{required, defaulted, meaning};
+ghost use Rattle.dmc_scene.specs.Reading.{tags_named, counting_named, at_limit_named, are_tables, tables_in, as_tables, some_clients, clients_of, scene_of, scene_in};
+
+use crate::client::{SceneClient, read_client};
+use crate::fault::SceneFault;
+use crate::held::{integer, integer_or, required, text_of, value_at};
+use crate::key::Key;
+use dmc_types::config::{AtLimit, Counting, QueueConfig, TagKind};
+use std::alloc::Global;
+use std::marker::Model;
+use toml::{Table, Value};
+
+/// What a run is set up with: the queues' configuration, the tags, how many servers and workers there are, the step of a
+/// simulation's round, the seed of the plans, the most pulls, the counting form, and the clients.
+///
+/// A scene keeps the limits of its text: 1 to 64 servers, 1 to 16 workers each, a step of 1 to 1,000,000,000 ticks, a
+/// seed below 2^63, 1 to 2^30 pulls, and 1 to 256 clients of different ids, each of whose rates has a spacing.
+#[derive(Drop)]
+pub struct Scene {
+    config: QueueConfig,
+    tags: TagKind,
+    servers: u32,
+    workers: u32,
+    step: u64,
+    seed: u64,
+    max_pulls: u32,
+    counting: Counting,
+    clients: Vec<SceneClient>,
+}
+
+impl Model for Scene {
+    ghost use Rattle.dmc_scene.specs.SceneValue.{SceneValue, AreSizes, AreClients};
+
+    ghost Value = { SceneValue };
+
+    ghost view = { λ s. record {
+      config = s.config;
+      tags = s.tags;
+      servers = s.servers;
+      workers = s.workers;
+      step = s.step;
+      seed = s.seed;
+      max_pulls = s.max_pulls;
+      counting = s.counting;
+      clients = s.clients.items;
+    } };
+
+    ghost invariant = { λ s. AreSizes s.servers s.workers s.step s.seed s.max_pulls
+        × AreClients s.tags s.config.hz s.clients.items };
+}
+
+impl Scene {
+    /// How each queue is set up: hz, the ages, and what is done at the limit.
+    pub fn config(&self) -> QueueConfig
+        ensures { result ≡ self.now.config }
+    {
+        self.config
+    }
+
+    /// Which tags the queues run on.
+    pub fn tags(&self) -> TagKind
+        ensures { result ≡ self.now.tags }
+    {
+        self.tags
+    }
+
+    /// How many servers there are.
+    pub fn servers(&self) -> u32
+        ensures value { result ≡ self.now.servers }
+        ensures some { 0 < result }
+        ensures limit { result ≤ 64 }
+    {
+        self.servers
+    }
+
+    /// How many workers each server has.
+    pub fn workers(&self) -> u32
+        ensures value { result ≡ self.now.workers }
+        ensures some { 0 < result }
+        ensures limit { result ≤ 16 }
+    {
+        self.workers
+    }
+
+    /// The ticks of a round of the simulation.
+    pub fn step(&self) -> u64
+        ensures value { result ≡ self.now.step }
+        ensures some { 0 < result }
+        ensures limit { result ≤ 1000000000 }
+    {
+        self.step
+    }
+
+    /// What the clients' plans are made from.
+    pub fn seed(&self) -> u64
+        ensures value { result ≡ self.now.seed }
+        ensures limit { result < 2 ^ 63 }
+    {
+        self.seed
+    }
+
+    /// The most rounds of a simulation, and the most turns of a server's worker.
+    pub fn max_pulls(&self) -> u32
+        ensures value { result ≡ self.now.max_pulls }
+        ensures some { 0 < result }
+        ensures limit { result ≤ 2 ^ 30 }
+    {
+        self.max_pulls
+    }
+
+    /// Which completions a stamp counts.
+    pub fn counting(&self) -> Counting
+        ensures { result ≡ self.now.counting }
+    {
+        self.counting
+    }
+
+    /// The clients, in the scene's order.
+    pub fn clients(&self) -> &[SceneClient]
+        ensures value { result.now ≡ self.now.clients }
+        ensures some { 0 < length result.now }
+        ensures limit { length result.now ≤ 256 }
+        ensures apart { AllPairs AreApart result.now }
+        ensures spaced { All (λ client. AreSpaced self.now.tags self.now.config.hz client.info) result.now }
+    {
+        self.clients.as_slice()
+    }
+}
+
+/// The scene that a text is, or the first fault: `Text` or `Memory` while it is parsed, then the keys in the order of
+/// `Key` (own). Keys that a scene does not have are passed over.
+pub fn read_scene(alloc: Global, text: &[u8]) -> Result<Scene, SceneFault>
+    ensures read { result ≢ Err SceneFault.Memory → result ≡ scene_in text.now }
+    // no memory is asked for before the text is known to be a scene's
+    ensures memory { result ≡ Err SceneFault.Memory → (length text.now ≤ 2 ^ 20) × IsUtf8 text.now }
+{
+    if text.len() > 1 << 20 {
+        return Err(SceneFault::Text);
+    }
+    match std::str::from_utf8(text) {
+        Ok(text) => read_table(alloc, &table_in(alloc, text)?),
+        Err(_) => Err(SceneFault::Text),
+    }
+}
+
+/// The table that a text is.
+fn table_in(alloc: Global, text: &str) -> Result<Table, SceneFault>
+    ensures ok { IfOk result (λ table. parse_document text.now ≡ Some (table_view table)) }
+    ensures fault { IfErr result (λ fault. fault ≢ SceneFault.Memory → (fault ≡ SceneFault.Text) × (parse_document text.now ≡ None)) }
+{
+    toml::table_from_str(alloc, text).map_err(|e| {
+        if e.is_memory() {
+            SceneFault::Memory
+        } else {
+            SceneFault::Text
+        }
+    })
+}
+
+/// The scene that a table is, or the first fault.
+fn read_table(alloc: Global, table: &Table) -> Result<Scene, SceneFault>
+    ensures { result ≢ Err SceneFault.Memory → result ≡ scene_of (table_view table.now) }
+{
+    let hz = integer(table, Key::Hz, 1, 1_000_000_000)? as u32;
+    let idle_age = integer_or(table, Key::IdleAge, 1 << 62, 1, 1 << 62)?;
+    let erase_age = integer_or(table, Key::EraseAge, 1 << 62, idle_age, 1 << 62)?;
+    let tags = read_tags(table)?;
+    let servers = integer(table, Key::Servers, 1, 64)? as u32;
+    let workers = integer(table, Key::Workers, 1, 16)? as u32;
+    let step = integer(table, Key::Step, 1, 1_000_000_000)?;
+    let seed = integer(table, Key::Seed, 0, (1 << 63) - 1)?;
+    let max_pulls = integer(table, Key::MaxPulls, 1, 1 << 30)? as u32;
+    let counting = read_counting(table)?;
+    let at_limit = read_at_limit(table)?;
+    let clients = read_clients(alloc, tags, hz, client_tables(table)?)?;
+    Ok(Scene {
+        config: QueueConfig::new(u64::from(hz), idle_age, erase_age, at_limit).unwrap(),
+        tags,
+        servers,
+        workers,
+        step,
+        seed,
+        max_pulls,
+        counting,
+        clients,
+    })
+}
+
+fn tags_named(text: &str) -> Option<TagKind>
+    ensures { result ≡ tags_named text.now }
+{
+    match text {
+        "tick" => Some(TagKind::Tick),
+        "ratio" => Some(TagKind::Ratio),
+        _ => None,
+    }
+}
+
+fn counting_named(text: &str) -> Option<Counting>
+    ensures { result ≡ counting_named text.now }
+{
+    match text {
+        "all" => Some(Counting::All),
+        "others" => Some(Counting::Others),
+        _ => None,
+    }
+}
+
+fn at_limit_named(text: &str) -> Option<AtLimit>
+    ensures { result ≡ at_limit_named text.now }
+{
+    match text {
+        "wait" => Some(AtLimit::Wait),
+        "allow" => Some(AtLimit::Allow),
+        _ => None,
+    }
+}
+
+/// The tags at their key.
+fn read_tags(table: &Table) -> Result<TagKind, SceneFault>
+    ensures { result ≡ required as_str tags_named Key.Tags (table_view table.now) }
+{
+    let text = text_of(required(table, Key::Tags)?, Key::Tags)?;
+    tags_named(text).ok_or(SceneFault::Value(Key::Tags))
+}
+
+/// The counting form at its key, by default `All`.
+fn read_counting(table: &Table) -> Result<Counting, SceneFault>
+    ensures { result ≡ defaulted counting.All as_str counting_named Key.Counting (table_view table.now) }
+{
+    match value_at(table, Key::Counting) {
+        None => Ok(Counting::All),
+        Some(value) => counting_named(text_of(value, Key::Counting)?).ok_or(SceneFault::Value(
+            Key::Counting,
+        )),
+    }
+}
+
+/// What is done at the limit, at its key, by default `Wait`.
+fn read_at_limit(table: &Table) -> Result<AtLimit, SceneFault>
+    ensures { result ≡ defaulted at_limit.Wait as_str at_limit_named Key.AtLimit (table_view table.now) }
+{
+    match value_at(table, Key::AtLimit) {
+        None => Ok(AtLimit::Wait),
+        Some(value) => at_limit_named(text_of(value, Key::AtLimit)?).ok_or(SceneFault::Value(
+            Key::AtLimit,
+        )),
+    }
+}
+
+/// Whether each of the values is a table.
+fn are_tables(values: &[Value]) -> bool
+    ensures value { result ≡ are_tables (items_view values.now) }
+    ensures len { result ≡ true → length (tables_in (items_view values.now)) ≡ length values.now }
+{
+    values.iter().all(|value| value.is_table())
+}
+
+/// The tables that a key's value is.
+fn tables_of(value: &Value) -> Result<&[Value], SceneFault>
+    ensures value { result_map_both (λ values. tables_in (items_view values.now)) (λ fault. fault) result
+        ≡ ok_or (as_tables (view value.now)) (Kind Key.Client) }
+    ensures len { IfOk result (λ values. length (tables_in (items_view values.now)) ≡ length values.now) }
+{
+    let values = value
+        .as_array()
+        .ok_or(SceneFault::Kind(Key::Client))?
+        .as_slice();
+    if are_tables(values) {
+        Ok(values)
+    } else {
+        Err(SceneFault::Kind(Key::Client))
+    }
+}
+
+/// The tables at the key of the clients, 1 to 256 of them.
+fn client_tables(table: &Table) -> Result<&[Value], SceneFault>
+    ensures value { result_map_both (λ values. tables_in (items_view values.now)) (λ fault. fault) result
+        ≡ required as_tables some_clients Key.Client (table_view table.now) }
+    ensures some { IfOk result (λ values. 0 < length values.now) }
+    ensures limit { IfOk result (λ values. length values.now ≤ 256) }
+    ensures len { IfOk result (λ values. length (tables_in (items_view values.now)) ≡ length values.now) }
+{
+    let values = tables_of(required(table, Key::Client)?)?;
+    if values.is_empty() || values.len() > 256 {
+        return Err(SceneFault::Value(Key::Client));
+    }
+    Ok(values)
+}
+
+/// The clients that the tables of a list are.
+fn read_clients(
+    alloc: Global,
+    tags: TagKind,
+    hz: u32,
+    values: &[Value],
+) -> Result<Vec<SceneClient>, SceneFault>
+    ensures ok { IfOk result (λ clients. clients_of tags hz [] (tables_in (items_view values.now)) ≡ Ok clients.items) }
+    ensures fault { IfErr result (λ fault. fault ≢ Memory → clients_of tags hz [] (tables_in (items_view values.now)) ≡ Err fault) }
+    ensures len { IfOk result (λ clients. length clients.items ≡ length (tables_in (items_view values.now))) }
+    ensures apart { IfOk result (λ clients. AllPairs AreApart clients.items) }
+    ensures spaced { IfOk result (λ clients. All (λ client. AreSpaced tags hz client.info) clients.items) }
+{
+    let mut clients = Vec::with_capacity(alloc, values.len())?;
+    for value in values {
+        if let Some(table) = value.as_table() {
+            let client = read_client(table, tags, hz, clients.as_slice())?;
+            clients.push(client).unwrap();
+        }
+    }
+    Ok(clients)
+}

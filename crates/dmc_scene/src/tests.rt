@@ -1,0 +1,241 @@
+//! The scenes of the examples, and the faults of scenes that are close to them.
+use crate::fault::SceneFault;
+use crate::key::Key;
+use crate::scene::{Scene, read_scene};
+use dmc_types::config::{AtLimit, Counting, QueueConfig, TagKind};
+use dmc_types::ids::ClientId;
+use dmc_types::info::ClientInfo;
+use std::alloc::{AllocError, Global};
+use std::process::Abort;
+use std::test::Fail;
+
+const TWO_CLIENTS: &str = "hz = 1000
+tags = \"tick\"
+servers = 1
+workers = 1
+step = 50
+seed = 1
+max_pulls = 100
+[[client]]
+id = 1
+reservation = 10
+weight = 1
+requests = 2
+window = 1
+[[client]]
+id = 2
+weight = 2
+requests = 2
+window = 1
+";
+
+const THREE_SERVERS: &str = "hz = 1000
+tags = \"tick\"
+servers = 3
+workers = 2
+step = 1
+seed = 7
+max_pulls = 1000000
+[[client]]
+id = 1
+weight = 1
+requests = 200
+window = 8
+[[client]]
+id = 2
+weight = 1
+requests = 200
+window = 8
+[[client]]
+id = 3
+weight = 1
+requests = 200
+window = 8
+[[client]]
+id = 4
+weight = 1
+requests = 200
+window = 8
+";
+
+const OLDEST: u64 = 1 << 62;
+
+/// The text with the first place of `old` made `new`.
+fn changed(alloc: Global, text: &str, old: &str, new: &str) -> Result<String, AllocError> {
+    match text.split_once(old) {
+        Some((before, after)) => Ok(format!(in alloc; "{before}{new}{after}")?),
+        None => Ok(String::from_str(alloc, text)?),
+    }
+}
+
+/// What the text is refused for, if it is; an error where memory is wanting.
+fn fault_of(alloc: Global, text: &[u8]) -> Result<Option<SceneFault>, SceneFault> {
+    match read_scene(alloc, text) {
+        Ok(_) => Ok(None),
+        Err(SceneFault::Memory) => Err(SceneFault::Memory),
+        Err(fault) => Ok(Some(fault)),
+    }
+}
+
+fn assert_changed(
+    rt: &impl Abort,
+    alloc: Global,
+    old: &str,
+    new: &str,
+    fault: Option<SceneFault>,
+) -> Result<(), SceneFault> {
+    let text = changed(alloc, TWO_CLIENTS, old, new)?;
+    assert_eq!(rt; fault_of(alloc, text.as_str().as_bytes())?, fault, "{new}");
+    Ok(())
+}
+
+#[test]
+fn two_clients(rt: HostRuntime) -> Result<(), Fail> {
+    let scene = read_scene(rt.alloc(), TWO_CLIENTS.as_bytes())?;
+    let config = QueueConfig::new(1000, OLDEST, OLDEST, AtLimit::Wait)?;
+    assert_eq!(rt; scene.config(), config);
+    assert_eq!(rt; scene.tags(), TagKind::Tick);
+    assert_eq!(rt; scene.servers(), 1);
+    assert_eq!(rt; scene.workers(), 1);
+    assert_eq!(rt; scene.step(), 50);
+    assert_eq!(rt; scene.seed(), 1);
+    assert_eq!(rt; scene.max_pulls(), 100);
+    assert_eq!(rt; scene.counting(), Counting::All);
+    assert_eq!(rt; scene.clients().len(), 2);
+    let first = scene.clients()[0];
+    assert_eq!(rt; first.id(), ClientId(1));
+    assert_eq!(rt; first.info(), ClientInfo::new(Some(10), 1, None)?);
+    assert_eq!(rt; first.requests(), 2);
+    assert_eq!(rt; first.window(), 1);
+    let second = scene.clients()[1];
+    assert_eq!(rt; second.id(), ClientId(2));
+    assert_eq!(rt; second.info(), ClientInfo::new(None, 2, None)?);
+    Ok(())
+}
+
+#[test]
+fn three_servers(rt: HostRuntime) -> Result<(), Fail> {
+    let scene = read_scene(rt.alloc(), THREE_SERVERS.as_bytes())?;
+    assert_eq!(rt; scene.servers(), 3);
+    assert_eq!(rt; scene.workers(), 2);
+    assert_eq!(rt; scene.step(), 1);
+    assert_eq!(rt; scene.seed(), 7);
+    assert_eq!(rt; scene.max_pulls(), 1_000_000);
+    assert_eq!(rt; scene.clients().len(), 4);
+    let last = scene.clients()[3];
+    assert_eq!(rt; last.id(), ClientId(4));
+    assert_eq!(rt; last.requests(), 200);
+    assert_eq!(rt; last.window(), 8);
+    Ok(())
+}
+
+#[test]
+fn scene_faults(rt: HostRuntime) -> Result<(), Fail> {
+    let alloc = rt.alloc();
+    let long = vec![in alloc; b' '; (1 << 20) + 1]?;
+    assert_eq!(rt; fault_of(alloc, long.as_slice())?, Some(SceneFault::Text));
+    assert_eq!(rt;
+        fault_of(alloc, &long.as_slice()[1..])?,
+        Some(SceneFault::Missing(Key::Hz))
+    );
+    assert_eq!(rt; fault_of(alloc, b"hz = \"\xff\"")?, Some(SceneFault::Text));
+    let (before, _) = TWO_CLIENTS.split_once("weight =").ok_or("no weight")?;
+    let cut = format!(in alloc; "{before}weight =")?;
+    assert_eq!(rt;
+        fault_of(alloc, cut.as_str().as_bytes())?,
+        Some(SceneFault::Text)
+    );
+    let (before, _) = TWO_CLIENTS.split_once("[[client]]").ok_or("no client")?;
+    let five = format!(in alloc; "{before}client = 5\n")?;
+    assert_eq!(rt;
+        fault_of(alloc, five.as_str().as_bytes())?,
+        Some(SceneFault::Kind(Key::Client))
+    );
+    let single = format!(in alloc; "{before}[client]\nid = 1\n")?;
+    assert_eq!(rt;
+        fault_of(alloc, single.as_str().as_bytes())?,
+        Some(SceneFault::Kind(Key::Client))
+    );
+    let mixed = format!(in alloc; "{before}client = [{{ id = 1 }}, 5]\n")?;
+    assert_eq!(rt;
+        fault_of(alloc, mixed.as_str().as_bytes())?,
+        Some(SceneFault::Kind(Key::Client))
+    );
+    let empty = format!(in alloc; "{before}client = []\n")?;
+    assert_eq!(rt;
+        fault_of(alloc, empty.as_str().as_bytes())?,
+        Some(SceneFault::Value(Key::Client))
+    );
+    assert_eq!(rt;
+        fault_of(alloc, before.as_bytes())?,
+        Some(SceneFault::Missing(Key::Client))
+    );
+    Ok(())
+}
+
+#[test]
+fn changed_scenes(rt: HostRuntime) -> Result<(), Fail> {
+    let cases = [
+        ("hz = 1000\n", "", SceneFault::Missing(Key::Hz)),
+        ("hz = 1000", "hz = \"1000\"", SceneFault::Kind(Key::Hz)),
+        ("hz = 1000", "hz = -1", SceneFault::Value(Key::Hz)),
+        (
+            "servers = 1",
+            "servers = 0",
+            SceneFault::Value(Key::Servers),
+        ),
+        ("weight = 1", "weight = 3", SceneFault::Value(Key::Weight)),
+        ("id = 2", "id = 1", SceneFault::Value(Key::Id)),
+        (
+            "tags = \"tick\"",
+            "tags = \"ticks\"",
+            SceneFault::Value(Key::Tags),
+        ),
+        (
+            "seed = 1",
+            "counting = \"none\"",
+            SceneFault::Missing(Key::Seed),
+        ),
+        (
+            "step",
+            "idle_age = 9\nerase_age = 8\nstep",
+            SceneFault::Value(Key::EraseAge),
+        ),
+        (
+            "step",
+            "at_limit = true\nstep",
+            SceneFault::Kind(Key::AtLimit),
+        ),
+        (
+            "window = 1",
+            "window = 1025",
+            SceneFault::Value(Key::Window),
+        ),
+    ];
+    for (old, new, fault) in cases {
+        assert_changed(&rt, rt.alloc(), old, new, Some(fault))?;
+    }
+    let thirds = "tags = \"ratio\"\ncounting = \"others\"\nat_limit = \"allow\"";
+    let text = changed(rt.alloc(), TWO_CLIENTS, "tags = \"tick\"", thirds)?;
+    let text = changed(
+        rt.alloc(),
+        text.as_str(),
+        "weight = 1",
+        "weight = 3\nlimit = 20",
+    )?;
+    let scene: Scene = read_scene(rt.alloc(), text.as_str().as_bytes())?;
+    assert_eq!(rt; scene.tags(), TagKind::Ratio);
+    assert_eq!(rt; scene.counting(), Counting::Others);
+    assert_eq!(rt; scene.config().at_limit(), AtLimit::Allow);
+    assert_eq!(rt;
+        scene.clients()[0].info(),
+        ClientInfo::new(Some(10), 3, Some(20))?
+    );
+    Ok(())
+}
+
+#[test]
+fn names(rt: HostRuntime) {
+    assert_eq!(rt; Key::MaxPulls.name(), "max_pulls");
+    assert_eq!(rt; Key::Id.name(), "id");
+}

@@ -298,8 +298,9 @@ fn run_lines<T: TagText, M: QueueMaker<T>, R: Read, W: Write>(
     }
 }
 
-/// How many bytes are to be written at most, before they are.
-const OUT: usize = 1 << 17;
+/// The room for replies: they are written before more lines are read, and no reply has more than ten times the bytes of its
+/// line.
+const OUT: usize = 1 << 20;
 
 /// Carries out a script: each line's command in turn, each reply a line of its own. Nothing of a line is kept, and no
 /// memory taken but for the two buffers and by the queue.

@@ -142,7 +142,7 @@ impl<T: Tag> ClientRec<T> {
     /// How far apart the tags are.
     pub fn spacings(&self) -> &Spacings<T>
         ensures value { result.now ≡ self.now.spacings }
-        ensures kept { AreSpacings T.ops self.now.info self.now.spacings }
+        ensures kept { IsRecord T.ops self.now }
     {
         &self.spacings
     }
@@ -156,7 +156,8 @@ impl<T: Tag> ClientRec<T> {
 
     /// Whether no request has come since registration, or since a clean marked the client.
     pub fn is_idle(&self) -> bool
-        ensures { result ≡ self.now.idle }
+        ensures value { result ≡ self.now.idle }
+        ensures kept { IsRecord T.ops self.now }
     {
         self.idle
     }

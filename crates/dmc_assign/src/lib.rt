@@ -1,0 +1,4 @@
+//! Assignment on a client's record.
+#![tactic(auto)]
+
+pub mod assignment;

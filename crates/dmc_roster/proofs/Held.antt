@@ -1,6 +1,6 @@
 -- What the entries are, of ids with their keys and a record or nothing at each key.
 use Rattle.std.proofs.Common.{◌≡◌, ℕ, zero, suc, ◌+◌, ◌≤◌, ◌<◌, Bool, true, false, not, ◌&&◌, cond, List, [], ◌∷◌, ◌++◌, map, length, Option, Some, None, refl, sym, ap, ◌∙◌, subst, arith}
-use Rattle.std.specs.Prelude.{filter, filter_map, is_some, slice_index_or, ◌==◌}
+use Rattle.std.specs.Prelude.{filter, filter_map, is_some, slice_index_or, slice_set, ◌==◌}
 use Rattle.std.specs.Option.{option_map}
 use Rattle.std.specs.List.{find, cons_option, AllByRecursion}
 use Rattle.std.specs.Map.{lookup}
@@ -14,7 +14,7 @@ use Rattle.std.proofs.lemmas.Bool.{eqb-true, eqb-false, eq-eqb}
 use Rattle.dmc_types.specs.declared.ids.ClientId.{ClientId}
 use Rattle.dmc_tag.specs.State.{is_client}
 use Rattle.dmc_client.specs.Record.{Rec}
-use Rattle.dmc_roster.specs.Entries.{Entry, entry_named, entry_keyed, record_at, with_rec, entry_of, entries_of, kept, AreApart, AreHeld}
+use Rattle.dmc_roster.specs.Entries.{Entry, entry_named, entry_keyed, record_at, with_rec, with_record, entry_of, entries_of, kept, AreApart, AreHeld}
 
 -- ---- options
 
@@ -236,3 +236,49 @@ insert_at e es more found p v false h k = ap (λ xs. e ∷ xs) (k h)
 pub insert_absent : (eq : ClientId → ClientId → Bool) (es : List (ClientId × ℕ)) (id : ClientId) (key : ℕ) → lookup (eq id) es ≡ None → insert_entry eq es id key ≡ es ++ (id, key) ∷ []
 insert_absent eq [] id key h = refl
 insert_absent eq (e ∷ es) id key h = insert_at e es (insert_entry eq es id key) (lookup (eq id) es) (id, key) key (eq id e.0) h (insert_absent eq es id key)
+
+-- ---- a record that is lent
+
+module _ {T : Type 0} where
+  pub set_same : (slots : List (Option (Rec T))) (key : ℕ) (w : Rec T) → is_some (slice_index_or slots key None) ≡ true → slice_index_or (slice_set slots key (Some w)) key None ≡ Some w
+  set_same [] key w h = cc
+  set_same (o ∷ slots) zero w h = refl
+  set_same (o ∷ slots) (suc key) w h = set_same slots key w h
+
+  pub set_other : (slots : List (Option (Rec T))) (key other : ℕ) (w : Rec T) → (other ≡ key → ⊥) → slice_index_or (slice_set slots key (Some w)) other None ≡ slice_index_or slots other None
+  set_other [] key other w ne = refl
+  set_other (o ∷ slots) zero zero w ne = absurd (ne refl)
+  set_other (o ∷ slots) zero (suc other) w ne = refl
+  set_other (o ∷ slots) (suc key) zero w ne = refl
+  set_other (o ∷ slots) (suc key) (suc other) w ne = set_other slots key other w (λ e. ne (ap suc e))
+
+  lent_at : (slots : List (Option (Rec T))) (key : ℕ) (w : Rec T) (p : ClientId × ℕ) (es more : List (Entry T)) (o : Option (Rec T)) (b : Bool) → slice_index_or slots p.1 None ≡ o → (p.1 == key) ≡ b → is_some o ≡ true → more ≡ with_record key w es → cons_option (entry_of (slice_set slots key (Some w)) p) more ≡ with_record key w (cons_option (option_map (λ rec. record { id = p.0; key = p.1; rec = rec }) o) es)
+  lent_at slots key w p es more None b s e h k = cc
+  lent_at slots key w p es more (Some rec) true s e h k =
+      let here : slice_index_or (slice_set slots key (Some w)) p.1 None ≡ Some w = ap (λ n. slice_index_or (slice_set slots key (Some w)) n None) (eqb-true p.1 key e) ∙ set_same slots key w (ap (λ n. is_some (slice_index_or slots n None)) (sym (eqb-true p.1 key e)) ∙ ap is_some s) in
+      ap (λ o. cons_option (option_map (λ rec. record { id = p.0; key = p.1; rec = rec }) o) more) here
+      ∙ ap (λ xs. record { id = p.0; key = p.1; rec = w } ∷ xs) k
+      ∙ ap (λ b. cond b (record { id = p.0; key = p.1; rec = w }) (record { id = p.0; key = p.1; rec = rec }) ∷ with_record key w es) (sym e)
+  lent_at slots key w p es more (Some rec) false s e h k =
+      let here : slice_index_or (slice_set slots key (Some w)) p.1 None ≡ Some rec = set_other slots key p.1 w (eqb-false p.1 key e) ∙ s in
+      ap (λ o. cons_option (option_map (λ rec. record { id = p.0; key = p.1; rec = rec }) o) more) here
+      ∙ ap (λ xs. record { id = p.0; key = p.1; rec = rec } ∷ xs) k
+      ∙ ap (λ b. cond b (record { id = p.0; key = p.1; rec = w }) (record { id = p.0; key = p.1; rec = rec }) ∷ with_record key w es) (sym e)
+
+  pub lent_entries : (slots : List (Option (Rec T))) (key : ℕ) (w : Rec T) (ids : List (ClientId × ℕ)) → Held slots ids → entries_of ids (slice_set slots key (Some w)) ≡ with_record key w (entries_of ids slots)
+  lent_entries slots key w [] h = refl
+  lent_entries slots key w (p ∷ ids) h = lent_at slots key w p (entries_of ids slots) _ (slice_index_or slots p.1 None) (p.1 == key) refl refl h.0 (lent_entries slots key w ids h.1)
+
+  some_set : (slots : List (Option (Rec T))) (key other : ℕ) (w : Rec T) → is_some (slice_index_or slots other None) ≡ true → is_some (slice_index_or (slice_set slots key (Some w)) other None) ≡ true
+  some_set [] key other w h = h
+  some_set (o ∷ slots) zero zero w h = refl
+  some_set (o ∷ slots) zero (suc other) w h = h
+  some_set (o ∷ slots) (suc key) zero w h = h
+  some_set (o ∷ slots) (suc key) (suc other) w h = some_set slots key other w h
+
+  pub held_lent : (slots : List (Option (Rec T))) (key : ℕ) (w : Rec T) (ids : List (ClientId × ℕ)) → Held slots ids → Held (slice_set slots key (Some w)) ids
+  held_lent slots key w [] h = tt
+  held_lent slots key w (p ∷ ids) h = (some_set slots key p.1 w h.0, held_lent slots key w ids h.1)
+
+  pub are_lent : (slots : List (Option (Rec T))) (key : ℕ) (w : Rec T) (ids : List (ClientId × ℕ)) → AreHeld ids slots → AreHeld ids (slice_set slots key (Some w))
+  are_lent slots key w ids h = record { held = held_lent slots key w ids h.held; apart = h.apart; bound = h.bound }

@@ -38,6 +38,9 @@ with_rec f e = record e { rec = f e.rec }
 abbrev pub with_record : {T : Type 0} → ℕ → Rec T → List (Entry T) → List (Entry T)
 with_record key rec entries = map (λ e. if e.key == key then with_rec (λ old. rec) e else e) entries
 
+abbrev pub with_record_at : {T : Type 0} → Listing T → ℕ → Rec T → Listing T
+with_record_at listing key rec = record listing { entries = with_record key rec listing.entries }
+
 -- what an add answers: the key that was told, and the client is last; or a refusal, which leaves all
 abbrev pub Adds : {T : Type 0} → Listing T → Listing T → ClientId → Rec T → Result ℕ RosterFault → Type 0
 Adds old new id rec (Ok key) =

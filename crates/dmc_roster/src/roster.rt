@@ -4,6 +4,10 @@ ghost use Rattle.std.specs.Option.{option_map};
 ghost use Rattle.slab.specs.Slab.{get, Updates};
 ghost use Rattle.std.specs.Map.{lookup};
 ghost use Rattle.dmc_roster.specs.Entries as entries;
+ghost use Rattle.dmc_roster.specs.contracts.roster.Roster.{the_row};
+ghost use Rattle.dmc_client.specs.contracts.record.ClientRec.{the_row as record_row};
+ghost use Rattle.std.specs.Borrow.{LendsIf, sem};
+ghost use Rattle.std.specs.Option.{option_copied_mut};
 
 use crate::change::RecordRule;
 use crate::fault::RosterFault;
@@ -75,6 +79,14 @@ impl<T: Tag> Roster<T> {
         ensures { entries.record_at key self.now.entries ≡ Some result.now }
     {
         self.records.get(key).unwrap()
+    }
+
+    /// The record under a key, to change; none where the key is not held.
+    pub fn at_mut(&mut self, key: usize) -> Option<&mut ClientRec<T>>
+        ensures* writes_back { sem 𝓛 (LendsIf (the_row T.row (record { ops = T.ops; fraction = T.fraction; is_value = T.is_value }) (record { cmp = T.cmp }) (record { eq = T.eq }) (record { partial_cmp = T.partial_cmp })) (record_row T.row (record { ops = T.ops; fraction = T.fraction; is_value = T.is_value }) (record { cmp = T.cmp }) (record { eq = T.eq }) (record { partial_cmp = T.partial_cmp })) self.entry result (λ rec. entries.with_record_at self.old key rec) self.old) }
+        ensures value { is_some (entries.entry_keyed key self.old.entries) ≡ true → option_copied_mut result ≡ entries.record_at key self.old.entries }
+    {
+        self.records.get_mut(key)
     }
 
     /// Erases the client under a key. The others keep their order.

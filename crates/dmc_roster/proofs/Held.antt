@@ -2,10 +2,10 @@
 use Rattle.std.proofs.Common.{◌≡◌, ℕ, zero, suc, ◌+◌, ◌≤◌, ◌<◌, Bool, true, false, not, ◌&&◌, cond, List, [], ◌∷◌, ◌++◌, map, length, Option, Some, None, refl, sym, ap, ◌∙◌, subst, arith}
 use Rattle.std.specs.Prelude.{filter, filter_map, is_some, slice_index_or, slice_set, ◌==◌}
 use Rattle.std.specs.Option.{option_map}
-use Rattle.std.specs.List.{find, cons_option, AllByRecursion}
-use Rattle.std.specs.Map.{lookup}
+use Rattle.std.specs.List.{find, cons_option, AllByRecursion, IsDistinct}
+use Rattle.std.specs.Map.{lookup, keys_of}
 use Rattle.std.proofs.lemmas.List.Elements.{filter_map-append}
-use Rattle.std.specs.Prelude.{Result, Ok, Err, OnOk, is_ok}
+use Rattle.std.specs.Prelude.{Result, Ok, Err, OnOk, is_ok, IfSome}
 use Rattle.indexmap.specs.IndexMap.{insert_entry}
 use Rattle.std.specs.Borrow.{MutBor}
 use Rattle.slab.specs.Slab.{CalledAt, RetainsFrom}
@@ -14,7 +14,7 @@ use Rattle.std.proofs.lemmas.Bool.{eqb-true, eqb-false, eq-eqb}
 use Rattle.dmc_types.specs.declared.ids.ClientId.{ClientId}
 use Rattle.dmc_tag.specs.State.{is_client}
 use Rattle.dmc_client.specs.Record.{Rec}
-use Rattle.dmc_roster.specs.Entries.{Entry, entry_named, entry_keyed, record_at, with_rec, with_record, entry_of, entries_of, kept, AreApart, AreHeld}
+use Rattle.dmc_roster.specs.Entries.{Entry, entry_named, entry_keyed, record_at, with_rec, with_record, entry_of, entries_of, kept, AreApart, AreHeld, AreDistinct}
 
 -- ---- options
 
@@ -282,3 +282,58 @@ module _ {T : Type 0} where
 
   pub are_lent : (slots : List (Option (Rec T))) (key : ℕ) (w : Rec T) (ids : List (ClientId × ℕ)) → AreHeld ids slots → AreHeld ids (slice_set slots key (Some w))
   are_lent slots key w ids h = record { held = held_lent slots key w ids h.held; apart = h.apart; bound = h.bound }
+
+-- ---- what holds of each entry
+
+both_apart : (id : ClientId) (key : ℕ) (ids : List (ClientId × ℕ)) → AllByRecursion (λ other. is_client id other ≡ false) (keys_of ids) → AllByRecursion (λ q. (key == q.1) ≡ false) ids → AllByRecursion (λ q. (is_client id q.0 ≡ false) × ((key == q.1) ≡ false)) ids
+both_apart id key [] a b = tt
+both_apart id key (q ∷ ids) a b = ((a.0, b.0), both_apart id key ids a.1 b.1)
+
+turned_all : (id : ClientId) (others : List ClientId) → AllByRecursion (λ other. (id.0 == other.0) ≡ false) others → AllByRecursion (λ other. is_client id other ≡ false) others
+turned_all id [] h = tt
+turned_all id (other ∷ others) h = (eqb_turned other.0 id.0 false h.0, turned_all id others h.1)
+
+module _ {T : Type 0} where
+  all_entries_at : (P : ClientId × ℕ → Type 0) (p : ClientId × ℕ) (o : Option (Rec T)) (es : List (Entry T)) → P p → AllByRecursion (λ e. P (e.id, e.key)) es → AllByRecursion (λ e. P (e.id, e.key)) (cons_option (option_map (λ rec. record { id = p.0; key = p.1; rec = rec }) o) es)
+  all_entries_at P p None es h more = more
+  all_entries_at P p (Some rec) es h more = (h, more)
+
+  -- what holds of each id with its key holds of the entries
+  all_entries : (P : ClientId × ℕ → Type 0) (slots : List (Option (Rec T))) (ids : List (ClientId × ℕ)) → AllByRecursion P ids → AllByRecursion (λ e. P (e.id, e.key)) (entries_of ids slots)
+  all_entries P slots [] h = tt
+  all_entries P slots (p ∷ ids) h = all_entries_at P p (slice_index_or slots p.1 None) (entries_of ids slots) h.0 (all_entries P slots ids h.1)
+
+  distinct_at : (p : ClientId × ℕ) (o : Option (Rec T)) (es : List (Entry T)) → AllByRecursion (λ f. (is_client p.0 f.id ≡ false) × ((p.1 == f.key) ≡ false)) es → AreDistinct es → AreDistinct (cons_option (option_map (λ rec. record { id = p.0; key = p.1; rec = rec }) o) es)
+  distinct_at p None es h more = more
+  distinct_at p (Some rec) es h more = (h, more)
+
+  pub are_distinct : (slots : List (Option (Rec T))) (ids : List (ClientId × ℕ)) → IsDistinct (λ a b. a.0 == b.0) (keys_of ids) → AreApart ids → AreDistinct (entries_of ids slots)
+  unfolding IsDistinct
+  are_distinct slots [] d a = tt
+  are_distinct slots (p ∷ ids) d a = distinct_at p (slice_index_or slots p.1 None) (entries_of ids slots) (all_entries _ slots ids (both_apart p.0 p.1 ids (turned_all p.0 (keys_of ids) d.0) a.0)) (are_distinct slots ids d.1 a.1)
+
+  -- what holds of each record holds of each entry's
+  slot_at : (P : Rec T → Type 0) (slots : List (Option (Rec T))) (key : ℕ) → AllByRecursion (λ o. IfSome o P) slots → IfSome (slice_index_or slots key None) P
+  slot_at P [] key h = tt
+  slot_at P (o ∷ slots) zero h = h.0
+  slot_at P (o ∷ slots) (suc key) h = slot_at P slots key h.1
+
+  records_at : (P : Rec T → Type 0) (p : ClientId × ℕ) (o : Option (Rec T)) (es : List (Entry T)) → IfSome o P → AllByRecursion (λ e. P e.rec) es → AllByRecursion (λ e. P e.rec) (cons_option (option_map (λ rec. record { id = p.0; key = p.1; rec = rec }) o) es)
+  records_at P p None es h more = more
+  records_at P p (Some rec) es h more = (h, more)
+
+  pub all_records : (P : Rec T → Type 0) (slots : List (Option (Rec T))) (ids : List (ClientId × ℕ)) → AllByRecursion (λ o. IfSome o P) slots → AllByRecursion (λ e. P e.rec) (entries_of ids slots)
+  all_records P slots [] h = tt
+  all_records P slots (p ∷ ids) h = records_at P p (slice_index_or slots p.1 None) (entries_of ids slots) (slot_at P slots p.1 h) (all_records P slots ids h)
+
+module _ {T F : Type 0} (P : Rec T → Type 0) (step : F → ℕ → MutBor (Rec T) → Bool → MutBor (Rec T) → F → Type 0) (f : F) (says : (key : ℕ) (old : Rec T) (keep : Bool) (new : Rec T) (next : F) → CalledAt step f key old keep new next → P new × (next ≡ f)) where
+  kept_slot : (keep : Bool) (new : Rec T) → P new → IfSome (cond keep (Some new) None) P
+  kept_slot true new h = h
+  kept_slot false new h = tt
+
+  pub slots_hold : (key : ℕ) (slots left : List (Option (Rec T))) → RetainsFrom step f key slots left → AllByRecursion (λ o. IfSome o P) left
+  slots_hold key [] left h = subst (AllByRecursion (λ o. IfSome o P)) (sym h) tt
+  slots_hold key (None ∷ slots) left h = subst (AllByRecursion (λ o. IfSome o P)) (sym h.1) (tt, slots_hold (key + 1) slots h.0 h.2)
+  slots_hold key (Some old ∷ slots) left h =
+      let s = says key old h.0 h.1 h.2 h.3 in
+      subst (AllByRecursion (λ o. IfSome o P)) (sym h.5) (kept_slot h.0 h.1 s.0, slots_hold (key + 1) slots h.4 (subst (λ g. RetainsFrom step g (key + 1) slots h.4) s.1 h.6))

@@ -41,6 +41,11 @@ with_record key rec entries = map (λ e. if e.key == key then with_rec (λ old. 
 abbrev pub with_record_at : {T : Type 0} → Listing T → ℕ → Rec T → Listing T
 with_record_at listing key rec = record listing { entries = with_record key rec listing.entries }
 
+-- no two entries have one id or one key
+abbrev pub AreDistinct : {T : Type 0} → List (Entry T) → Type 0
+AreDistinct [] = ⊤
+AreDistinct (e ∷ entries) = AllByRecursion (λ f. (is_client e.id f.id ≡ false) × ((e.key == f.key) ≡ false)) entries × AreDistinct entries
+
 -- what an add answers: the key that was told, and the client is last; or a refusal, which leaves all
 abbrev pub Adds : {T : Type 0} → Listing T → Listing T → ClientId → Rec T → Result ℕ RosterFault → Type 0
 Adds old new id rec (Ok key) =

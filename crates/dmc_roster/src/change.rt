@@ -1,6 +1,6 @@
 //! What is done with each record of a roster.
 ghost use Rattle.std.specs.Prelude.{◌≡◌, Bool};
-ghost use Rattle.dmc_client.specs.Record.{Rec};
+ghost use Rattle.dmc_client.specs.Record.{Rec, IsRecord};
 
 use dmc_client::record::ClientRec;
 use dmc_tag::tag::Tag;
@@ -16,5 +16,6 @@ pub trait RecordRule<T: Tag> {
     /// Changes the record, and answers whether it is kept.
     fn apply(&self, rec: &mut ClientRec<T>) -> bool
         ensures keeps { result ≡ keeps self.now rec.old }
-        ensures changed { rec.new ≡ changed self.now rec.old };
+        ensures changed { rec.new ≡ changed self.now rec.old }
+        ensures kept { IsRecord T.ops rec.new };
 }

@@ -1,8 +1,10 @@
 //! The roster.
-ghost use Rattle.std.specs.Prelude.{◌≡◌, ◌==◌, ◌≤◌, true, not, length, [], ◌∷◌, ◌++◌, None, IfOk, OnErr, map, filter, Some, is_some};
+ghost use Rattle.std.specs.Prelude.{◌≡◌, ◌==◌, ◌≤◌, true, not, length, [], ◌∷◌, ◌++◌, None, IfOk, IfSome, OnErr, map, filter, Some, is_some};
 ghost use Rattle.std.specs.Option.{option_map};
 ghost use Rattle.slab.specs.Slab.{get, Updates};
+ghost use Rattle.std.specs.List.{AllByRecursion};
 ghost use Rattle.std.specs.Map.{lookup};
+ghost use Rattle.dmc_client.specs.Record.{IsRecord};
 ghost use Rattle.dmc_roster.specs.Entries as entries;
 ghost use Rattle.dmc_roster.specs.contracts.roster.Roster.{the_row};
 ghost use Rattle.dmc_client.specs.contracts.record.ClientRec.{the_row as record_row};
@@ -55,6 +57,7 @@ impl<T: Tag> Roster<T> {
     pub fn len(&self) -> usize
         ensures value { result ≡ length self.now.entries }
         ensures bound { result ≤ 65536 }
+        ensures distinct { entries.AreDistinct self.now.entries }
     {
         self.ids.len()
     }
@@ -116,7 +119,8 @@ impl<T: Tag> Roster<T> {
 
     /// Lets a rule change each record and erase clients, in one pass. The others keep their order.
     pub fn retain<R: RecordRule<T>>(&mut self, rule: &R)
-        ensures { self.new.entries ≡ map (entries.with_rec (R.changed rule.now)) (filter (λ e. R.keeps rule.now e.rec) self.old.entries) }
+        ensures kept { AllByRecursion (λ e. IsRecord T.ops e.rec) self.new.entries }
+        ensures value { self.new.entries ≡ map (entries.with_rec (R.changed rule.now)) (filter (λ e. R.keeps rule.now e.rec) self.old.entries) }
     {
         apply_to_each(&mut self.records, rule);
         drop_vacant(&mut self.ids, &self.records);
@@ -125,11 +129,12 @@ impl<T: Tag> Roster<T> {
 
 /// Lets the rule change or take out each record.
 fn apply_to_each<T: Tag, R: RecordRule<T>>(records: &mut Slab<ClientRec<T>>, rule: &R)
-    ensures { records.new.slots ≡ map (entries.kept (R.keeps rule.now) (R.changed rule.now)) records.old.slots }
+    ensures slots { records.new.slots ≡ map (entries.kept (R.keeps rule.now) (R.changed rule.now)) records.old.slots }
+    ensures kept { AllByRecursion (λ o. IfSome o (IsRecord T.ops)) records.new.slots }
 {
     records.retain(
         |_key: usize, rec: &mut ClientRec<T>| -> bool
-            ensures { (result ≡ R.keeps rule.entry.now rec.old) × (rec.new ≡ R.changed rule.entry.now rec.old) }
+            ensures { (result ≡ R.keeps rule.entry.now rec.old) × (rec.new ≡ R.changed rule.entry.now rec.old) × IsRecord T.ops rec.new }
         { rule.apply(rec) },
     );
 }

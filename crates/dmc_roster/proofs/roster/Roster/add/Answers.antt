@@ -46,8 +46,7 @@ returns g c =
     let named = is_named old c.args.id (λ other. c.args.id.0 == other.0) (λ other. eqb_turned c.args.id.0 other.0 _ refl) ids c.self.invariant.held in
     let none = none_of _ (sym (ap (λ r. is_some (entry_named c.args.id r.entries)) c.self.view_is) ∙ named ∙ sym c.contains_key.ensures ∙ c.if-contains_key.false) in
     let size : length c.args.self.now.entries ≡ length ids = sym (ap (λ r. length r.entries) c.self.view_is) ∙ length_entries old ids c.self.invariant.held in
-    let last = added c.in-Ok.key (λ k. slice_index_or old k None) (λ k. slice_index_or new k None) c.in-Ok.ensures.updates.others c.in-Ok.ensures.vacant ids c.args.id c.args.rec c.self.invariant.held c.in-Ok.ensures.updates.changed in
-    (
+    let last = added c.in-Ok.key (λ k. slice_index_or old k None) (λ k. slice_index_or new k None) c.in-Ok.ensures.updates.others c.in-Ok.ensures.vacant ids c.args.id c.args.rec c.self.invariant.held c.in-Ok.ensures.updates.changed in (
       none,
       omega (arith, c.len.ensures.len),
       c.in-Ok.ensures.key ∙ ap (λ r. r.next_key) c.self.view_is,

@@ -2,3 +2,5 @@
 #![tactic(auto)]
 
 pub mod assignment;
+#[cfg(test)]
+mod tests;

@@ -337,3 +337,50 @@ module _ {T F : Type 0} (P : Rec T → Type 0) (step : F → ℕ → MutBor (Rec
   slots_hold key (Some old ∷ slots) left h =
       let s = says key old h.0 h.1 h.2 h.3 in
       subst (AllByRecursion (λ o. IfSome o P)) (sym h.5) (kept_slot h.0 h.1 s.0, slots_hold (key + 1) slots h.4 (subst (λ g. RetainsFrom step g (key + 1) slots h.4) s.1 h.6))
+
+-- ---- the entry that is found
+
+module _ {T : Type 0} where
+  found_holds : (P : Entry T → Type 0) (test : Entry T → Bool) (entries : List (Entry T)) (e : Entry T) → AllByRecursion P entries → find test entries ≡ Some e → P e
+  found_holds P test [] e h f = cc
+  found_holds P test (x ∷ entries) e h f = at (test x) f (found_holds P test entries e h.1) where
+    at : (b : Bool) → cond b (Some x) (find test entries) ≡ Some e → (find test entries ≡ Some e → P e) → P e
+    at true g more = let same : x ≡ e = cc in subst P same h.0
+    at false g more = more g
+
+  keyed_first : (x e : Entry T) (rest : Option (Entry T)) (b c : Bool) → (x.key == e.key) ≡ c → (b ≡ true → x ≡ e) → (b ≡ false → (rest ≡ Some e) × (c ≡ false)) → cond (x.key == e.key) (Some x) rest ≡ Some e
+  keyed_first x e rest true c s t f =
+      let same : x ≡ e = t refl in
+      ap (λ b. cond b (Some x) rest) (eq-eqb x.key e.key (ap (λ y. y.key) same)) ∙ ap Some same
+  keyed_first x e rest false c s t f = ap (λ b. cond b (Some x) rest) (s ∙ (f refl).1) ∙ (f refl).0
+
+  named_first : (x e : Entry T) (rest : Option (Entry T)) (b : Bool) → cond b (Some x) rest ≡ Some e → b ≡ true → x ≡ e
+  named_first x e rest true h t = cc
+  named_first x e rest false h t = cc
+
+  named_rest : (x e : Entry T) (rest : Option (Entry T)) (b : Bool) → cond b (Some x) rest ≡ Some e → b ≡ false → rest ≡ Some e
+  named_rest x e rest true h t = cc
+  named_rest x e rest false h t = h
+
+  pub keyed_as_named : (id : ClientId) (entries : List (Entry T)) (e : Entry T) → AreDistinct entries → entry_named id entries ≡ Some e → entry_keyed e.key entries ≡ Some e
+  keyed_as_named id [] e d f = cc
+  keyed_as_named id (x ∷ entries) e d f =
+      keyed_first x e (entry_keyed e.key entries) (is_client id x.id) _ refl (named_first x e (entry_named id entries) (is_client id x.id) f) (λ b.
+      let rest = named_rest x e (entry_named id entries) (is_client id x.id) f b in
+      (keyed_as_named id entries e d.1 rest, (found_holds _ (λ y. is_client id y.id) entries e d.0 rest).1))
+
+  key_of : (o : Option (Entry T)) (entries : List (Entry T)) (key : ℕ) → ((e : Entry T) → o ≡ Some e → entry_keyed e.key entries ≡ Some e) → Some key ≡ option_map (λ e. e.key) o → entry_keyed key entries ≡ o
+  key_of None entries key h k = cc
+  key_of (Some e) entries key h k = let same : key ≡ e.key = cc in subst (λ n. entry_keyed n entries ≡ Some e) (sym same) (h e refl)
+
+  pub found_keyed : (r : Option ℕ) (id : ClientId) (entries : List (Entry T)) → AreDistinct entries → r ≡ option_map (λ e. e.key) (entry_named id entries) → IfSome r (λ key. entry_keyed key entries ≡ entry_named id entries)
+  found_keyed None id entries d k = tt
+  found_keyed (Some key) id entries d k = key_of (entry_named id entries) entries key (λ e. keyed_as_named id entries e d) k
+
+  some_from : (key : ℕ) (o : Option (Entry T)) → Some key ≡ option_map (λ e. e.key) o → is_some o ≡ true
+  some_from key None k = cc
+  some_from key (Some e) k = refl
+
+  pub found_held : (r : Option ℕ) (id : ClientId) (entries : List (Entry T)) → AreDistinct entries → r ≡ option_map (λ e. e.key) (entry_named id entries) → IfSome r (λ key. is_some (entry_keyed key entries) ≡ true)
+  found_held None id entries d k = tt
+  found_held (Some key) id entries d k = ap is_some (key_of (entry_named id entries) entries key (λ e. keyed_as_named id entries e d) k) ∙ some_from key (entry_named id entries) k

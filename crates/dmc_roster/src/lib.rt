@@ -4,3 +4,5 @@
 pub mod change;
 pub mod fault;
 pub mod roster;
+#[cfg(test)]
+mod tests;

@@ -71,8 +71,12 @@ impl<T: Tag> Roster<T> {
 
     /// The key of a client's record.
     pub fn find(&self, id: ClientId) -> Option<usize>
-        ensures { result ≡ option_map (λ e. e.key) (entries.entry_named id self.now.entries) }
+        ensures key { result ≡ option_map (λ e. e.key) (entries.entry_named id self.now.entries) }
+        ensures entry { IfSome result (λ key. entries.entry_keyed key self.now.entries ≡ entries.entry_named id self.now.entries) }
+        ensures held { IfSome result (λ key. is_some (entries.entry_keyed key self.now.entries) ≡ true) }
     {
+        // it tells that no id stands twice
+        let _count = self.ids.len();
         self.ids.get(&id).copied()
     }
 

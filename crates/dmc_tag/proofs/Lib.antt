@@ -6,3 +6,5 @@ pub mod Running
 pub mod BestIs
 pub mod PullLaw
 pub mod FutureLaw
+pub mod Scaled
+pub mod TagOrder

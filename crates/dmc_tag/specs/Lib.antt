@@ -1,5 +1,6 @@
 pub use Rattle.dmc_types.specs.Values
 pub mod Tag
+pub mod Order
 pub mod Rank
 pub mod Outcome
 pub mod Spacing

@@ -6,7 +6,13 @@ ghost use Rattle.dmc_tag.specs.Steps.{Exactly, Steps};
 ghost use Rattle.dmc_tag.specs.Best.{best, is_before, IsBest, HasNone};
 ghost use Rattle.dmc_tag.specs.declared.plain.PlainRequest.{PlainRequest};
 ghost use Rattle.dmc_tag.specs.Laws.{SameStep, Pulls, IsNextDue};
+ghost use Rattle.dmc_tag.specs.Order.{AreSpacings, AreNext};
+ghost use Rattle.dmc_tag.specs.Rules.{next_tags};
 ghost use Rattle.dmc_tag.specs.Step.{outcome, step};
+ghost use Rattle.dmc_types.specs.Values.{Rates, Params};
+ghost use Rattle.dmc_tag.specs.declared.plain.Previous.{Previous};
+ghost use Rattle.dmc_tag.specs.declared.spacing.Spacings.{Spacings};
+ghost use Rattle.dmc_tag.specs.declared.reply.Tags.{Tags};
 ghost use Rattle.dmc_types.specs.declared.refusal.Refusal.{Refusal};
 ghost use Rattle.dmc_tag.specs.declared.reply.Reply.TheVariants as replies;
 ghost use Rattle.dmc_types.specs.declared.command.Command.TheVariants as commands;
@@ -47,4 +53,15 @@ pub fn future_is_exact<T: Tag>()
 /// A refused command leaves the state.
 pub fn refusals_change_nothing<T: Tag>()
     ensures { (s : State T) (command : Command) (refusal : Refusal) → outcome T.ops s command ≡ Err refusal → step T.ops s command ≡ (s, replies.Refused refusal) }
+{}
+
+/// Two tags less an amount are ordered as the tags are.
+pub fn subtraction_keeps_order<T: Tag>()
+    ensures { (a b amount x y : T) → T.ops.minus a amount ≡ Some x → T.ops.minus b amount ≡ Some y → T.ops.compare x y ≡ T.ops.compare a b }
+{}
+
+/// An assignment gives no tag below the previous one, and an R exactly where there is a reservation.
+pub fn next_tags_follow<T: Tag>()
+    ensures { (info : Rates) (spacings : Spacings T) (previous : Previous T) (params : Params) (t : T) (tags : Tags T) →
+        AreSpacings T.ops info spacings → next_tags T.ops spacings previous params t ≡ Ok tags → AreNext T.ops info previous tags }
 {}

@@ -1,5 +1,6 @@
 //! The spacings of a client's rates.
-ghost use Rattle.std.specs.Prelude.{◌≡◌};
+ghost use Rattle.std.specs.Prelude.{◌≡◌, IfOk};
+ghost use Rattle.dmc_tag.specs.Order.{AreSpacings};
 ghost use Rattle.dmc_tag.specs.Spacing.{spacing_of, optional_spacing, spacings_of};
 
 use crate::tag::Tag;
@@ -36,7 +37,8 @@ fn optional_spacing_for<T: Tag>(
 
 /// The spacings of a client's rates, or the first whose spacing is no value: reservation, weight, limit (own).
 pub fn spacings_for<T: Tag>(hz: u32, info: ClientInfo) -> Result<Spacings<T>, Field>
-    ensures { result ≡ spacings_of T.ops hz info }
+    ensures value { result ≡ spacings_of T.ops hz info }
+    ensures spacings { IfOk result (AreSpacings T.ops info) }
 {
     let r = optional_spacing_for(hz, Field::Reservation, info.reservation())?;
     let p = spacing_for(hz, Field::Weight, info.weight())?;

@@ -1,0 +1,71 @@
+//! Adjustment: the shares of all who are not idle are shifted, so that the least begins at t (own, after mClock's tag
+//! adjustment).
+ghost use Rattle.std.specs.Prelude.{◌≡◌, ◌&&◌, not, true, Some, List, ◌∷◌, [], map};
+ghost use Rattle.std.specs.Option.{option_map};
+ghost use Rattle.std.specs.List.{list_all};
+ghost use Rattle.dmc_adjust.specs.Changes as changes;
+ghost use Rattle.dmc_client.specs.Record as record_of;
+ghost use Rattle.dmc_client.specs.Record.{client_of, requests_of_record, IsRecord};
+ghost use Rattle.dmc_tag.specs.Outcome.{in_range};
+ghost use Rattle.dmc_tag.specs.Rules as rules_of;
+ghost use Rattle.dmc_tag.specs.State.{is_active};
+ghost use Rattle.dmc_tag.specs.declared.plain.PlainClient.{PlainClient};
+ghost use Rattle.dmc_tag.specs.declared.plain.PlainRequest.{PlainRequest};
+ghost use Rattle.dmc_types.specs.declared.ids.ClientId.{ClientId};
+
+use dmc_client::record::ClientRec;
+use dmc_client::request::QueuedRequest;
+use dmc_tag::shifting::has_less;
+use dmc_tag::tag::Tag;
+use std::collections::VecDeque;
+
+/// How far the least share is past t: what an adjustment takes off. None where that is no value.
+pub fn shift_for<T: Tag>(least: T, t: T) -> Option<T>
+    ensures value { result ≡ T.ops.minus least t }
+    ensures shift { (found : PlainRequest T × List (PlainRequest T)) → found.0.tags.p ≡ least →
+        in_range (option_map Some result) ≡ rules_of.shift_from T.ops t (Some found) }
+{
+    least.minus(t)
+}
+
+/// Whether each shifted tag of the client is a value. An idle client isn't shifted.
+pub fn can_shift<T: Tag>(rec: &ClientRec<T>, amount: T) -> bool
+    ensures value { result ≡ changes.is_shiftable T.ops amount rec.now }
+    ensures tests { (id : ClientId) (clients : List (PlainClient T)) → is_active id clients ≡ not rec.now.idle →
+        result ≡ (rules_of.requests_can_shift T.ops amount clients (requests_of_record id rec.now)
+        && rules_of.clients_can_shift T.ops amount (client_of id rec.now ∷ [])) }
+{
+    rec.is_idle() || has_less_shares(rec, amount)
+}
+
+fn has_less_shares<T: Tag>(rec: &ClientRec<T>, amount: T) -> bool
+    ensures { result ≡ record_of.has_less_shares T.ops amount rec.now }
+{
+    all_have_less(rec.requests(), amount) && has_less(rec.previous().p, amount)
+}
+
+/// Whether each P less the amount is a value.
+fn all_have_less<T: Tag>(requests: &VecDeque<QueuedRequest<T>>, amount: T) -> bool
+    ensures { result ≡ list_all (λ r. rules_of.has_less T.ops amount r.tags.p) requests.now.items }
+{
+    for i in 0..requests.len() {
+        if !has_less(requests[i].tags.p, amount) {
+            return false;
+        }
+    }
+    true
+}
+
+/// Takes the amount off the shares of the client, where it is not idle.
+pub fn shift<T: Tag>(rec: &mut ClientRec<T>, amount: T)
+    requires { changes.is_shiftable T.ops amount rec.old ≡ true }
+    ensures value { rec.new ≡ changes.shifted T.ops amount rec.old }
+    ensures client { (id : ClientId) → client_of id rec.new ≡ rules_of.shifted_client T.ops amount (client_of id rec.old) }
+    ensures requests { (id : ClientId) (clients : List (PlainClient T)) → is_active id clients ≡ not rec.old.idle →
+        requests_of_record id rec.new ≡ map (rules_of.shifted_request T.ops amount clients) (requests_of_record id rec.old) }
+    ensures kept { IsRecord T.ops rec.new }
+{
+    if !rec.is_idle() {
+        rec.subtract_from_shares(amount);
+    }
+}

@@ -1,0 +1,27 @@
+//! The tags of a client's next request.
+ghost use Rattle.std.specs.Prelude.{◌≡◌, ℕ, IfSome, Ok};
+ghost use Rattle.dmc_client.specs.Record.{client_of};
+ghost use Rattle.dmc_tag.specs.Order.{AreNext};
+ghost use Rattle.dmc_tag.specs.Outcome.{in_range};
+ghost use Rattle.dmc_tag.specs.Rules as rules_of;
+ghost use Rattle.dmc_tag.specs.Spacing.{spacings_of};
+ghost use Rattle.dmc_types.specs.declared.ids.ClientId.{ClientId};
+
+use dmc_client::record::ClientRec;
+use dmc_tag::assignment::next_tags;
+use dmc_tag::laws::next_tags_follow;
+use dmc_tag::reply::Tags;
+use dmc_tag::tag::Tag;
+use dmc_types::params::ReqParams;
+
+/// The tags of a request of this client that comes at t: each max(previous + k*spacing, t), with k = rho for R, delta for L
+/// and P (mClock's Algorithm 1, with dmClock's counts). None where a sum is no value. They may be pushed.
+pub fn tags_for<T: Tag>(rec: &ClientRec<T>, params: ReqParams, t: T) -> Option<Tags<T>>
+    ensures value { in_range result ≡ rules_of.next_tags T.ops rec.now.spacings rec.now.previous params t }
+    ensures follows { IfSome result (AreNext T.ops rec.now.info rec.now.previous) }
+    ensures assigned { (hz : ℕ) (id : ClientId) → spacings_of T.ops hz rec.now.info ≡ Ok rec.now.spacings →
+        in_range result ≡ rules_of.assigned T.ops hz (client_of id rec.now) params t }
+{
+    next_tags_follow::<T>();
+    next_tags(rec.spacings(), rec.previous(), params, t)
+}

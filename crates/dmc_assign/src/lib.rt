@@ -1,0 +1,6 @@
+//! Assignment on a client's record.
+#![tactic(auto)]
+
+pub mod assignment;
+#[cfg(test)]
+mod tests;

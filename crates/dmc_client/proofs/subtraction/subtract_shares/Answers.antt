@@ -1,0 +1,12 @@
+use Rattle.std.proofs.Common.{◌<◌, length, arith}
+use Rattle.std.proofs.lemmas.List.Edits.{map_over_more}
+use Rattle.dmc_client.specs.Record.{less_share}
+use Rattle.dmc_client.proofs.subtraction.subtract_shares.Goals as goal
+
+pub loop-i-preserved : goal.loop-i-preserved
+loop-i-preserved g c = record {
+  items =
+      let within : c.loop-i.i < length c.args.queue.now.items = omega arith in
+      rw c.less_share.ensures (map_over_more (less_share g.T.Tag.ops c.args.amount) c.args.queue.now.items c.loop-i.queue.items c.loop-i.i c.index.result.now within c.loop-i.invariant.items c.index.ensures);
+  len = c.loop-i.invariant.len;
+}

@@ -1,0 +1,102 @@
+-- What contracts see of a client's record, what it stands for in a plain state, and what is true of each.
+use Rattle.std.specs.Prelude.{◌≡◌, ℕ, Bool, true, false, ◌&&◌, List, [], ◌∷◌, ◌++◌, map, is_some, filter_map}
+use Rattle.std.specs.Option.{option_map, option_map_or}
+use Rattle.std.specs.List.{list_all, AllByRecursion}
+use Rattle.dmc_types.specs.Values.{Rates}
+use Rattle.dmc_types.specs.declared.ids.ClientId.{ClientId}
+use Rattle.dmc_tag.specs.Tag.{Tagging}
+use Rattle.dmc_tag.specs.Order.{AreSpacings}
+use Rattle.dmc_tag.specs.Rules.{previous_after, less, has_less}
+use Rattle.dmc_tag.specs.declared.plain.PlainRequest.{PlainRequest}
+use Rattle.dmc_tag.specs.declared.plain.PlainClient.{PlainClient}
+use Rattle.dmc_tag.specs.declared.plain.Previous.{Previous}
+use Rattle.dmc_tag.specs.declared.spacing.Spacings.{Spacings}
+use Rattle.dmc_client.specs.declared.request.QueuedRequest.{QueuedRequest}
+use Rattle.dmc_client.specs.Order.{InOrder}
+
+pub record Rec (T : Type 0) : Type 0 where
+  pub info : Rates
+  pub spacings : Spacings T
+  pub previous : Previous T
+  pub idle : Bool
+  -- the effective moment of its last accepted request, or of its registration if there is none
+  pub last_arrival : ℕ
+  -- in order of arrival
+  pub requests : List (QueuedRequest T)
+
+-- ---- what a record stands for, under a client's id
+
+abbrev pub client_of : {T : Type 0} → ClientId → Rec T → PlainClient T
+client_of id rec = record { id = id; info = rec.info; previous = rec.previous; idle = rec.idle; last_arrival = rec.last_arrival }
+
+abbrev pub request_of : {T : Type 0} → ClientId → QueuedRequest T → PlainRequest T
+request_of id r = record { client = id; token = r.token; tags = r.tags }
+
+abbrev pub requests_of_record : {T : Type 0} → ClientId → Rec T → List (PlainRequest T)
+requests_of_record id rec = map (request_of id) rec.requests
+
+-- ---- what is true of every record
+
+-- the tags of one kind, front first, and the previous one last
+abbrev pub reservation_tags : {T : Type 0} → Rec T → List T
+reservation_tags rec = filter_map (λ r. r.tags.r) rec.requests ++ rec.previous.r ∷ []
+
+abbrev pub limit_tags : {T : Type 0} → Rec T → List T
+limit_tags rec = map (λ r. r.tags.l) rec.requests ++ rec.previous.l ∷ []
+
+abbrev pub share_tags : {T : Type 0} → Rec T → List T
+share_tags rec = map (λ r. r.tags.p) rec.requests ++ rec.previous.p ∷ []
+
+-- No tag decreases from front to back, and the previous tags are not below the last queued ones. A request has an R
+-- exactly where the client has a reservation. An idle client has nothing queued.
+pub record IsRecord {T : Type 0} (ops : Tagging T) (rec : Rec T) : Type 0 where
+  pub spacings : AreSpacings ops rec.info rec.spacings
+  pub reserved : AllByRecursion (λ r. is_some r.tags.r ≡ is_some rec.info.reservation) rec.requests
+  pub reservations : InOrder ops (reservation_tags rec)
+  pub limits : InOrder ops (limit_tags rec)
+  pub shares : InOrder ops (share_tags rec)
+  pub idle : rec.idle ≡ true → rec.requests ≡ []
+
+-- ---- what calls make of a record
+
+-- a client that is registered at a moment
+abbrev pub registered_at : {T : Type 0} → Tagging T → Rates → Spacings T → ℕ → Rec T
+registered_at ops info spacings at =
+    let zero_tag = ops.of_moment 0 in
+    record { info = info; spacings = spacings; previous = record { r = zero_tag; l = zero_tag; p = zero_tag }; idle = true; last_arrival = at; requests = [] }
+
+-- a request comes at a moment
+abbrev pub pushed : {T : Type 0} → QueuedRequest T → ℕ → Rec T → Rec T
+pushed request at rec = record rec {
+  previous = previous_after request.tags rec.previous;
+  idle = false;
+  last_arrival = at;
+  requests = rec.requests ++ request ∷ [];
+}
+
+abbrev pub less_share : {T : Type 0} → Tagging T → T → QueuedRequest T → QueuedRequest T
+less_share ops amount r = record r { tags = record (r.tags) { p = less ops amount r.tags.p } }
+
+abbrev pub less_reservation : {T : Type 0} → Tagging T → T → QueuedRequest T → QueuedRequest T
+less_reservation ops amount r = record r { tags = record (r.tags) { r = option_map (less ops amount) r.tags.r } }
+
+-- each P less an amount
+abbrev pub less_shares : {T : Type 0} → Tagging T → T → Rec T → Rec T
+less_shares ops amount rec = record rec {
+  previous = record (rec.previous) { p = less ops amount rec.previous.p };
+  requests = map (less_share ops amount) rec.requests;
+}
+
+-- each R less an amount
+abbrev pub less_reservations : {T : Type 0} → Tagging T → T → Rec T → Rec T
+less_reservations ops amount rec = record rec {
+  previous = record (rec.previous) { r = less ops amount rec.previous.r };
+  requests = map (less_reservation ops amount) rec.requests;
+}
+
+-- each of those is a value
+abbrev pub has_less_shares : {T : Type 0} → Tagging T → T → Rec T → Bool
+has_less_shares ops amount rec = list_all (λ r. has_less ops amount r.tags.p) rec.requests && has_less ops amount rec.previous.p
+
+abbrev pub has_less_reservations : {T : Type 0} → Tagging T → T → Rec T → Bool
+has_less_reservations ops amount rec = list_all (λ r. option_map_or (has_less ops amount) r.tags.r true) rec.requests && has_less ops amount rec.previous.r

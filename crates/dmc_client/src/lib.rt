@@ -1,0 +1,6 @@
+//! The record that a queue keeps of a client.
+#![tactic(auto)]
+
+pub mod record;
+pub mod request;
+mod subtraction;

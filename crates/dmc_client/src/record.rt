@@ -1,0 +1,213 @@
+//! The record of a client.
+ghost use Rattle.std.specs.Prelude.{◌≡◌, ◌==◌, true, length, [], drop, slice_get, option_copied, OnOk, OnErr};
+ghost use Rattle.dmc_tag.specs.Order.{AreSpacings, AreNext};
+ghost use Rattle.dmc_tag.specs.Rules.{changes_reservation};
+ghost use Rattle.dmc_client.specs.Record as record_of;
+ghost use Rattle.dmc_client.specs.Record.{IsRecord};
+
+use crate::request::QueuedRequest;
+use crate::subtraction::{subtract_reservations, subtract_shares};
+use dmc_tag::assignment::previous_after;
+use dmc_tag::laws::subtraction_keeps_order;
+use dmc_tag::plain::Previous;
+use dmc_tag::shifting::less;
+use dmc_tag::spacing::Spacings;
+use dmc_tag::tag::Tag;
+use dmc_types::info::ClientInfo;
+use dmc_types::moment::Moment;
+use std::alloc::{AllocError, Global};
+use std::collections::VecDeque;
+use std::marker::Model;
+
+/// What a queue keeps of a client: its rates and their spacings, its previous tags, the idle mark, its last arrival, and
+/// its queued requests in order of arrival. No tag decreases from front to back, and the previous tags are not below the
+/// last queued ones.
+#[derive(Drop)]
+pub struct ClientRec<T: Tag> {
+    info: ClientInfo,
+    spacings: Spacings<T>,
+    previous: Previous<T>,
+    idle: bool,
+    last_arrival: Moment,
+    queue: VecDeque<QueuedRequest<T>>,
+}
+
+impl<T: Tag> Model for ClientRec<T> {
+    ghost use Rattle.dmc_client.specs.Record.{Rec, IsRecord};
+
+    ghost Value = { Rec T };
+
+    ghost view = { λ c. record { info = c.info; spacings = c.spacings; previous = c.previous; idle = c.idle; last_arrival = c.last_arrival; requests = c.queue.items } };
+
+    ghost invariant = { λ c. IsRecord T.ops (record { info = c.info; spacings = c.spacings; previous = c.previous; idle = c.idle; last_arrival = c.last_arrival; requests = c.queue.items }) };
+}
+
+impl<T: Tag> ClientRec<T> {
+    /// The record of a client that registers at a moment: previous tags 0, idle, nothing queued. It takes no memory.
+    pub fn new(alloc: Global, info: ClientInfo, spacings: Spacings<T>, at: Moment) -> ClientRec<T>
+        requires { AreSpacings T.ops info spacings }
+        ensures value { result ≡ record_of.registered_at T.ops info spacings at }
+        ensures kept { IsRecord T.ops result }
+    {
+        let zero = T::of_moment(Moment::zero());
+        let previous = Previous {
+            r: zero,
+            l: zero,
+            p: zero,
+        };
+        ClientRec {
+            info,
+            spacings,
+            previous,
+            idle: true,
+            last_arrival: at,
+            queue: VecDeque::new(alloc),
+        }
+    }
+
+    /// Queues a request that comes at a moment: its tags become the previous ones, and the client is not idle. A refused
+    /// growth changes nothing.
+    pub fn push(&mut self, request: QueuedRequest<T>, at: Moment) -> Result<(), AllocError>
+        requires { AreNext T.ops self.old.info self.old.previous request.tags }
+        ensures ok { OnOk result (self.new ≡ record_of.pushed request at self.old) }
+        ensures err { OnErr result (self.new ≡ self.old) }
+        ensures kept { IsRecord T.ops self.new }
+    {
+        if self.queue.push_back(request).is_err() {
+            return Err(AllocError);
+        }
+        self.previous = previous_after(request.tags, self.previous);
+        self.idle = false;
+        self.last_arrival = at;
+        Ok(())
+    }
+
+    /// The request that came first of those queued.
+    pub fn head(&self) -> Option<&QueuedRequest<T>>
+        ensures value { option_copied result ≡ slice_get self.now.requests 0 }
+        ensures kept { IsRecord T.ops self.now }
+    {
+        self.queue.front()
+    }
+
+    /// Takes out the request that came first.
+    pub fn pop(&mut self) -> Option<QueuedRequest<T>>
+        ensures value { result ≡ slice_get self.old.requests 0 }
+        ensures rest { self.new ≡ record self.old { requests = drop 1 self.old.requests } }
+        ensures kept { IsRecord T.ops self.new }
+    {
+        self.queue.pop_front()
+    }
+
+    /// Takes out all queued requests, and answers how many.
+    pub fn drain(&mut self) -> usize
+        ensures count { result ≡ length self.old.requests }
+        ensures rest { self.new ≡ record self.old { requests = [] } }
+        ensures kept { IsRecord T.ops self.new }
+    {
+        let count = self.queue.len();
+        self.queue.clear();
+        count
+    }
+
+    /// How many requests are queued.
+    pub fn len(&self) -> usize
+        ensures { result ≡ length self.now.requests }
+    {
+        self.queue.len()
+    }
+
+    /// Whether nothing is queued.
+    pub fn is_empty(&self) -> bool
+        ensures { result ≡ (length self.now.requests == 0) }
+    {
+        self.queue.is_empty()
+    }
+
+    /// The queued requests, in order of arrival.
+    pub fn requests(&self) -> &VecDeque<QueuedRequest<T>>
+        ensures value { result.now.items ≡ self.now.requests }
+        ensures kept { IsRecord T.ops self.now }
+    {
+        &self.queue
+    }
+
+    /// The rates.
+    pub fn info(&self) -> ClientInfo
+        ensures { result ≡ self.now.info }
+    {
+        self.info
+    }
+
+    /// How far apart the tags are.
+    pub fn spacings(&self) -> &Spacings<T>
+        ensures value { result.now ≡ self.now.spacings }
+        ensures kept { IsRecord T.ops self.now }
+    {
+        &self.spacings
+    }
+
+    /// The tags of the last request, less what was taken off since.
+    pub fn previous(&self) -> &Previous<T>
+        ensures { result.now ≡ self.now.previous }
+    {
+        &self.previous
+    }
+
+    /// Whether no request has come since registration, or since a clean marked the client.
+    pub fn is_idle(&self) -> bool
+        ensures value { result ≡ self.now.idle }
+        ensures kept { IsRecord T.ops self.now }
+    {
+        self.idle
+    }
+
+    /// The effective moment of the last request, or of registration if there is none.
+    pub fn last_arrival(&self) -> Moment
+        ensures { result ≡ self.now.last_arrival }
+    {
+        self.last_arrival
+    }
+
+    /// Replaces the rates and their spacings. A reservation is given or taken only with nothing queued.
+    pub fn set_info(&mut self, info: ClientInfo, spacings: Spacings<T>)
+        requires spacings { AreSpacings T.ops info spacings }
+        requires not_busy { changes_reservation self.old.info info ≡ true → self.old.requests ≡ [] }
+        ensures value { self.new ≡ record self.old { info = info; spacings = spacings } }
+        ensures kept { IsRecord T.ops self.new }
+    {
+        self.info = info;
+        self.spacings = spacings;
+    }
+
+    /// Marks the client idle, which has nothing queued.
+    pub fn mark_idle(&mut self)
+        requires { self.old.requests ≡ [] }
+        ensures value { self.new ≡ record self.old { idle = true } }
+        ensures kept { IsRecord T.ops self.new }
+    {
+        self.idle = true;
+    }
+
+    /// Takes the amount off the P of each request and off the previous P.
+    pub fn subtract_from_shares(&mut self, amount: T)
+        requires { record_of.has_less_shares T.ops amount self.old ≡ true }
+        ensures value { self.new ≡ record_of.less_shares T.ops amount self.old }
+        ensures kept { IsRecord T.ops self.new }
+    {
+        subtraction_keeps_order::<T>();
+        subtract_shares(&mut self.queue, amount);
+        self.previous.p = less(self.previous.p, amount);
+    }
+
+    /// Takes the amount off the R of each request and off the previous R.
+    pub fn subtract_from_reservations(&mut self, amount: T)
+        requires { record_of.has_less_reservations T.ops amount self.old ≡ true }
+        ensures value { self.new ≡ record_of.less_reservations T.ops amount self.old }
+        ensures kept { IsRecord T.ops self.new }
+    {
+        subtraction_keeps_order::<T>();
+        subtract_reservations(&mut self.queue, amount);
+        self.previous.r = less(self.previous.r, amount);
+    }
+}

@@ -1,0 +1,386 @@
+-- What the entries are, of ids with their keys and a record or nothing at each key.
+use Rattle.std.proofs.Common.{◌≡◌, ℕ, zero, suc, ◌+◌, ◌≤◌, ◌<◌, Bool, true, false, not, ◌&&◌, cond, List, [], ◌∷◌, ◌++◌, map, length, Option, Some, None, refl, sym, ap, ◌∙◌, subst, arith}
+use Rattle.std.specs.Prelude.{filter, filter_map, is_some, slice_index_or, slice_set, ◌==◌}
+use Rattle.std.specs.Option.{option_map}
+use Rattle.std.specs.List.{find, cons_option, AllByRecursion, IsDistinct}
+use Rattle.std.specs.Map.{lookup, keys_of}
+use Rattle.std.proofs.lemmas.List.Elements.{filter_map-append}
+use Rattle.std.specs.Prelude.{Result, Ok, Err, OnOk, is_ok, IfSome}
+use Rattle.indexmap.specs.IndexMap.{insert_entry}
+use Rattle.std.specs.Borrow.{MutBor}
+use Rattle.slab.specs.Slab.{CalledAt, RetainsFrom}
+use mathlib.Core.Path.{fun_ext}
+use Rattle.std.proofs.lemmas.Bool.{eqb-true, eqb-false, eq-eqb}
+use Rattle.dmc_types.specs.declared.ids.ClientId.{ClientId}
+use Rattle.dmc_tag.specs.State.{is_client}
+use Rattle.dmc_client.specs.Record.{Rec}
+use Rattle.dmc_roster.specs.Entries.{Entry, entry_named, entry_keyed, record_at, with_rec, with_record, entry_of, entries_of, kept, AreApart, AreHeld, AreDistinct}
+
+-- ---- options
+
+pub is_some_map : {X Y : Type 0} (f : X → Y) (o : Option X) → is_some (option_map f o) ≡ is_some o
+is_some_map f None = refl
+is_some_map f (Some x) = refl
+
+map_cond : {X Y : Type 0} (f : X → Y) (b : Bool) (x : X) (o : Option X) → option_map f (cond b (Some x) o) ≡ cond b (Some (f x)) (option_map f o)
+map_cond f true x o = refl
+map_cond f false x o = refl
+
+pub none_of : {X : Type 0} (o : Option X) → is_some o ≡ false → o ≡ None
+none_of None e = refl
+none_of (Some x) e = cc
+
+length_cons : {X : Type 0} (o : Option X) (xs : List X) → is_some o ≡ true → length (cons_option o xs) ≡ suc (length xs)
+length_cons None xs e = cc
+length_cons (Some x) xs e = refl
+
+pub eqb_turned : (a b : ℕ) (r : Bool) → (b == a) ≡ r → (a == b) ≡ r
+eqb_turned a b true e = eq-eqb a b (sym (eqb-true b a e))
+eqb_turned a b false e = by (a == b) refl where
+  by : (r : Bool) → (a == b) ≡ r → (a == b) ≡ false
+  by true f = absurd (eqb-false b a e (sym (eqb-true a b f)))
+  by false f = f
+
+module _ {T : Type 0} where
+  -- whether there is a record at each key
+  abbrev pub Held : List (Option (Rec T)) → List (ClientId × ℕ) → Type 0
+  Held slots ids = AllByRecursion (λ p. is_some (slice_index_or slots p.1 None) ≡ true) ids
+
+  pub length_entries : (slots : List (Option (Rec T))) (ids : List (ClientId × ℕ)) → Held slots ids → length (entries_of ids slots) ≡ length ids
+  length_entries slots [] h = refl
+  length_entries slots (p ∷ ids) h = length_cons (entry_of slots p) (entries_of ids slots) (is_some_map _ (slice_index_or slots p.1 None) ∙ h.0) ∙ ap suc (length_entries slots ids h.1)
+
+  -- ---- find
+
+  found_at : (slots : List (Option (Rec T))) (id : ClientId) (p : ClientId × ℕ) (rest : List (Entry T)) (o : Option (Rec T)) → is_some o ≡ true → option_map (λ e. e.key) (find (λ e. is_client id e.id) (cons_option (option_map (λ rec. record { id = p.0; key = p.1; rec = rec }) o) rest)) ≡ cond (is_client id p.0) (Some p.1) (option_map (λ e. e.key) (find (λ e. is_client id e.id) rest))
+  found_at slots id p rest None e = cc
+  found_at slots id p rest (Some rec) e = map_cond (λ e. e.key) (is_client id p.0) (record { id = p.0; key = p.1; rec = rec }) (find (λ e. is_client id e.id) rest)
+
+  pub named : (slots : List (Option (Rec T))) (id : ClientId) (test : ClientId → Bool) → ((other : ClientId) → test other ≡ is_client id other) → (ids : List (ClientId × ℕ)) → Held slots ids → option_map (λ e. e.key) (entry_named id (entries_of ids slots)) ≡ lookup test ids
+  named slots id test same [] h = refl
+  named slots id test same (p ∷ ids) h =
+      found_at slots id p (entries_of ids slots) (slice_index_or slots p.1 None) h.0
+      ∙ ap (cond (is_client id p.0) (Some p.1)) (named slots id test same ids h.1)
+      ∙ ap (λ b. cond b (Some p.1) (lookup test ids)) (sym (same p.0))
+
+  pub is_named : (slots : List (Option (Rec T))) (id : ClientId) (test : ClientId → Bool) → ((other : ClientId) → test other ≡ is_client id other) → (ids : List (ClientId × ℕ)) → Held slots ids → is_some (entry_named id (entries_of ids slots)) ≡ is_some (lookup test ids)
+  is_named slots id test same ids h = sym (is_some_map (λ e. e.key) (entry_named id (entries_of ids slots))) ∙ ap is_some (named slots id test same ids h)
+
+  -- ---- at
+
+  keyed_at : (slots : List (Option (Rec T))) (key : ℕ) (p : ClientId × ℕ) (rest : List (Entry T)) (o : Option (Rec T)) (b : Bool) → slice_index_or slots p.1 None ≡ o → (p.1 == key) ≡ b → (is_some (entry_keyed key rest) ≡ true → record_at key rest ≡ slice_index_or slots key None) → is_some (find (λ e. e.key == key) (cons_option (option_map (λ rec. record { id = p.0; key = p.1; rec = rec }) o) rest)) ≡ true → option_map (λ e. e.rec) (find (λ e. e.key == key) (cons_option (option_map (λ rec. record { id = p.0; key = p.1; rec = rec }) o) rest)) ≡ slice_index_or slots key None
+  keyed_at slots key p rest None b s e more h = more h
+  keyed_at slots key p rest (Some rec) true s e more h =
+      let here : option_map (λ e. e.rec) (cond (p.1 == key) (Some (record { id = p.0; key = p.1; rec = rec })) (find (λ e. e.key == key) rest)) ≡ Some rec = ap (λ b. option_map (λ e. e.rec) (cond b (Some (record { id = p.0; key = p.1; rec = rec })) (find (λ e. e.key == key) rest))) e in
+      here ∙ sym s ∙ ap (λ k. slice_index_or slots k None) (eqb-true p.1 key e)
+  keyed_at slots key p rest (Some rec) false s e more h =
+      let past : find (λ e. e.key == key) (cons_option (Some (record { id = p.0; key = p.1; rec = rec })) rest) ≡ find (λ e. e.key == key) rest = ap (λ b. cond b (Some (record { id = p.0; key = p.1; rec = rec })) (find (λ e. e.key == key) rest)) e in
+      ap (option_map (λ e. e.rec)) past ∙ more (sym (ap is_some past) ∙ h)
+
+  pub record_at_key : (slots : List (Option (Rec T))) (key : ℕ) (ids : List (ClientId × ℕ)) → is_some (entry_keyed key (entries_of ids slots)) ≡ true → record_at key (entries_of ids slots) ≡ slice_index_or slots key None
+  record_at_key slots key [] h = cc
+  record_at_key slots key (p ∷ ids) h = keyed_at slots key p (entries_of ids slots) (slice_index_or slots p.1 None) (p.1 == key) refl refl (record_at_key slots key ids) h
+
+-- ---- lists that are filtered
+
+pub all_filtered : {X : Type 0} (P : X → Type 0) (test : X → Bool) (xs : List X) → AllByRecursion P xs → AllByRecursion P (filter test xs)
+all_filtered P test [] h = tt
+all_filtered P test (x ∷ xs) h = at (all_filtered P test xs h.1) (test x) where
+  at : AllByRecursion P (filter test xs) → (b : Bool) → AllByRecursion P (cond b (x ∷ filter test xs) (filter test xs))
+  at more true = (h.0, more)
+  at more false = more
+
+pub apart_filtered : (test : ClientId × ℕ → Bool) (ids : List (ClientId × ℕ)) → AreApart ids → AreApart (filter test ids)
+apart_filtered test [] h = tt
+apart_filtered test (p ∷ ids) h = at (apart_filtered test ids h.1) (test p) where
+  at : AreApart (filter test ids) → (b : Bool) → AreApart (cond b (p ∷ filter test ids) (filter test ids))
+  at more true = (all_filtered _ test ids h.0, more)
+  at more false = more
+
+pub length_filtered : {X : Type 0} (test : X → Bool) (xs : List X) → length (filter test xs) ≤ length xs
+length_filtered test [] = omega arith
+length_filtered test (x ∷ xs) = at (length_filtered test xs) (test x) where
+  at : length (filter test xs) ≤ length xs → (b : Bool) → length (cond b (x ∷ filter test xs) (filter test xs)) ≤ suc (length xs)
+  at more true = omega arith
+  at more false = omega arith
+
+all_passed : {X : Type 0} (test : X → Bool) (xs : List X) → AllByRecursion (λ x. test x ≡ true) (filter test xs)
+all_passed test [] = tt
+all_passed test (x ∷ xs) = at (all_passed test xs) (test x) refl where
+  at : AllByRecursion (λ x. test x ≡ true) (filter test xs) → (b : Bool) → test x ≡ b → AllByRecursion (λ x. test x ≡ true) (cond b (x ∷ filter test xs) (filter test xs))
+  at more true e = (e, more)
+  at more false e = more
+
+module _ {T : Type 0} where
+  -- the entries of ids, by what is at each key
+  abbrev pub entries_by : (ℕ → Option (Rec T)) → List (ClientId × ℕ) → List (Entry T)
+  entries_by at ids = filter_map (λ p. option_map (λ rec. record { id = p.0; key = p.1; rec = rec }) (at p.1)) ids
+
+  entries_cond : (at : ℕ → Option (Rec T)) (p : ClientId × ℕ) (ids : List (ClientId × ℕ)) (b : Bool) → entries_by at (cond b (p ∷ ids) ids) ≡ cond b (cons_option (option_map (λ rec. record { id = p.0; key = p.1; rec = rec }) (at p.1)) (entries_by at ids)) (entries_by at ids)
+  entries_cond at p ids true = refl
+  entries_cond at p ids false = refl
+
+  -- ---- erase
+
+  module _ (key : ℕ) (old new : ℕ → Option (Rec T)) (others : (other : ℕ) → (other ≡ key → ⊥) → new other ≡ old other) where
+    filter_cons : (p : ClientId × ℕ) (es : List (Entry T)) (o : Option (Rec T)) → filter (λ e. not (e.key == key)) (cons_option (option_map (λ rec. record { id = p.0; key = p.1; rec = rec }) o) es) ≡ cond (not (p.1 == key)) (cons_option (option_map (λ rec. record { id = p.0; key = p.1; rec = rec }) o) (filter (λ e. not (e.key == key)) es)) (filter (λ e. not (e.key == key)) es)
+    filter_cons p es None = at (not (p.1 == key)) where
+      at : (b : Bool) → filter (λ e. not (e.key == key)) es ≡ cond b (filter (λ e. not (e.key == key)) es) (filter (λ e. not (e.key == key)) es)
+      at true = refl
+      at false = refl
+    filter_cons p es (Some rec) = refl
+
+    same_entry : (p : ClientId × ℕ) (es : List (Entry T)) (b : Bool) → (p.1 == key) ≡ b → cond (not b) (cons_option (option_map (λ rec. record { id = p.0; key = p.1; rec = rec }) (new p.1)) es) es ≡ cond (not b) (cons_option (option_map (λ rec. record { id = p.0; key = p.1; rec = rec }) (old p.1)) es) es
+    same_entry p es true e = refl
+    same_entry p es false e = ap (λ o. cons_option (option_map (λ rec. record { id = p.0; key = p.1; rec = rec }) o) es) (others p.1 (eqb-false p.1 key e))
+
+    pub erased : (ids : List (ClientId × ℕ)) → entries_by new (filter (λ p. not (p.1 == key)) ids) ≡ filter (λ e. not (e.key == key)) (entries_by old ids)
+    erased [] = refl
+    erased (p ∷ ids) =
+        entries_cond new p (filter (λ p. not (p.1 == key)) ids) (not (p.1 == key))
+        ∙ same_entry p (entries_by new (filter (λ p. not (p.1 == key)) ids)) (p.1 == key) refl
+        ∙ ap (λ es. cond (not (p.1 == key)) (cons_option (option_map (λ rec. record { id = p.0; key = p.1; rec = rec }) (old p.1)) es) es) (erased ids)
+        ∙ sym (filter_cons p (entries_by old ids) (old p.1))
+
+    pub held_others : (ids : List (ClientId × ℕ)) → AllByRecursion (λ p. is_some (old p.1) ≡ true) ids → AllByRecursion (λ p. is_some (new p.1) ≡ true) (filter (λ p. not (p.1 == key)) ids)
+    held_others [] h = tt
+    held_others (p ∷ ids) h = at (held_others ids h.1) (p.1 == key) refl where
+      at : AllByRecursion (λ p. is_some (new p.1) ≡ true) (filter (λ p. not (p.1 == key)) ids) → (b : Bool) → (p.1 == key) ≡ b → AllByRecursion (λ p. is_some (new p.1) ≡ true) (cond (not b) (p ∷ filter (λ p. not (p.1 == key)) ids) (filter (λ p. not (p.1 == key)) ids))
+      at more true e = more
+      at more false e = (ap is_some (others p.1 (eqb-false p.1 key e)) ∙ h.0, more)
+
+  -- ---- retain
+
+  module _ (keeps : Rec T → Bool) (changed : Rec T → Rec T) (old : ℕ → Option (Rec T)) where
+    retained_at : (p : ClientId × ℕ) (xs : List (Entry T)) (es : List (Entry T)) (o : Option (Rec T)) → xs ≡ map (with_rec changed) (filter (λ e. keeps e.rec) es) → cond (is_some (kept keeps changed o)) (cons_option (option_map (λ rec. record { id = p.0; key = p.1; rec = rec }) (kept keeps changed o)) xs) xs ≡ map (with_rec changed) (filter (λ e. keeps e.rec) (cons_option (option_map (λ rec. record { id = p.0; key = p.1; rec = rec }) o) es))
+    retained_at p xs es None e = e
+    retained_at p xs es (Some rec) e = at (keeps rec) where
+      at : (b : Bool) → cond (is_some (cond b (Some (changed rec)) None)) (cons_option (option_map (λ rec. record { id = p.0; key = p.1; rec = rec }) (cond b (Some (changed rec)) None)) xs) xs ≡ map (with_rec changed) (cond b (record { id = p.0; key = p.1; rec = rec } ∷ filter (λ e. keeps e.rec) es) (filter (λ e. keeps e.rec) es))
+      at true = ap (λ ys. record { id = p.0; key = p.1; rec = changed rec } ∷ ys) e
+      at false = e
+
+    pub retained : (ids : List (ClientId × ℕ)) → entries_by (λ k. kept keeps changed (old k)) (filter (λ p. is_some (kept keeps changed (old p.1))) ids) ≡ map (with_rec changed) (filter (λ e. keeps e.rec) (entries_by old ids))
+    retained [] = refl
+    retained (p ∷ ids) =
+        entries_cond (λ k. kept keeps changed (old k)) p (filter (λ p. is_some (kept keeps changed (old p.1))) ids) (is_some (kept keeps changed (old p.1)))
+        ∙ retained_at p _ (entries_by old ids) (old p.1) (retained ids)
+
+  pub slot_kept : (keeps : Rec T → Bool) (changed : Rec T → Rec T) (slots : List (Option (Rec T))) (key : ℕ) → slice_index_or (map (kept keeps changed) slots) key None ≡ kept keeps changed (slice_index_or slots key None)
+  slot_kept keeps changed [] key = refl
+  slot_kept keeps changed (o ∷ slots) zero = refl
+  slot_kept keeps changed (o ∷ slots) (suc key) = slot_kept keeps changed slots key
+
+  pub slots_kept : (keeps : Rec T → Bool) (changed : Rec T → Rec T) (slots : List (Option (Rec T))) (ids : List (ClientId × ℕ)) → entries_of (filter (λ p. is_some (slice_index_or (map (kept keeps changed) slots) p.1 None)) ids) (map (kept keeps changed) slots) ≡ map (with_rec changed) (filter (λ e. keeps e.rec) (entries_of ids slots))
+  slots_kept keeps changed slots ids =
+      let at : (λ (k : ℕ). slice_index_or (map (kept keeps changed) slots) k None) ≡ (λ (k : ℕ). kept keeps changed (slice_index_or slots k None)) = fun_ext (slot_kept keeps changed slots) in
+      ap (λ (f : ℕ → Option (Rec T)). entries_by f (filter (λ p. is_some (f p.1)) ids)) at ∙ retained keeps changed (λ k. slice_index_or slots k None) ids
+
+  pub held_kept : (slots : List (Option (Rec T))) (ids : List (ClientId × ℕ)) → Held slots (filter (λ p. is_some (slice_index_or slots p.1 None)) ids)
+  held_kept slots ids = all_passed (λ p. is_some (slice_index_or slots p.1 None)) ids
+
+  -- ---- add
+
+  module _ (key : ℕ) (old new : ℕ → Option (Rec T)) (others : (other : ℕ) → (other ≡ key → ⊥) → new other ≡ old other) (vacant : old key ≡ None) where
+    other_key : (k : ℕ) → is_some (old k) ≡ true → k ≡ key → ⊥
+    other_key k h e = let none : is_some (old k) ≡ false = ap is_some (ap old e ∙ vacant) in cc
+
+    entries_stay : (ids : List (ClientId × ℕ)) → AllByRecursion (λ p. is_some (old p.1) ≡ true) ids → entries_by new ids ≡ entries_by old ids
+    entries_stay [] h = refl
+    entries_stay (p ∷ ids) h =
+        ap (λ o. cons_option (option_map (λ rec. record { id = p.0; key = p.1; rec = rec }) o) (entries_by new ids)) (others p.1 (other_key p.1 h.0))
+        ∙ ap (cons_option (option_map (λ rec. record { id = p.0; key = p.1; rec = rec }) (old p.1))) (entries_stay ids h.1)
+
+    pub added : (ids : List (ClientId × ℕ)) (id : ClientId) (rec : Rec T) → AllByRecursion (λ p. is_some (old p.1) ≡ true) ids → new key ≡ Some rec → entries_by new (ids ++ (id, key) ∷ []) ≡ entries_by old ids ++ record { id = id; key = key; rec = rec } ∷ []
+    added ids id rec h e =
+        filter_map-append (λ p. option_map (λ rec. record { id = p.0; key = p.1; rec = rec }) (new p.1)) ids ((id, key) ∷ [])
+        ∙ ap (λ es. es ++ entries_by new ((id, key) ∷ [])) (entries_stay ids h)
+        ∙ ap (λ o. entries_by old ids ++ cons_option (option_map (λ rec. record { id = id; key = key; rec = rec }) o) []) e
+
+    pub held_added : (ids : List (ClientId × ℕ)) (id : ClientId) → AllByRecursion (λ p. is_some (old p.1) ≡ true) ids → is_some (new key) ≡ true → AllByRecursion (λ p. is_some (new p.1) ≡ true) (ids ++ (id, key) ∷ [])
+    held_added [] id h e = (e, tt)
+    held_added (p ∷ ids) id h e = (ap is_some (others p.1 (other_key p.1 h.0)) ∙ h.0, held_added ids id h.1 e)
+
+    differs : (a b : ℕ) (r : Bool) → (a == b) ≡ r → (a ≡ b → ⊥) → (a == b) ≡ false
+    differs a b true e ne = absurd (ne (eqb-true a b e))
+    differs a b false e ne = e
+
+    apart_from_all : (k : ℕ) (ids : List (ClientId × ℕ)) (id : ClientId) → is_some (old k) ≡ true → AllByRecursion (λ q. (k == q.1) ≡ false) ids → AllByRecursion (λ q. (k == q.1) ≡ false) (ids ++ (id, key) ∷ [])
+    apart_from_all k [] id h a = (differs k key _ refl (other_key k h), tt)
+    apart_from_all k (q ∷ ids) id h a = (a.0, apart_from_all k ids id h a.1)
+
+    pub apart_added : (ids : List (ClientId × ℕ)) (id : ClientId) → AllByRecursion (λ p. is_some (old p.1) ≡ true) ids → AreApart ids → AreApart (ids ++ (id, key) ∷ [])
+    apart_added [] id h a = (tt, tt)
+    apart_added (p ∷ ids) id h a = (apart_from_all p.1 ids id h.0 a.0, apart_added ids id h.1 a.1)
+
+-- ---- what a slab's retain leaves
+
+module _ {T F : Type 0} (step : F → ℕ → MutBor (Rec T) → Bool → MutBor (Rec T) → F → Type 0) (f : F) (keeps : Rec T → Bool) (changed : Rec T → Rec T) (says : (key : ℕ) (old : Rec T) (keep : Bool) (new : Rec T) (next : F) → CalledAt step f key old keep new next → (keep ≡ keeps old) × (new ≡ changed old) × (next ≡ f)) where
+  pub slots_retained : (key : ℕ) (slots left : List (Option (Rec T))) → RetainsFrom step f key slots left → left ≡ map (kept keeps changed) slots
+  slots_retained key [] left h = h
+  slots_retained key (None ∷ slots) left h = h.1 ∙ ap (λ xs. None ∷ xs) (slots_retained (key + 1) slots h.0 h.2)
+  slots_retained key (Some old ∷ slots) left h =
+      let s = says key old h.0 h.1 h.2 h.3 in
+      let more = slots_retained (key + 1) slots h.4 (subst (λ g. RetainsFrom step g (key + 1) slots h.4) s.2 h.6) in
+      h.5 ∙ ap (λ b. cond b (Some h.1) None ∷ h.4) s.0 ∙ ap (λ new. cond (keeps old) (Some new) None ∷ h.4) s.1 ∙ ap (λ xs. cond (keeps old) (Some (changed old)) None ∷ xs) more
+
+-- ---- an insert into the map of ids
+
+pub on_ok : {A E : Type 0} (r : Result A E) (P : Type 0) → OnOk r P → is_ok r ≡ true → P
+on_ok (Ok x) P h e = h
+on_ok (Err fault) P h e = cc
+
+insert_at : (e : ClientId × ℕ) (es more : List (ClientId × ℕ)) (found : Option ℕ) (p : ClientId × ℕ) (v : ℕ) (b : Bool) → cond b (Some e.1) found ≡ None → (found ≡ None → more ≡ es ++ p ∷ []) → cond b ((e.0, v) ∷ es) (e ∷ more) ≡ e ∷ es ++ p ∷ []
+insert_at e es more found p v true h k = cc
+insert_at e es more found p v false h k = ap (λ xs. e ∷ xs) (k h)
+
+pub insert_absent : (eq : ClientId → ClientId → Bool) (es : List (ClientId × ℕ)) (id : ClientId) (key : ℕ) → lookup (eq id) es ≡ None → insert_entry eq es id key ≡ es ++ (id, key) ∷ []
+insert_absent eq [] id key h = refl
+insert_absent eq (e ∷ es) id key h = insert_at e es (insert_entry eq es id key) (lookup (eq id) es) (id, key) key (eq id e.0) h (insert_absent eq es id key)
+
+-- ---- a record that is lent
+
+module _ {T : Type 0} where
+  pub set_same : (slots : List (Option (Rec T))) (key : ℕ) (w : Rec T) → is_some (slice_index_or slots key None) ≡ true → slice_index_or (slice_set slots key (Some w)) key None ≡ Some w
+  set_same [] key w h = cc
+  set_same (o ∷ slots) zero w h = refl
+  set_same (o ∷ slots) (suc key) w h = set_same slots key w h
+
+  pub set_other : (slots : List (Option (Rec T))) (key other : ℕ) (w : Rec T) → (other ≡ key → ⊥) → slice_index_or (slice_set slots key (Some w)) other None ≡ slice_index_or slots other None
+  set_other [] key other w ne = refl
+  set_other (o ∷ slots) zero zero w ne = absurd (ne refl)
+  set_other (o ∷ slots) zero (suc other) w ne = refl
+  set_other (o ∷ slots) (suc key) zero w ne = refl
+  set_other (o ∷ slots) (suc key) (suc other) w ne = set_other slots key other w (λ e. ne (ap suc e))
+
+  lent_at : (slots : List (Option (Rec T))) (key : ℕ) (w : Rec T) (p : ClientId × ℕ) (es more : List (Entry T)) (o : Option (Rec T)) (b : Bool) → slice_index_or slots p.1 None ≡ o → (p.1 == key) ≡ b → is_some o ≡ true → more ≡ with_record key w es → cons_option (entry_of (slice_set slots key (Some w)) p) more ≡ with_record key w (cons_option (option_map (λ rec. record { id = p.0; key = p.1; rec = rec }) o) es)
+  lent_at slots key w p es more None b s e h k = cc
+  lent_at slots key w p es more (Some rec) true s e h k =
+      let here : slice_index_or (slice_set slots key (Some w)) p.1 None ≡ Some w = ap (λ n. slice_index_or (slice_set slots key (Some w)) n None) (eqb-true p.1 key e) ∙ set_same slots key w (ap (λ n. is_some (slice_index_or slots n None)) (sym (eqb-true p.1 key e)) ∙ ap is_some s) in
+      ap (λ o. cons_option (option_map (λ rec. record { id = p.0; key = p.1; rec = rec }) o) more) here
+      ∙ ap (λ xs. record { id = p.0; key = p.1; rec = w } ∷ xs) k
+      ∙ ap (λ b. cond b (record { id = p.0; key = p.1; rec = w }) (record { id = p.0; key = p.1; rec = rec }) ∷ with_record key w es) (sym e)
+  lent_at slots key w p es more (Some rec) false s e h k =
+      let here : slice_index_or (slice_set slots key (Some w)) p.1 None ≡ Some rec = set_other slots key p.1 w (eqb-false p.1 key e) ∙ s in
+      ap (λ o. cons_option (option_map (λ rec. record { id = p.0; key = p.1; rec = rec }) o) more) here
+      ∙ ap (λ xs. record { id = p.0; key = p.1; rec = rec } ∷ xs) k
+      ∙ ap (λ b. cond b (record { id = p.0; key = p.1; rec = w }) (record { id = p.0; key = p.1; rec = rec }) ∷ with_record key w es) (sym e)
+
+  pub lent_entries : (slots : List (Option (Rec T))) (key : ℕ) (w : Rec T) (ids : List (ClientId × ℕ)) → Held slots ids → entries_of ids (slice_set slots key (Some w)) ≡ with_record key w (entries_of ids slots)
+  lent_entries slots key w [] h = refl
+  lent_entries slots key w (p ∷ ids) h = lent_at slots key w p (entries_of ids slots) _ (slice_index_or slots p.1 None) (p.1 == key) refl refl h.0 (lent_entries slots key w ids h.1)
+
+  some_set : (slots : List (Option (Rec T))) (key other : ℕ) (w : Rec T) → is_some (slice_index_or slots other None) ≡ true → is_some (slice_index_or (slice_set slots key (Some w)) other None) ≡ true
+  some_set [] key other w h = h
+  some_set (o ∷ slots) zero zero w h = refl
+  some_set (o ∷ slots) zero (suc other) w h = h
+  some_set (o ∷ slots) (suc key) zero w h = h
+  some_set (o ∷ slots) (suc key) (suc other) w h = some_set slots key other w h
+
+  pub held_lent : (slots : List (Option (Rec T))) (key : ℕ) (w : Rec T) (ids : List (ClientId × ℕ)) → Held slots ids → Held (slice_set slots key (Some w)) ids
+  held_lent slots key w [] h = tt
+  held_lent slots key w (p ∷ ids) h = (some_set slots key p.1 w h.0, held_lent slots key w ids h.1)
+
+  pub are_lent : (slots : List (Option (Rec T))) (key : ℕ) (w : Rec T) (ids : List (ClientId × ℕ)) → AreHeld ids slots → AreHeld ids (slice_set slots key (Some w))
+  are_lent slots key w ids h = record { held = held_lent slots key w ids h.held; apart = h.apart; bound = h.bound }
+
+-- ---- what holds of each entry
+
+both_apart : (id : ClientId) (key : ℕ) (ids : List (ClientId × ℕ)) → AllByRecursion (λ other. is_client id other ≡ false) (keys_of ids) → AllByRecursion (λ q. (key == q.1) ≡ false) ids → AllByRecursion (λ q. (is_client id q.0 ≡ false) × ((key == q.1) ≡ false)) ids
+both_apart id key [] a b = tt
+both_apart id key (q ∷ ids) a b = ((a.0, b.0), both_apart id key ids a.1 b.1)
+
+turned_all : (id : ClientId) (others : List ClientId) → AllByRecursion (λ other. (id.0 == other.0) ≡ false) others → AllByRecursion (λ other. is_client id other ≡ false) others
+turned_all id [] h = tt
+turned_all id (other ∷ others) h = (eqb_turned other.0 id.0 false h.0, turned_all id others h.1)
+
+module _ {T : Type 0} where
+  all_entries_at : (P : ClientId × ℕ → Type 0) (p : ClientId × ℕ) (o : Option (Rec T)) (es : List (Entry T)) → P p → AllByRecursion (λ e. P (e.id, e.key)) es → AllByRecursion (λ e. P (e.id, e.key)) (cons_option (option_map (λ rec. record { id = p.0; key = p.1; rec = rec }) o) es)
+  all_entries_at P p None es h more = more
+  all_entries_at P p (Some rec) es h more = (h, more)
+
+  -- what holds of each id with its key holds of the entries
+  all_entries : (P : ClientId × ℕ → Type 0) (slots : List (Option (Rec T))) (ids : List (ClientId × ℕ)) → AllByRecursion P ids → AllByRecursion (λ e. P (e.id, e.key)) (entries_of ids slots)
+  all_entries P slots [] h = tt
+  all_entries P slots (p ∷ ids) h = all_entries_at P p (slice_index_or slots p.1 None) (entries_of ids slots) h.0 (all_entries P slots ids h.1)
+
+  distinct_at : (p : ClientId × ℕ) (o : Option (Rec T)) (es : List (Entry T)) → AllByRecursion (λ f. (is_client p.0 f.id ≡ false) × ((p.1 == f.key) ≡ false)) es → AreDistinct es → AreDistinct (cons_option (option_map (λ rec. record { id = p.0; key = p.1; rec = rec }) o) es)
+  distinct_at p None es h more = more
+  distinct_at p (Some rec) es h more = (h, more)
+
+  pub are_distinct : (slots : List (Option (Rec T))) (ids : List (ClientId × ℕ)) → IsDistinct (λ a b. a.0 == b.0) (keys_of ids) → AreApart ids → AreDistinct (entries_of ids slots)
+  unfolding IsDistinct
+  are_distinct slots [] d a = tt
+  are_distinct slots (p ∷ ids) d a = distinct_at p (slice_index_or slots p.1 None) (entries_of ids slots) (all_entries _ slots ids (both_apart p.0 p.1 ids (turned_all p.0 (keys_of ids) d.0) a.0)) (are_distinct slots ids d.1 a.1)
+
+  -- what holds of each record holds of each entry's
+  slot_at : (P : Rec T → Type 0) (slots : List (Option (Rec T))) (key : ℕ) → AllByRecursion (λ o. IfSome o P) slots → IfSome (slice_index_or slots key None) P
+  slot_at P [] key h = tt
+  slot_at P (o ∷ slots) zero h = h.0
+  slot_at P (o ∷ slots) (suc key) h = slot_at P slots key h.1
+
+  records_at : (P : Rec T → Type 0) (p : ClientId × ℕ) (o : Option (Rec T)) (es : List (Entry T)) → IfSome o P → AllByRecursion (λ e. P e.rec) es → AllByRecursion (λ e. P e.rec) (cons_option (option_map (λ rec. record { id = p.0; key = p.1; rec = rec }) o) es)
+  records_at P p None es h more = more
+  records_at P p (Some rec) es h more = (h, more)
+
+  pub all_records : (P : Rec T → Type 0) (slots : List (Option (Rec T))) (ids : List (ClientId × ℕ)) → AllByRecursion (λ o. IfSome o P) slots → AllByRecursion (λ e. P e.rec) (entries_of ids slots)
+  all_records P slots [] h = tt
+  all_records P slots (p ∷ ids) h = records_at P p (slice_index_or slots p.1 None) (entries_of ids slots) (slot_at P slots p.1 h) (all_records P slots ids h)
+
+module _ {T F : Type 0} (P : Rec T → Type 0) (step : F → ℕ → MutBor (Rec T) → Bool → MutBor (Rec T) → F → Type 0) (f : F) (says : (key : ℕ) (old : Rec T) (keep : Bool) (new : Rec T) (next : F) → CalledAt step f key old keep new next → P new × (next ≡ f)) where
+  kept_slot : (keep : Bool) (new : Rec T) → P new → IfSome (cond keep (Some new) None) P
+  kept_slot true new h = h
+  kept_slot false new h = tt
+
+  pub slots_hold : (key : ℕ) (slots left : List (Option (Rec T))) → RetainsFrom step f key slots left → AllByRecursion (λ o. IfSome o P) left
+  slots_hold key [] left h = subst (AllByRecursion (λ o. IfSome o P)) (sym h) tt
+  slots_hold key (None ∷ slots) left h = subst (AllByRecursion (λ o. IfSome o P)) (sym h.1) (tt, slots_hold (key + 1) slots h.0 h.2)
+  slots_hold key (Some old ∷ slots) left h =
+      let s = says key old h.0 h.1 h.2 h.3 in
+      subst (AllByRecursion (λ o. IfSome o P)) (sym h.5) (kept_slot h.0 h.1 s.0, slots_hold (key + 1) slots h.4 (subst (λ g. RetainsFrom step g (key + 1) slots h.4) s.1 h.6))
+
+-- ---- the entry that is found
+
+module _ {T : Type 0} where
+  found_holds : (P : Entry T → Type 0) (test : Entry T → Bool) (entries : List (Entry T)) (e : Entry T) → AllByRecursion P entries → find test entries ≡ Some e → P e
+  found_holds P test [] e h f = cc
+  found_holds P test (x ∷ entries) e h f = at (test x) f (found_holds P test entries e h.1) where
+    at : (b : Bool) → cond b (Some x) (find test entries) ≡ Some e → (find test entries ≡ Some e → P e) → P e
+    at true g more = let same : x ≡ e = cc in subst P same h.0
+    at false g more = more g
+
+  keyed_first : (x e : Entry T) (rest : Option (Entry T)) (b c : Bool) → (x.key == e.key) ≡ c → (b ≡ true → x ≡ e) → (b ≡ false → (rest ≡ Some e) × (c ≡ false)) → cond (x.key == e.key) (Some x) rest ≡ Some e
+  keyed_first x e rest true c s t f =
+      let same : x ≡ e = t refl in
+      ap (λ b. cond b (Some x) rest) (eq-eqb x.key e.key (ap (λ y. y.key) same)) ∙ ap Some same
+  keyed_first x e rest false c s t f = ap (λ b. cond b (Some x) rest) (s ∙ (f refl).1) ∙ (f refl).0
+
+  named_first : (x e : Entry T) (rest : Option (Entry T)) (b : Bool) → cond b (Some x) rest ≡ Some e → b ≡ true → x ≡ e
+  named_first x e rest true h t = cc
+  named_first x e rest false h t = cc
+
+  named_rest : (x e : Entry T) (rest : Option (Entry T)) (b : Bool) → cond b (Some x) rest ≡ Some e → b ≡ false → rest ≡ Some e
+  named_rest x e rest true h t = cc
+  named_rest x e rest false h t = h
+
+  pub keyed_as_named : (id : ClientId) (entries : List (Entry T)) (e : Entry T) → AreDistinct entries → entry_named id entries ≡ Some e → entry_keyed e.key entries ≡ Some e
+  keyed_as_named id [] e d f = cc
+  keyed_as_named id (x ∷ entries) e d f =
+      keyed_first x e (entry_keyed e.key entries) (is_client id x.id) _ refl (named_first x e (entry_named id entries) (is_client id x.id) f) (λ b.
+      let rest = named_rest x e (entry_named id entries) (is_client id x.id) f b in
+      (keyed_as_named id entries e d.1 rest, (found_holds _ (λ y. is_client id y.id) entries e d.0 rest).1))
+
+  key_of : (o : Option (Entry T)) (entries : List (Entry T)) (key : ℕ) → ((e : Entry T) → o ≡ Some e → entry_keyed e.key entries ≡ Some e) → Some key ≡ option_map (λ e. e.key) o → entry_keyed key entries ≡ o
+  key_of None entries key h k = cc
+  key_of (Some e) entries key h k = let same : key ≡ e.key = cc in subst (λ n. entry_keyed n entries ≡ Some e) (sym same) (h e refl)
+
+  pub found_keyed : (r : Option ℕ) (id : ClientId) (entries : List (Entry T)) → AreDistinct entries → r ≡ option_map (λ e. e.key) (entry_named id entries) → IfSome r (λ key. entry_keyed key entries ≡ entry_named id entries)
+  found_keyed None id entries d k = tt
+  found_keyed (Some key) id entries d k = key_of (entry_named id entries) entries key (λ e. keyed_as_named id entries e d) k
+
+  some_from : (key : ℕ) (o : Option (Entry T)) → Some key ≡ option_map (λ e. e.key) o → is_some o ≡ true
+  some_from key None k = cc
+  some_from key (Some e) k = refl
+
+  pub found_held : (r : Option ℕ) (id : ClientId) (entries : List (Entry T)) → AreDistinct entries → r ≡ option_map (λ e. e.key) (entry_named id entries) → IfSome r (λ key. is_some (entry_keyed key entries) ≡ true)
+  found_held None id entries d k = tt
+  found_held (Some key) id entries d k = ap is_some (key_of (entry_named id entries) entries key (λ e. keyed_as_named id entries e d) k) ∙ some_from key (entry_named id entries) k

@@ -1,0 +1,8 @@
+//! The clients of a queue, in order of registration.
+#![tactic(auto)]
+
+pub mod change;
+pub mod fault;
+pub mod roster;
+#[cfg(test)]
+mod tests;

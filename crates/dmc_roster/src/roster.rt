@@ -1,0 +1,192 @@
+//! The roster.
+ghost use Rattle.std.specs.Prelude.{◌≡◌, ◌==◌, ◌≤◌, true, not, length, [], ◌∷◌, ◌++◌, None, IfOk, IfSome, OnErr, map, filter, Some, is_some};
+ghost use Rattle.std.specs.Option.{option_map};
+ghost use Rattle.slab.specs.Slab.{get, Updates};
+ghost use Rattle.std.specs.List.{AllByRecursion};
+ghost use Rattle.std.specs.Map.{lookup};
+ghost use Rattle.dmc_client.specs.Record.{IsRecord};
+ghost use Rattle.dmc_roster.specs.Entries as entries;
+ghost use Rattle.dmc_roster.specs.contracts.roster.Roster.{the_row};
+ghost use Rattle.dmc_client.specs.contracts.record.ClientRec.{the_row as record_row};
+ghost use Rattle.std.specs.Borrow.{LendsIf, sem};
+ghost use Rattle.std.specs.Option.{option_copied_mut};
+
+use crate::change::RecordRule;
+use crate::fault::RosterFault;
+use dmc_client::record::ClientRec;
+use dmc_tag::tag::Tag;
+use dmc_types::ids::ClientId;
+use indexmap::IndexMap;
+use slab::Slab;
+use std::alloc::{AllocError, Global};
+use std::marker::Model;
+
+/// The most clients that a roster holds.
+const MOST: usize = 65_536;
+
+/// The registered clients, in order of registration: an id, the key of its record, and the record. No two have one id or
+/// one key, and there are at most 65,536.
+#[derive(Drop)]
+pub struct Roster<T: Tag> {
+    ids: IndexMap<ClientId, usize>,
+    records: Slab<ClientRec<T>>,
+}
+
+impl<T: Tag> Model for Roster<T> {
+    ghost use Rattle.dmc_roster.specs.Entries.{Listing, entries_of, AreHeld};
+
+    ghost Value = { Listing T };
+
+    ghost view = { λ r. record { entries = entries_of r.ids.entries r.records.slots; next_key = r.records.vacant_key } };
+
+    ghost invariant = { λ r. AreHeld r.ids.entries r.records.slots };
+}
+
+impl<T: Tag> Roster<T> {
+    /// A roster of no clients. It takes no memory.
+    pub fn new(alloc: Global) -> Roster<T>
+        ensures { result.entries ≡ [] }
+    {
+        Roster {
+            ids: IndexMap::new(alloc),
+            records: Slab::new(alloc),
+        }
+    }
+
+    /// How many clients are registered.
+    pub fn len(&self) -> usize
+        ensures value { result ≡ length self.now.entries }
+        ensures bound { result ≤ 65536 }
+        ensures distinct { entries.AreDistinct self.now.entries }
+    {
+        self.ids.len()
+    }
+
+    /// The key that the next client takes.
+    pub fn next_key(&self) -> usize
+        ensures { result ≡ self.now.next_key }
+    {
+        self.records.vacant_key()
+    }
+
+    /// The key of a client's record.
+    pub fn find(&self, id: ClientId) -> Option<usize>
+        ensures key { result ≡ option_map (λ e. e.key) (entries.entry_named id self.now.entries) }
+        ensures entry { IfSome result (λ key. entries.entry_keyed key self.now.entries ≡ entries.entry_named id self.now.entries) }
+        ensures held { IfSome result (λ key. is_some (entries.entry_keyed key self.now.entries) ≡ true) }
+    {
+        // it tells that no id stands twice
+        let _count = self.ids.len();
+        self.ids.get(&id).copied()
+    }
+
+    /// The record under a key.
+    pub fn at(&self, key: usize) -> &ClientRec<T>
+        requires { is_some (entries.entry_keyed key self.now.entries) ≡ true }
+        ensures { entries.record_at key self.now.entries ≡ Some result.now }
+    {
+        self.records.get(key).unwrap()
+    }
+
+    /// The record under a key, to change; none where the key is not held.
+    pub fn at_mut(&mut self, key: usize) -> Option<&mut ClientRec<T>>
+        ensures* writes_back { sem 𝓛 (LendsIf (the_row T.row (record { ops = T.ops; fraction = T.fraction; is_value = T.is_value }) (record { cmp = T.cmp }) (record { eq = T.eq }) (record { partial_cmp = T.partial_cmp })) (record_row T.row (record { ops = T.ops; fraction = T.fraction; is_value = T.is_value }) (record { cmp = T.cmp }) (record { eq = T.eq }) (record { partial_cmp = T.partial_cmp })) self.entry result (λ rec. entries.with_record_at self.old key rec) self.old) }
+        ensures value { is_some (entries.entry_keyed key self.old.entries) ≡ true → option_copied_mut result ≡ entries.record_at key self.old.entries }
+    {
+        self.records.get_mut(key)
+    }
+
+    /// Erases the client under a key. The others keep their order.
+    pub fn erase(&mut self, key: usize)
+        requires { is_some (entries.entry_keyed key self.old.entries) ≡ true }
+        ensures { self.new.entries ≡ filter (λ e. not (e.key == key)) self.old.entries }
+    {
+        drop_key(&mut self.ids, key);
+        self.records.try_remove(key);
+    }
+
+    /// Registers a client; refused `Known`, `Clients`, `Memory`, in this order. It answers the key of the record.
+    pub fn add(&mut self, id: ClientId, rec: ClientRec<T>) -> Result<usize, RosterFault>
+        ensures { entries.Adds self.old self.new id rec result }
+    {
+        if self.ids.contains_key(&id) {
+            return Err(RosterFault::Known);
+        }
+        if self.ids.len() >= MOST {
+            return Err(RosterFault::Clients);
+        }
+        let Ok(key) = insert_new(&mut self.ids, &mut self.records, id, rec) else {
+            return Err(RosterFault::Memory);
+        };
+        Ok(key)
+    }
+
+    /// Lets a rule change each record and erase clients, in one pass. The others keep their order.
+    pub fn retain<R: RecordRule<T>>(&mut self, rule: &R)
+        ensures kept { AllByRecursion (λ e. IsRecord T.ops e.rec) self.new.entries }
+        ensures value { self.new.entries ≡ map (entries.with_rec (R.changed rule.now)) (filter (λ e. R.keeps rule.now e.rec) self.old.entries) }
+    {
+        apply_to_each(&mut self.records, rule);
+        drop_vacant(&mut self.ids, &self.records);
+    }
+}
+
+/// Lets the rule change or take out each record.
+fn apply_to_each<T: Tag, R: RecordRule<T>>(records: &mut Slab<ClientRec<T>>, rule: &R)
+    ensures slots { records.new.slots ≡ map (entries.kept (R.keeps rule.now) (R.changed rule.now)) records.old.slots }
+    ensures kept { AllByRecursion (λ o. IfSome o (IsRecord T.ops)) records.new.slots }
+{
+    records.retain(
+        |_key: usize, rec: &mut ClientRec<T>| -> bool
+            ensures { (result ≡ R.keeps rule.entry.now rec.old) × (rec.new ≡ R.changed rule.entry.now rec.old) × IsRecord T.ops rec.new }
+        { rule.apply(rec) },
+    );
+}
+
+/// Drops the ids whose keys have no record.
+fn drop_vacant<T: Tag>(ids: &mut IndexMap<ClientId, usize>, records: &Slab<ClientRec<T>>)
+    ensures { ids.new.entries ≡ filter (λ p. is_some (get records.now p.1)) ids.old.entries }
+{
+    ids.retain(
+        |_id: &ClientId, key: &mut usize| -> bool
+            ensures { (result ≡ is_some (get records.entry.now key.old)) × (key.new ≡ key.old) }
+        { records.contains(*key) },
+    );
+}
+
+/// Drops the id of a key.
+fn drop_key(ids: &mut IndexMap<ClientId, usize>, key: usize)
+    ensures { ids.new.entries ≡ filter (λ p. not (p.1 == key)) ids.old.entries }
+{
+    ids.retain(
+        |_id: &ClientId, at: &mut usize| -> bool
+            ensures { (result ≡ not (at.old == key)) × (at.new ≡ at.old) }
+        { *at != key },
+    );
+}
+
+/// Stores a record, and its id last. A refused growth leaves both.
+fn insert_new<T: Tag>(
+    ids: &mut IndexMap<ClientId, usize>,
+    records: &mut Slab<ClientRec<T>>,
+    id: ClientId,
+    rec: ClientRec<T>,
+) -> Result<usize, AllocError>
+    requires { lookup (λ other. id.0 == other.0) ids.old.entries ≡ None }
+    ensures key { IfOk result (λ key. key ≡ records.old.vacant_key) }
+    ensures vacant { IfOk result (λ key. get records.old key ≡ None) }
+    ensures updates { IfOk result (λ key. Updates records.old records.new key (Some rec)) }
+    ensures last { IfOk result (λ key. ids.new.entries ≡ ids.old.entries ++ (id, key) ∷ []) }
+    ensures ids { OnErr result (ids.new.entries ≡ ids.old.entries) }
+    ensures slots { OnErr result (records.new.slots ≡ records.old.slots) }
+    ensures next { OnErr result (records.new.vacant_key ≡ records.old.vacant_key) }
+{
+    ids.reserve(1)?;
+    let Ok(key) = records.insert(rec) else {
+        return Err(AllocError);
+    };
+    if ids.insert(id, key).is_err() {
+        unreachable!();
+    }
+    Ok(key)
+}

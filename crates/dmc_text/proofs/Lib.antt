@@ -5,6 +5,5 @@ pub mod ReplyLemmas
 pub mod ReadingLemmas
 pub mod Tellable
 pub mod RunLemmas
-pub mod LineLemmas
 pub mod RunSteps
 pub mod RunEnds

@@ -56,12 +56,6 @@ range_grown old new start end n h e =
     ∙ ap (λ xs. xs ++ take n (drop (end - start) (drop start new))) (same_range old new start end h e)
     ∙ ap (λ xs. slice_range old start end ++ take n xs) (drop-drop (end - start) start new ∙ ap (λ k. drop k new) place)
 
--- what keeps all bytes takes none
-pub none_taken : (before after : Option (List ℕ)) → Keeps before after → Consumes before after []
-none_taken None after h = tt
-none_taken (Some xs) None h = h
-none_taken (Some xs) (Some ys) h = sym h
-
 -- what takes no byte keeps all
 pub all_kept : (before after : Option (List ℕ)) → Consumes before after [] → Keeps before after
 all_kept None after h = tt

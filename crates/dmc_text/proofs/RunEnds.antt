@@ -1,5 +1,5 @@
 -- How a run ends.
-use Rattle.std.proofs.Common.{◌≡◌, ℕ, suc, ◌<◌, Bool, true, false, List, [], ◌∷◌, ◌++◌, refl, sym, ap, subst, ◌∙◌, arith, length, append-nil, Option, Some, None, is_some, Result, Ok, Err}
+use Rattle.std.proofs.Common.{◌≡◌, ℕ, suc, ◌<◌, Bool, true, false, List, [], ◌∷◌, ◌++◌, refl, sym, ap, subst, ◌∙◌, length, append-nil, Option, Some, None, is_some, Result, Ok, Err}
 use Rattle.std.specs.Prelude.{IfSome, ⊤}
 use Rattle.std.specs.Option.{option_map}
 use Rattle.std.specs.Io.KnownBytes.{Consumes, Appends, IsAtEnd}
@@ -16,7 +16,7 @@ use Rattle.dmc_text.specs.Reading.{Reading, next_line}
 use Rattle.dmc_text.specs.Texts.{and_on, fault_or, headed_by, lines_of, commands, written, written_for, first_fault, fault_of, whole_lines, out, AppendsSome, RunsAs}
 use Rattle.dmc_text.specs.Runs.{seen, Progress, CarriedOut, IsFaultHere, Stopped, Starts, Goes, Ended, Ends, Finished, closed_of, settled_of}
 use Rattle.dmc_text.proofs.ReadingLemmas.{appends_twice}
-use Rattle.dmc_text.proofs.LineLemmas.{no_line, one_line}
+use Rattle.dmc_text.specs.LineLaws.{last_line}
 use Rattle.dmc_text.proofs.RunSteps.{fault_first}
 
 -- ---- the beginning
@@ -75,10 +75,6 @@ finished_plain ops text state input output r w run none p = record {
   out_is = ap (λ o. p.sent ++ o) (sym (append-nil run.out.items)) ∙ p.out_is [] ∙ ap (λ o. out ops text (p.done ++ o)) (sym none);
   fault_is = p.fault_is [] ∙ ap (λ o. fault_of (p.done ++ o)) (sym none);
 }
-
-last_line : (rest : List ℕ) → next_line rest ≡ None → 0 < length rest → lines_of rest ≡ rest ∷ []
-last_line [] none some = absurd (omega (arith, some))
-last_line (b ∷ bs) none some = one_line b bs (no_line (b ∷ bs) none)
 
 pub finished_last : {T Q : Type 0} (ops : Tagging T) (text : T → List ℕ) (state : Q → State T) (input output r w : Option (List ℕ)) (old new : Running Q) (l : Reading)
     → next_line old.lines.rest ≡ None → 0 < length old.lines.rest → l.line ≡ old.lines.rest

@@ -1,46 +1,23 @@
 -- The steps of a run, and what they keep.
-use Rattle.std.proofs.Common.{◌≡◌, ℕ, suc, ◌<◌, Bool, true, false, cond, List, [], ◌∷◌, ◌++◌, refl, sym, ap, subst, ◌∙◌, arith, length, length-append, Option, Some, None, is_some, Result, Ok, Err, inl, inr}
-use Rattle.std.specs.Prelude.{◌&&◌, IfOk, OnErr, OnOk, is_err}
+use Rattle.std.proofs.Common.{◌≡◌, ℕ, suc, ◌<◌, Bool, true, false, List, [], ◌∷◌, ◌++◌, refl, sym, ap, subst, ◌∙◌, arith, length, Option, Some, None, is_some, Result, Ok, Err, inl, inr}
+use Rattle.std.specs.Prelude.{IfOk, OnErr, OnOk, is_err}
 use Rattle.std.specs.Option.{option_map}
-use Rattle.std.specs.List.{list_all}
 use Rattle.std.specs.Io.KnownBytes.{Consumes, Appends}
-use Rattle.std.proofs.lemmas.Bool.{lt-leb}
 use Rattle.std.proofs.lemmas.List.{append_assoc}
 use Rattle.dmc_tag.specs.Tag.{Tagging}
 use Rattle.dmc_tag.specs.State.{State}
 use Rattle.dmc_text.specs.declared.cause.LineCause.{LineCause}
 use Rattle.dmc_text.specs.declared.cause.LineCause.TheVariants.{Bytes}
 use Rattle.dmc_text.specs.declared.script.Running.{Running}
-use Rattle.dmc_text.specs.Lines.{line_of, said, is_clean, is_line_byte}
+use Rattle.dmc_text.specs.Lines.{line_of, said}
+use Rattle.dmc_text.specs.Answers.{◌>>=◌}
 use Rattle.dmc_text.specs.Words.{words}
 use Rattle.dmc_text.specs.Reading.{Reading, next_line}
 use Rattle.dmc_text.specs.Texts.{and_on, fault_or, headed_by, lines_of, commands, written, written_for, first_fault, fault_of, whole_lines, out, AppendsSome}
 use Rattle.std.specs.declared.alloc.AllocError.{AllocError}
 use Rattle.dmc_text.specs.Runs.{seen, Progress, CarriedOut, CarriesOut, IsCut, IsCounted, IsFaultHere, Stopped, Turns, turn_of, left}
 use Rattle.dmc_text.proofs.ReadingLemmas.{appends_twice}
-use Rattle.dmc_text.proofs.LineLemmas.{first_line, no_line, line_first, lines_behind, leads, whole_on, ends_whole}
-
-pub consumes_twice : (a b c : Option (List ℕ)) (xs ys : List ℕ) → Consumes a b xs → Consumes b c ys → Consumes a c (xs ++ ys)
-consumes_twice None b c xs ys h k = tt
-consumes_twice (Some as') None c xs ys h k = absurd h
-consumes_twice (Some as') (Some bs) None xs ys h k = k
-consumes_twice (Some as') (Some bs) (Some cs) xs ys h k = h ∙ ap (λ w. xs ++ w) k ∙ sym (append_assoc xs ys cs)
-
--- a line and its LF, and what stands behind them
-behind_line : (done line more : List ℕ) → done ++ (line ++ (10 ∷ more)) ≡ (done ++ (line ++ 10 ∷ [])) ++ more
-behind_line done line more = ap (λ w. done ++ w) (sym (append_assoc line (10 ∷ []) more)) ∙ sym (append_assoc done (line ++ 10 ∷ []) more)
-
--- the line that was found, in front of what follows it
-line_and_more : (rest : List ℕ) (l : Reading) (more : List ℕ) → next_line rest ≡ Some (l.line, l.rest) → lines_of (rest ++ more) ≡ l.line ∷ lines_of (l.rest ++ more)
-line_and_more rest l more found =
-    let f = first_line rest l.line l.rest found in
-    ap (λ w. lines_of (w ++ more)) f.whole ∙ ap lines_of (append_assoc l.line (10 ∷ l.rest) more) ∙ line_first l.line (l.rest ++ more) f.plain
-
-pub shorter : (rest : List ℕ) (l : Reading) → next_line rest ≡ Some (l.line, l.rest) → length l.rest < length rest
-shorter rest l found =
-    let f = first_line rest l.line l.rest found in
-    let whole : length rest ≡ length (l.line ++ (10 ∷ l.rest)) = ap length f.whole in
-    omega (arith, whole, length-append l.line (10 ∷ l.rest))
+use Rattle.dmc_text.specs.LineLaws.{first_line, no_line, line_first, lines_behind, leads, whole_on, ends_whole, behind_line, line_and_more, shorter, long_kind, consumes_twice}
 
 -- a line that was found is carried out
 pub answered : {T Q : Type 0} (ops : Tagging T) (text : T → List ℕ) (state : Q → State T) (input output r w : Option (List ℕ)) (old new : Running Q) (l : Reading)
@@ -98,12 +75,8 @@ faulty ops text state old l cause found e = λ more.
     fault_first ops text (seen state old) old.number cause (old.lines.rest ++ more) l.line (lines_of (l.rest ++ more)) (line_and_more old.lines.rest l more found) e
 
 -- a line that is too long
-unclean : (line : List ℕ) → 256 < length line → is_clean line ≡ false
-unfolding is_clean
-unclean line h = ap (λ b. b && list_all is_line_byte line) (lt-leb (length line) 256 h)
-
 long_line : (headed : Bool) (line : List ℕ) → 256 < length line → line_of headed line ≡ Err Bytes
-long_line headed line h = ap (λ b. cond b (said headed (words line)) (Err Bytes)) (unclean line h)
+long_line headed line h = ap (λ k. k >>= λ x. said x (words line)) (long_kind headed line h)
 
 pub long : {T Q : Type 0} (ops : Tagging T) (text : T → List ℕ) (state : Q → State T) (old : Running Q) (rest : List ℕ) → old.lines.rest ≡ rest
     → next_line rest ≡ None → 256 < length rest → IsFaultHere ops text state old Bytes

@@ -8,5 +8,6 @@ pub mod Replies
 pub mod RoundTrip
 pub mod Texts
 pub mod Reading
+pub mod LineLaws
 pub mod Runs
 pub mod RatioText

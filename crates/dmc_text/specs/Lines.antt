@@ -12,6 +12,9 @@ use Rattle.dmc_text.specs.declared.cause.LineCause.TheVariants.{Bytes, Hz, Words
 use Rattle.dmc_text.specs.declared.command.CommandFault.{CommandFault}
 use Rattle.dmc_text.specs.declared.command.CommandFault.TheVariants as unread
 use Rattle.dmc_types.specs.declared.command.Command.{Command}
+use Rattle.dmc_types.specs.Values.{Setting}
+use Rattle.dmc_text.specs.declared.line.LineKind.{LineKind}
+use Rattle.dmc_text.specs.declared.line.LineKind.TheVariants as kinds
 use Rattle.dmc_text.specs.declared.line.Line.{Line}
 use Rattle.dmc_text.specs.declared.line.Line.TheVariants.{Skip, Config, Ask, Value}
 use Rattle.dmc_text.specs.Numbers.{number}
@@ -64,13 +67,13 @@ ages_of (Some words) = do
   Ok (idle, erase)
 
 -- a configuration within its limits
-unfoldable pub configured : ℕ → ℕ → ℕ → AtLimit → Result Line LineCause
+unfoldable pub configured : ℕ → ℕ → ℕ → AtLimit → Result Setting LineCause
 configured hz idle erase at_limit =
     if nat_lt 0 hz && nat_le hz 1000000000 && nat_lt 0 idle && nat_le idle erase && nat_le erase (2 ^ 62)
-    then Ok (Config (record { hz = hz; idle_age = idle; erase_age = erase; at_limit = at_limit }))
+    then Ok (record { hz = hz; idle_age = idle; erase_age = erase; at_limit = at_limit })
     else Err Hz
 
-unfoldable pub setting : Heading → Result Line LineCause
+unfoldable pub setting : Heading → Result Setting LineCause
 setting h = do
   hz ← figure h.hz
   ages ← ages_of h.ages
@@ -109,14 +112,24 @@ abbrev pub is_comment : List ℕ → Bool
 is_comment [] = false
 is_comment (b ∷ bs) = b == 35
 
--- what the words of a line say: an hz line comes first, and once
-abbrev pub said : Bool → List (List ℕ) → Result Line LineCause
-said headed [] = Ok Skip
-said headed (name ∷ args) =
-    if is_comment name then Ok Skip
-    else (if headed then (if bytes_eq name (codes "hz") then Err Hz else asked (name ∷ args))
-    else (if bytes_eq name (codes "hz") then heading args >>= setting else Err Hz))
+-- what the words of a line are: an hz line comes first, and once
+abbrev pub kind : Bool → List (List ℕ) → Result LineKind LineCause
+kind headed [] = Ok kinds.Skip
+kind headed (name ∷ args) =
+    if is_comment name then Ok kinds.Skip
+    else (if headed then (if bytes_eq name (codes "hz") then Err Hz else Ok kinds.Command)
+    else (if bytes_eq name (codes "hz") then heading args >>= setting >>= (λ config. Ok (kinds.Config config)) else Err Hz))
 
--- what a line says; headed: an hz line was read before
+-- what a line is; headed: an hz line was read before
+abbrev pub kind_of : Bool → List ℕ → Result LineKind LineCause
+kind_of headed line = if is_clean line then kind headed (words line) else Err Bytes
+
+-- what the words of a line of a script say
+abbrev pub said : LineKind → List (List ℕ) → Result Line LineCause
+said kinds.Skip ws = Ok Skip
+said (kinds.Config config) ws = Ok (Config config)
+said kinds.Command ws = asked ws
+
+-- what a line of a script says; headed: an hz line was read before
 abbrev pub line_of : Bool → List ℕ → Result Line LineCause
-line_of headed line = if is_clean line then said headed (words line) else Err Bytes
+line_of headed line = kind_of headed line >>= λ k. said k (words line)

@@ -3,7 +3,7 @@ ghost use Rattle.std.specs.Prelude.{◌≡◌};
 ghost use Rattle.std.specs.List.{list_all};
 ghost use Rattle.dmc_text.specs.Words.{words};
 ghost use Rattle.dmc_text.specs.Answers.{Gives};
-ghost use Rattle.dmc_text.specs.Lines.{is_line_byte, limit_of, seen_ages, seen_heading, is_clean, heading, figure, ages_of, configured, setting, asked, is_comment, line_of};
+ghost use Rattle.dmc_text.specs.Lines.{is_line_byte, limit_of, seen_ages, seen_heading, is_clean, heading, figure, ages_of, configured, setting, asked, is_comment, kind_of, line_of};
 
 use crate::cause::LineCause;
 use crate::command::{CommandFault, command_words, next_word, read_command};
@@ -24,6 +24,17 @@ pub enum Line {
     Ask(Command),
     /// A command with a value out of its limits.
     Value(ValueFault),
+}
+
+/// What a line is, before a command is read of it.
+#[derive(Clone, Copy, Debug, PartialEq, Eq)]
+pub enum LineKind {
+    /// It says nothing: it has no word, or its first begins with `#`.
+    Skip,
+    /// How the queue is set up.
+    Config(QueueConfig),
+    /// It has to say a command.
+    Command,
 }
 
 /// The most bytes of a line, without its LF.
@@ -76,13 +87,15 @@ fn figure(word: &[u8]) -> Result<u64, LineCause>
 
 /// A configuration within its limits.
 #[tactic(auto, unfolding(crate::specs::Lines::configured))]
-fn configured(hz: u64, idle_age: u64, erase_age: u64, at_limit: AtLimit) -> Result<Line, LineCause>
+fn configured(
+    hz: u64,
+    idle_age: u64,
+    erase_age: u64,
+    at_limit: AtLimit,
+) -> Result<QueueConfig, LineCause>
     ensures { result ≡ configured hz idle_age erase_age at_limit }
 {
-    match QueueConfig::new(hz, idle_age, erase_age, at_limit) {
-        Ok(config) => Ok(Line::Config(config)),
-        Err(_) => Err(LineCause::Hz),
-    }
+    QueueConfig::new(hz, idle_age, erase_age, at_limit).map_err(|_| LineCause::Hz)
 }
 
 /// The one command of a line.
@@ -153,7 +166,7 @@ fn ages_of(ages: Option<(&[u8], &[u8])>) -> Result<(u64, u64), LineCause>
 
 /// The configuration that words name.
 #[tactic(auto, unfolding(crate::specs::Lines::setting))]
-fn read_config(words: ConfigWords<'_>) -> Result<Line, LineCause>
+fn read_config(words: ConfigWords<'_>) -> Result<QueueConfig, LineCause>
     ensures { result ≡ setting (seen_heading words.entry) }
 {
     let hz = figure(words.hz)?;
@@ -161,25 +174,36 @@ fn read_config(words: ConfigWords<'_>) -> Result<Line, LineCause>
     configured(hz, idle_age, erase_age, words.at_limit)
 }
 
-/// What a line says, without its LF. `headed`: an `hz` line was read before.
-pub fn read_line(line: &[u8], headed: bool) -> Result<Line, LineCause>
-    ensures { result ≡ line_of headed line.now }
+/// What a line is, without its LF. `headed`: an `hz` line was read before.
+pub fn read_kind(line: &[u8], headed: bool) -> Result<LineKind, LineCause>
+    ensures { result ≡ kind_of headed line.now }
 {
     if !is_clean(line) {
         return Err(LineCause::Bytes);
     }
     let Some((name, rest)) = first_word(line) else {
-        return Ok(Line::Skip);
+        return Ok(LineKind::Skip);
     };
     if is_comment(name) {
-        return Ok(Line::Skip);
+        return Ok(LineKind::Skip);
     }
     let heads = name == b"hz".as_slice();
     if heads == headed {
         return Err(LineCause::Hz);
     }
     if headed {
-        return asked(line);
+        return Ok(LineKind::Command);
     }
-    read_config(config_words(rest)?)
+    Ok(LineKind::Config(read_config(config_words(rest)?)?))
+}
+
+/// What a line of a script says, without its LF. `headed`: an `hz` line was read before.
+pub fn read_line(line: &[u8], headed: bool) -> Result<Line, LineCause>
+    ensures { result ≡ line_of headed line.now }
+{
+    match read_kind(line, headed)? {
+        LineKind::Skip => Ok(Line::Skip),
+        LineKind::Config(config) => Ok(Line::Config(config)),
+        LineKind::Command => asked(line),
+    }
 }

@@ -170,7 +170,7 @@ fn send<W: Write>(out: &mut Vec<u8>, writer: &mut W) -> io::Result<()>
 }
 
 /// Writes all bytes, again where a write was interrupted.
-fn send_all<W: Write>(bytes: &[u8], writer: &mut W) -> io::Result<()>
+pub fn send_all<W: Write>(bytes: &[u8], writer: &mut W) -> io::Result<()>
     ensures ok { OnOk result (Appends (W.contents writer.old) (W.contents writer.new) bytes.now) }
     ensures err { OnErr result (AppendsSome (W.contents writer.old) (W.contents writer.new) bytes.now) }
 {
@@ -199,7 +199,7 @@ fn write_once<W: Write>(bytes: &[u8], writer: &mut W) -> io::Result<usize>
 }
 
 /// What one turn of a run comes to.
-enum Turn {
+pub enum Turn {
     /// There is more to do.
     More,
     /// The text is read to its end, and no whole line of it is left.
@@ -236,7 +236,7 @@ fn take_turn<T: TagText, M: QueueMaker<T>, R: Read, W: Write>(
 }
 
 /// What the answer to a line comes to.
-fn answered(answer: Result<Option<LineCause>, AllocError>) -> Result<Turn, ScriptFault>
+pub fn answered(answer: Result<Option<LineCause>, AllocError>) -> Result<Turn, ScriptFault>
     ensures { result ≡ turn_of answer }
 {
     match answer {

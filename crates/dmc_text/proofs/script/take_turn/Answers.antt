@@ -4,7 +4,7 @@ use Rattle.std.proofs.lemmas.Bool.{ltb-true}
 use Rattle.dmc_text.specs.Replies.{tag_text}
 use Rattle.dmc_text.specs.Reading.{next_line, Filled}
 use Rattle.dmc_text.specs.Runs.{Turns}
-use Rattle.dmc_text.proofs.ReadingLemmas.{none_taken}
+use Rattle.dmc_text.specs.LineLaws.{none_taken}
 use Rattle.dmc_text.proofs.RunSteps.{turn_by, long, read_more, not_written, not_read, err_is, ok_is, err_less}
 use Rattle.dmc_text.proofs.script.take_turn.Goals as goal
 

@@ -3,7 +3,8 @@ use Rattle.std.proofs.Common.{◌≡◌, ◌+◌, ◌-◌, ◌^◌, ◌<◌, ◌
 use Rattle.std.specs.Prelude.{slice_range, vec_len}
 use Rattle.std.specs.Io.KnownBytes.{Consumes}
 use Rattle.std.proofs.lemmas.List.{length-take-le}
-use Rattle.dmc_text.proofs.ReadingLemmas.{same_range, range_grown, none_taken, all_kept}
+use Rattle.dmc_text.specs.LineLaws.{none_taken}
+use Rattle.dmc_text.proofs.ReadingLemmas.{same_range, range_grown, all_kept}
 use Rattle.dmc_text.proofs.lines.LineReader.fill.Goals as goal
 
 pub returns-in-Ok-eq0-clause-bytes : goal.returns-in-Ok-eq0-clause-bytes

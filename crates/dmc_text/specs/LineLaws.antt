@@ -1,12 +1,18 @@
--- The lines of a text, one after the other.
-use Rattle.std.proofs.Common.{◌≡◌, ℕ, suc, ◌+◌, ◌<◌, ◌≤◌, Bool, true, false, not, cond, ltb, List, [], ◌∷◌, ◌++◌, refl, sym, ap, ◌∙◌, arith, length, take, drop, get_or, drop-cons, ◌||◌, ◌==◌, Some, None}
+-- The lines of a text, one after the other, and what is taken of its bytes.
+use Rattle.std.proofs.Common.{◌≡◌, ℕ, suc, ◌+◌, ◌<◌, ◌≤◌, Bool, true, false, not, cond, ltb, List, [], ◌∷◌, ◌++◌, refl, sym, ap, ◌∙◌, arith, length, length-append, take, drop, get_or, drop-cons, ◌||◌, ◌==◌, Option, Some, None}
 use Rattle.std.specs.Option.{option_map}
 use Rattle.std.specs.List.{position_or_len}
-use Rattle.std.proofs.lemmas.Bool.{ltb-true, ltb-false, eqb-true}
-use Rattle.std.proofs.lemmas.List.{take_all, take-append-drop}
+use Rattle.std.specs.Prelude.{◌&&◌, Err}
+use Rattle.std.specs.List.{list_all}
+use Rattle.std.proofs.lemmas.Bool.{ltb-true, ltb-false, eqb-true, lt-leb}
+use Rattle.std.proofs.lemmas.List.{take_all, take-append-drop, append_assoc}
 use Rattle.std.proofs.lemmas.List.Sums.{passes_at_first}
 use Rattle.std.proofs.lemmas.List.Folds.{list_any-append}
-use Rattle.dmc_text.specs.Reading.{is_end, next_line}
+use Rattle.std.specs.Io.KnownBytes.{Keeps, Consumes}
+use Rattle.dmc_text.specs.declared.cause.LineCause.TheVariants.{Bytes}
+use Rattle.dmc_text.specs.Words.{words}
+use Rattle.dmc_text.specs.Lines.{kind, kind_of, is_clean, is_line_byte}
+use Rattle.dmc_text.specs.Reading.{Reading, is_end, next_line}
 use Rattle.dmc_text.specs.Texts.{onto, lines_of, has_end, whole_lines}
 
 -- ---- the first line
@@ -119,6 +125,52 @@ one_line b [] h =
 one_line b (a ∷ cs) h =
     let p = or_false (b == 10) (has_end (a ∷ cs)) h in
     ap (λ t. cond t ([] ∷ lines_of (a ∷ cs)) (onto b (lines_of (a ∷ cs)))) p.0 ∙ ap (onto b) (one_line a cs p.1)
+
+-- the last line, which lacks its LF
+pub last_line : (rest : List ℕ) → next_line rest ≡ None → 0 < length rest → lines_of rest ≡ rest ∷ []
+last_line [] none some = absurd (omega (arith, some))
+last_line (b ∷ bs) none some = one_line b bs (no_line (b ∷ bs) none)
+
+-- ---- a line that was found
+
+-- a line and its LF, and what stands behind them
+pub behind_line : (done line more : List ℕ) → done ++ (line ++ (10 ∷ more)) ≡ (done ++ (line ++ 10 ∷ [])) ++ more
+behind_line done line more = ap (λ w. done ++ w) (sym (append_assoc line (10 ∷ []) more)) ∙ sym (append_assoc done (line ++ 10 ∷ []) more)
+
+-- the line that was found, in front of what follows it
+pub line_and_more : (rest : List ℕ) (l : Reading) (more : List ℕ) → next_line rest ≡ Some (l.line, l.rest) → lines_of (rest ++ more) ≡ l.line ∷ lines_of (l.rest ++ more)
+line_and_more rest l more found =
+    let f = first_line rest l.line l.rest found in
+    ap (λ w. lines_of (w ++ more)) f.whole ∙ ap lines_of (append_assoc l.line (10 ∷ l.rest) more) ∙ line_first l.line (l.rest ++ more) f.plain
+
+pub shorter : (rest : List ℕ) (l : Reading) → next_line rest ≡ Some (l.line, l.rest) → length l.rest < length rest
+shorter rest l found =
+    let f = first_line rest l.line l.rest found in
+    let whole : length rest ≡ length (l.line ++ (10 ∷ l.rest)) = ap length f.whole in
+    omega (arith, whole, length-append l.line (10 ∷ l.rest))
+
+-- ---- a line that is too long
+
+unclean : (line : List ℕ) → 256 < length line → is_clean line ≡ false
+unfolding is_clean
+unclean line h = ap (λ b. b && list_all is_line_byte line) (lt-leb (length line) 256 h)
+
+pub long_kind : (headed : Bool) (line : List ℕ) → 256 < length line → kind_of headed line ≡ Err Bytes
+long_kind headed line h = ap (λ b. cond b (kind headed (words line)) (Err Bytes)) (unclean line h)
+
+-- ---- bytes
+
+-- what keeps all bytes takes none
+pub none_taken : (before after : Option (List ℕ)) → Keeps before after → Consumes before after []
+none_taken None after h = tt
+none_taken (Some xs) None h = h
+none_taken (Some xs) (Some ys) h = sym h
+
+pub consumes_twice : (a b c : Option (List ℕ)) (xs ys : List ℕ) → Consumes a b xs → Consumes b c ys → Consumes a c (xs ++ ys)
+consumes_twice None b c xs ys h k = tt
+consumes_twice (Some as') None c xs ys h k = absurd h
+consumes_twice (Some as') (Some bs) None xs ys h k = k
+consumes_twice (Some as') (Some bs) (Some cs) xs ys h k = h ∙ ap (λ w. xs ++ w) k ∙ sym (append_assoc xs ys cs)
 
 -- ---- whole lines
 

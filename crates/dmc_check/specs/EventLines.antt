@@ -1,0 +1,70 @@
+-- The lines of an event text.
+use Rattle.std.specs.Prelude.{ℕ, ℤ, ◌^◌, Bool, List, [], ◌∷◌, Option, Result, Ok, Err, if◌then◌else◌, codes}
+use Rattle.std.specs.Option.{ok_or}
+use Rattle.std.specs.Str.{bytes_eq}
+use Rattle.dmc_types.specs.declared.command.Command.{Command}
+use Rattle.dmc_tag.specs.declared.event.Event.{Event}
+use Rattle.dmc_text.specs.declared.cause.LineCause.{LineCause}
+use Rattle.dmc_text.specs.declared.cause.LineCause.TheVariants.{Words, Number}
+use Rattle.dmc_text.specs.declared.command.CommandFault.{CommandFault}
+use Rattle.dmc_text.specs.declared.line.LineKind.{LineKind}
+use Rattle.dmc_text.specs.declared.line.LineKind.TheVariants as kinds
+use Rattle.dmc_text.specs.Answers.{◌>>=◌}
+use Rattle.dmc_text.specs.Words.{words}
+use Rattle.dmc_text.specs.Numbers.{number}
+use Rattle.dmc_text.specs.Commands.{Phrase, phrase, command, seen}
+use Rattle.dmc_text.specs.Replies.{Saying, saying, reply_said, seen_reply}
+use Rattle.dmc_text.specs.Lines.{kind_of}
+use Rattle.dmc_check.specs.declared.line.EventWords.{EventWords}
+use Rattle.dmc_check.specs.declared.line.EventLine.{EventLine}
+use Rattle.dmc_check.specs.declared.line.EventLine.TheVariants.{Skip, Config, Told}
+
+-- ---- words
+
+-- an event whose words are not read as numbers or tags yet
+pub record Spoken : Type 0 where
+  pub worker : List ℕ
+  pub command : Phrase
+  pub reply : Saying
+
+-- behind the command stands `=`, and a reply to the end of the line
+abbrev pub answered : List ℕ → Phrase × List (List ℕ) → Result Spoken LineCause
+answered worker (p, []) = Err Words
+answered worker (p, sign ∷ ws) = if bytes_eq sign (codes "=") then (saying ws >>= λ s. Ok (record { worker = worker; command = p; reply = s })) else Err Words
+
+-- the event that words make: the worker, the command, and the reply
+unfoldable pub event_words : List (List ℕ) → Result Spoken LineCause
+event_words [] = Err Words
+event_words (worker ∷ ws) = phrase ws >>= answered worker
+
+-- ---- numbers and tags
+
+-- a value that a script would refuse is no number
+abbrev pub sure : Result Command CommandFault → Result Command LineCause
+sure (Ok c) = Ok c
+sure (Err fault) = Err Number
+
+-- the event that words say
+unfoldable pub event_said : {T : Type 0} → (ℤ → ℕ → Option T) → Spoken → Result (Event T) LineCause
+event_said made s = do
+  worker ← ok_or (number (2 ^ 32) s.worker) Number
+  asked ← sure (command s.command)
+  reply ← reply_said made s.reply
+  Ok (record { worker = record { 0 = worker }; command = asked; reply = reply })
+
+-- ---- lines
+
+-- what the words of a line of this kind say
+abbrev pub told : {T : Type 0} → (ℤ → ℕ → Option T) → LineKind → List (List ℕ) → Result (EventLine T) LineCause
+told made kinds.Skip ws = Ok Skip
+told made (kinds.Config config) ws = Ok (Config config)
+told made kinds.Command ws = event_words ws >>= event_said made >>= (λ event. Ok (Told event))
+
+-- what a line says; headed: an hz line was read before
+abbrev pub event_of : {T : Type 0} → (ℤ → ℕ → Option T) → Bool → List ℕ → Result (EventLine T) LineCause
+event_of made headed line = kind_of headed line >>= λ k. told made k (words line)
+
+-- ---- the code's words
+
+abbrev pub seen_event : EventWords → Spoken
+seen_event e = record { worker = e.worker.now; command = seen e.command; reply = seen_reply e.reply }

@@ -1,0 +1,75 @@
+-- Whole event texts: what their lines record, and what is written of it.
+use Rattle.std.specs.Prelude.{◌≡◌, ℕ, suc, ℤ, List, [], ◌∷◌, ◌++◌, length, IfSome, Option, Some, None, is_some, Result, Ok, Err, codes}
+use Rattle.std.specs.Option.{ok_or}
+use Rattle.std.specs.List.{join_with_byte}
+use Rattle.std.specs.Fmt.{decimal}
+use Rattle.std.specs.Io.KnownBytes.{Keeps, Consumes, Appends, IsAtEnd}
+use Rattle.dmc_types.specs.Values.{Setting}
+use Rattle.dmc_tag.specs.Tag.{Tagging}
+use Rattle.dmc_tag.specs.declared.event.Event.{Event}
+use Rattle.dmc_text.specs.declared.cause.LineCause.{LineCause}
+use Rattle.dmc_text.specs.declared.cause.LineCause.TheVariants.{Hz}
+use Rattle.dmc_text.specs.declared.script.ScriptFault.{ScriptFault}
+use Rattle.dmc_text.specs.declared.script.ScriptFault.TheVariants as faults
+use Rattle.dmc_text.specs.Texts.{lines_of, ended, AppendsSome}
+use Rattle.dmc_check.specs.declared.check.Verdict.{Verdict}
+use Rattle.dmc_check.specs.declared.check.Verdict.TheVariants.{Replays, Differs}
+use Rattle.dmc_check.specs.declared.line.EventLine.{EventLine}
+use Rattle.dmc_check.specs.declared.line.EventLine.TheVariants.{Skip, Config, Told}
+use Rattle.dmc_check.specs.EventLines.{event_of}
+use Rattle.dmc_check.specs.Verdicts.{IsVerdict}
+
+-- ---- what a text records
+
+-- the configuration of the hz line, and the events behind it
+pub record Recorded (T : Type 0) : Type 0 where
+  pub config : Setting
+  pub events : List (Event T)
+
+-- with one more line; there is nothing before the hz line
+abbrev pub with_line : {T : Type 0} → Option (Recorded T) → EventLine T → Option (Recorded T)
+with_line r Skip = r
+with_line r (Config config) = Some (record { config = config; events = [] })
+with_line None (Told event) = None
+with_line (Some r) (Told event) = Some (record { config = r.config; events = r.events ++ event ∷ [] })
+
+abbrev pub or_fault : {T X : Type 0} → ℕ → Result T LineCause → (T → Result X (ℕ × LineCause)) → Result X (ℕ × LineCause)
+or_fault n (Err cause) more = Err (n, cause)
+or_fault n (Ok line) more = more line
+
+-- with the lines from the one numbered n on; or the first faulty one by its number, and what is wrong with it. A text
+-- without an hz line lacks it behind its last line.
+abbrev pub with_lines : {T : Type 0} → (ℤ → ℕ → Option T) → Option (Recorded T) → ℕ → List (List ℕ) → Result (Recorded T) (ℕ × LineCause)
+with_lines made r n [] = ok_or r (n, Hz)
+with_lines made r n (line ∷ lines) = or_fault n (event_of made (is_some r) line) (λ l. with_lines made (with_line r l) (suc n) lines)
+
+-- what a text records; its lines are numbered from 1
+abbrev pub record_of : {T : Type 0} → (ℤ → ℕ → Option T) → List ℕ → Result (Recorded T) (ℕ × LineCause)
+record_of made text = with_lines made None 1 (lines_of text)
+
+-- ---- what is written
+
+-- the line of a verdict on so many events
+abbrev pub verdict_text : Verdict → ℕ → List ℕ
+verdict_text Replays n = ended (join_with_byte 32 (codes "replays" ∷ decimal n ∷ []))
+verdict_text (Differs i) n = ended (join_with_byte 32 (codes "differs" ∷ decimal i ∷ []))
+
+-- ---- what a check does
+
+-- A text has no faulty line, and this is the verdict on its events, so many.
+pub record HasVerdict {T : Type 0} (ops : Tagging T) (made : ℤ → ℕ → Option T) (text : List ℕ) (verdict : Verdict) (count : ℕ) : Type 0 where
+  pub recorded : Recorded T
+  pub says : record_of made text ≡ Ok recorded
+  pub is_verdict : IsVerdict ops recorded.config recorded.events verdict
+  pub counts : count ≡ length recorded.events
+
+-- What a check reads and writes, by what it answers, where the bytes are known. Ok: all of the text is read, no line is
+-- faulty, and the verdict on its events is written. Line: it is the first faulty line of the text, and nothing is
+-- written. Write: all of the text is read, and of the line of the verdict a first part is written. Read and Memory:
+-- nothing is written.
+abbrev pub ChecksAs : {T : Type 0} → Tagging T → (ℤ → ℕ → Option T) → (before after old new : Option (List ℕ)) → Result Verdict ScriptFault → Type 0
+ChecksAs ops made before after old new (Ok verdict) = IsAtEnd after × IfSome before (λ text. (count : ℕ) × HasVerdict ops made text verdict count × Appends old new (verdict_text verdict count))
+ChecksAs ops made before after old new (Err (faults.Line n cause)) = IfSome before (λ text. record_of made text ≡ Err (n, cause)) × Keeps old new
+ChecksAs ops made before after old new (Err faults.Write) = IsAtEnd after × IfSome before (λ text. (verdict : Verdict) × (count : ℕ) × HasVerdict ops made text verdict count × AppendsSome old new (verdict_text verdict count))
+ChecksAs ops made before after old new (Err faults.Read) = ((read : List ℕ) × Consumes before after read) × Keeps old new
+ChecksAs ops made before after old new (Err faults.Memory) = ((read : List ℕ) × Consumes before after read) × Keeps old new

@@ -1,0 +1,4 @@
+pub mod Verdicts
+pub mod EventLines
+pub mod EventTexts
+pub mod Checking

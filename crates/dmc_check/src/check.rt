@@ -1,0 +1,38 @@
+//! Histories are checked.
+ghost use Rattle.std.specs.Prelude.{◌≡◌, ◌↔◌, IfOk};
+ghost use Rattle.dmc_tag.specs.Replay.{replays};
+ghost use Rattle.dmc_check.specs.Verdicts.{IsVerdict};
+
+use crate::replay::Replay;
+use dmc_history::History;
+use dmc_tag::event::Event;
+use dmc_tag::tag::Tag;
+use dmc_types::config::QueueConfig;
+use std::alloc::{AllocError, Global};
+
+/// Whether events replay.
+#[derive(Clone, Copy, Debug, PartialEq, Eq)]
+pub enum Verdict {
+    /// Each reply is the one that the rules give.
+    Replays,
+    /// The first event, counted from 0, whose reply is not the one that the rules give.
+    Differs(usize),
+}
+
+/// Replays a history over a plain queue in the opening state. An error is want of memory.
+pub fn check<T: Tag>(
+    alloc: Global,
+    config: QueueConfig,
+    history: &History<Event<T>>,
+) -> Result<Verdict, AllocError>
+    ensures verdict { IfOk result (λ v. IsVerdict T.ops config history.now.events v) }
+    ensures exactly { IfOk result (λ v. (v ≡ Verdict.Replays) ↔ replays T.ops config history.now.events) }
+{
+    let mut replay = Replay::new(alloc, config);
+    for index in 0..history.len() {
+        if let Some(event) = history.at(index) {
+            replay.add(event)?;
+        }
+    }
+    Ok(replay.verdict())
+}

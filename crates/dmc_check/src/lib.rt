@@ -1,0 +1,10 @@
+//! Whether what was recorded at a queue replays.
+#![tactic(auto)]
+
+pub mod check;
+pub mod line;
+mod replay;
+pub mod same;
+#[cfg(test)]
+mod tests;
+pub mod text;

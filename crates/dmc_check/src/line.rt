@@ -1,0 +1,87 @@
+//! The lines of an event text.
+ghost use Rattle.std.specs.Prelude.{◌≡◌};
+ghost use Rattle.dmc_text.specs.Answers.{Gives};
+ghost use Rattle.dmc_text.specs.Commands.{command, seen};
+ghost use Rattle.dmc_text.specs.Words.{words};
+ghost use Rattle.dmc_check.specs.EventLines.{event_words, event_said, event_of, seen_event, sure};
+
+use dmc_tag::event::Event;
+use dmc_text::cause::LineCause;
+use dmc_text::command::{CommandWords, command_words, next_word, read_command};
+use dmc_text::line::{LineKind, read_kind};
+use dmc_text::number::read_u32;
+use dmc_text::reply::{ReplyWords, reply_said, reply_words};
+use dmc_text::tag::TagText;
+use dmc_types::command::Command;
+use dmc_types::config::QueueConfig;
+use dmc_types::ids::WorkerId;
+
+/// What a line says.
+#[derive(Clone, Copy, Debug, PartialEq, Eq)]
+pub enum EventLine<T> {
+    /// Nothing: it has no word, or its first begins with `#`.
+    Skip,
+    /// How the queue is set up.
+    Config(QueueConfig),
+    /// What a worker asked, and what was answered.
+    Told(Event<T>),
+}
+
+/// An event whose words are not read as numbers or tags yet.
+#[derive(Clone, Copy, Debug)]
+struct EventWords<'a> {
+    worker: &'a [u8],
+    command: CommandWords<'a>,
+    reply: ReplyWords<'a>,
+}
+
+/// The event of a line, its words alone. The only cause is `Words`.
+#[tactic(auto, unfolding(crate::specs::EventLines::event_words))]
+fn event_words(line: &[u8]) -> Result<EventWords<'_>, LineCause>
+    ensures { Gives seen_event result (event_words (words line.now)) }
+{
+    let (worker, rest) = next_word(line)?;
+    let (command, rest) = command_words(rest)?;
+    let (sign, rest) = next_word(rest)?;
+    if sign != b"=".as_slice() {
+        return Err(LineCause::Words);
+    }
+    Ok(EventWords {
+        worker,
+        command,
+        reply: reply_words(rest)?,
+    })
+}
+
+/// The command that words name. A value that a script would refuse is no number.
+fn sure_command(words: CommandWords<'_>) -> Result<Command, LineCause>
+    ensures { result ≡ sure (command (seen words.entry)) }
+{
+    read_command(words).map_err(|_| LineCause::Number)
+}
+
+/// The event that words say: each number and each tag is read.
+#[tactic(auto, unfolding(crate::specs::EventLines::event_said))]
+fn read_event<T: TagText>(words: EventWords<'_>) -> Result<Event<T>, LineCause>
+    ensures { result ≡ event_said T.made (seen_event words.entry) }
+{
+    let worker = WorkerId(read_u32(words.worker).ok_or(LineCause::Number)?);
+    let command = sure_command(words.command)?;
+    let reply = reply_said(words.reply)?;
+    Ok(Event {
+        worker,
+        command,
+        reply,
+    })
+}
+
+/// What a line of an event text says, without its LF. `headed`: an `hz` line was read before.
+pub fn read_event_line<T: TagText>(line: &[u8], headed: bool) -> Result<EventLine<T>, LineCause>
+    ensures { result ≡ event_of T.made headed line.now }
+{
+    match read_kind(line, headed)? {
+        LineKind::Skip => Ok(EventLine::Skip),
+        LineKind::Config(config) => Ok(EventLine::Config(config)),
+        LineKind::Command => Ok(EventLine::Told(read_event(event_words(line)?)?)),
+    }
+}

@@ -1,0 +1,92 @@
+//! Events are replayed one after the other.
+ghost use Rattle.std.specs.Prelude.{◌≡◌, ◌↔◌, ◌<◌, ◌-◌, ◌+◌, ◌^◌, ◌++◌, ◌∷◌, [], suc, List, OnOk, IfOk, IsTrue};
+ghost use Rattle.dmc_types.specs.Values.{Setting};
+ghost use Rattle.dmc_tag.specs.State.{State, StandsFor};
+ghost use Rattle.dmc_tag.specs.Step.{step};
+ghost use Rattle.dmc_tag.specs.declared.event.Event.{Event};
+ghost use Rattle.dmc_check.specs.Verdicts.{Stands, SoFar, verdict_of};
+
+use crate::check::Verdict;
+use crate::same::is_same_reply;
+use dmc_plain::queue::PlainQueue;
+use dmc_tag::event::Event;
+use dmc_tag::scheduler::Scheduler;
+use dmc_tag::tag::Tag;
+use dmc_types::config::QueueConfig;
+use std::alloc::{AllocError, Global};
+
+/// A plain queue that carries out the commands of events, up to the first that was answered otherwise.
+#[derive(Drop)]
+pub(crate) struct Replay<T> {
+    queue: PlainQueue<T>,
+    /// How many events there were.
+    events: usize,
+    /// The first event that was answered otherwise. Behind it nothing is carried out.
+    difference: Option<usize>,
+}
+
+/// Carries out the command of an event; whether the reply is the one that was recorded.
+fn replays_next<T: Tag>(queue: &mut PlainQueue<T>, event: &Event<T>) -> Result<bool, AllocError>
+    ensures { (s : State T) → StandsFor queue.old s → IfOk result (λ same.
+        (IsTrue same ↔ (event.now.reply ≡ (step T.ops s event.now.command).1)) × StandsFor queue.new ((step T.ops s event.now.command).0)) }
+{
+    let reply = queue.apply(&event.command)?;
+    Ok(is_same_reply(&event.reply, &reply))
+}
+
+impl<T: Tag> Replay<T> {
+    /// A replay of no event, from the opening state.
+    pub(crate) fn new(alloc: Global, config: QueueConfig) -> Replay<T>
+        ensures { Stands T.ops config [] result }
+    {
+        Replay {
+            queue: PlainQueue::new(alloc, config),
+            events: 0,
+            difference: None,
+        }
+    }
+
+    /// The first difference, with one more event.
+    fn difference_with(&mut self, event: &Event<T>) -> Result<Option<usize>, AllocError>
+        ensures so_far { (config : Setting) (events : List (Event T)) →
+            Stands T.ops config events self.old → IfOk result (λ found. SoFar T.ops config (events ++ event.now ∷ []) self.new.queue found) }
+        ensures count { self.new.events ≡ self.old.events }
+    {
+        if self.difference.is_some() {
+            return Ok(self.difference);
+        }
+        if replays_next(&mut self.queue, event)? {
+            return Ok(None);
+        }
+        Ok(Some(self.events))
+    }
+
+    /// Replays one more event.
+    pub(crate) fn add(&mut self, event: &Event<T>) -> Result<(), AllocError>
+        requires { self.old.events < 2 ^ 64 - 1 }
+        ensures stands { (config : Setting) (events : List (Event T)) →
+            Stands T.ops config events self.old → OnOk result (Stands T.ops config (events ++ event.now ∷ []) self.new) }
+        ensures count { OnOk result (self.new.events ≡ suc self.old.events) }
+    {
+        self.difference = self.difference_with(event)?;
+        self.events += 1;
+        Ok(())
+    }
+
+    /// How many events there were.
+    pub(crate) fn events(&self) -> usize
+        ensures { result ≡ self.now.events }
+    {
+        self.events
+    }
+
+    /// Whether they replay.
+    pub(crate) fn verdict(&self) -> Verdict
+        ensures { result ≡ verdict_of self.now.difference }
+    {
+        match self.difference {
+            None => Verdict::Replays,
+            Some(index) => Verdict::Differs(index),
+        }
+    }
+}

@@ -1,3 +1,4 @@
 pub mod Faults
+pub mod Outcomes
 pub mod Words
 pub use Rattle.clap.specs.Words as ClapWords

@@ -1,51 +1,8 @@
 //! The worked examples of scripts, each under its name. Lines are parted by `; `.
-use crate::tool::run_tool;
+use crate::runs::{FailingReader, FailingWriter, ROOM, lines, runs, tells};
 use std::alloc::{AllocError, Global};
-use std::io::{self, Read, Write};
 use std::process::Abort;
 use std::test::Fail;
-
-/// The lines of a text, each with its LF.
-fn lines(alloc: Global, text: &str) -> Result<Vec<u8>, AllocError> {
-    let mut bytes = Vec::new(alloc);
-    if text.is_empty() {
-        return Ok(bytes);
-    }
-    let mut was_end = false;
-    for byte in text.as_bytes() {
-        match *byte {
-            b';' => bytes.push(b'\n')?,
-            b' ' if was_end => {}
-            byte => bytes.push(byte)?,
-        }
-        was_end = *byte == b';';
-    }
-    bytes.push(b'\n')?;
-    Ok(bytes)
-}
-
-/// Runs a script of these bytes, and checks all that it writes and its status. Want of memory is an error.
-fn runs<T: AllocGlobal + Abort>(
-    rt: &T,
-    tags: &str,
-    input: &[u8],
-    output: &[u8],
-    fault: &[u8],
-    status: u8,
-) -> Result<(), Fail> {
-    let mut written = Vec::new(rt.alloc());
-    let mut told = Vec::new(rt.alloc());
-    let mut reader = input;
-    let words = ["script", "--tags", tags];
-    let ended = run_tool(rt, words.as_slice(), &mut reader, &mut written, &mut told);
-    if told.as_slice() == b"dmclock: memory\n".as_slice() {
-        return Err(AllocError.into());
-    }
-    assert_eq!(rt; written.as_slice(), output);
-    assert_eq!(rt; told.as_slice(), fault);
-    assert_eq!(rt; ended, status);
-    Ok(())
-}
 
 /// A script that writes these lines and no fault.
 fn gives<T: AllocGlobal + Abort>(
@@ -56,7 +13,8 @@ fn gives<T: AllocGlobal + Abort>(
 ) -> Result<(), Fail> {
     let input = lines(rt.alloc(), input)?;
     let output = lines(rt.alloc(), output)?;
-    runs(rt, tags, input.as_slice(), output.as_slice(), b"", 0)
+    let words = ["script", "--tags", tags];
+    runs(rt, words.as_slice(), &input, &output, b"", 0)
 }
 
 /// A script that writes these lines and then the fault.
@@ -66,7 +24,7 @@ fn faults<T: AllocGlobal + Abort>(
     output: &[u8],
     fault: &[u8],
 ) -> Result<(), Fail> {
-    runs(rt, "tick", input, output, fault, 1)
+    runs(rt, ["script"].as_slice(), input, output, fault, 1)
 }
 
 #[test]
@@ -313,7 +271,7 @@ fn missing_words(rt: HostRuntime) -> Result<(), Fail> {
 fn last_line_without_end(rt: HostRuntime) -> Result<(), Fail> {
     let input = b"hz 1000\nclient 1 10 1 20 0\nadd 1 7 1 1 0\npull 0\npull 50\npull 50";
     let output = b"ok\ntags 100 50 1000\nfuture 50\ngrant 1 7 priority\nnone\n";
-    runs(&rt, "tick", input, output, b"", 0)
+    runs(&rt, ["script"].as_slice(), input, output, b"", 0)
 }
 
 /// An `hz` line and a line of so many spaces.
@@ -329,7 +287,7 @@ fn blanks(alloc: Global, n: usize) -> Result<Vec<u8>, AllocError> {
 #[test]
 fn script_faults(rt: HostRuntime) -> Result<(), Fail> {
     let most = blanks(rt.alloc(), 256)?;
-    runs(&rt, "tick", most.as_slice(), b"", b"", 0)?;
+    runs(&rt, ["script"].as_slice(), &most, b"", b"", 0)?;
     let long = blanks(rt.alloc(), 257)?;
     faults(&rt, long.as_slice(), b"", b"dmclock: line 2 bytes\n")?;
     faults(&rt, b"hz 1000\npull 0\r\n", b"", b"dmclock: line 2 bytes\n")?;
@@ -344,57 +302,6 @@ fn script_faults(rt: HostRuntime) -> Result<(), Fail> {
     faults(&rt, b"hz 1000 2 1\n", b"", b"dmclock: line 1 hz\n")
 }
 
-/// Gives its bytes one at a time, and fails in the place of the n-th read.
-#[derive(Drop)]
-struct FailingReader<'a> {
-    bytes: &'a [u8],
-    left: usize,
-}
-
-impl<'a> Read for FailingReader<'a> {
-    fn read(&mut self, buffer: &mut [u8]) -> io::Result<usize> {
-        if self.left == 0 {
-            return Err(io::Error::from(io::ErrorKind::Other));
-        }
-        self.left -= 1;
-        match (self.bytes.split_first(), buffer.first_mut()) {
-            (Some((first, rest)), Some(place)) => {
-                *place = *first;
-                self.bytes = rest;
-                Ok(1)
-            }
-            _ => Ok(0),
-        }
-    }
-}
-
-/// Takes a byte at a time, and fails in the place of the n-th write.
-#[derive(Drop)]
-struct FailingWriter {
-    written: Vec<u8>,
-    left: usize,
-}
-
-impl Write for FailingWriter {
-    fn write(&mut self, bytes: &[u8]) -> io::Result<usize> {
-        if self.left == 0 {
-            return Err(io::Error::from(io::ErrorKind::Other));
-        }
-        self.left -= 1;
-        match bytes.first() {
-            None => Ok(0),
-            Some(byte) => {
-                self.written.push(*byte)?;
-                Ok(1)
-            }
-        }
-    }
-
-    fn flush(&mut self) -> io::Result<()> {
-        Ok(())
-    }
-}
-
 const AT_LIMIT: &[u8] = b"hz 1000\nclient 1 10 1 20 0\nadd 1 7 1 1 0\npull 0\npull 50\npull 50\n";
 
 const AT_LIMIT_OUT: &[u8] = b"ok\ntags 100 50 1000\nfuture 50\ngrant 1 7 priority\nnone\n";
@@ -402,18 +309,16 @@ const AT_LIMIT_OUT: &[u8] = b"ok\ntags 100 50 1000\nfuture 50\ngrant 1 7 priorit
 #[test]
 fn failing_reader(rt: HostRuntime) -> Result<(), Fail> {
     for left in 0..AT_LIMIT.len() + 1 {
-        let mut reader = FailingReader {
-            bytes: AT_LIMIT,
-            left,
-        };
-        let mut written = Vec::new(rt.alloc());
-        let mut told = Vec::new(rt.alloc());
+        let mut reader = FailingReader::new(AT_LIMIT, left);
+        let mut written = Vec::with_capacity(rt.alloc(), ROOM)?;
         let words = ["script"];
-        let status = run_tool(&rt, words.as_slice(), &mut reader, &mut written, &mut told);
-        if told.as_slice() == b"dmclock: memory\n".as_slice() {
-            return Err(AllocError.into());
-        }
-        assert_eq!(&rt; told.as_slice(), b"dmclock: read\n".as_slice());
+        let status = tells(
+            &rt,
+            words.as_slice(),
+            &mut reader,
+            &mut written,
+            b"dmclock: read\n",
+        )?;
         assert_eq!(&rt; status, 1);
         assert!(&rt; AT_LIMIT_OUT.starts_with(written.as_slice()));
     }
@@ -424,45 +329,27 @@ fn failing_reader(rt: HostRuntime) -> Result<(), Fail> {
 fn failing_writer(rt: HostRuntime) -> Result<(), Fail> {
     for left in 0..AT_LIMIT_OUT.len() {
         let mut reader = AT_LIMIT;
-        let mut writer = FailingWriter {
-            written: Vec::new(rt.alloc()),
-            left,
-        };
-        let mut told = Vec::new(rt.alloc());
+        let mut writer = FailingWriter::new(rt.alloc(), left)?;
         let words = ["script"];
-        let status = run_tool(&rt, words.as_slice(), &mut reader, &mut writer, &mut told);
-        if told.as_slice() == b"dmclock: memory\n".as_slice() {
-            return Err(AllocError.into());
-        }
-        assert_eq!(&rt; told.as_slice(), b"dmclock: write\n".as_slice());
+        let status = tells(
+            &rt,
+            words.as_slice(),
+            &mut reader,
+            &mut writer,
+            b"dmclock: write\n",
+        )?;
         assert_eq!(&rt; status, 1);
-        assert_eq!(&rt; writer.written.as_slice(), &AT_LIMIT_OUT[..left]);
+        assert_eq!(&rt; writer.written(), &AT_LIMIT_OUT[..left]);
     }
     Ok(())
 }
 
 #[test]
 fn byte_by_byte(rt: HostRuntime) -> Result<(), Fail> {
-    let mut reader = FailingReader {
-        bytes: AT_LIMIT,
-        left: AT_LIMIT.len() + 1,
-    };
-    let mut writer = FailingWriter {
-        written: Vec::new(rt.alloc()),
-        left: AT_LIMIT_OUT.len(),
-    };
-    let mut told = Vec::new(rt.alloc());
-    let status = run_tool(
-        &rt,
-        ["script"].as_slice(),
-        &mut reader,
-        &mut writer,
-        &mut told,
-    );
-    if told.as_slice() == b"dmclock: memory\n".as_slice() {
-        return Err(AllocError.into());
-    }
-    assert_eq!(&rt; writer.written.as_slice(), AT_LIMIT_OUT);
+    let mut reader = FailingReader::new(AT_LIMIT, AT_LIMIT.len() + 1);
+    let mut writer = FailingWriter::new(rt.alloc(), AT_LIMIT_OUT.len())?;
+    let status = tells(&rt, ["script"].as_slice(), &mut reader, &mut writer, b"")?;
+    assert_eq!(&rt; writer.written(), AT_LIMIT_OUT);
     assert_eq!(&rt; status, 0);
     Ok(())
 }

@@ -1,10 +1,16 @@
 //! The program `dmclock`.
 #![tactic(auto)]
 
+mod check;
+#[cfg(test)]
+mod event_examples;
 #[cfg(test)]
 mod examples;
 mod fault;
 mod makers;
+mod outcome;
+#[cfg(test)]
+mod runs;
 mod script;
 #[cfg(test)]
 mod tests;

@@ -14,18 +14,15 @@ fn ask(alloc: Global, words: &[&str]) -> Result<Option<Tool>, WordsFault> {
     }
 }
 
-fn script(tags: TagKind) -> Option<Tool> {
-    Some(Tool {
-        command: ToolCommand::Script,
-        tags,
-    })
+fn tool(command: ToolCommand, tags: TagKind) -> Option<Tool> {
+    Some(Tool { command, tags })
 }
 
 #[test]
 fn words_of_a_script(rt: HostRuntime) -> Result<(), Fail> {
     let alloc = rt.alloc();
-    let ticks = script(TagKind::Tick);
-    let ratios = script(TagKind::Ratio);
+    let ticks = tool(ToolCommand::Script, TagKind::Tick);
+    let ratios = tool(ToolCommand::Script, TagKind::Ratio);
     assert_eq!(rt; ask(alloc, ["script"].as_slice())?, ticks);
     assert_eq!(rt; ask(alloc, ["script", "--tags", "tick"].as_slice())?, ticks);
     assert_eq!(rt;
@@ -37,12 +34,28 @@ fn words_of_a_script(rt: HostRuntime) -> Result<(), Fail> {
 }
 
 #[test]
+fn words_of_a_check(rt: HostRuntime) -> Result<(), Fail> {
+    let alloc = rt.alloc();
+    let ticks = tool(ToolCommand::Check, TagKind::Tick);
+    let ratios = tool(ToolCommand::Check, TagKind::Ratio);
+    assert_eq!(rt; ask(alloc, ["check"].as_slice())?, ticks);
+    assert_eq!(rt; ask(alloc, ["check", "--tags", "tick"].as_slice())?, ticks);
+    assert_eq!(rt;
+        ask(alloc, ["check", "--tags", "ratio"].as_slice())?,
+        ratios
+    );
+    Ok(())
+}
+
+#[test]
 fn usage_faults(rt: HostRuntime) -> Result<(), Fail> {
     let alloc = rt.alloc();
     assert_eq!(rt; ask(alloc, [].as_slice())?, None);
     assert_eq!(rt; ask(alloc, [""].as_slice())?, None);
     assert_eq!(rt; ask(alloc, ["serve"].as_slice())?, None);
     assert_eq!(rt; ask(alloc, ["scripts"].as_slice())?, None);
+    assert_eq!(rt; ask(alloc, ["checks"].as_slice())?, None);
+    assert_eq!(rt; ask(alloc, ["check", "--tags", "whole"].as_slice())?, None);
     assert_eq!(rt; ask(alloc, ["Script"].as_slice())?, None);
     assert_eq!(rt; ask(alloc, ["script", "check"].as_slice())?, None);
     assert_eq!(rt; ask(alloc, ["script", "--tags"].as_slice())?, None);
@@ -80,8 +93,6 @@ fn calls_for_help(rt: HostRuntime) -> Result<(), Fail> {
 #[test]
 fn commands_to_come(rt: HostRuntime) -> Result<(), Fail> {
     let alloc = rt.alloc();
-    assert_eq!(rt; ask(alloc, ["check"].as_slice())?, None);
-    assert_eq!(rt; ask(alloc, ["check", "--tags", "ratio"].as_slice())?, None);
     assert_eq!(rt; ask(alloc, ["sim"].as_slice())?, None);
     assert_eq!(rt; ask(alloc, ["run"].as_slice())?, None);
     Ok(())

@@ -3,15 +3,16 @@ ghost use Rattle.std.specs.Prelude.{◌≡◌, ◌≤◌};
 ghost use Rattle.dmc_cli.specs.Faults.{status_of};
 
 use crate::fault::Fault;
-use crate::script;
+use crate::outcome::Outcome;
 use crate::words::{Tool, ToolCommand, read_words};
+use crate::{check, script};
 use std::alloc::Global;
 use std::convert::AsStr;
 use std::io::{Read, Write};
 
-/// Runs the tool that the words name: replies go to the writer, a fault's text to the fault writer as one line. The
-/// words are those after the program's name. The answer is the exit status: 0 where all is done, 1 at a fault, 2 where
-/// the words name no tool.
+/// Runs the tool that the words name: replies and verdicts go to the writer, a fault's text to the fault writer as one
+/// line. The words are those after the program's name. The answer is the exit status: 0 where all is done, 1 at a fault,
+/// 2 where the words name no tool, 3 where events do not replay.
 pub fn run_tool<T: AllocGlobal, S: AsStr, R: Read, W: Write, E: Write>(
     rt: &T,
     words: &[S],
@@ -22,7 +23,7 @@ pub fn run_tool<T: AllocGlobal, S: AsStr, R: Read, W: Write, E: Write>(
     ensures { result ≤ 4 }
 {
     match run_words(rt.alloc(), words, reader, writer) {
-        Ok(()) => 0,
+        Ok(outcome) => outcome.status(),
         Err(fault) => tell(fault, fault_writer),
     }
 }
@@ -41,10 +42,14 @@ fn run_words<S: AsStr, R: Read, W: Write>(
     words: &[S],
     reader: &mut R,
     writer: &mut W,
-) -> Result<(), Fault> {
+) -> Result<Outcome, Fault> {
     let Tool { command, tags } = read_words(alloc, words)?;
     match command {
-        ToolCommand::Script => Ok(script::run_on(alloc, tags, reader, writer)?),
+        ToolCommand::Script => {
+            script::run_on(alloc, tags, reader, writer)?;
+            Ok(Outcome::Done)
+        }
+        ToolCommand::Check => Ok(check::check_on(alloc, tags, reader, writer)?.into()),
         _ => Err(Fault::Usage),
     }
 }

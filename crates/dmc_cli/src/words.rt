@@ -26,7 +26,7 @@ pub enum ToolCommand {
 }
 
 /// The commands that are written yet. Any other is a usage fault.
-pub const WRITTEN: [ToolCommand; 1] = [ToolCommand::Script];
+pub const WRITTEN: [ToolCommand; 2] = [ToolCommand::Script, ToolCommand::Check];
 
 /// What the command line asks for.
 #[derive(Clone, Copy, Debug, PartialEq, Eq)]

@@ -1,0 +1,131 @@
+//! Runs of the program in the tests: what it is given, and what it has to write. Room for all that is written is made
+//! before a run, so that a refused growth is never told as a failed write.
+use crate::tool::run_tool;
+use std::alloc::{AllocError, Global};
+use std::io::{self, Read, Write};
+use std::process::Abort;
+use std::test::Fail;
+
+/// More bytes than any run of the tests writes.
+pub const ROOM: usize = 4096;
+
+/// The lines of a text, each with its LF. In the text they are parted by `; `.
+pub fn lines(alloc: Global, text: &str) -> Result<Vec<u8>, AllocError> {
+    let mut bytes = Vec::new(alloc);
+    if text.is_empty() {
+        return Ok(bytes);
+    }
+    let mut was_end = false;
+    for byte in text.as_bytes() {
+        match *byte {
+            b';' => bytes.push(b'\n')?,
+            b' ' if was_end => {}
+            byte => bytes.push(byte)?,
+        }
+        was_end = *byte == b';';
+    }
+    bytes.push(b'\n')?;
+    Ok(bytes)
+}
+
+/// Runs the program on these words, checks what it tells of a fault, and answers its status. Want of memory is an error.
+pub fn tells<T: AllocGlobal + Abort, R: Read, W: Write>(
+    rt: &T,
+    words: &[&str],
+    reader: &mut R,
+    writer: &mut W,
+    fault: &[u8],
+) -> Result<u8, Fail> {
+    let mut told = Vec::with_capacity(rt.alloc(), ROOM)?;
+    let status = run_tool(rt, words, reader, writer, &mut told);
+    if told.as_slice() == b"dmclock: memory\n".as_slice() {
+        return Err(AllocError.into());
+    }
+    assert_eq!(rt; told.as_slice(), fault);
+    Ok(status)
+}
+
+/// Runs the program on these words and bytes, and checks all that it writes and its status. Want of memory is an error.
+pub fn runs<T: AllocGlobal + Abort>(
+    rt: &T,
+    words: &[&str],
+    input: &[u8],
+    output: &[u8],
+    fault: &[u8],
+    status: u8,
+) -> Result<(), Fail> {
+    let mut reader = input;
+    let mut written = Vec::with_capacity(rt.alloc(), ROOM)?;
+    let ended = tells(rt, words, &mut reader, &mut written, fault)?;
+    assert_eq!(rt; written.as_slice(), output);
+    assert_eq!(rt; ended, status);
+    Ok(())
+}
+
+/// Gives its bytes one at a time, and fails in the place of the n-th read.
+#[derive(Drop)]
+pub struct FailingReader<'a> {
+    bytes: &'a [u8],
+    left: usize,
+}
+
+impl<'a> FailingReader<'a> {
+    pub fn new(bytes: &'a [u8], left: usize) -> FailingReader<'a> {
+        FailingReader { bytes, left }
+    }
+}
+
+impl<'a> Read for FailingReader<'a> {
+    fn read(&mut self, buffer: &mut [u8]) -> io::Result<usize> {
+        if self.left == 0 {
+            return Err(io::Error::from(io::ErrorKind::Other));
+        }
+        self.left -= 1;
+        match (self.bytes.split_first(), buffer.first_mut()) {
+            (Some((first, rest)), Some(place)) => {
+                *place = *first;
+                self.bytes = rest;
+                Ok(1)
+            }
+            _ => Ok(0),
+        }
+    }
+}
+
+/// Takes a byte at a time, and fails in the place of the n-th write.
+#[derive(Drop)]
+pub struct FailingWriter {
+    written: Vec<u8>,
+    left: usize,
+}
+
+impl FailingWriter {
+    pub fn new(alloc: Global, left: usize) -> Result<FailingWriter, AllocError> {
+        let written = Vec::with_capacity(alloc, ROOM)?;
+        Ok(FailingWriter { written, left })
+    }
+
+    pub fn written(&self) -> &[u8] {
+        self.written.as_slice()
+    }
+}
+
+impl Write for FailingWriter {
+    fn write(&mut self, bytes: &[u8]) -> io::Result<usize> {
+        if self.left == 0 {
+            return Err(io::Error::from(io::ErrorKind::Other));
+        }
+        self.left -= 1;
+        match bytes.first() {
+            None => Ok(0),
+            Some(byte) => {
+                self.written.push(*byte)?;
+                Ok(1)
+            }
+        }
+    }
+
+    fn flush(&mut self) -> io::Result<()> {
+        Ok(())
+    }
+}

@@ -131,7 +131,7 @@ impl LineReader {
     }
 
     /// Reads more of the text behind what is left; false at its end. A text of more than 2^32 bytes is an error once they
-    /// are read.
+    /// are read. The line that was found last is not kept.
     pub fn fill<R: Read>(&mut self, reader: &mut R) -> io::Result<bool>
         requires { length self.old.rest ≤ 256 }
         ensures bytes { Fills (R.remaining reader.old) (R.remaining reader.new) self.old self.new result }

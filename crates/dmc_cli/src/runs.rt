@@ -70,6 +70,7 @@ pub struct FailingReader<'a> {
 }
 
 impl<'a> FailingReader<'a> {
+    /// A reader of these bytes that answers so many reads and then fails.
     pub fn new(bytes: &'a [u8], left: usize) -> FailingReader<'a> {
         FailingReader { bytes, left }
     }
@@ -100,11 +101,13 @@ pub struct FailingWriter {
 }
 
 impl FailingWriter {
+    /// A writer that takes so many bytes and then fails. Its room is made here.
     pub fn new(alloc: Global, left: usize) -> Result<FailingWriter, AllocError> {
         let written = Vec::with_capacity(alloc, ROOM)?;
         Ok(FailingWriter { written, left })
     }
 
+    /// What it took.
     pub fn written(&self) -> &[u8] {
         self.written.as_slice()
     }

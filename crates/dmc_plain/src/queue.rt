@@ -1,5 +1,7 @@
 //! The plain queue.
 ghost use Rattle.std.specs.Prelude.{◌≡◌, ◌<◌, length, Some, OnOk, OnErr, IsOkUnless, ◌≤◌, ◌++◌, take, drop, vec_len, slice_get, remove, ◌==◌};
+ghost use Rattle.std.specs.Option.{option_map_or};
+ghost use Rattle.dmc_tag.specs.declared.reply.Pulled.TheVariants as pulls;
 ghost use Rattle.dmc_tag.specs.Answers.{told, told_surely, pull_reply, clean_reply};
 ghost use Rattle.dmc_tag.specs.Rules as rules_of;
 ghost use Rattle.dmc_tag.specs.State.{State, opening, effective};
@@ -357,10 +359,7 @@ impl<T: Tag> PlainQueue<T> {
             }
             AtLimit::Wait => {
                 self.last_moment = at;
-                Ok(match least_due(&self.requests) {
-                    None => Pulled::Nothing,
-                    Some(moment) => Pulled::Future(moment),
-                })
+                Ok(due_at(least_due(&self.requests)))
             }
         }
     }
@@ -426,6 +425,16 @@ impl<T: Tag> PlainQueue<T> {
         ensures { result ≡ (length self.now.requests == 0) }
     {
         self.requests.is_empty()
+    }
+}
+
+/// What a pull answers where something is due at a moment, or nothing is queued.
+fn due_at(due: Option<u128>) -> Pulled
+    ensures { result ≡ option_map_or pulls.Future due pulls.Nothing }
+{
+    match due {
+        None => Pulled::Nothing,
+        Some(moment) => Pulled::Future(moment),
     }
 }
 

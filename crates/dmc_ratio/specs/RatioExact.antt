@@ -7,9 +7,9 @@ use Rattle.std.proofs.lemmas.Cmp.{int_ranked}
 use Rattle.std.proofs.lemmas.Int.{ints, by_lt_z, unsigned_abs-mul}
 use Rattle.std.proofs.lemmas.Nat.Gcd.{same_from_IsGcd}
 use Rattle.std.proofs.lemmas.Nat.{div-add-mod'}
-use Rattle.std.proofs.Math.Nat.{div-mul_cancel, mul-le-mul_right, mod-lt}
-use borrow.Author.Differences.{up, down}
-use Rattle.dmc_tag.specs.Tag.{Fraction, Gives, IsExact, ratio, sum_of, difference_of, multiple_of}
+use Rattle.std.proofs.Math.Nat.{div-mul_cancel, mul-le-mul_right, mod-lt, eq-one_of_dvd-one}
+use borrow.Author.Differences.{up, down, same_in}
+use Rattle.dmc_tag.specs.Tag.{Fraction, Gives, IsExact, IsSame, ratio, sum_of, difference_of, multiple_of}
 use Rattle.dmc_ratio.specs.Gcd.{gcd}
 use Rattle.dmc_ratio.specs.GcdLaws.{gcd_is, same_denom}
 use Rattle.dmc_ratio.specs.Lowest.{over, over_same, unsigned_abs-over, lowest_pos, lowest_apart}
@@ -91,11 +91,73 @@ least_from n c z d some p q = (λ h. forth h, λ h. back h)
             let scaled : suc (up z + down c) * d ≤ (up c + down z) * d = mul-le-mul_right d more in
             omega (arith, up_scale z d, down_scale z d)
 
+-- ---- whether a fraction is a value depends on its value alone
+
+-- the lowest terms of one value are the same
+lowest_same : (n m : ℤ) (d e : ℕ) → n *ℤ pos (suc e) ≡ m *ℤ pos (suc d) → lowest_terms n d ≡ lowest_terms m e
+lowest_same n m d e same =
+    let a = lowest_terms n d in
+    let b = lowest_terms m e in
+    let g = gcd_is (unsigned_abs n) (suc d) in
+    let h = gcd_is (unsigned_abs m) (suc e) in
+    let left : a.numer *ℤ pos (suc d) ≡ n *ℤ pos a.denom = over_same n (suc d) (gcd (unsigned_abs n) (suc d)) (div-mul_cancel _ g.0) (div-mul_cancel _ g.1) in
+    let right : b.numer *ℤ pos (suc e) ≡ m *ℤ pos b.denom = over_same m (suc e) (gcd (unsigned_abs m) (suc e)) (div-mul_cancel _ h.0) (div-mul_cancel _ h.1) in
+    same_value a b (crossed a.numer b.numer n m a.denom b.denom (suc d) (suc e) (omega arith) left right same)
+  where
+    crossed : (an bn n m : ℤ) (ad bd d e : ℕ) → 0 < d * e → an *ℤ pos d ≡ n *ℤ pos ad → bn *ℤ pos e ≡ m *ℤ pos bd → n *ℤ pos e ≡ m *ℤ pos d → an *ℤ pos bd ≡ bn *ℤ pos ad
+    crossed an bn n m ad bd d e some p q r =
+        let there : (an *ℤ pos bd) *ℤ pos (d * e) ≡ (an *ℤ pos d) *ℤ pos (bd * e) = twice an bd (d * e) ∙ ap (λ k. an *ℤ pos k) (omega arith) ∙ sym (twice an d (bd * e)) in
+        let over_n : (n *ℤ pos ad) *ℤ pos (bd * e) ≡ (n *ℤ pos e) *ℤ pos (ad * bd) = twice n ad (bd * e) ∙ ap (λ k. n *ℤ pos k) (omega arith) ∙ sym (twice n e (ad * bd)) in
+        let over_m : (m *ℤ pos d) *ℤ pos (ad * bd) ≡ (m *ℤ pos bd) *ℤ pos (ad * d) = twice m d (ad * bd) ∙ ap (λ k. m *ℤ pos k) (omega arith) ∙ sym (twice m bd (ad * d)) in
+        let back : (bn *ℤ pos e) *ℤ pos (ad * d) ≡ (bn *ℤ pos ad) *ℤ pos (d * e) = twice bn e (ad * d) ∙ ap (λ k. bn *ℤ pos k) (omega arith) ∙ sym (twice bn ad (d * e)) in
+        cancel_same (an *ℤ pos bd) (bn *ℤ pos ad) (d * e) some (there ∙ ap (λ z. z *ℤ pos (bd * e)) p ∙ over_n ∙ ap (λ z. z *ℤ pos (ad * bd)) r ∙ over_m ∙ ap (λ z. z *ℤ pos (ad * d)) (sym q) ∙ back)
+      where
+        twice : (z : ℤ) (d e : ℕ) → (z *ℤ pos d) *ℤ pos e ≡ z *ℤ pos (d * e)
+        twice z d e = same_in _ _ (omega (arith, up_scale (z *ℤ pos d) e, down_scale (z *ℤ pos d) e, ap (λ k. k * e) (up_scale z d), ap (λ k. k * e) (down_scale z d), up_scale z (d * e), down_scale z (d * e)))
+
+-- the sizes in lowest terms fit
+record Fits (r : Ratio) : Type 0 where
+  numer : unsigned_abs r.numer ≤ greatest_numer
+  denom : r.denom ≤ greatest_denom
+
+fits_from : (n : ℤ) (d : ℕ) → IsRatioValue (record { numer = n; denom = suc d }) → Fits (lowest_terms n d)
+fits_from n d v =
+    let g = gcd (unsigned_abs n) (suc d) in
+    let is = gcd_is (unsigned_abs n) (suc d) in
+    record { numer = subst (λ (x : ℕ). x ≤ greatest_numer) (sym (unsigned_abs-over n g)) (v.numer_fits g is); denom = v.denom_fits g is }
+
+fits_to : (n : ℤ) (d : ℕ) → Fits (lowest_terms n d) → IsRatioValue (record { numer = n; denom = suc d })
+fits_to n d h =
+    let g = gcd (unsigned_abs n) (suc d) in
+    let is = gcd_is (unsigned_abs n) (suc d) in
+    let numer : unsigned_abs n / g ≤ greatest_numer = subst (λ (x : ℕ). x ≤ greatest_numer) (unsigned_abs-over n g) h.numer in
+    record {
+      some = omega arith;
+      numer_fits = λ k i. subst (λ (x : ℕ). unsigned_abs n / x ≤ greatest_numer) (same_from_IsGcd _ _ g k is i) numer;
+      denom_fits = λ k i. subst (λ (x : ℕ). suc d / x ≤ greatest_denom) (same_from_IsGcd _ _ g k is i) h.denom;
+    }
+
+ratio_same_value : (f g : Fraction) → 0 < f.denom → 0 < g.denom → IsSame f g → IsRatioValue f → IsRatioValue g
+ratio_same_value f g f_some g_some same v = at f.numer f.denom g.numer g.denom f_some g_some same v where
+  at : (n : ℤ) (d : ℕ) (m : ℤ) (e : ℕ) → 0 < d → 0 < e → n *ℤ pos e ≡ m *ℤ pos d → IsRatioValue (record { numer = n; denom = d }) → IsRatioValue (record { numer = m; denom = e })
+  at n zero m e p q r w = absurd (omega arith)
+  at n (suc d) m zero p q r w = absurd (omega arith)
+  at n (suc d) m (suc e) p q r w = fits_to m e (subst Fits (lowest_same n m d e r) (fits_from n d w))
+
+ratio_moments : (n : ℕ) → n ≤ 4611686018427387904 → IsRatioValue (record { numer = pos n; denom = 1 })
+ratio_moments n h = record {
+  some = omega arith;
+  numer_fits = λ g is. let one : g ≡ 1 = eq-one_of_dvd-one is.1 in subst (λ (x : ℕ). n / x ≤ greatest_numer) (sym one) (omega (arith, h));
+  denom_fits = λ g is. let one : g ≡ 1 = eq-one_of_dvd-one is.1 in subst (λ (x : ℕ). 1 / x ≤ greatest_denom) (sym one) (omega arith);
+}
+
 pub ratio_exact : IsExact ratio_ops ratio_fraction IsRatioValue
 ratio_exact = record {
   denom = λ a. lowest_pos a.numer a.denom a.lowest;
   order = λ a b. refl;
   same = λ a b e. same_value a b (int_ranked _ _ Equal (sym e));
+  same_value = ratio_same_value;
+  moments = ratio_moments;
   of_moment = λ n. refl;
   spacing = λ hz rate. gives (ratio hz rate);
   steps = λ a k. gives (multiple_of k (ratio_fraction a));

@@ -1,7 +1,7 @@
 -- What the entries are, of ids with their keys and a record or nothing at each key.
-use Rattle.std.proofs.Common.{◌≡◌, ℕ, zero, suc, ◌+◌, ◌≤◌, ◌<◌, Bool, true, false, not, ◌&&◌, cond, List, [], ◌∷◌, ◌++◌, map, length, Option, Some, None, refl, sym, ap, ◌∙◌, subst, arith}
+use Rattle.std.proofs.Common.{◌≡◌, ℕ, zero, suc, ◌+◌, ◌≤◌, Bool, true, false, not, cond, List, [], ◌∷◌, ◌++◌, map, length, Option, Some, None, refl, sym, ap, ◌∙◌, subst, arith}
 use Rattle.std.specs.Prelude.{filter, filter_map, is_some, slice_index_or, slice_set, ◌==◌}
-use Rattle.std.specs.Option.{option_map}
+use Rattle.std.specs.Option.{option_map, option_map_or}
 use Rattle.std.specs.List.{find, cons_option, AllByRecursion, IsDistinct}
 use Rattle.std.specs.Map.{lookup, keys_of}
 use Rattle.std.proofs.lemmas.List.Elements.{filter_map-append}
@@ -14,7 +14,7 @@ use Rattle.std.proofs.lemmas.Bool.{eqb-true, eqb-false, eq-eqb}
 use Rattle.dmc_types.specs.declared.ids.ClientId.{ClientId}
 use Rattle.dmc_tag.specs.State.{is_client}
 use Rattle.dmc_client.specs.Record.{Rec}
-use Rattle.dmc_roster.specs.Entries.{Entry, entry_named, entry_keyed, record_at, with_rec, with_record, entry_of, entries_of, kept, AreApart, AreHeld, AreDistinct}
+use Rattle.dmc_roster.specs.Entries.{Entry, entry_named, entry_keyed, record_at, with_rec, with_record, entry_of, entries_of, kept, kept_slots, AreApart, AreHeld, AreDistinct}
 
 -- ---- options
 
@@ -120,6 +120,20 @@ module _ {T : Type 0} where
   entries_cond at p ids true = refl
   entries_cond at p ids false = refl
 
+  -- ---- count
+
+  module _ (passes : Rec T → Bool) (at : ℕ → Option (Rec T)) where
+    counted_at : (p : ClientId × ℕ) (es : List (Entry T)) (keys : List ℕ) (o : Option (Rec T)) → length (filter (λ e. passes e.rec) es) ≡ length keys → length (filter (λ e. passes e.rec) (cons_option (option_map (λ rec. record { id = p.0; key = p.1; rec = rec }) o) es)) ≡ length (cond (option_map_or passes o false) (p.1 ∷ keys) keys)
+    counted_at p es keys None e = e
+    counted_at p es keys (Some rec) e = by (passes rec) where
+      by : (b : Bool) → length (cond b (record { id = p.0; key = p.1; rec = rec } ∷ filter (λ e. passes e.rec) es) (filter (λ e. passes e.rec) es)) ≡ length (cond b (p.1 ∷ keys) keys)
+      by true = ap suc e
+      by false = e
+
+    pub counted : (ids : List (ClientId × ℕ)) → length (filter (λ e. passes e.rec) (entries_by at ids)) ≡ length (filter (λ key. option_map_or passes (at key) false) (map (λ p. p.1) ids))
+    counted [] = refl
+    counted (p ∷ ids) = counted_at p (entries_by at ids) (filter (λ key. option_map_or passes (at key) false) (map (λ p. p.1) ids)) (at p.1) (counted ids)
+
   -- ---- erase
 
   module _ (key : ℕ) (old new : ℕ → Option (Rec T)) (others : (other : ℕ) → (other ≡ key → ⊥) → new other ≡ old other) where
@@ -151,28 +165,46 @@ module _ {T : Type 0} where
 
   -- ---- retain
 
-  module _ (keeps : Rec T → Bool) (changed : Rec T → Rec T) (old : ℕ → Option (Rec T)) where
-    retained_at : (p : ClientId × ℕ) (xs : List (Entry T)) (es : List (Entry T)) (o : Option (Rec T)) → xs ≡ map (with_rec changed) (filter (λ e. keeps e.rec) es) → cond (is_some (kept keeps changed o)) (cons_option (option_map (λ rec. record { id = p.0; key = p.1; rec = rec }) (kept keeps changed o)) xs) xs ≡ map (with_rec changed) (filter (λ e. keeps e.rec) (cons_option (option_map (λ rec. record { id = p.0; key = p.1; rec = rec }) o) es))
+  module _ (keeps : ℕ → Rec T → Bool) (changed : ℕ → Rec T → Rec T) (old : ℕ → Option (Rec T)) where
+    abbrev changes_of : Entry T → Entry T
+    changes_of e = with_rec (changed e.key) e
+
+    abbrev keeps_entry : Entry T → Bool
+    keeps_entry e = keeps e.key e.rec
+
+    abbrev kept_at : ℕ → Option (Rec T)
+    kept_at key = kept (keeps key) (changed key) (old key)
+
+    retained_at : (p : ClientId × ℕ) (xs : List (Entry T)) (es : List (Entry T)) (o : Option (Rec T)) → xs ≡ map changes_of (filter keeps_entry es) → cond (is_some (kept (keeps p.1) (changed p.1) o)) (cons_option (option_map (λ rec. record { id = p.0; key = p.1; rec = rec }) (kept (keeps p.1) (changed p.1) o)) xs) xs ≡ map changes_of (filter keeps_entry (cons_option (option_map (λ rec. record { id = p.0; key = p.1; rec = rec }) o) es))
     retained_at p xs es None e = e
-    retained_at p xs es (Some rec) e = at (keeps rec) where
-      at : (b : Bool) → cond (is_some (cond b (Some (changed rec)) None)) (cons_option (option_map (λ rec. record { id = p.0; key = p.1; rec = rec }) (cond b (Some (changed rec)) None)) xs) xs ≡ map (with_rec changed) (cond b (record { id = p.0; key = p.1; rec = rec } ∷ filter (λ e. keeps e.rec) es) (filter (λ e. keeps e.rec) es))
-      at true = ap (λ ys. record { id = p.0; key = p.1; rec = changed rec } ∷ ys) e
+    retained_at p xs es (Some rec) e = at (keeps p.1 rec) where
+      at : (b : Bool) → cond (is_some (cond b (Some (changed p.1 rec)) None)) (cons_option (option_map (λ rec. record { id = p.0; key = p.1; rec = rec }) (cond b (Some (changed p.1 rec)) None)) xs) xs ≡ map changes_of (cond b (record { id = p.0; key = p.1; rec = rec } ∷ filter keeps_entry es) (filter keeps_entry es))
+      at true = ap (λ ys. record { id = p.0; key = p.1; rec = changed p.1 rec } ∷ ys) e
       at false = e
 
-    pub retained : (ids : List (ClientId × ℕ)) → entries_by (λ k. kept keeps changed (old k)) (filter (λ p. is_some (kept keeps changed (old p.1))) ids) ≡ map (with_rec changed) (filter (λ e. keeps e.rec) (entries_by old ids))
+    pub retained : (ids : List (ClientId × ℕ)) → entries_by kept_at (filter (λ p. is_some (kept_at p.1)) ids) ≡ map changes_of (filter keeps_entry (entries_by old ids))
     retained [] = refl
     retained (p ∷ ids) =
-        entries_cond (λ k. kept keeps changed (old k)) p (filter (λ p. is_some (kept keeps changed (old p.1))) ids) (is_some (kept keeps changed (old p.1)))
+        entries_cond kept_at p (filter (λ p. is_some (kept_at p.1)) ids) (is_some (kept_at p.1))
         ∙ retained_at p _ (entries_by old ids) (old p.1) (retained ids)
 
-  pub slot_kept : (keeps : Rec T → Bool) (changed : Rec T → Rec T) (slots : List (Option (Rec T))) (key : ℕ) → slice_index_or (map (kept keeps changed) slots) key None ≡ kept keeps changed (slice_index_or slots key None)
-  slot_kept keeps changed [] key = refl
-  slot_kept keeps changed (o ∷ slots) zero = refl
-  slot_kept keeps changed (o ∷ slots) (suc key) = slot_kept keeps changed slots key
+  slot_kept_from : (keeps : ℕ → Rec T → Bool) (changed : ℕ → Rec T → Rec T) (first : ℕ) (slots : List (Option (Rec T))) (n : ℕ) → slice_index_or (kept_slots keeps changed first slots) n None ≡ kept (keeps (first + n)) (changed (first + n)) (slice_index_or slots n None)
+  slot_kept_from keeps changed first [] n = refl
+  slot_kept_from keeps changed first (o ∷ slots) zero =
+      let here : first ≡ first + 0 = omega arith in
+      ap (λ key. kept (keeps key) (changed key) o) here
+  slot_kept_from keeps changed first (o ∷ slots) (suc n) =
+      let next : first + 1 + n ≡ first + suc n = omega arith in
+      slot_kept_from keeps changed (first + 1) slots n ∙ ap (λ key. kept (keeps key) (changed key) (slice_index_or slots n None)) next
 
-  pub slots_kept : (keeps : Rec T → Bool) (changed : Rec T → Rec T) (slots : List (Option (Rec T))) (ids : List (ClientId × ℕ)) → entries_of (filter (λ p. is_some (slice_index_or (map (kept keeps changed) slots) p.1 None)) ids) (map (kept keeps changed) slots) ≡ map (with_rec changed) (filter (λ e. keeps e.rec) (entries_of ids slots))
+  pub slot_kept : (keeps : ℕ → Rec T → Bool) (changed : ℕ → Rec T → Rec T) (slots : List (Option (Rec T))) (key : ℕ) → slice_index_or (kept_slots keeps changed 0 slots) key None ≡ kept (keeps key) (changed key) (slice_index_or slots key None)
+  slot_kept keeps changed slots key =
+      let same : 0 + key ≡ key = omega arith in
+      slot_kept_from keeps changed 0 slots key ∙ ap (λ n. kept (keeps n) (changed n) (slice_index_or slots key None)) same
+
+  pub slots_kept : (keeps : ℕ → Rec T → Bool) (changed : ℕ → Rec T → Rec T) (slots : List (Option (Rec T))) (ids : List (ClientId × ℕ)) → entries_of (filter (λ p. is_some (slice_index_or (kept_slots keeps changed 0 slots) p.1 None)) ids) (kept_slots keeps changed 0 slots) ≡ map (λ e. with_rec (changed e.key) e) (filter (λ e. keeps e.key e.rec) (entries_of ids slots))
   slots_kept keeps changed slots ids =
-      let at : (λ (k : ℕ). slice_index_or (map (kept keeps changed) slots) k None) ≡ (λ (k : ℕ). kept keeps changed (slice_index_or slots k None)) = fun_ext (slot_kept keeps changed slots) in
+      let at : (λ (k : ℕ). slice_index_or (kept_slots keeps changed 0 slots) k None) ≡ (λ (k : ℕ). kept (keeps k) (changed k) (slice_index_or slots k None)) = fun_ext (slot_kept keeps changed slots) in
       ap (λ (f : ℕ → Option (Rec T)). entries_by f (filter (λ p. is_some (f p.1)) ids)) at ∙ retained keeps changed (λ k. slice_index_or slots k None) ids
 
   pub held_kept : (slots : List (Option (Rec T))) (ids : List (ClientId × ℕ)) → Held slots (filter (λ p. is_some (slice_index_or slots p.1 None)) ids)
@@ -214,14 +246,14 @@ module _ {T : Type 0} where
 
 -- ---- what a slab's retain leaves
 
-module _ {T F : Type 0} (step : F → ℕ → MutBor (Rec T) → Bool → MutBor (Rec T) → F → Type 0) (f : F) (keeps : Rec T → Bool) (changed : Rec T → Rec T) (says : (key : ℕ) (old : Rec T) (keep : Bool) (new : Rec T) (next : F) → CalledAt step f key old keep new next → (keep ≡ keeps old) × (new ≡ changed old) × (next ≡ f)) where
-  pub slots_retained : (key : ℕ) (slots left : List (Option (Rec T))) → RetainsFrom step f key slots left → left ≡ map (kept keeps changed) slots
+module _ {T F : Type 0} (step : F → ℕ → MutBor (Rec T) → Bool → MutBor (Rec T) → F → Type 0) (f : F) (keeps : ℕ → Rec T → Bool) (changed : ℕ → Rec T → Rec T) (says : (key : ℕ) (old : Rec T) (keep : Bool) (new : Rec T) (next : F) → CalledAt step f key old keep new next → (keep ≡ keeps key old) × (new ≡ changed key old) × (next ≡ f)) where
+  pub slots_retained : (key : ℕ) (slots left : List (Option (Rec T))) → RetainsFrom step f key slots left → left ≡ kept_slots keeps changed key slots
   slots_retained key [] left h = h
   slots_retained key (None ∷ slots) left h = h.1 ∙ ap (λ xs. None ∷ xs) (slots_retained (key + 1) slots h.0 h.2)
   slots_retained key (Some old ∷ slots) left h =
       let s = says key old h.0 h.1 h.2 h.3 in
       let more = slots_retained (key + 1) slots h.4 (subst (λ g. RetainsFrom step g (key + 1) slots h.4) s.2 h.6) in
-      h.5 ∙ ap (λ b. cond b (Some h.1) None ∷ h.4) s.0 ∙ ap (λ new. cond (keeps old) (Some new) None ∷ h.4) s.1 ∙ ap (λ xs. cond (keeps old) (Some (changed old)) None ∷ xs) more
+      h.5 ∙ ap (λ b. cond b (Some h.1) None ∷ h.4) s.0 ∙ ap (λ new. cond (keeps key old) (Some new) None ∷ h.4) s.1 ∙ ap (λ xs. cond (keeps key old) (Some (changed key old)) None ∷ xs) more
 
 -- ---- an insert into the map of ids
 

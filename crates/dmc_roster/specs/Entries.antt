@@ -1,5 +1,5 @@
 -- What contracts see of a roster: its clients in order of registration.
-use Rattle.std.specs.Prelude.{◌≡◌, ℕ, ◌≤◌, ◌<◌, Bool, true, false, not, List, [], ◌∷◌, ◌++◌, map, filter, length, Option, Some, None, is_some, ◌==◌, filter_map, slice_index_or, Result, Ok, Err, if◌then◌else◌, ⊤}
+use Rattle.std.specs.Prelude.{◌≡◌, ℕ, ◌+◌, ◌≤◌, ◌<◌, Bool, true, false, List, [], ◌∷◌, ◌++◌, map, length, Option, Some, None, is_some, ◌==◌, filter_map, slice_index_or, Result, Ok, Err, if◌then◌else◌, ⊤}
 use Rattle.std.specs.Option.{option_map}
 use Rattle.std.specs.List.{find, AllByRecursion}
 use Rattle.dmc_types.specs.declared.ids.ClientId.{ClientId}
@@ -67,6 +67,11 @@ entries_of ids slots = filter_map (entry_of slots) ids
 abbrev pub kept : {T : Type 0} → (Rec T → Bool) → (Rec T → Rec T) → Option (Rec T) → Option (Rec T)
 kept keeps changed None = None
 kept keeps changed (Some rec) = if keeps rec then Some (changed rec) else None
+
+-- the slots from a key on, each record kept and changed, or taken out
+abbrev pub kept_slots : {T : Type 0} → (ℕ → Rec T → Bool) → (ℕ → Rec T → Rec T) → ℕ → List (Option (Rec T)) → List (Option (Rec T))
+kept_slots keeps changed key [] = []
+kept_slots keeps changed key (o ∷ slots) = kept (keeps key) (changed key) o ∷ kept_slots keeps changed (key + 1) slots
 
 -- no key stands twice
 abbrev pub AreApart : List (ClientId × ℕ) → Type 0

@@ -1,5 +1,5 @@
-//! What is done with each record of a roster.
-ghost use Rattle.std.specs.Prelude.{◌≡◌, Bool};
+//! What is done with each record of a roster, and asked of it.
+ghost use Rattle.std.specs.Prelude.{◌≡◌, ℕ, Bool};
 ghost use Rattle.dmc_client.specs.Record.{Rec, IsRecord};
 
 use dmc_client::record::ClientRec;
@@ -7,15 +7,25 @@ use dmc_tag::tag::Tag;
 
 /// A rule that keeps or erases each client, and changes the records of those that it keeps.
 pub trait RecordRule<T: Tag> {
-    /// Whether the client is kept.
-    ghost keeps: { Self → Rec T → Bool };
+    /// Whether the client under a key is kept.
+    ghost keeps: { Self → ℕ → Rec T → Bool };
 
     /// What its record becomes.
-    ghost changed: { Self → Rec T → Rec T };
+    ghost changed: { Self → ℕ → Rec T → Rec T };
 
-    /// Changes the record, and answers whether it is kept.
-    fn apply(&self, rec: &mut ClientRec<T>) -> bool
-        ensures keeps { result ≡ keeps self.now rec.old }
-        ensures changed { rec.new ≡ changed self.now rec.old }
+    /// Changes the record under a key, and answers whether it is kept.
+    fn apply(&self, key: usize, rec: &mut ClientRec<T>) -> bool
+        ensures keeps { result ≡ keeps self.now key rec.old }
+        ensures changed { rec.new ≡ changed self.now key rec.old }
         ensures kept { IsRecord T.ops rec.new };
+}
+
+/// A question that is asked of records.
+pub trait RecordTest<T: Tag> {
+    /// Whether a record passes.
+    ghost passes: { Self → Rec T → Bool };
+
+    /// Whether the record passes.
+    fn test(&self, rec: &ClientRec<T>) -> bool
+        ensures { result ≡ passes self.now rec.now };
 }

@@ -1,6 +1,6 @@
 //! The roster.
-ghost use Rattle.std.specs.Prelude.{◌≡◌, ◌==◌, ◌≤◌, true, not, length, [], ◌∷◌, ◌++◌, None, IfOk, IfSome, OnErr, map, filter, Some, is_some};
-ghost use Rattle.std.specs.Option.{option_map};
+ghost use Rattle.std.specs.Prelude.{◌≡◌, ◌==◌, ◌≤◌, true, false, not, length, [], ◌∷◌, ◌++◌, None, IfOk, IfSome, OnErr, map, filter, Some, is_some};
+ghost use Rattle.std.specs.Option.{option_map, option_map_or};
 ghost use Rattle.slab.specs.Slab.{get, Updates};
 ghost use Rattle.std.specs.List.{AllByRecursion};
 ghost use Rattle.std.specs.Map.{lookup};
@@ -11,7 +11,7 @@ ghost use Rattle.dmc_client.specs.contracts.record.ClientRec.{the_row as record_
 ghost use Rattle.std.specs.Borrow.{LendsIf, sem};
 ghost use Rattle.std.specs.Option.{option_copied_mut};
 
-use crate::change::RecordRule;
+use crate::change::{RecordRule, RecordTest};
 use crate::fault::RosterFault;
 use dmc_client::record::ClientRec;
 use dmc_tag::tag::Tag;
@@ -74,6 +74,7 @@ impl<T: Tag> Roster<T> {
         ensures key { result ≡ option_map (λ e. e.key) (entries.entry_named id self.now.entries) }
         ensures entry { IfSome result (λ key. entries.entry_keyed key self.now.entries ≡ entries.entry_named id self.now.entries) }
         ensures held { IfSome result (λ key. is_some (entries.entry_keyed key self.now.entries) ≡ true) }
+        ensures distinct { entries.AreDistinct self.now.entries }
     {
         // it tells that no id stands twice
         let _count = self.ids.len();
@@ -83,8 +84,11 @@ impl<T: Tag> Roster<T> {
     /// The record under a key.
     pub fn at(&self, key: usize) -> &ClientRec<T>
         requires { is_some (entries.entry_keyed key self.now.entries) ≡ true }
-        ensures { entries.record_at key self.now.entries ≡ Some result.now }
+        ensures value { entries.record_at key self.now.entries ≡ Some result.now }
+        ensures distinct { entries.AreDistinct self.now.entries }
     {
+        // it tells that no id stands twice
+        let _count = self.ids.len();
         self.records.get(key).unwrap()
     }
 
@@ -124,23 +128,53 @@ impl<T: Tag> Roster<T> {
     /// Lets a rule change each record and erase clients, in one pass. The others keep their order.
     pub fn retain<R: RecordRule<T>>(&mut self, rule: &R)
         ensures kept { AllByRecursion (λ e. IsRecord T.ops e.rec) self.new.entries }
-        ensures value { self.new.entries ≡ map (entries.with_rec (R.changed rule.now)) (filter (λ e. R.keeps rule.now e.rec) self.old.entries) }
+        ensures value { self.new.entries ≡ map (λ e. entries.with_rec (R.changed rule.now e.key) e) (filter (λ e. R.keeps rule.now e.key e.rec) self.old.entries) }
     {
         apply_to_each(&mut self.records, rule);
         drop_vacant(&mut self.ids, &self.records);
+    }
+
+    /// How many records pass a test.
+    pub fn count<R: RecordTest<T>>(&self, test: &R) -> usize
+        ensures { result ≡ length (filter (λ e. R.passes test.now e.rec) self.now.entries) }
+    {
+        count_passing(&self.ids, &self.records, test)
     }
 }
 
 /// Lets the rule change or take out each record.
 fn apply_to_each<T: Tag, R: RecordRule<T>>(records: &mut Slab<ClientRec<T>>, rule: &R)
-    ensures slots { records.new.slots ≡ map (entries.kept (R.keeps rule.now) (R.changed rule.now)) records.old.slots }
+    ensures slots { records.new.slots ≡ entries.kept_slots (R.keeps rule.now) (R.changed rule.now) 0 records.old.slots }
     ensures kept { AllByRecursion (λ o. IfSome o (IsRecord T.ops)) records.new.slots }
 {
     records.retain(
-        |_key: usize, rec: &mut ClientRec<T>| -> bool
-            ensures { (result ≡ R.keeps rule.entry.now rec.old) × (rec.new ≡ R.changed rule.entry.now rec.old) × IsRecord T.ops rec.new }
-        { rule.apply(rec) },
+        |key: usize, rec: &mut ClientRec<T>| -> bool
+            ensures { (result ≡ R.keeps rule.entry.now key rec.old) × (rec.new ≡ R.changed rule.entry.now key rec.old) × IsRecord T.ops rec.new }
+        { rule.apply(key, rec) },
     );
+}
+
+/// How many of the records that the ids reach pass a test.
+fn count_passing<T: Tag, R: RecordTest<T>>(
+    ids: &IndexMap<ClientId, usize>,
+    records: &Slab<ClientRec<T>>,
+    test: &R,
+) -> usize
+    ensures { result ≡ length (filter (λ key. option_map_or (R.passes test.now) (get records.now key) false) (map (λ p. p.1) ids.now.entries)) }
+{
+    ids.values()
+        .filter(|key| passes_at(records, **key, test))
+        .count()
+}
+
+/// Whether a record is there and passes a test.
+fn passes_at<T: Tag, R: RecordTest<T>>(records: &Slab<ClientRec<T>>, key: usize, test: &R) -> bool
+    ensures { result ≡ option_map_or (R.passes test.now) (get records.now key) false }
+{
+    match records.get(key) {
+        Some(rec) => test.test(rec),
+        None => false,
+    }
 }
 
 /// Drops the ids whose keys have no record.

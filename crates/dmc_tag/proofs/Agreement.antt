@@ -231,6 +231,15 @@ module _ {T : Type 0} (ops : Tagging T) (o : IsTotalOrder ops.compare) where
       (ap (λ p. p.1) e ∙ same.0, subst (λ p. StandsFor p.0 ((step ops s c).0)) (sym e) same.1)
   steps_exactly old new c None e = λ s h. (same_ok (outcome ops old c) (outcome ops s c) (outcomes_agree old s c h) e.0, subst (λ v. StandsFor v s) (sym e.1) h)
 
+  -- a step to a state that agrees with step's is the step from each state that the old one stands for
+  pub steps_agreeing : (old new : State T) (c : Command) (reply : Reply T) → reply ≡ (step ops old c).1 → StandsFor new ((step ops old c).0) → Steps ops old new c (Some reply)
+  steps_agreeing old new c reply e n = λ s h.
+      let same = steps_agree old s c h in
+      (e ∙ same.0, stands_trans new ((step ops old c).0) ((step ops s c).0) n same.1)
+    where
+      stands_trans : (a b c : State T) → StandsFor a b → StandsFor b c → StandsFor a c
+      stands_trans a b c p q = record { config = p.config ∙ q.config; requests = λ id. p.requests id ∙ q.requests id; clients = p.clients ∙ q.clients; last_moment = p.last_moment ∙ q.last_moment }
+
 -- an order that is the same as a lawful one is lawful
 pub same_total : {T : Type 0} (R C : T → T → Ordering) → IsTotalOrder R → ((a b : T) → R a b ≡ C a b) → IsTotalOrder C
 same_total R C o h = subst IsTotalOrder (fun_ext (λ a. fun_ext (λ b. h a b))) o

@@ -81,7 +81,7 @@ module _ {T : Type 0} (ops : Tagging T) (fraction : T → Fraction) (is_value : 
       let high : (pos n *ℤ pos (fraction tag).denom) <ℤ (fraction tag).numer = by_lt_z (pos n *ℤ pos (fraction tag).denom) (fraction tag).numer (λ h. h) (λ h. let low = (exact.ceil tag (pos n)).1 h in absurd (omega (arith, ints))) in
       ap not (above_true _ _ _ (order_is tag n) (scaled_lt (pos n *ℤ pos (fraction tag).denom) (fraction tag).numer d (exact.denom (ops.of_moment n)) high))
 
-  due_is : (tag : T) (n : ℕ) → not (is_gt (ops.compare tag (ops.of_moment n))) ≡ nat_le (moment_of (ops.ceil tag)) n
+  pub due_is : (tag : T) (n : ℕ) → not (is_gt (ops.compare tag (ops.of_moment n))) ≡ nat_le (moment_of (ops.ceil tag)) n
   due_is tag n = due_at tag n (nat_le (moment_of (ops.ceil tag)) n) refl
 
   -- ---- one request

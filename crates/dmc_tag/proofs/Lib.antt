@@ -8,3 +8,4 @@ pub mod PullLaw
 pub mod FutureLaw
 pub mod Scaled
 pub mod TagOrder
+pub mod TagValues

@@ -39,12 +39,12 @@ cleared xn an sn xd ad sd yd bd e =
     ∙ ap (λ z. z -ℤ (sn *ℤ pos ad) *ℤ pos m) (scaled_twice an sd m ∙ ap (λ n. an *ℤ pos n) front ∙ sym (scaled_twice an bd (sd * sd * xd * yd)))
     ∙ ap (λ z. (an *ℤ pos bd) *ℤ pos (sd * sd * xd * yd) -ℤ z) (scaled_twice sn ad m ∙ ap (λ n. sn *ℤ pos n) back)
 
-positive : (a b : ℕ) → 0 < a → 0 < b → 0 < a * b
+pub positive : (a b : ℕ) → 0 < a → 0 < b → 0 < a * b
 positive a b p q = let scaled : 0 * b < a * b = mul-lt-mul_of_pos_right p q in omega arith
 
 -- ---- what a chain of results came from
 
-bound : {A B E : Type 0} (r : Result A E) (f : A → Result B E) (y : B) → (r >>= f) ≡ Ok y → (x : A) × (r ≡ Ok x) × (f x ≡ Ok y)
+pub bound : {A B E : Type 0} (r : Result A E) (f : A → Result B E) (y : B) → (r >>= f) ≡ Ok y → (x : A) × (r ≡ Ok x) × (f x ≡ Ok y)
 bound (Ok x) f y e = (x, refl, e)
 bound (Err fault) f y e = cc
 
@@ -52,7 +52,7 @@ from_option : {A E : Type 0} (o : Option A) (fault : E) (x : A) → ok_or o faul
 from_option None fault x e = cc
 from_option (Some y) fault x e = ap Some (cc (e))
 
-from_range : {A : Type 0} (o : Option A) (x : A) → in_range o ≡ Ok x → o ≡ Some x
+pub from_range : {A : Type 0} (o : Option A) (x : A) → in_range o ≡ Ok x → o ≡ Some x
 from_range o x e = from_option o _ x e
 
 module _ {T : Type 0} (ops : Tagging T) (fraction : T → Fraction) (is_value : Fraction → Type 0) (exact : IsExact ops fraction is_value) where

@@ -1,5 +1,5 @@
 -- The value of a tag: which fraction it stands for, and what its operations compute.
-use Rattle.std.specs.Prelude.{◌≡◌, ℕ, ◌*◌, ◌<◌, ◌↔◌, ℤ, pos, ◌+ℤ◌, ◌-ℤ◌, ◌*ℤ◌, ◌≤ℤ◌, Option, Some, None}
+use Rattle.std.specs.Prelude.{◌≡◌, ℕ, ◌*◌, ◌<◌, ◌≤◌, ◌↔◌, ℤ, pos, ◌+ℤ◌, ◌-ℤ◌, ◌*ℤ◌, ◌≤ℤ◌, Option, Some, None}
 use Rattle.std.specs.declared.cmp.Ordering.{Ordering}
 use Rattle.std.specs.declared.cmp.Ordering.TheVariants.{Equal}
 use Rattle.std.specs.Ordering.{int_cmp}
@@ -53,6 +53,10 @@ pub record IsExact {T : Type 0} (ops : Tagging T) (fraction : T → Fraction) (i
   pub order : (a b : T) → ops.compare a b ≡ fraction_cmp (fraction a) (fraction b)
   -- tags of one fraction are one tag
   pub same : (a b : T) → ops.compare a b ≡ Equal → a ≡ b
+  -- whether a fraction is a value depends on its value alone
+  pub same_value : (f g : Fraction) → 0 < f.denom → 0 < g.denom → IsSame f g → is_value f → is_value g
+  -- each moment is a value
+  pub moments : (n : ℕ) → n ≤ 4611686018427387904 → is_value (whole n)
   pub of_moment : (n : ℕ) → IsSame (fraction (ops.of_moment n)) (whole n)
   pub spacing : (hz rate : ℕ) → Gives fraction is_value (ops.spacing hz rate) (ratio hz rate)
   pub steps : (a : T) (k : ℕ) → Gives fraction is_value (ops.steps a k) (multiple_of k (fraction a))

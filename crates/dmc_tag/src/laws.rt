@@ -1,13 +1,13 @@
 //! What follows from the rules alone. Each law is the contract of a function that does nothing.
-ghost use Rattle.std.specs.Prelude.{◌≡◌, ℕ, Bool, List, Option, Some, None};
+ghost use Rattle.std.specs.Prelude.{◌≡◌, ℕ, ◌≤◌, Bool, List, Option, Some, None, Ok, Err, IfSome, nat_le};
 ghost use Rattle.dmc_types.specs.declared.command.Command.{Command};
 ghost use Rattle.dmc_tag.specs.State.{State, StandsFor, effective};
 ghost use Rattle.dmc_tag.specs.Steps.{Exactly, Steps};
-ghost use Rattle.dmc_tag.specs.Best.{best, is_before, IsBest, HasNone};
+ghost use Rattle.dmc_tag.specs.Best.{best, is_before, is_due, IsBest, HasNone};
 ghost use Rattle.dmc_tag.specs.declared.plain.PlainRequest.{PlainRequest};
 ghost use Rattle.dmc_tag.specs.Laws.{SameStep, Pulls, IsNextDue};
 ghost use Rattle.dmc_tag.specs.Order.{AreSpacings, AreNext};
-ghost use Rattle.dmc_tag.specs.Rules.{next_tags};
+ghost use Rattle.dmc_tag.specs.Rules.{next_tags, moment_of};
 ghost use Rattle.dmc_tag.specs.Step.{outcome, step};
 ghost use Rattle.dmc_types.specs.Values.{Rates, Params};
 ghost use Rattle.dmc_tag.specs.declared.plain.Previous.{Previous};
@@ -31,6 +31,13 @@ pub fn steps_exactly<T: Tag>()
         Exactly T.ops old new command answer → Steps T.ops old new command answer }
 {}
 
+/// A step from one state to a state that agrees with the rules' client by client is that step from each state that it
+/// stands for.
+pub fn steps_client_by_client<T: Tag>()
+    ensures { (old new : State T) (command : Command) (reply : Reply T) →
+        reply ≡ (step T.ops old command).1 → StandsFor new ((step T.ops old command).0) → Steps T.ops old new command (Some reply) }
+{}
+
 /// The request that is granted is in its set, and no member of the set is before it in (tag, client, place); the reply
 /// to a pull says which set it was, and that the sets before it have no member.
 pub fn pulls_grant_the_best<T: Tag>()
@@ -43,6 +50,10 @@ pub fn the_best_is_found<T: Tag>()
         IsBest (is_before T.ops tag) member xs r others → best (is_before T.ops tag) member xs ≡ Some (r, others) }
     ensures none { (tag : PlainRequest T → Option T) (member : PlainRequest T → Bool) (xs : List (PlainRequest T)) →
         HasNone member xs → best (is_before T.ops tag) member xs ≡ None }
+    ensures found { (tag : PlainRequest T → Option T) (member : PlainRequest T → Bool) (xs others : List (PlainRequest T)) (r : PlainRequest T) →
+        best (is_before T.ops tag) member xs ≡ Some (r, others) → IsBest (is_before T.ops tag) member xs r others }
+    ensures not_found { (tag : PlainRequest T → Option T) (member : PlainRequest T → Bool) (xs : List (PlainRequest T)) →
+        best (is_before T.ops tag) member xs ≡ None → HasNone member xs }
 {}
 
 /// Future is exact: before the moment that it names no request is early or free, and at it one is.
@@ -55,6 +66,11 @@ pub fn refusals_change_nothing<T: Tag>()
     ensures { (s : State T) (command : Command) (refusal : Refusal) → outcome T.ops s command ≡ Err refusal → step T.ops s command ≡ (s, replies.Refused refusal) }
 {}
 
+/// A tag is due from the least whole number on that is not below it.
+pub fn a_tag_is_due_from_its_ceil<T: Tag>()
+    ensures { (tag : T) (n : ℕ) → is_due T.ops n (Some tag) ≡ nat_le (moment_of (T.ops.ceil tag)) n }
+{}
+
 /// Two tags less an amount are ordered as the tags are.
 pub fn subtraction_keeps_order<T: Tag>()
     ensures { (a b amount x y : T) → T.ops.minus a amount ≡ Some x → T.ops.minus b amount ≡ Some y → T.ops.compare x y ≡ T.ops.compare a b }
@@ -64,4 +80,17 @@ pub fn subtraction_keeps_order<T: Tag>()
 pub fn next_tags_follow<T: Tag>()
     ensures { (info : Rates) (spacings : Spacings T) (previous : Previous T) (params : Params) (t : T) (tags : Tags T) →
         AreSpacings T.ops info spacings → next_tags T.ops spacings previous params t ≡ Ok tags → AreNext T.ops info previous tags }
+{}
+
+/// A tag that is a value, less the tag of 0, is the tag.
+pub fn nothing_is_taken_off<T: Tag>()
+    ensures { (a : T) → T.is_value (T.fraction a) → T.ops.minus a (T.ops.of_moment 0) ≡ Some a }
+{}
+
+/// The tags of moments, those that an assignment gives for P, and differences are values.
+pub fn tags_are_values<T: Tag>()
+    ensures moments { (n : ℕ) → n ≤ 4611686018427387904 → T.is_value (T.fraction (T.ops.of_moment n)) }
+    ensures shares { (spacings : Spacings T) (previous : Previous T) (params : Params) (n : ℕ) (tags : Tags T) → n ≤ 4611686018427387904 →
+        next_tags T.ops spacings previous params (T.ops.of_moment n) ≡ Ok tags → T.is_value (T.fraction tags.p) }
+    ensures differences { (a amount : T) → IfSome (T.ops.minus a amount) (λ x. T.is_value (T.fraction x)) }
 {}

@@ -7,8 +7,9 @@ use Rattle.std.proofs.lemmas.Bool.{leb-true, leb-false, eqb-true, eqb-false}
 use Rattle.std.proofs.lemmas.Cmp.{int_ranked}
 use Rattle.std.proofs.lemmas.Int.{unsigned_abs-mul}
 use Rattle.std.proofs.lemmas.Nat.{mod-mul-add, div-add-mod'}
-use Rattle.std.proofs.Math.Nat.{mul-le-mul_left}
-use Rattle.dmc_tag.specs.Tag.{Fraction, Gives, IsExact, ratio}
+use Rattle.std.proofs.Math.Nat.{mul-le-mul_left, eq_of_mul-eq-mul_left}
+use Rattle.dmc_tag.specs.Tag.{Fraction, Gives, IsExact, IsSame, ratio}
+use Rattle.dmc_tag.specs.Tag as fraction_of
 use Rattle.dmc_tick.specs.Tick.{tick, tick_ops, tick_fraction, IsTickValue, greatest}
 
 times_one : (z : ℤ) → z *ℤ pos 1 ≡ z
@@ -53,11 +54,42 @@ divided hz rate false true z d =
     let e : hz ≡ hz / rate * rate = omega (arith, div-add-mod' hz rate) in
     tick_gives (pos (hz / rate)) (ratio hz rate) some (ap pos e)
 
+-- whether a fraction is a whole number of that size depends on its value alone
+same_size : (a b d e q : ℕ) → 0 < d → a * e ≡ b * d → a ≡ q * d → b ≡ q * e
+same_size a b d e q some same whole =
+    let turned : d * b ≡ b * d = omega arith in
+    let more : q * d * e ≡ d * (q * e) = omega arith in
+    eq_of_mul-eq-mul_left d some b (q * e) (turned ∙ sym same ∙ ap (λ n. n * e) whole ∙ more)
+
+value_of : (f : Fraction) (q : ℕ) → 0 < f.denom → q ≤ greatest → unsigned_abs f.numer ≡ q * f.denom → IsTickValue f
+value_of f q some fits e = record {
+  some = some;
+  divides = ap (λ n. n % f.denom) e ∙ multiple_rests q f.denom some;
+  bound = let scaled : f.denom * q ≤ f.denom * greatest = mul-le-mul_left f.denom fits in omega (arith, e, scaled);
+}
+
+tick_same_value : (f g : Fraction) → 0 < f.denom → 0 < g.denom → IsSame f g → IsTickValue f → IsTickValue g
+tick_same_value f g f_some g_some same v =
+    let a = unsigned_abs f.numer in
+    let q = a / f.denom in
+    let sizes : a * g.denom ≡ unsigned_abs g.numer * f.denom = sym (unsigned_abs-mul f.numer (pos g.denom)) ∙ ap unsigned_abs same ∙ unsigned_abs-mul g.numer (pos f.denom) in
+    let whole : a ≡ q * f.denom = omega (arith, div-add-mod' a f.denom, v.divides) in
+    value_of g q g_some (quotient_fits (nat_le q greatest) refl whole) (same_size a (unsigned_abs g.numer) f.denom g.denom q f_some sizes whole)
+  where
+    quotient_fits : {q : ℕ} (b : Bool) → nat_le q greatest ≡ b → unsigned_abs f.numer ≡ q * f.denom → q ≤ greatest
+    quotient_fits {q} true e whole = leb-true q greatest e
+    quotient_fits {q} false e whole =
+        let above : suc greatest ≤ q = leb-false q greatest e in
+        let scaled : f.denom * suc greatest ≤ f.denom * q = mul-le-mul_left f.denom above in
+        absurd (omega (arith, whole, scaled, v.bound, f_some))
+
 pub tick_exact : IsExact tick_ops tick_fraction IsTickValue
 tick_exact = record {
   denom = λ a. omega arith;
   order = λ a b. sym (ap (λ x. int_cmp x (b *ℤ pos 1)) (times_one a) ∙ ap (int_cmp a) (times_one b));
   same = λ a b e. int_ranked a b Equal (sym e);
+  same_value = tick_same_value;
+  moments = λ n h. value_of (fraction_of.whole n) n (omega arith) (omega (arith, h)) (omega arith);
   of_moment = λ n. refl;
   spacing = λ hz rate. divided hz rate (nat_eq rate 0) (nat_eq (hz % rate) 0) refl refl;
   steps = λ a k. tick_gives (pos k *ℤ a) _ (omega arith) (sym (times_one (pos k *ℤ a)));

@@ -1,5 +1,5 @@
-use Rattle.std.proofs.Common.{◌≡◌, ◌++◌, ◌∷◌, [], ◌≤◌, ◌<◌, ◌+◌, length, refl, ◌∙◌, ap, sym, arith, length-append}
-use Rattle.std.specs.Prelude.{◌==◌, is_some, slice_index_or, None, Some}
+use Rattle.std.proofs.Common.{◌≡◌, ◌++◌, ◌∷◌, [], ◌≤◌, length, refl, ◌∙◌, ap, sym, arith, length-append}
+use Rattle.std.specs.Prelude.{◌==◌, is_some, slice_index_or, None}
 use Rattle.dmc_roster.specs.Entries.{entry_named}
 use Rattle.dmc_roster.proofs.Held.{is_named, eqb_turned, none_of, length_entries, added, held_added, apart_added}
 use Rattle.dmc_roster.proofs.roster.Roster.add.Goals as goal

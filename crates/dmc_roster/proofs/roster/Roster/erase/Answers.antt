@@ -1,4 +1,4 @@
-use Rattle.std.proofs.Common.{◌≤◌, length, arith, sym, ap, ◌∙◌}
+use Rattle.std.proofs.Common.{arith, ap, ◌∙◌}
 use Rattle.std.specs.Prelude.{slice_index_or, None, not, filter, ◌==◌}
 use Rattle.dmc_roster.proofs.Held.{erased, held_others, apart_filtered, length_filtered}
 use Rattle.dmc_roster.proofs.roster.Roster.erase.Goals as goal

@@ -1,4 +1,4 @@
-use Rattle.std.proofs.Common.{◌≡◌, refl, ◌∙◌, ap, sym, subst}
+use Rattle.std.proofs.Common.{refl, ◌∙◌, ap, sym, subst}
 use Rattle.std.specs.Option.{option_map}
 use Rattle.dmc_roster.specs.Entries.{entry_named, AreDistinct}
 use Rattle.dmc_roster.proofs.Held.{named, eqb_turned, are_distinct, found_keyed, found_held}
@@ -19,3 +19,6 @@ pub returns-clause-held : goal.returns-clause-held
 returns-clause-held g c =
     let distinct = subst (λ r. AreDistinct r.entries) c.self.view_is (are_distinct c.self.inside.records.slots c.self.inside.ids.entries c.len-count.ensures.unique c.self.invariant.apart) in
     found_held c.copied.result c.args.id c.args.self.now.entries distinct (returns-clause-key g c)
+
+pub returns-clause-distinct : goal.returns-clause-distinct
+returns-clause-distinct g c = subst (λ r. AreDistinct r.entries) c.self.view_is (are_distinct c.self.inside.records.slots c.self.inside.ids.entries c.len-count.ensures.unique c.self.invariant.apart)

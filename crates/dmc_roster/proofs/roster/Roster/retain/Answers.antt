@@ -1,4 +1,4 @@
-use Rattle.std.proofs.Common.{◌≤◌, length, map, arith, sym, ap, ◌∙◌}
+use Rattle.std.proofs.Common.{map, arith, ap, ◌∙◌}
 use Rattle.std.specs.Prelude.{slice_index_or, None, is_some, filter}
 use Rattle.dmc_client.specs.Record.{IsRecord}
 use Rattle.dmc_roster.specs.Entries.{with_rec}
@@ -21,7 +21,7 @@ returns-clause-value g c =
     let keeps = g.R.RecordRule.keeps c.args.rule.now in
     let changed = g.R.RecordRule.changed c.args.rule.now in
     rw (c.drop_vacant.ensures, c.apply_to_each.ensures.slots) (slots_kept keeps changed c.self.inside.records.slots c.self.inside.ids.entries)
-    ∙ ap (λ r. map (with_rec changed) (filter (λ e. keeps e.rec) r.entries)) c.self.view_is
+    ∙ ap (λ r. map (λ e. with_rec (changed e.key) e) (filter (λ e. keeps e.key e.rec) r.entries)) c.self.view_is
 
 pub returns-clause-kept : goal.returns-clause-kept
 returns-clause-kept g c = all_records (IsRecord g.T.Tag.ops) c.apply_to_each.new.records.slots c.drop_vacant.new.ids.entries c.apply_to_each.ensures.kept

@@ -1,0 +1,107 @@
+-- Which tags are values.
+use Rattle.std.proofs.Common.{◌≡◌, ℕ, ◌*◌, ◌<◌, ◌≤◌, Bool, true, false, cond, Option, Some, None, refl, sym, ap, ◌∙◌, subst, arith}
+use Rattle.std.specs.Prelude.{ℤ, pos, ◌-ℤ◌, ◌*ℤ◌, Ok, IfSome}
+use Rattle.std.specs.declared.cmp.Ordering.TheVariants.{Equal}
+use Rattle.std.specs.Ordering.{is_lt, ord_max}
+use Rattle.std.specs.Cmp.{int_cmp_is}
+use Rattle.std.proofs.lemmas.Int.{ints}
+use Rattle.dmc_types.specs.Values.{Params}
+use Rattle.dmc_tag.specs.Outcome.{in_range}
+use Rattle.dmc_tag.specs.Rules.{next_tag, next_reservation, next_tags}
+use Rattle.dmc_tag.specs.declared.plain.Previous.{Previous}
+use Rattle.dmc_tag.specs.declared.spacing.Spacings.{Spacings}
+use Rattle.dmc_tag.specs.declared.reply.Tags.{Tags}
+use Rattle.dmc_tag.specs.Tag.{Fraction, Tagging, IsExact, IsSame, Gives, whole, sum_of, difference_of}
+use Rattle.dmc_tag.proofs.Scaled.{scaled_twice, scaled_cmp, zero_of}
+use Rattle.dmc_tag.proofs.TagOrder.{positive, bound, from_range}
+
+module _ {T : Type 0} (ops : Tagging T) (fraction : T → Fraction) (is_value : Fraction → Type 0) (exact : IsExact ops fraction is_value) where
+  value_given : (o : Option T) (f : Fraction) (a : T) → 0 < f.denom → Gives fraction is_value o f → o ≡ Some a → is_value (fraction a)
+  value_given None f a some g e = cc
+  value_given (Some b) f a some g e =
+      let same : b ≡ a = cc in
+      subst (λ c. is_value (fraction c)) same (exact.same_value f (fraction b) some (exact.denom b) (sym g.1) g.0)
+
+  pub moment_value : (n : ℕ) → n ≤ 4611686018427387904 → is_value (fraction (ops.of_moment n))
+  moment_value n h = exact.same_value (whole n) (fraction (ops.of_moment n)) (omega arith) (exact.denom (ops.of_moment n)) (sym (exact.of_moment n)) (exact.moments n h)
+
+  sum_value : (a b c : T) → ops.plus a b ≡ Some c → is_value (fraction c)
+  sum_value a b c e = value_given (ops.plus a b) (sum_of (fraction a) (fraction b)) c (positive _ _ (exact.denom a) (exact.denom b)) (exact.plus a b) e
+
+  difference_value : (a b c : T) → ops.minus a b ≡ Some c → is_value (fraction c)
+  difference_value a b c e = value_given (ops.minus a b) (difference_of (fraction a) (fraction b)) c (positive _ _ (exact.denom a) (exact.denom b)) (exact.minus a b) e
+
+  pub differences_values : (a amount : T) → IfSome (ops.minus a amount) (λ x. is_value (fraction x))
+  differences_values a amount = at (ops.minus a amount) refl where
+    at : (o : Option T) → ops.minus a amount ≡ o → IfSome o (λ x. is_value (fraction x))
+    at None e = tt
+    at (Some x) e = difference_value a amount x e
+
+  greater_value : (sum t : T) (b : Bool) → is_value (fraction sum) → is_value (fraction t) → is_value (fraction (cond b sum t))
+  greater_value sum t true h k = h
+  greater_value sum t false h k = k
+
+  next_value : (previous spacing t tag : T) (k : ℕ) → is_value (fraction t) → next_tag ops previous k spacing t ≡ Ok tag → is_value (fraction tag)
+  next_value previous spacing t tag k h e =
+      let step = bound (in_range (ops.steps spacing k)) _ tag e in
+      let sum = bound (in_range (ops.plus previous step.0)) _ tag step.2 in
+      let tag_is : ord_max ops.compare sum.0 t ≡ tag = cc (sum.2) in
+      subst (λ c. is_value (fraction c)) tag_is (greater_value sum.0 t (is_lt (ops.compare t sum.0)) (sum_value previous step.0 sum.0 (from_range _ _ sum.1)) h)
+
+  pub shares_values : (spacings : Spacings T) (previous : Previous T) (params : Params) (n : ℕ) (tags : Tags T) → n ≤ 4611686018427387904 → next_tags ops spacings previous params (ops.of_moment n) ≡ Ok tags → is_value (fraction tags.p)
+  shares_values spacings previous params n tags h e =
+      let t = ops.of_moment n in
+      let r = bound (next_reservation ops previous.r params.rho spacings.r t) _ tags e in
+      let l = bound (next_tag ops previous.l params.delta spacings.l t) _ tags r.2 in
+      let p = bound (next_tag ops previous.p params.delta spacings.p t) _ tags l.2 in
+      let share : p.0 ≡ tags.p = cc (p.2) in
+      subst (λ c. is_value (fraction c)) share (next_value previous.p spacings.p t p.0 params.delta (moment_value n h) p.1)
+
+  -- ---- less nothing
+
+  -- a tag less the tag of 0 is the fraction of the tag, over one more denominator
+  less_zero : (a : T) → (fraction a).numer *ℤ pos (fraction (ops.of_moment 0)).denom -ℤ (fraction (ops.of_moment 0)).numer *ℤ pos (fraction a).denom ≡ (fraction a).numer *ℤ pos (fraction (ops.of_moment 0)).denom
+  less_zero a =
+      let z = fraction (ops.of_moment 0) in
+      let none : z.numer ≡ pos 0 = zero_of z.numer z.denom (exact.of_moment 0) in
+      let nothing : z.numer *ℤ pos (fraction a).denom ≡ pos 0 = ap (λ n. n *ℤ pos (fraction a).denom) none ∙ no_times (fraction a).denom in
+      taken _ _ nothing
+    where
+      no_times : (d : ℕ) → pos 0 *ℤ pos d ≡ pos 0
+      no_times d = let e : 0 * d ≡ 0 = omega arith in ap pos e
+
+      taken : (x y : ℤ) → y ≡ pos 0 → x -ℤ y ≡ x
+      taken x y e = omega (arith, ints)
+
+  same_less : (a : T) → IsSame (fraction a) (difference_of (fraction a) (fraction (ops.of_moment 0)))
+  same_less a =
+      let z = fraction (ops.of_moment 0) in
+      let f = fraction a in
+      let turned : f.denom * z.denom ≡ z.denom * f.denom = omega arith in
+      ap (λ n. f.numer *ℤ pos n) turned
+      ∙ sym (scaled_twice f.numer z.denom f.denom)
+      ∙ ap (λ x. x *ℤ pos f.denom) (sym (less_zero a))
+
+  less_given : (a : T) (o : Option T) → is_value (fraction a) → Gives fraction is_value o (difference_of (fraction a) (fraction (ops.of_moment 0))) → o ≡ Some a
+  less_given a None v g =
+      let z = ops.of_moment 0 in
+      absurd (g (exact.same_value (fraction a) (difference_of (fraction a) (fraction z)) (exact.denom a) (positive _ _ (exact.denom a) (exact.denom z)) (same_less a) v))
+  less_given a (Some b) v g =
+      let z = fraction (ops.of_moment 0) in
+      let f = fraction a in
+      let k = fraction b in
+      let cross : (k.numer *ℤ pos f.denom) *ℤ pos z.denom ≡ (f.numer *ℤ pos k.denom) *ℤ pos z.denom =
+      scaled_twice k.numer f.denom z.denom
+      ∙ g.1
+      ∙ ap (λ x. x *ℤ pos k.denom) (less_zero a)
+      ∙ scaled_twice f.numer z.denom k.denom
+      ∙ ap (λ n. f.numer *ℤ pos n) (omega arith)
+      ∙ sym (scaled_twice f.numer k.denom z.denom) in
+      let equal : ops.compare b a ≡ Equal =
+      exact.order b a
+      ∙ scaled_cmp (k.numer *ℤ pos f.denom) (f.numer *ℤ pos k.denom) z.denom (exact.denom (ops.of_moment 0))
+      ∙ sym (int_cmp_is _ _ Equal cross) in
+      ap Some (exact.same b a equal)
+
+  pub nothing_off : (a : T) → is_value (fraction a) → ops.minus a (ops.of_moment 0) ≡ Some a
+  nothing_off a v = less_given a (ops.minus a (ops.of_moment 0)) v (exact.minus a (ops.of_moment 0))

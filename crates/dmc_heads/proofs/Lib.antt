@@ -1,0 +1,8 @@
+pub mod Slots
+pub mod HeadsFrom
+pub mod Clients
+pub mod Least
+pub mod Sound
+pub mod MarkLemmas
+pub mod Shift
+pub mod Room

@@ -1,0 +1,92 @@
+-- Finite maps from keys, as lists of what each key below a room holds.
+use Rattle.std.proofs.Common.{◌≡◌, ◌≢◌, ℕ, zero, suc, ◌<◌, List, [], ◌∷◌, ◌++◌, map, Option, Some, None, length, set, replicate, count_by, is_some, cond, refl, sym, ap, ◌∙◌, inl, inr, arith, IsSome}
+use Rattle.std.specs.Option.{option_map}
+use Rattle.std.proofs.lemmas.Bool.{cases_lt}
+use Rattle.std.proofs.lemmas.List.Sums.{sum_by-cons}
+use Rattle.std.proofs.lemmas.List.{get_or_past, get_or-set_same, get_or-set_other}
+use Rattle.dmc_index.specs.Index.{held}
+
+pub option_cases : {X G : Type 0} (o : Option X) → (o ≡ None → G) → ((x : X) → o ≡ Some x → G) → G
+option_cases None none some = none refl
+option_cases (Some x) none some = some x refl
+
+pub some_of : {X : Type 0} (o : Option X) → IsSome o → (x : X) × (o ≡ Some x)
+some_of None h = cc
+some_of (Some x) h = (x, refl)
+
+pub some_if_mapped : {X Y : Type 0} (f : X → Y) (o : Option X) (y : Y) → option_map f o ≡ Some y → (x : X) × (o ≡ Some x) × (f x ≡ y)
+some_if_mapped f None y e = cc
+some_if_mapped f (Some x) y e = let same : f x ≡ y = cc in (x, refl, same)
+
+pub none_if_mapped : {X Y : Type 0} (f : X → Y) (o : Option X) → option_map f o ≡ None → o ≡ None
+none_if_mapped f None e = refl
+none_if_mapped f (Some x) e = cc
+
+pub is_some_mapped : {X Y : Type 0} (f : X → Y) (o : Option X) → is_some (option_map f o) ≡ is_some o
+is_some_mapped f None = refl
+is_some_mapped f (Some x) = refl
+
+module _ {X : Type 0} where
+  -- a key that holds something is below the room
+  pub within : (slots : List (Option X)) (key : ℕ) (x : X) → held slots key ≡ Some x → key < length slots
+  within slots key x h =
+      elim (cases_lt key (length slots)) [ inl l ↦ l | inr l ↦ let none = get_or_past slots key None l in cc ]
+
+  pub held-set_same : (slots : List (Option X)) (key : ℕ) (o : Option X) → key < length slots → held (set slots key o) key ≡ o
+  held-set_same slots key o l = get_or-set_same slots key o None l
+
+  pub held-set_other : (slots : List (Option X)) (key k : ℕ) (o : Option X) → k ≢ key → held (set slots key o) k ≡ held slots k
+  held-set_other slots key k o ne = get_or-set_other slots key k o None ne
+
+  pub same_slots : (xs ys : List (Option X)) → length xs ≡ length ys → ((key : ℕ) → held xs key ≡ held ys key) → xs ≡ ys
+  same_slots [] [] e h = refl
+  same_slots [] (y ∷ ys) e h = absurd (omega arith)
+  same_slots (x ∷ xs) [] e h = absurd (omega arith)
+  same_slots (x ∷ xs) (y ∷ ys) e h =
+      ap (λ z. z ∷ xs) (h 0) ∙ ap (λ zs. y ∷ zs) (same_slots xs ys (omega arith) (λ key. h (suc key)))
+
+  -- a key's value replaced by what it is
+  pub set-held : (slots : List (Option X)) (key : ℕ) → set slots key (held slots key) ≡ slots
+  set-held [] key = refl
+  set-held (x ∷ slots) zero = refl
+  set-held (x ∷ slots) (suc key) = ap (λ zs. x ∷ zs) (set-held slots key)
+
+  -- more room holds nothing
+  pub held-more : (slots : List (Option X)) (n key : ℕ) → held (slots ++ replicate n None) key ≡ held slots key
+  held-more [] zero key = refl
+  held-more [] (suc n) zero = refl
+  held-more [] (suc n) (suc key) = held-more [] n key
+  held-more (x ∷ slots) n zero = refl
+  held-more (x ∷ slots) n (suc key) = held-more slots n key
+
+  count_none : (slots : List (Option X)) → ((key : ℕ) → held slots key ≡ None) → count_by is_some slots ≡ 0
+  count_none [] h = refl
+  count_none (None ∷ slots) h = count_none slots (λ key. h (suc key))
+  count_none (Some x ∷ slots) h = let no : Some x ≡ None = h 0 in cc
+
+  pub none_if_count_zero : (slots : List (Option X)) → count_by is_some slots ≡ 0 → (key : ℕ) → held slots key ≡ None
+  none_if_count_zero [] e key = refl
+  none_if_count_zero (None ∷ slots) e zero = refl
+  none_if_count_zero (None ∷ slots) e (suc key) = none_if_count_zero slots e key
+  none_if_count_zero (Some x ∷ slots) e key = absurd (omega (arith, sum_by-cons (λ (o : Option X). cond (is_some o) 1 0) (Some x) slots))
+
+module _ {X Y : Type 0} where
+  -- two maps with the same keys have one number of keys
+  pub count_same : (xs : List (Option X)) (ys : List (Option Y)) → ((key : ℕ) → is_some (held xs key) ≡ is_some (held ys key)) → count_by is_some xs ≡ count_by is_some ys
+  count_same [] ys h = sym (count_none ys (λ key. option_cases (held ys key) (λ none. none) (λ y some. let no = h key in cc (ap is_some some))))
+  count_same (x ∷ xs) [] h = count_none (x ∷ xs) (λ key. option_cases (held (x ∷ xs) key) (λ none. none) (λ y some. let no = h key in cc (ap is_some some)))
+  count_same (x ∷ xs) (y ∷ ys) h =
+      let first : ◌≡◌ {A = ℕ} (cond (is_some x) 1 0) (cond (is_some y) 1 0) = ap (λ b. cond b 1 0) (h 0) in
+      let rest = count_same xs ys (λ key. h (suc key)) in
+      omega (arith, first, rest, sum_by-cons (λ (o : Option X). cond (is_some o) 1 0) x xs, sum_by-cons (λ (o : Option Y). cond (is_some o) 1 0) y ys)
+
+  pub held-map : (f : X → Y) (slots : List (Option X)) (key : ℕ) → held (map (option_map f) slots) key ≡ option_map f (held slots key)
+  held-map f [] key = refl
+  held-map f (x ∷ slots) zero = refl
+  held-map f (x ∷ slots) (suc key) = held-map f slots key
+
+-- what a map makes of one key
+pub map_set : {X Y : Type 0} (f : X → Y) (slots : List (Option X)) (key : ℕ) (o : Option X) → map (option_map f) (set slots key o) ≡ set (map (option_map f) slots) key (option_map f o)
+map_set f [] key o = refl
+map_set f (x ∷ slots) zero o = refl
+map_set f (x ∷ slots) (suc key) o = ap (λ zs. option_map f x ∷ zs) (map_set f slots key o)

@@ -1,0 +1,29 @@
+use Rattle.std.proofs.Common.{◌≡◌, ◌≤◌, None, length, map, sym, ap, ◌∙◌, subst, inl, inr, arith}
+use Rattle.std.specs.Option.{option_map}
+use Rattle.std.proofs.lemmas.Bool.{cases_lt}
+use Rattle.std.proofs.lemmas.List.{length-map, get_or_past}
+use Rattle.dmc_index.specs.Index.{held}
+use Rattle.dmc_heads.specs.Heads.{heads_from, set_back}
+use Rattle.dmc_heads.proofs.HeadsFrom.{length-heads_from}
+use Rattle.dmc_heads.proofs.Slots.{same_slots, held-map}
+use Rattle.dmc_heads.proofs.heads.Heads.set_back.Goals as goal
+
+pub returns : goal.returns
+returns g c =
+    let x = c.self.inside in
+    let early = g.I.TagIndex.OrderIndex.slots x.early in
+    let limits = g.I.LimitIndex.OrderIndex.slots x.limits in
+    let ready = g.I.ReadyIndex.OrderIndex.slots x.ready in
+    let size = length-heads_from early limits ready in
+    let within : length (heads_from early limits ready) ≤ x.room = omega (arith, size.2, c.self.invariant.room_is) in
+    let f = set_back g.T.Tag.ops c.args.t in
+    let old = c.args.self.now in
+    let new = c.loop-key.self in
+    same_slots new (map (option_map f) old) (c.loop-key.invariant.room ∙ sym (length-map old (option_map f))) (λ k. elim (cases_lt k c.loop-key.key) [
+      | inl l ↦ c.loop-key.invariant.done k l ∙ sym (held-map f old k)
+      | inr l ↦
+          let all : length old ≤ x.room = subst (λ hs. length hs ≤ x.room) c.self.view_is within in
+          let past : length old ≤ k = omega arith in
+          let none : held old k ≡ None = get_or_past old k None past in
+          c.loop-key.invariant.rest k l ∙ none ∙ sym (held-map f old k ∙ ap (option_map f) none)
+    ])

@@ -1,0 +1,4 @@
+pub mod Heads
+pub mod Marks
+pub mod Least
+pub mod Examples

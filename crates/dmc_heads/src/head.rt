@@ -1,0 +1,50 @@
+//! A client's first request.
+ghost use Rattle.std.specs.Prelude.{◌≡◌};
+ghost use Rattle.dmc_heads.specs.Heads as heads_of;
+
+use dmc_tag::rank::{LimitRank, ReadyRank, TagRank};
+use dmc_tag::reply::Tags;
+use dmc_types::ids::ClientId;
+
+/// A client, the tags of its first request, and the ready mark: true only where the L of the request is known not to be
+/// past.
+#[derive(Clone, Copy, Debug)]
+pub struct Head<T> {
+    pub client: ClientId,
+    pub tags: Tags<T>,
+    pub ready: bool,
+}
+
+impl<T: Copy> Head<T> {
+    /// Its rank by R.
+    pub fn tag_rank(&self) -> TagRank<T>
+        ensures { result ≡ heads_of.tag_rank self.now }
+    {
+        TagRank {
+            tag: self.tags.r,
+            client: self.client,
+        }
+    }
+
+    /// Its rank by L, what is unready first.
+    pub fn limit_rank(&self) -> LimitRank<T>
+        ensures { result ≡ heads_of.limit_rank self.now }
+    {
+        LimitRank {
+            ready: self.ready,
+            tag: self.tags.l,
+            client: self.client,
+        }
+    }
+
+    /// Its rank by P, what is ready first.
+    pub fn ready_rank(&self) -> ReadyRank<T>
+        ensures { result ≡ heads_of.ready_rank self.now }
+    {
+        ReadyRank {
+            ready: self.ready,
+            tag: self.tags.p,
+            client: self.client,
+        }
+    }
+}

@@ -1,0 +1,252 @@
+//! The heads in three orders.
+ghost use Rattle.std.specs.Prelude.{◌≡◌, ℕ, ◌-◌, ◌<◌, ◌≤◌, ◌++◌, [], Some, None, OnOk, OnErr, MatchOption, IsSome, IsSomeAnd, false, length, replicate, slice_set, map, count_by, is_some};
+ghost use Rattle.std.specs.Option.{option_map, option_map_or};
+ghost use Rattle.dmc_index.specs.Index.{held, IsEmpty};
+ghost use Rattle.dmc_tag.specs.Rank.{tag_rank_cmp, limit_rank_cmp, ready_rank_cmp};
+ghost use Rattle.dmc_heads.specs.Heads as heads_of;
+ghost use Rattle.dmc_heads.specs.Marks as marks_of;
+ghost use Rattle.dmc_heads.specs.Marks.{CanMark};
+ghost use Rattle.dmc_heads.specs.Heads.{Ranks, IsOthers, IsFirst, IsLeastShare, CanShift};
+
+use crate::head::Head;
+use crate::share::{find_least, is_due, least_after, least_with, least_without, less_rank};
+use dmc_index::index::{Indexes, OrderIndex};
+use dmc_tag::laws::subtraction_keeps_order;
+use dmc_tag::rank::{LimitRank, ReadyRank, TagRank};
+use dmc_tag::shifting::less;
+use dmc_tag::tag::Tag;
+use dmc_types::moment::Moment;
+use std::alloc::{AllocError, Global};
+use std::marker::Model;
+
+/// A finite map from keys to heads, in the orders of R, of L (what is unready first) and of P (what is ready first). No two
+/// keys have one client. No call but `reserve` takes memory.
+#[derive(Drop)]
+pub struct Heads<T: Tag, I: Indexes<T>> {
+    early: I::TagIndex,
+    limits: I::LimitIndex,
+    ready: I::ReadyIndex,
+    // The least P, where it is known.
+    least: Option<T>,
+    // The keys below it have room in the last index.
+    room: usize,
+}
+
+impl<T: Tag, I: Indexes<T>> Model for Heads<T, I> {
+    ghost use Rattle.std.specs.Prelude.{List, Option};
+    ghost use Rattle.dmc_heads.specs.declared.head.Head.{Head};
+    ghost use Rattle.dmc_heads.specs.Heads.{heads_from, IsSound};
+
+    ghost Value = { List (Option (Head T)) };
+
+    ghost view = { λ x. heads_from (I.TagIndex.slots x.early) (I.LimitIndex.slots x.limits) (I.ReadyIndex.slots x.ready) };
+
+    ghost invariant = { λ x. IsSound T.ops (I.TagIndex.slots x.early) (I.LimitIndex.slots x.limits) (I.ReadyIndex.slots x.ready) x.least x.room };
+}
+
+impl<T: Tag, I: Indexes<T>> Heads<T, I> {
+    /// No heads, and no room. It takes no memory.
+    pub fn new(alloc: Global) -> Heads<T, I>
+        ensures { result ≡ [] }
+    {
+        Heads {
+            early: I::TagIndex::new(alloc),
+            limits: I::LimitIndex::new(alloc),
+            ready: I::ReadyIndex::new(alloc),
+            least: None,
+            room: 0,
+        }
+    }
+
+    /// How many keys have a head.
+    pub fn len(&self) -> usize
+        ensures { result ≡ count_by is_some self.now }
+    {
+        self.ready.len()
+    }
+
+    /// Makes room for the keys below n, in all three orders. Room never shrinks.
+    pub fn reserve(&mut self, n: usize) -> Result<(), AllocError>
+        ensures ok { OnOk result (self.new ≡ self.old ++ replicate (n - length self.old) None) }
+        ensures err { OnErr result ((key : ℕ) → held self.new key ≡ held self.old key) }
+        ensures room { length self.old ≤ length self.new }
+    {
+        self.early.reserve_keys(n)?;
+        self.limits.reserve_keys(n)?;
+        self.ready.reserve_keys(n)?;
+        self.room = self.room.max(n);
+        Ok(())
+    }
+
+    /// The index by R.
+    pub fn by_reservation(&self) -> &I::TagIndex
+        ensures { Ranks heads_of.tag_rank self.now (I.TagIndex.slots result.now) }
+    {
+        &self.early
+    }
+
+    /// The index by L, what is unready first.
+    pub fn by_limit(&self) -> &I::LimitIndex
+        ensures { Ranks heads_of.limit_rank self.now (I.LimitIndex.slots result.now) }
+    {
+        &self.limits
+    }
+
+    /// The index by P, what is ready first.
+    pub fn by_shares(&self) -> &I::ReadyIndex
+        ensures { Ranks heads_of.ready_rank self.now (I.ReadyIndex.slots result.now) }
+    {
+        &self.ready
+    }
+
+    /// The key of the least R, and the rank. An absent R is last.
+    pub fn least_by_reservation(&self) -> Option<(usize, &TagRank<T>)>
+        ensures { MatchOption result (IsEmpty self.now) (λ p. IsFirst heads_of.tag_rank (tag_rank_cmp T.ops.compare) self.now p.0 p.1.now) }
+    {
+        self.early.least()
+    }
+
+    /// The key of the least L of those that are unready, or of all where none is, and the rank.
+    pub fn least_by_limit(&self) -> Option<(usize, &LimitRank<T>)>
+        ensures { MatchOption result (IsEmpty self.now) (λ p. IsFirst heads_of.limit_rank (limit_rank_cmp T.ops.compare) self.now p.0 p.1.now) }
+    {
+        self.limits.least()
+    }
+
+    /// The key of the least P of those that are ready, or of all where none is, and the rank.
+    pub fn least_by_shares(&self) -> Option<(usize, &ReadyRank<T>)>
+        ensures { MatchOption result (IsEmpty self.now) (λ p. IsFirst heads_of.ready_rank (ready_rank_cmp T.ops.compare) self.now p.0 p.1.now) }
+    {
+        self.ready.least()
+    }
+
+    /// Gives a head to a key that has none, of a client that no key has.
+    pub fn insert(&mut self, key: usize, head: Head<T>)
+        requires in_room { key < length self.old }
+        requires vacant { held self.old key ≡ None }
+        requires apart { IsOthers self.old key head.client }
+        ensures { self.new ≡ slice_set self.old key (Some head) }
+    {
+        let is_first = self.ready.is_empty();
+        self.early.insert(key, head.tag_rank());
+        self.limits.insert(key, head.limit_rank());
+        self.ready.insert(key, head.ready_rank());
+        self.least = least_with(is_first, self.least, head.tags.p);
+    }
+
+    /// Gives a key another head of its client.
+    pub fn change(&mut self, key: usize, head: Head<T>)
+        requires here { option_map (λ h. h.client) (held self.old key) ≡ Some head.client }
+        ensures { self.new ≡ slice_set self.old key (Some head) }
+    {
+        let old = self.ready.get(key).unwrap().tag;
+        self.early.change(key, head.tag_rank());
+        self.limits.change(key, head.limit_rank());
+        self.ready.change(key, head.ready_rank());
+        self.least = least_after(self.least, old, head.tags.p);
+    }
+
+    /// Takes a key out.
+    pub fn remove(&mut self, key: usize)
+        requires { IsSome (held self.old key) }
+        ensures { self.new ≡ slice_set self.old key None }
+    {
+        self.early.remove(key);
+        self.limits.remove(key);
+        let rank = self.ready.remove(key);
+        self.least = least_without(self.least, rank.tag);
+    }
+
+    /// Takes the amount off each P.
+    pub fn shift(&mut self, amount: T)
+        requires { CanShift T.ops amount self.old }
+        ensures { self.new ≡ map (option_map (heads_of.shifted T.ops amount)) self.old }
+    {
+        subtraction_keeps_order::<T>();
+        self.ready.map_ranks(
+            |rank: ReadyRank<T>| -> ReadyRank<T>
+                ensures { result ≡ heads_of.less_rank T.ops amount rank }
+            { less_rank(rank, amount) },
+        );
+        self.least = match self.least {
+            None => None,
+            Some(least) => Some(less(least, amount)),
+        };
+    }
+
+    /// Marks each head ready whose L is not past t.
+    pub fn promote(&mut self, t: Moment)
+        ensures { self.new ≡ map (option_map (heads_of.marked T.ops t)) self.old }
+    {
+        while let Some(key) = self.next_to_mark(t) {
+            self.set_ready(key, true);
+        }
+    }
+
+    /// Sets back each ready mark whose L is past t.
+    pub fn set_back(&mut self, t: Moment)
+        ensures { self.new ≡ map (option_map (heads_of.set_back T.ops t)) self.old }
+    {
+        let room = self.room;
+        for key in 0..room {
+            self.set_back_at(key, t);
+        }
+    }
+
+    /// The least P of all heads; none where there is no head. It is kept until a head with that P leaves, and found again
+    /// by a pass over the keys.
+    pub fn least_share(&mut self) -> Option<T>
+        ensures value { MatchOption result (IsEmpty self.old) (IsLeastShare T.ops self.old) }
+        ensures same { self.new ≡ self.old }
+    {
+        if self.least.is_none() {
+            self.least = find_least(&self.ready, self.room);
+        }
+        self.least
+    }
+
+    // Sets the ready mark of a head.
+    fn set_ready(&mut self, key: usize, ready: bool)
+        requires { IsSome (held self.old key) }
+        ensures { self.new ≡ slice_set self.old key (option_map (marks_of.with_ready ready) (held self.old key)) }
+    {
+        let limit = *self.limits.get(key).unwrap();
+        let share = *self.ready.get(key).unwrap();
+        self.limits.change(key, LimitRank { ready, ..limit });
+        self.ready.change(key, ReadyRank { ready, ..share });
+    }
+
+    // The key of an unready head whose L is not past t.
+    fn next_to_mark(&self, t: Moment) -> Option<usize>
+        ensures { MatchOption result (map (option_map (heads_of.marked T.ops t)) self.now ≡ self.now) (λ key. IsSomeAnd (held self.now key) (CanMark T.ops t)) }
+    {
+        match self.limits.least() {
+            None => None,
+            Some((key, rank)) => {
+                if rank.ready || !is_due(rank.tag, t) {
+                    return None;
+                }
+                Some(key)
+            }
+        }
+    }
+
+    // Sets back the ready mark of a key whose L is past t.
+    fn set_back_at(&mut self, key: usize, t: Moment)
+        ensures { self.new ≡ slice_set self.old key (option_map (heads_of.set_back T.ops t) (held self.old key)) }
+    {
+        if self.is_past(key, t) {
+            self.set_ready(key, false);
+        }
+    }
+
+    // Whether the key has a head that is ready, and whose L is past t.
+    fn is_past(&self, key: usize, t: Moment) -> bool
+        ensures { result ≡ option_map_or (marks_of.is_past T.ops t) (held self.now key) false }
+    {
+        match self.limits.get(key) {
+            None => false,
+            Some(rank) => rank.ready && !is_due(rank.tag, t),
+        }
+    }
+}

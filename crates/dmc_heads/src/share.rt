@@ -1,0 +1,103 @@
+//! The least P of all heads, as it is kept, and tests of tags.
+ghost use Rattle.std.specs.Prelude.{◌≡◌, Some};
+ghost use Rattle.std.specs.Option.{option_map};
+ghost use Rattle.dmc_index.specs.Index.{held};
+ghost use Rattle.dmc_tag.specs.Best as best;
+ghost use Rattle.dmc_heads.specs.Heads as heads_of;
+ghost use Rattle.dmc_heads.specs.Least as least_share;
+ghost use Rattle.dmc_heads.specs.Least.{FindsLeast};
+
+use dmc_index::index::OrderIndex;
+use dmc_tag::rank::ReadyRank;
+use dmc_tag::shifting::less;
+use dmc_tag::tag::Tag;
+use dmc_types::moment::Moment;
+
+/// Whether a tag is at or before a moment.
+pub fn is_due<T: Tag>(tag: T, t: Moment) -> bool
+    ensures { result ≡ best.is_due T.ops t (Some tag) }
+{
+    !tag.cmp(&T::of_moment(t)).is_gt()
+}
+
+/// The lesser of two tags.
+pub fn lesser<T: Tag>(a: T, b: T) -> T
+    ensures { result ≡ least_share.lesser T.ops a b }
+{
+    if a.cmp(&b).is_gt() { b } else { a }
+}
+
+/// The lesser of two tags, of which each may be absent.
+fn least_of_two<T: Tag>(a: Option<T>, b: Option<T>) -> Option<T>
+    ensures { result ≡ least_share.least_of_two T.ops a b }
+{
+    match (a, b) {
+        (None, b) => b,
+        (Some(a), None) => Some(a),
+        (Some(a), Some(b)) => Some(lesser(a, b)),
+    }
+}
+
+/// The least where a head comes: known where it is the first, or where it was known.
+pub fn least_with<T: Tag>(is_first: bool, least: Option<T>, share: T) -> Option<T>
+    ensures { result ≡ least_share.least_with T.ops is_first least share }
+{
+    if is_first {
+        return Some(share);
+    }
+    match least {
+        None => None,
+        Some(known) => Some(lesser(share, known)),
+    }
+}
+
+/// The least where a head leaves: no longer known if the head had it.
+pub fn least_without<T: Tag>(least: Option<T>, share: T) -> Option<T>
+    ensures { result ≡ least_share.least_without T.ops least share }
+{
+    let known = least?;
+    if share.cmp(&known).is_eq() {
+        return None;
+    }
+    Some(known)
+}
+
+/// The least where the P of a head changes: the new one where that is not above it, and no longer known if the old one had it.
+pub fn least_after<T: Tag>(least: Option<T>, old: T, new: T) -> Option<T>
+    ensures { result ≡ least_share.least_after T.ops least old new }
+{
+    let known = least?;
+    if new.cmp(&known).is_gt() {
+        return least_without(least, old);
+    }
+    Some(new)
+}
+
+/// A rank with an amount off its tag.
+pub fn less_rank<T: Tag>(rank: ReadyRank<T>, amount: T) -> ReadyRank<T>
+    ensures { result ≡ heads_of.less_rank T.ops amount rank }
+{
+    let tag = less(rank.tag, amount);
+    ReadyRank { tag, ..rank }
+}
+
+/// The least tag of the keys below the room, by a pass over them.
+pub fn find_least<T: Tag, X: OrderIndex<ReadyRank<T>>>(ready: &X, room: usize) -> Option<T>
+    ensures { FindsLeast T.ops (X.slots ready.now) room result }
+{
+    let mut least = None;
+    for key in 0..room {
+        least = least_of_two(least, tag_of(ready, key));
+    }
+    least
+}
+
+/// The tag of a key.
+fn tag_of<T: Tag, X: OrderIndex<ReadyRank<T>>>(ready: &X, key: usize) -> Option<T>
+    ensures { result ≡ option_map (λ rank. rank.tag) (held (X.slots ready.now) key) }
+{
+    match ready.get(key) {
+        None => None,
+        Some(rank) => Some(rank.tag),
+    }
+}

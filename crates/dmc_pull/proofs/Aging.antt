@@ -1,0 +1,64 @@
+-- The heads stay right while time goes on, room grows, and records change behind their first requests.
+use Rattle.std.proofs.Common.{◌≡◌, ◌≢◌, ℕ, zero, suc, ◌≤◌, true, List, [], ◌∷◌, ◌++◌, Option, Some, None, length, set, replicate, refl, sym, ap, ◌∙◌, subst, arith, inl, inr, nat_le}
+use Rattle.std.specs.Option.{option_map, option_and_then}
+use Rattle.std.specs.List.{AllByRecursion}
+use Rattle.std.proofs.lemmas.Bool.{cases_lt, le-leb, leb-true}
+use Rattle.std.proofs.lemmas.List.{length-set, get_or_past, get_or-set_same, get_or-set_other}
+use Rattle.dmc_tag.specs.Tag.{Tagging}
+use Rattle.dmc_tag.specs.Best.{is_due}
+use Rattle.dmc_tag.specs.Rules.{moment_of}
+use Rattle.dmc_roster.specs.Entries.{Entry, entry_keyed}
+use Rattle.dmc_index.specs.Index.{held}
+use Rattle.dmc_heads.specs.declared.head.Head.{Head}
+use Rattle.dmc_pull.specs.Queue.{AreHeads, head_of, unready}
+
+pub all_true : {X : Type 0} (P : X → Type 0) → ((x : X) → P x) → (xs : List X) → AllByRecursion P xs
+all_true P h [] = tt
+all_true P h (x ∷ xs) = (h x, all_true P h xs)
+
+-- ---- what a key holds
+
+module _ {X : Type 0} where
+  -- more room holds nothing
+  held_more : (slots : List (Option X)) (n key : ℕ) → held (slots ++ replicate n None) key ≡ held slots key
+  held_more [] zero key = refl
+  held_more [] (suc n) zero = refl
+  held_more [] (suc n) (suc key) = held_more [] n key
+  held_more (x ∷ slots) n zero = refl
+  held_more (x ∷ slots) n (suc key) = held_more slots n key
+
+  pub held_grown : (slots more : List (Option X)) (n : ℕ) → more ≡ slots ++ replicate n None → (key : ℕ) → held more key ≡ held slots key
+  held_grown slots more n e key = ap (λ xs. held xs key) e ∙ held_more slots n key
+
+  pub held_emptied : (slots : List (Option X)) (key : ℕ) → held (set slots key None) key ≡ None
+  held_emptied slots key = elim (cases_lt key (length slots)) [
+    | inl l ↦ get_or-set_same slots key None None l
+    | inr l ↦ get_or_past (set slots key None) key None (subst (λ n. n ≤ key) (sym (length-set slots key None)) l)
+  ]
+
+  pub held_other : (slots : List (Option X)) (key k : ℕ) (o : Option X) → k ≢ key → held (set slots key o) k ≡ held slots k
+  held_other slots key k o ne = get_or-set_other slots key k o None ne
+
+  -- nothing in place of nothing
+  pub set_same : (slots : List (Option X)) (key : ℕ) (o : Option X) → held slots key ≡ o → set slots key o ≡ slots
+  set_same [] key o e = refl
+  set_same (x ∷ slots) zero o e = ap (λ y. y ∷ slots) (sym e)
+  set_same (x ∷ slots) (suc key) o e = ap (λ ys. x ∷ ys) (set_same slots key o e)
+
+-- ---- time goes on
+
+module _ {T : Type 0} (ops : Tagging T) where
+  abbrev pub DueFromCeil : Type 0
+  DueFromCeil = (tag : T) (n : ℕ) → is_due ops n (Some tag) ≡ nat_le (moment_of (ops.ceil tag)) n
+
+  pub due_later : DueFromCeil → (tag : T) (t u : ℕ) → t ≤ u → is_due ops t (Some tag) ≡ true → is_due ops u (Some tag) ≡ true
+  due_later due_from tag t u later h =
+      let before : moment_of (ops.ceil tag) ≤ t = leb-true (moment_of (ops.ceil tag)) t (sym (due_from tag t) ∙ h) in
+      due_from tag u ∙ le-leb (moment_of (ops.ceil tag)) u (omega arith)
+
+  -- each key holds what it held, and each client has the first request that it had
+  pub heads_later : DueFromCeil → (t u : ℕ) → t ≤ u → (es fs : List (Entry T)) → ((key : ℕ) → option_and_then head_of (entry_keyed key fs) ≡ option_and_then head_of (entry_keyed key es)) → (hs gs : List (Option (Head T))) → ((key : ℕ) → held gs key ≡ held hs key) → AreHeads ops t es hs → AreHeads ops u fs gs
+  heads_later due_from t u later es fs same hs gs holds are = record {
+    here = λ key. ap (option_map unready) (holds key) ∙ are.here key ∙ sym (same key);
+    marks = λ key head here ready. due_later due_from head.tags.l t u later (are.marks key head (sym (holds key) ∙ here) ready);
+  }

@@ -1,0 +1,28 @@
+use Rattle.std.proofs.Common.{sym, subst, Some, None}
+use Rattle.dmc_roster.specs.Entries.{AreDistinct}
+use Rattle.dmc_pull.specs.Queue.{IsMarked}
+use Rattle.dmc_pull.specs.Choice.{ByShares}
+use Rattle.dmc_pull.proofs.Picks.{same_total, records_of, no_head_shares, least_shares}
+use Rattle.dmc_pull.proofs.queue.PullQueue.by_shares.Goals as goal
+
+pub returns-in-None : goal.returns-in-None
+returns-in-None g c =
+    let ops = g.T.Tag.ops in
+    let order = same_total g.T.Ord.cmp ops.compare g.met.T.Ord.total g.met.T.Tag.compares in
+    let q = c.self.inside in
+    let d : AreDistinct q.roster.entries = subst (λ v. AreDistinct v.roster.entries) (sym c.self.view_is) c.tell_distinct.ensures in
+    let records = records_of ops g.T.Tag.fraction g.T.Tag.is_value q.config.hz q.roster.entries c.self.invariant.kept in
+    let marked = subst (IsMarked ops) (sym c.self.view_is) c.requires in
+    subst (λ v. ByShares ops v.last_moment v.roster.entries None) c.self.view_is
+    (no_head_shares ops order c.the_best_is_found.ensures.some c.the_best_is_found.ensures.none q.last_moment q.roster.entries q.heads d records c.self.invariant.heads marked c.in-None.ensures)
+
+pub returns-in-Some : goal.returns-in-Some
+returns-in-Some g c =
+    let ops = g.T.Tag.ops in
+    let order = same_total g.T.Ord.cmp ops.compare g.met.T.Ord.total g.met.T.Tag.compares in
+    let q = c.self.inside in
+    let d : AreDistinct q.roster.entries = subst (λ v. AreDistinct v.roster.entries) (sym c.self.view_is) c.tell_distinct.ensures in
+    let records = records_of ops g.T.Tag.fraction g.T.Tag.is_value q.config.hz q.roster.entries c.self.invariant.kept in
+    let marked = subst (IsMarked ops) (sym c.self.view_is) c.requires in
+    subst (λ v. ByShares ops v.last_moment v.roster.entries (Some (c.in-Some.key, c.in-Some.rank.now.client, c.in-Some.rank.now.ready))) c.self.view_is
+    (least_shares ops order c.the_best_is_found.ensures.some c.the_best_is_found.ensures.none q.last_moment q.roster.entries q.heads d records c.self.invariant.heads marked c.in-Some.key c.in-Some.rank.now c.in-Some.ensures)

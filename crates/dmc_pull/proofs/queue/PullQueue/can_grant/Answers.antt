@@ -1,0 +1,29 @@
+use Rattle.std.proofs.Common.{◌≡◌, sym, subst, [], ◌∷◌, Some}
+use Rattle.std.specs.Prelude.{Ok, IfSome}
+use Rattle.dmc_adjust.specs.Changes.{popped}
+use Rattle.dmc_client.specs.Record.{client_of, requests_of_record}
+use Rattle.dmc_roster.specs.Entries.{AreDistinct, record_at}
+use Rattle.dmc_tag.specs.Rules.{can_reduce_by, reduction_at}
+use Rattle.dmc_tag.specs.Spacing.{spacings_of}
+use Rattle.dmc_pull.specs.Queue.{Queue, state_of}
+use Rattle.dmc_pull.specs.Choice.{IsFirstOf, IsGrantable, first_at}
+use Rattle.dmc_pull.proofs.Grants.{asked, spaced, can_grant_is, is_grantable}
+use Rattle.dmc_pull.proofs.Replaced.{waits}
+use Rattle.dmc_pull.proofs.queue.PullQueue.can_grant.Goals as goal
+
+pub returns-clause-value : goal.returns-clause-value
+returns-clause-value g c =
+    let ops = g.T.Tag.ops in
+    let q = c.self.inside in
+    let view = c.self.view_is in
+    let v : Queue g.row.T.Denot = record { config = q.config; roster = q.roster; heads = q.heads; last_moment = q.last_moment } in
+    let d : AreDistinct q.roster.entries = subst (λ v. AreDistinct v.roster.entries) (sym view) c.tell_distinct.ensures in
+    let first : IsFirstOf q.roster.entries c.args.key c.args.client = subst (λ v. IsFirstOf v.roster.entries c.args.key c.args.client) (sym view) c.requires in
+    let w = waits q.roster.entries c.args.key c.args.client first in
+    let at : record_at c.args.key q.roster.entries ≡ Some c.at.result.now = c.at.ensures.value in
+    let same = asked ops g.T.Tag.fraction g.T.Tag.is_value _ q.queued c.self.invariant c.args.key c.args.client w c.at.result.now at in
+    let space = spaced ops g.T.Tag.fraction g.T.Tag.is_value _ q.queued c.self.invariant c.args.key c.args.client w in
+    let amount = subst (λ r. spacings_of ops q.config.hz r.info ≡ Ok r.spacings → reduction_at ops q.config.hz r.info.reservation ≡ Ok r.spacings.r) same (c.can_reduce.ensures.amount q.config.hz) space in
+    let tests = subst (λ r. c.can_reduce.result ≡ can_reduce_by ops w.entry.id r.spacings.r (client_of w.entry.id r ∷ []) (requests_of_record w.entry.id (popped r))) same (c.can_reduce.ensures.tests w.entry.id) in
+    subst (λ v. IfSome (first_at c.args.key v.roster.entries) (λ found. IsGrantable ops (state_of v) found (record_at c.args.key v.roster.entries) c.can_reduce.result)) view
+    (is_grantable ops v v c.args.key c.args.client q.last_moment d w c.can_reduce.result (can_grant_is ops v v c.args.key c.args.client q.last_moment d w space amount c.can_reduce.result tests))

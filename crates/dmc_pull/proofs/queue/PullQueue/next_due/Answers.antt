@@ -1,0 +1,44 @@
+use Rattle.std.proofs.Common.{◌≡◌, min, None, Some, sym, subst, ap, ◌∙◌}
+use Rattle.std.specs.Option.{option_map}
+use Rattle.dmc_roster.specs.Entries.{AreDistinct}
+use Rattle.dmc_tag.specs.Best.{best, by_reservation, by_shares, is_early, is_free}
+use Rattle.dmc_tag.specs.Rules.{moment_of, earlier}
+use Rattle.dmc_pull.specs.Standing.{requests_in}
+use Rattle.dmc_pull.proofs.Picks.{same_total, records_of}
+use Rattle.dmc_pull.proofs.Choices.{none_queued}
+use Rattle.dmc_pull.proofs.Due.{due_told, not_nothing}
+use Rattle.dmc_pull.proofs.queue.PullQueue.next_due.Goals as goal
+
+pub returns-in_default : goal.returns-in_default
+returns-in_default g c = λ first rest whole.
+    let q = c.self.inside in
+    let d : AreDistinct q.roster.entries = subst (λ v. AreDistinct v.roster.entries) (sym c.self.view_is) c.tell_distinct.ensures in
+    not_nothing (requests_in q.roster.entries) first rest (none_queued g.T.Tag.ops q.last_moment q.roster.entries q.heads c.self.invariant.heads d c.in_default.ensures) (ap (λ v. requests_in v.roster.entries) c.self.view_is ∙ whole)
+
+pub returns-in-None : goal.returns-in-None
+returns-in-None g c = λ first rest whole.
+    let ops = g.T.Tag.ops in
+    let order = same_total g.T.Ord.cmp ops.compare g.met.T.Ord.total g.met.T.Tag.compares in
+    let q = c.self.inside in
+    let d : AreDistinct q.roster.entries = subst (λ v. AreDistinct v.roster.entries) (sym c.self.view_is) c.tell_distinct.ensures in
+    let records = records_of ops g.T.Tag.fraction g.T.Tag.is_value q.config.hz q.roster.entries c.self.invariant.kept in
+    let none_early : best (by_reservation ops) (is_early ops q.last_moment) (requests_in q.roster.entries) ≡ None = subst (λ v. best (by_reservation ops) (is_early ops v.last_moment) (requests_in v.roster.entries) ≡ None) (sym c.self.view_is) c.requires.none_early in
+    let none_free : best (by_shares ops) (is_free ops q.last_moment) (requests_in q.roster.entries) ≡ None = subst (λ v. best (by_shares ops) (is_free ops v.last_moment) (requests_in v.roster.entries) ≡ None) (sym c.self.view_is) c.requires.none_free in
+    let has_none = c.the_best_is_found.ensures.not_found (λ r. Some r.tags.p) (is_free ops q.last_moment) (requests_in q.roster.entries) none_free in
+    let free = moment_of (ops.ceil c.in-Some.limit.now.tag) in
+    due_told ops order q.last_moment q.roster.entries q.heads c.self.invariant.heads d records c.a_tag_is_due_from_its_ceil.ensures c.future_is_exact.ensures q.config none_early none_free has_none c.in-Some-least_by_reservation.field-0-0 c.in-Some-least_by_reservation.reservation.now c.in-Some-least_by_reservation.ensures c.in-Some.field-0-0 c.in-Some.limit.now c.in-Some.ensures
+    c.due_moment-free.result (c.due_moment-free.ensures ∙ ap (λ o. earlier free (option_map (λ t. moment_of (ops.ceil t)) o)) (sym c.in-None.is)) first rest (ap (λ v. requests_in v.roster.entries) c.self.view_is ∙ whole)
+
+pub returns-in-Some-tag : goal.returns-in-Some-tag
+returns-in-Some-tag g c = λ first rest whole.
+    let ops = g.T.Tag.ops in
+    let order = same_total g.T.Ord.cmp ops.compare g.met.T.Ord.total g.met.T.Tag.compares in
+    let q = c.self.inside in
+    let d : AreDistinct q.roster.entries = subst (λ v. AreDistinct v.roster.entries) (sym c.self.view_is) c.tell_distinct.ensures in
+    let records = records_of ops g.T.Tag.fraction g.T.Tag.is_value q.config.hz q.roster.entries c.self.invariant.kept in
+    let none_early : best (by_reservation ops) (is_early ops q.last_moment) (requests_in q.roster.entries) ≡ None = subst (λ v. best (by_reservation ops) (is_early ops v.last_moment) (requests_in v.roster.entries) ≡ None) (sym c.self.view_is) c.requires.none_early in
+    let none_free : best (by_shares ops) (is_free ops q.last_moment) (requests_in q.roster.entries) ≡ None = subst (λ v. best (by_shares ops) (is_free ops v.last_moment) (requests_in v.roster.entries) ≡ None) (sym c.self.view_is) c.requires.none_free in
+    let has_none = c.the_best_is_found.ensures.not_found (λ r. Some r.tags.p) (is_free ops q.last_moment) (requests_in q.roster.entries) none_free in
+    let free = moment_of (ops.ceil c.in-Some.limit.now.tag) in
+    due_told ops order q.last_moment q.roster.entries q.heads c.self.invariant.heads d records c.a_tag_is_due_from_its_ceil.ensures c.future_is_exact.ensures q.config none_early none_free has_none c.in-Some-least_by_reservation.field-0-0 c.in-Some-least_by_reservation.reservation.now c.in-Some-least_by_reservation.ensures c.in-Some.field-0-0 c.in-Some.limit.now c.in-Some.ensures
+    c.min.result (c.min.ensures ∙ ap (λ a. min a c.due_moment.result) c.due_moment-free.ensures ∙ ap (λ b. min free b) c.due_moment.ensures ∙ ap (λ o. earlier free (option_map (λ t. moment_of (ops.ceil t)) o)) (sym c.in-Some-tag.is)) first rest (ap (λ v. requests_in v.roster.entries) c.self.view_is ∙ whole)

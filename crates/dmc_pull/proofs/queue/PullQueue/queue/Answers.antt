@@ -1,0 +1,127 @@
+use Rattle.std.proofs.Common.{◌≡◌, sym, ap, ◌∙◌, subst, Some, true, false}
+use Rattle.std.specs.Prelude.{is_some, IsSome, IfSome, ◌==◌, ◌≤◌, ◌<◌, ◌+◌, slice_set, length}
+use Rattle.dmc_client.specs.declared.request.QueuedRequest.{QueuedRequest}
+use Rattle.dmc_heads.specs.Heads.{IsOthers}
+use Rattle.dmc_roster.specs.Entries.{entry_keyed, entry_named, record_at}
+use Rattle.dmc_tag.specs.State.{StandsFor}
+use Rattle.dmc_tag.specs.Rules.{can_shift_by, shifted_by, queued}
+use Rattle.dmc_pull.specs.Queue.{Queue, IsQueue, state_of}
+use Rattle.dmc_pull.specs.Standing.{clients_in, requests_in}
+use Rattle.dmc_pull.proofs.Adds.{record_is}
+use Rattle.dmc_pull.proofs.Arrived.{of_client, heads_can_shift, after_calls, within, vacant, apart, with_first, with_more, stands}
+use Rattle.dmc_pull.proofs.queue.PullQueue.queue.Goals as goal
+use Rattle.dmc_pull.proofs.queue.PullQueue.queue.Goals.{then-is_first, else-is_first}
+
+pub shift_others-requires : goal.shift_others-requires
+shift_others-requires g c =
+    let ops = g.T.Tag.ops in
+    let inside = c.self.inside in
+    let q : Queue g.row.T.Denot = record { config = inside.config; roster = inside.roster; heads = inside.heads; last_moment = inside.last_moment } in
+    let key = c.args.addition.key in
+    let shift = c.args.addition.shift in
+    let same = subst (λ q. entry_keyed key q.roster.entries ≡ entry_named c.args.client q.roster.entries) (sym c.self.view_is) c.requires.key in
+    let held = subst (λ q. is_some (entry_keyed key q.roster.entries) ≡ true) (sym c.self.view_is) c.requires.held in
+    let can = subst (λ q. can_shift_by ops shift (clients_in q.roster.entries) (requests_in q.roster.entries) ≡ true) (sym c.self.view_is) c.requires.shiftable in
+    let of = of_client ops g.T.Tag.fraction g.T.Tag.is_value q inside.queued key c.args.client c.self.invariant c.at.ensures.distinct same held in
+    heads_can_shift of shift can
+
+pub insert-requires-clause-in_room : goal.insert-requires-clause-in_room
+insert-requires-clause-in_room g c =
+    let ops = g.T.Tag.ops in
+    let inside = c.self.inside in
+    let q : Queue g.row.T.Denot = record { config = inside.config; roster = inside.roster; heads = inside.heads; last_moment = inside.last_moment } in
+    let key = c.args.addition.key in
+    let shift = c.args.addition.shift in
+    let same = subst (λ q. entry_keyed key q.roster.entries ≡ entry_named c.args.client q.roster.entries) (sym c.self.view_is) c.requires.key in
+    let held = subst (λ q. is_some (entry_keyed key q.roster.entries) ≡ true) (sym c.self.view_is) c.requires.held in
+    let can = subst (λ q. can_shift_by ops shift (clients_in q.roster.entries) (requests_in q.roster.entries) ≡ true) (sym c.self.view_is) c.requires.shiftable in
+    let of = of_client ops g.T.Tag.fraction g.T.Tag.is_value q inside.queued key c.args.client c.self.invariant c.at.ensures.distinct same held in
+    let request : QueuedRequest g.row.T.Denot = record { token = c.args.token; tags = c.args.addition.tags } in
+    let idle = subst (λ q. IsSome shift → IfSome (record_at key q.roster.entries) (λ rec. rec.idle ≡ true)) (sym c.self.view_is) c.requires.idle in
+    let after = after_calls of c.tags_are_values.ensures.differences request c.args.at c.push_at.result (sym c.if-is_err.ensures.value) c.push_at.new.roster c.push_at.ensures.ok c.push_at.ensures.kept shift idle can c.shift_others.new.roster.entries c.shift_others.ensures.entries c.shift_others.ensures.kept c.shift_others.new.heads c.shift_others.ensures.firsts in
+    within after
+
+pub insert-requires-clause-vacant : goal.insert-requires-clause-vacant
+insert-requires-clause-vacant g c =
+    let ops = g.T.Tag.ops in
+    let inside = c.self.inside in
+    let q : Queue g.row.T.Denot = record { config = inside.config; roster = inside.roster; heads = inside.heads; last_moment = inside.last_moment } in
+    let key = c.args.addition.key in
+    let shift = c.args.addition.shift in
+    let same = subst (λ q. entry_keyed key q.roster.entries ≡ entry_named c.args.client q.roster.entries) (sym c.self.view_is) c.requires.key in
+    let held = subst (λ q. is_some (entry_keyed key q.roster.entries) ≡ true) (sym c.self.view_is) c.requires.held in
+    let can = subst (λ q. can_shift_by ops shift (clients_in q.roster.entries) (requests_in q.roster.entries) ≡ true) (sym c.self.view_is) c.requires.shiftable in
+    let of = of_client ops g.T.Tag.fraction g.T.Tag.is_value q inside.queued key c.args.client c.self.invariant c.at.ensures.distinct same held in
+    let request : QueuedRequest g.row.T.Denot = record { token = c.args.token; tags = c.args.addition.tags } in
+    let idle = subst (λ q. IsSome shift → IfSome (record_at key q.roster.entries) (λ rec. rec.idle ≡ true)) (sym c.self.view_is) c.requires.idle in
+    let after = after_calls of c.tags_are_values.ensures.differences request c.args.at c.push_at.result (sym c.if-is_err.ensures.value) c.push_at.new.roster c.push_at.ensures.ok c.push_at.ensures.kept shift idle can c.shift_others.new.roster.entries c.shift_others.ensures.entries c.shift_others.ensures.kept c.shift_others.new.heads c.shift_others.ensures.firsts in
+    let empty : c.is_empty-is_first.result ≡ (length of.entry.rec.requests == 0) = c.is_empty-is_first.ensures ∙ ap (λ rec. length rec.requests == 0) (sym (record_is key inside.roster.entries of.entry c.at.result.now of.found c.at.ensures.value)) in
+    vacant after (sym empty ∙ c.if-is_first.true)
+
+pub insert-requires-clause-apart : goal.insert-requires-clause-apart
+insert-requires-clause-apart g c =
+    let ops = g.T.Tag.ops in
+    let inside = c.self.inside in
+    let q : Queue g.row.T.Denot = record { config = inside.config; roster = inside.roster; heads = inside.heads; last_moment = inside.last_moment } in
+    let key = c.args.addition.key in
+    let shift = c.args.addition.shift in
+    let same = subst (λ q. entry_keyed key q.roster.entries ≡ entry_named c.args.client q.roster.entries) (sym c.self.view_is) c.requires.key in
+    let held = subst (λ q. is_some (entry_keyed key q.roster.entries) ≡ true) (sym c.self.view_is) c.requires.held in
+    let can = subst (λ q. can_shift_by ops shift (clients_in q.roster.entries) (requests_in q.roster.entries) ≡ true) (sym c.self.view_is) c.requires.shiftable in
+    let of = of_client ops g.T.Tag.fraction g.T.Tag.is_value q inside.queued key c.args.client c.self.invariant c.at.ensures.distinct same held in
+    let request : QueuedRequest g.row.T.Denot = record { token = c.args.token; tags = c.args.addition.tags } in
+    let idle = subst (λ q. IsSome shift → IfSome (record_at key q.roster.entries) (λ rec. rec.idle ≡ true)) (sym c.self.view_is) c.requires.idle in
+    let after = after_calls of c.tags_are_values.ensures.differences request c.args.at c.push_at.result (sym c.if-is_err.ensures.value) c.push_at.new.roster c.push_at.ensures.ok c.push_at.ensures.kept shift idle can c.shift_others.new.roster.entries c.shift_others.ensures.entries c.shift_others.ensures.kept c.shift_others.new.heads c.shift_others.ensures.firsts in
+    subst (IsOthers c.shift_others.new.heads key) of.id (apart after)
+
+pub invariant_of-self-2 : goal.invariant_of-self-2
+invariant_of-self-2 g c =
+    let ops = g.T.Tag.ops in
+    let inside = c.self.inside in
+    let q : Queue g.row.T.Denot = record { config = inside.config; roster = inside.roster; heads = inside.heads; last_moment = inside.last_moment } in
+    let key = c.args.addition.key in
+    let shift = c.args.addition.shift in
+    let same = subst (λ q. entry_keyed key q.roster.entries ≡ entry_named c.args.client q.roster.entries) (sym c.self.view_is) c.requires.key in
+    let held = subst (λ q. is_some (entry_keyed key q.roster.entries) ≡ true) (sym c.self.view_is) c.requires.held in
+    let can = subst (λ q. can_shift_by ops shift (clients_in q.roster.entries) (requests_in q.roster.entries) ≡ true) (sym c.self.view_is) c.requires.shiftable in
+    let of = of_client ops g.T.Tag.fraction g.T.Tag.is_value q inside.queued key c.args.client c.self.invariant c.at.ensures.distinct same held in
+    let request : QueuedRequest g.row.T.Denot = record { token = c.args.token; tags = c.args.addition.tags } in
+    let idle = subst (λ q. IsSome shift → IfSome (record_at key q.roster.entries) (λ rec. rec.idle ≡ true)) (sym c.self.view_is) c.requires.idle in
+    let after = after_calls of c.tags_are_values.ensures.differences request c.args.at c.push_at.result (sym c.if-is_err.ensures.value) c.push_at.new.roster c.push_at.ensures.ok c.push_at.ensures.kept shift idle can c.shift_others.new.roster.entries c.shift_others.ensures.entries c.shift_others.ensures.kept c.shift_others.new.heads c.shift_others.ensures.firsts in
+    let empty : c.is_empty-is_first.result ≡ (length of.entry.rec.requests == 0) = c.is_empty-is_first.ensures ∙ ap (λ rec. length rec.requests == 0) (sym (record_is key inside.roster.entries of.entry c.at.result.now of.found c.at.ensures.value)) in
+    let is_value = g.T.Tag.is_value in
+    let fraction = g.T.Tag.fraction in
+    let at = c.args.at in
+    let room = subst (λ q. length (requests_in q.roster.entries) < 1048576) (sym c.self.view_is) c.requires.room in
+    let later = subst (λ q. q.last_moment ≤ at) (sym c.self.view_is) c.requires.later in
+    elim c.if-is_first.branch [
+      | then-is_first w ↦
+          let first = with_first fraction is_value inside.config c.shift_others.new.roster after inside.queued c.self.invariant.counted room c.requires.value later c.a_tag_is_due_from_its_ceil.ensures (sym empty ∙ w.if-is_first.true) in
+          let named = subst (λ id. IsQueue ops fraction is_value (record { config = inside.config; roster = c.shift_others.new.roster; heads = slice_set c.shift_others.new.heads key (Some (record { client = id; tags = request.tags; ready = false })); last_moment = at }) (inside.queued + 1)) of.id first in
+          rw (w.self-inside-is, w.insert.ensures) named
+      | else-is_first w ↦
+          let more = with_more fraction is_value inside.config c.shift_others.new.roster after inside.queued c.self.invariant.counted room c.requires.value later c.a_tag_is_due_from_its_ceil.ensures (sym empty ∙ w.if-is_first.false) in
+          rw w.self-inside-is more
+    ]
+
+pub returns-clause-ok : goal.returns-clause-ok
+returns-clause-ok g c =
+    let ops = g.T.Tag.ops in
+    let inside = c.self.inside in
+    let q : Queue g.row.T.Denot = record { config = inside.config; roster = inside.roster; heads = inside.heads; last_moment = inside.last_moment } in
+    let key = c.args.addition.key in
+    let shift = c.args.addition.shift in
+    let same = subst (λ q. entry_keyed key q.roster.entries ≡ entry_named c.args.client q.roster.entries) (sym c.self.view_is) c.requires.key in
+    let held = subst (λ q. is_some (entry_keyed key q.roster.entries) ≡ true) (sym c.self.view_is) c.requires.held in
+    let can = subst (λ q. can_shift_by ops shift (clients_in q.roster.entries) (requests_in q.roster.entries) ≡ true) (sym c.self.view_is) c.requires.shiftable in
+    let of = of_client ops g.T.Tag.fraction g.T.Tag.is_value q inside.queued key c.args.client c.self.invariant c.at.ensures.distinct same held in
+    let request : QueuedRequest g.row.T.Denot = record { token = c.args.token; tags = c.args.addition.tags } in
+    let idle = subst (λ q. IsSome shift → IfSome (record_at key q.roster.entries) (λ rec. rec.idle ≡ true)) (sym c.self.view_is) c.requires.idle in
+    let after = after_calls of c.tags_are_values.ensures.differences request c.args.at c.push_at.result (sym c.if-is_err.ensures.value) c.push_at.new.roster c.push_at.ensures.ok c.push_at.ensures.kept shift idle can c.shift_others.new.roster.entries c.shift_others.ensures.entries c.shift_others.ensures.kept c.shift_others.new.heads c.shift_others.ensures.firsts in
+    let roster = c.shift_others.new.roster in
+    let at = c.args.at in
+    let config : c.if-is_first.self-inside.config ≡ inside.config = elim c.if-is_first.branch [ then-is_first w ↦ ap (λ i. i.config) w.self-inside-is | else-is_first w ↦ ap (λ i. i.config) w.self-inside-is ] in
+    let same_roster : c.if-is_first.self-inside.roster ≡ roster = elim c.if-is_first.branch [ then-is_first w ↦ ap (λ i. i.roster) w.self-inside-is | else-is_first w ↦ ap (λ i. i.roster) w.self-inside-is ] in
+    let stood = stands g.T.Tag.fraction g.T.Tag.is_value inside.config roster after inside.last_moment in
+    let named = subst (λ id. StandsFor (record { config = inside.config; requests = requests_in roster.entries; clients = clients_in roster.entries; last_moment = at }) (queued (shifted_by ops shift (state_of q)) (record { client = id; token = request.token; tags = request.tags }) at)) of.id stood in
+    rw (config, same_roster) (subst (λ q. StandsFor (record { config = inside.config; requests = requests_in roster.entries; clients = clients_in roster.entries; last_moment = at }) (queued (shifted_by ops shift (state_of q)) (record { client = c.args.client; token = request.token; tags = request.tags }) at)) c.self.view_is named)

@@ -1,0 +1,51 @@
+-- An add: the shift of all records but one, and what the tests come to.
+use Rattle.std.specs.Prelude.{◌≡◌, ℕ, ◌==◌, ◌&&◌, not, if◌then◌else◌, List, map, Option, Some, None, Result, Ok, Err}
+use Rattle.std.specs.Option.{option_map}
+use Rattle.std.specs.Ordering.{is_eq}
+use Rattle.dmc_types.specs.Values.{Params}
+use Rattle.dmc_types.specs.declared.ids.ClientId.{ClientId}
+use Rattle.dmc_types.specs.declared.refusal.Refusal.{Refusal}
+use Rattle.dmc_tag.specs.State.{State}
+use Rattle.dmc_tag.specs.Outcome.{◌>>=◌}
+use Rattle.dmc_tag.specs.Rules.{can_add, shift_of}
+use Rattle.dmc_tag.specs.declared.plain.PlainRequest.{PlainRequest}
+use Rattle.dmc_tag.specs.declared.plain.PlainClient.{PlainClient}
+use Rattle.dmc_pull.specs.declared.adding.Addition.{Addition}
+use Rattle.dmc_tag.specs.Tag.{Tagging}
+use Rattle.dmc_client.specs.Record.{Rec}
+use Rattle.dmc_adjust.specs.Changes.{shifted, is_shiftable}
+use Rattle.dmc_roster.specs.Entries.{Entry, with_rec}
+use Rattle.dmc_heads.specs.declared.head.Head.{Head}
+use Rattle.dmc_heads.specs.Heads as heads_of
+
+-- each record but the newcomer's is shifted, where its shifted tags are values
+abbrev pub shifted_but : {T : Type 0} → Tagging T → T → ℕ → ℕ → Rec T → Rec T
+shifted_but ops amount newcomer key rec = if not (key == newcomer) && is_shiftable ops amount rec then shifted ops amount rec else rec
+
+-- the entries and the heads after it, where there is a shift
+abbrev pub others_shifted : {T : Type 0} → Tagging T → Option T → ℕ → List (Entry T) → List (Entry T)
+others_shifted ops None newcomer entries = entries
+others_shifted ops (Some amount) newcomer entries = map (λ e. with_rec (shifted_but ops amount newcomer e.key) e) entries
+
+abbrev pub heads_shifted : {T : Type 0} → Tagging T → Option T → List (Option (Head T)) → List (Option (Head T))
+heads_shifted ops None heads = heads
+heads_shifted ops (Some amount) heads = map (option_map (heads_of.shifted ops amount)) heads
+
+-- no shift, where the amount is nothing
+abbrev pub unless_nothing : {T : Type 0} → Tagging T → Option T → Option T
+unless_nothing ops None = None
+unless_nothing ops (Some amount) = if is_eq (ops.compare amount (ops.of_moment 0)) then None else Some amount
+
+-- how far all others are shifted for a client that comes at t
+abbrev pub shift_for : {T : Type 0} → Tagging T → List (PlainRequest T) → PlainClient T → T → Result (Option T) Refusal
+shift_for ops requests arriving t = shift_of ops requests arriving t >>= λ full. Ok (unless_nothing ops full)
+
+-- the tests of an add held: the new tags are these, and so is the shift, which is left out where it is nothing
+pub record Allows {T : Type 0} (ops : Tagging T) (s : State T) (id : ClientId) (params : Params) (t : ℕ) (addition : Addition T) : Type 0 where
+  pub full : Option T
+  pub test : can_add ops s id params (ops.of_moment t) ≡ Ok (full, addition.tags)
+  pub shift : addition.shift ≡ unless_nothing ops full
+
+abbrev pub CanAdd : {T : Type 0} → Tagging T → State T → ClientId → Params → ℕ → Result (Addition T) Refusal → Type 0
+CanAdd ops s id params t (Ok addition) = Allows ops s id params t addition
+CanAdd ops s id params t (Err refusal) = can_add ops s id params (ops.of_moment t) ≡ Err refusal

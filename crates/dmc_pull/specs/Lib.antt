@@ -1,0 +1,5 @@
+pub mod Standing
+pub mod Adding
+pub mod Cleaning
+pub mod Queue
+pub mod Choice

@@ -1,0 +1,66 @@
+//! The heads of a queue's clients.
+ghost use Rattle.std.specs.Prelude.{◌≡◌, ◌==◌, not, None, Some, slice_set, is_some, true};
+ghost use Rattle.std.specs.Option.{option_map};
+ghost use Rattle.dmc_index.specs.Index.{held};
+ghost use Rattle.dmc_pull.specs.Queue as queue_of;
+ghost use Rattle.dmc_tag.specs.Best as best_of;
+ghost use Rattle.dmc_tag.specs.Rules as rules_of;
+
+use dmc_heads::head::Head;
+use dmc_heads::heads::Heads;
+use dmc_index::index::Indexes;
+use dmc_tag::reply::Tags;
+use dmc_tag::tag::Tag;
+use dmc_types::ids::ClientId;
+use dmc_types::moment::Moment;
+
+/// Whether there is a tag, and it is at or before a moment.
+pub fn is_due<T: Tag>(tag: Option<T>, at: Moment) -> bool
+    ensures { result ≡ best_of.is_due T.ops at tag }
+{
+    match tag {
+        None => false,
+        Some(tag) => !tag.cmp(&T::of_moment(at)).is_gt(),
+    }
+}
+
+/// The head of a client after its first request left: that of the next request, unready, or none.
+pub fn renew<T: Tag, I: Indexes<T>>(
+    heads: &mut Heads<T, I>,
+    key: usize,
+    client: ClientId,
+    tags: Option<Tags<T>>,
+)
+    requires { option_map (λ h. h.client) (held heads.old key) ≡ Some client }
+    ensures { heads.new ≡ slice_set heads.old key (option_map (queue_of.unready_head client) tags) }
+{
+    match tags {
+        None => heads.remove(key),
+        Some(tags) => heads.change(
+            key,
+            Head {
+                client,
+                tags,
+                ready: false,
+            },
+        ),
+    }
+}
+
+/// Takes out the head of a client that had so many requests queued; without any it has no head.
+pub fn clear<T: Tag, I: Indexes<T>>(heads: &mut Heads<T, I>, key: usize, queued: usize)
+    requires { is_some (held heads.old key) ≡ not (queued == 0) }
+    ensures { heads.new ≡ slice_set heads.old key None }
+{
+    if queued > 0 {
+        heads.remove(key);
+    }
+}
+
+/// The least whole number that is not below the tag, as a moment: 0 below 0.
+pub fn due_moment<T: Tag>(tag: T) -> u128
+    ensures { result ≡ rules_of.moment_of (T.ops.ceil tag) }
+{
+    let ticks = tag.ceil();
+    if ticks < 0 { 0 } else { ticks as u128 }
+}

@@ -1,0 +1,11 @@
+//! The indexed queue: a queue of dmClock that looks at the first request of each client alone.
+#![tactic(auto)]
+
+mod adding;
+mod cleaning;
+mod heads;
+pub mod queue;
+mod records;
+pub mod scheduler;
+#[cfg(test)]
+mod tests;

@@ -1,0 +1,71 @@
+//! The indexed queue is a scheduler: what it does from its own state, it does from each state that it stands for.
+ghost use Rattle.dmc_pull.specs.Queue.{state_of};
+
+use crate::queue::PullQueue;
+use dmc_index::index::Indexes;
+use dmc_tag::laws::steps_exactly;
+use dmc_tag::reply::{Pulled, Tags};
+use dmc_tag::scheduler::Scheduler;
+use dmc_tag::tag::Tag;
+use dmc_types::ids::{ClientId, Token};
+use dmc_types::info::ClientInfo;
+use dmc_types::moment::Moment;
+use dmc_types::params::ReqParams;
+use dmc_types::refusal::{QueueFault, Refusal};
+
+impl<T: Tag, I: Indexes<T>> Scheduler<T> for PullQueue<T, I> {
+    ghost state = { λ q. state_of q };
+
+    fn register(
+        &mut self,
+        client: ClientId,
+        info: ClientInfo,
+        at: Moment,
+    ) -> Result<(), QueueFault> {
+        steps_exactly::<T>();
+        self.register(client, info, at)
+    }
+
+    fn update_info(
+        &mut self,
+        client: ClientId,
+        info: ClientInfo,
+        at: Moment,
+    ) -> Result<(), Refusal> {
+        steps_exactly::<T>();
+        self.update_info(client, info, at)
+    }
+
+    fn add_request(
+        &mut self,
+        client: ClientId,
+        token: Token,
+        params: ReqParams,
+        at: Moment,
+    ) -> Result<Tags<T>, QueueFault> {
+        self.add_request(client, token, params, at)
+    }
+
+    fn pull_request(&mut self, at: Moment) -> Result<Pulled, Refusal> {
+        steps_exactly::<T>();
+        self.pull_request(at)
+    }
+
+    fn remove_by_client(&mut self, client: ClientId) -> Result<u32, Refusal> {
+        steps_exactly::<T>();
+        self.remove_by_client(client)
+    }
+
+    fn clean(&mut self, at: Moment) -> (u32, u32) {
+        steps_exactly::<T>();
+        self.clean(at)
+    }
+
+    fn client_count(&self) -> u32 {
+        self.client_count()
+    }
+
+    fn request_count(&self) -> u32 {
+        self.request_count()
+    }
+}

@@ -1,14 +1,23 @@
 #!/usr/bin/env bash
-# Each load of dmc_bench, with the time of one round. Build it first: cd crates/dmc_bench && rt run -- plain 10 100
+# Loads of dmc_bench: what one call of each part of a load takes. Build it first: cd crates/dmc_bench && rt run -- heap 10 100
 set -eu
 cd "$(dirname "$0")/.."
 bench=crates/dmc_bench/out/dmc_bench
 run() {
-  ns=$("$bench" "$1" "$2" "$3" 2>&1 > /dev/null | awk '{ print $1 }')
-  awk -v l="$1 $2" -v n="$ns" -v r="$3" 'BEGIN { printf "%-16s %10.1f ns a round\n", l, n / r }'
+  "$bench" "$1" "$2" "$3" 2>&1 > /dev/null |
+    awk -v l="$1 $2" '$2 > 0 { printf "%-18s %-9s %12.1f ns a call\n", l, $1, $3 / $2 }'
 }
 run ticks 0 10000000
 run ratios 0 10000000
+for keys in 10 1000 65536; do
+  run list-index "$keys" 65536
+  run heap-index "$keys" 1000000
+done
+for clients in 10 1000 65536; do
+  run list "$clients" 65536
+  run heap "$clients" 1000000
+done
 run plain 10 1000000
 run plain 1000 10000
-run plain 2000 5000
+# At 65,536 clients the plain queue takes minutes.
+[ "${PLAIN:-}" = "" ] || run plain 65536 100

@@ -1,22 +1,38 @@
 //! The loads.
 ghost use Rattle.std.specs.Prelude.{◌≡◌, ◌+◌, ◌*◌, ◌%◌, ◌^◌};
 
-use crate::queues::serve_plain;
-use crate::sums::{sum_ratios, sum_ticks};
-use std::alloc::Global;
+use crate::indexes::use_index;
+use crate::queues::serve_queue;
+use crate::sums::sum_tags;
+use dmc_heap::indexed_heap::{HeapIndexes, IndexedHeap};
+use dmc_index::list_index::{ListIndex, ListIndexes};
+use dmc_plain::queue::PlainQueue;
+use dmc_pull::queue::PullQueue;
+use dmc_ratio::ratio::RatioTag;
+use dmc_tag::rank::TagRank;
+use dmc_tick::tick::TickTag;
+use dmc_types::config::{AtLimit, QueueConfig};
 
 /// What is measured.
 #[derive(Clone, Copy, Debug, PartialEq, Eq)]
 pub enum Kind {
-    /// Pulls and adds of a plain queue.
-    Plain,
+    /// The plain queue.
+    PlainQueue,
+    /// The indexed queue over sorted vectors.
+    ListQueue,
+    /// The indexed queue over heaps.
+    HeapQueue,
+    /// A sorted vector as an index.
+    ListIndex,
+    /// A heap as an index.
+    HeapIndex,
     /// Sums of tick tags.
     Ticks,
     /// Sums of ratio tags.
     Ratios,
 }
 
-/// A load: what is measured, with how many clients, and how often.
+/// A load: what is measured, with how many clients or keys, and how often.
 #[derive(Clone, Copy, Debug, PartialEq, Eq)]
 pub struct Load {
     pub kind: Kind,
@@ -50,7 +66,11 @@ pub fn read_load(words: &[String]) -> Result<Load, Fault> {
 /// The kind of load of this name.
 fn kind_of(word: &str) -> Result<Kind, Fault> {
     match word {
-        "plain" => Ok(Kind::Plain),
+        "plain" => Ok(Kind::PlainQueue),
+        "list" => Ok(Kind::ListQueue),
+        "heap" => Ok(Kind::HeapQueue),
+        "list-index" => Ok(Kind::ListIndex),
+        "heap-index" => Ok(Kind::HeapIndex),
         "ticks" => Ok(Kind::Ticks),
         "ratios" => Ok(Kind::Ratios),
         _ => Err(Fault::Usage),
@@ -62,12 +82,38 @@ fn number_of(word: &str) -> Result<u32, Fault> {
     word.parse().map_err(|_| Fault::Usage)
 }
 
-/// Runs a load, and answers its checksum.
-pub fn run_load(alloc: Global, load: Load) -> Result<u64, Fault> {
+/// Runs a load, tells what each part of it took, and answers its checksum.
+pub fn run_load(rt: &HostRuntime, load: Load) -> Result<u64, Fault> {
     match load.kind {
-        Kind::Plain => serve_plain(alloc, load.clients, load.rounds),
-        Kind::Ticks => Ok(sum_ticks(load.rounds)),
-        Kind::Ratios => Ok(sum_ratios(load.rounds)),
+        Kind::PlainQueue | Kind::ListQueue | Kind::HeapQueue => run_queue(rt, load),
+        Kind::ListIndex => use_index::<ListIndex<TagRank<TickTag>>>(rt, load),
+        Kind::HeapIndex => use_index::<IndexedHeap<TagRank<TickTag>>>(rt, load),
+        Kind::Ticks => sum_tags::<TickTag>(rt, load, TickTag::new(333), TickTag::new(167)),
+        Kind::Ratios => sum_tags::<RatioTag>(
+            rt,
+            load,
+            RatioTag::new(1000, 3),
+            RatioTag::new(1001, 6),
+        ),
+    }
+}
+
+/// Runs a load of a queue of tick tags, with 1,000,000 ticks a second.
+fn run_queue(rt: &HostRuntime, load: Load) -> Result<u64, Fault> {
+    let config = QueueConfig::new(1_000_000, 1, 1, AtLimit::Wait).map_err(|_| Fault::Usage)?;
+    match load.kind {
+        Kind::ListQueue => {
+            let mut queue: PullQueue<TickTag, ListIndexes> = PullQueue::new(rt.alloc(), config);
+            serve_queue(rt, &mut queue, load)
+        }
+        Kind::HeapQueue => {
+            let mut queue: PullQueue<TickTag, HeapIndexes> = PullQueue::new(rt.alloc(), config);
+            serve_queue(rt, &mut queue, load)
+        }
+        _ => {
+            let mut queue: PlainQueue<TickTag> = PlainQueue::new(rt.alloc(), config);
+            serve_queue(rt, &mut queue, load)
+        }
     }
 }
 

@@ -1,14 +1,16 @@
 //! Loads that are measured: `dmc_bench LOAD CLIENTS ROUNDS` runs a load and writes a checksum of its answers to standard
-//! output, and how long it took to standard error.
+//! output. To standard error it writes a line for each part of the load: its name, how many calls it made, and how many
+//! nanoseconds they took.
 #![tactic(auto)]
 
+mod indexes;
 mod load;
 mod queues;
 mod sums;
+mod watch;
 
 use crate::load::{Fault, Load, read_load, run_load};
 use std::process::ExitCode;
-use std::time::Instant;
 use std::{env, io};
 
 /// Runs the load that the words name. Status 0: done; 1: want of memory or of a clock, or a stream that fails; 2: the words name no load.
@@ -16,14 +18,16 @@ fn main(rt: HostRuntime) -> ExitCode {
     match measure(&rt) {
         Ok(()) => ExitCode::SUCCESS,
         Err(Fault::Usage) => {
-            let _ = eprintln!(&rt; "usage: dmc_bench plain|ticks|ratios CLIENTS ROUNDS");
+            let _ = eprintln!(&rt;
+                "usage: dmc_bench plain|list|heap|list-index|heap-index|ticks|ratios CLIENTS ROUNDS"
+            );
             ExitCode::from(2)
         }
         Err(Fault::Memory | Fault::Write) => ExitCode::from(1),
     }
 }
 
-/// Runs the load, and writes its checksum and its time.
+/// Runs the load, and writes its checksum.
 fn measure(rt: &HostRuntime) -> Result<(), Fault> {
     let words: Vec<String> = env::args(rt)
         .map_err(|_| Fault::Usage)?
@@ -31,9 +35,6 @@ fn measure(rt: &HostRuntime) -> Result<(), Fault> {
         .collect(rt.alloc())
         .map_err(|_| Fault::Memory)?;
     let load: Load = read_load(words.as_slice())?;
-    let start = Instant::now(rt).map_err(|_| Fault::Memory)?;
-    let checksum = run_load(rt.alloc(), load)?;
-    let taken = start.elapsed(rt).map_err(|_| Fault::Memory)?;
-    println!(rt; "{checksum}").map_err(|_| Fault::Write)?;
-    eprintln!(rt; "{} ns", taken.as_nanos()).map_err(|_| Fault::Write)
+    let checksum = run_load(rt, load)?;
+    println!(rt; "{checksum}").map_err(|_| Fault::Write)
 }

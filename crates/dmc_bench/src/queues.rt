@@ -1,64 +1,105 @@
-//! Pulls and adds of a queue whose clients are all busy.
-use crate::load::{Fault, mixed};
-use dmc_plain::queue::PlainQueue;
+//! A queue whose clients are all busy.
+use crate::load::{Fault, Load, mixed};
+use crate::watch::{add_since, start, tell};
 use dmc_tag::reply::Pulled;
 use dmc_tag::scheduler::Scheduler;
 use dmc_tag::tag::Tag;
-use dmc_tick::tick::TickTag;
-use dmc_types::config::{AtLimit, QueueConfig};
 use dmc_types::ids::{ClientId, Token};
 use dmc_types::info::ClientInfo;
 use dmc_types::moment::Moment;
 use dmc_types::params::ReqParams;
-use std::alloc::Global;
 
-/// A plain queue of so many busy clients.
-pub fn serve_plain(alloc: Global, clients: u32, rounds: u32) -> Result<u64, Fault> {
-    let config = QueueConfig::new(1_000_000, 1, 1, AtLimit::Wait).map_err(|_| Fault::Usage)?;
-    let mut queue: PlainQueue<TickTag> = PlainQueue::new(alloc, config);
-    fill(&mut queue, clients)?;
-    serve(&mut queue, rounds)
+/// Registers the clients, queues a request of each at one moment, and then serves them in batches: pulls, and another
+/// request of each client that was granted. Answers a checksum of the grants.
+pub fn serve_queue<T: Tag, Q: Scheduler<T>>(
+    rt: &HostRuntime,
+    queue: &mut Q,
+    load: Load,
+) -> Result<u64, Fault> {
+    let begun = start(rt)?;
+    register_all(queue, load.clients)?;
+    tell(rt, "register", load.clients, add_since(rt, begun, 0)?)?;
+    let begun = start(rt)?;
+    for id in 0..load.clients {
+        add(queue, ClientId(id), Moment::zero())?;
+    }
+    tell(rt, "newcomer", load.clients, add_since(rt, begun, 0)?)?;
+    serve(rt, queue, load)
 }
 
-/// Registers the clients, and queues a request of each.
-fn fill<T: Tag, Q: Scheduler<T>>(queue: &mut Q, clients: u32) -> Result<(), Fault> {
+/// Registers the clients 0, 1, and so on.
+fn register_all<T: Tag, Q: Scheduler<T>>(queue: &mut Q, clients: u32) -> Result<(), Fault> {
     let info = ClientInfo::new(Some(10), 1, None).map_err(|_| Fault::Usage)?;
     for id in 0..clients {
-        let at = Moment::zero();
-        if queue.register(ClientId(id), info, at).is_err() {
-            return Err(Fault::Memory);
-        }
-    }
-    for id in 0..clients {
-        add(queue, ClientId(id), Token(id), Moment::zero())?;
+        let registered = queue.register(ClientId(id), info, Moment::zero());
+        registered.map_err(|_| Fault::Memory)?;
     }
     Ok(())
 }
 
 /// Queues a request.
-fn add<T: Tag, Q: Scheduler<T>>(
-    queue: &mut Q,
-    client: ClientId,
-    token: Token,
-    at: Moment,
-) -> Result<(), Fault> {
+fn add<T: Tag, Q: Scheduler<T>>(queue: &mut Q, client: ClientId, at: Moment) -> Result<(), Fault> {
     let params = ReqParams::new(1, 1).map_err(|_| Fault::Usage)?;
-    match queue.add_request(client, token, params, at) {
+    match queue.add_request(client, Token(client.0), params, at) {
         Ok(_) => Ok(()),
         Err(_) => Err(Fault::Memory),
     }
 }
 
-/// Pulls, and queues another request of the client that was granted; answers a checksum of the grants.
-fn serve<T: Tag, Q: Scheduler<T>>(queue: &mut Q, rounds: u32) -> Result<u64, Fault> {
-    let mut checksum: u64 = 0;
-    for round in 0..rounds {
+/// Batches of pulls and adds, one moment each, of about half of the clients, so that many stay busy.
+fn serve<T: Tag, Q: Scheduler<T>>(
+    rt: &HostRuntime,
+    queue: &mut Q,
+    load: Load,
+) -> Result<u64, Fault> {
+    let batch = (load.clients / 2 + 1).min(load.rounds);
+    let batches = load.rounds.checked_div(batch).unwrap_or(0);
+    let mut granted = Vec::with_capacity(rt.alloc(), batch as usize).map_err(|_| Fault::Memory)?;
+    let mut pulling = 0;
+    let mut adding = 0;
+    let mut checksum = 0;
+    for round in 0..batches {
         let at = Moment::new(round as u64).map_err(|_| Fault::Usage)?;
-        if let Ok(Pulled::Returning { client, token, .. }) = queue.pull_request(at) {
-            let grant = (client.0 as u64) << 32 | token.0 as u64;
-            checksum = mixed(checksum, grant);
-            add(queue, client, Token(round), at)?;
+        let begun = start(rt)?;
+        pull_all(queue, batch, at, &mut granted)?;
+        pulling = add_since(rt, begun, pulling)?;
+        let begun = start(rt)?;
+        checksum = add_all(queue, granted.as_slice(), at, checksum)?;
+        adding = add_since(rt, begun, adding)?;
+        granted.clear();
+    }
+    let calls = batches.saturating_mul(batch);
+    tell(rt, "pull", calls, pulling)?;
+    tell(rt, "add", calls, adding)?;
+    Ok(checksum)
+}
+
+/// Pulls so often, and notes whose requests were granted.
+fn pull_all<T: Tag, Q: Scheduler<T>>(
+    queue: &mut Q,
+    batch: u32,
+    at: Moment,
+    granted: &mut Vec<ClientId>,
+) -> Result<(), Fault> {
+    for _ in 0..batch {
+        if let Ok(Pulled::Returning { client, .. }) = queue.pull_request(at) {
+            granted.push(client).map_err(|_| Fault::Memory)?;
         }
+    }
+    Ok(())
+}
+
+/// Queues a request of each, and answers the checksum with their ids in it.
+fn add_all<T: Tag, Q: Scheduler<T>>(
+    queue: &mut Q,
+    granted: &[ClientId],
+    at: Moment,
+    checksum: u64,
+) -> Result<u64, Fault> {
+    let mut checksum = checksum;
+    for client in granted {
+        add(queue, *client, at)?;
+        checksum = mixed(checksum, client.0 as u64);
     }
     Ok(checksum)
 }

@@ -1,9 +1,22 @@
 //! Sums of tags.
-use crate::load::mixed;
-use dmc_ratio::ratio::RatioTag;
+use crate::load::{Fault, Load, mixed};
+use crate::watch::{add_since, start, tell};
 use dmc_tag::tag::Tag;
-use dmc_tick::tick::TickTag;
 use dmc_types::moment::Moment;
+
+/// Adds the summands in turn, as many as the load has rounds, and answers a checksum of the sums.
+pub fn sum_tags<T: Tag>(
+    rt: &HostRuntime,
+    load: Load,
+    first: Option<T>,
+    second: Option<T>,
+) -> Result<u64, Fault> {
+    let begun = start(rt)?;
+    let checksum = sum_of(first, second, load.rounds);
+    let nanos = add_since(rt, begun, 0)?;
+    tell(rt, "sum", load.rounds, nanos)?;
+    Ok(checksum)
+}
 
 /// Adds the summands in turn, from 0 on again where a sum is no value, and answers a checksum of the sums.
 fn sum_of<T: Tag>(first: Option<T>, second: Option<T>, rounds: u32) -> u64 {
@@ -16,14 +29,4 @@ fn sum_of<T: Tag>(first: Option<T>, second: Option<T>, rounds: u32) -> u64 {
         checksum = mixed(checksum, u64::try_from(sum.ceil()).unwrap_or(0));
     }
     checksum
-}
-
-/// Sums of two tick tags.
-pub fn sum_ticks(rounds: u32) -> u64 {
-    sum_of::<TickTag>(TickTag::new(333), TickTag::new(167), rounds)
-}
-
-/// Sums of two ratio tags.
-pub fn sum_ratios(rounds: u32) -> u64 {
-    sum_of::<RatioTag>(RatioTag::new(1000, 3), RatioTag::new(1001, 6), rounds)
 }

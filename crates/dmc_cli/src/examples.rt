@@ -1,20 +1,29 @@
 //! The worked examples of scripts, each under its name. Lines are parted by `; `.
+use crate::queues::over_queues;
 use crate::runs::{FailingReader, FailingWriter, ROOM, lines, runs, tells};
 use std::alloc::{AllocError, Global};
 use std::process::Abort;
 use std::test::Fail;
 
-/// A script that writes these lines and no fault.
+/// An example whose rates have whole spacings means the same with either tag type.
+const BOTH: &[&str] = &["tick", "ratio"];
+
+/// A script that writes these lines and no fault, with each of the tag types, over the plain queue, the indexed queue over
+/// sorted vectors, and the program's own queue over heaps.
 fn gives<T: AllocGlobal + Abort>(
     rt: &T,
-    tags: &str,
+    tags: &[&str],
     input: &str,
     output: &str,
 ) -> Result<(), Fail> {
     let input = lines(rt.alloc(), input)?;
     let output = lines(rt.alloc(), output)?;
-    let words = ["script", "--tags", tags];
-    runs(rt, words.as_slice(), &input, &output, b"", 0)
+    for kind in tags {
+        over_queues(rt, kind, &input, &output)?;
+        let words = ["script", "--tags", kind];
+        runs(rt, words.as_slice(), &input, &output, b"", 0)?;
+    }
+    Ok(())
 }
 
 /// A script that writes these lines and then the fault.
@@ -31,7 +40,7 @@ fn faults<T: AllocGlobal + Abort>(
 fn granted_at_limit(rt: HostRuntime) -> Result<(), Fail> {
     gives(
         &rt,
-        "tick",
+        BOTH,
         "hz 1000; client 1 10 1 20 0; add 1 7 1 1 0; pull 0; pull 50; pull 50",
         "ok; tags 100 50 1000; future 50; grant 1 7 priority; none",
     )
@@ -41,7 +50,7 @@ fn granted_at_limit(rt: HostRuntime) -> Result<(), Fail> {
 fn granted_by_reservation(rt: HostRuntime) -> Result<(), Fail> {
     gives(
         &rt,
-        "tick",
+        BOTH,
         "hz 1000; client 1 10 1 - 0; add 1 9 0 0 0; pull 0",
         "ok; tags 0 0 0; grant 1 9 reservation",
     )
@@ -51,7 +60,7 @@ fn granted_by_reservation(rt: HostRuntime) -> Result<(), Fail> {
 fn unknown_and_known(rt: HostRuntime) -> Result<(), Fail> {
     gives(
         &rt,
-        "tick",
+        BOTH,
         "hz 1000; add 5 1 1 1 0; client 1 - 1 - 0; client 1 - 2 - 0",
         "refused unknown; ok; refused known",
     )
@@ -61,7 +70,7 @@ fn unknown_and_known(rt: HostRuntime) -> Result<(), Fail> {
 fn tie_by_client(rt: HostRuntime) -> Result<(), Fail> {
     gives(
         &rt,
-        "tick",
+        BOTH,
         "hz 1000; client 2 10 1 - 0; client 1 10 1 - 0; add 2 1 1 1 0; add 1 1 1 1 0; pull 100; pull 100",
         "ok; ok; tags 100 0 1000; tags 100 0 1000; grant 1 1 reservation; grant 2 1 reservation",
     )
@@ -71,7 +80,7 @@ fn tie_by_client(rt: HostRuntime) -> Result<(), Fail> {
 fn reduced_reservation(rt: HostRuntime) -> Result<(), Fail> {
     gives(
         &rt,
-        "tick",
+        BOTH,
         "hz 1000; client 1 10 1 - 0; add 1 1 1 1 0; add 1 2 1 1 0; pull 0; pull 100",
         "ok; tags 100 0 1000; tags 200 0 2000; grant 1 1 priority; grant 1 2 reservation",
     )
@@ -81,7 +90,7 @@ fn reduced_reservation(rt: HostRuntime) -> Result<(), Fail> {
 fn newcomer_shift(rt: HostRuntime) -> Result<(), Fail> {
     gives(
         &rt,
-        "tick",
+        BOTH,
         "hz 1000; client 1 - 1 - 0; client 2 - 1 - 0; add 1 11 1 0 0; add 1 12 1 0 0; pull 0; \
          add 2 21 1 0 500; pull 500",
         "ok; ok; tags - 0 1000; tags - 0 2000; grant 1 11 priority; tags - 500 1000; grant 1 12 priority",
@@ -92,7 +101,7 @@ fn newcomer_shift(rt: HostRuntime) -> Result<(), Fail> {
 fn inexact_weight(rt: HostRuntime) -> Result<(), Fail> {
     gives(
         &rt,
-        "tick",
+        &["tick"],
         "hz 1000; client 1 - 3 - 0",
         "refused inexact weight",
     )
@@ -102,7 +111,7 @@ fn inexact_weight(rt: HostRuntime) -> Result<(), Fail> {
 fn exact_thirds(rt: HostRuntime) -> Result<(), Fail> {
     gives(
         &rt,
-        "ratio",
+        &["ratio"],
         "hz 1000; client 1 - 3 - 0; add 1 1 1 0 0; add 1 2 1 0 0; add 1 3 1 0 0",
         "ok; tags - 0 1000/3; tags - 0 2000/3; tags - 0 1000",
     )
@@ -112,7 +121,7 @@ fn exact_thirds(rt: HostRuntime) -> Result<(), Fail> {
 fn ratio_future(rt: HostRuntime) -> Result<(), Fail> {
     gives(
         &rt,
-        "ratio",
+        &["ratio"],
         "hz 1000; client 1 - 1 3 0; add 1 1 1 0 0; pull 0; pull 333; pull 334",
         "ok; tags - 1000/3 1000; future 334; future 334; grant 1 1 priority",
     )
@@ -122,7 +131,7 @@ fn ratio_future(rt: HostRuntime) -> Result<(), Fail> {
 fn moment_goes_back(rt: HostRuntime) -> Result<(), Fail> {
     gives(
         &rt,
-        "tick",
+        BOTH,
         "hz 1000; client 1 - 1 - 0; pull 50; add 1 1 0 0 30; pull 30",
         "ok; none; tags - 50 50; grant 1 1 priority",
     )
@@ -132,7 +141,7 @@ fn moment_goes_back(rt: HostRuntime) -> Result<(), Fail> {
 fn moment_past_limit(rt: HostRuntime) -> Result<(), Fail> {
     gives(
         &rt,
-        "tick",
+        BOTH,
         "hz 1000; client 1 - 1 - 0; pull 4611686018427387905; add 1 1 0 0 0; pull 0",
         "ok; refused moment; tags - 0 0; grant 1 1 priority",
     )
@@ -142,7 +151,7 @@ fn moment_past_limit(rt: HostRuntime) -> Result<(), Fail> {
 fn refused_values(rt: HostRuntime) -> Result<(), Fail> {
     gives(
         &rt,
-        "tick",
+        BOTH,
         "hz 1000; client 1 - 1 - 0; add 1 1 1 2 0; client 2 0 1 - 0",
         "ok; refused params; refused rate",
     )
@@ -152,7 +161,7 @@ fn refused_values(rt: HostRuntime) -> Result<(), Fail> {
 fn dropped_requests(rt: HostRuntime) -> Result<(), Fail> {
     gives(
         &rt,
-        "tick",
+        BOTH,
         "hz 1000; client 1 - 1 - 0; add 1 1 1 0 0; add 1 2 1 0 0; drop 1; drop 1; add 1 3 1 0 0",
         "ok; tags - 0 1000; tags - 0 2000; dropped 2; dropped 0; tags - 0 3000",
     )
@@ -162,7 +171,7 @@ fn dropped_requests(rt: HostRuntime) -> Result<(), Fail> {
 fn idle_then_erased(rt: HostRuntime) -> Result<(), Fail> {
     gives(
         &rt,
-        "tick",
+        BOTH,
         "hz 1000 100 1000; client 1 - 1 - 0; clean 100; add 1 1 0 0 100; pull 100; clean 199; clean 200; \
          clean 1099; clean 1100; add 1 2 0 0 1100",
         "ok; cleaned 0 0; tags - 100 100; grant 1 1 priority; cleaned 0 0; cleaned 1 0; cleaned 0 0; \
@@ -174,7 +183,7 @@ fn idle_then_erased(rt: HostRuntime) -> Result<(), Fail> {
 fn sum_out_of_range(rt: HostRuntime) -> Result<(), Fail> {
     gives(
         &rt,
-        "ratio",
+        &["ratio"],
         "hz 1; client 1 - 65521 - 0; client 2 - 65519 - 0; client 3 - 2 - 0; client 4 - 1 - 0; \
          add 1 1 1 0 0; add 2 1 1 0 0; add 1 2 1 0 0; pull 0; add 3 1 1 0 0; pull 0; add 4 1 1 0 0; pull 0; \
          pull 0; pull 0",
@@ -187,7 +196,7 @@ fn sum_out_of_range(rt: HostRuntime) -> Result<(), Fail> {
 fn shifted_up(rt: HostRuntime) -> Result<(), Fail> {
     gives(
         &rt,
-        "tick",
+        BOTH,
         "hz 1000; client 1 - 1 - 0; client 2 - 1 - 0; add 2 21 0 0 0; add 1 11 0 0 500; pull 500; pull 500",
         "ok; ok; tags - 0 0; tags - 500 500; grant 1 11 priority; grant 2 21 priority",
     )
@@ -197,7 +206,7 @@ fn shifted_up(rt: HostRuntime) -> Result<(), Fail> {
 fn previous_below_zero(rt: HostRuntime) -> Result<(), Fail> {
     gives(
         &rt,
-        "tick",
+        BOTH,
         "hz 1000; client 1 - 1 - 0; client 2 - 1 - 0; client 3 - 1 - 0; add 1 1 0 0 0; pull 0; \
          add 2 1 1 0 0; add 3 1 1 0 0; add 1 2 1 0 0; pull 0",
         "ok; ok; ok; tags - 0 0; grant 1 1 priority; tags - 0 1000; tags - 0 1000; tags - 0 0; \
@@ -209,7 +218,7 @@ fn previous_below_zero(rt: HostRuntime) -> Result<(), Fail> {
 fn allowed_beyond(rt: HostRuntime) -> Result<(), Fail> {
     gives(
         &rt,
-        "tick",
+        BOTH,
         "hz 1000 allow; client 1 10 1 20 0; add 1 1 1 1 0; add 1 2 1 1 0; pull 0; pull 100; pull 100",
         "ok; tags 100 50 1000; tags 200 100 2000; grant 1 1 priority beyond; grant 1 2 reservation; none",
     )
@@ -219,7 +228,7 @@ fn allowed_beyond(rt: HostRuntime) -> Result<(), Fail> {
 fn updates(rt: HostRuntime) -> Result<(), Fail> {
     gives(
         &rt,
-        "tick",
+        &["tick"],
         "hz 1000; client 1 - 1 - 0; add 1 1 1 0 0; update 1 - 2 - 0; add 1 2 1 0 0; update 1 10 2 - 0; \
          drop 1; update 1 10 2 - 0; add 1 3 1 1 0; update 1 - 3 - 0; update 2 - 1 - 0",
         "ok; tags - 0 1000; updated; tags - 0 1500; refused busy; dropped 2; updated; tags 100 0 2000; \
@@ -231,7 +240,7 @@ fn updates(rt: HostRuntime) -> Result<(), Fail> {
 fn reduction_out_of_range(rt: HostRuntime) -> Result<(), Fail> {
     gives(
         &rt,
-        "ratio",
+        &["ratio"],
         "hz 1; client 1 65537 1 - 0; add 1 1 1 1 0; add 1 2 1 1 0; update 1 65539 1 - 0; pull 0; pull 1; \
          pull 1",
         "ok; tags 1/65537 0 1; tags 2/65537 0 2; updated; refused range; grant 1 1 reservation; \
@@ -243,7 +252,7 @@ fn reduction_out_of_range(rt: HostRuntime) -> Result<(), Fail> {
 fn marks_set_back(rt: HostRuntime) -> Result<(), Fail> {
     gives(
         &rt,
-        "ratio",
+        &["ratio"],
         "hz 1; client 1 65537 1 - 0; client 2 - 1 1 0; add 1 1 131075 131075 0; add 1 2 1 1 0; \
          update 1 65539 1 - 0; add 2 1 1 0 0; pull 1; drop 1; pull 0",
         "ok; ok; tags 131075/65537 0 131075; tags 131076/65537 0 131076; updated; tags - 1 1; refused range; \
@@ -253,7 +262,7 @@ fn marks_set_back(rt: HostRuntime) -> Result<(), Fail> {
 
 #[test]
 fn empty_script(rt: HostRuntime) -> Result<(), Fail> {
-    gives(&rt, "tick", "hz 1000", "")
+    gives(&rt, BOTH, "hz 1000", "")
 }
 
 #[test]

@@ -10,6 +10,8 @@ mod fault;
 mod makers;
 mod outcome;
 #[cfg(test)]
+mod queues;
+#[cfg(test)]
 mod runs;
 mod script;
 #[cfg(test)]

@@ -11,10 +11,10 @@ pub const ROOM: usize = 4096;
 
 /// The lines of a text, each with its LF. In the text they are parted by `; `.
 pub fn lines(alloc: Global, text: &str) -> Result<Vec<u8>, AllocError> {
-    let mut bytes = Vec::new(alloc);
     if text.is_empty() {
-        return Ok(bytes);
+        return Ok(Vec::new(alloc));
     }
+    let mut bytes = Vec::with_capacity(alloc, text.len() + 1)?;
     let mut was_end = false;
     for byte in text.as_bytes() {
         match *byte {

@@ -6,7 +6,7 @@ ghost use Rattle.dmc_text.specs.Texts.{RunsAs};
 ghost use Rattle.dmc_cli.specs.Faults.{fault_of_script};
 
 use crate::fault::Fault;
-use crate::makers::PlainMaker;
+use crate::makers::HeapMaker;
 use dmc_ratio::ratio::RatioTag;
 use dmc_tag::tag::Tag;
 use dmc_text::script::{ScriptFault, run_script};
@@ -41,11 +41,11 @@ pub fn run_on<R: Read, W: Write>(
     ensures ratios { tags ≡ kinds.Ratio → RunsAs ⟦<RatioTag as Tag>⟧.ops (tag_text ⟦<RatioTag as TagText>⟧.numerator ⟦<RatioTag as TagText>⟧.denominator)
         (R.remaining reader.old) (R.remaining reader.new) (W.contents writer.old) (W.contents writer.new) result }
 {
-    let mut maker = PlainMaker { alloc };
+    let mut maker = HeapMaker { alloc };
     match tags {
-        TagKind::Tick => run_script::<TickTag, PlainMaker, R, W>(alloc, &mut maker, reader, writer),
+        TagKind::Tick => run_script::<TickTag, HeapMaker, R, W>(alloc, &mut maker, reader, writer),
         TagKind::Ratio => {
-            run_script::<RatioTag, PlainMaker, R, W>(alloc, &mut maker, reader, writer)
+            run_script::<RatioTag, HeapMaker, R, W>(alloc, &mut maker, reader, writer)
         }
     }
 }

@@ -59,13 +59,18 @@ const CLIENTS: usize = 65_536;
 /// The most queued requests of a queue.
 const REQUESTS: usize = 1 << 20;
 
+/// A part of a queue. A struct that is generic in indexes has a rule for letting it go, as generic code does, where such a part
+/// stands behind a type parameter.
+#[derive(Drop)]
+struct Part<P>(P);
+
 /// A queue that keeps each client's requests apart, and the first ones in three indexes. Contracts see its clients in order
 /// of registration and what the indexes hold.
 #[derive(Drop)]
 pub struct PullQueue<T: Tag, I: Indexes<T>> {
     config: QueueConfig,
     roster: Roster<T>,
-    heads: Heads<T, I>,
+    heads: Part<Heads<T, I>>,
     // How many requests are queued.
     queued: usize,
     last_moment: Moment,
@@ -77,9 +82,9 @@ impl<T: Tag, I: Indexes<T>> Model for PullQueue<T, I> {
 
     ghost Value = { Queue T };
 
-    ghost view = { λ q. record { config = q.config; roster = q.roster; heads = q.heads; last_moment = q.last_moment } };
+    ghost view = { λ q. record { config = q.config; roster = q.roster; heads = q.heads.0; last_moment = q.last_moment } };
 
-    ghost invariant = { λ q. IsQueue T.ops T.fraction T.is_value (record { config = q.config; roster = q.roster; heads = q.heads; last_moment = q.last_moment }) q.queued };
+    ghost invariant = { λ q. IsQueue T.ops T.fraction T.is_value (record { config = q.config; roster = q.roster; heads = q.heads.0; last_moment = q.last_moment }) q.queued };
 }
 
 impl<T: Tag, I: Indexes<T>> PullQueue<T, I> {
@@ -90,7 +95,7 @@ impl<T: Tag, I: Indexes<T>> PullQueue<T, I> {
         PullQueue {
             config,
             roster: Roster::new(alloc),
-            heads: Heads::new(alloc),
+            heads: Part(Heads::new(alloc)),
             queued: 0,
             last_moment: Moment::zero(),
             alloc,
@@ -124,7 +129,7 @@ impl<T: Tag, I: Indexes<T>> PullQueue<T, I> {
         ensures heads { AreHeads T.ops self.now.last_moment self.now.roster.entries self.now.heads }
         ensures ranks { Ranks heads_of.tag_rank self.now.heads (I.TagIndex.slots result.now) }
     {
-        self.heads.by_reservation()
+        self.heads.0.by_reservation()
     }
 
     /// The index by L over the same clients, what is unready first.
@@ -132,7 +137,7 @@ impl<T: Tag, I: Indexes<T>> PullQueue<T, I> {
         ensures heads { AreHeads T.ops self.now.last_moment self.now.roster.entries self.now.heads }
         ensures ranks { Ranks heads_of.limit_rank self.now.heads (I.LimitIndex.slots result.now) }
     {
-        self.heads.by_limit()
+        self.heads.0.by_limit()
     }
 
     /// The index by P over the same clients, what is ready first.
@@ -140,7 +145,7 @@ impl<T: Tag, I: Indexes<T>> PullQueue<T, I> {
         ensures heads { AreHeads T.ops self.now.last_moment self.now.roster.entries self.now.heads }
         ensures ranks { Ranks heads_of.ready_rank self.now.heads (I.ReadyIndex.slots result.now) }
     {
-        self.heads.by_shares()
+        self.heads.0.by_shares()
     }
 
     /// The effective moment of a call.
@@ -171,7 +176,7 @@ impl<T: Tag, I: Indexes<T>> PullQueue<T, I> {
     {
         the_best_is_found::<T>();
         self.tell_distinct();
-        match self.heads.least_by_reservation() {
+        match self.heads.0.least_by_reservation() {
             None => None,
             Some((key, rank)) => {
                 if is_due(rank.tag, at) {
@@ -190,7 +195,7 @@ impl<T: Tag, I: Indexes<T>> PullQueue<T, I> {
         ensures marked { IsMarked T.ops self.new }
     {
         a_tag_is_due_from_its_ceil::<T>();
-        self.heads.promote(at);
+        self.heads.0.promote(at);
         self.last_moment = at;
     }
 
@@ -199,7 +204,7 @@ impl<T: Tag, I: Indexes<T>> PullQueue<T, I> {
         ensures { state_of self.new ≡ record (state_of self.old) { last_moment = before } }
     {
         a_tag_is_due_from_its_ceil::<T>();
-        self.heads.set_back(before);
+        self.heads.0.set_back(before);
         self.last_moment = before;
     }
 
@@ -211,7 +216,7 @@ impl<T: Tag, I: Indexes<T>> PullQueue<T, I> {
     {
         the_best_is_found::<T>();
         self.tell_distinct();
-        match self.heads.least_by_shares() {
+        match self.heads.0.least_by_shares() {
             None => None,
             Some((key, rank)) => Some((key, rank.client, rank.ready)),
         }
@@ -228,11 +233,11 @@ impl<T: Tag, I: Indexes<T>> PullQueue<T, I> {
         future_is_exact::<T>();
         the_best_is_found::<T>();
         self.tell_distinct();
-        let Some((_, limit)) = self.heads.least_by_limit() else {
+        let Some((_, limit)) = self.heads.0.least_by_limit() else {
             return 0;
         };
         let free = due_moment(limit.tag);
-        let Some((_, reservation)) = self.heads.least_by_reservation() else {
+        let Some((_, reservation)) = self.heads.0.least_by_reservation() else {
             return 0;
         };
         match reservation.tag {
@@ -256,7 +261,7 @@ impl<T: Tag, I: Indexes<T>> PullQueue<T, I> {
         self.tell_distinct();
         let request = grant_first(&mut self.roster, key, reduces).unwrap();
         let tags = first_tags(&self.roster, key);
-        renew(&mut self.heads, key, client, tags);
+        renew(&mut self.heads.0, key, client, tags);
         self.queued -= 1;
         self.last_moment = at;
         request.token
@@ -389,7 +394,7 @@ impl<T: Tag, I: Indexes<T>> PullQueue<T, I> {
         let Some(room) = key.checked_add(1) else {
             return Err(QueueFault::Memory);
         };
-        self.heads.reserve(room)?;
+        self.heads.0.reserve(room)?;
         if self.roster.add(client, rec).is_err() {
             return Err(QueueFault::Memory);
         }
@@ -466,7 +471,7 @@ impl<T: Tag, I: Indexes<T>> PullQueue<T, I> {
             return Err(Refusal::Unknown);
         };
         let count = drain_at(&mut self.roster, key);
-        clear(&mut self.heads, key, count);
+        clear(&mut self.heads.0, key, count);
         self.queued -= count;
         Ok(count as u32)
     }
@@ -499,7 +504,7 @@ impl<T: Tag, I: Indexes<T>> PullQueue<T, I> {
         if !self.roster.at(key).is_idle() {
             return Ok(None);
         }
-        let Some(least) = self.heads.least_share() else {
+        let Some(least) = self.heads.0.least_share() else {
             return Ok(None);
         };
         match shift_for(least, t) {
@@ -587,9 +592,9 @@ impl<T: Tag, I: Indexes<T>> PullQueue<T, I> {
         if push_at(&mut self.roster, key, QueuedRequest { token, tags }, at).is_err() {
             return Err(QueueFault::Memory);
         }
-        shift_others(&mut self.roster, &mut self.heads, shift, key);
+        shift_others(&mut self.roster, &mut self.heads.0, shift, key);
         if is_first {
-            self.heads.insert(
+            self.heads.0.insert(
                 key,
                 Head {
                     client,

@@ -10,7 +10,7 @@ invariant_of-self g c = roomier_is g.T.Tag.ops g.T.Tag.fraction g.T.Tag.is_value
 pub invariant_of-self-then-is_err : goal.invariant_of-self-then-is_err
 invariant_of-self-then-is_err g c =
     let q = c.self.inside in
-    let holds = held_grown q.heads c.reserve.new.self (c.in-Some.room - length q.heads) c.in_ok-reserve.ensures.ok in
+    let holds = held_grown q.heads.0 c.reserve.new.self (c.in-Some.room - length q.heads.0) c.in_ok-reserve.ensures.ok in
     let roomier = roomier_is g.T.Tag.ops g.T.Tag.fraction g.T.Tag.is_value c.a_tag_is_due_from_its_ceil.ensures c.self.invariant c.reserve.new.self holds c.in_ok-reserve.ensures.room in
     let same = not_added q.roster c.add.new.self c.args.client c.args.rec c.add.result (sym c.is_err.ensures.value ∙ c.if-is_err.true) c.add.ensures in
     rw same roomier
@@ -21,15 +21,15 @@ invariant_of-self-2 g c =
     let ops = g.T.Tag.ops in
     let keeps = subst (λ (n : ℕ). IsKept ops g.T.Tag.fraction g.T.Tag.is_value n c.args.rec) (sym (ap (λ x. x.config.hz) c.self.view_is)) c.requires.kept in
     let later : q.last_moment ≤ c.args.at = subst (λ (n : ℕ). n ≤ c.args.at) (sym (ap (λ x. x.last_moment) c.self.view_is)) c.requires.later in
-    let holds = held_grown q.heads c.reserve.new.self (c.in-Some.room - length q.heads) c.in_ok-reserve.ensures.ok in
+    let holds = held_grown q.heads.0 c.reserve.new.self (c.in-Some.room - length q.heads.0) c.in_ok-reserve.ensures.ok in
     let roomier = roomier_is ops g.T.Tag.fraction g.T.Tag.is_value c.a_tag_is_due_from_its_ceil.ensures c.self.invariant c.reserve.new.self holds c.in_ok-reserve.ensures.room in
     let last = was_added q.roster c.add.new.self c.args.client c.args.rec c.add.result (sym c.is_err.ensures.value ∙ c.if-is_err.false) c.add.ensures in
     let room : c.in-Some.room ≡ suc q.roster.next_key = omega (arith, c.in-Some.ensures, c.next_key-key.ensures) in
-    let within = has_room q.heads c.reserve.new.self q.roster.next_key c.in-Some.room room c.in_ok-reserve.ensures.ok in
+    let within = has_room q.heads.0 c.reserve.new.self q.roster.next_key c.in-Some.room room c.in_ok-reserve.ensures.ok in
     registered_is ops g.T.Tag.fraction g.T.Tag.is_value c.a_tag_is_due_from_its_ceil.ensures roomier c.add.new.self (record { id = c.args.client; key = q.roster.next_key; rec = c.args.rec }) last within keeps c.requires.nothing c.args.at later
 
 pub returns-clause-ok : goal.returns-clause-ok
 returns-clause-ok g c =
     let q = c.self.inside in
     let last = was_added q.roster c.add.new.self c.args.client c.args.rec c.add.result (sym c.is_err.ensures.value ∙ c.if-is_err.false) c.add.ensures in
-    rw (← c.self.view_is) (registered_state (record { config = q.config; roster = q.roster; heads = q.heads; last_moment = q.last_moment }) c.add.new.self c.reserve.new.self (record { id = c.args.client; key = q.roster.next_key; rec = c.args.rec }) c.args.at last c.requires.nothing)
+    rw (← c.self.view_is) (registered_state (record { config = q.config; roster = q.roster; heads = q.heads.0; last_moment = q.last_moment }) c.add.new.self c.reserve.new.self (record { id = c.args.client; key = q.roster.next_key; rec = c.args.rec }) c.args.at last c.requires.nothing)

@@ -10,14 +10,14 @@ pub invariant_of-self : goal.invariant_of-self
 invariant_of-self g c =
     let ops = g.T.Tag.ops in
     let q = c.self.inside in
-    let heads = map (option_map (marked ops c.args.at)) q.heads in
+    let heads = map (option_map (marked ops c.args.at)) q.heads.0 in
     let later : q.last_moment ≤ c.args.at = subst (λ v. v.last_moment ≤ c.args.at) (sym c.self.view_is) c.requires in
     subst (λ hs. IsQueue ops g.T.Tag.fraction g.T.Tag.is_value (record { config = q.config; roster = q.roster; heads = hs; last_moment = c.args.at }) q.queued) (sym c.promote.ensures)
-    (same_roster ops g.T.Tag.fraction g.T.Tag.is_value _ q.queued heads c.args.at c.self.invariant (length_map (option_map (marked ops c.args.at)) q.heads) (promoted ops c.a_tag_is_due_from_its_ceil.ensures q.last_moment c.args.at q.roster.entries q.heads later c.self.invariant.heads))
+    (same_roster ops g.T.Tag.fraction g.T.Tag.is_value _ q.queued heads c.args.at c.self.invariant (length_map (option_map (marked ops c.args.at)) q.heads.0) (promoted ops c.a_tag_is_due_from_its_ceil.ensures q.last_moment c.args.at q.roster.entries q.heads.0 later c.self.invariant.heads))
 
 pub returns-clause-marked : goal.returns-clause-marked
 returns-clause-marked g c =
     let ops = g.T.Tag.ops in
     let q = c.self.inside in
     subst (λ hs. IsMarked ops (record { config = q.config; roster = q.roster; heads = hs; last_moment = c.args.at })) (sym c.promote.ensures)
-    (all_marked ops c.a_tag_is_due_from_its_ceil.ensures c.args.at q.heads)
+    (all_marked ops c.a_tag_is_due_from_its_ceil.ensures c.args.at q.heads.0)

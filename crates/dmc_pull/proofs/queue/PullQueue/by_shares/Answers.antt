@@ -14,7 +14,7 @@ returns-in-None g c =
     let records = records_of ops g.T.Tag.fraction g.T.Tag.is_value q.config.hz q.roster.entries c.self.invariant.kept in
     let marked = subst (IsMarked ops) (sym c.self.view_is) c.requires in
     subst (λ v. ByShares ops v.last_moment v.roster.entries None) c.self.view_is
-    (no_head_shares ops order c.the_best_is_found.ensures.some c.the_best_is_found.ensures.none q.last_moment q.roster.entries q.heads d records c.self.invariant.heads marked c.in-None.ensures)
+    (no_head_shares ops order c.the_best_is_found.ensures.some c.the_best_is_found.ensures.none q.last_moment q.roster.entries q.heads.0 d records c.self.invariant.heads marked c.in-None.ensures)
 
 pub returns-in-Some : goal.returns-in-Some
 returns-in-Some g c =
@@ -25,4 +25,4 @@ returns-in-Some g c =
     let records = records_of ops g.T.Tag.fraction g.T.Tag.is_value q.config.hz q.roster.entries c.self.invariant.kept in
     let marked = subst (IsMarked ops) (sym c.self.view_is) c.requires in
     subst (λ v. ByShares ops v.last_moment v.roster.entries (Some (c.in-Some.key, c.in-Some.rank.now.client, c.in-Some.rank.now.ready))) c.self.view_is
-    (least_shares ops order c.the_best_is_found.ensures.some c.the_best_is_found.ensures.none q.last_moment q.roster.entries q.heads d records c.self.invariant.heads marked c.in-Some.key c.in-Some.rank.now c.in-Some.ensures)
+    (least_shares ops order c.the_best_is_found.ensures.some c.the_best_is_found.ensures.none q.last_moment q.roster.entries q.heads.0 d records c.self.invariant.heads marked c.in-Some.key c.in-Some.rank.now c.in-Some.ensures)

@@ -16,7 +16,7 @@ returns-clause-value g c =
     let ops = g.T.Tag.ops in
     let q = c.self.inside in
     let view = c.self.view_is in
-    let v : Queue g.row.T.Denot = record { config = q.config; roster = q.roster; heads = q.heads; last_moment = q.last_moment } in
+    let v : Queue g.row.T.Denot = record { config = q.config; roster = q.roster; heads = q.heads.0; last_moment = q.last_moment } in
     let d : AreDistinct q.roster.entries = subst (λ v. AreDistinct v.roster.entries) (sym view) c.tell_distinct.ensures in
     let first : IsFirstOf q.roster.entries c.args.key c.args.client = subst (λ v. IsFirstOf v.roster.entries c.args.key c.args.client) (sym view) c.requires in
     let w = waits q.roster.entries c.args.key c.args.client first in

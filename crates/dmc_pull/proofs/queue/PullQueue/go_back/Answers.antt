@@ -11,4 +11,4 @@ invariant_of-self g c =
     let ops = g.T.Tag.ops in
     let q = c.self.inside in
     subst (λ hs. IsQueue ops g.T.Tag.fraction g.T.Tag.is_value (record { config = q.config; roster = q.roster; heads = hs; last_moment = c.args.before }) q.queued) (sym c.set_back.ensures)
-    (same_roster ops g.T.Tag.fraction g.T.Tag.is_value _ q.queued (map (option_map (set_back ops c.args.before)) q.heads) c.args.before c.self.invariant (length_map (option_map (set_back ops c.args.before)) q.heads) (went_back ops c.a_tag_is_due_from_its_ceil.ensures q.last_moment c.args.before q.roster.entries q.heads c.self.invariant.heads))
+    (same_roster ops g.T.Tag.fraction g.T.Tag.is_value _ q.queued (map (option_map (set_back ops c.args.before)) q.heads.0) c.args.before c.self.invariant (length_map (option_map (set_back ops c.args.before)) q.heads.0) (went_back ops c.a_tag_is_due_from_its_ceil.ensures q.last_moment c.args.before q.roster.entries q.heads.0 c.self.invariant.heads))

@@ -13,7 +13,7 @@ pub returns-in_default : goal.returns-in_default
 returns-in_default g c = λ first rest whole.
     let q = c.self.inside in
     let d : AreDistinct q.roster.entries = subst (λ v. AreDistinct v.roster.entries) (sym c.self.view_is) c.tell_distinct.ensures in
-    not_nothing (requests_in q.roster.entries) first rest (none_queued g.T.Tag.ops q.last_moment q.roster.entries q.heads c.self.invariant.heads d c.in_default.ensures) (ap (λ v. requests_in v.roster.entries) c.self.view_is ∙ whole)
+    not_nothing (requests_in q.roster.entries) first rest (none_queued g.T.Tag.ops q.last_moment q.roster.entries q.heads.0 c.self.invariant.heads d c.in_default.ensures) (ap (λ v. requests_in v.roster.entries) c.self.view_is ∙ whole)
 
 pub returns-in-None : goal.returns-in-None
 returns-in-None g c = λ first rest whole.
@@ -26,7 +26,7 @@ returns-in-None g c = λ first rest whole.
     let none_free : best (by_shares ops) (is_free ops q.last_moment) (requests_in q.roster.entries) ≡ None = subst (λ v. best (by_shares ops) (is_free ops v.last_moment) (requests_in v.roster.entries) ≡ None) (sym c.self.view_is) c.requires.none_free in
     let has_none = c.the_best_is_found.ensures.not_found (λ r. Some r.tags.p) (is_free ops q.last_moment) (requests_in q.roster.entries) none_free in
     let free = moment_of (ops.ceil c.in-Some.limit.now.tag) in
-    due_told ops order q.last_moment q.roster.entries q.heads c.self.invariant.heads d records c.a_tag_is_due_from_its_ceil.ensures c.future_is_exact.ensures q.config none_early none_free has_none c.in-Some-least_by_reservation.field-0-0 c.in-Some-least_by_reservation.reservation.now c.in-Some-least_by_reservation.ensures c.in-Some.field-0-0 c.in-Some.limit.now c.in-Some.ensures
+    due_told ops order q.last_moment q.roster.entries q.heads.0 c.self.invariant.heads d records c.a_tag_is_due_from_its_ceil.ensures c.future_is_exact.ensures q.config none_early none_free has_none c.in-Some-least_by_reservation.field-0-0 c.in-Some-least_by_reservation.reservation.now c.in-Some-least_by_reservation.ensures c.in-Some.field-0-0 c.in-Some.limit.now c.in-Some.ensures
     c.due_moment-free.result (c.due_moment-free.ensures ∙ ap (λ o. earlier free (option_map (λ t. moment_of (ops.ceil t)) o)) (sym c.in-None.is)) first rest (ap (λ v. requests_in v.roster.entries) c.self.view_is ∙ whole)
 
 pub returns-in-Some-tag : goal.returns-in-Some-tag
@@ -40,5 +40,5 @@ returns-in-Some-tag g c = λ first rest whole.
     let none_free : best (by_shares ops) (is_free ops q.last_moment) (requests_in q.roster.entries) ≡ None = subst (λ v. best (by_shares ops) (is_free ops v.last_moment) (requests_in v.roster.entries) ≡ None) (sym c.self.view_is) c.requires.none_free in
     let has_none = c.the_best_is_found.ensures.not_found (λ r. Some r.tags.p) (is_free ops q.last_moment) (requests_in q.roster.entries) none_free in
     let free = moment_of (ops.ceil c.in-Some.limit.now.tag) in
-    due_told ops order q.last_moment q.roster.entries q.heads c.self.invariant.heads d records c.a_tag_is_due_from_its_ceil.ensures c.future_is_exact.ensures q.config none_early none_free has_none c.in-Some-least_by_reservation.field-0-0 c.in-Some-least_by_reservation.reservation.now c.in-Some-least_by_reservation.ensures c.in-Some.field-0-0 c.in-Some.limit.now c.in-Some.ensures
+    due_told ops order q.last_moment q.roster.entries q.heads.0 c.self.invariant.heads d records c.a_tag_is_due_from_its_ceil.ensures c.future_is_exact.ensures q.config none_early none_free has_none c.in-Some-least_by_reservation.field-0-0 c.in-Some-least_by_reservation.reservation.now c.in-Some-least_by_reservation.ensures c.in-Some.field-0-0 c.in-Some.limit.now c.in-Some.ensures
     c.min.result (c.min.ensures ∙ ap (λ a. min a c.due_moment.result) c.due_moment-free.ensures ∙ ap (λ b. min free b) c.due_moment.ensures ∙ ap (λ o. earlier free (option_map (λ t. moment_of (ops.ceil t)) o)) (sym c.in-Some-tag.is)) first rest (ap (λ v. requests_in v.roster.entries) c.self.view_is ∙ whole)

@@ -16,7 +16,7 @@ pub shift_others-requires : goal.shift_others-requires
 shift_others-requires g c =
     let ops = g.T.Tag.ops in
     let inside = c.self.inside in
-    let q : Queue g.row.T.Denot = record { config = inside.config; roster = inside.roster; heads = inside.heads; last_moment = inside.last_moment } in
+    let q : Queue g.row.T.Denot = record { config = inside.config; roster = inside.roster; heads = inside.heads.0; last_moment = inside.last_moment } in
     let key = c.args.addition.key in
     let shift = c.args.addition.shift in
     let same = subst (λ q. entry_keyed key q.roster.entries ≡ entry_named c.args.client q.roster.entries) (sym c.self.view_is) c.requires.key in
@@ -29,7 +29,7 @@ pub insert-requires-clause-in_room : goal.insert-requires-clause-in_room
 insert-requires-clause-in_room g c =
     let ops = g.T.Tag.ops in
     let inside = c.self.inside in
-    let q : Queue g.row.T.Denot = record { config = inside.config; roster = inside.roster; heads = inside.heads; last_moment = inside.last_moment } in
+    let q : Queue g.row.T.Denot = record { config = inside.config; roster = inside.roster; heads = inside.heads.0; last_moment = inside.last_moment } in
     let key = c.args.addition.key in
     let shift = c.args.addition.shift in
     let same = subst (λ q. entry_keyed key q.roster.entries ≡ entry_named c.args.client q.roster.entries) (sym c.self.view_is) c.requires.key in
@@ -45,7 +45,7 @@ pub insert-requires-clause-vacant : goal.insert-requires-clause-vacant
 insert-requires-clause-vacant g c =
     let ops = g.T.Tag.ops in
     let inside = c.self.inside in
-    let q : Queue g.row.T.Denot = record { config = inside.config; roster = inside.roster; heads = inside.heads; last_moment = inside.last_moment } in
+    let q : Queue g.row.T.Denot = record { config = inside.config; roster = inside.roster; heads = inside.heads.0; last_moment = inside.last_moment } in
     let key = c.args.addition.key in
     let shift = c.args.addition.shift in
     let same = subst (λ q. entry_keyed key q.roster.entries ≡ entry_named c.args.client q.roster.entries) (sym c.self.view_is) c.requires.key in
@@ -62,7 +62,7 @@ pub insert-requires-clause-apart : goal.insert-requires-clause-apart
 insert-requires-clause-apart g c =
     let ops = g.T.Tag.ops in
     let inside = c.self.inside in
-    let q : Queue g.row.T.Denot = record { config = inside.config; roster = inside.roster; heads = inside.heads; last_moment = inside.last_moment } in
+    let q : Queue g.row.T.Denot = record { config = inside.config; roster = inside.roster; heads = inside.heads.0; last_moment = inside.last_moment } in
     let key = c.args.addition.key in
     let shift = c.args.addition.shift in
     let same = subst (λ q. entry_keyed key q.roster.entries ≡ entry_named c.args.client q.roster.entries) (sym c.self.view_is) c.requires.key in
@@ -78,7 +78,7 @@ pub invariant_of-self-2 : goal.invariant_of-self-2
 invariant_of-self-2 g c =
     let ops = g.T.Tag.ops in
     let inside = c.self.inside in
-    let q : Queue g.row.T.Denot = record { config = inside.config; roster = inside.roster; heads = inside.heads; last_moment = inside.last_moment } in
+    let q : Queue g.row.T.Denot = record { config = inside.config; roster = inside.roster; heads = inside.heads.0; last_moment = inside.last_moment } in
     let key = c.args.addition.key in
     let shift = c.args.addition.shift in
     let same = subst (λ q. entry_keyed key q.roster.entries ≡ entry_named c.args.client q.roster.entries) (sym c.self.view_is) c.requires.key in
@@ -108,7 +108,7 @@ pub returns-clause-ok : goal.returns-clause-ok
 returns-clause-ok g c =
     let ops = g.T.Tag.ops in
     let inside = c.self.inside in
-    let q : Queue g.row.T.Denot = record { config = inside.config; roster = inside.roster; heads = inside.heads; last_moment = inside.last_moment } in
+    let q : Queue g.row.T.Denot = record { config = inside.config; roster = inside.roster; heads = inside.heads.0; last_moment = inside.last_moment } in
     let key = c.args.addition.key in
     let shift = c.args.addition.shift in
     let same = subst (λ q. entry_keyed key q.roster.entries ≡ entry_named c.args.client q.roster.entries) (sym c.self.view_is) c.requires.key in

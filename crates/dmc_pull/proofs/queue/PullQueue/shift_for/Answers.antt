@@ -15,7 +15,7 @@ use Rattle.dmc_pull.proofs.queue.PullQueue.shift_for.Goals.{in-None, in-Some-shi
 pub returns-in_default-clause-value : goal.returns-in_default-clause-value
 returns-in_default-clause-value g c =
     let inside = c.self.inside in
-    let empty = none_queued g.T.Tag.ops inside.last_moment inside.roster.entries inside.heads c.self.invariant.heads c.at.ensures.distinct c.in_default.ensures.value in
+    let empty = none_queued g.T.Tag.ops inside.last_moment inside.roster.entries inside.heads.0 c.self.invariant.heads c.at.ensures.distinct c.in_default.ensures.value in
     subst (λ q. IfSome (entry_keyed c.args.key q.roster.entries) (λ e. Ok None ≡ shift_for g.T.Tag.ops (requests_in q.roster.entries) (client_of e.id e.rec) c.args.t)) c.self.view_is
     (if_all _ (entry_keyed c.args.key inside.roster.entries) (λ e f. shift_empty g.T.Tag.ops (requests_in inside.roster.entries) (client_of e.id e.rec) c.args.t empty))
 
@@ -32,4 +32,4 @@ returns-clause-value g c =
       | in-Some-shift_for w ↦ w.result-is ∙ ap Ok w.unless_nothing.ensures ∙ ap (λ o. in_range o >>= λ amount. Ok (unless_nothing ops (Some amount))) (sym w.in-Some-shift_for.is ∙ c.shift_for.ensures.value)
     ] in
     subst (λ q. IfSome (entry_keyed c.args.key q.roster.entries) (λ e. c.match-shift_for.result ≡ shift_for ops (requests_in q.roster.entries) (client_of e.id e.rec) c.args.t)) c.self.view_is
-    (if_all _ (entry_keyed c.args.key es) (λ e f. past ∙ shift_by_least ops order g.met.T.Tag.exact.same inside.last_moment es inside.heads c.self.invariant.heads c.at.ensures.distinct records (c.the_best_is_found.ensures.found (λ r. Some r.tags.p) is_any) (c.the_best_is_found.ensures.not_found (λ r. Some r.tags.p) is_any) c.in-Some.least c.in-Some.ensures.value (client_of e.id e.rec) c.args.t (ap (λ rec. rec.idle) (record_is c.args.key es e c.at.result.now f c.at.ensures.value) ∙ idle)))
+    (if_all _ (entry_keyed c.args.key es) (λ e f. past ∙ shift_by_least ops order g.met.T.Tag.exact.same inside.last_moment es inside.heads.0 c.self.invariant.heads c.at.ensures.distinct records (c.the_best_is_found.ensures.found (λ r. Some r.tags.p) is_any) (c.the_best_is_found.ensures.not_found (λ r. Some r.tags.p) is_any) c.in-Some.least c.in-Some.ensures.value (client_of e.id e.rec) c.args.t (ap (λ rec. rec.idle) (record_is c.args.key es e c.at.result.now f c.at.ensures.value) ∙ idle)))

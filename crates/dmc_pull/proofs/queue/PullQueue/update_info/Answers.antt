@@ -33,4 +33,4 @@ returns g c =
     let moment = subst (λ x. c.effective-at.result ≡ effective (state_of x) c.args.at) (sym c.self.view_is) c.effective-at.ensures.value in
     let may = subst (λ x. Ok tt ≡ can_update ops (state_of x) c.args.client c.args.info) (sym c.self.view_is) c.in_ok-key.ensures.outcome in
     let changed = of_record (λ rec. c.set_info_at.new.roster ≡ with_record_at q.roster key (with_rates c.args.info spacings rec)) key q.roster.entries h.entry h.keyed c.set_info_at.ensures.value in
-    rw (← c.self.view_is) (updated_step ops g.T.Tag.fraction g.T.Tag.is_value (record { config = q.config; roster = q.roster; heads = q.heads; last_moment = q.last_moment }) h c.args.info spacings c.set_info_at.new.roster changed may c.args.at c.effective-at.result moment)
+    rw (← c.self.view_is) (updated_step ops g.T.Tag.fraction g.T.Tag.is_value (record { config = q.config; roster = q.roster; heads = q.heads.0; last_moment = q.last_moment }) h c.args.info spacings c.set_info_at.new.roster changed may c.args.at c.effective-at.result moment)

@@ -1,0 +1,86 @@
+//! The other queues that the examples of scripts run on: the plain queue, and the indexed queue over sorted vectors.
+use crate::runs::ROOM;
+use dmc_index::list_index::ListIndexes;
+use dmc_plain::queue::PlainQueue;
+use dmc_pull::queue::PullQueue;
+use dmc_ratio::ratio::RatioTag;
+use dmc_tag::tag::Tag;
+use dmc_text::script::{QueueMaker, ScriptFault, run_script};
+use dmc_text::tag::TagText;
+use dmc_tick::tick::TickTag;
+use dmc_types::config::QueueConfig;
+use std::alloc::{AllocError, Global};
+use std::process::Abort;
+use std::test::Fail;
+
+/// Makes plain queues.
+#[derive(Drop)]
+struct PlainMaker {
+    alloc: Global,
+}
+
+impl<T: Tag> QueueMaker<T> for PlainMaker {
+    type Queue = PlainQueue<T>;
+
+    fn make(&mut self, config: QueueConfig) -> PlainQueue<T> {
+        PlainQueue::new(self.alloc, config)
+    }
+}
+
+/// Makes indexed queues over sorted vectors.
+#[derive(Drop)]
+struct ListMaker {
+    alloc: Global,
+}
+
+impl QueueMaker<TickTag> for ListMaker {
+    type Queue = PullQueue<TickTag, ListIndexes>;
+
+    fn make(&mut self, config: QueueConfig) -> PullQueue<TickTag, ListIndexes> {
+        PullQueue::new(self.alloc, config)
+    }
+}
+
+impl QueueMaker<RatioTag> for ListMaker {
+    type Queue = PullQueue<RatioTag, ListIndexes>;
+
+    fn make(&mut self, config: QueueConfig) -> PullQueue<RatioTag, ListIndexes> {
+        PullQueue::new(self.alloc, config)
+    }
+}
+
+/// Runs a script over both queues with the tags of this name, and checks what it writes. Want of memory is an error.
+pub fn over_queues<A: AllocGlobal + Abort>(
+    rt: &A,
+    tags: &str,
+    input: &[u8],
+    output: &[u8],
+) -> Result<(), Fail> {
+    let alloc = rt.alloc();
+    if tags == "ratio" {
+        over::<RatioTag, PlainMaker, A>(rt, PlainMaker { alloc }, input, output)?;
+        over::<RatioTag, ListMaker, A>(rt, ListMaker { alloc }, input, output)
+    } else {
+        over::<TickTag, PlainMaker, A>(rt, PlainMaker { alloc }, input, output)?;
+        over::<TickTag, ListMaker, A>(rt, ListMaker { alloc }, input, output)
+    }
+}
+
+/// Runs a script over the queue that is made.
+fn over<T: TagText, M: QueueMaker<T> + Drop, A: AllocGlobal + Abort>(
+    rt: &A,
+    maker: M,
+    input: &[u8],
+    output: &[u8],
+) -> Result<(), Fail> {
+    let mut maker = maker;
+    let mut reader = input;
+    let mut written = Vec::with_capacity(rt.alloc(), ROOM)?;
+    let ended = run_script::<T, M, _, _>(rt.alloc(), &mut maker, &mut reader, &mut written);
+    if ended == Err(ScriptFault::Memory) {
+        return Err(AllocError.into());
+    }
+    assert_eq!(rt; ended, Ok(()));
+    assert_eq!(rt; written.as_slice(), output);
+    Ok(())
+}

@@ -1,8 +1,9 @@
 //! Ranks: what the indexes over clients order by. Each compares its fields in turn.
 ghost use Rattle.std.proofs.Common.{refl};
+ghost use Rattle.std.specs.Prelude.{◌≡◌};
 ghost use Rattle.std.specs.Cmp.{partial_order_from_agreeing_total, partial_equiv_from_equiv, eq_by_cmp_equiv};
-ghost use Rattle.std.specs.Ordering.{as_partial_cmp, eq_by_cmp};
-ghost use Rattle.dmc_tag.specs.Rank.{tag_rank_cmp, tag_rank_total, limit_rank_cmp, limit_rank_total, ready_rank_cmp, ready_rank_total};
+ghost use Rattle.std.specs.Ordering.{as_partial_cmp, eq_by_cmp, ordering_then};
+ghost use Rattle.dmc_tag.specs.Rank.{client_cmp, tag_rank_cmp, tag_rank_total, limit_rank_cmp, limit_rank_total, ready_rank_cmp, ready_rank_total};
 
 use dmc_types::ids::ClientId;
 use std::cmp::Ordering;
@@ -20,17 +21,17 @@ pub struct TagRank<T> {
 /// Unready first, then by tag, and then by client.
 #[derive(Clone, Copy, Debug)]
 pub struct LimitRank<T> {
-    pub ready: bool,
     pub tag: T,
     pub client: ClientId,
+    pub ready: bool,
 }
 
 /// Ready first, then by tag, and then by client.
 #[derive(Clone, Copy, Debug)]
 pub struct ReadyRank<T> {
-    pub ready: bool,
     pub tag: T,
     pub client: ClientId,
+    pub ready: bool,
 }
 
 impl<T: Copy + Ord> Rank for TagRank<T> {}
@@ -38,6 +39,16 @@ impl<T: Copy + Ord> Rank for TagRank<T> {}
 impl<T: Copy + Ord> Rank for LimitRank<T> {}
 
 impl<T: Copy + Ord> Rank for ReadyRank<T> {}
+
+/// The order of two tags, and of their clients where the tags are equal.
+fn by_tag<T: Ord>(a: &T, b: &T, a_client: ClientId, b_client: ClientId) -> Ordering
+    ensures { result ≡ ordering_then (T.cmp a.now b.now) (client_cmp a_client b_client) }
+{
+    match a.cmp(b) {
+        Ordering::Equal => a_client.cmp(&b_client),
+        unequal => unequal,
+    }
+}
 
 impl<T: Ord> Ord for TagRank<T> {
     ghost cmp = { tag_rank_cmp T.cmp };
@@ -49,13 +60,12 @@ impl<T: Ord> Ord for TagRank<T> {
     ghost matches_eq = { λ a b. refl };
 
     fn cmp(&self, other: &TagRank<T>) -> Ordering {
-        let by_tag = match (&self.tag, &other.tag) {
-            (None, None) => Ordering::Equal,
+        match (&self.tag, &other.tag) {
+            (None, None) => self.client.cmp(&other.client),
             (None, Some(_)) => Ordering::Greater,
             (Some(_), None) => Ordering::Less,
-            (Some(a), Some(b)) => a.cmp(b),
-        };
-        by_tag.then(self.client.cmp(&other.client))
+            (Some(a), Some(b)) => by_tag(a, b, self.client, other.client),
+        }
     }
 }
 
@@ -93,9 +103,10 @@ impl<T: Ord> Ord for LimitRank<T> {
     ghost matches_eq = { λ a b. refl };
 
     fn cmp(&self, other: &LimitRank<T>) -> Ordering {
-        let by_tag = self.tag.cmp(&other.tag);
-        let by_tag = by_tag.then(self.client.cmp(&other.client));
-        self.ready.cmp(&other.ready).then(by_tag)
+        match self.ready.cmp(&other.ready) {
+            Ordering::Equal => by_tag(&self.tag, &other.tag, self.client, other.client),
+            unequal => unequal,
+        }
     }
 }
 
@@ -133,9 +144,10 @@ impl<T: Ord> Ord for ReadyRank<T> {
     ghost matches_eq = { λ a b. refl };
 
     fn cmp(&self, other: &ReadyRank<T>) -> Ordering {
-        let by_tag = self.tag.cmp(&other.tag);
-        let by_tag = by_tag.then(self.client.cmp(&other.client));
-        other.ready.cmp(&self.ready).then(by_tag)
+        match other.ready.cmp(&self.ready) {
+            Ordering::Equal => by_tag(&self.tag, &other.tag, self.client, other.client),
+            unequal => unequal,
+        }
     }
 }
 

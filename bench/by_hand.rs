@@ -1,4 +1,4 @@
-// The loads of dmc_bench on an indexed queue as one writes it by hand, in Rust: 64-bit tags, no test of ranges, no limit on
+// The loads of dmc_bench on an indexed queue as one writes it by hand, in Rust: tags of 128 bits, no test of ranges, no limit on
 // clients or requests. It answers the same checksums. Build: rustc -O -o by_hand bench/by_hand.rs
 // Run: ./by_hand CLIENTS ROUNDS
 use std::collections::{HashMap, VecDeque};
@@ -68,15 +68,15 @@ impl<R: Copy + Ord> Heap<R> {
 
 #[derive(Clone, Copy)]
 struct Tags {
-    r: Option<i64>,
-    l: i64,
-    p: i64,
+    r: Option<i128>,
+    l: i128,
+    p: i128,
 }
 
 struct Client {
     id: u32,
-    spacing: (Option<i64>, i64, i64),
-    previous: (i64, i64, i64),
+    spacing: (Option<i128>, i128, i128),
+    previous: (i128, i128, i128),
     idle: bool,
     requests: VecDeque<(u32, Tags)>,
 }
@@ -85,11 +85,11 @@ struct Queue {
     ids: HashMap<u32, usize>,
     clients: Vec<Client>,
     // None is the greatest R.
-    early: Heap<(bool, i64, u32)>,
-    limits: Heap<(bool, i64, u32)>,
-    shares: Heap<(bool, i64, u32)>,
-    least: Option<i64>,
-    last: i64,
+    early: Heap<(bool, i128, u32)>,
+    limits: Heap<(bool, i128, u32)>,
+    shares: Heap<(bool, i128, u32)>,
+    least: Option<i128>,
+    last: i128,
 }
 
 impl Queue {
@@ -105,7 +105,7 @@ impl Queue {
         }
     }
 
-    fn register(&mut self, id: u32, spacing: (Option<i64>, i64, i64)) {
+    fn register(&mut self, id: u32, spacing: (Option<i128>, i128, i128)) {
         self.ids.insert(id, self.clients.len());
         self.clients.push(Client { id, spacing, previous: (0, 0, 0), idle: true, requests: VecDeque::new() });
         self.early.places.push(VACANT);
@@ -130,7 +130,7 @@ impl Queue {
         }
     }
 
-    fn shift(&mut self, t: i64) {
+    fn shift(&mut self, t: i128) {
         if self.shares.heap.is_empty() {
             return;
         }
@@ -155,7 +155,7 @@ impl Queue {
         self.least = Some(t);
     }
 
-    fn add(&mut self, id: u32, token: u32, delta: i64, rho: i64, at: i64) {
+    fn add(&mut self, id: u32, token: u32, delta: i128, rho: i128, at: i128) {
         let t = at.max(self.last);
         let key = self.ids[&id];
         if self.clients[key].idle {
@@ -180,7 +180,7 @@ impl Queue {
         self.last = t;
     }
 
-    fn pull(&mut self, at: i64) -> Option<(u32, u32)> {
+    fn pull(&mut self, at: i128) -> Option<(u32, u32)> {
         let t = at.max(self.last);
         self.last = t;
         let (early, key) = self.early.least()?;
@@ -248,7 +248,7 @@ fn main() {
     let mut granted = Vec::with_capacity(batch);
     let (mut pulling, mut adding, mut checksum) = (0, 0, 0u64);
     for round in 0..rounds / batch {
-        let at = round as i64;
+        let at = round as i128;
         let start = Instant::now();
         for _ in 0..batch {
             granted.extend(queue.pull(at).map(|grant| grant.0));

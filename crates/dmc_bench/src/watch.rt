@@ -3,7 +3,7 @@ use crate::load::Fault;
 use std::io;
 use std::time::Instant;
 
-/// The nanoseconds since now.
+/// The moment at which a part begins.
 pub fn start(rt: &HostRuntime) -> Result<Instant, Fault> {
     Instant::now(rt).map_err(|_| Fault::Memory)
 }

@@ -18,7 +18,7 @@ pub struct TagRank<T> {
     pub client: ClientId,
 }
 
-/// Unready first, then by tag, and then by client.
+/// Unready first, then by tag, and then by client. The fields stand so that they take little room.
 #[derive(Clone, Copy, Debug)]
 pub struct LimitRank<T> {
     pub tag: T,
@@ -26,7 +26,7 @@ pub struct LimitRank<T> {
     pub ready: bool,
 }
 
-/// Ready first, then by tag, and then by client.
+/// Ready first, then by tag, and then by client. The fields stand so that they take little room.
 #[derive(Clone, Copy, Debug)]
 pub struct ReadyRank<T> {
     pub tag: T,

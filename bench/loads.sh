@@ -19,5 +19,5 @@ for clients in 10 1000 65536; do
 done
 run plain 10 1000000
 run plain 1000 10000
-# At 65,536 clients the plain queue takes minutes.
+# At 65,536 clients the plain queue takes more than a quarter of an hour.
 [ "${PLAIN:-}" = "" ] || run plain 65536 100

@@ -1,6 +1,6 @@
 // The loads of dmc_bench on an indexed queue as one writes it by hand, in Rust: tags of 128 bits, no test of ranges, no limit on
 // clients or requests. It answers the same checksums. Build: rustc -O -o by_hand bench/by_hand.rs
-// Run: ./by_hand CLIENTS ROUNDS
+// Run: ./by_hand CLIENTS ROUNDS [LIMIT]
 use std::collections::{HashMap, VecDeque};
 use std::time::Instant;
 
@@ -233,10 +233,13 @@ fn tell(part: &str, calls: usize, nanos: u128) {
 fn main() {
     let words: Vec<usize> = std::env::args().skip(1).map(|word| word.parse().unwrap()).collect();
     let (clients, rounds) = (words[0], words[1]);
+    // a limit's spacing, and the ticks from one batch to the next
+    let spacing = words.get(2).map_or(0, |limit| 1_000_000 / *limit as i128);
+    let step = if spacing == 0 { 1 } else { spacing / 2 };
     let mut queue = Queue::new();
     let start = Instant::now();
     for id in 0..clients {
-        queue.register(id as u32, (Some(100_000), 0, 1_000_000));
+        queue.register(id as u32, (Some(100_000), spacing, 1_000_000));
     }
     tell("register", clients, start.elapsed().as_nanos());
     let start = Instant::now();
@@ -248,7 +251,7 @@ fn main() {
     let mut granted = Vec::with_capacity(batch);
     let (mut pulling, mut adding, mut checksum) = (0, 0, 0u64);
     for round in 0..rounds / batch {
-        let at = round as i128;
+        let at = round as i128 * step;
         let start = Instant::now();
         for _ in 0..batch {
             granted.extend(queue.pull(at).map(|grant| grant.0));

@@ -11,11 +11,13 @@ run() {
   name=$1
   shift
   "$@" 2>&1 | awk -v l="$name" 'NF == 1 { sum = $1 } $1 == "pull" { pull = $3 / $2 } $1 == "add" { add = $3 / $2 }
-    END { printf "%-16s pull %8.1f ns  add %8.1f ns  checksum %s\n", l, pull, add, sum }'
+    END { printf "%-20s pull %8.1f ns  add %8.1f ns  checksum %s\n", l, pull, add, sum }'
 }
-for clients in 10 1000 65536; do
-  for turn in 1 2 3; do
-    run "by hand $clients" "$folder/by_hand" "$clients" 1000000
-    run "heap $clients" "$bench" heap "$clients" 1000000
+for limit in "" 100; do
+  for clients in 10 1000 65536; do
+    for turn in 1 2 3; do
+      run "by hand $clients $limit" "$folder/by_hand" "$clients" 1000000 $limit
+      run "heap $clients $limit" "$bench" heap "$clients" 1000000 $limit
+    done
   done
 done

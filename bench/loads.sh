@@ -4,8 +4,8 @@ set -eu
 cd "$(dirname "$0")/.."
 bench=crates/dmc_bench/out/dmc_bench
 run() {
-  "$bench" "$1" "$2" "$3" 2>&1 > /dev/null |
-    awk -v l="$1 $2" '$2 > 0 { printf "%-18s %-9s %12.1f ns a call\n", l, $1, $3 / $2 }'
+  "$bench" "$@" 2>&1 > /dev/null |
+    awk -v l="$1 $2${4:+ limit $4}" '$2 > 0 { printf "%-22s %-9s %12.1f ns a call\n", l, $1, $3 / $2 }'
 }
 run ticks 0 10000000
 run ratios 0 10000000
@@ -19,5 +19,8 @@ for clients in 10 1000 65536; do
 done
 run plain 10 1000000
 run plain 1000 10000
-# At 65,536 clients the plain queue takes more than a quarter of an hour.
-[ "${PLAIN:-}" = "" ] || run plain 65536 100
+# At the plain queue newcomers that shift others take long: it is filled without.
+run plain-busy 65536 2000
+for clients in 10 1000 65536; do
+  run heap "$clients" 1000000 100
+done

@@ -2,7 +2,7 @@
 ghost use Rattle.std.specs.Prelude.{◌≡◌, ◌+◌, ◌*◌, ◌%◌, ◌^◌};
 
 use crate::indexes::use_index;
-use crate::queues::serve_queue;
+use crate::queues::{HZ, serve_busy_queue, serve_queue};
 use crate::sums::sum_tags;
 use dmc_heap::indexed_heap::{HeapIndexes, IndexedHeap};
 use dmc_index::list_index::{ListIndex, ListIndexes};
@@ -18,6 +18,8 @@ use dmc_types::config::{AtLimit, QueueConfig};
 pub enum Kind {
     /// The plain queue.
     PlainQueue,
+    /// The plain queue, to which each client comes first while nothing else is queued.
+    BusyPlainQueue,
     /// The indexed queue over sorted vectors.
     ListQueue,
     /// The indexed queue over heaps.
@@ -32,12 +34,13 @@ pub enum Kind {
     Ratios,
 }
 
-/// A load: what is measured, with how many clients or keys, and how often.
+/// A load: what is measured, with how many clients or keys, how often, and with which limit of each client.
 #[derive(Clone, Copy, Debug, PartialEq, Eq)]
 pub struct Load {
     pub kind: Kind,
     pub clients: u32,
     pub rounds: u32,
+    pub limit: Option<u32>,
 }
 
 /// Why a load does not run.
@@ -53,13 +56,14 @@ pub enum Fault {
 
 /// The load that the words name.
 pub fn read_load(words: &[String]) -> Result<Load, Fault> {
-    let [kind, clients, rounds] = words else {
+    let [kind, clients, rounds, rest @ ..] = words else {
         return Err(Fault::Usage);
     };
     Ok(Load {
         kind: kind_of(kind.as_str())?,
         clients: number_of(clients.as_str())?,
         rounds: number_of(rounds.as_str())?,
+        limit: limit_of(rest)?,
     })
 }
 
@@ -67,12 +71,22 @@ pub fn read_load(words: &[String]) -> Result<Load, Fault> {
 fn kind_of(word: &str) -> Result<Kind, Fault> {
     match word {
         "plain" => Ok(Kind::PlainQueue),
+        "plain-busy" => Ok(Kind::BusyPlainQueue),
         "list" => Ok(Kind::ListQueue),
         "heap" => Ok(Kind::HeapQueue),
         "list-index" => Ok(Kind::ListIndex),
         "heap-index" => Ok(Kind::HeapIndex),
         "ticks" => Ok(Kind::Ticks),
         "ratios" => Ok(Kind::Ratios),
+        _ => Err(Fault::Usage),
+    }
+}
+
+/// The limit that the last words name: one word, or none.
+fn limit_of(words: &[String]) -> Result<Option<u32>, Fault> {
+    match words {
+        [] => Ok(None),
+        [limit] => Ok(Some(number_of(limit.as_str())?)),
         _ => Err(Fault::Usage),
     }
 }
@@ -85,7 +99,9 @@ fn number_of(word: &str) -> Result<u32, Fault> {
 /// Runs a load, tells what each part of it took, and answers its checksum.
 pub fn run_load(rt: &HostRuntime, load: Load) -> Result<u64, Fault> {
     match load.kind {
-        Kind::PlainQueue | Kind::ListQueue | Kind::HeapQueue => run_queue(rt, load),
+        Kind::PlainQueue | Kind::BusyPlainQueue | Kind::ListQueue | Kind::HeapQueue => {
+            run_queue(rt, load)
+        }
         Kind::ListIndex => use_index::<ListIndex<TagRank<TickTag>>>(rt, load),
         Kind::HeapIndex => use_index::<IndexedHeap<TagRank<TickTag>>>(rt, load),
         Kind::Ticks => sum_tags::<TickTag>(rt, load, TickTag::new(333), TickTag::new(167)),
@@ -98,9 +114,9 @@ pub fn run_load(rt: &HostRuntime, load: Load) -> Result<u64, Fault> {
     }
 }
 
-/// Runs a load of a queue of tick tags, with 1,000,000 ticks a second.
+/// Runs a load of a queue of tick tags.
 fn run_queue(rt: &HostRuntime, load: Load) -> Result<u64, Fault> {
-    let config = QueueConfig::new(1_000_000, 1, 1, AtLimit::Wait).map_err(|_| Fault::Usage)?;
+    let config = QueueConfig::new(HZ as u64, 1, 1, AtLimit::Wait).map_err(|_| Fault::Usage)?;
     match load.kind {
         Kind::ListQueue => {
             let mut queue: PullQueue<TickTag, ListIndexes> = PullQueue::new(rt.alloc(), config);
@@ -109,6 +125,10 @@ fn run_queue(rt: &HostRuntime, load: Load) -> Result<u64, Fault> {
         Kind::HeapQueue => {
             let mut queue: PullQueue<TickTag, HeapIndexes> = PullQueue::new(rt.alloc(), config);
             serve_queue(rt, &mut queue, load)
+        }
+        Kind::BusyPlainQueue => {
+            let mut queue: PlainQueue<TickTag> = PlainQueue::new(rt.alloc(), config);
+            serve_busy_queue(rt, &mut queue, load)
         }
         _ => {
             let mut queue: PlainQueue<TickTag> = PlainQueue::new(rt.alloc(), config);

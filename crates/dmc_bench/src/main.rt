@@ -1,4 +1,4 @@
-//! Loads that are measured: `dmc_bench LOAD CLIENTS ROUNDS` runs a load and writes a checksum of its answers to standard
+//! Loads that are measured: `dmc_bench LOAD CLIENTS ROUNDS [LIMIT]` runs a load and writes a checksum of its answers to standard
 //! output. To standard error it writes a line for each part of the load: its name, how many calls it made, and how many
 //! nanoseconds they took.
 #![tactic(auto)]
@@ -19,7 +19,7 @@ fn main(rt: HostRuntime) -> ExitCode {
         Ok(()) => ExitCode::SUCCESS,
         Err(Fault::Usage) => {
             let _ = eprintln!(&rt;
-                "usage: dmc_bench plain|list|heap|list-index|heap-index|ticks|ratios CLIENTS ROUNDS"
+                "usage: dmc_bench plain|plain-busy|list|heap|list-index|heap-index|ticks|ratios CLIENTS ROUNDS [LIMIT]"
             );
             ExitCode::from(2)
         }

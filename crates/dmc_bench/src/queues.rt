@@ -8,6 +8,10 @@ use dmc_types::ids::{ClientId, Token};
 use dmc_types::info::ClientInfo;
 use dmc_types::moment::Moment;
 use dmc_types::params::ReqParams;
+use dmc_types::refusal::QueueFault;
+
+/// Ticks a second.
+pub const HZ: u32 = 1_000_000;
 
 /// Registers the clients, queues a request of each at one moment, and then serves them in batches: pulls, and another
 /// request of each client that was granted. Answers a checksum of the grants.
@@ -17,7 +21,7 @@ pub fn serve_queue<T: Tag, Q: Scheduler<T>>(
     load: Load,
 ) -> Result<u64, Fault> {
     let begun = start(rt)?;
-    register_all(queue, load.clients)?;
+    register_all(queue, load)?;
     tell(rt, "register", load.clients, add_since(rt, begun, 0)?)?;
     let begun = start(rt)?;
     for id in 0..load.clients {
@@ -27,14 +31,41 @@ pub fn serve_queue<T: Tag, Q: Scheduler<T>>(
     serve(rt, queue, load)
 }
 
+/// The same, but each client's first request comes and is granted while nothing else is queued: no one is shifted then.
+pub fn serve_busy_queue<T: Tag, Q: Scheduler<T>>(
+    rt: &HostRuntime,
+    queue: &mut Q,
+    load: Load,
+) -> Result<u64, Fault> {
+    register_all(queue, load)?;
+    let begun = start(rt)?;
+    for id in 0..load.clients {
+        add(queue, ClientId(id), Moment::zero())?;
+        let _granted = queue.pull_request(Moment::zero());
+    }
+    tell(rt, "alone", load.clients, add_since(rt, begun, 0)?)?;
+    for id in 0..load.clients {
+        add(queue, ClientId(id), Moment::zero())?;
+    }
+    serve(rt, queue, load)
+}
+
 /// Registers the clients 0, 1, and so on.
-fn register_all<T: Tag, Q: Scheduler<T>>(queue: &mut Q, clients: u32) -> Result<(), Fault> {
-    let info = ClientInfo::new(Some(10), 1, None).map_err(|_| Fault::Usage)?;
-    for id in 0..clients {
+fn register_all<T: Tag, Q: Scheduler<T>>(queue: &mut Q, load: Load) -> Result<(), Fault> {
+    let info = ClientInfo::new(Some(10), 1, load.limit).map_err(|_| Fault::Usage)?;
+    for id in 0..load.clients {
         let registered = queue.register(ClientId(id), info, Moment::zero());
-        registered.map_err(|_| Fault::Memory)?;
+        registered.map_err(fault_of)?;
     }
     Ok(())
+}
+
+/// Why a call of a queue ends a load: a limit may have no whole spacing.
+fn fault_of(fault: QueueFault) -> Fault {
+    match fault {
+        QueueFault::Refused(_) => Fault::Usage,
+        QueueFault::Memory => Fault::Memory,
+    }
 }
 
 /// Queues a request.
@@ -42,7 +73,15 @@ fn add<T: Tag, Q: Scheduler<T>>(queue: &mut Q, client: ClientId, at: Moment) -> 
     let params = ReqParams::new(1, 1).map_err(|_| Fault::Usage)?;
     match queue.add_request(client, Token(client.0), params, at) {
         Ok(_) => Ok(()),
-        Err(_) => Err(Fault::Memory),
+        Err(fault) => Err(fault_of(fault)),
+    }
+}
+
+/// The ticks from one batch to the next: half the spacing of the limit, so that about half of the clients are due at each.
+fn step_of(limit: Option<u32>) -> u64 {
+    match limit {
+        None => 1,
+        Some(limit) => HZ.checked_div(limit).unwrap_or(0) as u64 / 2,
     }
 }
 
@@ -55,11 +94,13 @@ fn serve<T: Tag, Q: Scheduler<T>>(
     let batch = (load.clients / 2 + 1).min(load.rounds);
     let batches = load.rounds.checked_div(batch).unwrap_or(0);
     let mut granted = Vec::with_capacity(rt.alloc(), batch as usize).map_err(|_| Fault::Memory)?;
+    let step = step_of(load.limit);
     let mut pulling = 0;
     let mut adding = 0;
     let mut checksum = 0;
     for round in 0..batches {
-        let at = Moment::new(round as u64).map_err(|_| Fault::Usage)?;
+        let ticks = step.saturating_mul(round as u64);
+        let at = Moment::new(ticks).map_err(|_| Fault::Usage)?;
         let begun = start(rt)?;
         pull_all(queue, batch, at, &mut granted)?;
         pulling = add_since(rt, begun, pulling)?;

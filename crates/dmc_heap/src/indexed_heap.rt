@@ -1,5 +1,5 @@
 //! An index as a binary heap and a place for each key.
-ghost use Rattle.std.specs.Prelude.{◌≡◌, ◌≢◌, ◌<◌, ◌/◌, length, slice_set};
+ghost use Rattle.std.specs.Prelude.{◌≡◌, ◌≢◌, ◌<◌, ◌≤◌, ◌/◌, length, slice_set};
 ghost use Rattle.std.specs.List.{All};
 ghost use Rattle.dmc_heap.specs.Heap.{IsHole, IsMoved, IsUnderParent, IsOverChildren, IsLowerChild, IsSettled, MapsEntries};
 
@@ -129,6 +129,39 @@ fn settle<R: Rank>(heap: &mut [Entry<R>], places: &mut [usize], at: usize, entry
     put(heap, places, place, entry);
 }
 
+// Moves the hole for an entry down to a leaf, past the child with the lower rank each time.
+fn descend<R: Rank>(
+    heap: &mut [Entry<R>],
+    places: &mut [usize],
+    mut at: usize,
+    entry: Entry<R>,
+) -> usize
+    requires { IsHole R.cmp heap.old places.old at entry }
+    ensures hole { IsHole R.cmp heap.new places.new result entry }
+    ensures moved { IsMoved heap.old places.old at entry heap.new places.new result }
+    ensures leaf { length heap.new / 2 ≤ result }
+{
+    let leaves = heap.len() / 2;
+    while at < leaves {
+        let child = lower_child(heap, at);
+        let lower = heap[child];
+        put(heap, places, at, lower);
+        at = child;
+    }
+    at
+}
+
+// Moves the hole for an entry to where the entry belongs, by way of a leaf, and fills it. An entry that was last mostly
+// belongs far down: for it this takes about half as many comparisons as a search from the hole on.
+fn settle_by_leaf<R: Rank>(heap: &mut [Entry<R>], places: &mut [usize], at: usize, entry: Entry<R>)
+    requires { IsHole R.cmp heap.old places.old at entry }
+    ensures { IsSettled R.cmp heap.old places.old at entry heap.new places.new }
+{
+    let leaf = descend(heap, places, at, entry);
+    let place = rise(heap, places, leaf, entry);
+    put(heap, places, place, entry);
+}
+
 // Maps each rank.
 fn map_entries<R: Rank, F: Fn(R) -> R>(entries: &mut [Entry<R>], f: F)
     requires { All (λ entry. F.pre f entry.rank) entries.old }
@@ -175,7 +208,7 @@ impl<R: Rank> OrderIndex<R> for IndexedHeap<R> {
         let last = self.heap.pop().unwrap();
         self.places[key] = VACANT;
         if at < self.heap.len() {
-            settle(&mut self.heap, &mut self.places, at, last);
+            settle_by_leaf(&mut self.heap, &mut self.places, at, last);
         }
         removed.rank
     }

@@ -20,7 +20,7 @@ use Rattle.dmc_roster.specs.Entries.{Entry, Listing, entry_named, entry_keyed, r
 use Rattle.dmc_index.specs.Index.{held}
 use Rattle.dmc_heads.specs.declared.head.Head.{Head}
 use Rattle.dmc_heads.specs.Heads.{CanShift, IsOthers}
-use Rattle.dmc_pull.specs.Queue.{Queue, IsQueue, IsKept, AreHeads, head_of, unready}
+use Rattle.dmc_pull.specs.Queue.{Queue, IsQueue, IsKept, AreHeads, head_of, head_at, unready}
 use Rattle.dmc_pull.specs.Standing.{clients_in, requests_in}
 use Rattle.dmc_pull.proofs.Parts.{all_as, all_both, all_append, found_holds, found_passes}
 use Rattle.dmc_pull.proofs.Entries.{Differs, split, name_is, all_changed}
@@ -103,7 +103,7 @@ module _ {T : Type 0} {ops : Tagging T} {value : T → Type 0} {hz t : ℕ} {shi
     }
 
     abbrev head : Head T
-    head = record { client = e.id; tags = request.tags; ready = false }
+    head = head_at ops at e.id request.tags
 
     -- it had none, and gets one
     pub heads_first : (length e.rec.requests == 0) ≡ true → AreHeads ops at came (slice_set heads key (Some head))
@@ -121,9 +121,8 @@ module _ {T : Type 0} {ops : Tagging T} {value : T → Type 0} {hz t : ℕ} {shi
       mark_at : (k : ℕ) (h : Head T) (b : Bool) → (k == key) ≡ b → held (slice_set heads key (Some head)) k ≡ Some h → h.ready ≡ true → is_due ops at (Some h.tags.l) ≡ true
       mark_at k h true same p r =
           let one : Some h ≡ Some head = sym p ∙ ap (held (slice_set heads key (Some head))) (eqb-true k key same) ∙ get_or-set_same heads key (Some head) None within in
-          let unready_is : h.ready ≡ false = cc (one) in
-          let no : true ≡ false = sym r ∙ unready_is in
-          cc (no)
+          let own : head ≡ h = cc (one) in
+          subst (λ x. x.ready ≡ true → is_due ops at (Some x.tags.l) ≡ true) own (λ due. due) r
       mark_at k h false other p r = due_later h.tags.l (after.moved.heads_are.marks k h (sym (get_or-set_other heads key k (Some head) None (eqb-false k key other)) ∙ p) r)
 
 -- ---- the queue that it is
@@ -167,8 +166,8 @@ module _ {T : Type 0} {ops : Tagging T} (fraction : T → Fraction) (is_value : 
       pub with_more : (length e.rec.requests == 0) ≡ false → IsQueue ops fraction is_value (record { config = config; roster = roster; heads = heads; last_moment = at }) (n + 1)
       with_more some = is_queue heads (heads_more after later due_from some) refl
 
-      pub with_first : (length e.rec.requests == 0) ≡ true → IsQueue ops fraction is_value (record { config = config; roster = roster; heads = slice_set heads key (Some (record { client = e.id; tags = request.tags; ready = false })); last_moment = at }) (n + 1)
-      with_first none = is_queue _ (heads_first after later due_from none) (length-set heads key (Some (record { client = e.id; tags = request.tags; ready = false })))
+      pub with_first : (length e.rec.requests == 0) ≡ true → IsQueue ops fraction is_value (record { config = config; roster = roster; heads = slice_set heads key (Some (head_at ops at e.id request.tags)); last_moment = at }) (n + 1)
+      with_first none = is_queue _ (heads_first after later due_from none) (length-set heads key (Some (head_at ops at e.id request.tags)))
 
   -- the plain state of the queue, and of one that keeps its requests in order of arrival
   pub stands : (last : ℕ) → StandsFor (record { config = config; requests = requests_in roster.entries; clients = clients_in roster.entries; last_moment = at }) (queued (shifted_by ops shift (record { config = config; requests = requests_in es; clients = clients_in es; last_moment = last })) (record { client = e.id; token = request.token; tags = request.tags }) at)

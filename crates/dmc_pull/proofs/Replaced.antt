@@ -17,7 +17,7 @@ use Rattle.dmc_adjust.specs.Changes.{popped, reduced}
 use Rattle.dmc_index.specs.Index.{held}
 use Rattle.dmc_heads.specs.declared.head.Head.{Head}
 use Rattle.dmc_pull.specs.Standing.{requests_in}
-use Rattle.dmc_pull.specs.Queue.{Queue, IsQueue, IsKept, AreHeads, head_of, unready, unready_head}
+use Rattle.dmc_pull.specs.Queue.{Queue, IsQueue, IsKept, AreHeads, head_of, unready, unready_head, head_at}
 use Rattle.dmc_pull.specs.Choice.{first_of, after_grant, IsFirstOf}
 use Rattle.dmc_pull.proofs.Entries.{Split, split, key_is, all_changed, length_whole, length_as}
 use Rattle.dmc_pull.proofs.Keyed.{keyed_changed, read_changed, read_other}
@@ -144,13 +144,13 @@ module _ {T : Type 0} (ops : Tagging T) (fraction : T → Fraction) (is_value : 
 
   -- ---- the queue after a grant
 
-  head_renewed : (id client : ClientId) → client ≡ id → (x : Option (QueuedRequest T)) → option_map unready (option_map (unready_head client) (option_map (λ r. r.tags) x)) ≡ option_map (λ r. unready_head id r.tags) x
-  head_renewed id client e None = refl
-  head_renewed id client e (Some r) = ap (λ c. Some (unready_head c r.tags)) e
+  head_renewed : (at : ℕ) (id client : ClientId) → client ≡ id → (x : Option (QueuedRequest T)) → option_map unready (option_map (head_at ops at client) (option_map (λ r. r.tags) x)) ≡ option_map (λ r. unready_head id r.tags) x
+  head_renewed at id client e None = refl
+  head_renewed at id client e (Some r) = ap (λ c. Some (unready_head c r.tags)) e
 
-  head_unready : (client : ClientId) (tags : Option (Tags T)) (h : Head T) {P : Type 0} → option_map (unready_head client) tags ≡ Some h → h.ready ≡ true → P
-  head_unready client None h e r = cc
-  head_unready client (Some tags) h e r = let own : unready_head client tags ≡ h = cc (e) in let no : false ≡ true = ap (λ x. x.ready) own ∙ r in cc
+  head_due : (at : ℕ) (client : ClientId) (tags : Option (Tags T)) (h : Head T) → option_map (head_at ops at client) tags ≡ Some h → h.ready ≡ true → is_due ops at (Some h.tags.l) ≡ true
+  head_due at client None h e r = cc
+  head_due at client (Some tags) h e r = let own : head_at ops at client tags ≡ h = cc (e) in subst (λ x. x.ready ≡ true → is_due ops at (Some x.tags.l) ≡ true) own (λ due. due) r
 
   module _ (due_from : (tag : T) (n : ℕ) → is_due ops n (Some tag) ≡ nat_le (moment_of (ops.ceil tag)) n) (q : Queue T) (queued : ℕ) (key : ℕ) (client : ClientId) (reduces : Bool) (at : ℕ) (d : AreDistinct q.roster.entries) (is : IsQueue ops fraction is_value q queued) (waiting : Waits q.roster.entries key client) where
     split_of : Split key waiting.entry q.roster.entries
@@ -179,11 +179,11 @@ module _ {T : Type 0} (ops : Tagging T) (fraction : T → Fraction) (is_value : 
     pub one_at_least : 1 ≤ queued
     one_at_least = omega (arith, is.counted, size)
 
-    granted_to : q.last_moment ≤ at → IsRecord ops left → (heads : List (Option (Head T))) → heads ≡ slice_set q.heads key (option_map (unready_head client) (option_map (λ r. r.tags) (slice_get left.requests 0))) → IsQueue ops fraction is_value (record { config = q.config; roster = with_record_at q.roster key left; heads = heads; last_moment = at }) (queued - 1)
+    granted_to : q.last_moment ≤ at → IsRecord ops left → (heads : List (Option (Head T))) → heads ≡ slice_set q.heads key (option_map (head_at ops at client) (option_map (λ r. r.tags) (slice_get left.requests 0))) → IsQueue ops fraction is_value (record { config = q.config; roster = with_record_at q.roster key left; heads = heads; last_moment = at }) (queued - 1)
     granted_to later whole heads e = subst (λ hs. IsQueue ops fraction is_value (record { config = q.config; roster = with_record_at q.roster key left; heads = hs; last_moment = at }) (queued - 1)) (sym e) (record {
       kept = all_changed split_of (λ e. IsKept ops fraction is_value q.config.hz e.rec) left is.kept (grant_kept q.config.hz reduces waiting.entry.rec own_kept whole);
-      heads = replaced ops at split_of q.heads (marks_later ops due_from q.last_moment at q.roster.entries q.heads later is.heads) own_room left _ (head_renewed waiting.entry.id client waiting.client_is (slice_get left.requests 0)) (λ h f r. head_unready client (option_map (λ r. r.tags) (slice_get left.requests 0)) h f r);
-      in_room = subst (λ n. AllByRecursion (λ e. e.key < n) (with_record key left q.roster.entries)) (sym (set_length q.heads key (option_map (unready_head client) (option_map (λ r. r.tags) (slice_get left.requests 0))))) (all_changed split_of (λ e. e.key < length q.heads) left is.in_room (subst (λ n. n < length q.heads) (sym (key_is split_of)) own_room));
+      heads = replaced ops at split_of q.heads (marks_later ops due_from q.last_moment at q.roster.entries q.heads later is.heads) own_room left _ (head_renewed at waiting.entry.id client waiting.client_is (slice_get left.requests 0)) (λ h f r. head_due at client (option_map (λ r. r.tags) (slice_get left.requests 0)) h f r);
+      in_room = subst (λ n. AllByRecursion (λ e. e.key < n) (with_record key left q.roster.entries)) (sym (set_length q.heads key (option_map (head_at ops at client) (option_map (λ r. r.tags) (slice_get left.requests 0))))) (all_changed split_of (λ e. e.key < length q.heads) left is.in_room (subst (λ n. n < length q.heads) (sym (key_is split_of)) own_room));
       counted = omega (arith, is.counted, size);
       bound = omega (arith, is.bound);
     })
@@ -197,9 +197,9 @@ module _ {T : Type 0} (ops : Tagging T) (fraction : T → Fraction) (is_value : 
     pub held_after : (roster : Listing T) → IfSome (record_at key q.roster.entries) (λ rec. roster ≡ with_record_at q.roster key (after_grant ops reduces rec)) → is_some (entry_keyed key roster.entries) ≡ true
     held_after roster h = subst (λ r. is_some (entry_keyed key r.entries) ≡ true) (sym (roster_after roster h)) (ap is_some (keyed_changed split_of left))
 
-    pub granted : q.last_moment ≤ at → (roster : Listing T) → IfSome (record_at key q.roster.entries) (λ rec. roster ≡ with_record_at q.roster key (after_grant ops reduces rec)) → IfSome (record_at key q.roster.entries) (λ rec. IsRecord ops (after_grant ops reduces rec)) → (tags : Option (Tags T)) → tags ≡ option_and_then (λ rec. option_map (λ r. r.tags) (slice_get rec.requests 0)) (record_at key roster.entries) → (heads : List (Option (Head T))) → heads ≡ slice_set q.heads key (option_map (unready_head client) tags) → IsQueue ops fraction is_value (record { config = q.config; roster = roster; heads = heads; last_moment = at }) (queued - 1)
+    pub granted : q.last_moment ≤ at → (roster : Listing T) → IfSome (record_at key q.roster.entries) (λ rec. roster ≡ with_record_at q.roster key (after_grant ops reduces rec)) → IfSome (record_at key q.roster.entries) (λ rec. IsRecord ops (after_grant ops reduces rec)) → (tags : Option (Tags T)) → tags ≡ option_and_then (λ rec. option_map (λ r. r.tags) (slice_get rec.requests 0)) (record_at key roster.entries) → (heads : List (Option (Head T))) → heads ≡ slice_set q.heads key (option_map (head_at ops at client) tags) → IsQueue ops fraction is_value (record { config = q.config; roster = roster; heads = heads; last_moment = at }) (queued - 1)
     granted later roster r whole tags t heads h =
         let same = roster_after roster r in
         let kept : IsRecord ops left = subst (λ o. IfSome o (λ rec. IsRecord ops (after_grant ops reduces rec))) own_record whole in
         let own : tags ≡ option_map (λ r. r.tags) (slice_get left.requests 0) = t ∙ ap (λ x. option_and_then (λ rec. option_map (λ r. r.tags) (slice_get rec.requests 0)) (record_at key x.entries)) same ∙ ap (option_and_then (λ rec. option_map (λ r. r.tags) (slice_get rec.requests 0))) left_at in
-        subst (λ x. IsQueue ops fraction is_value (record { config = q.config; roster = x; heads = heads; last_moment = at }) (queued - 1)) (sym same) (granted_to later kept heads (h ∙ ap (λ o. slice_set q.heads key (option_map (unready_head client) o)) own))
+        subst (λ x. IsQueue ops fraction is_value (record { config = q.config; roster = x; heads = heads; last_moment = at }) (queued - 1)) (sym same) (granted_to later kept heads (h ∙ ap (λ o. slice_set q.heads key (option_map (head_at ops at client) o)) own))

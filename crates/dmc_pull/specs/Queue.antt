@@ -35,6 +35,10 @@ unready h = record h { ready = false }
 abbrev pub unready_head : {T : Type 0} → ClientId → Tags T → Head T
 unready_head client tags = record { client = client; tags = tags; ready = false }
 
+-- marked ready where its L is not past
+abbrev pub head_at : {T : Type 0} → Tagging T → ℕ → ClientId → Tags T → Head T
+head_at ops t client tags = record { client = client; tags = tags; ready = is_due ops t (Some tags.l) }
+
 -- the client's first request, unready
 abbrev pub head_of : {T : Type 0} → Entry T → Option (Head T)
 head_of e = option_map (λ r. unready_head e.id r.tags) (slice_get e.rec.requests 0)

@@ -24,26 +24,31 @@ pub fn is_due<T: Tag>(tag: Option<T>, at: Moment) -> bool
     }
 }
 
-/// The head of a client after its first request left: that of the next request, unready, or none.
+/// A client's head at a moment, marked ready where its L is not past then: so it need not be marked by a later pull.
+pub fn head_at<T: Tag>(client: ClientId, tags: Tags<T>, at: Moment) -> Head<T>
+    ensures { result ≡ queue_of.head_at T.ops at client tags }
+{
+    Head {
+        client,
+        tags,
+        ready: is_due(Some(tags.l), at),
+    }
+}
+
+/// The head of a client after its first request left: that of the next request, or none.
 pub fn renew<T: Tag, I: Indexes<T>>(
     heads: &mut Heads<T, I>,
     key: usize,
     client: ClientId,
     tags: Option<Tags<T>>,
+    at: Moment,
 )
     requires { option_map (λ h. h.client) (held heads.old key) ≡ Some client }
-    ensures { heads.new ≡ slice_set heads.old key (option_map (queue_of.unready_head client) tags) }
+    ensures { heads.new ≡ slice_set heads.old key (option_map (queue_of.head_at T.ops at client) tags) }
 {
     match tags {
         None => heads.remove(key),
-        Some(tags) => heads.change(
-            key,
-            Head {
-                client,
-                tags,
-                ready: false,
-            },
-        ),
+        Some(tags) => heads.change(key, head_at(client, tags, at)),
     }
 }
 

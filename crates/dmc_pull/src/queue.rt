@@ -26,14 +26,13 @@ ghost use Rattle.dmc_types.specs.declared.config.PhaseType.TheVariants as phases
 
 use crate::adding::{Addition, Shiftable, shift_others, unless_nothing};
 use crate::cleaning::{age_all, count_erased, count_idled};
-use crate::heads::{clear, due_moment, is_due, renew};
+use crate::heads::{clear, due_moment, head_at, is_due, renew};
 use crate::records::{drain_at, first_tags, grant_first, is_busy, push_at, set_info_at};
 use dmc_adjust::adjustment::shift_for;
 use dmc_adjust::reduction::can_reduce;
 use dmc_assign::assignment::tags_for;
 use dmc_client::record::ClientRec;
 use dmc_client::request::QueuedRequest;
-use dmc_heads::head::Head;
 use dmc_heads::heads::Heads;
 use dmc_index::index::Indexes;
 use dmc_roster::roster::Roster;
@@ -261,7 +260,7 @@ impl<T: Tag, I: Indexes<T>> PullQueue<T, I> {
         self.tell_distinct();
         let request = grant_first(&mut self.roster, key, reduces).unwrap();
         let tags = first_tags(&self.roster, key);
-        renew(&mut self.heads.0, key, client, tags);
+        renew(&mut self.heads.0, key, client, tags, at);
         self.queued -= 1;
         self.last_moment = at;
         request.token
@@ -594,14 +593,7 @@ impl<T: Tag, I: Indexes<T>> PullQueue<T, I> {
         }
         shift_others(&mut self.roster, &mut self.heads.0, shift, key);
         if is_first {
-            self.heads.0.insert(
-                key,
-                Head {
-                    client,
-                    tags,
-                    ready: false,
-                },
-            );
+            self.heads.0.insert(key, head_at(client, tags, at));
         }
         self.queued += 1;
         self.last_moment = at;

@@ -1,11 +1,12 @@
-use Rattle.std.proofs.Common.{◌≡◌, sym, ap, ◌∙◌, subst, Some, true, false}
+use Rattle.std.proofs.Common.{◌≡◌, sym, ap, ◌∙◌, subst, Some, true}
 use Rattle.std.specs.Prelude.{is_some, IsSome, IfSome, ◌==◌, ◌≤◌, ◌<◌, ◌+◌, slice_set, length}
 use Rattle.dmc_client.specs.declared.request.QueuedRequest.{QueuedRequest}
+use Rattle.dmc_heads.specs.declared.head.Head.{Head}
 use Rattle.dmc_heads.specs.Heads.{IsOthers}
 use Rattle.dmc_roster.specs.Entries.{entry_keyed, entry_named, record_at}
 use Rattle.dmc_tag.specs.State.{StandsFor}
 use Rattle.dmc_tag.specs.Rules.{can_shift_by, shifted_by, queued}
-use Rattle.dmc_pull.specs.Queue.{Queue, IsQueue, state_of}
+use Rattle.dmc_pull.specs.Queue.{Queue, IsQueue, head_at, state_of}
 use Rattle.dmc_pull.specs.Standing.{clients_in, requests_in}
 use Rattle.dmc_pull.proofs.Adds.{record_is}
 use Rattle.dmc_pull.proofs.Arrived.{of_client, heads_can_shift, after_calls, within, vacant, apart, with_first, with_more, stands}
@@ -72,7 +73,7 @@ insert-requires-clause-apart g c =
     let request : QueuedRequest g.row.T.Denot = record { token = c.args.token; tags = c.args.addition.tags } in
     let idle = subst (λ q. IsSome shift → IfSome (record_at key q.roster.entries) (λ rec. rec.idle ≡ true)) (sym c.self.view_is) c.requires.idle in
     let after = after_calls of c.tags_are_values.ensures.differences request c.args.at c.push_at.result (sym c.if-is_err.ensures.value) c.push_at.new.roster c.push_at.ensures.ok c.push_at.ensures.kept shift idle can c.shift_others.new.roster.entries c.shift_others.ensures.entries c.shift_others.ensures.kept c.shift_others.new.heads c.shift_others.ensures.firsts in
-    subst (IsOthers c.shift_others.new.heads key) of.id (apart after)
+    subst (λ (head : Head g.row.T.Denot). IsOthers c.shift_others.new.heads key head.client) (sym c.head_at.ensures) (subst (IsOthers c.shift_others.new.heads key) of.id (apart after))
 
 pub invariant_of-self-2 : goal.invariant_of-self-2
 invariant_of-self-2 g c =
@@ -97,8 +98,8 @@ invariant_of-self-2 g c =
     elim c.if-is_first.branch [
       | then-is_first w ↦
           let first = with_first fraction is_value inside.config c.shift_others.new.roster after inside.queued c.self.invariant.counted room c.requires.value later c.a_tag_is_due_from_its_ceil.ensures (sym empty ∙ w.if-is_first.true) in
-          let named = subst (λ id. IsQueue ops fraction is_value (record { config = inside.config; roster = c.shift_others.new.roster; heads = slice_set c.shift_others.new.heads key (Some (record { client = id; tags = request.tags; ready = false })); last_moment = at }) (inside.queued + 1)) of.id first in
-          rw (w.self-inside-is, w.insert.ensures) named
+          let named = subst (λ id. IsQueue ops fraction is_value (record { config = inside.config; roster = c.shift_others.new.roster; heads = slice_set c.shift_others.new.heads key (Some (head_at ops at id request.tags)); last_moment = at }) (inside.queued + 1)) of.id first in
+          rw (w.self-inside-is, w.insert.ensures, w.head_at.ensures) named
       | else-is_first w ↦
           let more = with_more fraction is_value inside.config c.shift_others.new.roster after inside.queued c.self.invariant.counted room c.requires.value later c.a_tag_is_due_from_its_ceil.ensures (sym empty ∙ w.if-is_first.false) in
           rw w.self-inside-is more

@@ -19,8 +19,7 @@ for clients in 10 1000 65536; do
 done
 run plain 10 1000000
 run plain 1000 10000
-# At the plain queue newcomers that shift others take long: it is filled without.
-run plain-busy 65536 2000
+run plain 65536 2000
 for clients in 10 1000 65536; do
   run heap "$clients" 1000000 100
 done

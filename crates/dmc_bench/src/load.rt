@@ -2,7 +2,7 @@
 ghost use Rattle.std.specs.Prelude.{◌≡◌, ◌+◌, ◌*◌, ◌%◌, ◌^◌};
 
 use crate::indexes::use_index;
-use crate::queues::{HZ, serve_busy_queue, serve_queue};
+use crate::queues::{HZ, serve_queue};
 use crate::sums::sum_tags;
 use dmc_heap::indexed_heap::{HeapIndexes, IndexedHeap};
 use dmc_index::list_index::{ListIndex, ListIndexes};
@@ -18,8 +18,6 @@ use dmc_types::config::{AtLimit, QueueConfig};
 pub enum Kind {
     /// The plain queue.
     PlainQueue,
-    /// The plain queue, to which each client comes first while nothing else is queued.
-    BusyPlainQueue,
     /// The indexed queue over sorted vectors.
     ListQueue,
     /// The indexed queue over heaps.
@@ -71,7 +69,6 @@ pub fn read_load(words: &[String]) -> Result<Load, Fault> {
 fn kind_of(word: &str) -> Result<Kind, Fault> {
     match word {
         "plain" => Ok(Kind::PlainQueue),
-        "plain-busy" => Ok(Kind::BusyPlainQueue),
         "list" => Ok(Kind::ListQueue),
         "heap" => Ok(Kind::HeapQueue),
         "list-index" => Ok(Kind::ListIndex),
@@ -99,9 +96,7 @@ fn number_of(word: &str) -> Result<u32, Fault> {
 /// Runs a load, tells what each part of it took, and answers its checksum.
 pub fn run_load(rt: &HostRuntime, load: Load) -> Result<u64, Fault> {
     match load.kind {
-        Kind::PlainQueue | Kind::BusyPlainQueue | Kind::ListQueue | Kind::HeapQueue => {
-            run_queue(rt, load)
-        }
+        Kind::PlainQueue | Kind::ListQueue | Kind::HeapQueue => run_queue(rt, load),
         Kind::ListIndex => use_index::<ListIndex<TagRank<TickTag>>>(rt, load),
         Kind::HeapIndex => use_index::<IndexedHeap<TagRank<TickTag>>>(rt, load),
         Kind::Ticks => sum_tags::<TickTag>(rt, load, TickTag::new(333), TickTag::new(167)),
@@ -125,10 +120,6 @@ fn run_queue(rt: &HostRuntime, load: Load) -> Result<u64, Fault> {
         Kind::HeapQueue => {
             let mut queue: PullQueue<TickTag, HeapIndexes> = PullQueue::new(rt.alloc(), config);
             serve_queue(rt, &mut queue, load)
-        }
-        Kind::BusyPlainQueue => {
-            let mut queue: PlainQueue<TickTag> = PlainQueue::new(rt.alloc(), config);
-            serve_busy_queue(rt, &mut queue, load)
         }
         _ => {
             let mut queue: PlainQueue<TickTag> = PlainQueue::new(rt.alloc(), config);

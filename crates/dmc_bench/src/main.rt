@@ -19,7 +19,7 @@ fn main(rt: HostRuntime) -> ExitCode {
         Ok(()) => ExitCode::SUCCESS,
         Err(Fault::Usage) => {
             let _ = eprintln!(&rt;
-                "usage: dmc_bench plain|plain-busy|list|heap|list-index|heap-index|ticks|ratios CLIENTS ROUNDS [LIMIT]"
+                "usage: dmc_bench plain|list|heap|list-index|heap-index|ticks|ratios CLIENTS ROUNDS [LIMIT]"
             );
             ExitCode::from(2)
         }

@@ -31,25 +31,6 @@ pub fn serve_queue<T: Tag, Q: Scheduler<T>>(
     serve(rt, queue, load)
 }
 
-/// The same, but each client's first request comes and is granted while nothing else is queued: no one is shifted then.
-pub fn serve_busy_queue<T: Tag, Q: Scheduler<T>>(
-    rt: &HostRuntime,
-    queue: &mut Q,
-    load: Load,
-) -> Result<u64, Fault> {
-    register_all(queue, load)?;
-    let begun = start(rt)?;
-    for id in 0..load.clients {
-        add(queue, ClientId(id), Moment::zero())?;
-        let _granted = queue.pull_request(Moment::zero());
-    }
-    tell(rt, "alone", load.clients, add_since(rt, begun, 0)?)?;
-    for id in 0..load.clients {
-        add(queue, ClientId(id), Moment::zero())?;
-    }
-    serve(rt, queue, load)
-}
-
 /// Registers the clients 0, 1, and so on.
 fn register_all<T: Tag, Q: Scheduler<T>>(queue: &mut Q, load: Load) -> Result<(), Fault> {
     let info = ClientInfo::new(Some(10), 1, load.limit).map_err(|_| Fault::Usage)?;

@@ -3,8 +3,8 @@ ghost use Rattle.std.specs.Prelude.{◌≡◌, ◌≤◌, ◌++◌, ◌||◌, ma
 ghost use Rattle.std.specs.Option.{option_map};
 ghost use Rattle.dmc_tag.specs.State.{is_client};
 ghost use Rattle.dmc_tag.specs.Rules as rules_of;
+ghost use Rattle.dmc_plain.specs.Active.{less_share};
 
-use crate::clients::is_active;
 use crate::requests::has_queued;
 use dmc_tag::assignment::previous_after;
 use dmc_tag::plain::{PlainClient, PlainRequest, Previous};
@@ -118,20 +118,16 @@ impl<T: Tag> Change<PlainClient<T>> for ClientShift<T> {
     }
 }
 
-/// An adjustment of the requests of clients that are not idle.
+/// An adjustment of a request, whose client is not idle.
 #[derive(Drop)]
-pub struct RequestShift<'a, T> {
+pub struct RequestShift<T> {
     pub amount: T,
-    pub clients: &'a [PlainClient<T>],
 }
 
-impl<'a, T: Tag> Change<PlainRequest<T>> for RequestShift<'a, T> {
-    ghost changed = { λ s r. rules_of.shifted_request T.ops s.amount s.clients.now r };
+impl<T: Tag> Change<PlainRequest<T>> for RequestShift<T> {
+    ghost changed = { λ s r. less_share T.ops s.amount r };
 
     fn apply(&self, request: PlainRequest<T>) -> PlainRequest<T> {
-        if !is_active(self.clients, request.client) {
-            return request;
-        }
         let p = less(request.tags.p, self.amount);
         let tags = Tags { p, ..request.tags };
         PlainRequest { tags, ..request }

@@ -20,13 +20,6 @@ pub fn client_named<T: Copy>(clients: &[PlainClient<T>], id: ClientId) -> Option
     None
 }
 
-/// Whether the client is registered and not idle.
-pub fn is_active<T>(clients: &[PlainClient<T>], id: ClientId) -> bool
-    ensures { result ≡ state.is_active id clients.now }
-{
-    clients.iter().any(|client| client.id == id && !client.idle)
-}
-
 /// Whether each shifted previous tag is a value.
 pub fn can_shift<T: Tag>(clients: &[PlainClient<T>], amount: T) -> bool
     ensures { result ≡ rules_of.clients_can_shift T.ops amount clients.now }

@@ -1,11 +1,12 @@
 //! The plain queue.
-ghost use Rattle.std.specs.Prelude.{◌≡◌, ◌<◌, length, Some, OnOk, OnErr, IsOkUnless, ◌≤◌, ◌++◌, take, drop, vec_len, slice_get, remove, ◌==◌};
+ghost use Rattle.std.specs.Prelude.{◌≡◌, ◌<◌, length, Some, true, is_some, OnOk, OnErr, IsOkUnless, ◌≤◌, ◌++◌, take, drop, vec_len, slice_get, remove, ◌==◌};
 ghost use Rattle.std.specs.Option.{option_map_or};
 ghost use Rattle.dmc_tag.specs.declared.reply.Pulled.TheVariants as pulls;
 ghost use Rattle.dmc_tag.specs.Answers.{told, told_surely, pull_reply, clean_reply};
 ghost use Rattle.dmc_tag.specs.Rules as rules_of;
-ghost use Rattle.dmc_tag.specs.State.{State, opening, effective};
+ghost use Rattle.dmc_tag.specs.State.{State, opening, effective, client_named};
 ghost use Rattle.dmc_tag.specs.Steps.{Exactly};
+ghost use Rattle.dmc_plain.specs.Active.{less_shares};
 ghost use Rattle.dmc_plain.specs.Sets.{found_at, grants_early, Settles};
 ghost use Rattle.dmc_types.specs.declared.command.Command.TheVariants as commands;
 ghost use Rattle.dmc_tag.specs.declared.reply.Reply.TheVariants as replies;
@@ -52,12 +53,13 @@ pub struct PlainQueue<T> {
 impl<T> Model for PlainQueue<T> {
     ghost use Rattle.std.specs.Prelude.{◌≤◌, length};
     ghost use Rattle.dmc_tag.specs.State.{State};
+    ghost use Rattle.dmc_plain.specs.Active.{AreActive};
 
     ghost Value = { State T };
 
     ghost view = { λ q. record { config = q.config; requests = q.requests.items; clients = q.clients.items; last_moment = q.last_moment } };
 
-    ghost invariant = { λ q. (length q.requests.items ≤ 1048576) × (length q.clients.items ≤ 65536) };
+    ghost invariant = { λ q. (length q.requests.items ≤ 1048576) × (length q.clients.items ≤ 65536) × AreActive q.clients.items q.requests.items };
 }
 
 impl<T> PlainQueue<T> {
@@ -171,7 +173,7 @@ impl<T: Tag> PlainQueue<T> {
         match shift {
             None => true,
             Some(amount) => {
-                requests::can_shift(&self.requests, &self.clients, amount)
+                requests::can_shift(&self.requests, amount)
                     && clients::can_shift(&self.clients, amount)
             }
         }
@@ -186,6 +188,7 @@ impl<T: Tag> PlainQueue<T> {
     ) -> Result<(Option<T>, Tags<T>), Refusal>
         ensures outcome { result ≡ rules_of.can_add T.ops self.now client params t }
         ensures room { OnOk result (length self.now.requests < 1048576) }
+        ensures known { OnOk result (is_some (client_named client self.now.clients) ≡ true) }
     {
         let Some(arriving) = client_named(&self.clients, client) else {
             return Err(Refusal::Unknown);
@@ -208,7 +211,8 @@ impl<T: Tag> PlainQueue<T> {
         shift: Option<T>,
         at: Moment,
     ) -> Result<(), QueueFault>
-        requires { length self.old.requests < 1048576 }
+        requires room { length self.old.requests < 1048576 }
+        requires known { is_some (client_named request.client self.old.clients) ≡ true }
         ensures ok { OnOk result (self.new ≡ rules_of.queued (rules_of.shifted_by T.ops shift self.old) request at) }
         ensures err { OnErr result (self.new ≡ self.old) }
         ensures memory { IsOkUnless result QueueFault.Memory }
@@ -217,7 +221,7 @@ impl<T: Tag> PlainQueue<T> {
         if self.requests.push(request).is_err() {
             return Err(QueueFault::Memory);
         }
-        shift_first(&mut self.requests, others, &self.clients, shift);
+        shift_first(&mut self.requests, others, shift);
         shift_clients(&mut self.clients, shift);
         let PlainRequest { client, tags, .. } = request;
         change_all(&mut self.clients, &Arrival { client, tags, at });
@@ -494,18 +498,13 @@ fn assigned<T: Tag>(
 }
 
 /// Shifts the first n requests by the amount, if there is one.
-fn shift_first<T: Tag>(
-    requests: &mut Vec<PlainRequest<T>>,
-    n: usize,
-    clients: &[PlainClient<T>],
-    shift: Option<T>,
-)
+fn shift_first<T: Tag>(requests: &mut Vec<PlainRequest<T>>, n: usize, shift: Option<T>)
     requires { n ≤ vec_len requests.old }
-    ensures items { requests.new.items ≡ rules_of.shifted_requests T.ops shift clients.now (take n requests.old.items) ++ drop n requests.old.items }
+    ensures items { requests.new.items ≡ less_shares T.ops shift (take n requests.old.items) ++ drop n requests.old.items }
     ensures len { vec_len requests.new ≡ vec_len requests.old }
 {
     if let Some(amount) = shift {
-        change_first(requests, n, &RequestShift { amount, clients });
+        change_first(requests, n, &RequestShift { amount });
     }
 }
 

@@ -1,11 +1,11 @@
 //! Looking through requests.
 ghost use Rattle.std.specs.Prelude.{◌≡◌, ◌<◌, ◌||◌, ◌≤◌, not, true, length, remove, filter, vec_len};
 ghost use Rattle.std.specs.Option.{option_map_or};
+ghost use Rattle.std.specs.List.{list_all};
 ghost use Rattle.dmc_tag.specs.State as state;
 ghost use Rattle.dmc_tag.specs.Rules as rules_of;
 
-use crate::clients::is_active;
-use dmc_tag::plain::{PlainClient, PlainRequest};
+use dmc_tag::plain::PlainRequest;
 use dmc_tag::shifting::has_less;
 use dmc_tag::tag::Tag;
 use dmc_types::ids::ClientId;
@@ -17,27 +17,13 @@ pub fn has_queued<T>(requests: &[PlainRequest<T>], id: ClientId) -> bool
     requests.iter().any(|request| request.client == id)
 }
 
-/// Whether each shifted tag is a value.
-pub fn can_shift<T: Tag>(
-    requests: &[PlainRequest<T>],
-    clients: &[PlainClient<T>],
-    amount: T,
-) -> bool
-    ensures { result ≡ rules_of.requests_can_shift T.ops amount clients.now requests.now }
+/// Whether each P tag less the amount is a value.
+pub fn can_shift<T: Tag>(requests: &[PlainRequest<T>], amount: T) -> bool
+    ensures { result ≡ list_all (λ r. rules_of.has_less T.ops amount r.tags.p) requests.now }
 {
-    for request in requests {
-        if !is_shiftable(request, clients, amount) {
-            return false;
-        }
-    }
-    true
-}
-
-/// Whether the P tag of a request, shifted if its client is not idle, is a value.
-fn is_shiftable<T: Tag>(request: &PlainRequest<T>, clients: &[PlainClient<T>], amount: T) -> bool
-    ensures { result ≡ (not (state.is_active request.now.client clients.now) || rules_of.has_less T.ops amount request.now.tags.p) }
-{
-    !is_active(clients, request.client) || has_less(request.tags.p, amount)
+    requests
+        .iter()
+        .all(|request| has_less(request.tags.p, amount))
 }
 
 /// Whether each reduced tag of the client is a value.

@@ -1,4 +1,7 @@
-use Rattle.std.proofs.Common.{ap, sym, ◌∙◌}
+use Rattle.std.proofs.Common.{rules, ap, sym, ◌∙◌, ◌≡◌, true, not}
+use Rattle.std.proofs.lemmas.Grind.{common_steps}
+use Rattle.dmc_tag.specs.State.{is_active, is_client}
+use Rattle.dmc_plain.proofs.Active.{all_filtered}
 use Rattle.dmc_plain.proofs.Grants.{removal, removed_as}
 use Rattle.dmc_plain.proofs.queue.PlainQueue.remove_by_client.Goals as goal
 
@@ -6,3 +9,8 @@ pub returns : goal.returns
 returns g c =
     let e = removed_as g.T.Tag.ops c.args.self.now c.args.client _ (sym c.can_remove.ensures ∙ c.in_ok-can_remove.was) in
     rw (c.drop_of.ensures.items, c.count_of-count.ensures.value, c.deref.ensures.value) (ap (removal c.args.client) c.self.view_is ∙ sym e)
+
+pub invariant_of-self : goal.invariant_of-self
+invariant_of-self g c =
+    let q = c.self.inside in
+    (search (rules, common_steps), search (rules, common_steps), rw c.drop_of.ensures.items (all_filtered (λ r. is_active r.client q.clients.items ≡ true) (λ r. not (is_client c.args.client r.client)) q.requests.items c.self.invariant.2))

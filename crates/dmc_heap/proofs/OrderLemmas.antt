@@ -28,9 +28,6 @@ pub same_some : {X : Type 0} (x y : X) → Some x ≡ Some y → x ≡ y
 same_some x y e = cc
 
 module _ {R : Type 0} (compare : R → R → Ordering) (o : IsTotalOrder compare) where
-  pub upto_if_not_lt : (a b : Entry R) → is_lt (compare b.rank a.rank) ≡ false → IsUpto compare a b
-  upto_if_not_lt a b f = upto_by (compare b.rank a.rank) (compare a.rank b.rank) (o.antisymm a.rank b.rank) f
-
   pub upto_itself : (a b : Entry R) → a ≡ b → IsUpto compare a b
   upto_itself a b e = subst (IsUpto compare a) e (ap is_gt (tied_itself o a.rank))
 
@@ -111,13 +108,6 @@ module _ {R : Type 0} (compare : R → R → Ordering) (o : IsTotalOrder compare
                 subst (λ a. IsUpto compare a below) (in_hole y above (ap (slice_get (set heap hole y)) (sym least.parent) ∙ qa)) (is_hole.ordered i y below pos' lower (λ e. omega arith) (ap (slice_get heap) s ∙ here) (out_of_hole y below i lower qb));
           }
 
-      pub IsUnderParent-down : IsUpto compare y x → IsUnderParent compare (set heap hole y) child x
-      IsUnderParent-down u above pos' qa =
-          subst (λ a. IsUpto compare a x) (in_hole y above (ap (slice_get (set heap hole y)) (sym least.parent) ∙ qa)) u
-
-      pub IsOverChildren-stop : IsUpto compare x y → IsOverChildren compare heap hole x
-      IsOverChildren-stop u i below pos' s qb = upto_trans x y below u (least.lower i y below pos' s here qb)
-
     pub IsOverChildren-leaf : length heap / 2 ≤ hole → IsOverChildren compare heap hole x
     IsOverChildren-leaf l i below pos' s qb = absurd (omega (arith, slice_get_within heap i below qb))
 
@@ -129,9 +119,6 @@ IsMoved-more heap0 places0 hole0 heap places x y hole to apart within linked her
   room = length-set places y.key hole ∙ moved.room;
   ranks = λ key. rank_of-move heap places x y hole to apart within linked here key ∙ moved.ranks key;
 }
-
-pub IsMoved-none : {R : Type 0} (heap : List (Entry R)) (places : List ℕ) (hole : ℕ) (x : Entry R) → IsMoved heap places hole x heap places hole
-IsMoved-none heap places hole x = record { size = refl; room = refl; ranks = λ key. refl }
 
 pub IsMoved-trans : {R : Type 0} (heap0 : List (Entry R)) (places0 : List ℕ) (hole0 : ℕ) (heap1 : List (Entry R)) (places1 : List ℕ) (hole1 : ℕ) (heap2 : List (Entry R)) (places2 : List ℕ) (hole2 : ℕ) (x : Entry R) → IsMoved heap0 places0 hole0 x heap1 places1 hole1 → IsMoved heap1 places1 hole1 x heap2 places2 hole2 → IsMoved heap0 places0 hole0 x heap2 places2 hole2
 IsMoved-trans heap0 places0 hole0 heap1 places1 hole1 heap2 places2 hole2 x a b = record {

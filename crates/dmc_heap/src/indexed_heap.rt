@@ -89,46 +89,6 @@ fn lower_child<R: Rank>(heap: &[Entry<R>], at: usize) -> usize
     left
 }
 
-// Moves the hole for an entry down, past each rank below the entry's.
-fn sink<R: Rank>(
-    heap: &mut [Entry<R>],
-    places: &mut [usize],
-    mut at: usize,
-    entry: Entry<R>,
-) -> usize
-    requires hole { IsHole R.cmp heap.old places.old at entry }
-    requires under_parent { IsUnderParent R.cmp heap.old at entry }
-    ensures hole { IsHole R.cmp heap.new places.new result entry }
-    ensures moved { IsMoved heap.old places.old at entry heap.new places.new result }
-    ensures under_parent { IsUnderParent R.cmp heap.new result entry }
-    ensures over_children { IsOverChildren R.cmp heap.new result entry }
-{
-    while at < heap.len() / 2 {
-        let child = lower_child(heap, at);
-        let below = heap[child];
-        if !below.rank.cmp(&entry.rank).is_lt() {
-            return at;
-        }
-        put(heap, places, at, below);
-        at = child;
-    }
-    at
-}
-
-// Moves the hole for an entry to where the entry belongs, up or down, and fills it.
-fn settle<R: Rank>(heap: &mut [Entry<R>], places: &mut [usize], at: usize, entry: Entry<R>)
-    requires { IsHole R.cmp heap.old places.old at entry }
-    ensures { IsSettled R.cmp heap.old places.old at entry heap.new places.new }
-{
-    let risen = rise(heap, places, at, entry);
-    let place = if risen == at {
-        sink(heap, places, at, entry)
-    } else {
-        risen
-    };
-    put(heap, places, place, entry);
-}
-
 // Moves the hole for an entry down to a leaf, past the child with the lower rank each time.
 fn descend<R: Rank>(
     heap: &mut [Entry<R>],
@@ -151,9 +111,9 @@ fn descend<R: Rank>(
     at
 }
 
-// Moves the hole for an entry to where the entry belongs, by way of a leaf, and fills it. An entry that was last mostly
-// belongs far down: for it this takes about half as many comparisons as a search from the hole on.
-fn settle_by_leaf<R: Rank>(heap: &mut [Entry<R>], places: &mut [usize], at: usize, entry: Entry<R>)
+// Moves the hole for an entry to where the entry belongs, by way of a leaf, and fills it. What is settled mostly belongs far
+// down: this takes about half as many comparisons as a search from the hole on.
+fn settle<R: Rank>(heap: &mut [Entry<R>], places: &mut [usize], at: usize, entry: Entry<R>)
     requires { IsHole R.cmp heap.old places.old at entry }
     ensures { IsSettled R.cmp heap.old places.old at entry heap.new places.new }
 {
@@ -208,7 +168,7 @@ impl<R: Rank> OrderIndex<R> for IndexedHeap<R> {
         let last = self.heap.pop().unwrap();
         self.places[key] = VACANT;
         if at < self.heap.len() {
-            settle_by_leaf(&mut self.heap, &mut self.places, at, last);
+            settle(&mut self.heap, &mut self.places, at, last);
         }
         removed.rank
     }

@@ -16,8 +16,8 @@ index-removed-requires g c =
     let old = found g.R.Ord.cmp g.met.R.Ord.total _ x.heap.items x.places.items c.self.invariant c.args.key c.index-at.result.now at here in
     omega (arith, slice_get_within x.heap.items c.index-at.result.now old.0 old.1, x.heap.ok.0)
 
-pub settle_by_leaf-requires : goal.settle_by_leaf-requires
-settle_by_leaf-requires g c =
+pub settle-requires : goal.settle-requires
+settle-requires g c =
     let x = c.self.inside in
     let here = rw (sym c.self.view_is) at c.requires in
     let in' = key_in_room_if_held g.R.Ord.cmp g.met.R.Ord.total _ x.heap.items x.places.items c.self.invariant c.args.key here in
@@ -36,9 +36,9 @@ invariant_of-self g c =
     let split = rw c.unwrap-last.ensures at c.pop.ensures.items in
     let sound = subst (λ h. IsSound g.R.Ord.cmp x.heap.cap h x.places.items) split c.self.invariant in
     let still = subst (λ h. IsSome (held (slots_of h x.places.items) c.args.key)) split here in
-    let settled = rw (c.deref_mut.ensures.value, c.deref_mut-then-at-len.ensures.value) at c.settle_by_leaf.ensures in
-    let heap = take_at c.settle_by_leaf.new.heap (drop (length c.settle_by_leaf.new.heap) c.pop.new.self.items) c.pop.new.self.len (omega (arith, settled.size, c.pop.new.self.ok.0)) in
-    let places = take_at c.settle_by_leaf.new.places (drop (length c.settle_by_leaf.new.places) (set x.places.items c.args.key 18446744073709551615)) x.places.len (omega (arith, settled.room, x.places.ok.0, length-set x.places.items c.args.key 18446744073709551615)) in
+    let settled = rw (c.deref_mut.ensures.value, c.deref_mut-then-at-len.ensures.value) at c.settle.ensures in
+    let heap = take_at c.settle.new.heap (drop (length c.settle.new.heap) c.pop.new.self.items) c.pop.new.self.len (omega (arith, settled.size, c.pop.new.self.ok.0)) in
+    let places = take_at c.settle.new.places (drop (length c.settle.new.places) (set x.places.items c.args.key 18446744073709551615)) x.places.len (omega (arith, settled.room, x.places.ok.0, length-set x.places.items c.args.key 18446744073709551615)) in
     rw (heap, places, c.pop.ensures.capacity) ((removed_inner g.R.Ord.cmp g.met.R.Ord.total _ c.pop.new.self.items c.unwrap-last.result x.places.items sound (omega (arith, x.places.ok.0, x.places.ok.1, x.places.small)) c.args.key c.index-at.result.now at still (omega (arith, c.if-at-len.true, c.len.ensures, c.pop.new.self.ok.0)) _ _ settled).0)
 
 pub returns-then-at-len-clause-value : goal.returns-then-at-len-clause-value
@@ -60,9 +60,9 @@ returns-then-at-len-clause-rest g c =
     let split = rw c.unwrap-last.ensures at c.pop.ensures.items in
     let sound = subst (λ h. IsSound g.R.Ord.cmp x.heap.cap h x.places.items) split c.self.invariant in
     let still = subst (λ h. IsSome (held (slots_of h x.places.items) c.args.key)) split here in
-    let settled = rw (c.deref_mut.ensures.value, c.deref_mut-then-at-len.ensures.value) at c.settle_by_leaf.ensures in
-    let heap = take_at c.settle_by_leaf.new.heap (drop (length c.settle_by_leaf.new.heap) c.pop.new.self.items) c.pop.new.self.len (omega (arith, settled.size, c.pop.new.self.ok.0)) in
-    let places = take_at c.settle_by_leaf.new.places (drop (length c.settle_by_leaf.new.places) (set x.places.items c.args.key 18446744073709551615)) x.places.len (omega (arith, settled.room, x.places.ok.0, length-set x.places.items c.args.key 18446744073709551615)) in
+    let settled = rw (c.deref_mut.ensures.value, c.deref_mut-then-at-len.ensures.value) at c.settle.ensures in
+    let heap = take_at c.settle.new.heap (drop (length c.settle.new.heap) c.pop.new.self.items) c.pop.new.self.len (omega (arith, settled.size, c.pop.new.self.ok.0)) in
+    let places = take_at c.settle.new.places (drop (length c.settle.new.places) (set x.places.items c.args.key 18446744073709551615)) x.places.len (omega (arith, settled.room, x.places.ok.0, length-set x.places.items c.args.key 18446744073709551615)) in
     rw (heap, places, ← c.self.view_is, split) ((removed_inner g.R.Ord.cmp g.met.R.Ord.total _ c.pop.new.self.items c.unwrap-last.result x.places.items sound (omega (arith, x.places.ok.0, x.places.ok.1, x.places.small)) c.args.key c.index-at.result.now at still (omega (arith, c.if-at-len.true, c.len.ensures, c.pop.new.self.ok.0)) _ _ settled).1)
 
 pub invariant_of-self-else-at-len : goal.invariant_of-self-else-at-len

@@ -1,5 +1,5 @@
 -- The steps of a check, and what they keep.
-use Rattle.std.proofs.Common.{◌≡◌, ℕ, suc, ℤ, ◌<◌, Bool, List, [], ◌∷◌, ◌++◌, refl, sym, ap, subst, ◌∙◌, arith, length, append-nil, Option, Some, None, is_some, Result, Ok, Err}
+use Rattle.std.proofs.Common.{◌≡◌, ℕ, suc, ℤ, ◌+◌, ◌<◌, ◌≤◌, Bool, List, [], ◌∷◌, ◌++◌, refl, sym, ap, subst, ◌∙◌, arith, length, length-append, append-nil, Option, Some, None, is_some, Result, Ok, Err}
 use Rattle.std.specs.Prelude.{IfOk, IfSome, OnOk}
 use Rattle.std.specs.Io.KnownBytes.{Consumes, Appends, Keeps, IsAtEnd}
 use Rattle.std.specs.declared.alloc.AllocError.{AllocError}
@@ -13,8 +13,8 @@ use Rattle.dmc_text.specs.declared.script.ScriptFault.{ScriptFault}
 use Rattle.dmc_text.specs.declared.script.ScriptFault.TheVariants as faults
 use Rattle.dmc_text.specs.Answers.{◌>>=◌}
 use Rattle.dmc_text.specs.Words.{words}
-use Rattle.dmc_text.specs.Reading.{Reading, next_line}
-use Rattle.dmc_text.specs.Texts.{lines_of, AppendsSome}
+use Rattle.dmc_text.specs.Reading.{Reading, most_bytes, next_line}
+use Rattle.dmc_text.specs.Texts.{lines_of, AppendsSome, ReadsWithin}
 use Rattle.dmc_text.specs.Runs.{turn_of}
 use Rattle.dmc_text.specs.LineLaws.{first_line, no_line, line_first, last_line, lines_behind, leads, behind_line, line_and_more, shorter, long_kind, consumes_twice}
 use Rattle.dmc_check.specs.declared.replay.Replay.{Replay}
@@ -23,7 +23,7 @@ use Rattle.dmc_check.specs.declared.text.Checking.{Checking}
 use Rattle.dmc_check.specs.declared.text.Checked.{Checked}
 use Rattle.dmc_check.specs.EventLines.{event_of, told}
 use Rattle.dmc_check.specs.EventTexts.{Recorded, with_line, or_fault, with_lines, record_of, verdict_text, ChecksAs}
-use Rattle.dmc_check.specs.Checking.{Holds, IsBelow, Progress, Taken, Takes, IsCounted, IsFaultHere, Turns, Starts, Ends, closed_of, left}
+use Rattle.dmc_check.specs.Checking.{Holds, IsBelow, Progress, Taken, Takes, IsCounted, IsFaultHere, IsFaulty, Turns, Starts, Ends, closed_of, left}
 use Rattle.dmc_check.specs.Verdicts.{Stands}
 use Rattle.dmc_check.proofs.VerdictLemmas.{verdict_by}
 
@@ -57,8 +57,8 @@ module _ {T : Type 0} (ops : Tagging T) (made : ℤ → ℕ → Option T) where
 
   -- a line that was found is taken in
   pub taken : (input r : Option (List ℕ)) (old new : Checking T) (l : Reading) → Progress ops made input r old → next_line old.lines.rest ≡ Some (l.line, l.rest)
-      → Taken ops made (record { lines = l; replay = old.replay; number = old.number }) new → Progress ops made input r new
-  taken input r old new l p found t =
+      → l.taken ≡ old.lines.taken → Taken ops made (record { lines = l; replay = old.replay; number = old.number }) new → Progress ops made input r new
+  taken input r old new l p found taken-is t =
       let f = first_line old.lines.rest l.line l.rest found in
       let same : is_some p.recorded ≡ is_some old.replay = headed p.recorded old.replay p.holds in
       let says : event_of made (is_some p.recorded) l.line ≡ Ok t.line = ap (λ b. event_of made b l.line) same ∙ t.says in
@@ -68,6 +68,7 @@ module _ {T : Type 0} (ops : Tagging T) (made : ℤ → ℕ → Option T) where
         done = p.done ++ (l.line ++ 10 ∷ []);
         recorded = with_line p.recorded t.line;
         reads = subst (Consumes input r) rest-is p.reads;
+        taken = ap length (sym rest-is) ∙ p.taken ∙ sym (ap (λ k. k.taken) t.lines ∙ taken-is);
         holds = t.holds p.recorded p.holds;
         goes_on = λ more.
             ap (λ n. with_lines made (with_line p.recorded t.line) n (lines_of more)) t.number
@@ -108,22 +109,36 @@ module _ {T : Type 0} (ops : Tagging T) (made : ℤ → ℕ → Option T) where
 
   -- more is read
   pub read_more : (input r r' : Option (List ℕ)) (old new : Checking T) (bytes : List ℕ) → new.replay ≡ old.replay → new.number ≡ old.number
-      → new.lines.rest ≡ old.lines.rest ++ bytes → Consumes r r' bytes → Progress ops made input r old → Progress ops made input r' new
-  read_more input r r' old new bytes replay-is number-is rest-is takes p = record {
-    done = p.done;
-    recorded = p.recorded;
-    reads = subst (Consumes input r') (append_assoc p.done old.lines.rest bytes ∙ ap (λ w. p.done ++ w) (sym rest-is)) (consumes_twice input r r' (p.done ++ old.lines.rest) bytes p.reads takes);
-    holds = subst (Holds ops p.recorded) (sym replay-is) p.holds;
-    goes_on = λ more. ap (λ n. with_lines made p.recorded n (lines_of more)) number-is ∙ p.goes_on more;
-  }
+      → new.lines.rest ≡ old.lines.rest ++ bytes → new.lines.taken ≡ old.lines.taken + length bytes → Consumes r r' bytes → Progress ops made input r old → Progress ops made input r' new
+  read_more input r r' old new bytes replay-is number-is rest-is taken-is takes p =
+      let all-is : (p.done ++ old.lines.rest) ++ bytes ≡ p.done ++ new.lines.rest = append_assoc p.done old.lines.rest bytes ∙ ap (λ w. p.done ++ w) (sym rest-is) in
+      record {
+        done = p.done;
+        recorded = p.recorded;
+        reads = subst (Consumes input r') all-is (consumes_twice input r r' (p.done ++ old.lines.rest) bytes p.reads takes);
+        taken = ap length (sym all-is) ∙ length-append (p.done ++ old.lines.rest) bytes ∙ ap (λ k. k + length bytes) p.taken ∙ sym taken-is;
+        holds = subst (Holds ops p.recorded) (sym replay-is) p.holds;
+        goes_on = λ more. ap (λ n. with_lines made p.recorded n (lines_of more)) number-is ∙ p.goes_on more;
+      }
 
   -- ---- what ends a check before its end
 
-  pub no_memory : (input r : Option (List ℕ)) (old : Checking T) → Progress ops made input r old → (read : List ℕ) × Consumes input r read
-  no_memory input r old p = (p.done ++ old.lines.rest, p.reads)
+  -- all that a check has read is within the most bytes of a text
+  within : (input r : Option (List ℕ)) (old : Checking T) → IsCounted old → (p : Progress ops made input r old) → ReadsWithin most_bytes input r (p.done ++ old.lines.rest)
+  within input r old k p = (p.reads, subst (λ n. n ≤ most_bytes) (sym p.taken) k.taken)
 
-  pub not_read : (input r r' : Option (List ℕ)) (old : Checking T) (bytes : List ℕ) → Consumes r r' bytes → Progress ops made input r old → (read : List ℕ) × Consumes input r' read
-  not_read input r r' old bytes takes p = ((p.done ++ old.lines.rest) ++ bytes, consumes_twice input r r' (p.done ++ old.lines.rest) bytes p.reads takes)
+  pub no_memory : (input r : Option (List ℕ)) (old : Checking T) → IsCounted old → Progress ops made input r old → (read : List ℕ) × ReadsWithin most_bytes input r read
+  no_memory input r old k p = (p.done ++ old.lines.rest, within input r old k p)
+
+  pub not_read : (input r r' : Option (List ℕ)) (old : Checking T) (bytes : List ℕ) → old.lines.taken + length bytes ≤ suc most_bytes → Consumes r r' bytes
+      → Progress ops made input r old → (read : List ℕ) × ReadsWithin (suc most_bytes) input r' read
+  not_read input r r' old bytes most takes p = (
+    (p.done ++ old.lines.rest) ++ bytes,
+    (
+      consumes_twice input r r' (p.done ++ old.lines.rest) bytes p.reads takes,
+      subst (λ n. n ≤ suc most_bytes) (sym (length-append (p.done ++ old.lines.rest) bytes ∙ ap (λ k. k + length bytes) p.taken)) most,
+    ),
+  )
 
   -- ---- turns
 
@@ -133,9 +148,9 @@ module _ {T : Type 0} (ops : Tagging T) (made : ℤ → ℕ → Option T) where
       → Turns ops made r old r new (turn_of answer)
   turn_by r old new l (Ok None) k found taken-is ok =
       let c = counted old new l found taken-is k ok in
-      (λ input p. taken input r old new l p found ok, c.0, c.1)
+      (λ input p. taken input r old new l p found taken-is ok, c.0, c.1)
   turn_by r old new l (Ok (Some cause)) k found taken-is ok = (refl, ap (λ x. x.number) ok.1, faulty old l cause found ok.0)
-  turn_by r old new l (Err e) k found taken-is ok = λ input p. no_memory input r old p
+  turn_by r old new l (Err e) k found taken-is ok = λ input p. no_memory input r old k p
 
   -- ---- the beginning
 
@@ -143,14 +158,15 @@ module _ {T : Type 0} (ops : Tagging T) (made : ℤ → ℕ → Option T) where
   none_read None = tt
   none_read (Some xs) = refl
 
-  pub nothing_read : (r : Option (List ℕ)) → (read : List ℕ) × Consumes r r read
-  nothing_read r = ([], none_read r)
+  pub nothing_read : (r : Option (List ℕ)) → (read : List ℕ) × ReadsWithin most_bytes r r read
+  nothing_read r = ([], (none_read r, omega arith))
 
   pub beginning : (r : Option (List ℕ)) (run : Checking T) → Starts run → Progress ops made r r run
   beginning r run s = record {
     done = [];
     recorded = None;
     reads = subst (Consumes r r) (sym s.rest) (none_read r);
+    taken = ap length s.rest ∙ sym s.taken;
     holds = subst (Holds ops None) (sym s.replay) tt;
     goes_on = λ more. ap (λ n. with_lines made None n (lines_of more)) s.number;
   }
@@ -169,21 +185,30 @@ module _ {T : Type 0} (ops : Tagging T) (made : ℤ → ℕ → Option T) where
   known_at_end (Some xs) (Some ys) read h end P p = subst P (sym (h ∙ ap (λ m. read ++ m) end ∙ append-nil read)) p
 
   -- a line of the rest is faulty, however it goes on
-  pub fault_ends : (input r : Option (List ℕ)) (run : Checking T) (cause : LineCause) → Progress ops made input r run → IsFaultHere made run cause
-      → IfSome input (λ text. record_of made text ≡ Err (run.number, cause))
-  fault_ends input r run cause p here =
-      known input r (p.done ++ run.lines.rest) p.reads (λ text. record_of made text ≡ Err (run.number, cause))
-      (λ more. ap (record_of made) (append_assoc p.done run.lines.rest more) ∙ sym (p.goes_on (run.lines.rest ++ more)) ∙ here p.recorded (headed p.recorded run.replay p.holds) more)
+  pub fault_ends : (input r : Option (List ℕ)) (run : Checking T) (cause : LineCause) → IsCounted run → Progress ops made input r run → IsFaultHere made run cause
+      → IsFaulty made input r run.number cause
+  fault_ends input r run cause k p here =
+      let read : List ℕ = p.done ++ run.lines.rest in
+      let faulty = λ (more : List ℕ). ap (record_of made) (append_assoc p.done run.lines.rest more) ∙ sym (p.goes_on (run.lines.rest ++ more)) ∙ here p.recorded (headed p.recorded run.replay p.holds) more in (
+        (read, within input r run k p, ap (record_of made) (sym (append-nil read)) ∙ faulty []),
+        known input r read p.reads (λ text. record_of made text ≡ Err (run.number, cause)) faulty,
+      )
+
+  -- the text is at its end and faulty
+  faulty_at_end : (input r : Option (List ℕ)) (read : List ℕ) (n : ℕ) (cause : LineCause) → ReadsWithin most_bytes input r read → IsAtEnd r → record_of made read ≡ Err (n, cause)
+      → IsFaulty made input r n cause
+  faulty_at_end input r read n cause reads end e = ((read, reads, e), known_at_end input r read reads.0 end (λ text. record_of made text ≡ Err (n, cause)) e)
 
   closed_by : (input r : Option (List ℕ)) (read : List ℕ) (recorded : Option (Recorded T)) (replay : Option (Replay T)) (n : ℕ) → Holds ops recorded replay
-      → with_lines made recorded n [] ≡ record_of made read → Consumes input r read → IsAtEnd r → Ends ops made input r (closed_of replay n)
-  closed_by input r read None None n h e reads end = known_at_end input r read reads end (λ text. record_of made text ≡ Err (n, Hz)) (sym e)
+      → with_lines made recorded n [] ≡ record_of made read → ReadsWithin most_bytes input r read → IsAtEnd r → Ends ops made input r (closed_of replay n)
+  closed_by input r read None None n h e reads end = faulty_at_end input r read n Hz reads end (sym e)
   closed_by input r read None (Some replay) n h e reads end = absurd h
   closed_by input r read (Some recorded) None n h e reads end = absurd h
   closed_by input r read (Some recorded) (Some replay) n h e reads end = (
     end,
     (read, reads),
-    known_at_end input r read reads end _ (record {
+    known_at_end input r read reads.0 end _ (record {
+      within = reads.1;
       recorded = recorded;
       says = sym e;
       is_verdict = verdict_by ops recorded.config recorded.events replay.queue replay.difference h.so_far;
@@ -192,14 +217,14 @@ module _ {T : Type 0} (ops : Tagging T) (made : ℤ → ℕ → Option T) where
   )
 
   -- nothing is left
-  pub closed_plain : (input r : Option (List ℕ)) (run : Checking T) → run.lines.rest ≡ [] → IsAtEnd r → Progress ops made input r run → Ends ops made input r (closed_of run.replay run.number)
-  closed_plain input r run none end p =
-      closed_by input r (p.done ++ run.lines.rest) p.recorded run.replay run.number p.holds (p.goes_on [] ∙ ap (λ o. record_of made (p.done ++ o)) (sym none)) p.reads end
+  pub closed_plain : (input r : Option (List ℕ)) (run : Checking T) → IsCounted run → run.lines.rest ≡ [] → IsAtEnd r → Progress ops made input r run → Ends ops made input r (closed_of run.replay run.number)
+  closed_plain input r run k none end p =
+      closed_by input r (p.done ++ run.lines.rest) p.recorded run.replay run.number p.holds (p.goes_on [] ∙ ap (λ o. record_of made (p.done ++ o)) (sym none)) (within input r run k p) end
 
   -- the last line is taken in
-  pub closed_last : (input r : Option (List ℕ)) (old new : Checking T) (l : Reading) → next_line old.lines.rest ≡ None → 0 < length old.lines.rest → l.line ≡ old.lines.rest
+  pub closed_last : (input r : Option (List ℕ)) (old new : Checking T) (l : Reading) → IsCounted old → next_line old.lines.rest ≡ None → 0 < length old.lines.rest → l.line ≡ old.lines.rest
       → Taken ops made (record { lines = l; replay = old.replay; number = old.number }) new → IsAtEnd r → Progress ops made input r old → Ends ops made input r (closed_of new.replay new.number)
-  closed_last input r old new l none some line-is t end p =
+  closed_last input r old new l k none some line-is t end p =
       let same : is_some p.recorded ≡ is_some old.replay = headed p.recorded old.replay p.holds in
       let says : event_of made (is_some p.recorded) old.lines.rest ≡ Ok t.line = ap (λ b. event_of made b old.lines.rest) same ∙ ap (event_of made (is_some old.replay)) (sym line-is) ∙ t.says in
       let one : lines_of old.lines.rest ≡ old.lines.rest ∷ [] = last_line old.lines.rest none some in
@@ -208,14 +233,14 @@ module _ {T : Type 0} (ops : Tagging T) (made : ℤ → ℕ → Option T) where
       ∙ ap (λ o. or_fault old.number o (λ k. with_lines made (with_line p.recorded k) (suc old.number) [])) (sym says)
       ∙ ap (with_lines made p.recorded old.number) (sym one)
       ∙ p.goes_on old.lines.rest)
-      p.reads end
+      (within input r old k p) end
 
   -- the last line is faulty
-  pub fault_last : (input r : Option (List ℕ)) (old : Checking T) (cause : LineCause) → next_line old.lines.rest ≡ None → 0 < length old.lines.rest
-      → event_of made (is_some old.replay) old.lines.rest ≡ Err cause → IsAtEnd r → Progress ops made input r old → IfSome input (λ text. record_of made text ≡ Err (old.number, cause))
-  fault_last input r old cause none some e end p =
+  pub fault_last : (input r : Option (List ℕ)) (old : Checking T) (cause : LineCause) → IsCounted old → next_line old.lines.rest ≡ None → 0 < length old.lines.rest
+      → event_of made (is_some old.replay) old.lines.rest ≡ Err cause → IsAtEnd r → Progress ops made input r old → IsFaulty made input r old.number cause
+  fault_last input r old cause k none some e end p =
       let same : is_some p.recorded ≡ is_some old.replay = headed p.recorded old.replay p.holds in
-      known_at_end input r (p.done ++ old.lines.rest) p.reads end (λ text. record_of made text ≡ Err (old.number, cause))
+      faulty_at_end input r (p.done ++ old.lines.rest) old.number cause (within input r old k p) end
       (sym (p.goes_on old.lines.rest)
       ∙ fault_first p.recorded old.number cause old.lines.rest old.lines.rest [] (last_line old.lines.rest none some) (ap (λ b. event_of made b old.lines.rest) same ∙ e))
 
@@ -240,7 +265,7 @@ module _ {T : Type 0} (ops : Tagging T) (made : ℤ → ℕ → Option T) where
   none_kept (Some xs) = refl
 
   pub ends_early : (before after old : Option (List ℕ)) (fault : ScriptFault) → Ends ops made before after (Err fault) → ChecksAs ops made before after old old (Err fault)
-  ends_early before after old (faults.Line n cause) e = (e, none_kept old)
+  ends_early before after old (faults.Line n cause) e = (e.0, e.1, none_kept old)
   ends_early before after old faults.Read e = (e, none_kept old)
   ends_early before after old faults.Write e = absurd e
   ends_early before after old faults.Memory e = (e, none_kept old)

@@ -1,5 +1,5 @@
 -- A check of an event text, line by line.
-use Rattle.std.specs.Prelude.{◌≡◌, ℕ, ℤ, suc, ◌+◌, ◌-◌, ◌*◌, ◌^◌, ◌<◌, ◌≤◌, length, List, [], ◌++◌, IfSome, Option, Some, None, is_some, Result, Ok, Err, ⊤}
+use Rattle.std.specs.Prelude.{◌≡◌, ℕ, ℤ, suc, ◌+◌, ◌-◌, ◌*◌, ◌<◌, ◌≤◌, length, List, [], ◌++◌, IfSome, Option, Some, None, is_some, Result, Ok, Err, ⊤}
 use Rattle.std.specs.Io.KnownBytes.{Consumes, IsAtEnd}
 use Rattle.dmc_tag.specs.Tag.{Tagging}
 use Rattle.dmc_text.specs.declared.cause.LineCause.{LineCause}
@@ -8,8 +8,8 @@ use Rattle.dmc_text.specs.declared.script.Turn.{Turn}
 use Rattle.dmc_text.specs.declared.script.Turn.TheVariants.{More, End, Faulty}
 use Rattle.dmc_text.specs.declared.script.ScriptFault.{ScriptFault}
 use Rattle.dmc_text.specs.declared.script.ScriptFault.TheVariants as faults
-use Rattle.dmc_text.specs.Reading.{next_line}
-use Rattle.dmc_text.specs.Texts.{lines_of}
+use Rattle.dmc_text.specs.Reading.{most_bytes, next_line}
+use Rattle.dmc_text.specs.Texts.{lines_of, ReadsWithin}
 use Rattle.dmc_check.specs.declared.line.EventLine.{EventLine}
 use Rattle.dmc_check.specs.declared.replay.Replay.{Replay}
 use Rattle.dmc_check.specs.declared.text.Checking.{Checking}
@@ -35,6 +35,7 @@ pub record Progress {T : Type 0} (ops : Tagging T) (made : ℤ → ℕ → Optio
   pub done : List ℕ
   pub recorded : Option (Recorded T)
   pub reads : Consumes input before (done ++ run.lines.rest)
+  pub taken : length (done ++ run.lines.rest) ≡ run.lines.taken
   pub holds : Holds ops recorded run.replay
   pub goes_on : (more : List ℕ) → with_lines made recorded run.number (lines_of more) ≡ record_of made (done ++ more)
 
@@ -53,11 +54,11 @@ Takes ops made old new (Some cause) = (event_of made (is_some old.replay) old.li
 
 -- how much is left to do at most: what may be read yet counts twice, and what is read and not handed out once
 abbrev pub left : {T : Type 0} → Checking T → ℕ
-left run = 2 * (2 ^ 32 - run.lines.taken) + length run.lines.rest
+left run = 2 * (most_bytes - run.lines.taken) + length run.lines.rest
 
 -- the lines are numbered within the bytes that were read
 pub record IsCounted {T : Type 0} (run : Checking T) : Type 0 where
-  pub taken : run.lines.taken ≤ 2 ^ 32
+  pub taken : run.lines.taken ≤ most_bytes
   pub number : run.number + length run.lines.rest ≤ run.lines.taken + 1
   pub below : IsBelow run.replay run.number
 
@@ -73,8 +74,8 @@ Turns ops made r old r' new (Ok End) = ((input : Option (List ℕ)) → Progress
 Turns ops made r old r' new (Ok (Faulty cause)) = (r' ≡ r) × (new.number ≡ old.number) × IsFaultHere made old cause
 Turns ops made r old r' new (Err (faults.Line n cause)) = ⊥
 Turns ops made r old r' new (Err faults.Write) = ⊥
-Turns ops made r old r' new (Err faults.Read) = (input : Option (List ℕ)) → Progress ops made input r old → (read : List ℕ) × Consumes input r' read
-Turns ops made r old r' new (Err faults.Memory) = (input : Option (List ℕ)) → Progress ops made input r old → (read : List ℕ) × Consumes input r' read
+Turns ops made r old r' new (Err faults.Read) = (input : Option (List ℕ)) → Progress ops made input r old → (read : List ℕ) × ReadsWithin (suc most_bytes) input r' read
+Turns ops made r old r' new (Err faults.Memory) = (input : Option (List ℕ)) → Progress ops made input r old → (read : List ℕ) × ReadsWithin most_bytes input r' read
 
 -- ---- whole texts
 
@@ -85,12 +86,17 @@ pub record Starts {T : Type 0} (run : Checking T) : Type 0 where
   pub rest : run.lines.rest ≡ []
   pub taken : run.lines.taken ≡ 0
 
+-- a faulty line of what was read, which is that of the text
+abbrev pub IsFaulty : {T : Type 0} → (ℤ → ℕ → Option T) → (input before : Option (List ℕ)) → ℕ → LineCause → Type 0
+IsFaulty made input before n cause =
+    ((read : List ℕ) × ReadsWithin most_bytes input before read × (record_of made read ≡ Err (n, cause))) × IfSome input (λ text. record_of made text ≡ Err (n, cause))
+
 abbrev pub Ends : {T : Type 0} → Tagging T → (ℤ → ℕ → Option T) → (input before : Option (List ℕ)) → Result Checked ScriptFault → Type 0
-Ends ops made input before (Ok checked) = IsAtEnd before × ((read : List ℕ) × Consumes input before read) × IfSome input (λ text. HasVerdict ops made text checked.verdict checked.events)
-Ends ops made input before (Err (faults.Line n cause)) = IfSome input (λ text. record_of made text ≡ Err (n, cause))
+Ends ops made input before (Ok checked) = IsAtEnd before × ((read : List ℕ) × ReadsWithin most_bytes input before read) × IfSome input (λ text. HasVerdict ops made text checked.verdict checked.events)
+Ends ops made input before (Err (faults.Line n cause)) = IsFaulty made input before n cause
 Ends ops made input before (Err faults.Write) = ⊥
-Ends ops made input before (Err faults.Read) = (read : List ℕ) × Consumes input before read
-Ends ops made input before (Err faults.Memory) = (read : List ℕ) × Consumes input before read
+Ends ops made input before (Err faults.Read) = (read : List ℕ) × ReadsWithin (suc most_bytes) input before read
+Ends ops made input before (Err faults.Memory) = (read : List ℕ) × ReadsWithin most_bytes input before read
 
 -- a text without an hz line lacks it behind its last line
 abbrev pub closed_of : {T : Type 0} → Option (Replay T) → ℕ → Result Checked ScriptFault

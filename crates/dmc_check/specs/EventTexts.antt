@@ -1,9 +1,9 @@
 -- Whole event texts: what their lines record, and what is written of it.
-use Rattle.std.specs.Prelude.{◌≡◌, ℕ, suc, ℤ, List, [], ◌∷◌, ◌++◌, length, IfSome, Option, Some, None, is_some, Result, Ok, Err, codes}
+use Rattle.std.specs.Prelude.{◌≡◌, ◌≤◌, ℕ, suc, ℤ, List, [], ◌∷◌, ◌++◌, length, IfSome, Option, Some, None, is_some, Result, Ok, Err, codes}
 use Rattle.std.specs.Option.{ok_or}
 use Rattle.std.specs.List.{join_with_byte}
 use Rattle.std.specs.Fmt.{decimal}
-use Rattle.std.specs.Io.KnownBytes.{Keeps, Consumes, Appends, IsAtEnd}
+use Rattle.std.specs.Io.KnownBytes.{Keeps, Appends, IsAtEnd}
 use Rattle.dmc_types.specs.Values.{Setting}
 use Rattle.dmc_tag.specs.Tag.{Tagging}
 use Rattle.dmc_tag.specs.declared.event.Event.{Event}
@@ -11,7 +11,8 @@ use Rattle.dmc_text.specs.declared.cause.LineCause.{LineCause}
 use Rattle.dmc_text.specs.declared.cause.LineCause.TheVariants.{Hz}
 use Rattle.dmc_text.specs.declared.script.ScriptFault.{ScriptFault}
 use Rattle.dmc_text.specs.declared.script.ScriptFault.TheVariants as faults
-use Rattle.dmc_text.specs.Texts.{lines_of, ended, AppendsSome}
+use Rattle.dmc_text.specs.Reading.{most_bytes}
+use Rattle.dmc_text.specs.Texts.{lines_of, ended, AppendsSome, ReadsWithin}
 use Rattle.dmc_check.specs.declared.check.Verdict.{Verdict}
 use Rattle.dmc_check.specs.declared.check.Verdict.TheVariants.{Replays, Differs}
 use Rattle.dmc_check.specs.declared.line.EventLine.{EventLine}
@@ -56,20 +57,23 @@ verdict_text (Differs i) n = ended (join_with_byte 32 (codes "differs" ∷ decim
 
 -- ---- what a check does
 
--- A text has no faulty line, and this is the verdict on its events, so many.
+-- A text has no more bytes than a text may have and no faulty line, and this is the verdict on its events, so many.
 pub record HasVerdict {T : Type 0} (ops : Tagging T) (made : ℤ → ℕ → Option T) (text : List ℕ) (verdict : Verdict) (count : ℕ) : Type 0 where
+  pub within : length text ≤ most_bytes
   pub recorded : Recorded T
   pub says : record_of made text ≡ Ok recorded
   pub is_verdict : IsVerdict ops recorded.config recorded.events verdict
   pub counts : count ≡ length recorded.events
 
 -- What a check reads and writes, by what it answers, where the bytes are known. Ok: all of the text is read, no line is
--- faulty, and the verdict on its events is written. Line: it is the first faulty line of the text, and nothing is
--- written. Write: all of the text is read, and of the line of the verdict a first part is written. Read and Memory:
--- nothing is written.
+-- faulty, and the verdict on its events is written. Line: it is the first faulty line of the text and stands in what was
+-- read, and nothing is written. Write: all of the text is read, and of the line of the verdict a first part is written.
+-- Read and Memory: nothing is written. At Read one byte more than a text may have may be read, to tell that it goes on.
 abbrev pub ChecksAs : {T : Type 0} → Tagging T → (ℤ → ℕ → Option T) → (before after old new : Option (List ℕ)) → Result Verdict ScriptFault → Type 0
 ChecksAs ops made before after old new (Ok verdict) = IsAtEnd after × IfSome before (λ text. (count : ℕ) × HasVerdict ops made text verdict count × Appends old new (verdict_text verdict count))
-ChecksAs ops made before after old new (Err (faults.Line n cause)) = IfSome before (λ text. record_of made text ≡ Err (n, cause)) × Keeps old new
+ChecksAs ops made before after old new (Err (faults.Line n cause)) =
+    ((read : List ℕ) × ReadsWithin most_bytes before after read × (record_of made read ≡ Err (n, cause)))
+    × IfSome before (λ text. record_of made text ≡ Err (n, cause)) × Keeps old new
 ChecksAs ops made before after old new (Err faults.Write) = IsAtEnd after × IfSome before (λ text. (verdict : Verdict) × (count : ℕ) × HasVerdict ops made text verdict count × AppendsSome old new (verdict_text verdict count))
-ChecksAs ops made before after old new (Err faults.Read) = ((read : List ℕ) × Consumes before after read) × Keeps old new
-ChecksAs ops made before after old new (Err faults.Memory) = ((read : List ℕ) × Consumes before after read) × Keeps old new
+ChecksAs ops made before after old new (Err faults.Read) = ((read : List ℕ) × ReadsWithin (suc most_bytes) before after read) × Keeps old new
+ChecksAs ops made before after old new (Err faults.Memory) = ((read : List ℕ) × ReadsWithin most_bytes before after read) × Keeps old new

@@ -4,7 +4,7 @@
 pub mod check;
 pub mod line;
 mod replay;
-pub mod same;
+mod same;
 #[cfg(test)]
 mod tests;
 pub mod text;

@@ -1,5 +1,5 @@
 -- How a run ends.
-use Rattle.std.proofs.Common.{◌≡◌, ℕ, suc, ◌<◌, Bool, true, false, List, [], ◌∷◌, ◌++◌, refl, sym, ap, subst, ◌∙◌, length, append-nil, Option, Some, None, is_some, Result, Ok, Err}
+use Rattle.std.proofs.Common.{◌≡◌, ℕ, suc, ◌<◌, ◌≤◌, Bool, true, false, List, [], ◌∷◌, ◌++◌, refl, sym, ap, subst, ◌∙◌, length, append-nil, Option, Some, None, is_some, Result, Ok, Err}
 use Rattle.std.specs.Prelude.{IfSome, ⊤}
 use Rattle.std.specs.Option.{option_map}
 use Rattle.std.specs.Io.KnownBytes.{Consumes, Appends, IsAtEnd}
@@ -12,12 +12,12 @@ use Rattle.dmc_text.specs.declared.script.Running.{Running}
 use Rattle.dmc_text.specs.declared.script.ScriptFault.{ScriptFault}
 use Rattle.dmc_text.specs.declared.script.ScriptFault.TheVariants as ends
 use Rattle.dmc_text.specs.Lines.{line_of}
-use Rattle.dmc_text.specs.Reading.{Reading, next_line}
-use Rattle.dmc_text.specs.Texts.{and_on, fault_or, headed_by, lines_of, commands, written, written_for, first_fault, fault_of, whole_lines, out, AppendsSome, RunsAs}
-use Rattle.dmc_text.specs.Runs.{seen, Progress, CarriedOut, IsFaultHere, Stopped, Starts, Goes, Ended, Ends, Finished, closed_of, settled_of}
+use Rattle.dmc_text.specs.Reading.{Reading, most_bytes, next_line}
+use Rattle.dmc_text.specs.Texts.{and_on, fault_or, headed_by, lines_of, commands, written, written_for, first_fault, fault_of, whole_lines, out, AppendsSome, ReadsWithin, RunsAs}
+use Rattle.dmc_text.specs.Runs.{seen, Progress, CarriedOut, IsCounted, IsFaultHere, Stopped, Starts, Goes, Ended, Ends, Finished, closed_of, settled_of}
 use Rattle.dmc_text.proofs.ReadingLemmas.{appends_twice}
 use Rattle.dmc_text.specs.LineLaws.{last_line}
-use Rattle.dmc_text.proofs.RunSteps.{fault_first}
+use Rattle.dmc_text.proofs.RunSteps.{fault_first, within}
 
 -- ---- the beginning
 
@@ -35,6 +35,7 @@ beginning ops text state r w run s = record {
   sent = [];
   whole = refl;
   reads = subst (Consumes r r) (sym s.rest) (none_read r);
+  taken = ap length s.rest ∙ sym s.taken;
   sends = none_sent w;
   out_is = λ more. ap (λ o. o ++ written_for ops text (seen state run) more) s.out ∙ ap (λ q. written_for ops text (option_map state q) more) s.queue;
   fault_is = λ more. ap (λ q. first_fault (is_some (option_map state q)) run.number (lines_of more)) s.queue ∙ ap (λ n. first_fault false n (lines_of more)) s.number;
@@ -44,19 +45,21 @@ beginning ops text state r w run s = record {
 
 -- a line of the rest is faulty, however it goes on
 pub fault_ends : {T Q : Type 0} (ops : Tagging T) (text : T → List ℕ) (state : Q → State T) (input output r w : Option (List ℕ)) (run : Running Q) (cause : LineCause)
-    → Progress ops text state input output r w run → IsFaultHere ops text state run cause → Ended ops text (Some (run.number, cause)) input output r w run.out.items
-fault_ends ops text state input output r w run cause p here =
+    → IsCounted run → Progress ops text state input output r w run → IsFaultHere ops text state run cause → Ended ops text (Some (run.number, cause)) input output r w run.out.items
+fault_ends ops text state input output r w run cause k p here =
     let told = λ (more : List ℕ).
     let none : p.sent ++ (run.out.items ++ written_for ops text (seen state run) (run.lines.rest ++ more)) ≡ p.sent ++ run.out.items = ap (λ o. p.sent ++ (run.out.items ++ o)) (here more).1 ∙ ap (λ o. p.sent ++ o) (append-nil run.out.items) in
     sym none ∙ p.out_is (run.lines.rest ++ more) ∙ ap (out ops text) (sym (append_assoc p.done run.lines.rest more)) in
+    let faulty = λ (more : List ℕ). ap fault_of (append_assoc p.done run.lines.rest more) ∙ sym (p.fault_is (run.lines.rest ++ more)) ∙ (here more).0 in
     record {
       read = p.done ++ run.lines.rest;
       sent = p.sent;
-      reads = p.reads;
+      reads = within ops text state input output r w run k p;
       sends = p.sends;
       plain = told [] ∙ ap (out ops text) (append-nil (p.done ++ run.lines.rest));
+      plain_fault = ap fault_of (sym (append-nil (p.done ++ run.lines.rest))) ∙ faulty [];
       out_is = λ more goes. told more;
-      fault_is = λ more goes. ap fault_of (append_assoc p.done run.lines.rest more) ∙ sym (p.fault_is (run.lines.rest ++ more)) ∙ (here more).0;
+      fault_is = λ more goes. faulty more;
     }
 
 -- ---- the end of the text
@@ -66,11 +69,11 @@ nothing_more None more h goes = goes
 nothing_more (Some xs) more h goes = goes ∙ h
 
 pub finished_plain : {T Q : Type 0} (ops : Tagging T) (text : T → List ℕ) (state : Q → State T) (input output r w : Option (List ℕ)) (run : Running Q)
-    → run.lines.rest ≡ [] → Progress ops text state input output r w run → Finished ops text state input output r w run
-finished_plain ops text state input output r w run none p = record {
+    → run.lines.rest ≡ [] → IsCounted run → Progress ops text state input output r w run → Finished ops text state input output r w run
+finished_plain ops text state input output r w run none k p = record {
   read = p.done ++ run.lines.rest;
   sent = p.sent;
-  reads = p.reads;
+  reads = within ops text state input output r w run k p;
   sends = p.sends;
   out_is = ap (λ o. p.sent ++ o) (sym (append-nil run.out.items)) ∙ p.out_is [] ∙ ap (λ o. out ops text (p.done ++ o)) (sym none);
   fault_is = p.fault_is [] ∙ ap (λ o. fault_of (p.done ++ o)) (sym none);
@@ -79,15 +82,15 @@ finished_plain ops text state input output r w run none p = record {
 pub finished_last : {T Q : Type 0} (ops : Tagging T) (text : T → List ℕ) (state : Q → State T) (input output r w : Option (List ℕ)) (old new : Running Q) (l : Reading)
     → next_line old.lines.rest ≡ None → 0 < length old.lines.rest → l.line ≡ old.lines.rest
     → CarriedOut ops text state (record { lines = l; queue = old.queue; number = old.number; out = old.out }) new
-    → Progress ops text state input output r w old → Finished ops text state input output r w new
-finished_last ops text state input output r w old new l none some line-is c p =
+    → IsCounted old → Progress ops text state input output r w old → Finished ops text state input output r w new
+finished_last ops text state input output r w old new l none some line-is c k p =
     let h : Bool = is_some (seen state old) in
     let said-is : line_of h old.lines.rest ≡ Ok c.said = ap (line_of h) (sym line-is) ∙ c.is_said in
     let one : lines_of old.lines.rest ≡ old.lines.rest ∷ [] = last_line old.lines.rest none some in
     record {
       read = p.done ++ old.lines.rest;
       sent = p.sent;
-      reads = p.reads;
+      reads = within ops text state input output r w old k p;
       sends = p.sends;
       out_is =
           ap (λ o. p.sent ++ o) (sym (append-nil new.out.items) ∙ c.out_is [])
@@ -105,8 +108,8 @@ finished_last ops text state input output r w old new l none some line-is c p =
 -- the last line is faulty
 pub fault_last : {T Q : Type 0} (ops : Tagging T) (text : T → List ℕ) (state : Q → State T) (input output r w : Option (List ℕ)) (old : Running Q) (cause : LineCause)
     → IsAtEnd r → next_line old.lines.rest ≡ None → 0 < length old.lines.rest → line_of (is_some (seen state old)) old.lines.rest ≡ Err cause
-    → Progress ops text state input output r w old → Ended ops text (Some (old.number, cause)) input output r w old.out.items
-fault_last ops text state input output r w old cause end none some e p =
+    → IsCounted old → Progress ops text state input output r w old → Ended ops text (Some (old.number, cause)) input output r w old.out.items
+fault_last ops text state input output r w old cause end none some e k p =
     let here = fault_first ops text (seen state old) old.number cause old.lines.rest old.lines.rest [] (last_line old.lines.rest none some) e in
     let told : p.sent ++ old.out.items ≡ out ops text (p.done ++ old.lines.rest) =
     ap (λ o. p.sent ++ o) (sym (append-nil old.out.items) ∙ ap (λ o. old.out.items ++ o) (sym here.1)) ∙ p.out_is old.lines.rest in
@@ -115,9 +118,10 @@ fault_last ops text state input output r w old cause end none some e p =
     record {
       read = p.done ++ old.lines.rest;
       sent = p.sent;
-      reads = p.reads;
+      reads = within ops text state input output r w old k p;
       sends = p.sends;
       plain = told;
+      plain_fault = faulty;
       out_is = λ more goes. told ∙ ap (out ops text) (same more goes);
       fault_is = λ more goes. ap fault_of (sym (same more goes)) ∙ faulty;
     }
@@ -132,6 +136,7 @@ ended_by ops text state input output r w run fault end e f =
       reads = f.reads;
       sends = f.sends;
       plain = f.out_is;
+      plain_fault = sym f.fault_is ∙ e;
       out_is = λ more goes. f.out_is ∙ ap (out ops text) (same more goes);
       fault_is = λ more goes. ap fault_of (sym (same more goes)) ∙ sym f.fault_is ∙ e;
     }
@@ -162,28 +167,43 @@ more_sent output w w' sent pending unsaid bytes h (s1, s2, app, parts) e = (
   append_assoc sent s1 (s2 ++ unsaid) ∙ ap (λ o. sent ++ o) (sym (append_assoc s1 s2 unsaid) ∙ ap (λ o. o ++ unsaid) parts) ∙ e,
 )
 
+-- what is at its end goes on with nothing
+at_end : (r : Option (List ℕ)) (read more : List ℕ) → IsAtEnd r → Goes r more → read ≡ read ++ more
+at_end r read more end goes = sym (ap (λ m. read ++ m) (nothing_more r more end goes) ∙ append-nil read)
+
+sent_to_end : {T : Type 0} (ops : Tagging T) (text : T → List ℕ) (input output r w w' : Option (List ℕ)) (pending : List ℕ)
+    → IsAtEnd r → Ended ops text None input output r w pending → Appends w w' pending
+    → IfSome input (λ i. (length i ≤ most_bytes) × (fault_of i ≡ None) × Appends output w' (out ops text i))
+sent_to_end ops text input output r w w' pending end e app =
+    known_end input r e.read e.reads.0 (λ i. (length i ≤ most_bytes) × (fault_of i ≡ None) × Appends output w' (out ops text i))
+    (λ more goes. (
+      subst (λ i. length i ≤ most_bytes) (at_end r e.read more end goes) e.reads.1,
+      e.fault_is more goes,
+      subst (Appends output w') (e.out_is more goes) (appends_twice output w w' e.sent pending e.sends app),
+    ))
+
 all_sent : {T : Type 0} (ops : Tagging T) (text : T → List ℕ) (fault : Option (ℕ × LineCause)) (input output r w w' : Option (List ℕ)) (pending : List ℕ)
     → Ended ops text fault input output r w pending → Appends w w' pending → IfSome input (λ i. (fault_of i ≡ fault) × Appends output w' (out ops text i))
 all_sent ops text fault input output r w w' pending e app =
-    known_end input r e.read e.reads (λ i. (fault_of i ≡ fault) × Appends output w' (out ops text i))
+    known_end input r e.read e.reads.0 (λ i. (fault_of i ≡ fault) × Appends output w' (out ops text i))
     (λ more goes. (e.fault_is more goes, subst (Appends output w') (e.out_is more goes) (appends_twice output w w' e.sent pending e.sends app)))
 
 some_sent : {T : Type 0} (ops : Tagging T) (text : T → List ℕ) (fault : Option (ℕ × LineCause)) (input output r w w' : Option (List ℕ)) (pending : List ℕ)
-    → Ended ops text fault input output r w pending → AppendsSome w w' pending → (read : List ℕ) × Consumes input r read × AppendsSome output w' (out ops text read)
+    → Ended ops text fault input output r w pending → AppendsSome w w' pending → (read : List ℕ) × ReadsWithin most_bytes input r read × AppendsSome output w' (out ops text read)
 some_sent ops text fault input output r w w' pending e app =
     (e.read, e.reads, more_sent output w w' e.sent pending [] (out ops text e.read) e.sends app (ap (λ o. e.sent ++ o) (append-nil pending) ∙ e.plain))
 
-stop_sent : {T : Type 0} (ops : Tagging T) (text : T → List ℕ) (asked : List ℕ → List ℕ) (input output r w w' : Option (List ℕ)) (pending : List ℕ)
-    → Stopped ops text asked input output r w pending → AppendsSome w w' pending → (read : List ℕ) × Consumes input r read × AppendsSome output w' (out ops text (asked read))
-stop_sent ops text asked input output r w w' pending s app =
+stop_sent : {T : Type 0} (ops : Tagging T) (text : T → List ℕ) (asked : List ℕ → List ℕ) (most : ℕ) (input output r w w' : Option (List ℕ)) (pending : List ℕ)
+    → Stopped ops text asked most input output r w pending → AppendsSome w w' pending → (read : List ℕ) × ReadsWithin most input r read × AppendsSome output w' (out ops text (asked read))
+stop_sent ops text asked most input output r w w' pending s app =
     (s.read, s.reads, more_sent output w w' s.sent pending s.unsaid (out ops text (asked s.read)) s.sends app s.out_is)
 
 pub runs_as : {T : Type 0} (ops : Tagging T) (text : T → List ℕ) (input output r w w' : Option (List ℕ)) (pending : List ℕ) (result : Result ⊤ ScriptFault) (b : Bool)
     → Ends ops text input output r w pending result → (b ≡ true → Appends w w' pending) → AppendsSome w w' pending → RunsAs ops text input r output w' (settled_of result b)
-runs_as ops text input output r w w' pending (Ok x) true e all some = (e.0, all_sent ops text None input output r w w' pending e.1 (all refl))
+runs_as ops text input output r w w' pending (Ok x) true e all some = (e.0, sent_to_end ops text input output r w w' pending e.0 e.1 (all refl))
 runs_as ops text input output r w w' pending (Ok x) false e all some = some_sent ops text None input output r w w' pending e.1 some
-runs_as ops text input output r w w' pending (Err (ends.Line n cause)) true e all some = all_sent ops text (Some (n, cause)) input output r w w' pending e (all refl)
+runs_as ops text input output r w w' pending (Err (ends.Line n cause)) true e all some = ((e.read, e.reads, e.plain_fault), all_sent ops text (Some (n, cause)) input output r w w' pending e (all refl))
 runs_as ops text input output r w w' pending (Err (ends.Line n cause)) false e all some = some_sent ops text (Some (n, cause)) input output r w w' pending e some
-runs_as ops text input output r w w' pending (Err ends.Read) b e all some = stop_sent ops text whole_lines input output r w w' pending e some
-runs_as ops text input output r w w' pending (Err ends.Write) b e all some = stop_sent ops text (λ xs. xs) input output r w w' pending e some
-runs_as ops text input output r w w' pending (Err ends.Memory) b e all some = stop_sent ops text (λ xs. xs) input output r w w' pending e some
+runs_as ops text input output r w w' pending (Err ends.Read) b e all some = stop_sent ops text whole_lines (suc most_bytes) input output r w w' pending e some
+runs_as ops text input output r w w' pending (Err ends.Write) b e all some = stop_sent ops text (λ xs. xs) most_bytes input output r w w' pending e some
+runs_as ops text input output r w w' pending (Err ends.Memory) b e all some = stop_sent ops text (λ xs. xs) most_bytes input output r w w' pending e some

@@ -1,5 +1,5 @@
 -- The steps of a run, and what they keep.
-use Rattle.std.proofs.Common.{◌≡◌, ℕ, suc, ◌<◌, Bool, true, false, List, [], ◌∷◌, ◌++◌, refl, sym, ap, subst, ◌∙◌, arith, length, Option, Some, None, is_some, Result, Ok, Err, inl, inr}
+use Rattle.std.proofs.Common.{◌≡◌, ℕ, suc, ◌+◌, ◌<◌, ◌≤◌, Bool, true, false, List, [], ◌∷◌, ◌++◌, refl, sym, ap, subst, ◌∙◌, arith, length, length-append, Option, Some, None, is_some, Result, Ok, Err, inl, inr}
 use Rattle.std.specs.Prelude.{IfOk, OnErr, OnOk, is_err}
 use Rattle.std.specs.Option.{option_map}
 use Rattle.std.specs.Io.KnownBytes.{Consumes, Appends}
@@ -12,8 +12,8 @@ use Rattle.dmc_text.specs.declared.script.Running.{Running}
 use Rattle.dmc_text.specs.Lines.{line_of, said}
 use Rattle.dmc_text.specs.Answers.{◌>>=◌}
 use Rattle.dmc_text.specs.Words.{words}
-use Rattle.dmc_text.specs.Reading.{Reading, next_line}
-use Rattle.dmc_text.specs.Texts.{and_on, fault_or, headed_by, lines_of, commands, written, written_for, first_fault, fault_of, whole_lines, out, AppendsSome}
+use Rattle.dmc_text.specs.Reading.{Reading, most_bytes, next_line}
+use Rattle.dmc_text.specs.Texts.{and_on, fault_or, headed_by, lines_of, commands, written, written_for, first_fault, fault_of, whole_lines, out, AppendsSome, ReadsWithin}
 use Rattle.std.specs.declared.alloc.AllocError.{AllocError}
 use Rattle.dmc_text.specs.Runs.{seen, Progress, CarriedOut, CarriesOut, IsCut, IsCounted, IsFaultHere, Stopped, Turns, turn_of, left}
 use Rattle.dmc_text.proofs.ReadingLemmas.{appends_twice}
@@ -21,10 +21,10 @@ use Rattle.dmc_text.specs.LineLaws.{first_line, no_line, line_first, lines_behin
 
 -- a line that was found is carried out
 pub answered : {T Q : Type 0} (ops : Tagging T) (text : T → List ℕ) (state : Q → State T) (input output r w : Option (List ℕ)) (old new : Running Q) (l : Reading)
-    → Progress ops text state input output r w old → next_line old.lines.rest ≡ Some (l.line, l.rest)
+    → Progress ops text state input output r w old → next_line old.lines.rest ≡ Some (l.line, l.rest) → l.taken ≡ old.lines.taken
     → CarriedOut ops text state (record { lines = l; queue = old.queue; number = old.number; out = old.out }) new
     → Progress ops text state input output r w new
-answered ops text state input output r w old new l p found c =
+answered ops text state input output r w old new l p found taken c =
     let f = first_line old.lines.rest l.line l.rest found in
     let h : Bool = is_some (seen state old) in
     let rest-is : p.done ++ old.lines.rest ≡ (p.done ++ (l.line ++ 10 ∷ [])) ++ new.lines.rest =
@@ -34,6 +34,7 @@ answered ops text state input output r w old new l p found c =
       sent = p.sent;
       whole = whole_on p.done (l.line ++ 10 ∷ []) p.whole ∙ ap (λ w. p.done ++ w) (ends_whole l.line);
       reads = subst (Consumes input r) rest-is p.reads;
+      taken = ap length (sym rest-is) ∙ p.taken ∙ sym (ap (λ k. k.taken) c.lines ∙ taken);
       sends = p.sends;
       out_is = λ more.
           ap (λ b. p.sent ++ (new.out.items ++ written ops text (seen state new) (commands b (lines_of more)))) c.headed
@@ -89,13 +90,15 @@ long ops text state old (b ∷ bs) same none h = λ more.
 -- what was to be written is written, and more is read
 pub read_more : {T Q : Type 0} (ops : Tagging T) (text : T → List ℕ) (state : Q → State T) (input output r w r' w' : Option (List ℕ)) (old new : Running Q) (bytes : List ℕ)
     → new.queue ≡ old.queue → new.number ≡ old.number → new.out.items ≡ [] → new.lines.rest ≡ old.lines.rest ++ bytes
-    → Appends w w' old.out.items → Consumes r r' bytes → Progress ops text state input output r w old → Progress ops text state input output r' w' new
-read_more ops text state input output r w r' w' old new bytes queue-is number-is empty rest-is sent taken p =
+    → new.lines.taken ≡ old.lines.taken + length bytes → Appends w w' old.out.items → Consumes r r' bytes → Progress ops text state input output r w old → Progress ops text state input output r' w' new
+read_more ops text state input output r w r' w' old new bytes queue-is number-is empty rest-is taken-is sent taken p =
+    let all-is : (p.done ++ old.lines.rest) ++ bytes ≡ p.done ++ new.lines.rest = append_assoc p.done old.lines.rest bytes ∙ ap (λ w. p.done ++ w) (sym rest-is) in
     record {
       done = p.done;
       sent = p.sent ++ old.out.items;
       whole = p.whole;
-      reads = subst (Consumes input r') (append_assoc p.done old.lines.rest bytes ∙ ap (λ w. p.done ++ w) (sym rest-is)) (consumes_twice input r r' (p.done ++ old.lines.rest) bytes p.reads taken);
+      reads = subst (Consumes input r') all-is (consumes_twice input r r' (p.done ++ old.lines.rest) bytes p.reads taken);
+      taken = ap length (sym all-is) ∙ length-append (p.done ++ old.lines.rest) bytes ∙ ap (λ k. k + length bytes) p.taken ∙ sym taken-is;
       sends = appends_twice output w w' p.sent old.out.items p.sends sent;
       out_is = λ more.
           ap (λ o. (p.sent ++ old.out.items) ++ (o ++ written_for ops text (seen state new) more)) empty
@@ -110,27 +113,32 @@ read_more ops text state input output r w r' w' old new bytes queue-is number-is
 
 -- ---- what ends a run before its end
 
-cut_out : {T : Type 0} (ops : Tagging T) (text : T → List ℕ) (input output r w : Option (List ℕ)) (read sent old new rest : List ℕ) → Consumes input r read → Appends output w sent
-    → IsCut old new → sent ++ (old ++ rest) ≡ out ops text read → Stopped ops text (λ xs. xs) input output r w new
+cut_out : {T : Type 0} (ops : Tagging T) (text : T → List ℕ) (input output r w : Option (List ℕ)) (read sent old new rest : List ℕ) → ReadsWithin most_bytes input r read → Appends output w sent
+    → IsCut old new → sent ++ (old ++ rest) ≡ out ops text read → Stopped ops text (λ xs. xs) most_bytes input output r w new
 cut_out ops text input output r w read sent old new rest reads sends (inl same) e =
     record { read = read; sent = sent; unsaid = rest; reads = reads; sends = sends; out_is = ap (λ o. sent ++ (o ++ rest)) same ∙ e }
 cut_out ops text input output r w read sent old new rest reads sends (inr none) e =
     record { read = read; sent = sent; unsaid = old ++ rest; reads = reads; sends = sends; out_is = ap (λ o. sent ++ (o ++ (old ++ rest))) none ∙ e }
 
+-- all that a run has read is within the most bytes of a text
+pub within : {T Q : Type 0} (ops : Tagging T) (text : T → List ℕ) (state : Q → State T) (input output r w : Option (List ℕ)) (old : Running Q)
+    → IsCounted old → (p : Progress ops text state input output r w old) → ReadsWithin most_bytes input r (p.done ++ old.lines.rest)
+within ops text state input output r w old k p = (p.reads, subst (λ n. n ≤ most_bytes) (sym p.taken) k.taken)
+
 pub no_memory : {T Q : Type 0} (ops : Tagging T) (text : T → List ℕ) (state : Q → State T) (input output r w : Option (List ℕ)) (old : Running Q) (new : List ℕ)
-    → IsCut old.out.items new → Progress ops text state input output r w old → Stopped ops text (λ xs. xs) input output r w new
-no_memory ops text state input output r w old new cut p =
-    cut_out ops text input output r w (p.done ++ old.lines.rest) p.sent old.out.items new (written_for ops text (seen state old) old.lines.rest) p.reads p.sends cut (p.out_is old.lines.rest)
+    → IsCounted old → IsCut old.out.items new → Progress ops text state input output r w old → Stopped ops text (λ xs. xs) most_bytes input output r w new
+no_memory ops text state input output r w old new k cut p =
+    cut_out ops text input output r w (p.done ++ old.lines.rest) p.sent old.out.items new (written_for ops text (seen state old) old.lines.rest) (within ops text state input output r w old k p) p.sends cut (p.out_is old.lines.rest)
 
 pub not_written : {T Q : Type 0} (ops : Tagging T) (text : T → List ℕ) (state : Q → State T) (input output r w w' : Option (List ℕ)) (old : Running Q) (new : List ℕ) → new ≡ []
-    → AppendsSome w w' old.out.items → Progress ops text state input output r w old → Stopped ops text (λ xs. xs) input output r w' new
-not_written ops text state input output r w w' old new empty (s1, s2, app, parts) p =
+    → IsCounted old → AppendsSome w w' old.out.items → Progress ops text state input output r w old → Stopped ops text (λ xs. xs) most_bytes input output r w' new
+not_written ops text state input output r w w' old new empty k (s1, s2, app, parts) p =
     let rest = written_for ops text (seen state old) old.lines.rest in
     record {
       read = p.done ++ old.lines.rest;
       sent = p.sent ++ s1;
       unsaid = s2 ++ rest;
-      reads = p.reads;
+      reads = within ops text state input output r w old k p;
       sends = appends_twice output w w' p.sent s1 p.sends app;
       out_is =
           ap (λ o. (p.sent ++ s1) ++ (o ++ (s2 ++ rest))) empty
@@ -140,15 +148,19 @@ not_written ops text state input output r w w' old new empty (s1, s2, app, parts
     }
 
 pub not_read : {T Q : Type 0} (ops : Tagging T) (text : T → List ℕ) (state : Q → State T) (input output r w r' w' : Option (List ℕ)) (old : Running Q) (new bytes : List ℕ) → new ≡ []
-    → Appends w w' old.out.items → Consumes r r' bytes → Progress ops text state input output r w old → Stopped ops text whole_lines input output r' w' new
-not_read ops text state input output r w r' w' old new bytes empty app taken p =
+    → old.lines.taken + length bytes ≤ suc most_bytes → Appends w w' old.out.items → Consumes r r' bytes → Progress ops text state input output r w old
+    → Stopped ops text whole_lines (suc most_bytes) input output r' w' new
+not_read ops text state input output r w r' w' old new bytes empty most app taken p =
     let more : List ℕ = whole_lines (old.lines.rest ++ bytes) in
     let rest : List ℕ = written_for ops text (seen state old) more in
     record {
       read = (p.done ++ old.lines.rest) ++ bytes;
       sent = p.sent ++ old.out.items;
       unsaid = rest;
-      reads = consumes_twice input r r' (p.done ++ old.lines.rest) bytes p.reads taken;
+      reads = (
+        consumes_twice input r r' (p.done ++ old.lines.rest) bytes p.reads taken,
+        subst (λ n. n ≤ suc most_bytes) (sym (length-append (p.done ++ old.lines.rest) bytes ∙ ap (λ k. k + length bytes) p.taken)) most,
+      );
       sends = appends_twice output w w' p.sent old.out.items p.sends app;
       out_is =
           ap (λ o. (p.sent ++ old.out.items) ++ (o ++ rest)) empty
@@ -166,11 +178,11 @@ pub turn_by : {T Q : Type 0} (ops : Tagging T) (text : T → List ℕ) (state : 
     → Turns ops text state r w old r w new (turn_of answer)
 turn_by ops text state r w old new l (Ok None) k found taken ok err =
     let c = counted ops text state old new l found taken k ok in
-    (λ input output p. answered ops text state input output r w old new l p found ok, c.0, c.1)
+    (λ input output p. answered ops text state input output r w old new l p found taken ok, c.0, c.1)
 turn_by ops text state r w old new l (Ok (Some cause)) k found taken ok err =
     (refl, refl, ap (λ x. x.out) ok.1, ap (λ x. x.number) ok.1, faulty ops text state old l cause found ok.0)
 turn_by ops text state r w old new l (Err e) k found taken ok err =
-    λ input output p. no_memory ops text state input output r w old new.out.items err p
+    λ input output p. no_memory ops text state input output r w old new.out.items k err p
 
 pub err_is : {X E A : Type 0} (r : Result X E) → true ≡ is_err r → OnErr r A → A
 err_is (Ok x) e a = absurd (cc)

@@ -1,7 +1,11 @@
 -- Reading a text in pieces.
-use Rattle.std.specs.Prelude.{◌≡◌, ℕ, ◌+◌, ◌<◌, ◌==◌, Bool, true, false, List, [], ◌++◌, length, take, drop, Option, Some, None, Result, Ok, Err, position}
+use Rattle.std.specs.Prelude.{◌≡◌, ℕ, suc, ◌+◌, ◌^◌, ◌<◌, ◌≤◌, ◌==◌, Bool, true, false, List, [], ◌++◌, length, take, drop, Option, Some, None, Result, Ok, Err, position}
 use Rattle.std.specs.Option.{option_map}
 use Rattle.std.specs.Io.KnownBytes.{Consumes, IsAtEnd, Keeps}
+
+-- the most bytes of a text
+abbrev pub most_bytes : ℕ
+most_bytes = 2 ^ 32
 
 abbrev pub is_end : ℕ → Bool
 is_end b = b == 10
@@ -33,7 +37,7 @@ abbrev pub Filled : Option (List ℕ) → Option (List ℕ) → Reading → Read
 Filled before after old new true = (bytes : List ℕ) × Consumes before after bytes × (new.rest ≡ old.rest ++ bytes) × (0 < length bytes) × (new.taken ≡ old.taken + length bytes)
 Filled before after old new false = IsAtEnd after × Keeps before after × (new.rest ≡ old.rest) × (new.taken ≡ old.taken)
 
--- or the reader failed, and the rest stays
+-- Or the reader failed, or the text goes on past the most bytes, of which one more byte tells. The rest stays.
 abbrev pub Fills : {E : Type 0} → Option (List ℕ) → Option (List ℕ) → Reading → Reading → Result Bool E → Type 0
 Fills before after old new (Ok more) = Filled before after old new more
-Fills before after old new (Err e) = (bytes : List ℕ) × Consumes before after bytes × (new.rest ≡ old.rest) × (new.taken ≡ old.taken)
+Fills before after old new (Err e) = (bytes : List ℕ) × Consumes before after bytes × (new.rest ≡ old.rest) × (new.taken ≡ old.taken) × (old.taken + length bytes ≤ suc most_bytes)

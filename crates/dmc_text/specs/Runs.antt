@@ -1,5 +1,5 @@
 -- A run of a script, line by line.
-use Rattle.std.specs.Prelude.{◌≡◌, ◌⊎◌, ℕ, suc, ◌+◌, ◌-◌, ◌*◌, ◌^◌, ◌<◌, ◌≤◌, length, List, [], ◌∷◌, ◌++◌, Option, Some, None, is_some, Result, Ok, Err, ⊤, Bool, if◌then◌else◌}
+use Rattle.std.specs.Prelude.{◌≡◌, ◌⊎◌, ℕ, suc, ◌+◌, ◌-◌, ◌*◌, ◌<◌, ◌≤◌, length, List, [], ◌∷◌, ◌++◌, Option, Some, None, is_some, Result, Ok, Err, ⊤, Bool, if◌then◌else◌}
 use Rattle.std.specs.Option.{option_map}
 use Rattle.std.specs.Io.KnownBytes.{Consumes, Appends, IsAtEnd}
 use Rattle.dmc_tag.specs.Tag.{Tagging}
@@ -13,9 +13,9 @@ use Rattle.dmc_text.specs.declared.script.Turn.{Turn}
 use Rattle.dmc_text.specs.declared.script.Turn.TheVariants.{More, End, Faulty}
 use Rattle.dmc_text.specs.declared.script.ScriptFault.{ScriptFault}
 use Rattle.dmc_text.specs.declared.script.ScriptFault.TheVariants as faults
-use Rattle.dmc_text.specs.Reading.{next_line}
+use Rattle.dmc_text.specs.Reading.{most_bytes, next_line}
 use Rattle.dmc_text.specs.Lines.{line_of}
-use Rattle.dmc_text.specs.Texts.{headed_by, lines_of, written, written_for, first_fault, fault_of, whole_lines, out}
+use Rattle.dmc_text.specs.Texts.{headed_by, lines_of, written, written_for, first_fault, fault_of, whole_lines, out, ReadsWithin}
 
 -- what is left of the bytes: all, or nothing
 abbrev pub IsCut : List ℕ → List ℕ → Type 0
@@ -32,6 +32,7 @@ pub record Progress {T Q : Type 0} (ops : Tagging T) (text : T → List ℕ) (st
   pub sent : List ℕ
   pub whole : whole_lines done ≡ done
   pub reads : Consumes input before (done ++ run.lines.rest)
+  pub taken : length (done ++ run.lines.rest) ≡ run.lines.taken
   pub sends : Appends output after sent
   pub out_is : (more : List ℕ) → sent ++ (run.out.items ++ written_for ops text (seen state run) more) ≡ out ops text (done ++ more)
   pub fault_is : (more : List ℕ) → first_fault (is_some (seen state run)) run.number (lines_of more) ≡ fault_of (done ++ more)
@@ -51,11 +52,11 @@ CarriesOut ops text state old new (Some cause) = (line_of (is_some (seen state o
 
 -- how much is left to do at most: what may be read yet counts twice, and what is read and not handed out once
 abbrev pub left : {Q : Type 0} → Running Q → ℕ
-left run = 2 * (2 ^ 32 - run.lines.taken) + length run.lines.rest
+left run = 2 * (most_bytes - run.lines.taken) + length run.lines.rest
 
 -- the lines are numbered within the bytes that were read
 pub record IsCounted {Q : Type 0} (run : Running Q) : Type 0 where
-  pub taken : run.lines.taken ≤ 2 ^ 32
+  pub taken : run.lines.taken ≤ most_bytes
   pub number : run.number + length run.lines.rest ≤ run.lines.taken + 1
 
 -- the next line of the rest is faulty, however the rest goes on
@@ -71,12 +72,13 @@ turn_of (Ok None) = Ok More
 turn_of (Ok (Some cause)) = Ok (Faulty cause)
 turn_of (Err e) = Err faults.Memory
 
--- What was read was answered up to a place, of that a first part is written, and the next part is to be written.
-pub record Stopped {T : Type 0} (ops : Tagging T) (text : T → List ℕ) (asked : List ℕ → List ℕ) (input output before after : Option (List ℕ)) (pending : List ℕ) : Type 0 where
+-- What was read, so many bytes at most, was answered up to a place, of that a first part is written, and the next part is
+-- to be written.
+pub record Stopped {T : Type 0} (ops : Tagging T) (text : T → List ℕ) (asked : List ℕ → List ℕ) (most : ℕ) (input output before after : Option (List ℕ)) (pending : List ℕ) : Type 0 where
   pub read : List ℕ
   pub sent : List ℕ
   pub unsaid : List ℕ
-  pub reads : Consumes input before read
+  pub reads : ReadsWithin most input before read
   pub sends : Appends output after sent
   pub out_is : sent ++ (pending ++ unsaid) ≡ out ops text (asked read)
 
@@ -86,9 +88,9 @@ Turns ops text state r w old r' w' new (Ok More) = ((input output : Option (List
 Turns ops text state r w old r' w' new (Ok End) = ((input output : Option (List ℕ)) → Progress ops text state input output r w old → Progress ops text state input output r' w' new) × IsCounted new × IsAtEnd r' × (next_line new.lines.rest ≡ None)
 Turns ops text state r w old r' w' new (Ok (Faulty cause)) = (r' ≡ r) × (w' ≡ w) × (new.out ≡ old.out) × (new.number ≡ old.number) × IsFaultHere ops text state old cause
 Turns ops text state r w old r' w' new (Err (faults.Line n cause)) = ⊥
-Turns ops text state r w old r' w' new (Err faults.Read) = (input output : Option (List ℕ)) → Progress ops text state input output r w old → Stopped ops text whole_lines input output r' w' new.out.items
-Turns ops text state r w old r' w' new (Err faults.Write) = (input output : Option (List ℕ)) → Progress ops text state input output r w old → Stopped ops text (λ xs. xs) input output r' w' new.out.items
-Turns ops text state r w old r' w' new (Err faults.Memory) = (input output : Option (List ℕ)) → Progress ops text state input output r w old → Stopped ops text (λ xs. xs) input output r' w' new.out.items
+Turns ops text state r w old r' w' new (Err faults.Read) = (input output : Option (List ℕ)) → Progress ops text state input output r w old → Stopped ops text whole_lines (suc most_bytes) input output r' w' new.out.items
+Turns ops text state r w old r' w' new (Err faults.Write) = (input output : Option (List ℕ)) → Progress ops text state input output r w old → Stopped ops text (λ xs. xs) most_bytes input output r' w' new.out.items
+Turns ops text state r w old r' w' new (Err faults.Memory) = (input output : Option (List ℕ)) → Progress ops text state input output r w old → Stopped ops text (λ xs. xs) most_bytes input output r' w' new.out.items
 
 -- ---- whole runs
 
@@ -109,24 +111,25 @@ Goes (Some bytes) more = more ≡ bytes
 pub record Ended {T : Type 0} (ops : Tagging T) (text : T → List ℕ) (fault : Option (ℕ × LineCause)) (input output before after : Option (List ℕ)) (pending : List ℕ) : Type 0 where
   pub read : List ℕ
   pub sent : List ℕ
-  pub reads : Consumes input before read
+  pub reads : ReadsWithin most_bytes input before read
   pub sends : Appends output after sent
   pub plain : sent ++ pending ≡ out ops text read
+  pub plain_fault : fault_of read ≡ fault
   pub out_is : (more : List ℕ) → Goes before more → sent ++ pending ≡ out ops text (read ++ more)
   pub fault_is : (more : List ℕ) → Goes before more → fault_of (read ++ more) ≡ fault
 
 abbrev pub Ends : {T : Type 0} → Tagging T → (T → List ℕ) → (input output before after : Option (List ℕ)) → List ℕ → Result ⊤ ScriptFault → Type 0
 Ends ops text input output before after pending (Ok x) = IsAtEnd before × Ended ops text None input output before after pending
 Ends ops text input output before after pending (Err (faults.Line n cause)) = Ended ops text (Some (n, cause)) input output before after pending
-Ends ops text input output before after pending (Err faults.Read) = Stopped ops text whole_lines input output before after pending
-Ends ops text input output before after pending (Err faults.Write) = Stopped ops text (λ xs. xs) input output before after pending
-Ends ops text input output before after pending (Err faults.Memory) = Stopped ops text (λ xs. xs) input output before after pending
+Ends ops text input output before after pending (Err faults.Read) = Stopped ops text whole_lines (suc most_bytes) input output before after pending
+Ends ops text input output before after pending (Err faults.Write) = Stopped ops text (λ xs. xs) most_bytes input output before after pending
+Ends ops text input output before after pending (Err faults.Memory) = Stopped ops text (λ xs. xs) most_bytes input output before after pending
 
 -- all lines are answered; what is said of the end of the text is open
 pub record Finished {T Q : Type 0} (ops : Tagging T) (text : T → List ℕ) (state : Q → State T) (input output before after : Option (List ℕ)) (run : Running Q) : Type 0 where
   pub read : List ℕ
   pub sent : List ℕ
-  pub reads : Consumes input before read
+  pub reads : ReadsWithin most_bytes input before read
   pub sends : Appends output after sent
   pub out_is : sent ++ run.out.items ≡ out ops text read
   pub fault_is : first_fault (is_some (seen state run)) run.number [] ≡ fault_of read

@@ -1,5 +1,5 @@
 -- Whole texts: their lines, what they say, and what is written for them.
-use Rattle.std.specs.Prelude.{◌≡◌, ℕ, suc, ◌==◌, IfSome, Bool, true, false, ◌||◌, List, [], ◌∷◌, ◌++◌, Option, Some, None, is_some, Result, Ok, Err, if◌then◌else◌, codes, ⊤}
+use Rattle.std.specs.Prelude.{◌≡◌, ℕ, suc, ◌==◌, ◌≤◌, length, IfSome, Bool, true, false, ◌||◌, List, [], ◌∷◌, ◌++◌, Option, Some, None, is_some, Result, Ok, Err, if◌then◌else◌, codes, ⊤}
 use Rattle.std.specs.List.{list_any}
 use Rattle.std.specs.Io.KnownBytes.{Consumes, Appends, IsAtEnd}
 use Rattle.dmc_types.specs.declared.refusal.ValueFault.{ValueFault}
@@ -14,6 +14,7 @@ use Rattle.dmc_text.specs.declared.line.Line.TheVariants.{Skip, Config, Ask, Val
 use Rattle.dmc_text.specs.declared.script.ScriptFault.{ScriptFault}
 use Rattle.dmc_text.specs.declared.script.ScriptFault.TheVariants as ends
 use Rattle.dmc_text.specs.Lines.{line_of}
+use Rattle.dmc_text.specs.Reading.{most_bytes}
 use Rattle.dmc_text.specs.Replies.{reply_text}
 
 -- ---- lines
@@ -104,22 +105,30 @@ whole_lines (b ∷ bs) = if has_end (b ∷ bs) then b ∷ whole_lines bs else []
 abbrev pub AppendsSome : Option (List ℕ) → Option (List ℕ) → List ℕ → Type 0
 AppendsSome old new bytes = (sent : List ℕ) × (unsent : List ℕ) × Appends old new sent × (sent ++ unsent ≡ bytes)
 
--- What a run reads and writes, where the bytes are known. Ok: all of the text is read, no line is faulty, and what is
--- written is what the text asks for.
-abbrev pub RunsToEnd : {T : Type 0} → Tagging T → (T → List ℕ) → (before after old new : Option (List ℕ)) → Type 0
-RunsToEnd ops text before after old new = IsAtEnd after × IfSome before (λ input. (fault_of input ≡ None) × Appends old new (out ops text input))
+-- so many bytes at most are read
+abbrev pub ReadsWithin : ℕ → (before after : Option (List ℕ)) → List ℕ → Type 0
+ReadsWithin most before after read = Consumes before after read × (length read ≤ most)
 
--- A line fault: it is the first of the text, and what is written is what the text asks for up to it.
+-- What a run reads and writes, where the bytes are known. Ok: all of the text is read, it has no more bytes than a text may
+-- have, no line is faulty, and what is written is what the text asks for.
+abbrev pub RunsToEnd : {T : Type 0} → Tagging T → (T → List ℕ) → (before after old new : Option (List ℕ)) → Type 0
+RunsToEnd ops text before after old new = IsAtEnd after × IfSome before (λ input. (length input ≤ most_bytes) × (fault_of input ≡ None) × Appends old new (out ops text input))
+
+-- A line fault: it is the first of the text and stands in what was read, and what is written is what the text asks for up
+-- to it.
 abbrev pub RunsToFault : {T : Type 0} → Tagging T → (T → List ℕ) → (before after old new : Option (List ℕ)) → ℕ → LineCause → Type 0
-RunsToFault ops text before after old new n cause = IfSome before (λ input. (fault_of input ≡ Some (n, cause)) × Appends old new (out ops text input))
+RunsToFault ops text before after old new n cause =
+    ((read : List ℕ) × ReadsWithin most_bytes before after read × (fault_of read ≡ Some (n, cause)))
+    × IfSome before (λ input. (fault_of input ≡ Some (n, cause)) × Appends old new (out ops text input))
 
 -- The writer failed, or there was no memory: a first part of what was read was answered, and of that a first part written.
 abbrev pub RunsPartly : {T : Type 0} → Tagging T → (T → List ℕ) → (before after old new : Option (List ℕ)) → Type 0
-RunsPartly ops text before after old new = (read : List ℕ) × Consumes before after read × AppendsSome old new (out ops text read)
+RunsPartly ops text before after old new = (read : List ℕ) × ReadsWithin most_bytes before after read × AppendsSome old new (out ops text read)
 
--- The reader failed: of the replies to the whole lines that were read, a first part is written.
+-- The reader failed, or the text goes on past the most bytes, of which one more byte tells: of the replies to the whole
+-- lines that were read, a first part is written.
 abbrev pub RunsWholeLines : {T : Type 0} → Tagging T → (T → List ℕ) → (before after old new : Option (List ℕ)) → Type 0
-RunsWholeLines ops text before after old new = (read : List ℕ) × Consumes before after read × AppendsSome old new (out ops text (whole_lines read))
+RunsWholeLines ops text before after old new = (read : List ℕ) × ReadsWithin (suc most_bytes) before after read × AppendsSome old new (out ops text (whole_lines read))
 
 -- What a script reads and writes, by what it answers.
 abbrev pub RunsAs : {T : Type 0} → Tagging T → (T → List ℕ) → (before after old new : Option (List ℕ)) → Result ⊤ ScriptFault → Type 0

@@ -1,7 +1,8 @@
 //! The lines of a reader, read in pieces into a buffer that is made once.
-ghost use Rattle.std.specs.Prelude.{◌≡◌, ℕ, List, false, ◌+◌, ◌-◌, ◌^◌, ◌<◌, ◌≤◌, [], ◌++◌, length, take, drop, slice_range, IfOk, OnOk, OnErr, MatchResult, vec_len, position, nat_lt};
+ghost use Rattle.std.specs.Prelude.{◌≡◌, ◌≢◌, ℕ, List, false, ◌+◌, ◌-◌, ◌<◌, ◌≤◌, [], ◌++◌, length, take, drop, slice_range, IfOk, IfErr, OnOk, OnErr, MatchResult, vec_len, position, nat_lt};
 ghost use Rattle.std.specs.Io.KnownBytes.{Keeps, Consumes, IsAtEnd, ReadConsumes};
-ghost use Rattle.dmc_text.specs.Reading.{Reading, is_end, Finds, FindsLast, Fills};
+ghost use Rattle.std.specs.IoError.{error_kind};
+ghost use Rattle.dmc_text.specs.Reading.{Reading, most_bytes, is_end, Finds, FindsLast, Fills};
 
 use std::alloc::{AllocError, Global};
 use std::io::{self, ErrorKind, Read};
@@ -29,14 +30,14 @@ pub struct LineReader {
 }
 
 impl Model for LineReader {
-    ghost use Rattle.std.specs.Prelude.{◌≡◌, ◌≤◌, ◌-◌, ◌^◌, length, slice_range};
-    ghost use Rattle.dmc_text.specs.Reading.{Reading};
+    ghost use Rattle.std.specs.Prelude.{◌≡◌, ◌≤◌, ◌-◌, length, slice_range};
+    ghost use Rattle.dmc_text.specs.Reading.{Reading, most_bytes};
 
     ghost Value = { Reading };
 
     ghost view = { λ r. record { line = slice_range r.buffer.items r.line_start r.line_end; rest = slice_range r.buffer.items r.start r.end; room = 65536 - r.end; taken = r.taken } };
 
-    ghost invariant = { λ r. (length r.buffer.items ≡ 65536) × (r.line_start ≤ r.line_end) × (r.line_end ≤ 65536) × (r.start ≤ r.end) × (r.end ≤ 65536) × (r.taken ≤ 2 ^ 32) };
+    ghost invariant = { λ r. (length r.buffer.items ≡ 65536) × (r.line_start ≤ r.line_end) × (r.line_end ≤ 65536) × (r.start ≤ r.end) × (r.end ≤ 65536) × (r.taken ≤ most_bytes) };
 }
 
 /// A buffer of zeros.
@@ -135,7 +136,8 @@ impl LineReader {
     pub fn fill<R: Read>(&mut self, reader: &mut R) -> io::Result<bool>
         requires { length self.old.rest ≤ 256 }
         ensures bytes { Fills (R.remaining reader.old) (R.remaining reader.new) self.old self.new result }
-        ensures taken { self.new.taken ≤ 2 ^ 32 }
+        ensures taken { self.new.taken ≤ most_bytes }
+        ensures retried { IfErr result (λ e. error_kind e ≢ ErrorKind.Interrupted) }
     {
         self.move_to_front();
         if self.taken == MOST {
@@ -154,11 +156,12 @@ impl LineReader {
     }
 }
 
-/// Reads once, again where a read was interrupted.
+/// Reads once, again where a read was interrupted: that is never the error.
 fn read_once<R: Read>(reader: &mut R, buffer: &mut [u8]) -> io::Result<usize>
     ensures bound { IfOk result (λ n. n ≤ length buffer.new) }
     ensures bytes { ReadConsumes (R.remaining reader.old) (R.remaining reader.new) result buffer.new }
     ensures len { length buffer.new ≡ length buffer.old }
+    ensures retried { IfErr result (λ e. error_kind e ≢ ErrorKind.Interrupted) }
 {
     for _ in 0..u64::MAX {
         match reader.read(buffer) {
@@ -166,7 +169,7 @@ fn read_once<R: Read>(reader: &mut R, buffer: &mut [u8]) -> io::Result<usize>
             result => return result,
         }
     }
-    reader.read(buffer)
+    Err(io::Error::from(ErrorKind::TimedOut))
 }
 
 /// Reads at most so many bytes into the buffer from a place on.
@@ -178,6 +181,7 @@ fn read_at<R: Read>(reader: &mut R, buffer: &mut Vec<u8>, at: usize, most: u64) 
     ensures bytes { MatchResult result
         (λ n. Consumes (R.remaining reader.old) (R.remaining reader.new) (take n (drop at buffer.new.items)))
         (λ _. Keeps (R.remaining reader.old) (R.remaining reader.new)) }
+    ensures retried { IfErr result (λ e. error_kind e ≢ ErrorKind.Interrupted) }
     ensures end { IfOk result (λ n. n ≡ 0 → at < vec_len buffer.old → 0 < most → IsAtEnd (R.remaining reader.new)) }
 {
     let room = buffer.len() - at;
@@ -187,8 +191,9 @@ fn read_at<R: Read>(reader: &mut R, buffer: &mut Vec<u8>, at: usize, most: u64) 
 
 /// Whether a text that has all the bytes that it may have goes on. That is an error.
 fn reads_too_much<R: Read>(reader: &mut R) -> io::Result<bool>
-    ensures { MatchResult result (λ more. (more ≡ false) × IsAtEnd (R.remaining reader.new) × Keeps (R.remaining reader.old) (R.remaining reader.new))
-        (λ _. (bytes : List ℕ) × Consumes (R.remaining reader.old) (R.remaining reader.new) bytes) }
+    ensures bytes { MatchResult result (λ more. (more ≡ false) × IsAtEnd (R.remaining reader.new) × Keeps (R.remaining reader.old) (R.remaining reader.new))
+        (λ _. (bytes : List ℕ) × Consumes (R.remaining reader.old) (R.remaining reader.new) bytes × (length bytes ≤ 1)) }
+    ensures retried { IfErr result (λ e. error_kind e ≢ ErrorKind.Interrupted) }
 {
     let mut one = [0];
     if read_once(reader, &mut one)? > 0 {

@@ -1,6 +1,7 @@
 //! Scripts: each line's command is carried out, and its reply written.
-ghost use Rattle.std.specs.Prelude.{◌≡◌, ℕ, Option, None, true, ◌≤◌, ◌<◌, ◌-◌, ◌^◌, ◌++◌, ◌∷◌, [], List, length, OnOk, OnErr, IfOk, MatchResult};
+ghost use Rattle.std.specs.Prelude.{◌≡◌, ◌≢◌, ℕ, Option, None, true, ◌≤◌, ◌<◌, ◌-◌, ◌^◌, ◌++◌, ◌∷◌, [], List, length, OnOk, OnErr, IfOk, IfErr, MatchResult};
 ghost use Rattle.std.specs.Io.KnownBytes.{Appends, WriteAppends, IsAtEnd};
+ghost use Rattle.std.specs.IoError.{error_kind};
 ghost use Rattle.dmc_types.specs.declared.refusal.ValueFault.TheVariants as faults;
 ghost use Rattle.dmc_tag.specs.State.{StandsFor, opening};
 ghost use Rattle.dmc_tag.specs.Step.{step};
@@ -169,10 +170,11 @@ fn send<W: Write>(out: &mut Vec<u8>, writer: &mut W) -> io::Result<()>
     sent
 }
 
-/// Writes all bytes, again where a write was interrupted.
+/// Writes all bytes, again where a write was interrupted: that is never the error.
 pub fn send_all<W: Write>(bytes: &[u8], writer: &mut W) -> io::Result<()>
     ensures ok { OnOk result (Appends (W.contents writer.old) (W.contents writer.new) bytes.now) }
     ensures err { OnErr result (AppendsSome (W.contents writer.old) (W.contents writer.new) bytes.now) }
+    ensures retried { IfErr result (λ e. error_kind e ≢ ErrorKind.Interrupted) }
 {
     let mut at = 0;
     while at < bytes.len() {
@@ -184,10 +186,11 @@ pub fn send_all<W: Write>(bytes: &[u8], writer: &mut W) -> io::Result<()>
     Ok(())
 }
 
-/// Writes once, again where a write was interrupted.
+/// Writes once, again where a write was interrupted: that is never the error.
 fn write_once<W: Write>(bytes: &[u8], writer: &mut W) -> io::Result<usize>
     ensures bound { IfOk result (λ n. n ≤ length bytes.now) }
     ensures bytes { WriteAppends (W.contents writer.old) (W.contents writer.new) result bytes.now }
+    ensures retried { IfErr result (λ e. error_kind e ≢ ErrorKind.Interrupted) }
 {
     for _ in 0..u64::MAX {
         match writer.write(bytes) {
@@ -195,7 +198,7 @@ fn write_once<W: Write>(bytes: &[u8], writer: &mut W) -> io::Result<usize>
             result => return result,
         }
     }
-    writer.write(bytes)
+    Err(io::Error::from(ErrorKind::TimedOut))
 }
 
 /// What one turn of a run comes to.

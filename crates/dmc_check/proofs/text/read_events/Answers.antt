@@ -12,7 +12,7 @@ returns-in-Ok-Faulty g c =
     let old = c.loop-run.run in
     let new = c.take_turn.new.run in
     let f = subst (λ turn. Turns ops made (at c.loop-run.reader) old (at c.take_turn.new.reader) new (Ok turn)) c.in-Ok-Faulty.field-0-is c.in-Ok-Faulty.ensures in
-    rw f.1 (fault_ends ops made (at c.args.reader.now) (at c.loop-run.reader) old c.in-Ok-Faulty.cause c.loop-run.invariant.progress f.2)
+    rw (f.0, f.1) (fault_ends ops made (at c.args.reader.now) (at c.loop-run.reader) old c.in-Ok-Faulty.cause c.loop-run.invariant.counted c.loop-run.invariant.progress f.2)
 
 pub loop-run-init : goal.loop-run-init
 loop-run-init g c = record {

@@ -1,6 +1,7 @@
 -- A turn keeps the progress of a check.
-use Rattle.std.proofs.Common.{◌≡◌, ◌<◌, length, refl, sym, ap, subst, arith}
+use Rattle.std.proofs.Common.{◌≡◌, suc, ◌+◌, ◌<◌, ◌≤◌, length, refl, sym, ap, subst, arith}
 use Rattle.std.proofs.lemmas.Bool.{ltb-true}
+use Rattle.dmc_text.specs.Reading.{most_bytes}
 use Rattle.dmc_check.specs.Checking.{Turns}
 use Rattle.dmc_check.proofs.Turning.{turn_by, long, not_read}
 use Rattle.dmc_check.proofs.text.take_turn.Goals as goal
@@ -23,4 +24,6 @@ returns-then-is_long g c =
 pub returns-in-Err : goal.returns-in-Err
 returns-in-Err g c =
     let at = g.R.Read.remaining in
-    λ input p. not_read g.T.Tag.ops g.T.TagText.made input (at c.args.reader.now) (at c.fill.new.reader) c.args.run.now c.in-Err.ensures.bytes.0 c.in-Err.ensures.bytes.1 p
+    let f = c.in-Err.ensures.bytes in
+    let most : c.args.run.now.lines.taken + length f.0 ≤ suc most_bytes = subst (λ l. l.taken + length f.0 ≤ suc most_bytes) c.if-find.ensures.1 f.4 in
+    λ input p. not_read g.T.Tag.ops g.T.TagText.made input (at c.args.reader.now) (at c.fill.new.reader) c.args.run.now f.0 most f.1 p

@@ -17,5 +17,5 @@ returns-in-Ok-Faulty g c =
     let old = c.loop-maker.run in
     let new = c.take_turn.new.run in
     let f = subst (λ turn. Turns ops text state (at c.loop-maker.reader) (of c.loop-maker.writer) old (at c.take_turn.new.reader) (of c.take_turn.new.writer) new (Ok turn)) c.in-Ok-Faulty.field-0-is c.in-Ok-Faulty.ensures in
-    let ended = fault_ends ops text state input output (at c.loop-maker.reader) (of c.loop-maker.writer) old c.in-Ok-Faulty.cause c.loop-maker.invariant.progress f.4 in
+    let ended = fault_ends ops text state input output (at c.loop-maker.reader) (of c.loop-maker.writer) old c.in-Ok-Faulty.cause c.loop-maker.invariant.counted c.loop-maker.invariant.progress f.4 in
     rw (f.0, f.1, f.2, f.3) ended

@@ -1,8 +1,8 @@
 -- A turn keeps the progress of a run.
-use Rattle.std.proofs.Common.{◌≡◌, ◌+◌, ◌<◌, [], ◌++◌, length, length-append, refl, sym, ap, subst, ◌∙◌, arith, append-nil, true, false}
+use Rattle.std.proofs.Common.{◌≡◌, suc, ◌+◌, ◌<◌, ◌≤◌, [], ◌++◌, length, length-append, refl, sym, ap, subst, ◌∙◌, arith, append-nil, true, false}
 use Rattle.std.proofs.lemmas.Bool.{ltb-true}
 use Rattle.dmc_text.specs.Replies.{tag_text}
-use Rattle.dmc_text.specs.Reading.{next_line, Filled}
+use Rattle.dmc_text.specs.Reading.{Filled, most_bytes, next_line}
 use Rattle.dmc_text.specs.Runs.{Turns}
 use Rattle.dmc_text.specs.LineLaws.{none_taken}
 use Rattle.dmc_text.proofs.RunSteps.{turn_by, long, read_more, not_written, not_read, err_is, ok_is, err_less}
@@ -36,7 +36,7 @@ returns-then-is_err g c =
     let r = g.R.Read.remaining c.args.reader.now in
     let of = g.W.Write.contents in
     let failed = err_is c.send.result c.if-is_err.ensures.value c.send.ensures.err in
-    λ input output p. not_written ops text state input output r (of c.args.writer.now) (of c.send.new.writer) c.args.run.now c.send.new.out.items c.send.ensures.empty failed p
+    λ input output p. not_written ops text state input output r (of c.args.writer.now) (of c.send.new.writer) c.args.run.now c.send.new.out.items c.send.ensures.empty c.requires failed p
 
 pub returns-in-Ok-true : goal.returns-in-Ok-true
 returns-in-Ok-true g c =
@@ -53,7 +53,7 @@ returns-in-Ok-true g c =
     let taken-is : c.fill.new.self.taken ≡ old.lines.taken + length bytes = f.4 ∙ ap (λ l. l.taken + length bytes) c.if-find.ensures.1 in
     let len-is : length c.fill.new.self.rest ≡ length old.lines.rest + length bytes = ap length rest-is ∙ length-append old.lines.rest bytes in (
       λ input output p. read_more ops text state input output (at c.args.reader.now) (of c.args.writer.now) (at c.fill.new.reader) (of c.send.new.writer) old _ bytes
-          refl refl c.send.ensures.empty rest-is sent f.1 p,
+          refl refl c.send.ensures.empty rest-is taken-is sent f.1 p,
       record { taken = c.fill.ensures.taken; number = omega (arith, c.requires.number, taken-is, len-is) },
       omega (arith, c.fill.ensures.taken, taken-is, len-is, f.3),
     )
@@ -72,7 +72,7 @@ returns-in-Ok-false g c =
     let taken-is : c.fill.new.self.taken ≡ old.lines.taken = f.3 ∙ ap (λ l. l.taken) c.if-find.ensures.1 in
     let len-is : length c.fill.new.self.rest ≡ length old.lines.rest = ap length rest-is in (
       λ input output p. read_more ops text state input output (at c.args.reader.now) (of c.args.writer.now) (at c.fill.new.reader) (of c.send.new.writer) old _ []
-          refl refl c.send.ensures.empty (rest-is ∙ sym (append-nil old.lines.rest)) sent (none_taken (at c.args.reader.now) (at c.fill.new.reader) f.1) p,
+          refl refl c.send.ensures.empty (rest-is ∙ sym (append-nil old.lines.rest)) (omega (arith, taken-is)) sent (none_taken (at c.args.reader.now) (at c.fill.new.reader) f.1) p,
       record { taken = c.fill.ensures.taken; number = omega (arith, c.requires.number, taken-is, len-is) },
       f.0,
       ap next_line rest-is ∙ c.if-find.ensures.0,
@@ -86,6 +86,7 @@ returns-in-Err g c =
     let at = g.R.Read.remaining in
     let of = g.W.Write.contents in
     let f = c.in-Err.ensures.bytes in
+    let most : c.args.run.now.lines.taken + length f.0 ≤ suc most_bytes = subst (λ l. l.taken + length f.0 ≤ suc most_bytes) c.if-find.ensures.1 f.4 in
     let sent = ok_is c.send.result c.if-is_err.ensures.value c.send.ensures.ok in
     λ input output p. not_read ops text state input output (at c.args.reader.now) (of c.args.writer.now) (at c.fill.new.reader) (of c.send.new.writer) c.args.run.now c.send.new.out.items f.0
-    c.send.ensures.empty sent f.1 p
+    c.send.ensures.empty most sent f.1 p

@@ -41,4 +41,4 @@ returns-in-Err-clause-bytes g c =
     let rest-is : slice_range self.buffer.items self.start self.end ≡ c.args.self.now.rest = ap (λ r. r.rest) c.self.view_is ∙ c.move_to_front.ensures.rest in
     let taken-is : self.taken ≡ c.args.self.now.taken = ap (λ r. r.taken) c.self.view_is ∙ c.move_to_front.ensures.taken in
     let same = same_range self.buffer.items c.read_at.new.buffer.items self.start self.end (omega arith) c.read_at.ensures.front in
-    ([], none_taken _ _ c.in-Err.ensures.bytes, same ∙ rest-is, taken-is)
+    ([], none_taken _ _ c.in-Err.ensures.bytes, same ∙ rest-is, taken-is, omega (arith, taken-is, c.self.invariant.5))

@@ -1,4 +1,5 @@
 pub mod Faults
 pub mod Outcomes
+pub mod Runs
 pub mod Words
 pub use Rattle.clap.specs.Words as ClapWords

@@ -105,9 +105,11 @@ fn thirds_recorded(rt: HostRuntime) -> Result<(), Fail> {
     faults(&rt, thirds, b"dmclock: line 3 number\n")
 }
 
-const PULLS: &[u8] = b"hz 1000\n1 pull 0 = none\n# again\n2 pull 7 = none\n";
+/// An event text.
+pub const PULLS: &[u8] = b"hz 1000\n1 pull 0 = none\n# again\n2 pull 7 = none\n";
 
-const PULLS_VERDICT: &[u8] = b"replays 2\n";
+/// What is written for it.
+pub const PULLS_VERDICT: &[u8] = b"replays 2\n";
 
 #[test]
 fn failing_reader_of_events(rt: HostRuntime) -> Result<(), Fail> {

@@ -311,9 +311,12 @@ fn script_faults(rt: HostRuntime) -> Result<(), Fail> {
     faults(&rt, b"hz 1000 2 1\n", b"", b"dmclock: line 1 hz\n")
 }
 
-const AT_LIMIT: &[u8] = b"hz 1000\nclient 1 10 1 20 0\nadd 1 7 1 1 0\npull 0\npull 50\npull 50\n";
+/// A script.
+pub const AT_LIMIT: &[u8] =
+    b"hz 1000\nclient 1 10 1 20 0\nadd 1 7 1 1 0\npull 0\npull 50\npull 50\n";
 
-const AT_LIMIT_OUT: &[u8] = b"ok\ntags 100 50 1000\nfuture 50\ngrant 1 7 priority\nnone\n";
+/// What is written for it.
+pub const AT_LIMIT_OUT: &[u8] = b"ok\ntags 100 50 1000\nfuture 50\ngrant 1 7 priority\nnone\n";
 
 #[test]
 fn failing_reader(rt: HostRuntime) -> Result<(), Fail> {

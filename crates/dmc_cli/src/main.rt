@@ -15,6 +15,8 @@ mod queues;
 mod runs;
 mod script;
 #[cfg(test)]
+mod stream_tests;
+#[cfg(test)]
 mod tests;
 mod tool;
 mod words;

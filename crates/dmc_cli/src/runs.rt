@@ -93,18 +93,33 @@ impl<'a> Read for FailingReader<'a> {
     }
 }
 
-/// Takes a byte at a time, and fails in the place of the n-th write.
+/// Takes a byte at a time, and fails in the place of the n-th write, or at a flush.
 #[derive(Drop)]
 pub struct FailingWriter {
     written: Vec<u8>,
     left: usize,
+    is_flushed: bool,
 }
 
 impl FailingWriter {
     /// A writer that takes so many bytes and then fails. Its room is made here.
     pub fn new(alloc: Global, left: usize) -> Result<FailingWriter, AllocError> {
         let written = Vec::with_capacity(alloc, ROOM)?;
-        Ok(FailingWriter { written, left })
+        Ok(FailingWriter {
+            written,
+            left,
+            is_flushed: true,
+        })
+    }
+
+    /// A writer that takes all and fails at a flush.
+    pub fn unflushed(alloc: Global) -> Result<FailingWriter, AllocError> {
+        let written = Vec::with_capacity(alloc, ROOM)?;
+        Ok(FailingWriter {
+            written,
+            left: ROOM,
+            is_flushed: false,
+        })
     }
 
     /// What it took.
@@ -129,6 +144,58 @@ impl Write for FailingWriter {
     }
 
     fn flush(&mut self) -> io::Result<()> {
+        if self.is_flushed {
+            return Ok(());
+        }
+        Err(io::Error::from(io::ErrorKind::Other))
+    }
+}
+
+/// Is interrupted before each read, or before each write.
+#[derive(Drop)]
+pub struct Interrupted<S> {
+    stream: S,
+    is_ready: bool,
+}
+
+impl<S> Interrupted<S> {
+    /// The stream, interrupted.
+    pub fn new(stream: S) -> Interrupted<S> {
+        Interrupted {
+            stream,
+            is_ready: false,
+        }
+    }
+
+    /// What is interrupted.
+    pub fn stream(&self) -> &S {
+        &self.stream
+    }
+
+    // Every other turn is an interruption.
+    fn turn(&mut self) -> io::Result<()> {
+        self.is_ready = !self.is_ready;
+        if self.is_ready {
+            return Err(io::Error::from(io::ErrorKind::Interrupted));
+        }
         Ok(())
+    }
+}
+
+impl<S: Read> Read for Interrupted<S> {
+    fn read(&mut self, buffer: &mut [u8]) -> io::Result<usize> {
+        self.turn()?;
+        self.stream.read(buffer)
+    }
+}
+
+impl<S: Write> Write for Interrupted<S> {
+    fn write(&mut self, bytes: &[u8]) -> io::Result<usize> {
+        self.turn()?;
+        self.stream.write(bytes)
+    }
+
+    fn flush(&mut self) -> io::Result<()> {
+        self.stream.flush()
     }
 }

@@ -1,16 +1,12 @@
 //! The command `script`.
 ghost use Rattle.std.specs.Prelude.{◌≡◌};
-ghost use Rattle.dmc_types.specs.declared.config.TagKind.TheVariants as kinds;
-ghost use Rattle.dmc_text.specs.Replies.{tag_text};
-ghost use Rattle.dmc_text.specs.Texts.{RunsAs};
 ghost use Rattle.dmc_cli.specs.Faults.{fault_of_script};
+ghost use Rattle.dmc_cli.specs.Runs.{RunsScript};
 
 use crate::fault::Fault;
 use crate::makers::HeapMaker;
 use dmc_ratio::ratio::RatioTag;
-use dmc_tag::tag::Tag;
 use dmc_text::script::{ScriptFault, run_script};
-use dmc_text::tag::TagText;
 use dmc_tick::tick::TickTag;
 use dmc_types::config::TagKind;
 use std::alloc::Global;
@@ -36,10 +32,7 @@ pub fn run_on<R: Read, W: Write>(
     reader: &mut R,
     writer: &mut W,
 ) -> Result<(), ScriptFault>
-    ensures ticks { tags ≡ kinds.Tick → RunsAs ⟦<TickTag as Tag>⟧.ops (tag_text ⟦<TickTag as TagText>⟧.numerator ⟦<TickTag as TagText>⟧.denominator)
-        (R.remaining reader.old) (R.remaining reader.new) (W.contents writer.old) (W.contents writer.new) result }
-    ensures ratios { tags ≡ kinds.Ratio → RunsAs ⟦<RatioTag as Tag>⟧.ops (tag_text ⟦<RatioTag as TagText>⟧.numerator ⟦<RatioTag as TagText>⟧.denominator)
-        (R.remaining reader.old) (R.remaining reader.new) (W.contents writer.old) (W.contents writer.new) result }
+    ensures { RunsScript tags (R.remaining reader.old) (R.remaining reader.new) (W.contents writer.old) (W.contents writer.new) result }
 {
     let mut maker = HeapMaker { alloc };
     match tags {

@@ -1,10 +1,12 @@
 //! One run of the program, over any streams.
-ghost use Rattle.std.specs.Prelude.{◌≡◌, ◌≤◌};
+ghost use Rattle.std.specs.Prelude.{◌≡◌, ◌≤◌, map};
 ghost use Rattle.dmc_cli.specs.Faults.{status_of};
+ghost use Rattle.dmc_cli.specs.Runs.{RunsTool, RunsWords};
+ghost use Rattle.dmc_cli.specs.Words.{asked};
 
 use crate::fault::Fault;
 use crate::outcome::Outcome;
-use crate::words::{Tool, ToolCommand, read_words};
+use crate::words::{Tool, ToolCommand, WRITTEN, read_words};
 use crate::{check, script};
 use std::alloc::Global;
 use std::convert::AsStr;
@@ -20,7 +22,9 @@ pub fn run_tool<T: AllocGlobal, S: AsStr, R: Read, W: Write, E: Write>(
     writer: &mut W,
     fault_writer: &mut E,
 ) -> u8
-    ensures { result ≤ 4 }
+    ensures runs { RunsTool (asked WRITTEN (map S.text words.now))
+        (R.remaining reader.old) (R.remaining reader.new) (W.contents writer.old) (W.contents writer.new) result }
+    ensures status { result ≤ 4 }
 {
     match run_words(rt.alloc(), words, reader, writer) {
         Ok(outcome) => outcome.status(),
@@ -42,7 +46,10 @@ fn run_words<S: AsStr, R: Read, W: Write>(
     words: &[S],
     reader: &mut R,
     writer: &mut W,
-) -> Result<Outcome, Fault> {
+) -> Result<Outcome, Fault>
+    ensures { RunsWords (asked WRITTEN (map S.text words.now))
+        (R.remaining reader.old) (R.remaining reader.new) (W.contents writer.old) (W.contents writer.new) result }
+{
     let Tool { command, tags } = read_words(alloc, words)?;
     match command {
         ToolCommand::Script => {

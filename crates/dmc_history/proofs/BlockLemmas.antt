@@ -1,11 +1,12 @@
 -- What blocks that are filled in order say of the events in them.
-use Rattle.std.proofs.Common.{◌≡◌, ℕ, zero, suc, ◌+◌, ◌-◌, ◌*◌, ◌/◌, ◌%◌, ◌<◌, ◌≤◌, List, [], ◌∷◌, ◌++◌, length, get_or, refl, sym, ap, ◌∙◌, arith, inl, inr, append_assoc, set}
+use Rattle.std.proofs.Common.{◌≡◌, ℕ, zero, suc, ◌+◌, ◌-◌, ◌*◌, ◌/◌, ◌%◌, ◌<◌, ◌≤◌, List, [], ◌∷◌, ◌++◌, length, get_or, min, refl, sym, ap, ◌∙◌, arith, inl, inr, append_assoc, set}
 use Rattle.std.specs.Prelude.{slice_get, option_and_then, vec_capacity}
 use Rattle.std.specs.Global.{Vec}
 use Rattle.std.proofs.lemmas.List.{length-append, append-nil}
 use Rattle.std.proofs.lemmas.Bool.{cases_lt}
 use Rattle.std.proofs.lemmas.Option.{slice_get_past}
-use Rattle.dmc_history.specs.Blocks.{events_of, AreFilled}
+use Rattle.dmc_history.specs.Log.{block_size}
+use Rattle.dmc_history.specs.Blocks.{events_of, room_of, AreFilled}
 
 -- a list of no elements
 empty_of_length : {X : Type 0} (xs : List X) → length xs ≡ 0 → xs ≡ []
@@ -127,3 +128,8 @@ module _ {E : Type 0} where
   pub events_of-push : (blocks : List (Vec E)) (b : Vec E) → b.items ≡ [] → events_of (blocks ++ b ∷ []) ≡ events_of blocks
   events_of-push [] b empty = rw empty refl
   events_of-push (a ∷ bs) b empty = ap (λ es. a.items ++ es) (events_of-push bs b empty)
+
+  -- it makes a whole block of places, or as many as may still be filled
+  pub room_of-push : (blocks : List (Vec E)) (b : Vec E) (len most : ℕ) → len ≡ 1024 * length blocks → len ≤ most
+      → room_of (blocks ++ b ∷ []) len most ≡ min block_size (most - len)
+  room_of-push blocks b len most full within = omega (arith, length-append blocks (b ∷ []))

@@ -6,3 +6,7 @@ pub record Log (E : Type 0) : Type 0 where
   pub events : List E
   pub most : ℕ
   pub room : ℕ
+
+-- how many events a block of a history has places for
+abbrev pub block_size : ℕ
+block_size = 1024

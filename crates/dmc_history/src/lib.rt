@@ -1,8 +1,9 @@
 //! A history: a list of events that only grows, kept in blocks of 1,024, so that a growth copies no event.
 #![tactic(auto)]
 
-ghost use Rattle.std.specs.Prelude.{◌≡◌, ◌↔◌, ◌+◌, ◌-◌, ◌<◌, ◌≤◌, ◌^◌, [], ◌∷◌, ◌++◌, length, IsTrue, OnOk, OnErr, IsErrOf, IsOk, option_copied, slice_get, vec_capacity};
+ghost use Rattle.std.specs.Prelude.{◌≡◌, ◌↔◌, ◌+◌, ◌-◌, ◌<◌, ◌≤◌, ◌^◌, [], ◌∷◌, ◌++◌, length, IsTrue, OnOk, OnErr, IsErrOf, IsOk, min, option_copied, slice_get, vec_capacity};
 ghost use Rattle.std.specs.Global.{Vec};
+ghost use Rattle.dmc_history.specs.Log.{block_size};
 
 pub use dmc_tag::event::Event;
 use std::alloc::{AllocError, Global};
@@ -115,8 +116,12 @@ impl<E: Drop> History<E> {
 
     /// Reserves a place, which the next push uses: refused `HistoryFull` exactly where it has its `most` events, then
     /// `Memory` where the allocator refused a growth. A place that is reserved already serves again, and needs no memory.
+    /// Where none is, a growth makes a whole block of places: 1,024, or as many as it may still have.
     pub fn reserve_one(&mut self) -> Result<(), ReserveFault>
         ensures ok { OnOk result (0 < self.new.room) }
+        ensures fewer { OnOk result (length self.old.events < self.old.most) }
+        ensures block { OnOk result (self.old.room ≡ 0
+            → self.new.room ≡ min block_size (self.old.most - length self.old.events)) }
         ensures full { IsErrOf result ReserveFault.HistoryFull ↔ (length self.old.events ≡ self.old.most) }
         ensures reserved { 0 < self.old.room → IsOk result }
 
@@ -151,7 +156,7 @@ impl<E: Drop> History<E> {
 // Adds an empty block at the end.
 fn add_block<E: Drop>(alloc: Global, blocks: &mut Vec<Vec<E>>) -> Result<(), AllocError>
     ensures ok { OnOk result
-        ((b : Vec E) × (blocks.new.items ≡ blocks.old.items ++ b ∷ []) × (b.items ≡ []) × (1024 ≤ vec_capacity b)) }
+        ((b : Vec E) × (blocks.new.items ≡ blocks.old.items ++ b ∷ []) × (b.items ≡ []) × (block_size ≤ vec_capacity b)) }
     ensures err { OnErr result (blocks.new.items ≡ blocks.old.items) }
 {
     let block = Vec::with_capacity(alloc, BLOCK)?;
@@ -165,11 +170,13 @@ mod tests {
     use std::process::Abort;
     use std::test::Fail;
 
-    // Records one event. Where a growth is refused the history has as many events as before, and the next try is Ok.
+    // Records one event. A growth is refused only at a block's first event: then the history has as many events as before,
+    // and the next try is Ok.
     fn record(rt: &impl Abort, history: &mut History<u32>, event: u32) -> Result<(), Fail> {
         let before = history.len();
         if let Err(fault) = history.reserve_one() {
             assert_eq!(rt; fault, ReserveFault::Memory);
+            assert_eq!(rt; before % BLOCK, 0);
             assert_eq!(rt; history.len(), before);
             history.reserve_one()?;
         }

@@ -1,6 +1,6 @@
 use Rattle.std.proofs.Common.{arith}
 use Rattle.std.proofs.lemmas.Grind.{common_steps}
-use Rattle.dmc_history.proofs.BlockLemmas.{length-events_of, len-le, AreFilled-push}
+use Rattle.dmc_history.proofs.BlockLemmas.{length-events_of, len-le, AreFilled-push, room_of-push}
 use Rattle.dmc_history.proofs.History.reserve_one.Goals as goal
 
 pub returns-then-self-clause-full : goal.returns-then-self-clause-full
@@ -19,6 +19,18 @@ returns-in_err-add_block-clause-full g c =
     let counted = length-events_of _ _ c.self.invariant.0 in
     rw (← c.self.view_is) (grind (arith, common_steps, counted))
 
+pub returns-in_ok-add_block-clause-fewer : goal.returns-in_ok-add_block-clause-fewer
+returns-in_ok-add_block-clause-fewer g c =
+    let counted = length-events_of _ _ c.self.invariant.0 in
+    rw (← c.self.view_is) (omega (arith, counted))
+
+pub returns-in_ok-add_block-clause-block : goal.returns-in_ok-add_block-clause-block
+returns-in_ok-add_block-clause-block g c =
+    let (b, added, empty, memory) = c.in_ok-add_block.ensures.ok in
+    let counted = length-events_of _ _ c.self.invariant.0 in
+    let bound = len-le _ _ c.self.invariant.0 in
+    rw (← c.self.view_is, added, counted) (λ none. room_of-push _ b _ _ (omega arith) (omega arith))
+
 pub returns-in_ok-add_block-clause-full : goal.returns-in_ok-add_block-clause-full
 returns-in_ok-add_block-clause-full g c =
     let counted = length-events_of _ _ c.self.invariant.0 in
@@ -28,6 +40,16 @@ pub returns-else-self-len-clause-ok : goal.returns-else-self-len-clause-ok
 returns-else-self-len-clause-ok g c =
     let bound = len-le _ _ c.self.invariant.0 in
     rw (← c.self.view_is) (omega arith)
+
+pub returns-else-self-len-clause-fewer : goal.returns-else-self-len-clause-fewer
+returns-else-self-len-clause-fewer g c =
+    let counted = length-events_of _ _ c.self.invariant.0 in
+    rw (← c.self.view_is) (omega (arith, counted))
+
+pub returns-else-self-len-clause-block : goal.returns-else-self-len-clause-block
+returns-else-self-len-clause-block g c =
+    let bound = len-le _ _ c.self.invariant.0 in
+    rw (← c.self.view_is) (λ none. absurd (omega arith))
 
 pub returns-else-self-len-clause-full : goal.returns-else-self-len-clause-full
 returns-else-self-len-clause-full g c =

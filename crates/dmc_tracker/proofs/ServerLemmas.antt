@@ -1,7 +1,9 @@
 -- What a tracker keeps for its servers, through a stamp and a response.
-use Rattle.std.proofs.Common.{◌≡◌, ℕ, zero, suc, ◌<◌, List, [], ◌∷◌, length, map, set, get_or, replicate, refl, sym, ap, ◌∙◌, arith}
+use Rattle.std.proofs.Common.{◌≡◌, ℕ, zero, suc, ◌<◌, List, [], ◌∷◌, ◌+◌, ◌≤◌, length, map, set, get_or, replicate, refl, sym, ap, ◌∙◌, arith}
 use Rattle.std.specs.Prelude.{All as Each}
 use Rattle.std.proofs.lemmas.List.{get_or-map, map-set}
+use Rattle.std.proofs.lemmas.List.Elements.{All-set}
+use Rattle.std.proofs.lemmas.List.{length-set}
 use Rattle.std.proofs.Math.Seq.{map-set_same}
 use Rattle.dmc_types.specs.Values.{Params}
 use Rattle.dmc_types.specs.declared.ids.ServerId.{ServerId}
@@ -86,6 +88,50 @@ view-stamp counting most comps params servers s x within at e =
     ∙ ap (λ (p : Params). let y : ServerNumbers = record { sent = plus x.sent p; pending = no_counts } in set (map f servers) s.0 y) e
     ∙ ap (λ (n : ServerNumbers). let y : ServerNumbers = record { sent = plus n.sent (plus n.pending (own_share counting)); pending = no_counts } in set (map f servers) s.0 y)
     (sym (seen_at counting most comps servers s x within at)))
+
+IsKept-stamped : (counting : Counting) (most : ℕ) (comps params : Params) (x : ServerCounts) → IsKept counting most comps x
+    → params ≡ plus (numbers_now counting comps x).pending (own_share counting) → x.sent.delta + params.delta ≤ most
+    → IsKept counting most comps (stamped counting comps params x)
+IsKept-stamped All most comps params x h e bound =
+    let d = ap (λ (p : Params). p.delta) e in
+    let r = ap (λ (p : Params). p.rho) e in
+    let sent = ap (λ (p : Params). p.delta) (h.sent_all refl) in
+    let sent_rho = ap (λ (p : Params). p.rho) (h.sent_all refl) in
+    record {
+      own = h.own;
+      mark = record { delta = omega arith; rho = omega arith; rest = omega arith };
+      sent_rho = omega (arith, h.mark.rest, h.mark.rho, h.mark.delta, h.sent_rho);
+      sent_most = bound;
+      sent_all = λ _. same_params _ _ (omega (arith, h.mark.delta)) (omega (arith, h.mark.rho));
+    }
+IsKept-stamped Others most comps params x h e bound =
+    let d = ap (λ (p : Params). p.delta) e in
+    let r = ap (λ (p : Params). p.rho) e in
+    record {
+      own = h.own;
+      mark = record { delta = omega arith; rho = omega arith; rest = omega arith };
+      sent_rho = omega (arith, h.mark.rest, h.mark.rho, h.mark.delta, h.sent_rho);
+      sent_most = bound;
+      sent_all = λ form. absurd (cc);
+    }
+
+-- a stamp that takes what is sent to its server no further than `most`
+pub AreKept-stamp : (counting : Counting) (most : ℕ) (comps params : Params) (servers : List ServerCounts) (s : ServerId) (x : ServerCounts)
+    → AreKept counting most comps servers → s.0 < length servers → x ≡ get_or servers s.0 x
+    → params ≡ plus (numbers_now counting comps x).pending (own_share counting) → x.sent.delta + params.delta ≤ most
+    → AreKept counting most comps (set servers s.0 (stamped counting comps params x))
+AreKept-stamp counting most comps params servers s x kept within at e bound =
+    let new = stamped counting comps params x in
+    let before : IsKept counting most comps x = rw at (kept.each s.0 x within) in
+    record {
+      some_most = kept.some_most;
+      most_limit = kept.most_limit;
+      some_servers = omega (arith, length-set servers s.0 new, kept.some_servers);
+      servers_limit = omega (arith, length-set servers s.0 new, kept.servers_limit);
+      completions_rho = kept.completions_rho;
+      completions_most = kept.completions_most;
+      each = All-set (IsKept counting most comps) servers s.0 new (IsKept-stamped counting most comps params x before e bound) kept.each;
+    }
 
 -- a response, seen at all servers
 servers-response : (counting : Counting) (most : ℕ) (comps : Params) (servers : List ServerCounts) (s : ServerId) (x : ServerCounts)

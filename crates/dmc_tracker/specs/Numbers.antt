@@ -90,3 +90,9 @@ pub record Stands (numbers : Numbers) (events : List TrackerEvent) : Type 0 wher
   pub completed : numbers.completions ≡ completions events
   pub each : (s : ServerId) → s.0 < length numbers.servers
       → numbers_at numbers s ≡ numbers_of numbers.counting s events
+
+-- what no call changes: the form, `most` and how many servers there are
+pub record Keeps (old new : Numbers) : Type 0 where
+  pub counting : new.counting ≡ old.counting
+  pub most : new.most ≡ old.most
+  pub servers : length new.servers ≡ length old.servers

@@ -1,6 +1,6 @@
 -- A tracker's list of stamps and responses, oldest first, and what its counts are. Two counts always go together: delta,
 -- of all responses, and rho, of those of them in the constraint phase.
-use Rattle.std.specs.Prelude.{◌≡◌, ℕ, ◌+◌, ◌==◌, Bool, false, if◌then◌else◌, List, ◌∷◌, ◌++◌, sum_by, count_by}
+use Rattle.std.specs.Prelude.{◌≡◌, ℕ, ◌+◌, ◌<◌, ◌==◌, Bool, false, if◌then◌else◌, List, ◌∷◌, ◌++◌, sum_by, count_by}
 use Rattle.std.specs.List.{after_last}
 use Rattle.dmc_types.specs.Values.{Params}
 use Rattle.dmc_types.specs.declared.ids.ServerId.{ServerId}
@@ -46,6 +46,13 @@ abbrev pub is_stamp_to : ServerId → TrackerEvent → Bool
 is_stamp_to s (Stamp server params) = server.0 == s.0
 is_stamp_to s (Response server phase) = false
 
+abbrev pub is_response_in : ServerId → PhaseType → TrackerEvent → Bool
+is_response_in s phase (Stamp server params) = false
+is_response_in s Reservation (Response server Reservation) = server.0 == s.0
+is_response_in s Reservation (Response server Priority) = false
+is_response_in s Priority (Response server Reservation) = false
+is_response_in s Priority (Response server Priority) = server.0 == s.0
+
 -- what a stamp counts for its own request
 abbrev pub own_share : Counting → Params
 own_share All = no_counts
@@ -58,6 +65,17 @@ completions events = total completed_by events
 -- the completions at servers other than s
 abbrev pub others : ServerId → List TrackerEvent → Params
 others s events = total (counted_by Others s) events
+
+-- how many responses of s in a phase there are
+abbrev pub responses : ServerId → PhaseType → List TrackerEvent → ℕ
+responses s phase events = count_by (is_response_in s phase) events
+
+-- the completions at s
+abbrev pub completions_at : ServerId → List TrackerEvent → Params
+completions_at s events = record {
+  delta = responses s Reservation events + responses s Priority events;
+  rho = responses s Reservation events;
+}
 
 -- how many stamps to s there are
 abbrev pub stamps : ServerId → List TrackerEvent → ℕ
@@ -79,3 +97,12 @@ demanded counting s events = plus (pending counting s events) (own_share countin
 abbrev pub IsTracked : Counting → List TrackerEvent → Type 0
 IsTracked counting events = (before after : List TrackerEvent) (s : ServerId) (params : Params)
     → events ≡ before ++ Stamp s params ∷ after → params ≡ demanded counting s before
+
+-- the completions are `most`
+abbrev pub IsComplete : ℕ → List TrackerEvent → Type 0
+IsComplete most events = (completions events).delta ≡ most
+
+-- in `Others`: the delta that the next stamp to s must carry would take the sum of the deltas stamped to s past `most`
+pub record IsStampFull (counting : Counting) (most : ℕ) (s : ServerId) (events : List TrackerEvent) : Type 0 where
+  pub form : counting ≡ Others
+  pub past : most < (sent s events).delta + (demanded counting s events).delta

@@ -2,8 +2,8 @@
 ghost use Rattle.std.specs.Prelude.{◌≡◌, ℕ, ◌<◌, ◌≤◌, ◌^◌, ◌+◌, ◌↔◌, Option, List, [], ◌∷◌, ◌++◌, length, replicate, IfOk, OnOk, OnErr, IsErrOf, IsOkUnless, slice_get, option_map};
 ghost use Rattle.dmc_types.specs.declared.config.Counting.{Counting};
 ghost use Rattle.dmc_tracker.specs.declared.event.TrackerEvent.{TrackerEvent};
-ghost use Rattle.dmc_tracker.specs.TrackerList.{demanded, no_counts};
-ghost use Rattle.dmc_tracker.specs.Numbers.{Numbers, ServerNumbers, no_numbers, new_numbers, numbers_at, next_params, after_stamp, after_response, sent_pair, pending_pair, AreLimits, IsSentFull, Stands};
+ghost use Rattle.dmc_tracker.specs.TrackerList.{demanded, IsComplete, IsStampFull};
+ghost use Rattle.dmc_tracker.specs.Numbers.{Numbers, ServerNumbers, no_numbers, new_numbers, numbers_at, next_params, after_stamp, after_response, sent_pair, pending_pair, AreLimits, IsSentFull, Keeps, Stands};
 
 use crate::counts::Counts;
 use crate::event::TrackerEvent;
@@ -94,20 +94,18 @@ impl ServiceTracker {
         })
     }
 
-    /// Stamps a request to a server: refused `NoServer`, then `TrackFull`, in the form `Others` alone, where the delta would
-    /// take what was sent to the server past `most`.
-    pub fn get_req_params(&mut self, server: ServerId) -> Result<ReqParams, TrackFault>
-        ensures params { IfOk result (λ params. params ≡ next_params self.old server) }
-        ensures after { OnOk result (self.new ≡ after_stamp server self.old) }
+    /// Whether the next stamp to a server would be refused, and why: `NoServer`, then `TrackFull`, in the form `Others`
+    /// alone, where the delta would take what was sent to the server past `most`. It changes nothing.
+    pub fn can_stamp(&self, server: ServerId) -> Result<(), TrackFault>
+        ensures within { OnOk result
+            ((numbers_at self.now server).sent.delta + (next_params self.now server).delta ≤ self.now.most) }
+        ensures no_server { IsErrOf result TrackFault.NoServer ↔ (length self.now.servers ≤ server.0) }
+        ensures full { IsErrOf result TrackFault.TrackFull ↔ IsSentFull self.now server }
 
-        // Of each list that the tracker stands for, it takes the numbers to those of the list with this stamp, which
-        // carries what the list demands.
-        ensures stands { IfOk result (λ params. (events : List TrackerEvent) → Stands self.old events
-            → (params ≡ demanded self.old.counting server events) × Stands self.new (events ++ TrackerEvent.Stamp server params ∷ [])) }
-
-        ensures no_server { IsErrOf result TrackFault.NoServer ↔ (length self.old.servers ≤ server.0) }
-        ensures full { IsErrOf result TrackFault.TrackFull ↔ IsSentFull self.old server }
-        ensures err { OnErr result (self.new ≡ self.old) }
+        // The same in words of each list that the tracker stands for.
+        ensures full_by_list { (events : List TrackerEvent) → Stands self.now events
+            → (IsErrOf result TrackFault.TrackFull ↔ ((server.0 < length self.now.servers)
+            × IsStampFull self.now.counting self.now.most server events)) }
     {
         let index = server.0 as usize;
         if index >= self.servers.len() {
@@ -119,7 +117,34 @@ impl ServiceTracker {
         if self.counting == Counting::Others && pending.delta >= self.most - counts.sent.delta {
             return Err(TrackFault::TrackFull);
         }
-        let params = pending.plus(Counts::own_share(self.counting));
+        Ok(())
+    }
+
+    /// Stamps a request to a server: refused as `can_stamp` says.
+    pub fn get_req_params(&mut self, server: ServerId) -> Result<ReqParams, TrackFault>
+        ensures params { IfOk result (λ params. params ≡ next_params self.old server) }
+        ensures after { OnOk result (self.new ≡ after_stamp server self.old) }
+
+        // Of each list that the tracker stands for, it takes the numbers to those of the list with this stamp, which
+        // carries what the list demands.
+        ensures stands { IfOk result (λ params. (events : List TrackerEvent) → Stands self.old events
+            → (params ≡ demanded self.old.counting server events) × Stands self.new (events ++ TrackerEvent.Stamp server params ∷ [])) }
+
+        ensures no_server { IsErrOf result TrackFault.NoServer ↔ (length self.old.servers ≤ server.0) }
+        ensures full { IsErrOf result TrackFault.TrackFull ↔ IsSentFull self.old server }
+        ensures full_by_list { (events : List TrackerEvent) → Stands self.old events
+            → (IsErrOf result TrackFault.TrackFull ↔ ((server.0 < length self.old.servers)
+            × IsStampFull self.old.counting self.old.most server events)) }
+        ensures err { OnErr result (self.new ≡ self.old) }
+        ensures kept { Keeps self.old self.new }
+    {
+        self.can_stamp(server)?;
+        let index = server.0 as usize;
+        let counts = self.servers[index];
+        let counted = counts.counted(self.counting, self.completions);
+        let params = counted
+            .minus(counts.mark)
+            .plus(Counts::own_share(self.counting));
         self.servers[index] = ServerCounts {
             sent: counts.sent.plus(params),
             mark: counted,
@@ -128,8 +153,28 @@ impl ServiceTracker {
         Ok(ReqParams::new(params.delta, params.rho).unwrap())
     }
 
-    /// Counts a completion: a server answered a request that it granted in a phase. Refused `NoServer`, then `TrackFull`
-    /// where the completions are `most`.
+    /// Whether a response of a server would be refused, and why: `NoServer`, then `TrackFull` where the completions are
+    /// `most`. It changes nothing.
+    pub fn can_respond(&self, server: ServerId) -> Result<(), TrackFault>
+        ensures fewer { OnOk result (self.now.completions.delta < self.now.most) }
+        ensures no_server { IsErrOf result TrackFault.NoServer ↔ (length self.now.servers ≤ server.0) }
+        ensures full { IsErrOf result TrackFault.TrackFull
+            ↔ ((server.0 < length self.now.servers) × (self.now.completions.delta ≡ self.now.most)) }
+
+        // The same in words of each list that the tracker stands for.
+        ensures full_by_list { (events : List TrackerEvent) → Stands self.now events
+            → (IsErrOf result TrackFault.TrackFull ↔ ((server.0 < length self.now.servers) × IsComplete self.now.most events)) }
+    {
+        if server.0 as usize >= self.servers.len() {
+            return Err(TrackFault::NoServer);
+        }
+        if self.completions.delta == self.most {
+            return Err(TrackFault::TrackFull);
+        }
+        Ok(())
+    }
+
+    /// Counts a completion: a server answered a request that it granted in a phase. Refused as `can_respond` says.
     pub fn track_resp(&mut self, server: ServerId, phase: PhaseType) -> Result<(), TrackFault>
         ensures after { OnOk result (self.new ≡ after_response server phase self.old) }
 
@@ -140,17 +185,15 @@ impl ServiceTracker {
         ensures no_server { IsErrOf result TrackFault.NoServer ↔ (length self.old.servers ≤ server.0) }
         ensures full { IsErrOf result TrackFault.TrackFull
             ↔ ((server.0 < length self.old.servers) × (self.old.completions.delta ≡ self.old.most)) }
+        ensures full_by_list { (events : List TrackerEvent) → Stands self.old events
+            → (IsErrOf result TrackFault.TrackFull ↔ ((server.0 < length self.old.servers) × IsComplete self.old.most events)) }
         ensures err { OnErr result (self.new ≡ self.old) }
+        ensures kept { Keeps self.old self.new }
     {
-        let index = server.0 as usize;
-        if index >= self.servers.len() {
-            return Err(TrackFault::NoServer);
-        }
-        if self.completions.delta == self.most {
-            return Err(TrackFault::TrackFull);
-        }
+        self.can_respond(server)?;
         let one = Counts::one(phase);
         self.completions = self.completions.plus(one);
+        let index = server.0 as usize;
         let counts = self.servers[index];
         self.servers[index] = ServerCounts {
             own: counts.own.plus(one),

@@ -1,7 +1,6 @@
 -- The laws of a tracker list.
-use Rattle.std.proofs.Common.{◌≡◌, ℕ, ◌+◌, ◌≤◌, List, [], ◌∷◌, ◌++◌, refl, sym, ap, ◌∙◌, subst, arith, true, false, cond, inl, inr, ◌⊎◌, ◌==◌, append_assoc}
+use Rattle.std.proofs.Common.{◌≡◌, ℕ, ◌+◌, ◌≤◌, List, [], ◌∷◌, ◌++◌, refl, sym, ap, ◌∙◌, arith, true, false, cond, inl, inr, ◌⊎◌, ◌==◌, append_assoc}
 use Rattle.std.proofs.lemmas.List.Sums.{sum_by_push, sum_by-append}
-use Rattle.std.proofs.lemmas.List.{append-nil}
 use Rattle.std.proofs.lemmas.Bool.{eq-eqb}
 use Rattle.std.proofs.lemmas.Bool.Decides.{eqb_tells}
 use Rattle.dmc_types.specs.Values.{Params}
@@ -13,19 +12,12 @@ use Rattle.dmc_tracker.specs.declared.event.TrackerEvent.{TrackerEvent}
 use Rattle.dmc_tracker.specs.declared.event.TrackerEvent.TheVariants.{Stamp, Response}
 use Rattle.dmc_tracker.specs.TrackerList.{no_counts, plus, total, one_in, completed_by, counted_by, sent_by, is_stamp_to, own_share, completions, others, stamps, sent, pending, demanded, IsTracked}
 use Rattle.dmc_tracker.proofs.StandsLemmas.{same_server}
-use Rattle.dmc_tracker.proofs.ListLemmas.{same_params, plus-none, none-plus, total-push, completions-stamp, sent-response, sent-stamp_same, sent-stamp_other, pending-response, pending-stamp_same, pending-stamp_other}
+use Rattle.dmc_tracker.proofs.ListLemmas.{same_params, plus-none, none-plus, total-push, snoc, completions-stamp, sent-response, sent-stamp_same, sent-stamp_other, pending-response, pending-stamp_same, pending-stamp_other}
 
 -- the front of a tracked list is tracked
 pub IsTracked-front : (counting : Counting) (events more : List TrackerEvent) → IsTracked counting (events ++ more) → IsTracked counting events
 IsTracked-front counting events more h = λ before after s params e.
     h before (after ++ more) s params (ap (λ xs. xs ++ more) e ∙ append_assoc before (Stamp s params ∷ after) more)
-
--- induction over a list from its end
-snoc : (P : List TrackerEvent → Type 0) → P [] → ((events : List TrackerEvent) (e : TrackerEvent) → P events → P (events ++ e ∷ []))
-    → (done rest : List TrackerEvent) → P done → P (done ++ rest)
-snoc P none more done [] h = subst P (sym (append-nil done)) h
-snoc P none more done (e ∷ rest) h =
-    subst P (append_assoc done (e ∷ []) rest) (snoc P none more (done ++ e ∷ []) rest (more done e h))
 
 -- what the stamps to s count for their own requests
 abbrev own_by : Counting → ServerId → TrackerEvent → Params
@@ -56,7 +48,7 @@ sums-push : (counting : Counting) (s : ServerId) (events : List TrackerEvent) (e
     → (IsTracked counting events → IsSum counting s events) → IsTracked counting (events ++ e ∷ []) → IsSum counting s (events ++ e ∷ [])
 sums-push counting s events (Response q phase) h tracked =
     grows _ _ _ _ (counted_by counting s (Response q phase)) _ _ _ _
-    (sent-response counting s events q phase) (pending-response counting s events q phase)
+    (sent-response s events q phase) (pending-response counting s events q phase)
     (total-push (own_by counting s) events (Response q phase))
     (total-push (counted_by counting s) events (Response q phase))
     (h (IsTracked-front counting events (Response q phase ∷ []) tracked))
@@ -68,12 +60,12 @@ sums-push counting s events (Stamp q params) h tracked =
       | inl here ↦
           sends _ _ _ _ params (own_share counting) _ _ _ _
           (tracked events [] q params refl ∙ ap (λ x. demanded counting x events) (same_server q s here.1))
-          (sent-stamp_same counting s events q params here.0) (pending-stamp_same counting s events q params here.0)
+          (sent-stamp_same s events q params here.0) (pending-stamp_same counting s events q params here.0)
           (own ∙ ap (λ b. plus (total (own_by counting s) events) (cond b (own_share counting) no_counts)) here.0)
           counted before
       | inr there ↦
           grows _ _ _ _ no_counts _ _ _ _
-          (sent-stamp_other counting s events q params there.0)
+          (sent-stamp_other s events q params there.0)
           (pending-stamp_other counting s events q params there.0 ∙ sym (plus-none _))
           (own ∙ ap (λ b. plus (total (own_by counting s) events) (cond b (own_share counting) no_counts)) there.0)
           counted before
@@ -164,15 +156,15 @@ parted (a ∷ xs) (b ∷ before) after x y e =
       | inr w ↦ inr (ap (λ z. z ∷ xs) head ∙ ap (λ zs. b ∷ zs) w.0, w.1)
     ]
 
-pub IsTracked-stamp : (counting : Counting) (events : List TrackerEvent) (s : ServerId) → IsTracked counting events
-    → IsTracked counting (events ++ Stamp s (demanded counting s events) ∷ [])
-IsTracked-stamp counting events s h = λ before after q params e.
-    elim (parted events before after (Stamp s (demanded counting s events)) (Stamp q params) e) [
-      | inl w ↦ h before w.0 q params w.1
+pub IsTracked-stamp : (counting : Counting) (events : List TrackerEvent) (s : ServerId) (params : Params)
+    → params ≡ demanded counting s events → IsTracked counting events → IsTracked counting (events ++ Stamp s params ∷ [])
+IsTracked-stamp counting events s params due h = λ before after q carried e.
+    elim (parted events before after (Stamp s params) (Stamp q carried) e) [
+      | inl w ↦ h before w.0 q carried w.1
       | inr w ↦
           (let same : s ≡ q = cc in
-          let carried : demanded counting s events ≡ params = cc in
-          sym carried ∙ ap (λ x. demanded counting x events) same ∙ ap (demanded counting q) w.0)
+          let given : params ≡ carried = cc in
+          sym given ∙ due ∙ ap (λ x. demanded counting x events) same ∙ ap (demanded counting q) w.0)
     ]
 
 pub IsTracked-response : (counting : Counting) (events : List TrackerEvent) (s : ServerId) (phase : PhaseType) → IsTracked counting events
@@ -194,7 +186,7 @@ sent-all s params events h =
     let none = pending-stamp_same All s events s params (eq-eqb s.0 s.0 refl) in
     sym (ap (λ x. plus (sent s (events ++ Stamp s params ∷ [])) x) none ∙ plus-none _)
     ∙ sums-all s (events ++ Stamp s params ∷ []) h
-    ∙ completions-stamp All s events s params
+    ∙ completions-stamp events s params
 
 pub sent-between : (before between after : List TrackerEvent) (s : ServerId) (first last : Params)
     → IsTracked All (before ++ Stamp s first ∷ (between ++ Stamp s last ∷ after))

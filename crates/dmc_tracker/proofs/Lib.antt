@@ -1,4 +1,6 @@
+pub mod CountLemmas
 mod Examples
+pub mod ForCallers
 pub mod LawLemmas
 pub mod ListLemmas
 pub mod ServerLemmas

@@ -1,7 +1,7 @@
 -- What one more entry does to the counts of a tracker list.
-use Rattle.std.proofs.Common.{◌≡◌, ℕ, ◌+◌, ◌-◌, ◌≤◌, List, [], ◌∷◌, ◌++◌, length, drop, ap, ◌∙◌, arith, Bool, true, false, cond, not, ◌==◌}
+use Rattle.std.proofs.Common.{◌≡◌, ℕ, ◌+◌, ◌-◌, ◌≤◌, List, [], ◌∷◌, ◌++◌, length, drop, subst, sym, ap, ◌∙◌, arith, Bool, true, false, cond, not, ◌==◌, append_assoc}
 use Rattle.std.specs.List.{after_last, suffix_len, prefix_len}
-use Rattle.std.proofs.lemmas.List.{length-append, drop-append-le, reverse-append}
+use Rattle.std.proofs.lemmas.List.{length-append, append-nil, drop-append-le, reverse-append}
 use Rattle.std.proofs.lemmas.List.Sums.{sum_by_push, suffix_len-le-length}
 use Rattle.std.proofs.Math.Seq.{drop-length}
 use Rattle.dmc_types.specs.Values.{Params}
@@ -10,7 +10,7 @@ use Rattle.dmc_types.specs.declared.config.Counting.{Counting}
 use Rattle.dmc_types.specs.declared.config.PhaseType.{PhaseType}
 use Rattle.dmc_tracker.specs.declared.event.TrackerEvent.{TrackerEvent}
 use Rattle.dmc_tracker.specs.declared.event.TrackerEvent.TheVariants.{Stamp, Response}
-use Rattle.dmc_tracker.specs.TrackerList.{no_counts, plus, total, one_in, completed_by, counted_by, sent_by, is_stamp_to, completions, sent, pending}
+use Rattle.dmc_tracker.specs.TrackerList.{no_counts, plus, total, one_in, completed_by, counted_by, sent_by, is_stamp_to, completions, stamps, sent, pending}
 
 pub same_params : (a b : Params) → a.delta ≡ b.delta → a.rho ≡ b.rho → a ≡ b
 same_params a b d r = ap (λ x. record { delta = x; rho = a.rho }) d ∙ ap (λ x. record { delta = b.delta; rho = x }) r
@@ -25,6 +25,13 @@ pub total-push : (f : TrackerEvent → Params) (events : List TrackerEvent) (e :
     → total f (events ++ e ∷ []) ≡ plus (total f events) (f e)
 total-push f events e =
     same_params _ _ (sum_by_push (λ x. (f x).delta) events e) (sum_by_push (λ x. (f x).rho) events e)
+
+-- induction over a list from its end
+pub snoc : (P : List TrackerEvent → Type 0) → P [] → ((events : List TrackerEvent) (e : TrackerEvent) → P events → P (events ++ e ∷ []))
+    → (done rest : List TrackerEvent) → P done → P (done ++ rest)
+snoc P none more done [] h = subst P (sym (append-nil done)) h
+snoc P none more done (e ∷ rest) h =
+    subst P (append_assoc done (e ∷ []) rest) (snoc P none more (done ++ e ∷ []) rest (more done e h))
 
 cut : {X : Type 0} (xs : List X) (x : X) (n : ℕ) (b : Bool) → n ≤ length xs
     → drop (length (xs ++ x ∷ []) - cond (not b) (1 + n) 0) (xs ++ x ∷ []) ≡ cond b [] (drop (length xs - n) xs ++ x ∷ [])
@@ -44,24 +51,19 @@ after_last-push {X} p xs x =
     ap (λ n. drop (length (xs ++ x ∷ []) - n) (xs ++ x ∷ [])) turned
     ∙ cut xs x (suffix_len q xs) (p x) (suffix_len-le-length q xs)
 
-module _ (counting : Counting) (s : ServerId) (events : List TrackerEvent) where
-  -- a response
+module _ (events : List TrackerEvent) where
+  -- the completions
   pub completions-response : (q : ServerId) (phase : PhaseType)
       → completions (events ++ Response q phase ∷ []) ≡ plus (completions events) (one_in phase)
   completions-response q phase = total-push completed_by events (Response q phase)
 
-  pub sent-response : (q : ServerId) (phase : PhaseType) → sent s (events ++ Response q phase ∷ []) ≡ sent s events
-  sent-response q phase = total-push (sent_by s) events (Response q phase) ∙ plus-none (sent s events)
-
-  pub pending-response : (q : ServerId) (phase : PhaseType)
-      → pending counting s (events ++ Response q phase ∷ []) ≡ plus (pending counting s events) (counted_by counting s (Response q phase))
-  pending-response q phase =
-      ap (total (counted_by counting s)) (after_last-push (is_stamp_to s) events (Response q phase))
-      ∙ total-push (counted_by counting s) (after_last (is_stamp_to s) events) (Response q phase)
-
-  -- a stamp
   pub completions-stamp : (q : ServerId) (params : Params) → completions (events ++ Stamp q params ∷ []) ≡ completions events
   completions-stamp q params = total-push completed_by events (Stamp q params) ∙ plus-none (completions events)
+
+module _ (s : ServerId) (events : List TrackerEvent) where
+  -- what was sent
+  pub sent-response : (q : ServerId) (phase : PhaseType) → sent s (events ++ Response q phase ∷ []) ≡ sent s events
+  sent-response q phase = total-push (sent_by s) events (Response q phase) ∙ plus-none (sent s events)
 
   pub sent-stamp_same : (q : ServerId) (params : Params) → (q.0 == s.0) ≡ true
       → sent s (events ++ Stamp q params ∷ []) ≡ plus (sent s events) params
@@ -73,6 +75,31 @@ module _ (counting : Counting) (s : ServerId) (events : List TrackerEvent) where
   sent-stamp_other q params there =
       total-push (sent_by s) events (Stamp q params) ∙ ap (λ b. plus (sent s events) (cond b params no_counts)) there
       ∙ plus-none (sent s events)
+
+  -- how many stamps there are
+  stamps-push : (e : TrackerEvent) → stamps s (events ++ e ∷ []) ≡ stamps s events + cond (is_stamp_to s e) 1 0
+  stamps-push e = sum_by_push (λ x. cond (is_stamp_to s x) 1 0) events e
+
+  pub stamps-response : (q : ServerId) (phase : PhaseType) → stamps s (events ++ Response q phase ∷ []) ≡ stamps s events
+  stamps-response q phase = omega (arith, stamps-push (Response q phase))
+
+  pub stamps-stamp_same : (q : ServerId) (params : Params) → (q.0 == s.0) ≡ true
+      → stamps s (events ++ Stamp q params ∷ []) ≡ stamps s events + 1
+  stamps-stamp_same q params here =
+      stamps-push (Stamp q params) ∙ ap (λ b. stamps s events + cond b 1 0) here
+
+  pub stamps-stamp_other : (q : ServerId) (params : Params) → (q.0 == s.0) ≡ false
+      → stamps s (events ++ Stamp q params ∷ []) ≡ stamps s events
+  stamps-stamp_other q params there =
+      omega (arith, stamps-push (Stamp q params), ap {B = ℕ} (λ b. cond b 1 0) there)
+
+module _ (counting : Counting) (s : ServerId) (events : List TrackerEvent) where
+  -- what is pending
+  pub pending-response : (q : ServerId) (phase : PhaseType)
+      → pending counting s (events ++ Response q phase ∷ []) ≡ plus (pending counting s events) (counted_by counting s (Response q phase))
+  pending-response q phase =
+      ap (total (counted_by counting s)) (after_last-push (is_stamp_to s) events (Response q phase))
+      ∙ total-push (counted_by counting s) (after_last (is_stamp_to s) events) (Response q phase)
 
   pub pending-stamp_same : (q : ServerId) (params : Params) → (q.0 == s.0) ≡ true
       → pending counting s (events ++ Stamp q params ∷ []) ≡ no_counts

@@ -26,19 +26,19 @@ module _ (counting : Counting) (events : List TrackerEvent) (s : ServerId) where
       → numbers_of counting q (events ++ Stamp s params ∷ []) ≡ record { sent = plus (sent s events) params; pending = no_counts }
   numbers_of-stamp_same q params e =
       ap (λ x. numbers_of counting x (events ++ Stamp s params ∷ [])) e
-      ∙ same_numbers _ _ (sent-stamp_same counting s events s params (eq-eqb s.0 s.0 refl)) (pending-stamp_same counting s events s params (eq-eqb s.0 s.0 refl))
+      ∙ same_numbers _ _ (sent-stamp_same s events s params (eq-eqb s.0 s.0 refl)) (pending-stamp_same counting s events s params (eq-eqb s.0 s.0 refl))
 
   numbers_of-stamp_other : (q : ServerId) (params : Params) → (s.0 == q.0) ≡ false
       → numbers_of counting q (events ++ Stamp s params ∷ []) ≡ numbers_of counting q events
   numbers_of-stamp_other q params e =
-      same_numbers _ _ (sent-stamp_other counting q events s params e) (pending-stamp_other counting q events s params e)
+      same_numbers _ _ (sent-stamp_other q events s params e) (pending-stamp_other counting q events s params e)
 
   -- the numbers after a response of s
   numbers_of-response : (q : ServerId) (phase : PhaseType)
       → numbers_of counting q (events ++ Response s phase ∷ [])
       ≡ record { sent = sent q events; pending = plus (pending counting q events) (counted_by counting q (Response s phase)) }
   numbers_of-response q phase =
-      same_numbers _ _ (sent-response counting q events s phase) (pending-response counting q events s phase)
+      same_numbers _ _ (sent-response q events s phase) (pending-response counting q events s phase)
 
 pub next_params-stands : (numbers : Numbers) (events : List TrackerEvent) (s : ServerId) → s.0 < length numbers.servers
     → Stands numbers events → next_params numbers s ≡ demanded numbers.counting s events
@@ -51,7 +51,7 @@ Stands-stamp numbers events s within h =
     let params = next_params numbers s in
     let stamped : ServerNumbers = record { sent = plus (numbers_at numbers s).sent params; pending = no_counts } in
     record {
-      completed = h.completed ∙ sym (completions-stamp numbers.counting s events s params);
+      completed = h.completed ∙ sym (completions-stamp events s params);
       each = λ q inside. elim (eqb_tells s.0 q.0) [
         | inl here ↦
             get_or_here numbers.servers s.0 q.0 stamped here.1 within
@@ -100,7 +100,7 @@ at-servers_grown Others s q phase servers inside =
 pub Stands-response : (numbers : Numbers) (events : List TrackerEvent) (s : ServerId) (phase : PhaseType)
     → Stands numbers events → Stands (after_response s phase numbers) (events ++ Response s phase ∷ [])
 Stands-response numbers events s phase h = record {
-  completed = ap (λ c. plus c (one_in phase)) h.completed ∙ sym (completions-response numbers.counting s events s phase);
+  completed = ap (λ c. plus c (one_in phase)) h.completed ∙ sym (completions-response events s phase);
   each = λ q inside.
       let within : q.0 < length numbers.servers = omega (arith, length-servers_grown numbers.counting s phase numbers.servers) in
       at-servers_grown numbers.counting s q phase numbers.servers within

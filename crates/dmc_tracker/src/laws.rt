@@ -6,7 +6,7 @@ ghost use Rattle.dmc_types.specs.declared.ids.ServerId.{ServerId};
 ghost use Rattle.dmc_types.specs.declared.config.Counting.{Counting};
 ghost use Rattle.dmc_types.specs.declared.config.PhaseType.{PhaseType};
 ghost use Rattle.dmc_tracker.specs.declared.event.TrackerEvent.{TrackerEvent};
-ghost use Rattle.dmc_tracker.specs.TrackerList.{plus, completions, others, stamps, sent, pending, demanded, IsTracked};
+ghost use Rattle.dmc_tracker.specs.TrackerList.{plus, completions, completions_at, others, stamps, sent, pending, demanded, IsTracked};
 
 use crate::event::TrackerEvent;
 use dmc_types::config::Counting;
@@ -26,6 +26,12 @@ pub fn stamp_keeps_tracked()
 pub fn response_keeps_tracked()
     ensures { (counting : Counting) (events : List TrackerEvent) (s : ServerId) (phase : PhaseType) → IsTracked counting events
         → IsTracked counting (events ++ TrackerEvent.Response s phase ∷ []) }
+{}
+
+/// The completions at a server and those at the other servers are all completions, in both counts.
+pub fn completions_by_server()
+    ensures { (events : List TrackerEvent) (s : ServerId)
+        → plus (completions_at s events) (others s events) ≡ completions events }
 {}
 
 /// In the form `All` what was sent to a server and what is pending there are the completions, in both counts.

@@ -323,21 +323,31 @@ mod tests {
     #[test]
     fn tracker_limits(rt: HostRuntime) -> Result<(), Fail> {
         let mut tracker = ServiceTracker::new(rt.alloc(), 1, 1, Counting::All)?;
+        assert_eq!(rt; tracker.can_respond(ZERO), Ok(()));
         tracker.track_resp(ZERO, PhaseType::Reservation)?;
-        assert_eq!(rt;
-            tracker.track_resp(ZERO, PhaseType::Priority),
-            Err(TrackFault::TrackFull)
-        );
-        assert_eq!(rt;
-            tracker.track_resp(ONE, PhaseType::Priority),
-            Err(TrackFault::NoServer)
-        );
+        let full = Err(TrackFault::TrackFull);
+        assert_eq!(rt; tracker.can_respond(ZERO), full);
+        assert_eq!(rt; tracker.track_resp(ZERO, PhaseType::Priority), full);
+        let unknown = Err(TrackFault::NoServer);
+        assert_eq!(rt; tracker.can_respond(ONE), unknown);
+        assert_eq!(rt; tracker.track_resp(ONE, PhaseType::Priority), unknown);
+        assert_eq!(rt; tracker.can_stamp(ZERO), Ok(()));
+        assert_eq!(rt; tracker.can_stamp(ONE), unknown);
         assert_eq!(rt;
             tracker.get_req_params(ONE).err(),
             Some(TrackFault::NoServer)
         );
         assert_eq!(rt; tracker.sent(ONE), None);
         assert_eq!(rt; tracker.pending(ONE), None);
+        let mut small = ServiceTracker::new(rt.alloc(), 1, 1, Counting::Others)?;
+        assert_eq!(rt; small.can_stamp(ZERO), Ok(()));
+        small.get_req_params(ZERO)?;
+        assert_eq!(rt; small.can_stamp(ZERO), full);
+        Ok(())
+    }
+
+    #[test]
+    fn make_limits(rt: HostRuntime) -> Result<(), Fail> {
         for servers in [0, 65] {
             let refused = ServiceTracker::new(rt.alloc(), servers, 1, Counting::All);
             assert_eq!(rt; refused.err(), Some(MakeFault::Limit));

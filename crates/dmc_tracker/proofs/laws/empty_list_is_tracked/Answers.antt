@@ -1,4 +1,4 @@
-use Rattle.dmc_tracker.proofs.LawLemmas.{IsTracked-nil}
+use Rattle.dmc_tracker.proofs.ForCallers.{IsTracked-nil}
 use Rattle.dmc_tracker.proofs.laws.empty_list_is_tracked.Goals as goal
 
 pub returns : goal.returns

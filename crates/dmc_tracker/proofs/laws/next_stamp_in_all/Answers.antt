@@ -1,4 +1,4 @@
-use Rattle.dmc_tracker.proofs.LawLemmas.{next-all}
+use Rattle.dmc_tracker.proofs.ForCallers.{next-all}
 use Rattle.dmc_tracker.proofs.laws.next_stamp_in_all.Goals as goal
 
 pub returns : goal.returns

@@ -1,4 +1,4 @@
-use Rattle.dmc_tracker.proofs.LawLemmas.{sums-all}
+use Rattle.dmc_tracker.proofs.ForCallers.{sums-all}
 use Rattle.dmc_tracker.proofs.laws.sent_and_pending_in_all.Goals as goal
 
 pub returns : goal.returns

@@ -1,4 +1,4 @@
-use Rattle.dmc_tracker.proofs.LawLemmas.{sent-between}
+use Rattle.dmc_tracker.proofs.ForCallers.{sent-between}
 use Rattle.dmc_tracker.proofs.laws.sent_between_stamps.Goals as goal
 
 pub returns : goal.returns

@@ -1,5 +1,6 @@
-use Rattle.dmc_tracker.proofs.LawLemmas.{IsTracked-stamp}
+use Rattle.std.proofs.Common.{refl}
+use Rattle.dmc_tracker.proofs.ForCallers.{IsTracked-stamp}
 use Rattle.dmc_tracker.proofs.laws.stamp_keeps_tracked.Goals as goal
 
 pub returns : goal.returns
-returns c = IsTracked-stamp
+returns c = λ counting events s. IsTracked-stamp counting events s _ refl

@@ -3,7 +3,7 @@ use Rattle.std.proofs.lemmas.Grind.{common_steps}
 use Rattle.std.proofs.lemmas.List.{length-map}
 use Rattle.dmc_types.specs.Values.{Params}
 use Rattle.dmc_tracker.specs.TrackerList.{plus, own_share}
-use Rattle.dmc_tracker.specs.Numbers.{next_params, numbers_at, ServerNumbers}
+use Rattle.dmc_tracker.specs.Numbers.{next_params, ServerNumbers}
 use Rattle.dmc_tracker.specs.Server.{numbers_now}
 use Rattle.dmc_tracker.proofs.ServerLemmas.{view-stamp, next_params-view, seen_at, AreKept-stamp}
 use Rattle.dmc_tracker.proofs.StandsLemmas.{next_params-stands, Stands-stamp}

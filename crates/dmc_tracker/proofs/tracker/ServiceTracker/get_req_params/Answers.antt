@@ -36,15 +36,15 @@ invariant_of-self c =
     let sent = ap (λ (n : ServerNumbers). n.sent.delta) seen in
     let params = ap (λ (p : Params). p.delta) (carried c) in
     let params_seen = rw (← c.self.view_is) at params in
-    rw (c.plus.ensures, c.counted-counted.ensures)
+    simp (c.plus.ensures, c.counted-counted.ensures)
     (AreKept-stamp here.counting here.most here.completions c.plus-params.result here.servers.items c.args.server x
     c.self.invariant (there_inside c) c.index.ensures (computed c) (omega (arith, within, sent, params_seen)))
 
 pub returns-clause-after : goal.returns-clause-after
 returns-clause-after c =
     let here = c.self.inside in
-    rw (← c.self.view_is, c.plus.ensures, c.counted-counted.ensures)
-    (view-stamp here.counting here.most here.completions c.plus-params.result here.servers.items c.args.server c.index.result.now (there_inside c) c.index.ensures (computed c))
+    rw (← c.self.view_is) (simp (c.plus.ensures, c.counted-counted.ensures)
+    (view-stamp here.counting here.most here.completions c.plus-params.result here.servers.items c.args.server c.index.result.now (there_inside c) c.index.ensures (computed c)))
 
 pub returns-clause-stands : goal.returns-clause-stands
 returns-clause-stands c = λ events stands.

@@ -210,13 +210,17 @@ same_ok (Ok a) (Err f) e k = absurd e
 same_ok (Err e') (Ok b) e k = absurd e
 same_ok (Err e') (Err f) e k = k
 
+agreeing : {T : Type 0} (s u : State T) → StandsFor s u → Agree s.requests u.requests
+agreeing s u h = agree-swaps client_of s.requests u.requests (λ k. h.requests (record { 0 = k }))
+
+-- they have equally many requests and clients
+pub counts_agree : {T : Type 0} (s u : State T) → StandsFor s u → (length s.requests ≡ length u.requests) × (length s.clients ≡ length u.clients)
+counts_agree s u h = (length-swaps client_of s.requests u.requests (agreeing s u h), ap length h.clients)
+
 module _ {T : Type 0} (ops : Tagging T) (o : IsTotalOrder ops.compare) where
   -- what a state is, but for its requests
   aligned : (s u : State T) → StandsFor s u → record s { requests = u.requests } ≡ u
   aligned s u h = λ i. record { config = h.config i; requests = u.requests; clients = h.clients i; last_moment = h.last_moment i }
-
-  agreeing : (s u : State T) → StandsFor s u → Agree s.requests u.requests
-  agreeing s u h = agree-swaps client_of s.requests u.requests (λ k. h.requests (record { 0 = k }))
 
   outcomes_agree : (s u : State T) (c : Command) → StandsFor s u → SameOutcome (outcome ops s c) (outcome ops u c)
   outcomes_agree s u c h = subst (λ v. SameOutcome (outcome ops s c) (outcome ops v c)) (aligned s u h) (same_outcome ops o s.config s.clients s.last_moment s.requests u.requests (agreeing s u h) c)

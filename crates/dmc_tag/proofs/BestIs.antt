@@ -4,18 +4,11 @@ use Rattle.std.specs.Prelude.{unwrap_or}
 use Rattle.std.specs.List.{AllByRecursion}
 use Rattle.dmc_tag.specs.Best.{best, better, IsBest, HasNone}
 use Rattle.dmc_tag.proofs.Before.{IsOrder}
+use Rattle.dmc_tag.proofs.Lists.{all_as, all_joined, all_at}
 
 is_false : (b : Bool) → (b ≡ true → ⊥) → b ≡ false
 is_false true h = absurd (h refl)
 is_false false h = refl
-
-weaker : {R : Type 0} (P Q : R → Type 0) → ((x : R) → P x → Q x) → (xs : List R) → AllByRecursion P xs → AllByRecursion Q xs
-weaker P Q h [] a = tt
-weaker P Q h (x ∷ xs) a = (h x a.0, weaker P Q h xs a.1)
-
-joined : {R : Type 0} (P : R → Type 0) (front : List R) (x : R) (back : List R) → AllByRecursion P front → P x → AllByRecursion P back → AllByRecursion P (front ++ x ∷ back)
-joined P [] x back a p b = (p, b)
-joined P (y ∷ front) x back a p b = (a.0, joined P front x back a.1 p b)
 
 some_or_some : {A : Type 0} (a b : A) (t : Bool) → cond t (Some a) (Some b) ≡ None → ⊥
 some_or_some a b true e = cc
@@ -42,7 +35,7 @@ module _ {R : Type 0} (key : R → ℕ) (before : R → R → Bool) (o : IsOrder
     rest = refl;
     is_member = p;
     ahead = tt;
-    behind = weaker (λ z. member z ≡ false) (λ z. member z ≡ true → before z x ≡ false) (λ z f t. cc) xs none;
+    behind = all_as (λ z. member z ≡ false) (λ z. member z ≡ true → before z x ≡ false) (λ z f t. cc) xs none;
   }
 
   front_behind : (x y z : R) → before y x ≡ false → (member z ≡ true → before y z ≡ true) → member z ≡ true → before z x ≡ false
@@ -61,9 +54,9 @@ module _ {R : Type 0} (key : R → ℕ) (before : R → R → Bool) (o : IsOrder
         rest = refl;
         is_member = p;
         ahead = tt;
-        behind = subst (AllByRecursion Behind) (sym b.whole) (joined Behind b.front y b.back
-            (weaker _ Behind (λ z h. front_behind x y z f h) b.front b.ahead) (λ _. f)
-            (weaker _ Behind (λ z h. back_behind x y z f h) b.back b.behind));
+        behind = subst (AllByRecursion Behind) (sym b.whole) (all_joined Behind b.front y b.back
+            (all_as _ Behind (λ z h. front_behind x y z f h) b.front b.ahead) (λ _. f)
+            (all_as _ Behind (λ z h. back_behind x y z f h) b.back b.behind));
       }
 
   -- ---- the best of xs is the best of x ∷ xs
@@ -111,10 +104,6 @@ module _ {R : Type 0} (key : R → ℕ) (before : R → R → Bool) (o : IsOrder
   found_is (x ∷ xs) p s = found_at x xs (best before member xs) refl (member x) refl p s (found_is xs)
 
   -- ---- and the only one
-
-  all_at : (P : R → Type 0) (front : List R) (x : R) (back : List R) → AllByRecursion P (front ++ x ∷ back) → P x
-  all_at P [] x back a = a.0
-  all_at P (y ∷ front) x back a = all_at P front x back a.1
 
   kept : (r : R) (back : List R) (b : Option (R × List R)) → best before member back ≡ b → member r ≡ true → AllByRecursion (λ x. member x ≡ true → before x r ≡ false) back → better before (member r) r back b ≡ Some (r, back)
   kept r back None q m behind = rw m refl

@@ -1,3 +1,4 @@
+pub mod Lists
 pub mod Swaps
 pub mod Before
 pub mod BestSwaps
@@ -9,3 +10,6 @@ pub mod FutureLaw
 pub mod Scaled
 pub mod TagOrder
 pub mod TagValues
+pub mod Active
+pub mod Queued
+pub mod ForCallers

@@ -1,7 +1,8 @@
 -- What is granted is the best of its set.
-use Rattle.std.proofs.Common.{◌≡◌, ℕ, Bool, true, false, not, List, [], ◌∷◌, Option, Some, None, Result, Ok, Err, refl, sym, subst}
+use Rattle.std.proofs.Common.{◌≡◌, ℕ, Bool, true, false, not, List, [], ◌∷◌, Option, Some, None, Result, Ok, Err, refl, sym, ◌∙◌, subst}
 use Rattle.std.specs.Prelude.{⊤}
 use Rattle.std.specs.Cmp.{IsTotalOrder}
+use Rattle.dmc_types.specs.declared.ids.ClientId.{ClientId}
 use Rattle.dmc_types.specs.declared.config.AtLimit.{AtLimit}
 use Rattle.dmc_types.specs.declared.config.AtLimit.TheVariants.{Wait, Allow}
 use Rattle.dmc_types.specs.declared.config.PhaseType.TheVariants as phases
@@ -18,9 +19,11 @@ use Rattle.dmc_tag.specs.Laws.{Grants, Pulls, IsNextDue}
 use Rattle.dmc_tag.proofs.FutureLaw.{next_due}
 use Rattle.dmc_tag.specs.declared.reply.Reply.{Reply}
 use Rattle.dmc_tag.specs.declared.reply.Reply.TheVariants.{Later}
+use Rattle.dmc_tag.specs.declared.plain.PlainClient.{PlainClient}
 use Rattle.dmc_tag.specs.declared.plain.PlainRequest.{PlainRequest}
 use Rattle.dmc_tag.proofs.Before.{before_order}
 use Rattle.dmc_tag.proofs.BestIs.{none_found, found_is}
+use Rattle.dmc_tag.proofs.TagOrder.{bound}
 
 -- a value, or a refusal Range
 abbrev OnlyRange : {X : Type 0} → Result X Refusal → Type 0
@@ -51,38 +54,66 @@ module _ {T : Type 0} (ops : Tagging T) (fraction : T → Fraction) (is_value : 
   abbrev Says : ℕ → State T → Outcome T → Type 0
   Says t s result = Pulls ops t s ((settled s result).0) ((settled s result).1)
 
-  grants : (s : State T) (t : ℕ) (before : PlainRequest T → PlainRequest T → Bool) (member : PlainRequest T → Bool) (r : PlainRequest T) (others : List (PlainRequest T)) (reduction : Option T) (new : State T) → IsBest before member s.requests r others → new.requests ≡ rules_of.reduced_requests ops r.client reduction others → Grants ops before member s new r.client r.token
-  grants s t before member r others reduction new is left = record { request = r; others = others; reduction = reduction; best = is; client_is = refl; token_is = refl; left = left }
+  -- the amount that is taken off is that of the rule
+  reduction_given : (hz : ℕ) (id : ClientId) (clients : List (PlainClient T)) (others : List (PlainRequest T)) (amount : Option T) → rules_of.can_grant ops hz id clients others ≡ Ok amount → rules_of.reduction_of ops hz id clients ≡ Ok amount
+  reduction_given hz id clients others amount e =
+      let taken = bound (rules_of.reduction_of ops hz id clients) _ amount e in
+      let tested = bound (refuse_if (not (rules_of.can_reduce_by ops id taken.0 clients others)) Range) _ amount taken.2 in
+      taken.1 ∙ tested.2
 
-  free_grant : (t : ℕ) (s : State T) (r : PlainRequest T) (others : List (PlainRequest T)) → HasNone (is_early ops t) s.requests → IsBest (by_shares ops) (is_free ops t) s.requests r others → (given : Result (Option T) Refusal) → OnlyRange given → Says t s (given >>= (λ amount. Ok (rules_of.reduced_by ops r.client amount (rules_of.without s t others), rules_of.granted r phases.Priority false)))
-  free_grant t s r others none is (Ok amount) h = (none, grants s t _ _ r others amount _ is refl)
-  free_grant t s r others none is (Err e) h = (h, refl)
-
-  beyond_grant : (t : ℕ) (s : State T) (r : PlainRequest T) (others : List (PlainRequest T)) → HasNone (is_early ops t) s.requests → HasNone (is_free ops t) s.requests → s.config.at_limit ≡ Allow → IsBest (by_shares ops) is_any s.requests r others → (given : Result (Option T) Refusal) → OnlyRange given → Says t s (given >>= (λ amount. Ok (rules_of.reduced_by ops r.client amount (rules_of.without s t others), rules_of.granted r phases.Priority true)))
-  beyond_grant t s r others early free allow is (Ok amount) h = (early, free, allow, grants s t _ _ r others amount _ is refl)
-  beyond_grant t s r others early free allow is (Err e) h = (h, refl)
+  priority_says : (t : ℕ) (s : State T) (r : PlainRequest T) (others : List (PlainRequest T)) (beyond : Bool) (member : PlainRequest T → Bool) → IsBest (by_shares ops) member s.requests r others → ((new : State T) → Grants ops t phases.Priority (by_shares ops) member s new r.client r.token → Pulls ops t s new (rules_of.granted r phases.Priority beyond)) → (given : Result (Option T) Refusal) → rules_of.can_grant ops s.config.hz r.client s.clients others ≡ given → OnlyRange given → Says t s (given >>= (λ amount. Ok (rules_of.reduced_by ops r.client amount (rules_of.without s t others), rules_of.granted r phases.Priority beyond)))
+  priority_says t s r others beyond member is says (Ok amount) e h =
+      says _ (record {
+        request = r;
+        others = others;
+        reduction = amount;
+        best = is;
+        client_is = refl;
+        token_is = refl;
+        reduction_is = reduction_given s.config.hz r.client s.clients others amount e;
+        left = refl;
+        clients = refl;
+        config = refl;
+        last_moment = refl;
+      })
+  priority_says t s r others beyond member is says (Err f) e h = (h, refl)
 
   any_found : (t : ℕ) (s : State T) (x : PlainRequest T) (xs : List (PlainRequest T)) → s.requests ≡ x ∷ xs → HasNone (is_early ops t) s.requests → HasNone (is_free ops t) s.requests → s.config.at_limit ≡ Allow → (b : Option (PlainRequest T × List (PlainRequest T))) → best (by_shares ops) is_any (x ∷ xs) ≡ b → Says t s (rules_of.grant_found ops s t true b)
   any_found t s x xs e early free allow None q = let none = none_found (λ (r : PlainRequest T). r.client.0) (by_shares ops) (before_order ops o (λ r. Some r.tags.p)) is_any (x ∷ xs) q in cc
   any_found t s x xs e early free allow (Some (r, others)) q =
       let is = found_is (λ (r : PlainRequest T). r.client.0) (by_shares ops) (before_order ops o (λ r. Some r.tags.p)) is_any (x ∷ xs) (r, others) q in
-      beyond_grant t s r others early free allow (subst (λ zs. IsBest (by_shares ops) is_any zs r others) (sym e) is) _ (can_grant_range s r others)
+      priority_says t s r others true is_any (subst (λ zs. IsBest (by_shares ops) is_any zs r others) (sym e) is) (λ new g. (early, free, allow, g)) _ refl (can_grant_range s r others)
 
   at_limit_says : (t : ℕ) (s : State T) (x : PlainRequest T) (xs : List (PlainRequest T)) → s.requests ≡ x ∷ xs → HasNone (is_early ops t) s.requests → HasNone (is_free ops t) s.requests → (mode : AtLimit) → s.config.at_limit ≡ mode → Says t s (rules_of.at_limit ops s t mode x xs)
-  at_limit_says t s x xs e early free Wait m = (early, free, m, subst (λ zs. IsNextDue ops (rules_of.least_due ops x xs) zs) (sym e) (next_due ops fraction is_value exact x xs))
+  at_limit_says t s x xs e early free Wait m = (early, free, m, subst (λ zs. IsNextDue ops (rules_of.least_due ops x xs) zs) (sym e) (next_due ops fraction is_value exact x xs), refl)
   at_limit_says t s x xs e early free Allow m = any_found t s x xs e early free m _ refl
 
   nothing_says : (t : ℕ) (s : State T) (xs : List (PlainRequest T)) → s.requests ≡ xs → HasNone (is_early ops t) s.requests → HasNone (is_free ops t) s.requests → Says t s (rules_of.nothing_due ops s t xs)
-  nothing_says t s [] e early free = e
+  nothing_says t s [] e early free = (e, refl)
   nothing_says t s (x ∷ xs) e early free = at_limit_says t s x xs e early free s.config.at_limit refl
 
   free_says : (t : ℕ) (s : State T) → HasNone (is_early ops t) s.requests → (b : Option (PlainRequest T × List (PlainRequest T))) → best (by_shares ops) (is_free ops t) s.requests ≡ b → Says t s (rules_of.pulled_free ops s t b)
   free_says t s early None q = nothing_says t s s.requests refl early (none_found (λ (r : PlainRequest T). r.client.0) (by_shares ops) (before_order ops o (λ r. Some r.tags.p)) (is_free ops t) s.requests q)
-  free_says t s early (Some (r, others)) q = free_grant t s r others early (found_is (λ (r : PlainRequest T). r.client.0) (by_shares ops) (before_order ops o (λ r. Some r.tags.p)) (is_free ops t) s.requests (r, others) q) _ (can_grant_range s r others)
+  free_says t s early (Some (r, others)) q = priority_says t s r others false (is_free ops t) (found_is (λ (r : PlainRequest T). r.client.0) (by_shares ops) (before_order ops o (λ r. Some r.tags.p)) (is_free ops t) s.requests (r, others) q) (λ new g. (early, g)) _ refl (can_grant_range s r others)
 
   early_says : (t : ℕ) (s : State T) → (b : Option (PlainRequest T × List (PlainRequest T))) → best (by_reservation ops) (is_early ops t) s.requests ≡ b → Says t s (rules_of.pulled_early ops s t b)
   early_says t s None q = free_says t s (none_found (λ (r : PlainRequest T). r.client.0) (by_reservation ops) (before_order ops o (λ r. r.tags.r)) (is_early ops t) s.requests q) _ refl
-  early_says t s (Some (r, others)) q = (refl, grants s t _ _ r others None _ (found_is (λ (r : PlainRequest T). r.client.0) (by_reservation ops) (before_order ops o (λ r. r.tags.r)) (is_early ops t) s.requests (r, others) q) refl)
+  early_says t s (Some (r, others)) q = (
+    refl,
+    record {
+      request = r;
+      others = others;
+      reduction = None;
+      best = found_is (λ (r : PlainRequest T). r.client.0) (by_reservation ops) (before_order ops o (λ r. r.tags.r)) (is_early ops t) s.requests (r, others) q;
+      client_is = refl;
+      token_is = refl;
+      reduction_is = refl;
+      left = refl;
+      clients = refl;
+      config = refl;
+      last_moment = refl;
+    },
+  )
 
   pub pull_says : (t : ℕ) (s : State T) → Says t s (rules_of.pulled ops s t)
   pull_says t s = early_says t s _ refl

@@ -1,12 +1,13 @@
--- One more command of a run.
-use Rattle.std.proofs.Common.{◌≡◌, ℕ, ◌+◌, ◌<◌, List, [], ◌∷◌, ◌++◌, length, take, get_or, Some, None, refl, sym, ap, ◌∙◌, subst}
+-- One more command of a run, and one more event of a history.
+use Rattle.std.proofs.Common.{◌≡◌, ℕ, ◌+◌, ◌<◌, List, [], ◌∷◌, ◌++◌, map, length, take, get_or, Some, None, refl, sym, ap, ◌∙◌, subst}
 use Rattle.std.proofs.lemmas.List.{take_more}
 use Rattle.dmc_types.specs.declared.command.Command.{Command}
 use Rattle.dmc_tag.specs.Tag.{Tagging}
 use Rattle.dmc_tag.specs.State.{State}
 use Rattle.dmc_tag.specs.Step.{step}
 use Rattle.dmc_tag.specs.Steps.{Steps, Runs, Reaches}
-use Rattle.dmc_tag.specs.Replay.{replies_of, state_after}
+use Rattle.dmc_tag.specs.Replay.{replies_of, state_after, replays_from}
+use Rattle.dmc_tag.specs.declared.event.Event.{Event}
 use Rattle.dmc_tag.specs.declared.reply.Reply.{Reply}
 
 module _ {T : Type 0} (ops : Tagging T) where
@@ -35,3 +36,21 @@ module _ {T : Type 0} (ops : Tagging T) where
   -- want of memory leaves what was reached
   pub reaches_same : (old mid new : State T) (cs : List Command) (replies : List (Reply T)) (c : Command) → Runs ops old mid cs replies → Steps ops mid new c None → Reaches ops old new cs
   reaches_same old mid new cs replies c runs steps = λ s h. (steps (state_after ops s cs) (runs s h).1).1
+
+  -- ---- one more event
+
+  -- the state that the events' commands give
+  abbrev past : State T → List (Event T) → State T
+  past s events = state_after ops s (map (λ e. e.command) events)
+
+  pub past_more : (s : State T) (events : List (Event T)) (e : Event T) → past s (events ++ e ∷ []) ≡ (step ops (past s events) e.command).0
+  past_more s [] e = refl
+  past_more s (x ∷ events) e = past_more ((step ops s x.command).0) events e
+
+  pub replays_more : (s : State T) (events : List (Event T)) (e : Event T) → replays_from ops s events → e.reply ≡ (step ops (past s events) e.command).1 → replays_from ops s (events ++ e ∷ [])
+  replays_more s [] e h same = (same, tt)
+  replays_more s (x ∷ events) e h same = (h.0, replays_more ((step ops s x.command).0) events e h.1 same)
+
+  pub replays_parted : (s : State T) (events : List (Event T)) (e : Event T) → replays_from ops s (events ++ e ∷ []) → replays_from ops s events × (e.reply ≡ (step ops (past s events) e.command).1)
+  replays_parted s [] e h = (tt, h.0)
+  replays_parted s (x ∷ events) e h = let rest = replays_parted ((step ops s x.command).0) events e h.1 in ((h.0, rest.0), rest.1)

@@ -27,7 +27,7 @@ scaled_sum x y d =
     let parts : (up (x +ℤ y) + down x + down y) * d ≡ (down (x +ℤ y) + up x + up y) * d = ap (λ n. n * d) (sum_is_lem x y) in
     same_in _ _ (omega (arith, up_scaled (x +ℤ y) d, down_scaled (x +ℤ y) d, sum_is_lem (x *ℤ pos d) (y *ℤ pos d), up_scaled x d, down_scaled x d, up_scaled y d, down_scaled y d))
 
-scaled_negative : (y : ℤ) (d : ℕ) → neg_ℤ y *ℤ pos d ≡ neg_ℤ (y *ℤ pos d)
+pub scaled_negative : (y : ℤ) (d : ℕ) → neg_ℤ y *ℤ pos d ≡ neg_ℤ (y *ℤ pos d)
 scaled_negative y d = omega (arith, ints, up_scaled (neg_ℤ y) d, down_scaled (neg_ℤ y) d, up_scaled y d, down_scaled y d, ap (λ n. n * d) (neg_up y), ap (λ n. n * d) (neg_down y)) where
   neg_up : (z : ℤ) → up (neg_ℤ z) ≡ down z
   neg_up z = omega (arith, ints)

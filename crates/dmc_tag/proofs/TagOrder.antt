@@ -1,6 +1,6 @@
 -- What sums and differences keep of the order of tags.
 use Rattle.std.proofs.Common.{◌≡◌, ℕ, ◌*◌, ◌<◌, Bool, true, false, cond, Option, Some, None, refl, sym, ap, ◌∙◌, subst, arith}
-use Rattle.std.specs.Prelude.{ℤ, pos, ◌+ℤ◌, ◌-ℤ◌, ◌*ℤ◌, ◌≤ℤ◌, IfSome, is_some, Ok, Err, Result}
+use Rattle.std.specs.Prelude.{ℤ, pos, ◌+ℤ◌, ◌-ℤ◌, ◌*ℤ◌, ◌≤ℤ◌, neg_ℤ, IfSome, is_some, Ok, Err, Result}
 use Rattle.std.specs.declared.cmp.Ordering.{Ordering}
 use Rattle.std.specs.declared.cmp.Ordering.TheVariants.{Less, Equal, Greater}
 use Rattle.std.specs.Ordering.{int_cmp, is_gt, is_lt, ord_max, ordering_reverse}
@@ -19,9 +19,9 @@ use Rattle.dmc_tag.specs.Rules.{next_tag, next_reservation, next_tags}
 use Rattle.dmc_tag.specs.declared.plain.Previous.{Previous}
 use Rattle.dmc_tag.specs.declared.spacing.Spacings.{Spacings}
 use Rattle.dmc_tag.specs.declared.reply.Tags.{Tags}
-use Rattle.dmc_tag.specs.Tag.{Fraction, Tagging, IsExact, IsSame, Gives}
+use Rattle.dmc_tag.specs.Tag.{Fraction, Tagging, IsExact, IsSame, Gives, fraction_cmp, sum_of, difference_of}
 use Rattle.dmc_tag.specs.Order.{AtMost, AreSpacings, AreNext}
-use Rattle.dmc_tag.proofs.Scaled.{scaled_twice, scaled_difference, scaled_sum, scaled_cmp, less_cmp, zero_of, at_least_zero, zero_scaled, unscaled_le}
+use Rattle.dmc_tag.proofs.Scaled.{scaled_twice, scaled_difference, scaled_negative, scaled_sum, scaled_cmp, less_cmp, zero_of, at_least_zero, zero_scaled, unscaled_le}
 
 -- x is a less s, over the denominators of all
 cleared : (xn an sn : ℤ) (xd ad sd yd bd : ℕ) → xn *ℤ pos (ad * sd) ≡ (an *ℤ pos sd -ℤ sn *ℤ pos ad) *ℤ pos xd → (xn *ℤ pos yd) *ℤ pos ((ad * sd) * (bd * sd)) ≡ (an *ℤ pos bd) *ℤ pos (sd * sd * xd * yd) -ℤ sn *ℤ pos (ad * bd * sd * xd * yd)
@@ -42,13 +42,48 @@ cleared xn an sn xd ad sd yd bd e =
 pub positive : (a b : ℕ) → 0 < a → 0 < b → 0 < a * b
 positive a b p q = let scaled : 0 * b < a * b = mul-lt-mul_of_pos_right p q in omega arith
 
+-- two fractions less a third are ordered as the fractions are
+less_ordered : (fa fb fs fx fy : Fraction) → 0 < fa.denom → 0 < fb.denom → 0 < fs.denom → 0 < fx.denom → 0 < fy.denom → IsSame fx (difference_of fa fs) → IsSame fy (difference_of fb fs) → fraction_cmp fx fy ≡ fraction_cmp fa fb
+less_ordered fa fb fs fx fy da db ds dx dy p q =
+    let scale = (fa.denom * fs.denom) * (fb.denom * fs.denom) in
+    let left = fs.denom * fs.denom * fx.denom * fy.denom in
+    let taken = fs.numer *ℤ pos (fa.denom * fb.denom * fs.denom * fx.denom * fy.denom) in
+    let first : (fx.numer *ℤ pos fy.denom) *ℤ pos scale ≡ (fa.numer *ℤ pos fb.denom) *ℤ pos left -ℤ taken = cleared fx.numer fa.numer fs.numer fx.denom fa.denom fs.denom fy.denom fb.denom p in
+    let turned : (fa.denom * fs.denom) * (fb.denom * fs.denom) ≡ (fb.denom * fs.denom) * (fa.denom * fs.denom) = omega arith in
+    let left_turned : fs.denom * fs.denom * fy.denom * fx.denom ≡ left = omega arith in
+    let taken_turned : fb.denom * fa.denom * fs.denom * fy.denom * fx.denom ≡ fa.denom * fb.denom * fs.denom * fx.denom * fy.denom = omega arith in
+    let second : (fy.numer *ℤ pos fx.denom) *ℤ pos scale ≡ (fb.numer *ℤ pos fa.denom) *ℤ pos left -ℤ taken =
+    ap (λ n. (fy.numer *ℤ pos fx.denom) *ℤ pos n) turned
+    ∙ cleared fy.numer fb.numer fs.numer fy.denom fb.denom fs.denom fx.denom fa.denom q
+    ∙ ap (λ n. (fb.numer *ℤ pos fa.denom) *ℤ pos n -ℤ fs.numer *ℤ pos (fb.denom * fa.denom * fs.denom * fy.denom * fx.denom)) left_turned
+    ∙ ap (λ n. (fb.numer *ℤ pos fa.denom) *ℤ pos left -ℤ fs.numer *ℤ pos n) taken_turned in
+    let some : 0 < scale = positive _ _ (positive _ _ da ds) (positive _ _ db ds) in
+    let some_left : 0 < left = positive _ _ (positive _ _ (positive _ _ ds ds) dx) dy in
+    scaled_cmp (fx.numer *ℤ pos fy.denom) (fy.numer *ℤ pos fx.denom) scale some
+    ∙ ap (λ z. int_cmp z ((fy.numer *ℤ pos fx.denom) *ℤ pos scale)) first
+    ∙ ap (λ z. int_cmp ((fa.numer *ℤ pos fb.denom) *ℤ pos left -ℤ taken) z) second
+    ∙ sym (less_cmp ((fa.numer *ℤ pos fb.denom) *ℤ pos left) ((fb.numer *ℤ pos fa.denom) *ℤ pos left) taken)
+    ∙ sym (scaled_cmp (fa.numer *ℤ pos fb.denom) (fb.numer *ℤ pos fa.denom) left some_left)
+
+abbrev negated : Fraction → Fraction
+negated f = record { numer = neg_ℤ f.numer; denom = f.denom }
+
+-- a sum is the difference from the negated
+sum_is : (f g : Fraction) → sum_of f g ≡ difference_of f (negated g)
+sum_is f g =
+    let numer_is : f.numer *ℤ pos g.denom +ℤ g.numer *ℤ pos f.denom ≡ f.numer *ℤ pos g.denom -ℤ neg_ℤ g.numer *ℤ pos f.denom = twice_negative _ (g.numer *ℤ pos f.denom) ∙ ap (λ z. f.numer *ℤ pos g.denom -ℤ z) (sym (scaled_negative g.numer f.denom)) in
+    ap (λ n. record { numer = n; denom = f.denom * g.denom }) numer_is
+  where
+    twice_negative : (x y : ℤ) → x +ℤ y ≡ x -ℤ neg_ℤ y
+    twice_negative x y = omega (arith, ints)
+
 -- ---- what a chain of results came from
 
 pub bound : {A B E : Type 0} (r : Result A E) (f : A → Result B E) (y : B) → (r >>= f) ≡ Ok y → (x : A) × (r ≡ Ok x) × (f x ≡ Ok y)
 bound (Ok x) f y e = (x, refl, e)
 bound (Err fault) f y e = cc
 
-from_option : {A E : Type 0} (o : Option A) (fault : E) (x : A) → ok_or o fault ≡ Ok x → o ≡ Some x
+pub from_option : {A E : Type 0} (o : Option A) (fault : E) (x : A) → ok_or o fault ≡ Ok x → o ≡ Some x
 from_option None fault x e = cc
 from_option (Some y) fault x e = ap Some (cc (e))
 
@@ -63,31 +98,19 @@ module _ {T : Type 0} (ops : Tagging T) (fraction : T → Fraction) (is_value : 
   -- two tags less an amount are ordered as the tags are
   pub differences_ordered : (a b amount x y : T) → ops.minus a amount ≡ Some x → ops.minus b amount ≡ Some y → ops.compare x y ≡ ops.compare a b
   differences_ordered a b amount x y p q =
-      let fa = fraction a in
-      let fb = fraction b in
-      let fs = fraction amount in
-      let fx = fraction x in
-      let fy = fraction y in
-      let scale = (fa.denom * fs.denom) * (fb.denom * fs.denom) in
-      let left = fs.denom * fs.denom * fx.denom * fy.denom in
-      let taken = fs.numer *ℤ pos (fa.denom * fb.denom * fs.denom * fx.denom * fy.denom) in
-      let first : (fx.numer *ℤ pos fy.denom) *ℤ pos scale ≡ (fa.numer *ℤ pos fb.denom) *ℤ pos left -ℤ taken = cleared fx.numer fa.numer fs.numer fx.denom fa.denom fs.denom fy.denom fb.denom (given (ops.minus a amount) _ x (exact.minus a amount) p) in
-      let turned : (fa.denom * fs.denom) * (fb.denom * fs.denom) ≡ (fb.denom * fs.denom) * (fa.denom * fs.denom) = omega arith in
-      let left_turned : fs.denom * fs.denom * fy.denom * fx.denom ≡ left = omega arith in
-      let taken_turned : fb.denom * fa.denom * fs.denom * fy.denom * fx.denom ≡ fa.denom * fb.denom * fs.denom * fx.denom * fy.denom = omega arith in
-      let second : (fy.numer *ℤ pos fx.denom) *ℤ pos scale ≡ (fb.numer *ℤ pos fa.denom) *ℤ pos left -ℤ taken =
-      ap (λ n. (fy.numer *ℤ pos fx.denom) *ℤ pos n) turned
-      ∙ cleared fy.numer fb.numer fs.numer fy.denom fb.denom fs.denom fx.denom fa.denom (given (ops.minus b amount) _ y (exact.minus b amount) q)
-      ∙ ap (λ n. (fb.numer *ℤ pos fa.denom) *ℤ pos n -ℤ fs.numer *ℤ pos (fb.denom * fa.denom * fs.denom * fy.denom * fx.denom)) left_turned
-      ∙ ap (λ n. (fb.numer *ℤ pos fa.denom) *ℤ pos left -ℤ fs.numer *ℤ pos n) taken_turned in
-      let some : 0 < scale = positive _ _ (positive _ _ (exact.denom a) (exact.denom amount)) (positive _ _ (exact.denom b) (exact.denom amount)) in
-      let some_left : 0 < left = positive _ _ (positive _ _ (positive _ _ (exact.denom amount) (exact.denom amount)) (exact.denom x)) (exact.denom y) in
       exact.order x y
-      ∙ scaled_cmp (fx.numer *ℤ pos fy.denom) (fy.numer *ℤ pos fx.denom) scale some
-      ∙ ap (λ z. int_cmp z ((fy.numer *ℤ pos fx.denom) *ℤ pos scale)) first
-      ∙ ap (λ z. int_cmp ((fa.numer *ℤ pos fb.denom) *ℤ pos left -ℤ taken) z) second
-      ∙ sym (less_cmp ((fa.numer *ℤ pos fb.denom) *ℤ pos left) ((fb.numer *ℤ pos fa.denom) *ℤ pos left) taken)
-      ∙ sym (scaled_cmp (fa.numer *ℤ pos fb.denom) (fb.numer *ℤ pos fa.denom) left some_left)
+      ∙ less_ordered (fraction a) (fraction b) (fraction amount) (fraction x) (fraction y) (exact.denom a) (exact.denom b) (exact.denom amount) (exact.denom x) (exact.denom y)
+      (given (ops.minus a amount) _ x (exact.minus a amount) p)
+      (given (ops.minus b amount) _ y (exact.minus b amount) q)
+      ∙ sym (exact.order a b)
+
+  -- and so are two tags and an amount
+  pub sums_ordered : (a b amount x y : T) → ops.plus a amount ≡ Some x → ops.plus b amount ≡ Some y → ops.compare x y ≡ ops.compare a b
+  sums_ordered a b amount x y p q =
+      exact.order x y
+      ∙ less_ordered (fraction a) (fraction b) (negated (fraction amount)) (fraction x) (fraction y) (exact.denom a) (exact.denom b) (exact.denom amount) (exact.denom x) (exact.denom y)
+      (subst (IsSame (fraction x)) (sum_is (fraction a) (fraction amount)) (given (ops.plus a amount) _ x (exact.plus a amount) p))
+      (subst (IsSame (fraction y)) (sum_is (fraction b) (fraction amount)) (given (ops.plus b amount) _ y (exact.plus b amount) q))
       ∙ sym (exact.order a b)
 
   -- ---- not below 0

@@ -1,6 +1,6 @@
 -- Which tags are values.
 use Rattle.std.proofs.Common.{◌≡◌, ℕ, ◌*◌, ◌<◌, ◌≤◌, Bool, true, false, cond, Option, Some, None, refl, sym, ap, ◌∙◌, subst, arith}
-use Rattle.std.specs.Prelude.{ℤ, pos, ◌-ℤ◌, ◌*ℤ◌, Ok, IfSome}
+use Rattle.std.specs.Prelude.{ℤ, pos, ◌+ℤ◌, ◌-ℤ◌, ◌*ℤ◌, Ok, IfSome}
 use Rattle.std.specs.declared.cmp.Ordering.TheVariants.{Equal}
 use Rattle.std.specs.Ordering.{is_lt, ord_max}
 use Rattle.std.specs.Cmp.{int_cmp_is}
@@ -57,6 +57,29 @@ module _ {T : Type 0} (ops : Tagging T) (fraction : T → Fraction) (is_value : 
       let share : p.0 ≡ tags.p = cc (p.2) in
       subst (λ c. is_value (fraction c)) share (next_value previous.p spacings.p t p.0 params.delta (moment_value n h) p.1)
 
+  -- ---- two answers of one fraction are one
+
+  one_tag : (a b : T) (f : Fraction) → 0 < f.denom → IsSame (fraction a) f → IsSame (fraction b) f → a ≡ b
+  one_tag a b f some g h =
+      let j = fraction a in
+      let k = fraction b in
+      let cross : (j.numer *ℤ pos k.denom) *ℤ pos f.denom ≡ (k.numer *ℤ pos j.denom) *ℤ pos f.denom =
+      scaled_swapped j.numer k.denom f.denom
+      ∙ ap (λ z. z *ℤ pos k.denom) g
+      ∙ scaled_swapped f.numer j.denom k.denom
+      ∙ ap (λ z. z *ℤ pos j.denom) (sym h)
+      ∙ scaled_swapped k.numer f.denom j.denom in
+      exact.same a b (exact.order a b ∙ scaled_cmp (j.numer *ℤ pos k.denom) (k.numer *ℤ pos j.denom) f.denom some ∙ sym (int_cmp_is _ _ Equal cross))
+    where
+      scaled_swapped : (z : ℤ) (d e : ℕ) → (z *ℤ pos d) *ℤ pos e ≡ (z *ℤ pos e) *ℤ pos d
+      scaled_swapped z d e = let turned : d * e ≡ e * d = omega arith in scaled_twice z d e ∙ ap (λ n. z *ℤ pos n) turned ∙ sym (scaled_twice z e d)
+
+  one_answer : (o p : Option T) (f : Fraction) → 0 < f.denom → Gives fraction is_value o f → Gives fraction is_value p f → o ≡ p
+  one_answer None None f some g h = refl
+  one_answer None (Some b) f some g h = absurd (g h.0)
+  one_answer (Some a) None f some g h = absurd (h g.0)
+  one_answer (Some a) (Some b) f some g h = ap Some (one_tag a b f some g.1 h.1)
+
   -- ---- less nothing
 
   -- a tag less the tag of 0 is the fraction of the tag, over one more denominator
@@ -82,26 +105,24 @@ module _ {T : Type 0} (ops : Tagging T) (fraction : T → Fraction) (is_value : 
       ∙ sym (scaled_twice f.numer z.denom f.denom)
       ∙ ap (λ x. x *ℤ pos f.denom) (sym (less_zero a))
 
-  less_given : (a : T) (o : Option T) → is_value (fraction a) → Gives fraction is_value o (difference_of (fraction a) (fraction (ops.of_moment 0))) → o ≡ Some a
-  less_given a None v g =
-      let z = ops.of_moment 0 in
-      absurd (g (exact.same_value (fraction a) (difference_of (fraction a) (fraction z)) (exact.denom a) (positive _ _ (exact.denom a) (exact.denom z)) (same_less a) v))
-  less_given a (Some b) v g =
-      let z = fraction (ops.of_moment 0) in
-      let f = fraction a in
-      let k = fraction b in
-      let cross : (k.numer *ℤ pos f.denom) *ℤ pos z.denom ≡ (f.numer *ℤ pos k.denom) *ℤ pos z.denom =
-      scaled_twice k.numer f.denom z.denom
-      ∙ g.1
-      ∙ ap (λ x. x *ℤ pos k.denom) (less_zero a)
-      ∙ scaled_twice f.numer z.denom k.denom
-      ∙ ap (λ n. f.numer *ℤ pos n) (omega arith)
-      ∙ sym (scaled_twice f.numer k.denom z.denom) in
-      let equal : ops.compare b a ≡ Equal =
-      exact.order b a
-      ∙ scaled_cmp (k.numer *ℤ pos f.denom) (f.numer *ℤ pos k.denom) z.denom (exact.denom (ops.of_moment 0))
-      ∙ sym (int_cmp_is _ _ Equal cross) in
-      ap Some (exact.same b a equal)
-
   pub nothing_off : (a : T) → is_value (fraction a) → ops.minus a (ops.of_moment 0) ≡ Some a
-  nothing_off a v = less_given a (ops.minus a (ops.of_moment 0)) v (exact.minus a (ops.of_moment 0))
+  nothing_off a v =
+      let z = ops.of_moment 0 in
+      let some = positive _ _ (exact.denom a) (exact.denom z) in
+      one_answer (ops.minus a z) (Some a) (difference_of (fraction a) (fraction z)) some (exact.minus a z) (exact.same_value (fraction a) _ (exact.denom a) some (same_less a) v, same_less a)
+
+  -- ---- a sum turned round
+
+  sum_turned : (f g : Fraction) → sum_of f g ≡ sum_of g f
+  sum_turned f g =
+      let numers : f.numer *ℤ pos g.denom +ℤ g.numer *ℤ pos f.denom ≡ g.numer *ℤ pos f.denom +ℤ f.numer *ℤ pos g.denom = turned (f.numer *ℤ pos g.denom) (g.numer *ℤ pos f.denom) in
+      let denoms : f.denom * g.denom ≡ g.denom * f.denom = omega arith in
+      ap (λ n. record { numer = n; denom = f.denom * g.denom }) numers ∙ ap (λ d. record { numer = (sum_of g f).numer; denom = d }) denoms
+    where
+      turned : (x y : ℤ) → x +ℤ y ≡ y +ℤ x
+      turned x y = omega (arith, ints)
+
+  pub sums_commute : (a b : T) → ops.plus a b ≡ ops.plus b a
+  sums_commute a b =
+      one_answer (ops.plus a b) (ops.plus b a) (sum_of (fraction a) (fraction b)) (positive _ _ (exact.denom a) (exact.denom b)) (exact.plus a b)
+      (subst (Gives fraction is_value (ops.plus b a)) (sum_turned (fraction b) (fraction a)) (exact.plus b a))

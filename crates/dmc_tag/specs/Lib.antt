@@ -12,3 +12,4 @@ pub mod Replay
 pub mod Answers
 pub mod Steps
 pub mod Laws
+pub mod Queued

@@ -1,22 +1,28 @@
 //! What follows from the rules alone. Each law is the contract of a function that does nothing.
-ghost use Rattle.std.specs.Prelude.{◌≡◌, ℕ, ◌≤◌, Bool, List, Option, Some, None, Ok, Err, IfSome, nat_le};
+ghost use Rattle.std.specs.Prelude.{◌≡◌, ℕ, ◌≤◌, ◌⊎◌, ◌++◌, ◌∷◌, [], Bool, true, List, length, Option, Some, None, Ok, Err, IfSome, nat_le};
+ghost use Rattle.dmc_types.specs.Values.{Setting, Rates, Params};
+ghost use Rattle.dmc_types.specs.declared.ids.ClientId.{ClientId};
+ghost use Rattle.dmc_types.specs.declared.ids.Token.{Token};
+ghost use Rattle.dmc_types.specs.declared.config.PhaseType.{PhaseType};
+ghost use Rattle.dmc_types.specs.declared.refusal.Refusal.{Refusal};
 ghost use Rattle.dmc_types.specs.declared.command.Command.{Command};
-ghost use Rattle.dmc_tag.specs.State.{State, StandsFor, effective};
-ghost use Rattle.dmc_tag.specs.Steps.{Exactly, Steps};
+ghost use Rattle.dmc_types.specs.declared.command.Command.TheVariants as commands;
 ghost use Rattle.dmc_tag.specs.Best.{best, is_before, is_due, IsBest, HasNone};
-ghost use Rattle.dmc_tag.specs.declared.plain.PlainRequest.{PlainRequest};
 ghost use Rattle.dmc_tag.specs.Laws.{SameStep, Pulls, IsNextDue};
 ghost use Rattle.dmc_tag.specs.Order.{AreSpacings, AreNext};
+ghost use Rattle.dmc_tag.specs.Queued.{AreActive, is_add_of};
+ghost use Rattle.dmc_tag.specs.Replay.{after, replays};
 ghost use Rattle.dmc_tag.specs.Rules.{next_tags, moment_of};
+ghost use Rattle.dmc_tag.specs.State.{State, StandsFor, effective, has_queued, is_active};
 ghost use Rattle.dmc_tag.specs.Step.{outcome, step};
-ghost use Rattle.dmc_types.specs.Values.{Rates, Params};
+ghost use Rattle.dmc_tag.specs.Steps.{Exactly, Steps};
+ghost use Rattle.dmc_tag.specs.declared.event.Event.{Event};
+ghost use Rattle.dmc_tag.specs.declared.plain.PlainRequest.{PlainRequest};
 ghost use Rattle.dmc_tag.specs.declared.plain.Previous.{Previous};
 ghost use Rattle.dmc_tag.specs.declared.spacing.Spacings.{Spacings};
 ghost use Rattle.dmc_tag.specs.declared.reply.Tags.{Tags};
-ghost use Rattle.dmc_types.specs.declared.refusal.Refusal.{Refusal};
-ghost use Rattle.dmc_tag.specs.declared.reply.Reply.TheVariants as replies;
-ghost use Rattle.dmc_types.specs.declared.command.Command.TheVariants as commands;
 ghost use Rattle.dmc_tag.specs.declared.reply.Reply.{Reply};
+ghost use Rattle.dmc_tag.specs.declared.reply.Reply.TheVariants as replies;
 
 use crate::tag::Tag;
 
@@ -38,8 +44,45 @@ pub fn steps_client_by_client<T: Tag>()
         reply ≡ (step T.ops old command).1 → StandsFor new ((step T.ops old command).0) → Steps T.ops old new command (Some reply) }
 {}
 
+/// Two states that agree client by client have equally many requests, and equally many clients.
+pub fn agreeing_states_count_alike<T>()
+    ensures { (s u : State T) → StandsFor s u → (length s.requests ≡ length u.requests) × (length s.clients ≡ length u.clients) }
+{}
+
+/// A history with one event more: the state after it is one step further, and it replays exactly where the history does
+/// and the event's reply is that step's.
+pub fn histories_grow<T: Tag>()
+    ensures state { (config : Setting) (events : List (Event T)) (e : Event T) →
+        after T.ops config (events ++ e ∷ []) ≡ (step T.ops (after T.ops config events) e.command).0 }
+    ensures replay { (config : Setting) (events : List (Event T)) (e : Event T) → replays T.ops config events →
+        e.reply ≡ (step T.ops (after T.ops config events) e.command).1 → replays T.ops config (events ++ e ∷ []) }
+    ensures replayed { (config : Setting) (events : List (Event T)) (e : Event T) → replays T.ops config (events ++ e ∷ []) →
+        replays T.ops config events × (e.reply ≡ (step T.ops (after T.ops config events) e.command).1) }
+{}
+
+/// Who has a queued request is registered and not idle: after each history, and where a state has it so, after each step.
+pub fn queued_clients_are_active<T: Tag>()
+    ensures history { (config : Setting) (events : List (Event T)) (id : ClientId) →
+        has_queued id (after T.ops config events).requests ≡ true → is_active id (after T.ops config events).clients ≡ true }
+    ensures one_step { (s : State T) (command : Command) → AreActive s.clients s.requests →
+        AreActive ((step T.ops s command).0).clients ((step T.ops s command).0).requests }
+{}
+
+/// A client that has a queued request after a step had one before it, or the step is an Add of this client.
+pub fn only_an_add_queues<T: Tag>()
+    ensures { (s : State T) (command : Command) (id : ClientId) → has_queued id ((step T.ops s command).0).requests ≡ true →
+        (has_queued id s.requests ≡ true) ⊎ (is_add_of id command ≡ true) }
+{}
+
+/// Who is granted had a queued request.
+pub fn grants_what_is_queued<T: Tag>()
+    ensures { (s : State T) (command : Command) (client : ClientId) (token : Token) (phase : PhaseType) (beyond : Bool) →
+        (step T.ops s command).1 ≡ replies.Granted client token phase beyond → has_queued client s.requests ≡ true }
+{}
+
 /// The request that is granted is in its set, and no member of the set is before it in (tag, client, place); the reply
-/// to a pull says which set it was, and that the sets before it have no member.
+/// to a pull says which set it was, and that the sets before it have no member. A grant in the weight phase takes hz/r
+/// off the R tags of its client, one in the constraint phase takes nothing, and all else stays.
 pub fn pulls_grant_the_best<T: Tag>()
     ensures { (s : State T) (at : ℕ) → Pulls T.ops (effective s at) s ((step T.ops s (commands.Pull at)).0) ((step T.ops s (commands.Pull at)).1) }
 {}
@@ -74,6 +117,17 @@ pub fn a_tag_is_due_from_its_ceil<T: Tag>()
 /// Two tags less an amount are ordered as the tags are.
 pub fn subtraction_keeps_order<T: Tag>()
     ensures { (a b amount x y : T) → T.ops.minus a amount ≡ Some x → T.ops.minus b amount ≡ Some y → T.ops.compare x y ≡ T.ops.compare a b }
+{}
+
+/// Two tags and an amount are ordered as the tags are.
+pub fn plus_keeps_order<T: Tag>()
+    ensures { (a b amount x y : T) → T.ops.plus a amount ≡ Some x → T.ops.plus b amount ≡ Some y → T.ops.compare x y ≡ T.ops.compare a b }
+{}
+
+/// The sum of two tags is that of the same tags turned round, and there is none of the one where there is none of the
+/// other.
+pub fn plus_commutes<T: Tag>()
+    ensures { (a b : T) → T.ops.plus a b ≡ T.ops.plus b a }
 {}
 
 /// An assignment gives no tag below the previous one, and an R exactly where there is a reservation.

@@ -2,7 +2,7 @@
 ghost use Rattle.std.specs.Prelude.{◌≡◌, length, Some};
 ghost use Rattle.std.specs.Result.{result_ok};
 ghost use Rattle.dmc_tag.specs.Answers.{told, told_surely, pull_reply, clean_reply};
-ghost use Rattle.dmc_tag.specs.State.{State};
+ghost use Rattle.dmc_tag.specs.State.{State, StandsFor};
 ghost use Rattle.dmc_tag.specs.Steps.{Steps};
 ghost use Rattle.dmc_types.specs.declared.command.Command.TheVariants as commands;
 ghost use Rattle.dmc_tag.specs.declared.reply.Reply.TheVariants as replies;
@@ -57,13 +57,15 @@ pub trait Scheduler<T: Tag> {
     fn clean(&mut self, at: Moment) -> (u32, u32)
         ensures { Steps T.ops (state self.old) (state self.new) (commands.Clean at) (Some (clean_reply result)) };
 
-    /// How many clients are registered.
+    /// How many clients are registered, in each plain state that the scheduler stands for.
     fn client_count(&self) -> u32
-        ensures { result ≡ length (state self.now).clients };
+        ensures state { result ≡ length (state self.now).clients }
+        ensures each { (s : State T) → StandsFor (state self.now) s → result ≡ length s.clients };
 
-    /// How many requests are queued.
+    /// How many requests are queued, in each plain state that the scheduler stands for.
     fn request_count(&self) -> u32
-        ensures { result ≡ length (state self.now).requests };
+        ensures state { result ≡ length (state self.now).requests }
+        ensures each { (s : State T) → StandsFor (state self.now) s → result ≡ length s.requests };
 
     /// The reply to a command. An error is want of memory, and changes nothing.
     fn apply(&mut self, command: &Command) -> Result<Reply<T>, AllocError>

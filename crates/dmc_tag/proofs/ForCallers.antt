@@ -1,0 +1,80 @@
+-- What a caller's proof may cite: the laws over plain variables.
+use Rattle.std.proofs.Common.{◌≡◌, ℕ, Bool, true, List, [], ◌∷◌, ◌++◌, length, Option, Some}
+use Rattle.std.specs.Prelude.{◌⊎◌}
+use Rattle.std.specs.Cmp.{IsTotalOrder}
+use Rattle.std.specs.declared.cmp.Ordering.{Ordering}
+use Rattle.dmc_types.specs.Values.{Setting}
+use Rattle.dmc_types.specs.declared.ids.ClientId.{ClientId}
+use Rattle.dmc_types.specs.declared.ids.Token.{Token}
+use Rattle.dmc_types.specs.declared.config.PhaseType.{PhaseType}
+use Rattle.dmc_types.specs.declared.command.Command.{Command}
+use Rattle.dmc_types.specs.declared.command.Command.TheVariants.{Pull}
+use Rattle.dmc_tag.specs.Tag.{Tagging, Fraction, IsExact}
+use Rattle.dmc_tag.specs.State.{State, StandsFor, opening, effective, has_queued, is_active}
+use Rattle.dmc_tag.specs.Step.{step}
+use Rattle.dmc_tag.specs.Steps.{Exactly, Steps}
+use Rattle.dmc_tag.specs.Replay.{after, replays}
+use Rattle.dmc_tag.specs.Queued.{AreActive, is_add_of}
+use Rattle.dmc_tag.specs.Laws.{Pulls}
+use Rattle.dmc_tag.specs.declared.event.Event.{Event}
+use Rattle.dmc_tag.specs.declared.reply.Reply.{Reply}
+use Rattle.dmc_tag.specs.declared.reply.Reply.TheVariants.{Granted}
+use Rattle.dmc_tag.proofs.Agreement as agreement
+use Rattle.dmc_tag.proofs.PullLaw as pulls
+use Rattle.dmc_tag.proofs.Queued as queued
+use Rattle.dmc_tag.proofs.Running as running
+use Rattle.dmc_tag.proofs.TagOrder as orders
+use Rattle.dmc_tag.proofs.TagValues as values
+
+-- the order of a tag type is a total one
+pub tag_order : {T : Type 0} (cmp compare : T → T → Ordering) → IsTotalOrder cmp → ((a b : T) → cmp a b ≡ compare a b) → IsTotalOrder compare
+tag_order = agreement.same_total
+
+-- agreeing states have equally many requests, and equally many clients
+pub as_many_requests : {T : Type 0} (s u : State T) → StandsFor s u → length s.requests ≡ length u.requests
+as_many_requests s u h = (agreement.counts_agree s u h).0
+
+pub as_many_clients : {T : Type 0} (s u : State T) → StandsFor s u → length s.clients ≡ length u.clients
+as_many_clients s u h = (agreement.counts_agree s u h).1
+
+module _ {T : Type 0} (ops : Tagging T) where
+  -- one event more is one step more
+  pub after_one_more : (config : Setting) (events : List (Event T)) (e : Event T) → after ops config (events ++ e ∷ []) ≡ (step ops (after ops config events) e.command).0
+  after_one_more config = running.past_more ops (opening config)
+
+  pub replays_one_more : (config : Setting) (events : List (Event T)) (e : Event T) → replays ops config events → e.reply ≡ (step ops (after ops config events) e.command).1 → replays ops config (events ++ e ∷ [])
+  replays_one_more config = running.replays_more ops (opening config)
+
+  pub replayed_one_more : (config : Setting) (events : List (Event T)) (e : Event T) → replays ops config (events ++ e ∷ []) → replays ops config events × (e.reply ≡ (step ops (after ops config events) e.command).1)
+  replayed_one_more config = running.replays_parted ops (opening config)
+
+  -- a step from one state is that step from each that it stands for
+  pub steps_exactly : IsTotalOrder ops.compare → (old new : State T) (command : Command) (answer : Option (Reply T)) → Exactly ops old new command answer → Steps ops old new command answer
+  steps_exactly = agreement.steps_exactly ops
+
+module _ {T : Type 0} (ops : Tagging T) (fraction : T → Fraction) (is_value : Fraction → Type 0) (exact : IsExact ops fraction is_value) where
+  pub plus_commutes : (a b : T) → ops.plus a b ≡ ops.plus b a
+  plus_commutes = values.sums_commute ops fraction is_value exact
+
+  pub plus_keeps_order : (a b amount x y : T) → ops.plus a amount ≡ Some x → ops.plus b amount ≡ Some y → ops.compare x y ≡ ops.compare a b
+  plus_keeps_order = orders.sums_ordered ops fraction is_value exact
+
+  module _ (order : IsTotalOrder ops.compare) where
+    -- what a pull grants, and the state after it
+    pub pull_grants : (s : State T) (at : ℕ) → Pulls ops (effective s at) s ((step ops s (Pull at)).0) ((step ops s (Pull at)).1)
+    pull_grants s at = pulls.pull_says ops fraction is_value exact order (effective s at) s
+
+    -- only a client's Add queues its first request
+    pub only_an_add_queues : (s : State T) (command : Command) (id : ClientId) → has_queued id ((step ops s command).0).requests ≡ true → (has_queued id s.requests ≡ true) ⊎ (is_add_of id command ≡ true)
+    only_an_add_queues = queued.queued_before ops fraction is_value exact order
+
+    -- who is granted had a queued request
+    pub grants_what_is_queued : (s : State T) (command : Command) (client : ClientId) (token : Token) (phase : PhaseType) (beyond : Bool) → (step ops s command).1 ≡ Granted client token phase beyond → has_queued client s.requests ≡ true
+    grants_what_is_queued = queued.granted_had ops fraction is_value exact order
+
+    -- a step keeps it that queued clients are active, and so after each history they are
+    pub step_keeps_active : (s : State T) (command : Command) → AreActive s.clients s.requests → AreActive ((step ops s command).0).clients ((step ops s command).0).requests
+    step_keeps_active = queued.active_after ops fraction is_value exact order
+
+    pub queued_clients_are_active : (config : Setting) (events : List (Event T)) (id : ClientId) → has_queued id (after ops config events).requests ≡ true → is_active id (after ops config events).clients ≡ true
+    queued_clients_are_active = queued.queued_is_active ops fraction is_value exact order

@@ -1,0 +1,7 @@
+use Rattle.dmc_tag.proofs.ForCallers.{tag_order, only_an_add_queues}
+use Rattle.dmc_tag.proofs.laws.only_an_add_queues.Goals as goal
+
+pub returns : goal.returns
+returns g c =
+    let order = tag_order g.T.Ord.cmp g.T.Tag.ops.compare g.met.T.Ord.total g.met.T.Tag.compares in
+    only_an_add_queues g.T.Tag.ops g.T.Tag.fraction g.T.Tag.is_value g.met.T.Tag.exact order

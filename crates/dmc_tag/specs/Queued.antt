@@ -1,0 +1,22 @@
+-- Whose requests are queued.
+use Rattle.std.specs.Prelude.{◌≡◌, Bool, true, false, List}
+use Rattle.std.specs.List.{AllByRecursion}
+use Rattle.dmc_types.specs.declared.ids.ClientId.{ClientId}
+use Rattle.dmc_types.specs.declared.command.Command.{Command}
+use Rattle.dmc_types.specs.declared.command.Command.TheVariants.{Register, Update, Add, Pull, Remove, Clean}
+use Rattle.dmc_tag.specs.State.{is_client, is_active}
+use Rattle.dmc_tag.specs.declared.plain.PlainClient.{PlainClient}
+use Rattle.dmc_tag.specs.declared.plain.PlainRequest.{PlainRequest}
+
+-- who has a queued request is registered, and not idle
+abbrev pub AreActive : {T : Type 0} → List (PlainClient T) → List (PlainRequest T) → Type 0
+AreActive clients requests = AllByRecursion (λ r. is_active r.client clients ≡ true) requests
+
+-- the command is an Add of this client
+abbrev pub is_add_of : ClientId → Command → Bool
+is_add_of id (Register client info at) = false
+is_add_of id (Update client info at) = false
+is_add_of id (Add client token params at) = is_client id client
+is_add_of id (Pull at) = false
+is_add_of id (Remove client) = false
+is_add_of id (Clean at) = false

@@ -12,7 +12,7 @@ use Rattle.dmc_tag.specs.Rules.{change_client, shifted_request, shifted_requests
 use Rattle.dmc_tag.specs.declared.plain.PlainRequest.{PlainRequest}
 use Rattle.dmc_tag.specs.declared.plain.PlainClient.{PlainClient}
 use Rattle.dmc_tag.specs.declared.reply.Tags.{Tags}
-use Rattle.dmc_tag.proofs.Lists.{all_as, all_both, all_mapped, all_joined}
+use Rattle.dmc_tag.proofs.Lists.{all_as, all_both, all_filtered, all_mapped, all_joined}
 
 -- ---- tests
 
@@ -89,15 +89,15 @@ module _ {T : Type 0} where
   others : (clients changed : List (PlainClient T)) → ((id : ClientId) → is_active id clients ≡ true → is_active id changed ≡ true) → (requests : List (PlainRequest T)) → AreActive clients requests → AreActive changed requests
   others clients changed keeps = all_as (λ r. is_active r.client clients ≡ true) (λ r. is_active r.client changed ≡ true) (λ r. keeps r.client)
 
-  pub registered : (clients : List (PlainClient T)) (c : PlainClient T) (requests : List (PlainRequest T)) → AreActive clients requests → AreActive (clients ++ c ∷ []) requests
-  registered clients c = others clients (clients ++ c ∷ []) (λ id. active_more id clients (c ∷ []))
+  pub registration_keeps_active : (clients : List (PlainClient T)) (c : PlainClient T) (requests : List (PlainRequest T)) → AreActive clients requests → AreActive (clients ++ c ∷ []) requests
+  registration_keeps_active clients c = others clients (clients ++ c ∷ []) (λ id. active_more id clients (c ∷ []))
 
   changed : (client : ClientId) (f : PlainClient T → PlainClient T) → ((id : ClientId) (c : PlainClient T) → IsThis id c → IsThis id (f c)) → (clients : List (PlainClient T)) (requests : List (PlainRequest T)) → AreActive clients requests → AreActive (change_client client f clients) requests
   changed client f keeps clients =
       others clients (change_client client f clients) (λ id. active_mapped id _ (λ c p. either (IsThis id) (is_client client c.id) (f c) c (keeps id c p) p) clients)
 
-  pub updated : (client : ClientId) (info : Rates) (clients : List (PlainClient T)) (requests : List (PlainRequest T)) → AreActive clients requests → AreActive (change_client client (with_info info) clients) requests
-  updated client info = changed client (with_info info) (λ id c p. p)
+  pub update_keeps_active : (client : ClientId) (info : Rates) (clients : List (PlainClient T)) (requests : List (PlainRequest T)) → AreActive clients requests → AreActive (change_client client (with_info info) clients) requests
+  update_keeps_active client info = changed client (with_info info) (λ id c p. p)
 
   -- ---- an arrival
 
@@ -125,6 +125,11 @@ module _ {T : Type 0} where
     at rest true = refl
     at rest false = rest
 
+  -- ---- a removal
+
+  pub removal_keeps_active : (client : ClientId) (clients : List (PlainClient T)) (requests : List (PlainRequest T)) → AreActive clients requests → AreActive clients (filter (λ r. not (is_client client r.client)) requests)
+  removal_keeps_active client clients = all_filtered (λ r. is_active r.client clients ≡ true) (λ r. not (is_client client r.client))
+
   -- ---- a clean
 
   not_stale : (id : ClientId) (requests : List (PlainRequest T)) (t age : ℕ) → has_queued id requests ≡ true → (c : PlainClient T) → is_client id c.id ≡ true → is_stale requests t age c ≡ false
@@ -139,8 +144,8 @@ module _ {T : Type 0} where
   abbrev is_fresh : List (PlainRequest T) → ℕ → ℕ → PlainClient T → Bool
   is_fresh requests t age c = not (is_stale requests t age c)
 
-  pub cleaned : (t idle_age erase_age : ℕ) (clients : List (PlainClient T)) (requests : List (PlainRequest T)) → AreActive clients requests → AreActive (map (mark requests t idle_age) (filter (is_fresh requests t erase_age) clients)) requests
-  cleaned t idle_age erase_age clients requests h =
+  pub clean_keeps_active : (t idle_age erase_age : ℕ) (clients : List (PlainClient T)) (requests : List (PlainRequest T)) → AreActive clients requests → AreActive (map (mark requests t idle_age) (filter (is_fresh requests t erase_age) clients)) requests
+  clean_keeps_active t idle_age erase_age clients requests h =
       all_as (λ r. (is_active r.client clients ≡ true) × (has_queued r.client requests ≡ true)) (λ r. is_active r.client (map (mark requests t idle_age) (filter (is_fresh requests t erase_age) clients)) ≡ true)
       (λ r p.
       active_mapped r.client (mark requests t idle_age) (λ c. stays (is_client r.client c.id) c.idle (is_stale requests t idle_age c) (not_stale r.client requests t idle_age p.1 c)) (filter (is_fresh requests t erase_age) clients)
@@ -154,9 +159,9 @@ module _ {T : Type 0} (ops : Tagging T) where
   all_reduced P client None requests h = h
   all_reduced P client (Some amount) requests h = all_mapped (λ r. P r.client) (reduced_request ops client amount) (λ r p. either (λ (r : PlainRequest T). P r.client) (is_client client r.client) _ r p p) requests h
 
-  pub reduced : (client : ClientId) (amount : Option T) (clients : List (PlainClient T)) (requests : List (PlainRequest T)) → AreActive clients requests → AreActive (reduced_clients ops client amount clients) (reduced_requests ops client amount requests)
-  reduced client None clients requests h = h
-  reduced client (Some amount) clients requests h =
+  pub reduction_keeps_active : (client : ClientId) (amount : Option T) (clients : List (PlainClient T)) (requests : List (PlainRequest T)) → AreActive clients requests → AreActive (reduced_clients ops client amount clients) (reduced_requests ops client amount requests)
+  reduction_keeps_active client None clients requests h = h
+  reduction_keeps_active client (Some amount) clients requests h =
       all_reduced (λ id. is_active id (reduced_clients ops client (Some amount) clients) ≡ true) client (Some amount) requests
       (changed client (reduced_client ops amount) (λ id c p. p) clients requests h)
 
@@ -177,5 +182,5 @@ module _ {T : Type 0} (ops : Tagging T) where
   named_shifted (Some amount) id clients = named_kept (shifted_client ops amount) (λ c. either (λ (d : PlainClient T). d.id ≡ c.id) c.idle c _ refl refl) id clients
 
   -- an arrival behind an adjustment
-  pub queued : (shift : Option T) (request : PlainRequest T) (t : ℕ) (clients : List (PlainClient T)) (requests : List (PlainRequest T)) → is_some (client_named request.client clients) ≡ true → AreActive clients requests → AreActive (change_client request.client (after_arrival request.tags t) (shifted_clients ops shift clients)) (shifted_requests ops shift clients requests ++ request ∷ [])
-  queued shift request t clients requests known h = arrived request t (shifted_clients ops shift clients) (shifted_requests ops shift clients requests) (named_shifted shift request.client clients ∙ known) (shifted shift clients requests h)
+  pub arrival_keeps_active : (shift : Option T) (request : PlainRequest T) (t : ℕ) (clients : List (PlainClient T)) (requests : List (PlainRequest T)) → is_some (client_named request.client clients) ≡ true → AreActive clients requests → AreActive (change_client request.client (after_arrival request.tags t) (shifted_clients ops shift clients)) (shifted_requests ops shift clients requests ++ request ∷ [])
+  arrival_keeps_active shift request t clients requests known h = arrived request t (shifted_clients ops shift clients) (shifted_requests ops shift clients requests) (named_shifted shift request.client clients ∙ known) (shifted shift clients requests h)

@@ -25,6 +25,8 @@ use Rattle.dmc_tag.proofs.Queued as queued
 use Rattle.dmc_tag.proofs.Running as running
 use Rattle.dmc_tag.proofs.TagOrder as orders
 use Rattle.dmc_tag.proofs.TagValues as values
+-- each change keeps it that queued clients are active
+pub use Rattle.dmc_tag.proofs.Active.{registration_keeps_active, update_keeps_active, arrival_keeps_active, reduction_keeps_active, removal_keeps_active, clean_keeps_active}
 
 -- the order of a tag type is a total one
 pub tag_order : {T : Type 0} (cmp compare : T → T → Ordering) → IsTotalOrder cmp → ((a b : T) → cmp a b ≡ compare a b) → IsTotalOrder compare

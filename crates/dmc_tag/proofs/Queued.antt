@@ -27,7 +27,7 @@ use Rattle.dmc_tag.specs.Laws.{Grants, Pulls}
 use Rattle.dmc_tag.specs.declared.plain.PlainRequest.{PlainRequest}
 use Rattle.dmc_tag.specs.declared.reply.Reply.{Reply}
 use Rattle.dmc_tag.specs.declared.reply.Reply.TheVariants.{Registered, Updated, Tagged, Granted, Later, Nothing, Removed, Cleaned, Refused}
-use Rattle.dmc_tag.proofs.Active.{at_queued, queued_own, registered, updated, queued, cleaned, reduced, all_reduced, all_shifted}
+use Rattle.dmc_tag.proofs.Active.{at_queued, queued_own, registration_keeps_active, update_keeps_active, arrival_keeps_active, removal_keeps_active, clean_keeps_active, reduction_keeps_active, all_reduced, all_shifted}
 use Rattle.dmc_tag.proofs.Lists.{all_as, all_filtered, all_joined, all_at, all_without}
 use Rattle.dmc_tag.proofs.PullLaw.{pull_says}
 use Rattle.dmc_tag.proofs.TagOrder.{bound, from_option}
@@ -61,7 +61,7 @@ module _ {T : Type 0} (ops : Tagging T) (s : State T) where
   granting : (at t : ℕ) (phase : PhaseType) (beyond : Bool) (before : PlainRequest T → PlainRequest T → Bool) (member : PlainRequest T → Bool) (new : State T) (client : ClientId) (token : Token) → Grants ops t phase before member s new client token → Keeps (Pull at) new (Granted client token phase beyond)
   granting at t phase beyond before member new client token g = record {
     comes = rw g.left (all_reduced ops (Comes (Pull at)) client g.reduction g.others (rest (λ r. Comes (Pull at) r.client) (own (Pull at))));
-    active = λ a. rw (g.left, g.clients) (reduced ops client g.reduction s.clients g.others (rest (λ r. is_active r.client s.clients ≡ true) a));
+    active = λ a. rw (g.left, g.clients) (reduction_keeps_active ops client g.reduction s.clients g.others (rest (λ r. is_active r.client s.clients ≡ true) a));
     granted = λ other _ _ _ e.
         let found : has_queued g.request.client s.requests ≡ true = all_at (λ r. has_queued r.client s.requests ≡ true) g.best.front g.request g.best.back (subst (AllByRecursion (λ r. has_queued r.client s.requests ≡ true)) g.best.whole (queued_own s.requests)) in
         let same : g.request.client ≡ other = cc (g.client_is) in
@@ -89,30 +89,30 @@ module _ {T : Type 0} (ops : Tagging T) (s : State T) where
   keeps : (fraction : T → Fraction) (is_value : Fraction → Type 0) → IsExact ops fraction is_value → IsTotalOrder ops.compare → (command : Command) → Settles command (step ops s command)
   keeps fraction is_value exact order (Register id info at) = chained (Register id info at) (rules_of.can_register ops s id info) _ (λ _ _. record {
     comes = own (Register id info at);
-    active = registered s.clients _ s.requests;
+    active = registration_keeps_active s.clients _ s.requests;
     granted = λ client token phase beyond e. cc;
   })
   keeps fraction is_value exact order (Update id info at) = chained (Update id info at) (rules_of.can_update ops s id info) _ (λ _ _. record {
     comes = own (Update id info at);
-    active = updated id info s.clients s.requests;
+    active = update_keeps_active id info s.clients s.requests;
     granted = λ client token phase beyond e. cc;
   })
   keeps fraction is_value exact order (Add id token params at) = chained (Add id token params at) (rules_of.can_add ops s id params _) _ (λ added e.
       let known = bound (ok_or (client_named id s.clients) Unknown) _ added e in
       record {
         comes = all_joined (λ r. Comes (Add id token params at) r.client) (rules_of.shifted_requests ops added.0 s.clients s.requests) _ [] (all_shifted ops (Comes (Add id token params at)) added.0 s.clients s.requests (own (Add id token params at))) (inr (eq-eqb id.0 id.0 refl)) tt;
-        active = queued ops added.0 _ _ s.clients s.requests (ap is_some (from_option _ Unknown known.0 known.1));
+        active = arrival_keeps_active ops added.0 _ _ s.clients s.requests (ap is_some (from_option _ Unknown known.0 known.1));
         granted = λ client token phase beyond e. cc;
       })
   keeps fraction is_value exact order (Pull at) = pulling at (effective s at) _ _ (pull_says ops fraction is_value exact order (effective s at) s)
   keeps fraction is_value exact order (Remove id) = chained (Remove id) (rules_of.can_remove s id) _ (λ _ _. record {
     comes = all_filtered (λ r. Comes (Remove id) r.client) (λ r. not (is_client id r.client)) s.requests (own (Remove id));
-    active = all_filtered (λ r. is_active r.client s.clients ≡ true) (λ r. not (is_client id r.client)) s.requests;
+    active = removal_keeps_active id s.clients s.requests;
     granted = λ client token phase beyond e. cc;
   })
   keeps fraction is_value exact order (Clean at) = record {
     comes = own (Clean at);
-    active = cleaned (effective s at) s.config.idle_age s.config.erase_age s.clients s.requests;
+    active = clean_keeps_active (effective s at) s.config.idle_age s.config.erase_age s.clients s.requests;
     granted = λ client token phase beyond e. cc;
   }
 

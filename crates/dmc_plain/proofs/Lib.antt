@@ -1,3 +1,3 @@
-pub mod Active
+pub mod Shares
 pub mod Found
 pub mod Grants

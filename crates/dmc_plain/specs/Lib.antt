@@ -1,2 +1,2 @@
-pub mod Active
+pub mod Shares
 pub mod Sets

@@ -1,14 +1,8 @@
--- What is true of each plain queue: who has a queued request is registered, and not idle. So an adjustment shifts each request.
-use Rattle.std.specs.Prelude.{◌≡◌, true, List, Option, Some, None, map}
-use Rattle.std.specs.List.{AllByRecursion}
+-- An adjustment shifts each request: who has a queued request is not idle.
+use Rattle.std.specs.Prelude.{List, Option, Some, None, map}
 use Rattle.dmc_tag.specs.Tag.{Tagging}
-use Rattle.dmc_tag.specs.State.{is_active}
 use Rattle.dmc_tag.specs.Rules.{less}
 use Rattle.dmc_tag.specs.declared.plain.PlainRequest.{PlainRequest}
-use Rattle.dmc_tag.specs.declared.plain.PlainClient.{PlainClient}
-
-abbrev pub AreActive : {T : Type 0} → List (PlainClient T) → List (PlainRequest T) → Type 0
-AreActive clients requests = AllByRecursion (λ r. is_active r.client clients ≡ true) requests
 
 -- an amount off the P
 abbrev pub less_share : {T : Type 0} → Tagging T → T → PlainRequest T → PlainRequest T

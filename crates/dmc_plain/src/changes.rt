@@ -3,7 +3,7 @@ ghost use Rattle.std.specs.Prelude.{◌≡◌, ◌≤◌, ◌++◌, ◌||◌, ma
 ghost use Rattle.std.specs.Option.{option_map};
 ghost use Rattle.dmc_tag.specs.State.{is_client};
 ghost use Rattle.dmc_tag.specs.Rules as rules_of;
-ghost use Rattle.dmc_plain.specs.Active.{less_share};
+ghost use Rattle.dmc_plain.specs.Shares.{less_share};
 
 use crate::requests::has_queued;
 use dmc_tag::assignment::previous_after;

@@ -6,7 +6,7 @@ ghost use Rattle.dmc_tag.specs.Answers.{told, told_surely, pull_reply, clean_rep
 ghost use Rattle.dmc_tag.specs.Rules as rules_of;
 ghost use Rattle.dmc_tag.specs.State.{State, opening, effective, client_named};
 ghost use Rattle.dmc_tag.specs.Steps.{Exactly};
-ghost use Rattle.dmc_plain.specs.Active.{less_shares};
+ghost use Rattle.dmc_plain.specs.Shares.{less_shares};
 ghost use Rattle.dmc_plain.specs.Sets.{found_at, grants_early, Settles};
 ghost use Rattle.dmc_types.specs.declared.command.Command.TheVariants as commands;
 ghost use Rattle.dmc_tag.specs.declared.reply.Reply.TheVariants as replies;
@@ -53,7 +53,7 @@ pub struct PlainQueue<T> {
 impl<T> Model for PlainQueue<T> {
     ghost use Rattle.std.specs.Prelude.{◌≤◌, length};
     ghost use Rattle.dmc_tag.specs.State.{State};
-    ghost use Rattle.dmc_plain.specs.Active.{AreActive};
+    ghost use Rattle.dmc_tag.specs.Queued.{AreActive};
 
     ghost Value = { State T };
 

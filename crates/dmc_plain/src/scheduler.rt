@@ -1,6 +1,5 @@
 //! The plain queue is a scheduler: what it does from its own state, it does from each state that it stands for.
 use crate::queue::PlainQueue;
-use dmc_tag::laws::steps_exactly;
 use dmc_tag::reply::{Pulled, Tags};
 use dmc_tag::scheduler::Scheduler;
 use dmc_tag::tag::Tag;
@@ -19,7 +18,6 @@ impl<T: Tag> Scheduler<T> for PlainQueue<T> {
         info: ClientInfo,
         at: Moment,
     ) -> Result<(), QueueFault> {
-        steps_exactly::<T>();
         self.register(client, info, at)
     }
 
@@ -29,7 +27,6 @@ impl<T: Tag> Scheduler<T> for PlainQueue<T> {
         info: ClientInfo,
         at: Moment,
     ) -> Result<(), Refusal> {
-        steps_exactly::<T>();
         self.update_info(client, info, at)
     }
 
@@ -40,22 +37,18 @@ impl<T: Tag> Scheduler<T> for PlainQueue<T> {
         params: ReqParams,
         at: Moment,
     ) -> Result<Tags<T>, QueueFault> {
-        steps_exactly::<T>();
         self.add_request(client, token, params, at)
     }
 
     fn pull_request(&mut self, at: Moment) -> Result<Pulled, Refusal> {
-        steps_exactly::<T>();
         self.pull_request(at)
     }
 
     fn remove_by_client(&mut self, client: ClientId) -> Result<u32, Refusal> {
-        steps_exactly::<T>();
         self.remove_by_client(client)
     }
 
     fn clean(&mut self, at: Moment) -> (u32, u32) {
-        steps_exactly::<T>();
         self.clean(at)
     }
 

@@ -2,7 +2,7 @@ use Rattle.std.proofs.Common.{sym, ap, ◌∙◌}
 use Rattle.std.specs.Prelude.{◌&&◌}
 use Rattle.std.specs.List.{list_all}
 use Rattle.dmc_tag.specs.Rules.{has_less, clients_can_shift}
-use Rattle.dmc_plain.proofs.Active.{can_shift_all}
+use Rattle.dmc_plain.proofs.Shares.{can_shift_all}
 use Rattle.dmc_plain.proofs.queue.PlainQueue.can_shift_by.Goals as goal
 
 pub returns-then-can_shift : goal.returns-then-can_shift

@@ -3,7 +3,8 @@ use Rattle.std.specs.Prelude.{is_some}
 use Rattle.std.proofs.lemmas.Grind.{common_steps}
 use Rattle.std.proofs.lemmas.List.{take_at, drop_at}
 use Rattle.dmc_tag.specs.State.{client_named}
-use Rattle.dmc_plain.proofs.Active.{arrived, shifted_as}
+use Rattle.dmc_tag.proofs.ForCallers.{arrival_keeps_active}
+use Rattle.dmc_plain.proofs.Shares.{shifted_as}
 use Rattle.dmc_plain.proofs.queue.PlainQueue.queue.Goals as goal
 
 pub returns-clause-ok : goal.returns-clause-ok
@@ -23,4 +24,4 @@ invariant_of-self-2 g c =
     let front : take c.len-others.result c.push.new.self.items ≡ q.requests.items = rw pushed (take_at q.requests.items (c.args.request ∷ []) c.len-others.result others) in
     let back : drop c.len-others.result c.push.new.self.items ≡ c.args.request ∷ [] = rw pushed (drop_at q.requests.items (c.args.request ∷ []) c.len-others.result others) in
     let known : is_some (client_named c.args.request.client q.clients.items) ≡ true = subst (λ s. is_some (client_named c.args.request.client s.clients) ≡ true) (sym c.self.view_is) c.requires.known in
-    (search (rules, common_steps), search (rules, common_steps), rw (c.shift_first.ensures.items, front, back, c.change_all.ensures.items, c.shift_clients.ensures.items) (arrived g.T.Tag.ops c.args.shift c.args.request c.args.at q.clients.items q.requests.items known c.self.invariant.2))
+    (search (rules, common_steps), search (rules, common_steps), rw (c.shift_first.ensures.items, front, back, shifted_as g.T.Tag.ops c.args.shift q.clients.items q.requests.items c.self.invariant.2, c.change_all.ensures.items, c.shift_clients.ensures.items) (arrival_keeps_active g.T.Tag.ops c.args.shift c.args.request c.args.at q.clients.items q.requests.items known c.self.invariant.2))

@@ -1,6 +1,6 @@
-use Rattle.std.proofs.Common.{rules, refl}
+use Rattle.std.proofs.Common.{rules, refl, Some}
 use Rattle.std.proofs.lemmas.Grind.{common_steps}
-use Rattle.dmc_plain.proofs.Active.{reduced}
+use Rattle.dmc_tag.proofs.ForCallers.{reduction_keeps_active}
 use Rattle.dmc_plain.proofs.queue.PlainQueue.reduce.Goals as goal
 
 pub returns-in-Some : goal.returns-in-Some
@@ -9,4 +9,4 @@ returns-in-Some g c = rw (c.change_all.ensures.items, c.change_all-in-Some.ensur
 pub invariant_of-self : goal.invariant_of-self
 invariant_of-self g c =
     let q = c.self.inside in
-    (search (rules, common_steps), search (rules, common_steps), rw (c.change_all.ensures.items, c.change_all-in-Some.ensures.items) (reduced g.T.Tag.ops c.args.client c.in-Some.amount q.clients.items q.requests.items c.self.invariant.2))
+    (search (rules, common_steps), search (rules, common_steps), rw (c.change_all.ensures.items, c.change_all-in-Some.ensures.items) (reduction_keeps_active g.T.Tag.ops c.args.client (Some c.in-Some.amount) q.clients.items q.requests.items c.self.invariant.2))

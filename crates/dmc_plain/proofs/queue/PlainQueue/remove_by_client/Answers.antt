@@ -1,7 +1,6 @@
-use Rattle.std.proofs.Common.{rules, ap, sym, ◌∙◌, ◌≡◌, true, not}
+use Rattle.std.proofs.Common.{rules, ap, sym, ◌∙◌}
 use Rattle.std.proofs.lemmas.Grind.{common_steps}
-use Rattle.dmc_tag.specs.State.{is_active, is_client}
-use Rattle.dmc_plain.proofs.Active.{all_filtered}
+use Rattle.dmc_tag.proofs.ForCallers.{removal_keeps_active}
 use Rattle.dmc_plain.proofs.Grants.{removal, removed_as}
 use Rattle.dmc_plain.proofs.queue.PlainQueue.remove_by_client.Goals as goal
 
@@ -13,4 +12,4 @@ returns g c =
 pub invariant_of-self : goal.invariant_of-self
 invariant_of-self g c =
     let q = c.self.inside in
-    (search (rules, common_steps), search (rules, common_steps), rw c.drop_of.ensures.items (all_filtered (λ r. is_active r.client q.clients.items ≡ true) (λ r. not (is_client c.args.client r.client)) q.requests.items c.self.invariant.2))
+    (search (rules, common_steps), search (rules, common_steps), rw c.drop_of.ensures.items (removal_keeps_active c.args.client q.clients.items q.requests.items c.self.invariant.2))

@@ -5,14 +5,14 @@ use Rattle.dmc_tag.specs.State.{effective}
 use Rattle.dmc_tag.specs.Rules.{change_client, with_info}
 use Rattle.dmc_tag.specs.Step.{step}
 use Rattle.dmc_tag.specs.declared.reply.Reply.TheVariants.{Updated}
-use Rattle.dmc_plain.proofs.Active.{updated}
+use Rattle.dmc_tag.proofs.ForCallers.{update_keeps_active}
 use Rattle.dmc_plain.proofs.Grants.{updated_as}
 use Rattle.dmc_plain.proofs.queue.PlainQueue.update_info.Goals as goal
 
 pub invariant_of-self : goal.invariant_of-self
 invariant_of-self g c =
     let q = c.self.inside in
-    (search (rules, common_steps), search (rules, common_steps), rw c.change_all.ensures.items (updated c.args.client c.args.info q.clients.items q.requests.items c.self.invariant.2))
+    (search (rules, common_steps), search (rules, common_steps), rw c.change_all.ensures.items (update_keeps_active c.args.client c.args.info q.clients.items q.requests.items c.self.invariant.2))
 
 pub returns : goal.returns
 returns g c =

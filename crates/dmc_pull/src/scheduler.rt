@@ -3,7 +3,6 @@ ghost use Rattle.dmc_pull.specs.Queue.{state_of};
 
 use crate::queue::PullQueue;
 use dmc_index::index::Indexes;
-use dmc_tag::laws::steps_exactly;
 use dmc_tag::reply::{Pulled, Tags};
 use dmc_tag::scheduler::Scheduler;
 use dmc_tag::tag::Tag;
@@ -22,7 +21,6 @@ impl<T: Tag, I: Indexes<T>> Scheduler<T> for PullQueue<T, I> {
         info: ClientInfo,
         at: Moment,
     ) -> Result<(), QueueFault> {
-        steps_exactly::<T>();
         self.register(client, info, at)
     }
 
@@ -32,7 +30,6 @@ impl<T: Tag, I: Indexes<T>> Scheduler<T> for PullQueue<T, I> {
         info: ClientInfo,
         at: Moment,
     ) -> Result<(), Refusal> {
-        steps_exactly::<T>();
         self.update_info(client, info, at)
     }
 
@@ -47,17 +44,14 @@ impl<T: Tag, I: Indexes<T>> Scheduler<T> for PullQueue<T, I> {
     }
 
     fn pull_request(&mut self, at: Moment) -> Result<Pulled, Refusal> {
-        steps_exactly::<T>();
         self.pull_request(at)
     }
 
     fn remove_by_client(&mut self, client: ClientId) -> Result<u32, Refusal> {
-        steps_exactly::<T>();
         self.remove_by_client(client)
     }
 
     fn clean(&mut self, at: Moment) -> (u32, u32) {
-        steps_exactly::<T>();
         self.clean(at)
     }
 

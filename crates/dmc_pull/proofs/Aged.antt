@@ -18,7 +18,7 @@ use Rattle.dmc_pull.specs.Standing.{requests_in}
 use Rattle.dmc_pull.specs.Queue.{Queue, state_of, IsQueue, IsKept, AreHeads, head_of, unready_head}
 use Rattle.dmc_pull.proofs.Parts.{all_as, all_both, all_filtered, all_mapped}
 use Rattle.dmc_pull.proofs.Cleaned.{stale_empty, cleaned_clients, cleaned_requests, count_idled, count_erased}
-use Rattle.dmc_pull.proofs.Keyed.{read_retained}
+use Rattle.dmc_pull.proofs.Keyed.{distinct_with, distinct_filtered, read_retained}
 use Rattle.dmc_pull.proofs.Aging.{DueFromCeil, heads_later, all_true}
 
 -- the entries that stay, marked
@@ -63,6 +63,7 @@ module _ {T : Type 0} (ops : Tagging T) (fraction : T → Fraction) (is_value : 
       let heads = heads_later ops due_from q.last_moment at later es stay (heads_kept at q.config.idle_age q.config.erase_age es distinct) q.heads q.heads (λ key. refl) is.heads in
       record {
         kept = subst (AllByRecursion (λ f. IsKept ops fraction is_value hz f.rec)) (sym e) keepers;
+        distinct = subst AreDistinct (sym e) (distinct_with (λ f. marked at q.config.idle_age) (filter (λ f. not (is_stale at q.config.erase_age f.rec)) es) (distinct_filtered (λ f. not (is_stale at q.config.erase_age f.rec)) es is.distinct));
         heads = subst (λ fs. AreHeads ops at fs q.heads) (sym e) heads;
         in_room = subst (AllByRecursion (λ f. f.key < length q.heads)) (sym e) inside;
         counted = is.counted ∙ ap length (sym (cleaned_requests (state_of q) at es distinct refl) ∙ ap requests_in (sym e));

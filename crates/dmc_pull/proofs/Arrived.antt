@@ -24,7 +24,7 @@ use Rattle.dmc_pull.specs.Queue.{Queue, IsQueue, IsKept, AreHeads, head_of, head
 use Rattle.dmc_pull.specs.Standing.{clients_in, requests_in}
 use Rattle.dmc_pull.proofs.Parts.{all_as, all_both, all_append, found_holds, found_passes}
 use Rattle.dmc_pull.proofs.Entries.{Differs, split, name_is, all_changed}
-use Rattle.dmc_pull.proofs.Keyed.{id_is, split_keyed, read_changed, read_other, read_kept}
+use Rattle.dmc_pull.proofs.Keyed.{id_is, split_keyed, distinct_changed, read_changed, read_other, read_kept}
 use Rattle.dmc_pull.proofs.Shifted.{pushed_clients, pushed_requests, length_pushed}
 use Rattle.dmc_pull.proofs.Choices.{entry_at}
 use Rattle.dmc_pull.proofs.Adds.{held_entry, if_holds}
@@ -156,6 +156,7 @@ module _ {T : Type 0} {ops : Tagging T} (fraction : T → Fraction) (is_value : 
         let came = all_changed after.moved.here (λ f. f.key < length heads) (pushed request at e.rec) after.moved.in_room (found_holds (λ f. f.key < length heads) (λ f. f.key == key) after.entries e after.moved.in_room (split_keyed after.moved.here)) in
         record {
           kept = all_kept v;
+          distinct = subst AreDistinct (sym after.whole) (distinct_changed key (pushed request at e.rec) after.entries after.moved.distinct);
           heads = subst (λ xs. AreHeads ops at xs new) (sym after.whole) are;
           in_room = subst (λ xs. AllByRecursion (λ f. f.key < length new) xs) (sym after.whole) (subst (λ m. AllByRecursion (λ f. f.key < m) (with_record key (pushed request at e.rec) after.entries)) (sym same) came);
           counted = omega (arith, count, counted);

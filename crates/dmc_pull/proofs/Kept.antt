@@ -20,6 +20,7 @@ module _ {T : Type 0} (ops : Tagging T) (fraction : T → Fraction) (is_value : 
   empty_is config roster heads last e h = subst (λ hs. IsQueue ops fraction is_value (record { config = config; roster = roster; heads = hs; last_moment = last }) 0) (sym h)
       (subst (λ es. IsQueue ops fraction is_value (record { config = config; roster = record { entries = es; next_key = roster.next_key }; heads = []; last_moment = last }) 0) (sym e) (record {
         kept = tt;
+        distinct = tt;
         heads = record { here = λ key. refl; marks = λ key head here r. none_held key head here };
         in_room = tt;
         counted = refl;
@@ -56,6 +57,7 @@ module _ {T : Type 0} (ops : Tagging T) (fraction : T → Fraction) (is_value : 
   pub same_roster : (q : Queue T) (queued : ℕ) (heads : List (Option (Head T))) (last : ℕ) → IsQueue ops fraction is_value q queued → length heads ≡ length q.heads → AreHeads ops last q.roster.entries heads → IsQueue ops fraction is_value (record q { heads = heads; last_moment = last }) queued
   same_roster q queued heads last is size are = record {
     kept = is.kept;
+    distinct = is.distinct;
     heads = are;
     in_room = subst (λ n. AllByRecursion (λ e. e.key < n) q.roster.entries) (sym size) is.in_room;
     counted = is.counted;

@@ -26,3 +26,4 @@ pub mod NothingOff
 pub mod Allowed
 pub mod Moved
 pub mod Arrived
+pub mod FirstRequests

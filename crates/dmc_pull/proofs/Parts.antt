@@ -80,7 +80,7 @@ none_passes test [] h = refl
 none_passes test (x ∷ xs) h = ap (λ b. b || list_any test xs) h.0 ∙ none_passes test xs h.1
 
 -- no length is both
-positive : {X : Type 0} (xs : List X) → (suc (length xs) == 0) ≡ false
+pub positive : {X : Type 0} (xs : List X) → (suc (length xs) == 0) ≡ false
 positive xs = by (suc (length xs) == 0) refl where
   by : (b : Bool) → (suc (length xs) == 0) ≡ b → (suc (length xs) == 0) ≡ false
   by true e = let none : suc (length xs) ≡ 0 = eqb-true (suc (length xs)) 0 e in absurd (omega arith)

@@ -16,7 +16,7 @@ use Rattle.dmc_tag.specs.Spacing.{spacings_of}
 use Rattle.dmc_tag.specs.Rules.{can_register}
 use Rattle.dmc_tag.specs.declared.spacing.Spacings.{Spacings}
 use Rattle.dmc_client.specs.Record.{Rec, client_of}
-use Rattle.dmc_roster.specs.Entries.{Entry, Listing, entry_named, Adds}
+use Rattle.dmc_roster.specs.Entries.{Entry, Listing, entry_named, Adds, AreDistinct}
 use Rattle.dmc_roster.specs.declared.fault.RosterFault.{RosterFault}
 use Rattle.dmc_roster.specs.declared.fault.RosterFault.TheVariants as faults
 use Rattle.dmc_index.specs.Index.{held}
@@ -65,6 +65,7 @@ module _ {T : Type 0} (ops : Tagging T) (fraction : T → Fraction) (is_value : 
   pub roomier_is : DueFromCeil ops → {q : Queue T} {queued : ℕ} → Is q queued → (heads : List (Option (Head T))) → ((key : ℕ) → held heads key ≡ held q.heads key) → length q.heads ≤ length heads → Is (record q { heads = heads }) queued
   roomier_is due_from {q} is heads holds more = record {
     kept = is.kept;
+    distinct = is.distinct;
     heads = heads_later ops due_from q.last_moment q.last_moment (omega arith) q.roster.entries q.roster.entries (λ key. refl) q.heads heads holds is.heads;
     in_room = all_as (λ e. e.key < length q.heads) (λ e. e.key < length heads) (λ e within. omega arith) q.roster.entries is.in_room;
     counted = is.counted;
@@ -72,8 +73,8 @@ module _ {T : Type 0} (ops : Tagging T) (fraction : T → Fraction) (is_value : 
   }
 
   -- a client comes last, under a key that has room
-  pub registered_is : DueFromCeil ops → {q : Queue T} {queued : ℕ} → Is q queued → (roster : Listing T) (e : Entry T) → roster.entries ≡ q.roster.entries ++ e ∷ [] → e.key < length q.heads → IsKept ops fraction is_value q.config.hz e.rec → e.rec.requests ≡ [] → (at : ℕ) → q.last_moment ≤ at → Is (record q { roster = roster; last_moment = at }) queued
-  registered_is due_from {q} {queued} is roster e last within keeps none at later =
+  pub registered_is : DueFromCeil ops → {q : Queue T} {queued : ℕ} → Is q queued → (roster : Listing T) (e : Entry T) → roster.entries ≡ q.roster.entries ++ e ∷ [] → AreDistinct roster.entries → e.key < length q.heads → IsKept ops fraction is_value q.config.hz e.rec → e.rec.requests ≡ [] → (at : ℕ) → q.last_moment ≤ at → Is (record q { roster = roster; last_moment = at }) queued
+  registered_is due_from {q} {queued} is roster e last distinct within keeps none at later =
       let es = q.roster.entries in
       let no_head : head_of e ≡ None = rw none refl in
       let heads = heads_later ops due_from q.last_moment at later es (es ++ e ∷ []) (read_last head_of es e no_head) q.heads q.heads (λ key. refl) is.heads in
@@ -81,6 +82,7 @@ module _ {T : Type 0} (ops : Tagging T) (fraction : T → Fraction) (is_value : 
       let inside = all_last (λ f. f.key < length q.heads) es e is.in_room within in
       record {
         kept = subst (AllByRecursion (λ f. IsKept ops fraction is_value q.config.hz f.rec)) (sym last) keepers;
+        distinct = distinct;
         heads = subst (λ fs. AreHeads ops at fs q.heads) (sym last) heads;
         in_room = subst (AllByRecursion (λ f. f.key < length q.heads)) (sym last) inside;
         counted = is.counted ∙ ap length (sym (registered_requests es e none) ∙ ap requests_in (sym last));
@@ -107,6 +109,10 @@ module _ {T : Type 0} (old new : Listing T) (id : ClientId) (rec : Rec T) where
   not_added (Err faults.Known) e adds = adds.1
   not_added (Err faults.Clients) e adds = adds.2
   not_added (Err faults.Memory) e adds = adds.2
+
+  pub distinct_added : (answer : Result ℕ RosterFault) → is_err answer ≡ false → Adds old new id rec answer → AreDistinct new.entries
+  distinct_added (Ok key) e adds = adds.4
+  distinct_added (Err fault) e adds = cc
 
   pub was_added : (answer : Result ℕ RosterFault) → is_err answer ≡ false → Adds old new id rec answer → new.entries ≡ old.entries ++ record { id = id; key = old.next_key; rec = rec } ∷ []
   was_added (Ok key) e adds = adds.3 ∙ ap (λ k. old.entries ++ record { id = id; key = k; rec = rec } ∷ []) adds.2

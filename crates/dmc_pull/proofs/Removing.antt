@@ -22,7 +22,7 @@ use Rattle.dmc_pull.specs.Standing.{clients_in, requests_in}
 use Rattle.dmc_pull.specs.Queue.{Queue, state_of, IsQueue, IsKept, AreHeads, head_of, unready, unready_head}
 use Rattle.dmc_pull.proofs.Parts.{all_back, found_holds}
 use Rattle.dmc_pull.proofs.Entries.{split_changed, clients_whole, all_changed, drained, length_drained, length_of_client}
-use Rattle.dmc_pull.proofs.Keyed.{read_changed, read_other}
+use Rattle.dmc_pull.proofs.Keyed.{distinct_changed, read_changed, read_other}
 use Rattle.dmc_pull.proofs.Aging.{held_emptied, held_other}
 use Rattle.dmc_pull.proofs.Updating.{HasClient}
 
@@ -90,6 +90,7 @@ module _ {T : Type 0} (ops : Tagging T) (fraction : T → Fraction) (is_value : 
       subst (λ (r : Listing T). IsQueue ops fraction is_value (record { config = q.config; roster = r; heads = heads; last_moment = q.last_moment }) (queued - count)) (sym e)
       (subst (λ hs. IsQueue ops fraction is_value (record { config = q.config; roster = with_record_at q.roster key rec; heads = hs; last_moment = q.last_moment }) (queued - count)) (sym cleared) (record {
         kept = all_changed h.at (λ f. IsKept ops fraction is_value q.config.hz f.rec) rec is.kept keeps;
+        distinct = distinct_changed key rec es is.distinct;
         heads = heads_cleared ops is.heads h;
         in_room = subst (λ n. AllByRecursion (λ f. f.key < n) (with_record key rec es)) (sym size) (all_changed h.at (λ f. f.key < length q.heads) rec is.in_room within);
         counted = omega (arith, rest);

@@ -20,7 +20,7 @@ use Rattle.dmc_pull.specs.Standing.{requests_in}
 use Rattle.dmc_pull.specs.Queue.{Queue, IsQueue, IsKept, AreHeads, head_of, unready, unready_head, head_at}
 use Rattle.dmc_pull.specs.Choice.{first_of, after_grant, IsFirstOf}
 use Rattle.dmc_pull.proofs.Entries.{Split, split, key_is, all_changed, length_whole, length_as}
-use Rattle.dmc_pull.proofs.Keyed.{keyed_changed, read_changed, read_other}
+use Rattle.dmc_pull.proofs.Keyed.{keyed_changed, distinct_changed, read_changed, read_other}
 use Rattle.dmc_pull.proofs.Parts.{found_holds}
 use Rattle.dmc_tag.specs.Rules.{moment_of}
 use Rattle.dmc_pull.proofs.Kept.{marks_later}
@@ -182,6 +182,7 @@ module _ {T : Type 0} (ops : Tagging T) (fraction : T → Fraction) (is_value : 
     granted_to : q.last_moment ≤ at → IsRecord ops left → (heads : List (Option (Head T))) → heads ≡ slice_set q.heads key (option_map (head_at ops at client) (option_map (λ r. r.tags) (slice_get left.requests 0))) → IsQueue ops fraction is_value (record { config = q.config; roster = with_record_at q.roster key left; heads = heads; last_moment = at }) (queued - 1)
     granted_to later whole heads e = subst (λ hs. IsQueue ops fraction is_value (record { config = q.config; roster = with_record_at q.roster key left; heads = hs; last_moment = at }) (queued - 1)) (sym e) (record {
       kept = all_changed split_of (λ e. IsKept ops fraction is_value q.config.hz e.rec) left is.kept (grant_kept q.config.hz reduces waiting.entry.rec own_kept whole);
+      distinct = distinct_changed key left q.roster.entries is.distinct;
       heads = replaced ops at split_of q.heads (marks_later ops due_from q.last_moment at q.roster.entries q.heads later is.heads) own_room left _ (head_renewed at waiting.entry.id client waiting.client_is (slice_get left.requests 0)) (λ h f r. head_due at client (option_map (λ r. r.tags) (slice_get left.requests 0)) h f r);
       in_room = subst (λ n. AllByRecursion (λ e. e.key < n) (with_record key left q.roster.entries)) (sym (set_length q.heads key (option_map (head_at ops at client) (option_map (λ r. r.tags) (slice_get left.requests 0))))) (all_changed split_of (λ e. e.key < length q.heads) left is.in_room (subst (λ n. n < length q.heads) (sym (key_is split_of)) own_room));
       counted = omega (arith, is.counted, size);

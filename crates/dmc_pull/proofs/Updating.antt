@@ -23,7 +23,7 @@ use Rattle.dmc_pull.specs.Standing.{clients_in, requests_in}
 use Rattle.dmc_pull.specs.Queue.{Queue, state_of, IsQueue, IsKept, head_of}
 use Rattle.dmc_pull.proofs.Parts.{found_holds}
 use Rattle.dmc_pull.proofs.Entries.{Split, split, named, name_is, is_queued, all_changed, changed_client, same_requests}
-use Rattle.dmc_pull.proofs.Keyed.{id_is, read_kept}
+use Rattle.dmc_pull.proofs.Keyed.{id_is, distinct_changed, read_kept}
 use Rattle.dmc_pull.proofs.Aging.{DueFromCeil, heads_later}
 
 -- ---- the client of an id
@@ -107,6 +107,7 @@ module _ {T : Type 0} (ops : Tagging T) (fraction : T → Fraction) (is_value : 
       let within = found_holds (λ f. f.key < length q.heads) (λ f. f.key == key) es h.entry is.in_room h.keyed in
       subst (λ (r : Listing T). IsQueue ops fraction is_value (record { config = q.config; roster = r; heads = q.heads; last_moment = at }) queued) (sym e) (record {
         kept = all_changed h.at (λ f. IsKept ops fraction is_value q.config.hz f.rec) rec is.kept keeps;
+        distinct = distinct_changed key rec es is.distinct;
         heads = heads_later ops due_from q.last_moment at later es (with_record key rec es) (read_kept head_of h.at rec refl) q.heads q.heads (λ k. refl) is.heads;
         in_room = all_changed h.at (λ f. f.key < length q.heads) rec is.in_room within;
         counted = is.counted ∙ ap length (sym (same_requests h.at rec refl));

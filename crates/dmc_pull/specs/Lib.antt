@@ -3,3 +3,4 @@ pub mod Adding
 pub mod Cleaning
 pub mod Queue
 pub mod Choice
+pub mod FirstRequests

@@ -11,7 +11,7 @@ use Rattle.dmc_tag.specs.State.{State}
 use Rattle.dmc_tag.specs.Best.{is_due}
 use Rattle.dmc_tag.specs.Spacing.{spacings_of}
 use Rattle.dmc_client.specs.Record.{Rec, IsRecord, share_tags}
-use Rattle.dmc_roster.specs.Entries.{Entry, Listing, entry_keyed}
+use Rattle.dmc_roster.specs.Entries.{Entry, Listing, entry_keyed, AreDistinct}
 use Rattle.dmc_index.specs.Index.{held}
 use Rattle.dmc_heads.specs.declared.head.Head.{Head}
 use Rattle.dmc_pull.specs.Standing.{clients_in, requests_in}
@@ -63,6 +63,7 @@ pub record IsKept {T : Type 0} (ops : Tagging T) (fraction : T → Fraction) (is
 
 pub record IsQueue {T : Type 0} (ops : Tagging T) (fraction : T → Fraction) (is_value : Fraction → Type 0) (q : Queue T) (queued : ℕ) : Type 0 where
   pub kept : AllByRecursion (λ e. IsKept ops fraction is_value q.config.hz e.rec) q.roster.entries
+  pub distinct : AreDistinct q.roster.entries
   pub heads : AreHeads ops q.last_moment q.roster.entries q.heads
   pub in_room : AllByRecursion (λ e. e.key < length q.heads) q.roster.entries
   pub counted : queued ≡ length (requests_in q.roster.entries)

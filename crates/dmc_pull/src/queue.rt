@@ -8,7 +8,8 @@ ghost use Rattle.dmc_pull.specs.Adding.{CanAdd};
 ghost use Rattle.dmc_pull.specs.Choice.{first_at, after_grant, IsFirstOf, Early, ByShares, IsGrantable, Settles};
 ghost use Rattle.dmc_heads.specs.Heads as heads_of;
 ghost use Rattle.dmc_heads.specs.Heads.{Ranks};
-ghost use Rattle.dmc_pull.specs.Queue.{state_of, tested, AreHeads, IsKept, IsMarked};
+ghost use Rattle.dmc_pull.specs.FirstRequests.{AreFirstRequests};
+ghost use Rattle.dmc_pull.specs.Queue.{state_of, tested, IsKept, IsMarked};
 ghost use Rattle.dmc_pull.specs.Standing.{requests_in};
 ghost use Rattle.dmc_roster.specs.Entries.{entry_named, entry_keyed, record_at, with_record_at, AreDistinct};
 ghost use Rattle.dmc_tag.specs.Answers.{told, told_surely, pull_reply, clean_reply};
@@ -101,6 +102,13 @@ impl<T: Tag, I: Indexes<T>> PullQueue<T, I> {
         }
     }
 
+    /// What it was made with.
+    pub fn config(&self) -> QueueConfig
+        ensures { result ≡ (state_of self.now).config }
+    {
+        self.config
+    }
+
     /// How many clients are registered.
     pub fn client_count(&self) -> u32
         ensures { result ≡ length (state_of self.now).clients }
@@ -122,26 +130,26 @@ impl<T: Tag, I: Indexes<T>> PullQueue<T, I> {
         self.queued == 0
     }
 
-    /// The index by R over the clients with a queued request. Each is under the tags of its first request, and a ready mark
-    /// is true only where its L is not past the last effective moment.
+    /// The index by R: each client with a queued request has one key, under the tag of its first request, and no other
+    /// client has a key. The three indexes have the same keys.
     pub fn reservation_index(&self) -> &I::TagIndex
-        ensures heads { AreHeads T.ops self.now.last_moment self.now.roster.entries self.now.heads }
+        ensures heads { AreFirstRequests T.ops (state_of self.now) self.now.heads }
         ensures ranks { Ranks heads_of.tag_rank self.now.heads (I.TagIndex.slots result.now) }
     {
         self.heads.0.by_reservation()
     }
 
-    /// The index by L over the same clients, what is unready first.
+    /// The index by L, what is unready first. A ready mark is true only where the L is not past the last effective moment.
     pub fn limit_index(&self) -> &I::LimitIndex
-        ensures heads { AreHeads T.ops self.now.last_moment self.now.roster.entries self.now.heads }
+        ensures heads { AreFirstRequests T.ops (state_of self.now) self.now.heads }
         ensures ranks { Ranks heads_of.limit_rank self.now.heads (I.LimitIndex.slots result.now) }
     {
         self.heads.0.by_limit()
     }
 
-    /// The index by P over the same clients, what is ready first.
+    /// The index by P, what is ready first.
     pub fn shares_index(&self) -> &I::ReadyIndex
-        ensures heads { AreHeads T.ops self.now.last_moment self.now.roster.entries self.now.heads }
+        ensures heads { AreFirstRequests T.ops (state_of self.now) self.now.heads }
         ensures ranks { Ranks heads_of.ready_rank self.now.heads (I.ReadyIndex.slots result.now) }
     {
         self.heads.0.by_shares()
@@ -162,19 +170,11 @@ impl<T: Tag, I: Indexes<T>> PullQueue<T, I> {
         self.last_moment
     }
 
-    // It tells that no two clients have one id or one key.
-    fn tell_distinct(&self)
-        ensures { AreDistinct self.now.roster.entries }
-    {
-        let _count = self.roster.len();
-    }
-
     /// The key and the client of the least R, where it is not past a moment.
     fn early(&self, at: Moment) -> Option<(usize, ClientId)>
         ensures { Early T.ops at self.now.roster.entries result }
     {
         the_best_is_found::<T>();
-        self.tell_distinct();
         match self.heads.0.least_by_reservation() {
             None => None,
             Some((key, rank)) => {
@@ -214,7 +214,6 @@ impl<T: Tag, I: Indexes<T>> PullQueue<T, I> {
         ensures { ByShares T.ops self.now.last_moment self.now.roster.entries result }
     {
         the_best_is_found::<T>();
-        self.tell_distinct();
         match self.heads.0.least_by_shares() {
             None => None,
             Some((key, rank)) => Some((key, rank.client, rank.ready)),
@@ -231,7 +230,6 @@ impl<T: Tag, I: Indexes<T>> PullQueue<T, I> {
         a_tag_is_due_from_its_ceil::<T>();
         future_is_exact::<T>();
         the_best_is_found::<T>();
-        self.tell_distinct();
         let Some((_, limit)) = self.heads.0.least_by_limit() else {
             return 0;
         };
@@ -251,13 +249,13 @@ impl<T: Tag, I: Indexes<T>> PullQueue<T, I> {
         requires first { IsFirstOf self.old.roster.entries key client }
         requires reducible { reduces ≡ true → IfSome (record_at key self.old.roster.entries) (λ rec. changes.is_reducible T.ops (changes.popped rec) ≡ true) }
         requires later { self.old.last_moment ≤ at }
+        ensures distinct { AreDistinct self.old.roster.entries }
         ensures token { Some result ≡ option_map (λ found. found.0.token) (first_at key self.old.roster.entries) }
         ensures roster { IfSome (record_at key self.old.roster.entries) (λ rec. self.new.roster ≡ with_record_at self.old.roster key (after_grant T.ops reduces rec)) }
         ensures config { self.new.config ≡ self.old.config }
         ensures moment { self.new.last_moment ≡ at }
     {
         a_tag_is_due_from_its_ceil::<T>();
-        self.tell_distinct();
         let request = grant_first(&mut self.roster, key, reduces).unwrap();
         let tags = first_tags(&self.roster, key);
         renew(&mut self.heads.0, key, client, tags, at);
@@ -273,7 +271,6 @@ impl<T: Tag, I: Indexes<T>> PullQueue<T, I> {
         ensures { IfSome (first_at key self.old.roster.entries) (λ found.
             Settles (state_of self.old) (state_of self.new) (Ok (rules_of.without (state_of self.old) at found.1, rules_of.granted found.0 phases.Reservation false)) (Some (pull_reply result))) }
     {
-        self.tell_distinct();
         let token = self.take_out(key, client, false, at);
         Pulled::Returning {
             client,
@@ -286,11 +283,11 @@ impl<T: Tag, I: Indexes<T>> PullQueue<T, I> {
     /// Whether a grant in the weight phase keeps each tag of the client a value.
     fn can_grant(&self, key: usize, client: ClientId) -> bool
         requires { IsFirstOf self.now.roster.entries key client }
+        ensures distinct { AreDistinct self.now.roster.entries }
         ensures reducible { result ≡ true → IfSome (record_at key self.now.roster.entries) (λ rec. changes.is_reducible T.ops (changes.popped rec) ≡ true) }
         ensures value { IfSome (first_at key self.now.roster.entries) (λ found.
             IsGrantable T.ops (state_of self.now) found (record_at key self.now.roster.entries) result) }
     {
-        self.tell_distinct();
         can_reduce(self.roster.at(key))
     }
 
@@ -305,7 +302,6 @@ impl<T: Tag, I: Indexes<T>> PullQueue<T, I> {
         ensures { IfSome (first_at key self.old.roster.entries) (λ found.
             Settles (state_of self.old) (state_of self.new) (rules_of.grant_priority T.ops (state_of self.old) self.old.last_moment found beyond) (told_surely pull_reply result)) }
     {
-        self.tell_distinct();
         if !self.can_grant(key, client) {
             return Err(Refusal::Range);
         }
@@ -429,6 +425,7 @@ impl<T: Tag, I: Indexes<T>> PullQueue<T, I> {
         ensures are { IfOk result (λ p. AreSpacings T.ops info p.1) }
         ensures key { IfOk result (λ p. entry_keyed p.0 self.now.roster.entries ≡ entry_named client self.now.roster.entries) }
         ensures held { IfOk result (λ p. is_some (entry_keyed p.0 self.now.roster.entries) ≡ true) }
+        ensures distinct { AreDistinct self.now.roster.entries }
         ensures not_busy { IfOk result (λ p. IfSome (record_at p.0 self.now.roster.entries) (λ rec. rules_of.changes_reservation rec.info info ≡ true → rec.requests ≡ [])) }
     {
         let Some(key) = self.roster.find(client) else {
@@ -454,7 +451,6 @@ impl<T: Tag, I: Indexes<T>> PullQueue<T, I> {
         ensures { Exactly T.ops (state_of self.old) (state_of self.new) (commands.Update client info at) (told_surely (λ _. replies.Updated) result) }
     {
         a_tag_is_due_from_its_ceil::<T>();
-        self.tell_distinct();
         let at = self.effective(at);
         let (key, spacings) = self.can_update(client, info)?;
         set_info_at(&mut self.roster, key, info, spacings);
@@ -480,7 +476,6 @@ impl<T: Tag, I: Indexes<T>> PullQueue<T, I> {
         ensures { Exactly T.ops (state_of self.old) (state_of self.new) (commands.Clean at) (Some (clean_reply result)) }
     {
         a_tag_is_due_from_its_ceil::<T>();
-        self.tell_distinct();
         let at = self.effective(at);
         let (idle_age, erase_age) = (self.config.idle_age(), self.config.erase_age());
         let idled = count_idled(&self.roster, at, idle_age, erase_age);
@@ -499,7 +494,6 @@ impl<T: Tag, I: Indexes<T>> PullQueue<T, I> {
         ensures same { self.new ≡ self.old }
     {
         the_best_is_found::<T>();
-        self.tell_distinct();
         if !self.roster.at(key).is_idle() {
             return Ok(None);
         }
@@ -516,7 +510,6 @@ impl<T: Tag, I: Indexes<T>> PullQueue<T, I> {
     fn can_shift_by(&self, shift: Option<T>) -> bool
         ensures { result ≡ rules_of.can_shift_by T.ops shift (state_of self.now).clients (state_of self.now).requests }
     {
-        self.tell_distinct();
         match shift {
             None => true,
             Some(amount) => self.roster.count(&Shiftable { amount }) == self.roster.len(),
@@ -544,7 +537,6 @@ impl<T: Tag, I: Indexes<T>> PullQueue<T, I> {
     {
         nothing_is_taken_off::<T>();
         tags_are_values::<T>();
-        self.tell_distinct();
         let Some(key) = self.roster.find(client) else {
             return Err(Refusal::Unknown);
         };
@@ -585,7 +577,6 @@ impl<T: Tag, I: Indexes<T>> PullQueue<T, I> {
     {
         a_tag_is_due_from_its_ceil::<T>();
         tags_are_values::<T>();
-        self.tell_distinct();
         let Addition { key, shift, tags } = addition;
         let is_first = self.roster.at(key).is_empty();
         if push_at(&mut self.roster, key, QueuedRequest { token, tags }, at).is_err() {

@@ -1,11 +1,21 @@
 //! The queue at tick tags, over the sorted vectors and the heaps.
+ghost use Rattle.std.specs.Prelude.{◌≡◌, ◌↔◌, ℕ, Some, true};
+ghost use Rattle.dmc_types.specs.declared.ids.ClientId.{ClientId};
+ghost use Rattle.dmc_tag.specs.State.{has_queued};
+ghost use Rattle.dmc_tag.specs.declared.rank.TagRank.{TagRank};
+ghost use Rattle.dmc_tag.specs.declared.rank.LimitRank.{LimitRank};
+ghost use Rattle.dmc_tag.specs.declared.rank.ReadyRank.{ReadyRank};
+ghost use Rattle.dmc_pull.specs.Queue.{state_of};
+ghost use Rattle.dmc_pull.specs.FirstRequests.{client_at};
+
 use crate::queue::PullQueue;
 use dmc_heap::indexed_heap::HeapIndexes;
-use dmc_index::index::Indexes;
+use dmc_index::index::{Indexes, OrderIndex};
 use dmc_index::list_index::ListIndexes;
 use dmc_tag::reply::{Pulled, Reply, Tags};
 use dmc_tag::run::run_commands;
 use dmc_tag::scheduler::Scheduler;
+use dmc_tag::tag::Tag;
 use dmc_tick::tick::TickTag;
 use dmc_types::command::Command;
 use dmc_types::config::{AtLimit, PhaseType, QueueConfig};
@@ -151,4 +161,62 @@ fn queue_limits_over<I: Indexes<TickTag>>(rt: &impl Abort, alloc: Global) -> Res
 #[test]
 fn queue_limits(rt: HostRuntime) -> Result<(), Fail> {
     queue_limits_over::<HeapIndexes>(&rt, rt.alloc())
+}
+
+// The three indexes. That a client with a queued request has a key in each, and one without in none, follows from what
+// their readers say.
+fn indexes<T: Tag, I: Indexes<T>>(
+    queue: &PullQueue<T, I>,
+) -> (&I::TagIndex, &I::LimitIndex, &I::ReadyIndex)
+    ensures by_reservation { (id : ClientId) → (has_queued id (state_of queue.now).requests ≡ true)
+        ↔ ((key : ℕ) × (client_at (λ (r : TagRank T). r.client) (I.TagIndex.slots result.0.now) key ≡ Some id)) }
+    ensures by_limit { (id : ClientId) → (has_queued id (state_of queue.now).requests ≡ true)
+        ↔ ((key : ℕ) × (client_at (λ (r : LimitRank T). r.client) (I.LimitIndex.slots result.1.now) key ≡ Some id)) }
+    ensures by_weight { (id : ClientId) → (has_queued id (state_of queue.now).requests ≡ true)
+        ↔ ((key : ℕ) × (client_at (λ (r : ReadyRank T). r.client) (I.ReadyIndex.slots result.2.now) key ≡ Some id)) }
+{
+    (
+        queue.reservation_index(),
+        queue.limit_index(),
+        queue.shares_index(),
+    )
+}
+
+// A client has a key in each index from its first queued request to its last.
+fn keys_of_clients<I: Indexes<TickTag>>(rt: &impl Abort, alloc: Global) -> Result<(), Fail> {
+    let config = QueueConfig::new(1000, 1 << 62, 1 << 62, AtLimit::Wait)?;
+    let mut queue: PullQueue<TickTag, I> = PullQueue::new(alloc, config);
+    let zero = Moment::zero();
+    for client in [ClientId(5), ClientId(6)] {
+        queue.register(client, ClientInfo::new(Some(10), 1, Some(20))?, zero)?;
+    }
+    assert!(rt; queue.reservation_index().is_empty());
+    for token in [Token(7), Token(8)] {
+        queue.add_request(ClientId(6), token, ReqParams::new(1, 1)?, zero)?;
+    }
+    let (reservations, limits, shares) = indexes(&queue);
+    assert_eq!(rt;
+        reservations.least().map(|least| least.1.client),
+        Some(ClientId(6))
+    );
+    assert_eq!(rt;
+        limits.least().map(|least| least.1.client),
+        Some(ClientId(6))
+    );
+    assert_eq!(rt;
+        shares.least().map(|least| least.1.client),
+        Some(ClientId(6))
+    );
+    assert_eq!(rt; (reservations.len(), limits.len(), shares.len()), (1, 1, 1));
+    assert_eq!(rt; queue.remove_by_client(ClientId(6))?, 2);
+    let (reservations, limits, shares) = indexes(&queue);
+    assert!(rt; reservations.is_empty() && limits.is_empty() && shares.is_empty());
+    assert_eq!(rt; queue.config(), config);
+    Ok(())
+}
+
+#[test]
+fn indexed_clients(rt: HostRuntime) -> Result<(), Fail> {
+    keys_of_clients::<ListIndexes>(&rt, rt.alloc())?;
+    keys_of_clients::<HeapIndexes>(&rt, rt.alloc())
 }

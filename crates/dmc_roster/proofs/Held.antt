@@ -2,8 +2,8 @@
 use Rattle.std.proofs.Common.{◌≡◌, ℕ, zero, suc, ◌+◌, ◌≤◌, Bool, true, false, not, cond, List, [], ◌∷◌, ◌++◌, map, length, Option, Some, None, refl, sym, ap, ◌∙◌, subst, arith}
 use Rattle.std.specs.Prelude.{filter, filter_map, is_some, slice_index_or, slice_set, ◌==◌}
 use Rattle.std.specs.Option.{option_map, option_map_or}
-use Rattle.std.specs.List.{find, cons_option, AllByRecursion, IsDistinct}
-use Rattle.std.specs.Map.{lookup, keys_of}
+use Rattle.std.specs.List.{find, cons_option, AllByRecursion}
+use Rattle.std.specs.Map.{lookup}
 use Rattle.std.proofs.lemmas.List.Elements.{filter_map-append}
 use Rattle.std.specs.Prelude.{Result, Ok, Err, OnOk, is_ok, IfSome}
 use Rattle.indexmap.specs.IndexMap.{insert_entry}
@@ -236,13 +236,21 @@ module _ {T : Type 0} where
     differs a b true e ne = absurd (ne (eqb-true a b e))
     differs a b false e ne = e
 
-    apart_from_all : (k : ℕ) (ids : List (ClientId × ℕ)) (id : ClientId) → is_some (old k) ≡ true → AllByRecursion (λ q. (k == q.1) ≡ false) ids → AllByRecursion (λ q. (k == q.1) ≡ false) (ids ++ (id, key) ∷ [])
-    apart_from_all k [] id h a = (differs k key _ refl (other_key k h), tt)
-    apart_from_all k (q ∷ ids) id h a = (a.0, apart_from_all k ids id h a.1)
+    apart_from_all : (p : ClientId × ℕ) (ids : List (ClientId × ℕ)) (id : ClientId) → is_client p.0 id ≡ false → is_some (old p.1) ≡ true → AllByRecursion (λ q. (is_client p.0 q.0 ≡ false) × ((p.1 == q.1) ≡ false)) ids → AllByRecursion (λ q. (is_client p.0 q.0 ≡ false) × ((p.1 == q.1) ≡ false)) (ids ++ (id, key) ∷ [])
+    apart_from_all p [] id n h a = ((n, differs p.1 key _ refl (other_key p.1 h)), tt)
+    apart_from_all p (q ∷ ids) id n h a = (a.0, apart_from_all p ids id n h a.1)
 
-    pub apart_added : (ids : List (ClientId × ℕ)) (id : ClientId) → AllByRecursion (λ p. is_some (old p.1) ≡ true) ids → AreApart ids → AreApart (ids ++ (id, key) ∷ [])
-    apart_added [] id h a = (tt, tt)
-    apart_added (p ∷ ids) id h a = (apart_from_all p.1 ids id h.0 a.0, apart_added ids id h.1 a.1)
+    pub apart_added : (ids : List (ClientId × ℕ)) (id : ClientId) → AllByRecursion (λ p. is_client p.0 id ≡ false) ids → AllByRecursion (λ p. is_some (old p.1) ≡ true) ids → AreApart ids → AreApart (ids ++ (id, key) ∷ [])
+    apart_added [] id n h a = (tt, tt)
+    apart_added (p ∷ ids) id n h a = (apart_from_all p ids id n.0 h.0 a.0, apart_added ids id n.1 h.1 a.1)
+
+-- an id that is not found is none of those
+pub none_named : (id : ClientId) (ids : List (ClientId × ℕ)) → lookup (λ other. id.0 == other.0) ids ≡ None → AllByRecursion (λ p. is_client p.0 id ≡ false) ids
+none_named id [] h = tt
+none_named id (p ∷ ids) h = by (id.0 == p.0.0) refl h (none_named id ids) where
+  by : (b : Bool) → (id.0 == p.0.0) ≡ b → cond b (Some p.1) (lookup (λ other. id.0 == other.0) ids) ≡ None → (lookup (λ other. id.0 == other.0) ids ≡ None → AllByRecursion (λ p. is_client p.0 id ≡ false) ids) → (is_client p.0 id ≡ false) × AllByRecursion (λ p. is_client p.0 id ≡ false) ids
+  by true e h more = cc
+  by false e h more = (e, more h)
 
 -- ---- what a slab's retain leaves
 
@@ -317,14 +325,6 @@ module _ {T : Type 0} where
 
 -- ---- what holds of each entry
 
-both_apart : (id : ClientId) (key : ℕ) (ids : List (ClientId × ℕ)) → AllByRecursion (λ other. is_client id other ≡ false) (keys_of ids) → AllByRecursion (λ q. (key == q.1) ≡ false) ids → AllByRecursion (λ q. (is_client id q.0 ≡ false) × ((key == q.1) ≡ false)) ids
-both_apart id key [] a b = tt
-both_apart id key (q ∷ ids) a b = ((a.0, b.0), both_apart id key ids a.1 b.1)
-
-turned_all : (id : ClientId) (others : List ClientId) → AllByRecursion (λ other. (id.0 == other.0) ≡ false) others → AllByRecursion (λ other. is_client id other ≡ false) others
-turned_all id [] h = tt
-turned_all id (other ∷ others) h = (eqb_turned other.0 id.0 false h.0, turned_all id others h.1)
-
 module _ {T : Type 0} where
   all_entries_at : (P : ClientId × ℕ → Type 0) (p : ClientId × ℕ) (o : Option (Rec T)) (es : List (Entry T)) → P p → AllByRecursion (λ e. P (e.id, e.key)) es → AllByRecursion (λ e. P (e.id, e.key)) (cons_option (option_map (λ rec. record { id = p.0; key = p.1; rec = rec }) o) es)
   all_entries_at P p None es h more = more
@@ -339,10 +339,9 @@ module _ {T : Type 0} where
   distinct_at p None es h more = more
   distinct_at p (Some rec) es h more = (h, more)
 
-  pub are_distinct : (slots : List (Option (Rec T))) (ids : List (ClientId × ℕ)) → IsDistinct (λ a b. a.0 == b.0) (keys_of ids) → AreApart ids → AreDistinct (entries_of ids slots)
-  unfolding IsDistinct
-  are_distinct slots [] d a = tt
-  are_distinct slots (p ∷ ids) d a = distinct_at p (slice_index_or slots p.1 None) (entries_of ids slots) (all_entries _ slots ids (both_apart p.0 p.1 ids (turned_all p.0 (keys_of ids) d.0) a.0)) (are_distinct slots ids d.1 a.1)
+  pub are_distinct : (slots : List (Option (Rec T))) (ids : List (ClientId × ℕ)) → AreApart ids → AreDistinct (entries_of ids slots)
+  are_distinct slots [] a = tt
+  are_distinct slots (p ∷ ids) a = distinct_at p (slice_index_or slots p.1 None) (entries_of ids slots) (all_entries _ slots ids a.0) (are_distinct slots ids a.1)
 
   -- what holds of each record holds of each entry's
   slot_at : (P : Rec T → Type 0) (slots : List (Option (Rec T))) (key : ℕ) → AllByRecursion (λ o. IfSome o P) slots → IfSome (slice_index_or slots key None) P

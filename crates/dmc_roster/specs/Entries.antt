@@ -50,7 +50,7 @@ AreDistinct (e ∷ entries) = AllByRecursion (λ f. (is_client e.id f.id ≡ fal
 abbrev pub Adds : {T : Type 0} → Listing T → Listing T → ClientId → Rec T → Result ℕ RosterFault → Type 0
 Adds old new id rec (Ok key) =
     (entry_named id old.entries ≡ None) × (length old.entries < 65536) × (key ≡ old.next_key)
-    × (new.entries ≡ old.entries ++ record { id = id; key = key; rec = rec } ∷ [])
+    × (new.entries ≡ old.entries ++ record { id = id; key = key; rec = rec } ∷ []) × AreDistinct new.entries
 Adds old new id rec (Err Known) = (is_some (entry_named id old.entries) ≡ true) × (new ≡ old)
 Adds old new id rec (Err Clients) = (entry_named id old.entries ≡ None) × (length old.entries ≡ 65536) × (new ≡ old)
 Adds old new id rec (Err Memory) = (entry_named id old.entries ≡ None) × (length old.entries < 65536) × (new ≡ old)
@@ -73,10 +73,10 @@ abbrev pub kept_slots : {T : Type 0} → (ℕ → Rec T → Bool) → (ℕ → R
 kept_slots keeps changed key [] = []
 kept_slots keeps changed key (o ∷ slots) = kept (keeps key) (changed key) o ∷ kept_slots keeps changed (key + 1) slots
 
--- no key stands twice
+-- no id and no key stands twice
 abbrev pub AreApart : List (ClientId × ℕ) → Type 0
 AreApart [] = ⊤
-AreApart (p ∷ ids) = AllByRecursion (λ q. (p.1 == q.1) ≡ false) ids × AreApart ids
+AreApart (p ∷ ids) = AllByRecursion (λ q. (is_client p.0 q.0 ≡ false) × ((p.1 == q.1) ≡ false)) ids × AreApart ids
 
 pub record AreHeld {T : Type 0} (ids : List (ClientId × ℕ)) (slots : List (Option (Rec T))) : Type 0 where
   pub held : AllByRecursion (λ p. is_some (slice_index_or slots p.1 None) ≡ true) ids

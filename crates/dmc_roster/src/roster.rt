@@ -76,8 +76,6 @@ impl<T: Tag> Roster<T> {
         ensures held { IfSome result (λ key. is_some (entries.entry_keyed key self.now.entries) ≡ true) }
         ensures distinct { entries.AreDistinct self.now.entries }
     {
-        // it tells that no id stands twice
-        let _count = self.ids.len();
         self.ids.get(&id).copied()
     }
 
@@ -87,8 +85,6 @@ impl<T: Tag> Roster<T> {
         ensures value { entries.record_at key self.now.entries ≡ Some result.now }
         ensures distinct { entries.AreDistinct self.now.entries }
     {
-        // it tells that no id stands twice
-        let _count = self.ids.len();
         self.records.get(key).unwrap()
     }
 
@@ -109,7 +105,8 @@ impl<T: Tag> Roster<T> {
         self.records.try_remove(key);
     }
 
-    /// Registers a client; refused `Known`, `Clients`, `Memory`, in this order. It answers the key of the record.
+    /// Registers a client; refused `Known`, `Clients`, `Memory`, in this order. It answers the key of the record. No two
+    /// clients then have one id or one key.
     pub fn add(&mut self, id: ClientId, rec: ClientRec<T>) -> Result<usize, RosterFault>
         ensures { entries.Adds self.old self.new id rec result }
     {

@@ -1,7 +1,7 @@
 use Rattle.std.proofs.Common.{◌≡◌, ℕ, ◌≤◌, ◌-◌, suc, length, ◌∙◌, sym, ap, subst, arith}
 use Rattle.dmc_pull.specs.Queue.{IsKept}
 use Rattle.dmc_pull.proofs.Aging.{held_grown}
-use Rattle.dmc_pull.proofs.Registering.{roomier_is, registered_is, registered_state, has_room, not_added, was_added}
+use Rattle.dmc_pull.proofs.Registering.{roomier_is, registered_is, registered_state, has_room, not_added, was_added, distinct_added}
 use Rattle.dmc_pull.proofs.queue.PullQueue.admit.Goals as goal
 
 pub invariant_of-self : goal.invariant_of-self
@@ -26,7 +26,8 @@ invariant_of-self-2 g c =
     let last = was_added q.roster c.add.new.self c.args.client c.args.rec c.add.result (sym c.is_err.ensures.value ∙ c.if-is_err.false) c.add.ensures in
     let room : c.in-Some.room ≡ suc q.roster.next_key = omega (arith, c.in-Some.ensures, c.next_key-key.ensures) in
     let within = has_room q.heads.0 c.reserve.new.self q.roster.next_key c.in-Some.room room c.in_ok-reserve.ensures.ok in
-    registered_is ops g.T.Tag.fraction g.T.Tag.is_value c.a_tag_is_due_from_its_ceil.ensures roomier c.add.new.self (record { id = c.args.client; key = q.roster.next_key; rec = c.args.rec }) last within keeps c.requires.nothing c.args.at later
+    let distinct = distinct_added q.roster c.add.new.self c.args.client c.args.rec c.add.result (sym c.is_err.ensures.value ∙ c.if-is_err.false) c.add.ensures in
+    registered_is ops g.T.Tag.fraction g.T.Tag.is_value c.a_tag_is_due_from_its_ceil.ensures roomier c.add.new.self (record { id = c.args.client; key = q.roster.next_key; rec = c.args.rec }) last distinct within keeps c.requires.nothing c.args.at later
 
 pub returns-clause-ok : goal.returns-clause-ok
 returns-clause-ok g c =

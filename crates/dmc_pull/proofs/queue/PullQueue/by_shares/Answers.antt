@@ -1,5 +1,4 @@
 use Rattle.std.proofs.Common.{sym, subst, Some, None}
-use Rattle.dmc_roster.specs.Entries.{AreDistinct}
 use Rattle.dmc_pull.specs.Queue.{IsMarked}
 use Rattle.dmc_pull.specs.Choice.{ByShares}
 use Rattle.dmc_pull.proofs.Picks.{same_total, records_of, no_head_shares, least_shares}
@@ -10,7 +9,7 @@ returns-in-None g c =
     let ops = g.T.Tag.ops in
     let order = same_total g.T.Ord.cmp ops.compare g.met.T.Ord.total g.met.T.Tag.compares in
     let q = c.self.inside in
-    let d : AreDistinct q.roster.entries = subst (λ v. AreDistinct v.roster.entries) (sym c.self.view_is) c.tell_distinct.ensures in
+    let d = c.self.invariant.distinct in
     let records = records_of ops g.T.Tag.fraction g.T.Tag.is_value q.config.hz q.roster.entries c.self.invariant.kept in
     let marked = subst (IsMarked ops) (sym c.self.view_is) c.requires in
     subst (λ v. ByShares ops v.last_moment v.roster.entries None) c.self.view_is
@@ -21,7 +20,7 @@ returns-in-Some g c =
     let ops = g.T.Tag.ops in
     let order = same_total g.T.Ord.cmp ops.compare g.met.T.Ord.total g.met.T.Tag.compares in
     let q = c.self.inside in
-    let d : AreDistinct q.roster.entries = subst (λ v. AreDistinct v.roster.entries) (sym c.self.view_is) c.tell_distinct.ensures in
+    let d = c.self.invariant.distinct in
     let records = records_of ops g.T.Tag.fraction g.T.Tag.is_value q.config.hz q.roster.entries c.self.invariant.kept in
     let marked = subst (IsMarked ops) (sym c.self.view_is) c.requires in
     subst (λ v. ByShares ops v.last_moment v.roster.entries (Some (c.in-Some.key, c.in-Some.rank.now.client, c.in-Some.rank.now.ready))) c.self.view_is

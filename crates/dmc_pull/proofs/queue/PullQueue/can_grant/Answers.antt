@@ -2,7 +2,7 @@ use Rattle.std.proofs.Common.{◌≡◌, sym, subst, [], ◌∷◌, Some}
 use Rattle.std.specs.Prelude.{Ok, IfSome}
 use Rattle.dmc_adjust.specs.Changes.{popped}
 use Rattle.dmc_client.specs.Record.{client_of, requests_of_record}
-use Rattle.dmc_roster.specs.Entries.{AreDistinct, record_at}
+use Rattle.dmc_roster.specs.Entries.{record_at}
 use Rattle.dmc_tag.specs.Rules.{can_reduce_by, reduction_at}
 use Rattle.dmc_tag.specs.Spacing.{spacings_of}
 use Rattle.dmc_pull.specs.Queue.{Queue, state_of}
@@ -17,7 +17,7 @@ returns-clause-value g c =
     let q = c.self.inside in
     let view = c.self.view_is in
     let v : Queue g.row.T.Denot = record { config = q.config; roster = q.roster; heads = q.heads.0; last_moment = q.last_moment } in
-    let d : AreDistinct q.roster.entries = subst (λ v. AreDistinct v.roster.entries) (sym view) c.tell_distinct.ensures in
+    let d = c.self.invariant.distinct in
     let first : IsFirstOf q.roster.entries c.args.key c.args.client = subst (λ v. IsFirstOf v.roster.entries c.args.key c.args.client) (sym view) c.requires in
     let w = waits q.roster.entries c.args.key c.args.client first in
     let at : record_at c.args.key q.roster.entries ≡ Some c.at.result.now = c.at.ensures.value in

@@ -1,5 +1,4 @@
 use Rattle.std.proofs.Common.{◌≡◌, ◌≤◌, ℕ, sym, ap, subst}
-use Rattle.dmc_roster.specs.Entries.{AreDistinct}
 use Rattle.dmc_tag.specs.State.{effective}
 use Rattle.dmc_pull.specs.Queue.{state_of}
 use Rattle.dmc_pull.proofs.Aged.{cleaned_is, cleaned_step}
@@ -9,7 +8,7 @@ pub invariant_of-self : goal.invariant_of-self
 invariant_of-self g c =
     let q = c.self.inside in
     let t = c.effective-at.result in
-    let distinct = subst (λ x. AreDistinct x.roster.entries) (sym c.self.view_is) c.tell_distinct.ensures in
+    let distinct = c.self.invariant.distinct in
     let later : q.last_moment ≤ t = subst (λ (n : ℕ). n ≤ t) (sym (ap (λ x. x.last_moment) c.self.view_is)) c.effective-at.ensures.later in
     let e = rw (c.idle_age-idle_age.ensures.value, c.erase_age-erase_age.ensures.value) at c.age_all.ensures.value in
     cleaned_is g.T.Tag.ops g.T.Tag.fraction g.T.Tag.is_value c.a_tag_is_due_from_its_ceil.ensures c.self.invariant distinct c.age_all.new.roster t e c.age_all.ensures.kept later
@@ -18,7 +17,7 @@ pub returns : goal.returns
 returns g c =
     let q = c.self.inside in
     let t = c.effective-at.result in
-    let distinct = subst (λ x. AreDistinct x.roster.entries) (sym c.self.view_is) c.tell_distinct.ensures in
+    let distinct = c.self.invariant.distinct in
     let moment = subst (λ x. t ≡ effective (state_of x) c.args.at) (sym c.self.view_is) c.effective-at.ensures.value in
     let e = rw (c.idle_age-idle_age.ensures.value, c.erase_age-erase_age.ensures.value) at c.age_all.ensures.value in
     let idled = rw (c.idle_age-idle_age.ensures.value, c.erase_age-erase_age.ensures.value) at c.count_idled-idled.ensures.value in

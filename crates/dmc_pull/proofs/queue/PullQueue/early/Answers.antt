@@ -1,5 +1,4 @@
 use Rattle.std.proofs.Common.{sym, subst, Some, None}
-use Rattle.dmc_roster.specs.Entries.{AreDistinct}
 use Rattle.dmc_pull.specs.Choice.{Early}
 use Rattle.dmc_pull.proofs.Picks.{same_total, records_of, no_head_early, least_early, least_late}
 use Rattle.dmc_pull.proofs.queue.PullQueue.early.Goals as goal
@@ -9,7 +8,7 @@ returns-in-None g c =
     let ops = g.T.Tag.ops in
     let order = same_total g.T.Ord.cmp ops.compare g.met.T.Ord.total g.met.T.Tag.compares in
     let q = c.self.inside in
-    let d : AreDistinct q.roster.entries = subst (λ v. AreDistinct v.roster.entries) (sym c.self.view_is) c.tell_distinct.ensures in
+    let d = c.self.invariant.distinct in
     let records = records_of ops g.T.Tag.fraction g.T.Tag.is_value q.config.hz q.roster.entries c.self.invariant.kept in
     subst (λ v. Early ops c.args.at v.roster.entries None) c.self.view_is
     (no_head_early ops order c.the_best_is_found.ensures.some c.the_best_is_found.ensures.none c.args.at q.roster.entries q.heads.0 d records q.last_moment c.self.invariant.heads c.in-None.ensures)
@@ -19,7 +18,7 @@ returns-then-is_due g c =
     let ops = g.T.Tag.ops in
     let order = same_total g.T.Ord.cmp ops.compare g.met.T.Ord.total g.met.T.Tag.compares in
     let q = c.self.inside in
-    let d : AreDistinct q.roster.entries = subst (λ v. AreDistinct v.roster.entries) (sym c.self.view_is) c.tell_distinct.ensures in
+    let d = c.self.invariant.distinct in
     let records = records_of ops g.T.Tag.fraction g.T.Tag.is_value q.config.hz q.roster.entries c.self.invariant.kept in
     subst (λ v. Early ops c.args.at v.roster.entries (Some (c.in-Some.key, c.in-Some.rank.now.client))) c.self.view_is
     (least_early ops order c.the_best_is_found.ensures.some c.the_best_is_found.ensures.none c.args.at q.roster.entries q.heads.0 d records q.last_moment c.self.invariant.heads c.in-Some.key c.in-Some.rank.now c.in-Some.ensures (sym c.if-is_due.ensures))
@@ -29,7 +28,7 @@ returns-else-is_due g c =
     let ops = g.T.Tag.ops in
     let order = same_total g.T.Ord.cmp ops.compare g.met.T.Ord.total g.met.T.Tag.compares in
     let q = c.self.inside in
-    let d : AreDistinct q.roster.entries = subst (λ v. AreDistinct v.roster.entries) (sym c.self.view_is) c.tell_distinct.ensures in
+    let d = c.self.invariant.distinct in
     let records = records_of ops g.T.Tag.fraction g.T.Tag.is_value q.config.hz q.roster.entries c.self.invariant.kept in
     subst (λ v. Early ops c.args.at v.roster.entries None) c.self.view_is
     (least_late ops order c.the_best_is_found.ensures.some c.the_best_is_found.ensures.none c.args.at q.roster.entries q.heads.0 d records q.last_moment c.self.invariant.heads c.in-Some.key c.in-Some.rank.now c.in-Some.ensures (sym c.if-is_due.ensures))

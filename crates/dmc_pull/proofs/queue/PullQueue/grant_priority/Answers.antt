@@ -7,11 +7,11 @@ pub returns-then-not-can_grant : goal.returns-then-not-can_grant
 returns-then-not-can_grant g c =
     let old = c.args.self.now in
     let w = waits old.roster.entries c.args.key c.args.client c.requires in
-    refusal_settles g.T.Tag.ops old old c.args.key c.args.client old.last_moment c.tell_distinct.ensures w c.args.beyond c.if-not-can_grant.ensures.value
+    refusal_settles g.T.Tag.ops old old c.args.key c.args.client old.last_moment c.if-not-can_grant.ensures.distinct w c.args.beyond c.if-not-can_grant.ensures.value
 
 pub returns : goal.returns
 returns g c =
     let old = c.args.self.now in
     let w = waits old.roster.entries c.args.key c.args.client c.requires in
-    priority_settles g.T.Tag.ops old c.take_out-token.new.self c.args.key c.args.client old.last_moment c.tell_distinct.ensures w c.take_out-token.result c.args.beyond c.if-not-can_grant.ensures.value
+    priority_settles g.T.Tag.ops old c.take_out-token.new.self c.args.key c.args.client old.last_moment c.if-not-can_grant.ensures.distinct w c.take_out-token.result c.args.beyond c.if-not-can_grant.ensures.value
     (record { roster = c.take_out-token.ensures.roster; config = c.take_out-token.ensures.config; moment = c.take_out-token.ensures.moment ∙ c.last_moment-at.ensures }) c.take_out-token.ensures.token

@@ -1,6 +1,5 @@
 use Rattle.std.proofs.Common.{◌≡◌, min, None, Some, sym, subst, ap, ◌∙◌}
 use Rattle.std.specs.Option.{option_map}
-use Rattle.dmc_roster.specs.Entries.{AreDistinct}
 use Rattle.dmc_tag.specs.Best.{best, by_reservation, by_shares, is_early, is_free}
 use Rattle.dmc_tag.specs.Rules.{moment_of, earlier}
 use Rattle.dmc_pull.specs.Standing.{requests_in}
@@ -12,7 +11,7 @@ use Rattle.dmc_pull.proofs.queue.PullQueue.next_due.Goals as goal
 pub returns-in_default : goal.returns-in_default
 returns-in_default g c = λ first rest whole.
     let q = c.self.inside in
-    let d : AreDistinct q.roster.entries = subst (λ v. AreDistinct v.roster.entries) (sym c.self.view_is) c.tell_distinct.ensures in
+    let d = c.self.invariant.distinct in
     not_nothing (requests_in q.roster.entries) first rest (none_queued g.T.Tag.ops q.last_moment q.roster.entries q.heads.0 c.self.invariant.heads d c.in_default.ensures) (ap (λ v. requests_in v.roster.entries) c.self.view_is ∙ whole)
 
 pub returns-in-None : goal.returns-in-None
@@ -20,7 +19,7 @@ returns-in-None g c = λ first rest whole.
     let ops = g.T.Tag.ops in
     let order = same_total g.T.Ord.cmp ops.compare g.met.T.Ord.total g.met.T.Tag.compares in
     let q = c.self.inside in
-    let d : AreDistinct q.roster.entries = subst (λ v. AreDistinct v.roster.entries) (sym c.self.view_is) c.tell_distinct.ensures in
+    let d = c.self.invariant.distinct in
     let records = records_of ops g.T.Tag.fraction g.T.Tag.is_value q.config.hz q.roster.entries c.self.invariant.kept in
     let none_early : best (by_reservation ops) (is_early ops q.last_moment) (requests_in q.roster.entries) ≡ None = subst (λ v. best (by_reservation ops) (is_early ops v.last_moment) (requests_in v.roster.entries) ≡ None) (sym c.self.view_is) c.requires.none_early in
     let none_free : best (by_shares ops) (is_free ops q.last_moment) (requests_in q.roster.entries) ≡ None = subst (λ v. best (by_shares ops) (is_free ops v.last_moment) (requests_in v.roster.entries) ≡ None) (sym c.self.view_is) c.requires.none_free in
@@ -34,7 +33,7 @@ returns-in-Some-tag g c = λ first rest whole.
     let ops = g.T.Tag.ops in
     let order = same_total g.T.Ord.cmp ops.compare g.met.T.Ord.total g.met.T.Tag.compares in
     let q = c.self.inside in
-    let d : AreDistinct q.roster.entries = subst (λ v. AreDistinct v.roster.entries) (sym c.self.view_is) c.tell_distinct.ensures in
+    let d = c.self.invariant.distinct in
     let records = records_of ops g.T.Tag.fraction g.T.Tag.is_value q.config.hz q.roster.entries c.self.invariant.kept in
     let none_early : best (by_reservation ops) (is_early ops q.last_moment) (requests_in q.roster.entries) ≡ None = subst (λ v. best (by_reservation ops) (is_early ops v.last_moment) (requests_in v.roster.entries) ≡ None) (sym c.self.view_is) c.requires.none_early in
     let none_free : best (by_shares ops) (is_free ops q.last_moment) (requests_in q.roster.entries) ≡ None = subst (λ v. best (by_shares ops) (is_free ops v.last_moment) (requests_in v.roster.entries) ≡ None) (sym c.self.view_is) c.requires.none_free in

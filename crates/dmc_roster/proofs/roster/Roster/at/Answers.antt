@@ -19,4 +19,4 @@ returns-clause-value g c =
     sym (ap (λ r. record_at c.args.key r.entries) c.self.view_is) ∙ found ∙ sym c.get.ensures ∙ ap option_copied c.unwrap.ensures
 
 pub returns-clause-distinct : goal.returns-clause-distinct
-returns-clause-distinct g c = subst (λ r. AreDistinct r.entries) c.self.view_is (are_distinct c.self.inside.records.slots c.self.inside.ids.entries c.len-count.ensures.unique c.self.invariant.apart)
+returns-clause-distinct g c = subst (λ r. AreDistinct r.entries) c.self.view_is (are_distinct c.self.inside.records.slots c.self.inside.ids.entries c.self.invariant.apart)

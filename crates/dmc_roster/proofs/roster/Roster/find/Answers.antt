@@ -12,13 +12,13 @@ returns-clause-key g c =
 
 pub returns-clause-entry : goal.returns-clause-entry
 returns-clause-entry g c =
-    let distinct = subst (λ r. AreDistinct r.entries) c.self.view_is (are_distinct c.self.inside.records.slots c.self.inside.ids.entries c.len-count.ensures.unique c.self.invariant.apart) in
+    let distinct = subst (λ r. AreDistinct r.entries) c.self.view_is (are_distinct c.self.inside.records.slots c.self.inside.ids.entries c.self.invariant.apart) in
     found_keyed c.copied.result c.args.id c.args.self.now.entries distinct (returns-clause-key g c)
 
 pub returns-clause-held : goal.returns-clause-held
 returns-clause-held g c =
-    let distinct = subst (λ r. AreDistinct r.entries) c.self.view_is (are_distinct c.self.inside.records.slots c.self.inside.ids.entries c.len-count.ensures.unique c.self.invariant.apart) in
+    let distinct = subst (λ r. AreDistinct r.entries) c.self.view_is (are_distinct c.self.inside.records.slots c.self.inside.ids.entries c.self.invariant.apart) in
     found_held c.copied.result c.args.id c.args.self.now.entries distinct (returns-clause-key g c)
 
 pub returns-clause-distinct : goal.returns-clause-distinct
-returns-clause-distinct g c = subst (λ r. AreDistinct r.entries) c.self.view_is (are_distinct c.self.inside.records.slots c.self.inside.ids.entries c.len-count.ensures.unique c.self.invariant.apart)
+returns-clause-distinct g c = subst (λ r. AreDistinct r.entries) c.self.view_is (are_distinct c.self.inside.records.slots c.self.inside.ids.entries c.self.invariant.apart)

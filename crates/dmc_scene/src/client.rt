@@ -153,7 +153,7 @@ fn id_beside(table: &Table, before: &[SceneClient]) -> Result<u32, SceneFault>
 }
 
 /// The client that a table is, beside those before it.
-pub fn read_client(
+pub(crate) fn read_client(
     table: &Table,
     tags: TagKind,
     hz: u32,

@@ -37,10 +37,6 @@ use dmc_client::request::QueuedRequest;
 use dmc_heads::heads::Heads;
 use dmc_index::index::Indexes;
 use dmc_roster::roster::Roster;
-use dmc_tag::laws::{
-    a_tag_is_due_from_its_ceil, future_is_exact, nothing_is_taken_off, steps_client_by_client,
-    steps_exactly, tags_are_values, the_best_is_found,
-};
 use dmc_tag::reply::{Pulled, Tags};
 use dmc_tag::spacing::{Spacings, spacings_for};
 use dmc_tag::tag::Tag;
@@ -174,7 +170,6 @@ impl<T: Tag, I: Indexes<T>> PullQueue<T, I> {
     fn early(&self, at: Moment) -> Option<(usize, ClientId)>
         ensures { Early T.ops at self.now.roster.entries result }
     {
-        the_best_is_found::<T>();
         match self.heads.0.least_by_reservation() {
             None => None,
             Some((key, rank)) => {
@@ -193,7 +188,6 @@ impl<T: Tag, I: Indexes<T>> PullQueue<T, I> {
         ensures state { state_of self.new ≡ record (state_of self.old) { last_moment = at } }
         ensures marked { IsMarked T.ops self.new }
     {
-        a_tag_is_due_from_its_ceil::<T>();
         self.heads.0.promote(at);
         self.last_moment = at;
     }
@@ -202,7 +196,6 @@ impl<T: Tag, I: Indexes<T>> PullQueue<T, I> {
     fn go_back(&mut self, before: Moment)
         ensures { state_of self.new ≡ record (state_of self.old) { last_moment = before } }
     {
-        a_tag_is_due_from_its_ceil::<T>();
         self.heads.0.set_back(before);
         self.last_moment = before;
     }
@@ -213,7 +206,6 @@ impl<T: Tag, I: Indexes<T>> PullQueue<T, I> {
         requires { IsMarked T.ops self.now }
         ensures { ByShares T.ops self.now.last_moment self.now.roster.entries result }
     {
-        the_best_is_found::<T>();
         match self.heads.0.least_by_shares() {
             None => None,
             Some((key, rank)) => Some((key, rank.client, rank.ready)),
@@ -227,9 +219,6 @@ impl<T: Tag, I: Indexes<T>> PullQueue<T, I> {
         ensures { (first : PlainRequest T) (rest : List (PlainRequest T)) → requests_in self.now.roster.entries ≡ first ∷ rest →
             result ≡ rules_of.least_due T.ops first rest }
     {
-        a_tag_is_due_from_its_ceil::<T>();
-        future_is_exact::<T>();
-        the_best_is_found::<T>();
         let Some((_, limit)) = self.heads.0.least_by_limit() else {
             return 0;
         };
@@ -255,7 +244,6 @@ impl<T: Tag, I: Indexes<T>> PullQueue<T, I> {
         ensures config { self.new.config ≡ self.old.config }
         ensures moment { self.new.last_moment ≡ at }
     {
-        a_tag_is_due_from_its_ceil::<T>();
         let request = grant_first(&mut self.roster, key, reduces).unwrap();
         let tags = first_tags(&self.roster, key);
         renew(&mut self.heads.0, key, client, tags, at);
@@ -384,7 +372,6 @@ impl<T: Tag, I: Indexes<T>> PullQueue<T, I> {
         ensures err { OnErr result (state_of self.new ≡ state_of self.old) }
         ensures memory { IsOkUnless result QueueFault.Memory }
     {
-        a_tag_is_due_from_its_ceil::<T>();
         let key = self.roster.next_key();
         let Some(room) = key.checked_add(1) else {
             return Err(QueueFault::Memory);
@@ -407,7 +394,6 @@ impl<T: Tag, I: Indexes<T>> PullQueue<T, I> {
     ) -> Result<(), QueueFault>
         ensures { Exactly T.ops (state_of self.old) (state_of self.new) (commands.Register client info at) (told (λ _. replies.Registered) result) }
     {
-        tags_are_values::<T>();
         let at = self.effective(at);
         let spacings = self.can_register(client, info)?;
         let rec = ClientRec::new(self.alloc, info, spacings, at);
@@ -450,7 +436,6 @@ impl<T: Tag, I: Indexes<T>> PullQueue<T, I> {
     ) -> Result<(), Refusal>
         ensures { Exactly T.ops (state_of self.old) (state_of self.new) (commands.Update client info at) (told_surely (λ _. replies.Updated) result) }
     {
-        a_tag_is_due_from_its_ceil::<T>();
         let at = self.effective(at);
         let (key, spacings) = self.can_update(client, info)?;
         set_info_at(&mut self.roster, key, info, spacings);
@@ -475,7 +460,6 @@ impl<T: Tag, I: Indexes<T>> PullQueue<T, I> {
     pub fn clean(&mut self, at: Moment) -> (u32, u32)
         ensures { Exactly T.ops (state_of self.old) (state_of self.new) (commands.Clean at) (Some (clean_reply result)) }
     {
-        a_tag_is_due_from_its_ceil::<T>();
         let at = self.effective(at);
         let (idle_age, erase_age) = (self.config.idle_age(), self.config.erase_age());
         let idled = count_idled(&self.roster, at, idle_age, erase_age);
@@ -493,7 +477,6 @@ impl<T: Tag, I: Indexes<T>> PullQueue<T, I> {
             result ≡ adding_of.shift_for T.ops (state_of self.old).requests (client_of e.id e.rec) t) }
         ensures same { self.new ≡ self.old }
     {
-        the_best_is_found::<T>();
         if !self.roster.at(key).is_idle() {
             return Ok(None);
         }
@@ -535,8 +518,6 @@ impl<T: Tag, I: Indexes<T>> PullQueue<T, I> {
         ensures room { OnOk result (length (state_of self.old).requests < 1048576) }
         ensures same { self.new ≡ self.old }
     {
-        nothing_is_taken_off::<T>();
-        tags_are_values::<T>();
         let Some(key) = self.roster.find(client) else {
             return Err(Refusal::Unknown);
         };
@@ -575,8 +556,6 @@ impl<T: Tag, I: Indexes<T>> PullQueue<T, I> {
         ensures err { OnErr result (self.new ≡ self.old) }
         ensures memory { IsOkUnless result QueueFault.Memory }
     {
-        a_tag_is_due_from_its_ceil::<T>();
-        tags_are_values::<T>();
         let Addition { key, shift, tags } = addition;
         let is_first = self.roster.at(key).is_empty();
         if push_at(&mut self.roster, key, QueuedRequest { token, tags }, at).is_err() {
@@ -601,8 +580,6 @@ impl<T: Tag, I: Indexes<T>> PullQueue<T, I> {
     ) -> Result<Tags<T>, QueueFault>
         ensures { Steps T.ops (state_of self.old) (state_of self.new) (commands.Add client token params at) (told replies.Tagged result) }
     {
-        steps_client_by_client::<T>();
-        steps_exactly::<T>();
         let at = self.effective(at);
         let addition = self.can_add(client, params, at)?;
         let tags = addition.tags;

@@ -1,9 +1,9 @@
 -- What a caller's proof may cite: the laws over plain variables.
-use Rattle.std.proofs.Common.{◌≡◌, ℕ, Bool, true, List, [], ◌∷◌, ◌++◌, length, Option, Some}
-use Rattle.std.specs.Prelude.{◌⊎◌}
+use Rattle.std.proofs.Common.{◌≡◌, ℕ, ◌≤◌, Bool, true, List, [], ◌∷◌, ◌++◌, length, Option, Some, None, Ok}
+use Rattle.std.specs.Prelude.{◌⊎◌, IfSome, nat_le}
 use Rattle.std.specs.Cmp.{IsTotalOrder}
 use Rattle.std.specs.declared.cmp.Ordering.{Ordering}
-use Rattle.dmc_types.specs.Values.{Setting}
+use Rattle.dmc_types.specs.Values.{Setting, Rates, Params}
 use Rattle.dmc_types.specs.declared.ids.ClientId.{ClientId}
 use Rattle.dmc_types.specs.declared.ids.Token.{Token}
 use Rattle.dmc_types.specs.declared.config.PhaseType.{PhaseType}
@@ -15,11 +15,21 @@ use Rattle.dmc_tag.specs.Step.{step}
 use Rattle.dmc_tag.specs.Steps.{Exactly, Steps}
 use Rattle.dmc_tag.specs.Replay.{after, replays}
 use Rattle.dmc_tag.specs.Queued.{AreActive, is_add_of}
-use Rattle.dmc_tag.specs.Laws.{Pulls}
+use Rattle.dmc_tag.specs.Laws.{Pulls, IsNextDue}
+use Rattle.dmc_tag.specs.Best.{best, is_before, is_due, IsBest, HasNone}
+use Rattle.dmc_tag.specs.Order.{AreSpacings, AreNext}
+use Rattle.dmc_tag.specs.Rules.{next_tags, moment_of}
+use Rattle.dmc_tag.specs.declared.plain.PlainRequest.{PlainRequest}
+use Rattle.dmc_tag.specs.declared.plain.Previous.{Previous}
+use Rattle.dmc_tag.specs.declared.spacing.Spacings.{Spacings}
+use Rattle.dmc_tag.specs.declared.reply.Tags.{Tags}
 use Rattle.dmc_tag.specs.declared.event.Event.{Event}
 use Rattle.dmc_tag.specs.declared.reply.Reply.{Reply}
-use Rattle.dmc_tag.specs.declared.reply.Reply.TheVariants.{Granted}
+use Rattle.dmc_tag.specs.declared.reply.Reply.TheVariants.{Granted, Later}
 use Rattle.dmc_tag.proofs.Agreement as agreement
+use Rattle.dmc_tag.proofs.Before.{before_order}
+use Rattle.dmc_tag.proofs.BestIs as scans
+use Rattle.dmc_tag.proofs.FutureLaw as futures
 use Rattle.dmc_tag.proofs.PullLaw as pulls
 use Rattle.dmc_tag.proofs.Queued as queued
 use Rattle.dmc_tag.proofs.Running as running
@@ -50,9 +60,29 @@ module _ {T : Type 0} (ops : Tagging T) where
   pub replayed_one_more : (config : Setting) (events : List (Event T)) (e : Event T) → replays ops config (events ++ e ∷ []) → replays ops config events × (e.reply ≡ (step ops (after ops config events) e.command).1)
   replayed_one_more config = running.replays_parted ops (opening config)
 
+module _ {T : Type 0} (ops : Tagging T) (order : IsTotalOrder ops.compare) where
   -- a step from one state is that step from each that it stands for
-  pub steps_exactly : IsTotalOrder ops.compare → (old new : State T) (command : Command) (answer : Option (Reply T)) → Exactly ops old new command answer → Steps ops old new command answer
-  steps_exactly = agreement.steps_exactly ops
+  pub steps_exactly : (old new : State T) (command : Command) (answer : Option (Reply T)) → Exactly ops old new command answer → Steps ops old new command answer
+  steps_exactly = agreement.steps_exactly ops order
+
+  -- and so is a step to a state that agrees with the one after it
+  pub steps_agreeing : (old new : State T) (command : Command) (reply : Reply T) → reply ≡ (step ops old command).1 → StandsFor new ((step ops old command).0) → Steps ops old new command (Some reply)
+  steps_agreeing = agreement.steps_agreeing ops order
+
+  module _ (tag : PlainRequest T → Option T) (member : PlainRequest T → Bool) (xs : List (PlainRequest T)) where
+    -- the scan for the best of a set finds it, and nothing where the set has no member
+    pub best_is_found : (others : List (PlainRequest T)) (r : PlainRequest T) → IsBest (is_before ops tag) member xs r others → best (is_before ops tag) member xs ≡ Some (r, others)
+    best_is_found others r = scans.best_is_found (λ r. r.client.0) (is_before ops tag) (before_order ops order tag) member xs r others
+
+    pub none_is_found : HasNone member xs → best (is_before ops tag) member xs ≡ None
+    none_is_found = scans.none_is_found (λ r. r.client.0) (is_before ops tag) (before_order ops order tag) member xs
+
+    -- what it finds is the best, and where it finds nothing the set has no member
+    pub found_is_best : (others : List (PlainRequest T)) (r : PlainRequest T) → best (is_before ops tag) member xs ≡ Some (r, others) → IsBest (is_before ops tag) member xs r others
+    found_is_best others r = scans.found_is (λ r. r.client.0) (is_before ops tag) (before_order ops order tag) member xs (r, others)
+
+    pub not_found_has_none : best (is_before ops tag) member xs ≡ None → HasNone member xs
+    not_found_has_none = scans.none_found (λ r. r.client.0) (is_before ops tag) (before_order ops order tag) member xs
 
 module _ {T : Type 0} (ops : Tagging T) (fraction : T → Fraction) (is_value : Fraction → Type 0) (exact : IsExact ops fraction is_value) where
   pub plus_commutes : (a b : T) → ops.plus a b ≡ ops.plus b a
@@ -61,7 +91,37 @@ module _ {T : Type 0} (ops : Tagging T) (fraction : T → Fraction) (is_value : 
   pub plus_keeps_order : (a b amount x y : T) → ops.plus a amount ≡ Some x → ops.plus b amount ≡ Some y → ops.compare x y ≡ ops.compare a b
   plus_keeps_order = orders.sums_ordered ops fraction is_value exact
 
+  -- two tags less an amount are ordered as the tags are
+  pub minus_keeps_order : (a b amount x y : T) → ops.minus a amount ≡ Some x → ops.minus b amount ≡ Some y → ops.compare x y ≡ ops.compare a b
+  minus_keeps_order = orders.differences_ordered ops fraction is_value exact
+
+  -- a tag is due from the least whole number on that is not below it
+  pub due_from_ceil : (tag : T) (n : ℕ) → is_due ops n (Some tag) ≡ nat_le (moment_of (ops.ceil tag)) n
+  due_from_ceil = futures.due_is ops fraction is_value exact
+
+  -- a value less nothing is itself
+  pub minus_nothing : (a : T) → is_value (fraction a) → ops.minus a (ops.of_moment 0) ≡ Some a
+  minus_nothing = values.nothing_off ops fraction is_value exact
+
+  -- the tags of moments, those that an assignment gives for P, and differences are values
+  pub moments_are_values : (n : ℕ) → n ≤ 4611686018427387904 → is_value (fraction (ops.of_moment n))
+  moments_are_values = values.moment_value ops fraction is_value exact
+
+  pub weights_are_values : (spacings : Spacings T) (previous : Previous T) (params : Params) (n : ℕ) (tags : Tags T) → n ≤ 4611686018427387904 → next_tags ops spacings previous params (ops.of_moment n) ≡ Ok tags → is_value (fraction tags.p)
+  weights_are_values = values.shares_values ops fraction is_value exact
+
+  pub differences_are_values : (a amount : T) → IfSome (ops.minus a amount) (λ x. is_value (fraction x))
+  differences_are_values = values.differences_values ops fraction is_value exact
+
   module _ (order : IsTotalOrder ops.compare) where
+    -- an assignment gives no tag below the previous one, and an R exactly where there is a reservation
+    pub next_tags_follow : (info : Rates) (spacings : Spacings T) (previous : Previous T) (params : Params) (t : T) (tags : Tags T) → AreSpacings ops info spacings → next_tags ops spacings previous params t ≡ Ok tags → AreNext ops info previous tags
+    next_tags_follow = orders.next_tags_not_below ops fraction is_value exact order
+
+    -- before the moment that a pull names no request is early or free, and at it one is
+    pub future_is_exact : (s : State T) (at m : ℕ) → (step ops s (Pull at)).1 ≡ Later m → IsNextDue ops m s.requests
+    future_is_exact s at m = pulls.future_says ops fraction is_value exact order (effective s at) m s
+
     -- what a pull grants, and the state after it
     pub pull_grants : (s : State T) (at : ℕ) → Pulls ops (effective s at) s ((step ops s (Pull at)).0) ((step ops s (Pull at)).1)
     pull_grants s at = pulls.pull_says ops fraction is_value exact order (effective s at) s

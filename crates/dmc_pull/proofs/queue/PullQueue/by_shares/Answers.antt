@@ -1,4 +1,5 @@
 use Rattle.std.proofs.Common.{sym, subst, Some, None}
+use Rattle.dmc_tag.proofs.ForCallers.{best_is_found, none_is_found}
 use Rattle.dmc_pull.specs.Queue.{IsMarked}
 use Rattle.dmc_pull.specs.Choice.{ByShares}
 use Rattle.dmc_pull.proofs.Picks.{same_total, records_of, no_head_shares, least_shares}
@@ -13,7 +14,7 @@ returns-in-None g c =
     let records = records_of ops g.T.Tag.fraction g.T.Tag.is_value q.config.hz q.roster.entries c.self.invariant.kept in
     let marked = subst (IsMarked ops) (sym c.self.view_is) c.requires in
     subst (λ v. ByShares ops v.last_moment v.roster.entries None) c.self.view_is
-    (no_head_shares ops order c.the_best_is_found.ensures.some c.the_best_is_found.ensures.none q.last_moment q.roster.entries q.heads.0 d records c.self.invariant.heads marked c.in-None.ensures)
+    (no_head_shares ops order (best_is_found g.T.Tag.ops order) (none_is_found g.T.Tag.ops order) q.last_moment q.roster.entries q.heads.0 d records c.self.invariant.heads marked c.in-None.ensures)
 
 pub returns-in-Some : goal.returns-in-Some
 returns-in-Some g c =
@@ -24,4 +25,4 @@ returns-in-Some g c =
     let records = records_of ops g.T.Tag.fraction g.T.Tag.is_value q.config.hz q.roster.entries c.self.invariant.kept in
     let marked = subst (IsMarked ops) (sym c.self.view_is) c.requires in
     subst (λ v. ByShares ops v.last_moment v.roster.entries (Some (c.in-Some.key, c.in-Some.rank.now.client, c.in-Some.rank.now.ready))) c.self.view_is
-    (least_shares ops order c.the_best_is_found.ensures.some c.the_best_is_found.ensures.none q.last_moment q.roster.entries q.heads.0 d records c.self.invariant.heads marked c.in-Some.key c.in-Some.rank.now c.in-Some.ensures)
+    (least_shares ops order (best_is_found g.T.Tag.ops order) (none_is_found g.T.Tag.ops order) q.last_moment q.roster.entries q.heads.0 d records c.self.invariant.heads marked c.in-Some.key c.in-Some.rank.now c.in-Some.ensures)

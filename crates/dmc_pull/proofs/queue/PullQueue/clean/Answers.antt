@@ -1,5 +1,6 @@
 use Rattle.std.proofs.Common.{◌≡◌, ◌≤◌, ℕ, sym, ap, subst}
 use Rattle.dmc_tag.specs.State.{effective}
+use Rattle.dmc_tag.proofs.ForCallers.{due_from_ceil}
 use Rattle.dmc_pull.specs.Queue.{state_of}
 use Rattle.dmc_pull.proofs.Aged.{cleaned_is, cleaned_step}
 use Rattle.dmc_pull.proofs.queue.PullQueue.clean.Goals as goal
@@ -11,7 +12,7 @@ invariant_of-self g c =
     let distinct = c.self.invariant.distinct in
     let later : q.last_moment ≤ t = subst (λ (n : ℕ). n ≤ t) (sym (ap (λ x. x.last_moment) c.self.view_is)) c.effective-at.ensures.later in
     let e = rw (c.idle_age-idle_age.ensures.value, c.erase_age-erase_age.ensures.value) at c.age_all.ensures.value in
-    cleaned_is g.T.Tag.ops g.T.Tag.fraction g.T.Tag.is_value c.a_tag_is_due_from_its_ceil.ensures c.self.invariant distinct c.age_all.new.roster t e c.age_all.ensures.kept later
+    cleaned_is g.T.Tag.ops g.T.Tag.fraction g.T.Tag.is_value (due_from_ceil g.T.Tag.ops g.T.Tag.fraction g.T.Tag.is_value g.met.T.Tag.exact) c.self.invariant distinct c.age_all.new.roster t e c.age_all.ensures.kept later
 
 pub returns : goal.returns
 returns g c =

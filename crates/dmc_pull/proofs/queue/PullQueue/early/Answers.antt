@@ -1,4 +1,5 @@
 use Rattle.std.proofs.Common.{sym, subst, Some, None}
+use Rattle.dmc_tag.proofs.ForCallers.{best_is_found, none_is_found}
 use Rattle.dmc_pull.specs.Choice.{Early}
 use Rattle.dmc_pull.proofs.Picks.{same_total, records_of, no_head_early, least_early, least_late}
 use Rattle.dmc_pull.proofs.queue.PullQueue.early.Goals as goal
@@ -11,7 +12,7 @@ returns-in-None g c =
     let d = c.self.invariant.distinct in
     let records = records_of ops g.T.Tag.fraction g.T.Tag.is_value q.config.hz q.roster.entries c.self.invariant.kept in
     subst (λ v. Early ops c.args.at v.roster.entries None) c.self.view_is
-    (no_head_early ops order c.the_best_is_found.ensures.some c.the_best_is_found.ensures.none c.args.at q.roster.entries q.heads.0 d records q.last_moment c.self.invariant.heads c.in-None.ensures)
+    (no_head_early ops order (best_is_found g.T.Tag.ops order) (none_is_found g.T.Tag.ops order) c.args.at q.roster.entries q.heads.0 d records q.last_moment c.self.invariant.heads c.in-None.ensures)
 
 pub returns-then-is_due : goal.returns-then-is_due
 returns-then-is_due g c =
@@ -21,7 +22,7 @@ returns-then-is_due g c =
     let d = c.self.invariant.distinct in
     let records = records_of ops g.T.Tag.fraction g.T.Tag.is_value q.config.hz q.roster.entries c.self.invariant.kept in
     subst (λ v. Early ops c.args.at v.roster.entries (Some (c.in-Some.key, c.in-Some.rank.now.client))) c.self.view_is
-    (least_early ops order c.the_best_is_found.ensures.some c.the_best_is_found.ensures.none c.args.at q.roster.entries q.heads.0 d records q.last_moment c.self.invariant.heads c.in-Some.key c.in-Some.rank.now c.in-Some.ensures (sym c.if-is_due.ensures))
+    (least_early ops order (best_is_found g.T.Tag.ops order) (none_is_found g.T.Tag.ops order) c.args.at q.roster.entries q.heads.0 d records q.last_moment c.self.invariant.heads c.in-Some.key c.in-Some.rank.now c.in-Some.ensures (sym c.if-is_due.ensures))
 
 pub returns-else-is_due : goal.returns-else-is_due
 returns-else-is_due g c =
@@ -31,4 +32,4 @@ returns-else-is_due g c =
     let d = c.self.invariant.distinct in
     let records = records_of ops g.T.Tag.fraction g.T.Tag.is_value q.config.hz q.roster.entries c.self.invariant.kept in
     subst (λ v. Early ops c.args.at v.roster.entries None) c.self.view_is
-    (least_late ops order c.the_best_is_found.ensures.some c.the_best_is_found.ensures.none c.args.at q.roster.entries q.heads.0 d records q.last_moment c.self.invariant.heads c.in-Some.key c.in-Some.rank.now c.in-Some.ensures (sym c.if-is_due.ensures))
+    (least_late ops order (best_is_found g.T.Tag.ops order) (none_is_found g.T.Tag.ops order) c.args.at q.roster.entries q.heads.0 d records q.last_moment c.self.invariant.heads c.in-Some.key c.in-Some.rank.now c.in-Some.ensures (sym c.if-is_due.ensures))

@@ -2,6 +2,7 @@ use Rattle.std.proofs.Common.{sym, subst}
 use Rattle.std.specs.Prelude.{map}
 use Rattle.std.specs.Option.{option_map}
 use Rattle.dmc_heads.specs.Heads.{set_back}
+use Rattle.dmc_tag.proofs.ForCallers.{due_from_ceil}
 use Rattle.dmc_pull.specs.Queue.{IsQueue}
 use Rattle.dmc_pull.proofs.Kept.{same_roster, length_map, went_back}
 use Rattle.dmc_pull.proofs.queue.PullQueue.go_back.Goals as goal
@@ -11,4 +12,4 @@ invariant_of-self g c =
     let ops = g.T.Tag.ops in
     let q = c.self.inside in
     subst (λ hs. IsQueue ops g.T.Tag.fraction g.T.Tag.is_value (record { config = q.config; roster = q.roster; heads = hs; last_moment = c.args.before }) q.queued) (sym c.set_back.ensures)
-    (same_roster ops g.T.Tag.fraction g.T.Tag.is_value _ q.queued (map (option_map (set_back ops c.args.before)) q.heads.0) c.args.before c.self.invariant (length_map (option_map (set_back ops c.args.before)) q.heads.0) (went_back ops c.a_tag_is_due_from_its_ceil.ensures q.last_moment c.args.before q.roster.entries q.heads.0 c.self.invariant.heads))
+    (same_roster ops g.T.Tag.fraction g.T.Tag.is_value _ q.queued (map (option_map (set_back ops c.args.before)) q.heads.0) c.args.before c.self.invariant (length_map (option_map (set_back ops c.args.before)) q.heads.0) (went_back ops (due_from_ceil g.T.Tag.ops g.T.Tag.fraction g.T.Tag.is_value g.met.T.Tag.exact) q.last_moment c.args.before q.roster.entries q.heads.0 c.self.invariant.heads))

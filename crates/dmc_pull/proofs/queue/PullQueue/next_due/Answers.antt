@@ -2,6 +2,7 @@ use Rattle.std.proofs.Common.{◌≡◌, min, None, Some, sym, subst, ap, ◌∙
 use Rattle.std.specs.Option.{option_map}
 use Rattle.dmc_tag.specs.Best.{best, by_reservation, by_shares, is_early, is_free}
 use Rattle.dmc_tag.specs.Rules.{moment_of, earlier}
+use Rattle.dmc_tag.proofs.ForCallers.{due_from_ceil, future_is_exact, not_found_has_none}
 use Rattle.dmc_pull.specs.Standing.{requests_in}
 use Rattle.dmc_pull.proofs.Picks.{same_total, records_of}
 use Rattle.dmc_pull.proofs.Choices.{none_queued}
@@ -23,9 +24,9 @@ returns-in-None g c = λ first rest whole.
     let records = records_of ops g.T.Tag.fraction g.T.Tag.is_value q.config.hz q.roster.entries c.self.invariant.kept in
     let none_early : best (by_reservation ops) (is_early ops q.last_moment) (requests_in q.roster.entries) ≡ None = subst (λ v. best (by_reservation ops) (is_early ops v.last_moment) (requests_in v.roster.entries) ≡ None) (sym c.self.view_is) c.requires.none_early in
     let none_free : best (by_shares ops) (is_free ops q.last_moment) (requests_in q.roster.entries) ≡ None = subst (λ v. best (by_shares ops) (is_free ops v.last_moment) (requests_in v.roster.entries) ≡ None) (sym c.self.view_is) c.requires.none_free in
-    let has_none = c.the_best_is_found.ensures.not_found (λ r. Some r.tags.p) (is_free ops q.last_moment) (requests_in q.roster.entries) none_free in
+    let has_none = (not_found_has_none g.T.Tag.ops order) (λ r. Some r.tags.p) (is_free ops q.last_moment) (requests_in q.roster.entries) none_free in
     let free = moment_of (ops.ceil c.in-Some.limit.now.tag) in
-    due_told ops order q.last_moment q.roster.entries q.heads.0 c.self.invariant.heads d records c.a_tag_is_due_from_its_ceil.ensures c.future_is_exact.ensures q.config none_early none_free has_none c.in-Some-least_by_reservation.field-0-0 c.in-Some-least_by_reservation.reservation.now c.in-Some-least_by_reservation.ensures c.in-Some.field-0-0 c.in-Some.limit.now c.in-Some.ensures
+    due_told ops order q.last_moment q.roster.entries q.heads.0 c.self.invariant.heads d records (due_from_ceil g.T.Tag.ops g.T.Tag.fraction g.T.Tag.is_value g.met.T.Tag.exact) (future_is_exact g.T.Tag.ops g.T.Tag.fraction g.T.Tag.is_value g.met.T.Tag.exact order) q.config none_early none_free has_none c.in-Some-least_by_reservation.field-0-0 c.in-Some-least_by_reservation.reservation.now c.in-Some-least_by_reservation.ensures c.in-Some.field-0-0 c.in-Some.limit.now c.in-Some.ensures
     c.due_moment-free.result (c.due_moment-free.ensures ∙ ap (λ o. earlier free (option_map (λ t. moment_of (ops.ceil t)) o)) (sym c.in-None.is)) first rest (ap (λ v. requests_in v.roster.entries) c.self.view_is ∙ whole)
 
 pub returns-in-Some-tag : goal.returns-in-Some-tag
@@ -37,7 +38,7 @@ returns-in-Some-tag g c = λ first rest whole.
     let records = records_of ops g.T.Tag.fraction g.T.Tag.is_value q.config.hz q.roster.entries c.self.invariant.kept in
     let none_early : best (by_reservation ops) (is_early ops q.last_moment) (requests_in q.roster.entries) ≡ None = subst (λ v. best (by_reservation ops) (is_early ops v.last_moment) (requests_in v.roster.entries) ≡ None) (sym c.self.view_is) c.requires.none_early in
     let none_free : best (by_shares ops) (is_free ops q.last_moment) (requests_in q.roster.entries) ≡ None = subst (λ v. best (by_shares ops) (is_free ops v.last_moment) (requests_in v.roster.entries) ≡ None) (sym c.self.view_is) c.requires.none_free in
-    let has_none = c.the_best_is_found.ensures.not_found (λ r. Some r.tags.p) (is_free ops q.last_moment) (requests_in q.roster.entries) none_free in
+    let has_none = (not_found_has_none g.T.Tag.ops order) (λ r. Some r.tags.p) (is_free ops q.last_moment) (requests_in q.roster.entries) none_free in
     let free = moment_of (ops.ceil c.in-Some.limit.now.tag) in
-    due_told ops order q.last_moment q.roster.entries q.heads.0 c.self.invariant.heads d records c.a_tag_is_due_from_its_ceil.ensures c.future_is_exact.ensures q.config none_early none_free has_none c.in-Some-least_by_reservation.field-0-0 c.in-Some-least_by_reservation.reservation.now c.in-Some-least_by_reservation.ensures c.in-Some.field-0-0 c.in-Some.limit.now c.in-Some.ensures
+    due_told ops order q.last_moment q.roster.entries q.heads.0 c.self.invariant.heads d records (due_from_ceil g.T.Tag.ops g.T.Tag.fraction g.T.Tag.is_value g.met.T.Tag.exact) (future_is_exact g.T.Tag.ops g.T.Tag.fraction g.T.Tag.is_value g.met.T.Tag.exact order) q.config none_early none_free has_none c.in-Some-least_by_reservation.field-0-0 c.in-Some-least_by_reservation.reservation.now c.in-Some-least_by_reservation.ensures c.in-Some.field-0-0 c.in-Some.limit.now c.in-Some.ensures
     c.min.result (c.min.ensures ∙ ap (λ a. min a c.due_moment.result) c.due_moment-free.ensures ∙ ap (λ b. min free b) c.due_moment.ensures ∙ ap (λ o. earlier free (option_map (λ t. moment_of (ops.ceil t)) o)) (sym c.in-Some-tag.is)) first rest (ap (λ v. requests_in v.roster.entries) c.self.view_is ∙ whole)

@@ -6,6 +6,7 @@ use Rattle.dmc_heads.specs.Heads.{IsOthers}
 use Rattle.dmc_roster.specs.Entries.{entry_keyed, entry_named, record_at}
 use Rattle.dmc_tag.specs.State.{StandsFor}
 use Rattle.dmc_tag.specs.Rules.{can_shift_by, shifted_by, queued}
+use Rattle.dmc_tag.proofs.ForCallers.{differences_are_values, due_from_ceil}
 use Rattle.dmc_pull.specs.Queue.{Queue, IsQueue, head_at, state_of}
 use Rattle.dmc_pull.specs.Standing.{clients_in, requests_in}
 use Rattle.dmc_pull.proofs.Adds.{record_is}
@@ -39,7 +40,7 @@ insert-requires-clause-in_room g c =
     let of = of_client ops g.T.Tag.fraction g.T.Tag.is_value q inside.queued key c.args.client c.self.invariant c.at.ensures.distinct same held in
     let request : QueuedRequest g.row.T.Denot = record { token = c.args.token; tags = c.args.addition.tags } in
     let idle = subst (λ q. IsSome shift → IfSome (record_at key q.roster.entries) (λ rec. rec.idle ≡ true)) (sym c.self.view_is) c.requires.idle in
-    let after = after_calls of c.tags_are_values.ensures.differences request c.args.at c.push_at.result (sym c.if-is_err.ensures.value) c.push_at.new.roster c.push_at.ensures.ok c.push_at.ensures.kept shift idle can c.shift_others.new.roster.entries c.shift_others.ensures.entries c.shift_others.ensures.kept c.shift_others.new.heads c.shift_others.ensures.firsts in
+    let after = after_calls of (differences_are_values g.T.Tag.ops g.T.Tag.fraction g.T.Tag.is_value g.met.T.Tag.exact) request c.args.at c.push_at.result (sym c.if-is_err.ensures.value) c.push_at.new.roster c.push_at.ensures.ok c.push_at.ensures.kept shift idle can c.shift_others.new.roster.entries c.shift_others.ensures.entries c.shift_others.ensures.kept c.shift_others.new.heads c.shift_others.ensures.firsts in
     within after
 
 pub insert-requires-clause-vacant : goal.insert-requires-clause-vacant
@@ -55,7 +56,7 @@ insert-requires-clause-vacant g c =
     let of = of_client ops g.T.Tag.fraction g.T.Tag.is_value q inside.queued key c.args.client c.self.invariant c.at.ensures.distinct same held in
     let request : QueuedRequest g.row.T.Denot = record { token = c.args.token; tags = c.args.addition.tags } in
     let idle = subst (λ q. IsSome shift → IfSome (record_at key q.roster.entries) (λ rec. rec.idle ≡ true)) (sym c.self.view_is) c.requires.idle in
-    let after = after_calls of c.tags_are_values.ensures.differences request c.args.at c.push_at.result (sym c.if-is_err.ensures.value) c.push_at.new.roster c.push_at.ensures.ok c.push_at.ensures.kept shift idle can c.shift_others.new.roster.entries c.shift_others.ensures.entries c.shift_others.ensures.kept c.shift_others.new.heads c.shift_others.ensures.firsts in
+    let after = after_calls of (differences_are_values g.T.Tag.ops g.T.Tag.fraction g.T.Tag.is_value g.met.T.Tag.exact) request c.args.at c.push_at.result (sym c.if-is_err.ensures.value) c.push_at.new.roster c.push_at.ensures.ok c.push_at.ensures.kept shift idle can c.shift_others.new.roster.entries c.shift_others.ensures.entries c.shift_others.ensures.kept c.shift_others.new.heads c.shift_others.ensures.firsts in
     let empty : c.is_empty-is_first.result ≡ (length of.entry.rec.requests == 0) = c.is_empty-is_first.ensures ∙ ap (λ rec. length rec.requests == 0) (sym (record_is key inside.roster.entries of.entry c.at.result.now of.found c.at.ensures.value)) in
     vacant after (sym empty ∙ c.if-is_first.true)
 
@@ -72,7 +73,7 @@ insert-requires-clause-apart g c =
     let of = of_client ops g.T.Tag.fraction g.T.Tag.is_value q inside.queued key c.args.client c.self.invariant c.at.ensures.distinct same held in
     let request : QueuedRequest g.row.T.Denot = record { token = c.args.token; tags = c.args.addition.tags } in
     let idle = subst (λ q. IsSome shift → IfSome (record_at key q.roster.entries) (λ rec. rec.idle ≡ true)) (sym c.self.view_is) c.requires.idle in
-    let after = after_calls of c.tags_are_values.ensures.differences request c.args.at c.push_at.result (sym c.if-is_err.ensures.value) c.push_at.new.roster c.push_at.ensures.ok c.push_at.ensures.kept shift idle can c.shift_others.new.roster.entries c.shift_others.ensures.entries c.shift_others.ensures.kept c.shift_others.new.heads c.shift_others.ensures.firsts in
+    let after = after_calls of (differences_are_values g.T.Tag.ops g.T.Tag.fraction g.T.Tag.is_value g.met.T.Tag.exact) request c.args.at c.push_at.result (sym c.if-is_err.ensures.value) c.push_at.new.roster c.push_at.ensures.ok c.push_at.ensures.kept shift idle can c.shift_others.new.roster.entries c.shift_others.ensures.entries c.shift_others.ensures.kept c.shift_others.new.heads c.shift_others.ensures.firsts in
     subst (λ (head : Head g.row.T.Denot). IsOthers c.shift_others.new.heads key head.client) (sym c.head_at.ensures) (subst (IsOthers c.shift_others.new.heads key) of.id (apart after))
 
 pub invariant_of-self-2 : goal.invariant_of-self-2
@@ -88,7 +89,7 @@ invariant_of-self-2 g c =
     let of = of_client ops g.T.Tag.fraction g.T.Tag.is_value q inside.queued key c.args.client c.self.invariant c.at.ensures.distinct same held in
     let request : QueuedRequest g.row.T.Denot = record { token = c.args.token; tags = c.args.addition.tags } in
     let idle = subst (λ q. IsSome shift → IfSome (record_at key q.roster.entries) (λ rec. rec.idle ≡ true)) (sym c.self.view_is) c.requires.idle in
-    let after = after_calls of c.tags_are_values.ensures.differences request c.args.at c.push_at.result (sym c.if-is_err.ensures.value) c.push_at.new.roster c.push_at.ensures.ok c.push_at.ensures.kept shift idle can c.shift_others.new.roster.entries c.shift_others.ensures.entries c.shift_others.ensures.kept c.shift_others.new.heads c.shift_others.ensures.firsts in
+    let after = after_calls of (differences_are_values g.T.Tag.ops g.T.Tag.fraction g.T.Tag.is_value g.met.T.Tag.exact) request c.args.at c.push_at.result (sym c.if-is_err.ensures.value) c.push_at.new.roster c.push_at.ensures.ok c.push_at.ensures.kept shift idle can c.shift_others.new.roster.entries c.shift_others.ensures.entries c.shift_others.ensures.kept c.shift_others.new.heads c.shift_others.ensures.firsts in
     let empty : c.is_empty-is_first.result ≡ (length of.entry.rec.requests == 0) = c.is_empty-is_first.ensures ∙ ap (λ rec. length rec.requests == 0) (sym (record_is key inside.roster.entries of.entry c.at.result.now of.found c.at.ensures.value)) in
     let is_value = g.T.Tag.is_value in
     let fraction = g.T.Tag.fraction in
@@ -97,11 +98,11 @@ invariant_of-self-2 g c =
     let later = subst (λ q. q.last_moment ≤ at) (sym c.self.view_is) c.requires.later in
     elim c.if-is_first.branch [
       | then-is_first w ↦
-          let first = with_first fraction is_value inside.config c.shift_others.new.roster after inside.queued c.self.invariant.counted room c.requires.value later c.a_tag_is_due_from_its_ceil.ensures (sym empty ∙ w.if-is_first.true) in
+          let first = with_first fraction is_value inside.config c.shift_others.new.roster after inside.queued c.self.invariant.counted room c.requires.value later (due_from_ceil g.T.Tag.ops g.T.Tag.fraction g.T.Tag.is_value g.met.T.Tag.exact) (sym empty ∙ w.if-is_first.true) in
           let named = subst (λ id. IsQueue ops fraction is_value (record { config = inside.config; roster = c.shift_others.new.roster; heads = slice_set c.shift_others.new.heads key (Some (head_at ops at id request.tags)); last_moment = at }) (inside.queued + 1)) of.id first in
           rw (w.self-inside-is, w.insert.ensures, w.head_at.ensures) named
       | else-is_first w ↦
-          let more = with_more fraction is_value inside.config c.shift_others.new.roster after inside.queued c.self.invariant.counted room c.requires.value later c.a_tag_is_due_from_its_ceil.ensures (sym empty ∙ w.if-is_first.false) in
+          let more = with_more fraction is_value inside.config c.shift_others.new.roster after inside.queued c.self.invariant.counted room c.requires.value later (due_from_ceil g.T.Tag.ops g.T.Tag.fraction g.T.Tag.is_value g.met.T.Tag.exact) (sym empty ∙ w.if-is_first.false) in
           rw w.self-inside-is more
     ]
 
@@ -118,7 +119,7 @@ returns-clause-ok g c =
     let of = of_client ops g.T.Tag.fraction g.T.Tag.is_value q inside.queued key c.args.client c.self.invariant c.at.ensures.distinct same held in
     let request : QueuedRequest g.row.T.Denot = record { token = c.args.token; tags = c.args.addition.tags } in
     let idle = subst (λ q. IsSome shift → IfSome (record_at key q.roster.entries) (λ rec. rec.idle ≡ true)) (sym c.self.view_is) c.requires.idle in
-    let after = after_calls of c.tags_are_values.ensures.differences request c.args.at c.push_at.result (sym c.if-is_err.ensures.value) c.push_at.new.roster c.push_at.ensures.ok c.push_at.ensures.kept shift idle can c.shift_others.new.roster.entries c.shift_others.ensures.entries c.shift_others.ensures.kept c.shift_others.new.heads c.shift_others.ensures.firsts in
+    let after = after_calls of (differences_are_values g.T.Tag.ops g.T.Tag.fraction g.T.Tag.is_value g.met.T.Tag.exact) request c.args.at c.push_at.result (sym c.if-is_err.ensures.value) c.push_at.new.roster c.push_at.ensures.ok c.push_at.ensures.kept shift idle can c.shift_others.new.roster.entries c.shift_others.ensures.entries c.shift_others.ensures.kept c.shift_others.new.heads c.shift_others.ensures.firsts in
     let roster = c.shift_others.new.roster in
     let at = c.args.at in
     let config : c.if-is_first.self-inside.config ≡ inside.config = elim c.if-is_first.branch [ then-is_first w ↦ ap (λ i. i.config) w.self-inside-is | else-is_first w ↦ ap (λ i. i.config) w.self-inside-is ] in

@@ -3,6 +3,7 @@ use Rattle.dmc_client.specs.Record.{IsRecord, client_of}
 use Rattle.dmc_roster.specs.Entries.{Entry, entry_keyed}
 use Rattle.dmc_tag.specs.Best.{is_any}
 use Rattle.dmc_tag.specs.Outcome.{◌>>=◌, in_range}
+use Rattle.dmc_tag.proofs.ForCallers.{found_is_best, not_found_has_none}
 use Rattle.dmc_pull.specs.Adding.{shift_for, unless_nothing}
 use Rattle.dmc_pull.specs.Queue.{IsKept}
 use Rattle.dmc_pull.specs.Standing.{requests_in}
@@ -32,4 +33,4 @@ returns-clause-value g c =
       | in-Some-shift_for w ↦ w.result-is ∙ ap Ok w.unless_nothing.ensures ∙ ap (λ o. in_range o >>= λ amount. Ok (unless_nothing ops (Some amount))) (sym w.in-Some-shift_for.is ∙ c.shift_for.ensures.value)
     ] in
     subst (λ q. IfSome (entry_keyed c.args.key q.roster.entries) (λ e. c.match-shift_for.result ≡ shift_for ops (requests_in q.roster.entries) (client_of e.id e.rec) c.args.t)) c.self.view_is
-    (if_all _ (entry_keyed c.args.key es) (λ e f. past ∙ shift_by_least ops order g.met.T.Tag.exact.same inside.last_moment es inside.heads.0 c.self.invariant.heads c.at.ensures.distinct records (c.the_best_is_found.ensures.found (λ r. Some r.tags.p) is_any) (c.the_best_is_found.ensures.not_found (λ r. Some r.tags.p) is_any) c.in-Some.least c.in-Some.ensures.value (client_of e.id e.rec) c.args.t (ap (λ rec. rec.idle) (record_is c.args.key es e c.at.result.now f c.at.ensures.value) ∙ idle)))
+    (if_all _ (entry_keyed c.args.key es) (λ e f. past ∙ shift_by_least ops order g.met.T.Tag.exact.same inside.last_moment es inside.heads.0 c.self.invariant.heads c.at.ensures.distinct records (found_is_best g.T.Tag.ops order (λ r. Some r.tags.p) is_any) ((not_found_has_none g.T.Tag.ops order) (λ r. Some r.tags.p) is_any) c.in-Some.least c.in-Some.ensures.value (client_of e.id e.rec) c.args.t (ap (λ rec. rec.idle) (record_is c.args.key es e c.at.result.now f c.at.ensures.value) ∙ idle)))

@@ -4,6 +4,7 @@ use Rattle.dmc_roster.specs.Entries.{with_record_at}
 use Rattle.dmc_tag.specs.State.{effective}
 use Rattle.dmc_tag.specs.Spacing.{spacings_of}
 use Rattle.dmc_tag.specs.Rules.{can_update}
+use Rattle.dmc_tag.proofs.ForCallers.{due_from_ceil}
 use Rattle.dmc_pull.specs.Queue.{state_of}
 use Rattle.dmc_pull.proofs.Updating.{HasClient, client_at, of_record, with_rates, updated_is, updated_step}
 use Rattle.dmc_pull.proofs.queue.PullQueue.update_info.Goals as goal
@@ -20,7 +21,7 @@ invariant_of-self g c =
     let later : q.last_moment ≤ c.effective-at.result = subst (λ (n : ℕ). n ≤ c.effective-at.result) (sym (ap (λ x. x.last_moment) c.self.view_is)) c.effective-at.ensures.later in
     let holds = of_record (λ rec. IsRecord ops (with_rates c.args.info spacings rec)) key q.roster.entries h.entry h.keyed c.set_info_at.ensures.kept in
     let changed = of_record (λ rec. c.set_info_at.new.roster ≡ with_record_at q.roster key (with_rates c.args.info spacings rec)) key q.roster.entries h.entry h.keyed c.set_info_at.ensures.value in
-    updated_is ops g.T.Tag.fraction g.T.Tag.is_value c.a_tag_is_due_from_its_ceil.ensures c.self.invariant h c.args.info spacings exact holds c.set_info_at.new.roster changed c.effective-at.result later
+    updated_is ops g.T.Tag.fraction g.T.Tag.is_value (due_from_ceil g.T.Tag.ops g.T.Tag.fraction g.T.Tag.is_value g.met.T.Tag.exact) c.self.invariant h c.args.info spacings exact holds c.set_info_at.new.roster changed c.effective-at.result later
 
 pub returns : goal.returns
 returns g c =

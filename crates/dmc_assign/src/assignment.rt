@@ -9,7 +9,6 @@ ghost use Rattle.dmc_types.specs.declared.ids.ClientId.{ClientId};
 
 use dmc_client::record::ClientRec;
 use dmc_tag::assignment::next_tags;
-use dmc_tag::laws::next_tags_follow;
 use dmc_tag::reply::Tags;
 use dmc_tag::tag::Tag;
 use dmc_types::params::ReqParams;
@@ -22,6 +21,5 @@ pub fn tags_for<T: Tag>(rec: &ClientRec<T>, params: ReqParams, t: T) -> Option<T
     ensures assigned { (hz : ℕ) (id : ClientId) → spacings_of T.ops hz rec.now.info ≡ Ok rec.now.spacings →
         in_range result ≡ rules_of.assigned T.ops hz (client_of id rec.now) params t }
 {
-    next_tags_follow::<T>();
     next_tags(rec.spacings(), rec.previous(), params, t)
 }

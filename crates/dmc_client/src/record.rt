@@ -8,7 +8,6 @@ ghost use Rattle.dmc_client.specs.Record.{IsRecord};
 use crate::request::QueuedRequest;
 use crate::subtraction::{subtract_reservations, subtract_shares};
 use dmc_tag::assignment::previous_after;
-use dmc_tag::laws::subtraction_keeps_order;
 use dmc_tag::plain::Previous;
 use dmc_tag::shifting::less;
 use dmc_tag::spacing::Spacings;
@@ -195,7 +194,6 @@ impl<T: Tag> ClientRec<T> {
         ensures value { self.new ≡ record_of.less_shares T.ops amount self.old }
         ensures kept { IsRecord T.ops self.new }
     {
-        subtraction_keeps_order::<T>();
         subtract_shares(&mut self.queue, amount);
         self.previous.p = less(self.previous.p, amount);
     }
@@ -206,7 +204,6 @@ impl<T: Tag> ClientRec<T> {
         ensures value { self.new ≡ record_of.less_reservations T.ops amount self.old }
         ensures kept { IsRecord T.ops self.new }
     {
-        subtraction_keeps_order::<T>();
         subtract_reservations(&mut self.queue, amount);
         self.previous.r = less(self.previous.r, amount);
     }

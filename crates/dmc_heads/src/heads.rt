@@ -11,7 +11,6 @@ ghost use Rattle.dmc_heads.specs.Heads.{Ranks, IsOthers, IsFirst, IsLeastShare, 
 use crate::head::Head;
 use crate::share::{find_least, is_due, least_after, least_with, least_without, less_rank};
 use dmc_index::index::{Indexes, OrderIndex};
-use dmc_tag::laws::subtraction_keeps_order;
 use dmc_tag::rank::{LimitRank, ReadyRank, TagRank};
 use dmc_tag::shifting::less;
 use dmc_tag::tag::Tag;
@@ -162,7 +161,6 @@ impl<T: Tag, I: Indexes<T>> Heads<T, I> {
         requires { CanShift T.ops amount self.old }
         ensures { self.new ≡ map (option_map (heads_of.shifted T.ops amount)) self.old }
     {
-        subtraction_keeps_order::<T>();
         self.ready.map_ranks(
             |rank: ReadyRank<T>| -> ReadyRank<T>
                 ensures { result ≡ heads_of.less_rank T.ops amount rank }

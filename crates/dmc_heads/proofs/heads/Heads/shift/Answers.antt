@@ -4,6 +4,7 @@ use Rattle.std.specs.declared.cmp.Ordering.TheVariants.{Less}
 use Rattle.dmc_tag.specs.Rules.{less}
 use Rattle.dmc_tag.specs.Rank.{ready_rank_cmp}
 use Rattle.dmc_heads.specs.Heads.{heads_from, CanShift, shifted, less_rank}
+use Rattle.dmc_tag.proofs.ForCallers.{minus_keeps_order}
 use Rattle.dmc_heads.proofs.Clients.{same_compare}
 use Rattle.dmc_heads.proofs.Shift.{keeps_order, mapped_slots, heads_shifted, shifted_sound}
 use Rattle.dmc_heads.proofs.heads.Heads.shift.Goals as goal
@@ -19,7 +20,7 @@ map_ranks-requires-clause-ordered g c = λ a b r s x y p q l e f.
     let ops = g.T.Tag.ops in
     let same = same_compare g.T.Ord.cmp ops.compare g.met.T.Tag.compares in
     let can = subst (CanShift ops c.args.amount) (sym c.self.view_is) c.requires in
-    rw (e, f) (subst (λ compare. ready_rank_cmp compare (less_rank ops c.args.amount r) (less_rank ops c.args.amount s) ≡ Less) (sym same) (keeps_order ops c.subtraction_keeps_order.ensures c.args.amount heads can ready c.self.invariant.ready_is a b r s p q (subst (λ compare. ready_rank_cmp compare r s ≡ Less) same l)))
+    rw (e, f) (subst (λ compare. ready_rank_cmp compare (less_rank ops c.args.amount r) (less_rank ops c.args.amount s) ≡ Less) (sym same) (keeps_order ops (minus_keeps_order g.T.Tag.ops g.T.Tag.fraction g.T.Tag.is_value g.met.T.Tag.exact) c.args.amount heads can ready c.self.invariant.ready_is a b r s p q (subst (λ compare. ready_rank_cmp compare r s ≡ Less) same l)))
 
 pub invariant_of-self : goal.invariant_of-self
 invariant_of-self g c =
@@ -29,8 +30,8 @@ invariant_of-self g c =
     let ready = g.I.ReadyIndex.OrderIndex.slots x.ready in
     let ops = g.T.Tag.ops in
     let can = subst (CanShift ops c.args.amount) (sym c.self.view_is) c.requires in
-    let slots = mapped_slots ops c.subtraction_keeps_order.ensures c.args.amount _ (λ r y e. e) ready (g.I.ReadyIndex.OrderIndex.slots c.map_ranks.new.self) c.map_ranks.ensures in
-    let sound = shifted_sound ops c.subtraction_keeps_order.ensures c.args.amount early limits ready x.least x.room c.self.invariant can in
+    let slots = mapped_slots ops (minus_keeps_order g.T.Tag.ops g.T.Tag.fraction g.T.Tag.is_value g.met.T.Tag.exact) c.args.amount _ (λ r y e. e) ready (g.I.ReadyIndex.OrderIndex.slots c.map_ranks.new.self) c.map_ranks.ensures in
+    let sound = shifted_sound ops (minus_keeps_order g.T.Tag.ops g.T.Tag.fraction g.T.Tag.is_value g.met.T.Tag.exact) c.args.amount early limits ready x.least x.room c.self.invariant can in
     let least : c.match-self.self ≡ option_map (less ops c.args.amount) x.least = elim c.match-self.branch [
       | in-None w ↦ w.self-is ∙ sym (ap (option_map (less ops c.args.amount)) w.in-None.is)
       | in-Some w ↦ w.self-is ∙ ap Some w.less.ensures ∙ sym (ap (option_map (less ops c.args.amount)) w.in-Some.is)
@@ -44,5 +45,5 @@ returns g c =
     let limits = g.I.LimitIndex.OrderIndex.slots x.limits in
     let ready = g.I.ReadyIndex.OrderIndex.slots x.ready in
     let ops = g.T.Tag.ops in
-    let slots = mapped_slots ops c.subtraction_keeps_order.ensures c.args.amount _ (λ r y e. e) ready (g.I.ReadyIndex.OrderIndex.slots c.map_ranks.new.self) c.map_ranks.ensures in
-    rw slots (heads_shifted ops c.subtraction_keeps_order.ensures c.args.amount early limits ready) ∙ ap (map (option_map (shifted ops c.args.amount))) c.self.view_is
+    let slots = mapped_slots ops (minus_keeps_order g.T.Tag.ops g.T.Tag.fraction g.T.Tag.is_value g.met.T.Tag.exact) c.args.amount _ (λ r y e. e) ready (g.I.ReadyIndex.OrderIndex.slots c.map_ranks.new.self) c.map_ranks.ensures in
+    rw slots (heads_shifted ops (minus_keeps_order g.T.Tag.ops g.T.Tag.fraction g.T.Tag.is_value g.met.T.Tag.exact) c.args.amount early limits ready) ∙ ap (map (option_map (shifted ops c.args.amount))) c.self.view_is

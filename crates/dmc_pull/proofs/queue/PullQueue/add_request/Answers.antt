@@ -1,9 +1,9 @@
-use Rattle.std.proofs.Common.{sym, ap, subst}
+use Rattle.std.proofs.Common.{rules, sym, ap, subst}
 use Rattle.dmc_types.specs.declared.command.Command.TheVariants.{Add}
 use Rattle.dmc_tag.specs.Rules.{shifted_by, queued}
 use Rattle.dmc_tag.specs.State.{StandsFor}
 use Rattle.dmc_tag.specs.declared.reply.Reply.TheVariants.{Tagged}
-use Rattle.dmc_tag.proofs.ForCallers.{steps_agreeing, tag_order}
+use Rattle.dmc_tag.proofs.ForCallers.{steps_agreeing, steps_exactly, tag_order}
 use Rattle.dmc_pull.specs.Queue.{state_of}
 use Rattle.dmc_pull.proofs.Allowed.{step_of_add}
 use Rattle.dmc_pull.proofs.queue.PullQueue.add_request.Goals as goal
@@ -18,3 +18,13 @@ returns g c =
     let step = step_of_add ops old c.args.client c.args.token c.args.params c.args.at at (new, Tagged addition.tags) c.effective-at.ensures.value (c.in_ok-addition.ensures.added c.args.token) in
     let stood = subst (λ q. StandsFor (state_of c.queue.new.self) (queued (shifted_by ops addition.shift (state_of q)) (record { client = c.args.client; token = c.args.token; tags = addition.tags }) at)) c.in_ok-addition.ensures.same c.in_ok-queue.ensures.ok in
     steps_agreeing g.T.Tag.ops (tag_order g.T.Ord.cmp g.T.Tag.ops.compare g.met.T.Ord.total g.met.T.Tag.compares) old (state_of c.queue.new.self) (Add c.args.client c.args.token c.args.params c.args.at) (Tagged addition.tags) (sym (ap (λ answer. answer.1) step)) (subst (λ answer. StandsFor (state_of c.queue.new.self) answer.0) (sym step) stood)
+
+pub returns-in_err-addition : goal.returns-in_err-addition
+returns-in_err-addition g c =
+    let exactly = steps_exactly g.T.Tag.ops (tag_order g.T.Ord.cmp g.T.Tag.ops.compare g.met.T.Ord.total g.met.T.Tag.compares) in
+    search rules
+
+pub returns-in_err-queue : goal.returns-in_err-queue
+returns-in_err-queue g c =
+    let exactly = steps_exactly g.T.Tag.ops (tag_order g.T.Ord.cmp g.T.Tag.ops.compare g.met.T.Ord.total g.met.T.Tag.compares) in
+    search rules

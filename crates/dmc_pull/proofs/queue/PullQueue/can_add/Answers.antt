@@ -1,7 +1,7 @@
-use Rattle.std.proofs.Common.{◌≡◌, sym, ◌∙◌, subst, Some, None}
+use Rattle.std.proofs.Common.{rules, ◌≡◌, sym, ◌∙◌, subst, Some, None}
 use Rattle.std.specs.Prelude.{is_some, true}
 use Rattle.dmc_tag.specs.Rules.{can_shift_by}
-use Rattle.dmc_tag.proofs.ForCallers.{minus_nothing}
+use Rattle.dmc_tag.proofs.ForCallers.{minus_nothing, weights_are_values}
 use Rattle.dmc_pull.specs.Standing.{clients_in, requests_in}
 use Rattle.dmc_roster.specs.Entries.{entry_keyed, entry_named, record_at}
 use Rattle.dmc_pull.specs.Adding.{CanAdd}
@@ -60,3 +60,8 @@ pub returns-clause-added : goal.returns-clause-added
 returns-clause-added g c =
     let is = subst (λ q. IsQueue g.T.Tag.ops g.T.Tag.fraction g.T.Tag.is_value q c.self.inside.queued) c.self.view_is c.self.invariant in
     allowed.added_is g.T.Tag.ops g.T.Tag.fraction g.T.Tag.is_value c.args.self.now c.self.inside.queued is g.met.T.Tag.exact.same (minus_nothing g.T.Tag.ops g.T.Tag.fraction g.T.Tag.is_value g.met.T.Tag.exact) c.args.client c.args.params c.args.at (record { key = c.in-Some.key; shift = c.in_ok-shift.shift; tags = c.in-Some-tags_for.tags }) (returns-clause-outcome g c)
+
+pub returns-clause-value : goal.returns-clause-value
+returns-clause-value g c =
+    let weights = weights_are_values g.T.Tag.ops g.T.Tag.fraction g.T.Tag.is_value g.met.T.Tag.exact in
+    search rules

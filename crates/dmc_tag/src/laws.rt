@@ -1,5 +1,5 @@
 //! What follows from the rules alone. Each law is the contract of a function that does nothing.
-ghost use Rattle.std.specs.Prelude.{◌≡◌, ℕ, ◌≤◌, ◌⊎◌, ◌++◌, ◌∷◌, [], Bool, true, List, length, Option, Some, None, Ok, Err, IfSome, nat_le};
+ghost use Rattle.std.specs.Prelude.{◌≡◌, ℕ, ◌⊎◌, ◌++◌, ◌∷◌, [], Bool, true, List, length, Option, Some, Ok, Err};
 ghost use Rattle.dmc_types.specs.Values.{Setting, Rates, Params};
 ghost use Rattle.dmc_types.specs.declared.ids.ClientId.{ClientId};
 ghost use Rattle.dmc_types.specs.declared.ids.Token.{Token};
@@ -7,17 +7,15 @@ ghost use Rattle.dmc_types.specs.declared.config.PhaseType.{PhaseType};
 ghost use Rattle.dmc_types.specs.declared.refusal.Refusal.{Refusal};
 ghost use Rattle.dmc_types.specs.declared.command.Command.{Command};
 ghost use Rattle.dmc_types.specs.declared.command.Command.TheVariants as commands;
-ghost use Rattle.dmc_tag.specs.Best.{best, is_before, is_due, IsBest, HasNone};
 ghost use Rattle.dmc_tag.specs.Laws.{SameStep, Pulls, IsNextDue};
 ghost use Rattle.dmc_tag.specs.Order.{AreSpacings, AreNext};
 ghost use Rattle.dmc_tag.specs.Queued.{AreActive, is_add_of};
 ghost use Rattle.dmc_tag.specs.Replay.{after, replays};
-ghost use Rattle.dmc_tag.specs.Rules.{next_tags, moment_of};
+ghost use Rattle.dmc_tag.specs.Rules.{next_tags};
 ghost use Rattle.dmc_tag.specs.State.{State, StandsFor, effective, has_queued, is_active};
 ghost use Rattle.dmc_tag.specs.Step.{outcome, step};
 ghost use Rattle.dmc_tag.specs.Steps.{Exactly, Steps};
 ghost use Rattle.dmc_tag.specs.declared.event.Event.{Event};
-ghost use Rattle.dmc_tag.specs.declared.plain.PlainRequest.{PlainRequest};
 ghost use Rattle.dmc_tag.specs.declared.plain.Previous.{Previous};
 ghost use Rattle.dmc_tag.specs.declared.spacing.Spacings.{Spacings};
 ghost use Rattle.dmc_tag.specs.declared.reply.Tags.{Tags};
@@ -35,13 +33,6 @@ pub fn agreeing_states<T: Tag>()
 pub fn steps_exactly<T: Tag>()
     ensures { (old new : State T) (command : Command) (answer : Option (Reply T)) →
         Exactly T.ops old new command answer → Steps T.ops old new command answer }
-{}
-
-/// A step from one state to a state that agrees with the rules' client by client is that step from each state that it
-/// stands for.
-pub fn steps_client_by_client<T: Tag>()
-    ensures { (old new : State T) (command : Command) (reply : Reply T) →
-        reply ≡ (step T.ops old command).1 → StandsFor new ((step T.ops old command).0) → Steps T.ops old new command (Some reply) }
 {}
 
 /// Two states that agree client by client have equally many requests, and equally many clients.
@@ -87,18 +78,6 @@ pub fn pulls_grant_the_best<T: Tag>()
     ensures { (s : State T) (at : ℕ) → Pulls T.ops (effective s at) s ((step T.ops s (commands.Pull at)).0) ((step T.ops s (commands.Pull at)).1) }
 {}
 
-/// The best of a set is what the scan for it finds, and nothing where the set has no member.
-pub fn the_best_is_found<T: Tag>()
-    ensures some { (tag : PlainRequest T → Option T) (member : PlainRequest T → Bool) (xs others : List (PlainRequest T)) (r : PlainRequest T) →
-        IsBest (is_before T.ops tag) member xs r others → best (is_before T.ops tag) member xs ≡ Some (r, others) }
-    ensures none { (tag : PlainRequest T → Option T) (member : PlainRequest T → Bool) (xs : List (PlainRequest T)) →
-        HasNone member xs → best (is_before T.ops tag) member xs ≡ None }
-    ensures found { (tag : PlainRequest T → Option T) (member : PlainRequest T → Bool) (xs others : List (PlainRequest T)) (r : PlainRequest T) →
-        best (is_before T.ops tag) member xs ≡ Some (r, others) → IsBest (is_before T.ops tag) member xs r others }
-    ensures not_found { (tag : PlainRequest T → Option T) (member : PlainRequest T → Bool) (xs : List (PlainRequest T)) →
-        best (is_before T.ops tag) member xs ≡ None → HasNone member xs }
-{}
-
 /// Future is exact: before the moment that it names no request is early or free, and at it one is.
 pub fn future_is_exact<T: Tag>()
     ensures { (s : State T) (at m : ℕ) → (step T.ops s (commands.Pull at)).1 ≡ replies.Later m → IsNextDue T.ops m s.requests }
@@ -107,11 +86,6 @@ pub fn future_is_exact<T: Tag>()
 /// A refused command leaves the state.
 pub fn refusals_change_nothing<T: Tag>()
     ensures { (s : State T) (command : Command) (refusal : Refusal) → outcome T.ops s command ≡ Err refusal → step T.ops s command ≡ (s, replies.Refused refusal) }
-{}
-
-/// A tag is due from the least whole number on that is not below it.
-pub fn a_tag_is_due_from_its_ceil<T: Tag>()
-    ensures { (tag : T) (n : ℕ) → is_due T.ops n (Some tag) ≡ nat_le (moment_of (T.ops.ceil tag)) n }
 {}
 
 /// Two tags less an amount are ordered as the tags are.
@@ -134,17 +108,4 @@ pub fn plus_commutes<T: Tag>()
 pub fn next_tags_follow<T: Tag>()
     ensures { (info : Rates) (spacings : Spacings T) (previous : Previous T) (params : Params) (t : T) (tags : Tags T) →
         AreSpacings T.ops info spacings → next_tags T.ops spacings previous params t ≡ Ok tags → AreNext T.ops info previous tags }
-{}
-
-/// A tag that is a value, less the tag of 0, is the tag.
-pub fn nothing_is_taken_off<T: Tag>()
-    ensures { (a : T) → T.is_value (T.fraction a) → T.ops.minus a (T.ops.of_moment 0) ≡ Some a }
-{}
-
-/// The tags of moments, those that an assignment gives for P, and differences are values.
-pub fn tags_are_values<T: Tag>()
-    ensures moments { (n : ℕ) → n ≤ 4611686018427387904 → T.is_value (T.fraction (T.ops.of_moment n)) }
-    ensures shares { (spacings : Spacings T) (previous : Previous T) (params : Params) (n : ℕ) (tags : Tags T) → n ≤ 4611686018427387904 →
-        next_tags T.ops spacings previous params (T.ops.of_moment n) ≡ Ok tags → T.is_value (T.fraction tags.p) }
-    ensures differences { (a amount : T) → IfSome (T.ops.minus a amount) (λ x. T.is_value (T.fraction x)) }
 {}

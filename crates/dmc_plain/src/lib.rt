@@ -9,5 +9,3 @@ mod due;
 pub mod queue;
 mod requests;
 mod scheduler;
-#[cfg(test)]
-mod tests;

@@ -7,5 +7,3 @@ mod heads;
 pub mod queue;
 mod records;
 pub mod scheduler;
-#[cfg(test)]
-mod tests;

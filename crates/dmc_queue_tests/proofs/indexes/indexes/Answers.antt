@@ -2,7 +2,7 @@ use Rattle.std.proofs.Common.{refl}
 use Rattle.dmc_heads.specs.Heads.{tag_rank, limit_rank, ready_rank}
 use Rattle.dmc_pull.specs.Queue.{state_of}
 use Rattle.dmc_pull.proofs.FirstRequests.{has_key_exactly}
-use Rattle.dmc_pull.proofs.tests.indexes.Goals as goal
+use Rattle.dmc_queue_tests.proofs.indexes.indexes.Goals as goal
 
 pub returns-clause-by_reservation : goal.returns-clause-by_reservation
 returns-clause-by_reservation g c =

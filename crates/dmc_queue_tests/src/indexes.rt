@@ -1,0 +1,82 @@
+//! What the readers of the three indexes tell a caller.
+ghost use Rattle.std.specs.Prelude.{◌≡◌, ◌↔◌, ℕ, Some, true};
+ghost use Rattle.dmc_types.specs.declared.ids.ClientId.{ClientId};
+ghost use Rattle.dmc_tag.specs.State.{has_queued};
+ghost use Rattle.dmc_tag.specs.declared.rank.TagRank.{TagRank};
+ghost use Rattle.dmc_tag.specs.declared.rank.LimitRank.{LimitRank};
+ghost use Rattle.dmc_tag.specs.declared.rank.ReadyRank.{ReadyRank};
+ghost use Rattle.dmc_pull.specs.Queue.{state_of};
+ghost use Rattle.dmc_pull.specs.FirstRequests.{client_at};
+
+use crate::runs::config;
+use dmc_heap::indexed_heap::HeapIndexes;
+use dmc_index::index::{Indexes, OrderIndex};
+use dmc_index::list_index::ListIndexes;
+use dmc_pull::queue::PullQueue;
+use dmc_tag::tag::Tag;
+use dmc_tick::tick::TickTag;
+use dmc_types::ids::{ClientId, Token};
+use dmc_types::info::ClientInfo;
+use dmc_types::moment::Moment;
+use dmc_types::params::ReqParams;
+use std::alloc::Global;
+use std::process::Abort;
+use std::test::Fail;
+
+// The three indexes. That a client with a queued request has a key in each, and one without in none, follows from what
+// their readers say.
+fn indexes<T: Tag, I: Indexes<T>>(
+    queue: &PullQueue<T, I>,
+) -> (&I::TagIndex, &I::LimitIndex, &I::ReadyIndex)
+    ensures by_reservation { (id : ClientId) → (has_queued id (state_of queue.now).requests ≡ true)
+        ↔ ((key : ℕ) × (client_at (λ (r : TagRank T). r.client) (I.TagIndex.slots result.0.now) key ≡ Some id)) }
+    ensures by_limit { (id : ClientId) → (has_queued id (state_of queue.now).requests ≡ true)
+        ↔ ((key : ℕ) × (client_at (λ (r : LimitRank T). r.client) (I.LimitIndex.slots result.1.now) key ≡ Some id)) }
+    ensures by_weight { (id : ClientId) → (has_queued id (state_of queue.now).requests ≡ true)
+        ↔ ((key : ℕ) × (client_at (λ (r : ReadyRank T). r.client) (I.ReadyIndex.slots result.2.now) key ≡ Some id)) }
+{
+    (
+        queue.reservation_index(),
+        queue.limit_index(),
+        queue.shares_index(),
+    )
+}
+
+// The client of each index's least rank; none where an index is empty.
+fn first_clients<T: Tag, I: Indexes<T>>(queue: &PullQueue<T, I>) -> [Option<ClientId>; 3] {
+    let (reservations, limits, weights) = indexes(queue);
+    [
+        reservations.least().map(|least| least.1.client),
+        limits.least().map(|least| least.1.client),
+        weights.least().map(|least| least.1.client),
+    ]
+}
+
+// Client 5 and client 6, which has two requests queued.
+fn queue_of_two<I: Indexes<TickTag>>(alloc: Global) -> Result<PullQueue<TickTag, I>, Fail> {
+    let mut queue: PullQueue<TickTag, I> = PullQueue::new(alloc, config()?);
+    let zero = Moment::zero();
+    for client in [ClientId(5), ClientId(6)] {
+        queue.register(client, ClientInfo::new(Some(10), 1, Some(20))?, zero)?;
+    }
+    for token in [Token(7), Token(8)] {
+        queue.add_request(ClientId(6), token, ReqParams::new(1, 1)?, zero)?;
+    }
+    Ok(queue)
+}
+
+// A client has a key in each index from its first queued request to its last.
+fn indexed_clients_over<I: Indexes<TickTag>>(rt: &impl Abort, alloc: Global) -> Result<(), Fail> {
+    let mut queue = queue_of_two::<I>(alloc)?;
+    assert_eq!(rt; queue.config(), config()?);
+    assert_eq!(rt; first_clients(&queue), [Some(ClientId(6)); 3]);
+    assert_eq!(rt; queue.remove_by_client(ClientId(6))?, 2);
+    assert_eq!(rt; first_clients(&queue), [None; 3]);
+    Ok(())
+}
+
+#[test]
+fn indexed_clients(rt: HostRuntime) -> Result<(), Fail> {
+    indexed_clients_over::<ListIndexes>(&rt, rt.alloc())?;
+    indexed_clients_over::<HeapIndexes>(&rt, rt.alloc())
+}

@@ -1,0 +1,153 @@
+//! An add to the indexed queue.
+ghost use Rattle.std.specs.Prelude.{◌≡◌, ◌≤◌, ◌<◌, ◌==◌, true, Some, None, Ok, length, is_some, IfSome, IsSome, IfOk, OnOk, OnErr, IsOkUnless};
+ghost use Rattle.dmc_client.specs.Record.{client_of};
+ghost use Rattle.dmc_pull.specs.Adding as adding_of;
+ghost use Rattle.dmc_pull.specs.Adding.{CanAdd};
+ghost use Rattle.dmc_pull.specs.Queue.{state_of};
+ghost use Rattle.dmc_roster.specs.Entries.{entry_named, entry_keyed, record_at};
+ghost use Rattle.dmc_tag.specs.Answers.{told};
+ghost use Rattle.dmc_tag.specs.Order.{AreNext};
+ghost use Rattle.dmc_tag.specs.Rules as rules_of;
+ghost use Rattle.dmc_tag.specs.State.{StandsFor};
+ghost use Rattle.dmc_tag.specs.Steps.{Steps};
+ghost use Rattle.dmc_tag.specs.declared.reply.Reply.TheVariants as replies;
+ghost use Rattle.dmc_types.specs.declared.command.Command.TheVariants as commands;
+ghost use Rattle.dmc_types.specs.declared.ids.Token.{Token};
+
+use crate::adding::{Addition, Shiftable, shift_others, unless_nothing};
+use crate::heads::head_at;
+use crate::queue::PullQueue;
+use crate::records::push_at;
+use dmc_adjust::adjustment::shift_for;
+use dmc_assign::assignment::tags_for;
+use dmc_client::request::QueuedRequest;
+use dmc_index::index::Indexes;
+use dmc_tag::reply::Tags;
+use dmc_tag::tag::Tag;
+use dmc_types::ids::{ClientId, Token};
+use dmc_types::moment::Moment;
+use dmc_types::params::ReqParams;
+use dmc_types::refusal::{QueueFault, Refusal};
+
+/// The most queued requests of a queue.
+const REQUESTS: usize = 1 << 20;
+
+impl<T: Tag, I: Indexes<T>> PullQueue<T, I> {
+    /// How far all others are shifted for a client that comes at t; none where it is not idle, where nothing is queued, or
+    /// where the shift is nothing.
+    fn shift_for(&mut self, key: usize, t: T) -> Result<Option<T>, Refusal>
+        requires { is_some (entry_keyed key self.old.roster.entries) ≡ true }
+        ensures value { IfSome (entry_keyed key self.old.roster.entries) (λ e.
+            result ≡ adding_of.shift_for T.ops (state_of self.old).requests (client_of e.id e.rec) t) }
+        ensures same { self.new ≡ self.old }
+    {
+        if !self.roster.at(key).is_idle() {
+            return Ok(None);
+        }
+        let Some(least) = self.heads.0.least_share() else {
+            return Ok(None);
+        };
+        match shift_for(least, t) {
+            None => Err(Refusal::Range),
+            Some(amount) => Ok(unless_nothing(amount)),
+        }
+    }
+
+    /// Whether each tag that a shift changes stays a value.
+    fn can_shift_by(&self, shift: Option<T>) -> bool
+        ensures { result ≡ rules_of.can_shift_by T.ops shift (state_of self.now).clients (state_of self.now).requests }
+    {
+        match shift {
+            None => true,
+            Some(amount) => self.roster.count(&Shiftable { amount }) == self.roster.len(),
+        }
+    }
+
+    /// The tests of an add, and what it comes to: the key of the client, the shift of all others and the new tags.
+    fn can_add(
+        &mut self,
+        client: ClientId,
+        params: ReqParams,
+        at: Moment,
+    ) -> Result<Addition<T>, Refusal>
+        ensures outcome { CanAdd T.ops (state_of self.old) client params at result }
+        ensures added { IfOk result (λ a. (token : Token) → rules_of.added T.ops (state_of self.old) client token params at ≡
+            Ok (rules_of.queued (rules_of.shifted_by T.ops a.shift (state_of self.old)) (record { client = client; token = token; tags = a.tags }) at, replies.Tagged a.tags)) }
+        ensures key { IfOk result (λ a. entry_keyed a.key self.old.roster.entries ≡ entry_named client self.old.roster.entries) }
+        ensures held { IfOk result (λ a. is_some (entry_keyed a.key self.old.roster.entries) ≡ true) }
+        ensures follows { IfOk result (λ a. IfSome (record_at a.key self.old.roster.entries) (λ rec. AreNext T.ops rec.info rec.previous a.tags)) }
+        ensures idle { IfOk result (λ a. IsSome a.shift → IfSome (record_at a.key self.old.roster.entries) (λ rec. rec.idle ≡ true)) }
+        ensures shiftable { IfOk result (λ a. rules_of.can_shift_by T.ops a.shift (state_of self.old).clients (state_of self.old).requests ≡ true) }
+        ensures value { IfOk result (λ a. T.is_value (T.fraction a.tags.p)) }
+        ensures room { OnOk result (length (state_of self.old).requests < 1048576) }
+        ensures same { self.new ≡ self.old }
+    {
+        let Some(key) = self.roster.find(client) else {
+            return Err(Refusal::Unknown);
+        };
+        if self.queued >= REQUESTS {
+            return Err(Refusal::QueueFull);
+        }
+        let t = T::of_moment(at);
+        let shift = self.shift_for(key, t)?;
+        if !self.can_shift_by(shift) {
+            return Err(Refusal::Range);
+        }
+        let Some(tags) = tags_for(self.roster.at(key), params, t) else {
+            return Err(Refusal::Range);
+        };
+        Ok(Addition { key, shift, tags })
+    }
+
+    /// Queues a request, and shifts all others.
+    fn queue(
+        &mut self,
+        client: ClientId,
+        token: Token,
+        addition: Addition<T>,
+        at: Moment,
+    ) -> Result<(), QueueFault>
+        requires key { entry_keyed addition.key self.old.roster.entries ≡ entry_named client self.old.roster.entries }
+        requires held { is_some (entry_keyed addition.key self.old.roster.entries) ≡ true }
+        requires next { IfSome (record_at addition.key self.old.roster.entries) (λ rec. AreNext T.ops rec.info rec.previous addition.tags) }
+        requires idle { IsSome addition.shift → IfSome (record_at addition.key self.old.roster.entries) (λ rec. rec.idle ≡ true) }
+        requires shiftable { rules_of.can_shift_by T.ops addition.shift (state_of self.old).clients (state_of self.old).requests ≡ true }
+        requires value { T.is_value (T.fraction addition.tags.p) }
+        requires room { length (state_of self.old).requests < 1048576 }
+        requires later { self.old.last_moment ≤ at }
+        ensures ok { OnOk result (StandsFor (state_of self.new)
+            (rules_of.queued (rules_of.shifted_by T.ops addition.shift (state_of self.old)) (record { client = client; token = token; tags = addition.tags }) at)) }
+        ensures err { OnErr result (self.new ≡ self.old) }
+        ensures memory { IsOkUnless result QueueFault.Memory }
+    {
+        let Addition { key, shift, tags } = addition;
+        let is_first = self.roster.at(key).is_empty();
+        if push_at(&mut self.roster, key, QueuedRequest { token, tags }, at).is_err() {
+            return Err(QueueFault::Memory);
+        }
+        shift_others(&mut self.roster, &mut self.heads.0, shift, key);
+        if is_first {
+            self.heads.0.insert(key, head_at(client, tags, at));
+        }
+        self.queued += 1;
+        self.last_moment = at;
+        Ok(())
+    }
+
+    /// Queues a request, and answers its tags; refused `Unknown`, `QueueFull`, `Range`, in this order, and `Memory` last.
+    pub fn add_request(
+        &mut self,
+        client: ClientId,
+        token: Token,
+        params: ReqParams,
+        at: Moment,
+    ) -> Result<Tags<T>, QueueFault>
+        ensures { Steps T.ops (state_of self.old) (state_of self.new) (commands.Add client token params at) (told replies.Tagged result) }
+    {
+        let at = self.effective(at);
+        let addition = self.can_add(client, params, at)?;
+        let tags = addition.tags;
+        self.queue(client, token, addition, at)?;
+        Ok(tags)
+    }
+}

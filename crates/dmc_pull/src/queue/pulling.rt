@@ -1,0 +1,204 @@
+//! A pull of the indexed queue.
+ghost use Rattle.std.specs.Prelude.{◌≡◌, ◌≤◌, List, ◌∷◌, false, true, Some, None, Ok, IfSome};
+ghost use Rattle.std.specs.Option.{option_map};
+ghost use Rattle.dmc_adjust.specs.Changes as changes;
+ghost use Rattle.dmc_pull.specs.Choice.{first_at, after_grant, IsFirstOf, Early, ByShares, IsGrantable, Settles};
+ghost use Rattle.dmc_pull.specs.Queue.{state_of, IsMarked};
+ghost use Rattle.dmc_pull.specs.Standing.{requests_in};
+ghost use Rattle.dmc_roster.specs.Entries.{record_at, with_record_at, AreDistinct};
+ghost use Rattle.dmc_tag.specs.Answers.{told_surely, pull_reply};
+ghost use Rattle.dmc_tag.specs.Best.{best, by_reservation, by_shares, is_early, is_free};
+ghost use Rattle.dmc_tag.specs.Rules as rules_of;
+ghost use Rattle.dmc_tag.specs.Steps.{Exactly};
+ghost use Rattle.dmc_tag.specs.declared.plain.PlainRequest.{PlainRequest};
+ghost use Rattle.dmc_types.specs.declared.command.Command.TheVariants as commands;
+ghost use Rattle.dmc_types.specs.declared.ids.Token.{Token};
+ghost use Rattle.dmc_types.specs.declared.config.PhaseType.TheVariants as phases;
+
+use crate::heads::{due_moment, is_due, renew};
+use crate::queue::PullQueue;
+use crate::records::{first_tags, grant_first};
+use dmc_adjust::reduction::can_reduce;
+use dmc_index::index::Indexes;
+use dmc_tag::reply::Pulled;
+use dmc_tag::tag::Tag;
+use dmc_types::config::{AtLimit, PhaseType};
+use dmc_types::ids::{ClientId, Token};
+use dmc_types::moment::Moment;
+use dmc_types::refusal::Refusal;
+
+impl<T: Tag, I: Indexes<T>> PullQueue<T, I> {
+    /// The key and the client of the least R, where it is not past a moment.
+    fn early(&self, at: Moment) -> Option<(usize, ClientId)>
+        ensures { Early T.ops at self.now.roster.entries result }
+    {
+        match self.heads.0.least_by_reservation() {
+            None => None,
+            Some((key, rank)) => {
+                if is_due(rank.tag, at) {
+                    Some((key, rank.client))
+                } else {
+                    None
+                }
+            }
+        }
+    }
+
+    /// Goes on to a moment, at which each head is marked ready whose L is not past.
+    fn advance(&mut self, at: Moment)
+        requires { self.old.last_moment ≤ at }
+        ensures state { state_of self.new ≡ record (state_of self.old) { last_moment = at } }
+        ensures marked { IsMarked T.ops self.new }
+    {
+        self.heads.0.promote(at);
+        self.last_moment = at;
+    }
+
+    /// Goes back to a moment, and sets back the marks of the heads whose L is past it.
+    fn go_back(&mut self, before: Moment)
+        ensures { state_of self.new ≡ record (state_of self.old) { last_moment = before } }
+    {
+        self.heads.0.set_back(before);
+        self.last_moment = before;
+    }
+
+    /// The key and the client of the least P of what is free, or of all, and whether it is free; none where nothing is
+    /// queued.
+    fn by_shares(&self) -> Option<(usize, ClientId, bool)>
+        requires { IsMarked T.ops self.now }
+        ensures { ByShares T.ops self.now.last_moment self.now.roster.entries result }
+    {
+        match self.heads.0.least_by_shares() {
+            None => None,
+            Some((key, rank)) => Some((key, rank.client, rank.ready)),
+        }
+    }
+
+    /// The least whole number at which some request is early or free, where none is and something is queued.
+    fn next_due(&self) -> u128
+        requires none_early { best (by_reservation T.ops) (is_early T.ops self.now.last_moment) (requests_in self.now.roster.entries) ≡ None }
+        requires none_free { best (by_shares T.ops) (is_free T.ops self.now.last_moment) (requests_in self.now.roster.entries) ≡ None }
+        ensures { (first : PlainRequest T) (rest : List (PlainRequest T)) → requests_in self.now.roster.entries ≡ first ∷ rest →
+            result ≡ rules_of.least_due T.ops first rest }
+    {
+        let Some((_, limit)) = self.heads.0.least_by_limit() else {
+            return 0;
+        };
+        let free = due_moment(limit.tag);
+        let Some((_, reservation)) = self.heads.0.least_by_reservation() else {
+            return 0;
+        };
+        match reservation.tag {
+            None => free,
+            Some(tag) => free.min(due_moment(tag)),
+        }
+    }
+
+    /// Takes out the first request of a client; in the weight phase the spacing of its reservation is taken off the R of the
+    /// others. It answers the token.
+    fn take_out(&mut self, key: usize, client: ClientId, reduces: bool, at: Moment) -> Token
+        requires first { IsFirstOf self.old.roster.entries key client }
+        requires reducible { reduces ≡ true → IfSome (record_at key self.old.roster.entries) (λ rec. changes.is_reducible T.ops (changes.popped rec) ≡ true) }
+        requires later { self.old.last_moment ≤ at }
+        ensures distinct { AreDistinct self.old.roster.entries }
+        ensures token { Some result ≡ option_map (λ found. found.0.token) (first_at key self.old.roster.entries) }
+        ensures roster { IfSome (record_at key self.old.roster.entries) (λ rec. self.new.roster ≡ with_record_at self.old.roster key (after_grant T.ops reduces rec)) }
+        ensures config { self.new.config ≡ self.old.config }
+        ensures moment { self.new.last_moment ≡ at }
+    {
+        let request = grant_first(&mut self.roster, key, reduces).unwrap();
+        let tags = first_tags(&self.roster, key);
+        renew(&mut self.heads.0, key, client, tags, at);
+        self.queued -= 1;
+        self.last_moment = at;
+        request.token
+    }
+
+    /// Grants the first request of a client in the constraint phase.
+    fn grant_early(&mut self, key: usize, client: ClientId, at: Moment) -> Pulled
+        requires first { IsFirstOf self.old.roster.entries key client }
+        requires later { self.old.last_moment ≤ at }
+        ensures { IfSome (first_at key self.old.roster.entries) (λ found.
+            Settles (state_of self.old) (state_of self.new) (Ok (rules_of.without (state_of self.old) at found.1, rules_of.granted found.0 phases.Reservation false)) (Some (pull_reply result))) }
+    {
+        let token = self.take_out(key, client, false, at);
+        Pulled::Returning {
+            client,
+            token,
+            phase: PhaseType::Reservation,
+            beyond: false,
+        }
+    }
+
+    /// Whether a grant in the weight phase keeps each tag of the client a value.
+    fn can_grant(&self, key: usize, client: ClientId) -> bool
+        requires { IsFirstOf self.now.roster.entries key client }
+        ensures distinct { AreDistinct self.now.roster.entries }
+        ensures reducible { result ≡ true → IfSome (record_at key self.now.roster.entries) (λ rec. changes.is_reducible T.ops (changes.popped rec) ≡ true) }
+        ensures value { IfSome (first_at key self.now.roster.entries) (λ found.
+            IsGrantable T.ops (state_of self.now) found (record_at key self.now.roster.entries) result) }
+    {
+        can_reduce(self.roster.at(key))
+    }
+
+    /// Grants the first request of a client in the weight phase; refused `Range`.
+    fn grant_priority(
+        &mut self,
+        key: usize,
+        client: ClientId,
+        beyond: bool,
+    ) -> Result<Pulled, Refusal>
+        requires { IsFirstOf self.old.roster.entries key client }
+        ensures { IfSome (first_at key self.old.roster.entries) (λ found.
+            Settles (state_of self.old) (state_of self.new) (rules_of.grant_priority T.ops (state_of self.old) self.old.last_moment found beyond) (told_surely pull_reply result)) }
+    {
+        if !self.can_grant(key, client) {
+            return Err(Refusal::Range);
+        }
+        let at = self.last_moment();
+        let token = self.take_out(key, client, true, at);
+        Ok(Pulled::Returning {
+            client,
+            token,
+            phase: PhaseType::Priority,
+            beyond,
+        })
+    }
+
+    /// Answers a pull where no request is early.
+    fn pull_by_shares(&mut self) -> Result<Pulled, Refusal>
+        requires marked { IsMarked T.ops self.old }
+        requires none_early { best (by_reservation T.ops) (is_early T.ops self.old.last_moment) (requests_in self.old.roster.entries) ≡ None }
+        ensures { Settles (state_of self.old) (state_of self.new)
+            (rules_of.pulled_free T.ops (state_of self.old) self.old.last_moment (best (by_shares T.ops) (is_free T.ops self.old.last_moment) (requests_in self.old.roster.entries)))
+            (told_surely pull_reply result) }
+    {
+        let Some((key, client, free)) = self.by_shares() else {
+            return Ok(Pulled::Nothing);
+        };
+        if free {
+            return self.grant_priority(key, client, false);
+        }
+        match self.config.at_limit() {
+            AtLimit::Allow => self.grant_priority(key, client, true),
+            AtLimit::Wait => Ok(Pulled::Future(self.next_due())),
+        }
+    }
+
+    /// Grants the next request, or tells when one is due; refused `Range`.
+    pub fn pull_request(&mut self, at: Moment) -> Result<Pulled, Refusal>
+        ensures { Exactly T.ops (state_of self.old) (state_of self.new) (commands.Pull at) (told_surely pull_reply result) }
+    {
+        let before = self.last_moment();
+        let at = self.effective(at);
+        if let Some((key, client)) = self.early(at) {
+            return Ok(self.grant_early(key, client, at));
+        }
+        self.advance(at);
+        let answer = self.pull_by_shares();
+        if answer.is_err() {
+            self.go_back(before);
+        }
+        answer
+    }
+}

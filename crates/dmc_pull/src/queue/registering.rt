@@ -1,0 +1,131 @@
+//! A registration, and an update of rates.
+ghost use Rattle.std.specs.Prelude.{◌≡◌, ◌≤◌, ◌<◌, [], ◌∷◌, ◌++◌, true, Some, None, Ok, length, is_some, IfSome, IfOk, OnOk, OnErr, IsOkUnless};
+ghost use Rattle.dmc_client.specs.Record.{client_of};
+ghost use Rattle.dmc_pull.specs.Queue.{state_of, tested, IsKept};
+ghost use Rattle.dmc_roster.specs.Entries.{entry_named, entry_keyed, record_at, AreDistinct};
+ghost use Rattle.dmc_tag.specs.Answers.{told, told_surely};
+ghost use Rattle.dmc_tag.specs.Order.{AreSpacings};
+ghost use Rattle.dmc_tag.specs.Rules as rules_of;
+ghost use Rattle.dmc_tag.specs.Spacing.{spacings_of};
+ghost use Rattle.dmc_tag.specs.Steps.{Exactly};
+ghost use Rattle.dmc_tag.specs.declared.reply.Reply.TheVariants as replies;
+ghost use Rattle.dmc_types.specs.declared.command.Command.TheVariants as commands;
+
+use crate::queue::PullQueue;
+use crate::records::{is_busy, set_info_at};
+use dmc_client::record::ClientRec;
+use dmc_index::index::Indexes;
+use dmc_tag::spacing::{Spacings, spacings_for};
+use dmc_tag::tag::Tag;
+use dmc_types::ids::ClientId;
+use dmc_types::info::ClientInfo;
+use dmc_types::moment::Moment;
+use dmc_types::refusal::{QueueFault, Refusal};
+
+/// The most clients of a queue.
+const CLIENTS: usize = 65_536;
+
+impl<T: Tag, I: Indexes<T>> PullQueue<T, I> {
+    /// The tests of a registration, and the spacings of the rates.
+    fn can_register(&self, client: ClientId, info: ClientInfo) -> Result<Spacings<T>, Refusal>
+        ensures outcome { tested result ≡ rules_of.can_register T.ops (state_of self.now) client info }
+        ensures spacings { IfOk result (λ spacings. spacings_of T.ops self.now.config.hz info ≡ Ok spacings) }
+        ensures are { IfOk result (AreSpacings T.ops info) }
+        ensures new { OnOk result (entry_named client self.now.roster.entries ≡ None) }
+        ensures room { OnOk result (length self.now.roster.entries < 65536) }
+    {
+        if self.roster.find(client).is_some() {
+            return Err(Refusal::Known);
+        }
+        let spacings = match spacings_for(self.config.hz(), info) {
+            Ok(spacings) => spacings,
+            Err(field) => return Err(Refusal::Inexact(field)),
+        };
+        if self.roster.len() >= CLIENTS {
+            return Err(Refusal::Clients);
+        }
+        Ok(spacings)
+    }
+
+    /// Takes a new client in, and makes room for it in all indexes.
+    fn admit(&mut self, client: ClientId, rec: ClientRec<T>, at: Moment) -> Result<(), QueueFault>
+        requires new { entry_named client self.old.roster.entries ≡ None }
+        requires room { length self.old.roster.entries < 65536 }
+        requires kept { IsKept T.ops T.fraction T.is_value self.old.config.hz rec }
+        requires nothing { rec.requests ≡ [] }
+        requires later { self.old.last_moment ≤ at }
+        ensures ok { OnOk result (state_of self.new ≡ record (state_of self.old) { clients = (state_of self.old).clients ++ client_of client rec ∷ []; last_moment = at }) }
+        ensures err { OnErr result (state_of self.new ≡ state_of self.old) }
+        ensures memory { IsOkUnless result QueueFault.Memory }
+    {
+        let key = self.roster.next_key();
+        let Some(room) = key.checked_add(1) else {
+            return Err(QueueFault::Memory);
+        };
+        self.heads.0.reserve(room)?;
+        if self.roster.add(client, rec).is_err() {
+            return Err(QueueFault::Memory);
+        }
+        self.last_moment = at;
+        Ok(())
+    }
+
+    /// Registers a client; refused `Known`, `Inexact`, `Clients`, in this order, and `Memory` last. It makes room in all
+    /// indexes.
+    pub fn register(
+        &mut self,
+        client: ClientId,
+        info: ClientInfo,
+        at: Moment,
+    ) -> Result<(), QueueFault>
+        ensures { Exactly T.ops (state_of self.old) (state_of self.new) (commands.Register client info at) (told (λ _. replies.Registered) result) }
+    {
+        let at = self.effective(at);
+        let spacings = self.can_register(client, info)?;
+        let rec = ClientRec::new(self.alloc, info, spacings, at);
+        self.admit(client, rec, at)
+    }
+
+    /// The tests of an update, and the key of the client and the spacings of the rates.
+    fn can_update(
+        &self,
+        client: ClientId,
+        info: ClientInfo,
+    ) -> Result<(usize, Spacings<T>), Refusal>
+        ensures outcome { tested result ≡ rules_of.can_update T.ops (state_of self.now) client info }
+        ensures spacings { IfOk result (λ p. spacings_of T.ops self.now.config.hz info ≡ Ok p.1) }
+        ensures are { IfOk result (λ p. AreSpacings T.ops info p.1) }
+        ensures key { IfOk result (λ p. entry_keyed p.0 self.now.roster.entries ≡ entry_named client self.now.roster.entries) }
+        ensures held { IfOk result (λ p. is_some (entry_keyed p.0 self.now.roster.entries) ≡ true) }
+        ensures distinct { AreDistinct self.now.roster.entries }
+        ensures not_busy { IfOk result (λ p. IfSome (record_at p.0 self.now.roster.entries) (λ rec. rules_of.changes_reservation rec.info info ≡ true → rec.requests ≡ [])) }
+    {
+        let Some(key) = self.roster.find(client) else {
+            return Err(Refusal::Unknown);
+        };
+        let spacings = match spacings_for(self.config.hz(), info) {
+            Ok(spacings) => spacings,
+            Err(field) => return Err(Refusal::Inexact(field)),
+        };
+        if is_busy(self.roster.at(key), info) {
+            return Err(Refusal::Busy);
+        }
+        Ok((key, spacings))
+    }
+
+    /// Replaces a client's rates; refused `Unknown`, `Inexact`, `Busy`, in this order.
+    pub fn update_info(
+        &mut self,
+        client: ClientId,
+        info: ClientInfo,
+        at: Moment,
+    ) -> Result<(), Refusal>
+        ensures { Exactly T.ops (state_of self.old) (state_of self.new) (commands.Update client info at) (told_surely (λ _. replies.Updated) result) }
+    {
+        let at = self.effective(at);
+        let (key, spacings) = self.can_update(client, info)?;
+        set_info_at(&mut self.roster, key, info, spacings);
+        self.last_moment = at;
+        Ok(())
+    }
+}

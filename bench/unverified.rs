@@ -1,6 +1,7 @@
-// The loads of dmc_bench on an indexed queue as one writes it by hand, in Rust: tags of 128 bits, no test of ranges, no limit on
-// clients or requests. It answers the same checksums. Build: rustc -O -o by_hand bench/by_hand.rs
-// Run: ./by_hand CLIENTS ROUNDS [LIMIT]
+// The loads of dmc_bench on an unverified indexed queue in plain Rust: tags of 128 bits, no test of
+// ranges, no limit on clients or requests. It answers the same checksums.
+// Build: rustc -O -o unverified bench/unverified.rs
+// Run: ./unverified CLIENTS ROUNDS [LIMIT]
 use std::collections::{HashMap, VecDeque};
 use std::time::Instant;
 

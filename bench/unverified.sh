@@ -1,12 +1,13 @@
 #!/usr/bin/env bash
-# The indexed queue over heaps beside a queue as one writes it by hand, on the same loads: checksums, and the nanoseconds of
-# a pull and of an add, in turn. It needs rustc. Build dmc_bench first: cd crates/dmc_bench && rt run -- heap 10 100
+# The indexed queue over heaps beside an unverified queue in plain Rust, on the same loads, in turn:
+# checksums, and the nanoseconds of a pull and of an add. It needs rustc. Build dmc_bench first:
+# cd crates/dmc_bench && rt run -- heap 10 100
 set -eu
 cd "$(dirname "$0")/.."
 bench=crates/dmc_bench/out/dmc_bench
 folder=$(mktemp -d)
 trap 'rm -rf "$folder"' EXIT
-rustc -O -o "$folder/by_hand" bench/by_hand.rs
+rustc -O -o "$folder/unverified" bench/unverified.rs
 run() {
   name=$1
   shift
@@ -16,7 +17,7 @@ run() {
 for limit in "" 100; do
   for clients in 10 1000 65536; do
     for turn in 1 2 3; do
-      run "by hand $clients $limit" "$folder/by_hand" "$clients" 1000000 $limit
+      run "unverified $clients $limit" "$folder/unverified" "$clients" 1000000 $limit
       run "heap $clients $limit" "$bench" heap "$clients" 1000000 $limit
     done
   done

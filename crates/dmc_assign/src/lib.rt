@@ -2,5 +2,3 @@
 #![tactic(auto)]
 
 pub mod assignment;
-#[cfg(test)]
-mod tests;

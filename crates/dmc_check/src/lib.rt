@@ -5,6 +5,4 @@ pub mod check;
 pub mod line;
 mod replay;
 mod same;
-#[cfg(test)]
-mod tests;
 pub mod text;

@@ -1,4 +1,3 @@
 pub mod Heads
 pub mod Marks
 pub mod Least
-pub mod Examples

@@ -4,5 +4,3 @@
 pub mod head;
 pub mod heads;
 mod share;
-#[cfg(test)]
-mod tests;

@@ -2,5 +2,3 @@
 #![tactic(auto)]
 
 pub mod indexed_heap;
-#[cfg(test)]
-mod tests;

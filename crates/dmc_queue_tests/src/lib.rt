@@ -1,9 +1,17 @@
-//! Tests of the queues, in a crate above them: so the queues themselves are proved once.
+//! Tests of the queues and of what they are made of, in a crate above them: so those are proved once.
 #![tactic(auto)]
 
+#[cfg(test)]
+mod heads;
+#[cfg(test)]
+mod heaps;
 #[cfg(test)]
 mod indexes;
 #[cfg(test)]
 mod limits;
+#[cfg(test)]
+mod records;
+#[cfg(test)]
+mod rosters;
 #[cfg(test)]
 mod runs;

@@ -4,5 +4,3 @@
 pub mod change;
 pub mod fault;
 pub mod roster;
-#[cfg(test)]
-mod tests;

@@ -7,5 +7,3 @@ pub mod fault;
 mod held;
 pub mod key;
 pub mod scene;
-#[cfg(test)]
-mod tests;

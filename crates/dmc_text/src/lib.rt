@@ -11,7 +11,5 @@ pub mod reply;
 pub mod script;
 pub mod tag;
 pub mod tags;
-#[cfg(test)]
-mod tests;
 pub mod word;
 pub mod write;

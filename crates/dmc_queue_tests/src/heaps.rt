@@ -1,5 +1,5 @@
 //! The worked examples of an index, over the sorted vector and the heap.
-use crate::indexed_heap::IndexedHeap;
+use dmc_heap::indexed_heap::IndexedHeap;
 use dmc_index::index::OrderIndex;
 use dmc_index::list_index::ListIndex;
 use dmc_tag::rank::TagRank;

@@ -1,6 +1,6 @@
 //! The worked examples of event texts, each under its name, and one history.
-use crate::check::{Verdict, check};
-use crate::text::check_text;
+use dmc_check::check::{Verdict, check};
+use dmc_check::text::check_text;
 use dmc_history::History;
 use dmc_tag::event::Event;
 use dmc_tag::reply::Reply;

@@ -1,9 +1,9 @@
 //! The heads at tick tags, over the sorted vectors and the heaps.
 ghost use Rattle.std.specs.Prelude.{◌≡◌, IfOk, pos};
-ghost use Rattle.dmc_heads.specs.Examples as examples;
+ghost use Rattle.dmc_queue_tests.specs.Heads as examples;
 
-use crate::head::Head;
-use crate::heads::Heads;
+use dmc_heads::head::Head;
+use dmc_heads::heads::Heads;
 use dmc_heap::indexed_heap::HeapIndexes;
 use dmc_index::index::{Indexes, OrderIndex};
 use dmc_index::list_index::ListIndexes;

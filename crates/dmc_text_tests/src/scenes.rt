@@ -1,7 +1,7 @@
 //! The scenes of the examples, and the faults of scenes that are close to them.
-use crate::fault::SceneFault;
-use crate::key::Key;
-use crate::scene::{Scene, read_scene};
+use dmc_scene::fault::SceneFault;
+use dmc_scene::key::Key;
+use dmc_scene::scene::{Scene, read_scene};
 use dmc_types::config::{AtLimit, Counting, QueueConfig, TagKind};
 use dmc_types::ids::ClientId;
 use dmc_types::info::ClientInfo;

@@ -1,5 +1,5 @@
 //! Assignment at tick tags.
-use crate::assignment::tags_for;
+use dmc_assign::assignment::tags_for;
 use dmc_client::record::ClientRec;
 use dmc_client::request::QueuedRequest;
 use dmc_tag::reply::Tags;

@@ -8,9 +8,9 @@ use Rattle.std.proofs.lemmas.Bool.{cases_eq}
 use Rattle.std.proofs.lemmas.List.{length-set, get_or-set_same, get_or-set_other}
 use Rattle.dmc_tag.specs.declared.rank.TagRank.{TagRank}
 use Rattle.dmc_index.specs.Index.{held}
-use Rattle.dmc_heap.proofs.LinkLemmas.{option_cases}
+use Rattle.dmc_tag.proofs.Options.{option_cases}
 use Rattle.dmc_heap.proofs.OrderLemmas.{same_some}
-use Rattle.dmc_heap.proofs.tests.order_of.Goals as goal
+use Rattle.dmc_queue_tests.proofs.heaps.order_of.Goals as goal
 
 tied : (tags : Ordering) (x y : ℕ) → ordering_then tags (nat_cmp x y) ≡ Equal → x ≡ y
 tied Less x y e = cc

@@ -1,10 +1,10 @@
 //! Lines and replies, one of each kind, and the faults of scripts.
 
-use crate::cause::LineCause;
-use crate::line::{Line, read_line};
-use crate::reply::read_reply;
-use crate::write::write_reply;
 use dmc_tag::reply::{Reply, Tags};
+use dmc_text::cause::LineCause;
+use dmc_text::line::{Line, read_line};
+use dmc_text::reply::read_reply;
+use dmc_text::write::write_reply;
 use dmc_tick::tick::TickTag;
 use dmc_types::command::Command;
 use dmc_types::config::{AtLimit, PhaseType, QueueConfig};

@@ -1,6 +1,6 @@
 use Rattle.std.proofs.Common.{◌≡◌, ℕ, ◌<◌, Some, IsSome, length}
 use Rattle.dmc_index.specs.Index.{held}
-use Rattle.dmc_heap.proofs.tests.order_of.Given as goal
+use Rattle.dmc_queue_tests.proofs.heaps.order_of.Given as goal
 
 -- the keys so far are held, each by the client of its number
 abbrev pub invariant-loop-key : goal.invariant-loop-key

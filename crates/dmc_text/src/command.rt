@@ -70,14 +70,20 @@ pub enum CommandFault {
 fn verb_of(word: &[u8]) -> Option<Verb>
     ensures { result ≡ verb_of word.now }
 {
-    match word {
-        b"client" => Some(Verb::Client),
-        b"update" => Some(Verb::Update),
-        b"add" => Some(Verb::Add),
-        b"pull" => Some(Verb::Pull),
-        b"drop" => Some(Verb::Drop),
-        b"clean" => Some(Verb::Clean),
-        _ => None,
+    if word == b"client".as_slice() {
+        Some(Verb::Client)
+    } else if word == b"update".as_slice() {
+        Some(Verb::Update)
+    } else if word == b"add".as_slice() {
+        Some(Verb::Add)
+    } else if word == b"pull".as_slice() {
+        Some(Verb::Pull)
+    } else if word == b"drop".as_slice() {
+        Some(Verb::Drop)
+    } else if word == b"clean".as_slice() {
+        Some(Verb::Clean)
+    } else {
+        None
     }
 }
 

@@ -62,17 +62,26 @@ pub enum ReplyWords<'a> {
 fn name_of(word: &[u8]) -> Option<ReplyName>
     ensures { result ≡ name_of word.now }
 {
-    match word {
-        b"ok" => Some(ReplyName::Ok),
-        b"updated" => Some(ReplyName::Updated),
-        b"tags" => Some(ReplyName::Tags),
-        b"grant" => Some(ReplyName::Grant),
-        b"future" => Some(ReplyName::Future),
-        b"none" => Some(ReplyName::None),
-        b"dropped" => Some(ReplyName::Dropped),
-        b"cleaned" => Some(ReplyName::Cleaned),
-        b"refused" => Some(ReplyName::Refused),
-        _ => None,
+    if word == b"ok".as_slice() {
+        Some(ReplyName::Ok)
+    } else if word == b"updated".as_slice() {
+        Some(ReplyName::Updated)
+    } else if word == b"tags".as_slice() {
+        Some(ReplyName::Tags)
+    } else if word == b"grant".as_slice() {
+        Some(ReplyName::Grant)
+    } else if word == b"future".as_slice() {
+        Some(ReplyName::Future)
+    } else if word == b"none".as_slice() {
+        Some(ReplyName::None)
+    } else if word == b"dropped".as_slice() {
+        Some(ReplyName::Dropped)
+    } else if word == b"cleaned".as_slice() {
+        Some(ReplyName::Cleaned)
+    } else if word == b"refused".as_slice() {
+        Some(ReplyName::Refused)
+    } else {
+        None
     }
 }
 
@@ -184,14 +193,20 @@ fn field_of(word: &[u8]) -> Result<Field, LineCause>
 fn plain_refusal(word: &[u8]) -> Result<Refusal, LineCause>
     ensures { result ≡ plain_refusal word.now }
 {
-    match word {
-        b"known" => Ok(Refusal::Known),
-        b"unknown" => Ok(Refusal::Unknown),
-        b"clients" => Ok(Refusal::Clients),
-        b"full" => Ok(Refusal::QueueFull),
-        b"range" => Ok(Refusal::Range),
-        b"busy" => Ok(Refusal::Busy),
-        _ => Err(LineCause::Words),
+    if word == b"known".as_slice() {
+        Ok(Refusal::Known)
+    } else if word == b"unknown".as_slice() {
+        Ok(Refusal::Unknown)
+    } else if word == b"clients".as_slice() {
+        Ok(Refusal::Clients)
+    } else if word == b"full".as_slice() {
+        Ok(Refusal::QueueFull)
+    } else if word == b"range".as_slice() {
+        Ok(Refusal::Range)
+    } else if word == b"busy".as_slice() {
+        Ok(Refusal::Busy)
+    } else {
+        Err(LineCause::Words)
     }
 }
 

@@ -17,7 +17,6 @@ use crate::line::{Line, read_line};
 use crate::lines::LineReader;
 use crate::tag::TagText;
 use crate::write::write_reply;
-use dmc_tag::laws::agreeing_states;
 use dmc_tag::reply::Reply;
 use dmc_tag::scheduler::Scheduler;
 use dmc_tag::tag::Tag;
@@ -126,7 +125,6 @@ fn carry_out<T: TagText, M: QueueMaker<T>>(
         ≡ out.old.items ++ written T.ops (tag_text T.numerator T.denominator) (option_map M.Queue.state queue.old) (line ∷ rest)) }
     ensures err { OnErr result (IsCut out.old.items out.new.items) }
 {
-    agreeing_states::<T>();
     match line {
         Line::Skip => Ok(()),
         Line::Config(config) => {

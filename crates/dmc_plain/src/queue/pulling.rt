@@ -1,7 +1,8 @@
 //! A pull of the plain queue.
-ghost use Rattle.std.specs.Prelude.{◌≡◌, ◌<◌, length, Some, remove, slice_get};
+ghost use Rattle.std.specs.Prelude.{◌≡◌, ◌<◌, true, length, Some, remove, slice_get};
 ghost use Rattle.std.specs.Option.{option_map_or};
 ghost use Rattle.dmc_tag.specs.declared.reply.Pulled.TheVariants as pulls;
+ghost use Rattle.dmc_tag.specs.Best.{best, by_shares, is_any, is_free};
 ghost use Rattle.dmc_tag.specs.Answers.{told_surely, pull_reply};
 ghost use Rattle.dmc_tag.specs.Rules as rules_of;
 ghost use Rattle.dmc_tag.specs.Steps.{Exactly};
@@ -116,10 +117,34 @@ impl<T: Tag> PlainQueue<T> {
         if let Some(index) = best_index(&self.requests, &Set::Early(at)) {
             return Ok(self.grant_early(index, at));
         }
-        if let Some(index) = best_index(&self.requests, &Set::Free(at)) {
-            return self.grant_priority(index, at, false);
+        self.pull_free(at)
+    }
+
+    /// Grants the next request in the weight phase, where none is due by its reservation; refused `Range`.
+    fn pull_free(&mut self, at: Moment) -> Result<Pulled, Refusal>
+        ensures { Settles self.old self.new
+            (rules_of.pulled_free T.ops self.old at (best (by_shares T.ops) (is_free T.ops at) self.old.requests))
+            (told_surely pull_reply result) }
+    {
+        match best_index(&self.requests, &Set::Free(at)) {
+            Some(index) => self.grant_priority(index, at, false),
+            None => self.pull_at_limit(at),
         }
-        self.pull_at_limit(at)
+    }
+
+    /// Grants the best by weight, though it is beyond its limit; refused `Range`.
+    fn pull_beyond(&mut self, at: Moment) -> Result<Pulled, Refusal>
+        ensures { Settles self.old self.new
+            (rules_of.grant_found T.ops self.old at true (best (by_shares T.ops) is_any self.old.requests))
+            (told_surely pull_reply result) }
+    {
+        match best_index(&self.requests, &Set::All) {
+            Some(index) => self.grant_priority(index, at, true),
+            None => {
+                self.last_moment = at;
+                Ok(Pulled::Nothing)
+            }
+        }
     }
 
     /// Answers a pull where no request is early or free.
@@ -127,13 +152,7 @@ impl<T: Tag> PlainQueue<T> {
         ensures { Settles self.old self.new (rules_of.nothing_due T.ops self.old at self.old.requests) (told_surely pull_reply result) }
     {
         match self.config.at_limit() {
-            AtLimit::Allow => {
-                if let Some(index) = best_index(&self.requests, &Set::All) {
-                    return self.grant_priority(index, at, true);
-                }
-                self.last_moment = at;
-                Ok(Pulled::Nothing)
-            }
+            AtLimit::Allow => self.pull_beyond(at),
             AtLimit::Wait => {
                 self.last_moment = at;
                 Ok(due_at(least_due(&self.requests)))

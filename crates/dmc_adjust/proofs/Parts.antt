@@ -12,6 +12,7 @@ use Rattle.dmc_tag.specs.declared.plain.PlainClient.{PlainClient}
 use Rattle.dmc_client.specs.declared.request.QueuedRequest.{QueuedRequest}
 use Rattle.dmc_client.specs.Record.{Rec, client_of, request_of, requests_of_record, less_share, less_reservation, has_less_shares, has_less_reservations}
 use Rattle.dmc_adjust.specs.Changes.{is_shiftable}
+use Rattle.std.proofs.Math.Bool.{and-true}
 
 list_all_over : {X Y : Type 0} (f : X → Y) (p : Y → Bool) (q : X → Bool) → ((x : X) → p (f x) ≡ q x) → (xs : List X) → list_all p (map f xs) ≡ list_all q xs
 list_all_over f p q e [] = refl
@@ -28,10 +29,6 @@ map_over f g h e (x ∷ xs) = ap (λ y. y ∷ map g (map f xs)) (e x) ∙ ap (λ
 map_same : {X Y : Type 0} (f : X → Y) (g : Y → Y) → ((x : X) → g (f x) ≡ f x) → (xs : List X) → map g (map f xs) ≡ map f xs
 map_same f g e [] = refl
 map_same f g e (x ∷ xs) = ap (λ y. y ∷ map g (map f xs)) (e x) ∙ ap (λ ys. f x ∷ ys) (map_same f g e xs)
-
-and_true : (b : Bool) → (b && true) ≡ b
-and_true true = refl
-and_true false = refl
 
 module _ {T : Type 0} (ops : Tagging T) (amount : T) (id : ClientId) where
   -- ---- adjustment
@@ -53,7 +50,7 @@ module _ {T : Type 0} (ops : Tagging T) (amount : T) (id : ClientId) where
         ap (λ b. b && true) (sym all)
     tests_at rec false a =
         let all : requests_can_shift ops amount clients (requests_of_record id rec) ≡ list_all (λ q. has_less ops amount q.tags.p) rec.requests = list_all_over (request_of id) _ (λ q. has_less ops amount q.tags.p) (λ q. ap (λ b. not b || has_less ops amount q.tags.p) a) rec.requests in
-        ap (λ b. b && has_less ops amount rec.previous.p) (sym all) ∙ ap (λ b. requests_can_shift ops amount clients (requests_of_record id rec) && b) (sym (and_true (has_less ops amount rec.previous.p)))
+        ap (λ b. b && has_less ops amount rec.previous.p) (sym all) ∙ ap (λ b. requests_can_shift ops amount clients (requests_of_record id rec) && b) (sym (and-true (has_less ops amount rec.previous.p)))
 
     pub shift_tests : (rec : Rec T) → is_active id clients ≡ not rec.idle → is_shiftable ops amount rec ≡ (requests_can_shift ops amount clients (requests_of_record id rec) && clients_can_shift ops amount (client_of id rec ∷ []))
     shift_tests rec a = tests_at rec rec.idle a
@@ -71,4 +68,4 @@ module _ {T : Type 0} (ops : Tagging T) (amount : T) (id : ClientId) where
       let test = λ (q : QueuedRequest T). option_map_or (has_less ops amount) q.tags.r true in
       let all : requests_can_reduce ops id amount (requests_of_record id rec) ≡ list_all test rec.requests = list_all_over (request_of id) _ test (λ q. ap (λ b. not b || test q) itself) rec.requests in
       ap (λ b. b && has_less ops amount rec.previous.r) (sym all)
-      ∙ ap (λ b. requests_can_reduce ops id amount (requests_of_record id rec) && b) (sym (and_true (has_less ops amount rec.previous.r)) ∙ ap (λ b. (not b || has_less ops amount rec.previous.r) && true) (sym itself))
+      ∙ ap (λ b. requests_can_reduce ops id amount (requests_of_record id rec) && b) (sym (and-true (has_less ops amount rec.previous.r)) ∙ ap (λ b. (not b || has_less ops amount rec.previous.r) && true) (sym itself))

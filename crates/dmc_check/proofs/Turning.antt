@@ -26,6 +26,7 @@ use Rattle.dmc_check.specs.EventTexts.{Recorded, with_line, or_fault, with_lines
 use Rattle.dmc_check.specs.Checking.{Holds, IsBelow, Progress, Taken, Takes, IsCounted, IsFaultHere, IsFaulty, Turns, Starts, Ends, closed_of, left}
 use Rattle.dmc_check.specs.Verdicts.{Stands}
 use Rattle.dmc_check.proofs.VerdictLemmas.{verdict_by}
+use Rattle.dmc_text.proofs.RunEnds.{none_read, none_kept, nothing_read}
 
 pub starts_counted : {T : Type 0} (run : Checking T) → Starts run → IsCounted run
 starts_counted run s =
@@ -154,13 +155,6 @@ module _ {T : Type 0} (ops : Tagging T) (made : ℤ → ℕ → Option T) where
 
   -- ---- the beginning
 
-  none_read : (r : Option (List ℕ)) → Consumes r r []
-  none_read None = tt
-  none_read (Some xs) = refl
-
-  pub nothing_read : (r : Option (List ℕ)) → (read : List ℕ) × ReadsWithin most_bytes r r read
-  nothing_read r = ([], (none_read r, omega arith))
-
   pub beginning : (r : Option (List ℕ)) (run : Checking T) → Starts run → Progress ops made r r run
   beginning r run s = record {
     done = [];
@@ -259,10 +253,6 @@ module _ {T : Type 0} (ops : Tagging T) (made : ℤ → ℕ → Option T) where
       → Ends ops made before after (Ok checked) → AppendsSome old new bytes → ChecksAs ops made before after old new (Err faults.Write)
   some_written before after old new checked bytes bytes-is e app =
       (e.0, on_text before _ _ (λ text h. (checked.verdict, checked.events, h, subst (AppendsSome old new) bytes-is app)) e.2)
-
-  none_kept : (w : Option (List ℕ)) → Keeps w w
-  none_kept None = tt
-  none_kept (Some xs) = refl
 
   pub ends_early : (before after old : Option (List ℕ)) (fault : ScriptFault) → Ends ops made before after (Err fault) → ChecksAs ops made before after old old (Err fault)
   ends_early before after old (faults.Line n cause) e = (e.0, e.1, none_kept old)

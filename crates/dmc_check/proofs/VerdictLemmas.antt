@@ -9,6 +9,7 @@ use Rattle.dmc_tag.specs.State.{State, StandsFor, opening}
 use Rattle.dmc_tag.specs.Step.{step}
 use Rattle.dmc_tag.specs.Replay.{state_after, replays_from, after, replays}
 use Rattle.dmc_tag.specs.declared.event.Event.{Event}
+use Rattle.dmc_tag.proofs.ForCallers.{after_one_more, replays_one_more}
 use Rattle.dmc_check.specs.Verdicts.{DiffersAt, IsVerdict, verdict_of, SoFar, Stands}
 use Rattle.dmc_check.specs.declared.replay.Replay.{Replay}
 use Rattle.dmc_check.specs.declared.check.Verdict.{Verdict}
@@ -31,20 +32,6 @@ none_within (x ∷ xs) zero within h = absurd (cc)
 none_within (x ∷ xs) (suc i) within h = none_within xs i (omega (arith, within)) h
 
 module _ {T : Type 0} (ops : Tagging T) where
-  from_more : (s : State T) (events : List (Event T)) (e : Event T) → state_after ops s (map (λ e. e.command) (events ++ e ∷ [])) ≡ (step ops (state_after ops s (map (λ e. e.command) events)) e.command).0
-  from_more s [] e = refl
-  from_more s (d ∷ events) e = from_more ((step ops s d.command).0) events e
-
-  pub after_more : (config : Setting) (events : List (Event T)) (e : Event T) → after ops config (events ++ e ∷ []) ≡ (step ops (after ops config events) e.command).0
-  after_more config events e = from_more (opening config) events e
-
-  more_from : (s : State T) (events : List (Event T)) (e : Event T) → replays_from ops s events → e.reply ≡ (step ops (state_after ops s (map (λ e. e.command) events)) e.command).1 → replays_from ops s (events ++ e ∷ [])
-  more_from s [] e h k = (k, tt)
-  more_from s (d ∷ events) e h k = (h.0, more_from ((step ops s d.command).0) events e h.1 k)
-
-  pub replays_more : (config : Setting) (events : List (Event T)) (e : Event T) → replays ops config events → e.reply ≡ (step ops (after ops config events) e.command).1 → replays ops config (events ++ e ∷ [])
-  replays_more config events e h k = more_from (opening config) events e h k
-
   at_from : (s : State T) (events : List (Event T)) (i : ℕ) (e : Event T) → replays_from ops s events → slice_get events i ≡ Some e → e.reply ≡ (step ops (state_after ops s (map (λ e. e.command) (take i events))) e.command).1
   at_from s [] i e h k = absurd (cc)
   at_from s (d ∷ events) zero e h k = let same : d ≡ e = cc in subst (λ x. x.reply ≡ (step ops s x.command).1) same h.0
@@ -105,7 +92,7 @@ module _ {T : Type 0} (ops : Tagging T) where
       → SoFar ops config (events ++ e ∷ []) new None
   same_event config events e s new same is h k =
       let now = k (after ops config events) h.1 in
-      (replays_more config events e h.0 (now.0.0 is), subst (StandsFor new) (sym (after_more config events e)) now.1)
+      (replays_one_more ops config events e h.0 (now.0.0 is), subst (StandsFor new) (sym (after_one_more ops config events e)) now.1)
 
   -- or otherwise
   pub other_event : (config : Setting) (events : List (Event T)) (e : Event T) (s new : State T) (n : ℕ) (same : Bool) → same ≡ false → n ≡ length events → SoFar ops config events s None

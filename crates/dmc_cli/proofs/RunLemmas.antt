@@ -25,23 +25,9 @@ use Rattle.dmc_cli.specs.declared.words.ToolCommand.{ToolCommand}
 use Rattle.dmc_cli.specs.declared.words.ToolCommand.TheVariants.{Script, Check}
 use Rattle.dmc_cli.specs.declared.words.WordsFault.{WordsFault}
 use Rattle.dmc_cli.specs.declared.words.WordsFault.TheVariants as words
+use Rattle.dmc_text.proofs.RunEnds.{none_read, none_sent, none_kept, nothing_read}
 
 -- ---- nothing is read or written
-
-none_kept : (bytes : Option (List ℕ)) → Keeps bytes bytes
-none_kept None = tt
-none_kept (Some xs) = refl
-
-none_read : (bytes : Option (List ℕ)) → Consumes bytes bytes []
-none_read None = tt
-none_read (Some xs) = refl
-
-none_sent : (bytes : Option (List ℕ)) → Appends bytes bytes []
-none_sent None = tt
-none_sent (Some xs) = sym (append-nil xs)
-
-nothing_read : (bytes : Option (List ℕ)) → (read : List ℕ) × ReadsWithin most_bytes bytes bytes read
-nothing_read bytes = ([], (none_read bytes, omega arith))
 
 no_memory_yet : {T : Type 0} (ops : Tagging T) (text : T → List ℕ) (before old : Option (List ℕ)) → RunsAs ops text before before old old (Err script.Memory)
 no_memory_yet ops text before old = ([], (none_read before, omega arith), ([], out ops text [], none_sent old, refl))

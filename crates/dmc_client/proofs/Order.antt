@@ -12,36 +12,18 @@ use Rattle.dmc_tag.specs.Tag.{Tagging}
 use Rattle.dmc_tag.specs.Order.{AtMost}
 use Rattle.dmc_tag.specs.Rules.{less, has_less}
 use Rattle.dmc_client.specs.Order.{InOrder}
-
--- an order that is the same as a total one is total
-pub same_total : {T : Type 0} (R C : T → T → Ordering) → IsTotalOrder R → ((a b : T) → R a b ≡ C a b) → IsTotalOrder C
-same_total R C o h = subst IsTotalOrder (fun_ext (λ a. fun_ext (λ b. h a b))) o
+use Rattle.dmc_tag.proofs.Orderings.{at_most_itself, at_most_trans}
+pub use Rattle.dmc_tag.proofs.Orderings.{tag_order}
+use Rattle.dmc_tag.proofs.Booleans.{both_true}
 
 module _ {T : Type 0} (ops : Tagging T) (order : IsTotalOrder ops.compare) where
-  itself : (r : Ordering) → r ≡ ordering_reverse r → is_gt r ≡ false
-  itself Less e = refl
-  itself Equal e = refl
-  itself Greater e = cc
-
-  at_most_itself : (a : T) → AtMost ops a a
-  at_most_itself a = itself _ (order.antisymm a a)
-
-  chained : (a b c : T) (r s : Ordering) → ops.compare a b ≡ r → ops.compare b c ≡ s → is_gt r ≡ false → is_gt s ≡ false → AtMost ops a c
-  chained a b c Less Less p q h k = ap is_gt (order.trans a b c p q)
-  chained a b c Less Equal p q h k =
-      let same : ops.compare a c ≡ ops.compare a b = order.antisymm a c ∙ ap ordering_reverse (sym (order.congr b c a q)) ∙ sym (order.antisymm a b) in
-      ap is_gt (same ∙ p)
-  chained a b c Less Greater p q h k = cc
-  chained a b c Equal s p q h k = ap is_gt (order.congr a b c p ∙ q) ∙ k
-  chained a b c Greater s p q h k = cc
-
   below_all : (x p q : T) (xs : List T) → AllByRecursion (AtMost ops x) (xs ++ p ∷ []) → AtMost ops p q → AllByRecursion (AtMost ops x) ((xs ++ q ∷ []) ++ q ∷ [])
-  below_all x p q [] h k = let up = chained x p q _ _ refl refl h.0 k in (up, (up, tt))
+  below_all x p q [] h k = let up = at_most_trans ops order x p q _ _ refl refl h.0 k in (up, (up, tt))
   below_all x p q (y ∷ xs) h k = (h.0, below_all x p q xs h.1 k)
 
   -- the next tag is queued, and becomes the previous one
   pub in_order-next : (xs : List T) (p q : T) → InOrder ops (xs ++ p ∷ []) → AtMost ops p q → InOrder ops ((xs ++ q ∷ []) ++ q ∷ [])
-  in_order-next [] p q h k = ((at_most_itself q, tt), (tt, tt))
+  in_order-next [] p q h k = ((at_most_itself ops order q, tt), (tt, tt))
   in_order-next (x ∷ xs) p q h k = (below_all x p q xs h.0 k, in_order-next xs p q h.1 k)
 
 -- an amount taken off each of two tags keeps their order
@@ -55,18 +37,14 @@ module _ {T : Type 0} (ops : Tagging T) (keeps : KeepsOrder ops) (amount : T) wh
   less_at_most a b (Some x) None e f s t h = cc
   less_at_most a b None p e f s t h = cc
 
-  both : (a b : Bool) → (a && b) ≡ true → (a ≡ true) × (b ≡ true)
-  both true b e = (refl, e)
-  both false b e = cc
-
   all_less : (a : T) (xs : List T) → has_less ops amount a ≡ true → list_all (has_less ops amount) xs ≡ true → AllByRecursion (AtMost ops a) xs → AllByRecursion (AtMost ops (less ops amount a)) (map (less ops amount) xs)
   all_less a [] s t h = tt
   all_less a (x ∷ xs) s t h =
-      let parts = both (has_less ops amount x) (list_all (has_less ops amount) xs) t in
+      let parts = both_true (has_less ops amount x) (list_all (has_less ops amount) xs) t in
       (less_at_most a x _ _ refl refl s parts.0 h.0, all_less a xs s parts.1 h.1)
 
   pub in_order-less : (xs : List T) → list_all (has_less ops amount) xs ≡ true → InOrder ops xs → InOrder ops (map (less ops amount) xs)
   in_order-less [] t h = tt
   in_order-less (x ∷ xs) t h =
-      let parts = both (has_less ops amount x) (list_all (has_less ops amount) xs) t in
+      let parts = both_true (has_less ops amount x) (list_all (has_less ops amount) xs) t in
       (all_less x xs parts.0 parts.1 h.0, in_order-less xs parts.1 h.1)

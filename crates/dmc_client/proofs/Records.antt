@@ -16,6 +16,8 @@ use Rattle.dmc_client.specs.declared.request.QueuedRequest.{QueuedRequest}
 use Rattle.dmc_client.specs.Order.{InOrder}
 use Rattle.dmc_client.specs.Record.{Rec, IsRecord, reservation_tags, share_tags, pushed, less_share, less_reservation, less_shares, less_reservations, has_less_shares, has_less_reservations}
 use Rattle.dmc_client.proofs.Order.{in_order-next, in_order-less, KeepsOrder}
+use Rattle.dmc_tag.proofs.Options.{is_some_mapped}
+use Rattle.std.proofs.Math.Bool.{and-true}
 
 -- ---- what holds of each request
 
@@ -108,10 +110,6 @@ map_cons_option : {X Y : Type 0} (f : X → Y) (o : Option X) (xs : List X) → 
 map_cons_option f None xs = refl
 map_cons_option f (Some x) xs = refl
 
-is_some_map : {X Y : Type 0} (f : X → Y) (o : Option X) → is_some (option_map f o) ≡ is_some o
-is_some_map f None = refl
-is_some_map f (Some x) = refl
-
 module _ {T : Type 0} (ops : Tagging T) (amount : T) where
   filter_map_less : (requests : List (QueuedRequest T)) → filter_map (λ r. r.tags.r) (map (less_reservation ops amount) requests) ≡ map (less ops amount) (filter_map (λ r. r.tags.r) requests)
   filter_map_less [] = refl
@@ -125,21 +123,17 @@ module _ {T : Type 0} (ops : Tagging T) (amount : T) where
   all_filter_map [] = refl
   all_filter_map (r ∷ requests) = all_cons_option r.tags.r (filter_map (λ r. r.tags.r) requests) ∙ ap (λ b. option_map_or (has_less ops amount) r.tags.r true && b) (all_filter_map requests)
 
-  and_true : (b : Bool) → (b && true) ≡ b
-  and_true true = refl
-  and_true false = refl
-
   shares_have_less : (rec : Rec T) → list_all (has_less ops amount) (share_tags rec) ≡ has_less_shares ops amount rec
   shares_have_less rec =
       list_all-append (has_less ops amount) (map (λ r. r.tags.p) rec.requests) (rec.previous.p ∷ [])
       ∙ ap (λ b. b && (has_less ops amount rec.previous.p && true)) (list_all-map (has_less ops amount) (λ r. r.tags.p) rec.requests)
-      ∙ ap (λ b. list_all (λ r. has_less ops amount r.tags.p) rec.requests && b) (and_true (has_less ops amount rec.previous.p))
+      ∙ ap (λ b. list_all (λ r. has_less ops amount r.tags.p) rec.requests && b) (and-true (has_less ops amount rec.previous.p))
 
   reservations_have_less : (rec : Rec T) → list_all (has_less ops amount) (reservation_tags rec) ≡ has_less_reservations ops amount rec
   reservations_have_less rec =
       list_all-append (has_less ops amount) (filter_map (λ r. r.tags.r) rec.requests) (rec.previous.r ∷ [])
       ∙ ap (λ b. b && (has_less ops amount rec.previous.r && true)) (all_filter_map rec.requests)
-      ∙ ap (λ b. list_all (λ r. option_map_or (has_less ops amount) r.tags.r true) rec.requests && b) (and_true (has_less ops amount rec.previous.r))
+      ∙ ap (λ b. list_all (λ r. option_map_or (has_less ops amount) r.tags.r true) rec.requests && b) (and-true (has_less ops amount rec.previous.r))
 
   shares_are : (rec : Rec T) → share_tags (less_shares ops amount rec) ≡ map (less ops amount) (share_tags rec)
   shares_are rec =
@@ -169,7 +163,7 @@ module _ {T : Type 0} (ops : Tagging T) (amount : T) where
     pub record_less_reservations : (rec : Rec T) → IsRecord ops rec → has_less_reservations ops amount rec ≡ true → IsRecord ops (less_reservations ops amount rec)
     record_less_reservations rec is e = record {
       spacings = is.spacings;
-      reserved = all_over _ _ (less_reservation ops amount) (λ r h. is_some_map (less ops amount) r.tags.r ∙ h) rec.requests is.reserved;
+      reserved = all_over _ _ (less_reservation ops amount) (λ r h. is_some_mapped (less ops amount) r.tags.r ∙ h) rec.requests is.reserved;
       reservations = subst (InOrder ops) (sym (reservations_are rec)) (in_order-less ops keeps amount (reservation_tags rec) (reservations_have_less rec ∙ e) is.reservations);
       limits = subst (λ xs. InOrder ops (xs ++ rec.previous.l ∷ [])) (sym (map_map (λ r. r.tags.l) (less_reservation ops amount) (λ r. r.tags.l) (λ r. refl) rec.requests)) is.limits;
       shares = subst (λ xs. InOrder ops (xs ++ rec.previous.p ∷ [])) (sym (map_map (λ r. r.tags.p) (less_reservation ops amount) (λ r. r.tags.p) (λ r. refl) rec.requests)) is.shares;

@@ -15,14 +15,12 @@ use Rattle.dmc_index.specs.Index.{held, IsEmpty, IsApart, IsApartFromOthers, IsL
 use Rattle.dmc_heads.specs.declared.head.Head.{Head}
 use Rattle.dmc_heads.specs.Heads.{tag_rank, limit_rank, ready_rank, Ranks, IsOthers, AreApart, IsFirst}
 use Rattle.dmc_heads.proofs.Slots.{some_if_mapped, none_if_mapped, is_some_mapped, held-set_same, held-set_other}
+use Rattle.dmc_tag.proofs.Orderings.{then_equal}
+pub use Rattle.dmc_tag.proofs.Orderings.{tag_order}
 
 -- two orders that compare alike are one
 pub same_compare : {T : Type 0} (R C : T → T → Ordering) → ((a b : T) → R a b ≡ C a b) → R ≡ C
 same_compare R C h = fun_ext (λ a. fun_ext (λ b. h a b))
-
--- an order that compares as a total one is total
-pub same_total : {T : Type 0} (R C : T → T → Ordering) → IsTotalOrder R → ((a b : T) → R a b ≡ C a b) → IsTotalOrder C
-same_total R C o h = subst IsTotalOrder (same_compare R C h) o
 
 other_client : (a b : ClientId) → is_client a b ≡ false → a.0 ≢ b.0
 other_client a b e q = eqb-false b.0 a.0 e (sym q)
@@ -32,11 +30,6 @@ client_turned a b e = ne_eqb a.0 b.0 (λ q. eqb-false b.0 a.0 e (sym q))
 
 -- ---- the orders end with the client
 
-tied_last : (r s : Ordering) → ordering_then r s ≡ Equal → s ≡ Equal
-tied_last Less s e = cc
-tied_last Equal s e = e
-tied_last Greater s e = cc
-
 same_number : (x y : ℕ) → nat_cmp x y ≡ Equal → x ≡ y
 same_number x y e = subst (λ r. MatchOrdering r (x < y) (x ≡ y) (y < x)) e (ranked x y (nat_cmp x y) refl)
 
@@ -45,13 +38,13 @@ EndsWithClient {T} rank compare = (a b : Head T) → compare (rank a) (rank b) �
 
 module _ {T : Type 0} (compare : T → T → Ordering) where
   pub tag_ends : EndsWithClient tag_rank (tag_rank_cmp compare)
-  tag_ends a b e = same_number a.client.0 b.client.0 (tied_last _ _ e)
+  tag_ends a b e = same_number a.client.0 b.client.0 (then_equal _ _ e)
 
   pub limit_ends : EndsWithClient limit_rank (limit_rank_cmp compare)
-  limit_ends a b e = same_number a.client.0 b.client.0 (tied_last _ _ (tied_last _ _ e))
+  limit_ends a b e = same_number a.client.0 b.client.0 (then_equal _ _ (then_equal _ _ e))
 
   pub ready_ends : EndsWithClient ready_rank (ready_rank_cmp compare)
-  ready_ends a b e = same_number a.client.0 b.client.0 (tied_last _ _ (tied_last _ _ e))
+  ready_ends a b e = same_number a.client.0 b.client.0 (then_equal _ _ (then_equal _ _ e))
 
 -- ---- one index
 

@@ -17,6 +17,7 @@ use Rattle.dmc_heads.specs.declared.head.Head.{Head}
 use Rattle.dmc_heads.specs.Heads.{limit_rank, IsFirst, marked, set_back}
 use Rattle.dmc_heads.specs.Marks.{with_ready, is_past, CanMark}
 use Rattle.dmc_heads.proofs.Slots.{map_set, set-held, held-map}
+use Rattle.dmc_tag.proofs.Orderings.{then_less}
 
 or_true : (a d : Bool) → a ≡ true → (a || d) ≡ a
 or_true true d e = refl
@@ -37,11 +38,6 @@ ready_behind : (a b : Bool) (s : Ordering) → ordering_then (bool_cmp a b) s �
 ready_behind false b s h e = cc
 ready_behind true false s h e = cc
 ready_behind true true s h e = refl
-
-not_above : (r s : Ordering) → ordering_then r s ≡ Less → is_gt r ≡ false
-not_above Less s e = refl
-not_above Equal s e = refl
-not_above Greater s e = cc
 
 unready_behind : (a b : Bool) (s : Ordering) → ordering_then (bool_cmp a b) s ≡ Less → a ≡ false → b ≡ false → s ≡ Less
 unready_behind false false s h e f = h
@@ -96,7 +92,7 @@ module _ {T : Type 0} (ops : Tagging T) (t : ℕ) where
       behind k h q e =
           elim (cases_eq k key) [
             | inl s ↦ let one = ap (λ (x : LimitRank T). x.tag) (first_head k h q s) in subst (λ x. AtMost ops least.tag x) (sym one) (ap is_gt (tied_itself order least.tag))
-            | inr ne ↦ not_above _ _ (unready_behind least.ready h.ready _ (first.below k h ne q) r e)
+            | inr ne ↦ then_less _ _ (unready_behind least.ready h.ready _ (first.below k h ne q) r e)
           ]
 
       at : (k : ℕ) (h : Head T) → held heads k ≡ Some h → (b : Bool) → h.ready ≡ b → marked ops t h ≡ h

@@ -5,10 +5,9 @@ use Rattle.std.proofs.lemmas.Bool.{cases_lt}
 use Rattle.std.proofs.lemmas.List.Sums.{sum_by-cons}
 use Rattle.std.proofs.lemmas.List.{get_or_past, get_or-set_same, get_or-set_other}
 use Rattle.dmc_index.specs.Index.{held}
-
-pub option_cases : {X G : Type 0} (o : Option X) → (o ≡ None → G) → ((x : X) → o ≡ Some x → G) → G
-option_cases None none some = none refl
-option_cases (Some x) none some = some x refl
+use Rattle.dmc_tag.proofs.Options.{option_cases}
+pub use Rattle.dmc_tag.proofs.Options.{is_some_mapped}
+pub use Rattle.dmc_index.proofs.Slots.{held-more, held-set_other}
 
 pub some_of : {X : Type 0} (o : Option X) → IsSome o → (x : X) × (o ≡ Some x)
 some_of None h = cc
@@ -22,10 +21,6 @@ pub none_if_mapped : {X Y : Type 0} (f : X → Y) (o : Option X) → option_map 
 none_if_mapped f None e = refl
 none_if_mapped f (Some x) e = cc
 
-pub is_some_mapped : {X Y : Type 0} (f : X → Y) (o : Option X) → is_some (option_map f o) ≡ is_some o
-is_some_mapped f None = refl
-is_some_mapped f (Some x) = refl
-
 module _ {X : Type 0} where
   -- a key that holds something is below the room
   pub within : (slots : List (Option X)) (key : ℕ) (x : X) → held slots key ≡ Some x → key < length slots
@@ -34,9 +29,6 @@ module _ {X : Type 0} where
 
   pub held-set_same : (slots : List (Option X)) (key : ℕ) (o : Option X) → key < length slots → held (set slots key o) key ≡ o
   held-set_same slots key o l = get_or-set_same slots key o None l
-
-  pub held-set_other : (slots : List (Option X)) (key k : ℕ) (o : Option X) → k ≢ key → held (set slots key o) k ≡ held slots k
-  held-set_other slots key k o ne = get_or-set_other slots key k o None ne
 
   pub same_slots : (xs ys : List (Option X)) → length xs ≡ length ys → ((key : ℕ) → held xs key ≡ held ys key) → xs ≡ ys
   same_slots [] [] e h = refl
@@ -50,14 +42,6 @@ module _ {X : Type 0} where
   set-held [] key = refl
   set-held (x ∷ slots) zero = refl
   set-held (x ∷ slots) (suc key) = ap (λ zs. x ∷ zs) (set-held slots key)
-
-  -- more room holds nothing
-  pub held-more : (slots : List (Option X)) (n key : ℕ) → held (slots ++ replicate n None) key ≡ held slots key
-  held-more [] zero key = refl
-  held-more [] (suc n) zero = refl
-  held-more [] (suc n) (suc key) = held-more [] n key
-  held-more (x ∷ slots) n zero = refl
-  held-more (x ∷ slots) n (suc key) = held-more slots n key
 
   count_none : (slots : List (Option X)) → ((key : ℕ) → held slots key ≡ None) → count_by is_some slots ≡ 0
   count_none [] h = refl

@@ -6,6 +6,7 @@ use Rattle.std.proofs.lemmas.List.{length-set}
 use Rattle.std.proofs.lemmas.Option.{slice_get_within}
 use Rattle.dmc_heap.specs.Heap.{rank_at, rank_of, IsLinked}
 use Rattle.dmc_heap.specs.declared.indexed_heap.Entry.{Entry}
+pub use Rattle.dmc_tag.proofs.Options.{option_cases}
 
 -- ---- an element after a write
 
@@ -21,10 +22,6 @@ module _ {X : Type 0} where
   slice_get-set_other (x ∷ xs) zero (suc j) y ne = refl
   slice_get-set_other (x ∷ xs) (suc i) zero y ne = refl
   slice_get-set_other (x ∷ xs) (suc i) (suc j) y ne = slice_get-set_other xs i j y (λ e. ne (ap suc e))
-
-pub option_cases : {X G : Type 0} (o : Option X) → (o ≡ None → G) → ((x : X) → o ≡ Some x → G) → G
-option_cases None none some = none refl
-option_cases (Some x) none some = some x refl
 
 -- ---- the rank of a key
 

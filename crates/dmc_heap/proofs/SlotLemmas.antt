@@ -17,6 +17,7 @@ use Rattle.dmc_heap.specs.declared.indexed_heap.Entry.{Entry}
 use Rattle.dmc_heap.specs.declared.indexed_heap.TheConstants.{VACANT}
 use Rattle.dmc_heap.proofs.LinkLemmas.{slice_get-set_same, slice_get-set_other, option_cases, rank_of_some, rank_of_none, IsLinked-move, rank_of-move, keys_apart}
 use Rattle.dmc_heap.proofs.OrderLemmas.{upto_trans, upto_itself, same_some}
+use Rattle.dmc_index.proofs.Slots.{held-replicate, count-set_some, count_below}
 
 -- ---- an element of a longer list
 
@@ -52,13 +53,6 @@ module _ {X : Type 0} where
 -- ---- maps
 
 module _ {R : Type 0} where
-  held-replicate : (n key : ℕ) → held {R = R} (replicate n None) key ≡ None
-  held-replicate n key =
-      elim (cases_lt key n) [
-        | inl l ↦ get_or-replicate n key None None l
-        | inr l ↦ get_or_past (replicate n None) key None (rw length-replicate l)
-      ]
-
   pub held-slots_of : (heap : List (Entry R)) (places : List ℕ) (key : ℕ) → held (slots_of heap places) key ≡ rank_of heap places key
   held-slots_of heap [] key = refl
   held-slots_of heap (p ∷ ps) zero = refl
@@ -111,19 +105,11 @@ module _ {R : Type 0} where
   bit_of : (v w : Option R) → v ≡ w → ◌≡◌ {A = ℕ} (cond (is_some v) 1 0) (cond (is_some w) 1 0)
   bit_of v w e = ap (λ (o : Option R). cond (is_some o) 1 0) e
 
-  pub count_inserted : (slots : List (Option R)) (key : ℕ) (rank : R) → key < length slots → held slots key ≡ None → count_by is_some (set slots key (Some rank)) ≡ count_by is_some slots + 1
-  count_inserted slots key rank l h = omega (arith, count-set slots key (Some rank) l, bit_of _ _ h)
-
   pub count_changed : (slots : List (Option R)) (key : ℕ) (old rank : R) → key < length slots → held slots key ≡ Some old → count_by is_some (set slots key (Some rank)) ≡ count_by is_some slots
   count_changed slots key old rank l h = omega (arith, count-set slots key (Some rank) l, bit_of _ _ h)
 
   pub count_removed : (slots : List (Option R)) (key : ℕ) (old : R) → key < length slots → held slots key ≡ Some old → count_by is_some (set slots key None) + 1 ≡ count_by is_some slots
   count_removed slots key old l h = omega (arith, count-set slots key None l, bit_of _ _ h)
-
-  -- a map with a vacant key holds fewer keys than its room
-  pub count_below : (slots : List (Option R)) (key : ℕ) (rank : R) → key < length slots → held slots key ≡ None → count_by is_some slots < length slots
-  count_below slots key rank l h =
-      omega (arith, count_inserted slots key rank l h, count_by-le-length is_some (set slots key (Some rank)), length-set slots key (Some rank))
 
 -- ---- where a key is
 
@@ -414,7 +400,7 @@ module _ {R : Type 0} (compare : R → R → Ordering) (o : IsTotalOrder compare
         let e : Entry R = record { rank = rank; key = key } in
         let has = s.ranks key ∙ rank_of_pushed compare heap places sound.linked sound.ordered e in' vacant_key small_heap in
         let others = λ (k : ℕ) (p : k ≢ key). s.ranks k ∙ rank_of_others_pushed compare heap places sound.linked sound.ordered e in' vacant_key small_heap k p in
-        let count : count_by is_some (set (slots_of heap places) key (Some rank)) ≡ length new_heap = omega (arith, count_inserted (slots_of heap places) key rank (omega (arith, length-slots)) none, sound.counted, s.size, length-append heap (e ∷ [])) in
+        let count : count_by is_some (set (slots_of heap places) key (Some rank)) ≡ length new_heap = omega (arith, count-set_some (slots_of heap places) key rank (omega (arith, length-slots)) none, sound.counted, s.size, length-append heap (e ∷ [])) in
         (IsSound-edit key (Some rank) in' new_heap new_places s.room has others s.linked s.ordered (λ r e k other ne q. subst (λ r. compare r other ≢ Equal) (same_some rank r e) (apart k other q)) count more m, slots_of-edit key (Some rank) in' new_heap new_places s.room has others)
 
 -- ---- remove

@@ -18,13 +18,14 @@ use Rattle.std.proofs.lemmas.List.Quantifiers.{position-Some, all_pairs_remove}
 use Rattle.dmc_index.specs.Index.{held, IsEmpty, IsApart, AreApart, IsLeast, KeepsOrder, IsMapped}
 use Rattle.dmc_index.specs.Entries.{slots_of, IsRising, IsSound, MapsEntries}
 use Rattle.dmc_index.specs.declared.list_index.Entry.{Entry}
+pub use Rattle.dmc_tag.proofs.Orderings.{less_if_lt}
+use Rattle.dmc_tag.proofs.Options.{option_cases}
+use Rattle.std.proofs.lemmas.Bool.{not-true}
+use Rattle.dmc_index.proofs.Slots.{held-replicate, count-set_some, count_below}
 
 -- ---- lists
 
 module _ {R : Type 0} where
-  held-replicate : (n key : ℕ) → held {R = R} (replicate n None) key ≡ None
-  held-replicate n key = ⊎_elim (λ l. get_or-replicate n key None None l) (λ l. get_or_past (replicate n None) key None (rw length-replicate l)) (cases_lt key n)
-
   -- what a map holds after a write was written, or held before
   held-set : (slots : List (Option R)) (i key : ℕ) (v : Option R) (rank : R) → held (set slots i v) key ≡ Some rank → ((key ≡ i) × (v ≡ Some rank)) ⊎ (held slots key ≡ Some rank)
   held-set slots i key v rank h =
@@ -35,17 +36,6 @@ module _ {R : Type 0} where
           | inr l ↦ inr (subst (λ s. get_or s key None ≡ Some rank) (set_past slots i v l) h)
         ]
       ]
-
-  -- one more key is held
-  count-set_some : (slots : List (Option R)) (key : ℕ) (rank : R) → key < length slots → held slots key ≡ None → count_by is_some (set slots key (Some rank)) ≡ count_by is_some slots + 1
-  count-set_some slots key rank l h =
-      let none : ◌≡◌ {A = ℕ} (cond (is_some (get_or slots key None)) 1 0) 0 = ap (λ (o : Option R). cond (is_some o) 1 0) h in
-      omega (arith, none, sum_by-set (λ (o : Option R). cond (is_some o) 1 0) slots key (Some rank) None l)
-
-  -- a map with a vacant key holds fewer keys than its room
-  count_below : (slots : List (Option R)) (key : ℕ) (rank : R) → key < length slots → held slots key ≡ None → count_by is_some slots < length slots
-  count_below slots key rank l h =
-      omega (arith, count-set_some slots key rank l h, count_by-le-length is_some (set slots key (Some rank)), length-set slots key (Some rank))
 
 -- ---- pairs
 
@@ -99,19 +89,10 @@ All-remove P xs i l h k d m =
 
 -- ---- cases
 
-option_cases : {X G : Type 0} (o : Option X) → (o ≡ None → G) → ((x : X) → o ≡ Some x → G) → G
-option_cases None none some = none refl
-option_cases (Some x) none some = some x refl
-
 less_from : (r s : Ordering) → s ≡ ordering_reverse r → r ≢ Equal → s ≢ Less → r ≡ Less
 less_from Less s e p q = refl
 less_from Equal s e p q = absurd (p refl)
 less_from Greater s e p q = absurd (q e)
-
-pub less_if_lt : (r : Ordering) → is_lt r ≡ true → r ≡ Less
-less_if_lt Less e = refl
-less_if_lt Equal e = cc
-less_if_lt Greater e = cc
 
 pub not_less_if_not_lt : (r : Ordering) → is_lt r ≡ false → r ≢ Less
 not_less_if_not_lt r e q = cc (ap is_lt q)
@@ -120,15 +101,11 @@ false_test : {X : Type 0} (b : Bool) (x : X) → cond b (Some x) None ≡ None �
 false_test true x e = cc
 false_test false x e = refl
 
-false_if_not : (b : Bool) → not b ≡ true → b ≡ false
-false_if_not true e = sym e
-false_if_not false e = refl
-
 -- no element passes where none is found
 not_passing : {X : Type 0} (p : X → Bool) (xs : List X) → position p xs ≡ None → (k : ℕ) (d : X) → k < length xs → p (get_or xs k d) ≡ false
 not_passing p xs h k d l =
     let past = ltb-false (prefix_len (λ x. not (p x)) xs) (length xs) (false_test (nat_lt (prefix_len (λ x. not (p x)) xs) (length xs)) (prefix_len (λ x. not (p x)) xs) h) in
-    false_if_not (p (get_or xs k d)) (prefix_len_passes (λ x. not (p x)) xs k d (omega arith))
+    not-true (p (get_or xs k d)) (prefix_len_passes (λ x. not (p x)) xs k d (omega arith))
 
 -- the places by a rank, where the ranks rise
 pub IsPartitionedBy-rising : {R : Type 0} {compare : R → R → Ordering} (o : IsTotalOrder compare) (es : List (Entry R)) (rank : R) → IsRising compare es → IsPartitionedBy (λ e. is_lt (compare e.rank rank)) es
@@ -158,7 +135,7 @@ module _ {R : Type 0} where
 
   -- what is said of each entry is true of each key that is held
   held_all : (P : ℕ → R → Type 0) (room : ℕ) (es : List (Entry R)) → All (λ e. P e.key e.rank) es → (key : ℕ) (rank : R) → held (slots_of room es) key ≡ Some rank → P key rank
-  held_all P room [] h key rank q = cc (held-replicate {R = R} room key)
+  held_all P room [] h key rank q = cc (held-replicate {X = R} room key)
   held_all P room (e ∷ es) h key rank q =
       elim (held-set (slots_of room es) e.key key (Some e.rank) rank q) [
         | inl w ↦ let same : e.rank ≡ rank = cc in subst (λ r. P key r) same (subst (λ k. P k e.rank) (sym w.0) (All-head (λ e. P e.key e.rank) e es h))

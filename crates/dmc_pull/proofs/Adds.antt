@@ -30,10 +30,7 @@ use Rattle.dmc_pull.specs.Standing.{clients_in, requests_in}
 use Rattle.dmc_pull.proofs.Entries.{named}
 use Rattle.dmc_pull.proofs.Due.{at_in}
 use Rattle.dmc_pull.proofs.LeastShare.{best_share, has_least}
-
--- an order that is the same as a total one is total
-pub same_total : {T : Type 0} (R C : T → T → Ordering) → IsTotalOrder R → ((a b : T) → R a b ≡ C a b) → IsTotalOrder C
-same_total R C o h = subst IsTotalOrder (fun_ext (λ a. fun_ext (λ b. h a b))) o
+pub use Rattle.dmc_tag.proofs.Orderings.{tag_order}
 
 pub if_all : {X : Type 0} (P : X → Type 0) (o : Option X) → ((x : X) → o ≡ Some x → P x) → IfSome o P
 if_all P None h = tt

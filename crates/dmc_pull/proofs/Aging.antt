@@ -11,6 +11,8 @@ use Rattle.dmc_roster.specs.Entries.{Entry, entry_keyed}
 use Rattle.dmc_index.specs.Index.{held}
 use Rattle.dmc_heads.specs.declared.head.Head.{Head}
 use Rattle.dmc_pull.specs.Queue.{AreHeads, head_of, unready}
+use Rattle.dmc_index.proofs.Slots.{held-more}
+pub use Rattle.dmc_index.proofs.Slots.{held-set_other}
 
 pub all_true : {X : Type 0} (P : X → Type 0) → ((x : X) → P x) → (xs : List X) → AllByRecursion P xs
 all_true P h [] = tt
@@ -19,25 +21,14 @@ all_true P h (x ∷ xs) = (h x, all_true P h xs)
 -- ---- what a key holds
 
 module _ {X : Type 0} where
-  -- more room holds nothing
-  held_more : (slots : List (Option X)) (n key : ℕ) → held (slots ++ replicate n None) key ≡ held slots key
-  held_more [] zero key = refl
-  held_more [] (suc n) zero = refl
-  held_more [] (suc n) (suc key) = held_more [] n key
-  held_more (x ∷ slots) n zero = refl
-  held_more (x ∷ slots) n (suc key) = held_more slots n key
-
   pub held_grown : (slots more : List (Option X)) (n : ℕ) → more ≡ slots ++ replicate n None → (key : ℕ) → held more key ≡ held slots key
-  held_grown slots more n e key = ap (λ xs. held xs key) e ∙ held_more slots n key
+  held_grown slots more n e key = ap (λ xs. held xs key) e ∙ held-more slots n key
 
   pub held_emptied : (slots : List (Option X)) (key : ℕ) → held (set slots key None) key ≡ None
   held_emptied slots key = elim (cases_lt key (length slots)) [
     | inl l ↦ get_or-set_same slots key None None l
     | inr l ↦ get_or_past (set slots key None) key None (subst (λ n. n ≤ key) (sym (length-set slots key None)) l)
   ]
-
-  pub held_other : (slots : List (Option X)) (key k : ℕ) (o : Option X) → k ≢ key → held (set slots key o) k ≡ held slots k
-  held_other slots key k o ne = get_or-set_other slots key k o None ne
 
   -- nothing in place of nothing
   pub set_same : (slots : List (Option X)) (key : ℕ) (o : Option X) → held slots key ≡ o → set slots key o ≡ slots

@@ -24,7 +24,7 @@ use Rattle.dmc_pull.specs.Queue.{Queue, IsQueue, IsKept, AreHeads, head_of, head
 use Rattle.dmc_pull.specs.Standing.{clients_in, requests_in}
 use Rattle.dmc_pull.proofs.Parts.{all_as, all_both, all_append, found_holds, found_passes}
 use Rattle.dmc_pull.proofs.Entries.{Differs, split, name_is, all_changed}
-use Rattle.dmc_pull.proofs.Keyed.{id_is, split_keyed, distinct_changed, read_changed, read_other, read_kept}
+use Rattle.dmc_pull.proofs.Keyed.{same_client, split_keyed, distinct_changed, read_changed, read_other, read_kept}
 use Rattle.dmc_pull.proofs.Shifted.{pushed_clients, pushed_requests, length_pushed}
 use Rattle.dmc_pull.proofs.Choices.{entry_at}
 use Rattle.dmc_pull.proofs.Adds.{held_entry, if_holds}
@@ -192,7 +192,7 @@ pub record IsOf {T : Type 0} (ops : Tagging T) (fraction : T → Fraction) (is_v
 pub of_client : {T : Type 0} (ops : Tagging T) (fraction : T → Fraction) (is_value : Fraction → Type 0) (q : Queue T) (n key : ℕ) (client : ClientId) → IsQueue ops fraction is_value q n → AreDistinct q.roster.entries → entry_keyed key q.roster.entries ≡ entry_named client q.roster.entries → is_some (entry_keyed key q.roster.entries) ≡ true → IsOf ops fraction is_value q n key client
 of_client ops fraction is_value q n key client is d same held =
     let x = held_entry (entry_keyed key q.roster.entries) held in
-    record { entry = x.0; found = x.1; id = id_is client x.0.id (name_is client q.roster.entries x.0 (sym same ∙ x.1)); distinct = d; is = is }
+    record { entry = x.0; found = x.1; id = same_client client x.0.id (name_is client q.roster.entries x.0 (sym same ∙ x.1)); distinct = d; is = is }
 
 -- what a push that did not fail says of the client's record
 did : {T A E : Type 0} (r : Result A E) (P : Rec T → Type 0) (key : ℕ) (es : List (Entry T)) (e : Entry T) → is_err r ≡ false → entry_keyed key es ≡ Some e → OnOk r (IfSome (record_at key es) P) → P e.rec

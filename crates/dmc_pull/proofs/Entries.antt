@@ -17,6 +17,7 @@ use Rattle.dmc_client.specs.Record.{Rec, client_of, request_of, requests_of_reco
 use Rattle.dmc_roster.specs.Entries.{Entry, entry_named, entry_keyed, record_at, with_rec, with_record, AreDistinct}
 use Rattle.dmc_pull.specs.Standing.{clients_in, requests_in}
 use Rattle.dmc_pull.proofs.Parts.{eqb_turned, all_as, all_both, all_append, all_front, all_back, map_kept, any_is, map_cond, found_holds, found_passes, none_found}
+use Rattle.dmc_pull.proofs.Firsts.{requests_append}
 
 pub itself : (id : ClientId) → is_client id id ≡ true
 itself id = eq-eqb id.0 id.0 refl
@@ -89,10 +90,6 @@ module _ {T : Type 0} where
 
   pub clients_append : (xs ys : List (Entry T)) → clients_in (xs ++ ys) ≡ clients_in xs ++ clients_in ys
   clients_append xs ys = map-append (λ e. client_of e.id e.rec) xs ys
-
-  pub requests_append : (xs ys : List (Entry T)) → requests_in (xs ++ ys) ≡ requests_in xs ++ requests_in ys
-  requests_append [] ys = refl
-  requests_append (x ∷ xs) ys = ap (λ rs. requests_of_record x.id x.rec ++ rs) (requests_append xs ys) ∙ sym (append_assoc (requests_of_record x.id x.rec) (requests_in xs) (requests_in ys))
 
   pub clients_whole : {key : ℕ} {e : Entry T} {es : List (Entry T)} (s : Split key e es) → clients_in es ≡ clients_in s.front ++ client_of e.id e.rec ∷ clients_in s.back
   clients_whole {key} {e} s = ap clients_in s.whole ∙ clients_append s.front (e ∷ s.back)

@@ -19,7 +19,7 @@ use Rattle.dmc_pull.specs.Queue.{Queue, IsQueue, AreHeads, state_of}
 use Rattle.dmc_pull.specs.FirstRequests.{first_request, client_at, head_client, AreFirstRequests}
 use Rattle.dmc_pull.proofs.Parts.{any_is, positive, found_holds}
 use Rattle.dmc_pull.proofs.Entries.{Split, split, all_split, key_is, name_is}
-use Rattle.dmc_pull.proofs.Keyed.{id_is, split_keyed, split_named, requests_named}
+use Rattle.dmc_pull.proofs.Keyed.{same_client, split_keyed, split_named, requests_named}
 use Rattle.dmc_pull.proofs.Choices.{head_at, entry_at}
 
 module _ {T : Type 0} (ops : Tagging T) (t : ℕ) (es : List (Entry T)) (heads : List (Option (Head T))) (are : AreHeads ops t es heads) (d : AreDistinct es) where
@@ -44,7 +44,7 @@ module _ {T : Type 0} (ops : Tagging T) (t : ℕ) (es : List (Entry T)) (heads :
     of_entry e n own (r ∷ rest) q =
         let s = found_holds (λ f. Split f.key f es) (λ f. is_client id f.id) es e (all_split es d) n in
         let x = head_at ops t es heads are e.key e r rest (split_keyed s) q in
-        (e.key, ap (option_map head_client) x.here ∙ ap Some (x.of.client ∙ id_is id e.id (name_is id es e n)))
+        (e.key, ap (option_map head_client) x.here ∙ ap Some (x.of.client ∙ same_client id e.id (name_is id es e n)))
 
     by : (o : Option (Entry T)) → entry_named id es ≡ o → requests_of id (requests_in es) ≡ option_map_or (λ e. requests_of_record e.id e.rec) (entry_named id es) [] → (key : ℕ) × (client_at head_client heads key ≡ Some id)
     by None n own = absurd (some_queued id has (own ∙ ap (λ o. option_map_or (λ e. requests_of_record e.id e.rec) o []) n))

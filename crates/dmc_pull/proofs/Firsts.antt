@@ -22,12 +22,10 @@ use Rattle.dmc_roster.specs.Entries.{Entry, entry_keyed, record_at, with_record,
 use Rattle.dmc_adjust.specs.Changes.{popped}
 use Rattle.dmc_pull.specs.Standing.{requests_in}
 use Rattle.dmc_pull.proofs.Ordered.{less_upto, not_behind, itself, IsUpto, FirstIsLeast, FirstIsMember}
+pub use Rattle.dmc_tag.proofs.Lists.{all_append, found_holds}
+use Rattle.std.proofs.lemmas.Bool.{false_from_ne_true}
 
 -- ---- lists
-
-pub all_append : {X : Type 0} (P : X → Type 0) (xs ys : List X) → AllByRecursion P xs → AllByRecursion P ys → AllByRecursion P (xs ++ ys)
-all_append P [] ys h k = k
-all_append P (x ∷ xs) ys h k = (h.0, all_append P xs ys h.1 k)
 
 pub append_assoc : {X : Type 0} (xs ys zs : List X) → (xs ++ ys) ++ zs ≡ xs ++ (ys ++ zs)
 append_assoc [] ys zs = refl
@@ -72,14 +70,6 @@ module _ {T : Type 0} where
     by false k later =
         let more = later (rest_of x (entry_keyed key es) e (x.key == key) h k) in
         record { front = x ∷ more.front; back = more.back; whole = ap (λ l. x ∷ l) more.whole; keyed = more.keyed; ahead = (k, more.ahead); behind = more.behind }
-
-  -- what holds of all holds of the one that is found
-  pub found_holds : (P : Entry T → Type 0) (test : Entry T → Bool) (es : List (Entry T)) (e : Entry T) → AllByRecursion P es → find test es ≡ Some e → P e
-  found_holds P test [] e h f = cc
-  found_holds P test (x ∷ es) e h f = at (test x) f (found_holds P test es e h.1) where
-    at : (b : Bool) → cond b (Some x) (find test es) ≡ Some e → (find test es ≡ Some e → P e) → P e
-    at true g more = let same : x ≡ e = cc in subst P same h.0
-    at false g more = more g
 
   -- what holds of each entry that its key finds holds of all
   pub all_found : (P : Entry T → Type 0) (es : List (Entry T)) → AreDistinct es → ((e : Entry T) → entry_keyed e.key es ≡ Some e → P e) → AllByRecursion P es
@@ -208,13 +198,9 @@ module _ {T : Type 0} (ops : Tagging T) (order : IsTotalOrder ops.compare) (tag 
   FirstIsNone [] = ⊤
   FirstIsNone (r ∷ rest) = member r.tags ≡ false
 
-  not_true : (b : Bool) → (b ≡ true → ⊥) → b ≡ false
-  not_true true h = absurd (h refl)
-  not_true false h = refl
-
   none_rest : (r : QueuedRequest T) (rest : List (QueuedRequest T)) → AllByRecursion (λ x. member x.tags ≡ true → member r.tags ≡ true) rest → member r.tags ≡ false → AllByRecursion (λ x. member x.tags ≡ false) rest
   none_rest r [] m h = tt
-  none_rest r (x ∷ rest) m h = (not_true (member x.tags) (λ t. let a : member r.tags ≡ true = m.0 t in cc), none_rest r rest m.1 h)
+  none_rest r (x ∷ rest) m h = (false_from_ne_true (member x.tags) (λ t. let a : member r.tags ≡ true = m.0 t in cc), none_rest r rest m.1 h)
 
   none_of : (requests : List (QueuedRequest T)) → FirstIsMember member requests → FirstIsNone requests → AllByRecursion (λ x. member x.tags ≡ false) requests
   none_of [] m h = tt

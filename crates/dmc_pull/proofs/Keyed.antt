@@ -14,11 +14,7 @@ use Rattle.dmc_roster.specs.Entries.{Entry, entry_named, entry_keyed, with_rec, 
 use Rattle.dmc_pull.specs.Standing.{requests_in}
 use Rattle.dmc_pull.proofs.Parts.{all_as, all_filtered, map_cond, found_holds, found_passes}
 use Rattle.dmc_pull.proofs.Entries.{Split, Differs, differs_from, differs_before, split_changed, itself, record_filtered, all_filtered_out}
-
-pub id_is : (id other : ClientId) → is_client id other ≡ true → other ≡ id
-id_is id other e =
-    let one : other.0 ≡ id.0 = eqb-true other.0 id.0 e in
-    ap (λ (n : ℕ). record { 0 = n }) one
+pub use Rattle.dmc_tag.proofs.Active.{same_client}
 
 none_of_all : {X : Type 0} (test : X → Bool) (xs : List X) → AllByRecursion (λ x. test x ≡ false) xs → find test xs ≡ None
 none_of_all test [] h = refl
@@ -147,7 +143,7 @@ module _ {T : Type 0} where
   requests_named (e ∷ es) d id = at (requests_named es d.1 id) (is_client id e.id) refl where
     none_more : is_client id e.id ≡ true → requests_of id (requests_in es) ≡ []
     none_more k =
-        let one = id_is id e.id k in
+        let one = same_client id e.id k in
         all_filtered_out (is_client id) es (all_as (λ f. (is_client e.id f.id ≡ false) × ((e.key == f.key) ≡ false)) (λ f. is_client id f.id ≡ false) (λ f p. ap (λ i. is_client i f.id) (sym one) ∙ p.0) es d.0)
 
     at : requests_of id (requests_in es) ≡ option_map_or (λ f. requests_of_record f.id f.rec) (entry_named id es) [] → (b : Bool) → is_client id e.id ≡ b → filter (λ r. is_client id r.client) (requests_of_record e.id e.rec ++ requests_in es) ≡ option_map_or (λ f. requests_of_record f.id f.rec) (cond b (Some e) (entry_named id es)) []

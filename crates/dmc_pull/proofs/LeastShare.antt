@@ -24,6 +24,7 @@ use Rattle.dmc_pull.proofs.Firsts.{is_at, all_found, found_holds, all_append}
 use Rattle.dmc_pull.proofs.Choices.{head_at, entry_at}
 use Rattle.dmc_pull.proofs.Pulls.{then_less, all_are}
 use Rattle.dmc_pull.proofs.Due.{IsIn, at_in, first_in}
+use Rattle.dmc_tag.proofs.Orderings.{less_if_lt}
 
 then_upto : (r s : Ordering) → is_gt (ordering_then r s) ≡ false → is_gt r ≡ false
 then_upto Less s h = refl
@@ -34,11 +35,6 @@ turned_gt : (r : Ordering) → is_lt r ≡ false → is_gt (ordering_reverse r) 
 turned_gt Less h = cc
 turned_gt Equal h = refl
 turned_gt Greater h = refl
-
-lt_less : (r : Ordering) → is_lt r ≡ true → r ≡ Less
-lt_less Less h = refl
-lt_less Equal h = cc
-lt_less Greater h = cc
 
 module _ {T : Type 0} (ops : Tagging T) (order : IsTotalOrder ops.compare) (same : (a b : T) → ops.compare a b ≡ Equal → a ≡ b) where
   both_upto : (a b : T) (r : Ordering) → ops.compare a b ≡ r → is_gt r ≡ false → AtMost ops b a → a ≡ b
@@ -52,7 +48,7 @@ module _ {T : Type 0} (ops : Tagging T) (order : IsTotalOrder ops.compare) (same
   -- the best of a list has no P above another's
   best_ahead : (r : PlainRequest T) (xs : List (PlainRequest T)) → AllByRecursion (λ x. is_any x ≡ true → by_shares ops r x ≡ true) xs → AllByRecursion (λ x. AtMost ops r.tags.p x.tags.p) xs
   best_ahead r [] h = tt
-  best_ahead r (x ∷ xs) h = (then_less _ _ (lt_less _ (h.0 refl)), best_ahead r xs h.1)
+  best_ahead r (x ∷ xs) h = (then_less _ _ (less_if_lt _ (h.0 refl)), best_ahead r xs h.1)
 
   best_behind : (r : PlainRequest T) (xs : List (PlainRequest T)) → AllByRecursion (λ x. is_any x ≡ true → by_shares ops x r ≡ false) xs → AllByRecursion (λ x. AtMost ops r.tags.p x.tags.p) xs
   best_behind r [] h = tt

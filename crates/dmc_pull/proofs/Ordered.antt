@@ -14,6 +14,7 @@ use Rattle.dmc_tag.specs.declared.reply.Tags.{Tags}
 use Rattle.dmc_client.specs.Order.{InOrder}
 use Rattle.dmc_client.specs.Record.{Rec, IsRecord}
 use Rattle.dmc_client.specs.declared.request.QueuedRequest.{QueuedRequest}
+use Rattle.std.proofs.lemmas.Bool.{not-true}
 
 -- ---- total orders
 
@@ -111,14 +112,10 @@ module _ {T : Type 0} (ops : Tagging T) where
   -- ---- what is due
 
   module _ (order : IsTotalOrder ops.compare) (t : ℕ) where
-    not_gt : (b : Bool) → not b ≡ true → b ≡ false
-    not_gt true h = cc
-    not_gt false h = refl
-
     pub due_before : (a b : Option T) → IsUpto ops a b → is_due ops t b ≡ true → is_due ops t a ≡ true
     due_before a None h d = cc
     due_before None (Some b) h d = cc
-    due_before (Some a) (Some b) h d = ap not (upto_upto ops.compare order a b (ops.of_moment t) _ _ refl refl h (not_gt _ d))
+    due_before (Some a) (Some b) h d = ap not (upto_upto ops.compare order a b (ops.of_moment t) _ _ refl refl h (not-true _ d))
 
     due_first : (tag : Tags T → Option T) (r : QueuedRequest T) (rest : List (QueuedRequest T)) → AllByRecursion (λ x. IsUpto ops (tag r.tags) (tag x.tags)) rest → AllByRecursion (λ x. is_due ops t (tag x.tags) ≡ true → is_due ops t (tag r.tags) ≡ true) rest
     due_first tag r [] h = tt

@@ -4,27 +4,12 @@ use Rattle.std.specs.Prelude.{filter, ◌==◌}
 use Rattle.std.specs.Option.{option_map}
 use Rattle.std.specs.List.{find, list_all, list_any, AllByRecursion}
 use Rattle.std.proofs.lemmas.Bool.{eqb-true, eqb-false, eq-eqb}
-
-pub eqb_turned : (a b : ℕ) (r : Bool) → (b == a) ≡ r → (a == b) ≡ r
-eqb_turned a b true e = eq-eqb a b (sym (eqb-true b a e))
-eqb_turned a b false e = by (a == b) refl where
-  by : (r : Bool) → (a == b) ≡ r → (a == b) ≡ false
-  by true f = absurd (eqb-false b a e (sym (eqb-true a b f)))
-  by false f = f
+pub use Rattle.dmc_tag.proofs.Options.{map_cond}
+pub use Rattle.dmc_tag.proofs.Lists.{all_as, all_both, all_append, all_filtered, found_holds, length_filtered}
+pub use Rattle.dmc_tag.proofs.Booleans.{eqb_turned}
+pub use Rattle.std.proofs.Math.Bool.{and-true}
 
 -- ---- what holds of each
-
-pub all_as : {X : Type 0} (P Q : X → Type 0) → ((x : X) → P x → Q x) → (xs : List X) → AllByRecursion P xs → AllByRecursion Q xs
-all_as P Q gives [] h = tt
-all_as P Q gives (x ∷ xs) h = (gives x h.0, all_as P Q gives xs h.1)
-
-pub all_both : {X : Type 0} (P Q : X → Type 0) (xs : List X) → AllByRecursion P xs → AllByRecursion Q xs → AllByRecursion (λ x. P x × Q x) xs
-all_both P Q [] h k = tt
-all_both P Q (x ∷ xs) h k = ((h.0, k.0), all_both P Q xs h.1 k.1)
-
-pub all_append : {X : Type 0} (P : X → Type 0) (xs ys : List X) → AllByRecursion P xs → AllByRecursion P ys → AllByRecursion P (xs ++ ys)
-all_append P [] ys h k = k
-all_append P (x ∷ xs) ys h k = (h.0, all_append P xs ys h.1 k)
 
 pub all_front : {X : Type 0} (P : X → Type 0) (xs ys : List X) → AllByRecursion P (xs ++ ys) → AllByRecursion P xs
 all_front P [] ys h = tt
@@ -33,13 +18,6 @@ all_front P (x ∷ xs) ys h = (h.0, all_front P xs ys h.1)
 pub all_back : {X : Type 0} (P : X → Type 0) (xs ys : List X) → AllByRecursion P (xs ++ ys) → AllByRecursion P ys
 all_back P [] ys h = h
 all_back P (x ∷ xs) ys h = all_back P xs ys h.1
-
-pub all_filtered : {X : Type 0} (P : X → Type 0) (test : X → Bool) (xs : List X) → AllByRecursion P xs → AllByRecursion P (filter test xs)
-all_filtered P test [] h = tt
-all_filtered P test (x ∷ xs) h = at (all_filtered P test xs h.1) (test x) where
-  at : AllByRecursion P (filter test xs) → (b : Bool) → AllByRecursion P (cond b (x ∷ filter test xs) (filter test xs))
-  at more true = (h.0, more)
-  at more false = more
 
 pub all_mapped : {X Y : Type 0} (P : X → Type 0) (f : Y → X) (ys : List Y) → AllByRecursion (λ y. P (f y)) ys → AllByRecursion P (map f ys)
 all_mapped P f [] h = tt
@@ -67,10 +45,6 @@ filter_true (x ∷ xs) = ap (λ ys. x ∷ ys) (filter_true xs)
 
 -- ---- tests
 
-pub and_true : (b : Bool) → (b && true) ≡ b
-and_true true = refl
-and_true false = refl
-
 pub all_pass : {X : Type 0} (test : X → Bool) (xs : List X) → AllByRecursion (λ x. test x ≡ true) xs → list_all test xs ≡ true
 all_pass test [] h = refl
 all_pass test (x ∷ xs) h = ap (λ b. b && list_all test xs) h.0 ∙ all_pass test xs h.1
@@ -94,13 +68,6 @@ any_is test (x ∷ xs) = at (any_is test xs) (test x) where
   at more true = ap not (sym (positive (filter test xs)))
   at more false = more
 
-pub filtered_bound : {X : Type 0} (test : X → Bool) (xs : List X) → length (filter test xs) ≤ length xs
-filtered_bound test [] = omega arith
-filtered_bound test (x ∷ xs) = at (filtered_bound test xs) (test x) where
-  at : length (filter test xs) ≤ length xs → (b : Bool) → length (cond b (x ∷ filter test xs) (filter test xs)) ≤ suc (length xs)
-  at more true = omega arith
-  at more false = omega arith
-
 -- all pass exactly where a filter leaves all
 pub all_is : {X : Type 0} (test : X → Bool) (xs : List X) → list_all test xs ≡ (length (filter test xs) == length xs)
 all_is test [] = refl
@@ -113,7 +80,7 @@ all_is test (x ∷ xs) = at (all_is test xs) (test x) where
     by false f = sym f
 
   fewer : (r : Bool) → (length (filter test xs) == suc (length xs)) ≡ r → false ≡ (length (filter test xs) == suc (length xs))
-  fewer true e = let one : length (filter test xs) ≡ suc (length xs) = eqb-true (length (filter test xs)) (suc (length xs)) e in absurd (omega (arith, filtered_bound test xs))
+  fewer true e = let one : length (filter test xs) ≡ suc (length xs) = eqb-true (length (filter test xs)) (suc (length xs)) e in absurd (omega (arith, length_filtered test xs))
   fewer false e = sym e
 
   at : list_all test xs ≡ (length (filter test xs) == length xs) → (b : Bool) → (b && list_all test xs) ≡ (length (cond b (x ∷ filter test xs) (filter test xs)) == suc (length xs))
@@ -121,17 +88,6 @@ all_is test (x ∷ xs) = at (all_is test xs) (test x) where
   at more false = fewer (length (filter test xs) == suc (length xs)) refl
 
 -- ---- what is found
-
-pub map_cond : {X Y : Type 0} (f : X → Y) (b : Bool) (x : X) (o : Option X) → option_map f (cond b (Some x) o) ≡ cond b (Some (f x)) (option_map f o)
-map_cond f true x o = refl
-map_cond f false x o = refl
-
-pub found_holds : {X : Type 0} (P : X → Type 0) (test : X → Bool) (xs : List X) (e : X) → AllByRecursion P xs → find test xs ≡ Some e → P e
-found_holds P test [] e h f = cc
-found_holds P test (x ∷ xs) e h f = at (test x) f (found_holds P test xs e h.1) where
-  at : (b : Bool) → cond b (Some x) (find test xs) ≡ Some e → (find test xs ≡ Some e → P e) → P e
-  at true g more = let same : x ≡ e = cc in subst P same h.0
-  at false g more = more g
 
 pub found_passes : {X : Type 0} (test : X → Bool) (xs : List X) (e : X) → find test xs ≡ Some e → test e ≡ true
 found_passes test [] e f = cc

@@ -26,10 +26,7 @@ use Rattle.dmc_pull.specs.Queue.{IsKept, AreHeads}
 use Rattle.dmc_pull.specs.Choice.{first_of, first_at, IsFirstOf, Early, ByShares}
 use Rattle.dmc_pull.proofs.Choices.{IsChosen, none_queued}
 use Rattle.dmc_pull.proofs.Pulls.{early_chosen, early_none, early_empty, free_chosen, free_none, any_chosen}
-
--- an order that is the same as a lawful one is lawful
-pub same_total : {T : Type 0} (R C : T → T → Ordering) → IsTotalOrder R → ((a b : T) → R a b ≡ C a b) → IsTotalOrder C
-same_total R C o h = subst IsTotalOrder (fun_ext (λ a. fun_ext (λ b. h a b))) o
+pub use Rattle.dmc_tag.proofs.Orderings.{tag_order}
 
 module _ {T : Type 0} (ops : Tagging T) where
   -- the scan for the best finds it, and nothing where there is no member

@@ -23,6 +23,7 @@ use Rattle.dmc_pull.specs.Standing.{requests_in}
 use Rattle.dmc_pull.specs.Queue.{AreHeads}
 use Rattle.dmc_pull.proofs.Ordered.{due_before, due_members, reservation_first, limit_first, share_first, any_members, IsUpto, FirstIsLeast, FirstIsMember}
 use Rattle.dmc_pull.proofs.Choices.{IsChosen, chosen, none_chosen}
+pub use Rattle.dmc_tag.proofs.Orderings.{then_less}
 
 -- ---- the head under a key
 
@@ -42,11 +43,6 @@ same_some p q = cc
 
 pub true_not_false : (b : Bool) → b ≡ true → b ≡ false → ⊥
 true_not_false b p q = cc
-
-pub then_less : (r s : Ordering) → ordering_then r s ≡ Less → is_gt r ≡ false
-then_less Less s e = refl
-then_less Equal s e = refl
-then_less Greater s e = cc
 
 pub either_key : (a b : ℕ) → (a ≡ b) ⊎ (a ≢ b)
 either_key a b = at (a == b) refl where

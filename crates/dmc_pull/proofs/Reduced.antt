@@ -16,7 +16,7 @@ use Rattle.dmc_client.specs.Record.{client_of, request_of, requests_of_record, l
 use Rattle.dmc_adjust.specs.Changes.{popped, reduced}
 use Rattle.dmc_roster.specs.Entries.{Entry, with_record}
 use Rattle.dmc_pull.specs.Standing.{clients_in, requests_in}
-use Rattle.dmc_pull.proofs.Parts.{and_true}
+use Rattle.dmc_pull.proofs.Parts.{and-true}
 use Rattle.dmc_pull.proofs.Entries.{Split, Differs, itself, split_changed, clients_whole, requests_whole, changed_client, length_whole, length_as}
 
 module _ {T : Type 0} (ops : Tagging T) where
@@ -72,7 +72,7 @@ module _ {T : Type 0} (ops : Tagging T) where
         ∙ ap (λ b. b && list_all test (requests_of_record e.id (popped e.rec) ++ requests_in s.back)) (other_requests_pass e amount s.front s.ahead)
         ∙ list_all-append test (requests_of_record e.id (popped e.rec)) (requests_in s.back)
         ∙ ap (λ b. list_all test (requests_of_record e.id (popped e.rec)) && b) (other_requests_pass e amount s.back s.behind)
-        ∙ and_true (list_all test (requests_of_record e.id (popped e.rec)))
+        ∙ and-true (list_all test (requests_of_record e.id (popped e.rec)))
 
     clients_pass : (amount : T) → clients_can_reduce ops e.id amount (clients_in es) ≡ clients_can_reduce ops e.id amount (client_of e.id e.rec ∷ [])
     clients_pass amount =

@@ -23,16 +23,13 @@ use Rattle.dmc_pull.specs.Queue.{Queue, state_of, IsQueue, IsKept, AreHeads, hea
 use Rattle.dmc_pull.proofs.Parts.{all_back, found_holds}
 use Rattle.dmc_pull.proofs.Entries.{split_changed, clients_whole, all_changed, drained, length_drained, length_of_client}
 use Rattle.dmc_pull.proofs.Keyed.{distinct_changed, read_changed, read_other}
-use Rattle.dmc_pull.proofs.Aging.{held_emptied, held_other}
+use Rattle.dmc_pull.proofs.Aging.{held_emptied, held-set_other}
 use Rattle.dmc_pull.proofs.Updating.{HasClient}
+use Rattle.dmc_tag.proofs.Options.{is_some_mapped}
 
 -- nothing is queued any more
 abbrev pub emptied : {T : Type 0} → Rec T → Rec T
 emptied rec = record rec { requests = [] }
-
-is_some_mapped : {X Y : Type 0} (f : X → Y) (o : Option X) → is_some (option_map f o) ≡ is_some o
-is_some_mapped f None = refl
-is_some_mapped f (Some x) = refl
 
 some_more : (n : ℕ) (b : Bool) → (suc n == 0) ≡ b → true ≡ not b
 some_more n true e = let none : suc n ≡ 0 = eqb-true (suc n) 0 e in absurd (omega arith)
@@ -63,14 +60,14 @@ module _ {T : Type 0} (ops : Tagging T) where
         subst (λ n. option_map unready (held (set heads key None) n) ≡ option_and_then head_of (entry_keyed n (with_record key (emptied h.entry.rec) es))) (sym one)
         (ap (option_map unready) (held_emptied heads key) ∙ sym (read_changed head_of h.at (emptied h.entry.rec)))
     here k false e =
-        ap (option_map unready) (held_other heads key k None (eqb-false k key e)) ∙ are.here k ∙ sym (read_other head_of key (emptied h.entry.rec) k es e)
+        ap (option_map unready) (held-set_other heads key k None (eqb-false k key e)) ∙ are.here k ∙ sym (read_other head_of key (emptied h.entry.rec) k es e)
 
     marks : (k : ℕ) (head : Head T) → held (set heads key None) k ≡ Some head → head.ready ≡ true → (b : Bool) → (k == key) ≡ b → is_due ops t (Some head.tags.l) ≡ true
     marks k head holds ready true e =
         let one : k ≡ key = eqb-true k key e in
         let none : held (set heads key None) k ≡ None = ap (held (set heads key None)) one ∙ held_emptied heads key in
         cc
-    marks k head holds ready false e = are.marks k head (sym (held_other heads key k None (eqb-false k key e)) ∙ holds) ready
+    marks k head holds ready false e = are.marks k head (sym (held-set_other heads key k None (eqb-false k key e)) ∙ holds) ready
 
 -- as many requests fewer
 pub fewer : {T : Type 0} {id : ClientId} {key : ℕ} {es : List (Entry T)} → (h : HasClient id key es) (queued count : ℕ) → queued ≡ length (requests_in es) → count ≡ length h.entry.rec.requests → queued ≡ length (requests_in (with_record key (emptied h.entry.rec) es)) + count

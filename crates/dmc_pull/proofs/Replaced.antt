@@ -19,6 +19,7 @@ use Rattle.dmc_heads.specs.declared.head.Head.{Head}
 use Rattle.dmc_pull.specs.Standing.{requests_in}
 use Rattle.dmc_pull.specs.Queue.{Queue, IsQueue, IsKept, AreHeads, head_of, unready, unready_head, head_at}
 use Rattle.dmc_pull.specs.Choice.{first_of, after_grant, IsFirstOf}
+use Rattle.dmc_pull.proofs.Kept.{length_map}
 use Rattle.dmc_pull.proofs.Entries.{Split, split, key_is, all_changed, length_whole, length_as}
 use Rattle.dmc_pull.proofs.Keyed.{keyed_changed, distinct_changed, read_changed, read_other}
 use Rattle.dmc_pull.proofs.Parts.{found_holds}
@@ -117,16 +118,12 @@ module _ {T : Type 0} (ops : Tagging T) where
   grant_info true rec = reduced_info (popped rec)
   grant_info false rec = (refl, refl)
 
-  map_length : {X Y : Type 0} (f : X → Y) (xs : List X) → length (map f xs) ≡ length xs
-  map_length f [] = refl
-  map_length f (x ∷ xs) = ap suc (map_length f xs)
-
   pub grant_length : (reduces : Bool) (rec : Rec T) → length (after_grant ops reduces rec).requests ≡ length (drop 1 rec.requests)
   grant_length false rec = refl
   grant_length true rec = at rec.spacings.r where
     at : (o : Option T) → length (option_map_or (λ amount. less_reservations ops amount (popped rec)) o (popped rec)).requests ≡ length (drop 1 rec.requests)
     at None = refl
-    at (Some amount) = map_length (less_reservation ops amount) (drop 1 rec.requests)
+    at (Some amount) = length_map (less_reservation ops amount) (drop 1 rec.requests)
 
 module _ {T : Type 0} (ops : Tagging T) (fraction : T → Fraction) (is_value : Fraction → Type 0) where
   popped_values : (P : T → Type 0) (prev : T) (qs : List (QueuedRequest T)) → AllByRecursion P (map (λ r. r.tags.p) qs ++ prev ∷ []) → AllByRecursion P (map (λ r. r.tags.p) (drop 1 qs) ++ prev ∷ [])

@@ -23,7 +23,7 @@ use Rattle.dmc_pull.specs.Standing.{clients_in, requests_in}
 use Rattle.dmc_pull.specs.Queue.{Queue, state_of, IsQueue, IsKept, head_of}
 use Rattle.dmc_pull.proofs.Parts.{found_holds}
 use Rattle.dmc_pull.proofs.Entries.{Split, split, named, name_is, is_queued, all_changed, changed_client, same_requests}
-use Rattle.dmc_pull.proofs.Keyed.{id_is, distinct_changed, read_kept}
+use Rattle.dmc_pull.proofs.Keyed.{same_client, distinct_changed, read_kept}
 use Rattle.dmc_pull.proofs.Aging.{DueFromCeil, heads_later}
 
 -- ---- the client of an id
@@ -43,7 +43,7 @@ module _ {T : Type 0} where
     by None e some = cc
     by (Some x) e some =
         let called : entry_named id es ≡ Some x = sym same ∙ e in
-        let is = id_is id x.id (name_is id es x called) in
+        let is = same_client id x.id (name_is id es x called) in
         record { entry = x; keyed = e; at = split key es x e distinct; is = is; named = named id es ∙ ap (option_map (λ f. client_of f.id f.rec)) called ∙ ap (λ i. Some (client_of i x.rec)) is }
 
   -- what is said of the record that is found

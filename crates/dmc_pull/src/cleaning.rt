@@ -78,8 +78,6 @@ pub fn count_idled<T: Tag>(roster: &Roster<T>, at: Moment, idle_age: u64, erase_
     ensures value { result ≡ length (filter (λ e. cleaning_of.is_idled at idle_age erase_age e.rec) roster.now.entries) }
     ensures bound { result ≤ 65536 }
 {
-    // no more than there are
-    let _count = roster.len();
     roster.count(&Idled {
         at,
         idle_age,
@@ -92,8 +90,6 @@ pub fn count_erased<T: Tag>(roster: &Roster<T>, at: Moment, erase_age: u64) -> u
     ensures value { result ≡ length (filter (λ e. cleaning_of.is_stale at erase_age e.rec) roster.now.entries) }
     ensures bound { result ≤ 65536 }
 {
-    // no more than there are
-    let _count = roster.len();
     roster.count(&Erased { at, erase_age })
 }
 

@@ -15,16 +15,13 @@ use Rattle.dmc_types.specs.declared.ids.ClientId.{ClientId}
 use Rattle.dmc_tag.specs.State.{is_client}
 use Rattle.dmc_client.specs.Record.{Rec}
 use Rattle.dmc_roster.specs.Entries.{Entry, entry_named, entry_keyed, record_at, with_rec, with_record, entry_of, entries_of, kept, kept_slots, AreApart, AreHeld, AreDistinct}
+use Rattle.dmc_tag.proofs.Options.{map_cond}
+pub use Rattle.dmc_tag.proofs.Options.{is_some_mapped}
+use Rattle.dmc_tag.proofs.Lists.{all_filtered, found_holds}
+pub use Rattle.dmc_tag.proofs.Lists.{length_filtered}
+pub use Rattle.dmc_tag.proofs.Booleans.{eqb_turned}
 
 -- ---- options
-
-pub is_some_map : {X Y : Type 0} (f : X → Y) (o : Option X) → is_some (option_map f o) ≡ is_some o
-is_some_map f None = refl
-is_some_map f (Some x) = refl
-
-map_cond : {X Y : Type 0} (f : X → Y) (b : Bool) (x : X) (o : Option X) → option_map f (cond b (Some x) o) ≡ cond b (Some (f x)) (option_map f o)
-map_cond f true x o = refl
-map_cond f false x o = refl
 
 pub none_of : {X : Type 0} (o : Option X) → is_some o ≡ false → o ≡ None
 none_of None e = refl
@@ -34,13 +31,6 @@ length_cons : {X : Type 0} (o : Option X) (xs : List X) → is_some o ≡ true �
 length_cons None xs e = cc
 length_cons (Some x) xs e = refl
 
-pub eqb_turned : (a b : ℕ) (r : Bool) → (b == a) ≡ r → (a == b) ≡ r
-eqb_turned a b true e = eq-eqb a b (sym (eqb-true b a e))
-eqb_turned a b false e = by (a == b) refl where
-  by : (r : Bool) → (a == b) ≡ r → (a == b) ≡ false
-  by true f = absurd (eqb-false b a e (sym (eqb-true a b f)))
-  by false f = f
-
 module _ {T : Type 0} where
   -- whether there is a record at each key
   abbrev pub Held : List (Option (Rec T)) → List (ClientId × ℕ) → Type 0
@@ -48,7 +38,7 @@ module _ {T : Type 0} where
 
   pub length_entries : (slots : List (Option (Rec T))) (ids : List (ClientId × ℕ)) → Held slots ids → length (entries_of ids slots) ≡ length ids
   length_entries slots [] h = refl
-  length_entries slots (p ∷ ids) h = length_cons (entry_of slots p) (entries_of ids slots) (is_some_map _ (slice_index_or slots p.1 None) ∙ h.0) ∙ ap suc (length_entries slots ids h.1)
+  length_entries slots (p ∷ ids) h = length_cons (entry_of slots p) (entries_of ids slots) (is_some_mapped _ (slice_index_or slots p.1 None) ∙ h.0) ∙ ap suc (length_entries slots ids h.1)
 
   -- ---- find
 
@@ -64,7 +54,7 @@ module _ {T : Type 0} where
       ∙ ap (λ b. cond b (Some p.1) (lookup test ids)) (sym (same p.0))
 
   pub is_named : (slots : List (Option (Rec T))) (id : ClientId) (test : ClientId → Bool) → ((other : ClientId) → test other ≡ is_client id other) → (ids : List (ClientId × ℕ)) → Held slots ids → is_some (entry_named id (entries_of ids slots)) ≡ is_some (lookup test ids)
-  is_named slots id test same ids h = sym (is_some_map (λ e. e.key) (entry_named id (entries_of ids slots))) ∙ ap is_some (named slots id test same ids h)
+  is_named slots id test same ids h = sym (is_some_mapped (λ e. e.key) (entry_named id (entries_of ids slots))) ∙ ap is_some (named slots id test same ids h)
 
   -- ---- at
 
@@ -83,26 +73,12 @@ module _ {T : Type 0} where
 
 -- ---- lists that are filtered
 
-pub all_filtered : {X : Type 0} (P : X → Type 0) (test : X → Bool) (xs : List X) → AllByRecursion P xs → AllByRecursion P (filter test xs)
-all_filtered P test [] h = tt
-all_filtered P test (x ∷ xs) h = at (all_filtered P test xs h.1) (test x) where
-  at : AllByRecursion P (filter test xs) → (b : Bool) → AllByRecursion P (cond b (x ∷ filter test xs) (filter test xs))
-  at more true = (h.0, more)
-  at more false = more
-
 pub apart_filtered : (test : ClientId × ℕ → Bool) (ids : List (ClientId × ℕ)) → AreApart ids → AreApart (filter test ids)
 apart_filtered test [] h = tt
 apart_filtered test (p ∷ ids) h = at (apart_filtered test ids h.1) (test p) where
   at : AreApart (filter test ids) → (b : Bool) → AreApart (cond b (p ∷ filter test ids) (filter test ids))
   at more true = (all_filtered _ test ids h.0, more)
   at more false = more
-
-pub length_filtered : {X : Type 0} (test : X → Bool) (xs : List X) → length (filter test xs) ≤ length xs
-length_filtered test [] = omega arith
-length_filtered test (x ∷ xs) = at (length_filtered test xs) (test x) where
-  at : length (filter test xs) ≤ length xs → (b : Bool) → length (cond b (x ∷ filter test xs) (filter test xs)) ≤ suc (length xs)
-  at more true = omega arith
-  at more false = omega arith
 
 all_passed : {X : Type 0} (test : X → Bool) (xs : List X) → AllByRecursion (λ x. test x ≡ true) (filter test xs)
 all_passed test [] = tt
@@ -372,13 +348,6 @@ module _ {T F : Type 0} (P : Rec T → Type 0) (step : F → ℕ → MutBor (Rec
 -- ---- the entry that is found
 
 module _ {T : Type 0} where
-  found_holds : (P : Entry T → Type 0) (test : Entry T → Bool) (entries : List (Entry T)) (e : Entry T) → AllByRecursion P entries → find test entries ≡ Some e → P e
-  found_holds P test [] e h f = cc
-  found_holds P test (x ∷ entries) e h f = at (test x) f (found_holds P test entries e h.1) where
-    at : (b : Bool) → cond b (Some x) (find test entries) ≡ Some e → (find test entries ≡ Some e → P e) → P e
-    at true g more = let same : x ≡ e = cc in subst P same h.0
-    at false g more = more g
-
   keyed_first : (x e : Entry T) (rest : Option (Entry T)) (b c : Bool) → (x.key == e.key) ≡ c → (b ≡ true → x ≡ e) → (b ≡ false → (rest ≡ Some e) × (c ≡ false)) → cond (x.key == e.key) (Some x) rest ≡ Some e
   keyed_first x e rest true c s t f =
       let same : x ≡ e = t refl in

@@ -133,7 +133,8 @@ impl<T: Tag> Roster<T> {
 
     /// How many records pass a test.
     pub fn count<R: RecordTest<T>>(&self, test: &R) -> usize
-        ensures { result ≡ length (filter (λ e. R.passes test.now e.rec) self.now.entries) }
+        ensures value { result ≡ length (filter (λ e. R.passes test.now e.rec) self.now.entries) }
+        ensures bound { result ≤ 65536 }
     {
         count_passing(&self.ids, &self.records, test)
     }

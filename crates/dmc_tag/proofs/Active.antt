@@ -35,7 +35,7 @@ either P false x y p q = q
 
 -- ---- who has a queued request
 
-same_client : (id other : ClientId) → is_client id other ≡ true → other ≡ id
+pub same_client : (id other : ClientId) → is_client id other ≡ true → other ≡ id
 same_client id other e = let same : other.0 ≡ id.0 = eqb-true other.0 id.0 e in ap (λ n. record { 0 = n }) same
 
 module _ {T : Type 0} where

@@ -243,7 +243,3 @@ module _ {T : Type 0} (ops : Tagging T) (o : IsTotalOrder ops.compare) where
     where
       stands_trans : (a b c : State T) → StandsFor a b → StandsFor b c → StandsFor a c
       stands_trans a b c p q = record { config = p.config ∙ q.config; requests = λ id. p.requests id ∙ q.requests id; clients = p.clients ∙ q.clients; last_moment = p.last_moment ∙ q.last_moment }
-
--- an order that is the same as a lawful one is lawful
-pub same_total : {T : Type 0} (R C : T → T → Ordering) → IsTotalOrder R → ((a b : T) → R a b ≡ C a b) → IsTotalOrder C
-same_total R C o h = subst IsTotalOrder (fun_ext (λ a. fun_ext (λ b. h a b))) o

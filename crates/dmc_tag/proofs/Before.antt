@@ -9,6 +9,7 @@ use Rattle.dmc_tag.specs.Rank.{last_if_absent, client_cmp, absent_total, client_
 use Rattle.dmc_tag.specs.Best.{is_before}
 use Rattle.dmc_tag.specs.Tag.{Tagging}
 use Rattle.dmc_tag.specs.declared.plain.PlainRequest.{PlainRequest}
+use Rattle.dmc_tag.proofs.Orderings.{then_equal, less_if_lt}
 
 -- what the scan for the best needs of the order
 pub record IsOrder {R : Type 0} (key : R → ℕ) (before : R → R → Bool) : Type 0 where
@@ -29,11 +30,6 @@ module _ {R : Type 0} (C : R → R → Ordering) (o : IsTotalOrder C) where
   chained x y z Greater Equal p q h k = cc
   chained x y z Greater Greater p q h k = cc
 
-  lt_is : (r : Ordering) → is_lt r ≡ true → r ≡ Less
-  lt_is Less h = refl
-  lt_is Equal h = cc
-  lt_is Greater h = cc
-
   apart_at : (r : Ordering) → (r ≡ Equal → ⊥) → is_lt (ordering_reverse r) ≡ not (is_lt r)
   apart_at Less ne = refl
   apart_at Equal ne = absurd (ne refl)
@@ -48,14 +44,9 @@ module _ {R : Type 0} (C : R → R → Ordering) (o : IsTotalOrder C) where
   order_of key ties = record {
     apart = λ x y ne. ap is_lt (o.antisymm x y) ∙ apart_at (C y x) (λ e. ne (sym (ties y x e)));
     chain = λ x y z h k. chained x y z (C z x) (C z y) refl refl h k;
-    trans = λ x y z h k. ap is_lt (o.trans x y z (lt_is (C x y) h) (lt_is (C y z) k));
+    trans = λ x y z h k. ap is_lt (o.trans x y z (less_if_lt (C x y) h) (less_if_lt (C y z) k));
     irrefl = λ x. itself (C x x) (o.antisymm x x);
   }
-
-then_equal : (r s : Ordering) → ordering_then r s ≡ Equal → s ≡ Equal
-then_equal Less s e = cc
-then_equal Equal s e = e
-then_equal Greater s e = cc
 
 pub before_order : {T : Type 0} (ops : Tagging T) → IsTotalOrder ops.compare → (tag : PlainRequest T → Option T) → IsOrder (λ r. r.client.0) (is_before ops tag)
 before_order ops o tag =

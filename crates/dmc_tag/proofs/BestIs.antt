@@ -5,10 +5,7 @@ use Rattle.std.specs.List.{AllByRecursion}
 use Rattle.dmc_tag.specs.Best.{best, better, IsBest, HasNone}
 use Rattle.dmc_tag.proofs.Before.{IsOrder}
 use Rattle.dmc_tag.proofs.Lists.{all_as, all_joined, all_at}
-
-is_false : (b : Bool) → (b ≡ true → ⊥) → b ≡ false
-is_false true h = absurd (h refl)
-is_false false h = refl
+use Rattle.std.proofs.lemmas.Bool.{false_from_ne_true}
 
 some_or_some : {A : Type 0} (a b : A) (t : Bool) → cond t (Some a) (Some b) ≡ None → ⊥
 some_or_some a b true e = cc
@@ -39,10 +36,10 @@ module _ {R : Type 0} (key : R → ℕ) (before : R → R → Bool) (o : IsOrder
   }
 
   front_behind : (x y z : R) → before y x ≡ false → (member z ≡ true → before y z ≡ true) → member z ≡ true → before z x ≡ false
-  front_behind x y z f h m = is_false (before z x) (λ t. let chain = o.trans y z x (h m) t in cc)
+  front_behind x y z f h m = false_from_ne_true (before z x) (λ t. let chain = o.trans y z x (h m) t in cc)
 
   back_behind : (x y z : R) → before y x ≡ false → (member z ≡ true → before z y ≡ false) → member z ≡ true → before z x ≡ false
-  back_behind x y z f h m = is_false (before z x) (λ t. let chain = o.chain y x z (h m) t in cc)
+  back_behind x y z f h m = false_from_ne_true (before z x) (λ t. let chain = o.chain y x z (h m) t in cc)
 
   stays : (x y : R) (xs ys : List R) → IsBest before member xs y ys → member x ≡ true → before y x ≡ false → IsBest before member (x ∷ xs) x xs
   stays x y xs ys b p f =

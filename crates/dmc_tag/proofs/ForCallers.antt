@@ -15,7 +15,7 @@ use Rattle.dmc_tag.specs.Step.{step}
 use Rattle.dmc_tag.specs.Steps.{Exactly, Steps}
 use Rattle.dmc_tag.specs.Replay.{after, replays}
 use Rattle.dmc_tag.specs.Queued.{AreActive, is_add_of}
-use Rattle.dmc_tag.specs.Laws.{Pulls, IsNextDue}
+use Rattle.dmc_tag.specs.Laws.{SameStep, Pulls, IsNextDue}
 use Rattle.dmc_tag.specs.Best.{best, is_before, is_due, IsBest, HasNone}
 use Rattle.dmc_tag.specs.Order.{AreSpacings, AreNext}
 use Rattle.dmc_tag.specs.Rules.{next_tags, moment_of}
@@ -38,9 +38,20 @@ use Rattle.dmc_tag.proofs.TagValues as values
 -- each change keeps it that queued clients are active
 pub use Rattle.dmc_tag.proofs.Active.{registration_keeps_active, update_keeps_active, arrival_keeps_active, reduction_keeps_active, removal_keeps_active, clean_keeps_active}
 
--- the order of a tag type is a total one
-pub tag_order : {T : Type 0} (cmp compare : T → T → Ordering) → IsTotalOrder cmp → ((a b : T) → cmp a b ≡ compare a b) → IsTotalOrder compare
-tag_order = agreement.same_total
+-- an order that is the same as a total one is total: so the order of a tag type is
+pub use Rattle.dmc_tag.proofs.Orderings.{tag_order}
+-- agreeing states get the same reply to a command, and still agree; a step from one state is that step from each that it
+-- stands for, and so is a step to a state that agrees with the one after it
+pub use Rattle.dmc_tag.proofs.Agreement.{steps_agree, steps_exactly, steps_agreeing}
+-- sums, and differences, of two tags and an amount are ordered as the tags are; an assignment gives no tag below the previous
+-- one, and an R exactly where there is a reservation
+pub use Rattle.dmc_tag.proofs.TagOrder.{plus_keeps_order, minus_keeps_order, next_tags_follow}
+-- a sum may be turned round; a value less nothing is itself; the tags of moments, those that an assignment gives for P, and
+-- differences are values
+pub use Rattle.dmc_tag.proofs.TagValues.{plus_commutes, minus_nothing, moments_are_values, weights_are_values, differences_are_values}
+-- only a client's Add queues its first request; who is granted had a queued request; a step keeps it that queued clients are
+-- active, and so after each history they are
+pub use Rattle.dmc_tag.proofs.Queued.{only_an_add_queues, grants_what_is_queued, step_keeps_active, queued_clients_are_active}
 
 -- agreeing states have equally many requests, and equally many clients
 pub as_many_requests : {T : Type 0} (s u : State T) → StandsFor s u → length s.requests ≡ length u.requests
@@ -61,14 +72,6 @@ module _ {T : Type 0} (ops : Tagging T) where
   replayed_one_more config = running.replays_parted ops (opening config)
 
 module _ {T : Type 0} (ops : Tagging T) (order : IsTotalOrder ops.compare) where
-  -- a step from one state is that step from each that it stands for
-  pub steps_exactly : (old new : State T) (command : Command) (answer : Option (Reply T)) → Exactly ops old new command answer → Steps ops old new command answer
-  steps_exactly = agreement.steps_exactly ops order
-
-  -- and so is a step to a state that agrees with the one after it
-  pub steps_agreeing : (old new : State T) (command : Command) (reply : Reply T) → reply ≡ (step ops old command).1 → StandsFor new ((step ops old command).0) → Steps ops old new command (Some reply)
-  steps_agreeing = agreement.steps_agreeing ops order
-
   module _ (tag : PlainRequest T → Option T) (member : PlainRequest T → Bool) (xs : List (PlainRequest T)) where
     -- the scan for the best of a set finds it, and nothing where the set has no member
     pub best_is_found : (others : List (PlainRequest T)) (r : PlainRequest T) → IsBest (is_before ops tag) member xs r others → best (is_before ops tag) member xs ≡ Some (r, others)
@@ -85,39 +88,11 @@ module _ {T : Type 0} (ops : Tagging T) (order : IsTotalOrder ops.compare) where
     not_found_has_none = scans.none_found (λ r. r.client.0) (is_before ops tag) (before_order ops order tag) member xs
 
 module _ {T : Type 0} (ops : Tagging T) (fraction : T → Fraction) (is_value : Fraction → Type 0) (exact : IsExact ops fraction is_value) where
-  pub plus_commutes : (a b : T) → ops.plus a b ≡ ops.plus b a
-  plus_commutes = values.sums_commute ops fraction is_value exact
-
-  pub plus_keeps_order : (a b amount x y : T) → ops.plus a amount ≡ Some x → ops.plus b amount ≡ Some y → ops.compare x y ≡ ops.compare a b
-  plus_keeps_order = orders.sums_ordered ops fraction is_value exact
-
-  -- two tags less an amount are ordered as the tags are
-  pub minus_keeps_order : (a b amount x y : T) → ops.minus a amount ≡ Some x → ops.minus b amount ≡ Some y → ops.compare x y ≡ ops.compare a b
-  minus_keeps_order = orders.differences_ordered ops fraction is_value exact
-
   -- a tag is due from the least whole number on that is not below it
   pub due_from_ceil : (tag : T) (n : ℕ) → is_due ops n (Some tag) ≡ nat_le (moment_of (ops.ceil tag)) n
   due_from_ceil = futures.due_is ops fraction is_value exact
 
-  -- a value less nothing is itself
-  pub minus_nothing : (a : T) → is_value (fraction a) → ops.minus a (ops.of_moment 0) ≡ Some a
-  minus_nothing = values.nothing_off ops fraction is_value exact
-
-  -- the tags of moments, those that an assignment gives for P, and differences are values
-  pub moments_are_values : (n : ℕ) → n ≤ 4611686018427387904 → is_value (fraction (ops.of_moment n))
-  moments_are_values = values.moment_value ops fraction is_value exact
-
-  pub weights_are_values : (spacings : Spacings T) (previous : Previous T) (params : Params) (n : ℕ) (tags : Tags T) → n ≤ 4611686018427387904 → next_tags ops spacings previous params (ops.of_moment n) ≡ Ok tags → is_value (fraction tags.p)
-  weights_are_values = values.shares_values ops fraction is_value exact
-
-  pub differences_are_values : (a amount : T) → IfSome (ops.minus a amount) (λ x. is_value (fraction x))
-  differences_are_values = values.differences_values ops fraction is_value exact
-
   module _ (order : IsTotalOrder ops.compare) where
-    -- an assignment gives no tag below the previous one, and an R exactly where there is a reservation
-    pub next_tags_follow : (info : Rates) (spacings : Spacings T) (previous : Previous T) (params : Params) (t : T) (tags : Tags T) → AreSpacings ops info spacings → next_tags ops spacings previous params t ≡ Ok tags → AreNext ops info previous tags
-    next_tags_follow = orders.next_tags_not_below ops fraction is_value exact order
-
     -- before the moment that a pull names no request is early or free, and at it one is
     pub future_is_exact : (s : State T) (at m : ℕ) → (step ops s (Pull at)).1 ≡ Later m → IsNextDue ops m s.requests
     future_is_exact s at m = pulls.future_says ops fraction is_value exact order (effective s at) m s
@@ -125,18 +100,3 @@ module _ {T : Type 0} (ops : Tagging T) (fraction : T → Fraction) (is_value : 
     -- what a pull grants, and the state after it
     pub pull_grants : (s : State T) (at : ℕ) → Pulls ops (effective s at) s ((step ops s (Pull at)).0) ((step ops s (Pull at)).1)
     pull_grants s at = pulls.pull_says ops fraction is_value exact order (effective s at) s
-
-    -- only a client's Add queues its first request
-    pub only_an_add_queues : (s : State T) (command : Command) (id : ClientId) → has_queued id ((step ops s command).0).requests ≡ true → (has_queued id s.requests ≡ true) ⊎ (is_add_of id command ≡ true)
-    only_an_add_queues = queued.queued_before ops fraction is_value exact order
-
-    -- who is granted had a queued request
-    pub grants_what_is_queued : (s : State T) (command : Command) (client : ClientId) (token : Token) (phase : PhaseType) (beyond : Bool) → (step ops s command).1 ≡ Granted client token phase beyond → has_queued client s.requests ≡ true
-    grants_what_is_queued = queued.granted_had ops fraction is_value exact order
-
-    -- a step keeps it that queued clients are active, and so after each history they are
-    pub step_keeps_active : (s : State T) (command : Command) → AreActive s.clients s.requests → AreActive ((step ops s command).0).clients ((step ops s command).0).requests
-    step_keeps_active = queued.active_after ops fraction is_value exact order
-
-    pub queued_clients_are_active : (config : Setting) (events : List (Event T)) (id : ClientId) → has_queued id (after ops config events).requests ≡ true → is_active id (after ops config events).clients ≡ true
-    queued_clients_are_active = queued.queued_is_active ops fraction is_value exact order

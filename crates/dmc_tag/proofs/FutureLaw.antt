@@ -17,29 +17,13 @@ use Rattle.dmc_tag.specs.Rules.{moment_of, earlier, due_moment, least_due}
 use Rattle.dmc_tag.specs.Laws.{IsNextDue}
 use Rattle.dmc_tag.specs.declared.plain.PlainRequest.{PlainRequest}
 use Rattle.dmc_tag.specs.Tag.{Fraction, Tagging, IsExact}
+use Rattle.dmc_tag.proofs.Scaled.{scaled_le, scaled_lt, not_above}
 
 -- ---- whole numbers
 
 times_one : (z : ℤ) → z *ℤ pos 1 ≡ z
 times_one (pos n) = ap pos (omega arith)
 times_one (negsuc n) = let e : suc n * 1 ≡ suc n = omega arith in ap (λ m. neg_ℤ (pos m)) e
-
-scaled_le : (x y : ℤ) (d : ℕ) → x ≤ℤ y → (x *ℤ pos d) ≤ℤ (y *ℤ pos d)
-scaled_le (pos a) (pos b) d h = let le : a ≤ b = omega (arith, ints) in let s = mul-le-mul_left d le in omega (arith, ints)
-scaled_le (pos a) (negsuc b) d h = absurd (omega (arith, ints))
-scaled_le (negsuc a) (pos b) d h = omega (arith, ints)
-scaled_le (negsuc a) (negsuc b) d h = let le : suc b ≤ suc a = omega (arith, ints) in let s = mul-le-mul_left d le in omega (arith, ints)
-
-scaled_lt : (x y : ℤ) (d : ℕ) → 0 < d → x <ℤ y → (x *ℤ pos d) <ℤ (y *ℤ pos d)
-scaled_lt (pos a) (pos b) d some h = let le : suc a ≤ b = omega (arith, ints) in let s = mul-le-mul_left d le in omega (arith, ints)
-scaled_lt (pos a) (negsuc b) d some h = absurd (omega (arith, ints))
-scaled_lt (negsuc a) (pos b) d some h = let s : d * 1 ≤ d * suc a = mul-le-mul_left d (omega arith) in omega (arith, ints)
-scaled_lt (negsuc a) (negsuc b) d some h = let le : suc (suc b) ≤ suc a = omega (arith, ints) in let s = mul-le-mul_left d le in omega (arith, ints)
-
-upto_false : (x y : ℤ) (r : Ordering) → r ≡ int_cmp x y → x ≤ℤ y → is_gt r ≡ false
-upto_false x y Less e h = refl
-upto_false x y Equal e h = refl
-upto_false x y Greater e h = let above = int_ranked x y Greater e in absurd (omega (arith, ints))
 
 above_true : (x y : ℤ) (r : Ordering) → r ≡ int_cmp x y → y <ℤ x → is_gt r ≡ true
 above_true x y Less e h = let below = int_ranked x y Less e in absurd (omega (arith, ints))
@@ -74,7 +58,7 @@ module _ {T : Type 0} (ops : Tagging T) (fraction : T → Fraction) (is_value : 
       let d = (fraction (ops.of_moment n)).denom in
       let up : ops.ceil tag ≤ℤ pos n = within (ops.ceil tag) n (leb-true _ n e) in
       let low = (exact.ceil tag (pos n)).0 up in
-      ap not (upto_false _ _ _ (order_is tag n) (scaled_le (fraction tag).numer (pos n *ℤ pos (fraction tag).denom) d low))
+      ap not (not_above _ _ _ (order_is tag n) (scaled_le (fraction tag).numer (pos n *ℤ pos (fraction tag).denom) d low))
   due_at tag n false e =
       let d = (fraction (ops.of_moment n)).denom in
       let above : pos n <ℤ ops.ceil tag = past (ops.ceil tag) n (leb-false _ n e) in

@@ -1,4 +1,7 @@
+pub mod Booleans
 pub mod Lists
+pub mod Options
+pub mod Orderings
 pub mod Swaps
 pub mod Before
 pub mod BestSwaps

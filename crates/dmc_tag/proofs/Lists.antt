@@ -1,7 +1,7 @@
--- What holds of each element of a list, after changes of the list.
-use Rattle.std.proofs.Common.{Bool, true, false, cond, List, [], ◌∷◌, ◌++◌, map}
+-- Lists: what holds of each element after a change of the list, what is found, how many a filter leaves.
+use Rattle.std.proofs.Common.{◌≡◌, ℕ, suc, ◌≤◌, Bool, true, false, cond, List, [], ◌∷◌, ◌++◌, map, length, Option, Some, subst, arith}
 use Rattle.std.specs.Prelude.{filter}
-use Rattle.std.specs.List.{AllByRecursion}
+use Rattle.std.specs.List.{find, AllByRecursion}
 
 pub all_as : {X : Type 0} (P Q : X → Type 0) → ((x : X) → P x → Q x) → (xs : List X) → AllByRecursion P xs → AllByRecursion Q xs
 all_as P Q gives [] h = tt
@@ -22,6 +22,10 @@ pub all_mapped : {X : Type 0} (P : X → Type 0) (f : X → X) → ((x : X) → 
 all_mapped P f keeps [] h = tt
 all_mapped P f keeps (x ∷ xs) h = (keeps x h.0, all_mapped P f keeps xs h.1)
 
+pub all_append : {X : Type 0} (P : X → Type 0) (xs ys : List X) → AllByRecursion P xs → AllByRecursion P ys → AllByRecursion P (xs ++ ys)
+all_append P [] ys h k = k
+all_append P (x ∷ xs) ys h k = (h.0, all_append P xs ys h.1 k)
+
 -- ---- one element among others
 
 module _ {X : Type 0} (P : X → Type 0) where
@@ -36,3 +40,19 @@ module _ {X : Type 0} (P : X → Type 0) where
   pub all_without : (front : List X) (x : X) (back : List X) → AllByRecursion P (front ++ x ∷ back) → AllByRecursion P (front ++ back)
   all_without [] x back a = a.1
   all_without (y ∷ front) x back a = (a.0, all_without front x back a.1)
+
+-- ---- what is found, and how many are left
+
+pub found_holds : {X : Type 0} (P : X → Type 0) (test : X → Bool) (xs : List X) (e : X) → AllByRecursion P xs → find test xs ≡ Some e → P e
+found_holds P test [] e h f = cc
+found_holds P test (x ∷ xs) e h f = at (test x) f (found_holds P test xs e h.1) where
+  at : (b : Bool) → cond b (Some x) (find test xs) ≡ Some e → (find test xs ≡ Some e → P e) → P e
+  at true g more = let same : x ≡ e = cc in subst P same h.0
+  at false g more = more g
+
+pub length_filtered : {X : Type 0} (test : X → Bool) (xs : List X) → length (filter test xs) ≤ length xs
+length_filtered test [] = omega arith
+length_filtered test (x ∷ xs) = at (length_filtered test xs) (test x) where
+  at : length (filter test xs) ≤ length xs → (b : Bool) → length (cond b (x ∷ filter test xs) (filter test xs)) ≤ suc (length xs)
+  at more true = omega arith
+  at more false = omega arith

@@ -118,19 +118,19 @@ module _ {T : Type 0} (ops : Tagging T) (s : State T) where
 
 module _ {T : Type 0} (ops : Tagging T) (fraction : T → Fraction) (is_value : Fraction → Type 0) (exact : IsExact ops fraction is_value) (order : IsTotalOrder ops.compare) where
   -- who has a queued request after a command had one, or it is the client's Add
-  pub queued_before : (s : State T) (command : Command) (id : ClientId) → has_queued id ((step ops s command).0).requests ≡ true → (has_queued id s.requests ≡ true) ⊎ (is_add_of id command ≡ true)
-  queued_before s command id = at_queued (Comes ops s command) id _ (keeps ops s fraction is_value exact order command).comes
+  pub only_an_add_queues : (s : State T) (command : Command) (id : ClientId) → has_queued id ((step ops s command).0).requests ≡ true → (has_queued id s.requests ≡ true) ⊎ (is_add_of id command ≡ true)
+  only_an_add_queues s command id = at_queued (Comes ops s command) id _ (keeps ops s fraction is_value exact order command).comes
 
-  pub granted_had : (s : State T) (command : Command) (client : ClientId) (token : Token) (phase : PhaseType) (beyond : Bool) → (step ops s command).1 ≡ Granted client token phase beyond → has_queued client s.requests ≡ true
-  granted_had s command = (keeps ops s fraction is_value exact order command).granted
+  pub grants_what_is_queued : (s : State T) (command : Command) (client : ClientId) (token : Token) (phase : PhaseType) (beyond : Bool) → (step ops s command).1 ≡ Granted client token phase beyond → has_queued client s.requests ≡ true
+  grants_what_is_queued s command = (keeps ops s fraction is_value exact order command).granted
 
-  pub active_after : (s : State T) (command : Command) → AreActive s.clients s.requests → AreActive ((step ops s command).0).clients ((step ops s command).0).requests
-  active_after s command = (keeps ops s fraction is_value exact order command).active
+  pub step_keeps_active : (s : State T) (command : Command) → AreActive s.clients s.requests → AreActive ((step ops s command).0).clients ((step ops s command).0).requests
+  step_keeps_active s command = (keeps ops s fraction is_value exact order command).active
 
   active_from : (s : State T) (commands : List Command) → AreActive s.clients s.requests → AreActive (state_after ops s commands).clients (state_after ops s commands).requests
   active_from s [] h = h
-  active_from s (c ∷ cs) h = active_from ((step ops s c).0) cs (active_after s c h)
+  active_from s (c ∷ cs) h = active_from ((step ops s c).0) cs (step_keeps_active s c h)
 
   -- who has a queued request after a history is active
-  pub queued_is_active : (config : Setting) (events : List (Event T)) (id : ClientId) → has_queued id (after ops config events).requests ≡ true → is_active id (after ops config events).clients ≡ true
-  queued_is_active config events id = at_queued (λ id. is_active id (after ops config events).clients ≡ true) id _ (active_from (opening config) (map (λ e. e.command) events) tt)
+  pub queued_clients_are_active : (config : Setting) (events : List (Event T)) (id : ClientId) → has_queued id (after ops config events).requests ≡ true → is_active id (after ops config events).clients ≡ true
+  queued_clients_are_active config events id = at_queued (λ id. is_active id (after ops config events).clients ≡ true) id _ (active_from (opening config) (map (λ e. e.command) events) tt)

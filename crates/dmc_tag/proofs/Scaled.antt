@@ -5,6 +5,8 @@ use Rattle.std.specs.declared.cmp.Ordering.{Ordering}
 use Rattle.std.specs.declared.cmp.Ordering.TheVariants.{Less, Equal, Greater}
 use Rattle.std.specs.Ordering.{int_cmp}
 use Rattle.std.specs.Cmp.{int_cmp_is}
+use Rattle.std.specs.Ordering.{is_gt}
+use Rattle.std.specs.Prelude.{false}
 use Rattle.std.proofs.lemmas.Int.{ints, by_lt_z}
 use Rattle.std.proofs.lemmas.Cmp.{int_ranked}
 use Rattle.std.proofs.Math.Nat.{mul-le-mul_left}
@@ -62,6 +64,12 @@ less_cmp x y z = at (int_cmp x y) refl where
   at Less e = int_cmp_is _ _ Less (less_lt x y z (int_ranked x y Less e))
   at Equal e = int_cmp_is _ _ Equal (ap (λ w. w -ℤ z) (int_ranked x y Equal e))
   at Greater e = int_cmp_is _ _ Greater (less_lt y x z (int_ranked x y Greater e))
+
+-- the order of two numbers, told and asked
+pub not_above : (x y : ℤ) (r : Ordering) → r ≡ int_cmp x y → x ≤ℤ y → is_gt r ≡ false
+not_above x y Less e h = refl
+not_above x y Equal e h = refl
+not_above x y Greater e h = let above = int_ranked x y Greater e in absurd (omega (arith, ints))
 
 -- ---- signs
 

@@ -21,7 +21,8 @@ use Rattle.dmc_tag.specs.declared.spacing.Spacings.{Spacings}
 use Rattle.dmc_tag.specs.declared.reply.Tags.{Tags}
 use Rattle.dmc_tag.specs.Tag.{Fraction, Tagging, IsExact, IsSame, Gives, fraction_cmp, sum_of, difference_of}
 use Rattle.dmc_tag.specs.Order.{AtMost, AreSpacings, AreNext}
-use Rattle.dmc_tag.proofs.Scaled.{scaled_twice, scaled_difference, scaled_negative, scaled_sum, scaled_cmp, less_cmp, zero_of, at_least_zero, zero_scaled, unscaled_le}
+use Rattle.dmc_tag.proofs.Orderings.{at_most_trans}
+use Rattle.dmc_tag.proofs.Scaled.{not_above, scaled_twice, scaled_difference, scaled_negative, scaled_sum, scaled_cmp, less_cmp, zero_of, at_least_zero, zero_scaled, unscaled_le}
 
 -- x is a less s, over the denominators of all
 cleared : (xn an sn : ℤ) (xd ad sd yd bd : ℕ) → xn *ℤ pos (ad * sd) ≡ (an *ℤ pos sd -ℤ sn *ℤ pos ad) *ℤ pos xd → (xn *ℤ pos yd) *ℤ pos ((ad * sd) * (bd * sd)) ≡ (an *ℤ pos bd) *ℤ pos (sd * sd * xd * yd) -ℤ sn *ℤ pos (ad * bd * sd * xd * yd)
@@ -96,8 +97,8 @@ module _ {T : Type 0} (ops : Tagging T) (fraction : T → Fraction) (is_value : 
   given (Some b) f a g e = let same : b ≡ a = cc in subst (λ c. IsSame (fraction c) f) same g.1
 
   -- two tags less an amount are ordered as the tags are
-  pub differences_ordered : (a b amount x y : T) → ops.minus a amount ≡ Some x → ops.minus b amount ≡ Some y → ops.compare x y ≡ ops.compare a b
-  differences_ordered a b amount x y p q =
+  pub minus_keeps_order : (a b amount x y : T) → ops.minus a amount ≡ Some x → ops.minus b amount ≡ Some y → ops.compare x y ≡ ops.compare a b
+  minus_keeps_order a b amount x y p q =
       exact.order x y
       ∙ less_ordered (fraction a) (fraction b) (fraction amount) (fraction x) (fraction y) (exact.denom a) (exact.denom b) (exact.denom amount) (exact.denom x) (exact.denom y)
       (given (ops.minus a amount) _ x (exact.minus a amount) p)
@@ -105,8 +106,8 @@ module _ {T : Type 0} (ops : Tagging T) (fraction : T → Fraction) (is_value : 
       ∙ sym (exact.order a b)
 
   -- and so are two tags and an amount
-  pub sums_ordered : (a b amount x y : T) → ops.plus a amount ≡ Some x → ops.plus b amount ≡ Some y → ops.compare x y ≡ ops.compare a b
-  sums_ordered a b amount x y p q =
+  pub plus_keeps_order : (a b amount x y : T) → ops.plus a amount ≡ Some x → ops.plus b amount ≡ Some y → ops.compare x y ≡ ops.compare a b
+  plus_keeps_order a b amount x y p q =
       exact.order x y
       ∙ less_ordered (fraction a) (fraction b) (negated (fraction amount)) (fraction x) (fraction y) (exact.denom a) (exact.denom b) (exact.denom amount) (exact.denom x) (exact.denom y)
       (subst (IsSame (fraction x)) (sum_is (fraction a) (fraction amount)) (given (ops.plus a amount) _ x (exact.plus a amount) p))
@@ -115,18 +116,13 @@ module _ {T : Type 0} (ops : Tagging T) (fraction : T → Fraction) (is_value : 
 
   -- ---- not below 0
 
-  up_to : (x y : ℤ) (r : Ordering) → r ≡ int_cmp x y → x ≤ℤ y → is_gt r ≡ false
-  up_to x y Less e h = refl
-  up_to x y Equal e h = refl
-  up_to x y Greater e h = let above = int_ranked x y Greater e in absurd (omega (arith, ints))
-
   is_up_to : (x y : ℤ) (r : Ordering) → r ≡ int_cmp x y → is_gt r ≡ false → x ≤ℤ y
   is_up_to x y Less e h = let below = int_ranked x y Less e in omega (arith, ints)
   is_up_to x y Equal e h = let same = int_ranked x y Equal e in omega (arith, ints)
   is_up_to x y Greater e h = cc
 
   pub at_most_from : (a b : T) → ((fraction a).numer *ℤ pos (fraction b).denom) ≤ℤ ((fraction b).numer *ℤ pos (fraction a).denom) → AtMost ops a b
-  at_most_from a b h = up_to _ _ _ (exact.order a b) h
+  at_most_from a b h = not_above _ _ _ (exact.order a b) h
 
   pub at_most_to : (a b : T) → AtMost ops a b → ((fraction a).numer *ℤ pos (fraction b).denom) ≤ℤ ((fraction b).numer *ℤ pos (fraction a).denom)
   at_most_to a b h = is_up_to _ _ _ (exact.order a b) h
@@ -181,15 +177,6 @@ module _ {T : Type 0} (ops : Tagging T) (fraction : T → Fraction) (is_value : 
   -- ---- assignment
 
   module _ (order : IsTotalOrder ops.compare) where
-    at_most_trans : (a b c : T) (r s : Ordering) → ops.compare a b ≡ r → ops.compare b c ≡ s → is_gt r ≡ false → is_gt s ≡ false → AtMost ops a c
-    at_most_trans a b c Less Less p q h k = ap is_gt (order.trans a b c p q)
-    at_most_trans a b c Less Equal p q h k =
-        let same : ops.compare a c ≡ ops.compare a b = order.antisymm a c ∙ ap ordering_reverse (sym (order.congr b c a q)) ∙ sym (order.antisymm a b) in
-        ap is_gt (same ∙ p)
-    at_most_trans a b c Less Greater p q h k = cc
-    at_most_trans a b c Equal s p q h k = ap is_gt (order.congr a b c p ∙ q) ∙ k
-    at_most_trans a b c Greater s p q h k = cc
-
     not_behind : (a b : T) (r : Ordering) → ops.compare b a ≡ r → is_lt r ≡ false → AtMost ops a b
     not_behind a b Less p h = cc
     not_behind a b Equal p h = ap is_gt (order.antisymm a b ∙ ap ordering_reverse p)
@@ -197,7 +184,7 @@ module _ {T : Type 0} (ops : Tagging T) (fraction : T → Fraction) (is_value : 
 
     greater_not_below : (a sum t : T) (b : Bool) → is_lt (ops.compare t sum) ≡ b → AtMost ops a sum → AtMost ops a (cond b sum t)
     greater_not_below a sum t true e h = h
-    greater_not_below a sum t false e h = at_most_trans a sum t _ _ refl refl h (not_behind sum t _ refl e)
+    greater_not_below a sum t false e h = at_most_trans ops order a sum t _ _ refl refl h (not_behind sum t _ refl e)
 
     next_tag_not_below : (previous spacing t tag : T) (k : ℕ) → AtMost ops (ops.of_moment 0) spacing → next_tag ops previous k spacing t ≡ Ok tag → AtMost ops previous tag
     next_tag_not_below previous spacing t tag k h e =
@@ -215,8 +202,8 @@ module _ {T : Type 0} (ops : Tagging T) (fraction : T → Fraction) (is_value : 
         let tag_is : Some found.0 ≡ tag = cc (found.2) in
         subst (λ o. (is_some o ≡ true) × IfSome o (AtMost ops previous)) tag_is (refl, next_tag_not_below previous spacing t found.0 k h found.1)
 
-    pub next_tags_not_below : (info : Rates) (spacings : Spacings T) (previous : Previous T) (params : Params) (t : T) (tags : Tags T) → AreSpacings ops info spacings → next_tags ops spacings previous params t ≡ Ok tags → AreNext ops info previous tags
-    next_tags_not_below info spacings previous params t tags are e =
+    pub next_tags_follow : (info : Rates) (spacings : Spacings T) (previous : Previous T) (params : Params) (t : T) (tags : Tags T) → AreSpacings ops info spacings → next_tags ops spacings previous params t ≡ Ok tags → AreNext ops info previous tags
+    next_tags_follow info spacings previous params t tags are e =
         let r = bound (next_reservation ops previous.r params.rho spacings.r t) _ tags e in
         let l = bound (next_tag ops previous.l params.delta spacings.l t) _ tags r.2 in
         let p = bound (next_tag ops previous.p params.delta spacings.p t) _ tags l.2 in

@@ -22,8 +22,8 @@ module _ {T : Type 0} (ops : Tagging T) (fraction : T → Fraction) (is_value : 
       let same : b ≡ a = cc in
       subst (λ c. is_value (fraction c)) same (exact.same_value f (fraction b) some (exact.denom b) (sym g.1) g.0)
 
-  pub moment_value : (n : ℕ) → n ≤ 4611686018427387904 → is_value (fraction (ops.of_moment n))
-  moment_value n h = exact.same_value (whole n) (fraction (ops.of_moment n)) (omega arith) (exact.denom (ops.of_moment n)) (sym (exact.of_moment n)) (exact.moments n h)
+  pub moments_are_values : (n : ℕ) → n ≤ 4611686018427387904 → is_value (fraction (ops.of_moment n))
+  moments_are_values n h = exact.same_value (whole n) (fraction (ops.of_moment n)) (omega arith) (exact.denom (ops.of_moment n)) (sym (exact.of_moment n)) (exact.moments n h)
 
   sum_value : (a b c : T) → ops.plus a b ≡ Some c → is_value (fraction c)
   sum_value a b c e = value_given (ops.plus a b) (sum_of (fraction a) (fraction b)) c (positive _ _ (exact.denom a) (exact.denom b)) (exact.plus a b) e
@@ -31,8 +31,8 @@ module _ {T : Type 0} (ops : Tagging T) (fraction : T → Fraction) (is_value : 
   difference_value : (a b c : T) → ops.minus a b ≡ Some c → is_value (fraction c)
   difference_value a b c e = value_given (ops.minus a b) (difference_of (fraction a) (fraction b)) c (positive _ _ (exact.denom a) (exact.denom b)) (exact.minus a b) e
 
-  pub differences_values : (a amount : T) → IfSome (ops.minus a amount) (λ x. is_value (fraction x))
-  differences_values a amount = at (ops.minus a amount) refl where
+  pub differences_are_values : (a amount : T) → IfSome (ops.minus a amount) (λ x. is_value (fraction x))
+  differences_are_values a amount = at (ops.minus a amount) refl where
     at : (o : Option T) → ops.minus a amount ≡ o → IfSome o (λ x. is_value (fraction x))
     at None e = tt
     at (Some x) e = difference_value a amount x e
@@ -48,14 +48,14 @@ module _ {T : Type 0} (ops : Tagging T) (fraction : T → Fraction) (is_value : 
       let tag_is : ord_max ops.compare sum.0 t ≡ tag = cc (sum.2) in
       subst (λ c. is_value (fraction c)) tag_is (greater_value sum.0 t (is_lt (ops.compare t sum.0)) (sum_value previous step.0 sum.0 (from_range _ _ sum.1)) h)
 
-  pub shares_values : (spacings : Spacings T) (previous : Previous T) (params : Params) (n : ℕ) (tags : Tags T) → n ≤ 4611686018427387904 → next_tags ops spacings previous params (ops.of_moment n) ≡ Ok tags → is_value (fraction tags.p)
-  shares_values spacings previous params n tags h e =
+  pub weights_are_values : (spacings : Spacings T) (previous : Previous T) (params : Params) (n : ℕ) (tags : Tags T) → n ≤ 4611686018427387904 → next_tags ops spacings previous params (ops.of_moment n) ≡ Ok tags → is_value (fraction tags.p)
+  weights_are_values spacings previous params n tags h e =
       let t = ops.of_moment n in
       let r = bound (next_reservation ops previous.r params.rho spacings.r t) _ tags e in
       let l = bound (next_tag ops previous.l params.delta spacings.l t) _ tags r.2 in
       let p = bound (next_tag ops previous.p params.delta spacings.p t) _ tags l.2 in
       let share : p.0 ≡ tags.p = cc (p.2) in
-      subst (λ c. is_value (fraction c)) share (next_value previous.p spacings.p t p.0 params.delta (moment_value n h) p.1)
+      subst (λ c. is_value (fraction c)) share (next_value previous.p spacings.p t p.0 params.delta (moments_are_values n h) p.1)
 
   -- ---- two answers of one fraction are one
 
@@ -105,8 +105,8 @@ module _ {T : Type 0} (ops : Tagging T) (fraction : T → Fraction) (is_value : 
       ∙ sym (scaled_twice f.numer z.denom f.denom)
       ∙ ap (λ x. x *ℤ pos f.denom) (sym (less_zero a))
 
-  pub nothing_off : (a : T) → is_value (fraction a) → ops.minus a (ops.of_moment 0) ≡ Some a
-  nothing_off a v =
+  pub minus_nothing : (a : T) → is_value (fraction a) → ops.minus a (ops.of_moment 0) ≡ Some a
+  minus_nothing a v =
       let z = ops.of_moment 0 in
       let some = positive _ _ (exact.denom a) (exact.denom z) in
       one_answer (ops.minus a z) (Some a) (difference_of (fraction a) (fraction z)) some (exact.minus a z) (exact.same_value (fraction a) _ (exact.denom a) some (same_less a) v, same_less a)
@@ -122,7 +122,7 @@ module _ {T : Type 0} (ops : Tagging T) (fraction : T → Fraction) (is_value : 
       turned : (x y : ℤ) → x +ℤ y ≡ y +ℤ x
       turned x y = omega (arith, ints)
 
-  pub sums_commute : (a b : T) → ops.plus a b ≡ ops.plus b a
-  sums_commute a b =
+  pub plus_commutes : (a b : T) → ops.plus a b ≡ ops.plus b a
+  plus_commutes a b =
       one_answer (ops.plus a b) (ops.plus b a) (sum_of (fraction a) (fraction b)) (positive _ _ (exact.denom a) (exact.denom b)) (exact.plus a b)
       (subst (Gives fraction is_value (ops.plus b a)) (sum_turned (fraction b) (fraction a)) (exact.plus b a))

@@ -1,8 +1,8 @@
 -- How a run ends.
-use Rattle.std.proofs.Common.{◌≡◌, ℕ, suc, ◌<◌, ◌≤◌, Bool, true, false, List, [], ◌∷◌, ◌++◌, refl, sym, ap, subst, ◌∙◌, length, append-nil, Option, Some, None, is_some, Result, Ok, Err}
+use Rattle.std.proofs.Common.{◌≡◌, ℕ, suc, ◌<◌, ◌≤◌, Bool, true, false, List, [], ◌∷◌, ◌++◌, refl, sym, ap, subst, ◌∙◌, arith, length, append-nil, Option, Some, None, is_some, Result, Ok, Err}
 use Rattle.std.specs.Prelude.{IfSome, ⊤}
 use Rattle.std.specs.Option.{option_map}
-use Rattle.std.specs.Io.KnownBytes.{Consumes, Appends, IsAtEnd}
+use Rattle.std.specs.Io.KnownBytes.{Keeps, Consumes, Appends, IsAtEnd}
 use Rattle.std.proofs.lemmas.List.{append_assoc}
 use Rattle.dmc_tag.specs.Tag.{Tagging}
 use Rattle.dmc_tag.specs.State.{State}
@@ -21,13 +21,20 @@ use Rattle.dmc_text.proofs.RunSteps.{fault_first, within}
 
 -- ---- the beginning
 
-none_read : (r : Option (List ℕ)) → Consumes r r []
+pub none_read : (r : Option (List ℕ)) → Consumes r r []
 none_read None = tt
 none_read (Some xs) = refl
 
-none_sent : (w : Option (List ℕ)) → Appends w w []
+pub none_sent : (w : Option (List ℕ)) → Appends w w []
 none_sent None = tt
 none_sent (Some xs) = sym (append-nil xs)
+
+pub none_kept : (w : Option (List ℕ)) → Keeps w w
+none_kept None = tt
+none_kept (Some xs) = refl
+
+pub nothing_read : (r : Option (List ℕ)) → (read : List ℕ) × ReadsWithin most_bytes r r read
+nothing_read r = ([], (none_read r, omega arith))
 
 pub beginning : {T Q : Type 0} (ops : Tagging T) (text : T → List ℕ) (state : Q → State T) (r w : Option (List ℕ)) (run : Running Q) → Starts run → Progress ops text state r w r w run
 beginning ops text state r w run s = record {

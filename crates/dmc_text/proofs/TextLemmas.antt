@@ -14,6 +14,8 @@ use Rattle.dmc_text.specs.Words.{is_space, is_word, words}
 use Rattle.dmc_text.specs.Tags.{fraction_text, from_zero, below_zero, signed, is_slash, over, cut, fraction_of}
 use Rattle.std.proofs.lemmas.List.{take_at}
 use Rattle.dmc_text.specs.Numbers.{is_led, with_digit, value, number}
+pub use Rattle.dmc_tag.proofs.Booleans.{both_true}
+use Rattle.std.proofs.lemmas.Bool.{not-true}
 
 -- ---- words
 
@@ -24,26 +26,17 @@ is_other b = not (is_space b)
 abbrev pub is_plain : List ℕ → Bool
 is_plain w = is_word w && list_all is_other w
 
-pub both_true : (a b : Bool) → (a && b) ≡ true → (a ≡ true) × (b ≡ true)
-both_true true true h = (refl, refl)
-both_true true false h = absurd (cc)
-both_true false b h = absurd (cc)
-
-not_true : (b : Bool) → not b ≡ true → b ≡ false
-not_true true h = sym h
-not_true false h = refl
-
 split_front : (w rest : List ℕ) → list_all is_other w ≡ true → slice_split is_space (w ++ 32 ∷ rest) ≡ w ∷ slice_split is_space rest
 split_front [] rest h = refl
 split_front (b ∷ bs) rest h =
     let p = both_true _ _ h in
-    slice_split-cons_no is_space b (bs ++ 32 ∷ rest) (not_true _ p.0) ∙ ap (onto_first b) (split_front bs rest p.1)
+    slice_split-cons_no is_space b (bs ++ 32 ∷ rest) (not-true _ p.0) ∙ ap (onto_first b) (split_front bs rest p.1)
 
 split_last : (w : List ℕ) → list_all is_other w ≡ true → slice_split is_space w ≡ w ∷ []
 split_last [] h = refl
 split_last (b ∷ bs) h =
     let p = both_true _ _ h in
-    slice_split-cons_no is_space b bs (not_true _ p.0) ∙ ap (onto_first b) (split_last bs p.1)
+    slice_split-cons_no is_space b bs (not-true _ p.0) ∙ ap (onto_first b) (split_last bs p.1)
 
 -- words that are parted by one space each are read again
 pub words_joined : (ws : List (List ℕ)) → list_all is_plain ws ≡ true → words (join_with_byte 32 ws) ≡ ws

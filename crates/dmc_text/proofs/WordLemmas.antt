@@ -6,6 +6,7 @@ use Rattle.std.proofs.lemmas.List.Sums.{passes_at_first, prefix_len-le-length}
 use Rattle.std.proofs.lemmas.List.{drop_all}
 use Rattle.std.proofs.lemmas.List.Splits.{slice_split-cons_yes, slice_split-cons_no}
 use Rattle.dmc_text.specs.Words.{is_space, is_word, words}
+use Rattle.std.proofs.lemmas.Bool.{not-true}
 
 -- a space in front changes no word
 pub words_blank : (x : ℕ) (xs : List ℕ) → is_space x ≡ true → words (x ∷ xs) ≡ words xs
@@ -99,14 +100,10 @@ a_word xs i j e j-is =
     let at : blanks xs < length xs = within.0 in
     let hit = passes_at_first (λ b. not (is_space b)) xs 0 at in
     let shape : drop i xs ≡ get_or xs i 0 ∷ drop (suc i) xs = drop-cons xs i 0 (omega arith) in
-    let other : is_space (get_or xs i 0) ≡ false = not_true _ (ap (λ k. not (is_space (get_or xs k 0))) (sym within.1) ∙ hit) in
+    let other : is_space (get_or xs i 0) ≡ false = not-true _ (ap (λ k. not (is_space (get_or xs k 0))) (sym within.1) ∙ hit) in
     words_past_blanks xs ∙ ap (λ k. words (drop k xs)) within.1
     ∙ subst (λ (ys : List ℕ). j ≡ unwrap_or (position is_space ys) (length ys) → words ys ≡ take j ys ∷ words (drop j ys)) (sym shape) (first_of (get_or xs i 0) (drop (suc i) xs) j other) j-is
   where
-    not_true : (b : Bool) → not b ≡ true → b ≡ false
-    not_true true h = sym h
-    not_true false h = refl
-
     found : (p : ℕ → Bool) (xs : List ℕ) (i : ℕ) (b : Bool) → ltb (position_or_len p xs) (length xs) ≡ b → position p xs ≡ Some i → (position_or_len p xs < length xs) × (position_or_len p xs ≡ i)
     found p xs i true b-is h = (ltb-true _ _ b-is, let some : Some (position_or_len p xs) ≡ Some i = ap (λ b. cond b (Some (position_or_len p xs)) None) (sym b-is) ∙ h in cc)
     found p xs i false b-is h = let none : None ≡ Some i = ap (λ b. cond b (Some (position_or_len p xs)) None) (sym b-is) ∙ h in cc

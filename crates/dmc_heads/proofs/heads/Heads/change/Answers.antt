@@ -3,7 +3,7 @@ use Rattle.std.specs.Option.{option_map, option_copied}
 use Rattle.dmc_index.specs.Index.{held}
 use Rattle.dmc_heads.specs.Heads.{ready_rank, heads_from}
 use Rattle.dmc_heads.proofs.Slots.{some_if_mapped, within}
-use Rattle.dmc_heads.proofs.Clients.{same_total, rank_held}
+use Rattle.dmc_heads.proofs.Clients.{tag_order, rank_held}
 use Rattle.dmc_heads.proofs.Sound.{heads_set, changed}
 use Rattle.dmc_heads.proofs.heads.Heads.change.Goals as goal
 
@@ -14,7 +14,7 @@ invariant_of-self g c =
     let limits = g.I.LimitIndex.OrderIndex.slots x.limits in
     let ready = g.I.ReadyIndex.OrderIndex.slots x.ready in
     let heads = heads_from early limits ready in
-    let order = same_total g.T.Ord.cmp g.T.Tag.ops.compare g.met.T.Ord.total g.met.T.Tag.compares in
+    let order = tag_order g.T.Ord.cmp g.T.Tag.ops.compare g.met.T.Ord.total g.met.T.Tag.compares in
     let old = some_if_mapped (λ h. h.client) (held heads c.args.key) c.args.head.client (subst (λ hs. option_map (λ h. h.client) (held hs c.args.key) ≡ Some c.args.head.client) (sym c.self.view_is) c.requires.here) in
     let in_room = within heads c.args.key old.0 old.1 in
     let read : Some c.unwrap.result.now ≡ Some (ready_rank old.0) = sym (ap option_copied c.unwrap.ensures) ∙ c.get.ensures ∙ rank_held ready_rank heads ready c.self.invariant.ready_is c.args.key old.0 old.1 in

@@ -1,7 +1,7 @@
 use Rattle.std.proofs.Common.{◌≡◌, ◌<◌, Some, None, length, set, sym, ap, ◌∙◌, subst}
 use Rattle.dmc_index.specs.Index.{held}
 use Rattle.dmc_heads.specs.Heads.{IsOthers}
-use Rattle.dmc_heads.proofs.Clients.{same_total}
+use Rattle.dmc_heads.proofs.Clients.{tag_order}
 use Rattle.dmc_heads.proofs.Sound.{room_of, heads_set, empty_if, inserted}
 use Rattle.dmc_heads.proofs.heads.Heads.insert.Goals as goal
 
@@ -35,7 +35,7 @@ invariant_of-self g c =
     let early = g.I.TagIndex.OrderIndex.slots x.early in
     let limits = g.I.LimitIndex.OrderIndex.slots x.limits in
     let ready = g.I.ReadyIndex.OrderIndex.slots x.ready in
-    let order = same_total g.T.Ord.cmp g.T.Tag.ops.compare g.met.T.Ord.total g.met.T.Tag.compares in
+    let order = tag_order g.T.Ord.cmp g.T.Tag.ops.compare g.met.T.Ord.total g.met.T.Tag.compares in
     let in_room = subst (λ hs. c.args.key < length hs) (sym c.self.view_is) c.requires.in_room in
     let vacant = subst (λ hs. held hs c.args.key ≡ None) (sym c.self.view_is) c.requires.vacant in
     let others = subst (λ hs. IsOthers hs c.args.key c.args.head.client) (sym c.self.view_is) c.requires.apart in

@@ -2,7 +2,7 @@ use Rattle.std.proofs.Common.{not, ap, ◌∙◌, subst}
 use Rattle.std.specs.Option.{MatchOption}
 use Rattle.dmc_index.specs.Index.{IsEmpty}
 use Rattle.dmc_heads.specs.Heads.{heads_from, IsLeastShare}
-use Rattle.dmc_heads.proofs.Clients.{same_total}
+use Rattle.dmc_heads.proofs.Clients.{tag_order}
 use Rattle.dmc_heads.proofs.Least.{found_is, if_found, if_known}
 use Rattle.dmc_heads.proofs.heads.Heads.least_share.Goals as goal
 use Rattle.dmc_heads.proofs.heads.Heads.least_share.Goals.{then-is_none, else-is_none}
@@ -13,7 +13,7 @@ invariant_of-self g c =
     let early = g.I.TagIndex.OrderIndex.slots x.early in
     let limits = g.I.LimitIndex.OrderIndex.slots x.limits in
     let ready = g.I.ReadyIndex.OrderIndex.slots x.ready in
-    let order = same_total g.T.Ord.cmp g.T.Tag.ops.compare g.met.T.Ord.total g.met.T.Tag.compares in
+    let order = tag_order g.T.Ord.cmp g.T.Tag.ops.compare g.met.T.Ord.total g.met.T.Tag.compares in
     elim c.if-is_none.branch [
       | then-is_none w ↦
           let found = found_is g.T.Tag.ops order (heads_from early limits ready) ready c.self.invariant.ready_is x.room c.self.invariant.room_is w.find_least-self-inside.result w.find_least-self-inside.ensures in
@@ -27,7 +27,7 @@ returns-clause-value g c =
     let early = g.I.TagIndex.OrderIndex.slots x.early in
     let limits = g.I.LimitIndex.OrderIndex.slots x.limits in
     let ready = g.I.ReadyIndex.OrderIndex.slots x.ready in
-    let order = same_total g.T.Ord.cmp g.T.Tag.ops.compare g.met.T.Ord.total g.met.T.Tag.compares in
+    let order = tag_order g.T.Ord.cmp g.T.Tag.ops.compare g.met.T.Ord.total g.met.T.Tag.compares in
     elim c.if-is_none.branch [
       | then-is_none w ↦
           let found = found_is g.T.Tag.ops order (heads_from early limits ready) ready c.self.invariant.ready_is x.room c.self.invariant.room_is w.find_least-self-inside.result w.find_least-self-inside.ensures in

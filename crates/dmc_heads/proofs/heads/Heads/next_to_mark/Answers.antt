@@ -2,7 +2,7 @@ use Rattle.std.proofs.Common.{◌≡◌, map, subst}
 use Rattle.std.specs.Option.{option_map}
 use Rattle.dmc_tag.specs.Rank.{limit_rank_cmp}
 use Rattle.dmc_heads.specs.Heads.{limit_rank, heads_from, IsFirst, marked}
-use Rattle.dmc_heads.proofs.Clients.{same_compare, same_total, is_empty, is_first}
+use Rattle.dmc_heads.proofs.Clients.{same_compare, tag_order, is_empty, is_first}
 use Rattle.dmc_heads.proofs.MarkLemmas.{none_marked, all_ready, none_due}
 use Rattle.dmc_heads.proofs.heads.Heads.next_to_mark.Goals as goal
 use Rattle.dmc_heads.proofs.heads.Heads.next_to_mark.Goals.{then-rank-via-then-rank, then-rank-via-else-rank+then-not-is_due}
@@ -14,7 +14,7 @@ returns-then-rank g c =
     let limits = g.I.LimitIndex.OrderIndex.slots x.limits in
     let ready = g.I.ReadyIndex.OrderIndex.slots x.ready in
     let heads = heads_from early limits ready in
-    let order = same_total g.T.Ord.cmp g.T.Tag.ops.compare g.met.T.Ord.total g.met.T.Tag.compares in
+    let order = tag_order g.T.Ord.cmp g.T.Tag.ops.compare g.met.T.Ord.total g.met.T.Tag.compares in
     let same = same_compare g.T.Ord.cmp g.T.Tag.ops.compare g.met.T.Tag.compares in
     let least = c.in-Some.rank.now in
     let first = subst (λ compare. IsFirst limit_rank (limit_rank_cmp compare) heads c.in-Some.key least) same (is_first limit_rank heads limits c.self.invariant.limits_is (limit_rank_cmp g.T.Ord.cmp) c.in-Some.key least c.in-Some.ensures) in

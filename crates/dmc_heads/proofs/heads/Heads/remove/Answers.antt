@@ -2,7 +2,7 @@ use Rattle.std.proofs.Common.{◌≡◌, Some, None, IsSome, set, sym, ap, ◌�
 use Rattle.dmc_index.specs.Index.{held}
 use Rattle.dmc_heads.specs.Heads.{ready_rank, heads_from}
 use Rattle.dmc_heads.proofs.Slots.{some_of, within}
-use Rattle.dmc_heads.proofs.Clients.{same_total, rank_held}
+use Rattle.dmc_heads.proofs.Clients.{tag_order, rank_held}
 use Rattle.dmc_heads.proofs.Sound.{heads_set, removed}
 use Rattle.dmc_heads.proofs.heads.Heads.remove.Goals as goal
 
@@ -13,7 +13,7 @@ invariant_of-self g c =
     let limits = g.I.LimitIndex.OrderIndex.slots x.limits in
     let ready = g.I.ReadyIndex.OrderIndex.slots x.ready in
     let heads = heads_from early limits ready in
-    let order = same_total g.T.Ord.cmp g.T.Tag.ops.compare g.met.T.Ord.total g.met.T.Tag.compares in
+    let order = tag_order g.T.Ord.cmp g.T.Tag.ops.compare g.met.T.Ord.total g.met.T.Tag.compares in
     let old = some_of (held heads c.args.key) (subst (λ hs. IsSome (held hs c.args.key)) (sym c.self.view_is) c.requires) in
     let in_room = within heads c.args.key old.0 old.1 in
     let read : Some c.remove-rank.result ≡ Some (ready_rank old.0) = sym c.remove-rank.ensures.value ∙ rank_held ready_rank heads ready c.self.invariant.ready_is c.args.key old.0 old.1 in

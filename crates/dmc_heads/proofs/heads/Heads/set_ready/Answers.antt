@@ -4,7 +4,7 @@ use Rattle.dmc_index.specs.Index.{held}
 use Rattle.dmc_heads.specs.Heads.{limit_rank, ready_rank, heads_from}
 use Rattle.dmc_heads.specs.Marks.{with_ready}
 use Rattle.dmc_heads.proofs.Slots.{some_of, within}
-use Rattle.dmc_heads.proofs.Clients.{same_total, rank_held}
+use Rattle.dmc_heads.proofs.Clients.{tag_order, rank_held}
 use Rattle.dmc_heads.proofs.Sound.{marked_heads, marked_sound}
 use Rattle.dmc_heads.proofs.heads.Heads.set_ready.Goals as goal
 
@@ -15,7 +15,7 @@ invariant_of-self g c =
     let limits = g.I.LimitIndex.OrderIndex.slots x.limits in
     let ready = g.I.ReadyIndex.OrderIndex.slots x.ready in
     let heads = heads_from early limits ready in
-    let order = same_total g.T.Ord.cmp g.T.Tag.ops.compare g.met.T.Ord.total g.met.T.Tag.compares in
+    let order = tag_order g.T.Ord.cmp g.T.Tag.ops.compare g.met.T.Ord.total g.met.T.Tag.compares in
     let old = some_of (held heads c.args.key) (subst (λ hs. IsSome (held hs c.args.key)) (sym c.self.view_is) c.requires) in
     let in_room = within heads c.args.key old.0 old.1 in
     let read_limit : Some c.unwrap-limit.result.now ≡ Some (limit_rank old.0) = sym (ap option_copied c.unwrap-limit.ensures) ∙ c.get.ensures ∙ rank_held limit_rank heads limits c.self.invariant.limits_is c.args.key old.0 old.1 in
@@ -31,7 +31,7 @@ returns g c =
     let limits = g.I.LimitIndex.OrderIndex.slots x.limits in
     let ready = g.I.ReadyIndex.OrderIndex.slots x.ready in
     let heads = heads_from early limits ready in
-    let order = same_total g.T.Ord.cmp g.T.Tag.ops.compare g.met.T.Ord.total g.met.T.Tag.compares in
+    let order = tag_order g.T.Ord.cmp g.T.Tag.ops.compare g.met.T.Ord.total g.met.T.Tag.compares in
     let old = some_of (held heads c.args.key) (subst (λ hs. IsSome (held hs c.args.key)) (sym c.self.view_is) c.requires) in
     let in_room = within heads c.args.key old.0 old.1 in
     let read_limit : Some c.unwrap-limit.result.now ≡ Some (limit_rank old.0) = sym (ap option_copied c.unwrap-limit.ensures) ∙ c.get.ensures ∙ rank_held limit_rank heads limits c.self.invariant.limits_is c.args.key old.0 old.1 in

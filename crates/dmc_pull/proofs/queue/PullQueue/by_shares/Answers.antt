@@ -2,13 +2,13 @@ use Rattle.std.proofs.Common.{sym, subst, Some, None}
 use Rattle.dmc_tag.proofs.ForCallers.{best_is_found, none_is_found}
 use Rattle.dmc_pull.specs.Queue.{IsMarked}
 use Rattle.dmc_pull.specs.Choice.{ByShares}
-use Rattle.dmc_pull.proofs.Picks.{same_total, records_of, no_head_shares, least_shares}
+use Rattle.dmc_pull.proofs.Picks.{tag_order, records_of, no_head_shares, least_shares}
 use Rattle.dmc_pull.proofs.queue.PullQueue.by_shares.Goals as goal
 
 pub returns-in-None : goal.returns-in-None
 returns-in-None g c =
     let ops = g.T.Tag.ops in
-    let order = same_total g.T.Ord.cmp ops.compare g.met.T.Ord.total g.met.T.Tag.compares in
+    let order = tag_order g.T.Ord.cmp ops.compare g.met.T.Ord.total g.met.T.Tag.compares in
     let q = c.self.inside in
     let d = c.self.invariant.distinct in
     let records = records_of ops g.T.Tag.fraction g.T.Tag.is_value q.config.hz q.roster.entries c.self.invariant.kept in
@@ -19,7 +19,7 @@ returns-in-None g c =
 pub returns-in-Some : goal.returns-in-Some
 returns-in-Some g c =
     let ops = g.T.Tag.ops in
-    let order = same_total g.T.Ord.cmp ops.compare g.met.T.Ord.total g.met.T.Tag.compares in
+    let order = tag_order g.T.Ord.cmp ops.compare g.met.T.Ord.total g.met.T.Tag.compares in
     let q = c.self.inside in
     let d = c.self.invariant.distinct in
     let records = records_of ops g.T.Tag.fraction g.T.Tag.is_value q.config.hz q.roster.entries c.self.invariant.kept in

@@ -15,4 +15,4 @@ returns-in-Some g c =
     let passes = λ (e : Entry _). is_shiftable ops c.in-Some.amount e.rec in
     let tested = sym (all_is passes es) ∙ sym (shiftable ops c.in-Some.amount es c.len.ensures.distinct) in
     subst (λ q. (c.count.result == c.len.result) ≡ can_shift_by ops c.args.shift (clients_in q.roster.entries) (requests_in q.roster.entries)) c.self.view_is
-    (rw (c.in-Some.is, c.count.ensures, c.len.ensures.value) tested)
+    (rw (c.in-Some.is, c.count.ensures.value, c.len.ensures.value) tested)

@@ -1,13 +1,13 @@
 use Rattle.std.proofs.Common.{sym, subst, Some, None}
 use Rattle.dmc_tag.proofs.ForCallers.{best_is_found, none_is_found}
 use Rattle.dmc_pull.specs.Choice.{Early}
-use Rattle.dmc_pull.proofs.Picks.{same_total, records_of, no_head_early, least_early, least_late}
+use Rattle.dmc_pull.proofs.Picks.{tag_order, records_of, no_head_early, least_early, least_late}
 use Rattle.dmc_pull.proofs.queue.PullQueue.early.Goals as goal
 
 pub returns-in-None : goal.returns-in-None
 returns-in-None g c =
     let ops = g.T.Tag.ops in
-    let order = same_total g.T.Ord.cmp ops.compare g.met.T.Ord.total g.met.T.Tag.compares in
+    let order = tag_order g.T.Ord.cmp ops.compare g.met.T.Ord.total g.met.T.Tag.compares in
     let q = c.self.inside in
     let d = c.self.invariant.distinct in
     let records = records_of ops g.T.Tag.fraction g.T.Tag.is_value q.config.hz q.roster.entries c.self.invariant.kept in
@@ -17,7 +17,7 @@ returns-in-None g c =
 pub returns-then-is_due : goal.returns-then-is_due
 returns-then-is_due g c =
     let ops = g.T.Tag.ops in
-    let order = same_total g.T.Ord.cmp ops.compare g.met.T.Ord.total g.met.T.Tag.compares in
+    let order = tag_order g.T.Ord.cmp ops.compare g.met.T.Ord.total g.met.T.Tag.compares in
     let q = c.self.inside in
     let d = c.self.invariant.distinct in
     let records = records_of ops g.T.Tag.fraction g.T.Tag.is_value q.config.hz q.roster.entries c.self.invariant.kept in
@@ -27,7 +27,7 @@ returns-then-is_due g c =
 pub returns-else-is_due : goal.returns-else-is_due
 returns-else-is_due g c =
     let ops = g.T.Tag.ops in
-    let order = same_total g.T.Ord.cmp ops.compare g.met.T.Ord.total g.met.T.Tag.compares in
+    let order = tag_order g.T.Ord.cmp ops.compare g.met.T.Ord.total g.met.T.Tag.compares in
     let q = c.self.inside in
     let d = c.self.invariant.distinct in
     let records = records_of ops g.T.Tag.fraction g.T.Tag.is_value q.config.hz q.roster.entries c.self.invariant.kept in

@@ -4,7 +4,7 @@ use Rattle.dmc_tag.specs.Best.{best, by_reservation, by_shares, is_early, is_fre
 use Rattle.dmc_tag.specs.Rules.{moment_of, earlier}
 use Rattle.dmc_tag.proofs.ForCallers.{due_from_ceil, future_is_exact, not_found_has_none}
 use Rattle.dmc_pull.specs.Standing.{requests_in}
-use Rattle.dmc_pull.proofs.Picks.{same_total, records_of}
+use Rattle.dmc_pull.proofs.Picks.{tag_order, records_of}
 use Rattle.dmc_pull.proofs.Choices.{none_queued}
 use Rattle.dmc_pull.proofs.Due.{due_told, not_nothing}
 use Rattle.dmc_pull.proofs.queue.PullQueue.next_due.Goals as goal
@@ -18,7 +18,7 @@ returns-in_default g c = λ first rest whole.
 pub returns-in-None : goal.returns-in-None
 returns-in-None g c = λ first rest whole.
     let ops = g.T.Tag.ops in
-    let order = same_total g.T.Ord.cmp ops.compare g.met.T.Ord.total g.met.T.Tag.compares in
+    let order = tag_order g.T.Ord.cmp ops.compare g.met.T.Ord.total g.met.T.Tag.compares in
     let q = c.self.inside in
     let d = c.self.invariant.distinct in
     let records = records_of ops g.T.Tag.fraction g.T.Tag.is_value q.config.hz q.roster.entries c.self.invariant.kept in
@@ -32,7 +32,7 @@ returns-in-None g c = λ first rest whole.
 pub returns-in-Some-tag : goal.returns-in-Some-tag
 returns-in-Some-tag g c = λ first rest whole.
     let ops = g.T.Tag.ops in
-    let order = same_total g.T.Ord.cmp ops.compare g.met.T.Ord.total g.met.T.Tag.compares in
+    let order = tag_order g.T.Ord.cmp ops.compare g.met.T.Ord.total g.met.T.Tag.compares in
     let q = c.self.inside in
     let d = c.self.invariant.distinct in
     let records = records_of ops g.T.Tag.fraction g.T.Tag.is_value q.config.hz q.roster.entries c.self.invariant.kept in

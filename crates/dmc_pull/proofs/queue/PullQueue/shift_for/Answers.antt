@@ -9,7 +9,7 @@ use Rattle.dmc_pull.specs.Queue.{IsKept}
 use Rattle.dmc_pull.specs.Standing.{requests_in}
 use Rattle.dmc_pull.proofs.Parts.{all_as}
 use Rattle.dmc_pull.proofs.Choices.{none_queued}
-use Rattle.dmc_pull.proofs.Adds.{same_total, if_all, record_is, shift_past, shift_empty, shift_by_least}
+use Rattle.dmc_pull.proofs.Adds.{tag_order, if_all, record_is, shift_past, shift_empty, shift_by_least}
 use Rattle.dmc_pull.proofs.queue.PullQueue.shift_for.Goals as goal
 use Rattle.dmc_pull.proofs.queue.PullQueue.shift_for.Goals.{in-None, in-Some-shift_for}
 
@@ -25,7 +25,7 @@ returns-clause-value g c =
     let ops = g.T.Tag.ops in
     let inside = c.self.inside in
     let es = inside.roster.entries in
-    let order = same_total g.T.Ord.cmp ops.compare g.met.T.Ord.total g.met.T.Tag.compares in
+    let order = tag_order g.T.Ord.cmp ops.compare g.met.T.Ord.total g.met.T.Tag.compares in
     let records = all_as (λ (e : Entry _). IsKept ops g.T.Tag.fraction g.T.Tag.is_value inside.config.hz e.rec) (λ e. IsRecord ops e.rec) (λ e k. k.is_record) es c.self.invariant.kept in
     let idle : c.at.result.now.idle ≡ true = sym c.is_idle.ensures.value ∙ c.if-not-is_idle.false in
     let past : c.match-shift_for.result ≡ shift_past ops c.in-Some.least c.args.t = elim c.match-shift_for.branch [

@@ -2,14 +2,14 @@ use Rattle.std.proofs.Common.{rules, ◌≡◌, true, ◌∙◌, ap, sym, subst}
 use Rattle.std.specs.Prelude.{is_some}
 use Rattle.std.specs.Option.{option_copied}
 use Rattle.dmc_roster.specs.Entries.{record_at, entry_keyed, entries_of, AreDistinct}
-use Rattle.dmc_roster.proofs.Held.{record_at_key, is_some_map, are_distinct}
+use Rattle.dmc_roster.proofs.Held.{record_at_key, is_some_mapped, are_distinct}
 use Rattle.dmc_roster.proofs.roster.Roster.at.Goals as goal
 
 pub unwrap-requires : goal.unwrap-requires
 unwrap-requires g c =
     let e = subst (λ r. is_some (entry_keyed c.args.key r.entries) ≡ true) (sym c.self.view_is) c.requires in
     let found = record_at_key c.self.inside.records.slots c.args.key c.self.inside.ids.entries e in
-    let some : is_some c.get.result ≡ true = sym (is_some_map (λ x. x.now) c.get.result) ∙ ap is_some (c.get.ensures ∙ sym found) ∙ is_some_map (λ e. e.rec) (entry_keyed c.args.key (entries_of c.self.inside.ids.entries c.self.inside.records.slots)) ∙ e in
+    let some : is_some c.get.result ≡ true = sym (is_some_mapped (λ x. x.now) c.get.result) ∙ ap is_some (c.get.ensures ∙ sym found) ∙ is_some_mapped (λ e. e.rec) (entry_keyed c.args.key (entries_of c.self.inside.ids.entries c.self.inside.records.slots)) ∙ e in
     search rules
 
 pub returns-clause-value : goal.returns-clause-value

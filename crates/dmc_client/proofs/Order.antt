@@ -1,12 +1,9 @@
 -- Lists of tags that stay in order.
-use Rattle.std.proofs.Common.{◌≡◌, Bool, true, false, ◌&&◌, List, [], ◌∷◌, ◌++◌, map, Option, Some, None, refl, sym, ap, ◌∙◌, subst}
-use mathlib.Core.Path.{fun_ext}
+use Rattle.std.proofs.Common.{◌≡◌, true, List, [], ◌∷◌, ◌++◌, map, Option, Some, None, refl, ap, ◌∙◌}
 use Rattle.std.specs.Prelude.{is_some}
 use Rattle.std.specs.Option.{unwrap_or}
 use Rattle.std.specs.List.{AllByRecursion, list_all}
-use Rattle.std.specs.declared.cmp.Ordering.{Ordering}
-use Rattle.std.specs.declared.cmp.Ordering.TheVariants.{Less, Equal, Greater}
-use Rattle.std.specs.Ordering.{is_gt, ordering_reverse}
+use Rattle.std.specs.Ordering.{is_gt}
 use Rattle.std.specs.Cmp.{IsTotalOrder}
 use Rattle.dmc_tag.specs.Tag.{Tagging}
 use Rattle.dmc_tag.specs.Order.{AtMost}

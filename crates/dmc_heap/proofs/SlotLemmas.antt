@@ -7,7 +7,7 @@ use Rattle.std.specs.Ordering.{is_gt, ordering_reverse}
 use Rattle.std.specs.Cmp.{IsTotalOrder}
 use Rattle.std.proofs.lemmas.Cmp.{tied_back}
 use Rattle.std.proofs.lemmas.Bool.{cases_lt, cases_eq}
-use Rattle.std.proofs.lemmas.List.{length-set, length-map, length-append, length-replicate, map-append, get_or-replicate, get_or_past, get_or_append_left, get_or-append_right, get_or-set_same, get_or-set_other, set_at, set-append_left, set-set, set_comm, get_or_default, same_lists}
+use Rattle.std.proofs.lemmas.List.{length-set, length-map, length-append, length-replicate, map-append, get_or_past, get_or_append_left, get_or-append_right, get_or-set_same, get_or-set_other, set_at, set-append_left, set-set, set_comm, get_or_default, same_lists}
 use Rattle.std.proofs.lemmas.List.Sums.{sum_by-set, sum_by-append, sum_by-cons, count_by-le-length}
 use Rattle.std.proofs.lemmas.List.Folds.{sum_by-replicate}
 use Rattle.std.proofs.lemmas.Option.{slice_get_within, slice_get_past, slice_get-get_or, get_or_from_slice_get}

@@ -1,5 +1,5 @@
 -- Sorted entries, and the map that they are.
-use Rattle.std.proofs.Common.{◌≡◌, ◌≢◌, ℕ, zero, suc, ◌+◌, ◌-◌, ◌<◌, ◌≤◌, ◌⊎◌, List, [], ◌∷◌, ◌++◌, Option, Some, None, length, get_or, set, take, drop, replicate, count_by, is_some, cond, ◌==◌, refl, sym, ap, ◌∙◌, subst, inl, inr, ⊎_elim, arith, Bool, true, false, not, eqb-true, ltb-false, nat_lt, IsSomeAnd, IsSome}
+use Rattle.std.proofs.Common.{◌≡◌, ◌≢◌, ℕ, zero, suc, ◌+◌, ◌-◌, ◌<◌, ◌≤◌, ◌⊎◌, List, [], ◌∷◌, ◌++◌, Option, Some, None, length, get_or, set, take, drop, replicate, count_by, is_some, cond, ◌==◌, refl, sym, ap, ◌∙◌, subst, inl, inr, arith, Bool, true, false, not, eqb-true, ltb-false, nat_lt, IsSomeAnd, IsSome}
 use Rattle.std.specs.List.{All, AllPairs, AllWithin, insert, remove, position, prefix_len}
 use Rattle.std.specs.Cmp.{IsTotalOrder}
 use Rattle.std.specs.declared.cmp.Ordering.{Ordering}
@@ -7,12 +7,12 @@ use Rattle.std.specs.declared.cmp.Ordering.TheVariants.{Less, Equal, Greater}
 use Rattle.std.specs.Ordering.{ordering_reverse, is_lt}
 use Rattle.std.specs.List.Sorted.{IsPartitionedBy}
 use Rattle.std.proofs.lemmas.Bool.{cases_lt, cases_eq, eqb-false}
-use Rattle.std.proofs.lemmas.List.{length-set, length-replicate, get_or_default, get_or-set_same, get_or-set_other, get_or-replicate, get_or_past, set-set, set_comm, set_past, set-append_left, append-nil, replicate-append-replicate, set-get_or, take-append-drop, take_at, length-take-le}
+use Rattle.std.proofs.lemmas.List.{length-set, length-replicate, get_or_default, get_or-set_same, get_or-set_other, set-set, set_comm, set_past, set-append_left, append-nil, replicate-append-replicate, set-get_or, take-append-drop, take_at, length-take-le}
 use Rattle.std.proofs.Math.Seq.{drop-cons}
 use Rattle.std.proofs.lemmas.List.Elements.{All-head, All-tail, All-cons, All-take}
 use Rattle.std.proofs.lemmas.List.Sorted.{All-permutation, IsPermutation-insert}
 use Rattle.std.proofs.lemmas.List.Edits.{length-insert, get_or-insert_below, get_or-insert_at, get_or-insert_above, length-remove, get_or-remove_below, get_or-remove_above}
-use Rattle.std.proofs.lemmas.List.Sums.{sum_by-set, count_by-le-length, prefix_len_passes}
+use Rattle.std.proofs.lemmas.List.Sums.{count_by-le-length, prefix_len_passes}
 use Rattle.std.proofs.lemmas.List.Folds.{sum_by-replicate}
 use Rattle.std.proofs.lemmas.List.Quantifiers.{position-Some, all_pairs_remove}
 use Rattle.dmc_index.specs.Index.{held, IsEmpty, IsApart, AreApart, IsLeast, KeepsOrder, IsMapped}

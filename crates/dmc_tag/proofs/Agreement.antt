@@ -22,7 +22,6 @@ use Rattle.dmc_tag.specs.Rules.{Outcome}
 use Rattle.dmc_tag.specs.Step.{outcome, settled, step}
 use Rattle.dmc_tag.specs.Steps.{Exactly, Steps}
 use Rattle.dmc_tag.specs.Laws.{SameStep}
-use Rattle.std.specs.declared.cmp.Ordering.{Ordering}
 use Rattle.dmc_tag.specs.declared.plain.PlainRequest.{PlainRequest}
 use Rattle.dmc_tag.specs.declared.plain.PlainClient.{PlainClient}
 use Rattle.dmc_tag.specs.declared.reply.Reply.{Reply}

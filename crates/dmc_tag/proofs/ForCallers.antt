@@ -1,31 +1,19 @@
 -- What a caller's proof may cite: the laws over plain variables.
-use Rattle.std.proofs.Common.{◌≡◌, ℕ, ◌≤◌, Bool, true, List, [], ◌∷◌, ◌++◌, length, Option, Some, None, Ok}
-use Rattle.std.specs.Prelude.{◌⊎◌, IfSome, nat_le}
+use Rattle.std.proofs.Common.{◌≡◌, ℕ, Bool, List, [], ◌∷◌, ◌++◌, length, Option, Some, None}
+use Rattle.std.specs.Prelude.{nat_le}
 use Rattle.std.specs.Cmp.{IsTotalOrder}
-use Rattle.std.specs.declared.cmp.Ordering.{Ordering}
-use Rattle.dmc_types.specs.Values.{Setting, Rates, Params}
-use Rattle.dmc_types.specs.declared.ids.ClientId.{ClientId}
-use Rattle.dmc_types.specs.declared.ids.Token.{Token}
-use Rattle.dmc_types.specs.declared.config.PhaseType.{PhaseType}
-use Rattle.dmc_types.specs.declared.command.Command.{Command}
+use Rattle.dmc_types.specs.Values.{Setting}
 use Rattle.dmc_types.specs.declared.command.Command.TheVariants.{Pull}
 use Rattle.dmc_tag.specs.Tag.{Tagging, Fraction, IsExact}
-use Rattle.dmc_tag.specs.State.{State, StandsFor, opening, effective, has_queued, is_active}
+use Rattle.dmc_tag.specs.State.{State, StandsFor, opening, effective}
 use Rattle.dmc_tag.specs.Step.{step}
-use Rattle.dmc_tag.specs.Steps.{Exactly, Steps}
 use Rattle.dmc_tag.specs.Replay.{after, replays}
-use Rattle.dmc_tag.specs.Queued.{AreActive, is_add_of}
-use Rattle.dmc_tag.specs.Laws.{SameStep, Pulls, IsNextDue}
+use Rattle.dmc_tag.specs.Laws.{Pulls, IsNextDue}
 use Rattle.dmc_tag.specs.Best.{best, is_before, is_due, IsBest, HasNone}
-use Rattle.dmc_tag.specs.Order.{AreSpacings, AreNext}
-use Rattle.dmc_tag.specs.Rules.{next_tags, moment_of}
+use Rattle.dmc_tag.specs.Rules.{moment_of}
 use Rattle.dmc_tag.specs.declared.plain.PlainRequest.{PlainRequest}
-use Rattle.dmc_tag.specs.declared.plain.Previous.{Previous}
-use Rattle.dmc_tag.specs.declared.spacing.Spacings.{Spacings}
-use Rattle.dmc_tag.specs.declared.reply.Tags.{Tags}
 use Rattle.dmc_tag.specs.declared.event.Event.{Event}
-use Rattle.dmc_tag.specs.declared.reply.Reply.{Reply}
-use Rattle.dmc_tag.specs.declared.reply.Reply.TheVariants.{Granted, Later}
+use Rattle.dmc_tag.specs.declared.reply.Reply.TheVariants.{Later}
 use Rattle.dmc_tag.proofs.Agreement as agreement
 use Rattle.dmc_tag.proofs.Before.{before_order}
 use Rattle.dmc_tag.proofs.BestIs as scans

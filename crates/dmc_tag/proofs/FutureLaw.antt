@@ -10,7 +10,6 @@ use Rattle.std.proofs.lemmas.Bool.{leb-true, leb-false, le-leb}
 use Rattle.std.proofs.lemmas.Bool.Decides.{nat_tests}
 use Rattle.std.specs.Option.{option_map}
 use Rattle.std.proofs.lemmas.Cmp.{int_ranked}
-use Rattle.std.proofs.Math.Nat.{mul-le-mul_left}
 use Rattle.std.proofs.Common.{inl, inr, ⊎_elim}
 use Rattle.dmc_tag.specs.Best.{is_due, is_early, is_free, HasNone}
 use Rattle.dmc_tag.specs.Rules.{moment_of, earlier, due_moment, least_due}

@@ -1,5 +1,5 @@
 -- What contracts see of the bundles and desks of a pair.
-use Rattle.std.specs.Prelude.{◌≡◌, ℕ, ◌+◌}
+use Rattle.std.specs.Prelude.{◌≡◌, ℕ, ◌+◌, ◌<◌, ◌≤◌}
 use Rattle.dmc_types.specs.Values.{Params}
 use Rattle.dmc_ledger.specs.Accounts.{Account, Holding, closed, new_book, new_till}
 use Rattle.dmc_ledger.specs.declared.bundle.StampTills.{StampTills}
@@ -62,11 +62,11 @@ module _ {S : Type 0} where
   abbrev pub server_side : ServerDesk S → ServerSide
   server_side d = record { client = d.client.0; server = d.server.0; books = stamp_accounts d.books; held = grant_holdings d.held }
 
--- the tills hold one stamp with these params
+-- the tills hold at least one stamp, and at least these params
 pub record Covers (tills : StampHoldings) (params : Params) : Type 0 where
-  pub one_stamp : tills.stamps.amount ≡ 1
-  pub its_delta : tills.delta.amount ≡ params.delta
-  pub its_rho : tills.rho.amount ≡ params.rho
+  pub some_stamp : 0 < tills.stamps.amount
+  pub its_delta : params.delta ≤ tills.delta.amount
+  pub its_rho : params.rho ≤ tills.rho.amount
 
 -- the pair of a client and a server, as it is opened with the five books from the n-th on
 abbrev pub new_client_side : ℕ → ℕ → ℕ → ClientSide

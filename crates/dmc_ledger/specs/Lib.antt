@@ -1,3 +1,4 @@
 pub mod Accounts
 pub mod Bundles
+pub mod Moves
 pub mod Rows

@@ -1,6 +1,7 @@
 //! A book, which keeps the total of one quantity.
 ghost use Rattle.std.specs.Prelude.{◌≡◌, ◌+◌, ◌-◌, ◌<◌, ◌≤◌, ◌^◌, ◌↔◌, IfOk, OnOk, OnErr, IsErr};
-ghost use Rattle.dmc_ledger.specs.Accounts.{total_of};
+ghost use Rattle.dmc_ledger.specs.Accounts.{total_of, new_till};
+ghost use Rattle.dmc_ledger.specs.Moves.{after_issue, after_opening, with_more};
 
 use crate::full::Full;
 use crate::setup::Setup;
@@ -83,8 +84,8 @@ impl<S: Setup> Book<S> {
     /// Opens a till, which holds nothing. `Full` at 2^32-1 open tills.
     pub fn till(&mut self) -> Result<Till<S>, Full>
         ensures full { IsErr result ↔ (self.old.open_tills ≡ 4294967295) }
-        ensures till { IfOk result (λ till. till ≡ record { number = self.old.number; amount = 0 }) }
-        ensures book { OnOk result (self.new ≡ record self.old { open_tills = self.old.open_tills + 1 }) }
+        ensures till { IfOk result (λ till. till ≡ new_till self.old.number) }
+        ensures book { OnOk result (self.new ≡ after_opening self.old) }
         ensures kept { OnErr result (self.new ≡ self.old) }
     {
         if self.open_tills == u32::MAX {
@@ -99,8 +100,8 @@ impl<S: Setup> Book<S> {
     pub fn issue(&mut self, till: &mut Till<S>, amount: u64) -> Result<(), Full>
         requires { till.old.number ≡ self.old.number }
         ensures full { IsErr result ↔ (2 ^ 63 < total_of self.old + amount) }
-        ensures book { OnOk result (self.new ≡ record self.old { held = self.old.held + amount }) }
-        ensures till { OnOk result (till.new ≡ record till.old { amount = till.old.amount + amount }) }
+        ensures book { OnOk result (self.new ≡ after_issue amount self.old) }
+        ensures till { OnOk result (till.new ≡ with_more amount till.old) }
         ensures kept { OnErr result (self.new ≡ self.old) }
         ensures till_kept { OnErr result (till.new ≡ till.old) }
     {

@@ -16,13 +16,14 @@ pub struct StampTills<S: Setup> {
 }
 
 impl<S: Setup> StampTills<S> {
-    /// Whether the tills hold exactly one stamp with these params.
+    /// Whether the tills hold at least one stamp, at least this delta and at least this rho. They may hold the units of
+    /// earlier stamps too, which were made and not accepted.
     pub fn covers(&self, params: &ReqParams) -> bool
         ensures { IsTrue result ↔ Covers (stamp_holdings self.now) params.now }
     {
-        self.stamps.amount() == 1
-            && self.delta.amount() == u64::from(params.delta())
-            && self.rho.amount() == u64::from(params.rho())
+        self.stamps.amount() >= 1
+            && self.delta.amount() >= u64::from(params.delta())
+            && self.rho.amount() >= u64::from(params.rho())
     }
 }
 

@@ -201,7 +201,12 @@ fn two_setups(rt: HostRuntime) -> Result<(), Fail> {
     Ok(())
 }
 
-fn pair<S: Setup>(rt: &impl Abort, blank: Blank, params: &ReqParams) -> Result<(), Full>
+fn pair<S: Setup>(
+    rt: &impl Abort,
+    blank: Blank,
+    params: &ReqParams,
+    nothing: &ReqParams,
+) -> Result<(), Full>
     requires name { blank.name ≡ S.name }
     requires books { blank.books ≡ 9 }
 {
@@ -213,12 +218,19 @@ fn pair<S: Setup>(rt: &impl Abort, blank: Blank, params: &ReqParams) -> Result<(
     tracker.books.delta.issue(&mut sent, 3)?;
     shift_till(&mut sent, &mut queue.held.delta, 3);
     tracker.books.delta.gather(sent);
+    assert!(rt; !queue.held.covers(nothing));
     tracker.books.stamps.issue(&mut queue.held.stamps, 1)?;
+    assert!(rt; queue.held.covers(nothing));
     assert!(rt; !queue.held.covers(params));
     tracker.books.rho.issue(&mut queue.held.rho, 2)?;
     assert!(rt; queue.held.covers(params));
+
+    // A second stamp, which carries nothing: the tills hold more than the params.
+    tracker.books.stamps.issue(&mut queue.held.stamps, 1)?;
+    assert!(rt; queue.held.covers(params));
+    assert!(rt; queue.held.covers(nothing));
     let (stamps, grants) = close_pair(queue, tracker);
-    assert_eq!(rt; stamps.stamps.gathered(), 1);
+    assert_eq!(rt; stamps.stamps.gathered(), 2);
     assert_eq!(rt; stamps.delta.gathered(), 3);
     assert_eq!(rt; stamps.rho.total(), 2);
     assert_eq!(rt; stamps.rho.open_tills(), 0);
@@ -230,6 +242,7 @@ fn pair<S: Setup>(rt: &impl Abort, blank: Blank, params: &ReqParams) -> Result<(
 #[test]
 fn pair_opened_and_closed(rt: HostRuntime) -> Result<(), Fail> {
     let params = ReqParams::new(3, 2).ok().ok_or("rho is at most delta")?;
-    pair::<Brand>(&rt, Blank::new(9), &params)?;
+    let nothing = ReqParams::new(0, 0).ok().ok_or("rho is at most delta")?;
+    pair::<Brand>(&rt, Blank::new(9), &params, &nothing)?;
     Ok(())
 }

@@ -1,5 +1,6 @@
 //! A till, which holds a share of a book's total.
 ghost use Rattle.std.specs.Prelude.{◌≡◌, ◌+◌, ◌-◌, ◌<◌, ◌≤◌, ◌^◌};
+ghost use Rattle.dmc_ledger.specs.Moves.{with_more, with_less};
 
 use crate::setup::Setup;
 use crate::token::{BookToken, TillToken};
@@ -97,8 +98,8 @@ impl<S: Setup> Till<S> {
 pub fn shift_till<S: Setup>(from: &mut Till<S>, to: &mut Till<S>, amount: u64)
     requires same_book { to.old.number ≡ from.old.number }
     requires has { amount ≤ from.old.amount }
-    ensures from { from.new ≡ record from.old { amount = from.old.amount - amount } }
-    ensures to { to.new ≡ record to.old { amount = to.old.amount + amount } }
+    ensures from { from.new ≡ with_less amount from.old }
+    ensures to { to.new ≡ with_more amount to.old }
 {
     from.token.shift(&mut to.token, amount);
     from.amount -= amount;

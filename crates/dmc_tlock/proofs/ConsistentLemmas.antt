@@ -1,0 +1,126 @@
+-- A stamp and a response keep a tracker book consistent.
+use Rattle.std.proofs.Common.{◌≡◌, ℕ, ◌+◌, ◌<◌, ◌≤◌, ◌^◌, List, [], ◌∷◌, ◌++◌, length, map, sym, ap, ◌∙◌, arith}
+use Rattle.std.proofs.lemmas.List.Sums.{sum_by-cons}
+use Rattle.std.proofs.lemmas.List.{length-append, length-set, length-map}
+use Rattle.dmc_types.specs.Values.{Params}
+use Rattle.dmc_types.specs.declared.ids.ServerId.{ServerId}
+use Rattle.dmc_types.specs.declared.config.Counting.{Counting}
+use Rattle.dmc_types.specs.declared.config.Counting.TheVariants.{All, Others}
+use Rattle.dmc_types.specs.declared.config.PhaseType.{PhaseType}
+use Rattle.dmc_types.specs.declared.config.PhaseType.TheVariants.{Reservation, Priority}
+use Rattle.dmc_tracker.specs.declared.event.TrackerEvent.{TrackerEvent}
+use Rattle.dmc_tracker.specs.declared.event.TrackerEvent.TheVariants.{Stamp, Response}
+use Rattle.dmc_tracker.specs.TrackerList.{completed_by, plus, completions, sent, pending, IsTracked}
+use Rattle.dmc_tracker.specs.Numbers.{ServerNumbers, Stands, next_params, grown, servers_grown}
+use Rattle.dmc_tracker.proofs.ForCallers.{Stands-stamp, Stands-response, next_params-stands, IsTracked-stamp, IsTracked-response, sums-all, sums-others, completions-by_server, stamps-le-length}
+use Rattle.dmc_ledger.specs.Accounts.{total_of}
+use Rattle.dmc_ledger.specs.Bundles.{StampAccounts}
+use Rattle.dmc_tlock.specs.BookState.{BookState, desk_at}
+use Rattle.dmc_tlock.specs.Consistent.{due, IsBalanced, IsDesk, IsConsistent}
+use Rattle.dmc_tlock.specs.Entries.{side_after_stamp, side_after_response, book_after_stamp, book_after_response}
+use Rattle.dmc_tlock.proofs.DeskLemmas.{IsDesk-stamp_same, IsDesk-stamp_other, IsDesk-response_same, IsDesk-response_other, at_set}
+
+sum_due : (counting : Counting) (s : ServerId) (events : List TrackerEvent) → IsTracked counting events
+    → plus (sent s events) (pending counting s events) ≡ due counting s events
+sum_due All s events h = sums-all s events h
+sum_due Others s events h = sums-others s events h
+
+-- the two sums follow from the list
+pub balanced : (b : BookState) → Stands b.tracker b.events → IsTracked b.tracker.counting b.events
+    → length b.desks ≡ length b.tracker.servers → IsBalanced b
+balanced b stands tracked servers = λ s within.
+    let inside : s.0 < length b.tracker.servers = omega (arith, servers) in
+    rw (stands.each s inside) (sum_due b.tracker.counting s b.events tracked)
+
+pub IsConsistent-stamp : (b : BookState) (s : ServerId) → s.0 < length b.desks → length b.events < b.most_events → IsConsistent b
+    → IsConsistent (book_after_stamp s b)
+IsConsistent-stamp b s within room h =
+    let params = next_params b.tracker s in
+    let inside : s.0 < length b.tracker.servers = omega (arith, h.servers) in
+    let stands = Stands-stamp b.tracker b.events s inside h.stands in
+    let tracked = IsTracked-stamp b.tracker.counting b.events s params (next_params-stands b.tracker b.events s inside h.stands) h.tracked in
+    let servers = length-set b.desks s.0 (side_after_stamp params (desk_at b.desks s)) ∙ h.servers ∙ sym (length-set b.tracker.servers s.0 _) in
+    record {
+      balanced = balanced (book_after_stamp s b) stands tracked servers;
+      tracked = tracked;
+      stands = stands;
+      desks = at_set (IsDesk b.client b.events) (IsDesk b.client (b.events ++ Stamp s params ∷ [])) b.desks s
+      (side_after_stamp params (desk_at b.desks s)) within h.desks
+      (IsDesk-stamp_same b.client b.events s params (desk_at b.desks s) (h.desks s within))
+      (IsDesk-stamp_other b.client b.events s params);
+      servers = servers;
+      within = omega (arith, length-append b.events (Stamp s params ∷ []));
+      limit = h.limit;
+    }
+
+length-grown : (counting : Counting) (s : ServerId) (phase : PhaseType) (servers : List ServerNumbers)
+    → length (servers_grown counting s phase servers) ≡ length servers
+length-grown All s phase servers = length-map servers (grown phase)
+length-grown Others s phase servers = length-set (map (grown phase) servers) s.0 _ ∙ length-map servers (grown phase)
+
+pub IsConsistent-response : (b : BookState) (s : ServerId) (phase : PhaseType) → s.0 < length b.desks → length b.events < b.most_events
+    → IsConsistent b → IsConsistent (book_after_response s phase b)
+IsConsistent-response b s phase within room h =
+    let stands = Stands-response b.tracker b.events s phase h.stands in
+    let tracked = IsTracked-response b.tracker.counting b.events s phase h.tracked in
+    let servers = length-set b.desks s.0 (side_after_response phase (desk_at b.desks s)) ∙ h.servers ∙ sym (length-grown b.tracker.counting s phase b.tracker.servers) in
+    record {
+      balanced = balanced (book_after_response s phase b) stands tracked servers;
+      tracked = tracked;
+      stands = stands;
+      desks = at_set (IsDesk b.client b.events) (IsDesk b.client (b.events ++ Response s phase ∷ [])) b.desks s
+      (side_after_response phase (desk_at b.desks s)) within h.desks
+      (IsDesk-response_same b.client b.events s phase (desk_at b.desks s) (h.desks s within))
+      (IsDesk-response_other b.client b.events s phase);
+      servers = servers;
+      within = omega (arith, length-append b.events (Response s phase ∷ []));
+      limit = h.limit;
+    }
+
+-- no list completes more than one of each count an entry
+few_completed : (e : TrackerEvent) → ((completed_by e).delta ≤ 1) × ((completed_by e).rho ≤ 1)
+few_completed (Stamp q params) = (omega arith, omega arith)
+few_completed (Response q Reservation) = (omega arith, omega arith)
+few_completed (Response q Priority) = (omega arith, omega arith)
+
+completions-le-length : (events : List TrackerEvent) → ((completions events).delta ≤ length events) × ((completions events).rho ≤ length events)
+completions-le-length [] = (omega arith, omega arith)
+completions-le-length (e ∷ es) =
+    let few = few_completed e in
+    let rest = completions-le-length es in
+    (omega (arith, few, rest, sum_by-cons (λ (x : TrackerEvent). (completed_by x).delta) e es),
+      omega (arith, few, rest, sum_by-cons (λ (x : TrackerEvent). (completed_by x).rho) e es))
+
+due-le : (counting : Counting) (s : ServerId) (events : List TrackerEvent)
+    → ((due counting s events).delta ≤ length events + length events) × ((due counting s events).rho ≤ length events + length events)
+due-le All s events = (let few = completions-le-length events in (omega (arith, few), omega (arith, few)))
+due-le Others s events =
+    let few = completions-le-length events in
+    let n = stamps-le-length s events in
+    let by_server = completions-by_server events s in
+    let all = ap (λ (x : Params). x.delta) by_server in
+    let constraint = ap (λ (x : Params). x.rho) by_server in
+    (omega (arith, few, n, all), omega (arith, few, n, constraint))
+
+-- what the stamp books of a server total is far from their limit
+pub record HasRoom (books : StampAccounts) : Type 0 where
+  pub stamps : total_of books.stamps ≤ 2 ^ 31
+  pub delta : total_of books.delta ≤ 2 ^ 31
+  pub rho : total_of books.rho ≤ 2 ^ 31
+
+pub has_room : (b : BookState) (s : ServerId) → s.0 < length b.desks → IsConsistent b → HasRoom (desk_at b.desks s).books
+has_room b s within h =
+    let d = h.desks s within in
+    let there = h.stands.each s (omega (arith, h.servers)) in
+    let delta_sent = ap (λ (x : ServerNumbers). x.sent.delta) there in
+    let rho_sent = ap (λ (x : ServerNumbers). x.sent.rho) there in
+    let sum = h.balanced s within in
+    let delta_sum = ap (λ (x : Params). x.delta) sum in
+    let rho_sum = ap (λ (x : Params). x.rho) sum in
+    let few = due-le b.tracker.counting s b.events in
+    let n = stamps-le-length s b.events in
+    record {
+      stamps = omega (arith, n, d.books.stamps.total, h.within, h.limit);
+      delta = omega (arith, delta_sent, delta_sum, few, d.books.delta.total, h.within, h.limit);
+      rho = omega (arith, rho_sent, rho_sum, few, d.books.rho.total, h.within, h.limit);
+    }

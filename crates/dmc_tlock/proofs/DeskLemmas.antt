@@ -1,0 +1,163 @@
+-- What one more entry does to a server's desk, and how a write at one desk is seen.
+use Rattle.std.proofs.Common.{◌≡◌, ℕ, ◌+◌, ◌<◌, List, [], ◌∷◌, ◌++◌, length, map, set, get_or, refl, sym, ap, ◌∙◌, subst, arith, true, false, inl, inr, ◌==◌}
+use Rattle.std.proofs.lemmas.List.{get_or-set_same, get_or-set_other, get_or-map, map-set, length-set}
+use Rattle.std.proofs.lemmas.Bool.Decides.{eqb_tells}
+use Rattle.std.proofs.lemmas.Bool.{eq-eqb}
+use Rattle.dmc_types.specs.Values.{Params}
+use Rattle.dmc_types.specs.declared.ids.ServerId.{ServerId}
+use Rattle.dmc_types.specs.declared.config.PhaseType.{PhaseType}
+use Rattle.dmc_types.specs.declared.config.PhaseType.TheVariants.{Reservation, Priority}
+use Rattle.dmc_tracker.specs.declared.event.TrackerEvent.{TrackerEvent}
+use Rattle.dmc_tracker.specs.declared.event.TrackerEvent.TheVariants.{Stamp, Response}
+use Rattle.dmc_tracker.proofs.ForCallers.{sent-response, sent-stamp_same, sent-stamp_other, stamps-response, stamps-stamp_same, stamps-stamp_other, responses-stamp, responses-response_same, responses-response_other, responses-reservation-priority, responses-priority-reservation}
+use Rattle.dmc_ledger.specs.Accounts.{Account}
+use Rattle.dmc_ledger.specs.Bundles.{ServerSide, StampAccounts, GrantHoldings, server_side}
+use Rattle.dmc_ledger.specs.declared.desk.ServerDesk.{ServerDesk}
+use Rattle.dmc_ledger.specs.Moves.{after_issue, books_after_stamp, tills_after_response}
+use Rattle.dmc_tlock.specs.BookState.{no_side, desk_at}
+use Rattle.dmc_tlock.specs.Consistent.{IsBook, AreStampBooks, AreGrantTills, IsDesk}
+use Rattle.dmc_tlock.specs.Entries.{side_after_stamp, side_after_response}
+
+-- a book that issued an amount, and a book whose total has another name
+more : (n m k : ℕ) (b : Account) → m ≡ n + k → IsBook n 0 2 b → IsBook m 0 2 (after_issue k b)
+more n m k b e h = record { total = omega (arith, e, h.total); gathered = h.gathered; open_tills = h.open_tills }
+
+same : (n m : ℕ) (b : Account) → m ≡ n → IsBook n 0 2 b → IsBook m 0 2 b
+same n m b e h = record { total = h.total ∙ sym e; gathered = h.gathered; open_tills = h.open_tills }
+
+module _ (events : List TrackerEvent) (s : ServerId) where
+  here : (s.0 == s.0) ≡ true
+  here = eq-eqb s.0 s.0 refl
+
+  -- the stamp books: a stamp to their server, a stamp to another, a response
+  books-stamp_same : (p : Params) (b : StampAccounts) → AreStampBooks events s b
+      → AreStampBooks (events ++ Stamp s p ∷ []) s (books_after_stamp p b)
+  books-stamp_same p b h =
+      let sums = sent-stamp_same s events s p here in
+      record {
+        stamps = more _ _ 1 _ (stamps-stamp_same s events s p here) h.stamps;
+        delta = more _ _ p.delta _ (ap (λ (x : Params). x.delta) sums) h.delta;
+        rho = more _ _ p.rho _ (ap (λ (x : Params). x.rho) sums) h.rho;
+      }
+
+  books-stamp_other : (q : ServerId) (p : Params) (b : StampAccounts) → (q.0 == s.0) ≡ false → AreStampBooks events s b
+      → AreStampBooks (events ++ Stamp q p ∷ []) s b
+  books-stamp_other q p b there h =
+      let sums = sent-stamp_other s events q p there in
+      record {
+        stamps = same _ _ _ (stamps-stamp_other s events q p there) h.stamps;
+        delta = same _ _ _ (ap (λ (x : Params). x.delta) sums) h.delta;
+        rho = same _ _ _ (ap (λ (x : Params). x.rho) sums) h.rho;
+      }
+
+  books-response : (q : ServerId) (phase : PhaseType) (b : StampAccounts) → AreStampBooks events s b
+      → AreStampBooks (events ++ Response q phase ∷ []) s b
+  books-response q phase b h =
+      let sums = sent-response s events q phase in
+      record {
+        stamps = same _ _ _ (stamps-response s events q phase) h.stamps;
+        delta = same _ _ _ (ap (λ (x : Params). x.delta) sums) h.delta;
+        rho = same _ _ _ (ap (λ (x : Params). x.rho) sums) h.rho;
+      }
+
+  -- the grant tills: a stamp, a response of their server, a response of another
+  tills-stamp : (q : ServerId) (p : Params) (t : GrantHoldings) → AreGrantTills events s t → AreGrantTills (events ++ Stamp q p ∷ []) s t
+  tills-stamp q p t h = record {
+    reservation = h.reservation ∙ sym (responses-stamp s events Reservation q p);
+    priority = h.priority ∙ sym (responses-stamp s events Priority q p);
+  }
+
+  tills-response_same : (phase : PhaseType) (t : GrantHoldings) → AreGrantTills events s t
+      → AreGrantTills (events ++ Response s phase ∷ []) s (tills_after_response phase t)
+  tills-response_same Reservation t h =
+      let one = responses-response_same s events Reservation s here in
+      record {
+        reservation = omega (arith, one, h.reservation);
+        priority = h.priority ∙ sym (responses-priority-reservation s events s);
+      }
+  tills-response_same Priority t h =
+      let one = responses-response_same s events Priority s here in
+      record {
+        reservation = h.reservation ∙ sym (responses-reservation-priority s events s);
+        priority = omega (arith, one, h.priority);
+      }
+
+  tills-response_other : (q : ServerId) (phase : PhaseType) (t : GrantHoldings) → (q.0 == s.0) ≡ false → AreGrantTills events s t
+      → AreGrantTills (events ++ Response q phase ∷ []) s t
+  tills-response_other q phase t there h = record {
+    reservation = h.reservation ∙ sym (responses-response_other s events Reservation q phase there);
+    priority = h.priority ∙ sym (responses-response_other s events Priority q phase there);
+  }
+
+module _ (client : ℕ) (events : List TrackerEvent) (s : ServerId) where
+  -- the desk of s, and that of another
+  pub IsDesk-stamp_same : (p : Params) (d : ServerSide) → IsDesk client events s d
+      → IsDesk client (events ++ Stamp s p ∷ []) s (side_after_stamp p d)
+  IsDesk-stamp_same p d h = record {
+    its_client = h.its_client;
+    its_server = h.its_server;
+    books = books-stamp_same events s p d.books h.books;
+    held = tills-stamp events s s p d.held h.held;
+  }
+
+  pub IsDesk-stamp_other : (p : Params) (q : ServerId) (d : ServerSide) → (s.0 == q.0) ≡ false → IsDesk client events q d
+      → IsDesk client (events ++ Stamp s p ∷ []) q d
+  IsDesk-stamp_other p q d there h = record {
+    its_client = h.its_client;
+    its_server = h.its_server;
+    books = books-stamp_other events q s p d.books there h.books;
+    held = tills-stamp events q s p d.held h.held;
+  }
+
+  pub IsDesk-response_same : (phase : PhaseType) (d : ServerSide) → IsDesk client events s d
+      → IsDesk client (events ++ Response s phase ∷ []) s (side_after_response phase d)
+  IsDesk-response_same phase d h = record {
+    its_client = h.its_client;
+    its_server = h.its_server;
+    books = books-response events s s phase d.books h.books;
+    held = tills-response_same events s phase d.held h.held;
+  }
+
+  pub IsDesk-response_other : (phase : PhaseType) (q : ServerId) (d : ServerSide) → (s.0 == q.0) ≡ false → IsDesk client events q d
+      → IsDesk client (events ++ Response s phase ∷ []) q d
+  IsDesk-response_other phase q d there h = record {
+    its_client = h.its_client;
+    its_server = h.its_server;
+    books = books-response events q s phase d.books h.books;
+    held = tills-response_other events q s phase d.held there h.held;
+  }
+
+same_server : (q s : ServerId) → q.0 ≡ s.0 → q ≡ s
+same_server q s e = ap (λ (n : ℕ). let id : ServerId = record { 0 = n } in id) e
+
+-- one desk is replaced, and what the others keep stays
+pub at_set : (P Q : ServerId → ServerSide → Type 0) (desks : List ServerSide) (s : ServerId) (x : ServerSide) → s.0 < length desks
+    → ((q : ServerId) → q.0 < length desks → P q (desk_at desks q)) → Q s x
+    → ((q : ServerId) (d : ServerSide) → (s.0 == q.0) ≡ false → P q d → Q q d)
+    → (q : ServerId) → q.0 < length (set desks s.0 x) → Q q (desk_at (set desks s.0 x) q)
+at_set P Q desks s x within each its others q inside =
+    let q_in : q.0 < length desks = omega (arith, length-set desks s.0 x) in
+    elim (eqb_tells s.0 q.0) [
+      | inl same ↦
+          subst (λ (k : ServerId). Q k (get_or (set desks s.0 x) k.0 no_side)) (same_server s q same.1)
+          (rw (get_or-set_same desks s.0 x no_side within) its)
+      | inr there ↦
+          rw (get_or-set_other desks s.0 q.0 x no_side (λ e. there.1 (sym e)))
+          (others q (get_or desks q.0 no_side) there.0 (each q q_in))
+    ]
+
+-- a desk, as it is seen
+pub desk_seen : {S : Type 0} (items : List (ServerDesk S)) (s : ServerId) (i : ℕ) (x : ServerDesk S) → i ≡ s.0 → i < length items
+    → x ≡ get_or items i x → desk_at (map server_side items) s ≡ server_side x
+desk_seen {S} items s i x place within is =
+    let f : ServerDesk S → ServerSide = server_side in
+    rw (← place) (get_or-map f items i x no_side within ∙ ap f (sym is))
+
+-- a write at one desk, as it is seen
+pub desks-set : {S : Type 0} (move : ServerSide → ServerSide) (items : List (ServerDesk S)) (s : ServerId) (i : ℕ) (old new : ServerDesk S)
+    → i ≡ s.0 → i < length items → old ≡ get_or items i old → server_side new ≡ move (server_side old)
+    → map server_side (set items i new) ≡ set (map server_side items) s.0 (move (desk_at (map server_side items) s))
+desks-set {S} move items s i old new place within is e =
+    let f : ServerDesk S → ServerSide = server_side in
+    let seen : get_or (map f items) i no_side ≡ f old = get_or-map f items i old no_side within ∙ ap f (sym is) in
+    rw (← place) (map-set f items i new ∙ ap (λ x. set (map f items) i x) (e ∙ ap move (sym seen)))

@@ -1,0 +1,6 @@
+pub mod ConsistentLemmas
+pub mod DeskLemmas
+pub mod OpeningLemmas
+pub mod PlaceLemmas
+pub mod SettlingLemmas
+pub mod StatusLemmas

@@ -1,0 +1,57 @@
+-- A new tracker book is consistent.
+use Rattle.std.proofs.Common.{◌≡◌, ℕ, ◌<◌, ◌≤◌, ◌^◌, List, [], ◌∷◌, ◌++◌, length, map, take, get_or, refl, sym, ap, ◌∙◌, subst, arith}
+use Rattle.std.proofs.lemmas.List.{get_or-map, length-map, length-replicate}
+use Rattle.dmc_types.specs.declared.ids.ServerId.{ServerId}
+use Rattle.dmc_types.specs.declared.config.Counting.{Counting}
+use Rattle.dmc_tracker.specs.Numbers.{ServerNumbers, no_numbers, new_numbers, Stands}
+use Rattle.dmc_tracker.proofs.ForCallers.{IsTracked-nil}
+use Rattle.dmc_ledger.specs.Bundles.{ServerSide, new_server_side}
+use Rattle.dmc_tlock.specs.BookState.{no_side, desk_at}
+use Rattle.dmc_tlock.specs.Consistent.{IsDesk, IsConsistent}
+use Rattle.dmc_tlock.specs.Opening.{AreNew, IsOneTill, side_after_opening, new_book_state}
+use Rattle.dmc_tlock.proofs.ConsistentLemmas.{balanced}
+
+pub one_till : (client : ℕ) (desks : List ServerSide) → AreNew client desks → (k : ℕ) → k < length desks → IsOneTill (get_or desks k no_side).books
+one_till client desks new k within =
+    let s : ServerId = record { 0 = k } in
+    let made = new s within in
+    subst (λ (d : ServerSide). IsOneTill d.books) (sym made.1) (record { stamps = refl; delta = refl; rho = refl })
+
+opened_desk : (client : ℕ) (s : ServerId) (n : ℕ) → IsDesk client [] s (side_after_opening (new_server_side client s.0 n))
+opened_desk client s n = record {
+  its_client = refl;
+  its_server = refl;
+  books = record {
+    stamps = record { total = refl; gathered = refl; open_tills = refl };
+    delta = record { total = refl; gathered = refl; open_tills = refl };
+    rho = record { total = refl; gathered = refl; open_tills = refl };
+  };
+  held = record { reservation = refl; priority = refl };
+}
+
+pub IsConsistent-new : (client : ℕ) (counting : Counting) (most most_events : ℕ) (desks : List ServerSide) → AreNew client desks
+    → Stands (new_numbers counting most (length desks)) [] → most_events ≤ 2 ^ 30
+    → IsConsistent (new_book_state client counting most most_events desks)
+IsConsistent-new client counting most most_events desks new stands limit =
+    let opened : List ServerSide = map side_after_opening desks in
+    let tracked = IsTracked-nil counting in
+    let servers : length opened ≡ length (new_numbers counting most (length desks)).servers =
+    length-map desks side_after_opening ∙ sym (length-replicate (length desks) no_numbers) in
+    record {
+      balanced = balanced (new_book_state client counting most most_events desks) stands tracked servers;
+      tracked = tracked;
+      stands = stands;
+      desks = λ s within.
+          let inside : s.0 < length desks = omega (arith, length-map desks side_after_opening) in
+          let made = new s inside in
+          let at : desk_at opened s ≡ side_after_opening (desk_at desks s) = get_or-map side_after_opening desks s.0 no_side no_side inside in
+          subst (IsDesk client [] s) (sym (at ∙ ap side_after_opening made.1)) (opened_desk client s made.0);
+      servers = servers;
+      within = omega arith;
+      limit = limit;
+    }
+
+-- a whole that was lent as a slice, and given back
+pub lent_back : {X : Type 0} (xs zs : List X) (n : ℕ) → length xs ≡ n → take n (xs ++ zs) ≡ xs
+lent_back [] zs n e = rw (← e) refl
+lent_back (x ∷ xs) zs n e = rw (← e) (ap (λ ys. x ∷ ys) (lent_back xs zs (length xs) refl))

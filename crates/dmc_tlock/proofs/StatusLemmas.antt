@@ -1,0 +1,97 @@
+-- What is read off a consistent book's tracker and desk is what its list has.
+use Rattle.std.proofs.Common.{◌≡◌, ℕ, ◌+◌, ◌<◌, ◌≤◌, ◌^◌, List, length, ap, ◌∙◌, arith}
+use Rattle.dmc_types.specs.Values.{Params}
+use Rattle.dmc_types.specs.declared.ids.ServerId.{ServerId}
+use Rattle.dmc_types.specs.declared.config.Counting.{Counting}
+use Rattle.dmc_types.specs.declared.config.Counting.TheVariants.{All, Others}
+use Rattle.dmc_tracker.specs.declared.event.TrackerEvent.{TrackerEvent}
+use Rattle.dmc_tracker.specs.TrackerList.{plus, completions, others, stamps}
+use Rattle.dmc_tracker.specs.Numbers.{Numbers, ServerNumbers, numbers_at}
+use Rattle.dmc_tracker.proofs.ForCallers.{completions-by_server, stamps-le-length}
+use Rattle.dmc_ledger.specs.Accounts.{total_of}
+use Rattle.dmc_ledger.specs.Bundles.{ServerSide, StampHoldings}
+use Rattle.dmc_ledger.specs.Moves.{AreWithin}
+use Rattle.dmc_tlock.specs.BookState.{BookState, desk_at}
+use Rattle.dmc_tlock.specs.Consistent.{due, IsConsistent}
+use Rattle.dmc_tlock.specs.Status.{pair_of, IsReadOff, IsStatusOf, IsWithin, AreSums}
+use Rattle.dmc_tlock.specs.declared.status.TrackStatus.{TrackStatus}
+
+same_pair : (p q : ℕ × ℕ) → p.0 ≡ q.0 → p.1 ≡ q.1 → p ≡ q
+same_pair p q a b = ap (λ x. (x, p.1)) a ∙ ap (λ y. (q.0, y)) b
+
+-- what `read_status` may be asked of
+pub record IsReadable (tracker : Numbers) (desk : ServerSide) (s : ServerId) : Type 0 where
+  pub within : s.0 < length tracker.servers
+  pub stamps : total_of desk.books.stamps < 2 ^ 32
+  pub all : desk.held.reservation.amount + desk.held.priority.amount ≤ tracker.completions.delta
+  pub constraint : desk.held.reservation.amount ≤ tracker.completions.rho
+
+module _ (b : BookState) (s : ServerId) (within : s.0 < length b.desks) (h : IsConsistent b) where
+  pub readable : IsReadable b.tracker (desk_at b.desks s) s
+  readable =
+      let d = h.desks s within in
+      let few = stamps-le-length s b.events in
+      let by_server = completions-by_server b.events s in
+      let all = ap (λ (x : Params). x.delta) (by_server) in
+      let constraint = ap (λ (x : Params). x.rho) (by_server) in
+      let all_now = ap (λ (x : Params). x.delta) h.stands.completed in
+      let constraint_now = ap (λ (x : Params). x.rho) h.stands.completed in
+      record {
+        within = omega (arith, h.servers);
+        stamps = omega (arith, few, d.books.stamps.total, h.within, h.limit);
+        all = omega (arith, all, all_now, d.held.reservation, d.held.priority);
+        constraint = omega (arith, constraint, constraint_now, d.held.reservation);
+      }
+
+  pub IsStatusOf-read : (status : TrackStatus) → IsReadOff b.tracker (desk_at b.desks s) s status → IsStatusOf b s status
+  IsStatusOf-read status t =
+      let d = h.desks s within in
+      let by_server = completions-by_server b.events s in
+      let all = ap (λ (x : Params). x.delta) (by_server) in
+      let constraint = ap (λ (x : Params). x.rho) (by_server) in
+      let all_now = ap (λ (x : Params). x.delta) h.stands.completed in
+      let constraint_now = ap (λ (x : Params). x.rho) h.stands.completed in
+      record {
+        sent = t.sent;
+        pending = t.pending;
+        completions = t.completions;
+        counting = t.counting;
+        stamps = t.stamps ∙ d.books.stamps.total;
+        others = same_pair status.others _
+        (omega (arith, t.others_all, all, all_now, d.held.reservation, d.held.priority))
+        (omega (arith, t.others_constraint, constraint, constraint_now, d.held.reservation));
+      }
+
+  pub IsWithin-read : (tills : StampHoldings) (status : TrackStatus) → IsReadOff b.tracker (desk_at b.desks s) s status
+      → AreWithin tills (desk_at b.desks s).books → IsWithin tills status
+  IsWithin-read tills status t few =
+      let d = h.desks s within in
+      let there = h.stands.each s (omega (arith, h.servers)) in
+      let sent = ap (λ (x : ServerNumbers). x.sent) there in
+      let delta = ap (λ (p : ℕ × ℕ). p.0) t.sent ∙ ap (λ (x : Params). x.delta) sent in
+      let rho = ap (λ (p : ℕ × ℕ). p.1) t.sent ∙ ap (λ (x : Params). x.rho) sent in
+      record {
+        stamps = omega (arith, few.stamps, t.stamps);
+        delta = omega (arith, few.delta, d.books.delta.total, delta);
+        rho = omega (arith, few.rho, d.books.rho.total, rho);
+      }
+
+-- the sums of what is told
+sums_read : (counting : Counting) (s : ServerId) (events : List TrackerEvent) (sent pending : Params) (status : TrackStatus)
+    → status.counting ≡ counting → plus sent pending ≡ due counting s events → status.sent ≡ pair_of sent
+    → status.pending ≡ pair_of pending → status.completions ≡ pair_of (completions events) → status.stamps ≡ stamps s events
+    → status.others ≡ pair_of (others s events) → AreSums status
+sums_read All s events sent pending status form sum a b c n o =
+    let all = ap (λ (x : Params). x.delta) sum in
+    let constraint = ap (λ (x : Params). x.rho) sum in
+    rw (form, a, b, c) (record { all = all; constraint = constraint })
+sums_read Others s events sent pending status form sum a b c n o =
+    let all = ap (λ (x : Params). x.delta) sum in
+    let constraint = ap (λ (x : Params). x.rho) sum in
+    rw (form, a, b, n, o) (record { all = all; constraint = constraint })
+
+pub AreSums-status : (b : BookState) (s : ServerId) → s.0 < length b.desks → IsConsistent b → (status : TrackStatus) → IsStatusOf b s status
+    → AreSums status
+AreSums-status b s within h status is =
+    sums_read b.tracker.counting s b.events (numbers_at b.tracker s).sent (numbers_at b.tracker s).pending status is.counting
+    (h.balanced s within) is.sent is.pending (is.completions ∙ ap pair_of h.stands.completed) is.stamps is.others

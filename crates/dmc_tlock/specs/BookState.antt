@@ -1,0 +1,52 @@
+-- What contracts see of a tracker book, of a stamp, and of a book behind its lock.
+use Rattle.std.specs.Prelude.{ℕ, List, slice_index_or}
+use Rattle.dmc_types.specs.Values.{Params}
+use Rattle.dmc_types.specs.declared.ids.ServerId.{ServerId}
+use Rattle.dmc_tracker.specs.declared.event.TrackerEvent.{TrackerEvent}
+use Rattle.dmc_tracker.specs.Numbers.{Numbers}
+use Rattle.dmc_ledger.specs.Accounts.{Account, Holding}
+use Rattle.dmc_ledger.specs.Bundles.{ServerSide, StampHoldings}
+
+-- the client, the numbers of its tracker, the list of its stamps and responses, how long the list may become, and the
+-- desk of each server
+pub record BookState : Type 0 where
+  pub client : ℕ
+  pub tracker : Numbers
+  pub events : List TrackerEvent
+  pub most_events : ℕ
+  pub desks : List ServerSide
+
+-- a stamp: whose it is, for which server, and what it carries
+pub record StampValue : Type 0 where
+  pub client : ℕ
+  pub server : ℕ
+  pub params : Params
+
+-- a lock: whose book it is for
+pub record LockValue : Type 0 where
+  pub client : ℕ
+
+-- what stands at a place where there is no desk
+abbrev pub no_account : Account
+no_account = record { number = 0; gathered = 0; held = 0; open_tills = 0 }
+
+abbrev pub no_holding : Holding
+no_holding = record { number = 0; amount = 0 }
+
+abbrev pub no_tills : StampHoldings
+no_tills = record { stamps = no_holding; delta = no_holding; rho = no_holding }
+
+abbrev pub no_side : ServerSide
+no_side = record {
+  client = 0;
+  server = 0;
+  books = record { stamps = no_account; delta = no_account; rho = no_account };
+  held = record { reservation = no_holding; priority = no_holding };
+}
+
+-- the desk of s, and a pass's tills for s
+abbrev pub desk_at : List ServerSide → ServerId → ServerSide
+desk_at desks s = slice_index_or desks s.0 no_side
+
+abbrev pub tills_at : List StampHoldings → ServerId → StampHoldings
+tills_at pass s = slice_index_or pass s.0 no_tills

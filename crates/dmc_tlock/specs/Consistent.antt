@@ -1,0 +1,60 @@
+-- What holds of every tracker book: the invariant of its type.
+use Rattle.std.specs.Prelude.{◌≡◌, ℕ, ◌<◌, ◌≤◌, ◌^◌, List, length}
+use Rattle.dmc_types.specs.Values.{Params}
+use Rattle.dmc_types.specs.declared.ids.ServerId.{ServerId}
+use Rattle.dmc_types.specs.declared.config.Counting.{Counting}
+use Rattle.dmc_types.specs.declared.config.Counting.TheVariants.{All, Others}
+use Rattle.dmc_types.specs.declared.config.PhaseType.TheVariants.{Reservation, Priority}
+use Rattle.dmc_tracker.specs.declared.event.TrackerEvent.{TrackerEvent}
+use Rattle.dmc_tracker.specs.TrackerList.{plus, completions, others, stamps, sent, responses, IsTracked}
+use Rattle.dmc_tracker.specs.Numbers.{numbers_at, Stands}
+use Rattle.dmc_ledger.specs.Accounts.{Account, total_of}
+use Rattle.dmc_ledger.specs.Bundles.{ServerSide, StampAccounts, GrantHoldings}
+use Rattle.dmc_tlock.specs.BookState.{BookState, desk_at}
+
+-- what was sent to s and what is pending there, together: the completions; in `Others` the stamps to s and the
+-- completions at the other servers
+abbrev pub due : Counting → ServerId → List TrackerEvent → Params
+due All s events = completions events
+due Others s events = plus (record { delta = stamps s events; rho = stamps s events }) (others s events)
+
+-- sent plus pending, of each server and in both counts
+abbrev pub IsBalanced : BookState → Type 0
+IsBalanced b = (s : ServerId) → s.0 < length b.desks
+    → plus (numbers_at b.tracker s).sent (numbers_at b.tracker s).pending ≡ due b.tracker.counting s b.events
+
+-- the book totals n, of which so much is gathered, and so many of its tills are open
+pub record IsBook (n back tills : ℕ) (book : Account) : Type 0 where
+  pub total : total_of book ≡ n
+  pub gathered : book.gathered ≡ back
+  pub open_tills : book.open_tills ≡ tills
+
+-- the stamp books of s total what the list sent to s. Nothing is gathered, and two tills of each are open: that of the
+-- queue's desk, and that of the client's pass.
+pub record AreStampBooks (events : List TrackerEvent) (s : ServerId) (books : StampAccounts) : Type 0 where
+  pub stamps : IsBook (stamps s events) 0 2 books.stamps
+  pub delta : IsBook (sent s events).delta 0 2 books.delta
+  pub rho : IsBook (sent s events).rho 0 2 books.rho
+
+-- the held grant tills of s are its responses of each phase
+pub record AreGrantTills (events : List TrackerEvent) (s : ServerId) (tills : GrantHoldings) : Type 0 where
+  pub reservation : tills.reservation.amount ≡ responses s Reservation events
+  pub priority : tills.priority.amount ≡ responses s Priority events
+
+-- the desk of s
+pub record IsDesk (client : ℕ) (events : List TrackerEvent) (s : ServerId) (desk : ServerSide) : Type 0 where
+  pub its_client : desk.client ≡ client
+  pub its_server : desk.server ≡ s.0
+  pub books : AreStampBooks events s desk.books
+  pub held : AreGrantTills events s desk.held
+
+-- the two sums; each stamp of the list carries what the list demands; the tracker's numbers are those of the list; and
+-- the desk of each server
+pub record IsConsistent (b : BookState) : Type 0 where
+  pub balanced : IsBalanced b
+  pub tracked : IsTracked b.tracker.counting b.events
+  pub stands : Stands b.tracker b.events
+  pub desks : (s : ServerId) → s.0 < length b.desks → IsDesk b.client b.events s (desk_at b.desks s)
+  pub servers : length b.desks ≡ length b.tracker.servers
+  pub within : length b.events ≤ b.most_events
+  pub limit : b.most_events ≤ 2 ^ 30

@@ -1,0 +1,41 @@
+-- A tracker book that is made.
+use Rattle.std.specs.Prelude.{◌≡◌, ℕ, ◌<◌, ◌≤◌, ◌^◌, List, [], length, map}
+use Rattle.dmc_types.specs.declared.ids.ServerId.{ServerId}
+use Rattle.dmc_types.specs.declared.config.Counting.{Counting}
+use Rattle.dmc_tracker.specs.Numbers.{AreLimits, new_numbers}
+use Rattle.dmc_ledger.specs.Bundles.{ServerSide, StampHoldings, StampAccounts, new_server_side}
+use Rattle.dmc_ledger.specs.Moves.{books_after_opening, new_tills}
+use Rattle.dmc_tlock.specs.BookState.{BookState, desk_at}
+
+-- the desks are a client's for the servers 0, 1, .., as `open_pair` gave them
+abbrev pub AreNew : ℕ → List ServerSide → Type 0
+AreNew client desks = (s : ServerId) → s.0 < length desks → ((n : ℕ) × (desk_at desks s ≡ new_server_side client s.0 n))
+
+-- the limits of a tracker and of a history
+pub record AreBookLimits (servers most most_events : ℕ) : Type 0 where
+  pub tracker : AreLimits servers most
+  pub some_events : 0 < most_events
+  pub events_limit : most_events ≤ 2 ^ 30
+
+-- the client's pass opens a till of each stamp book of a desk
+abbrev pub side_after_opening : ServerSide → ServerSide
+side_after_opening desk = record desk { books = books_after_opening desk.books }
+
+abbrev pub new_pass : List ServerSide → List StampHoldings
+new_pass desks = map (λ desk. new_tills desk.books) desks
+
+-- a book of an empty list, with a server for each desk
+abbrev pub new_book_state : ℕ → Counting → ℕ → ℕ → List ServerSide → BookState
+new_book_state client counting most most_events desks = record {
+  client = client;
+  tracker = new_numbers counting most (length desks);
+  events = [];
+  most_events = most_events;
+  desks = map side_after_opening desks;
+}
+
+-- one till of each book is open
+pub record IsOneTill (books : StampAccounts) : Type 0 where
+  pub stamps : books.stamps.open_tills ≡ 1
+  pub delta : books.delta.open_tills ≡ 1
+  pub rho : books.rho.open_tills ≡ 1

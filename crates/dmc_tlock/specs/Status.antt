@@ -1,0 +1,50 @@
+-- What `status` tells.
+use Rattle.std.specs.Prelude.{◌≡◌, ℕ, ◌+◌, ◌≤◌}
+use Rattle.dmc_types.specs.Values.{Params}
+use Rattle.dmc_types.specs.declared.ids.ServerId.{ServerId}
+use Rattle.dmc_types.specs.declared.config.Counting.{Counting}
+use Rattle.dmc_types.specs.declared.config.Counting.TheVariants.{All, Others}
+use Rattle.dmc_tracker.specs.TrackerList.{others, stamps}
+use Rattle.dmc_tracker.specs.Numbers.{Numbers, numbers_at}
+use Rattle.dmc_ledger.specs.Accounts.{total_of}
+use Rattle.dmc_ledger.specs.Bundles.{ServerSide, StampHoldings}
+use Rattle.dmc_tlock.specs.BookState.{BookState}
+use Rattle.dmc_tlock.specs.declared.status.TrackStatus.{TrackStatus}
+
+abbrev pub pair_of : Params → ℕ × ℕ
+pair_of params = (params.delta, params.rho)
+
+-- the numbers of the tracker and of its list, seen from s
+pub record IsStatusOf (b : BookState) (s : ServerId) (status : TrackStatus) : Type 0 where
+  pub sent : status.sent ≡ pair_of (numbers_at b.tracker s).sent
+  pub pending : status.pending ≡ pair_of (numbers_at b.tracker s).pending
+  pub completions : status.completions ≡ pair_of b.tracker.completions
+  pub counting : status.counting ≡ b.tracker.counting
+  pub stamps : status.stamps ≡ stamps s b.events
+  pub others : status.others ≡ pair_of (others s b.events)
+
+-- the tills hold no more than was sent
+pub record IsWithin (tills : StampHoldings) (status : TrackStatus) : Type 0 where
+  pub stamps : tills.stamps.amount ≤ status.stamps
+  pub delta : tills.delta.amount ≤ status.sent.0
+  pub rho : tills.rho.amount ≤ status.sent.1
+
+-- what is due by these numbers, in each counting form
+abbrev pub due_by : TrackStatus → Counting → ℕ × ℕ
+due_by status All = status.completions
+due_by status Others = (status.stamps + status.others.0, status.stamps + status.others.1)
+
+-- the two sums: sent plus pending is what is due, in the form that the status tells
+pub record AreSums (status : TrackStatus) : Type 0 where
+  pub all : status.sent.0 + status.pending.0 ≡ (due_by status status.counting).0
+  pub constraint : status.sent.1 + status.pending.1 ≡ (due_by status status.counting).1
+
+-- how a status is read off the tracker and the desk of s, without the list
+pub record IsReadOff (tracker : Numbers) (desk : ServerSide) (s : ServerId) (status : TrackStatus) : Type 0 where
+  pub sent : status.sent ≡ pair_of (numbers_at tracker s).sent
+  pub pending : status.pending ≡ pair_of (numbers_at tracker s).pending
+  pub completions : status.completions ≡ pair_of tracker.completions
+  pub counting : status.counting ≡ tracker.counting
+  pub stamps : status.stamps ≡ total_of desk.books.stamps
+  pub others_all : status.others.0 + (desk.held.reservation.amount + desk.held.priority.amount) ≡ tracker.completions.delta
+  pub others_constraint : status.others.1 + desk.held.reservation.amount ≡ tracker.completions.rho

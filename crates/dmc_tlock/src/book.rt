@@ -1,0 +1,287 @@
+//! The tracker book.
+ghost use Rattle.std.specs.Prelude.{◌≡◌, ◌<◌, ◌≤◌, ◌↔◌, [], length, map, IfOk, IfErr, OnOk, OnErr, IsOk, IsErrOf};
+ghost use Rattle.dmc_types.specs.declared.ids.ServerId.{ServerId};
+ghost use Rattle.dmc_tracker.specs.Numbers.{IsSentFull, next_params};
+ghost use Rattle.dmc_ledger.specs.Bundles.{stamp_holdings, server_side};
+ghost use Rattle.dmc_ledger.specs.Moves.{AreOf, tills_after_stamp, till_in, with_less};
+ghost use Rattle.dmc_tlock.specs.BookState.{desk_at, tills_at};
+ghost use Rattle.dmc_tlock.specs.Consistent.{IsConsistent};
+ghost use Rattle.dmc_tlock.specs.Entries.{book_after_stamp, book_after_response, AreTillsOf, IsTillOf};
+ghost use Rattle.dmc_tlock.specs.Opening.{AreNew, AreBookLimits, new_book_state, new_pass};
+ghost use Rattle.dmc_tlock.specs.Settling.{IsOwn, AreGathered, IsSettledDesk, held_of};
+ghost use Rattle.dmc_tlock.specs.Status.{IsStatusOf, IsWithin, AreSums};
+
+use crate::desk::{audit_tills, find_desk, find_grants, issue_stamp, take_unit};
+use crate::entry::{record_response, record_stamp};
+use crate::fault::{EntryFault, TillFault};
+use crate::parts::{Parts, make_parts};
+use crate::pass::{ClientPass, open_pass};
+use crate::settled::{StampsHeld, TrackerSettled, gather_pass, is_own};
+use crate::stamp::Stamp;
+use crate::status::{TrackStatus, read_status};
+use dmc_history::History;
+use dmc_ledger::bundle::StampTills;
+use dmc_ledger::desk::ServerDesk;
+use dmc_ledger::setup::Setup;
+use dmc_ledger::till::Till;
+use dmc_tracker::event::TrackerEvent;
+use dmc_tracker::tracker::{MakeFault, ServiceTracker};
+use dmc_types::config::{Counting, PhaseType};
+use dmc_types::ids::{ClientId, ServerId};
+use dmc_types::params::ReqParams;
+use std::alloc::Global;
+use std::marker::Model;
+
+/// A client's tracker with the list of its stamps and responses, and its desk for each server.
+///
+/// What holds of every book is the invariant of its type (`IsConsistent`; `laws::book_is_consistent` tells it): for each
+/// server the two sums hold, the stamp books total what the list sent there, and the held grant tills are its responses of
+/// each phase.
+#[derive(Drop)]
+pub struct TrackerBook<S: Setup> {
+    client: ClientId,
+    tracker: ServiceTracker,
+    pub(crate) history: History<TrackerEvent>,
+    desks: Vec<ServerDesk<S>>,
+    held: Vec<StampsHeld>,
+}
+
+impl<S: Setup> Model for TrackerBook<S> {
+    ghost use Rattle.std.specs.Prelude.{◌≡◌, map, length};
+    ghost use Rattle.dmc_ledger.specs.Bundles.{server_side};
+    ghost use Rattle.dmc_tlock.specs.BookState.{BookState};
+
+    ghost Value = { BookState };
+
+    ghost use Rattle.dmc_tlock.specs.Consistent.{IsConsistent};
+
+    ghost view = { λ b. record {
+      client = b.client.0;
+      tracker = b.tracker;
+      events = b.history.events;
+      most_events = b.history.most;
+      desks = map server_side b.desks.items;
+    } };
+
+    ghost invariant = { λ b. IsConsistent (record {
+      client = b.client.0;
+      tracker = b.tracker;
+      events = b.history.events;
+      most_events = b.history.most;
+      desks = map server_side b.desks.items;
+    }) × (length b.held.items ≡ length b.desks.items) };
+}
+
+/// Why a tracker book could not be made, with the desks as they were.
+#[derive(Drop)]
+pub struct TrackerFault<S: Setup> {
+    pub desks: Vec<ServerDesk<S>>,
+    pub cause: MakeFault,
+}
+
+/// A book, and a pass that is not its own. Both are as they were.
+#[derive(Drop)]
+pub struct Unsettled<S: Setup> {
+    pub book: TrackerBook<S>,
+    pub pass: ClientPass<S>,
+}
+
+impl<S: Setup> TrackerBook<S> {
+    /// A client's book of an empty list, and the client's pass, which holds nothing. The desks are the client's for the
+    /// servers 0, 1, .. in order, as `open_pair` gave them. `most` is the tracker's (1 to 2^32-1), `most_events` the list's
+    /// (1 to 2^30). Refused `Limit` where these or the number of desks (1 to 64) are past their limits, then `Memory`; the
+    /// desks are handed back. The room that `settle` needs is made here.
+    pub fn new(
+        alloc: Global,
+        client: ClientId,
+        desks: Vec<ServerDesk<S>>,
+        most: u32,
+        most_events: u32,
+        counting: Counting,
+    ) -> Result<(TrackerBook<S>, ClientPass<S>), TrackerFault<S>>
+        requires { AreNew client.0 (map server_side desks.items) }
+        ensures book { IfOk result (λ made. made.0 ≡ new_book_state client.0 counting most most_events (map server_side desks.items)) }
+        ensures pass { IfOk result (λ made. made.1 ≡ new_pass (map server_side desks.items)) }
+        ensures back { IfErr result (λ fault. fault.desks ≡ desks) }
+        ensures limit { (AreBookLimits (length desks.items) most most_events → ⊥)
+            → IfErr result (λ fault. fault.cause ≡ MakeFault.Limit) }
+        ensures limits { OnOk result (AreBookLimits (length desks.items) most most_events) }
+        ensures memory { AreBookLimits (length desks.items) most most_events
+            → IfErr result (λ fault. fault.cause ≡ MakeFault.Memory) }
+    {
+        let parts = match make_parts(alloc, desks.len(), most, most_events, counting) {
+            Ok(parts) => parts,
+            Err(cause) => return Err(TrackerFault { desks, cause }),
+        };
+        let Parts {
+            tracker,
+            history,
+            mut tills,
+            held,
+        } = parts;
+        let mut desks = desks;
+        open_pass(&mut desks, &mut tills);
+        let book = TrackerBook {
+            client,
+            tracker,
+            history,
+            desks,
+            held,
+        };
+        Ok((book, ClientPass { tills }))
+    }
+
+    /// Stamps a request to a server, and puts the stamp into the tills: one unit, its delta and its rho.
+    ///
+    /// Refused `NoServer`; `Stranger` where the tills are not of the server's stamp books; `TrackFull` as the tracker says
+    /// (in `Others` alone); `HistoryFull`; `Memory`.
+    pub fn stamp(&mut self, server: ServerId, tills: &mut StampTills<S>) -> Result<Stamp, EntryFault>
+        ensures stamp { IfOk result (λ stamp.
+            stamp ≡ record { client = self.old.client; server = server.0; params = next_params self.old.tracker server }) }
+        ensures book { OnOk result (self.new ≡ book_after_stamp server self.old) }
+        ensures tills { OnOk result
+            (stamp_holdings tills.new ≡ tills_after_stamp (next_params self.old.tracker server) (stamp_holdings tills.old)) }
+        ensures kept { OnErr result (self.new ≡ self.old) }
+        ensures tills_kept { OnErr result (tills.new ≡ tills.old) }
+        ensures no_server { IsErrOf result EntryFault.NoServer ↔ (length self.old.desks ≤ server.0) }
+        ensures stranger { IsErrOf result EntryFault.Stranger ↔ ((server.0 < length self.old.desks)
+            × (AreOf (stamp_holdings tills.old) (desk_at self.old.desks server).books → ⊥)) }
+        ensures track_full { IsErrOf result EntryFault.TrackFull
+            ↔ (AreTillsOf self.old server (stamp_holdings tills.old) × IsSentFull self.old.tracker server) }
+        ensures history_full { IsErrOf result EntryFault.HistoryFull
+            ↔ (AreTillsOf self.old server (stamp_holdings tills.old)
+            × (IsSentFull self.old.tracker server → ⊥)
+            × (length self.old.events ≡ self.old.most_events)) }
+    {
+        let params = self.stamp_params(server, tills)?;
+        Ok(Stamp::new(self.client, server, params))
+    }
+
+    /// As `stamp`, and answers what the stamp carries.
+    pub(crate) fn stamp_params(
+        &mut self,
+        server: ServerId,
+        tills: &mut StampTills<S>,
+    ) -> Result<ReqParams, EntryFault>
+        ensures params { IfOk result (λ params. params ≡ next_params self.old.tracker server) }
+        ensures book { OnOk result (self.new ≡ book_after_stamp server self.old) }
+        ensures tills { OnOk result
+            (stamp_holdings tills.new ≡ tills_after_stamp (next_params self.old.tracker server) (stamp_holdings tills.old)) }
+        ensures kept { OnErr result (self.new ≡ self.old) }
+        ensures tills_kept { OnErr result (tills.new ≡ tills.old) }
+        ensures no_server { IsErrOf result EntryFault.NoServer ↔ (length self.old.desks ≤ server.0) }
+        ensures stranger { IsErrOf result EntryFault.Stranger ↔ ((server.0 < length self.old.desks)
+            × (AreOf (stamp_holdings tills.old) (desk_at self.old.desks server).books → ⊥)) }
+        ensures track_full { IsErrOf result EntryFault.TrackFull
+            ↔ (AreTillsOf self.old server (stamp_holdings tills.old) × IsSentFull self.old.tracker server) }
+        ensures history_full { IsErrOf result EntryFault.HistoryFull
+            ↔ (AreTillsOf self.old server (stamp_holdings tills.old)
+            × (IsSentFull self.old.tracker server → ⊥)
+            × (length self.old.events ≡ self.old.most_events)) }
+    {
+        let index = find_desk(&self.desks, server, tills)?;
+        self.tracker.can_stamp(server)?;
+        self.history.reserve_one()?;
+        let params = record_stamp(&mut self.tracker, &mut self.history, server);
+        issue_stamp(&mut self.desks[index], tills, params);
+        Ok(params)
+    }
+
+    /// Counts a response of a server to a request that it granted in a phase, and takes its unit from the till.
+    ///
+    /// Refused `NoServer`; `Stranger` where the till is not of the server's grants in the phase; `TrackFull` where the
+    /// completions are the tracker's `most`; `HistoryFull`; `Memory`.
+    pub fn respond(
+        &mut self,
+        server: ServerId,
+        phase: PhaseType,
+        till: &mut Till<S>,
+    ) -> Result<(), EntryFault>
+        requires { 0 < till.old.amount }
+        ensures book { OnOk result (self.new ≡ book_after_response server phase self.old) }
+        ensures till { OnOk result (till.new ≡ with_less 1 till.old) }
+        ensures kept { OnErr result (self.new ≡ self.old) }
+        ensures till_kept { OnErr result (till.new ≡ till.old) }
+        ensures no_server { IsErrOf result EntryFault.NoServer ↔ (length self.old.desks ≤ server.0) }
+        ensures stranger { IsErrOf result EntryFault.Stranger ↔ ((server.0 < length self.old.desks)
+            × (till.old.number ≡ (till_in phase (desk_at self.old.desks server).held).number → ⊥)) }
+        ensures track_full { IsErrOf result EntryFault.TrackFull
+            ↔ (IsTillOf self.old server phase till.old
+            × (self.old.tracker.completions.delta ≡ self.old.tracker.most)) }
+        ensures history_full { IsErrOf result EntryFault.HistoryFull
+            ↔ (IsTillOf self.old server phase till.old
+            × (self.old.tracker.completions.delta ≡ self.old.tracker.most → ⊥)
+            × (length self.old.events ≡ self.old.most_events)) }
+    {
+        let index = find_grants(&self.desks, server, phase, till)?;
+        self.tracker.can_respond(server)?;
+        self.history.reserve_one()?;
+        record_response(&mut self.tracker, &mut self.history, server, phase);
+        take_unit(&mut self.desks[index], phase, till);
+        Ok(())
+    }
+
+    /// What its tracker counts, seen from a server, by one of the tills of the server's stamp books: refused `NoServer`,
+    /// then `Stranger`. What was sent is at least what the tills hold.
+    pub fn status(&self, server: ServerId, tills: &StampTills<S>) -> Result<TrackStatus, TillFault>
+        ensures status { IfOk result (λ status. IsStatusOf self.now server status) }
+        ensures sent { IfOk result (λ status. IsWithin (stamp_holdings tills.now) status) }
+        ensures sums { IfOk result (λ status. AreSums status) }
+        ensures no_server { IsErrOf result TillFault.NoServer ↔ (length self.now.desks ≤ server.0) }
+        ensures stranger { IsErrOf result TillFault.Stranger ↔ ((server.0 < length self.now.desks)
+            × (AreOf (stamp_holdings tills.now) (desk_at self.now.desks server).books → ⊥)) }
+    {
+        let index = find_desk(&self.desks, server, tills)?;
+        let desk = &self.desks[index];
+        audit_tills(desk, tills);
+        Ok(read_status(&self.tracker, desk, server))
+    }
+
+    /// Ends the book: gathers its own pass, and answers the list, what was left in the pass, and the desks. In these each
+    /// stamp book has one till open, that of the queue's desk. A pass that is not its own is handed back with the book. It
+    /// takes no memory.
+    pub fn settle(self, pass: ClientPass<S>) -> Result<TrackerSettled<S>, Unsettled<S>>
+        ensures own { IsOk result ↔ IsOwn pass self.desks }
+        ensures back { IfErr result (λ fault. (fault.book ≡ self) × (fault.pass ≡ pass)) }
+        ensures events { IfOk result (λ settled. settled.events.events ≡ self.events) }
+        ensures held { IfOk result (λ settled. settled.held.items ≡ map held_of pass) }
+        ensures gathered { IfOk result (λ settled. AreGathered pass self.desks (map server_side settled.desks.items)) }
+        ensures desks { IfOk result (λ settled. (s : ServerId) → s.0 < length self.desks
+            → IsSettledDesk self.client self.events s (tills_at pass s) (desk_at (map server_side settled.desks.items) s)) }
+
+        // So the list is what the numbers of the book were.
+        ensures consistent { OnOk result (IsConsistent self) }
+    {
+        if !is_own(&self.desks, &pass.tills) {
+            return Err(Unsettled { book: self, pass });
+        }
+        let TrackerBook {
+            client: _,
+            tracker: _,
+            history,
+            mut desks,
+            mut held,
+        } = self;
+        let ClientPass { tills } = pass;
+        gather_pass(&mut desks, tills, &mut held);
+        Ok(TrackerSettled {
+            events: history,
+            held,
+            desks,
+        })
+    }
+
+    /// Which completions its stamps count.
+    pub fn counting(&self) -> Counting
+        ensures { result ≡ self.now.tracker.counting }
+    {
+        self.tracker.counting()
+    }
+
+    /// Whose book it is.
+    pub(crate) fn client(&self) -> ClientId
+        ensures { result.0 ≡ self.now.client }
+    {
+        self.client
+    }
+}

@@ -1,0 +1,52 @@
+//! One entry more, in a tracker and in its list.
+ghost use Rattle.std.specs.Prelude.{◌≡◌, ◌<◌, [], ◌∷◌, ◌++◌, length};
+ghost use Rattle.dmc_tracker.specs.declared.event.TrackerEvent.{TrackerEvent};
+ghost use Rattle.dmc_tracker.specs.Numbers.{IsSentFull, next_params, after_stamp, after_response};
+
+use dmc_history::History;
+use dmc_tracker::event::TrackerEvent;
+use dmc_tracker::tracker::ServiceTracker;
+use dmc_types::config::PhaseType;
+use dmc_types::ids::ServerId;
+use dmc_types::params::ReqParams;
+
+/// Stamps a request, and puts the stamp into the list.
+pub(crate) fn record_stamp(
+    tracker: &mut ServiceTracker,
+    history: &mut History<TrackerEvent>,
+    server: ServerId,
+) -> ReqParams
+    requires within { server.0 < length tracker.old.servers }
+    requires not_full { IsSentFull tracker.old server → ⊥ }
+    requires place { 0 < history.old.room }
+    ensures params { result ≡ next_params tracker.old server }
+    ensures tracker { tracker.new ≡ after_stamp server tracker.old }
+    ensures events { history.new.events ≡ history.old.events ++ TrackerEvent.Stamp server (next_params tracker.old server) ∷ [] }
+    ensures most { history.new.most ≡ history.old.most }
+{
+    let Ok(params) = tracker.get_req_params(server) else {
+        unreachable!()
+    };
+    history.push_reserved(TrackerEvent::Stamp { server, params });
+    params
+}
+
+/// Counts a response, and puts it into the list.
+pub(crate) fn record_response(
+    tracker: &mut ServiceTracker,
+    history: &mut History<TrackerEvent>,
+    server: ServerId,
+    phase: PhaseType,
+)
+    requires within { server.0 < length tracker.old.servers }
+    requires not_full { tracker.old.completions.delta ≡ tracker.old.most → ⊥ }
+    requires place { 0 < history.old.room }
+    ensures tracker { tracker.new ≡ after_response server phase tracker.old }
+    ensures events { history.new.events ≡ history.old.events ++ TrackerEvent.Response server phase ∷ [] }
+    ensures most { history.new.most ≡ history.old.most }
+{
+    let Ok(()) = tracker.track_resp(server, phase) else {
+        unreachable!()
+    };
+    history.push_reserved(TrackerEvent::Response { server, phase });
+}

@@ -1,0 +1,69 @@
+//! Why a call of a tracker book is refused.
+use dmc_history::ReserveFault;
+use dmc_tracker::tracker::TrackFault;
+
+/// Why tills are not taken for a server's.
+#[derive(Clone, Copy, Debug, PartialEq, Eq)]
+pub enum TillFault {
+    /// The tracker has no such server.
+    NoServer,
+    /// A till is not of that server's books here.
+    Stranger,
+}
+
+/// Why a stamp or a response is refused. Nothing has changed.
+#[derive(Clone, Copy, Debug, PartialEq, Eq)]
+pub enum EntryFault {
+    /// The tracker has no such server.
+    NoServer,
+    /// A till is not of that server's books here; of a response, not of the phase's.
+    Stranger,
+    /// The call would take a count past the tracker's `most`.
+    TrackFull,
+    /// The list has its `most_events` entries.
+    HistoryFull,
+    /// The allocator refused a growth of the list.
+    Memory,
+}
+
+impl From<TillFault> for EntryFault {
+    ghost use Rattle.std.specs.Prelude.{◌≡◌};
+    ghost use Rattle.dmc_tlock.specs.Causes.{of_till};
+
+    ghost from_gives = { λ x e. e ≡ of_till x };
+
+    fn from(fault: TillFault) -> EntryFault {
+        match fault {
+            TillFault::NoServer => EntryFault::NoServer,
+            TillFault::Stranger => EntryFault::Stranger,
+        }
+    }
+}
+
+impl From<TrackFault> for EntryFault {
+    ghost use Rattle.std.specs.Prelude.{◌≡◌};
+    ghost use Rattle.dmc_tlock.specs.Causes.{of_track};
+
+    ghost from_gives = { λ x e. e ≡ of_track x };
+
+    fn from(fault: TrackFault) -> EntryFault {
+        match fault {
+            TrackFault::NoServer => EntryFault::NoServer,
+            TrackFault::TrackFull => EntryFault::TrackFull,
+        }
+    }
+}
+
+impl From<ReserveFault> for EntryFault {
+    ghost use Rattle.std.specs.Prelude.{◌≡◌};
+    ghost use Rattle.dmc_tlock.specs.Causes.{of_reserve};
+
+    ghost from_gives = { λ x e. e ≡ of_reserve x };
+
+    fn from(fault: ReserveFault) -> EntryFault {
+        match fault {
+            ReserveFault::HistoryFull => EntryFault::HistoryFull,
+            ReserveFault::Memory => EntryFault::Memory,
+        }
+    }
+}

@@ -1,0 +1,13 @@
+//! What holds of every tracker book, by its type. Each law is the contract of a function that does nothing: a caller that
+//! calls it knows the law.
+ghost use Rattle.dmc_tlock.specs.Consistent.{IsConsistent};
+
+use crate::book::TrackerBook;
+use dmc_ledger::setup::Setup;
+
+/// The book is consistent, wherever it came from: a lock that was opened, for one.
+pub fn book_is_consistent<S: Setup>(book: &TrackerBook<S>)
+    ensures { IsConsistent book.now }
+{
+    let _ = &book.history;
+}

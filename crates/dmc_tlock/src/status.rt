@@ -1,0 +1,64 @@
+//! What a tracker book tells.
+ghost use Rattle.std.specs.Prelude.{◌≡◌, ◌+◌, ◌<◌, ◌≤◌, ◌^◌, length};
+ghost use Rattle.dmc_ledger.specs.Accounts.{total_of};
+ghost use Rattle.dmc_ledger.specs.Bundles.{server_side};
+ghost use Rattle.dmc_tlock.specs.Status.{IsReadOff};
+
+use dmc_ledger::desk::ServerDesk;
+use dmc_ledger::setup::Setup;
+use dmc_tracker::tracker::ServiceTracker;
+use dmc_types::config::Counting;
+use dmc_types::ids::ServerId;
+
+/// What a tracker counts, seen from one server. Each pair has a count of all and one of those in the constraint phase.
+#[derive(Clone, Copy, Debug, PartialEq, Eq)]
+pub struct TrackStatus {
+    /// The deltas and the rhos that were sent to the server, summed.
+    pub sent: (u32, u32),
+    /// The completions that its next stamp would count.
+    pub pending: (u32, u32),
+    /// The completions at all servers.
+    pub completions: (u32, u32),
+    /// Which completions a stamp counts.
+    pub counting: Counting,
+    /// The stamps to the server.
+    pub stamps: u32,
+    /// The completions at the other servers.
+    pub others: (u32, u32),
+}
+
+/// The status of a server, read off the tracker and the server's desk.
+pub(crate) fn read_status<S: Setup>(
+    tracker: &ServiceTracker,
+    desk: &ServerDesk<S>,
+    server: ServerId,
+) -> TrackStatus
+    requires within { server.0 < length tracker.now.servers }
+    requires stamps { total_of (server_side desk.now).books.stamps < 2 ^ 32 }
+    requires all { (server_side desk.now).held.reservation.amount + (server_side desk.now).held.priority.amount ≤ tracker.now.completions.delta }
+    requires constraint { (server_side desk.now).held.reservation.amount ≤ tracker.now.completions.rho }
+    ensures { IsReadOff tracker.now (server_side desk.now) server result }
+{
+    let completions = tracker.completions();
+    TrackStatus {
+        sent: tracker.sent(server).unwrap(),
+        pending: tracker.pending(server).unwrap(),
+        completions,
+        counting: tracker.counting(),
+        stamps: desk.books.stamps.total() as u32,
+        others: others_than(desk, completions),
+    }
+}
+
+/// The completions without those at the desk's server.
+fn others_than<S: Setup>(desk: &ServerDesk<S>, completions: (u32, u32)) -> (u32, u32)
+    requires all { (server_side desk.now).held.reservation.amount + (server_side desk.now).held.priority.amount ≤ completions.0 }
+    requires constraint { (server_side desk.now).held.reservation.amount ≤ completions.1 }
+    ensures all { result.0 + ((server_side desk.now).held.reservation.amount + (server_side desk.now).held.priority.amount) ≡ completions.0 }
+    ensures constraint { result.1 + (server_side desk.now).held.reservation.amount ≡ completions.1 }
+{
+    let (all, constraint) = completions;
+    let reservation = desk.held.reservation.amount() as u32;
+    let priority = desk.held.priority.amount() as u32;
+    (all - reservation - priority, constraint - reservation)
+}

@@ -1,5 +1,5 @@
 -- A stamp and a response keep a tracker book consistent.
-use Rattle.std.proofs.Common.{◌≡◌, ℕ, ◌+◌, ◌<◌, ◌≤◌, ◌^◌, List, [], ◌∷◌, ◌++◌, length, map, sym, ap, ◌∙◌, arith}
+use Rattle.std.proofs.Common.{◌≡◌, ◌+◌, ◌<◌, ◌≤◌, ◌^◌, List, [], ◌∷◌, ◌++◌, length, map, sym, ap, ◌∙◌, arith}
 use Rattle.std.proofs.lemmas.List.Sums.{sum_by-cons}
 use Rattle.std.proofs.lemmas.List.{length-append, length-set, length-map}
 use Rattle.dmc_types.specs.Values.{Params}
@@ -45,9 +45,9 @@ IsConsistent-stamp b s within room h =
       tracked = tracked;
       stands = stands;
       desks = at_set (IsDesk b.client b.events) (IsDesk b.client (b.events ++ Stamp s params ∷ [])) b.desks s
-      (side_after_stamp params (desk_at b.desks s)) within h.desks
-      (IsDesk-stamp_same b.client b.events s params (desk_at b.desks s) (h.desks s within))
-      (IsDesk-stamp_other b.client b.events s params);
+          (side_after_stamp params (desk_at b.desks s)) within h.desks
+          (IsDesk-stamp_same b.client b.events s params (desk_at b.desks s) (h.desks s within))
+          (IsDesk-stamp_other b.client b.events s params);
       servers = servers;
       within = omega (arith, length-append b.events (Stamp s params ∷ []));
       limit = h.limit;
@@ -69,9 +69,9 @@ IsConsistent-response b s phase within room h =
       tracked = tracked;
       stands = stands;
       desks = at_set (IsDesk b.client b.events) (IsDesk b.client (b.events ++ Response s phase ∷ [])) b.desks s
-      (side_after_response phase (desk_at b.desks s)) within h.desks
-      (IsDesk-response_same b.client b.events s phase (desk_at b.desks s) (h.desks s within))
-      (IsDesk-response_other b.client b.events s phase);
+          (side_after_response phase (desk_at b.desks s)) within h.desks
+          (IsDesk-response_same b.client b.events s phase (desk_at b.desks s) (h.desks s within))
+          (IsDesk-response_other b.client b.events s phase);
       servers = servers;
       within = omega (arith, length-append b.events (Response s phase ∷ []));
       limit = h.limit;
@@ -87,9 +87,10 @@ completions-le-length : (events : List TrackerEvent) → ((completions events).d
 completions-le-length [] = (omega arith, omega arith)
 completions-le-length (e ∷ es) =
     let few = few_completed e in
-    let rest = completions-le-length es in
-    (omega (arith, few, rest, sum_by-cons (λ (x : TrackerEvent). (completed_by x).delta) e es),
-      omega (arith, few, rest, sum_by-cons (λ (x : TrackerEvent). (completed_by x).rho) e es))
+    let rest = completions-le-length es in (
+      omega (arith, few, rest, sum_by-cons (λ (x : TrackerEvent). (completed_by x).delta) e es),
+      omega (arith, few, rest, sum_by-cons (λ (x : TrackerEvent). (completed_by x).rho) e es),
+    )
 
 due-le : (counting : Counting) (s : ServerId) (events : List TrackerEvent)
     → ((due counting s events).delta ≤ length events + length events) × ((due counting s events).rho ≤ length events + length events)

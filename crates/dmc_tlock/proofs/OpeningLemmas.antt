@@ -3,7 +3,7 @@ use Rattle.std.proofs.Common.{◌≡◌, ℕ, ◌<◌, ◌≤◌, ◌^◌, List,
 use Rattle.std.proofs.lemmas.List.{get_or-map, length-map, length-replicate}
 use Rattle.dmc_types.specs.declared.ids.ServerId.{ServerId}
 use Rattle.dmc_types.specs.declared.config.Counting.{Counting}
-use Rattle.dmc_tracker.specs.Numbers.{ServerNumbers, no_numbers, new_numbers, Stands}
+use Rattle.dmc_tracker.specs.Numbers.{no_numbers, new_numbers, Stands}
 use Rattle.dmc_tracker.proofs.ForCallers.{IsTracked-nil}
 use Rattle.dmc_ledger.specs.Bundles.{ServerSide, new_server_side}
 use Rattle.dmc_tlock.specs.BookState.{no_side, desk_at}

@@ -1,5 +1,5 @@
 -- A consistent book's desks after their tills are gathered.
-use Rattle.std.proofs.Common.{◌≡◌, ℕ, ◌+◌, ◌-◌, ◌<◌, ◌≤◌, length, refl, sym, subst, arith}
+use Rattle.std.proofs.Common.{ℕ, ◌<◌, ◌≤◌, length, sym, subst, arith}
 use Rattle.dmc_types.specs.declared.ids.ServerId.{ServerId}
 use Rattle.dmc_ledger.specs.Accounts.{Account, Holding}
 use Rattle.dmc_ledger.specs.Bundles.{ServerSide, StampHoldings}

@@ -58,8 +58,8 @@ module _ (b : BookState) (s : ServerId) (within : s.0 < length b.desks) (h : IsC
         counting = t.counting;
         stamps = t.stamps ∙ d.books.stamps.total;
         others = same_pair status.others _
-        (omega (arith, t.others_all, all, all_now, d.held.reservation, d.held.priority))
-        (omega (arith, t.others_constraint, constraint, constraint_now, d.held.reservation));
+            (omega (arith, t.others_all, all, all_now, d.held.reservation, d.held.priority))
+            (omega (arith, t.others_constraint, constraint, constraint_now, d.held.reservation));
       }
 
   pub IsWithin-read : (tills : StampHoldings) (status : TrackStatus) → IsReadOff b.tracker (desk_at b.desks s) s status

@@ -4,6 +4,7 @@ use Rattle.dmc_types.specs.Values.{Params}
 use Rattle.dmc_types.specs.declared.ids.ServerId.{ServerId}
 use Rattle.dmc_tracker.specs.declared.event.TrackerEvent.{TrackerEvent}
 use Rattle.dmc_tracker.specs.Numbers.{Numbers}
+use Rattle.dmc_history.specs.Log.{Log}
 use Rattle.dmc_ledger.specs.Accounts.{Account, Holding}
 use Rattle.dmc_ledger.specs.Bundles.{ServerSide, StampHoldings}
 
@@ -15,6 +16,16 @@ pub record BookState : Type 0 where
   pub events : List TrackerEvent
   pub most_events : ℕ
   pub desks : List ServerSide
+
+-- the state of a book of these parts
+abbrev pub state_of : ℕ → Numbers → Log TrackerEvent → List ServerSide → BookState
+state_of client tracker history desks = record {
+  client = client;
+  tracker = tracker;
+  events = history.events;
+  most_events = history.most;
+  desks = desks;
+}
 
 -- a stamp: whose it is, for which server, and what it carries
 pub record StampValue : Type 0 where

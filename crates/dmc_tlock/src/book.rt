@@ -1,5 +1,5 @@
 //! The tracker book.
-ghost use Rattle.std.specs.Prelude.{◌≡◌, ◌<◌, ◌≤◌, ◌↔◌, [], length, map, IfOk, IfErr, OnOk, OnErr, IsOk, IsErrOf};
+ghost use Rattle.std.specs.Prelude.{◌≡◌, ◌<◌, ◌≤◌, ◌↔◌, [], length, map, IfOk, IfErr, OnOk, OnErr, IsOk, IsErrAnd, IsErrOf};
 ghost use Rattle.dmc_types.specs.declared.ids.ServerId.{ServerId};
 ghost use Rattle.dmc_tracker.specs.Numbers.{IsSentFull, next_params};
 ghost use Rattle.dmc_ledger.specs.Bundles.{stamp_holdings, server_side};
@@ -49,27 +49,16 @@ pub struct TrackerBook<S: Setup> {
 impl<S: Setup> Model for TrackerBook<S> {
     ghost use Rattle.std.specs.Prelude.{◌≡◌, map, length};
     ghost use Rattle.dmc_ledger.specs.Bundles.{server_side};
-    ghost use Rattle.dmc_tlock.specs.BookState.{BookState};
+    ghost use Rattle.dmc_tlock.specs.BookState.{BookState, state_of};
 
     ghost Value = { BookState };
 
     ghost use Rattle.dmc_tlock.specs.Consistent.{IsConsistent};
 
-    ghost view = { λ b. record {
-      client = b.client.0;
-      tracker = b.tracker;
-      events = b.history.events;
-      most_events = b.history.most;
-      desks = map server_side b.desks.items;
-    } };
+    ghost view = { λ b. state_of b.client.0 b.tracker b.history (map server_side b.desks.items) };
 
-    ghost invariant = { λ b. IsConsistent (record {
-      client = b.client.0;
-      tracker = b.tracker;
-      events = b.history.events;
-      most_events = b.history.most;
-      desks = map server_side b.desks.items;
-    }) × (length b.held.items ≡ length b.desks.items) };
+    ghost invariant = { λ b. IsConsistent (state_of b.client.0 b.tracker b.history (map server_side b.desks.items))
+        × (length b.held.items ≡ length b.desks.items) };
 }
 
 /// Why a tracker book could not be made, with the desks as they were.
@@ -104,8 +93,7 @@ impl<S: Setup> TrackerBook<S> {
         ensures pass { IfOk result (λ made. made.1 ≡ new_pass (map server_side desks.items)) }
         ensures back { IfErr result (λ fault. fault.desks ≡ desks) }
         ensures limit { (AreBookLimits (length desks.items) most most_events → ⊥)
-            → IfErr result (λ fault. fault.cause ≡ MakeFault.Limit) }
-        ensures limits { OnOk result (AreBookLimits (length desks.items) most most_events) }
+            → IsErrAnd result (λ fault. fault.cause ≡ MakeFault.Limit) }
         ensures memory { AreBookLimits (length desks.items) most most_events
             → IfErr result (λ fault. fault.cause ≡ MakeFault.Memory) }
     {
@@ -135,7 +123,11 @@ impl<S: Setup> TrackerBook<S> {
     ///
     /// Refused `NoServer`; `Stranger` where the tills are not of the server's stamp books; `TrackFull` as the tracker says
     /// (in `Others` alone); `HistoryFull`; `Memory`.
-    pub fn stamp(&mut self, server: ServerId, tills: &mut StampTills<S>) -> Result<Stamp, EntryFault>
+    pub fn stamp(
+        &mut self,
+        server: ServerId,
+        tills: &mut StampTills<S>,
+    ) -> Result<Stamp, EntryFault>
         ensures stamp { IfOk result (λ stamp.
             stamp ≡ record { client = self.old.client; server = server.0; params = next_params self.old.tracker server }) }
         ensures book { OnOk result (self.new ≡ book_after_stamp server self.old) }

@@ -30,10 +30,10 @@ loop-i-preserved g c =
       as_many = length-set c.loop-i.desks i c.open_desk-opened.new.desk ∙ c.loop-i.invariant.as_many;
       a_till_each = one_more;
       done = done_more server_side no_side (λ (k : ℕ) (d : ServerSide). d ≡ side_after_opening (get_or start k no_side)) c.loop-i.desks i
-      c.open_desk-opened.new.desk (omega arith) c.loop-i.invariant.done (c.open_desk-opened.ensures.desk ∙ ap side_after_opening at);
+          c.open_desk-opened.new.desk (omega arith) c.loop-i.invariant.done (c.open_desk-opened.ensures.desk ∙ ap side_after_opening at);
       rest = rest_more server_side no_side start c.loop-i.desks i c.open_desk-opened.new.desk c.loop-i.invariant.rest;
       its = rw pushed (push_more stamp_holdings no_tills (λ (k : ℕ) (t : StampHoldings). t ≡ new_tills (get_or start k no_side).books) c.loop-i.tills.items i
-      c.open_desk-opened.result c.loop-i.invariant.a_till_each c.loop-i.invariant.its (c.open_desk-opened.ensures.tills ∙ ap (λ (d : ServerSide). new_tills d.books) at));
+          c.open_desk-opened.result c.loop-i.invariant.a_till_each c.loop-i.invariant.its (c.open_desk-opened.ensures.tills ∙ ap (λ (d : ServerSide). new_tills d.books) at));
     }
 
 pub returns-clause-desks : goal.returns-clause-desks
@@ -43,9 +43,9 @@ returns-clause-desks g c =
     let long : length (map f c.loop-i.desks) ≡ length start = length-map c.loop-i.desks f ∙ c.loop-i.invariant.as_many ∙ sym (length-map c.args.desks.now f) in
     ext_get_or no_side (map f c.loop-i.desks) (map side_after_opening start) (long ∙ sym (length-map start side_after_opening))
     (λ k inside.
-      let within : k < length start = omega (arith, long) in
-      c.loop-i.invariant.done k (omega (arith, within, length-map c.args.desks.now f))
-      ∙ sym (get_or-map side_after_opening start k no_side no_side within))
+    let within : k < length start = omega (arith, long) in
+    c.loop-i.invariant.done k (omega (arith, within, length-map c.args.desks.now f))
+    ∙ sym (get_or-map side_after_opening start k no_side no_side within))
 
 pub returns-clause-tills : goal.returns-clause-tills
 returns-clause-tills g c =
@@ -57,6 +57,6 @@ returns-clause-tills g c =
     let long : length (map t items) ≡ length start = length-map items t ∙ omega (arith, c.loop-i.invariant.a_till_each, length-map c.args.desks.now f) in
     ext_get_or no_tills (map t items) (map move start) (long ∙ sym (length-map start move))
     (λ k inside.
-      let within : k < length start = omega (arith, long) in
-      c.loop-i.invariant.its k (omega (arith, within, length-map c.args.desks.now f))
-      ∙ sym (get_or-map move start k no_side no_tills within))
+    let within : k < length start = omega (arith, long) in
+    c.loop-i.invariant.its k (omega (arith, within, length-map c.args.desks.now f))
+    ∙ sym (get_or-map move start k no_side no_tills within))

@@ -42,15 +42,15 @@ loop-last-preserved g c =
       a_held_each = length-set c.loop-last.held i c.gather_desk.result ∙ c.loop-last.invariant.a_held_each;
       same = λ k h. left_by_pop stamp_holdings no_tills _ _ c.in-Some.last left k h ∙ c.loop-last.invariant.same k (omega (arith, at, long));
       rest = λ k h. rest_below server_side no_side start c.loop-last.desks i c.gather_desk.new.desk
-      (λ j below. c.loop-last.invariant.rest j (omega (arith, long))) k (omega (arith, at));
+          (λ j below. c.loop-last.invariant.rest j (omega (arith, long))) k (omega (arith, at));
       done = λ k from inside. done_below server_side no_side (λ (j : ℕ) (x : ServerSide). x ≡ side_after_gather (get_or pass j no_tills) (get_or start j no_side))
-      c.loop-last.desks i (length c.args.desks.now) c.gather_desk.new.desk (omega (arith, long, c.loop-last.invariant.fits, c.loop-last.invariant.as_many))
-      (λ j above within. c.loop-last.invariant.done j (omega (arith, long)) within) gathered k (omega (arith, at)) inside;
+          c.loop-last.desks i (length c.args.desks.now) c.gather_desk.new.desk (omega (arith, long, c.loop-last.invariant.fits, c.loop-last.invariant.as_many))
+          (λ j above within. c.loop-last.invariant.done j (omega (arith, long)) within) gathered k (omega (arith, at)) inside;
       its = λ k from inside. set_below (held_of no_tills) (λ (j : ℕ) (x : StampsHeld). x ≡ held_of (get_or pass j no_tills))
-      c.loop-last.held i (length c.args.desks.now) c.gather_desk.result (omega (arith, long, c.loop-last.invariant.fits, c.loop-last.invariant.a_held_each))
-      (λ j above within. c.loop-last.invariant.its j (omega (arith, long)) within) (c.gather_desk.ensures.held ∙ ap held_of (sym t)) k (omega (arith, at)) inside;
+          c.loop-last.held i (length c.args.desks.now) c.gather_desk.result (omega (arith, long, c.loop-last.invariant.fits, c.loop-last.invariant.a_held_each))
+          (λ j above within. c.loop-last.invariant.its j (omega (arith, long)) within) (c.gather_desk.ensures.held ∙ ap held_of (sym t)) k (omega (arith, at)) inside;
       within = λ k from inside. one_below (λ (j : ℕ). AreWithin (get_or pass j no_tills) (get_or start j no_side).books) i (length c.args.desks.now)
-      (λ j above within. c.loop-last.invariant.within j (omega (arith, long)) within) (rw (t, d) c.gather_desk.ensures.within) k (omega (arith, at)) inside;
+          (λ j above within. c.loop-last.invariant.within j (omega (arith, long)) within) (rw (t, d) c.gather_desk.ensures.within) k (omega (arith, at)) inside;
     }
 
 pub returns-clause-held : goal.returns-clause-held
@@ -62,5 +62,5 @@ returns-clause-held g c =
     let long : length c.loop-last.held ≡ length pass = c.loop-last.invariant.a_held_each ∙ sym as_many in
     ext_get_or (held_of no_tills) c.loop-last.held (map held_of pass) (long ∙ sym (length-map pass held_of))
     (λ k inside.
-      c.loop-last.invariant.its k (omega (arith, none)) (omega (arith, long, as_many))
-      ∙ sym (get_or-map held_of pass k no_tills (held_of no_tills) (omega (arith, long))))
+    c.loop-last.invariant.its k (omega (arith, none)) (omega (arith, long, as_many))
+    ∙ sym (get_or-map held_of pass k no_tills (held_of no_tills) (omega (arith, long))))

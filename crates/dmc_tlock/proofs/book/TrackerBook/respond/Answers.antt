@@ -21,6 +21,8 @@ invariant_of-self-2 g c =
     let here = c.self.inside in
     let within : c.args.server.0 < length here.desks.items = search rules in
     let room : length here.history.events < here.history.most = search rules in
-    let as_many : length c.self.inside.held.items ≡ length (set here.desks.items c.in_ok-index.index c.take_unit.new.desk) = c.self.invariant.1 ∙ sym (length-set here.desks.items c.in_ok-index.index c.take_unit.new.desk) in
-    (subst IsConsistent (sym (returns-clause-book g c))
-    (rw (← c.self.view_is) (IsConsistent-response _ c.args.server c.args.phase (omega (arith, within, length-map here.desks.items (server_side {S = g.row.S.Denot}))) room c.self.invariant.0)), as_many)
+    let as_many : length c.self.inside.held.items ≡ length (set here.desks.items c.in_ok-index.index c.take_unit.new.desk) = c.self.invariant.1 ∙ sym (length-set here.desks.items c.in_ok-index.index c.take_unit.new.desk) in (
+      subst IsConsistent (sym (returns-clause-book g c))
+          (rw (← c.self.view_is) (IsConsistent-response _ c.args.server c.args.phase (omega (arith, within, length-map here.desks.items (server_side {S = g.row.S.Denot}))) room c.self.invariant.0)),
+      as_many,
+    )

@@ -1,4 +1,4 @@
-use Rattle.std.proofs.Common.{◌≡◌, length, map, drop, sym, ◌∙◌}
+use Rattle.std.proofs.Common.{◌≡◌, length, drop, sym, ◌∙◌}
 use Rattle.std.proofs.lemmas.List.{length-map}
 use Rattle.dmc_ledger.specs.Bundles.{ServerSide, server_side}
 use Rattle.dmc_ledger.specs.declared.desk.ServerDesk.{ServerDesk}

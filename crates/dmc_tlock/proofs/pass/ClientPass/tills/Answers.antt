@@ -13,11 +13,11 @@ returns g c =
     rw (← c.self.view_is) (
       (λ i. read_of (ghost_name_of c.get_mut.result) (λ w. map-set stamp_holdings items c.args.server.0 w i) (map stamp_holdings items)),
       (let some : IsSome c.get_mut.result → c.args.server.0 < length items = λ e. (let h = c.get_mut.ensures.variant.0 e in omega arith) in
-      let back : c.args.server.0 < length items → IsSome c.get_mut.result = λ h. c.get_mut.ensures.variant.1 (omega arith) in
-      let as_many = length-map items (stamp_holdings {S = g.row.S.Denot}) in
-      record {
-        writes_back = tt;
-        value = tills_seen c.get_mut.result items c.args.server.0 some c.get_mut.ensures.value;
-        some = (λ e. (let h = some e in omega arith), λ h. back (omega arith));
-      }),
+          let back : c.args.server.0 < length items → IsSome c.get_mut.result = λ h. c.get_mut.ensures.variant.1 (omega arith) in
+          let as_many = length-map items (stamp_holdings {S = g.row.S.Denot}) in
+          record {
+            writes_back = tt;
+            value = tills_seen c.get_mut.result items c.args.server.0 some c.get_mut.ensures.value;
+            some = (λ e. (let h = some e in omega arith), λ h. back (omega arith));
+          }),
     )

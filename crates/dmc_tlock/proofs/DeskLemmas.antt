@@ -1,6 +1,6 @@
 -- What one more entry does to a server's desk, and how a write at one desk is seen.
 use Rattle.std.proofs.Common.{◌≡◌, ℕ, ◌+◌, ◌<◌, List, [], ◌∷◌, ◌++◌, length, map, set, get_or, refl, sym, ap, ◌∙◌, subst, arith, true, false, inl, inr, ◌==◌}
-use Rattle.std.proofs.lemmas.List.{get_or-set_same, get_or-set_other, get_or-map, map-set, length-set}
+use Rattle.std.proofs.lemmas.List.{get_or-set_same, get_or-set_other, get_or-map, map-set, length-map, length-set}
 use Rattle.std.proofs.lemmas.Bool.Decides.{eqb_tells}
 use Rattle.std.proofs.lemmas.Bool.{eq-eqb}
 use Rattle.dmc_types.specs.Values.{Params}
@@ -146,12 +146,19 @@ at_set P Q desks s x within each its others q inside =
           (others q (get_or desks q.0 no_side) there.0 (each q q_in))
     ]
 
--- a desk, as it is seen
-pub desk_seen : {S : Type 0} (items : List (ServerDesk S)) (s : ServerId) (i : ℕ) (x : ServerDesk S) → i ≡ s.0 → i < length items
-    → x ≡ get_or items i x → desk_at (map server_side items) s ≡ server_side x
-desk_seen {S} items s i x place within is =
+-- the i-th of these desks is that of s: it is within, and this is how it is seen
+pub record IsDeskOf {S : Type 0} (items : List (ServerDesk S)) (s : ServerId) (desk : ServerDesk S) : Type 0 where
+  pub within : s.0 < length (map server_side items)
+  pub seen : desk_at (map server_side items) s ≡ server_side desk
+
+pub found : {S : Type 0} (items : List (ServerDesk S)) (s : ServerId) (i : ℕ) (x : ServerDesk S) → i ≡ s.0 → i < length items
+    → x ≡ get_or items i x → IsDeskOf items s x
+found {S} items s i x place within is =
     let f : ServerDesk S → ServerSide = server_side in
-    rw (← place) (get_or-map f items i x no_side within ∙ ap f (sym is))
+    record {
+      within = omega (arith, place, within, length-map items f);
+      seen = rw (← place) (get_or-map f items i x no_side within ∙ ap f (sym is));
+    }
 
 -- a write at one desk, as it is seen
 pub desks-set : {S : Type 0} (move : ServerSide → ServerSide) (items : List (ServerDesk S)) (s : ServerId) (i : ℕ) (old new : ServerDesk S)

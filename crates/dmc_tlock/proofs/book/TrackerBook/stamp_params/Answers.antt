@@ -5,7 +5,7 @@ use Rattle.dmc_ledger.specs.Bundles.{ServerSide, server_side}
 use Rattle.dmc_tracker.specs.Numbers.{next_params}
 use Rattle.dmc_tlock.specs.Entries.{side_after_stamp}
 use Rattle.dmc_tlock.specs.Consistent.{IsConsistent}
-use Rattle.dmc_tlock.proofs.DeskLemmas.{desk_seen, desks-set}
+use Rattle.dmc_tlock.proofs.DeskLemmas.{found, desks-set}
 use Rattle.dmc_tlock.proofs.ConsistentLemmas.{IsConsistent-stamp, HasRoom, has_room}
 use Rattle.dmc_tlock.proofs.book.TrackerBook.stamp_params.Goals as goal
 
@@ -13,18 +13,18 @@ pub issue_stamp-requires-clause-delta : goal.issue_stamp-requires-clause-delta
 issue_stamp-requires-clause-delta g c =
     let here = c.self.inside in
     let within : c.in_ok-index.index < length here.desks.items = search rules in
-    let seen = desk_seen here.desks.items c.args.server c.in_ok-index.index c.index_mut.result.now c.in_ok-index.ensures.place within c.index_mut.ensures.value in
-    let inside : c.args.server.0 < length (map (server_side {S = g.row.S.Denot}) here.desks.items) = omega (arith, within, c.in_ok-index.ensures.place, length-map here.desks.items (server_side {S = g.row.S.Denot})) in
-    let room = subst (λ (d : ServerSide). HasRoom d.books) seen (has_room _ c.args.server inside c.self.invariant.0) in
+    let at = found here.desks.items c.args.server c.in_ok-index.index c.index_mut.result.now
+    c.in_ok-index.ensures.place within c.index_mut.ensures.value in
+    let room = subst (λ (d : ServerSide). HasRoom d.books) at.seen (has_room _ c.args.server at.within c.self.invariant.0) in
     omega (arith, room.delta)
 
 pub issue_stamp-requires-clause-rho : goal.issue_stamp-requires-clause-rho
 issue_stamp-requires-clause-rho g c =
     let here = c.self.inside in
     let within : c.in_ok-index.index < length here.desks.items = search rules in
-    let seen = desk_seen here.desks.items c.args.server c.in_ok-index.index c.index_mut.result.now c.in_ok-index.ensures.place within c.index_mut.ensures.value in
-    let inside : c.args.server.0 < length (map (server_side {S = g.row.S.Denot}) here.desks.items) = omega (arith, within, c.in_ok-index.ensures.place, length-map here.desks.items (server_side {S = g.row.S.Denot})) in
-    let room = subst (λ (d : ServerSide). HasRoom d.books) seen (has_room _ c.args.server inside c.self.invariant.0) in
+    let at = found here.desks.items c.args.server c.in_ok-index.index c.index_mut.result.now
+    c.in_ok-index.ensures.place within c.index_mut.ensures.value in
+    let room = subst (λ (d : ServerSide). HasRoom d.books) at.seen (has_room _ c.args.server at.within c.self.invariant.0) in
     omega (arith, room.rho)
 
 pub returns-clause-book : goal.returns-clause-book

@@ -246,24 +246,6 @@ fn one_circle(rt: HostRuntime) -> Result<(), Fail> {
     Ok(())
 }
 
-/// What each call of a lock answers where it is not for these tills.
-fn refusals<S: Setup, R: Wait>(
-    rt: &R,
-    lock: &TrackerLock<S>,
-    server: ServerId,
-    tills: &mut StampTills<S>,
-    grants: &mut Till<S>,
-) -> (Option<EntryFault>, Option<EntryFault>, Option<TillFault>) {
-    let stamped = lock.stamp(rt, server, tills).err();
-    let responded = if grants.amount() > 0 {
-        lock.respond(rt, server, PhaseType::Priority, grants).err()
-    } else {
-        None
-    };
-    let seen = lock.status(rt, server, tills).err();
-    (stamped, responded, seen)
-}
-
 /// Another client's tills are refused at each call, and so is a server that the tracker has not.
 fn strangers<S: Setup, R: Abort + Wait>(rt: &R, alloc: Global, blank: Blank) -> Result<(), Fail>
     requires { blank.name ≡ S.name }
@@ -274,13 +256,16 @@ fn strangers<S: Setup, R: Abort + Wait>(rt: &R, alloc: Global, blank: Blank) -> 
     let Opened { book, mut desk, .. } = own;
     let lock = TrackerLock::new(book);
     let (tills, grants) = (&mut other.desk.held, &mut other.grants);
-    let stranger = Some(EntryFault::Stranger);
-    let refused = refusals(rt, &lock, ZERO, tills, grants);
-    assert_eq!(rt; refused, (stranger, stranger, Some(TillFault::Stranger)));
-    let unknown = Some(EntryFault::NoServer);
-    let refused = refusals(rt, &lock, ONE, tills, grants);
-    assert_eq!(rt; refused, (unknown, unknown, Some(TillFault::NoServer)));
-    assert_eq!(rt; grants.amount(), TIMES);
+    for (server, refused, unseen) in [
+        (ZERO, EntryFault::Stranger, TillFault::Stranger),
+        (ONE, EntryFault::NoServer, TillFault::NoServer),
+    ] {
+        assert_eq!(rt; lock.stamp(rt, server, tills).err(), Some(refused));
+        assert_eq!(rt; lock.status(rt, server, tills), Err(unseen));
+        assert!(rt; grants.amount() > 0);
+        let responded = lock.respond(rt, server, PhaseType::Priority, grants);
+        assert_eq!(rt; responded, Err(refused));
+    }
     lock.stamp(rt, ZERO, &mut desk.held)?;
     let refused = lock.stamp(rt, ZERO, &mut desk.held).err();
     assert_eq!(rt; refused, Some(EntryFault::TrackFull));

@@ -52,7 +52,9 @@ fn open_desks<S: Setup>(
     ensures { IfOk result (λ opened. AreNew client.0 (map server_side opened.1.items)) }
 {
     let (desk, side) = open_pair(mint, client, ZERO)?;
-    let desks = vec![in alloc; side]?;
+    let Ok(desks) = vec![in alloc; side] else {
+        return Err(MakeFault::Memory.into());
+    };
     Ok((desk, desks))
 }
 

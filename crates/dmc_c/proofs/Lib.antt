@@ -1,0 +1,3 @@
+pub mod HandleValues
+pub mod Values
+pub mod Sent

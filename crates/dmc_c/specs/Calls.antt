@@ -1,0 +1,158 @@
+-- What each call of the header comes to. In each, answer is what the call answers: a value or the fault.
+use Rattle.std.specs.Prelude.{◌≡◌, ℕ, ◌<◌, ◌≤◌, ⊤, List, [], ◌∷◌, ◌++◌, length, Option, Some, None, Result, Ok, Err, nat_lt, nat_le, ◌&&◌, if◌then◌else◌, slice_get}
+use Rattle.std.specs.Option.{option_map, ok_or}
+use Rattle.dmc_types.specs.Values.{Params}
+use Rattle.dmc_types.specs.declared.ids.ServerId.{ServerId}
+use Rattle.dmc_types.specs.declared.config.Counting.{Counting}
+use Rattle.dmc_types.specs.declared.config.PhaseType.{PhaseType}
+use Rattle.dmc_types.specs.declared.command.Command.{Command}
+use Rattle.dmc_tag.specs.Outcome.{◌>>=◌}
+use Rattle.dmc_tag.specs.Tag.{Fraction}
+use Rattle.dmc_tag.specs.declared.reply.Reply.{Reply}
+use Rattle.dmc_front.specs.Front.{Front, opening_with, clients_in, requests_in, FrontSteps}
+use Rattle.dmc_tracker.specs.declared.event.TrackerEvent.{TrackerEvent}
+use Rattle.dmc_tracker.specs.declared.event.TrackerEvent.TheVariants.{Stamp, Response}
+use Rattle.dmc_tracker.specs.declared.tracker.TrackFault.TheVariants as tracks
+use Rattle.dmc_tracker.specs.TrackerList.{demanded}
+use Rattle.dmc_tracker.specs.Numbers.{Numbers, new_numbers, next_params, after_stamp, after_response, IsSentFull, Stands}
+use Rattle.dmc_c.specs.declared.fault.Fault.{Fault}
+use Rattle.dmc_c.specs.declared.fault.Fault.TheVariants as faults
+use Rattle.dmc_c.specs.declared.kept.Kept.{Kept}
+use Rattle.dmc_c.specs.declared.kept.Kept.TheVariants.{Queue, Tracker}
+use Rattle.dmc_c.specs.declared.telling.DmcTrack.{DmcTrack}
+use Rattle.dmc_c.specs.Reading.{tag_kind, config_of, counting}
+use Rattle.dmc_c.specs.Telling.{track_of}
+
+-- ---- what is held
+
+-- Nothing is held: the call is refused. Else it is the call at what is held.
+abbrev pub AtHandle : {X : Type 0} → (Kept → Kept → Result X Fault → Type 0) → Option Kept → Option Kept → Result X Fault → Type 0
+AtHandle Call None new answer = (answer ≡ Err faults.NoneHeld) × (new ≡ None)
+AtHandle Call (Some old) (Some new) answer = Call old new answer
+AtHandle Call (Some old) None answer = ⊥
+
+-- A tracker is no queue: the call is refused, and changes nothing.
+abbrev pub AtQueue : {X : Type 0} → (Front → Front → Result X Fault → Type 0) → Kept → Kept → Result X Fault → Type 0
+AtQueue Call (Queue old) (Queue new) answer = Call old new answer
+AtQueue Call (Queue old) (Tracker new) answer = ⊥
+AtQueue Call (Tracker old) new answer = (answer ≡ Err faults.NoneHeld) × (new ≡ Tracker old)
+
+-- A queue is no tracker: the call is refused, and changes nothing.
+abbrev pub AtTracker : {X : Type 0} → (Numbers → Numbers → Result X Fault → Type 0) → Kept → Kept → Result X Fault → Type 0
+AtTracker Call (Tracker old) (Tracker new) answer = Call old new answer
+AtTracker Call (Tracker old) (Queue new) answer = ⊥
+AtTracker Call (Queue old) new answer = (answer ≡ Err faults.NoneHeld) × (new ≡ Queue old)
+
+-- ---- queues
+
+-- A value out of its limits changes nothing. Else the command is the one call of the queue: a step of the rules, or want
+-- of memory.
+abbrev pub Asks : Result Command Fault → Front → Front → Result (Reply Fraction) Fault → Type 0
+Asks (Err fault) old new answer = (answer ≡ Err fault) × (new ≡ old)
+Asks (Ok command) old new (Ok reply) = FrontSteps old new command (Some reply)
+Asks (Ok command) old new (Err faults.Memory) = FrontSteps old new command None
+Asks (Ok command) old new (Err fault) = ⊥
+
+-- a command at a queue that C holds
+abbrev pub AsksHeld : Result Command Fault → Option Kept → Option Kept → Result (Reply Fraction) Fault → Type 0
+AsksHeld command = AtHandle (AtQueue (Asks command))
+
+-- how many clients are registered and how many requests are queued
+abbrev pub counts_of : Kept → Result (ℕ × ℕ) Fault
+counts_of (Queue queue) = Ok (clients_in queue, requests_in queue)
+counts_of (Tracker tracker) = Err faults.NoneHeld
+
+abbrev pub counts_held : Option Kept → Result (ℕ × ℕ) Fault
+counts_held None = Err faults.NoneHeld
+counts_held (Some kept) = counts_of kept
+
+-- ---- trackers
+
+-- The stamp to a server carries what the tracker's list demands, and becomes an entry of it.
+pub record IsStamped (s : ServerId) (old new : Numbers) (params : Params) : Type 0 where
+  pub within : s.0 < length old.servers
+  pub not_full : IsSentFull old s → ⊥
+  pub carries : params ≡ next_params old s
+  pub after : new ≡ after_stamp s old
+  pub stands : (events : List TrackerEvent) → Stands old events → (params ≡ demanded old.counting s events) × Stands new (events ++ Stamp s params ∷ [])
+
+abbrev pub Stamps : ServerId → Numbers → Numbers → Result Params Fault → Type 0
+Stamps s old new (Ok params) = IsStamped s old new params
+Stamps s old new (Err (faults.Track tracks.NoServer)) = (length old.servers ≤ s.0) × (new ≡ old)
+Stamps s old new (Err (faults.Track tracks.TrackFull)) = IsSentFull old s × (new ≡ old)
+Stamps s old new (Err fault) = ⊥
+
+-- The response becomes an entry of the tracker's list.
+pub record IsCounted (s : ServerId) (phase : PhaseType) (old new : Numbers) : Type 0 where
+  pub within : s.0 < length old.servers
+  pub not_full : old.completions.delta ≡ old.most → ⊥
+  pub after : new ≡ after_response s phase old
+  pub stands : (events : List TrackerEvent) → Stands old events → Stands new (events ++ Response s phase ∷ [])
+
+-- A number that names no phase changes nothing. Else it is the one call of the tracker.
+abbrev pub Responds : ServerId → Result PhaseType Fault → Numbers → Numbers → Result ⊤ Fault → Type 0
+Responds s (Err fault) old new answer = (answer ≡ Err fault) × (new ≡ old)
+Responds s (Ok phase) old new (Ok done) = IsCounted s phase old new
+Responds s (Ok phase) old new (Err (faults.Track tracks.NoServer)) = (length old.servers ≤ s.0) × (new ≡ old)
+Responds s (Ok phase) old new (Err (faults.Track tracks.TrackFull)) = (s.0 < length old.servers) × (old.completions.delta ≡ old.most) × (new ≡ old)
+Responds s (Ok phase) old new (Err fault) = ⊥
+
+-- a stamp and a response at a tracker that C holds
+abbrev pub StampsHeld : ServerId → Option Kept → Option Kept → Result Params Fault → Type 0
+StampsHeld s = AtHandle (AtTracker (Stamps s))
+
+abbrev pub RespondsHeld : ServerId → Result PhaseType Fault → Option Kept → Option Kept → Result ⊤ Fault → Type 0
+RespondsHeld s phase = AtHandle (AtTracker (Responds s phase))
+
+-- what a tracker tells of a server
+abbrev pub track_at : ServerId → Kept → Result DmcTrack Fault
+track_at s (Queue queue) = Err faults.NoneHeld
+track_at s (Tracker tracker) = ok_or (option_map (track_of tracker) (slice_get tracker.servers s.0)) (faults.Track tracks.NoServer)
+
+abbrev pub track_held : ServerId → Option Kept → Result DmcTrack Fault
+track_held s None = Err faults.NoneHeld
+track_held s (Some kept) = track_at s kept
+
+-- ---- new queues and trackers
+
+-- the opening state of a queue
+abbrev pub new_queue : (tags hz idle_age erase_age limit : ℕ) → Result Front Fault
+new_queue tags hz idle_age erase_age limit = do
+  kind ← tag_kind tags
+  config ← config_of hz idle_age erase_age limit
+  Ok (opening_with kind config)
+
+-- the numbers of a tracker's empty list
+unfoldable pub tracker_of : Counting → (servers most : ℕ) → Result Numbers Fault
+tracker_of form servers most =
+    if nat_lt 0 servers && nat_le servers 64 && nat_lt 0 most then Ok (new_numbers form most servers) else Err faults.Limit
+
+abbrev pub new_tracker : (servers most form : ℕ) → Result Numbers Fault
+new_tracker servers most form = counting form >>= λ count. tracker_of count servers most
+
+-- what is made, if its values are within their limits, or want of memory
+abbrev pub Makes : {X : Type 0} → Result X Fault → Result X Fault → Type 0
+Makes (Err fault) answer = answer ≡ Err fault
+Makes (Ok x) (Ok made) = made ≡ x
+Makes (Ok x) (Err faults.Memory) = ⊤
+Makes (Ok x) (Err fault) = ⊥
+
+abbrev pub vacancy : Option Kept → Result ⊤ Fault
+vacancy None = Ok tt
+vacancy (Some kept) = Err faults.Held
+
+abbrev pub queue_opened : Result Front Fault → Result Kept Fault
+queue_opened (Ok queue) = Ok (Queue queue)
+queue_opened (Err fault) = Err fault
+
+abbrev pub tracker_opened : Result Numbers Fault → Result Kept Fault
+tracker_opened (Ok tracker) = Ok (Tracker tracker)
+tracker_opened (Err fault) = Err fault
+
+-- Something is held: the call is refused. Else it holds what is made.
+abbrev pub Opens : Result Kept Fault → Option Kept → Option Kept → Result ⊤ Fault → Type 0
+Opens opened (Some kept) new answer = (answer ≡ Err faults.Held) × (new ≡ Some kept)
+Opens (Err fault) None new answer = (answer ≡ Err fault) × (new ≡ None)
+Opens (Ok kept) None new (Ok done) = new ≡ Some kept
+Opens (Ok kept) None new (Err faults.Memory) = new ≡ None
+Opens (Ok kept) None new (Err fault) = ⊥

@@ -1,0 +1,88 @@
+-- What numbers from C say. The values are judged in the order moment, params, rate.
+use Rattle.std.specs.Prelude.{ℕ, ◌^◌, ◌==◌, ◌&&◌, Option, Some, None, Result, Ok, Err, nat_lt, nat_le, if◌then◌else◌}
+use Rattle.dmc_types.specs.Values.{Params, Rates, Setting}
+use Rattle.dmc_types.specs.declared.ids.ClientId.{ClientId}
+use Rattle.dmc_types.specs.declared.config.AtLimit.{AtLimit}
+use Rattle.dmc_types.specs.declared.config.AtLimit.TheVariants.{Wait, Allow}
+use Rattle.dmc_types.specs.declared.config.Counting.{Counting}
+use Rattle.dmc_types.specs.declared.config.Counting.TheVariants.{All, Others}
+use Rattle.dmc_types.specs.declared.config.PhaseType.{PhaseType}
+use Rattle.dmc_types.specs.declared.config.PhaseType.TheVariants.{Reservation, Priority}
+use Rattle.dmc_types.specs.declared.config.TagKind.{TagKind}
+use Rattle.dmc_types.specs.declared.config.TagKind.TheVariants.{Tick, Ratio}
+use Rattle.dmc_types.specs.declared.refusal.ValueFault.TheVariants as faults
+use Rattle.dmc_types.specs.declared.command.Command.{Command}
+use Rattle.dmc_types.specs.declared.command.Command.TheVariants as commands
+use Rattle.dmc_tag.specs.Outcome.{◌>>=◌}
+use Rattle.dmc_c.specs.declared.fault.Fault.{Fault}
+use Rattle.dmc_c.specs.declared.fault.Fault.TheVariants.{Value, Phase}
+
+-- ---- values
+
+unfoldable pub moment : ℕ → Result ℕ Fault
+moment at = if nat_le at (2 ^ 62) then Ok at else Err (Value faults.Moment)
+
+unfoldable pub params : ℕ → ℕ → Result Params Fault
+params delta rho = if nat_le rho delta then Ok (record { delta = delta; rho = rho }) else Err (Value faults.Params)
+
+-- a rate of 0 is none
+abbrev pub rate_of : ℕ → Option ℕ
+rate_of rate = if rate == 0 then None else Some rate
+
+unfoldable pub rates : ℕ → ℕ → ℕ → Result Rates Fault
+rates reservation weight limit =
+    if nat_lt 0 weight then Ok (record { reservation = rate_of reservation; weight = weight; limit = rate_of limit })
+    else Err (Value faults.Rate)
+
+-- ---- commands
+
+abbrev pub with_info : (ClientId → Rates → ℕ → Command) → (client reservation weight limit at : ℕ) → Result Command Fault
+with_info make client reservation weight limit at = do
+  t ← moment at
+  info ← rates reservation weight limit
+  Ok (make (record { 0 = client }) info t)
+
+abbrev pub register_command : (client reservation weight limit at : ℕ) → Result Command Fault
+register_command = with_info commands.Register
+
+abbrev pub update_command : (client reservation weight limit at : ℕ) → Result Command Fault
+update_command = with_info commands.Update
+
+abbrev pub add_command : (client token delta rho at : ℕ) → Result Command Fault
+add_command client token delta rho at = do
+  t ← moment at
+  stamp ← params delta rho
+  Ok (commands.Add (record { 0 = client }) (record { 0 = token }) stamp t)
+
+abbrev pub pull_command : ℕ → Result Command Fault
+pull_command at = moment at >>= λ t. Ok (commands.Pull t)
+
+abbrev pub remove_command : ℕ → Result Command Fault
+remove_command client = Ok (commands.Remove (record { 0 = client }))
+
+abbrev pub clean_command : ℕ → Result Command Fault
+clean_command at = moment at >>= λ t. Ok (commands.Clean t)
+
+-- ---- settings
+
+abbrev pub tag_kind : ℕ → Result TagKind Fault
+tag_kind n = if n == 0 then Ok Tick else (if n == 1 then Ok Ratio else Err (Value faults.Config))
+
+abbrev pub at_limit : ℕ → Result AtLimit Fault
+at_limit n = if n == 0 then Ok Wait else (if n == 1 then Ok Allow else Err (Value faults.Config))
+
+-- the limits of a configuration
+unfoldable pub setting : (hz idle_age erase_age : ℕ) → AtLimit → Result Setting Fault
+setting hz idle_age erase_age limit =
+    if nat_lt 0 hz && nat_le hz 1000000000 && nat_lt 0 idle_age && nat_le idle_age erase_age && nat_le erase_age (2 ^ 62)
+    then Ok (record { hz = hz; idle_age = idle_age; erase_age = erase_age; at_limit = limit })
+    else Err (Value faults.Config)
+
+abbrev pub config_of : (hz idle_age erase_age limit : ℕ) → Result Setting Fault
+config_of hz idle_age erase_age limit = at_limit limit >>= λ past. setting hz idle_age erase_age past
+
+abbrev pub counting : ℕ → Result Counting Fault
+counting n = if n == 0 then Ok All else (if n == 1 then Ok Others else Err (Value faults.Config))
+
+abbrev pub phase : ℕ → Result PhaseType Fault
+phase n = if n == 0 then Ok Reservation else (if n == 1 then Ok Priority else Err Phase)

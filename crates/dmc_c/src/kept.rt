@@ -1,0 +1,92 @@
+//! What C holds.
+ghost use Rattle.std.specs.Prelude.{◌≡◌};
+ghost use Rattle.dmc_c.specs.Calls.{AtQueue, AtTracker, Asks, counts_of, Stamps, Responds, track_at};
+
+use crate::fault::Fault;
+use crate::telling::{DmcStamp, DmcTrack};
+use dmc_front::fraction::TagFraction;
+use dmc_front::front::FrontQueue;
+use dmc_tag::reply::Reply;
+use dmc_tracker::tracker::{ServiceTracker, TrackFault};
+use dmc_types::command::Command;
+use dmc_types::config::PhaseType;
+use dmc_types::ids::ServerId;
+use dmc_types::params::ReqParams;
+
+/// A queue or a tracker. A call that is for the other is refused `NoneHeld`.
+#[derive(Drop)]
+pub enum Kept {
+    Queue(FrontQueue),
+    Tracker(ServiceTracker),
+}
+
+impl Kept {
+    /// The queue's reply to a command, if its values are within their limits.
+    pub fn ask(&mut self, command: Result<Command, Fault>) -> Result<Reply<TagFraction>, Fault>
+        ensures { AtQueue (Asks command) self.old self.new result }
+    {
+        let Kept::Queue(queue) = self else {
+            return Err(Fault::NoneHeld);
+        };
+        let command = command?;
+        Ok(queue.apply(&command)?)
+    }
+
+    /// How many clients are registered and how many requests are queued.
+    pub fn counts(&self) -> Result<(u32, u32), Fault>
+        ensures { result ≡ counts_of self.now }
+    {
+        let Kept::Queue(queue) = self else {
+            return Err(Fault::NoneHeld);
+        };
+        Ok((queue.client_count(), queue.request_count()))
+    }
+
+    /// The tracker's stamp to a server.
+    pub fn stamp(&mut self, server: ServerId) -> Result<ReqParams, Fault>
+        ensures { AtTracker (Stamps server) self.old self.new result }
+    {
+        let Kept::Tracker(tracker) = self else {
+            return Err(Fault::NoneHeld);
+        };
+        Ok(tracker.get_req_params(server)?)
+    }
+
+    /// Counts a completion, which a server granted in a phase, if the number names one.
+    pub fn respond(
+        &mut self,
+        server: ServerId,
+        phase: Result<PhaseType, Fault>,
+    ) -> Result<(), Fault>
+        ensures { AtTracker (Responds server phase) self.old self.new result }
+    {
+        let Kept::Tracker(tracker) = self else {
+            return Err(Fault::NoneHeld);
+        };
+        let phase = phase?;
+        Ok(tracker.track_resp(server, phase)?)
+    }
+
+    /// What the tracker tells of a server.
+    pub fn track(&self, server: ServerId) -> Result<DmcTrack, Fault>
+        ensures { result ≡ track_at server self.now }
+    {
+        let Kept::Tracker(tracker) = self else {
+            return Err(Fault::NoneHeld);
+        };
+        let (Some(pending), Some(sent)) = (tracker.pending(server), tracker.sent(server)) else {
+            return Err(Fault::Track(TrackFault::NoServer));
+        };
+        let completions = tracker.completions();
+        Ok(DmcTrack {
+            pending: DmcStamp {
+                delta: pending.0,
+                rho: pending.1,
+            },
+            sent_delta: u64::from(sent.0),
+            sent_rho: u64::from(sent.1),
+            completions: completions.0,
+            reservation: completions.1,
+        })
+    }
+}

@@ -1,0 +1,14 @@
+//! The queue and the tracker for back ends in C and C++: the exports that `c/dmclock.h` declares.
+//!
+//! Each export is one call of a queue over heaps, or of a service tracker. None assumes anything of its arguments but what
+//! their types say. What is not `DMC_OK` leaves the queue or the tracker as it was, and writes nothing.
+#![tactic(auto)]
+
+mod fault;
+mod handle;
+mod kept;
+mod loose;
+mod queue;
+mod reading;
+mod telling;
+mod tracker;

@@ -1,0 +1,252 @@
+//! The queue's calls.
+ghost use Rattle.std.specs.Prelude.{◌≡◌, ⊤, Result, None};
+ghost use Rattle.dmc_tag.specs.Tag.{Fraction};
+ghost use Rattle.dmc_tag.specs.declared.reply.Reply.{Reply};
+ghost use Rattle.dmc_c.specs.declared.fault.Fault.{Fault};
+ghost use Rattle.dmc_c.specs.Codes.{code_of, reply_code};
+ghost use Rattle.dmc_c.specs.Reading.{register_command, update_command, add_command, pull_command, remove_command, clean_command};
+ghost use Rattle.dmc_c.specs.Telling.{TagsTold, pulled_told, removed_told, idled_told, erased_told, clients_told, requests_told};
+ghost use Rattle.dmc_c.specs.Calls.{AsksHeld, counts_held, new_queue, queue_opened, Opens};
+
+use crate::fault::{Fault, code_of, reply_code};
+use crate::handle::{Handle, check_vacant, fill, put, take};
+use crate::kept::Kept;
+use crate::reading::{
+    add_command, clean_command, pull_command, queue_config, register_command, tag_kind,
+    update_command,
+};
+use crate::telling::{
+    DmcPulled, DmcTags, tell_cleaned, tell_counts, tell_pulled, tell_removed, tell_tags,
+};
+use dmc_front::fraction::TagFraction;
+use dmc_front::front::FrontQueue;
+use dmc_tag::reply::Reply;
+use dmc_types::command::Command;
+use dmc_types::ids::ClientId;
+use std::alloc::Global;
+
+/// A queue that nothing was asked of yet.
+fn make_queue(
+    tags: u32,
+    hz: u64,
+    idle_age: u64,
+    erase_age: u64,
+    limit: u32,
+    alloc: Global,
+) -> Result<FrontQueue, Fault>
+    ensures { result ≡ new_queue tags hz idle_age erase_age limit }
+{
+    let tags = tag_kind(tags)?;
+    let config = queue_config(hz, idle_age, erase_age, limit)?;
+    Ok(FrontQueue::new(alloc, tags, config))
+}
+
+/// Makes a queue where nothing is held.
+fn open_queue(
+    queue: &mut Handle,
+    tags: u32,
+    hz: u64,
+    idle_age: u64,
+    erase_age: u64,
+    limit: u32,
+    alloc: Global,
+) -> Result<(), Fault>
+    ensures { Opens (queue_opened (new_queue tags hz idle_age erase_age limit)) queue.old.value queue.new.value result }
+{
+    check_vacant(queue, alloc)?;
+    let made = make_queue(tags, hz, idle_age, erase_age, limit, alloc)?;
+    fill(queue, Kept::Queue(made), alloc)
+}
+
+/// The reply to a command, at the queue that is held.
+fn ask(
+    queue: &mut Handle,
+    command: Result<Command, Fault>,
+    alloc: Global,
+) -> Result<Reply<TagFraction>, Fault>
+    ensures { AsksHeld command queue.old.value queue.new.value result }
+{
+    let Some(mut held) = take(queue, alloc) else {
+        return Err(Fault::NoneHeld);
+    };
+    let answer = held.ask(command);
+    put(queue, held, alloc);
+    answer
+}
+
+/// How many clients are registered and how many requests are queued, at the queue that is held.
+fn count(queue: &mut Handle, alloc: Global) -> Result<(u32, u32), Fault>
+    ensures value { result ≡ counts_held queue.old.value }
+    ensures same { queue.new.value ≡ queue.old.value }
+{
+    let Some(held) = take(queue, alloc) else {
+        return Err(Fault::NoneHeld);
+    };
+    let counts = held.counts();
+    put(queue, held, alloc);
+    counts
+}
+
+/// Makes an empty queue: `DMC_HELD`, `DMC_BAD_CONFIG`, `DMC_MEMORY`.
+#[unsafe(no_mangle)]
+pub extern "C" fn dmc_queue_new(
+    queue: &mut Handle,
+    tag_kind: u32,
+    hz: u64,
+    idle_age: u64,
+    erase_age: u64,
+    at_limit: u32,
+    alloc: Global,
+) -> u32
+    ensures { (answer : Result ⊤ Fault) × Opens (queue_opened (new_queue tag_kind hz idle_age erase_age at_limit)) queue.old.value queue.new.value answer
+        × (result ≡ code_of answer) }
+{
+    let answer = open_queue(queue, tag_kind, hz, idle_age, erase_age, at_limit, alloc);
+    code_of(&answer)
+}
+
+/// Ends what is held, if anything is.
+#[unsafe(no_mangle)]
+pub extern "C" fn dmc_queue_free(queue: &mut Handle, alloc: Global)
+    ensures { queue.new.value ≡ None }
+{
+    if let Some(held) = take(queue, alloc) {
+        drop(held);
+    }
+}
+
+/// Registers a client: `DMC_NONE_HELD`, `DMC_BAD_MOMENT`, `DMC_BAD_RATE`, the refusals of a registration, `DMC_MEMORY`.
+#[unsafe(no_mangle)]
+pub extern "C" fn dmc_queue_register(
+    queue: &mut Handle,
+    client: u32,
+    reservation: u32,
+    weight: u32,
+    limit: u32,
+    at: u64,
+    alloc: Global,
+) -> u32
+    ensures { (answer : Result (Reply Fraction) Fault)
+        × AsksHeld (register_command client reservation weight limit at) queue.old.value queue.new.value answer
+        × (result ≡ reply_code answer) }
+{
+    let command = register_command(client, reservation, weight, limit, at);
+    let answer = ask(queue, command, alloc);
+    reply_code(&answer)
+}
+
+/// Replaces a client's rates: `DMC_NONE_HELD`, `DMC_BAD_MOMENT`, `DMC_BAD_RATE`, the refusals of an update.
+#[unsafe(no_mangle)]
+pub extern "C" fn dmc_queue_update(
+    queue: &mut Handle,
+    client: u32,
+    reservation: u32,
+    weight: u32,
+    limit: u32,
+    at: u64,
+    alloc: Global,
+) -> u32
+    ensures { (answer : Result (Reply Fraction) Fault)
+        × AsksHeld (update_command client reservation weight limit at) queue.old.value queue.new.value answer
+        × (result ≡ reply_code answer) }
+{
+    let command = update_command(client, reservation, weight, limit, at);
+    let answer = ask(queue, command, alloc);
+    reply_code(&answer)
+}
+
+/// Queues a request, and writes its tags: `DMC_NONE_HELD`, `DMC_BAD_MOMENT`, `DMC_BAD_PARAMS`, the refusals of an add,
+/// `DMC_MEMORY`.
+#[unsafe(no_mangle)]
+pub extern "C" fn dmc_queue_add(
+    queue: &mut Handle,
+    client: u32,
+    token: u32,
+    delta: u32,
+    rho: u32,
+    at: u64,
+    tags: &mut DmcTags,
+    alloc: Global,
+) -> u32
+    ensures { (answer : Result (Reply Fraction) Fault)
+        × AsksHeld (add_command client token delta rho at) queue.old.value queue.new.value answer
+        × (result ≡ reply_code answer) × TagsTold answer tags.old tags.new }
+{
+    let command = add_command(client, token, delta, rho, at);
+    let answer = ask(queue, command, alloc);
+    tell_tags(&answer, tags);
+    reply_code(&answer)
+}
+
+/// Grants the next request, or tells when one is due: `DMC_NONE_HELD`, `DMC_BAD_MOMENT`, `DMC_RANGE`.
+#[unsafe(no_mangle)]
+pub extern "C" fn dmc_queue_pull(
+    queue: &mut Handle,
+    at: u64,
+    pulled: &mut DmcPulled,
+    alloc: Global,
+) -> u32
+    ensures { (answer : Result (Reply Fraction) Fault)
+        × AsksHeld (pull_command at) queue.old.value queue.new.value answer
+        × (result ≡ reply_code answer) × (pulled.new ≡ pulled_told answer pulled.old) }
+{
+    let answer = ask(queue, pull_command(at), alloc);
+    tell_pulled(&answer, pulled);
+    reply_code(&answer)
+}
+
+/// Takes out a client's queued requests, and writes how many: `DMC_NONE_HELD`, `DMC_UNKNOWN`.
+#[unsafe(no_mangle)]
+pub extern "C" fn dmc_queue_remove(
+    queue: &mut Handle,
+    client: u32,
+    removed: &mut u32,
+    alloc: Global,
+) -> u32
+    ensures { (answer : Result (Reply Fraction) Fault)
+        × AsksHeld (remove_command client) queue.old.value queue.new.value answer
+        × (result ≡ reply_code answer) × (removed.new ≡ removed_told answer removed.old) }
+{
+    let client = ClientId(client);
+    let answer = ask(queue, Ok(Command::Remove { client }), alloc);
+    tell_removed(&answer, removed);
+    reply_code(&answer)
+}
+
+/// Marks clients idle, erases old ones, and writes how many became idle and how many were erased: `DMC_NONE_HELD`,
+/// `DMC_BAD_MOMENT`.
+#[unsafe(no_mangle)]
+pub extern "C" fn dmc_queue_clean(
+    queue: &mut Handle,
+    at: u64,
+    idled: &mut u32,
+    erased: &mut u32,
+    alloc: Global,
+) -> u32
+    ensures { (answer : Result (Reply Fraction) Fault)
+        × AsksHeld (clean_command at) queue.old.value queue.new.value answer
+        × (result ≡ reply_code answer)
+        × (idled.new ≡ idled_told answer idled.old) × (erased.new ≡ erased_told answer erased.old) }
+{
+    let answer = ask(queue, clean_command(at), alloc);
+    tell_cleaned(&answer, idled, erased);
+    reply_code(&answer)
+}
+
+/// Writes how many clients are registered and how many requests are queued: `DMC_NONE_HELD`.
+#[unsafe(no_mangle)]
+pub extern "C" fn dmc_queue_counts(
+    queue: &mut Handle,
+    clients: &mut u32,
+    requests: &mut u32,
+    alloc: Global,
+) -> u32
+    ensures code { result ≡ code_of (counts_held queue.old.value) }
+    ensures same { queue.new.value ≡ queue.old.value }
+    ensures clients { clients.new ≡ clients_told (counts_held queue.old.value) clients.old }
+    ensures requests { requests.new ≡ requests_told (counts_held queue.old.value) requests.old }
+{
+    let counts = count(queue, alloc);
+    tell_counts(&counts, clients, requests);
+    code_of(&counts)
+}

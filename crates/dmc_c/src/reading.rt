@@ -1,0 +1,174 @@
+//! What numbers from C say: commands and settings. The values are judged in the order moment, params, rate.
+ghost use Rattle.std.specs.Prelude.{◌≡◌};
+ghost use Rattle.dmc_c.specs.Reading.{moment, params, rate_of, rates, register_command, update_command, add_command, pull_command, clean_command, tag_kind, at_limit, setting, config_of, counting, phase};
+
+use crate::fault::Fault;
+use dmc_types::command::Command;
+use dmc_types::config::{AtLimit, Counting, PhaseType, QueueConfig, TagKind};
+use dmc_types::ids::{ClientId, Token};
+use dmc_types::info::ClientInfo;
+use dmc_types::moment::Moment;
+use dmc_types::params::ReqParams;
+use dmc_types::refusal::ValueFault;
+
+/// A moment within its limit.
+#[tactic(auto, unfolding(crate::specs::Reading::moment))]
+fn moment(at: u64) -> Result<Moment, Fault>
+    ensures { result ≡ moment at }
+{
+    Moment::new(at).map_err(Fault::Value)
+}
+
+/// The counts of a stamp.
+#[tactic(auto, unfolding(crate::specs::Reading::params))]
+fn params(delta: u32, rho: u32) -> Result<ReqParams, Fault>
+    ensures { result ≡ params delta rho }
+{
+    ReqParams::new(delta, rho).map_err(Fault::Value)
+}
+
+/// A rate, where 0 is none.
+fn rate_of(rate: u32) -> Option<u32>
+    ensures { result ≡ rate_of rate }
+{
+    if rate == 0 { None } else { Some(rate) }
+}
+
+/// The rates of a client.
+#[tactic(auto, unfolding(crate::specs::Reading::rates))]
+fn rates(reservation: u32, weight: u32, limit: u32) -> Result<ClientInfo, Fault>
+    ensures { result ≡ rates reservation weight limit }
+{
+    ClientInfo::new(rate_of(reservation), weight, rate_of(limit)).map_err(Fault::Value)
+}
+
+/// The registration of a client.
+pub fn register_command(
+    client: u32,
+    reservation: u32,
+    weight: u32,
+    limit: u32,
+    at: u64,
+) -> Result<Command, Fault>
+    ensures { result ≡ register_command client reservation weight limit at }
+{
+    let at = moment(at)?;
+    let info = rates(reservation, weight, limit)?;
+    Ok(Command::Register {
+        client: ClientId(client),
+        info,
+        at,
+    })
+}
+
+/// An update of a client's rates.
+pub fn update_command(
+    client: u32,
+    reservation: u32,
+    weight: u32,
+    limit: u32,
+    at: u64,
+) -> Result<Command, Fault>
+    ensures { result ≡ update_command client reservation weight limit at }
+{
+    let at = moment(at)?;
+    let info = rates(reservation, weight, limit)?;
+    Ok(Command::Update {
+        client: ClientId(client),
+        info,
+        at,
+    })
+}
+
+/// A request.
+pub fn add_command(client: u32, token: u32, delta: u32, rho: u32, at: u64) -> Result<Command, Fault>
+    ensures { result ≡ add_command client token delta rho at }
+{
+    let at = moment(at)?;
+    let params = params(delta, rho)?;
+    Ok(Command::Add {
+        client: ClientId(client),
+        token: Token(token),
+        params,
+        at,
+    })
+}
+
+/// A pull.
+pub fn pull_command(at: u64) -> Result<Command, Fault>
+    ensures { result ≡ pull_command at }
+{
+    Ok(Command::Pull { at: moment(at)? })
+}
+
+/// A clean.
+pub fn clean_command(at: u64) -> Result<Command, Fault>
+    ensures { result ≡ clean_command at }
+{
+    Ok(Command::Clean { at: moment(at)? })
+}
+
+/// The tags that a number names.
+pub fn tag_kind(number: u32) -> Result<TagKind, Fault>
+    ensures { result ≡ tag_kind number }
+{
+    match number {
+        0 => Ok(TagKind::Tick),
+        1 => Ok(TagKind::Ratio),
+        _ => Err(Fault::Value(ValueFault::Config)),
+    }
+}
+
+/// What a number says of the limit.
+fn at_limit(number: u32) -> Result<AtLimit, Fault>
+    ensures { result ≡ at_limit number }
+{
+    match number {
+        0 => Ok(AtLimit::Wait),
+        1 => Ok(AtLimit::Allow),
+        _ => Err(Fault::Value(ValueFault::Config)),
+    }
+}
+
+/// A configuration within its limits.
+#[tactic(auto, unfolding(crate::specs::Reading::setting))]
+fn setting(hz: u64, idle_age: u64, erase_age: u64, at_limit: AtLimit) -> Result<QueueConfig, Fault>
+    ensures { result ≡ setting hz idle_age erase_age at_limit }
+{
+    QueueConfig::new(hz, idle_age, erase_age, at_limit).map_err(Fault::Value)
+}
+
+/// A configuration, where a number says what is done at the limit.
+pub fn queue_config(
+    hz: u64,
+    idle_age: u64,
+    erase_age: u64,
+    limit: u32,
+) -> Result<QueueConfig, Fault>
+    ensures { result ≡ config_of hz idle_age erase_age limit }
+{
+    let limit = at_limit(limit)?;
+    setting(hz, idle_age, erase_age, limit)
+}
+
+/// The completions that a number names.
+pub fn counting(number: u32) -> Result<Counting, Fault>
+    ensures { result ≡ counting number }
+{
+    match number {
+        0 => Ok(Counting::All),
+        1 => Ok(Counting::Others),
+        _ => Err(Fault::Value(ValueFault::Config)),
+    }
+}
+
+/// The phase that a number names.
+pub fn phase(number: u32) -> Result<PhaseType, Fault>
+    ensures { result ≡ phase number }
+{
+    match number {
+        0 => Ok(PhaseType::Reservation),
+        1 => Ok(PhaseType::Priority),
+        _ => Err(Fault::Phase),
+    }
+}

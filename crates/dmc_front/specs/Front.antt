@@ -1,0 +1,66 @@
+-- A queue whose tags are of either type: the plain state that it is, and what a command at it is answered.
+use Rattle.std.specs.Prelude.{◌≡◌, ℕ, ℤ, List, length, Option, Some, None, IsOk}
+use Rattle.std.specs.Option.{option_map}
+use Rattle.dmc_types.specs.Values.{Setting}
+use Rattle.dmc_types.specs.declared.config.TagKind.{TagKind}
+use Rattle.dmc_types.specs.declared.config.TagKind.TheVariants as kinds
+use Rattle.dmc_types.specs.declared.command.Command.{Command}
+use Rattle.dmc_tag.specs.Tag.{Fraction, Tagging}
+use Rattle.dmc_tag.specs.State.{State, StandsFor, opening}
+use Rattle.dmc_tag.specs.Step.{outcome, step}
+use Rattle.dmc_tag.specs.declared.reply.Tags.{Tags}
+use Rattle.dmc_tag.specs.declared.reply.Reply.{Reply}
+use Rattle.dmc_tag.specs.declared.reply.Reply.TheVariants.{Registered, Updated, Tagged, Granted, Later, Nothing, Removed, Cleaned, Refused}
+use Rattle.dmc_tick.specs.Tick.{tick_ops, tick_fraction}
+use Rattle.dmc_ratio.specs.Ratio.{Ratio, ratio_ops, ratio_fraction}
+
+-- a plain state, by its tags
+pub data Front : Type 0 where
+  ticks : State ℤ → Front
+  ratios : State Ratio → Front
+
+-- the opening state with such tags
+abbrev pub opening_with : TagKind → Setting → Front
+opening_with kinds.Tick config = ticks (opening config)
+opening_with kinds.Ratio config = ratios (opening config)
+
+-- how many clients are registered
+abbrev pub clients_in : Front → ℕ
+clients_in (ticks s) = length s.clients
+clients_in (ratios s) = length s.clients
+
+-- how many requests are queued
+abbrev pub requests_in : Front → ℕ
+requests_in (ticks s) = length s.requests
+requests_in (ratios s) = length s.requests
+
+-- ---- replies
+
+abbrev pub tags_in_fractions : {T : Type 0} → (T → Fraction) → Tags T → Tags Fraction
+tags_in_fractions fraction tags = record { r = option_map fraction tags.r; l = fraction tags.l; p = fraction tags.p }
+
+-- a reply, with the fraction that each tag stands for
+abbrev pub in_fractions : {T : Type 0} → (T → Fraction) → Reply T → Reply Fraction
+in_fractions fraction Registered = Registered
+in_fractions fraction Updated = Updated
+in_fractions fraction (Tagged tags) = Tagged (tags_in_fractions fraction tags)
+in_fractions fraction (Granted client token phase beyond) = Granted client token phase beyond
+in_fractions fraction (Later due) = Later due
+in_fractions fraction Nothing = Nothing
+in_fractions fraction (Removed count) = Removed count
+in_fractions fraction (Cleaned idled erased) = Cleaned idled erased
+in_fractions fraction (Refused refusal) = Refused refusal
+
+-- ---- one command
+
+-- From each plain state that the queue stands for, the reply is that of step, in fractions, and the queue stands for the
+-- state after; or there is none for want of memory, where step refuses nothing, and it stands for what it stood for.
+abbrev pub Shows : {T : Type 0} → Tagging T → (T → Fraction) → State T → State T → Command → Option (Reply Fraction) → Type 0
+Shows {T} ops fraction old new command (Some reply) = (s : State T) → StandsFor old s → (reply ≡ in_fractions fraction ((step ops s command).1)) × StandsFor new ((step ops s command).0)
+Shows {T} ops fraction old new command None = (s : State T) → StandsFor old s → IsOk (outcome ops s command) × StandsFor new s
+
+-- the same of a queue whose tags are of either type, and stay of it
+abbrev pub FrontSteps : Front → Front → Command → Option (Reply Fraction) → Type 0
+FrontSteps (ticks old) (ticks new) command reply = Shows tick_ops tick_fraction old new command reply
+FrontSteps (ratios old) (ratios new) command reply = Shows ratio_ops ratio_fraction old new command reply
+FrontSteps _ _ command reply = ⊥

@@ -1,0 +1,98 @@
+//! The queue.
+ghost use Rattle.std.specs.Prelude.{◌≡◌};
+ghost use Rattle.std.specs.Result.{result_ok};
+ghost use Rattle.dmc_front.specs.Front.{opening_with, Shows, FrontSteps, clients_in, requests_in};
+ghost use Rattle.dmc_pull.specs.Queue.{state_of};
+
+use crate::fraction::{AsFraction, TagFraction, in_fractions};
+use dmc_heap::indexed_heap::HeapIndexes;
+use dmc_pull::queue::PullQueue;
+use dmc_ratio::ratio::RatioTag;
+use dmc_tag::reply::Reply;
+use dmc_tag::scheduler::Scheduler;
+use dmc_tick::tick::TickTag;
+use dmc_types::command::Command;
+use dmc_types::config::{QueueConfig, TagKind};
+use std::alloc::{AllocError, Global};
+use std::marker::Model;
+
+/// A part of a queue, which stands behind a type parameter, so that crates above have a rule for letting a queue go.
+#[derive(Drop)]
+struct Part<P>(P);
+
+/// A queue over heaps, by its tags.
+#[derive(Drop)]
+enum Queue {
+    Tick(Part<PullQueue<TickTag, HeapIndexes>>),
+    Ratio(Part<PullQueue<RatioTag, HeapIndexes>>),
+}
+
+/// A queue over heaps with tick or ratio tags. Contracts see the plain state that it is.
+#[derive(Drop)]
+pub struct FrontQueue {
+    queue: Queue,
+}
+
+impl Model for FrontQueue {
+    ghost use Rattle.dmc_front.specs.Front.{Front};
+
+    ghost Value = { Front };
+
+    ghost use Rattle.dmc_front.specs.Held.{front_of};
+
+    ghost view = { λ q. front_of q.queue };
+}
+
+/// One command at a queue, and its reply in fractions. An error is want of memory, and changes nothing.
+fn apply_to<T: AsFraction>(
+    queue: &mut PullQueue<T, HeapIndexes>,
+    command: &Command,
+) -> Result<Reply<TagFraction>, AllocError>
+    ensures { Shows T.ops T.fraction (state_of queue.old) (state_of queue.new) command.now (result_ok result) }
+{
+    Ok(in_fractions(queue.apply(command)?))
+}
+
+impl FrontQueue {
+    /// An empty queue with such tags. It takes no memory.
+    pub fn new(alloc: Global, tags: TagKind, config: QueueConfig) -> FrontQueue
+        ensures { result ≡ opening_with tags config }
+    {
+        let queue = match tags {
+            TagKind::Tick => Queue::Tick(Part(PullQueue::new(alloc, config))),
+            TagKind::Ratio => Queue::Ratio(Part(PullQueue::new(alloc, config))),
+        };
+        FrontQueue { queue }
+    }
+
+    /// The reply to a command, with fractions in place of tags: the one call of the queue. An error is want of memory, and
+    /// changes nothing.
+    pub fn apply(&mut self, command: &Command) -> Result<Reply<TagFraction>, AllocError>
+        ensures { FrontSteps self.old self.new command.now (result_ok result) }
+    {
+        match &mut self.queue {
+            Queue::Tick(queue) => apply_to(&mut queue.0, command),
+            Queue::Ratio(queue) => apply_to(&mut queue.0, command),
+        }
+    }
+
+    /// How many clients are registered.
+    pub fn client_count(&self) -> u32
+        ensures { result ≡ clients_in self.now }
+    {
+        match &self.queue {
+            Queue::Tick(queue) => queue.0.client_count(),
+            Queue::Ratio(queue) => queue.0.client_count(),
+        }
+    }
+
+    /// How many requests are queued.
+    pub fn request_count(&self) -> u32
+        ensures { result ≡ requests_in self.now }
+    {
+        match &self.queue {
+            Queue::Tick(queue) => queue.0.request_count(),
+            Queue::Ratio(queue) => queue.0.request_count(),
+        }
+    }
+}

@@ -52,6 +52,13 @@ impl Handle {
         }
     }
 
+    /// Ends what it holds.
+    pub fn end(self, alloc: Global) {
+        if let Some(loose) = self.into_loose(alloc) {
+            drop(loose.into_box());
+        }
+    }
+
     /// The pointer owns what it owned.
     fn into_loose(self, alloc: Global) -> Option<Loose<Kept, Global>>
         ensures { option_map (λ l. l.value) result ≡ self.value }
@@ -83,10 +90,7 @@ pub fn take(handle: &mut Handle, alloc: Global) -> Option<Box<Kept>>
 pub fn put(handle: &mut Handle, held: Box<Kept>, alloc: Global)
     ensures { handle.new.value ≡ Some held.value }
 {
-    let old = replace(handle, Handle::of(Loose::of(held)));
-    if let Some(loose) = old.into_loose(alloc) {
-        drop(loose.into_box());
-    }
+    replace(handle, Handle::of(Loose::of(held))).end(alloc);
 }
 
 /// Whether nothing is held; refused `Held`.

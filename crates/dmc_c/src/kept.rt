@@ -22,6 +22,7 @@ pub enum Kept {
 
 impl Kept {
     /// The queue's reply to a command, if its values are within their limits.
+    #[inline(always)]
     pub fn ask(&mut self, command: Result<Command, Fault>) -> Result<Reply<TagFraction>, Fault>
         ensures { AtQueue (Asks command) self.old self.new result }
     {

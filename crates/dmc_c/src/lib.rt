@@ -11,4 +11,6 @@ mod loose;
 mod queue;
 mod reading;
 mod telling;
+#[cfg(test)]
+mod tests;
 mod tracker;

@@ -59,6 +59,7 @@ fn open_queue(
 }
 
 /// The reply to a command, at the queue that is held.
+#[inline(always)]
 fn ask(
     queue: &mut Handle,
     command: Result<Command, Fault>,

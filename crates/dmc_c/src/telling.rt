@@ -213,3 +213,14 @@ pub fn tell<X: Copy + Drop>(answer: &Result<X, Fault>, out: &mut X)
         *out = *value;
     }
 }
+
+// The sizes of the header's structs.
+const _: () = prove!(size_of::<DmcTag>() == 24);
+
+const _: () = prove!(size_of::<DmcTags>() == 80);
+
+const _: () = prove!(size_of::<DmcPulled>() == 40);
+
+const _: () = prove!(size_of::<DmcStamp>() == 8);
+
+const _: () = prove!(size_of::<DmcTrack>() == 32);

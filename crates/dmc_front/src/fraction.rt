@@ -66,6 +66,7 @@ fn tags_in_fractions<T: AsFraction>(tags: Tags<T>) -> Tags<TagFraction>
 }
 
 /// The reply, with the fraction of each tag in it.
+#[inline(always)]
 pub fn in_fractions<T: AsFraction>(reply: Reply<T>) -> Reply<TagFraction>
     ensures { result ≡ in_fractions T.fraction reply }
 {

@@ -3,13 +3,16 @@ ghost use Rattle.std.specs.Prelude.{◌≡◌};
 ghost use Rattle.std.specs.Result.{result_ok};
 ghost use Rattle.dmc_front.specs.Front.{opening_with, Shows, FrontSteps, clients_in, requests_in};
 ghost use Rattle.dmc_pull.specs.Queue.{state_of};
+ghost use Rattle.dmc_tag.specs.Steps.{Steps};
 
 use crate::fraction::{AsFraction, TagFraction, in_fractions};
 use dmc_heap::indexed_heap::HeapIndexes;
 use dmc_pull::queue::PullQueue;
 use dmc_ratio::ratio::RatioTag;
+use dmc_tag::answers;
 use dmc_tag::reply::Reply;
 use dmc_tag::scheduler::Scheduler;
+use dmc_tag::tag::Tag;
 use dmc_tick::tick::TickTag;
 use dmc_types::command::Command;
 use dmc_types::config::{QueueConfig, TagKind};
@@ -43,14 +46,45 @@ impl Model for FrontQueue {
     ghost view = { λ q. front_of q.queue };
 }
 
+/// The reply to a command. It is the scheduler's `apply` written out here, so that it can become a part of its callers, where
+/// the command is known.
+#[inline(always)]
+fn reply_to<T: Tag>(
+    queue: &mut PullQueue<T, HeapIndexes>,
+    command: &Command,
+) -> Result<Reply<T>, AllocError>
+    ensures { Steps T.ops (state_of queue.old) (state_of queue.new) command.now (result_ok result) }
+{
+    match *command {
+        Command::Register { client, info, at } => {
+            answers::registered(Scheduler::register(queue, client, info, at))
+        }
+        Command::Update { client, info, at } => Ok(answers::updated(Scheduler::update_info(
+            queue, client, info, at,
+        ))),
+        Command::Add {
+            client,
+            token,
+            params,
+            at,
+        } => answers::tagged(Scheduler::add_request(queue, client, token, params, at)),
+        Command::Pull { at } => Ok(answers::pulled(Scheduler::pull_request(queue, at))),
+        Command::Remove { client } => Ok(answers::removed(Scheduler::remove_by_client(
+            queue, client,
+        ))),
+        Command::Clean { at } => Ok(answers::cleaned(Scheduler::clean(queue, at))),
+    }
+}
+
 /// One command at a queue, and its reply in fractions. An error is want of memory, and changes nothing.
+#[inline(always)]
 fn apply_to<T: AsFraction>(
     queue: &mut PullQueue<T, HeapIndexes>,
     command: &Command,
 ) -> Result<Reply<TagFraction>, AllocError>
     ensures { Shows T.ops T.fraction (state_of queue.old) (state_of queue.new) command.now (result_ok result) }
 {
-    Ok(in_fractions(queue.apply(command)?))
+    Ok(in_fractions(reply_to(queue, command)?))
 }
 
 impl FrontQueue {
@@ -67,6 +101,7 @@ impl FrontQueue {
 
     /// The reply to a command, with fractions in place of tags: the one call of the queue. An error is want of memory, and
     /// changes nothing.
+    #[inline(always)]
     pub fn apply(&mut self, command: &Command) -> Result<Reply<TagFraction>, AllocError>
         ensures { FrontSteps self.old self.new command.now (result_ok result) }
     {

@@ -1,0 +1,156 @@
+/* The proved dmClock queue and service tracker for back ends in C and C++. docs/C.md has the rest.
+ *
+ * A struct dmc_queue starts as DMC_QUEUE_NONE and a struct dmc_tracker as DMC_TRACKER_NONE. None is copied, and its fields
+ * are not written by the caller. Pointers are valid and do not overlap. One call at a time on one queue or tracker; none
+ * from a signal handler. A struct may move from thread to thread between calls.
+ *
+ * Each call but the frees answers a code. The order of codes: DMC_NONE_HELD (a `new`: DMC_HELD), then the values in the
+ * order moment, params, rate, then the call's refusals in the order that stands at it, and DMC_MEMORY last. What is not
+ * DMC_OK leaves the queue or tracker as it was and writes nothing to what the caller points to. A call on what was freed
+ * is a call where none is held.
+ *
+ * Moments and ages are in ticks, hz ticks a second. Moments are 0 to 2^62. A moment that goes back counts as the last one.
+ */
+#ifndef DMCLOCK_H
+#define DMCLOCK_H
+
+#include <stdbool.h>
+#include <stdint.h>
+
+#ifdef __cplusplus
+extern "C" {
+#endif
+
+/* What is held: set by `new` and ended by `free`. */
+struct dmc_queue   { void *at; uint64_t held; };
+struct dmc_tracker { void *at; uint64_t held; };
+#define DMC_QUEUE_NONE   { 0, 0 }
+#define DMC_TRACKER_NONE { 0, 0 }
+
+enum dmc_code {
+  DMC_OK = 0,
+  DMC_MEMORY = 1,     /* an allocation failed */
+  DMC_NONE_HELD = 2,  /* no queue or tracker is held */
+  DMC_HELD = 3,       /* one is held already */
+
+  DMC_BAD_MOMENT = 10, /* a moment past 2^62 */
+  DMC_BAD_PARAMS = 11, /* a rho past its delta */
+  DMC_BAD_RATE = 12,   /* a weight of 0 */
+  DMC_BAD_CONFIG = 13, /* a setting out of its limits, or a number that names none */
+  DMC_BAD_PHASE = 14,  /* a number that names no phase */
+  DMC_LIMIT = 15,      /* a tracker's servers or its `most` out of their limits */
+
+  DMC_KNOWN = 20,   /* the client is registered already */
+  DMC_UNKNOWN = 21, /* the client is not registered */
+  DMC_INEXACT_RESERVATION = 22, /* the spacing hz/rate is no value of the tags */
+  DMC_INEXACT_WEIGHT = 23,
+  DMC_INEXACT_LIMIT = 24,
+  DMC_CLIENTS = 25,    /* 65,536 clients are registered */
+  DMC_QUEUE_FULL = 26, /* 2^20 requests are queued */
+  DMC_RANGE = 27,      /* a sum that the call needs is no value of the tags */
+  DMC_BUSY = 28,       /* an update gives or takes a reservation while the client has a queued request */
+
+  DMC_NO_SERVER = 30, /* the tracker has no such server */
+  DMC_TRACK_FULL = 31 /* a count of the tracker would pass its `most` */
+};
+
+enum dmc_tag_kind { DMC_TICK = 0, DMC_RATIO = 1 };  /* whole ticks: rates divide hz; fractions: any rate */
+enum dmc_at_limit { DMC_WAIT = 0, DMC_ALLOW = 1 };  /* at the limit a pull tells when one is due; or grants beyond it */
+enum dmc_counting { DMC_ALL = 0, DMC_OTHERS = 1 };  /* a stamp counts the completions at all servers, or at the others */
+enum dmc_phase    { DMC_RESERVATION = 0, DMC_PRIORITY = 1 };
+enum dmc_kind     { DMC_GRANTED = 0, DMC_FUTURE = 1, DMC_NOTHING = 2 };
+
+struct dmc_tag    { int64_t high; uint64_t low; uint64_t denom; };      /* (high * 2^64 + low) / denom, in ticks */
+struct dmc_tags   { bool reserved; struct dmc_tag r, l, p; };           /* r is 0/1 where reserved is false */
+/* DMC_GRANTED: client, token, phase, beyond; DMC_FUTURE: one is due at due_high * 2^64 + due_low, and none before;
+   what the kind does not speak of is 0 */
+struct dmc_pulled { uint32_t kind, client, token, phase; bool beyond; uint64_t due_low, due_high; };
+struct dmc_stamp  { uint32_t delta, rho; };
+/* of a server: what its next stamp would count, and what was sent to it; of all: completions, and those by reservation */
+struct dmc_track  { struct dmc_stamp pending; uint64_t sent_delta, sent_rho; uint32_t completions, reservation; };
+
+/* An empty queue: hz 1 to 1,000,000,000, ages 1 to 2^62, idle_age at most erase_age. DMC_HELD, DMC_BAD_CONFIG, DMC_MEMORY. */
+uint32_t dmc_queue_new(struct dmc_queue *, uint32_t tag_kind, uint64_t hz, uint64_t idle_age, uint64_t erase_age,
+                       uint32_t at_limit);
+
+/* Ends what is held; nothing where none is. */
+void dmc_queue_free(struct dmc_queue *);
+
+/* Registers a client, rates in requests a second; 0 is no reservation and no limit. DMC_NONE_HELD, DMC_BAD_MOMENT,
+   DMC_BAD_RATE, DMC_KNOWN, DMC_INEXACT_RESERVATION, DMC_INEXACT_WEIGHT, DMC_INEXACT_LIMIT, DMC_CLIENTS, DMC_MEMORY. */
+uint32_t dmc_queue_register(struct dmc_queue *, uint32_t client, uint32_t reservation, uint32_t weight, uint32_t limit,
+                            uint64_t at);
+
+/* Replaces a client's rates. DMC_NONE_HELD, DMC_BAD_MOMENT, DMC_BAD_RATE, DMC_UNKNOWN, DMC_INEXACT_RESERVATION,
+   DMC_INEXACT_WEIGHT, DMC_INEXACT_LIMIT, DMC_BUSY. */
+uint32_t dmc_queue_update(struct dmc_queue *, uint32_t client, uint32_t reservation, uint32_t weight, uint32_t limit,
+                          uint64_t at);
+
+/* Queues a request with the counts of its stamp, and writes its tags. DMC_NONE_HELD, DMC_BAD_MOMENT, DMC_BAD_PARAMS,
+   DMC_UNKNOWN, DMC_QUEUE_FULL, DMC_RANGE, DMC_MEMORY. */
+uint32_t dmc_queue_add(struct dmc_queue *, uint32_t client, uint32_t token, uint32_t delta, uint32_t rho, uint64_t at,
+                       struct dmc_tags *);
+
+/* Grants the next request, or tells when one is due. DMC_NONE_HELD, DMC_BAD_MOMENT, DMC_RANGE. */
+uint32_t dmc_queue_pull(struct dmc_queue *, uint64_t at, struct dmc_pulled *);
+
+/* Takes out a client's queued requests, and writes how many. DMC_NONE_HELD, DMC_UNKNOWN. */
+uint32_t dmc_queue_remove(struct dmc_queue *, uint32_t client, uint32_t *removed);
+
+/* Marks clients idle, erases old ones, and writes how many became idle and how many were erased. DMC_NONE_HELD,
+   DMC_BAD_MOMENT. */
+uint32_t dmc_queue_clean(struct dmc_queue *, uint64_t at, uint32_t *idled, uint32_t *erased);
+
+/* Writes how many clients are registered and how many requests are queued. DMC_NONE_HELD. */
+uint32_t dmc_queue_counts(struct dmc_queue *, uint32_t *clients, uint32_t *requests);
+
+/* A tracker of servers 0, 1, .. (1 to 64 of them), which counts at most `most` completions (1 or more). DMC_HELD,
+   DMC_BAD_CONFIG, DMC_LIMIT, DMC_MEMORY. */
+uint32_t dmc_tracker_new(struct dmc_tracker *, uint32_t servers, uint32_t most, uint32_t counting);
+
+/* Ends what is held; nothing where none is. */
+void dmc_tracker_free(struct dmc_tracker *);
+
+/* Stamps a request to a server, and writes its counts. DMC_NONE_HELD, DMC_NO_SERVER, DMC_TRACK_FULL. */
+uint32_t dmc_tracker_stamp(struct dmc_tracker *, uint32_t server, struct dmc_stamp *);
+
+/* Counts a completion: a server answered a request that it granted in a phase. DMC_NONE_HELD, DMC_BAD_PHASE, DMC_NO_SERVER,
+   DMC_TRACK_FULL. */
+uint32_t dmc_tracker_respond(struct dmc_tracker *, uint32_t server, uint32_t phase);
+
+/* Writes what the tracker knows of a server. DMC_NONE_HELD, DMC_NO_SERVER. */
+uint32_t dmc_tracker_status(struct dmc_tracker *, uint32_t server, struct dmc_track *);
+
+/* A text for each code. */
+static inline const char *dmc_text(uint32_t code) {
+  switch (code) {
+    case DMC_OK: return "ok";
+    case DMC_MEMORY: return "out of memory";
+    case DMC_NONE_HELD: return "none held";
+    case DMC_HELD: return "held already";
+    case DMC_BAD_MOMENT: return "bad moment";
+    case DMC_BAD_PARAMS: return "bad params";
+    case DMC_BAD_RATE: return "bad rate";
+    case DMC_BAD_CONFIG: return "bad config";
+    case DMC_BAD_PHASE: return "bad phase";
+    case DMC_LIMIT: return "limit";
+    case DMC_KNOWN: return "known";
+    case DMC_UNKNOWN: return "unknown";
+    case DMC_INEXACT_RESERVATION: return "inexact reservation";
+    case DMC_INEXACT_WEIGHT: return "inexact weight";
+    case DMC_INEXACT_LIMIT: return "inexact limit";
+    case DMC_CLIENTS: return "clients";
+    case DMC_QUEUE_FULL: return "queue full";
+    case DMC_RANGE: return "range";
+    case DMC_BUSY: return "busy";
+    case DMC_NO_SERVER: return "no server";
+    case DMC_TRACK_FULL: return "tracker full";
+    default: return "no code";
+  }
+}
+
+#ifdef __cplusplus
+}
+#endif
+
+#endif

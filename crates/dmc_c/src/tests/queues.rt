@@ -1,0 +1,137 @@
+//! The worked examples of scripts, through the exports.
+use crate::tests::run::{Line, RATIOS, Setting, TICKS, replies};
+use Line::{Add, Clean, Client, Drop, Pull, Update};
+use std::test::Fail;
+
+#[test]
+fn granted_by_reservation(rt: HostRuntime) -> Result<(), Fail> {
+    let told = replies(
+        rt.alloc(),
+        TICKS,
+        &[Client(1, 10, 1, 0, 0), Add(1, 9, 0, 0, 0), Pull(0)],
+    )?;
+    assert_eq!(rt; told.as_str(), "ok; tags 0 0 0; grant 1 9 reservation");
+    Ok(())
+}
+
+#[test]
+fn granted_at_limit(rt: HostRuntime) -> Result<(), Fail> {
+    let lines = [
+        Client(1, 10, 1, 20, 0),
+        Add(1, 7, 1, 1, 0),
+        Pull(0),
+        Pull(50),
+        Pull(50),
+    ];
+    let told = replies(rt.alloc(), TICKS, &lines)?;
+    assert_eq!(rt;
+        told.as_str(),
+        "ok; tags 100 50 1000; future 50; grant 1 7 priority; none"
+    );
+    Ok(())
+}
+
+#[test]
+fn allowed_beyond(rt: HostRuntime) -> Result<(), Fail> {
+    let allow = Setting { limit: 1, ..TICKS };
+    let lines = [
+        Client(1, 10, 1, 20, 0),
+        Add(1, 1, 1, 1, 0),
+        Add(1, 2, 1, 1, 0),
+        Pull(0),
+        Pull(100),
+        Pull(100),
+    ];
+    let told = replies(rt.alloc(), allow, &lines)?;
+    assert_eq!(rt;
+        told.as_str(),
+        "ok; tags 100 50 1000; tags 200 100 2000; grant 1 1 priority beyond; grant 1 2 reservation; none"
+    );
+    Ok(())
+}
+
+#[test]
+fn updates(rt: HostRuntime) -> Result<(), Fail> {
+    let lines = [
+        Client(1, 0, 1, 0, 0),
+        Add(1, 1, 1, 0, 0),
+        Update(1, 0, 2, 0, 0),
+        Add(1, 2, 1, 0, 0),
+        Update(1, 10, 2, 0, 0),
+        Drop(1),
+        Update(1, 10, 2, 0, 0),
+        Add(1, 3, 1, 1, 0),
+        Update(1, 0, 3, 0, 0),
+        Update(2, 0, 1, 0, 0),
+    ];
+    let told = replies(rt.alloc(), TICKS, &lines)?;
+    // Busy; then inexact weight, unknown.
+    assert_eq!(rt;
+        told.as_str(),
+        "ok; tags - 0 1000; updated; tags - 0 1500; code 28; dropped 2; updated; tags 100 0 2000; code 23; code 21"
+    );
+    Ok(())
+}
+
+#[test]
+fn exact_thirds(rt: HostRuntime) -> Result<(), Fail> {
+    let lines = [
+        Client(1, 0, 3, 0, 0),
+        Add(1, 1, 1, 0, 0),
+        Add(1, 2, 1, 0, 0),
+        Add(1, 3, 1, 0, 0),
+    ];
+    let told = replies(rt.alloc(), RATIOS, &lines)?;
+    assert_eq!(rt;
+        told.as_str(),
+        "ok; tags - 0 1000/3; tags - 0 2000/3; tags - 0 1000"
+    );
+    Ok(())
+}
+
+#[test]
+fn idle_then_erased(rt: HostRuntime) -> Result<(), Fail> {
+    let aged = Setting {
+        idle_age: 100,
+        erase_age: 1000,
+        ..TICKS
+    };
+    let lines = [
+        Client(1, 0, 1, 0, 0),
+        Clean(100),
+        Add(1, 1, 0, 0, 100),
+        Pull(100),
+        Clean(199),
+        Clean(200),
+        Clean(1099),
+        Clean(1100),
+        Add(1, 2, 0, 0, 1100),
+    ];
+    let told = replies(rt.alloc(), aged, &lines)?;
+    // The last is unknown.
+    assert_eq!(rt;
+        told.as_str(),
+        "ok; cleaned 0 0; tags - 100 100; grant 1 1 priority; cleaned 0 0; cleaned 1 0; cleaned 0 0; cleaned 0 1; code 21"
+    );
+    Ok(())
+}
+
+#[test]
+fn reduction_out_of_range(rt: HostRuntime) -> Result<(), Fail> {
+    let second = Setting { hz: 1, ..RATIOS };
+    let lines = [
+        Client(1, 65537, 1, 0, 0),
+        Add(1, 1, 1, 1, 0),
+        Add(1, 2, 1, 1, 0),
+        Update(1, 65539, 1, 0, 0),
+        Pull(0),
+        Pull(1),
+        Pull(1),
+    ];
+    let told = replies(rt.alloc(), second, &lines)?;
+    assert_eq!(rt;
+        told.as_str(),
+        "ok; tags 1/65537 0 1; tags 2/65537 0 2; updated; code 27; grant 1 1 reservation; grant 1 2 reservation"
+    );
+    Ok(())
+}

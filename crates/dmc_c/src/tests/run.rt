@@ -1,0 +1,206 @@
+//! Runs of a queue through its exports, with their replies as texts.
+use crate::handle::Handle;
+use crate::queue::{
+    dmc_queue_add, dmc_queue_clean, dmc_queue_free, dmc_queue_new, dmc_queue_pull,
+    dmc_queue_register, dmc_queue_remove, dmc_queue_update,
+};
+use crate::telling::{DmcPulled, DmcTag, DmcTags};
+use std::alloc::{AllocError, Global};
+
+/// What `dmc_queue_new` is asked.
+#[derive(Clone, Copy)]
+pub struct Setting {
+    pub tags: u32,
+    pub hz: u64,
+    pub idle_age: u64,
+    pub erase_age: u64,
+    pub limit: u32,
+}
+
+/// A thousand whole ticks a second.
+pub const TICKS: Setting = Setting {
+    tags: 0,
+    hz: 1000,
+    idle_age: 600_000,
+    erase_age: 1_200_000,
+    limit: 0,
+};
+
+/// A thousand ticks a second, and exact fractions of them.
+pub const RATIOS: Setting = Setting { tags: 1, ..TICKS };
+
+/// A line of a script; a rate of 0 is none.
+#[derive(Clone, Copy)]
+pub enum Line {
+    /// The client, its reservation, weight and limit, and the moment.
+    Client(u32, u32, u32, u32, u64),
+    Update(u32, u32, u32, u32, u64),
+    /// The client, the token, delta, rho, and the moment.
+    Add(u32, u32, u32, u32, u64),
+    Pull(u64),
+    Drop(u32),
+    Clean(u64),
+}
+
+/// No tags, where nothing is written.
+pub fn no_tags() -> DmcTags {
+    let none = DmcTag {
+        high: 7,
+        low: 7,
+        denom: 7,
+    };
+    DmcTags {
+        reserved: false,
+        r: none,
+        l: none,
+        p: none,
+    }
+}
+
+/// What no pull answers.
+pub fn no_pull() -> DmcPulled {
+    DmcPulled {
+        kind: 9,
+        client: 9,
+        token: 9,
+        phase: 9,
+        beyond: false,
+        due_low: 9,
+        due_high: 9,
+    }
+}
+
+/// The texts of the replies to a script at a new queue, which ends after it.
+pub fn replies(alloc: Global, setting: Setting, lines: &[Line]) -> Result<String, AllocError> {
+    let mut queue = Handle::none();
+    let told = run_all(&mut queue, setting, lines, alloc);
+    dmc_queue_free(&mut queue, alloc);
+    queue.end(alloc);
+    told
+}
+
+/// Makes the queue, and runs the lines.
+fn run_all(
+    queue: &mut Handle,
+    setting: Setting,
+    lines: &[Line],
+    alloc: Global,
+) -> Result<String, AllocError> {
+    let code = dmc_queue_new(
+        queue,
+        setting.tags,
+        setting.hz,
+        setting.idle_age,
+        setting.erase_age,
+        setting.limit,
+        alloc,
+    );
+    if code != 0 {
+        return format!(in alloc; "code {code}");
+    }
+    let mut told = String::new(alloc);
+    for line in lines {
+        let reply = run_line(queue, *line, alloc)?;
+        if !told.is_empty() {
+            told.push_str("; ")?;
+        }
+        told.push_str(reply.as_str())?;
+    }
+    Ok(told)
+}
+
+/// The text of one reply.
+fn run_line(queue: &mut Handle, line: Line, alloc: Global) -> Result<String, AllocError> {
+    match line {
+        Line::Client(c, r, w, l, at) => {
+            coded(
+                dmc_queue_register(queue, c, r, w, l, at, alloc),
+                "ok",
+                alloc,
+            )
+        }
+        Line::Update(c, r, w, l, at) => {
+            coded(
+                dmc_queue_update(queue, c, r, w, l, at, alloc),
+                "updated",
+                alloc,
+            )
+        }
+        Line::Add(c, token, delta, rho, at) => {
+            let mut tags = no_tags();
+            match dmc_queue_add(queue, c, token, delta, rho, at, &mut tags, alloc) {
+                0 => tags_text(tags, alloc),
+                code => coded(code, "", alloc),
+            }
+        }
+        Line::Pull(at) => {
+            let mut pulled = no_pull();
+            match dmc_queue_pull(queue, at, &mut pulled, alloc) {
+                0 => pulled_text(pulled, alloc),
+                code => coded(code, "", alloc),
+            }
+        }
+        Line::Drop(c) => {
+            let mut removed = 9;
+            match dmc_queue_remove(queue, c, &mut removed, alloc) {
+                0 => format!(in alloc; "dropped {removed}"),
+                code => coded(code, "", alloc),
+            }
+        }
+        Line::Clean(at) => {
+            let (mut idled, mut erased) = (9, 9);
+            match dmc_queue_clean(queue, at, &mut idled, &mut erased, alloc) {
+                0 => format!(in alloc; "cleaned {idled} {erased}"),
+                code => coded(code, "", alloc),
+            }
+        }
+    }
+}
+
+/// The word of an accepted command, or the code.
+fn coded(code: u32, word: &str, alloc: Global) -> Result<String, AllocError> {
+    if code == 0 {
+        return format!(in alloc; "{word}");
+    }
+    format!(in alloc; "code {code}")
+}
+
+/// A tag of these tests, which is not below 0.
+fn tag_text(tag: DmcTag, alloc: Global) -> Result<String, AllocError> {
+    let numer = ((tag.high as i128) << 64) + tag.low as i128;
+    if tag.denom == 1 {
+        return format!(in alloc; "{numer}");
+    }
+    format!(in alloc; "{numer}/{}", tag.denom)
+}
+
+fn tags_text(tags: DmcTags, alloc: Global) -> Result<String, AllocError> {
+    let l = tag_text(tags.l, alloc)?;
+    let p = tag_text(tags.p, alloc)?;
+    if tags.reserved {
+        let r = tag_text(tags.r, alloc)?;
+        return format!(in alloc; "tags {r} {l} {p}");
+    }
+    if tag_text(tags.r, alloc)?.as_str() != "0" {
+        return format!(in alloc; "no zero");
+    }
+    format!(in alloc; "tags - {l} {p}")
+}
+
+fn pulled_text(pulled: DmcPulled, alloc: Global) -> Result<String, AllocError> {
+    let phase = if pulled.phase == 0 {
+        "reservation"
+    } else {
+        "priority"
+    };
+    let beyond = if pulled.beyond { " beyond" } else { "" };
+    match pulled.kind {
+        0 => format!(in alloc; "grant {} {} {phase}{beyond}", pulled.client, pulled.token),
+        1 => {
+            let due = ((pulled.due_high as u128) << 64) + pulled.due_low as u128;
+            format!(in alloc; "future {due}")
+        }
+        2 => format!(in alloc; "none"),
+        kind => format!(in alloc; "kind {kind}"),
+    }
+}

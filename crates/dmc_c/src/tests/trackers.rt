@@ -1,0 +1,129 @@
+//! The worked examples of trackers, through the exports.
+use crate::handle::Handle;
+use crate::telling::{DmcStamp, DmcTrack};
+use crate::tracker::{
+    dmc_tracker_free, dmc_tracker_new, dmc_tracker_respond, dmc_tracker_stamp, dmc_tracker_status,
+};
+use std::alloc::Global;
+use std::test::Fail;
+
+/// What no stamp carries.
+const NO_STAMP: DmcStamp = DmcStamp { delta: 9, rho: 9 };
+
+/// What no tracker tells.
+const NO_TRACK: DmcTrack = DmcTrack {
+    pending: NO_STAMP,
+    sent_delta: 9,
+    sent_rho: 9,
+    completions: 9,
+    reservation: 9,
+};
+
+/// The code of a stamp, and what it carries.
+fn stamp(tracker: &mut Handle, server: u32, alloc: Global) -> (u32, u32, u32) {
+    let mut params = NO_STAMP;
+    let code = dmc_tracker_stamp(tracker, server, &mut params, alloc);
+    (code, params.delta, params.rho)
+}
+
+/// The code of a status, and what it tells: sent, pending, completions.
+fn status(tracker: &mut Handle, server: u32, alloc: Global) -> (u32, [u64; 6]) {
+    let mut track = NO_TRACK;
+    let code = dmc_tracker_status(tracker, server, &mut track, alloc);
+    let told = [
+        track.sent_delta,
+        track.sent_rho,
+        u64::from(track.pending.delta),
+        u64::from(track.pending.rho),
+        u64::from(track.completions),
+        u64::from(track.reservation),
+    ];
+    (code, told)
+}
+
+/// Stamp 0, response 0 reservation, stamp 1, response 1 priority, stamp 0, and what is told of both servers.
+fn three_stamps(
+    counting: u32,
+    alloc: Global,
+) -> ([u32; 3], [(u32, u32, u32); 3], [(u32, [u64; 6]); 2]) {
+    let mut tracker = Handle::none();
+    let made = dmc_tracker_new(&mut tracker, 2, 10, counting, alloc);
+    let first = stamp(&mut tracker, 0, alloc);
+    let one = dmc_tracker_respond(&mut tracker, 0, 0, alloc);
+    let second = stamp(&mut tracker, 1, alloc);
+    let two = dmc_tracker_respond(&mut tracker, 1, 1, alloc);
+    let third = stamp(&mut tracker, 0, alloc);
+    let told = [
+        status(&mut tracker, 0, alloc),
+        status(&mut tracker, 1, alloc),
+    ];
+    dmc_tracker_free(&mut tracker, alloc);
+    tracker.end(alloc);
+    ([made, one, two], [first, second, third], told)
+}
+
+#[test]
+fn two_server_tracker(rt: HostRuntime) -> Result<(), Fail> {
+    let (codes, stamps, told) = three_stamps(0, rt.alloc());
+    assert_eq!(rt; codes, [0, 0, 0]);
+    assert_eq!(rt; stamps, [(0, 0, 0), (0, 1, 1), (0, 2, 1)]);
+    assert_eq!(rt; told[0], (0, [2, 1, 0, 0, 2, 1]));
+    assert_eq!(rt; told[1], (0, [1, 1, 1, 0, 2, 1]));
+    Ok(())
+}
+
+/// Two stamps to server 0 by a tracker that counts one completion.
+fn two_of_one(alloc: Global) -> [(u32, u32, u32); 2] {
+    let mut tracker = Handle::none();
+    let made = dmc_tracker_new(&mut tracker, 2, 1, 1, alloc);
+    let first = stamp(&mut tracker, 0, alloc);
+    let second = stamp(&mut tracker, 0, alloc);
+    tracker.end(alloc);
+    [(first.0 + made, first.1, first.2), second]
+}
+
+#[test]
+fn others_tracker(rt: HostRuntime) -> Result<(), Fail> {
+    let (codes, stamps, told) = three_stamps(1, rt.alloc());
+    assert_eq!(rt; codes, [0, 0, 0]);
+    assert_eq!(rt; stamps, [(0, 1, 1), (0, 2, 2), (0, 2, 1)]);
+    assert_eq!(rt; told[0], (0, [3, 2, 0, 0, 2, 1]));
+    assert_eq!(rt; told[1], (0, [2, 2, 0, 0, 2, 1]));
+    assert_eq!(rt; two_of_one(rt.alloc()), [(0, 1, 1), (31, 9, 9)]);
+    Ok(())
+}
+
+/// The codes of a tracker of one server that counts one completion: no such server, no such phase, full, none held.
+fn refusals(alloc: Global) -> [u32; 9] {
+    let mut tracker = Handle::none();
+    let made = dmc_tracker_new(&mut tracker, 1, 1, 0, alloc);
+    let again = dmc_tracker_new(&mut tracker, 0, 0, 9, alloc);
+    let elsewhere = stamp(&mut tracker, 1, alloc).0;
+    let unknown = status(&mut tracker, 1, alloc).0;
+    let phase = dmc_tracker_respond(&mut tracker, 1, 2, alloc);
+    let server = dmc_tracker_respond(&mut tracker, 1, 1, alloc);
+    let counted = dmc_tracker_respond(&mut tracker, 0, 1, alloc);
+    let full = dmc_tracker_respond(&mut tracker, 0, 1, alloc);
+    dmc_tracker_free(&mut tracker, alloc);
+    let freed = status(&mut tracker, 0, alloc).0;
+    tracker.end(alloc);
+    [
+        made, again, elsewhere, unknown, phase, server, counted, full, freed,
+    ]
+}
+
+#[test]
+fn tracker_limits(rt: HostRuntime) -> Result<(), Fail> {
+    assert_eq!(rt; refusals(rt.alloc()), [0, 3, 30, 30, 14, 30, 0, 31, 2]);
+    let mut tracker = Handle::none();
+    let codes = [
+        dmc_tracker_new(&mut tracker, 65, 1, 0, rt.alloc()),
+        dmc_tracker_new(&mut tracker, 1, 0, 0, rt.alloc()),
+        dmc_tracker_new(&mut tracker, 65, 1, 2, rt.alloc()),
+        dmc_tracker_respond(&mut tracker, 0, 2, rt.alloc()),
+        stamp(&mut tracker, 0, rt.alloc()).0,
+    ];
+    tracker.end(rt.alloc());
+    assert_eq!(rt; codes, [15, 15, 13, 2, 2]);
+    Ok(())
+}

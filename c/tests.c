@@ -1,0 +1,337 @@
+/* The worked examples through the header, each code, each kind of allocation refused in turn. Link it with
+   -Wl,--wrap=malloc -Wl,--wrap=realloc. */
+#include "dmclock.h"
+
+#include <inttypes.h>
+#include <stdio.h>
+#include <stdlib.h>
+#include <string.h>
+
+/* ---- allocations that are refused */
+
+void *__real_malloc(size_t size);
+void *__real_realloc(void *at, size_t size);
+void *__wrap_malloc(size_t size);
+void *__wrap_realloc(void *at, size_t size);
+
+static uint32_t refused_after; /* how many allocations succeed before one is refused; 0: none is refused */
+static uint32_t refusals;
+
+static bool is_refused(void) {
+  if (refused_after == 0 || --refused_after > 0) return false;
+  refusals++;
+  return true;
+}
+
+void *__wrap_malloc(size_t size) { return is_refused() ? NULL : __real_malloc(size); }
+
+void *__wrap_realloc(void *at, size_t size) { return is_refused() ? NULL : __real_realloc(at, size); }
+
+/* ---- what is compared */
+
+static int failed;
+
+static bool met[32]; /* the codes that were met */
+
+static uint32_t code(uint32_t code) {
+  if (code < 32) met[code] = true;
+  return code;
+}
+
+static void expect_text(const char *name, const char *got, const char *want) {
+  if (strcmp(got, want) == 0) {
+    printf("ok %s\n", name);
+    return;
+  }
+  printf("FAILED %s\n  got  %s\n  want %s\n", name, got, want);
+  failed = 1;
+}
+
+static void expect(const char *name, bool holds) {
+  printf("%s %s\n", holds ? "ok" : "FAILED", name);
+  if (!holds) failed = 1;
+}
+
+/* ---- scripts */
+
+enum verb { CLIENT, UPDATE, ADD, PULL, DROP, CLEAN };
+
+/* a line of a script; a rate of 0 is none */
+struct line { enum verb verb; uint64_t a, b, c, d, e; };
+
+struct setting { uint32_t tags; uint64_t hz, idle_age, erase_age; uint32_t limit; };
+
+static const struct setting ticks = {DMC_TICK, 1000, 600000, 1200000, DMC_WAIT};
+
+static char text[4096];
+
+static void write_text(const char *more) { strncat(text, more, sizeof text - strlen(text) - 1); }
+
+/* a tag of these tests, which is not below 0 and below 2^64 */
+static void write_tag(struct dmc_tag tag) {
+  char word[64];
+  if (tag.high != 0) snprintf(word, sizeof word, " far");
+  else if (tag.denom == 1) snprintf(word, sizeof word, " %" PRIu64, tag.low);
+  else snprintf(word, sizeof word, " %" PRIu64 "/%" PRIu64, tag.low, tag.denom);
+  write_text(word);
+}
+
+static void write_tags(struct dmc_tags tags) {
+  write_text("tags");
+  if (tags.reserved) write_tag(tags.r);
+  else write_text(tags.r.high == 0 && tags.r.low == 0 && tags.r.denom == 1 ? " -" : " no zero");
+  write_tag(tags.l);
+  write_tag(tags.p);
+}
+
+static void write_pulled(struct dmc_pulled p) {
+  char word[128];
+  switch (p.kind) {
+    case DMC_GRANTED:
+      snprintf(word, sizeof word, "grant %u %u %s%s", p.client, p.token, p.phase == DMC_RESERVATION ? "reservation" : "priority",
+               p.beyond ? " beyond" : "");
+      break;
+    case DMC_FUTURE: snprintf(word, sizeof word, "future %" PRIu64 "%s", p.due_low, p.due_high == 0 ? "" : " far"); break;
+    default: snprintf(word, sizeof word, p.kind == DMC_NOTHING ? "none" : "no kind");
+  }
+  write_text(word);
+}
+
+/* whether two blocks have the same bytes, which shows that a refused call wrote nothing */
+static bool same(const void *a, const void *b, size_t size) { return memcmp(a, b, size) == 0; }
+
+static void write_refused(uint32_t code, bool unwritten) {
+  write_text("refused ");
+  write_text(dmc_text(code));
+  if (!unwritten) write_text(" but written");
+}
+
+static uint32_t run_line(struct dmc_queue *queue, struct line l) {
+  uint32_t answer, first = 99, second = 99, client = (uint32_t)l.a;
+  struct dmc_tags tags, no_tags;
+  struct dmc_pulled pulled, no_pull;
+  char word[64];
+  memset(&tags, 7, sizeof tags);
+  memset(&no_tags, 7, sizeof no_tags);
+  memset(&pulled, 7, sizeof pulled);
+  memset(&no_pull, 7, sizeof no_pull);
+  switch (l.verb) {
+    case CLIENT:
+    case UPDATE:
+      answer = code((l.verb == CLIENT ? dmc_queue_register : dmc_queue_update)(queue, client, (uint32_t)l.b, (uint32_t)l.c,
+                                                                              (uint32_t)l.d, l.e));
+      if (answer == DMC_OK) write_text(l.verb == CLIENT ? "ok" : "updated");
+      else write_refused(answer, true);
+      return answer;
+    case ADD:
+      answer = code(dmc_queue_add(queue, client, (uint32_t)l.b, (uint32_t)l.c, (uint32_t)l.d, l.e, &tags));
+      if (answer == DMC_OK) write_tags(tags);
+      else write_refused(answer, same(&tags, &no_tags, sizeof tags));
+      return answer;
+    case PULL:
+      answer = code(dmc_queue_pull(queue, l.a, &pulled));
+      if (answer == DMC_OK) write_pulled(pulled);
+      else write_refused(answer, same(&pulled, &no_pull, sizeof pulled));
+      return answer;
+    case DROP:
+      answer = code(dmc_queue_remove(queue, client, &first));
+      snprintf(word, sizeof word, "dropped %u", first);
+      break;
+    default:
+      answer = code(dmc_queue_clean(queue, l.a, &first, &second));
+      snprintf(word, sizeof word, "cleaned %u %u", first, second);
+  }
+  if (answer == DMC_OK) write_text(word);
+  else write_refused(answer, first == 99 && second == 99);
+  return answer;
+}
+
+/* the replies to a script; what is refused for want of memory is asked once more */
+static const char *replies(struct setting s, const struct line *lines, size_t count) {
+  struct dmc_queue queue = DMC_QUEUE_NONE;
+  text[0] = 0;
+  uint32_t made = code(dmc_queue_new(&queue, s.tags, s.hz, s.idle_age, s.erase_age, s.limit));
+  if (made == DMC_MEMORY) made = dmc_queue_new(&queue, s.tags, s.hz, s.idle_age, s.erase_age, s.limit);
+  if (made != DMC_OK) return dmc_text(made);
+  for (size_t i = 0; i < count; i++) {
+    if (i > 0) write_text("; ");
+    size_t before = strlen(text);
+    if (run_line(&queue, lines[i]) == DMC_MEMORY) {
+      text[before] = 0;
+      run_line(&queue, lines[i]);
+    }
+  }
+  dmc_queue_free(&queue);
+  return text;
+}
+
+#define RUN(name, setting, want, ...)                                                          \
+  do {                                                                                         \
+    const struct line lines[] = {__VA_ARGS__};                                                 \
+    expect_text(name, replies(setting, lines, sizeof lines / sizeof *lines), want);            \
+  } while (0)
+
+static void run_scripts(void) {
+  struct setting allow = ticks, ratios = ticks, second = ticks, aged = ticks;
+  allow.limit = DMC_ALLOW;
+  ratios.tags = DMC_RATIO;
+  second.tags = DMC_RATIO;
+  second.hz = 1;
+  aged.idle_age = 100;
+  aged.erase_age = 1000;
+  RUN("granted_by_reservation", ticks, "ok; tags 0 0 0; grant 1 9 reservation",
+      {CLIENT, 1, 10, 1, 0, 0}, {ADD, 1, 9, 0, 0, 0}, {PULL, 0, 0, 0, 0, 0});
+  RUN("granted_at_limit", ticks, "ok; tags 100 50 1000; future 50; grant 1 7 priority; none",
+      {CLIENT, 1, 10, 1, 20, 0}, {ADD, 1, 7, 1, 1, 0}, {PULL, 0, 0, 0, 0, 0}, {PULL, 50, 0, 0, 0, 0}, {PULL, 50, 0, 0, 0, 0});
+  RUN("allowed_beyond", allow,
+      "ok; tags 100 50 1000; tags 200 100 2000; grant 1 1 priority beyond; grant 1 2 reservation; none",
+      {CLIENT, 1, 10, 1, 20, 0}, {ADD, 1, 1, 1, 1, 0}, {ADD, 1, 2, 1, 1, 0}, {PULL, 0, 0, 0, 0, 0}, {PULL, 100, 0, 0, 0, 0},
+      {PULL, 100, 0, 0, 0, 0});
+  RUN("updates", ticks,
+      "ok; tags - 0 1000; updated; tags - 0 1500; refused busy; dropped 2; updated; tags 100 0 2000; "
+      "refused inexact weight; refused unknown",
+      {CLIENT, 1, 0, 1, 0, 0}, {ADD, 1, 1, 1, 0, 0}, {UPDATE, 1, 0, 2, 0, 0}, {ADD, 1, 2, 1, 0, 0}, {UPDATE, 1, 10, 2, 0, 0},
+      {DROP, 1, 0, 0, 0, 0}, {UPDATE, 1, 10, 2, 0, 0}, {ADD, 1, 3, 1, 1, 0}, {UPDATE, 1, 0, 3, 0, 0}, {UPDATE, 2, 0, 1, 0, 0});
+  RUN("exact_thirds", ratios, "ok; tags - 0 1000/3; tags - 0 2000/3; tags - 0 1000",
+      {CLIENT, 1, 0, 3, 0, 0}, {ADD, 1, 1, 1, 0, 0}, {ADD, 1, 2, 1, 0, 0}, {ADD, 1, 3, 1, 0, 0});
+  RUN("idle_then_erased", aged,
+      "ok; cleaned 0 0; tags - 100 100; grant 1 1 priority; cleaned 0 0; cleaned 1 0; cleaned 0 0; cleaned 0 1; "
+      "refused unknown",
+      {CLIENT, 1, 0, 1, 0, 0}, {CLEAN, 100, 0, 0, 0, 0}, {ADD, 1, 1, 0, 0, 100}, {PULL, 100, 0, 0, 0, 0}, {CLEAN, 199, 0, 0, 0, 0},
+      {CLEAN, 200, 0, 0, 0, 0}, {CLEAN, 1099, 0, 0, 0, 0}, {CLEAN, 1100, 0, 0, 0, 0}, {ADD, 1, 2, 0, 0, 1100});
+  RUN("reduction_out_of_range", second,
+      "ok; tags 1/65537 0 1; tags 2/65537 0 2; updated; refused range; grant 1 1 reservation; grant 1 2 reservation",
+      {CLIENT, 1, 65537, 1, 0, 0}, {ADD, 1, 1, 1, 1, 0}, {ADD, 1, 2, 1, 1, 0}, {UPDATE, 1, 65539, 1, 0, 0}, {PULL, 0, 0, 0, 0, 0},
+      {PULL, 1, 0, 0, 0, 0}, {PULL, 1, 0, 0, 0, 0});
+  RUN("refused_values", ticks,
+      "ok; refused bad moment; refused bad rate; refused known; refused inexact reservation; refused inexact weight; "
+      "refused inexact limit; refused bad moment; refused bad params; refused unknown; refused bad moment; refused bad moment; "
+      "refused unknown",
+      {CLIENT, 1, 0, 1, 0, 0}, {CLIENT, 1, 0, 0, 0, UINT64_MAX}, {CLIENT, 1, 0, 0, 0, 0}, {CLIENT, 1, 3, 3, 3, 0},
+      {CLIENT, 2, 3, 3, 3, 0}, {CLIENT, 2, 10, 3, 3, 0}, {CLIENT, 2, 10, 1, 3, 0}, {ADD, 2, 1, 0, 1, UINT64_MAX},
+      {ADD, 2, 1, 0, 1, 0}, {ADD, 2, 1, 0, 0, 0}, {PULL, UINT64_MAX, 0, 0, 0, 0}, {CLEAN, UINT64_MAX, 0, 0, 0, 0},
+      {DROP, 2, 0, 0, 0, 0});
+}
+
+/* ---- trackers */
+
+static void write_stamp(struct dmc_tracker *tracker, uint32_t server) {
+  struct dmc_stamp stamp = {99, 99};
+  char word[64];
+  uint32_t answer = code(dmc_tracker_stamp(tracker, server, &stamp));
+  if (answer == DMC_OK) {
+    snprintf(word, sizeof word, "(%u,%u); ", stamp.delta, stamp.rho);
+    write_text(word);
+  } else {
+    write_refused(answer, stamp.delta == 99 && stamp.rho == 99);
+  }
+}
+
+static void write_status(struct dmc_tracker *tracker, uint32_t server) {
+  struct dmc_track track;
+  char word[128];
+  code(dmc_tracker_status(tracker, server, &track));
+  snprintf(word, sizeof word, "sent (%" PRIu64 ",%" PRIu64 ") pending (%u,%u) completions (%u,%u); ", track.sent_delta,
+           track.sent_rho, track.pending.delta, track.pending.rho, track.completions, track.reservation);
+  write_text(word);
+}
+
+static const char *three_stamps(uint32_t counting) {
+  struct dmc_tracker tracker = DMC_TRACKER_NONE;
+  text[0] = 0;
+  while (code(dmc_tracker_new(&tracker, 2, 10, counting)) == DMC_MEMORY) write_text("");
+  write_stamp(&tracker, 0);
+  write_text(dmc_tracker_respond(&tracker, 0, DMC_RESERVATION) == DMC_OK ? "ok; " : "refused; ");
+  write_stamp(&tracker, 1);
+  write_text(dmc_tracker_respond(&tracker, 1, DMC_PRIORITY) == DMC_OK ? "ok; " : "refused; ");
+  write_stamp(&tracker, 0);
+  write_status(&tracker, 0);
+  write_status(&tracker, 1);
+  dmc_tracker_free(&tracker);
+  return text;
+}
+
+static void run_trackers(void) {
+  struct dmc_tracker tracker = DMC_TRACKER_NONE;
+  struct dmc_track track;
+  expect_text("two_server_tracker", three_stamps(DMC_ALL),
+              "(0,0); ok; (1,1); ok; (2,1); sent (2,1) pending (0,0) completions (2,1); "
+              "sent (1,1) pending (1,0) completions (2,1); ");
+  expect_text("others_tracker", three_stamps(DMC_OTHERS),
+              "(1,1); ok; (2,2); ok; (2,1); sent (3,2) pending (0,0) completions (2,1); "
+              "sent (2,2) pending (0,0) completions (2,1); ");
+  while (code(dmc_tracker_new(&tracker, 2, 1, DMC_OTHERS)) == DMC_MEMORY) continue;
+  text[0] = 0;
+  write_stamp(&tracker, 0);
+  write_stamp(&tracker, 0);
+  expect_text("others_tracker, most 1", text, "(1,1); refused tracker full");
+  expect("a tracker twice", code(dmc_tracker_new(&tracker, 0, 0, 9)) == DMC_HELD);
+  expect("no phase", code(dmc_tracker_respond(&tracker, 9, 2)) == DMC_BAD_PHASE);
+  expect("no server", code(dmc_tracker_respond(&tracker, 2, 1)) == DMC_NO_SERVER);
+  dmc_tracker_free(&tracker);
+  dmc_tracker_free(&tracker);
+  expect("a tracker that is freed", code(dmc_tracker_status(&tracker, 0, &track)) == DMC_NONE_HELD);
+  expect("65 servers", code(dmc_tracker_new(&tracker, 65, 1, DMC_ALL)) == DMC_LIMIT);
+  expect("no form", code(dmc_tracker_new(&tracker, 65, 1, 2)) == DMC_BAD_CONFIG);
+}
+
+/* ---- limits, memory, codes */
+
+static void run_limits(void) {
+  struct dmc_queue queue = DMC_QUEUE_NONE;
+  struct dmc_tags tags;
+  struct dmc_pulled pulled;
+  uint32_t wrong = dmc_queue_new(&queue, DMC_TICK, 1000, 1, 1, DMC_WAIT), clients, requests;
+  for (uint32_t client = 0; client < 65536; client++) wrong |= dmc_queue_register(&queue, client, 0, 1, 0, 0);
+  expect("65,537 clients", code(dmc_queue_register(&queue, 65536, 0, 1, 0, 0)) == DMC_CLIENTS);
+  for (uint32_t token = 0; token < 1048576; token++) wrong |= dmc_queue_add(&queue, 1, token, 1, 0, 0, &tags);
+  expect("1,048,577 requests", code(dmc_queue_add(&queue, 1, 0, 1, 0, 0, &tags)) == DMC_QUEUE_FULL);
+  wrong |= dmc_queue_counts(&queue, &clients, &requests);
+  expect("queue_limits", wrong == DMC_OK && clients == 65536 && requests == 1048576);
+  expect("one less", dmc_queue_pull(&queue, 0, &pulled) == DMC_OK && dmc_queue_add(&queue, 1, 0, 1, 0, 0, &tags) == DMC_OK);
+  dmc_queue_free(&queue);
+}
+
+/* Each allocation of the examples is refused in turn: no reply is another, but where memory is wanting. */
+static void run_refused(void) {
+  const struct line lines[] = {{CLIENT, 1, 10, 1, 20, 0}, {CLIENT, 2, 10, 1, 0, 0}, {ADD, 1, 7, 1, 1, 0}, {ADD, 2, 8, 1, 1, 0},
+                               {PULL, 0, 0, 0, 0, 0}, {PULL, 50, 0, 0, 0, 0}};
+  const char *want = "ok; ok; tags 100 50 1000; tags 100 0 1000; grant 2 8 priority; grant 1 7 priority";
+  bool all = true;
+  uint32_t nth = 0, before;
+  do {
+    before = refusals;
+    refused_after = ++nth;
+    all = all && strcmp(replies(ticks, lines, sizeof lines / sizeof *lines), want) == 0;
+    refused_after = 0;
+  } while (refusals > before);
+  expect("each allocation refused in turn", all && refusals >= 6);
+  before = refusals;
+  refused_after = 1;
+  three_stamps(DMC_ALL);
+  refused_after = 2;
+  three_stamps(DMC_ALL);
+  refused_after = 0;
+  expect("the allocations of a tracker refused in turn", refusals == before + 2);
+}
+
+static void run_codes(void) {
+  static const uint32_t codes[] = {
+    DMC_OK, DMC_MEMORY, DMC_NONE_HELD, DMC_HELD, DMC_BAD_MOMENT, DMC_BAD_PARAMS, DMC_BAD_RATE, DMC_BAD_CONFIG, DMC_BAD_PHASE,
+    DMC_LIMIT, DMC_KNOWN, DMC_UNKNOWN, DMC_INEXACT_RESERVATION, DMC_INEXACT_WEIGHT, DMC_INEXACT_LIMIT, DMC_CLIENTS,
+    DMC_QUEUE_FULL, DMC_RANGE, DMC_BUSY, DMC_NO_SERVER, DMC_TRACK_FULL};
+  uint32_t count = 0;
+  bool all = true;
+  for (size_t i = 0; i < sizeof codes / sizeof *codes; i++) all = all && met[codes[i]];
+  for (uint32_t n = 0; n < 32; n++) count += met[n];
+  expect("each code is met, and no other", all && count == sizeof codes / sizeof *codes);
+}
+
+int main(void) {
+  run_scripts();
+  run_trackers();
+  run_limits();
+  run_refused();
+  run_codes();
+  return failed;
+}

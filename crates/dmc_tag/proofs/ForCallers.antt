@@ -25,7 +25,6 @@ use Rattle.dmc_tag.proofs.TagOrder as orders
 use Rattle.dmc_tag.proofs.TagValues as values
 -- each change keeps it that queued clients are active
 pub use Rattle.dmc_tag.proofs.Active.{registration_keeps_active, update_keeps_active, arrival_keeps_active, reduction_keeps_active, removal_keeps_active, clean_keeps_active}
-
 -- an order that is the same as a total one is total: so the order of a tag type is
 pub use Rattle.dmc_tag.proofs.Orderings.{tag_order}
 -- agreeing states get the same reply to a command, and still agree; a step from one state is that step from each that it

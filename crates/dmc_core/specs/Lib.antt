@@ -1,0 +1,5 @@
+pub mod Run
+pub mod Events
+pub mod Core
+pub mod Parts
+pub mod Faults

@@ -1,0 +1,7 @@
+//! The core of a cluster: one thread's queues and service trackers, the messages in flight between them, and the grants that
+//! wait for their responses, event by event.
+#![tactic(auto)]
+
+pub mod event;
+mod pair;
+mod client;

@@ -36,29 +36,6 @@ pub err_is : {X E : Type 0} (r : Result X E) (e : E) → IsErrAnd r (λ f. f ≡
 err_is (Ok x) e h = absurd h
 err_is (Err f) e h = ap (λ g. Err g) h
 
--- ---- the pair that is read and changed
-
--- an element that is read, behind a map
-pub seen_map : {A B : Type 0} (f : A → B) (xs : List A) (i : ℕ) (d : B) (x : A) → i < length xs → x ≡ get_or xs i x → get_or (map f xs) i d ≡ f x
-seen_map f [] i d x within e = absurd (omega (arith, within))
-seen_map f (y ∷ ys) zero d x within e = ap f (sym e)
-seen_map f (y ∷ ys) (suc i) d x within e = seen_map f ys i d x (omega (arith, within)) e
-
-module _ (items : List Pairing) (s : ServerId) (x : Pairing) (within : s.0 < length (map pair_of items)) (x_is : x ≡ get_or items s.0 x) where
-  inside : s.0 < length items
-  inside = rw (← length-map items pair_of) within
-
-  pub pair_seen : pair_at s (map pair_of items) ≡ pair_of x
-  pair_seen = seen_map pair_of items s.0 no_pair x inside x_is
-
-  -- it is changed as a rule says
-  pub pair_changed : (y : Pairing) (f : Pair → Pair) → pair_of y ≡ f (pair_of x) → map pair_of (set items s.0 y) ≡ with_pair s (f (pair_at s (map pair_of items))) (map pair_of items)
-  pair_changed y f y_is = map-set pair_of items s.0 y ∙ ap (set (map pair_of items) s.0) (y_is ∙ ap f (sym pair_seen))
-
-  -- it is as before
-  pub pair_same : (y : Pairing) → pair_of y ≡ pair_of x → map pair_of (set items s.0 y) ≡ map pair_of items
-  pair_same y y_is = map-set_same pair_of items s.0 y x (y_is ∙ ap pair_of x_is)
-
 -- ---- Stamp
 
 module _ (s : ServerId) (list : List TrackerEvent) where

@@ -1,2 +1,8 @@
 mod Examples
+pub mod Lists
+pub mod Pairs
 pub mod Clients
+pub mod Counts
+pub mod Kept
+pub mod Places
+pub mod Runs

@@ -1,5 +1,5 @@
 -- What contracts see of the core, and which states of a cluster run it stands for.
-use Rattle.std.specs.Prelude.{◌≡◌, Bool, true, false, ℕ, List, length, Result, Ok, Err, IsOk}
+use Rattle.std.specs.Prelude.{◌≡◌, Bool, true, false, ℕ, List, length, Result, Ok, Err}
 use Rattle.std.specs.List.{AllZip}
 use Rattle.dmc_types.specs.declared.ids.ClientId.{ClientId}
 use Rattle.dmc_types.specs.declared.config.Counting.{Counting}
@@ -53,12 +53,12 @@ may_grow (Update server client info at) = false
 may_grow (Remove server client) = false
 may_grow (Clean server at) = false
 
--- neither the rules of the cluster nor those of a queue refuse it
+-- neither the rules of the cluster nor those of a queue refuse
 abbrev pub is_accepting : {T : Type 0} → CoreReply T → Bool
 is_accepting (Served (Refused refusal)) = false
 is_accepting reply = true
 
-abbrev pub is_accepted : {T : Type 0} → Outcome T → Bool
+abbrev pub is_accepted : {X T : Type 0} → Result (X × CoreReply T) CoreFault → Bool
 is_accepted (Ok (next, reply)) = is_accepting reply
 is_accepted (Err fault) = false
 
@@ -78,9 +78,9 @@ pub record Next {T : Type 0} (counting : Counting) (ruled : Result (Client × Co
   pub ruled_is : ruled ≡ Ok (next, reply)
   pub matches : Matches counting new next
 
--- the rule refuses; where memory is wanted it does not
-abbrev pub IsRefusal : {X : Type 0} → CoreFault → Result X CoreFault → Type 0
-IsRefusal Memory ruled = IsOk ruled
+-- the rule refuses; where memory is wanted it accepts
+abbrev pub IsRefusal : {T : Type 0} → CoreFault → Result (Client × CoreReply T) CoreFault → Type 0
+IsRefusal Memory ruled = is_accepted ruled ≡ true
 IsRefusal fault ruled = ruled ≡ Err fault
 
 -- From each client that is matched, the rule is followed; a refusal leaves all.

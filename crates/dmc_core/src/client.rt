@@ -1,7 +1,8 @@
 //! A client of the cluster: its tracker, and what is under way between it and each server.
-ghost use Rattle.std.specs.Prelude.{◌≡◌, ◌+◌, ◌<◌, drop, length, slice_get};
+ghost use Rattle.std.specs.Prelude.{◌≡◌, ◌≢◌, ◌+◌, ◌-◌, ◌<◌, drop, length, slice_get, Err, OnOk};
 ghost use Rattle.dmc_core.specs.Core.{ClientFollows};
 ghost use Rattle.dmc_core.specs.Events.{stamp, response};
+ghost use Rattle.dmc_core.specs.Parts.{KeepsGrants};
 ghost use Rattle.dmc_core.specs.Run.{grants, pair_at, with_pair, with_flight, with_grants, most_grants};
 
 use crate::event::{CoreFault, CoreReply, Message};
@@ -36,6 +37,7 @@ impl CoreClient {
     pub fn stamp<T>(&mut self, server: ServerId, token: Token) -> Result<CoreReply<T>, CoreFault>
         requires { server.0 < length self.old.pairs }
         ensures id { self.new.id ≡ self.old.id }
+        ensures grants { KeepsGrants self.old.pairs self.new.pairs }
         ensures follows { ClientFollows (λ counting c. stamp counting server token c) self.old self.new result }
     {
         let pair = &mut self.pairs[server.0 as usize];
@@ -66,6 +68,10 @@ impl CoreClient {
     ) -> Result<CoreReply<T>, CoreFault>
         requires { server.0 < length self.old.pairs }
         ensures id { self.new.id ≡ self.old.id }
+        ensures pairs { OnOk result (self.new.pairs ≡ with_pair server
+            (with_grants phase (grants phase (pair_at server self.old.pairs) - 1) (pair_at server self.old.pairs)) self.old.pairs) }
+        ensures some { OnOk result (0 < grants phase (pair_at server self.old.pairs)) }
+        ensures no_growth { result ≢ Err CoreFault.Memory }
         ensures follows { ClientFollows (λ counting c. response server phase c) self.old self.new result }
     {
         let pair = &mut self.pairs[server.0 as usize];

@@ -2,6 +2,9 @@
 //! wait for their responses, event by event.
 #![tactic(auto)]
 
+mod client;
+mod cluster;
+pub mod cluster_core;
 pub mod event;
 mod pair;
-mod client;
+mod server;

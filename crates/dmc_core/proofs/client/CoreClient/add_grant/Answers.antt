@@ -2,7 +2,7 @@ use Rattle.std.proofs.Common.{◌≡◌, ℕ, ◌<◌, ◌+◌, length, map, ref
 use Rattle.dmc_core.specs.Run.{Pair, grants, with_grants}
 use Rattle.dmc_core.specs.Core.{Held}
 use Rattle.dmc_core.specs.Parts.{pair_of}
-use Rattle.dmc_core.proofs.Clients.{pair_changed}
+use Rattle.dmc_core.proofs.Pairs.{pair_changed}
 use Rattle.dmc_core.proofs.client.CoreClient.add_grant.Goals as goal
 
 pub returns : goal.returns

@@ -3,7 +3,8 @@ use Rattle.std.proofs.lemmas.Bool.{eqb-true}
 use Rattle.dmc_core.specs.Run.{Pair, grants, with_grants}
 use Rattle.dmc_core.specs.Core.{Held}
 use Rattle.dmc_core.specs.Parts.{pair_of}
-use Rattle.dmc_core.proofs.Clients.{false_unless, pair_seen, pair_changed, response-counted}
+use Rattle.dmc_core.proofs.Pairs.{pair_seen, pair_changed}
+use Rattle.dmc_core.proofs.Clients.{false_unless, response-counted}
 use Rattle.dmc_core.proofs.client.CoreClient.respond.Goals as goal
 
 pub returns-clause-follows : goal.returns-clause-follows
@@ -22,3 +23,14 @@ returns-clause-follows g c =
       c.in_ok-track_resp.ensures.stands c.track_resp.ensures.kept
       (pair_changed items s x within c.index_mut-pair.ensures.value c.set_grants.new.self (λ (pair : Pair). with_grants phase (grants phase pair - 1) pair)
         (c.set_grants.ensures ∙ ap (λ (k : ℕ). with_grants phase (k - 1) (pair_of x)) c.grants-count.ensures)))
+
+pub returns-clause-pairs : goal.returns-clause-pairs
+returns-clause-pairs g c =
+    let items = c.self.inside.pairs.items in
+    let s = c.args.server in
+    let phase = c.args.phase in
+    let x = c.index_mut-pair.result.now in
+    let within : s.0 < length (map pair_of items) = rw (← c.self.view_is) at c.requires in
+    rw (← c.self.view_is)
+    (pair_changed items s x within c.index_mut-pair.ensures.value c.set_grants.new.self (λ (pair : Pair). with_grants phase (grants phase pair - 1) pair)
+      (c.set_grants.ensures ∙ ap (λ (k : ℕ). with_grants phase (k - 1) (pair_of x)) c.grants-count.ensures))

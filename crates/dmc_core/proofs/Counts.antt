@@ -61,3 +61,21 @@ pub same_counts : (old new : List Pair) (s : ServerId) → KeepsGrants old new �
 same_counts old new s k =
     ap (λ n. one_if_full n + one_if_full (pair_at s new).priority) (k.grants s Reservation)
     ∙ ap (λ n. one_if_full (pair_at s old).reservation + one_if_full n) (k.grants s Priority)
+
+-- one count of a client at a server is another
+module _ (hs : List Held) (i : ℕ) (h h' : Held) (at : slice_get hs i ≡ Some h) (s : ServerId) (within : s.0 < length h.pairs) (phase : PhaseType) (n : ℕ)
+    (pairs_is : h'.pairs ≡ with_pair s (with_grants phase n (pair_at s h.pairs)) h.pairs) where
+  pub full_counts-there : full_counts s (set hs i h') + one_if_full (grants phase (pair_at s h.pairs)) ≡ full_counts s hs + one_if_full n
+  full_counts-there =
+      let here : pair_at s h'.pairs ≡ with_grants phase n (pair_at s h.pairs) = ap (pair_at s) pairs_is ∙ get_or-set_same h.pairs s.0 _ no_pair within in
+      let e = full_counts-set s hs i h h' at in
+      let f = full_counts_of-with_grants phase n (pair_at s h.pairs) in
+      let g : full_counts_of (pair_at s h'.pairs) ≡ full_counts_of (with_grants phase n (pair_at s h.pairs)) = ap full_counts_of here in
+      omega arith
+
+  pub full_counts-elsewhere : (other : ServerId) → (other.0 ≡ s.0 → ⊥) → full_counts other (set hs i h') ≡ full_counts other hs
+  full_counts-elsewhere other apart =
+      let here : pair_at other h'.pairs ≡ pair_at other h.pairs = ap (pair_at other) pairs_is ∙ get_or-set_other h.pairs s.0 other.0 _ no_pair apart in
+      let e = full_counts-set other hs i h h' at in
+      let g : full_counts_of (pair_at other h'.pairs) ≡ full_counts_of (pair_at other h.pairs) = ap full_counts_of here in
+      omega arith

@@ -6,3 +6,5 @@ pub mod Counts
 pub mod Kept
 pub mod Places
 pub mod Runs
+pub mod Arrivals
+pub mod Pulls

@@ -95,8 +95,29 @@ module _ {T Q : Type 0} (state : Q → State T) (core : CoreValue Q) (id : Clien
           let here = no_server state core run r s (leb-true _ _ past) in
           rw (both.found, here, fault_is) refl)
 
-  pub found_place : (i : ℕ) → place_of id s core ≡ Ok i → (position (λ h. is_client id h.id) core.clients ≡ Some i)
-  found_place i e = (a_place (position (λ h. is_client id h.id) core.clients) (nat_le (length core.servers) s.0) i e).0
+pub found_place : {Q : Type 0} (id : ClientId) (s : ServerId) (core : CoreValue Q) (i : ℕ) → place_of id s core ≡ Ok i → position (λ h. is_client id h.id) core.clients ≡ Some i
+found_place id s core i e = (a_place (position (λ h. is_client id h.id) core.clients) (nat_le (length core.servers) s.0) i e).0
+
+-- at a server that there is, only a client that there is not has no place
+pub no_client_placed : {Q : Type 0} (id : ClientId) (s : ServerId) (core : CoreValue Q) (fault : CoreFault) → place_of id s core ≡ Err fault → s.0 < length core.servers → position (λ h. is_client id h.id) core.clients ≡ None
+no_client_placed id s core fault e within = by (no_place (position (λ h. is_client id h.id) core.clients) (nat_le (length core.servers) s.0) fault e)
+  where
+    by : ((position (λ h. is_client id h.id) core.clients ≡ None) × (fault ≡ faults.NoClient)) ⊎ ((i : ℕ) × (position (λ h. is_client id h.id) core.clients ≡ Some i) × (nat_le (length core.servers) s.0 ≡ true) × (fault ≡ faults.NoServer))
+        → position (λ h. is_client id h.id) core.clients ≡ None
+    by (inl (none, fault_is)) = none
+    by (inr (i, place, past, fault_is)) = absurd (omega (arith, leb-true _ _ past))
+
+module _ (counting : Counting) (hs : List Held) (cs : List Client) (z : AllZip (Matches counting) hs cs) (id : ClientId) where
+  -- a change of a client that there is not changes none
+  pub no_one_changed : position (λ h. is_client id h.id) hs ≡ None → (f : Client → Client) → change_first (λ c. is_client id c.id) f cs ≡ cs
+  no_one_changed none = (none_of_both (Matches counting) (λ h. is_client id h.id) (λ c. is_client id c.id) (same_id id counting) hs cs z none).1
+
+  -- the one that there is is changed as what is held
+  pub one_changed : (i : ℕ) → position (λ h. is_client id h.id) hs ≡ Some i → (h' : Held) (f : Client → Client)
+      → ((h : Held) (c : Client) → slice_get hs i ≡ Some h → Matches counting h c → Matches counting h' (f c)) → AllZip (Matches counting) (set hs i h') (change_first (λ c. is_client id c.id) f cs)
+  one_changed i place h' f changed =
+      let both = first_of_both (Matches counting) (λ h. is_client id h.id) (λ c. is_client id c.id) (same_id id counting) hs cs i z place in
+      both.put h' f (changed both.x both.y both.at both.related)
 
 -- ---- the events of a client
 
@@ -125,19 +146,19 @@ module _ {T Q : Type 0} (ops : Tagging T) (state : Q → State T) (event : CoreE
       → ((h : Held) → slice_get core.clients i ≡ Some h → ClientFollows rule h h' answer) → (answer ≡ Err faults.Memory → may_grow event ≡ true)
       → Follows ops state event core (record core { clients = set core.clients i h' }) answer
   client_follows i place within h' (Ok reply) says grows = λ run r.
-      let both = the_client state core run r id i (found_place state core id s i place) in
+      let both = the_client state core run r id i (found_place id s core i place) in
       let server = the_server state core run r s within in
       let next = says both.x both.at run.counting both.y both.related in
       let whole : outcome ops run event ≡ Ok (with_client id next.next run, reply) = event_is run ∙ rw (both.found, server.found, next.ruled_is) refl in
       rw whole (refl, record { servers = r.servers; clients = both.put h' (λ old. next.next) next.matches })
   client_follows i place within h' (Err faults.Memory) says grows = (grows refl, λ run r.
-      let both = the_client state core run r id i (found_place state core id s i place) in
+      let both = the_client state core run r id i (found_place id s core i place) in
       let server = the_server state core run r s within in
       let stays = says both.x both.at in
       let accepted = stays.1 run.counting both.y both.related in
       (rw (event_is run, both.found, server.found) (accepted_on (rule run.counting both.y) id run accepted), rw (stays.0, set_same core.clients i both.x both.at) r))
   client_follows i place within h' (Err fault) says grows = λ run r.
-      let both = the_client state core run r id i (found_place state core id s i place) in
+      let both = the_client state core run r id i (found_place id s core i place) in
       let server = the_server state core run r s within in
       let stays = says both.x both.at in
       let e = refusal_is fault (rule run.counting both.y) (λ m. cc) (stays.1 run.counting both.y both.related) in

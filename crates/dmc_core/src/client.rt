@@ -101,14 +101,17 @@ impl CoreClient {
         self.pairs[server.0 as usize].take_oldest();
     }
 
-    /// Adds one to the grants of a server in a phase that wait for their responses.
-    pub fn add_grant(&mut self, server: ServerId, phase: PhaseType)
+    /// Adds one to the grants of a server in a phase that wait for their responses, and answers how many wait then.
+    pub fn add_grant(&mut self, server: ServerId, phase: PhaseType) -> u32
         requires within { server.0 < length self.old.pairs }
-        requires room { grants phase (pair_at server self.old.pairs) < most_grants }
-        ensures { self.new ≡ record self.old { pairs = with_pair server
+        requires room { grants phase (pair_at server self.old.pairs) ≢ most_grants }
+        ensures count { result ≡ grants phase (pair_at server self.old.pairs) + 1 }
+        ensures pairs { self.new ≡ record self.old { pairs = with_pair server
             (with_grants phase (grants phase (pair_at server self.old.pairs) + 1) (pair_at server self.old.pairs)) self.old.pairs } }
     {
         let pair = &mut self.pairs[server.0 as usize];
-        pair.set_grants(phase, pair.grants(phase) + 1);
+        let count = pair.grants(phase) + 1;
+        pair.set_grants(phase, count);
+        count
     }
 }

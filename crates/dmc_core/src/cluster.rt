@@ -157,9 +157,8 @@ impl<Q> Cluster<Q> {
         let Ok(place) = self.place(client, server) else {
             return;
         };
-        let one = &mut self.clients[place];
-        one.add_grant(server, phase);
-        if one.grants(server, phase) == u32::MAX {
+        let count = self.clients[place].add_grant(server, phase);
+        if count == u32::MAX {
             self.servers[server.0 as usize].full += 1;
         }
     }

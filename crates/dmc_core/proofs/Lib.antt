@@ -8,3 +8,4 @@ pub mod Places
 pub mod Runs
 pub mod Arrivals
 pub mod Pulls
+pub mod Opened

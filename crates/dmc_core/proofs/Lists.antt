@@ -1,5 +1,5 @@
 -- Lists that match place by place, and what is found and changed in them.
-use Rattle.std.proofs.Common.{◌≡◌, ℕ, zero, suc, ◌+◌, ◌<◌, ◌≤◌, Bool, true, false, not, cond, List, [], ◌∷◌, length, map, set, get_or, slice_get, nat_lt, Option, Some, None, refl, sym, ap, ◌∙◌, arith, rules, Ok, Err}
+use Rattle.std.proofs.Common.{◌≡◌, ℕ, zero, suc, ◌+◌, ◌<◌, ◌≤◌, Bool, true, false, not, cond, List, [], ◌∷◌, ◌++◌, length, map, set, get_or, slice_get, nat_lt, Option, Some, None, refl, sym, ap, ◌∙◌, arith, rules, Ok, Err}
 use Rattle.std.specs.List.{AllZip, AllByRecursion, find, position, position_or_len, prefix_len}
 use Rattle.std.proofs.lemmas.List.{length-map}
 use Rattle.std.proofs.lemmas.Bool.{ltb-false}
@@ -45,6 +45,10 @@ pub all_set : {A : Type 0} (P : A → Type 0) (xs : List A) (i : ℕ) (x : A) �
 all_set P [] i x h p = h
 all_set P (y ∷ ys) zero x h p = (p, h.1)
 all_set P (y ∷ ys) (suc i) x h p = (h.0, all_set P ys i x h.1 p)
+
+pub all_push : {A : Type 0} (P : A → Type 0) (xs : List A) (x : A) → AllByRecursion P xs → P x → AllByRecursion P (xs ++ x ∷ [])
+all_push P [] x h p = (p, tt)
+all_push P (y ∷ ys) x h p = (h.0, all_push P ys x h.1 p)
 
 -- ---- the first that passes a test, in two lists
 

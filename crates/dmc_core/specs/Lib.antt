@@ -3,3 +3,4 @@ pub mod Events
 pub mod Core
 pub mod Parts
 pub mod Faults
+pub mod Opening

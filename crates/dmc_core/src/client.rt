@@ -1,15 +1,17 @@
 //! A client of the cluster: its tracker, and what is under way between it and each server.
-ghost use Rattle.std.specs.Prelude.{◌≡◌, ◌≢◌, ◌+◌, ◌-◌, ◌<◌, drop, length, slice_get, Err, OnOk};
+ghost use Rattle.std.specs.Prelude.{◌≡◌, ◌≢◌, ◌+◌, ◌-◌, ◌<◌, ◌≤◌, drop, length, map, replicate, slice_get, Err, IfOk, OnOk};
+ghost use Rattle.dmc_tracker.specs.Numbers.{new_numbers};
 ghost use Rattle.dmc_core.specs.Core.{ClientFollows};
 ghost use Rattle.dmc_core.specs.Events.{stamp, response};
-ghost use Rattle.dmc_core.specs.Parts.{KeepsGrants};
-ghost use Rattle.dmc_core.specs.Run.{grants, pair_at, with_pair, with_flight, with_grants, most_grants};
+ghost use Rattle.dmc_core.specs.Parts.{pair_of, KeepsGrants};
+ghost use Rattle.dmc_core.specs.Run.{most_completions, no_pair, grants, pair_at, with_pair, with_flight, with_grants, most_grants};
 
 use crate::event::{CoreFault, CoreReply, Message};
 use crate::pair::Pairing;
 use dmc_tracker::tracker::ServiceTracker;
-use dmc_types::config::PhaseType;
+use dmc_types::config::{Counting, PhaseType};
 use dmc_types::ids::{ClientId, ServerId, Token};
+use std::alloc::{AllocError, Global};
 use std::marker::Model;
 
 /// A client: its id, its tracker, and what is under way between it and server 0, 1, ..
@@ -32,6 +34,31 @@ impl Model for CoreClient {
 }
 
 impl CoreClient {
+    /// A client of `servers` servers, with nothing counted and nothing under way.
+    pub fn new(
+        alloc: Global,
+        id: ClientId,
+        servers: u32,
+        counting: Counting,
+    ) -> Result<CoreClient, AllocError>
+        requires some { 0 < servers }
+        requires limit { servers ≤ 64 }
+        ensures { IfOk result (λ client. client ≡ record {
+            id = id;
+            tracker = new_numbers counting most_completions servers;
+            pairs = replicate servers no_pair
+        }) }
+    {
+        let Ok(tracker) = ServiceTracker::new(alloc, servers, u32::MAX, counting) else {
+            return Err(AllocError);
+        };
+        Ok(CoreClient {
+            id,
+            tracker,
+            pairs: no_pairs(alloc, servers as usize)?,
+        })
+    }
+
     /// Stamps a request to a server; the message is the last in flight. Refused `FlightFull`, `TrackFull`, `Memory`, in this
     /// order.
     pub fn stamp<T>(&mut self, server: ServerId, token: Token) -> Result<CoreReply<T>, CoreFault>
@@ -114,4 +141,15 @@ impl CoreClient {
         pair.set_grants(phase, count);
         count
     }
+}
+
+/// With nothing under way at any server.
+fn no_pairs(alloc: Global, servers: usize) -> Result<Vec<Pairing>, AllocError>
+    ensures { IfOk result (λ pairs. map pair_of pairs.items ≡ replicate servers no_pair) }
+{
+    let mut pairs = Vec::with_capacity(alloc, servers)?;
+    for _ in 0..servers {
+        pairs.push(Pairing::new(alloc))?;
+    }
+    Ok(pairs)
 }

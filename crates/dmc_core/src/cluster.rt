@@ -1,11 +1,11 @@
 //! The cluster over any queue: the clients by their ids, and the servers.
-ghost use Rattle.std.specs.Prelude.{◌≡◌, ◌<◌, ◌≤◌, List, length, slice_get, IfOk, OnOk, IfErr, Err};
+ghost use Rattle.std.specs.Prelude.{◌≡◌, ◌<◌, ◌≤◌, List, length, map, slice_get, IfOk, OnOk, IfErr, Err};
 ghost use Rattle.std.specs.List.{AllZip};
 ghost use Rattle.dmc_types.specs.declared.config.Counting.{Counting};
 ghost use Rattle.dmc_tag.specs.State.{is_client};
 ghost use Rattle.dmc_core.specs.Core.{Held, Matches, Follows};
 ghost use Rattle.dmc_core.specs.Events.{after_grant};
-ghost use Rattle.dmc_core.specs.Parts.{place_of, full_counts};
+ghost use Rattle.dmc_core.specs.Parts.{IsKept, place_of, full_counts};
 ghost use Rattle.dmc_core.specs.Run.{Client, change_first};
 ghost use Rattle.dmc_core.specs.declared.event.CoreEvent.TheVariants as events;
 
@@ -44,6 +44,22 @@ impl<Q> Model for Cluster<Q> {
 }
 
 impl<Q> Cluster<Q> {
+    /// The cluster of these clients and servers.
+    pub fn of_parts(
+        ids: IndexSet<ClientId>,
+        clients: Vec<CoreClient>,
+        servers: Vec<CoreServer<Q>>,
+    ) -> Cluster<Q>
+        requires { IsKept ids.keys clients.items servers.items }
+        ensures { result ≡ record { servers = map (λ s. s.queue) servers.items; clients = clients.items } }
+    {
+        Cluster {
+            ids,
+            clients,
+            servers,
+        }
+    }
+
     /// The place of the client that an event at a server names; refused `NoClient`, `NoServer`, in this order.
     fn place(&self, client: ClientId, server: ServerId) -> Result<usize, CoreFault>
         ensures value { result ≡ place_of client server self.now }

@@ -1,12 +1,17 @@
 //! The cluster core.
-ghost use Rattle.dmc_core.specs.Core.{Follows};
+ghost use Rattle.std.specs.Prelude.{IfOk};
+ghost use Rattle.dmc_core.specs.Core.{Follows, StandsForRun};
+ghost use Rattle.dmc_core.specs.Opening.{HaveSpacings, opening_of};
 ghost use Rattle.dmc_pull.specs.Queue.{state_of};
 
 use crate::cluster::Cluster;
 use crate::event::{CoreEvent, CoreFault, CoreReply};
+use crate::opening::{client_ids, open_clients, open_servers};
 use dmc_heap::indexed_heap::HeapIndexes;
 use dmc_pull::queue::PullQueue;
+use dmc_scene::scene::Scene;
 use dmc_tag::tag::Tag;
+use std::alloc::{AllocError, Global};
 use std::marker::Model;
 
 /// The cluster core.
@@ -25,6 +30,19 @@ impl<T: Tag> Model for ClusterCore<T> {
 }
 
 impl<T: Tag> ClusterCore<T> {
+    /// The cluster that a scene opens.
+    pub fn new(alloc: Global, scene: &Scene) -> Result<ClusterCore<T>, AllocError>
+        requires { HaveSpacings T.ops scene.now }
+        ensures { IfOk result (λ core. StandsForRun state_of core (opening_of T.ops scene.now)) }
+    {
+        let ids = client_ids(alloc, scene.clients())?;
+        let clients = open_clients(alloc, scene)?;
+        let servers = open_servers(alloc, scene)?;
+        Ok(ClusterCore {
+            cluster: Cluster::of_parts(ids, clients, servers),
+        })
+    }
+
     /// Carries out an event.
     pub fn step(&mut self, event: CoreEvent) -> Result<CoreReply<T>, CoreFault>
         ensures { Follows T.ops state_of event self.old self.new result }

@@ -6,5 +6,6 @@ mod client;
 mod cluster;
 pub mod cluster_core;
 pub mod event;
+mod opening;
 mod pair;
 mod server;

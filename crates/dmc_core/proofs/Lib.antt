@@ -9,3 +9,4 @@ pub mod Runs
 pub mod Arrivals
 pub mod Pulls
 pub mod Opened
+pub mod ForCallers

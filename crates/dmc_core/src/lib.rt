@@ -9,3 +9,5 @@ pub mod event;
 mod opening;
 mod pair;
 mod server;
+#[cfg(test)]
+mod tests;

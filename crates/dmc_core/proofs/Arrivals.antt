@@ -73,9 +73,9 @@ module _ {T Q : Type 0} (ops : Tagging T) (state : Q → State T) (core : CoreVa
   arrival_no_names fault e =
       let no = names_refused state core id s fault e in
       refused ops state (Arrive id s at) core fault no.0 (λ run r. no.1 run r (λ client u.
-          ok_or (slice_get (pair_at s client.pairs).flight 0) faults.NoFlight
-          >>= λ message. Ok (step ops u (commands.Add id message.token message.params at))
-          >>= λ (next, reply). Ok (with_client id (client_after_arrival s reply client) (with_server s next run), Served reply)))
+      ok_or (slice_get (pair_at s client.pairs).flight 0) faults.NoFlight
+      >>= λ message. Ok (step ops u (commands.Add id message.token message.params at))
+      >>= λ (next, reply). Ok (with_client id (client_after_arrival s reply client) (with_server s next run), Served reply)))
 
   module _ (i : ℕ) (place : place_of id s core ≡ Ok i) (within : s.0 < length core.servers) where
     pub arrival_no_flight : ((h : Held) → slice_get core.clients i ≡ Some h → slice_get (pair_at s h.pairs).flight 0 ≡ None) → Follows ops state (Arrive id s at) core core (Err faults.NoFlight)
@@ -88,13 +88,17 @@ module _ {T Q : Type 0} (ops : Tagging T) (state : Q → State T) (core : CoreVa
     module _ (message : Message) (oldest : (h : Held) → slice_get core.clients i ≡ Some h → slice_get (pair_at s h.pairs).flight 0 ≡ Some message) (q' : Q) where
       pub arrival_memory : ((q : Q) → slice_get core.servers s.0 ≡ Some q → Steps ops (state q) (state q') (commands.Add id message.token message.params at) None)
           → Follows ops state (Arrive id s at) core (record core { servers = set core.servers s.0 q' }) (Err faults.Memory)
-      arrival_memory steps = (refl, λ run r.
-          let both = the_client state core run r id i (found_place id s core i place) in
-          let server = the_server state core run r s within in
-          let first : slice_get (pair_at s both.y.pairs).flight 0 ≡ Some message = rw (← both.related.pairs) (oldest both.x both.at) in
-          let stays = steps server.x server.at server.y server.related in
-          (rw (both.found, server.found, first) (added_accepted ops server.y id message.token message.params at stays.0),
-           record { servers = rw (← set_same run.servers s.0 server.y server.found) (server.put q' server.y stays.1); clients = r.clients }))
+      arrival_memory steps = (
+        refl,
+        λ run r.
+            let both = the_client state core run r id i (found_place id s core i place) in
+            let server = the_server state core run r s within in
+            let first : slice_get (pair_at s both.y.pairs).flight 0 ≡ Some message = rw (← both.related.pairs) (oldest both.x both.at) in
+            let stays = steps server.x server.at server.y server.related in (
+              rw (both.found, server.found, first) (added_accepted ops server.y id message.token message.params at stays.0),
+              record { servers = rw (← set_same run.servers s.0 server.y server.found) (server.put q' server.y stays.1); clients = r.clients },
+            ),
+      )
 
       module _ (reply : Reply T) (steps : (q : Q) → slice_get core.servers s.0 ≡ Some q → Steps ops (state q) (state q') (commands.Add id message.token message.params at) (Some reply)) where
         -- the client has what the reply leaves of it
@@ -108,11 +112,14 @@ module _ {T Q : Type 0} (ops : Tagging T) (state : Q → State T) (core : CoreVa
             let stepped = steps server.x server.at server.y server.related in
             let next = (step ops server.y (commands.Add id message.token message.params at)).0 in
             let whole : outcome ops run (Arrive id s at) ≡ Ok (with_client id (client_after_arrival s reply both.y) (with_server s next run), Served reply) =
-                rw (both.found, server.found, first, ← stepped.0) refl in
-            rw whole (refl, record {
-              servers = server.put q' next stepped.1;
-              clients = rw (hs_is both.x both.at) (both.put _ (λ old. client_after_arrival s reply both.y) (matches_changed run.counting both.x both.y s (after_arrival reply) both.related));
-            })
+            rw (both.found, server.found, first, ← stepped.0) refl in
+            rw whole (
+              refl,
+              record {
+                servers = server.put q' next stepped.1;
+                clients = rw (hs_is both.x both.at) (both.put _ (λ old. client_after_arrival s reply both.y) (matches_changed run.counting both.x both.y s (after_arrival reply) both.related));
+              },
+            )
 
         -- which is what it had
         pub arrival_refused : ((pair : Pair) → after_arrival reply pair ≡ pair) → Follows ops state (Arrive id s at) core (record core { servers = set core.servers s.0 q' }) (Ok (Served reply))

@@ -124,8 +124,11 @@ module _ (T : Type 0) (h : Held) (s : ServerId) (phase : PhaseType) where
         → ((events : List TrackerEvent) → Stands h.tracker events → (IsErrOf tested faults.TrackFull ↔ ((s.0 < length h.tracker.servers) × IsComplete h.tracker.most events)))
         → ClientFollows {T = T} (λ counting c. response s phase c) h h (Err (fault_of fault))
     response-refused faults.NoServer tested e within no_server full = (refl, λ counting c m. absurd (omega (arith, no_server.0 e, m.servers, within)))
-    response-refused faults.TrackFull tested e within no_server full = (refl, λ counting c m.
-        rw (some_too counting h c s m phase some, eq-eqb (completions c.list).delta most_completions (((full c.list m.tracker).0 e).1 ∙ m.most)) refl)
+    response-refused faults.TrackFull tested e within no_server full = (
+      refl,
+      λ counting c m.
+          rw (some_too counting h c s m phase some, eq-eqb (completions c.list).delta most_completions (((full c.list m.tracker).0 e).1 ∙ m.most)) refl,
+    )
 
     pub response-counted : (tested : Result ⊤ TrackFault) → tested ≡ Ok tt → s.0 < length h.pairs
         → ((events : List TrackerEvent) → Stands h.tracker events → (IsErrOf tested faults.TrackFull ↔ ((s.0 < length h.tracker.servers) × IsComplete h.tracker.most events)))

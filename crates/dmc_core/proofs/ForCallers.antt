@@ -19,8 +19,8 @@ spaced : (hz rate : ℕ) → 0 < hz → hz ≤ 1000000000 → HasSpacing Tick hz
 spaced hz rate some limit divides =
     let whole : hz % rate ≡ 0 = eqb-true _ _ divides in
     let rated : (rate == 0) ≡ false = false_unless (rate == 0) (λ e.
-      let none = ap (λ (n : ℕ). hz % n) (eqb-true _ _ e) ∙ mod-zero hz in
-      absurd (omega arith)) in
+    let none = ap (λ (n : ℕ). hz % n) (eqb-true _ _ e) ∙ mod-zero hz in
+    absurd (omega arith)) in
     let least : hz / rate ≤ hz = div-le_self hz rate in
     let small : nat_le (hz / rate) greatest ≡ true = le-leb _ _ (omega arith) in
     (pos (hz / rate), rw (rated, divides, small) refl)

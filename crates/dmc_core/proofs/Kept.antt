@@ -95,8 +95,8 @@ module _ {Q : Type 0} (ids : List ClientId) (hs : List Held) (servers : List (Co
             let this : y.full ≡ full_counts s (set hs i h') = omega arith in
             let is : other ≡ s = ap (λ (m : ℕ). let x : ServerId = record { 0 = m } in x) (eqb-true _ _ e) in
             subst (λ (x : ServerId). full_at x (set servers s.0 y) ≡ full_counts x (set hs i h')) (sym is)
-              (ap (λ (ns : List ℕ). get_or ns s.0 0) (map-set (λ (z : CoreServer Q). z.full) servers s.0 y)
-              ∙ get_or-set_same (map (λ (z : CoreServer Q). z.full) servers) s.0 y.full 0 (simp length-map inside) ∙ this)
+            (ap (λ (ns : List ℕ). get_or ns s.0 0) (map-set (λ (z : CoreServer Q). z.full) servers s.0 y)
+            ∙ get_or-set_same (map (λ (z : CoreServer Q). z.full) servers) s.0 y.full 0 (simp length-map inside) ∙ this)
         by other w false e =
             let apart : other.0 ≡ s.0 → ⊥ = λ is. let t = eq-eqb _ _ is in true≢false (sym t ∙ e) in
             ap (λ (ns : List ℕ). get_or ns other.0 0) (map-set (λ (z : CoreServer Q). z.full) servers s.0 y)

@@ -37,9 +37,10 @@ use Rattle.dmc_core.proofs.Clients.{false_unless}
 pub fresh : (cs : List ClientValue) (i : ℕ) (x : ClientValue) → AllPairs AreApart cs → i < length cs → x ≡ get_or cs i x → AllByRecursion (λ k. k ≢ x.id) (map (λ c. c.id) (take i cs))
 fresh [] i x apart w is = absurd (omega (arith, w))
 fresh (c ∷ cs) zero x apart w is = tt
-fresh (c ∷ cs) (suc i) x apart w is =
-    (λ e. apart 0 (suc i) x (omega arith) w (e ∙ ap (λ (y : ClientValue). y.id) is),
-     fresh cs i x (λ a b d l m. apart (suc a) (suc b) d (omega (arith, l)) (omega (arith, m))) (omega (arith, w)) is)
+fresh (c ∷ cs) (suc i) x apart w is = (
+  λ e. apart 0 (suc i) x (omega arith) w (e ∙ ap (λ (y : ClientValue). y.id) is),
+  fresh cs i x (λ a b d l m. apart (suc a) (suc b) d (omega (arith, l)) (omega (arith, m))) (omega (arith, w)) is,
+)
 
 is_other : (a b : ClientId) → a ≢ b → eqb b.0 a.0 ≡ false
 is_other a b ne = false_unless (eqb b.0 a.0) (λ e. ne (ap (λ (n : ℕ). let k : ClientId = record { 0 = n } in k) (sym (eqb-true _ _ e))))
@@ -97,14 +98,17 @@ module _ {T Q : Type 0} (state : Q → State T) (u : State T) (servers : List (C
 module _ (counting : Counting) (n : ℕ) where
   pub opened_clients : (cs : List ClientValue) → AllZip (Matches counting) (map (opening_client counting n) cs) (map (λ c. record { id = c.0; list = []; pairs = replicate n no_pair }) (map named_rates cs))
   opened_clients [] = tt
-  opened_clients (c ∷ cs) = (record {
+  opened_clients (c ∷ cs) = (
+    record {
       id = refl;
       pairs = refl;
       tracker = Stands-new counting most_completions n;
       form = refl;
       most = refl;
       servers = length-replicate n no_numbers ∙ sym (length-replicate n no_pair);
-    }, opened_clients cs)
+    },
+    opened_clients cs,
+  )
 
   opened_ids : (cs : List ClientValue) → map (λ c. c.id) cs ≡ map (λ h. h.id) (map (opening_client counting n) cs)
   opened_ids [] = refl

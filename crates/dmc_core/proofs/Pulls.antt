@@ -75,5 +75,5 @@ module _ {T Q : Type 0} (ops : Tagging T) (state : Q → State T) (core : CoreVa
         let stepped = steps server.x server.at server.y server.related in
         let next = (step ops server.y (commands.Pull at)).0 in
         let whole : outcome ops run (Pull s at) ≡ Ok (record run { servers = set run.servers s.0 next; clients = clients_after s reply run.clients }, Served reply) =
-            rw (server.found, room, ← stepped.0, after_pull_is s reply (with_server s next run)) refl in
+        rw (server.found, room, ← stepped.0, after_pull_is s reply (with_server s next run)) refl in
         rw whole (refl, record { servers = server.put q' next stepped.1; clients = clients run.counting run.clients r.clients })

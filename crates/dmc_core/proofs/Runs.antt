@@ -87,13 +87,19 @@ module _ {T Q : Type 0} (state : Q → State T) (core : CoreValue Q) (id : Clien
     where
       by : ((position (λ h. is_client id h.id) core.clients ≡ None) × (fault ≡ faults.NoClient)) ⊎ ((i : ℕ) × (position (λ h. is_client id h.id) core.clients ≡ Some i) × (nat_le (length core.servers) s.0 ≡ true) × (fault ≡ faults.NoServer))
           → (fault ≡ faults.Memory → ⊥) × ((run : Run T) → StandsForRun state core run → (rest : Client → State T → Outcome T) → (client_of run id >>= λ client. server_of run s >>= λ u. rest client u) ≡ Err fault)
-      by (inl (none, fault_is)) = (λ m. let e : faults.NoClient ≡ faults.Memory = sym fault_is ∙ m in cc, λ run r rest.
-          let here = no_client state core run r id none in
-          rw (here, fault_is) refl)
-      by (inr (i, place, past, fault_is)) = (λ m. let e : faults.NoServer ≡ faults.Memory = sym fault_is ∙ m in cc, λ run r rest.
-          let both = the_client state core run r id i place in
-          let here = no_server state core run r s (leb-true _ _ past) in
-          rw (both.found, here, fault_is) refl)
+      by (inl (none, fault_is)) = (
+        λ m. let e : faults.NoClient ≡ faults.Memory = sym fault_is ∙ m in cc,
+        λ run r rest.
+            let here = no_client state core run r id none in
+            rw (here, fault_is) refl,
+      )
+      by (inr (i, place, past, fault_is)) = (
+        λ m. let e : faults.NoServer ≡ faults.Memory = sym fault_is ∙ m in cc,
+        λ run r rest.
+            let both = the_client state core run r id i place in
+            let here = no_server state core run r s (leb-true _ _ past) in
+            rw (both.found, here, fault_is) refl,
+      )
 
 pub found_place : {Q : Type 0} (id : ClientId) (s : ServerId) (core : CoreValue Q) (i : ℕ) → place_of id s core ≡ Ok i → position (λ h. is_client id h.id) core.clients ≡ Some i
 found_place id s core i e = (a_place (position (λ h. is_client id h.id) core.clients) (nat_le (length core.servers) s.0) i e).0
@@ -151,12 +157,15 @@ module _ {T Q : Type 0} (ops : Tagging T) (state : Q → State T) (event : CoreE
       let next = says both.x both.at run.counting both.y both.related in
       let whole : outcome ops run event ≡ Ok (with_client id next.next run, reply) = event_is run ∙ rw (both.found, server.found, next.ruled_is) refl in
       rw whole (refl, record { servers = r.servers; clients = both.put h' (λ old. next.next) next.matches })
-  client_follows i place within h' (Err faults.Memory) says grows = (grows refl, λ run r.
-      let both = the_client state core run r id i (found_place id s core i place) in
-      let server = the_server state core run r s within in
-      let stays = says both.x both.at in
-      let accepted = stays.1 run.counting both.y both.related in
-      (rw (event_is run, both.found, server.found) (accepted_on (rule run.counting both.y) id run accepted), rw (stays.0, set_same core.clients i both.x both.at) r))
+  client_follows i place within h' (Err faults.Memory) says grows = (
+    grows refl,
+    λ run r.
+        let both = the_client state core run r id i (found_place id s core i place) in
+        let server = the_server state core run r s within in
+        let stays = says both.x both.at in
+        let accepted = stays.1 run.counting both.y both.related in
+        (rw (event_is run, both.found, server.found) (accepted_on (rule run.counting both.y) id run accepted), rw (stays.0, set_same core.clients i both.x both.at) r),
+  )
   client_follows i place within h' (Err fault) says grows = λ run r.
       let both = the_client state core run r id i (found_place id s core i place) in
       let server = the_server state core run r s within in

@@ -44,9 +44,9 @@ impl CoreClient {
         requires some { 0 < servers }
         requires limit { servers ≤ 64 }
         ensures { IfOk result (λ client. client ≡ record {
-            id = id;
-            tracker = new_numbers counting most_completions servers;
-            pairs = replicate servers no_pair
+          id = id;
+          tracker = new_numbers counting most_completions servers;
+          pairs = replicate servers no_pair;
         }) }
     {
         let Ok(tracker) = ServiceTracker::new(alloc, servers, u32::MAX, counting) else {
@@ -122,8 +122,10 @@ impl CoreClient {
     /// Takes out the oldest message in flight to a server.
     pub fn take_oldest(&mut self, server: ServerId)
         requires { server.0 < length self.old.pairs }
-        ensures { self.new ≡ record self.old { pairs = with_pair server
-            (with_flight (drop 1 (pair_at server self.old.pairs).flight) (pair_at server self.old.pairs)) self.old.pairs } }
+        ensures { self.new ≡ record self.old {
+          pairs = with_pair server
+              (with_flight (drop 1 (pair_at server self.old.pairs).flight) (pair_at server self.old.pairs)) self.old.pairs;
+        } }
     {
         self.pairs[server.0 as usize].take_oldest();
     }
@@ -133,8 +135,10 @@ impl CoreClient {
         requires within { server.0 < length self.old.pairs }
         requires room { grants phase (pair_at server self.old.pairs) ≢ most_grants }
         ensures count { result ≡ grants phase (pair_at server self.old.pairs) + 1 }
-        ensures pairs { self.new ≡ record self.old { pairs = with_pair server
-            (with_grants phase (grants phase (pair_at server self.old.pairs) + 1) (pair_at server self.old.pairs)) self.old.pairs } }
+        ensures pairs { self.new ≡ record self.old {
+          pairs = with_pair server
+              (with_grants phase (grants phase (pair_at server self.old.pairs) + 1) (pair_at server self.old.pairs)) self.old.pairs;
+        } }
     {
         let pair = &mut self.pairs[server.0 as usize];
         let count = pair.grants(phase) + 1;

@@ -192,9 +192,7 @@ impl<Q> Cluster<Q> {
         ensures { Follows T.ops Q.state (events.Update server client info at) self.old self.new result }
     {
         let index = self.server(server)?;
-        Ok(CoreReply::Served(
-            self.servers[index].update(client, info, at),
-        ))
+        Ok(CoreReply::Served(self.servers[index].update(client, info, at)))
     }
 
     /// A server takes out a client's queued requests.

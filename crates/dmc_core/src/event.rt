@@ -33,7 +33,10 @@ pub enum CoreEvent {
         at: Moment,
     },
     /// A server pulls. A grant waits for its response.
-    Pull { server: ServerId, at: Moment },
+    Pull {
+        server: ServerId,
+        at: Moment,
+    },
     /// A client hears of a request that a server granted in a phase: its tracker counts the completion.
     Respond {
         client: ClientId,
@@ -48,9 +51,15 @@ pub enum CoreEvent {
         at: Moment,
     },
     /// A server takes out a client's queued requests.
-    Remove { server: ServerId, client: ClientId },
+    Remove {
+        server: ServerId,
+        client: ClientId,
+    },
     /// A server marks clients idle, and erases old ones.
-    Clean { server: ServerId, at: Moment },
+    Clean {
+        server: ServerId,
+        at: Moment,
+    },
 }
 
 /// What an event is answered.

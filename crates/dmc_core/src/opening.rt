@@ -25,10 +25,7 @@ use indexmap::IndexSet;
 use std::alloc::{AllocError, Global};
 
 /// The ids of the clients, in order.
-pub fn client_ids(
-    alloc: Global,
-    clients: &[SceneClient],
-) -> Result<IndexSet<ClientId>, AllocError>
+pub fn client_ids(alloc: Global, clients: &[SceneClient]) -> Result<IndexSet<ClientId>, AllocError>
     requires { AllPairs AreApart clients.now }
     ensures { IfOk result (λ ids. ids.keys ≡ map (λ c. c.id) clients.now) }
 {

@@ -17,6 +17,7 @@ use std::process::Abort;
 use std::test::Fail;
 
 type Core = ClusterCore<TickTag>;
+
 type Answer = Result<CoreReply<TickTag>, CoreFault>;
 
 const ONE: ClientId = ClientId(1);
@@ -166,9 +167,17 @@ fn limit_bound(rt: HostRuntime) -> Result<(), Fail> {
         (pull(ZERO, 50)?, granted(ONE, 2, phase, false)),
     ];
     run(&rt, &mut core, &events);
-    let mut core = open(rt.alloc(), "servers = 1\nat_limit = \"allow\"", "limit = 20")?;
+    let mut core = open(
+        rt.alloc(),
+        "servers = 1\nat_limit = \"allow\"",
+        "limit = 20",
+    )?;
     limited(&rt, &mut core)?;
-    run(&rt, &mut core, &[(pull(ZERO, 0)?, granted(ONE, 2, phase, true))]);
+    run(
+        &rt,
+        &mut core,
+        &[(pull(ZERO, 0)?, granted(ONE, 2, phase, true))],
+    );
     Ok(())
 }
 
@@ -222,7 +231,10 @@ fn messages_in_order(rt: HostRuntime) -> Result<(), Fail> {
     let phase = PhaseType::Priority;
     let at = Moment::new(10)?;
     let clean = CoreEvent::Clean { server: ZERO, at };
-    let cleaned = Reply::Cleaned { idled: 0, erased: 1 };
+    let cleaned = Reply::Cleaned {
+        idled: 0,
+        erased: 1,
+    };
     let unknown = refused(Refusal::Unknown);
     let events = [
         (stamp(ONE, ZERO, 7), stamped(0, 0)?),

@@ -59,10 +59,10 @@ loop-client-preserved g c =
     let next = ap (λ (p : State g.row.T.Denot × Reply g.row.T.Denot). p.0) (told ∙ ruled) in
     let before = map registration (map named_rates (take i cs)) in
     let more : map registration (map named_rates (take (i + 1) cs)) ≡ before ++ registration (named_rates x) ∷ [] =
-      ap (map registration) (take_one_more named_rates cs i x within c.client-item.is) ∙ map-append registration (map named_rates (take i cs)) (named_rates x ∷ []) in
+    ap (map registration) (take_one_more named_rates cs i x within c.client-item.is) ∙ map-append registration (map named_rates (take i cs)) (named_rates x ∷ []) in
     record {
       state = stepped ∙ ap (λ (v : State g.row.T.Denot). (step ops v command).0) inv.state ∙ sym (state_after_more ops (opening c.args.config) before (registration (named_rates x))) ∙ ap (state_after ops (opening c.args.config)) (sym more);
       config = ap (λ (v : State g.row.T.Denot). v.config) next ∙ inv.config;
       ids = ap (λ (v : State g.row.T.Denot). map (λ (p : PlainClient g.row.T.Denot). p.id) v.clients) next ∙ map-append (λ (p : PlainClient g.row.T.Denot). p.id) u.clients _
-        ∙ ap (λ (ks : List ClientId). ks ++ x.id ∷ []) inv.ids ∙ sym (take_one_more (λ (k : ClientValue). k.id) cs i x within c.client-item.is);
+          ∙ ap (λ (ks : List ClientId). ks ++ x.id ∷ []) inv.ids ∙ sym (take_one_more (λ (k : ClientValue). k.id) cs i x within c.client-item.is);
     }

@@ -32,5 +32,5 @@ returns-clause-pairs c =
     let within : s.0 < length (map pair_of items) = rw (← c.self.view_is) at c.requires.within in
     rw (← c.self.view_is)
     (ap (λ (ps : List Pair). let h : Held = record { id = c.self.inside.id; tracker = c.self.inside.tracker; pairs = ps } in h)
-      (pair_changed items s x within c.index_mut-pair.ensures.value c.set_grants.new.self (λ (pair : Pair). with_grants phase (grants phase pair + 1) pair)
-        (c.set_grants.ensures ∙ ap (λ (k : ℕ). with_grants phase (k + 1) (pair_of x)) c.grants-count.ensures)))
+    (pair_changed items s x within c.index_mut-pair.ensures.value c.set_grants.new.self (λ (pair : Pair). with_grants phase (grants phase pair + 1) pair)
+    (c.set_grants.ensures ∙ ap (λ (k : ℕ). with_grants phase (k + 1) (pair_of x)) c.grants-count.ensures)))

@@ -13,4 +13,4 @@ returns c =
     let within : s.0 < length (map pair_of items) = rw (← c.self.view_is) at c.requires in
     rw (← c.self.view_is)
     (ap (λ (ps : List Pair). let h : Held = record { id = c.self.inside.id; tracker = c.self.inside.tracker; pairs = ps } in h)
-      (pair_changed items s x within c.index_mut.ensures.value c.take_oldest.new.self (λ (pair : Pair). with_flight (drop 1 pair.flight) pair) c.take_oldest.ensures))
+    (pair_changed items s x within c.index_mut.ensures.value c.take_oldest.new.self (λ (pair : Pair). with_flight (drop 1 pair.flight) pair) c.take_oldest.ensures))

@@ -25,7 +25,7 @@ invariant_of-self g c =
     let x = c.index_mut.result.now in
     let within : c.in_ok-index.index < length servers = simp length-map at (rw (← c.self.view_is) at c.in_ok-index.ensures.ok.1) in
     server_kept c.self.inside.ids.keys c.self.inside.clients.items servers c.self.invariant c.in_ok-index.index x c.clean.new.self
-      (slice_get_read servers (length servers) c.in_ok-index.index x refl within c.index_mut.ensures.value) c.clean.ensures.full
+    (slice_get_read servers (length servers) c.in_ok-index.index x refl within c.index_mut.ensures.value) c.clean.ensures.full
 
 pub returns : goal.returns
 returns g c =
@@ -37,5 +37,5 @@ returns g c =
     let within : i < length (map queue servers) = rw (← c.self.view_is) at c.in_ok-index.ensures.ok.1 in
     rw (← c.self.view_is, map-set queue servers i c.clean.new.self, place)
     (server_follows g.T.Tag.ops g.Q.Scheduler.state (events.Clean c.args.server c.args.at) _ c.args.server (commands.Clean c.args.at) (λ run. refl) (rw (← place) within) c.clean.new.self.queue c.clean.result
-      (λ q at. let same : x.queue ≡ q = sym (seen_map queue servers i q x (simp length-map at within) c.index_mut.ensures.value) ∙ get_or_from_slice_get (map queue servers) i q q (rw place at) in
-        rw (← same) c.clean.ensures.steps))
+    (λ q at. let same : x.queue ≡ q = sym (seen_map queue servers i q x (simp length-map at within) c.index_mut.ensures.value) ∙ get_or_from_slice_get (map queue servers) i q q (rw place at) in
+    rw (← same) c.clean.ensures.steps))

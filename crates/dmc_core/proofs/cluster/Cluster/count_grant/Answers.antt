@@ -42,7 +42,7 @@ invariant_of-self g c =
     let one = one_if_full-part phase (pair_at s h.pairs) in
     let full : one_if_full (grants phase (pair_at s h.pairs) + 1) ≡ 1 = ap one_if_full (sym c.add_grant-count.ensures.count ∙ c.if-count.true) in
     count_changed c.self.inside.ids.keys hs servers c.self.invariant i h c.add_grant-count.new.self at (ap (λ (z : Held). z.id) c.add_grant-count.ensures.pairs) s phase (grants phase (pair_at s h.pairs) + 1)
-      (ap (λ (z : Held). z.pairs) c.add_grant-count.ensures.pairs) within y (omega arith)
+    (ap (λ (z : Held). z.pairs) c.add_grant-count.ensures.pairs) within y (omega arith)
 
 pub invariant_of-self-else-count : goal.invariant_of-self-else-count
 invariant_of-self-else-count g c =
@@ -60,7 +60,7 @@ invariant_of-self-else-count g c =
     let one = one_if_full-part phase (pair_at s h.pairs) in
     let not_full = full_not (grants phase (pair_at s h.pairs) + 1) (λ e. c.if-count.false (c.add_grant-count.ensures.count ∙ e)) in
     count_kept c.self.inside.ids.keys hs servers c.self.invariant i h c.add_grant-count.new.self at (ap (λ (z : Held). z.id) c.add_grant-count.ensures.pairs) s phase (grants phase (pair_at s h.pairs) + 1)
-      (ap (λ (z : Held). z.pairs) c.add_grant-count.ensures.pairs) within (omega arith)
+    (ap (λ (z : Held). z.pairs) c.add_grant-count.ensures.pairs) within (omega arith)
 
 pub returns-then-count-clause-servers : goal.returns-then-count-clause-servers
 returns-then-count-clause-servers g c =
@@ -78,10 +78,10 @@ returns-then-count-clause-clients g c =
     let h = c.index_mut.result.now in
     let placed = rw (← c.self.view_is) at (sym c.place.ensures.value ∙ c.in-Ok.is) in
     rw (← c.self.view_is) (λ counting cs z. one_changed counting hs cs z c.args.client c.in-Ok.place (found_place c.args.client s _ c.in-Ok.place placed) c.add_grant-count.new.self (after_grant s phase)
-      (λ y client at m.
-        let grown = λ (z : Held). record z { pairs = with_pair s (with_grants phase (grants phase (pair_at s z.pairs) + 1) (pair_at s z.pairs)) z.pairs } in
-        rw (c.add_grant-count.ensures.pairs ∙ ap grown (c.index_mut.ensures.value ∙ get_or_from_slice_get hs c.in-Ok.place y h at))
-        (matches_changed counting y client s (λ (pair : Pair). with_grants phase (grants phase pair + 1) pair) m)))
+    (λ y client at m.
+    let grown = λ (z : Held). record z { pairs = with_pair s (with_grants phase (grants phase (pair_at s z.pairs) + 1) (pair_at s z.pairs)) z.pairs } in
+    rw (c.add_grant-count.ensures.pairs ∙ ap grown (c.index_mut.ensures.value ∙ get_or_from_slice_get hs c.in-Ok.place y h at))
+    (matches_changed counting y client s (λ (pair : Pair). with_grants phase (grants phase pair + 1) pair) m)))
 
 pub returns-else-count-clause-clients : goal.returns-else-count-clause-clients
 returns-else-count-clause-clients g c =
@@ -91,7 +91,7 @@ returns-else-count-clause-clients g c =
     let h = c.index_mut.result.now in
     let placed = rw (← c.self.view_is) at (sym c.place.ensures.value ∙ c.in-Ok.is) in
     rw (← c.self.view_is) (λ counting cs z. one_changed counting hs cs z c.args.client c.in-Ok.place (found_place c.args.client s _ c.in-Ok.place placed) c.add_grant-count.new.self (after_grant s phase)
-      (λ y client at m.
-        let grown = λ (z : Held). record z { pairs = with_pair s (with_grants phase (grants phase (pair_at s z.pairs) + 1) (pair_at s z.pairs)) z.pairs } in
-        rw (c.add_grant-count.ensures.pairs ∙ ap grown (c.index_mut.ensures.value ∙ get_or_from_slice_get hs c.in-Ok.place y h at))
-        (matches_changed counting y client s (λ (pair : Pair). with_grants phase (grants phase pair + 1) pair) m)))
+    (λ y client at m.
+    let grown = λ (z : Held). record z { pairs = with_pair s (with_grants phase (grants phase (pair_at s z.pairs) + 1) (pair_at s z.pairs)) z.pairs } in
+    rw (c.add_grant-count.ensures.pairs ∙ ap grown (c.index_mut.ensures.value ∙ get_or_from_slice_get hs c.in-Ok.place y h at))
+    (matches_changed counting y client s (λ (pair : Pair). with_grants phase (grants phase pair + 1) pair) m)))

@@ -28,7 +28,7 @@ returns-then-index-gt0 g c =
     let place : c.in_ok-index.index ≡ c.args.server.0 = c.in_ok-index.ensures.ok.0 in
     let within : c.args.server.0 < length (map (λ (z : CoreServer g.row.Q.Denot). z.queue) servers) = rw (place, ← c.self.view_is) at c.in_ok-index.ensures.ok.1 in
     let knows = known c.self.inside.ids.keys c.self.inside.clients.items servers c.self.invariant c.args.server x
-      (slice_get_read servers (length servers) c.args.server.0 x refl (simp length-map at within) (rw place at c.index.ensures)) in
+    (slice_get_read servers (length servers) c.args.server.0 x refl (simp length-map at within) (rw place at c.index.ensures)) in
     rw (← c.self.view_is)
     (pull_full g.T.Tag.ops g.Q.Scheduler.state _ c.args.server c.args.at within (omega arith))
 
@@ -38,7 +38,7 @@ invariant_of-self g c =
     let x = c.index_mut.result.now in
     let within : c.in_ok-index.index < length servers = simp length-map at (rw (← c.self.view_is) at c.in_ok-index.ensures.ok.1) in
     server_kept c.self.inside.ids.keys c.self.inside.clients.items servers c.self.invariant c.in_ok-index.index x c.pull-reply.new.self
-      (slice_get_read servers (length servers) c.in_ok-index.index x refl within c.index_mut.ensures.value) c.pull-reply.ensures.full
+    (slice_get_read servers (length servers) c.in_ok-index.index x refl within c.index_mut.ensures.value) c.pull-reply.ensures.full
 
 pub invariant_of-self-in_default : goal.invariant_of-self-in_default
 invariant_of-self-in_default g c =
@@ -46,7 +46,7 @@ invariant_of-self-in_default g c =
     let x = c.index_mut.result.now in
     let within : c.in_ok-index.index < length servers = simp length-map at (rw (← c.self.view_is) at c.in_ok-index.ensures.ok.1) in
     server_kept c.self.inside.ids.keys c.self.inside.clients.items servers c.self.invariant c.in_ok-index.index x c.pull-reply.new.self
-      (slice_get_read servers (length servers) c.in_ok-index.index x refl within c.index_mut.ensures.value) c.pull-reply.ensures.full
+    (slice_get_read servers (length servers) c.in_ok-index.index x refl within c.index_mut.ensures.value) c.pull-reply.ensures.full
 
 pub returns : goal.returns
 returns g c =
@@ -60,19 +60,19 @@ returns g c =
     let within : s.0 < length (map queue servers) = rw (place, ← c.self.view_is) at c.in_ok-index.ensures.ok.1 in
     let core : CoreValue g.row.Q.Denot = record { servers = map queue servers; clients = hs } in
     let knows = known c.self.inside.ids.keys hs servers c.self.invariant s c.index.result.now
-      (slice_get_read servers (length servers) s.0 c.index.result.now refl (simp length-map at within) (rw place at c.index.ensures)) in
+    (slice_get_read servers (length servers) s.0 c.index.result.now refl (simp length-map at within) (rw place at c.index.ensures)) in
     let none : full_counts s hs ≡ 0 = omega arith in
     let seen : (q : g.row.Q.Denot) → slice_get (map queue servers) s.0 ≡ Some q → x.queue ≡ q = λ q at.
-      sym (seen_map queue servers s.0 q x (simp length-map at within) (rw place at c.index_mut.ensures.value)) ∙ get_or_from_slice_get (map queue servers) s.0 q q at in
+    sym (seen_map queue servers s.0 q x (simp length-map at within) (rw place at c.index_mut.ensures.value)) ∙ get_or_from_slice_get (map queue servers) s.0 q q at in
     let changed = map-set queue servers i c.pull-reply.new.self ∙ ap (λ n. set (map queue servers) n c.pull-reply.new.self.queue) place in
     elim c.match-reply.branch [
-      in-Granted w ↦
-        let whole : w.count_grant.new.self ≡ record { servers = set (map queue servers) s.0 c.pull-reply.new.self.queue; clients = w.count_grant.new.self.clients } =
+      | in-Granted w ↦
+          let whole : w.count_grant.new.self ≡ record { servers = set (map queue servers) s.0 c.pull-reply.new.self.queue; clients = w.count_grant.new.self.clients } =
           ap (λ (qs : List g.row.Q.Denot). let v : CoreValue g.row.Q.Denot = record { servers = qs; clients = w.count_grant.new.self.clients } in v) (w.count_grant.ensures.servers ∙ changed) in
-        rw (w.self-is, whole, w.reply-is, ← c.self.view_is)
-        (pull_served g.T.Tag.ops g.Q.Scheduler.state core s c.args.at within none c.pull-reply.new.self.queue _ (λ q at. rw (← seen q at) w.in-Granted.ensures.steps)
+          rw (w.self-is, whole, w.reply-is, ← c.self.view_is)
+          (pull_served g.T.Tag.ops g.Q.Scheduler.state core s c.args.at within none c.pull-reply.new.self.queue _ (λ q at. rw (← seen q at) w.in-Granted.ensures.steps)
           w.count_grant.new.self.clients w.count_grant.ensures.clients)
-    | in_default w ↦ rw (w.self-is, w.reply-is, ← c.self.view_is, changed)
-        (pull_served g.T.Tag.ops g.Q.Scheduler.state core s c.args.at within none c.pull-reply.new.self.queue c.pull-reply.result (λ q at. rw (← seen q at) c.pull-reply.ensures.steps)
+      | in_default w ↦ rw (w.self-is, w.reply-is, ← c.self.view_is, changed)
+          (pull_served g.T.Tag.ops g.Q.Scheduler.state core s c.args.at within none c.pull-reply.new.self.queue c.pull-reply.result (λ q at. rw (← seen q at) c.pull-reply.ensures.steps)
           hs (λ counting cs z. rw (not_granted s c.pull-reply.result cs w.in_default.not-Granted) z))
     ]

@@ -22,7 +22,7 @@ pub returns-in_err-place : goal.returns-in_err-place
 returns-in_err-place g c =
     rw (err_is _ _ c.from_residual.ensures.1)
     (client_no_names g.T.Tag.ops g.Q.Scheduler.state (events.Respond c.args.client c.args.server c.args.phase) c.args.self.now c.args.client c.args.server
-      (λ counting client. response c.args.server c.args.phase client) (λ run. refl) c.in_err-place.field-0.0 (sym c.place.ensures.value ∙ c.in_err-place.was))
+    (λ counting client. response c.args.server c.args.phase client) (λ run. refl) c.in_err-place.field-0.0 (sym c.place.ensures.value ∙ c.in_err-place.was))
 
 pub returns-in_err-reply : goal.returns-in_err-reply
 returns-in_err-reply g c =
@@ -33,10 +33,10 @@ returns-in_err-reply g c =
     let told : c.respond.result ≡ c.from_residual-in_err-reply.result = c.in_err-reply.was ∙ sym (err_is _ _ c.from_residual-in_err-reply.ensures.1) in
     rw (← c.self.view_is)
     (client_follows g.T.Tag.ops g.Q.Scheduler.state (events.Respond c.args.client c.args.server c.args.phase) _ c.args.client c.args.server
-      (λ counting client. response c.args.server c.args.phase client) (λ run. refl) c.in_ok-place.place placed server c.respond.new.self c.from_residual-in_err-reply.result
-      (λ x at. subst (λ (y : Held). ClientFollows (λ counting client. response c.args.server c.args.phase client) y c.respond.new.self c.from_residual-in_err-reply.result)
-        (c.index_mut.ensures.value ∙ get_or_from_slice_get hs c.in_ok-place.place x h at) (rw (← told) c.respond.ensures.follows))
-      (λ e. absurd (c.respond.ensures.no_growth (told ∙ e))))
+    (λ counting client. response c.args.server c.args.phase client) (λ run. refl) c.in_ok-place.place placed server c.respond.new.self c.from_residual-in_err-reply.result
+    (λ x at. subst (λ (y : Held). ClientFollows (λ counting client. response c.args.server c.args.phase client) y c.respond.new.self c.from_residual-in_err-reply.result)
+    (c.index_mut.ensures.value ∙ get_or_from_slice_get hs c.in_ok-place.place x h at) (rw (← told) c.respond.ensures.follows))
+    (λ e. absurd (c.respond.ensures.no_growth (told ∙ e))))
 
 pub overflow_sub-index_mut : goal.overflow_sub-index_mut
 overflow_sub-index_mut g c =
@@ -75,7 +75,7 @@ invariant_of-self-then-is_full g c =
     let part = full_counts-part s hs i h at in
     let one = one_if_full-part phase (pair_at s h.pairs) in
     count_changed c.self.inside.ids.keys hs servers c.self.invariant i h c.respond.new.self at c.respond.ensures.id s phase (grants phase (pair_at s h.pairs) - 1)
-      c.in_ok-reply.ensures.pairs within y (omega arith)
+    c.in_ok-reply.ensures.pairs within y (omega arith)
 
 pub invariant_of-self-else-is_full : goal.invariant_of-self-else-is_full
 invariant_of-self-else-is_full g c =
@@ -92,7 +92,7 @@ invariant_of-self-else-is_full g c =
     let not_full = full_not (grants phase (pair_at s h.pairs)) (λ e. c.if-is_full.false (count ∙ e)) in
     let less = full_gone (grants phase (pair_at s h.pairs)) c.in_ok-reply.ensures.some (omega arith) in
     count_kept c.self.inside.ids.keys hs servers c.self.invariant i h c.respond.new.self (slice_get_read hs (length hs) i h refl inside c.index_mut.ensures.value) c.respond.ensures.id s phase (grants phase (pair_at s h.pairs) - 1)
-      c.in_ok-reply.ensures.pairs within (not_full ∙ sym less)
+    c.in_ok-reply.ensures.pairs within (not_full ∙ sym less)
 
 pub returns : goal.returns
 returns g c =
@@ -104,13 +104,13 @@ returns g c =
     let server = rw (← c.self.view_is) at c.in_ok-place.ensures.server in
     let follows : ClientFollows (λ counting client. response c.args.server c.args.phase client) h c.respond.new.self (Ok c.in_ok-reply.reply) = rw c.in_ok-reply.was at c.respond.ensures.follows in
     let done = client_follows g.T.Tag.ops g.Q.Scheduler.state (events.Respond c.args.client c.args.server c.args.phase) (record { servers = map queue servers; clients = hs }) c.args.client c.args.server
-      (λ counting client. response c.args.server c.args.phase client) (λ run. refl) c.in_ok-place.place placed server c.respond.new.self (Ok c.in_ok-reply.reply)
-      (λ x at. subst (λ (y : Held). ClientFollows (λ counting client. response c.args.server c.args.phase client) y c.respond.new.self (Ok c.in_ok-reply.reply))
-        (c.index_mut.ensures.value ∙ get_or_from_slice_get hs c.in_ok-place.place x h at) follows)
-      (λ e. cc) in
+    (λ counting client. response c.args.server c.args.phase client) (λ run. refl) c.in_ok-place.place placed server c.respond.new.self (Ok c.in_ok-reply.reply)
+    (λ x at. subst (λ (y : Held). ClientFollows (λ counting client. response c.args.server c.args.phase client) y c.respond.new.self (Ok c.in_ok-reply.reply))
+    (c.index_mut.ensures.value ∙ get_or_from_slice_get hs c.in_ok-place.place x h at) follows)
+    (λ e. cc) in
     elim c.if-is_full.branch [
-      then-is_full w ↦
-        let y : CoreServer g.row.Q.Denot = record (w.index_mut-then-is_full.result.now) { full = w.index_mut-then-is_full.result.now.full - 1 } in
-        rw (w.self-is, ← c.self.view_is, map-set_same queue servers c.args.server.0 y w.index_mut-then-is_full.result.now (ap queue w.index_mut-then-is_full.ensures.value)) done
-    | else-is_full w ↦ rw (w.self-is, ← c.self.view_is) done
+      | then-is_full w ↦
+          let y : CoreServer g.row.Q.Denot = record (w.index_mut-then-is_full.result.now) { full = w.index_mut-then-is_full.result.now.full - 1 } in
+          rw (w.self-is, ← c.self.view_is, map-set_same queue servers c.args.server.0 y w.index_mut-then-is_full.result.now (ap queue w.index_mut-then-is_full.ensures.value)) done
+      | else-is_full w ↦ rw (w.self-is, ← c.self.view_is) done
     ]

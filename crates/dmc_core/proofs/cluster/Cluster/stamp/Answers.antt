@@ -18,7 +18,7 @@ pub returns-in_err-place : goal.returns-in_err-place
 returns-in_err-place g c =
     rw (err_is _ _ c.from_residual.ensures.1)
     (client_no_names g.T.Tag.ops g.Q.Scheduler.state (events.Stamp c.args.client c.args.server c.args.token) c.args.self.now c.args.client c.args.server
-      (λ counting client. stamp counting c.args.server c.args.token client) (λ run. refl) c.in_err-place.field-0.0 (sym c.place.ensures.value ∙ c.in_err-place.was))
+    (λ counting client. stamp counting c.args.server c.args.token client) (λ run. refl) c.in_err-place.field-0.0 (sym c.place.ensures.value ∙ c.in_err-place.was))
 
 pub invariant_of-self : goal.invariant_of-self
 invariant_of-self g c =
@@ -26,7 +26,7 @@ invariant_of-self g c =
     let h = c.index_mut.result.now in
     let within : c.in_ok-place.place < length hs = rw (← c.self.view_is) at c.in_ok-place.ensures.within in
     client_kept c.self.inside.ids.keys hs c.self.inside.servers.items c.self.invariant c.in_ok-place.place h c.stamp.new.self
-      (slice_get_read hs (length hs) c.in_ok-place.place h refl within c.index_mut.ensures.value) c.stamp.ensures.id c.stamp.ensures.grants
+    (slice_get_read hs (length hs) c.in_ok-place.place h refl within c.index_mut.ensures.value) c.stamp.ensures.id c.stamp.ensures.grants
 
 pub returns : goal.returns
 returns g c =
@@ -36,7 +36,7 @@ returns g c =
     let server = rw (← c.self.view_is) at c.in_ok-place.ensures.server in
     rw (← c.self.view_is)
     (client_follows g.T.Tag.ops g.Q.Scheduler.state (events.Stamp c.args.client c.args.server c.args.token) _ c.args.client c.args.server
-      (λ counting client. stamp counting c.args.server c.args.token client) (λ run. refl) c.in_ok-place.place placed server c.stamp.new.self c.stamp.result
-      (λ x at. subst (λ (y : Held). ClientFollows (λ counting client. stamp counting c.args.server c.args.token client) y c.stamp.new.self c.stamp.result)
-        (c.index_mut.ensures.value ∙ get_or_from_slice_get hs c.in_ok-place.place x h at) c.stamp.ensures.follows)
-      (λ e. refl))
+    (λ counting client. stamp counting c.args.server c.args.token client) (λ run. refl) c.in_ok-place.place placed server c.stamp.new.self c.stamp.result
+    (λ x at. subst (λ (y : Held). ClientFollows (λ counting client. stamp counting c.args.server c.args.token client) y c.stamp.new.self c.stamp.result)
+    (c.index_mut.ensures.value ∙ get_or_from_slice_get hs c.in_ok-place.place x h at) c.stamp.ensures.follows)
+    (λ e. refl))

@@ -17,4 +17,8 @@ demo:
 refusals:
 	scripts/refusals
 
-.PHONY: program test demo refusals
+# The library for C and C++, c/out/libdmclock.a, with its examples and tests: builds and runs them. Not a part of the gate.
+c:
+	c/build
+
+.PHONY: program test demo refusals c

@@ -2,7 +2,8 @@
  *
  * A struct dmc_queue starts as DMC_QUEUE_NONE and a struct dmc_tracker as DMC_TRACKER_NONE. None is copied, and its fields
  * are not written by the caller. Pointers are valid and do not overlap. One call at a time on one queue or tracker; none
- * from a signal handler. A struct may move from thread to thread between calls.
+ * from a signal handler. A struct may move from thread to thread between calls, ordered by a lock or by a thread's start
+ * or join.
  *
  * Each call but the frees answers a code. The order of codes: DMC_NONE_HELD (a `new`: DMC_HELD), then the values in the
  * order moment, params, rate, then the call's refusals in the order that stands at it, and DMC_MEMORY last. What is not

@@ -13,6 +13,10 @@ demo:
 	@echo "--- the replies:"
 	@cd crates/dmc_cli && rt try -- script < ../../examples/two_clients.script
 
+# The program on each example, beside what is stored of it.
+examples:
+	scripts/examples
+
 # Every crate's tests with each allocation refused in turn. It proves nothing.
 refusals:
 	scripts/refusals
@@ -21,4 +25,4 @@ refusals:
 c:
 	c/build
 
-.PHONY: program test demo refusals c
+.PHONY: program test demo examples refusals c

@@ -1,4 +1,4 @@
-//! The cluster core.
+//! The cluster core: the cluster over indexed queues with heaps.
 ghost use Rattle.std.specs.Prelude.{IfOk};
 ghost use Rattle.dmc_core.specs.Core.{Follows, StandsForRun};
 ghost use Rattle.dmc_core.specs.Opening.{HaveSpacings, opening_of};
@@ -14,7 +14,13 @@ use dmc_tag::tag::Tag;
 use std::alloc::{AllocError, Global};
 use std::marker::Model;
 
-/// The cluster core.
+/// One thread's cluster: a queue of dmClock per server (indexed, over heaps), a service tracker per client, and per pair of a
+/// client and a server the messages in flight and the grants that wait for their responses.
+///
+/// Contracts see each server's queue, and each client with its tracker's numbers, messages and counts. Which states of a
+/// cluster run the core stands for says `StandsForRun` (`specs/Core.antt`); what a run is and what an event makes of it,
+/// `specs/Run.antt` and `specs/Events.antt`. A client is found by a hash of its id and a server by its index, and no call walks
+/// over clients or servers but inside a queue, as a clean does.
 #[derive(Drop)]
 pub struct ClusterCore<T: Tag> {
     cluster: Cluster<PullQueue<T, HeapIndexes>>,
@@ -30,7 +36,9 @@ impl<T: Tag> Model for ClusterCore<T> {
 }
 
 impl<T: Tag> ClusterCore<T> {
-    /// The cluster that a scene opens.
+    /// The cluster that a scene opens: each queue has the scene's configuration, every client has registered at every server
+    /// at moment 0, in the scene's order, and has a tracker of 2^32-1 completions in the scene's counting form. Each rate of
+    /// the scene has to have a spacing in `T`: in ticks a scene with `tags = "tick"` has them. The error is want of memory.
     pub fn new(alloc: Global, scene: &Scene) -> Result<ClusterCore<T>, AllocError>
         requires { HaveSpacings T.ops scene.now }
         ensures { IfOk result (λ core. StandsForRun state_of core (opening_of T.ops scene.now)) }
@@ -43,7 +51,10 @@ impl<T: Tag> ClusterCore<T> {
         })
     }
 
-    /// Carries out an event.
+    /// Carries out an event. From each run that the core stands for, the answer is that of the rules, and the core then stands
+    /// for the run after the event; a refused event has changed nothing. Of several causes the first is told, in the order of
+    /// `CoreFault`. `Memory` comes last, of a stamp or an arrival alone: the rules and the queue would have accepted it, and
+    /// the core stands for what it stood for.
     pub fn step(&mut self, event: CoreEvent) -> Result<CoreReply<T>, CoreFault>
         ensures { Follows T.ops state_of event self.old self.new result }
     {

@@ -1,3 +1,3 @@
-pub mod Walks
+pub mod HandleValues
 pub mod Values
 pub mod Sent

@@ -1,3 +1,3 @@
-pub mod HandleValues
+pub mod Walks
 pub mod Values
 pub mod Sent

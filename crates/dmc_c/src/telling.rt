@@ -172,13 +172,19 @@ pub fn tell_removed(answer: &Result<Reply<TagFraction>, Fault>, out: &mut u32)
 }
 
 /// Writes how many clients became idle and how many were erased.
-pub fn tell_cleaned(answer: &Result<Reply<TagFraction>, Fault>, out: &mut u32, gone: &mut u32)
-    ensures idled { out.new ≡ idled_told answer.now out.old }
-    ensures erased { gone.new ≡ erased_told answer.now gone.old }
+pub fn tell_cleaned(answer: &Result<Reply<TagFraction>, Fault>, idled: &mut u32, erased: &mut u32)
+    ensures idled { idled.new ≡ idled_told answer.now idled.old }
+    ensures erased { erased.new ≡ erased_told answer.now erased.old }
 {
-    if let Ok(Reply::Cleaned { idled, erased }) = answer {
-        *out = *idled;
-        *gone = *erased;
+    if let Ok(
+        Reply::Cleaned {
+            idled: became_idle,
+            erased: gone,
+        },
+    ) = answer
+    {
+        *idled = *became_idle;
+        *erased = *gone;
     }
 }
 

@@ -1,0 +1,111 @@
+-- Lists that match place by place, and what is found and changed in them.
+use Rattle.std.proofs.Common.{◌≡◌, ℕ, zero, suc, ◌+◌, ◌<◌, ◌≤◌, Bool, true, false, not, cond, List, [], ◌∷◌, ◌++◌, length, map, set, get_or, slice_get, nat_lt, Option, Some, None, refl, sym, ap, ◌∙◌, arith, rules, Ok, Err}
+use Rattle.std.specs.List.{AllZip, AllByRecursion, find, position, position_or_len, prefix_len}
+use Rattle.std.proofs.lemmas.List.{length-map}
+use Rattle.std.proofs.lemmas.Bool.{ltb-false}
+use Rattle.std.proofs.lemmas.List.Quantifiers.{position-Some}
+use Rattle.dmc_core.specs.Run.{change_first}
+
+-- ---- what is at a place of two lists
+
+pub record At {A B : Type 0} (R : A → B → Type 0) (xs : List A) (ys : List B) (i : ℕ) : Type 0 where
+  pub x : A
+  pub at : slice_get xs i ≡ Some x
+  pub y : B
+  pub found : slice_get ys i ≡ Some y
+  pub related : R x y
+  pub put : (x' : A) (y' : B) → R x' y' → AllZip R (set xs i x') (set ys i y')
+
+pub at_place : {A B : Type 0} (R : A → B → Type 0) (xs : List A) (ys : List B) (i : ℕ) → AllZip R xs ys → i < length xs → At R xs ys i
+at_place R [] ys i z w = absurd (omega (arith, w))
+at_place R (x ∷ xs) [] i z w = absurd z
+at_place R (x ∷ xs) (y ∷ ys) zero z w = record { x = x; at = refl; y = y; found = refl; related = z.0; put = λ x' y' r. (r, z.1) }
+at_place R (x ∷ xs) (y ∷ ys) (suc i) z w =
+    let rest = at_place R xs ys i z.1 (omega (arith, w)) in
+    record { x = rest.x; at = rest.at; y = rest.y; found = rest.found; related = rest.related; put = λ x' y' r. (z.0, rest.put x' y' r) }
+
+pub set_same : {A : Type 0} (xs : List A) (i : ℕ) (x : A) → slice_get xs i ≡ Some x → set xs i x ≡ xs
+set_same [] i x e = refl
+set_same (y ∷ ys) zero x e = rw (some_is y x e) refl
+  where
+    some_is : {A : Type 0} (a b : A) → Some a ≡ Some b → b ≡ a
+    some_is a b e = cc
+set_same (y ∷ ys) (suc i) x e = ap (λ zs. y ∷ zs) (set_same ys i x e)
+
+-- what holds of each element holds of that one
+pub all_at : {A : Type 0} (P : A → Type 0) (xs : List A) (i : ℕ) (x : A) → AllByRecursion P xs → slice_get xs i ≡ Some x → P x
+all_at P [] i x h e = cc
+all_at P (y ∷ ys) zero x h e = rw (some_is y x e) h.0
+  where
+    some_is : {A : Type 0} (a b : A) → Some a ≡ Some b → b ≡ a
+    some_is a b e = cc
+all_at P (y ∷ ys) (suc i) x h e = all_at P ys i x h.1 e
+
+pub all_set : {A : Type 0} (P : A → Type 0) (xs : List A) (i : ℕ) (x : A) → AllByRecursion P xs → P x → AllByRecursion P (set xs i x)
+all_set P [] i x h p = h
+all_set P (y ∷ ys) zero x h p = (p, h.1)
+all_set P (y ∷ ys) (suc i) x h p = (h.0, all_set P ys i x h.1 p)
+
+pub all_push : {A : Type 0} (P : A → Type 0) (xs : List A) (x : A) → AllByRecursion P xs → P x → AllByRecursion P (xs ++ x ∷ [])
+all_push P [] x h p = (p, tt)
+all_push P (y ∷ ys) x h p = (h.0, all_push P ys x h.1 p)
+
+-- ---- the first that passes a test, in two lists
+
+pub record First {A B : Type 0} (R : A → B → Type 0) (q : B → Bool) (xs : List A) (ys : List B) (i : ℕ) : Type 0 where
+  pub x : A
+  pub at : slice_get xs i ≡ Some x
+  pub y : B
+  pub found : find q ys ≡ Some y
+  pub related : R x y
+  pub put : (x' : A) (f : B → B) → R x' (f y) → AllZip R (set xs i x') (change_first q f ys)
+
+none_some : {X : Type 0} (x : X) (o : Option X) → o ≡ None → o ≡ Some x → ⊥
+none_some x None e f = cc
+none_some x (Some y) e f = cc
+
+module _ {A B : Type 0} (R : A → B → Type 0) (p : A → Bool) (q : B → Bool) (same : (x : A) (y : B) → R x y → p x ≡ q y) where
+  first_from : (d : A) (xs : List A) (ys : List B) (i : ℕ) → AllZip R xs ys → i < length xs → p (get_or xs i d) ≡ true → ((k : ℕ) → k < i → p (get_or xs k d) ≡ false) → First R q xs ys i
+  first_from d [] ys i z w t f = absurd (omega (arith, w))
+  first_from d (x ∷ xs) [] i z w t f = absurd z
+  first_from d (x ∷ xs) (y ∷ ys) zero z w t f =
+      let here : q y ≡ true = sym (same x y z.0) ∙ t in
+      record { x = x; at = refl; y = y; found = rw here refl; related = z.0; put = λ x' f r. rw here (r, z.1) }
+  first_from d (x ∷ xs) (y ∷ ys) (suc i) z w t f =
+      let rest = first_from d xs ys i z.1 (omega (arith, w)) t (λ k l. f (suc k) (omega (arith, l))) in
+      let here : q y ≡ false = sym (same x y z.0) ∙ f zero (omega arith) in
+      record { x = rest.x; at = rest.at; y = rest.y; found = rw here rest.found; related = rest.related; put = λ x' f r. rw here (z.0, rest.put x' f r) }
+
+  pub first_of_both : (xs : List A) (ys : List B) (i : ℕ) → AllZip R xs ys → position p xs ≡ Some i → First R q xs ys i
+  first_of_both [] ys i z e = cc
+  first_of_both (x ∷ xs) ys i z e = let f = position-Some p (x ∷ xs) i x e in first_from x (x ∷ xs) ys i z f.0 f.1 f.2
+
+  none_from : (xs : List A) (ys : List B) → AllZip R xs ys → length xs ≤ position_or_len p xs → (find q ys ≡ None) × ((f : B → B) → change_first q f ys ≡ ys)
+  none_from [] [] z l = (refl, λ f. refl)
+  none_from [] (y ∷ ys) z l = absurd z
+  none_from (x ∷ xs) [] z l = absurd z
+  none_from (x ∷ xs) (y ∷ ys) z l = by (none_from xs ys z.1) (p x) refl
+    where
+      by : (length xs ≤ position_or_len p xs → (find q ys ≡ None) × ((f : B → B) → change_first q f ys ≡ ys)) → (b : Bool) → p x ≡ b → (find q (y ∷ ys) ≡ None) × ((f : B → B) → change_first q f (y ∷ ys) ≡ y ∷ ys)
+      by rest true e = absurd (omega (arith, rw e at l))
+      by rest false e =
+          let here : q y ≡ false = sym (same x y z.0) ∙ e in
+          let none = rest (omega (arith, rw e at l)) in
+          (rw here none.0, λ f. rw here (ap (λ zs. y ∷ zs) (none.1 f)))
+
+  -- none passes
+  pub none_of_both : (xs : List A) (ys : List B) → AllZip R xs ys → position p xs ≡ None → (find q ys ≡ None) × ((f : B → B) → change_first q f ys ≡ ys)
+  none_of_both xs ys z e = none_from xs ys z (by (nat_lt (position_or_len p xs) (length xs)) refl)
+    where
+      by : (b : Bool) → nat_lt (position_or_len p xs) (length xs) ≡ b → length xs ≤ position_or_len p xs
+      by true t = absurd (none_some (position_or_len p xs) (position p xs) e (rw t refl))
+      by false t = ltb-false _ _ t
+
+-- ---- positions behind a map
+
+prefix_map : {A B : Type 0} (f : A → B) (p : B → Bool) (xs : List A) → prefix_len p (map f xs) ≡ prefix_len (λ x. p (f x)) xs
+prefix_map f p [] = refl
+prefix_map f p (x ∷ xs) = ap (λ k. cond (p (f x)) (1 + k) 0) (prefix_map f p xs)
+
+pub position_map : {A B : Type 0} (f : A → B) (p : B → Bool) (xs : List A) → position p (map f xs) ≡ position (λ x. p (f x)) xs
+position_map f p xs = rw (prefix_map f (λ y. not (p y)) xs, length-map) refl

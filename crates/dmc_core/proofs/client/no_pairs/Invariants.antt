@@ -1,0 +1,7 @@
+use Rattle.std.proofs.Common.{◌≡◌, map, replicate}
+use Rattle.dmc_core.specs.Run.{no_pair}
+use Rattle.dmc_core.specs.Parts.{pair_of}
+use Rattle.dmc_core.proofs.client.no_pairs.Given as goal
+
+abbrev pub invariant-loop : goal.invariant-loop
+invariant-loop l = map pair_of l.pairs.items ≡ replicate l.counter no_pair

@@ -1,0 +1,41 @@
+use Rattle.std.proofs.Common.{◌≡◌, ℕ, ◌<◌, ◌≤◌, length, map, set, get_or, slice_get, List, Option, Some, None, Ok, Err, sym, ap, ◌∙◌, refl, subst, arith, rules}
+use Rattle.std.proofs.lemmas.List.{length-map, map-set}
+use Rattle.std.proofs.lemmas.Option.{get_or_from_slice_get, slice_get_read}
+use Rattle.dmc_types.specs.declared.config.Counting.{Counting}
+use Rattle.dmc_types.specs.declared.command.Command.TheVariants as commands
+use Rattle.dmc_core.specs.Core.{Held, CoreValue, ClientFollows}
+use Rattle.dmc_core.specs.Events.{stamp, response}
+use Rattle.dmc_core.specs.Run.{Client}
+use Rattle.dmc_core.specs.declared.event.CoreEvent.TheVariants as events
+use Rattle.dmc_core.specs.declared.server.CoreServer.{CoreServer}
+use Rattle.dmc_core.proofs.Clients.{err_is}
+use Rattle.dmc_core.proofs.Pairs.{seen_map}
+use Rattle.dmc_core.proofs.Kept.{client_kept, server_kept}
+use Rattle.dmc_core.proofs.Runs.{client_no_names, client_follows, server_no_name, server_follows}
+use Rattle.dmc_core.proofs.cluster.Cluster.clean.Goals as goal
+
+pub returns-in_err-index : goal.returns-in_err-index
+returns-in_err-index g c =
+    rw (err_is _ _ c.from_residual.ensures.1, c.in_err-index.ensures.err.0)
+    (server_no_name g.T.Tag.ops g.Q.Scheduler.state (events.Clean c.args.server c.args.at) c.args.self.now c.args.server (commands.Clean c.args.at) (λ run. refl) c.in_err-index.ensures.err.1)
+
+pub invariant_of-self : goal.invariant_of-self
+invariant_of-self g c =
+    let servers = c.self.inside.servers.items in
+    let x = c.index_mut.result.now in
+    let within : c.in_ok-index.index < length servers = simp length-map at (rw (← c.self.view_is) at c.in_ok-index.ensures.ok.1) in
+    server_kept c.self.inside.ids.keys c.self.inside.clients.items servers c.self.invariant c.in_ok-index.index x c.clean.new.self
+    (slice_get_read servers (length servers) c.in_ok-index.index x refl within c.index_mut.ensures.value) c.clean.ensures.full
+
+pub returns : goal.returns
+returns g c =
+    let servers = c.self.inside.servers.items in
+    let queue = λ (z : CoreServer g.row.Q.Denot). z.queue in
+    let x = c.index_mut.result.now in
+    let i = c.in_ok-index.index in
+    let place : i ≡ c.args.server.0 = c.in_ok-index.ensures.ok.0 in
+    let within : i < length (map queue servers) = rw (← c.self.view_is) at c.in_ok-index.ensures.ok.1 in
+    rw (← c.self.view_is, map-set queue servers i c.clean.new.self, place)
+    (server_follows g.T.Tag.ops g.Q.Scheduler.state (events.Clean c.args.server c.args.at) _ c.args.server (commands.Clean c.args.at) (λ run. refl) (rw (← place) within) c.clean.new.self.queue c.clean.result
+    (λ q at. let same : x.queue ≡ q = sym (seen_map queue servers i q x (simp length-map at within) c.index_mut.ensures.value) ∙ get_or_from_slice_get (map queue servers) i q q (rw place at) in
+    rw (← same) c.clean.ensures.steps))

@@ -1,0 +1,97 @@
+use Rattle.std.proofs.Common.{◌≡◌, ◌≢◌, ℕ, ◌+◌, ◌-◌, ◌<◌, ◌≤◌, ◌==◌, length, map, set, get_or, slice_get, List, Option, Some, None, Ok, Err, sym, ap, ◌∙◌, refl, subst, arith, rules}
+use Rattle.std.proofs.lemmas.List.{length-map, map-set}
+use Rattle.std.proofs.lemmas.Option.{get_or_from_slice_get, slice_get_read}
+use Rattle.dmc_types.specs.declared.config.Counting.{Counting}
+use Rattle.dmc_types.specs.declared.command.Command.TheVariants as commands
+use Rattle.dmc_core.specs.Core.{Held, CoreValue, ClientFollows}
+use Rattle.dmc_core.specs.Events.{stamp, response, after_arrival}
+use Rattle.dmc_core.specs.Parts.{one_if_full, full_counts}
+use Rattle.dmc_core.specs.Run.{Pair, Client, pair_at, with_pair, grants, with_grants, most_grants}
+use Rattle.dmc_core.specs.declared.event.CoreEvent.TheVariants as events
+use Rattle.dmc_core.specs.declared.server.CoreServer.{CoreServer}
+use Rattle.dmc_core.proofs.Clients.{err_is}
+use Rattle.dmc_core.proofs.Pairs.{seen_map, flight_keeps_grants}
+use Rattle.dmc_core.specs.Events.{after_grant}
+use Rattle.dmc_core.proofs.Runs.{no_client_placed, no_one_changed, one_changed, found_place}
+use Rattle.dmc_core.proofs.Arrivals.{matches_changed}
+use Rattle.dmc_core.proofs.Counts.{full_counts-part, one_if_full-part}
+use Rattle.dmc_core.proofs.Kept.{known, count_kept, count_changed, full_not}
+use Rattle.std.proofs.Math.Seq.{map-set_same}
+use Rattle.dmc_core.proofs.cluster.Cluster.count_grant.Goals as goal
+
+pub returns-in_default-clause-clients : goal.returns-in_default-clause-clients
+returns-in_default-clause-clients g c = λ counting cs z.
+    rw (no_one_changed counting c.args.self.now.clients cs z c.args.client (no_client_placed c.args.client c.args.server c.args.self.now c.in_default.field-0 (sym c.place.ensures.value ∙ c.in_default.is) c.requires.within) (after_grant c.args.server c.args.phase)) z
+
+pub invariant_of-self : goal.invariant_of-self
+invariant_of-self g c =
+    let hs = c.self.inside.clients.items in
+    let servers = c.self.inside.servers.items in
+    let s = c.args.server in
+    let phase = c.args.phase in
+    let x = c.index_mut-then-count.result.now in
+    let h = c.index_mut.result.now in
+    let i = c.in-Ok.place in
+    let y : CoreServer g.row.Q.Denot = record x { full = x.full + 1 } in
+    let within : s.0 < length servers = simp length-map at (rw (← c.self.view_is) at c.requires.within) in
+    let inside : i < length hs = rw (← c.self.view_is) at c.in-Ok.ensures.within in
+    let none : full_counts s hs ≡ 0 = rw (← c.self.view_is) at c.requires.room in
+    let knows = known c.self.inside.ids.keys hs servers c.self.invariant s x (slice_get_read servers (length servers) s.0 x refl within c.index_mut-then-count.ensures.value) in
+    let at = slice_get_read hs (length hs) i h refl inside c.index_mut.ensures.value in
+    let part = full_counts-part s hs i h at in
+    let one = one_if_full-part phase (pair_at s h.pairs) in
+    let full : one_if_full (grants phase (pair_at s h.pairs) + 1) ≡ 1 = ap one_if_full (sym c.add_grant-count.ensures.count ∙ c.if-count.true) in
+    count_changed c.self.inside.ids.keys hs servers c.self.invariant i h c.add_grant-count.new.self at (ap (λ (z : Held). z.id) c.add_grant-count.ensures.pairs) s phase (grants phase (pair_at s h.pairs) + 1)
+    (ap (λ (z : Held). z.pairs) c.add_grant-count.ensures.pairs) within y (omega arith)
+
+pub invariant_of-self-else-count : goal.invariant_of-self-else-count
+invariant_of-self-else-count g c =
+    let hs = c.self.inside.clients.items in
+    let servers = c.self.inside.servers.items in
+    let s = c.args.server in
+    let phase = c.args.phase in
+    let h = c.index_mut.result.now in
+    let i = c.in-Ok.place in
+    let within : s.0 < length servers = simp length-map at (rw (← c.self.view_is) at c.requires.within) in
+    let inside : i < length hs = rw (← c.self.view_is) at c.in-Ok.ensures.within in
+    let none : full_counts s hs ≡ 0 = rw (← c.self.view_is) at c.requires.room in
+    let at = slice_get_read hs (length hs) i h refl inside c.index_mut.ensures.value in
+    let part = full_counts-part s hs i h at in
+    let one = one_if_full-part phase (pair_at s h.pairs) in
+    let not_full = full_not (grants phase (pair_at s h.pairs) + 1) (λ e. c.if-count.false (c.add_grant-count.ensures.count ∙ e)) in
+    count_kept c.self.inside.ids.keys hs servers c.self.invariant i h c.add_grant-count.new.self at (ap (λ (z : Held). z.id) c.add_grant-count.ensures.pairs) s phase (grants phase (pair_at s h.pairs) + 1)
+    (ap (λ (z : Held). z.pairs) c.add_grant-count.ensures.pairs) within (omega arith)
+
+pub returns-then-count-clause-servers : goal.returns-then-count-clause-servers
+returns-then-count-clause-servers g c =
+    let servers = c.self.inside.servers.items in
+    let queue = λ (z : CoreServer g.row.Q.Denot). z.queue in
+    let x = c.index_mut-then-count.result.now in
+    let y : CoreServer g.row.Q.Denot = record x { full = x.full + 1 } in
+    rw (← c.self.view_is) (map-set_same queue servers c.args.server.0 y x (ap queue c.index_mut-then-count.ensures.value))
+
+pub returns-then-count-clause-clients : goal.returns-then-count-clause-clients
+returns-then-count-clause-clients g c =
+    let hs = c.self.inside.clients.items in
+    let s = c.args.server in
+    let phase = c.args.phase in
+    let h = c.index_mut.result.now in
+    let placed = rw (← c.self.view_is) at (sym c.place.ensures.value ∙ c.in-Ok.is) in
+    rw (← c.self.view_is) (λ counting cs z. one_changed counting hs cs z c.args.client c.in-Ok.place (found_place c.args.client s _ c.in-Ok.place placed) c.add_grant-count.new.self (after_grant s phase)
+    (λ y client at m.
+    let grown = λ (z : Held). record z { pairs = with_pair s (with_grants phase (grants phase (pair_at s z.pairs) + 1) (pair_at s z.pairs)) z.pairs } in
+    rw (c.add_grant-count.ensures.pairs ∙ ap grown (c.index_mut.ensures.value ∙ get_or_from_slice_get hs c.in-Ok.place y h at))
+    (matches_changed counting y client s (λ (pair : Pair). with_grants phase (grants phase pair + 1) pair) m)))
+
+pub returns-else-count-clause-clients : goal.returns-else-count-clause-clients
+returns-else-count-clause-clients g c =
+    let hs = c.self.inside.clients.items in
+    let s = c.args.server in
+    let phase = c.args.phase in
+    let h = c.index_mut.result.now in
+    let placed = rw (← c.self.view_is) at (sym c.place.ensures.value ∙ c.in-Ok.is) in
+    rw (← c.self.view_is) (λ counting cs z. one_changed counting hs cs z c.args.client c.in-Ok.place (found_place c.args.client s _ c.in-Ok.place placed) c.add_grant-count.new.self (after_grant s phase)
+    (λ y client at m.
+    let grown = λ (z : Held). record z { pairs = with_pair s (with_grants phase (grants phase (pair_at s z.pairs) + 1) (pair_at s z.pairs)) z.pairs } in
+    rw (c.add_grant-count.ensures.pairs ∙ ap grown (c.index_mut.ensures.value ∙ get_or_from_slice_get hs c.in-Ok.place y h at))
+    (matches_changed counting y client s (λ (pair : Pair). with_grants phase (grants phase pair + 1) pair) m)))

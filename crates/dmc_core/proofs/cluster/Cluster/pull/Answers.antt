@@ -1,0 +1,78 @@
+use Rattle.std.proofs.Common.{◌≡◌, ◌≢◌, ℕ, ◌+◌, ◌-◌, ◌<◌, ◌≤◌, ◌==◌, length, map, set, get_or, slice_get, List, Option, Some, None, Ok, Err, sym, ap, ◌∙◌, refl, subst, arith, rules}
+use Rattle.std.proofs.lemmas.List.{length-map, map-set}
+use Rattle.std.proofs.lemmas.Option.{get_or_from_slice_get, slice_get_read}
+use Rattle.dmc_types.specs.declared.config.Counting.{Counting}
+use Rattle.dmc_types.specs.declared.command.Command.TheVariants as commands
+use Rattle.dmc_core.specs.Core.{Held, CoreValue, ClientFollows}
+use Rattle.dmc_core.specs.Events.{stamp, response, after_arrival}
+use Rattle.dmc_core.specs.Parts.{one_if_full, full_counts}
+use Rattle.dmc_core.specs.Run.{Pair, Client, pair_at, with_pair, grants, with_grants, most_grants}
+use Rattle.dmc_core.specs.declared.event.CoreEvent.TheVariants as events
+use Rattle.dmc_core.specs.declared.server.CoreServer.{CoreServer}
+use Rattle.dmc_core.proofs.Clients.{err_is}
+use Rattle.dmc_core.proofs.Pairs.{seen_map, flight_keeps_grants}
+use Rattle.dmc_core.proofs.Kept.{known, server_kept}
+use Rattle.dmc_core.proofs.Pulls.{not_granted, pull_no_name, pull_full, pull_served}
+use Rattle.dmc_core.proofs.cluster.Cluster.pull.Goals as goal
+use Rattle.dmc_core.proofs.cluster.Cluster.pull.Goals.{in-Granted, in_default}
+
+pub returns-in_err-index : goal.returns-in_err-index
+returns-in_err-index g c =
+    rw (err_is _ _ c.from_residual.ensures.1, c.in_err-index.ensures.err.0)
+    (pull_no_name g.T.Tag.ops g.Q.Scheduler.state c.args.self.now c.args.server c.args.at c.in_err-index.ensures.err.1)
+
+pub returns-then-index-gt0 : goal.returns-then-index-gt0
+returns-then-index-gt0 g c =
+    let servers = c.self.inside.servers.items in
+    let x = c.index.result.now in
+    let place : c.in_ok-index.index ≡ c.args.server.0 = c.in_ok-index.ensures.ok.0 in
+    let within : c.args.server.0 < length (map (λ (z : CoreServer g.row.Q.Denot). z.queue) servers) = rw (place, ← c.self.view_is) at c.in_ok-index.ensures.ok.1 in
+    let knows = known c.self.inside.ids.keys c.self.inside.clients.items servers c.self.invariant c.args.server x
+    (slice_get_read servers (length servers) c.args.server.0 x refl (simp length-map at within) (rw place at c.index.ensures)) in
+    rw (← c.self.view_is)
+    (pull_full g.T.Tag.ops g.Q.Scheduler.state _ c.args.server c.args.at within (omega arith))
+
+pub invariant_of-self : goal.invariant_of-self
+invariant_of-self g c =
+    let servers = c.self.inside.servers.items in
+    let x = c.index_mut.result.now in
+    let within : c.in_ok-index.index < length servers = simp length-map at (rw (← c.self.view_is) at c.in_ok-index.ensures.ok.1) in
+    server_kept c.self.inside.ids.keys c.self.inside.clients.items servers c.self.invariant c.in_ok-index.index x c.pull-reply.new.self
+    (slice_get_read servers (length servers) c.in_ok-index.index x refl within c.index_mut.ensures.value) c.pull-reply.ensures.full
+
+pub invariant_of-self-in_default : goal.invariant_of-self-in_default
+invariant_of-self-in_default g c =
+    let servers = c.self.inside.servers.items in
+    let x = c.index_mut.result.now in
+    let within : c.in_ok-index.index < length servers = simp length-map at (rw (← c.self.view_is) at c.in_ok-index.ensures.ok.1) in
+    server_kept c.self.inside.ids.keys c.self.inside.clients.items servers c.self.invariant c.in_ok-index.index x c.pull-reply.new.self
+    (slice_get_read servers (length servers) c.in_ok-index.index x refl within c.index_mut.ensures.value) c.pull-reply.ensures.full
+
+pub returns : goal.returns
+returns g c =
+    let hs = c.self.inside.clients.items in
+    let servers = c.self.inside.servers.items in
+    let queue = λ (z : CoreServer g.row.Q.Denot). z.queue in
+    let s = c.args.server in
+    let x = c.index_mut.result.now in
+    let i = c.in_ok-index.index in
+    let place : i ≡ s.0 = c.in_ok-index.ensures.ok.0 in
+    let within : s.0 < length (map queue servers) = rw (place, ← c.self.view_is) at c.in_ok-index.ensures.ok.1 in
+    let core : CoreValue g.row.Q.Denot = record { servers = map queue servers; clients = hs } in
+    let knows = known c.self.inside.ids.keys hs servers c.self.invariant s c.index.result.now
+    (slice_get_read servers (length servers) s.0 c.index.result.now refl (simp length-map at within) (rw place at c.index.ensures)) in
+    let none : full_counts s hs ≡ 0 = omega arith in
+    let seen : (q : g.row.Q.Denot) → slice_get (map queue servers) s.0 ≡ Some q → x.queue ≡ q = λ q at.
+    sym (seen_map queue servers s.0 q x (simp length-map at within) (rw place at c.index_mut.ensures.value)) ∙ get_or_from_slice_get (map queue servers) s.0 q q at in
+    let changed = map-set queue servers i c.pull-reply.new.self ∙ ap (λ n. set (map queue servers) n c.pull-reply.new.self.queue) place in
+    elim c.match-reply.branch [
+      | in-Granted w ↦
+          let whole : w.count_grant.new.self ≡ record { servers = set (map queue servers) s.0 c.pull-reply.new.self.queue; clients = w.count_grant.new.self.clients } =
+          ap (λ (qs : List g.row.Q.Denot). let v : CoreValue g.row.Q.Denot = record { servers = qs; clients = w.count_grant.new.self.clients } in v) (w.count_grant.ensures.servers ∙ changed) in
+          rw (w.self-is, whole, w.reply-is, ← c.self.view_is)
+          (pull_served g.T.Tag.ops g.Q.Scheduler.state core s c.args.at within none c.pull-reply.new.self.queue _ (λ q at. rw (← seen q at) w.in-Granted.ensures.steps)
+          w.count_grant.new.self.clients w.count_grant.ensures.clients)
+      | in_default w ↦ rw (w.self-is, w.reply-is, ← c.self.view_is, changed)
+          (pull_served g.T.Tag.ops g.Q.Scheduler.state core s c.args.at within none c.pull-reply.new.self.queue c.pull-reply.result (λ q at. rw (← seen q at) c.pull-reply.ensures.steps)
+          hs (λ counting cs z. rw (not_granted s c.pull-reply.result cs w.in_default.not-Granted) z))
+    ]

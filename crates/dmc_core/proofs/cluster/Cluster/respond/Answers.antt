@@ -1,0 +1,116 @@
+use Rattle.std.proofs.Common.{◌≡◌, ◌≢◌, ℕ, ◌+◌, ◌-◌, ◌<◌, ◌≤◌, ◌==◌, length, map, set, get_or, slice_get, List, Option, Some, None, Ok, Err, sym, ap, ◌∙◌, refl, subst, arith, rules}
+use Rattle.std.proofs.lemmas.List.{length-map, map-set}
+use Rattle.std.proofs.Math.Seq.{map-set_same}
+use Rattle.std.proofs.lemmas.Option.{get_or_from_slice_get, slice_get_read}
+use Rattle.dmc_types.specs.declared.config.Counting.{Counting}
+use Rattle.dmc_types.specs.declared.command.Command.TheVariants as commands
+use Rattle.dmc_core.specs.Core.{Held, CoreValue, ClientFollows}
+use Rattle.dmc_core.specs.Events.{stamp, response, after_arrival}
+use Rattle.dmc_core.specs.Parts.{one_if_full, full_counts}
+use Rattle.dmc_core.specs.Run.{Pair, Client, pair_at, with_pair, grants, with_grants, most_grants}
+use Rattle.dmc_core.specs.declared.event.CoreEvent.TheVariants as events
+use Rattle.dmc_core.specs.declared.server.CoreServer.{CoreServer}
+use Rattle.dmc_core.proofs.Clients.{err_is}
+use Rattle.dmc_core.proofs.Pairs.{seen_map, flight_keeps_grants}
+use Rattle.dmc_core.proofs.Kept.{known, count_kept, count_changed, full_gone, full_not}
+use Rattle.dmc_core.proofs.Counts.{full_counts-part, one_if_full-part}
+use Rattle.dmc_core.proofs.Runs.{client_no_names, client_follows}
+use Rattle.dmc_core.proofs.cluster.Cluster.respond.Goals as goal
+use Rattle.dmc_core.proofs.cluster.Cluster.respond.Goals.{then-is_full, else-is_full}
+
+pub returns-in_err-place : goal.returns-in_err-place
+returns-in_err-place g c =
+    rw (err_is _ _ c.from_residual.ensures.1)
+    (client_no_names g.T.Tag.ops g.Q.Scheduler.state (events.Respond c.args.client c.args.server c.args.phase) c.args.self.now c.args.client c.args.server
+    (λ counting client. response c.args.server c.args.phase client) (λ run. refl) c.in_err-place.field-0.0 (sym c.place.ensures.value ∙ c.in_err-place.was))
+
+pub returns-in_err-reply : goal.returns-in_err-reply
+returns-in_err-reply g c =
+    let hs = c.self.inside.clients.items in
+    let h = c.index_mut.result.now in
+    let placed = rw (← c.self.view_is) at (sym c.place.ensures.value ∙ c.in_ok-place.was) in
+    let server = rw (← c.self.view_is) at c.in_ok-place.ensures.server in
+    let told : c.respond.result ≡ c.from_residual-in_err-reply.result = c.in_err-reply.was ∙ sym (err_is _ _ c.from_residual-in_err-reply.ensures.1) in
+    rw (← c.self.view_is)
+    (client_follows g.T.Tag.ops g.Q.Scheduler.state (events.Respond c.args.client c.args.server c.args.phase) _ c.args.client c.args.server
+    (λ counting client. response c.args.server c.args.phase client) (λ run. refl) c.in_ok-place.place placed server c.respond.new.self c.from_residual-in_err-reply.result
+    (λ x at. subst (λ (y : Held). ClientFollows (λ counting client. response c.args.server c.args.phase client) y c.respond.new.self c.from_residual-in_err-reply.result)
+    (c.index_mut.ensures.value ∙ get_or_from_slice_get hs c.in_ok-place.place x h at) (rw (← told) c.respond.ensures.follows))
+    (λ e. absurd (c.respond.ensures.no_growth (told ∙ e))))
+
+pub overflow_sub-index_mut : goal.overflow_sub-index_mut
+overflow_sub-index_mut g c =
+    let hs = c.self.inside.clients.items in
+    let servers = c.self.inside.servers.items in
+    let s = c.args.server in
+    let x = c.index_mut-then-is_full.result.now in
+    let h = c.index.result.now in
+    let i = c.in_ok-place.place in
+    let within : s.0 < length servers = simp length-map at (rw (← c.self.view_is) at c.in_ok-place.ensures.server) in
+    let inside : i < length hs = rw (← c.self.view_is) at c.in_ok-place.ensures.within in
+    let knows = known c.self.inside.ids.keys hs servers c.self.invariant s x (slice_get_read servers (length servers) s.0 x refl within c.index_mut-then-is_full.ensures.value) in
+    let part = full_counts-part s hs i h (slice_get_read hs (length hs) i h refl inside c.index.ensures) in
+    let one = one_if_full-part c.args.phase (pair_at s h.pairs) in
+    let full : one_if_full (grants c.args.phase (pair_at s h.pairs)) ≡ 1 = ap one_if_full (sym c.grants-is_full.ensures ∙ c.if-is_full.true) in
+    omega arith
+
+pub invariant_of-self-then-is_full : goal.invariant_of-self-then-is_full
+invariant_of-self-then-is_full g c =
+    let hs = c.self.inside.clients.items in
+    let servers = c.self.inside.servers.items in
+    let s = c.args.server in
+    let phase = c.args.phase in
+    let x = c.index_mut-then-is_full.result.now in
+    let h = c.index_mut.result.now in
+    let i = c.in_ok-place.place in
+    let y : CoreServer g.row.Q.Denot = record x { full = x.full - 1 } in
+    let within : s.0 < length servers = simp length-map at (rw (← c.self.view_is) at c.in_ok-place.ensures.server) in
+    let inside : i < length hs = rw (← c.self.view_is) at c.in_ok-place.ensures.within in
+    let knows = known c.self.inside.ids.keys hs servers c.self.invariant s x (slice_get_read servers (length servers) s.0 x refl within c.index_mut-then-is_full.ensures.value) in
+    let same : c.index.result.now ≡ h = c.index.ensures ∙ get_or_from_slice_get hs i h c.index.result.now (slice_get_read hs (length hs) i h refl inside c.index_mut.ensures.value) in
+    let count : grants phase (pair_at s h.pairs) ≡ most_grants = ap (λ (z : Held). grants phase (pair_at s z.pairs)) (sym same) ∙ sym c.grants-is_full.ensures ∙ c.if-is_full.true in
+    let full : one_if_full (grants phase (pair_at s h.pairs)) ≡ 1 = ap one_if_full count in
+    let less : one_if_full (grants phase (pair_at s h.pairs) - 1) ≡ 0 = ap (λ (n : ℕ). one_if_full (n - 1)) count in
+    let at = slice_get_read hs (length hs) i h refl inside c.index_mut.ensures.value in
+    let part = full_counts-part s hs i h at in
+    let one = one_if_full-part phase (pair_at s h.pairs) in
+    count_changed c.self.inside.ids.keys hs servers c.self.invariant i h c.respond.new.self at c.respond.ensures.id s phase (grants phase (pair_at s h.pairs) - 1)
+    c.in_ok-reply.ensures.pairs within y (omega arith)
+
+pub invariant_of-self-else-is_full : goal.invariant_of-self-else-is_full
+invariant_of-self-else-is_full g c =
+    let hs = c.self.inside.clients.items in
+    let servers = c.self.inside.servers.items in
+    let s = c.args.server in
+    let phase = c.args.phase in
+    let h = c.index_mut.result.now in
+    let i = c.in_ok-place.place in
+    let within : s.0 < length servers = simp length-map at (rw (← c.self.view_is) at c.in_ok-place.ensures.server) in
+    let inside : i < length hs = rw (← c.self.view_is) at c.in_ok-place.ensures.within in
+    let same : c.index.result.now ≡ h = c.index.ensures ∙ get_or_from_slice_get hs i h c.index.result.now (slice_get_read hs (length hs) i h refl inside c.index_mut.ensures.value) in
+    let count : c.grants-is_full.result ≡ grants phase (pair_at s h.pairs) = c.grants-is_full.ensures ∙ ap (λ (z : Held). grants phase (pair_at s z.pairs)) same in
+    let not_full = full_not (grants phase (pair_at s h.pairs)) (λ e. c.if-is_full.false (count ∙ e)) in
+    let less = full_gone (grants phase (pair_at s h.pairs)) c.in_ok-reply.ensures.some (omega arith) in
+    count_kept c.self.inside.ids.keys hs servers c.self.invariant i h c.respond.new.self (slice_get_read hs (length hs) i h refl inside c.index_mut.ensures.value) c.respond.ensures.id s phase (grants phase (pair_at s h.pairs) - 1)
+    c.in_ok-reply.ensures.pairs within (not_full ∙ sym less)
+
+pub returns : goal.returns
+returns g c =
+    let hs = c.self.inside.clients.items in
+    let servers = c.self.inside.servers.items in
+    let queue = λ (z : CoreServer g.row.Q.Denot). z.queue in
+    let h = c.index_mut.result.now in
+    let placed = rw (← c.self.view_is) at (sym c.place.ensures.value ∙ c.in_ok-place.was) in
+    let server = rw (← c.self.view_is) at c.in_ok-place.ensures.server in
+    let follows : ClientFollows (λ counting client. response c.args.server c.args.phase client) h c.respond.new.self (Ok c.in_ok-reply.reply) = rw c.in_ok-reply.was at c.respond.ensures.follows in
+    let done = client_follows g.T.Tag.ops g.Q.Scheduler.state (events.Respond c.args.client c.args.server c.args.phase) (record { servers = map queue servers; clients = hs }) c.args.client c.args.server
+    (λ counting client. response c.args.server c.args.phase client) (λ run. refl) c.in_ok-place.place placed server c.respond.new.self (Ok c.in_ok-reply.reply)
+    (λ x at. subst (λ (y : Held). ClientFollows (λ counting client. response c.args.server c.args.phase client) y c.respond.new.self (Ok c.in_ok-reply.reply))
+    (c.index_mut.ensures.value ∙ get_or_from_slice_get hs c.in_ok-place.place x h at) follows)
+    (λ e. cc) in
+    elim c.if-is_full.branch [
+      | then-is_full w ↦
+          let y : CoreServer g.row.Q.Denot = record (w.index_mut-then-is_full.result.now) { full = w.index_mut-then-is_full.result.now.full - 1 } in
+          rw (w.self-is, ← c.self.view_is, map-set_same queue servers c.args.server.0 y w.index_mut-then-is_full.result.now (ap queue w.index_mut-then-is_full.ensures.value)) done
+      | else-is_full w ↦ rw (w.self-is, ← c.self.view_is) done
+    ]

@@ -1,0 +1,89 @@
+-- What contracts see of the core, and which states of a cluster run it stands for.
+use Rattle.std.specs.Prelude.{◌≡◌, Bool, true, false, ℕ, List, length, Result, Ok, Err}
+use Rattle.std.specs.List.{AllZip}
+use Rattle.dmc_types.specs.declared.ids.ClientId.{ClientId}
+use Rattle.dmc_types.specs.declared.config.Counting.{Counting}
+use Rattle.dmc_tag.specs.Tag.{Tagging}
+use Rattle.dmc_tag.specs.State.{State, StandsFor}
+use Rattle.dmc_tag.specs.declared.reply.Reply.TheVariants.{Refused}
+use Rattle.dmc_tracker.specs.Numbers.{Numbers, Stands}
+use Rattle.dmc_core.specs.Run.{Pair, Client, Run, most_completions}
+use Rattle.dmc_core.specs.Events.{Outcome, outcome, cluster_step}
+use Rattle.dmc_core.specs.declared.event.CoreEvent.{CoreEvent}
+use Rattle.dmc_core.specs.declared.event.CoreEvent.TheVariants.{Stamp, Arrive, Pull, Respond, Update, Remove, Clean}
+use Rattle.dmc_core.specs.declared.event.CoreReply.{CoreReply}
+use Rattle.dmc_core.specs.declared.event.CoreReply.TheVariants.{Stamped, Served, Counted}
+use Rattle.dmc_core.specs.declared.event.CoreFault.{CoreFault}
+use Rattle.dmc_core.specs.declared.event.CoreFault.TheVariants.{Memory}
+
+-- a client as the core holds it: the numbers of a tracker list in the place of the list
+pub record Held : Type 0 where
+  pub id : ClientId
+  pub tracker : Numbers
+  pub pairs : List Pair
+
+-- the queue of each server, and the clients
+pub record CoreValue (Q : Type 0) : Type 0 where
+  pub servers : List Q
+  pub clients : List Held
+
+-- the same messages and counts, and the numbers of the tracker list in this form
+pub record Matches (counting : Counting) (h : Held) (c : Client) : Type 0 where
+  pub id : h.id ≡ c.id
+  pub pairs : h.pairs ≡ c.pairs
+  pub tracker : Stands h.tracker c.list
+  pub form : h.tracker.counting ≡ counting
+  pub most : h.tracker.most ≡ most_completions
+  pub servers : length h.tracker.servers ≡ length h.pairs
+
+-- The core stands for the run: each queue for the server's plain state, and each client as above.
+pub record StandsForRun {T Q : Type 0} (state : Q → State T) (core : CoreValue Q) (run : Run T) : Type 0 where
+  pub servers : AllZip (λ q s. StandsFor (state q) s) core.servers run.servers
+  pub clients : AllZip (Matches run.counting) core.clients run.clients
+
+-- ---- what a call does, of each run that the core stands for
+
+-- only these two may want memory
+abbrev pub may_grow : CoreEvent → Bool
+may_grow (Stamp client server token) = true
+may_grow (Arrive client server at) = true
+may_grow (Pull server at) = false
+may_grow (Respond client server phase) = false
+may_grow (Update server client info at) = false
+may_grow (Remove server client) = false
+may_grow (Clean server at) = false
+
+-- neither the rules of the cluster nor those of a queue refuse
+abbrev pub is_accepting : {T : Type 0} → CoreReply T → Bool
+is_accepting (Served (Refused refusal)) = false
+is_accepting reply = true
+
+abbrev pub is_accepted : {X T : Type 0} → Result (X × CoreReply T) CoreFault → Bool
+is_accepted (Ok (next, reply)) = is_accepting reply
+is_accepted (Err fault) = false
+
+-- From each run that the core stands for, the answer is that of the rules, and the core stands for the run after. Or memory
+-- is wanted, by an event that may want it and that the rules accept, and the core stands for what it stood for.
+abbrev pub Follows : {T Q : Type 0} → Tagging T → (Q → State T) → CoreEvent → CoreValue Q → CoreValue Q → Result (CoreReply T) CoreFault → Type 0
+Follows {T} ops state event old new (Err Memory) = (may_grow event ≡ true)
+    × ((run : Run T) → StandsForRun state old run → (is_accepted (outcome ops run event) ≡ true) × StandsForRun state new run)
+Follows {T} ops state event old new answer = (run : Run T) → StandsForRun state old run
+    → (answer ≡ (cluster_step ops run event).1) × StandsForRun state new ((cluster_step ops run event).0)
+
+-- ---- the same of one client
+
+-- the rule gives this reply, and a client that is matched
+pub record Next {T : Type 0} (counting : Counting) (ruled : Result (Client × CoreReply T) CoreFault) (new : Held) (reply : CoreReply T) : Type 0 where
+  pub next : Client
+  pub ruled_is : ruled ≡ Ok (next, reply)
+  pub matches : Matches counting new next
+
+-- the rule refuses; where memory is wanted it accepts
+abbrev pub IsRefusal : {T : Type 0} → CoreFault → Result (Client × CoreReply T) CoreFault → Type 0
+IsRefusal Memory ruled = is_accepted ruled ≡ true
+IsRefusal fault ruled = ruled ≡ Err fault
+
+-- From each client that is matched, the rule is followed; a refusal leaves all.
+abbrev pub ClientFollows : {T : Type 0} → (Counting → Client → Result (Client × CoreReply T) CoreFault) → Held → Held → Result (CoreReply T) CoreFault → Type 0
+ClientFollows rule old new (Ok reply) = (counting : Counting) (c : Client) → Matches counting old c → Next counting (rule counting c) new reply
+ClientFollows rule old new (Err fault) = (new ≡ old) × ((counting : Counting) (c : Client) → Matches counting old c → IsRefusal fault (rule counting c))

@@ -1,0 +1,84 @@
+//! The cluster core: the cluster over indexed queues with heaps.
+ghost use Rattle.std.specs.Prelude.{IfOk};
+ghost use Rattle.dmc_core.specs.Core.{Follows, StandsForRun};
+ghost use Rattle.dmc_core.specs.Opening.{HaveSpacings, opening_of};
+ghost use Rattle.dmc_pull.specs.Queue.{state_of};
+
+use crate::cluster::Cluster;
+use crate::event::{CoreEvent, CoreFault, CoreReply};
+use crate::opening::{client_ids, open_clients, open_servers};
+use dmc_heap::indexed_heap::HeapIndexes;
+use dmc_pull::queue::PullQueue;
+use dmc_scene::scene::Scene;
+use dmc_tag::tag::Tag;
+use std::alloc::{AllocError, Global};
+use std::marker::Model;
+
+/// One thread's cluster: a queue of dmClock per server (indexed, over heaps), a service tracker per client, and per pair of a
+/// client and a server the messages in flight and the grants that wait for their responses.
+///
+/// Contracts see each server's queue, and each client with its tracker's numbers, messages and counts. Which states of a
+/// cluster run the core stands for says `StandsForRun` (`specs/Core.antt`); what a run is and what an event makes of it,
+/// `specs/Run.antt` and `specs/Events.antt`. A client is found by a hash of its id and a server by its index, and no call walks
+/// over clients or servers but inside a queue, as a clean does.
+#[derive(Drop)]
+pub struct ClusterCore<T: Tag> {
+    cluster: Cluster<PullQueue<T, HeapIndexes>>,
+}
+
+impl<T: Tag> Model for ClusterCore<T> {
+    ghost use Rattle.dmc_core.specs.Core.{CoreValue};
+    ghost use Rattle.dmc_pull.specs.Queue.{Queue};
+
+    ghost Value = { CoreValue (Queue T) };
+
+    ghost view = { λ c. c.cluster };
+}
+
+impl<T: Tag> ClusterCore<T> {
+    /// The cluster that a scene opens: each queue has the scene's configuration, every client has registered at every server
+    /// at moment 0, in the scene's order, and has a tracker of 2^32-1 completions in the scene's counting form. Each rate of
+    /// the scene has to have a spacing in `T`: in ticks a scene with `tags = "tick"` has them. The error is want of memory.
+    pub fn new(alloc: Global, scene: &Scene) -> Result<ClusterCore<T>, AllocError>
+        requires { HaveSpacings T.ops scene.now }
+        ensures { IfOk result (λ core. StandsForRun state_of core (opening_of T.ops scene.now)) }
+    {
+        let ids = client_ids(alloc, scene.clients())?;
+        let clients = open_clients(alloc, scene)?;
+        let servers = open_servers(alloc, scene)?;
+        Ok(ClusterCore {
+            cluster: Cluster::of_parts(ids, clients, servers),
+        })
+    }
+
+    /// Carries out an event. From each run that the core stands for, the answer is that of the rules, and the core then stands
+    /// for the run after the event; a refused event has changed nothing. Of several causes the first is told, in the order of
+    /// `CoreFault`. `Memory` comes last, of a stamp or an arrival alone: the rules and the queue would have accepted it, and
+    /// the core stands for what it stood for.
+    pub fn step(&mut self, event: CoreEvent) -> Result<CoreReply<T>, CoreFault>
+        ensures { Follows T.ops state_of event self.old self.new result }
+    {
+        match event {
+            CoreEvent::Stamp {
+                client,
+                server,
+                token,
+            } => self.cluster.stamp(client, server, token),
+            CoreEvent::Arrive { client, server, at } => self.cluster.arrive(client, server, at),
+            CoreEvent::Pull { server, at } => self.cluster.pull(server, at),
+            CoreEvent::Respond {
+                client,
+                server,
+                phase,
+            } => self.cluster.respond(client, server, phase),
+            CoreEvent::Update {
+                server,
+                client,
+                info,
+                at,
+            } => self.cluster.update(server, client, info, at),
+            CoreEvent::Remove { server, client } => self.cluster.remove(server, client),
+            CoreEvent::Clean { server, at } => self.cluster.clean(server, at),
+        }
+    }
+}

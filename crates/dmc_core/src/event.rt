@@ -1,0 +1,119 @@
+//! What happens in a cluster, and what is answered.
+ghost use Rattle.std.specs.Prelude.{◌≡◌};
+
+use dmc_tag::reply::Reply;
+use dmc_tracker::tracker::TrackFault;
+use dmc_types::config::PhaseType;
+use dmc_types::ids::{ClientId, ServerId, Token};
+use dmc_types::info::ClientInfo;
+use dmc_types::moment::Moment;
+use dmc_types::params::ReqParams;
+use std::alloc::AllocError;
+
+/// A request that was stamped and has not yet arrived: what the client names it by, and the two counts of its stamp.
+#[derive(Clone, Copy, Debug, PartialEq, Eq)]
+pub struct Message {
+    pub token: Token,
+    pub params: ReqParams,
+}
+
+/// One event of a cluster. Moments are in ticks, and a moment that goes back is no refusal.
+#[derive(Clone, Copy, Debug, PartialEq, Eq)]
+pub enum CoreEvent {
+    /// A client stamps a request to a server: its tracker gives the counts, and the message is in flight.
+    Stamp {
+        client: ClientId,
+        server: ServerId,
+        token: Token,
+    },
+    /// The oldest message in flight from a client to a server arrives at the server's queue.
+    Arrive {
+        client: ClientId,
+        server: ServerId,
+        at: Moment,
+    },
+    /// A server pulls. A grant waits for its response.
+    Pull {
+        server: ServerId,
+        at: Moment,
+    },
+    /// A client hears of a request that a server granted in a phase: its tracker counts the completion.
+    Respond {
+        client: ClientId,
+        server: ServerId,
+        phase: PhaseType,
+    },
+    /// A server replaces a client's rates.
+    Update {
+        server: ServerId,
+        client: ClientId,
+        info: ClientInfo,
+        at: Moment,
+    },
+    /// A server takes out a client's queued requests.
+    Remove {
+        server: ServerId,
+        client: ClientId,
+    },
+    /// A server marks clients idle, and erases old ones.
+    Clean {
+        server: ServerId,
+        at: Moment,
+    },
+}
+
+/// What an event is answered.
+#[derive(Clone, Copy, Debug, PartialEq, Eq)]
+pub enum CoreReply<T> {
+    /// The request is stamped with these counts.
+    Stamped(ReqParams),
+    /// What the server's queue answered. Where it refused the command, nothing has changed; a message that it refused is
+    /// still the oldest in flight.
+    Served(Reply<T>),
+    /// The completion is counted.
+    Counted,
+}
+
+/// Why an event is refused. It has changed nothing. Of several causes the first is told, in this order.
+#[derive(Clone, Copy, Debug, PartialEq, Eq)]
+pub enum CoreFault {
+    /// The cluster has no such client (`Stamp`, `Arrive`, `Respond`).
+    NoClient,
+    /// The cluster has no such server.
+    NoServer,
+    /// 2^20 messages from the client to the server are in flight (`Stamp`).
+    FlightFull,
+    /// The client's tracker would count past 2^32-1 (`Stamp`, `Respond`).
+    TrackFull,
+    /// No message from the client to the server is in flight (`Arrive`).
+    NoFlight,
+    /// 2^32-1 grants of the server to some client, all in one phase, wait for their responses (`Pull`).
+    GrantsFull,
+    /// No grant of the server to the client in the phase waits for its response (`Respond`).
+    NoGrant,
+    /// The allocator refused a growth (`Stamp`, `Arrive`).
+    Memory,
+}
+
+impl From<TrackFault> for CoreFault {
+    ghost use Rattle.dmc_core.specs.Faults.{fault_of};
+
+    ghost from_gives = { λ fault e. e ≡ fault_of fault };
+
+    fn from(fault: TrackFault) -> CoreFault {
+        match fault {
+            TrackFault::NoServer => CoreFault::NoServer,
+            TrackFault::TrackFull => CoreFault::TrackFull,
+        }
+    }
+}
+
+impl From<AllocError> for CoreFault {
+    ghost use Rattle.dmc_core.specs.declared.event.CoreFault.TheVariants.{Memory};
+
+    ghost from_gives = { λ _ e. e ≡ Memory };
+
+    fn from(_error: AllocError) -> CoreFault {
+        CoreFault::Memory
+    }
+}

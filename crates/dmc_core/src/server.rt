@@ -1,0 +1,83 @@
+//! A server of the cluster: its queue, and how many of its counts of grants can't grow.
+ghost use Rattle.std.specs.Prelude.{◌≡◌, Some, MatchResult};
+ghost use Rattle.std.specs.Result.{result_ok};
+ghost use Rattle.dmc_tag.specs.Steps.{Steps};
+ghost use Rattle.dmc_types.specs.declared.command.Command.TheVariants as commands;
+
+use crate::event::Message;
+use dmc_tag::answers;
+use dmc_tag::reply::Reply;
+use dmc_tag::scheduler::Scheduler;
+use dmc_tag::tag::Tag;
+use dmc_types::ids::ClientId;
+use dmc_types::info::ClientInfo;
+use dmc_types::moment::Moment;
+use std::alloc::AllocError;
+
+/// A server. It knows how many of its counts of grants are 2^32-1, so that a pull need not look at the clients.
+#[derive(Drop)]
+pub struct CoreServer<Q> {
+    pub queue: Q,
+    pub full: u32,
+}
+
+impl<Q> CoreServer<Q> {
+    /// A message arrives at the queue. An error is want of memory.
+    pub fn add<T: Tag>(
+        &mut self,
+        client: ClientId,
+        message: Message,
+        at: Moment,
+    ) -> Result<Reply<T>, AllocError>
+    where
+        Q: Scheduler<T>,
+        ensures full { self.new.full ≡ self.old.full }
+        ensures steps { Steps T.ops (Q.state self.old.queue) (Q.state self.new.queue)
+            (commands.Add client message.token message.params at) (result_ok result) }
+    {
+        answers::tagged(
+            self.queue
+                .add_request(client, message.token, message.params, at),
+        )
+    }
+
+    /// The queue pulls.
+    pub fn pull<T: Tag>(&mut self, at: Moment) -> Reply<T>
+    where
+        Q: Scheduler<T>,
+        ensures full { self.new.full ≡ self.old.full }
+        ensures steps { Steps T.ops (Q.state self.old.queue) (Q.state self.new.queue) (commands.Pull at) (Some result) }
+    {
+        answers::pulled(self.queue.pull_request(at))
+    }
+
+    /// The queue replaces a client's rates.
+    pub fn update<T: Tag>(&mut self, client: ClientId, info: ClientInfo, at: Moment) -> Reply<T>
+    where
+        Q: Scheduler<T>,
+        ensures full { self.new.full ≡ self.old.full }
+        ensures steps { Steps T.ops (Q.state self.old.queue) (Q.state self.new.queue) (commands.Update client info at) (Some result) }
+    {
+        answers::updated(self.queue.update_info(client, info, at))
+    }
+
+    /// The queue takes out a client's requests.
+    pub fn remove<T: Tag>(&mut self, client: ClientId) -> Reply<T>
+    where
+        Q: Scheduler<T>,
+        ensures full { self.new.full ≡ self.old.full }
+        ensures steps { Steps T.ops (Q.state self.old.queue) (Q.state self.new.queue) (commands.Remove client) (Some result) }
+    {
+        answers::removed(self.queue.remove_by_client(client))
+    }
+
+    /// The queue marks clients idle, and erases old ones.
+    pub fn clean<T: Tag>(&mut self, at: Moment) -> Reply<T>
+    where
+        Q: Scheduler<T>,
+        ensures full { self.new.full ≡ self.old.full }
+        ensures steps { Steps T.ops (Q.state self.old.queue) (Q.state self.new.queue) (commands.Clean at) (Some result) }
+    {
+        answers::cleaned(self.queue.clean(at))
+    }
+}

@@ -248,30 +248,87 @@ fn one_circle(rt: HostRuntime) -> Result<(), Fail> {
     Ok(())
 }
 
-/// Another client's tills are refused at each call, and so is a server that the tracker has not.
-fn strangers<S: Setup, R: Abort + Wait>(rt: &R, alloc: Global, blank: Blank) -> Result<(), Fail>
+/// What stamp, status and respond are refused with.
+type Refused = (Option<EntryFault>, Option<TillFault>, Option<EntryFault>);
+
+fn refused_in_hand<S: Setup>(
+    book: &mut TrackerBook<S>,
+    server: ServerId,
+    tills: &mut StampTills<S>,
+    grants: &mut Till<S>,
+) -> Refused
+    requires { 0 < grants.old.amount }
+{
+    let stamped = book.stamp(server, tills).err();
+    let seen = book.status(server, tills).err();
+    let responded = book.respond(server, PhaseType::Priority, grants).err();
+    (stamped, seen, responded)
+}
+
+fn refused_at_lock<S: Setup, R: Wait>(
+    rt: &R,
+    lock: &TrackerLock<S>,
+    server: ServerId,
+    tills: &mut StampTills<S>,
+    grants: &mut Till<S>,
+) -> Refused
+    requires { 0 < grants.old.amount }
+{
+    let stamped = lock.stamp(rt, server, tills).err();
+    let seen = lock.status(rt, server, tills).err();
+    let responded = lock.respond(rt, server, PhaseType::Priority, grants).err();
+    (stamped, seen, responded)
+}
+
+/// What each call answers at server 0 to another client's tills, and at a server that the tracker has not.
+const STRANGERS: [(ServerId, Refused); 2] = [
+    (
+        ZERO,
+        (
+            Some(EntryFault::Stranger),
+            Some(TillFault::Stranger),
+            Some(EntryFault::Stranger),
+        ),
+    ),
+    (
+        ONE,
+        (
+            Some(EntryFault::NoServer),
+            Some(TillFault::NoServer),
+            Some(EntryFault::NoServer),
+        ),
+    ),
+];
+
+/// Refused in one hand and through the lock alike. What a second stamp then answers, where the list may carry one.
+fn strangers<S: Setup, R: Abort + Wait>(
+    rt: &R,
+    alloc: Global,
+    blank: Blank,
+    counting: Counting,
+) -> Result<Option<EntryFault>, Fail>
     requires { blank.name ≡ S.name }
 {
     let mut mint = blank.open::<S>();
-    let own = open_book(alloc, &mut mint, ClientId(1), (1, 9), Counting::Others)?;
-    let mut other = open_book(alloc, &mut mint, ClientId(2), (9, 9), Counting::All)?;
-    let Opened { book, mut desk, .. } = own;
-    let lock = TrackerLock::new(book);
+    let own = open_book(alloc, &mut mint, ClientId(1), (1, 9), counting)?;
+    let mut other = open_book(alloc, &mut mint, ClientId(2), (9, 9), counting)?;
+    let Opened {
+        mut book,
+        mut desk,
+        ..
+    } = own;
     let (tills, grants) = (&mut other.desk.held, &mut other.grants);
-    for (server, refused, unseen) in [
-        (ZERO, EntryFault::Stranger, TillFault::Stranger),
-        (ONE, EntryFault::NoServer, TillFault::NoServer),
-    ] {
-        assert_eq!(rt; lock.stamp(rt, server, tills).err(), Some(refused));
-        assert_eq!(rt; lock.status(rt, server, tills), Err(unseen));
+    for (server, refused) in STRANGERS {
         assert!(rt; grants.amount() > 0);
-        let responded = lock.respond(rt, server, PhaseType::Priority, grants);
-        assert_eq!(rt; responded, Err(refused));
+        assert_eq!(rt; refused_in_hand(&mut book, server, tills, grants), refused);
+    }
+    let lock = TrackerLock::new(book);
+    for (server, refused) in STRANGERS {
+        assert!(rt; grants.amount() > 0);
+        assert_eq!(rt; refused_at_lock(rt, &lock, server, tills, grants), refused);
     }
     lock.stamp(rt, ZERO, &mut desk.held)?;
-    let refused = lock.stamp(rt, ZERO, &mut desk.held).err();
-    assert_eq!(rt; refused, Some(EntryFault::TrackFull));
-    Ok(())
+    Ok(lock.stamp(rt, ZERO, &mut desk.held).err())
 }
 
 /// Another's pass comes back with the book, and each book settles with its own.
@@ -291,7 +348,14 @@ fn passes<S: Setup>(rt: &impl Abort, alloc: Global, blank: Blank) -> Result<(), 
 
 #[test]
 fn full_closed_stranger(rt: HostRuntime) -> Result<(), Fail> {
-    strangers::<Brand, HostRuntime>(&rt, rt.alloc(), Blank::new(10))?;
+    for (counting, full) in [
+        (Counting::All, None),
+        (Counting::Others, Some(EntryFault::TrackFull)),
+    ] {
+        let blank = Blank::new(10);
+        let refused = strangers::<Brand, HostRuntime>(&rt, rt.alloc(), blank, counting)?;
+        assert_eq!(rt; refused, full);
+    }
     passes::<Brand>(&rt, rt.alloc(), Blank::new(10))?;
     Ok(())
 }

@@ -19,7 +19,12 @@ use Rattle.dmc_tag.specs.declared.reply.Pulled.{Pulled}
 use Rattle.dmc_tag.specs.declared.reply.Pulled.TheVariants as pulls
 use Rattle.dmc_tag.specs.declared.reply.Reply.{Reply}
 use Rattle.dmc_tag.specs.declared.reply.Reply.TheVariants.{Refused}
+use Rattle.dmc_types.specs.declared.config.PhaseType.{PhaseType}
+use Rattle.dmc_types.specs.declared.ids.ClientId.{ClientId}
+use Rattle.dmc_pull.specs.Allowed.{PullsIf, SettlesIf, is_allowed}
 use Rattle.dmc_pull.specs.Choice.{Settles}
+use Rattle.dmc_pull.specs.declared.granting.PullFault.{PullFault}
+use Rattle.dmc_pull.specs.declared.granting.PullFault.TheVariants as faults
 
 module _ {T : Type 0} (ops : Tagging T) (s : State T) (t : ℕ) where
   abbrev on : State T
@@ -118,3 +123,30 @@ module _ {T : Type 0} (ops : Tagging T) (s new : State T) (at t : ℕ) (e : t �
 
     pub refused_on : is_err answer ≡ true → (after : State T) → after ≡ record new { last_moment = s.last_moment } → Exactly ops s after (Pull at) (told_surely pull_reply answer)
     refused_on n after a = subst (λ v. Exactly ops s v (Pull at) (told_surely pull_reply answer)) (sym a) (exactly_when (told_surely pull_reply answer) (record new { last_moment = s.last_moment }) (went_back ops s t (pulled_free ops s t (best (by_shares ops) (is_free ops t) s.requests)) answer new n (free_told ops s t (best (by_shares ops) (is_free ops t) s.requests)) on_moment))
+
+  -- ---- with a test
+
+  module _ (allows : ClientId → PhaseType → Bool) (went : State T) (went_is : went ≡ record s { last_moment = t }) where
+    -- what is granted by P in a state, or told
+    abbrev weighed : State T → Outcome T
+    weighed v = pulled_free ops v v.last_moment (free v)
+
+    pub pulled_if : (answer : Result Pulled PullFault) → SettlesIf allows went new (pulled_free ops went went.last_moment (free went)) answer → is_err answer ≡ false → PullsIf allows ops s new at answer
+    pulled_if (Ok x) h n = (pulled_on went went_is (Ok x) h.0 refl, h.1)
+    pulled_if (Err fault) h n = cc
+
+    same_reply : (v : State T) (o : Outcome T) → (settled v o).1 ≡ (settled s o).1
+    same_reply v (Ok answer) = refl
+    same_reply v (Err refusal) = refl
+
+    reply_is : (settled went (weighed went)).1 ≡ (step ops s (Pull at)).1
+    reply_is =
+        ap (λ v. (settled v (weighed v)).1) went_is
+        ∙ same_reply (record s { last_moment = t }) (weighed (record s { last_moment = t }))
+        ∙ ap (λ o. (settled s o).1) (free_same ops s t (best (by_shares ops) (is_free ops t) s.requests))
+        ∙ ap (λ p. p.1) pull_is
+
+    pub back_if : (answer : Result Pulled PullFault) → SettlesIf allows went new (pulled_free ops went went.last_moment (free went)) answer → is_err answer ≡ true → (after : State T) → after ≡ record new { last_moment = s.last_moment } → PullsIf allows ops s after at answer
+    back_if (Ok x) h n after a = cc
+    back_if (Err (faults.Refused refusal)) h n after a = refused_on went went_is (Err refusal) h refl after a
+    back_if (Err faults.Declined) h n after a = (a ∙ ap {A = State T} (λ v. record v { last_moment = s.last_moment }) (h.0 ∙ went_is), ap (is_allowed allows) (sym reply_is) ∙ h.1)

@@ -1,5 +1,5 @@
 -- What a grant makes of the plain state.
-use Rattle.std.proofs.Common.{◌≡◌, ℕ, Bool, true, false, not, cond, List, [], ◌∷◌, Option, Some, refl, sym, ap, ◌∙◌, subst}
+use Rattle.std.proofs.Common.{◌≡◌, ℕ, Bool, true, false, not, cond, List, [], ◌∷◌, Option, Some, None, refl, sym, ap, ◌∙◌, subst}
 use Rattle.std.specs.Prelude.{◌==◌, IfSome, Ok, Err, Result}
 use Rattle.std.specs.Option.{option_map, option_and_then}
 use Rattle.dmc_types.specs.declared.ids.ClientId.{ClientId}
@@ -11,12 +11,16 @@ use Rattle.dmc_types.specs.declared.refusal.Refusal.TheVariants.{Range}
 use Rattle.dmc_tag.specs.Tag.{Fraction, Tagging}
 use Rattle.dmc_tag.specs.Outcome.{◌>>=◌, refuse_if}
 use Rattle.dmc_tag.specs.Spacing.{spacings_of}
-use Rattle.dmc_tag.specs.Rules.{Outcome, without, granted, grant_priority, can_grant, reduction_of, reduction_at, can_reduce_by, reduced_by, reduced_requests}
+use Rattle.dmc_tag.specs.Rules.{Outcome, pulled_early, without, granted, grant_priority, can_grant, reduction_of, reduction_at, can_reduce_by, reduced_by, reduced_requests}
 use Rattle.dmc_tag.specs.Step.{settled}
 use Rattle.dmc_tag.specs.declared.plain.PlainRequest.{PlainRequest}
 use Rattle.dmc_tag.specs.declared.plain.PlainClient.{PlainClient}
 use Rattle.dmc_tag.specs.declared.reply.Reply.TheVariants.{Granted}
+use Rattle.dmc_tag.specs.State.{State}
 use Rattle.dmc_tag.specs.declared.reply.Reply.TheVariants as replies
+use Rattle.dmc_tag.specs.declared.reply.Pulled.TheVariants as pulls
+use Rattle.dmc_pull.specs.Allowed.{is_allowed, SettlesIf}
+use Rattle.dmc_pull.specs.declared.granting.PullFault.TheVariants as faults
 use Rattle.dmc_client.specs.Record.{Rec, client_of, request_of, requests_of_record}
 use Rattle.dmc_roster.specs.Entries.{Entry, record_at, with_record, with_record_at, AreDistinct}
 use Rattle.dmc_adjust.specs.Changes.{popped, reduced}
@@ -130,6 +134,23 @@ module _ {T : Type 0} (ops : Tagging T) where
     refusal_settles beyond can =
         subst (λ o. IfSome o (λ found. Settles (state_of old) (state_of old) (grant_priority ops (state_of old) t found beyond) (Some (replies.Refused Range)))) (sym first_is)
         (ap (λ r. settled (state_of old) (granted_by r beyond)) (sym (grantable_is false can)))
+
+    -- ---- with a test
+
+    pub priority_declined : (allows : ClientId → PhaseType → Bool) → allows client phases.Priority ≡ false → (beyond : Bool) → IfSome (first_at key es) (λ found. IsGrantable ops (state_of old) found (record_at key es) true) → IfSome (first_at key es) (λ found. SettlesIf allows (state_of old) (state_of old) (grant_priority ops (state_of old) t found beyond) (Err faults.Declined))
+    priority_declined allows denied beyond can =
+        subst (λ o. IfSome o (λ found. SettlesIf allows (state_of old) (state_of old) (grant_priority ops (state_of old) t found beyond) (Err faults.Declined))) (sym first_is)
+        (refl, ap (λ r. is_allowed allows ((settled (state_of old) (granted_by r beyond)).1)) (grantable_is true can) ∙ ap (λ id. allows id phases.Priority) (sym w.client_is) ∙ denied)
+
+    pub early_declined : (allows : ClientId → PhaseType → Bool) → allows client phases.Reservation ≡ false → (o : Option (PlainRequest T × List (PlainRequest T))) → o ≡ first_at key es → is_allowed allows ((settled (state_of old) (pulled_early ops (state_of old) t o)).1) ≡ false
+    early_declined allows denied o e =
+        ap (λ o. is_allowed allows ((settled (state_of old) (pulled_early ops (state_of old) t o)).1)) (e ∙ first_is) ∙ ap (λ id. allows id phases.Reservation) (sym w.client_is) ∙ denied
+
+-- what settles with a grant that the test allows
+pub allowed_settles : {T : Type 0} (allows : ClientId → PhaseType → Bool) (old new : State T) (outcomes : PlainRequest T × List (PlainRequest T) → Outcome T) (client : ClientId) (token : Token) (phase : PhaseType) (beyond : Bool) → allows client phase ≡ true → (o : Option (PlainRequest T × List (PlainRequest T)))
+    → IfSome o (λ found. Settles old new (outcomes found) (Some (Granted client token phase beyond))) → IfSome o (λ found. SettlesIf allows old new (outcomes found) (Ok (pulls.Returning client token phase beyond)))
+allowed_settles allows old new outcomes client token phase beyond allowed None h = h
+allowed_settles allows old new outcomes client token phase beyond allowed (Some found) h = (h, allowed)
 
 -- ---- the record that was asked
 

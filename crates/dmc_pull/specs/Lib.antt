@@ -4,3 +4,4 @@ pub mod Cleaning
 pub mod Queue
 pub mod Choice
 pub mod FirstRequests
+pub mod Allowed

@@ -3,6 +3,7 @@
 
 mod adding;
 mod cleaning;
+pub mod granting;
 mod heads;
 pub mod queue;
 mod records;

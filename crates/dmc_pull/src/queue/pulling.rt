@@ -2,6 +2,7 @@
 ghost use Rattle.std.specs.Prelude.{◌≡◌, ◌≤◌, List, ◌∷◌, false, true, Some, None, Ok, IfSome};
 ghost use Rattle.std.specs.Option.{option_map};
 ghost use Rattle.dmc_adjust.specs.Changes as changes;
+ghost use Rattle.dmc_pull.specs.Allowed.{PullsIf, SettlesIf};
 ghost use Rattle.dmc_pull.specs.Choice.{first_at, after_grant, IsFirstOf, Early, ByShares, IsGrantable, Settles};
 ghost use Rattle.dmc_pull.specs.Queue.{state_of, IsMarked};
 ghost use Rattle.dmc_pull.specs.Standing.{requests_in};
@@ -15,6 +16,7 @@ ghost use Rattle.dmc_types.specs.declared.command.Command.TheVariants as command
 ghost use Rattle.dmc_types.specs.declared.ids.Token.{Token};
 ghost use Rattle.dmc_types.specs.declared.config.PhaseType.TheVariants as phases;
 
+use crate::granting::{AllowAll, GrantTest, PullFault};
 use crate::heads::{due_moment, is_due, renew};
 use crate::queue::PullQueue;
 use crate::records::{first_tags, grant_first};
@@ -141,19 +143,23 @@ impl<T: Tag, I: Indexes<T>> PullQueue<T, I> {
         can_reduce(self.roster.at(key))
     }
 
-    /// Grants the first request of a client in the weight phase; refused `Range`.
-    fn grant_priority(
+    /// Grants the first request of a client in the weight phase, where the test allows it.
+    fn grant_priority<A: GrantTest>(
         &mut self,
         key: usize,
         client: ClientId,
         beyond: bool,
-    ) -> Result<Pulled, Refusal>
+        test: &A,
+    ) -> Result<Pulled, PullFault>
         requires { IsFirstOf self.old.roster.entries key client }
         ensures { IfSome (first_at key self.old.roster.entries) (λ found.
-            Settles (state_of self.old) (state_of self.new) (rules_of.grant_priority T.ops (state_of self.old) self.old.last_moment found beyond) (told_surely pull_reply result)) }
+            SettlesIf (A.allows test.now) (state_of self.old) (state_of self.new) (rules_of.grant_priority T.ops (state_of self.old) self.old.last_moment found beyond) result) }
     {
         if !self.can_grant(key, client) {
-            return Err(Refusal::Range);
+            return Err(PullFault::Refused(Refusal::Range));
+        }
+        if !test.allows(client, PhaseType::Priority) {
+            return Err(PullFault::Declined);
         }
         let at = self.last_moment();
         let token = self.take_out(key, client, true, at);
@@ -166,36 +172,50 @@ impl<T: Tag, I: Indexes<T>> PullQueue<T, I> {
     }
 
     /// Answers a pull where no request is early.
-    fn pull_by_shares(&mut self) -> Result<Pulled, Refusal>
+    fn pull_by_shares<A: GrantTest>(&mut self, test: &A) -> Result<Pulled, PullFault>
         requires marked { IsMarked T.ops self.old }
         requires none_early { best (by_reservation T.ops) (is_early T.ops self.old.last_moment) (requests_in self.old.roster.entries) ≡ None }
-        ensures { Settles (state_of self.old) (state_of self.new)
+        ensures { SettlesIf (A.allows test.now) (state_of self.old) (state_of self.new)
             (rules_of.pulled_free T.ops (state_of self.old) self.old.last_moment (best (by_shares T.ops) (is_free T.ops self.old.last_moment) (requests_in self.old.roster.entries)))
-            (told_surely pull_reply result) }
+            result }
     {
         let Some((key, client, free)) = self.by_shares() else {
             return Ok(Pulled::Nothing);
         };
         if free {
-            return self.grant_priority(key, client, false);
+            return self.grant_priority(key, client, false, test);
         }
         match self.config.at_limit() {
-            AtLimit::Allow => self.grant_priority(key, client, true),
+            AtLimit::Allow => self.grant_priority(key, client, true, test),
             AtLimit::Wait => Ok(Pulled::Future(self.next_due())),
         }
     }
 
-    /// Grants the next request, or tells when one is due; refused `Range`.
+    /// Grants the next request, or tells when one is due; refused `Range` (Algorithm 1; the future time is own).
     pub fn pull_request(&mut self, at: Moment) -> Result<Pulled, Refusal>
         ensures { Exactly T.ops (state_of self.old) (state_of self.new) (commands.Pull at) (told_surely pull_reply result) }
+    {
+        match self.pull_allowed(at, &AllowAll) {
+            Ok(pulled) => Ok(pulled),
+            Err(PullFault::Refused(refusal)) => Err(refusal),
+            Err(PullFault::Declined) => unreachable!(),
+        }
+    }
+
+    /// Pulls, but for a grant that the test does not allow: that is `Declined`, and nothing changes (own).
+    pub fn pull_allowed<A: GrantTest>(&mut self, at: Moment, test: &A) -> Result<Pulled, PullFault>
+        ensures { PullsIf (A.allows test.now) T.ops (state_of self.old) (state_of self.new) at result }
     {
         let before = self.last_moment();
         let at = self.effective(at);
         if let Some((key, client)) = self.early(at) {
+            if !test.allows(client, PhaseType::Reservation) {
+                return Err(PullFault::Declined);
+            }
             return Ok(self.grant_early(key, client, at));
         }
         self.advance(at);
-        let answer = self.pull_by_shares();
+        let answer = self.pull_by_shares(test);
         if answer.is_err() {
             self.go_back(before);
         }

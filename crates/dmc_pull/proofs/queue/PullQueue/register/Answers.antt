@@ -1,4 +1,4 @@
-use Rattle.std.proofs.Common.{rules, arith, ◌≤◌}
+use Rattle.std.proofs.Common.{arith}
 use Rattle.dmc_tag.proofs.ForCallers.{moments_are_values}
 use Rattle.dmc_pull.proofs.queue.PullQueue.register.Goals as goal
 

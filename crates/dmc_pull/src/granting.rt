@@ -1,0 +1,39 @@
+//! A pull that asks before it grants.
+ghost use Rattle.std.specs.Prelude.{◌≡◌, Bool, true};
+ghost use Rattle.dmc_types.specs.declared.config.PhaseType.{PhaseType as Phase};
+ghost use Rattle.dmc_types.specs.declared.ids.ClientId.{ClientId as Client};
+
+use dmc_types::config::PhaseType;
+use dmc_types::ids::ClientId;
+use dmc_types::refusal::Refusal;
+
+/// A question that a pull asks before it grants (own).
+pub trait GrantTest {
+    /// Whether a grant may go to a client in a phase.
+    ghost allows: { Self → Client → Phase → Bool };
+
+    /// Whether a grant may go to the client in this phase.
+    fn allows(&self, client: ClientId, phase: PhaseType) -> bool
+        ensures { result ≡ allows self.now client phase };
+}
+
+/// The test that every grant passes.
+#[derive(Drop)]
+pub struct AllowAll;
+
+impl GrantTest for AllowAll {
+    ghost allows = { λ s client phase. true };
+
+    fn allows(&self, _client: ClientId, _phase: PhaseType) -> bool {
+        true
+    }
+}
+
+/// Why a pull with a test fails. Nothing has changed.
+#[derive(Clone, Copy, Debug, PartialEq, Eq)]
+pub enum PullFault {
+    /// The rules refuse the pull.
+    Refused(Refusal),
+    /// The rules grant a request to a client and in a phase that the test does not allow.
+    Declined,
+}

@@ -9,6 +9,7 @@ use dmc_types::info::ClientInfo;
 use dmc_types::moment::Moment;
 use dmc_types::params::ReqParams;
 use std::alloc::AllocError;
+use thiserror::Error;
 
 /// A request that was stamped and has not yet arrived: what the client names it by, and the two counts of its stamp.
 #[derive(Clone, Copy, Debug, PartialEq, Eq)]
@@ -75,23 +76,31 @@ pub enum CoreReply<T> {
 }
 
 /// Why an event is refused. It has changed nothing. Of several causes the first is told, in this order.
-#[derive(Clone, Copy, Debug, PartialEq, Eq)]
+#[derive(Clone, Copy, Debug, PartialEq, Eq, Error)]
 pub enum CoreFault {
     /// The cluster has no such client (`Stamp`, `Arrive`, `Respond`).
+    #[error("the cluster has no such client")]
     NoClient,
     /// The cluster has no such server.
+    #[error("the cluster has no such server")]
     NoServer,
     /// 2^20 messages from the client to the server are in flight (`Stamp`).
+    #[error("2^20 messages are in flight")]
     FlightFull,
     /// The client's tracker would count past 2^32-1 (`Stamp`, `Respond`).
+    #[error("the tracker has counted its most")]
     TrackFull,
     /// No message from the client to the server is in flight (`Arrive`).
+    #[error("no message is in flight")]
     NoFlight,
     /// 2^32-1 grants of the server to some client, all in one phase, wait for their responses (`Pull`).
+    #[error("too many grants wait for their responses")]
     GrantsFull,
     /// No grant of the server to the client in the phase waits for its response (`Respond`).
+    #[error("no grant waits for its response")]
     NoGrant,
     /// The allocator refused a growth (`Stamp`, `Arrive`).
+    #[error("out of memory")]
     Memory,
 }
 

@@ -8,22 +8,26 @@ ghost use Rattle.dmc_history.specs.Log.{block_size};
 pub use dmc_tag::event::Event;
 use std::alloc::{AllocError, Global};
 use std::marker::Model;
+use thiserror::Error;
 
 // How many events a block has room for.
 const BLOCK: usize = 1024;
 
 /// A history that could not be made: `most` was not 1 to 2^30.
-#[derive(Clone, Copy, Debug, PartialEq, Eq)]
+#[derive(Clone, Copy, Debug, PartialEq, Eq, Error)]
 pub enum LimitFault {
+    #[error("the most events are not 1 to 2^30")]
     Limit,
 }
 
 /// Why no place was reserved. The history is as it was.
-#[derive(Clone, Copy, Debug, PartialEq, Eq)]
+#[derive(Clone, Copy, Debug, PartialEq, Eq, Error)]
 pub enum ReserveFault {
     /// It has its `most` events.
+    #[error("the history is full")]
     HistoryFull,
     /// The allocator refused a growth.
+    #[error("out of memory")]
     Memory,
 }
 

@@ -6,6 +6,7 @@ ghost use Rattle.dmc_types.specs.declared.ids.ClientId.{ClientId as Client};
 use dmc_types::config::PhaseType;
 use dmc_types::ids::ClientId;
 use dmc_types::refusal::Refusal;
+use thiserror::Error;
 
 /// A question that a pull asks before it grants (own).
 pub trait GrantTest {
@@ -30,10 +31,12 @@ impl GrantTest for AllowAll {
 }
 
 /// Why a pull with a test fails. Nothing has changed.
-#[derive(Clone, Copy, Debug, PartialEq, Eq)]
+#[derive(Clone, Copy, Debug, PartialEq, Eq, Error)]
 pub enum PullFault {
     /// The rules refuse the pull.
+    #[error("{0}")]
     Refused(Refusal),
     /// The rules grant a request to a client and in a phase that the test does not allow.
+    #[error("the grant is not allowed")]
     Declined,
 }

@@ -4,19 +4,25 @@ ghost use Rattle.dmc_scene.specs.declared.fault.SceneFault.TheVariants.{Memory};
 
 use crate::key::Key;
 use std::alloc::AllocError;
+use thiserror::Error;
 
 /// Why a text is no scene. Of several causes the first is told, in the order of the keys.
-#[derive(Clone, Copy, Debug, PartialEq, Eq)]
+#[derive(Clone, Copy, Debug, PartialEq, Eq, Error)]
 pub enum SceneFault {
     /// The text has more than 2^20 bytes, or is no UTF-8, or no TOML.
+    #[error("the text is no TOML of at most 2^20 bytes")]
     Text,
     /// There is no such key.
+    #[error("the key {} is missing", .0.name())]
     Missing(Key),
     /// The key holds a value of another kind.
+    #[error("the value of the key {} is of another kind", .0.name())]
     Kind(Key),
     /// The key holds a value past its limits.
+    #[error("the value of the key {} is past its limits", .0.name())]
     Value(Key),
     /// The allocator refused a growth, which says nothing of the text.
+    #[error("out of memory")]
     Memory,
 }
 

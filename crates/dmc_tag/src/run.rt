@@ -7,9 +7,11 @@ use crate::scheduler::Scheduler;
 use crate::tag::Tag;
 use dmc_types::command::Command;
 use std::alloc::Global;
+use thiserror::Error;
 
 /// Want of memory. The first `done` commands were carried out, and no other.
-#[derive(Clone, Copy, Debug, PartialEq, Eq)]
+#[derive(Clone, Copy, Debug, PartialEq, Eq, Error)]
+#[error("out of memory after {done} commands")]
 pub struct Stop {
     pub done: usize,
 }

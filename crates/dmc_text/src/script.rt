@@ -25,6 +25,7 @@ use dmc_types::config::QueueConfig;
 use dmc_types::refusal::ValueFault;
 use std::alloc::{AllocError, Global};
 use std::io::{self, ErrorKind, Read, Write};
+use thiserror::Error;
 
 /// Makes the queue of a script, when its `hz` line is read.
 pub trait QueueMaker<T: Tag> {
@@ -88,15 +89,19 @@ fn ask<T: TagText, Q: Scheduler<T>>(
 }
 
 /// Why a run of a script ends before its end.
-#[derive(Clone, Copy, Debug, PartialEq, Eq)]
+#[derive(Clone, Copy, Debug, PartialEq, Eq, Error)]
 pub enum ScriptFault {
     /// A line is faulty: its number, counted from 1, and why.
+    #[error("line {0}: {1}")]
     Line(u64, LineCause),
     /// The reader failed, or the text has more than 2^32 bytes.
+    #[error("the text cannot be read")]
     Read,
     /// The writer failed.
+    #[error("the replies cannot be written")]
     Write,
     /// There was no memory.
+    #[error("out of memory")]
     Memory,
 }
 

@@ -1,28 +1,36 @@
 //! Why a call of a tracker book is refused.
 use dmc_history::ReserveFault;
 use dmc_tracker::tracker::TrackFault;
+use thiserror::Error;
 
 /// Why tills are not taken for a server's.
-#[derive(Clone, Copy, Debug, PartialEq, Eq)]
+#[derive(Clone, Copy, Debug, PartialEq, Eq, Error)]
 pub enum TillFault {
     /// The tracker has no such server.
+    #[error("the tracker has no such server")]
     NoServer,
     /// A till is not of that server's books here.
+    #[error("a till is of other books")]
     Stranger,
 }
 
 /// Why a stamp or a response is refused. Nothing has changed.
-#[derive(Clone, Copy, Debug, PartialEq, Eq)]
+#[derive(Clone, Copy, Debug, PartialEq, Eq, Error)]
 pub enum EntryFault {
     /// The tracker has no such server.
+    #[error("the tracker has no such server")]
     NoServer,
     /// A till is not of that server's books here; of a response, not of the phase's.
+    #[error("a till is of other books")]
     Stranger,
     /// The call would take a count past the tracker's `most`.
+    #[error("the tracker has counted its most")]
     TrackFull,
     /// The list has its `most_events` entries.
+    #[error("the history is full")]
     HistoryFull,
     /// The allocator refused a growth of the list.
+    #[error("out of memory")]
     Memory,
 }
 

@@ -13,22 +13,27 @@ use dmc_types::ids::ServerId;
 use dmc_types::params::ReqParams;
 use std::alloc::{AllocError, Global};
 use std::marker::Model;
+use thiserror::Error;
 
 /// Why a tracker could not be made.
-#[derive(Clone, Copy, Debug, PartialEq, Eq)]
+#[derive(Clone, Copy, Debug, PartialEq, Eq, Error)]
 pub enum MakeFault {
     /// The servers are not 1 to 64, or `most` is not 1 to 2^32-1.
+    #[error("the servers are not 1 to 64, or the most completions are 0")]
     Limit,
     /// The allocator refused the room.
+    #[error("out of memory")]
     Memory,
 }
 
 /// Why a stamp or a response is refused. The tracker is as it was.
-#[derive(Clone, Copy, Debug, PartialEq, Eq)]
+#[derive(Clone, Copy, Debug, PartialEq, Eq, Error)]
 pub enum TrackFault {
     /// The tracker has no such server.
+    #[error("the tracker has no such server")]
     NoServer,
     /// The call would take a count past the tracker's `most`.
+    #[error("the tracker has counted its most")]
     TrackFull,
 }
 

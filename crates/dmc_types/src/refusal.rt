@@ -4,53 +4,70 @@ ghost use Rattle.dmc_types.specs.declared.refusal.QueueFault.TheVariants.{Refuse
 ghost use Rattle.dmc_types.specs.declared.refusal.Refusal.TheVariants.{Inexact};
 
 use std::alloc::AllocError;
+use thiserror::Error;
 
 /// A value out of its limits.
-#[derive(Clone, Copy, Debug, PartialEq, Eq)]
+#[derive(Clone, Copy, Debug, PartialEq, Eq, Error)]
 pub enum ValueFault {
     /// A moment past 2^62 ticks.
+    #[error("the moment is past 2^62 ticks")]
     Moment,
     /// A rho past its delta.
+    #[error("rho is past delta")]
     Params,
     /// A rate of 0.
+    #[error("the rate is 0")]
     Rate,
     /// A configuration out of its limits.
+    #[error("the configuration is out of its limits")]
     Config,
 }
 
 /// Which rate of a client is meant.
-#[derive(Clone, Copy, Debug, PartialEq, Eq)]
+#[derive(Clone, Copy, Debug, PartialEq, Eq, Error)]
 pub enum Field {
+    #[error("reservation")]
     Reservation,
+    #[error("weight")]
     Weight,
+    #[error("limit")]
     Limit,
 }
 
 /// Why a queue refuses a command. A refused command changes nothing.
-#[derive(Clone, Copy, Debug, PartialEq, Eq)]
+#[derive(Clone, Copy, Debug, PartialEq, Eq, Error)]
 pub enum Refusal {
     /// The client is registered already.
+    #[error("the client is registered already")]
     Known,
     /// The client is not registered.
+    #[error("the client is not registered")]
     Unknown,
     /// A rate whose spacing is no value of the tag type.
+    #[error("the spacing of the {0} is no value of the tag type")]
     Inexact(Field),
     /// 65,536 clients are registered.
+    #[error("65,536 clients are registered")]
     Clients,
     /// 2^20 requests are queued.
+    #[error("2^20 requests are queued")]
     QueueFull,
     /// A sum that the command needs is no value of the tag type.
+    #[error("a sum is no value of the tag type")]
     Range,
     /// An update that gives or takes a reservation while the client has a queued request.
+    #[error("the client has a queued request")]
     Busy,
 }
 
 /// Why a queue's call that may grow fails.
-#[derive(Clone, Copy, Debug, PartialEq, Eq)]
+#[derive(Clone, Copy, Debug, PartialEq, Eq, Error)]
 pub enum QueueFault {
     /// The rules refuse the command.
+    #[error("{0}")]
     Refused(Refusal),
     /// The allocator refused a growth. Nothing has changed.
+    #[error("out of memory")]
     Memory,
 }
 

@@ -1,6 +1,6 @@
 # The program, proved and built: crates/dmc_cli/out/dmc_cli, which ./dmclock runs.
 program:
-	cd crates/dmc_cli && rt run -- script < stdin
+	scripts/build
 
 # The gate: every proof from nothing, the must-fail edits, the tests and the programs.
 test:
@@ -21,8 +21,12 @@ examples:
 refusals:
 	scripts/refusals
 
+# What three clients were granted over time, drawn as docs/grants.svg. It needs gnuplot.
+picture:
+	scripts/picture
+
 # The library for C and C++, c/out/libdmclock.a, with its examples and tests: builds and runs them. Not a part of the gate.
 c:
 	c/build
 
-.PHONY: program test demo examples refusals c
+.PHONY: program test demo examples refusals picture c

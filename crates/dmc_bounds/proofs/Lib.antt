@@ -1,0 +1,15 @@
+pub mod Pace
+pub mod Paced
+pub mod PacedSteps
+pub mod Turns
+pub mod InTurn
+pub mod TurnSteps
+pub mod Distinct
+pub mod LimitLaw
+pub mod Reserved
+pub mod ReservedSteps
+pub mod ReservationLaw
+pub mod Own
+pub mod Arrived
+pub mod Numbered
+pub mod Tally

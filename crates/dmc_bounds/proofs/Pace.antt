@@ -1,0 +1,185 @@
+-- Fractions that are not below a whole number of ticks over a rate, and what assignment keeps of that.
+use Rattle.std.proofs.Common.{◌≡◌, ℕ, ◌*◌, ◌<◌, ◌≤◌, Bool, true, false, cond, not, Option, Some, None, refl, sym, ap, ◌∙◌, subst, arith}
+use Rattle.std.specs.Prelude.{ℤ, pos, ◌+ℤ◌, ◌-ℤ◌, ◌*ℤ◌, ◌≤ℤ◌, Ok}
+use Rattle.std.specs.declared.cmp.Ordering.{Ordering}
+use Rattle.std.specs.declared.cmp.Ordering.TheVariants.{Less, Equal, Greater}
+use Rattle.std.specs.Ordering.{is_gt, is_lt, ord_max, ordering_reverse}
+use Rattle.std.specs.Cmp.{IsTotalOrder}
+use Rattle.std.proofs.lemmas.Int.{ints}
+use Rattle.std.proofs.Math.IntN.{*ℤ_comm, *ℤ-one}
+use Rattle.dmc_tag.specs.Tag.{Fraction, Tagging, IsExact, IsSame, Gives}
+use Rattle.dmc_tag.specs.Order.{AtMost}
+use Rattle.dmc_tag.specs.Outcome.{in_range}
+use Rattle.dmc_tag.specs.Rules.{next_tag}
+use Rattle.dmc_tag.specs.Best.{is_due}
+use Rattle.std.proofs.Math.Nat.{mul-le-mul_left}
+use Rattle.dmc_tag.proofs.Scaled.{scaled_twice, scaled_sum, scaled_difference, scaled_le, unscaled_le}
+use Rattle.dmc_tag.proofs.TagOrder.{positive, bound, from_range, at_most_to}
+
+-- the fraction is not below m/q
+pub record NotBelow (f : Fraction) (m : ℤ) (q : ℕ) : Type 0 where
+  pub le : (m *ℤ pos f.denom) ≤ℤ (f.numer *ℤ pos q)
+
+le_of : (x y : ℤ) → x ≡ y → x ≤ℤ y
+le_of x y e = omega (arith, ints)
+
+le_trans : (x y z : ℤ) → x ≤ℤ y → y ≤ℤ z → x ≤ℤ z
+le_trans x y z p q = omega (arith, ints)
+
+cancelled : (x y : ℤ) (d : ℕ) → 0 < d → x *ℤ pos d ≡ y *ℤ pos d → x ≡ y
+cancelled x y d some e =
+    let up = unscaled_le x y d some (le_of _ _ e) in
+    let down = unscaled_le y x d some (le_of _ _ (sym e)) in
+    omega (arith, ints)
+
+-- two factors turned
+turned : (z : ℤ) (a b : ℕ) → (z *ℤ pos a) *ℤ pos b ≡ (z *ℤ pos b) *ℤ pos a
+turned z a b = scaled_twice z a b ∙ ap (λ n. z *ℤ pos n) (omega arith) ∙ sym (scaled_twice z b a)
+
+-- k spacings of a rate are k*hz over it
+steps_worth : (dn spn : ℤ) (dd spd k hz q : ℕ) → 0 < spd → dn *ℤ pos spd ≡ (pos k *ℤ spn) *ℤ pos dd → spn *ℤ pos q ≡ pos hz *ℤ pos spd → dn *ℤ pos q ≡ pos (hz * k) *ℤ pos dd
+steps_worth dn spn dd spd k hz q some e s =
+    cancelled _ _ spd some (
+    turned dn q spd
+    ∙ ap (λ z. z *ℤ pos q) (e ∙ ap (λ z. z *ℤ pos dd) (*ℤ_comm (pos k) spn))
+    ∙ turned (spn *ℤ pos k) dd q
+    ∙ ap (λ z. z *ℤ pos dd) (turned spn k q ∙ ap (λ z. z *ℤ pos k) s)
+    ∙ ap pos (omega arith)
+    )
+
+-- more, where the fraction is more
+pub raised : (f g : Fraction) (m : ℤ) (q : ℕ) → 0 < f.denom → (f.numer *ℤ pos g.denom) ≤ℤ (g.numer *ℤ pos f.denom) → NotBelow f m q → NotBelow g m q
+raised f g m q some le h = record {
+  le = unscaled_le _ _ f.denom some (
+      le_trans _ _ _ (le_of _ _ (turned m g.denom f.denom))
+      (le_trans _ _ _ (scaled_le _ _ g.denom h.le)
+      (le_trans _ _ _ (le_of _ _ (turned f.numer q g.denom))
+      (le_trans _ _ _ (scaled_le _ _ q le) (le_of _ _ (turned g.numer f.denom q))))));
+}
+
+-- more by k*hz, where k spacings are added
+pub added : (a d x : Fraction) (m : ℤ) (q n : ℕ) → 0 < a.denom → 0 < d.denom → x.numer *ℤ pos (a.denom * d.denom) ≡ (a.numer *ℤ pos d.denom +ℤ d.numer *ℤ pos a.denom) *ℤ pos x.denom → d.numer *ℤ pos q ≡ pos n *ℤ pos d.denom → NotBelow a m q → NotBelow x (m +ℤ pos n) q
+added a d x m q n some_a some_d same worth h =
+    let both = a.denom * d.denom in
+    let right : (x.numer *ℤ pos q) *ℤ pos both ≡ ((a.numer *ℤ pos q) *ℤ pos d.denom) *ℤ pos x.denom +ℤ ((pos n *ℤ pos d.denom) *ℤ pos a.denom) *ℤ pos x.denom =
+    turned x.numer q both
+    ∙ ap (λ z. z *ℤ pos q) same
+    ∙ turned (a.numer *ℤ pos d.denom +ℤ d.numer *ℤ pos a.denom) x.denom q
+    ∙ ap (λ z. z *ℤ pos x.denom) (scaled_sum (a.numer *ℤ pos d.denom) (d.numer *ℤ pos a.denom) q)
+    ∙ ap (λ z. (z +ℤ (d.numer *ℤ pos a.denom) *ℤ pos q) *ℤ pos x.denom) (turned a.numer d.denom q)
+    ∙ ap (λ z. ((a.numer *ℤ pos q) *ℤ pos d.denom +ℤ z) *ℤ pos x.denom) (turned d.numer a.denom q ∙ ap (λ z. z *ℤ pos a.denom) worth)
+    ∙ scaled_sum ((a.numer *ℤ pos q) *ℤ pos d.denom) ((pos n *ℤ pos d.denom) *ℤ pos a.denom) x.denom in
+    let left : ((m +ℤ pos n) *ℤ pos x.denom) *ℤ pos both ≡ ((m *ℤ pos a.denom) *ℤ pos d.denom) *ℤ pos x.denom +ℤ ((pos n *ℤ pos d.denom) *ℤ pos a.denom) *ℤ pos x.denom =
+    turned (m +ℤ pos n) x.denom both
+    ∙ ap (λ z. z *ℤ pos x.denom) (scaled_sum m (pos n) both)
+    ∙ scaled_sum (m *ℤ pos both) (pos n *ℤ pos both) x.denom
+    ∙ ap (λ z. z *ℤ pos x.denom +ℤ (pos n *ℤ pos both) *ℤ pos x.denom) (sym (scaled_twice m a.denom d.denom))
+    ∙ ap (λ z. ((m *ℤ pos a.denom) *ℤ pos d.denom) *ℤ pos x.denom +ℤ z) (ap pos (omega arith)) in
+    let more = scaled_le _ _ x.denom (scaled_le _ _ d.denom h.le) in
+    record { le = unscaled_le _ _ both (positive _ _ some_a some_d) (joined _ _ _ _ _ left right more) } where
+      joined : (x y u v w : ℤ) → x ≡ u +ℤ w → y ≡ v +ℤ w → u ≤ℤ v → x ≤ℤ y
+      joined x y u v w p q h = omega (arith, ints)
+
+-- less by n, where n over the rate is taken off
+pub taken_off : (a d x : Fraction) (m : ℤ) (q n : ℕ) → 0 < a.denom → 0 < d.denom → x.numer *ℤ pos (a.denom * d.denom) ≡ (a.numer *ℤ pos d.denom -ℤ d.numer *ℤ pos a.denom) *ℤ pos x.denom → d.numer *ℤ pos q ≡ pos n *ℤ pos d.denom → NotBelow a m q → NotBelow x (m -ℤ pos n) q
+taken_off a d x m q n some_a some_d same worth h =
+    let both = a.denom * d.denom in
+    let right : (x.numer *ℤ pos q) *ℤ pos both ≡ ((a.numer *ℤ pos q) *ℤ pos d.denom) *ℤ pos x.denom -ℤ ((pos n *ℤ pos d.denom) *ℤ pos a.denom) *ℤ pos x.denom =
+    turned x.numer q both
+    ∙ ap (λ z. z *ℤ pos q) same
+    ∙ turned (a.numer *ℤ pos d.denom -ℤ d.numer *ℤ pos a.denom) x.denom q
+    ∙ ap (λ z. z *ℤ pos x.denom) (scaled_difference (a.numer *ℤ pos d.denom) (d.numer *ℤ pos a.denom) q)
+    ∙ ap (λ z. (z -ℤ (d.numer *ℤ pos a.denom) *ℤ pos q) *ℤ pos x.denom) (turned a.numer d.denom q)
+    ∙ ap (λ z. ((a.numer *ℤ pos q) *ℤ pos d.denom -ℤ z) *ℤ pos x.denom) (turned d.numer a.denom q ∙ ap (λ z. z *ℤ pos a.denom) worth)
+    ∙ scaled_difference ((a.numer *ℤ pos q) *ℤ pos d.denom) ((pos n *ℤ pos d.denom) *ℤ pos a.denom) x.denom in
+    let left : ((m -ℤ pos n) *ℤ pos x.denom) *ℤ pos both ≡ ((m *ℤ pos a.denom) *ℤ pos d.denom) *ℤ pos x.denom -ℤ ((pos n *ℤ pos d.denom) *ℤ pos a.denom) *ℤ pos x.denom =
+    turned (m -ℤ pos n) x.denom both
+    ∙ ap (λ z. z *ℤ pos x.denom) (scaled_difference m (pos n) both)
+    ∙ scaled_difference (m *ℤ pos both) (pos n *ℤ pos both) x.denom
+    ∙ ap (λ z. z *ℤ pos x.denom -ℤ (pos n *ℤ pos both) *ℤ pos x.denom) (sym (scaled_twice m a.denom d.denom))
+    ∙ ap (λ z. ((m *ℤ pos a.denom) *ℤ pos d.denom) *ℤ pos x.denom -ℤ z) (ap pos (omega arith)) in
+    let more = scaled_le _ _ x.denom (scaled_le _ _ d.denom h.le) in
+    record { le = unscaled_le _ _ both (positive _ _ some_a some_d) (joined _ _ (((m *ℤ pos a.denom) *ℤ pos d.denom) *ℤ pos x.denom) (((a.numer *ℤ pos q) *ℤ pos d.denom) *ℤ pos x.denom) (((pos n *ℤ pos d.denom) *ℤ pos a.denom) *ℤ pos x.denom) left right more) } where
+      joined : (x y u v w : ℤ) → x ≡ u -ℤ w → y ≡ v -ℤ w → u ≤ℤ v → x ≤ℤ y
+      joined x y u v w p q h = omega (arith, ints)
+
+-- what is not below more is not below less
+pub lowered : (f : Fraction) (m k : ℤ) (q : ℕ) → k ≤ℤ m → NotBelow f m q → NotBelow f k q
+lowered f m k q le h = record { le = le_trans _ _ _ (scaled_le _ _ f.denom le) h.le }
+
+times_one : (z : ℤ) → z ≡ z *ℤ pos 1
+unfolding lib.IntN.one
+times_one z = sym (*ℤ-one z)
+
+module _ {T : Type 0} (ops : Tagging T) (fraction : T → Fraction) (is_value : Fraction → Type 0) (exact : IsExact ops fraction is_value) where
+  -- what an operation gave is its fraction
+  pub given : (o : Option T) (f : Fraction) (a : T) → Gives fraction is_value o f → o ≡ Some a → IsSame (fraction a) f
+  given None f a g e = cc
+  given (Some b) f a g e = let same : b ≡ a = cc in subst (λ c. IsSame (fraction c) f) same g.1
+
+  -- a moment is not below an earlier one
+  pub moment_from : (at t q : ℕ) → at ≤ t → NotBelow (fraction (ops.of_moment t)) (pos (q * at)) q
+  moment_from at t q h =
+      let f = fraction (ops.of_moment t) in
+      let is : f.numer *ℤ pos 1 ≡ pos t *ℤ pos f.denom = exact.of_moment t in
+      let is_so : f.numer *ℤ pos q ≡ pos (t * f.denom * q) = ap (λ z. z *ℤ pos q) (times_one f.numer ∙ is) in
+      record { le = subst (λ z. (pos (q * at) *ℤ pos f.denom) ≤ℤ z) (sym is_so) (below _ _ (grown at t q f.denom h)) } where
+        below : (a b : ℕ) → a ≤ b → pos a ≤ℤ pos b
+        below a b h = omega (arith, ints)
+
+        grown : (at t q d : ℕ) → at ≤ t → q * at * d ≤ t * d * q
+        grown at t q d h = let le : (q * d) * at ≤ (q * d) * t = mul-le-mul_left (q * d) h in omega arith
+
+  -- the tag that is due at a moment is not past it
+  pub due_within : (tag : T) (t q : ℕ) (m : ℤ) → is_due ops t (Some tag) ≡ true → NotBelow (fraction tag) m q → m ≤ℤ pos (q * t)
+  due_within tag t q m due h =
+      let f = fraction (ops.of_moment t) in
+      let up = raised (fraction tag) f m q (exact.denom tag) (at_most_to ops fraction is_value exact tag (ops.of_moment t) (not_true _ due)) h in
+      let is : f.numer *ℤ pos 1 ≡ pos t *ℤ pos f.denom = exact.of_moment t in
+      let is_so : f.numer *ℤ pos q ≡ pos (q * t) *ℤ pos f.denom = ap (λ z. z *ℤ pos q) (times_one f.numer ∙ is) ∙ ap pos (omega arith) in
+      unscaled_le m (pos (q * t)) f.denom (exact.denom (ops.of_moment t)) (subst (λ z. (m *ℤ pos f.denom) ≤ℤ z) is_so up.le) where
+        not_true : (b : Bool) → not b ≡ true → b ≡ false
+        not_true true e = cc
+        not_true false e = refl
+
+  -- a tag less a spacing
+  pub less_by : (a amount x : T) (m : ℤ) (hz q : ℕ) → ops.spacing hz q ≡ Some amount → ops.minus a amount ≡ Some x → NotBelow (fraction a) m q → NotBelow (fraction x) (m -ℤ pos hz) q
+  less_by a amount x m hz q s e h = taken_off (fraction a) (fraction amount) (fraction x) m q hz (exact.denom a) (exact.denom amount) (given (ops.minus a amount) _ x (exact.minus a amount) e) (given (ops.spacing hz q) _ amount (exact.spacing hz q) s) h
+
+  module _ (order : IsTotalOrder ops.compare) where
+    not_behind : (a b : T) (r : Ordering) → ops.compare b a ≡ r → is_lt r ≡ false → AtMost ops a b
+    not_behind a b Less p h = cc
+    not_behind a b Equal p h = ap is_gt (order.antisymm a b ∙ ap ordering_reverse p)
+    not_behind a b Greater p h = ap is_gt (order.antisymm a b ∙ ap ordering_reverse p)
+
+    -- the next tag is more by k*hz
+    pub next_paced : (previous spacing tag t : T) (m : ℤ) (hz q k : ℕ) → ops.spacing hz q ≡ Some spacing → next_tag ops previous k spacing t ≡ Ok tag → NotBelow (fraction previous) m q → NotBelow (fraction tag) (m +ℤ pos (hz * k)) q
+    next_paced previous spacing tag t m hz q k s e h =
+        let step = bound (in_range (ops.steps spacing k)) _ tag e in
+        let sum = bound (in_range (ops.plus previous step.0)) _ tag step.2 in
+        let tag_is : ord_max ops.compare sum.0 t ≡ tag = cc (sum.2) in
+        let fs = fraction spacing in
+        let fd = fraction step.0 in
+        let worth = steps_worth fd.numer fs.numer fd.denom fs.denom k hz q (exact.denom spacing) (given (ops.steps spacing k) _ step.0 (exact.steps spacing k) (from_range _ _ step.1)) (given (ops.spacing hz q) _ spacing (exact.spacing hz q) s) in
+        let more = added (fraction previous) fd (fraction sum.0) m q (hz * k) (exact.denom previous) (exact.denom step.0) (given (ops.plus previous step.0) _ sum.0 (exact.plus previous step.0) (from_range _ _ sum.1)) worth h in
+        subst (λ x. NotBelow (fraction x) (m +ℤ pos (hz * k)) q) tag_is (greater sum.0 t _ refl more) where
+          greater : (sum t : T) (b : Bool) → is_lt (ops.compare t sum) ≡ b → NotBelow (fraction sum) (m +ℤ pos (hz * k)) q → NotBelow (fraction (cond b sum t)) (m +ℤ pos (hz * k)) q
+          greater sum t true e h = h
+          greater sum t false e h = raised (fraction sum) (fraction t) _ q (exact.denom sum) (at_most_to ops fraction is_value exact sum t (not_behind sum t _ refl e)) h
+
+    -- and not below the moment
+    pub next_from : (previous spacing tag : T) (t hz q k : ℕ) → next_tag ops previous k spacing (ops.of_moment t) ≡ Ok tag → NotBelow (fraction tag) (pos (q * t)) q
+    next_from previous spacing tag t hz q k e =
+        let now = ops.of_moment t in
+        let step = bound (in_range (ops.steps spacing k)) _ tag e in
+        let sum = bound (in_range (ops.plus previous step.0)) _ tag step.2 in
+        let tag_is : ord_max ops.compare sum.0 now ≡ tag = cc (sum.2) in
+        subst (λ x. NotBelow (fraction x) (pos (q * t)) q) tag_is (greater sum.0 _ refl) where
+          under : (a b : T) (r : Ordering) → ops.compare a b ≡ r → is_lt r ≡ true → AtMost ops a b
+          under a b Less e h = ap is_gt e
+          under a b Equal e h = cc
+          under a b Greater e h = cc
+
+          greater : (sum : T) (b : Bool) → is_lt (ops.compare (ops.of_moment t) sum) ≡ b → NotBelow (fraction (cond b sum (ops.of_moment t))) (pos (q * t)) q
+          greater sum true e = raised (fraction (ops.of_moment t)) (fraction sum) _ q (exact.denom (ops.of_moment t)) (at_most_to ops fraction is_value exact (ops.of_moment t) sum (under _ _ _ refl e)) (moment_from t t q (omega arith))
+          greater sum false e = moment_from t t q (omega arith)

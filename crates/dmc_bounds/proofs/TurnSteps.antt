@@ -1,0 +1,273 @@
+-- Each command keeps the requests of a client in order of their tags.
+use Rattle.std.proofs.Common.{◌≡◌, ℕ, zero, suc, ◌<◌, Bool, true, false, not, ◌&&◌, List, [], ◌∷◌, length, Option, Some, None, Ok, refl, sym, ap, ◌∙◌, subst, arith, inl, inr}
+use Rattle.std.specs.Prelude.{◌⊎◌, pos, ◌*ℤ◌, ⊤, if◌then◌else◌, ◌==◌, is_some, is_none, nat_le, IfSome}
+use Rattle.std.specs.Option.{ok_or}
+use Rattle.std.specs.Result.{result_ok}
+use Rattle.std.specs.List.{AllByRecursion, find, list_any}
+use Rattle.std.specs.Cmp.{IsTotalOrder}
+use Rattle.std.proofs.lemmas.Int.{ints}
+use Rattle.std.proofs.lemmas.Bool.{eqb-true}
+use Rattle.std.proofs.Math.IntN.{*ℤ-zero}
+use Rattle.dmc_types.specs.Values.{Params, Rates, AreRates, IsRate}
+use Rattle.dmc_types.specs.declared.ids.ClientId.{ClientId}
+use Rattle.dmc_types.specs.declared.ids.Token.{Token}
+use Rattle.dmc_types.specs.declared.config.AtLimit.{AtLimit}
+use Rattle.dmc_types.specs.declared.config.AtLimit.TheVariants.{Wait, Allow}
+use Rattle.dmc_types.specs.declared.refusal.Refusal.{Refusal}
+use Rattle.dmc_types.specs.declared.refusal.Refusal.TheVariants.{Unknown, QueueFull, Range, Busy}
+use Rattle.dmc_types.specs.declared.refusal.Field.{Field}
+use Rattle.dmc_types.specs.declared.refusal.Field.TheVariants.{Reservation, Weight, Limit}
+use Rattle.dmc_types.specs.declared.command.Command.{Command}
+use Rattle.dmc_types.specs.declared.command.Command.TheVariants.{Register, Update, Add, Pull, Remove, Clean}
+use Rattle.dmc_tag.specs.Tag.{Fraction, Tagging, IsExact}
+use Rattle.dmc_tag.specs.Order.{AtMost, AreNext}
+use Rattle.dmc_tag.specs.Outcome.{refuse_if, in_range, exactly}
+use Rattle.dmc_tag.specs.Spacing.{spacing_of, optional_spacing, spacings_of}
+use Rattle.dmc_tag.specs.State.{State, is_client, has_queued, client_named, effective}
+use Rattle.dmc_tag.specs.Best.{best, by_reservation, by_shares, is_early, is_free, is_any, IsBest}
+use Rattle.dmc_tag.specs.Rules as rules_of
+use Rattle.dmc_tag.specs.Rules.{Outcome, next_tags}
+use Rattle.dmc_tag.specs.Step.{settled, outcome}
+use Rattle.dmc_tag.specs.declared.plain.PlainRequest.{PlainRequest}
+use Rattle.dmc_tag.specs.declared.plain.PlainClient.{PlainClient}
+use Rattle.dmc_tag.specs.declared.spacing.Spacings.{Spacings}
+use Rattle.dmc_tag.specs.declared.reply.Tags.{Tags}
+use Rattle.dmc_tag.proofs.Orderings.{at_most_trans}
+use Rattle.dmc_tag.proofs.TagOrder.{bound, from_option, from_range, positive, next_tags_follow, spacings_not_below}
+use Rattle.dmc_bounds.proofs.Pace.{given}
+use Rattle.dmc_tag.proofs.Before.{before_order}
+use Rattle.dmc_tag.proofs.BestIs.{found_is}
+use Rattle.dmc_bounds.proofs.Turns.{all_as, find_mapped, found_passes}
+use Rattle.dmc_bounds.proofs.Paced.{same_id, either}
+use Rattle.dmc_bounds.proofs.PacedSteps.{bind_goes, from_ok}
+use Rattle.dmc_bounds.proofs.InTurn.{IsUpto, IsKnown, AreInTurn, IsBelow, all_queued, registered_turn, removed_turn, cleaned_turn, left_turn, reduced_turn, shifted_turn, queued_turn}
+
+pub named_same : {T : Type 0} (a b : ClientId) (clients : List (PlainClient T)) → is_client a b ≡ true → client_named a clients ≡ client_named b clients
+named_same {T} a b clients e = let x : a.0 ≡ b.0 = sym (eqb-true b.0 a.0 e) in ap (λ n. find (λ (c : PlainClient T). c.id.0 == n) clients) x
+
+pub allowed : (b : Bool) (refusal : Refusal) (u : ⊤) → refuse_if b refusal ≡ Ok u → b ≡ false
+allowed true refusal u e = cc
+allowed false refusal u e = refl
+
+pub not_not : (b : Bool) → not b ≡ false → b ≡ true
+not_not true e = refl
+not_not false e = cc
+
+module _ {T : Type 0} (ops : Tagging T) (fraction : T → Fraction) (is_value : Fraction → Type 0) (exact : IsExact ops fraction is_value) (order : IsTotalOrder ops.compare) where
+  -- ---- rates
+
+  -- a rate that has a spacing is above 0
+  spacing_rate : (hz rate : ℕ) (s : T) → 0 < hz → ops.spacing hz rate ≡ Some s → 0 < rate
+  spacing_rate hz rate s some e = at rate (given ops fraction is_value exact (ops.spacing hz rate) _ s (exact.spacing hz rate) e) where
+    at : (q : ℕ) → (fraction s).numer *ℤ pos q ≡ pos hz *ℤ pos (fraction s).denom → 0 < q
+    at zero h =
+        let more = positive hz (fraction s).denom some (exact.denom s) in
+        absurd (omega (arith, ints, *ℤ-zero (fraction s).numer))
+    at (suc q) h = omega arith
+
+  optional_rate : (hz : ℕ) (field : Field) (rate : Option ℕ) (spacing : Option T) → 0 < hz → optional_spacing ops hz field rate ≡ Ok spacing → IfSome rate IsRate
+  optional_rate hz field None spacing some e = tt
+  optional_rate hz field (Some rate) spacing some e =
+      let found = bound (spacing_of ops hz field rate) _ spacing e in
+      spacing_rate hz rate found.0 some (from_option _ _ _ found.1)
+
+  rates_of : (hz : ℕ) (info : Rates) (spacings : Spacings T) → 0 < hz → spacings_of ops hz info ≡ Ok spacings → AreRates info.reservation info.weight info.limit
+  rates_of hz info spacings some e =
+      let r = bound (optional_spacing ops hz Reservation info.reservation) _ spacings e in
+      let p = bound (spacing_of ops hz Weight info.weight) _ spacings r.2 in
+      let l = bound (optional_spacing ops hz Limit info.limit) _ spacings p.2 in
+      record {
+        reserved = optional_rate hz Reservation info.reservation r.0 some r.1;
+        weighed = spacing_rate hz info.weight p.0 some (from_option _ _ _ p.1);
+        limited = optional_rate hz Limit info.limit l.0 some l.1;
+      }
+
+  assigned_next : (hz : ℕ) (c : PlainClient T) (params : Params) (t : T) (tags : Tags T) → 0 < hz → rules_of.assigned ops hz c params t ≡ Ok tags → AreNext ops c.info c.previous tags
+  assigned_next hz c params t tags some e =
+      let sp = bound (in_range (result_ok (spacings_of ops hz c.info))) _ tags e in
+      let spaced = from_ok _ _ (from_range _ _ sp.1) in
+      next_tags_follow ops fraction is_value exact order c.info sp.0 c.previous params t tags (spacings_not_below ops fraction is_value exact hz c.info sp.0 (rates_of hz c.info sp.0 some spaced) spaced) sp.2
+
+  -- ---- outcomes
+
+  abbrev Turn : State T → Type 0
+  Turn s = AreInTurn ops order s
+
+  abbrev Stays : State T → Outcome T → Type 0
+  Stays s o = Turn ((settled s o).0) × (((settled s o).0).config ≡ s.config)
+
+  -- ---- add
+
+  upto_chain : (a b : Option T) (prev : T) → is_some a ≡ is_some b → IfSome a (λ x. AtMost ops x prev) → IfSome b (AtMost ops prev) → IsUpto ops order a b
+  upto_chain None None prev e h k = refl
+  upto_chain None (Some b) prev e h k = cc
+  upto_chain (Some a) None prev e h k = cc
+  upto_chain (Some a) (Some b) prev e h k = at_most_trans ops order a prev b _ _ refl refl h k
+
+  below_of : (clients : List (PlainClient T)) (r : PlainRequest T) (c : PlainClient T) → client_named r.client clients ≡ Some c → (c.idle ≡ true) ⊎ AreNext ops c.info c.previous r.tags → (x : PlainRequest T) → IsKnown ops order clients x → IsBelow ops order fraction is_value exact r x
+  below_of clients r c named (inl idle) x k = λ same.
+      let so : Some k.client ≡ Some c = sym k.named ∙ named_same x.client r.client clients same ∙ named in
+      let one : k.client ≡ c = cc in
+      let busy : c.idle ≡ false = ap (λ d. d.idle) (sym one) ∙ k.busy in cc
+  below_of clients r c named (inr next) x k = λ same.
+      let so : Some k.client ≡ Some c = sym k.named ∙ named_same x.client r.client clients same ∙ named in
+      let one : k.client ≡ c = cc in
+      let reserved : is_some x.tags.r ≡ is_some r.tags.r = k.reserved ∙ ap (λ d. is_some d.info.reservation) one ∙ sym next.reserved in (
+        record {
+          r = upto_chain x.tags.r r.tags.r c.previous.r reserved (subst (λ d. IfSome x.tags.r (λ a. AtMost ops a d.previous.r)) one k.r) next.r;
+          l = at_most_trans ops order x.tags.l c.previous.l r.tags.l _ _ refl refl (subst (λ d. AtMost ops x.tags.l d.previous.l) one k.l) next.l;
+          p = at_most_trans ops order x.tags.p c.previous.p r.tags.p _ _ refl refl (subst (λ d. AtMost ops x.tags.p d.previous.p) one k.p) next.p;
+        },
+        reserved,
+      )
+
+  -- the client as the adjustment leaves it
+  abbrev pub left_by : Option T → PlainClient T → PlainClient T
+  left_by None c = c
+  left_by (Some amount) c = rules_of.shifted_client ops amount c
+
+  pub named_shifted : (shift : Option T) (id : ClientId) (clients : List (PlainClient T)) (c : PlainClient T) → client_named id clients ≡ Some c → client_named id (rules_of.shifted_clients ops shift clients) ≡ Some (left_by shift c)
+  named_shifted None id clients c e = e
+  named_shifted (Some amount) id clients c e = find_mapped (λ (c : PlainClient T). is_client id c.id) (rules_of.shifted_client ops amount) (λ c. ap (is_client id) (either (λ z. z.id ≡ c.id) c.idle c _ refl refl)) clients c e
+
+  pub info_shifted : (shift : Option T) (c : PlainClient T) → (left_by shift c).info ≡ c.info
+  info_shifted None c = refl
+  info_shifted (Some amount) c = either (λ z. z.info ≡ c.info) c.idle c _ refl refl
+
+  -- where there is a shift the arriving client is idle
+  shift_idle : (requests : List (PlainRequest T)) (c : PlainClient T) (t amount : T) → rules_of.shift_of ops requests c t ≡ Ok (Some amount) → c.idle ≡ true
+  shift_idle requests c t amount e = at c.idle refl e where
+    at : (b : Bool) → c.idle ≡ b → (if b then rules_of.shift_from ops t (best (by_shares ops) is_any requests) else Ok None) ≡ Ok (Some amount) → c.idle ≡ true
+    at true i e = i
+    at false i e = cc
+
+  idle_or_next : (shift : Option T) (requests : List (PlainRequest T)) (c : PlainClient T) (t : T) (tags : Tags T) → rules_of.shift_of ops requests c t ≡ Ok shift → AreNext ops c.info c.previous tags → ((left_by shift c).idle ≡ true) ⊎ AreNext ops (left_by shift c).info (left_by shift c).previous tags
+  idle_or_next None requests c t tags e next = inr next
+  idle_or_next (Some amount) requests c t tags e next = let idle = shift_idle requests c t amount e in inl (either (λ z. z.idle ≡ true) c.idle c _ idle idle)
+
+  add_stays : (s : State T) (client : ClientId) (token : Token) (params : Params) (t : ℕ) → 0 < s.config.hz → Turn s → Stays s (rules_of.added ops s client token params t)
+  add_stays s client token params t some is = bind_goes (Stays s) (rules_of.can_add ops s client params (ops.of_moment t)) _ (λ e. (is, refl)) (λ x e. (at x e, refl)) where
+    at : (x : Option T × Tags T) → rules_of.can_add ops s client params (ops.of_moment t) ≡ Ok x → Turn (rules_of.queued (rules_of.shifted_by ops x.0 s) (record { client = client; token = token; tags = x.1 }) t)
+    at x e =
+        let c = bound (ok_or (client_named client s.clients) Unknown) _ x e in
+        let full = bound (refuse_if (nat_le 1048576 (length s.requests)) QueueFull) _ x c.2 in
+        let shift = bound (rules_of.shift_of ops s.requests c.0 (ops.of_moment t)) _ x full.2 in
+        let range = bound (refuse_if (not (rules_of.can_shift_by ops shift.0 s.clients s.requests)) Range) _ x shift.2 in
+        let tags = bound (rules_of.assigned ops s.config.hz c.0 params (ops.of_moment t)) _ x range.2 in
+        let pair : (shift.0, tags.0) ≡ x = cc (tags.2) in
+        let can : rules_of.can_shift_by ops shift.0 s.clients s.requests ≡ true = not_not _ (allowed _ Range range.0 range.1) in
+        let moved = shifted_turn ops order fraction is_value exact s shift.0 can is in
+        let r : PlainRequest T = record { client = client; token = token; tags = tags.0 } in
+        let named = named_shifted shift.0 client s.clients c.0 (from_option _ _ _ c.1) in
+        let next = assigned_next s.config.hz c.0 params (ops.of_moment t) tags.0 some tags.1 in
+        let reserved : is_some tags.0.r ≡ is_some (left_by shift.0 c.0).info.reservation = next.reserved ∙ ap (λ i. is_some i.reservation) (sym (info_shifted shift.0 c.0)) in
+        let either_way = idle_or_next shift.0 s.requests c.0 (ops.of_moment t) tags.0 shift.1 next in
+        let here = rules_of.shifted_by ops shift.0 s in
+        let arrived = queued_turn ops order fraction is_value exact here r t (left_by shift.0 c.0) named reserved (all_as _ (IsBelow ops order fraction is_value exact r) (below_of here.clients r (left_by shift.0 c.0) named either_way) here.requests moved.known) moved in
+        subst (λ (z : Option T × Tags T). Turn (rules_of.queued (rules_of.shifted_by ops z.0 s) (record { client = client; token = token; tags = z.1 }) t)) pair arrived
+
+  -- ---- update
+
+  same_there : (old new : Option ℕ) → (if is_some old then is_none new else is_some new) ≡ false → is_some old ≡ is_some new
+  same_there None None e = refl
+  same_there None (Some q) e = cc
+  same_there (Some q) None e = cc
+  same_there (Some q) (Some u) e = refl
+
+  and_first : (b c : Bool) → (b && c) ≡ false → c ≡ true → b ≡ false
+  and_first true c e f = cc
+  and_first false c e f = refl
+
+  abbrev informed : Rates → Bool → PlainClient T → PlainClient T
+  informed info b c = if b then rules_of.with_info info c else c
+
+  queued_too : (a b : ClientId) (xs : List (PlainRequest T)) → is_client a b ≡ true → has_queued b xs ≡ true → has_queued a xs ≡ true
+  queued_too a b xs e h = let x : a.0 ≡ b.0 = sym (eqb-true b.0 a.0 e) in ap (λ n. list_any (λ (r : PlainRequest T). r.client.0 == n) xs) x ∙ h
+
+  updated_known : (s : State T) (id : ClientId) (info : Rates) (c : PlainClient T) → client_named id s.clients ≡ Some c → (rules_of.changes_reservation c.info info && has_queued id s.requests) ≡ false → (x : PlainRequest T) → has_queued x.client s.requests ≡ true → IsKnown ops order s.clients x → IsKnown ops order (rules_of.change_client id (rules_of.with_info info) s.clients) x
+  updated_known s id info c named kept x queued k = at (is_client id k.client.id) refl where
+    found : client_named x.client (rules_of.change_client id (rules_of.with_info info) s.clients) ≡ Some (informed info (is_client id k.client.id) k.client)
+    found = find_mapped (λ (c : PlainClient T). is_client x.client c.id) (λ c. informed info (is_client id c.id) c) (λ c. ap (is_client x.client) (either (λ z. z.id ≡ c.id) (is_client id c.id) _ c refl refl)) s.clients k.client k.named
+
+    mine : is_client x.client k.client.id ≡ true
+    mine = found_passes (λ (c : PlainClient T). is_client x.client c.id) s.clients k.client k.named
+
+    at : (b : Bool) → is_client id k.client.id ≡ b → IsKnown ops order (rules_of.change_client id (rules_of.with_info info) s.clients) x
+    at true e =
+        let same : is_client x.client id ≡ true = same_id x.client k.client.id id mine e in
+        let so : Some k.client ≡ Some c = sym k.named ∙ named_same x.client id s.clients same ∙ named in
+        let one : k.client ≡ c = cc in
+        let turned : is_client id x.client ≡ true = same_id id k.client.id x.client e mine in
+        let there = same_there c.info.reservation info.reservation (and_first _ _ kept (queued_too id x.client s.requests turned queued)) in
+        record {
+          client = rules_of.with_info info k.client;
+          named = found ∙ ap (λ b. Some (informed info b k.client)) e;
+          busy = k.busy;
+          reserved = k.reserved ∙ ap (λ d. is_some d.info.reservation) one ∙ there;
+          r = k.r;
+          l = k.l;
+          p = k.p;
+        }
+    at false e = record { client = k.client; named = found ∙ ap (λ b. Some (informed info b k.client)) e; busy = k.busy; reserved = k.reserved; r = k.r; l = k.l; p = k.p }
+
+  both_updated : (s : State T) (id : ClientId) (info : Rates) (c : PlainClient T) → client_named id s.clients ≡ Some c → (rules_of.changes_reservation c.info info && has_queued id s.requests) ≡ false → (xs : List (PlainRequest T)) → AllByRecursion (λ x. has_queued x.client s.requests ≡ true) xs → AllByRecursion (IsKnown ops order s.clients) xs → AllByRecursion (IsKnown ops order (rules_of.change_client id (rules_of.with_info info) s.clients)) xs
+  both_updated s id info c named kept [] h k = tt
+  both_updated s id info c named kept (x ∷ xs) h k = (updated_known s id info c named kept x h.0 k.0, both_updated s id info c named kept xs h.1 k.1)
+
+  update_stays : (s : State T) (id : ClientId) (info : Rates) (t : ℕ) → Turn s → Stays s (rules_of.updated ops s id info t)
+  update_stays s id info t is = bind_goes (Stays s) (rules_of.can_update ops s id info) _ (λ e. (is, refl)) (λ u e. (at u e, refl)) where
+    at : (u : ⊤) → rules_of.can_update ops s id info ≡ Ok u → Turn (record s { clients = rules_of.change_client id (rules_of.with_info info) s.clients; last_moment = t })
+    at u e =
+        let c = bound (ok_or (client_named id s.clients) Unknown) _ u e in
+        let sp = bound (exactly (spacings_of ops s.config.hz info)) _ u c.2 in
+        let kept = allowed (rules_of.changes_reservation c.0.info info && has_queued id s.requests) Busy u sp.2 in
+        record {
+          pairs = is.pairs;
+          known = both_updated s id info c.0 (from_option _ _ _ c.1) kept s.requests (all_queued ops order s.requests s.requests (λ id h. h)) is.known;
+        }
+
+  -- ---- pull
+
+  module _ (s : State T) (t : ℕ) (is : Turn s) where
+    priority_stays : {before : PlainRequest T → PlainRequest T → Bool} {member : PlainRequest T → Bool} (beyond : Bool) (r : PlainRequest T) (others : List (PlainRequest T)) → IsBest before member s.requests r others → Stays s (rules_of.grant_priority ops s t (r, others) beyond)
+    priority_stays beyond r others best_is = bind_goes (Stays s) (rules_of.can_grant ops s.config.hz r.client s.clients others) _ (λ e. (is, refl)) (λ amount e. (at amount e, refl)) where
+      at : (amount : Option T) → rules_of.can_grant ops s.config.hz r.client s.clients others ≡ Ok amount → Turn (rules_of.reduced_by ops r.client amount (rules_of.without s t others))
+      at amount e =
+          let given = bound (rules_of.reduction_of ops s.config.hz r.client s.clients) _ amount e in
+          let range = bound (refuse_if (not (rules_of.can_reduce_by ops r.client given.0 s.clients others)) Range) _ amount given.2 in
+          let same : given.0 ≡ amount = cc (range.2) in
+          let can : rules_of.can_reduce_by ops r.client given.0 s.clients others ≡ true = not_not _ (allowed _ Range range.0 range.1) in
+          reduced_turn ops order fraction is_value exact (rules_of.without s t others) r.client amount (subst (λ o. rules_of.can_reduce_by ops r.client o s.clients others ≡ true) same can) (left_turn ops order s t r others best_is is)
+
+    at_the_moment : Turn (record s { last_moment = t })
+    at_the_moment = record { pairs = is.pairs; known = is.known }
+
+    any_stays : (b : Option (PlainRequest T × List (PlainRequest T))) → best (by_shares ops) is_any s.requests ≡ b → Stays s (rules_of.grant_found ops s t true b)
+    any_stays None q = (at_the_moment, refl)
+    any_stays (Some (r, others)) q = priority_stays true r others (found_is (λ (r : PlainRequest T). r.client.0) (by_shares ops) (before_order ops order (λ r. Some r.tags.p)) is_any s.requests (r, others) q)
+
+    limit_stays : (x : PlainRequest T) (xs : List (PlainRequest T)) → s.requests ≡ x ∷ xs → (mode : AtLimit) → Stays s (rules_of.at_limit ops s t mode x xs)
+    limit_stays x xs e Wait = (at_the_moment, refl)
+    limit_stays x xs e Allow = any_stays _ (ap (best (by_shares ops) is_any) e)
+
+    nothing_stays : (xs : List (PlainRequest T)) → s.requests ≡ xs → Stays s (rules_of.nothing_due ops s t xs)
+    nothing_stays [] e = (at_the_moment, refl)
+    nothing_stays (x ∷ xs) e = limit_stays x xs e s.config.at_limit
+
+    free_stays : (b : Option (PlainRequest T × List (PlainRequest T))) → best (by_shares ops) (is_free ops t) s.requests ≡ b → Stays s (rules_of.pulled_free ops s t b)
+    free_stays None q = nothing_stays s.requests refl
+    free_stays (Some (r, others)) q = priority_stays false r others (found_is (λ (r : PlainRequest T). r.client.0) (by_shares ops) (before_order ops order (λ r. Some r.tags.p)) (is_free ops t) s.requests (r, others) q)
+
+    early_stays : (b : Option (PlainRequest T × List (PlainRequest T))) → best (by_reservation ops) (is_early ops t) s.requests ≡ b → Stays s (rules_of.pulled_early ops s t b)
+    early_stays None q = free_stays _ refl
+    early_stays (Some (r, others)) q = (left_turn ops order s t r others (found_is (λ (r : PlainRequest T). r.client.0) (by_reservation ops) (before_order ops order (λ r. r.tags.r)) (is_early ops t) s.requests (r, others) q) is, refl)
+
+  -- ---- each command
+
+  pub step_stays : (s : State T) (c : Command) → 0 < s.config.hz → Turn s → Stays s (outcome ops s c)
+  step_stays s (Register id info at) some is = bind_goes (Stays s) (rules_of.can_register ops s id info) _ (λ e. (is, refl)) (λ u e. (registered_turn ops order s (rules_of.newcomer ops id info (effective s at)) (effective s at) is, refl))
+  step_stays s (Update id info at) some is = update_stays s id info (effective s at) is
+  step_stays s (Add client token params at) some is = add_stays s client token params (effective s at) some is
+  step_stays s (Pull at) some is = early_stays s (effective s at) is _ refl
+  step_stays s (Remove id) some is = bind_goes (Stays s) (rules_of.can_remove s id) _ (λ e. (is, refl)) (λ u e. (removed_turn ops order s (λ r. not (is_client id r.client)) is, refl))
+  step_stays s (Clean at) some is = (cleaned_turn ops order s (effective s at) is, refl)

@@ -1,0 +1,4 @@
+//! The bounds of a history: what a client's grants keep to, over every history that replays.
+#![tactic(auto)]
+
+pub mod laws;

@@ -1,276 +1,262 @@
--- The bounds by the numbers of the arrivals.
-use Rattle.std.proofs.Common.{◌≡◌, ℕ, zero, suc, ◌+◌, ◌*◌, ◌-◌, ◌≤◌, ◌<◌, Bool, true, false, List, [], ◌∷◌, ◌++◌, map, length, drop, take, Some, refl, sym, ap, ◌∙◌, subst, arith, append_assoc, length-append, length-drop}
+-- The bounds of a history: from right after an add, event by event, to the numbers of the arrivals.
+use Rattle.std.proofs.Common.{◌≡◌, ℕ, ◌<◌, Bool, true, false, map, length, Option, Some, None, Ok, refl, sym, ap, ◌∙◌, subst, arith, zero, suc, ◌+◌, ◌*◌, ◌-◌, ◌≤◌, List, [], ◌∷◌, ◌++◌, drop, take, append_assoc}
 use Rattle.std.specs.Prelude.{⊤, if◌then◌else◌, sum_by}
+use Rattle.std.specs.Option.{option_and_then}
 use Rattle.std.specs.Cmp.{IsTotalOrder}
-use Rattle.std.proofs.lemmas.List.{append-nil}
-use Rattle.std.proofs.lemmas.Bool.{eq-eqb}
-use Rattle.std.proofs.lemmas.List.Sums.{sum_by-cons}
 use Rattle.dmc_types.specs.Values.{Params, Setting}
 use Rattle.dmc_types.specs.declared.ids.ClientId.{ClientId}
 use Rattle.dmc_types.specs.declared.ids.Token.{Token}
-use Rattle.dmc_types.specs.declared.config.PhaseType.{PhaseType}
-use Rattle.dmc_types.specs.declared.config.PhaseType.TheVariants as phases
 use Rattle.dmc_types.specs.declared.command.Command.{Command}
-use Rattle.dmc_types.specs.declared.command.Command.TheVariants.{Register, Update, Add, Pull, Remove, Clean}
+use Rattle.dmc_types.specs.declared.command.Command.TheVariants.{Register, Add, Pull}
 use Rattle.dmc_tag.specs.Tag.{Fraction, Tagging, IsExact}
-use Rattle.dmc_tag.specs.State.{State, opening, is_client, requests_of, effective}
+use Rattle.dmc_tag.specs.State.{State, is_client, client_named, effective, requests_of, opening}
 use Rattle.dmc_tag.specs.Rules as rules_of
 use Rattle.dmc_tag.specs.Step.{settled, step}
+use Rattle.dmc_tag.specs.declared.plain.PlainClient.{PlainClient}
+use Rattle.dmc_tag.specs.declared.reply.Tags.{Tags}
+use Rattle.dmc_tag.specs.declared.reply.Reply.{Reply}
+use Rattle.dmc_tag.proofs.Active.{either}
+use Rattle.dmc_tag.proofs.Lists.{all_as, all_both}
+use Rattle.dmc_bounds.specs.Bounds.{Arrives, Arrival, arrival_of, arrivals, departed, departures, prioritized, priorities, AllKeep, IsNext, sum_since, ticks_since, LimitBound, ReservationBound}
+use Rattle.dmc_bounds.proofs.Basics.{add_gives, bind_goes, both_id, named_same, itself_id}
+use Rattle.dmc_bounds.proofs.Histories.{IsSound, after_from, after-append, replays_split, departures-append, drop-more, longer, sound_step, sound_after, sound_opening, queued, event_moves, tokens_after, queued_is, front, Takes}
+use Rattle.dmc_bounds.proofs.Pace.{NotBelow, next_from}
+use Rattle.dmc_bounds.proofs.Pacing.{IsPaced, IsWithin, counts_of, sums_from, total_from, quiet, step_goes, taken_first, within_of}
+use Rattle.dmc_bounds.proofs.Pairs.{AreDistinct, only_one, every, all_changed, find_mapped}
+use Rattle.dmc_bounds.proofs.Side.{Side, tag_in, previous_in, rate_in, previous_of, steps_by, IsAt, level_opens, late_none, limits, reservations, count_in, taken_in, late_length}
+use Rattle.dmc_bounds.proofs.TurnSteps.{named_shifted, info_shifted, left_by}
+use Rattle.std.proofs.lemmas.List.{length-map, map-append}
+use Rattle.std.proofs.lemmas.List.Sums.{sum_by-cons}
+use Rattle.dmc_types.specs.declared.config.PhaseType.{PhaseType}
+use Rattle.dmc_types.specs.declared.config.PhaseType.TheVariants.{Reservation, Priority}
+use Rattle.dmc_tag.specs.Best.{is_due}
 use Rattle.dmc_tag.specs.Replay.{after, replays, replays_from}
-use Rattle.dmc_bounds.specs.Bounds.{Arrival, arrival_of, departed, arrivals, departures, prioritized, priorities, IsNext, LimitBound, ReservationBound}
-use Rattle.dmc_bounds.proofs.Tally.{Tally, plus, without_first, served, next_tally, tally_after, opened}
 use Rattle.dmc_tag.specs.declared.event.Event.{Event}
 use Rattle.dmc_tag.specs.declared.plain.PlainRequest.{PlainRequest}
-use Rattle.dmc_tag.specs.declared.reply.Reply.{Reply}
-use Rattle.dmc_tag.specs.declared.reply.Reply.TheVariants.{Tagged, Granted, Removed}
-use Rattle.dmc_bounds.proofs.PacedSteps.{bind_goes}
-use Rattle.dmc_bounds.proofs.LimitLaw.{after_from, replays_split, IsSound, sound_step, sound_after, sound_opening, limit_bound}
-use Rattle.dmc_bounds.proofs.ReservationLaw.{reservation_bound}
-use Rattle.dmc_bounds.proofs.Arrived.{none_left, all_left, length-map, drop-more, tokens_of, Moves, step_moves, front, Takes, tokens_after, departures_within, same_requests}
+use Rattle.dmc_tag.specs.declared.reply.Reply.TheVariants.{Granted}
+use Rattle.dmc_bounds.proofs.InTurn.{IsDueIn, pull_is}
+
+module _ {T : Type 0} (ops : Tagging T) (fraction : T → Fraction) (is_value : Fraction → Type 0) (exact : IsExact ops fraction is_value) (order : IsTotalOrder ops.compare) (config : Setting) (some : 0 < config.hz) (id : ClientId) (side : Side) (q : ℕ) where
+  -- the client's rate
+  abbrev pub rate_of : State T → Option ℕ
+  rate_of s = option_and_then (λ c. rate_in side c.info) (client_named id s.clients)
+
+  rated : (o : Option (PlainClient T)) → option_and_then (λ c. rate_in side c.info) o ≡ Some q → (c : PlainClient T) × (o ≡ Some c) × (rate_in side c.info ≡ Some q)
+  rated None e = cc
+  rated (Some c) e = (c, refl, e)
+
+  abbrev pub Opened : State T → Type 0
+  Opened s = IsPaced ops fraction is_value exact order id side config.hz q s.last_moment 0 0 (map (λ _. 0) (requests_of id s.requests)) s
+
+  module _ (s : State T) (is : IsSound ops fraction is_value exact order config some s) (client : ClientId) (token : Token) (params : Params) (t : ℕ) (own : is_client id client ≡ true) (x : Option T × Tags T) (e : rules_of.can_add ops s client params (ops.of_moment t) ≡ Ok x) where
+    abbrev new : State T
+    new = rules_of.queued (rules_of.shifted_by ops x.0 s) (record { client = client; token = token; tags = x.1 }) t
+
+    abbrev At : T → Type 0
+    At a = IsAt fraction config.hz q t 0 0 a
+
+    abbrev arrive : PlainClient T → PlainClient T
+    arrive d = if is_client client d.id then rules_of.after_arrival x.1 t d else d
+
+    arrived_at : (tag : T) → tag_in side x.1 ≡ Some tag → At tag → (d : PlainClient T) (b : Bool) → is_client client d.id ≡ b → is_client id (if b then rules_of.after_arrival x.1 t d else d).id ≡ true → At (previous_in side (if b then rules_of.after_arrival x.1 t d else d).previous)
+    arrived_at tag is h d true e mine = subst At (sym (previous_of side x.1 d.previous tag is)) h
+    arrived_at tag is h d false e mine = let so = both_id id client d.id own mine in cc
+
+    added_paced : AreDistinct new.clients → rate_of new ≡ Some q → Opened new
+    added_paced distinct has =
+        let c = rated (client_named id new.clients) has in
+        let found = add_gives ops s client params (ops.of_moment t) x e in
+        let shifted = rules_of.shifted_clients ops x.0 s.clients in
+        let moved = left_by ops fraction is_value exact order x.0 found.client in
+        let named : client_named client new.clients ≡ Some (arrive moved) = find_mapped (λ (d : PlainClient T). is_client client d.id) arrive (λ d. ap (is_client client) (either (λ z. z.id ≡ d.id) (is_client client d.id) _ d refl refl)) shifted moved (named_shifted ops fraction is_value exact order x.0 client s.clients found.client found.named) in
+        let so : Some c.0 ≡ Some (arrive moved) = sym c.1 ∙ named_same id client new.clients own ∙ named in
+        let one : c.0 ≡ arrive moved = cc in
+        let info : found.client.info ≡ c.0.info = sym (ap (λ z. z.info) one ∙ either (λ z. z.info ≡ moved.info) (is_client client moved.id) _ moved refl refl ∙ info_shifted ops fraction is_value exact order x.0 found.client) in
+        let by = steps_by ops config.hz q found.client params (ops.of_moment t) x.1 (subst (λ k. rules_of.assigned ops k.hz found.client params (ops.of_moment t) ≡ Ok x.1) is.same found.tags) side (ap (rate_in side) info ∙ c.2) in
+        let at = subst (λ m. NotBelow (fraction by.tag) m q) (sym (level_opens fraction config.hz q t)) (next_from ops fraction is_value exact order (previous_in side found.client.previous) by.spacing by.tag t config.hz q _ by.next) in
+        let rates = all_as (λ (d : PlainClient T). is_client id d.id ≡ true → d ≡ c.0) (λ d. is_client id d.id ≡ true → rate_in side d.info ≡ Some q) (λ d k own. ap (λ z. rate_in side z.info) (k own) ∙ c.2) new.clients (only_one id new.clients c.0 distinct c.1) in
+        let starts = all_changed (λ (d : PlainClient T). ⊤) (λ d. is_client id d.id ≡ true → At (previous_in side d.previous)) arrive (λ d _. arrived_at by.tag by.tag_is at d (is_client client d.id) refl) shifted (every shifted) in
+        record {
+          hz_is = ap (λ k. k.hz) is.same;
+          since = omega arith;
+          clients = all_as _ (λ d. is_client id d.id ≡ true → (rate_in side d.info ≡ Some q) × At (previous_in side d.previous)) (λ d k own. (k.0 own, k.1 own)) new.clients (all_both _ _ new.clients rates starts);
+          waits = late_none fraction config.hz q t 0 (λ r. tag_in side r.tags) (requests_of id new.requests);
+        }
+
+  abbrev Opens : Command → State T × Reply T → Type 0
+  Opens c p = Arrives id c p.1 → AreDistinct p.0.clients → rate_of p.0 ≡ Some q → Opened p.0
+
+  opens_by : (s : State T) (c : Command) → IsSound ops fraction is_value exact order config some s → Opens c (step ops s c)
+  opens_by s (Add client token params at) is = bind_goes (λ o. Opens (Add client token params at) (settled s o)) (rules_of.can_add ops s client params (ops.of_moment (effective s at))) _ (λ e arrives. absurd arrives) (λ x e arrives. added_paced s is client token params (effective s at) arrives x e)
+  opens_by s (Register client info at) is = bind_goes (λ o. Opens (Register client info at) (settled s o)) (rules_of.can_register ops s client info) _ (λ e arrives. absurd arrives) (λ x e arrives. absurd arrives)
+  opens_by s c is = λ arrives. absurd arrives
+
+  -- right after an accepted add
+  pub opens : (s : State T) (c : Command) (reply : Reply T) → IsSound ops fraction is_value exact order config some s → reply ≡ (step ops s c).1 → Arrives id c reply → rate_of ((step ops s c).0) ≡ Some q → Opened ((step ops s c).0)
+  opens s c reply is e arrives has = opens_by s c is (subst (Arrives id c) e arrives) (sound_step ops fraction is_value exact order config some s c is).turn.distinct has
 
 -- ---- running sums
 
-abbrev sums_from : Params → List Arrival → List Params
-sums_from p [] = []
-sums_from p (a ∷ qs) = plus p a.params ∷ sums_from (plus p a.params) qs
+sums-append : (n : ℕ) (xs ys : List ℕ) → sums_from n (xs ++ ys) ≡ sums_from n xs ++ sums_from (total_from n xs) ys
+sums-append n [] ys = refl
+sums-append n (k ∷ xs) ys = ap (λ ws. (n + k) ∷ ws) (sums-append (n + k) xs ys)
 
-abbrev total_from : Params → List Arrival → Params
-total_from p [] = p
-total_from p (a ∷ qs) = total_from (plus p a.params) qs
-
-sums-append : (p : Params) (xs ys : List Arrival) → sums_from p (xs ++ ys) ≡ sums_from p xs ++ sums_from (total_from p xs) ys
-sums-append p [] ys = refl
-sums-append p (a ∷ qs) ys = ap (λ ws. plus p a.params ∷ ws) (sums-append (plus p a.params) qs ys)
-
-sums-length : (p : Params) (xs : List Arrival) → length (sums_from p xs) ≡ length xs
-sums-length p [] = refl
-sums-length p (a ∷ qs) = ap suc (sums-length (plus p a.params) qs)
+total-append : (n : ℕ) (xs ys : List ℕ) → total_from n (xs ++ ys) ≡ total_from (total_from n xs) ys
+total-append n [] ys = refl
+total-append n (k ∷ xs) ys = total-append (n + k) xs ys
 
 no_none : {X : Type 0} {P : Type 0} (n : ℕ) (x : X) (xs : List X) → drop n [] ≡ x ∷ xs → P
 no_none zero x xs e = cc
 no_none (suc n) x xs e = cc
 
--- the deltas, or the rhos
-module _ (part : Params → ℕ) (adds : (p q : Params) → part (plus p q) ≡ part p + part q) where
+module _ (side : Side) where
   abbrev parts : List Arrival → ℕ
-  parts qs = sum_by (λ a. part a.params) qs
+  parts qs = sum_by (λ a. count_in side a.params) qs
 
-  sum_at : (qs : List Arrival) (n : ℕ) (p g : Params) (rest : List Params) → drop n (sums_from p qs) ≡ g ∷ rest → part g ≡ part p + parts (take (suc n) qs)
+  sum_at : (qs : List Arrival) (n p g : ℕ) (rest : List ℕ) → drop n (sums_from p (counts_of side qs)) ≡ g ∷ rest → g ≡ p + parts (take (suc n) qs)
   sum_at [] n p g rest e = no_none n g rest e
   sum_at (a ∷ qs) zero p g rest e =
-      let same : plus p a.params ≡ g = cc in
-      let one : parts (a ∷ []) ≡ part a.params = omega arith in
-      sym (ap part same) ∙ adds p a.params ∙ ap (λ n. part p + n) (sym one)
+      let same : p + count_in side a.params ≡ g = cc in
+      omega (arith, sum_by-cons (λ (b : Arrival). count_in side b.params) a [])
   sum_at (a ∷ qs) (suc n) p g rest e =
-      let more = sum_at qs n (plus p a.params) g rest e in
-      omega (arith, adds p a.params, sum_by-cons (λ (b : Arrival). part b.params) a (take (suc n) qs))
+      let more = sum_at qs n (p + count_in side a.params) g rest e in
+      omega (arith, sum_by-cons (λ (b : Arrival). count_in side b.params) a (take (suc n) qs))
 
   -- the front is zeros, one for each request up to a_i
-  sum_past : part (record { delta = 0; rho = 0 }) ≡ 0 → {R : Type 0} (rs : List R) (qs : List Arrival) (n : ℕ) (g : Params) (rest : List Params) → drop n (map (λ _. record { delta = 0; rho = 0 }) rs ++ sums_from (record { delta = 0; rho = 0 }) qs) ≡ g ∷ rest → part g ≡ parts (take (n + 1 - length rs) qs)
-  sum_past z [] qs n g rest e =
-      let k : n + 1 - 0 ≡ suc n = omega arith in
-      sum_at qs n (record { delta = 0; rho = 0 }) g rest e ∙ ap (λ m. m + parts (take (suc n) qs)) z ∙ none _ ∙ ap (λ m. parts (take m qs)) (sym k) where
-        none : (m : ℕ) → 0 + m ≡ m
-        none m = omega arith
-  sum_past z (r ∷ rs) qs zero g rest e =
-      let same : record { delta = 0; rho = 0 } ≡ g = cc in
+  sum_past : {R : Type 0} (rs : List R) (qs : List Arrival) (n g : ℕ) (rest : List ℕ) → drop n (map (λ _. 0) rs ++ sums_from 0 (counts_of side qs)) ≡ g ∷ rest → g ≡ parts (take (n + 1 - length rs) qs)
+  sum_past [] qs n g rest e = let k : n + 1 - 0 ≡ suc n = omega arith in omega (arith, sum_at qs n 0 g rest e, ap (λ m. parts (take m qs)) k)
+  sum_past (r ∷ rs) qs zero g rest e =
+      let same : 0 ≡ g = cc in
       let k : 0 + 1 - suc (length rs) ≡ 0 = omega arith in
-      sym (ap part same) ∙ z ∙ ap (λ m. parts (take m qs)) (sym k)
-  sum_past z (r ∷ rs) qs (suc n) g rest e =
+      sym same ∙ ap (λ m. parts (take m qs)) (sym k)
+  sum_past (r ∷ rs) qs (suc n) g rest e =
       let k : n + 1 - length rs ≡ suc n + 1 - suc (length rs) = omega arith in
-      sum_past z rs qs n g rest e ∙ ap (λ m. parts (take m qs)) k
+      sum_past rs qs n g rest e ∙ ap (λ m. parts (take m qs)) k
 
-module _ {T : Type 0} (ops : Tagging T) (fraction : T → Fraction) (is_value : Fraction → Type 0) (exact : IsExact ops fraction is_value) (order : IsTotalOrder ops.compare) (id : ClientId) where
-  -- a Remove takes all
-  abbrev RemovesAll : Tally → Command → Reply T → Type 0
-  RemovesAll y (Remove client) (Removed count) = is_client id client ≡ true → count ≡ length y.waiting
-  RemovesAll y c reply = ⊤
+  taken_both : (taken a b : ℕ) → taken + taken_in side a + taken_in side b ≡ taken + taken_in side (a + b)
+  taken_both taken a b = at side where
+    at : (side : Side) → taken + taken_in side a + taken_in side b ≡ taken + taken_in side (a + b)
+    at limits = omega arith
+    at reservations = omega arith
 
-  abbrev Waits : Tally → Tally → Command → Reply T → Type 0
-  Waits y z c reply = (z.waiting ≡ drop (departed id c reply) (y.waiting ++ sums_from y.sent (arrival_of id c reply))) × (z.sent ≡ total_from y.sent (arrival_of id c reply))
+-- the phase of the grants that are bounded
+abbrev phase_of : Side → PhaseType
+phase_of limits = Priority
+phase_of reservations = Reservation
 
-  without_is : {X : Type 0} (xs : List X) → without_first xs ≡ drop 1 (xs ++ [])
-  without_is [] = refl
-  without_is (x ∷ xs) = sym (append-nil xs)
+module _ {T : Type 0} (ops : Tagging T) (fraction : T → Fraction) (is_value : Fraction → Type 0) (exact : IsExact ops fraction is_value) (order : IsTotalOrder ops.compare) (config : Setting) (some : 0 < config.hz) (id : ClientId) (side : Side) (q : ℕ) where
+  abbrev Paced : ℕ → ℕ → ℕ → List ℕ → State T → Type 0
+  Paced from taken sent waiting s = IsPaced ops fraction is_value exact order id side config.hz q from taken sent waiting s
 
-  granted_waits : (y : Tally) (phase : PhaseType) → ((served phase y).waiting ≡ drop 1 (y.waiting ++ [])) × ((served phase y).sent ≡ y.sent)
-  granted_waits y phases.Reservation = (without_is y.waiting, refl)
-  granted_waits y phases.Priority = (without_is y.waiting, refl)
+  abbrev Sound : State T → Type 0
+  Sound s = IsSound ops fraction is_value exact order config some s
 
-  event_waits : (y : Tally) (c : Command) (reply : Reply T) → RemovesAll y c reply → Waits y (next_tally id y c reply) c reply
-  event_waits y (Add client token params at) (Tagged tags) all = own (is_client id client) where
-    own : (b : Bool) → ((if b then record y { sent = plus y.sent params; waiting = y.waiting ++ plus y.sent params ∷ [] } else y).waiting ≡ drop 0 (y.waiting ++ sums_from y.sent (if b then record { token = token; params = params } ∷ [] else []))) × ((if b then record y { sent = plus y.sent params; waiting = y.waiting ++ plus y.sent params ∷ [] } else y).sent ≡ total_from y.sent (if b then record { token = token; params = params } ∷ [] else []))
-    own true = (refl, refl)
-    own false = (none_left _, refl)
-  event_waits y (Pull at) (Granted client token phase beyond) all = own (is_client id client) where
-    own : (b : Bool) → ((if b then served phase y else y).waiting ≡ drop (if b then 1 else 0) (y.waiting ++ [])) × ((if b then served phase y else y).sent ≡ y.sent)
-    own true = granted_waits y phase
-    own false = (none_left _, refl)
-  event_waits y (Remove client) (Removed count) all = own (is_client id client) all where
-    own : (b : Bool) → (b ≡ true → count ≡ length y.waiting) → ((if b then record y { waiting = [] } else y).waiting ≡ drop (if b then count else 0) (y.waiting ++ [])) × ((if b then record y { waiting = [] } else y).sent ≡ y.sent)
-    own true all = (all_left y.waiting ∙ ap (λ k. drop k (y.waiting ++ [])) (sym (all refl)), refl)
-    own false all = (none_left _, refl)
-  event_waits y c reply all = (none_left _, refl)
+  -- ---- event by event
 
-  removes_all : (y : Tally) (s : State T) (c : Command) → length y.waiting ≡ length (tokens_of ops fraction is_value exact order id s.requests) → RemovesAll y c ((step ops s c).1)
-  removes_all y s (Remove client) e = bind_goes (λ o. RemovesAll y (Remove client) ((settled s o).1)) (rules_of.can_remove s client) _ (λ f. tt) (λ u f own. same_requests ops fraction is_value exact order id client own s.requests ∙ sym e)
-  removes_all y s (Register client info at) e = tt
-  removes_all y s (Update client info at) e = tt
-  removes_all y s (Add client token params at) e = tt
-  removes_all y s (Pull at) e = tt
-  removes_all y s (Clean at) e = tt
+  paced_after : (from taken sent : ℕ) (waiting : List ℕ) (s : State T) (es : List (Event T)) → Sound s → Paced from taken sent waiting s → replays_from ops s es → AllKeep id es → Paced from (taken + taken_in side (priorities id es)) (total_from sent (counts_of side (arrivals id es))) (drop (departures id es) (waiting ++ sums_from sent (counts_of side (arrivals id es)))) (after_from ops s es)
+  paced_after from taken sent waiting s [] is paced h keeps = quiet ops fraction is_value exact order id side config.hz q from taken sent waiting s paced s paced
+  paced_after from taken sent waiting s (e ∷ es) is paced h keeps =
+      let next = (step ops s e.command).0 in
+      let goes = step_goes ops fraction is_value exact order id side config.hz q from taken sent waiting s paced is.turn.pairs e.command in
+      let d = departed id e.command e.reply in
+      let mine = counts_of side (arrival_of id e.command e.reply) in
+      let later = counts_of side (arrivals id es) in
+      let total = total_from sent mine in
+      let ws = drop d (waiting ++ sums_from sent mine) in
+      let t = taken + taken_in side (prioritized id e.command e.reply) in
+      let one = subst (λ r. Paced from (taken + taken_in side (prioritized id e.command r)) (total_from sent (counts_of side (arrival_of id e.command r))) (drop (departed id e.command r) (waiting ++ sums_from sent (counts_of side (arrival_of id e.command r)))) next) (sym h.0) (goes (subst (λ r. AllKeep id (record e { reply = r } ∷ [])) h.0 (keeps.0, tt)).0) in
+      let rest = paced_after from t total ws next es (sound_step ops fraction is_value exact order config some s e.command is) one h.1 keeps.1 in
+      let moves = event_moves ops fraction is_value exact order config some id s e is h.0 in
+      let size = late_length fraction config.hz q from taken _ waiting paced.waits in
+      let within : d ≤ length waiting = omega (arith, moves.1, length-map (requests_of id s.requests) (λ (r : PlainRequest T). tag_in side r.tags), length-map (requests_of id s.requests) (λ (r : PlainRequest T). r.token)) in
+      let all : counts_of side (arrivals id (e ∷ es)) ≡ mine ++ later = map-append (λ (a : Arrival). count_in side a.params) (arrival_of id e.command e.reply) (arrivals id es) in
+      let waits : drop (departures id es) (ws ++ sums_from total later) ≡ drop (d + departures id es) (waiting ++ sums_from sent (counts_of side (arrivals id (e ∷ es)))) =
+      drop-more d (departures id es) (waiting ++ sums_from sent mine) (sums_from total later) (longer d waiting (sums_from sent mine) within)
+      ∙ ap (drop (d + departures id es)) (append_assoc waiting (sums_from sent mine) (sums_from total later) ∙ ap (λ vs. waiting ++ vs) (sym (ap (sums_from sent) all ∙ sums-append sent mine later))) in
+      let totals : total_from total later ≡ total_from sent (counts_of side (arrivals id (e ∷ es))) = sym (ap (total_from sent) all ∙ total-append sent mine later) in
+      let takes = taken_both side taken (prioritized id e.command e.reply) (priorities id es) in
+      subst (λ n. Paced from n (total_from sent (counts_of side (arrivals id (e ∷ es)))) (drop (d + departures id es) (waiting ++ sums_from sent (counts_of side (arrivals id (e ∷ es))))) (after_from ops next es)) takes
+      (subst (λ n. Paced from (t + taken_in side (priorities id es)) n (drop (d + departures id es) (waiting ++ sums_from sent (counts_of side (arrivals id (e ∷ es))))) (after_from ops next es)) totals
+      (subst (λ vs. Paced from (t + taken_in side (priorities id es)) (total_from total later) vs (after_from ops next es)) waits rest))
 
-  longer : {X : Type 0} (d : ℕ) (xs ys : List X) → d ≤ length xs → d ≤ length (xs ++ ys)
-  longer d xs ys h = omega (arith, length-append xs ys)
+  -- ---- the grant
 
-  still_same : {X Y : Type 0} (xs us : List X) (ys bs : List Y) (d : ℕ) → length xs ≡ length ys → length us ≡ length bs → length (drop d (xs ++ us)) ≡ length (drop d (ys ++ bs))
-  still_same xs us ys bs d e f = omega (arith, length-drop d (xs ++ us), length-drop d (ys ++ bs), length-append xs us, length-append ys bs)
+  due_tag : (t : ℕ) (r : PlainRequest T) → IsDueIn ops t (phase_of side) false r → is_due ops t (tag_in side r.tags) ≡ true
+  due_tag t r = at side where
+    at : (side : Side) → IsDueIn ops t (phase_of side) false r → is_due ops t (tag_in side r.tags) ≡ true
+    at limits h = h
+    at reservations h = h
 
-  waits_after : (config : Setting) → 0 < config.hz → (y : Tally) (s : State T) (es : List (Event T)) → IsSound ops fraction is_value exact order config s → replays_from ops s es → length y.waiting ≡ length (tokens_of ops fraction is_value exact order id s.requests) → (tally_after id y es).waiting ≡ drop (departures id es) (y.waiting ++ sums_from y.sent (arrivals id es))
-  waits_after config some y s [] is h e = none_left _
-  waits_after config some y s (v ∷ es) is h e =
-      let next = (step ops s v.command).0 in
-      let z = next_tally id y v.command v.reply in
-      let d = departed id v.command v.reply in
-      let mine = arrival_of id v.command v.reply in
-      let tokens = map (λ (a : Arrival). a.token) mine in
-      let here = tokens_of ops fraction is_value exact order id s.requests in
-      let moves : Moves ops fraction is_value exact order id v.command s (next, v.reply) = subst (λ r. Moves ops fraction is_value exact order id v.command s (next, r)) (sym h.0) (step_moves ops fraction is_value exact order id s v.command is.turn) in
-      let all : RemovesAll y v.command v.reply = subst (RemovesAll y v.command) (sym h.0) (removes_all y s v.command e) in
-      let waits = event_waits y v.command v.reply all in
-      let sums = sums_from y.sent mine in
-      let sizes : length sums ≡ length tokens = sums-length y.sent mine ∙ sym (length-map (λ (a : Arrival). a.token) mine) in
-      let same : length z.waiting ≡ length (tokens_of ops fraction is_value exact order id next.requests) = ap length waits.0 ∙ still_same y.waiting sums here tokens d e sizes ∙ sym (ap length moves.0) in
-      let within : d ≤ length y.waiting = subst (λ n. d ≤ n) (sym e) moves.1 in
-      let rest = waits_after config some z next es (sound_step ops fraction is_value exact order config some s v.command is) h.1 same in
-      let after_it = sums_from (total_from y.sent mine) (arrivals id es) in
-      rest
-      ∙ ap (λ p. drop (departures id es) (z.waiting ++ sums_from p (arrivals id es))) waits.1
-      ∙ ap (λ ws. drop (departures id es) (ws ++ after_it)) waits.0
-      ∙ drop-more d (departures id es) (y.waiting ++ sums) after_it (longer d y.waiting sums within)
-      ∙ ap (drop (d + departures id es)) (append_assoc y.waiting sums after_it ∙ ap (λ ws. y.waiting ++ ws) (sym (sums-append y.sent mine (arrivals id es))))
+  grant_within : (from taken sent : ℕ) (waiting : List ℕ) (s : State T) (at : ℕ) (token : Token) → Sound s → Paced from taken sent waiting s → (step ops s (Pull at)).1 ≡ Granted id token (phase_of side) false → IsWithin ops fraction is_value exact order id side config.hz q from taken waiting (effective s at)
+  grant_within from taken sent waiting s at token is paced = pull_is ops order s (effective s at) is.turn.pairs (λ o. (settled s o).1 ≡ Granted id token (phase_of side) false → Within) (λ e k. cc) (λ m k. cc) (λ k. cc) (λ r others amount phase beyond g k.
+      let same : r.client ≡ id = cc in
+      let own : is_client id r.client ≡ true = ap (is_client id) same ∙ itself_id id in
+      let phase_is : phase ≡ phase_of side = cc in
+      let beyond_is : beyond ≡ false = cc in
+      let due : IsDueIn ops (effective s at) (phase_of side) false r = subst (λ b. IsDueIn ops (effective s at) (phase_of side) b r) beyond_is (subst (λ p. IsDueIn ops (effective s at) p beyond r) phase_is g.due) in
+      within_of ops fraction is_value exact order id side config.hz q from taken (tag_in side r.tags) _ waiting (effective s at) (omega (arith, paced.since)) (due_tag (effective s at) r due) (taken_first ops fraction is_value exact order id side config.hz q from taken sent waiting s paced at r others amount phase beyond g own)) where
+        Within : Type 0
+        Within = IsWithin ops fraction is_value exact order id side config.hz q from taken waiting (effective s at)
 
-  -- ---- the numbers of two parts
+  -- ---- the numbers of the parts
 
-  departures-append : (xs ys : List (Event T)) → departures id (xs ++ ys) ≡ departures id xs + departures id ys
-  departures-append [] ys = omega arith
-  departures-append (x ∷ xs) ys = let more = departures-append xs ys in omega arith
-
-  arrivals-append : (xs ys : List (Event T)) → arrivals id (xs ++ ys) ≡ arrivals id xs ++ arrivals id ys
-  arrivals-append [] ys = refl
-  arrivals-append (x ∷ xs) ys = ap (λ zs. arrival_of id x.command x.reply ++ zs) (arrivals-append xs ys) ∙ sym (append_assoc (arrival_of id x.command x.reply) (arrivals id xs) (arrivals id ys))
-
-  -- how many are queued
-  queued_is : (config : Setting) → 0 < config.hz → (es : List (Event T)) → replays_from ops (opening config) es → length (tokens_of ops fraction is_value exact order id (after_from ops (opening config) es).requests) ≡ length (arrivals id es) - departures id es
-  queued_is config some es h =
-      ap length (tokens_after ops fraction is_value exact order id config some (opening config) es (sound_opening ops fraction is_value exact order config) h)
-      ∙ sizes (departures id es) (map (λ (a : Arrival). a.token) (arrivals id es)) (length-map _ (arrivals id es))
-    where
-      sizes : (d : ℕ) (xs : List Token) → length xs ≡ length (arrivals id es) → length (drop d xs) ≡ length (arrivals id es) - d
-      sizes d xs e = omega (arith, length-drop d xs)
-
-  taken_first : (c : Command) (reply : Reply T) (at : ℕ) (token : Token) (phase : PhaseType) (beyond : Bool) (tokens : List Token) → c ≡ Pull at → reply ≡ Granted id token phase beyond → Takes ops fraction is_value exact order id c reply tokens → front ops fraction is_value exact order id tokens ≡ Some token
-  taken_first c reply at token phase beyond tokens p q h =
-      let here = subst (λ d. Takes ops fraction is_value exact order id d reply tokens) p h in
-      let so : Takes ops fraction is_value exact order id (Pull at) (Granted id token phase beyond) tokens = subst (λ r. Takes ops fraction is_value exact order id (Pull at) r tokens) q here in
-      so (eq-eqb id.0 id.0 refl)
-
-  first_of : (xs : List Token) (x : Token) → front ops fraction is_value exact order id xs ≡ Some x → (others : List Token) × (xs ≡ x ∷ others)
+  first_of : (xs : List Token) (x : Token) → front ops order id xs ≡ Some x → (others : List Token) × (xs ≡ x ∷ others)
   first_of [] x e = cc
   first_of (y ∷ xs) x e = let same : y ≡ x = cc in (xs, ap (λ z. z ∷ xs) same)
 
-  one_departs : (c : Command) (reply : Reply T) (at : ℕ) (token : Token) (phase : PhaseType) (beyond : Bool) → c ≡ Pull at → reply ≡ Granted id token phase beyond → departed id c reply ≡ 1
-  one_departs c reply at token phase beyond p q = ap (λ d. departed id d reply) p ∙ ap (λ r. departed id (Pull at) r) q ∙ ap (λ b. if b then 1 else 0) (eq-eqb id.0 id.0 refl)
+  taken_token : (c : Command) (reply : Reply T) (at : ℕ) (token : Token) (phase : PhaseType) (tokens : List Token) → c ≡ Pull at → reply ≡ Granted id token phase false → Takes ops order id c reply tokens → front ops order id tokens ≡ Some token
+  taken_token c reply at token phase tokens p e h = subst (λ r. Takes ops order id (Pull at) r tokens) e (subst (λ d. Takes ops order id d reply tokens) p h) (itself_id id)
 
-  event_priorities : (y : Tally) (c : Command) (reply : Reply T) → (next_tally id y c reply).priorities ≡ y.priorities + prioritized id c reply
-  event_priorities y (Add client token params at) (Tagged tags) = own (is_client id client) where
-    own : (b : Bool) → (if b then record y { sent = plus y.sent params; waiting = y.waiting ++ plus y.sent params ∷ [] } else y).priorities ≡ y.priorities + 0
-    own true = omega arith
-    own false = omega arith
-  event_priorities y (Pull at) (Granted client token phases.Priority beyond) = own (is_client id client) where
-    own : (b : Bool) → (if b then served phases.Priority y else y).priorities ≡ y.priorities + (if b then 1 else 0)
-    own true = refl
-    own false = omega arith
-  event_priorities y (Pull at) (Granted client token phases.Reservation beyond) = own (is_client id client) where
-    own : (b : Bool) → (if b then served phases.Reservation y else y).priorities ≡ y.priorities + 0
-    own true = omega arith
-    own false = omega arith
-  event_priorities y (Remove client) (Removed count) = own (is_client id client) where
-    own : (b : Bool) → (if b then record y { waiting = [] } else y).priorities ≡ y.priorities + 0
-    own true = omega arith
-    own false = omega arith
-  event_priorities y c reply = omega arith
+  -- ---- the bound
 
-  priorities_after : (y : Tally) (es : List (Event T)) → (tally_after id y es).priorities ≡ y.priorities + priorities id es
-  priorities_after y [] = omega arith
-  priorities_after y (e ∷ es) =
-      let one = event_priorities y e.command e.reply in
-      let more = priorities_after (next_tally id y e.command e.reply) es in
-      omega arith
-
--- ---- the bounds
-
-module _ {T : Type 0} (ops : Tagging T) (fraction : T → Fraction) (is_value : Fraction → Type 0) (exact : IsExact ops fraction is_value) (order : IsTotalOrder ops.compare) (config : Setting) (some : 0 < config.hz) (id : ClientId) (token : Token) (at : ℕ) (before between rest : List (Event T)) (add grant : Event T) (phase : PhaseType) (replay : replays ops config ((before ++ add ∷ []) ++ (between ++ grant ∷ rest))) (pulls : grant.command ≡ Pull at) (grants : grant.reply ≡ Granted id token phase false) where
-  abbrev up_to : List (Event T)
-  up_to = before ++ add ∷ []
-
-  -- the numbers of the two parts
-  record Numbers : Type 0 where
-    next : IsNext id token (up_to ++ between)
-    parted : departures id (up_to ++ between) + 1 - length (arrivals id up_to) ≡ departures id between + 1 - length (requests_of id (after ops config up_to).requests)
-    waits : (tally_after id (opened id (after ops config up_to)) between).waiting ≡ drop (departures id between) (map (λ _. record { delta = 0; rho = 0 }) (requests_of id (after ops config up_to).requests) ++ sums_from (record { delta = 0; rho = 0 }) (arrivals id between))
-
-  numbers : Numbers
-  numbers =
-      let so_far = up_to ++ between in
-      let s1 = after ops config up_to in
-      let s2 = after ops config so_far in
+  pub bounded : (token : Token) (at : ℕ) (before second rest : List (Event T)) (add grant : Event T)
+      → replays ops config ((before ++ add ∷ []) ++ (second ++ grant ∷ rest))
+      → Arrives id add.command add.reply
+      → rate_of ops fraction is_value exact order config some id side q (after ops config (before ++ add ∷ [])) ≡ Some q
+      → AllKeep id second
+      → grant.command ≡ Pull at
+      → grant.reply ≡ Granted id token (phase_of side) false
+      → IsNext id token ((before ++ add ∷ []) ++ second)
+      × (config.hz * sum_since (count_in side) id (before ++ add ∷ []) second ≤ q * ticks_since ops config (before ++ add ∷ []) second at + config.hz * taken_in side (priorities id second))
+  bounded token at before second rest add grant replay arrives has keeps pulls grants =
+      let up_to = before ++ add ∷ [] in
       let start = opening {T = T} config in
-      let opens = sound_opening ops fraction is_value exact order config in
-      let whole = replays_split ops start up_to (between ++ grant ∷ rest) replay in
-      let later = replays_split ops s1 between (grant ∷ rest) whole.1 in
-      let again : replays_from ops start (so_far ++ grant ∷ rest) = subst (replays_from ops start) (sym (append_assoc up_to between (grant ∷ rest))) replay in
-      let halves = replays_split ops start so_far (grant ∷ rest) again in
-      let sound1 = sound_after ops fraction is_value exact order config some start up_to opens in
-      let sound2 = sound_after ops fraction is_value exact order config some start so_far opens in
-      let rs = requests_of id s1.requests in
-      let zeros = length-map {Y = Params} (λ (r : PlainRequest T). record { delta = 0; rho = 0 }) rs in
-      let size = length-map (λ (r : PlainRequest T). r.token) rs in
-      let queued = queued_is ops fraction is_value exact order id config some up_to whole.0 in
-      let within = departures_within ops fraction is_value exact order id config some start up_to opens whole.0 in
-      let both = departures-append ops fraction is_value exact order id up_to between in
-      let left = queued_is ops fraction is_value exact order id config some so_far halves.0 in
-      let one = one_departs ops fraction is_value exact order id grant.command grant.reply at token phase false pulls grants in
-      let moves : Moves ops fraction is_value exact order id grant.command s2 ((step ops s2 grant.command).0, grant.reply) = subst (λ r. Moves ops fraction is_value exact order id grant.command s2 ((step ops s2 grant.command).0, r)) (sym halves.1.0) (step_moves ops fraction is_value exact order id s2 grant.command sound2.turn) in
-      let tokens = tokens_after ops fraction is_value exact order id config some start so_far opens halves.0 in
-      let taken = first_of ops fraction is_value exact order id (tokens_of ops fraction is_value exact order id s2.requests) token (taken_first ops fraction is_value exact order id grant.command grant.reply at token phase false (tokens_of ops fraction is_value exact order id s2.requests) pulls grants moves.2) in
-      record {
-        next = record { others = taken.0; first = sym tokens ∙ taken.1 };
-        parted = omega arith;
-        waits = waits_after ops fraction is_value exact order id config some (opened id s1) s1 between sound1 later.0 (zeros ∙ sym size);
-      }
+      let s0 = after ops config before in
+      let s1 = after ops config up_to in
+      let s2 = after ops config (up_to ++ second) in
+      let opened = sound_opening ops fraction is_value exact order config some in
+      let whole = replays_split ops start up_to (second ++ grant ∷ rest) replay in
+      let first = replays_split ops start before (add ∷ []) whole.0 in
+      let later = replays_split ops s1 second (grant ∷ rest) whole.1 in
+      let halves = replays_split ops start (up_to ++ second) (grant ∷ rest) (subst (replays_from ops start) (sym (append_assoc up_to second (grant ∷ rest))) replay) in
+      let s1_is : s1 ≡ (step ops s0 add.command).0 = after-append ops start before (add ∷ []) in
+      let s2_is : s2 ≡ after_from ops s1 second = after-append ops start up_to second in
+      let sound = λ (es : List (Event T)). sound_after ops fraction is_value exact order config some start es opened in
+      let open_here = subst (λ s. Paced s.last_moment 0 0 (map (λ _. 0) (requests_of id s.requests)) s) (sym s1_is) (opens ops fraction is_value exact order config some id side q s0 add.command add.reply (sound before) first.1.0 arrives (subst (λ s. rate_of ops fraction is_value exact order config some id side q s ≡ Some q) s1_is has)) in
+      let paced = subst (Paced s1.last_moment _ _ _) (sym s2_is) (paced_after s1.last_moment 0 0 _ s1 second (sound up_to) open_here later.0 keeps) in
+      let answer : (step ops s2 (Pull at)).1 ≡ Granted id token (phase_of side) false = sym (halves.1.0 ∙ ap (λ d. (step ops s2 d).1) pulls) ∙ grants in
+      let within = grant_within s1.last_moment _ _ _ s2 at token (sound (up_to ++ second)) paced answer in
+      let moves = event_moves ops fraction is_value exact order config some id s2 grant (sound (up_to ++ second)) halves.1.0 in
+      let tokens = tokens_after ops fraction is_value exact order config some id start (up_to ++ second) opened halves.0 in
+      let next = first_of (queued ops fraction is_value exact order config some id s2) token (taken_token grant.command grant.reply at token (phase_of side) _ pulls grants moves.2) in
+      let before_it = queued_is ops fraction is_value exact order config some id up_to whole.0 in
+      let size = length-map (requests_of id s1.requests) (λ (r : PlainRequest T). r.token) in
+      let both = departures-append id up_to second in
+      let parted : departures id (up_to ++ second) + 1 - length (arrivals id up_to) ≡ departures id second + 1 - length (requests_of id s1.requests) = omega arith in
+      let none : 0 + taken_in side (priorities id second) ≡ taken_in side (priorities id second) = omega arith in
+      let sum = sum_past side (requests_of id s1.requests) (arrivals id second) (departures id second) within.granted within.others within.first in
+      let sum_is : within.granted ≡ sum_since (count_in side) id up_to second = sum ∙ ap (λ n. sum_by (λ (a : Arrival). count_in side a.params) (take n (arrivals id second))) (sym parted) in
+      (record { others = next.0; first = sym tokens.0 ∙ next.1 }, subst (λ n. config.hz * n ≤ q * ticks_since ops config up_to second at + config.hz * taken_in side (priorities id second)) sum_is (subst (λ n. config.hz * within.granted ≤ q * ticks_since ops config up_to second at + config.hz * n) none within.within))
 
-module _ {T : Type 0} (ops : Tagging T) (fraction : T → Fraction) (is_value : Fraction → Type 0) (exact : IsExact ops fraction is_value) (order : IsTotalOrder ops.compare) where
-  pub holds_limit : (config : Setting) → 0 < config.hz → LimitBound ops config
-  holds_limit config some = λ id token l at before between rest add grant replay arrives limited keep pulls grants.
-      let s1 = after ops config (before ++ add ∷ []) in
-      let s2 = after ops config ((before ++ add ∷ []) ++ between) in
-      let tally = limit_bound ops fraction is_value exact order config some id token l at before between rest add grant replay arrives limited keep pulls grants in
-      let n = numbers ops fraction is_value exact order config some id token at before between rest add grant phases.Priority replay pulls grants in
-      let delta = sum_past (λ p. p.delta) (λ p q. refl) refl (requests_of id s1.requests) (arrivals id between) (departures id between) tally.granted tally.others (sym n.waits ∙ tally.first) in
-      (n.next, subst (λ n. config.hz * sum_by (λ (a : Arrival). a.params.delta) (take n (arrivals id between)) ≤ l * (effective s2 at - s1.last_moment)) (sym n.parted) (subst (λ n. config.hz * n ≤ l * (effective s2 at - s1.last_moment)) delta tally.within))
+module _ {T : Type 0} (ops : Tagging T) (fraction : T → Fraction) (is_value : Fraction → Type 0) (exact : IsExact ops fraction is_value) (order : IsTotalOrder ops.compare) (config : Setting) (some : 0 < config.hz) where
+  pub holds_limit : LimitBound ops config
+  holds_limit = λ id token l at before second rest add grant replay arrives limited keeps pulls grants.
+      let is = bounded ops fraction is_value exact order config some id limits l token at before second rest add grant replay arrives limited keeps pulls grants in
+      (is.0, nothing_taken _ _ config.hz is.1)
+    where
+      nothing_taken : (a b hz : ℕ) → a ≤ b + hz * 0 → a ≤ b
+      nothing_taken a b hz h = omega arith
 
-  pub holds_reservation : (config : Setting) → 0 < config.hz → ReservationBound ops config
-  holds_reservation config some = λ id token r at before between rest add grant replay arrives reserved keep pulls grants.
-      let s1 = after ops config (before ++ add ∷ []) in
-      let s2 = after ops config ((before ++ add ∷ []) ++ between) in
-      let tally = reservation_bound ops fraction is_value exact order config some id token r at before between rest add grant replay arrives reserved keep pulls grants in
-      let n = numbers ops fraction is_value exact order config some id token at before between rest add grant phases.Reservation replay pulls grants in
-      let rho = sum_past (λ p. p.rho) (λ p q. refl) refl (requests_of id s1.requests) (arrivals id between) (departures id between) tally.granted tally.others (sym n.waits ∙ tally.first) in
-      let counted = priorities_after ops fraction is_value exact order id (opened id s1) between in
-      let counted_so : (tally_after id (opened id s1) between).priorities ≡ priorities id between = omega arith in
-      let within = subst (λ m. config.hz * m ≤ r * (effective s2 at - s1.last_moment) + config.hz * (tally_after id (opened id s1) between).priorities) rho tally.within in (
-        n.next,
-        subst (λ n. config.hz * sum_by (λ (a : Arrival). a.params.rho) (take n (arrivals id between)) ≤ r * (effective s2 at - s1.last_moment) + config.hz * priorities id between) (sym n.parted)
-            (subst (λ w. config.hz * sum_by (λ (a : Arrival). a.params.rho) (take (departures id between + 1 - length (requests_of id s1.requests)) (arrivals id between)) ≤ r * (effective s2 at - s1.last_moment) + config.hz * w) counted_so within),
-      )
+  pub holds_reservation : ReservationBound ops config
+  holds_reservation = λ id token r at before second rest add grant replay arrives reserved keeps pulls grants.
+      bounded ops fraction is_value exact order config some id reservations r token at before second rest add grant replay arrives reserved keeps pulls grants

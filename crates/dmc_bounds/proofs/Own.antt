@@ -1,11 +1,16 @@
 -- What is read of a client's requests, in their order.
-use Rattle.std.proofs.Common.{◌≡◌, Bool, true, false, not, cond, List, [], ◌∷◌, ◌++◌, map, refl, sym, ap, ◌∙◌}
-use Rattle.std.specs.Prelude.{filter}
+use Rattle.std.proofs.Common.{◌≡◌, Bool, true, false, not, cond, List, [], ◌∷◌, ◌++◌, map, Option, Some, None, refl, sym, ap, ◌∙◌}
+use Rattle.std.specs.Prelude.{filter, if◌then◌else◌}
+use Rattle.std.specs.Option.{option_map}
 use Rattle.std.specs.List.{AllByRecursion}
 use Rattle.dmc_types.specs.declared.ids.ClientId.{ClientId}
-use Rattle.dmc_tag.specs.State.{is_client, requests_of}
+use Rattle.dmc_tag.specs.Tag.{Tagging}
+use Rattle.dmc_tag.specs.State.{is_client, is_active, requests_of}
+use Rattle.dmc_tag.specs.Rules as rules_of
 use Rattle.dmc_tag.specs.declared.plain.PlainRequest.{PlainRequest}
-use Rattle.dmc_bounds.proofs.Paced.{same_id, both_id}
+use Rattle.dmc_tag.specs.declared.plain.PlainClient.{PlainClient}
+use Rattle.dmc_tag.proofs.Active.{either}
+use Rattle.dmc_bounds.proofs.Basics.{same_id, both_id}
 
 -- ---- what is read of a client's requests
 
@@ -65,3 +70,38 @@ own-taken proj id r front back none false e =
     own-append proj id front (r ∷ back)
     ∙ ap (λ ls. own_of proj id front ++ ls) (own-first proj id r back false e)
     ∙ sym (own-append proj id front back)
+
+-- ---- shifts and reductions
+
+module _ {T B : Type 0} (ops : Tagging T) (proj : PlainRequest T → B) (id : ClientId) where
+  -- what reads no P is not shifted
+  pub own-shifted : ((r : PlainRequest T) (p : T) → proj (record r { tags = record (r.tags) { p = p } }) ≡ proj r) → (shift : Option T) (clients : List (PlainClient T)) (xs : List (PlainRequest T)) → own_of proj id (rules_of.shifted_requests ops shift clients xs) ≡ own_of proj id xs
+  own-shifted reads None clients xs = refl
+  own-shifted reads (Some amount) clients xs = own-same proj id (rules_of.shifted_request ops amount clients) (λ r. either (λ z. z.client ≡ r.client) (is_active r.client clients) _ r refl refl) (λ r. either (λ z. proj z ≡ proj r) (is_active r.client clients) _ r (reads r _) refl) xs
+
+  module _ (client : ClientId) (change : T → B → B) (reads : (amount : T) (r : PlainRequest T) → proj (record r { tags = record (r.tags) { r = option_map (rules_of.less ops amount) r.tags.r } }) ≡ change amount (proj r)) where
+    abbrev lessened : T → Bool → PlainRequest T → PlainRequest T
+    lessened amount b x = if b then record x { tags = record (x.tags) { r = option_map (rules_of.less ops amount) x.tags.r } } else x
+
+    lessened-at : (amount : T) (own : Bool) → is_client id client ≡ own → (x : PlainRequest T) (xs ys : List (PlainRequest T)) → own_of proj id ys ≡ cond own (map (change amount) (own_of proj id xs)) (own_of proj id xs) → (a : Bool) → is_client id x.client ≡ a → (b : Bool) → is_client client x.client ≡ b → own_of proj id (lessened amount b x ∷ ys) ≡ cond own (map (change amount) (own_of proj id (x ∷ xs))) (own_of proj id (x ∷ xs))
+    lessened-at amount true e x xs ys h true p true q = own-first proj id (lessened amount true x) ys true p ∙ ap (λ b. b ∷ own_of proj id ys) (reads amount x) ∙ ap (λ bs. change amount (proj x) ∷ bs) h ∙ ap (map (change amount)) (sym (own-first proj id x xs true p))
+    lessened-at amount true e x xs ys h true p false q = let so = both_id id client x.client e p in cc
+    lessened-at amount false e x xs ys h true p true q = let so = same_id id x.client client p q in cc
+    lessened-at amount false e x xs ys h true p false q = own-first proj id x ys true p ∙ ap (λ bs. proj x ∷ bs) h ∙ sym (own-first proj id x xs true p)
+    lessened-at amount true e x xs ys h false p b q = own-first proj id (lessened amount b x) ys false (ap (is_client id) (either (λ z. z.client ≡ x.client) b _ x refl refl) ∙ p) ∙ h ∙ ap (map (change amount)) (sym (own-first proj id x xs false p))
+    lessened-at amount false e x xs ys h false p b q = own-first proj id (lessened amount b x) ys false (ap (is_client id) (either (λ z. z.client ≡ x.client) b _ x refl refl) ∙ p) ∙ h ∙ sym (own-first proj id x xs false p)
+
+    -- its own are changed, and those of others are not
+    pub own-less : (amount : T) (own : Bool) → is_client id client ≡ own → (xs : List (PlainRequest T)) → own_of proj id (map (rules_of.reduced_request ops client amount) xs) ≡ cond own (map (change amount) (own_of proj id xs)) (own_of proj id xs)
+    own-less amount true e [] = refl
+    own-less amount false e [] = refl
+    own-less amount own e (x ∷ xs) = lessened-at amount own e x xs _ (own-less amount own e xs) (is_client id x.client) refl (is_client client x.client) refl
+
+    pub own-others : (amount : Option T) → is_client id client ≡ false → (xs : List (PlainRequest T)) → own_of proj id (rules_of.reduced_requests ops client amount xs) ≡ own_of proj id xs
+    own-others None e xs = refl
+    own-others (Some amount) e xs = own-less amount false e xs
+
+  -- what reads no R is not changed at all
+  pub own-unreduced : ((r : PlainRequest T) (o : Option T) → proj (record r { tags = record (r.tags) { r = o } }) ≡ proj r) → (client : ClientId) (amount : Option T) (xs : List (PlainRequest T)) → own_of proj id (rules_of.reduced_requests ops client amount xs) ≡ own_of proj id xs
+  own-unreduced reads client None xs = refl
+  own-unreduced reads client (Some amount) xs = own-same proj id (rules_of.reduced_request ops client amount) (λ r. either (λ z. z.client ≡ r.client) (is_client client r.client) _ r refl refl) (λ r. either (λ z. proj z ≡ proj r) (is_client client r.client) _ r (reads r _) refl) xs

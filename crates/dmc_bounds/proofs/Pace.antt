@@ -1,6 +1,6 @@
 -- Fractions that are not below a whole number of ticks over a rate, and what assignment keeps of that.
 use Rattle.std.proofs.Common.{◌≡◌, ℕ, ◌*◌, ◌<◌, ◌≤◌, Bool, true, false, cond, not, Option, Some, None, refl, sym, ap, ◌∙◌, subst, arith}
-use Rattle.std.specs.Prelude.{ℤ, pos, ◌+ℤ◌, ◌-ℤ◌, ◌*ℤ◌, ◌≤ℤ◌, Ok}
+use Rattle.std.specs.Prelude.{ℤ, pos, ◌+ℤ◌, ◌-ℤ◌, ◌*ℤ◌, ◌≤ℤ◌, neg_ℤ, Ok}
 use Rattle.std.specs.declared.cmp.Ordering.{Ordering}
 use Rattle.std.specs.declared.cmp.Ordering.TheVariants.{Less, Equal, Greater}
 use Rattle.std.specs.Ordering.{is_gt, is_lt, ord_max, ordering_reverse}
@@ -13,7 +13,7 @@ use Rattle.dmc_tag.specs.Outcome.{in_range}
 use Rattle.dmc_tag.specs.Rules.{next_tag}
 use Rattle.dmc_tag.specs.Best.{is_due}
 use Rattle.std.proofs.Math.Nat.{mul-le-mul_left}
-use Rattle.dmc_tag.proofs.Scaled.{scaled_twice, scaled_sum, scaled_difference, scaled_le, unscaled_le}
+use Rattle.dmc_tag.proofs.Scaled.{scaled_twice, scaled_sum, scaled_negative, scaled_le, unscaled_le}
 use Rattle.dmc_tag.proofs.TagOrder.{positive, bound, from_range, at_most_to}
 
 -- the fraction is not below m/q
@@ -57,51 +57,37 @@ raised f g m q some le h = record {
       (le_trans _ _ _ (scaled_le _ _ q le) (le_of _ _ (turned g.numer f.denom q))))));
 }
 
--- more by k*hz, where k spacings are added
-pub added : (a d x : Fraction) (m : ℤ) (q n : ℕ) → 0 < a.denom → 0 < d.denom → x.numer *ℤ pos (a.denom * d.denom) ≡ (a.numer *ℤ pos d.denom +ℤ d.numer *ℤ pos a.denom) *ℤ pos x.denom → d.numer *ℤ pos q ≡ pos n *ℤ pos d.denom → NotBelow a m q → NotBelow x (m +ℤ pos n) q
-added a d x m q n some_a some_d same worth h =
-    let both = a.denom * d.denom in
-    let right : (x.numer *ℤ pos q) *ℤ pos both ≡ ((a.numer *ℤ pos q) *ℤ pos d.denom) *ℤ pos x.denom +ℤ ((pos n *ℤ pos d.denom) *ℤ pos a.denom) *ℤ pos x.denom =
+-- moved by k/q, where z over both denominators is added and is worth as much
+moved : (a x : Fraction) (d : ℕ) (z m k : ℤ) (q : ℕ) → 0 < a.denom → 0 < d → x.numer *ℤ pos (a.denom * d) ≡ (a.numer *ℤ pos d +ℤ z) *ℤ pos x.denom → z *ℤ pos q ≡ k *ℤ pos (a.denom * d) → NotBelow a m q → NotBelow x (m +ℤ k) q
+moved a x d z m k q some_a some_d same worth h =
+    let both = a.denom * d in
+    let right : (x.numer *ℤ pos q) *ℤ pos both ≡ ((a.numer *ℤ pos q) *ℤ pos d) *ℤ pos x.denom +ℤ (k *ℤ pos both) *ℤ pos x.denom =
     turned x.numer q both
-    ∙ ap (λ z. z *ℤ pos q) same
-    ∙ turned (a.numer *ℤ pos d.denom +ℤ d.numer *ℤ pos a.denom) x.denom q
-    ∙ ap (λ z. z *ℤ pos x.denom) (scaled_sum (a.numer *ℤ pos d.denom) (d.numer *ℤ pos a.denom) q)
-    ∙ ap (λ z. (z +ℤ (d.numer *ℤ pos a.denom) *ℤ pos q) *ℤ pos x.denom) (turned a.numer d.denom q)
-    ∙ ap (λ z. ((a.numer *ℤ pos q) *ℤ pos d.denom +ℤ z) *ℤ pos x.denom) (turned d.numer a.denom q ∙ ap (λ z. z *ℤ pos a.denom) worth)
-    ∙ scaled_sum ((a.numer *ℤ pos q) *ℤ pos d.denom) ((pos n *ℤ pos d.denom) *ℤ pos a.denom) x.denom in
-    let left : ((m +ℤ pos n) *ℤ pos x.denom) *ℤ pos both ≡ ((m *ℤ pos a.denom) *ℤ pos d.denom) *ℤ pos x.denom +ℤ ((pos n *ℤ pos d.denom) *ℤ pos a.denom) *ℤ pos x.denom =
-    turned (m +ℤ pos n) x.denom both
-    ∙ ap (λ z. z *ℤ pos x.denom) (scaled_sum m (pos n) both)
-    ∙ scaled_sum (m *ℤ pos both) (pos n *ℤ pos both) x.denom
-    ∙ ap (λ z. z *ℤ pos x.denom +ℤ (pos n *ℤ pos both) *ℤ pos x.denom) (sym (scaled_twice m a.denom d.denom))
-    ∙ ap (λ z. ((m *ℤ pos a.denom) *ℤ pos d.denom) *ℤ pos x.denom +ℤ z) (ap pos (omega arith)) in
-    let more = scaled_le _ _ x.denom (scaled_le _ _ d.denom h.le) in
-    record { le = unscaled_le _ _ both (positive _ _ some_a some_d) (joined _ _ _ _ _ left right more) } where
+    ∙ ap (λ w. w *ℤ pos q) same
+    ∙ turned (a.numer *ℤ pos d +ℤ z) x.denom q
+    ∙ ap (λ w. w *ℤ pos x.denom) (scaled_sum (a.numer *ℤ pos d) z q)
+    ∙ ap (λ w. (w +ℤ z *ℤ pos q) *ℤ pos x.denom) (turned a.numer d q)
+    ∙ ap (λ w. ((a.numer *ℤ pos q) *ℤ pos d +ℤ w) *ℤ pos x.denom) worth
+    ∙ scaled_sum ((a.numer *ℤ pos q) *ℤ pos d) (k *ℤ pos both) x.denom in
+    let left : ((m +ℤ k) *ℤ pos x.denom) *ℤ pos both ≡ ((m *ℤ pos a.denom) *ℤ pos d) *ℤ pos x.denom +ℤ (k *ℤ pos both) *ℤ pos x.denom =
+    turned (m +ℤ k) x.denom both
+    ∙ ap (λ w. w *ℤ pos x.denom) (scaled_sum m k both)
+    ∙ scaled_sum (m *ℤ pos both) (k *ℤ pos both) x.denom
+    ∙ ap (λ w. w *ℤ pos x.denom +ℤ (k *ℤ pos both) *ℤ pos x.denom) (sym (scaled_twice m a.denom d)) in
+    record { le = unscaled_le _ _ both (positive _ _ some_a some_d) (joined _ _ _ _ _ left right (scaled_le _ _ x.denom (scaled_le _ _ d h.le))) } where
       joined : (x y u v w : ℤ) → x ≡ u +ℤ w → y ≡ v +ℤ w → u ≤ℤ v → x ≤ℤ y
       joined x y u v w p q h = omega (arith, ints)
 
--- less by n, where n over the rate is taken off
-pub taken_off : (a d x : Fraction) (m : ℤ) (q n : ℕ) → 0 < a.denom → 0 < d.denom → x.numer *ℤ pos (a.denom * d.denom) ≡ (a.numer *ℤ pos d.denom -ℤ d.numer *ℤ pos a.denom) *ℤ pos x.denom → d.numer *ℤ pos q ≡ pos n *ℤ pos d.denom → NotBelow a m q → NotBelow x (m -ℤ pos n) q
-taken_off a d x m q n some_a some_d same worth h =
-    let both = a.denom * d.denom in
-    let right : (x.numer *ℤ pos q) *ℤ pos both ≡ ((a.numer *ℤ pos q) *ℤ pos d.denom) *ℤ pos x.denom -ℤ ((pos n *ℤ pos d.denom) *ℤ pos a.denom) *ℤ pos x.denom =
-    turned x.numer q both
-    ∙ ap (λ z. z *ℤ pos q) same
-    ∙ turned (a.numer *ℤ pos d.denom -ℤ d.numer *ℤ pos a.denom) x.denom q
-    ∙ ap (λ z. z *ℤ pos x.denom) (scaled_difference (a.numer *ℤ pos d.denom) (d.numer *ℤ pos a.denom) q)
-    ∙ ap (λ z. (z -ℤ (d.numer *ℤ pos a.denom) *ℤ pos q) *ℤ pos x.denom) (turned a.numer d.denom q)
-    ∙ ap (λ z. ((a.numer *ℤ pos q) *ℤ pos d.denom -ℤ z) *ℤ pos x.denom) (turned d.numer a.denom q ∙ ap (λ z. z *ℤ pos a.denom) worth)
-    ∙ scaled_difference ((a.numer *ℤ pos q) *ℤ pos d.denom) ((pos n *ℤ pos d.denom) *ℤ pos a.denom) x.denom in
-    let left : ((m -ℤ pos n) *ℤ pos x.denom) *ℤ pos both ≡ ((m *ℤ pos a.denom) *ℤ pos d.denom) *ℤ pos x.denom -ℤ ((pos n *ℤ pos d.denom) *ℤ pos a.denom) *ℤ pos x.denom =
-    turned (m -ℤ pos n) x.denom both
-    ∙ ap (λ z. z *ℤ pos x.denom) (scaled_difference m (pos n) both)
-    ∙ scaled_difference (m *ℤ pos both) (pos n *ℤ pos both) x.denom
-    ∙ ap (λ z. z *ℤ pos x.denom -ℤ (pos n *ℤ pos both) *ℤ pos x.denom) (sym (scaled_twice m a.denom d.denom))
-    ∙ ap (λ z. ((m *ℤ pos a.denom) *ℤ pos d.denom) *ℤ pos x.denom -ℤ z) (ap pos (omega arith)) in
-    let more = scaled_le _ _ x.denom (scaled_le _ _ d.denom h.le) in
-    record { le = unscaled_le _ _ both (positive _ _ some_a some_d) (joined _ _ (((m *ℤ pos a.denom) *ℤ pos d.denom) *ℤ pos x.denom) (((a.numer *ℤ pos q) *ℤ pos d.denom) *ℤ pos x.denom) (((pos n *ℤ pos d.denom) *ℤ pos a.denom) *ℤ pos x.denom) left right more) } where
-      joined : (x y u v w : ℤ) → x ≡ u -ℤ w → y ≡ v -ℤ w → u ≤ℤ v → x ≤ℤ y
-      joined x y u v w p q h = omega (arith, ints)
+-- d is worth n/q
+worth_over : (a d : Fraction) (q n : ℕ) → d.numer *ℤ pos q ≡ pos n *ℤ pos d.denom → (d.numer *ℤ pos a.denom) *ℤ pos q ≡ pos n *ℤ pos (a.denom * d.denom)
+worth_over a d q n worth = turned d.numer a.denom q ∙ ap (λ w. w *ℤ pos a.denom) worth ∙ turned (pos n) d.denom a.denom ∙ scaled_twice (pos n) a.denom d.denom
+
+-- more by n, where n over the rate is added, and less, where it is taken off
+added : (a d x : Fraction) (m : ℤ) (q n : ℕ) → 0 < a.denom → 0 < d.denom → x.numer *ℤ pos (a.denom * d.denom) ≡ (a.numer *ℤ pos d.denom +ℤ d.numer *ℤ pos a.denom) *ℤ pos x.denom → d.numer *ℤ pos q ≡ pos n *ℤ pos d.denom → NotBelow a m q → NotBelow x (m +ℤ pos n) q
+added a d x m q n some_a some_d same worth = moved a x d.denom (d.numer *ℤ pos a.denom) m (pos n) q some_a some_d same (worth_over a d q n worth)
+
+taken_off : (a d x : Fraction) (m : ℤ) (q n : ℕ) → 0 < a.denom → 0 < d.denom → x.numer *ℤ pos (a.denom * d.denom) ≡ (a.numer *ℤ pos d.denom -ℤ d.numer *ℤ pos a.denom) *ℤ pos x.denom → d.numer *ℤ pos q ≡ pos n *ℤ pos d.denom → NotBelow a m q → NotBelow x (m -ℤ pos n) q
+taken_off a d x m q n some_a some_d same worth = moved a x d.denom (neg_ℤ (d.numer *ℤ pos a.denom)) m (neg_ℤ (pos n)) q some_a some_d same (scaled_negative (d.numer *ℤ pos a.denom) q ∙ ap neg_ℤ (worth_over a d q n worth) ∙ sym (scaled_negative (pos n) (a.denom * d.denom)))
 
 -- what is not below more is not below less
 pub lowered : (f : Fraction) (m k : ℤ) (q : ℕ) → k ≤ℤ m → NotBelow f m q → NotBelow f k q

@@ -1,20 +1,15 @@
 -- Each command keeps the requests of a client in order of their tags.
-use Rattle.std.proofs.Common.{◌≡◌, ℕ, zero, suc, ◌<◌, Bool, true, false, not, ◌&&◌, List, [], ◌∷◌, length, Option, Some, None, Ok, refl, sym, ap, ◌∙◌, subst, arith, inl, inr}
-use Rattle.std.specs.Prelude.{◌⊎◌, pos, ◌*ℤ◌, ⊤, if◌then◌else◌, ◌==◌, is_some, is_none, nat_le, IfSome}
+use Rattle.std.proofs.Common.{◌≡◌, ℕ, zero, suc, ◌<◌, Bool, true, false, not, ◌&&◌, List, Option, Some, None, Ok, refl, sym, ap, ◌∙◌, subst, arith, inl, inr}
+use Rattle.std.specs.Prelude.{◌⊎◌, pos, ◌*ℤ◌, ⊤, if◌then◌else◌, is_some, is_none, IfSome}
 use Rattle.std.specs.Option.{ok_or}
 use Rattle.std.specs.Result.{result_ok}
-use Rattle.std.specs.List.{AllByRecursion, find, list_any}
 use Rattle.std.specs.Cmp.{IsTotalOrder}
 use Rattle.std.proofs.lemmas.Int.{ints}
-use Rattle.std.proofs.lemmas.Bool.{eqb-true}
 use Rattle.std.proofs.Math.IntN.{*ℤ-zero}
 use Rattle.dmc_types.specs.Values.{Params, Rates, AreRates, IsRate}
 use Rattle.dmc_types.specs.declared.ids.ClientId.{ClientId}
 use Rattle.dmc_types.specs.declared.ids.Token.{Token}
-use Rattle.dmc_types.specs.declared.config.AtLimit.{AtLimit}
-use Rattle.dmc_types.specs.declared.config.AtLimit.TheVariants.{Wait, Allow}
-use Rattle.dmc_types.specs.declared.refusal.Refusal.{Refusal}
-use Rattle.dmc_types.specs.declared.refusal.Refusal.TheVariants.{Unknown, QueueFull, Range, Busy}
+use Rattle.dmc_types.specs.declared.refusal.Refusal.TheVariants.{Known, Unknown, Busy}
 use Rattle.dmc_types.specs.declared.refusal.Field.{Field}
 use Rattle.dmc_types.specs.declared.refusal.Field.TheVariants.{Reservation, Weight, Limit}
 use Rattle.dmc_types.specs.declared.command.Command.{Command}
@@ -24,7 +19,7 @@ use Rattle.dmc_tag.specs.Order.{AtMost, AreNext}
 use Rattle.dmc_tag.specs.Outcome.{refuse_if, in_range, exactly}
 use Rattle.dmc_tag.specs.Spacing.{spacing_of, optional_spacing, spacings_of}
 use Rattle.dmc_tag.specs.State.{State, is_client, has_queued, client_named, effective}
-use Rattle.dmc_tag.specs.Best.{best, by_reservation, by_shares, is_early, is_free, is_any, IsBest}
+use Rattle.dmc_tag.specs.Best.{best, by_shares, is_any}
 use Rattle.dmc_tag.specs.Rules as rules_of
 use Rattle.dmc_tag.specs.Rules.{Outcome, next_tags}
 use Rattle.dmc_tag.specs.Step.{settled, outcome}
@@ -34,24 +29,13 @@ use Rattle.dmc_tag.specs.declared.spacing.Spacings.{Spacings}
 use Rattle.dmc_tag.specs.declared.reply.Tags.{Tags}
 use Rattle.dmc_tag.proofs.Orderings.{at_most_trans}
 use Rattle.dmc_tag.proofs.TagOrder.{bound, from_option, from_range, positive, next_tags_follow, spacings_not_below}
+use Rattle.dmc_tag.proofs.Active.{either, queued_own}
+use Rattle.dmc_tag.proofs.Lists.{all_as, all_both}
+use Rattle.dmc_bounds.proofs.Basics.{bind_goes, add_gives, from_ok, same_id, named_same, allowed}
+use Rattle.dmc_bounds.proofs.InTurn.{pull_is, IsUpto, Follows, IsKnown, AreInTurn}
 use Rattle.dmc_bounds.proofs.Pace.{given}
-use Rattle.dmc_tag.proofs.Before.{before_order}
-use Rattle.dmc_tag.proofs.BestIs.{found_is}
-use Rattle.dmc_bounds.proofs.Turns.{all_as, find_mapped, found_passes}
-use Rattle.dmc_bounds.proofs.Paced.{same_id, either}
-use Rattle.dmc_bounds.proofs.PacedSteps.{bind_goes, from_ok}
-use Rattle.dmc_bounds.proofs.InTurn.{IsUpto, IsKnown, AreInTurn, IsBelow, all_queued, registered_turn, removed_turn, cleaned_turn, left_turn, reduced_turn, shifted_turn, queued_turn}
-
-pub named_same : {T : Type 0} (a b : ClientId) (clients : List (PlainClient T)) → is_client a b ≡ true → client_named a clients ≡ client_named b clients
-named_same {T} a b clients e = let x : a.0 ≡ b.0 = sym (eqb-true b.0 a.0 e) in ap (λ n. find (λ (c : PlainClient T). c.id.0 == n) clients) x
-
-pub allowed : (b : Bool) (refusal : Refusal) (u : ⊤) → refuse_if b refusal ≡ Ok u → b ≡ false
-allowed true refusal u e = cc
-allowed false refusal u e = refl
-
-pub not_not : (b : Bool) → not b ≡ false → b ≡ true
-not_not true e = refl
-not_not false e = cc
+use Rattle.dmc_bounds.proofs.Pairs.{ids-kept, find_mapped}
+use Rattle.dmc_bounds.proofs.TurnKept.{known_changed, mine, IsBelow, same_queued, registered_turn, removed_turn, cleaned_turn, left_turn, reduced_turn, shifted_turn, queued_turn}
 
 module _ {T : Type 0} (ops : Tagging T) (fraction : T → Fraction) (is_value : Fraction → Type 0) (exact : IsExact ops fraction is_value) (order : IsTotalOrder ops.compare) where
   -- ---- rates
@@ -108,15 +92,15 @@ module _ {T : Type 0} (ops : Tagging T) (fraction : T → Fraction) (is_value : 
   below_of clients r c named (inl idle) x k = λ same.
       let so : Some k.client ≡ Some c = sym k.named ∙ named_same x.client r.client clients same ∙ named in
       let one : k.client ≡ c = cc in
-      let busy : c.idle ≡ false = ap (λ d. d.idle) (sym one) ∙ k.busy in cc
+      let busy : c.idle ≡ false = ap (λ d. d.idle) (sym one) ∙ k.follows.busy in cc
   below_of clients r c named (inr next) x k = λ same.
       let so : Some k.client ≡ Some c = sym k.named ∙ named_same x.client r.client clients same ∙ named in
       let one : k.client ≡ c = cc in
-      let reserved : is_some x.tags.r ≡ is_some r.tags.r = k.reserved ∙ ap (λ d. is_some d.info.reservation) one ∙ sym next.reserved in (
+      let reserved : is_some x.tags.r ≡ is_some r.tags.r = k.follows.reserved ∙ ap (λ d. is_some d.info.reservation) one ∙ sym next.reserved in (
         record {
-          r = upto_chain x.tags.r r.tags.r c.previous.r reserved (subst (λ d. IfSome x.tags.r (λ a. AtMost ops a d.previous.r)) one k.r) next.r;
-          l = at_most_trans ops order x.tags.l c.previous.l r.tags.l _ _ refl refl (subst (λ d. AtMost ops x.tags.l d.previous.l) one k.l) next.l;
-          p = at_most_trans ops order x.tags.p c.previous.p r.tags.p _ _ refl refl (subst (λ d. AtMost ops x.tags.p d.previous.p) one k.p) next.p;
+          r = upto_chain x.tags.r r.tags.r c.previous.r reserved (subst (λ d. IfSome x.tags.r (λ a. AtMost ops a d.previous.r)) one k.follows.r) next.r;
+          l = at_most_trans ops order x.tags.l c.previous.l r.tags.l _ _ refl refl (subst (λ d. AtMost ops x.tags.l d.previous.l) one k.follows.l) next.l;
+          p = at_most_trans ops order x.tags.p c.previous.p r.tags.p _ _ refl refl (subst (λ d. AtMost ops x.tags.p d.previous.p) one k.follows.p) next.p;
         },
         reserved,
       )
@@ -149,22 +133,16 @@ module _ {T : Type 0} (ops : Tagging T) (fraction : T → Fraction) (is_value : 
   add_stays s client token params t some is = bind_goes (Stays s) (rules_of.can_add ops s client params (ops.of_moment t)) _ (λ e. (is, refl)) (λ x e. (at x e, refl)) where
     at : (x : Option T × Tags T) → rules_of.can_add ops s client params (ops.of_moment t) ≡ Ok x → Turn (rules_of.queued (rules_of.shifted_by ops x.0 s) (record { client = client; token = token; tags = x.1 }) t)
     at x e =
-        let c = bound (ok_or (client_named client s.clients) Unknown) _ x e in
-        let full = bound (refuse_if (nat_le 1048576 (length s.requests)) QueueFull) _ x c.2 in
-        let shift = bound (rules_of.shift_of ops s.requests c.0 (ops.of_moment t)) _ x full.2 in
-        let range = bound (refuse_if (not (rules_of.can_shift_by ops shift.0 s.clients s.requests)) Range) _ x shift.2 in
-        let tags = bound (rules_of.assigned ops s.config.hz c.0 params (ops.of_moment t)) _ x range.2 in
-        let pair : (shift.0, tags.0) ≡ x = cc (tags.2) in
-        let can : rules_of.can_shift_by ops shift.0 s.clients s.requests ≡ true = not_not _ (allowed _ Range range.0 range.1) in
-        let moved = shifted_turn ops order fraction is_value exact s shift.0 can is in
-        let r : PlainRequest T = record { client = client; token = token; tags = tags.0 } in
-        let named = named_shifted shift.0 client s.clients c.0 (from_option _ _ _ c.1) in
-        let next = assigned_next s.config.hz c.0 params (ops.of_moment t) tags.0 some tags.1 in
-        let reserved : is_some tags.0.r ≡ is_some (left_by shift.0 c.0).info.reservation = next.reserved ∙ ap (λ i. is_some i.reservation) (sym (info_shifted shift.0 c.0)) in
-        let either_way = idle_or_next shift.0 s.requests c.0 (ops.of_moment t) tags.0 shift.1 next in
-        let here = rules_of.shifted_by ops shift.0 s in
-        let arrived = queued_turn ops order fraction is_value exact here r t (left_by shift.0 c.0) named reserved (all_as _ (IsBelow ops order fraction is_value exact r) (below_of here.clients r (left_by shift.0 c.0) named either_way) here.requests moved.known) moved in
-        subst (λ (z : Option T × Tags T). Turn (rules_of.queued (rules_of.shifted_by ops z.0 s) (record { client = client; token = token; tags = z.1 }) t)) pair arrived
+        let c = add_gives ops s client params (ops.of_moment t) x e in
+        let moved = shifted_turn ops order fraction is_value exact s x.0 c.can is in
+        let r : PlainRequest T = record { client = client; token = token; tags = x.1 } in
+        let left = left_by x.0 c.client in
+        let next = assigned_next s.config.hz c.client params (ops.of_moment t) x.1 some c.tags in
+        let named = named_shifted x.0 client s.clients c.client c.named in
+        let reserved : is_some x.1.r ≡ is_some left.info.reservation = next.reserved ∙ ap (λ i. is_some i.reservation) (sym (info_shifted x.0 c.client)) in
+        let either_way = idle_or_next x.0 s.requests c.client (ops.of_moment t) x.1 c.shift next in
+        let here = rules_of.shifted_by ops x.0 s in
+        queued_turn ops order fraction is_value exact here r t left named reserved (all_as _ (IsBelow ops order fraction is_value exact r) (below_of here.clients r left named either_way) here.requests moved.known) moved
 
   -- ---- update
 
@@ -178,41 +156,16 @@ module _ {T : Type 0} (ops : Tagging T) (fraction : T → Fraction) (is_value : 
   and_first true c e f = cc
   and_first false c e f = refl
 
-  abbrev informed : Rates → Bool → PlainClient T → PlainClient T
-  informed info b c = if b then rules_of.with_info info c else c
-
-  queued_too : (a b : ClientId) (xs : List (PlainRequest T)) → is_client a b ≡ true → has_queued b xs ≡ true → has_queued a xs ≡ true
-  queued_too a b xs e h = let x : a.0 ≡ b.0 = sym (eqb-true b.0 a.0 e) in ap (λ n. list_any (λ (r : PlainRequest T). r.client.0 == n) xs) x ∙ h
-
   updated_known : (s : State T) (id : ClientId) (info : Rates) (c : PlainClient T) → client_named id s.clients ≡ Some c → (rules_of.changes_reservation c.info info && has_queued id s.requests) ≡ false → (x : PlainRequest T) → has_queued x.client s.requests ≡ true → IsKnown ops order s.clients x → IsKnown ops order (rules_of.change_client id (rules_of.with_info info) s.clients) x
-  updated_known s id info c named kept x queued k = at (is_client id k.client.id) refl where
-    found : client_named x.client (rules_of.change_client id (rules_of.with_info info) s.clients) ≡ Some (informed info (is_client id k.client.id) k.client)
-    found = find_mapped (λ (c : PlainClient T). is_client x.client c.id) (λ c. informed info (is_client id c.id) c) (λ c. ap (is_client x.client) (either (λ z. z.id ≡ c.id) (is_client id c.id) _ c refl refl)) s.clients k.client k.named
-
-    mine : is_client x.client k.client.id ≡ true
-    mine = found_passes (λ (c : PlainClient T). is_client x.client c.id) s.clients k.client k.named
-
-    at : (b : Bool) → is_client id k.client.id ≡ b → IsKnown ops order (rules_of.change_client id (rules_of.with_info info) s.clients) x
+  updated_known s id info c named kept x queued k = known_changed ops order id (rules_of.with_info info) (λ c. refl) s.clients x k.client k.named (at (is_client id k.client.id) refl) where
+    at : (b : Bool) → is_client id k.client.id ≡ b → Follows ops order (if b then rules_of.with_info info k.client else k.client) x.tags
     at true e =
-        let same : is_client x.client id ≡ true = same_id x.client k.client.id id mine e in
+        let same : is_client x.client id ≡ true = same_id x.client k.client.id id (mine ops order s.clients x.client k.client k.named) e in
         let so : Some k.client ≡ Some c = sym k.named ∙ named_same x.client id s.clients same ∙ named in
         let one : k.client ≡ c = cc in
-        let turned : is_client id x.client ≡ true = same_id id k.client.id x.client e mine in
-        let there = same_there c.info.reservation info.reservation (and_first _ _ kept (queued_too id x.client s.requests turned queued)) in
-        record {
-          client = rules_of.with_info info k.client;
-          named = found ∙ ap (λ b. Some (informed info b k.client)) e;
-          busy = k.busy;
-          reserved = k.reserved ∙ ap (λ d. is_some d.info.reservation) one ∙ there;
-          r = k.r;
-          l = k.l;
-          p = k.p;
-        }
-    at false e = record { client = k.client; named = found ∙ ap (λ b. Some (informed info b k.client)) e; busy = k.busy; reserved = k.reserved; r = k.r; l = k.l; p = k.p }
-
-  both_updated : (s : State T) (id : ClientId) (info : Rates) (c : PlainClient T) → client_named id s.clients ≡ Some c → (rules_of.changes_reservation c.info info && has_queued id s.requests) ≡ false → (xs : List (PlainRequest T)) → AllByRecursion (λ x. has_queued x.client s.requests ≡ true) xs → AllByRecursion (IsKnown ops order s.clients) xs → AllByRecursion (IsKnown ops order (rules_of.change_client id (rules_of.with_info info) s.clients)) xs
-  both_updated s id info c named kept [] h k = tt
-  both_updated s id info c named kept (x ∷ xs) h k = (updated_known s id info c named kept x h.0 k.0, both_updated s id info c named kept xs h.1 k.1)
+        let there = same_there c.info.reservation info.reservation (and_first _ _ kept (same_queued ops order x.client id s.requests same queued)) in
+        record { busy = k.follows.busy; reserved = k.follows.reserved ∙ ap (λ d. is_some d.info.reservation) one ∙ there; r = k.follows.r; l = k.follows.l; p = k.follows.p }
+    at false e = k.follows
 
   update_stays : (s : State T) (id : ClientId) (info : Rates) (t : ℕ) → Turn s → Stays s (rules_of.updated ops s id info t)
   update_stays s id info t is = bind_goes (Stays s) (rules_of.can_update ops s id info) _ (λ e. (is, refl)) (λ u e. (at u e, refl)) where
@@ -223,51 +176,19 @@ module _ {T : Type 0} (ops : Tagging T) (fraction : T → Fraction) (is_value : 
         let kept = allowed (rules_of.changes_reservation c.0.info info && has_queued id s.requests) Busy u sp.2 in
         record {
           pairs = is.pairs;
-          known = both_updated s id info c.0 (from_option _ _ _ c.1) kept s.requests (all_queued ops order s.requests s.requests (λ id h. h)) is.known;
+          known = all_as _ (IsKnown ops order (rules_of.change_client id (rules_of.with_info info) s.clients)) (λ x h. updated_known s id info c.0 (from_option _ _ _ c.1) kept x h.0 h.1) s.requests (all_both _ _ s.requests (queued_own s.requests) is.known);
+          distinct = ids-kept _ (λ c. either (λ z. z.id ≡ c.id) (is_client id c.id) _ c refl refl) s.clients is.distinct;
         }
-
-  -- ---- pull
-
-  module _ (s : State T) (t : ℕ) (is : Turn s) where
-    priority_stays : {before : PlainRequest T → PlainRequest T → Bool} {member : PlainRequest T → Bool} (beyond : Bool) (r : PlainRequest T) (others : List (PlainRequest T)) → IsBest before member s.requests r others → Stays s (rules_of.grant_priority ops s t (r, others) beyond)
-    priority_stays beyond r others best_is = bind_goes (Stays s) (rules_of.can_grant ops s.config.hz r.client s.clients others) _ (λ e. (is, refl)) (λ amount e. (at amount e, refl)) where
-      at : (amount : Option T) → rules_of.can_grant ops s.config.hz r.client s.clients others ≡ Ok amount → Turn (rules_of.reduced_by ops r.client amount (rules_of.without s t others))
-      at amount e =
-          let given = bound (rules_of.reduction_of ops s.config.hz r.client s.clients) _ amount e in
-          let range = bound (refuse_if (not (rules_of.can_reduce_by ops r.client given.0 s.clients others)) Range) _ amount given.2 in
-          let same : given.0 ≡ amount = cc (range.2) in
-          let can : rules_of.can_reduce_by ops r.client given.0 s.clients others ≡ true = not_not _ (allowed _ Range range.0 range.1) in
-          reduced_turn ops order fraction is_value exact (rules_of.without s t others) r.client amount (subst (λ o. rules_of.can_reduce_by ops r.client o s.clients others ≡ true) same can) (left_turn ops order s t r others best_is is)
-
-    at_the_moment : Turn (record s { last_moment = t })
-    at_the_moment = record { pairs = is.pairs; known = is.known }
-
-    any_stays : (b : Option (PlainRequest T × List (PlainRequest T))) → best (by_shares ops) is_any s.requests ≡ b → Stays s (rules_of.grant_found ops s t true b)
-    any_stays None q = (at_the_moment, refl)
-    any_stays (Some (r, others)) q = priority_stays true r others (found_is (λ (r : PlainRequest T). r.client.0) (by_shares ops) (before_order ops order (λ r. Some r.tags.p)) is_any s.requests (r, others) q)
-
-    limit_stays : (x : PlainRequest T) (xs : List (PlainRequest T)) → s.requests ≡ x ∷ xs → (mode : AtLimit) → Stays s (rules_of.at_limit ops s t mode x xs)
-    limit_stays x xs e Wait = (at_the_moment, refl)
-    limit_stays x xs e Allow = any_stays _ (ap (best (by_shares ops) is_any) e)
-
-    nothing_stays : (xs : List (PlainRequest T)) → s.requests ≡ xs → Stays s (rules_of.nothing_due ops s t xs)
-    nothing_stays [] e = (at_the_moment, refl)
-    nothing_stays (x ∷ xs) e = limit_stays x xs e s.config.at_limit
-
-    free_stays : (b : Option (PlainRequest T × List (PlainRequest T))) → best (by_shares ops) (is_free ops t) s.requests ≡ b → Stays s (rules_of.pulled_free ops s t b)
-    free_stays None q = nothing_stays s.requests refl
-    free_stays (Some (r, others)) q = priority_stays false r others (found_is (λ (r : PlainRequest T). r.client.0) (by_shares ops) (before_order ops order (λ r. Some r.tags.p)) (is_free ops t) s.requests (r, others) q)
-
-    early_stays : (b : Option (PlainRequest T × List (PlainRequest T))) → best (by_reservation ops) (is_early ops t) s.requests ≡ b → Stays s (rules_of.pulled_early ops s t b)
-    early_stays None q = free_stays _ refl
-    early_stays (Some (r, others)) q = (left_turn ops order s t r others (found_is (λ (r : PlainRequest T). r.client.0) (by_reservation ops) (before_order ops order (λ r. r.tags.r)) (is_early ops t) s.requests (r, others) q) is, refl)
 
   -- ---- each command
 
   pub step_stays : (s : State T) (c : Command) → 0 < s.config.hz → Turn s → Stays s (outcome ops s c)
-  step_stays s (Register id info at) some is = bind_goes (Stays s) (rules_of.can_register ops s id info) _ (λ e. (is, refl)) (λ u e. (registered_turn ops order s (rules_of.newcomer ops id info (effective s at)) (effective s at) is, refl))
+  step_stays s (Register id info at) some is = bind_goes (Stays s) (rules_of.can_register ops s id info) _ (λ e. (is, refl)) (λ u e. let known = bound (refuse_if (is_some (client_named id s.clients)) Known) _ u e in (registered_turn ops order s (rules_of.newcomer ops id info (effective s at)) (effective s at) (allowed _ Known known.0 known.1) is, refl))
   step_stays s (Update id info at) some is = update_stays s id info (effective s at) is
   step_stays s (Add client token params at) some is = add_stays s client token params (effective s at) some is
-  step_stays s (Pull at) some is = early_stays s (effective s at) is _ refl
+  step_stays s (Pull at) some is = pull_is ops order s (effective s at) is.pairs (Stays s) (λ e. (is, refl)) (λ m. (record { pairs = is.pairs; known = is.known; distinct = is.distinct }, refl)) (record { pairs = is.pairs; known = is.known; distinct = is.distinct }, refl) (λ r others amount phase beyond g. (
+    reduced_turn ops order fraction is_value exact (rules_of.without s (effective s at) others) r.client amount g.can (left_turn ops order s (effective s at) r g.front g.back others g.whole g.rest is),
+    refl,
+  ))
   step_stays s (Remove id) some is = bind_goes (Stays s) (rules_of.can_remove s id) _ (λ e. (is, refl)) (λ u e. (removed_turn ops order s (λ r. not (is_client id r.client)) is, refl))
   step_stays s (Clean at) some is = (cleaned_turn ops order s (effective s at) is, refl)

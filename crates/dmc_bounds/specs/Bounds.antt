@@ -39,7 +39,7 @@ abbrev pub departures : {T : Type 0} → ClientId → List (Event T) → ℕ
 departures id [] = 0
 departures id (e ∷ es) = departed id e.command e.reply + departures id es
 
--- its Priority grants, beyond or not
+-- W: its Priority grants, beyond or not
 abbrev pub prioritized : {T : Type 0} → ClientId → Command → Reply T → ℕ
 prioritized id (Pull at) (Granted client token Priority beyond) = if is_client id client then 1 else 0
 prioritized id command reply = 0

@@ -1,5 +1,5 @@
 use Rattle.dmc_tag.proofs.ForCallers.{tag_order}
-use Rattle.dmc_bounds.proofs.Numbered.{holds_limit}
+use Rattle.dmc_bounds.proofs.ForCallers.{holds_limit}
 use Rattle.dmc_bounds.proofs.laws.histories_keep_to_limits.Goals as goal
 
 pub returns : goal.returns

@@ -1,5 +1,5 @@
 use Rattle.dmc_tag.proofs.ForCallers.{tag_order}
-use Rattle.dmc_bounds.proofs.Numbered.{holds_reservation}
+use Rattle.dmc_bounds.proofs.ForCallers.{holds_reservation}
 use Rattle.dmc_bounds.proofs.laws.histories_keep_to_reservations.Goals as goal
 
 pub returns : goal.returns

@@ -1,5 +1,5 @@
 use Rattle.dmc_tag.proofs.ForCallers.{tag_order}
-use Rattle.dmc_bounds.proofs.Arrived.{in_order_of_arrival}
+use Rattle.dmc_bounds.proofs.ForCallers.{in_order_of_arrival}
 use Rattle.dmc_bounds.proofs.laws.requests_leave_in_order.Goals as goal
 
 pub returns : goal.returns

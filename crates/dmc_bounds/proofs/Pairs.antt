@@ -1,28 +1,18 @@
 -- Lists in which each pair is so, and lists of clients in which one is found.
 use Rattle.std.proofs.Common.{◌≡◌, Bool, true, false, ◌&&◌, ◌||◌, cond, List, [], ◌∷◌, ◌++◌, map, Some, refl, sym, ap, ◌∙◌, subst}
-use Rattle.std.specs.Prelude.{filter, ⊤}
+use Rattle.std.specs.Prelude.{filter, is_some, ⊤}
 use Rattle.std.specs.List.{AllByRecursion, find, list_any, list_all}
+use Rattle.dmc_types.specs.declared.ids.ClientId.{ClientId}
+use Rattle.dmc_tag.specs.State.{is_client, client_named}
+use Rattle.dmc_tag.specs.declared.plain.PlainClient.{PlainClient}
+use Rattle.dmc_tag.proofs.Booleans.{eqb_turned}
+use Rattle.dmc_tag.proofs.Lists.{all_both, all_at, all_without, all_filtered, all_append}
+use Rattle.dmc_bounds.proofs.Basics.{both_id}
 
 module _ {X : Type 0} where
   abbrev pub Pairwise : (X → X → Type 0) → List X → Type 0
   Pairwise S [] = ⊤
   Pairwise S (x ∷ xs) = AllByRecursion (S x) xs × Pairwise S xs
-
-  pub all_as : (P Q : X → Type 0) → ((x : X) → P x → Q x) → (xs : List X) → AllByRecursion P xs → AllByRecursion Q xs
-  all_as P Q k [] h = tt
-  all_as P Q k (x ∷ xs) h = (k x h.0, all_as P Q k xs h.1)
-
-  pub all_both : (P Q : X → Type 0) (xs : List X) → AllByRecursion P xs → AllByRecursion Q xs → AllByRecursion (λ x. P x × Q x) xs
-  all_both P Q [] h k = tt
-  all_both P Q (x ∷ xs) h k = ((h.0, k.0), all_both P Q xs h.1 k.1)
-
-  pub all_without : (P : X → Type 0) (front : List X) (r : X) (back : List X) → AllByRecursion P (front ++ r ∷ back) → AllByRecursion P (front ++ back)
-  all_without P [] r back h = h.1
-  all_without P (x ∷ front) r back h = (h.0, all_without P front r back h.1)
-
-  all_at : (P : X → Type 0) (front : List X) (r : X) (back : List X) → AllByRecursion P (front ++ r ∷ back) → P r
-  all_at P [] r back h = h.0
-  all_at P (x ∷ front) r back h = all_at P front r back h.1
 
   pub pairs_without : (S : X → X → Type 0) (front : List X) (r : X) (back : List X) → Pairwise S (front ++ r ∷ back) → Pairwise S (front ++ back)
   pairs_without S [] r back h = h.1
@@ -33,36 +23,25 @@ module _ {X : Type 0} where
   pairs_at S [] r back h = tt
   pairs_at S (x ∷ front) r back h = (all_at (S x) front r back h.0, pairs_at S front r back h.1)
 
-  pub all_kept : (P : X → Type 0) (test : X → Bool) (xs : List X) → AllByRecursion P xs → AllByRecursion P (filter test xs)
-  all_kept P test [] h = tt
-  all_kept P test (x ∷ xs) h = at (all_kept P test xs h.1) (test x) where
-    at : AllByRecursion P (filter test xs) → (b : Bool) → AllByRecursion P (cond b (x ∷ filter test xs) (filter test xs))
-    at more true = (h.0, more)
-    at more false = more
-
   pub pairs_kept : (S : X → X → Type 0) (test : X → Bool) (xs : List X) → Pairwise S xs → Pairwise S (filter test xs)
   pairs_kept S test [] h = tt
-  pairs_kept S test (x ∷ xs) h = at (all_kept (S x) test xs h.0) (pairs_kept S test xs h.1) (test x) where
+  pairs_kept S test (x ∷ xs) h = at (all_filtered (S x) test xs h.0) (pairs_kept S test xs h.1) (test x) where
     at : AllByRecursion (S x) (filter test xs) → Pairwise S (filter test xs) → (b : Bool) → Pairwise S (cond b (x ∷ filter test xs) (filter test xs))
     at all more true = (all, more)
     at all more false = more
 
-  pub all_more : (P : X → Type 0) (xs : List X) (y : X) → AllByRecursion P xs → P y → AllByRecursion P (xs ++ y ∷ [])
-  all_more P [] y h k = (k, tt)
-  all_more P (x ∷ xs) y h k = (h.0, all_more P xs y h.1 k)
-
   pub pairs_more : (S : X → X → Type 0) (xs : List X) (y : X) → Pairwise S xs → AllByRecursion (λ x. S x y) xs → Pairwise S (xs ++ y ∷ [])
   pairs_more S [] y h k = (tt, tt)
-  pairs_more S (x ∷ xs) y h k = (all_more (S x) xs y h.0 k.0, pairs_more S xs y h.1 k.1)
+  pairs_more S (x ∷ xs) y h k = (all_append (S x) xs (y ∷ []) h.0 (k.0, tt), pairs_more S xs y h.1 k.1)
 
   -- a map, of what is so of each element
-  pub all_mapped : (P Q : X → Type 0) (f : X → X) → ((x : X) → P x → Q (f x)) → (xs : List X) → AllByRecursion P xs → AllByRecursion Q (map f xs)
-  all_mapped P Q f k [] h = tt
-  all_mapped P Q f k (x ∷ xs) h = (k x h.0, all_mapped P Q f k xs h.1)
+  pub all_changed : (P Q : X → Type 0) (f : X → X) → ((x : X) → P x → Q (f x)) → (xs : List X) → AllByRecursion P xs → AllByRecursion Q (map f xs)
+  all_changed P Q f k [] h = tt
+  all_changed P Q f k (x ∷ xs) h = (k x h.0, all_changed P Q f k xs h.1)
 
   pub pairs_mapped : (S R : X → X → Type 0) (P : X → Type 0) (f : X → X) → ((x y : X) → P x → P y → S x y → R (f x) (f y)) → (xs : List X) → AllByRecursion P xs → Pairwise S xs → Pairwise R (map f xs)
   pairs_mapped S R P f k [] p h = tt
-  pairs_mapped S R P f k (x ∷ xs) p h = (all_mapped (λ y. P y × S x y) (R (f x)) f (λ y q. k x y p.0 q.0 q.1) xs (all_both P (S x) xs p.1 h.0), pairs_mapped S R P f k xs p.1 h.1)
+  pairs_mapped S R P f k (x ∷ xs) p h = (all_changed (λ y. P y × S x y) (R (f x)) f (λ y q. k x y p.0 q.0 q.1) xs (all_both P (S x) xs p.1 h.0), pairs_mapped S R P f k xs p.1 h.1)
 
   -- ---- tests
 
@@ -106,14 +85,6 @@ module _ {X : Type 0} where
     at true t e more = let same : x ≡ d = cc in subst (λ z. test z ≡ true) same t
     at false t e more = more e
 
-  -- what holds of all holds of what is found
-  pub found_is_so : (P : X → Type 0) (test : X → Bool) (xs : List X) (d : X) → AllByRecursion P xs → find test xs ≡ Some d → P d
-  found_is_so P test [] d h e = cc
-  found_is_so P test (x ∷ xs) d h e = at (test x) e (found_is_so P test xs d h.1) where
-    at : (b : Bool) → cond b (Some x) (find test xs) ≡ Some d → (find test xs ≡ Some d → P d) → P d
-    at true e more = let same : x ≡ d = cc in subst P same h.0
-    at false e more = more e
-
   pub found_any : (test other : X → Bool) (xs : List X) (d : X) → find test xs ≡ Some d → (test d ≡ true → other d ≡ true) → list_any other xs ≡ true
   found_any test other [] d e k = cc
   found_any test other (x ∷ xs) d e k = at (test x) refl e (other x) refl (λ h. found_any test other xs d h k) where
@@ -121,3 +92,39 @@ module _ {X : Type 0} where
     at b t e true o more = refl
     at true t e false o more = let same : x ≡ d = cc in let so : other x ≡ true = subst (λ z. test z ≡ true → other z ≡ true) (sym same) k t in cc
     at false t e false o more = more e
+
+-- ---- no two records have one id
+
+-- two records of two ids
+abbrev pub Differ : {T : Type 0} → PlainClient T → PlainClient T → Type 0
+Differ c d = is_client c.id d.id ≡ false
+
+abbrev pub AreDistinct : {T : Type 0} → List (PlainClient T) → Type 0
+AreDistinct clients = Pairwise Differ clients
+
+pub every : {X : Type 0} (xs : List X) → AllByRecursion (λ x. ⊤) xs
+every [] = tt
+every (x ∷ xs) = (tt, every xs)
+
+-- a change that keeps ids keeps them apart
+pub ids-kept : {T : Type 0} (f : PlainClient T → PlainClient T) → ((c : PlainClient T) → (f c).id ≡ c.id) → (clients : List (PlainClient T)) → AreDistinct clients → AreDistinct (map f clients)
+ids-kept f k clients h = pairs_mapped Differ Differ (λ c. ⊤) f (λ c d p q s. ap (λ i. is_client i (f d).id) (k c) ∙ ap (is_client c.id) (k d) ∙ s) clients (every clients) h
+
+pub nobody : {T : Type 0} (id : ClientId) (clients : List (PlainClient T)) → is_some (client_named id clients) ≡ false → AllByRecursion (λ c. is_client c.id id ≡ false) clients
+nobody id [] e = tt
+nobody id (c ∷ clients) e = at (is_client id c.id) refl e (nobody id clients) where
+  at : (b : Bool) → is_client id c.id ≡ b → is_some (cond b (Some c) (client_named id clients)) ≡ false → (is_some (client_named id clients) ≡ false → AllByRecursion (λ c. is_client c.id id ≡ false) clients) → (is_client c.id id ≡ false) × AllByRecursion (λ c. is_client c.id id ≡ false) clients
+  at true h e more = cc
+  at false h e more = (eqb_turned id.0 c.id.0 false h, more e)
+
+-- whoever has the id is the one that is found
+pub only_one : {T : Type 0} (id : ClientId) (clients : List (PlainClient T)) (c : PlainClient T) → AreDistinct clients → client_named id clients ≡ Some c → AllByRecursion (λ d. is_client id d.id ≡ true → d ≡ c) clients
+only_one id [] c h e = tt
+only_one {T} id (d ∷ clients) c h e = at (is_client id d.id) refl e (only_one id clients c h.1) where
+  apart : (xs : List (PlainClient T)) → is_client id d.id ≡ true → AllByRecursion (Differ d) xs → AllByRecursion (λ x. is_client id x.id ≡ true → x ≡ c) xs
+  apart [] p k = tt
+  apart (x ∷ xs) p k = ((λ q. let same = both_id id d.id x.id p q in let off = k.0 in cc), apart xs p k.1)
+
+  at : (b : Bool) → is_client id d.id ≡ b → cond b (Some d) (client_named id clients) ≡ Some c → (client_named id clients ≡ Some c → AllByRecursion (λ d. is_client id d.id ≡ true → d ≡ c) clients) → (is_client id d.id ≡ true → d ≡ c) × AllByRecursion (λ d. is_client id d.id ≡ true → d ≡ c) clients
+  at true p e more = ((λ _. cc), apart clients p h.0)
+  at false p e more = ((λ q. cc), more e)

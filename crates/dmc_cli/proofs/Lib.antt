@@ -1,3 +1,2 @@
 pub mod WordsLemmas
 pub mod RunLemmas
-pub mod SimLemmas

@@ -13,11 +13,7 @@ mod outcome;
 mod queues;
 #[cfg(test)]
 mod runs;
-mod scenes;
 mod script;
-mod sim;
-#[cfg(test)]
-mod sim_examples;
 #[cfg(test)]
 mod stream_tests;
 #[cfg(test)]

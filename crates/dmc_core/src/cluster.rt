@@ -1,7 +1,6 @@
 //! The cluster over any queue: the clients by their ids, and the servers.
 ghost use Rattle.std.specs.Prelude.{◌≡◌, ◌<◌, ◌≤◌, List, length, map, slice_get, IfOk, OnOk, IfErr, Err};
 ghost use Rattle.std.specs.List.{AllZip};
-ghost use Rattle.std.specs.Option.{option_map};
 ghost use Rattle.dmc_types.specs.declared.config.Counting.{Counting};
 ghost use Rattle.dmc_tag.specs.State.{is_client};
 ghost use Rattle.dmc_core.specs.Core.{Held, Matches, Follows};
@@ -218,15 +217,5 @@ impl<Q> Cluster<Q> {
     {
         let index = self.server(server)?;
         Ok(CoreReply::Served(self.servers[index].clean(at)))
-    }
-
-    /// How many requests are queued at a server, if there is such a server.
-    pub fn request_count<T: Tag>(&self, server: ServerId) -> Option<u32>
-    where
-        Q: Scheduler<T>,
-        ensures { result ≡ option_map (λ queue. length (Q.state queue).requests) (slice_get self.now.servers server.0) }
-    {
-        let server = self.servers.get(server.0 as usize)?;
-        Some(server.queue.request_count())
     }
 }

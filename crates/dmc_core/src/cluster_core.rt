@@ -1,19 +1,16 @@
 //! The cluster core: the cluster over indexed queues with heaps.
-ghost use Rattle.std.specs.Prelude.{◌≡◌, IfOk, length, slice_get};
-ghost use Rattle.std.specs.Option.{option_map};
+ghost use Rattle.std.specs.Prelude.{IfOk};
 ghost use Rattle.dmc_core.specs.Core.{Follows, StandsForRun};
 ghost use Rattle.dmc_core.specs.Opening.{HaveSpacings, opening_of};
 ghost use Rattle.dmc_pull.specs.Queue.{state_of};
 
 use crate::cluster::Cluster;
 use crate::event::{CoreEvent, CoreFault, CoreReply};
-use crate::ids::client_ids;
-use crate::opening::{open_clients, open_servers};
+use crate::opening::{client_ids, open_clients, open_servers};
 use dmc_heap::indexed_heap::HeapIndexes;
 use dmc_pull::queue::PullQueue;
 use dmc_scene::scene::Scene;
 use dmc_tag::tag::Tag;
-use dmc_types::ids::ServerId;
 use std::alloc::{AllocError, Global};
 use std::marker::Model;
 
@@ -83,12 +80,5 @@ impl<T: Tag> ClusterCore<T> {
             CoreEvent::Remove { server, client } => self.cluster.remove(server, client),
             CoreEvent::Clean { server, at } => self.cluster.clean(server, at),
         }
-    }
-
-    /// How many requests are queued at a server, if there is such a server.
-    pub fn request_count(&self, server: ServerId) -> Option<u32>
-        ensures { result ≡ option_map (λ queue. length (state_of queue).requests) (slice_get self.now.servers server.0) }
-    {
-        self.cluster.request_count::<T>(server)
     }
 }

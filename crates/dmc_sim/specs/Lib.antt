@@ -1,4 +1,0 @@
-pub mod Reports
-pub mod Texts
-pub mod Counts
-pub mod Rows

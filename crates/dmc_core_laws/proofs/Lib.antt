@@ -1,0 +1,8 @@
+pub mod Given
+pub mod Histories
+pub mod Parted
+pub mod Clients
+pub mod Stamped
+pub mod Completions
+pub mod Bounds
+pub mod Steps

@@ -1,0 +1,4 @@
+pub mod Histories
+pub mod Bounds
+pub mod Steps
+pub mod Examples

@@ -17,6 +17,9 @@ for clients in 10 1000 65536; do
   run list "$clients" 65536
   run heap "$clients" 1000000
 done
+for depth in 1 100 10000; do
+  run deep "$depth" 1000000
+done
 run plain 10 1000000
 run plain 1000 10000
 run plain 65536 2000

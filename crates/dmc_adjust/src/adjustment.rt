@@ -2,9 +2,7 @@
 //! adjustment).
 ghost use Rattle.std.specs.Prelude.{◌≡◌, ◌&&◌, not, true, Some, List, ◌∷◌, [], map};
 ghost use Rattle.std.specs.Option.{option_map};
-ghost use Rattle.std.specs.List.{list_all};
 ghost use Rattle.dmc_adjust.specs.Changes as changes;
-ghost use Rattle.dmc_client.specs.Record as record_of;
 ghost use Rattle.dmc_client.specs.Record.{client_of, requests_of_record, IsRecord};
 ghost use Rattle.dmc_tag.specs.Outcome.{in_range};
 ghost use Rattle.dmc_tag.specs.Rules as rules_of;
@@ -14,10 +12,7 @@ ghost use Rattle.dmc_tag.specs.declared.plain.PlainRequest.{PlainRequest};
 ghost use Rattle.dmc_types.specs.declared.ids.ClientId.{ClientId};
 
 use dmc_client::record::ClientRec;
-use dmc_client::request::QueuedRequest;
-use dmc_tag::shifting::has_less;
 use dmc_tag::tag::Tag;
-use std::collections::VecDeque;
 
 /// How far the least share is past t: what an adjustment takes off. None where that is no value.
 pub fn shift_for<T: Tag>(least: T, t: T) -> Option<T>
@@ -35,25 +30,7 @@ pub fn can_shift<T: Tag>(rec: &ClientRec<T>, amount: T) -> bool
         result ≡ (rules_of.requests_can_shift T.ops amount clients (requests_of_record id rec.now)
         && rules_of.clients_can_shift T.ops amount (client_of id rec.now ∷ [])) }
 {
-    rec.is_idle() || has_less_shares(rec, amount)
-}
-
-fn has_less_shares<T: Tag>(rec: &ClientRec<T>, amount: T) -> bool
-    ensures { result ≡ record_of.has_less_shares T.ops amount rec.now }
-{
-    all_have_less(rec.requests(), amount) && has_less(rec.previous().p, amount)
-}
-
-/// Whether each P less the amount is a value.
-fn all_have_less<T: Tag>(requests: &VecDeque<QueuedRequest<T>>, amount: T) -> bool
-    ensures { result ≡ list_all (λ r. rules_of.has_less T.ops amount r.tags.p) requests.now.items }
-{
-    for i in 0..requests.len() {
-        if !has_less(requests[i].tags.p, amount) {
-            return false;
-        }
-    }
-    true
+    rec.is_idle() || rec.has_less_shares(amount)
 }
 
 /// Takes the amount off the shares of the client, where it is not idle.

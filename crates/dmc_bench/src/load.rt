@@ -1,17 +1,24 @@
 //! The loads.
 ghost use Rattle.std.specs.Prelude.{◌≡◌, ◌+◌, ◌*◌, ◌%◌, ◌^◌};
 
+use crate::cluster::book_count;
 use crate::indexes::use_index;
-use crate::queues::{HZ, serve_queue};
+use crate::locked::{serve_alone, serve_locked};
+use crate::queues::{HZ, serve_deep, serve_queue};
+use crate::sharing::serve_shared;
 use crate::sums::sum_tags;
 use dmc_heap::indexed_heap::{HeapIndexes, IndexedHeap};
 use dmc_index::list_index::{ListIndex, ListIndexes};
+use dmc_ledger::mint::Blank;
 use dmc_plain::queue::PlainQueue;
 use dmc_pull::queue::PullQueue;
 use dmc_ratio::ratio::RatioTag;
 use dmc_tag::rank::TagRank;
 use dmc_tick::tick::TickTag;
 use dmc_types::config::{AtLimit, QueueConfig};
+use std::marker::Brand;
+use std::sync::Wait;
+use std::thread::Threads;
 
 /// What is measured.
 #[derive(Clone, Copy, Debug, PartialEq, Eq)]
@@ -22,6 +29,14 @@ pub enum Kind {
     ListQueue,
     /// The indexed queue over heaps.
     HeapQueue,
+    /// The indexed queue over heaps, with one client.
+    DeepQueue,
+    /// The indexed queue over heaps, in batches.
+    LoneQueue,
+    /// The same behind its lock.
+    LockedQueue,
+    /// The lock, shared by threads.
+    SharedQueue,
     /// A sorted vector as an index.
     ListIndex,
     /// A heap as an index.
@@ -32,7 +47,8 @@ pub enum Kind {
     Ratios,
 }
 
-/// A load: what is measured, with how many clients or keys, how often, and with which limit of each client.
+/// A load: what is measured, with how many clients, keys or requests of one client, how often, and with which limit of
+/// each client.
 #[derive(Clone, Copy, Debug, PartialEq, Eq)]
 pub struct Load {
     pub kind: Kind,
@@ -71,6 +87,10 @@ fn kind_of(word: &str) -> Result<Kind, Fault> {
         "plain" => Ok(Kind::PlainQueue),
         "list" => Ok(Kind::ListQueue),
         "heap" => Ok(Kind::HeapQueue),
+        "deep" => Ok(Kind::DeepQueue),
+        "alone" => Ok(Kind::LoneQueue),
+        "locked" => Ok(Kind::LockedQueue),
+        "shared" => Ok(Kind::SharedQueue),
         "list-index" => Ok(Kind::ListIndex),
         "heap-index" => Ok(Kind::HeapIndex),
         "ticks" => Ok(Kind::Ticks),
@@ -93,10 +113,17 @@ fn number_of(word: &str) -> Result<u32, Fault> {
     word.parse().map_err(|_| Fault::Usage)
 }
 
-/// Runs a load, tells what each part of it took, and answers its checksum.
-pub fn run_load(rt: &HostRuntime, load: Load) -> Result<u64, Fault> {
+/// Runs a load, tells what each part of it took, and answers its checksum. Only a load of a lock waits or starts threads.
+pub fn run_load<R: Threads + Wait + Sync>(
+    rt: &HostRuntime,
+    threads: &R,
+    load: Load,
+) -> Result<u64, Fault> {
     match load.kind {
-        Kind::PlainQueue | Kind::ListQueue | Kind::HeapQueue => run_queue(rt, load),
+        Kind::PlainQueue | Kind::ListQueue | Kind::HeapQueue | Kind::DeepQueue | Kind::LoneQueue =>
+            run_queue(rt, load),
+        Kind::LockedQueue => run_locked(rt, threads, load),
+        Kind::SharedQueue => run_shared(rt, threads, load),
         Kind::ListIndex => use_index::<ListIndex<TagRank<TickTag>>>(rt, load),
         Kind::HeapIndex => use_index::<IndexedHeap<TagRank<TickTag>>>(rt, load),
         Kind::Ticks => sum_tags::<TickTag>(rt, load, TickTag::new(333), TickTag::new(167)),
@@ -121,11 +148,35 @@ fn run_queue(rt: &HostRuntime, load: Load) -> Result<u64, Fault> {
             let mut queue: PullQueue<TickTag, HeapIndexes> = PullQueue::new(rt.alloc(), config);
             serve_queue(rt, &mut queue, load)
         }
+        Kind::DeepQueue => {
+            let mut queue: PullQueue<TickTag, HeapIndexes> = PullQueue::new(rt.alloc(), config);
+            serve_deep(rt, &mut queue, load)
+        }
+        Kind::LoneQueue => {
+            let mut queue: PullQueue<TickTag, HeapIndexes> = PullQueue::new(rt.alloc(), config);
+            serve_alone(rt, &mut queue, load)
+        }
         _ => {
             let mut queue: PlainQueue<TickTag> = PlainQueue::new(rt.alloc(), config);
             serve_queue(rt, &mut queue, load)
         }
     }
+}
+
+/// Runs the load of a lock that one thread takes.
+fn run_locked<R: Wait>(rt: &HostRuntime, waiter: &R, load: Load) -> Result<u64, Fault> {
+    let blank = Blank::new(book_count(load.clients, 1)?);
+    serve_locked::<Brand, R>(rt, waiter, load, blank)
+}
+
+/// Runs the load of a lock that threads share.
+fn run_shared<R: Threads + Wait + Sync>(
+    rt: &HostRuntime,
+    threads: &R,
+    load: Load,
+) -> Result<u64, Fault> {
+    let blank = Blank::new(book_count(load.clients, load.clients)?);
+    serve_shared::<Brand, R>(rt, threads, load, blank)
 }
 
 /// A checksum with one more answer in it.

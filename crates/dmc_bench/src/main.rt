@@ -3,23 +3,28 @@
 //! nanoseconds they took.
 #![tactic(auto)]
 
+mod cluster;
 mod indexes;
 mod load;
+mod locked;
 mod queues;
+mod sharing;
 mod sums;
 mod watch;
 
 use crate::load::{Fault, Load, read_load, run_load};
 use std::process::ExitCode;
+use std::sync::Wait;
+use std::thread::Threads;
 use std::{env, io};
 
 /// Runs the load that the words name. Status 0: done; 1: want of memory or of a clock, or a stream that fails; 2: the words name no load.
 fn main(rt: HostRuntime) -> ExitCode {
-    match measure(&rt) {
+    match measure(&rt, &rt) {
         Ok(()) => ExitCode::SUCCESS,
         Err(Fault::Usage) => {
             let _ = eprintln!(&rt;
-                "usage: dmc_bench plain|list|heap|list-index|heap-index|ticks|ratios CLIENTS ROUNDS [LIMIT]"
+                "usage: dmc_bench plain|list|heap|deep|alone|locked|shared|list-index|heap-index|ticks|ratios CLIENTS ROUNDS [LIMIT]"
             );
             ExitCode::from(2)
         }
@@ -28,13 +33,13 @@ fn main(rt: HostRuntime) -> ExitCode {
 }
 
 /// Runs the load, and writes its checksum.
-fn measure(rt: &HostRuntime) -> Result<(), Fault> {
+fn measure<R: Threads + Wait + Sync>(rt: &HostRuntime, threads: &R) -> Result<(), Fault> {
     let words: Vec<String> = env::args(rt)
         .map_err(|_| Fault::Usage)?
         .skip(1)
         .collect(rt.alloc())
         .map_err(|_| Fault::Memory)?;
     let load: Load = read_load(words.as_slice())?;
-    let checksum = run_load(rt, load)?;
+    let checksum = run_load(rt, threads, load)?;
     println!(rt; "{checksum}").map_err(|_| Fault::Write)
 }

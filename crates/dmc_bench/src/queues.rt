@@ -1,4 +1,4 @@
-//! A queue whose clients are all busy.
+//! A queue whose clients are all busy, and one with a single client.
 use crate::load::{Fault, Load, mixed};
 use crate::watch::{add_since, start, tell};
 use dmc_tag::reply::Pulled;
@@ -29,6 +29,37 @@ pub fn serve_queue<T: Tag, Q: Scheduler<T>>(
     }
     tell(rt, "newcomer", load.clients, add_since(rt, begun, 0)?)?;
     serve(rt, queue, load)
+}
+
+/// Registers one client, queues so many requests of it, and then pulls one and queues another, by turns. Answers a
+/// checksum of the grants.
+pub fn serve_deep<T: Tag, Q: Scheduler<T>>(
+    rt: &HostRuntime,
+    queue: &mut Q,
+    load: Load,
+) -> Result<u64, Fault> {
+    register_all(queue, Load { clients: 1, ..load })?;
+    let begun = start(rt)?;
+    for _ in 0..load.clients {
+        add(queue, ClientId(0), Moment::zero())?;
+    }
+    tell(rt, "fill", load.clients, add_since(rt, begun, 0)?)?;
+    let begun = start(rt)?;
+    let checksum = take_turns(queue, load.rounds)?;
+    tell(rt, "turn", load.rounds, add_since(rt, begun, 0)?)?;
+    Ok(checksum)
+}
+
+/// Pulls a request and queues another of its client, so often. Answers a checksum of the grants.
+fn take_turns<T: Tag, Q: Scheduler<T>>(queue: &mut Q, rounds: u32) -> Result<u64, Fault> {
+    let mut checksum = 0;
+    for _ in 0..rounds {
+        if let Ok(Pulled::Returning { client, .. }) = queue.pull_request(Moment::zero()) {
+            add(queue, client, Moment::zero())?;
+            checksum = mixed(checksum, 1);
+        }
+    }
+    Ok(checksum)
 }
 
 /// Registers the clients 0, 1, and so on.
@@ -97,7 +128,8 @@ fn serve<T: Tag, Q: Scheduler<T>>(
 }
 
 /// Pulls so often, and notes whose requests were granted.
-fn pull_all<T: Tag, Q: Scheduler<T>>(
+#[inline(never)]
+pub fn pull_all<T: Tag, Q: Scheduler<T>>(
     queue: &mut Q,
     batch: u32,
     at: Moment,

@@ -96,11 +96,9 @@ pub record IsNext {T : Type 0} (id : ClientId) (token : Token) (events : List (E
   pub first : drop (departures id events) (map (λ a. a.token) (arrivals id events)) ≡ token ∷ others
 
 -- Limit: a grant in phase Priority, not beyond
-abbrev pub LimitBound : {T : Type 0} → Tagging T → Setting → Type 0
-LimitBound {T} ops config =
-    (id : ClientId) (token : Token) (l at : ℕ) (before second rest : List (Event T)) (add grant : Event T)
-    → replays ops config ((before ++ add ∷ []) ++ (second ++ grant ∷ rest))
-    → Arrives id add.command add.reply
+abbrev pub KeepsToLimit : {T : Type 0} → Tagging T → Setting → ClientId → Token → (l at : ℕ) → (before second : List (Event T)) → (add grant : Event T) → Type 0
+KeepsToLimit ops config id token l at before second add grant =
+    Arrives id add.command add.reply
     → limit_of id (after ops config (before ++ add ∷ [])) ≡ Some l
     → AllKeep id second
     → grant.command ≡ Pull at
@@ -109,14 +107,38 @@ LimitBound {T} ops config =
     × (config.hz * sum_since (λ p. p.delta) id (before ++ add ∷ []) second ≤ l * ticks_since ops config (before ++ add ∷ []) second at)
 
 -- Reservation: a grant in phase Reservation; each Priority grant of the client after a_i counts against the rhos
-abbrev pub ReservationBound : {T : Type 0} → Tagging T → Setting → Type 0
-ReservationBound {T} ops config =
-    (id : ClientId) (token : Token) (r at : ℕ) (before second rest : List (Event T)) (add grant : Event T)
-    → replays ops config ((before ++ add ∷ []) ++ (second ++ grant ∷ rest))
-    → Arrives id add.command add.reply
+abbrev pub KeepsToReservation : {T : Type 0} → Tagging T → Setting → ClientId → Token → (r at : ℕ) → (before second : List (Event T)) → (add grant : Event T) → Type 0
+KeepsToReservation ops config id token r at before second add grant =
+    Arrives id add.command add.reply
     → reservation_of id (after ops config (before ++ add ∷ [])) ≡ Some r
     → AllKeep id second
     → grant.command ≡ Pull at
     → grant.reply ≡ Granted id token Reservation false
     → IsNext id token ((before ++ add ∷ []) ++ second)
     × (config.hz * sum_since (λ p. p.rho) id (before ++ add ∷ []) second ≤ r * ticks_since ops config (before ++ add ∷ []) second at + config.hz * priorities id second)
+
+-- of each history that replays
+abbrev pub LimitBound : {T : Type 0} → Tagging T → Setting → Type 0
+LimitBound {T} ops config =
+    (id : ClientId) (token : Token) (l at : ℕ) (before second rest : List (Event T)) (add grant : Event T)
+    → replays ops config ((before ++ add ∷ []) ++ (second ++ grant ∷ rest))
+    → KeepsToLimit ops config id token l at before second add grant
+
+abbrev pub ReservationBound : {T : Type 0} → Tagging T → Setting → Type 0
+ReservationBound {T} ops config =
+    (id : ClientId) (token : Token) (r at : ℕ) (before second rest : List (Event T)) (add grant : Event T)
+    → replays ops config ((before ++ add ∷ []) ++ (second ++ grant ∷ rest))
+    → KeepsToReservation ops config id token r at before second add grant
+
+-- of this history
+abbrev pub KeepsToLimits : {T : Type 0} → Tagging T → Setting → List (Event T) → Type 0
+KeepsToLimits {T} ops config history =
+    (id : ClientId) (token : Token) (l at : ℕ) (before second rest : List (Event T)) (add grant : Event T)
+    → history ≡ (before ++ add ∷ []) ++ (second ++ grant ∷ rest)
+    → KeepsToLimit ops config id token l at before second add grant
+
+abbrev pub KeepsToReservations : {T : Type 0} → Tagging T → Setting → List (Event T) → Type 0
+KeepsToReservations {T} ops config history =
+    (id : ClientId) (token : Token) (r at : ℕ) (before second rest : List (Event T)) (add grant : Event T)
+    → history ≡ (before ++ add ∷ []) ++ (second ++ grant ∷ rest)
+    → KeepsToReservation ops config id token r at before second add grant

@@ -159,8 +159,8 @@ fn verdict_line(alloc: Global, checked: Checked) -> Result<Vec<u8>, AllocError>
     Ok(line)
 }
 
-/// Writes all bytes; false where the writer fails.
-fn send<W: Write>(bytes: &[u8], writer: &mut W) -> bool
+/// Writes all bytes, and flushes; false where the writer fails.
+pub fn send<W: Write>(bytes: &[u8], writer: &mut W) -> bool
     ensures all { result ≡ true → Appends (W.contents writer.old) (W.contents writer.new) bytes.now }
     ensures some { AppendsSome (W.contents writer.old) (W.contents writer.new) bytes.now }
 {

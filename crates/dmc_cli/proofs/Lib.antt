@@ -1,2 +1,3 @@
 pub mod WordsLemmas
 pub mod RunLemmas
+pub mod SimLemmas

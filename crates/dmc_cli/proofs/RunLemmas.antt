@@ -15,6 +15,7 @@ use Rattle.dmc_text.specs.Replies.{in_ticks}
 use Rattle.dmc_text.specs.Texts.{ReadsWithin, RunsAs, out}
 use Rattle.dmc_cli.specs.Faults.{fault_of_words}
 use Rattle.dmc_cli.specs.Runs.{ChecksEvents, RunsScript, RunsWords, ratio_text}
+use Rattle.dmc_cli.specs.Sims.{RunsSim}
 use Rattle.dmc_cli.specs.Words.{asked, match_of, name_of, tags_in, tool_in}
 use Rattle.dmc_cli.specs.declared.fault.Fault.{Fault}
 use Rattle.dmc_cli.specs.declared.fault.Fault.TheVariants as faults
@@ -22,9 +23,10 @@ use Rattle.dmc_cli.specs.declared.outcome.Outcome.{Outcome}
 use Rattle.dmc_cli.specs.declared.words.TheConstants.{WRITTEN}
 use Rattle.dmc_cli.specs.declared.words.Tool.{Tool}
 use Rattle.dmc_cli.specs.declared.words.ToolCommand.{ToolCommand}
-use Rattle.dmc_cli.specs.declared.words.ToolCommand.TheVariants.{Script, Check}
+use Rattle.dmc_cli.specs.declared.words.ToolCommand.TheVariants.{Script, Check, Sim}
 use Rattle.dmc_cli.specs.declared.words.WordsFault.{WordsFault}
 use Rattle.dmc_cli.specs.declared.words.WordsFault.TheVariants as words
+use Rattle.dmc_cli.proofs.SimLemmas.{none_yet}
 use Rattle.dmc_text.proofs.RunEnds.{none_read, none_sent, none_kept, nothing_read}
 
 -- ---- nothing is read or written
@@ -40,15 +42,19 @@ no_check_yet : (tags : TagKind) (before old : Option (List ℕ)) → ChecksEvent
 no_check_yet kinds.Tick before old = (nothing_read before, none_kept old)
 no_check_yet kinds.Ratio before old = (nothing_read before, none_kept old)
 
+no_sim_yet : (before old : Option (List ℕ)) → RunsSim before before old old (Err faults.Memory)
+no_sim_yet before old = (none_yet before, none_kept old)
+
 -- ---- what is asked for is written
 
 abbrev pub IsWritten : ToolCommand → Type 0
-IsWritten command = (command ≡ Script) ⊎ (command ≡ Check)
+IsWritten command = (command ≡ Script) ⊎ ((command ≡ Check) ⊎ (command ≡ Sim))
 
-found_by : (a b : Bool) → IfSome (cond a (Some Script) (cond b (Some Check) None)) IsWritten
-found_by true b = inl refl
-found_by false true = inr refl
-found_by false false = tt
+found_by : (a b c : Bool) → IfSome (cond a (Some Script) (cond b (Some Check) (cond c (Some Sim) None))) IsWritten
+found_by true b c = inl refl
+found_by false true c = inr (inl refl)
+found_by false false true = inr (inr refl)
+found_by false false false = tt
 
 tool_by : (tags : Option TagKind) (found : Option ToolCommand) → IfSome found IsWritten
     → IfSome (option_and_then (λ c. option_map (λ t. let tool : Tool = record { command = c; tags = t } in tool) tags) found) (λ tool. IsWritten tool.command)
@@ -58,7 +64,7 @@ tool_by (Some t) (Some command) h = h
 
 asked_of : (m : Option (Text × List Row)) → IfSome (tool_in WRITTEN m) (λ tool. IsWritten tool.command)
 asked_of None = tt
-asked_of (Some m) = tool_by (tags_in m.1) _ (found_by (bytes_eq (name_of Script) m.0) (bytes_eq (name_of Check) m.0))
+asked_of (Some m) = tool_by (tags_in m.1) _ (found_by (bytes_eq (name_of Script) m.0) (bytes_eq (name_of Check) m.0) (bytes_eq (name_of Sim) m.0))
 
 pub asked_is_written : (words : List Text) → IfSome (asked WRITTEN words) (λ tool. IsWritten tool.command)
 asked_is_written words = asked_of (match_of words)
@@ -70,7 +76,8 @@ no_command_yet : (tool : Tool) (before old : Option (List ℕ)) (result : Result
     → RunsWords (Some tool) before before old old result
 no_command_yet tool before old (Ok outcome) h e = absurd e
 no_command_yet tool before old (Err fault) (inl is) e = rw is (Err script.Memory, no_script_yet tool.tags before old, ap Err e)
-no_command_yet tool before old (Err fault) (inr is) e = rw is (Err script.Memory, no_check_yet tool.tags before old, ap Err e)
+no_command_yet tool before old (Err fault) (inr (inl is)) e = rw is (Err script.Memory, no_check_yet tool.tags before old, ap Err e)
+no_command_yet tool before old (Err fault) (inr (inr is)) e = rw is (rw e (no_sim_yet before old))
 
 pub words_unread : (tool : Option Tool) (before old : Option (List ℕ)) (fault : WordsFault) (result : Result Outcome Fault) → IfSome tool (λ tool. IsWritten tool.command)
     → (fault ≡ words.Usage → tool ≡ None) → IsErrAnd result (λ told. told ≡ fault_of_words fault) → RunsWords tool before before old old result

@@ -3,6 +3,7 @@ ghost use Rattle.std.specs.Prelude.{◌≡◌};
 ghost use Rattle.dmc_cli.specs.Faults.{cause_word, fault_of_words, status_of};
 
 use crate::words::WordsFault;
+use dmc_scene::key::Key;
 use dmc_text::cause::LineCause;
 use thiserror::Error;
 
@@ -24,6 +25,18 @@ pub enum Fault {
     /// The allocator refused a growth.
     #[error("dmclock: memory")]
     Memory,
+    /// Standard input is no scene: it has too many bytes, or is no TOML.
+    #[error("dmclock: scene text")]
+    SceneText,
+    /// A scene lacks the key.
+    #[error("dmclock: scene missing {}", (*.0).name())]
+    SceneMissing(Key),
+    /// The key of a scene holds a value of another kind.
+    #[error("dmclock: scene kind {}", (*.0).name())]
+    SceneKind(Key),
+    /// The key of a scene holds a value past its limits.
+    #[error("dmclock: scene value {}", (*.0).name())]
+    SceneValue(Key),
     /// After `run`, what it set up and what came back are of different set-ups.
     #[error("dmclock: torn")]
     Torn,

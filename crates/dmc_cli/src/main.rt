@@ -3,6 +3,8 @@
 
 mod check;
 #[cfg(test)]
+mod choosing_examples;
+#[cfg(test)]
 mod event_examples;
 #[cfg(test)]
 mod examples;
@@ -13,7 +15,11 @@ mod outcome;
 mod queues;
 #[cfg(test)]
 mod runs;
+mod scenes;
 mod script;
+mod sim;
+#[cfg(test)]
+mod sim_examples;
 #[cfg(test)]
 mod stream_tests;
 #[cfg(test)]

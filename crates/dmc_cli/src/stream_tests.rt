@@ -67,6 +67,6 @@ fn refused_words(rt: HostRuntime) -> Result<(), Fail> {
     refuses(&rt, ["help"].as_slice())?;
     refuses(&rt, ["script", "check"].as_slice())?;
     refuses(&rt, ["check", "--tags", "tick", "ratio"].as_slice())?;
-    refuses(&rt, ["sim"].as_slice())?;
+    refuses(&rt, ["sim", "--tags", "tick"].as_slice())?;
     refuses(&rt, ["run"].as_slice())
 }

@@ -1,6 +1,7 @@
 //! What no clause says: which words are lawful, and the texts of the faults.
 use crate::fault::Fault;
 use crate::words::{Tool, ToolCommand, WordsFault, read_words};
+use dmc_scene::key::Key;
 use dmc_text::cause::LineCause;
 use dmc_types::config::TagKind;
 use std::alloc::Global;
@@ -44,6 +45,15 @@ fn words_of_a_check(rt: HostRuntime) -> Result<(), Fail> {
         ask(alloc, ["check", "--tags", "ratio"].as_slice())?,
         ratios
     );
+    Ok(())
+}
+
+#[test]
+fn words_of_a_simulation(rt: HostRuntime) -> Result<(), Fail> {
+    let alloc = rt.alloc();
+    let sim = tool(ToolCommand::Sim, TagKind::Tick);
+    assert_eq!(rt; ask(alloc, ["sim"].as_slice())?, sim);
+    assert_eq!(rt; ask(alloc, ["sim", "two_clients"].as_slice())?, None);
     Ok(())
 }
 
@@ -93,7 +103,6 @@ fn calls_for_help(rt: HostRuntime) -> Result<(), Fail> {
 #[test]
 fn commands_to_come(rt: HostRuntime) -> Result<(), Fail> {
     let alloc = rt.alloc();
-    assert_eq!(rt; ask(alloc, ["sim"].as_slice())?, None);
     assert_eq!(rt; ask(alloc, ["run"].as_slice())?, None);
     Ok(())
 }
@@ -120,6 +129,18 @@ fn fault_texts(rt: HostRuntime) -> Result<(), Fail> {
         (Fault::Read, "dmclock: read", 1),
         (Fault::Write, "dmclock: write", 1),
         (Fault::from(WordsFault::Memory), "dmclock: memory", 1),
+        (Fault::SceneText, "dmclock: scene text", 1),
+        (Fault::SceneMissing(Key::Hz), "dmclock: scene missing hz", 1),
+        (
+            Fault::SceneKind(Key::Client),
+            "dmclock: scene kind client",
+            1,
+        ),
+        (
+            Fault::SceneValue(Key::MaxPulls),
+            "dmclock: scene value max_pulls",
+            1,
+        ),
         (Fault::Torn, "dmclock: torn", 1),
         (Fault::Range, "dmclock: refused range", 1),
         (Fault::TurnsOut, "dmclock: turns out", 4),

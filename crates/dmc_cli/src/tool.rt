@@ -7,14 +7,14 @@ ghost use Rattle.dmc_cli.specs.Words.{asked};
 use crate::fault::Fault;
 use crate::outcome::Outcome;
 use crate::words::{Tool, ToolCommand, WRITTEN, read_words};
-use crate::{check, script};
+use crate::{check, script, sim};
 use std::alloc::Global;
 use std::convert::AsStr;
 use std::io::{Read, Write};
 
 /// Runs the tool that the words name: replies and verdicts go to the writer, a fault's text to the fault writer as one
 /// line. The words are those after the program's name. The answer is the exit status: 0 where all is done, 1 at a fault,
-/// 2 where the words name no tool, 3 where events do not replay.
+/// 2 where the words name no tool, 3 where events do not replay, 4 where a simulation's rounds ended early.
 pub fn run_tool<T: AllocGlobal, S: AsStr, R: Read, W: Write, E: Write>(
     rt: &T,
     words: &[S],
@@ -57,6 +57,7 @@ fn run_words<S: AsStr, R: Read, W: Write>(
             Ok(Outcome::Done)
         }
         ToolCommand::Check => Ok(check::check_on(alloc, tags, reader, writer)?.into()),
-        _ => Err(Fault::Usage),
+        ToolCommand::Sim => sim::simulate_on(alloc, reader, writer),
+        ToolCommand::Run => Err(Fault::Usage),
     }
 }

@@ -26,7 +26,7 @@ pub enum ToolCommand {
 }
 
 /// The commands that are written yet. Any other is a usage fault.
-pub const WRITTEN: [ToolCommand; 2] = [ToolCommand::Script, ToolCommand::Check];
+pub const WRITTEN: [ToolCommand; 3] = [ToolCommand::Script, ToolCommand::Check, ToolCommand::Sim];
 
 /// What the command line asks for.
 #[derive(Clone, Copy, Debug, PartialEq, Eq)]
@@ -135,10 +135,15 @@ fn tags_of(options: &ArgMatches<'_>) -> Option<TagKind>
 fn command_named(word: &str) -> Option<ToolCommand>
     ensures { result ≡ find (λ command. bytes_eq (name_of command) word.now) WRITTEN }
 {
-    WRITTEN
-        .iter()
-        .find(|command| command.name() == word)
-        .copied()
+    if ToolCommand::Script.name() == word {
+        Some(ToolCommand::Script)
+    } else if ToolCommand::Check.name() == word {
+        Some(ToolCommand::Check)
+    } else if ToolCommand::Sim.name() == word {
+        Some(ToolCommand::Sim)
+    } else {
+        None
+    }
 }
 
 // The tags that have this name.

@@ -1,2 +1,4 @@
 pub mod Order
 pub mod Records
+pub mod Owed
+pub mod Whole

@@ -25,7 +25,7 @@ pub all-next : {X : Type 0} (P : X → Type 0) (xs : List X) (y : X) → AllByRe
 all-next P [] y h k = (k, tt)
 all-next P (x ∷ xs) y h k = (h.0, all-next P xs y h.1 k)
 
-all_rest : {X : Type 0} (P : X → Type 0) (xs : List X) → AllByRecursion P xs → AllByRecursion P (drop 1 xs)
+pub all_rest : {X : Type 0} (P : X → Type 0) (xs : List X) → AllByRecursion P xs → AllByRecursion P (drop 1 xs)
 all_rest P [] h = tt
 all_rest P (x ∷ xs) h = h.1
 
@@ -55,7 +55,7 @@ module _ {T : Type 0} (ops : Tagging T) (order : IsTotalOrder ops.compare) where
 -- ---- the first request is taken out, or the rates change
 
 module _ {T : Type 0} (ops : Tagging T) where
-  rest_reservations : (r : Option T) (tags : List T) (previous : T) → InOrder ops (cons_option r tags ++ previous ∷ []) → InOrder ops (tags ++ previous ∷ [])
+  pub rest_reservations : (r : Option T) (tags : List T) (previous : T) → InOrder ops (cons_option r tags ++ previous ∷ []) → InOrder ops (tags ++ previous ∷ [])
   rest_reservations None tags previous h = h
   rest_reservations (Some r) tags previous h = h.1
 
@@ -119,7 +119,7 @@ module _ {T : Type 0} (ops : Tagging T) (amount : T) where
   all_cons_option None xs = refl
   all_cons_option (Some x) xs = refl
 
-  all_filter_map : (requests : List (QueuedRequest T)) → list_all (has_less ops amount) (filter_map (λ r. r.tags.r) requests) ≡ list_all (λ r. option_map_or (has_less ops amount) r.tags.r true) requests
+  pub all_filter_map : (requests : List (QueuedRequest T)) → list_all (has_less ops amount) (filter_map (λ r. r.tags.r) requests) ≡ list_all (λ r. option_map_or (has_less ops amount) r.tags.r true) requests
   all_filter_map [] = refl
   all_filter_map (r ∷ requests) = all_cons_option r.tags.r (filter_map (λ r. r.tags.r) requests) ∙ ap (λ b. option_map_or (has_less ops amount) r.tags.r true && b) (all_filter_map requests)
 

@@ -1,21 +1,20 @@
 //! The record of a client.
-ghost use Rattle.std.specs.Prelude.{◌≡◌, ◌==◌, true, length, [], drop, slice_get, option_copied, OnOk, OnErr};
+ghost use Rattle.std.specs.Prelude.{◌≡◌, ◌==◌, true, length, [], drop, slice_get, OnOk, OnErr};
 ghost use Rattle.dmc_tag.specs.Order.{AreSpacings, AreNext};
 ghost use Rattle.dmc_tag.specs.Rules.{changes_reservation};
 ghost use Rattle.dmc_client.specs.Record as record_of;
 ghost use Rattle.dmc_client.specs.Record.{IsRecord};
 
+use crate::queue::RequestQueue;
 use crate::request::QueuedRequest;
-use crate::subtraction::{subtract_reservations, subtract_shares};
 use dmc_tag::assignment::previous_after;
 use dmc_tag::plain::Previous;
-use dmc_tag::shifting::less;
+use dmc_tag::shifting::{has_less, less};
 use dmc_tag::spacing::Spacings;
 use dmc_tag::tag::Tag;
 use dmc_types::info::ClientInfo;
 use dmc_types::moment::Moment;
 use std::alloc::{AllocError, Global};
-use std::collections::VecDeque;
 use std::marker::Model;
 
 /// What a queue keeps of a client: its rates and their spacings, its previous tags, the idle mark, its last arrival, and
@@ -28,7 +27,7 @@ pub struct ClientRec<T: Tag> {
     previous: Previous<T>,
     idle: bool,
     last_arrival: Moment,
-    queue: VecDeque<QueuedRequest<T>>,
+    queue: RequestQueue<T>,
 }
 
 impl<T: Tag> Model for ClientRec<T> {
@@ -36,9 +35,9 @@ impl<T: Tag> Model for ClientRec<T> {
 
     ghost Value = { Rec T };
 
-    ghost view = { λ c. record { info = c.info; spacings = c.spacings; previous = c.previous; idle = c.idle; last_arrival = c.last_arrival; requests = c.queue.items } };
+    ghost view = { λ c. record { info = c.info; spacings = c.spacings; previous = c.previous; idle = c.idle; last_arrival = c.last_arrival; requests = c.queue } };
 
-    ghost invariant = { λ c. IsRecord T.ops (record { info = c.info; spacings = c.spacings; previous = c.previous; idle = c.idle; last_arrival = c.last_arrival; requests = c.queue.items }) };
+    ghost invariant = { λ c. IsRecord T.ops (record { info = c.info; spacings = c.spacings; previous = c.previous; idle = c.idle; last_arrival = c.last_arrival; requests = c.queue }) };
 }
 
 impl<T: Tag> ClientRec<T> {
@@ -60,7 +59,7 @@ impl<T: Tag> ClientRec<T> {
             previous,
             idle: true,
             last_arrival: at,
-            queue: VecDeque::new(alloc),
+            queue: RequestQueue::new(alloc),
         }
     }
 
@@ -72,7 +71,7 @@ impl<T: Tag> ClientRec<T> {
         ensures err { OnErr result (self.new ≡ self.old) }
         ensures kept { IsRecord T.ops self.new }
     {
-        if self.queue.push_back(request).is_err() {
+        if self.queue.push(request).is_err() {
             return Err(AllocError);
         }
         self.previous = previous_after(request.tags, self.previous);
@@ -82,8 +81,8 @@ impl<T: Tag> ClientRec<T> {
     }
 
     /// The request that came first of those queued.
-    pub fn head(&self) -> Option<&QueuedRequest<T>>
-        ensures value { option_copied result ≡ slice_get self.now.requests 0 }
+    pub fn head(&self) -> Option<QueuedRequest<T>>
+        ensures value { result ≡ slice_get self.now.requests 0 }
         ensures kept { IsRecord T.ops self.now }
     {
         self.queue.front()
@@ -121,14 +120,6 @@ impl<T: Tag> ClientRec<T> {
         ensures { result ≡ (length self.now.requests == 0) }
     {
         self.queue.is_empty()
-    }
-
-    /// The queued requests, in order of arrival.
-    pub fn requests(&self) -> &VecDeque<QueuedRequest<T>>
-        ensures value { result.now.items ≡ self.now.requests }
-        ensures kept { IsRecord T.ops self.now }
-    {
-        &self.queue
     }
 
     /// The rates.
@@ -188,13 +179,34 @@ impl<T: Tag> ClientRec<T> {
         self.idle = true;
     }
 
+    /// Whether the P of each request and the previous P, less the amount, are values.
+    pub fn has_less_shares(&self, amount: T) -> bool
+        ensures { result ≡ record_of.has_less_shares T.ops amount self.now }
+    {
+        self.queue.has_less_shares(amount) && has_less(self.previous.p, amount)
+    }
+
+    /// Whether the R of each request but the first, and the previous R, less the amount, are values. The second R is the
+    /// least of them and the previous one the greatest: of whole numbers no other has to be asked.
+    pub fn others_have_less_reservations(&self, amount: T) -> bool
+        ensures { result ≡ record_of.has_less_reservations T.ops amount (record self.now { requests = drop 1 self.now.requests }) }
+    {
+        if !has_less(self.previous.r, amount) {
+            return false;
+        }
+        if T::is_whole() {
+            return self.queue.second_has_less(amount);
+        }
+        self.queue.others_have_less(amount)
+    }
+
     /// Takes the amount off the P of each request and off the previous P.
     pub fn subtract_from_shares(&mut self, amount: T)
         requires { record_of.has_less_shares T.ops amount self.old ≡ true }
         ensures value { self.new ≡ record_of.less_shares T.ops amount self.old }
         ensures kept { IsRecord T.ops self.new }
     {
-        subtract_shares(&mut self.queue, amount);
+        self.queue.subtract_shares(amount);
         self.previous.p = less(self.previous.p, amount);
     }
 
@@ -204,7 +216,7 @@ impl<T: Tag> ClientRec<T> {
         ensures value { self.new ≡ record_of.less_reservations T.ops amount self.old }
         ensures kept { IsRecord T.ops self.new }
     {
-        subtract_reservations(&mut self.queue, amount);
+        self.queue.subtract_reservations(amount);
         self.previous.r = less(self.previous.r, amount);
     }
 }

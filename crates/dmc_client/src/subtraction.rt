@@ -1,11 +1,14 @@
-//! An amount taken off each tag of one kind, in place.
+//! An amount taken off each tag of one kind, in place, and whether that is a value.
 ghost use Rattle.std.specs.Prelude.{◌≡◌, map};
+ghost use Rattle.dmc_client.specs.Owed as owed_of;
 ghost use Rattle.dmc_client.specs.Record as record_of;
+ghost use Rattle.dmc_tag.specs.Rules as rules_of;
+ghost use Rattle.std.specs.List.{list_all};
 ghost use Rattle.std.specs.VecDeque.{deque_len};
 
 use crate::request::QueuedRequest;
 use dmc_tag::reply::Tags;
-use dmc_tag::shifting::less;
+use dmc_tag::shifting::{has_less, less};
 use dmc_tag::tag::Tag;
 use std::collections::VecDeque;
 
@@ -28,6 +31,28 @@ fn less_reservation<T: Tag>(request: QueuedRequest<T>, amount: T) -> QueuedReque
     QueuedRequest { tags, ..request }
 }
 
+/// Whether the R less the amount is a value, or there is none.
+pub fn reservation_has_less<T: Tag>(request: QueuedRequest<T>, amount: T) -> bool
+    ensures { result ≡ owed_of.reservation_has_less T.ops amount request }
+{
+    match request.tags.r {
+        None => true,
+        Some(r) => has_less(r, amount),
+    }
+}
+
+/// Whether each P less the amount is a value.
+pub fn shares_have_less<T: Tag>(queue: &VecDeque<QueuedRequest<T>>, amount: T) -> bool
+    ensures { result ≡ list_all (λ r. rules_of.has_less T.ops amount r.tags.p) queue.now.items }
+{
+    for i in 0..queue.len() {
+        if !has_less(queue[i].tags.p, amount) {
+            return false;
+        }
+    }
+    true
+}
+
 /// Takes the amount off each P.
 pub fn subtract_shares<T: Tag>(queue: &mut VecDeque<QueuedRequest<T>>, amount: T)
     ensures { queue.new.items ≡ map (record_of.less_share T.ops amount) queue.old.items }
@@ -38,6 +63,7 @@ pub fn subtract_shares<T: Tag>(queue: &mut VecDeque<QueuedRequest<T>>, amount: T
 }
 
 /// Takes the amount off each R.
+#[inline(never)]
 pub fn subtract_reservations<T: Tag>(queue: &mut VecDeque<QueuedRequest<T>>, amount: T)
     ensures { queue.new.items ≡ map (record_of.less_reservation T.ops amount) queue.old.items }
 {

@@ -1,6 +1,7 @@
 //! The cluster over any queue: the clients by their ids, and the servers.
 ghost use Rattle.std.specs.Prelude.{◌≡◌, ◌<◌, ◌≤◌, List, length, map, slice_get, IfOk, OnOk, IfErr, Err};
 ghost use Rattle.std.specs.List.{AllZip};
+ghost use Rattle.std.specs.Option.{option_map};
 ghost use Rattle.dmc_types.specs.declared.config.Counting.{Counting};
 ghost use Rattle.dmc_tag.specs.State.{is_client};
 ghost use Rattle.dmc_core.specs.Core.{Held, Matches, Follows};
@@ -11,6 +12,7 @@ ghost use Rattle.dmc_core.specs.declared.event.CoreEvent.TheVariants as events;
 
 use crate::client::CoreClient;
 use crate::event::{CoreFault, CoreReply};
+use crate::ids::ClientIds;
 use crate::server::CoreServer;
 use dmc_tag::reply::Reply;
 use dmc_tag::scheduler::Scheduler;
@@ -19,13 +21,12 @@ use dmc_types::config::PhaseType;
 use dmc_types::ids::{ClientId, ServerId, Token};
 use dmc_types::info::ClientInfo;
 use dmc_types::moment::Moment;
-use indexmap::IndexSet;
 use std::marker::Model;
 
 /// The clients in the scene's order, found by their ids, and server 0, 1, ..
 #[derive(Drop)]
 pub struct Cluster<Q> {
-    ids: IndexSet<ClientId>,
+    ids: ClientIds,
     clients: Vec<CoreClient>,
     servers: Vec<CoreServer<Q>>,
 }
@@ -40,17 +41,17 @@ impl<Q> Model for Cluster<Q> {
 
     ghost view = { λ c. record { servers = map (λ s. s.queue) c.servers.items; clients = c.clients.items } };
 
-    ghost invariant = { λ c. IsKept c.ids.keys c.clients.items c.servers.items };
+    ghost invariant = { λ c. IsKept c.ids c.clients.items c.servers.items };
 }
 
 impl<Q> Cluster<Q> {
     /// The cluster of these clients and servers.
     pub fn of_parts(
-        ids: IndexSet<ClientId>,
+        ids: ClientIds,
         clients: Vec<CoreClient>,
         servers: Vec<CoreServer<Q>>,
     ) -> Cluster<Q>
-        requires { IsKept ids.keys clients.items servers.items }
+        requires { IsKept ids clients.items servers.items }
         ensures { result ≡ record { servers = map (λ s. s.queue) servers.items; clients = clients.items } }
     {
         Cluster {
@@ -67,7 +68,7 @@ impl<Q> Cluster<Q> {
         ensures server { OnOk result (server.0 < length self.now.servers) }
         ensures paired { IfOk result (λ place. (h : Held) → slice_get self.now.clients place ≡ Some h → server.0 < length h.pairs) }
     {
-        let Some(place) = self.ids.get_index_of(&client) else {
+        let Some(place) = self.ids.place(client) else {
             return Err(CoreFault::NoClient);
         };
         if server.0 as usize >= self.servers.len() {
@@ -217,5 +218,15 @@ impl<Q> Cluster<Q> {
     {
         let index = self.server(server)?;
         Ok(CoreReply::Served(self.servers[index].clean(at)))
+    }
+
+    /// How many requests are queued at a server, if there is such a server.
+    pub fn request_count<T: Tag>(&self, server: ServerId) -> Option<u32>
+    where
+        Q: Scheduler<T>,
+        ensures { result ≡ option_map (λ queue. length (Q.state queue).requests) (slice_get self.now.servers server.0) }
+    {
+        let server = self.servers.get(server.0 as usize)?;
+        Some(server.queue.request_count())
     }
 }

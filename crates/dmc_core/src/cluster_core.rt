@@ -1,16 +1,19 @@
 //! The cluster core: the cluster over indexed queues with heaps.
-ghost use Rattle.std.specs.Prelude.{IfOk};
+ghost use Rattle.std.specs.Prelude.{◌≡◌, IfOk, length, slice_get};
+ghost use Rattle.std.specs.Option.{option_map};
 ghost use Rattle.dmc_core.specs.Core.{Follows, StandsForRun};
 ghost use Rattle.dmc_core.specs.Opening.{HaveSpacings, opening_of};
 ghost use Rattle.dmc_pull.specs.Queue.{state_of};
 
 use crate::cluster::Cluster;
 use crate::event::{CoreEvent, CoreFault, CoreReply};
-use crate::opening::{client_ids, open_clients, open_servers};
+use crate::ids::ClientIds;
+use crate::opening::{open_clients, open_servers};
 use dmc_heap::indexed_heap::HeapIndexes;
 use dmc_pull::queue::PullQueue;
 use dmc_scene::scene::Scene;
 use dmc_tag::tag::Tag;
+use dmc_types::ids::ServerId;
 use std::alloc::{AllocError, Global};
 use std::marker::Model;
 
@@ -19,8 +22,8 @@ use std::marker::Model;
 ///
 /// Contracts see each server's queue, and each client with its tracker's numbers, messages and counts. Which states of a
 /// cluster run the core stands for says `StandsForRun` (`specs/Core.antt`); what a run is and what an event makes of it,
-/// `specs/Run.antt` and `specs/Events.antt`. A client is found by a hash of its id and a server by its index, and no call walks
-/// over clients or servers but inside a queue, as a clean does.
+/// `specs/Run.antt` and `specs/Events.antt`. A client is found by a hash of its id, where it is not the one that was found last or
+/// the next, and a server by its index. No call walks over clients or servers but inside a queue, as a clean does.
 #[derive(Drop)]
 pub struct ClusterCore<T: Tag> {
     cluster: Cluster<PullQueue<T, HeapIndexes>>,
@@ -43,7 +46,7 @@ impl<T: Tag> ClusterCore<T> {
         requires { HaveSpacings T.ops scene.now }
         ensures { IfOk result (λ core. StandsForRun state_of core (opening_of T.ops scene.now)) }
     {
-        let ids = client_ids(alloc, scene.clients())?;
+        let ids = ClientIds::of_clients(alloc, scene.clients())?;
         let clients = open_clients(alloc, scene)?;
         let servers = open_servers(alloc, scene)?;
         Ok(ClusterCore {
@@ -55,9 +58,11 @@ impl<T: Tag> ClusterCore<T> {
     /// for the run after the event; a refused event has changed nothing. Of several causes the first is told, in the order of
     /// `CoreFault`. `Memory` comes last, of a stamp or an arrival alone: the rules and the queue would have accepted it, and
     /// the core stands for what it stood for.
+    #[inline(always)]
     pub fn step(&mut self, event: CoreEvent) -> Result<CoreReply<T>, CoreFault>
         ensures { Follows T.ops state_of event self.old self.new result }
     {
+        // Inlined: a caller that names its event keeps that arm alone.
         match event {
             CoreEvent::Stamp {
                 client,
@@ -80,5 +85,12 @@ impl<T: Tag> ClusterCore<T> {
             CoreEvent::Remove { server, client } => self.cluster.remove(server, client),
             CoreEvent::Clean { server, at } => self.cluster.clean(server, at),
         }
+    }
+
+    /// How many requests are queued at a server, if there is such a server.
+    pub fn request_count(&self, server: ServerId) -> Option<u32>
+        ensures { result ≡ option_map (λ queue. length (state_of queue).requests) (slice_get self.now.servers server.0) }
+    {
+        self.cluster.request_count::<T>(server)
     }
 }

@@ -18,23 +18,9 @@ use dmc_scene::client::SceneClient;
 use dmc_scene::scene::Scene;
 use dmc_tag::tag::Tag;
 use dmc_types::config::QueueConfig;
-use dmc_types::ids::ClientId;
 use dmc_types::moment::Moment;
 use dmc_types::refusal::QueueFault;
-use indexmap::IndexSet;
 use std::alloc::{AllocError, Global};
-
-/// The ids of the clients, in order.
-pub fn client_ids(alloc: Global, clients: &[SceneClient]) -> Result<IndexSet<ClientId>, AllocError>
-    requires { AllPairs AreApart clients.now }
-    ensures { IfOk result (λ ids. ids.keys ≡ map (λ c. c.id) clients.now) }
-{
-    let mut ids = IndexSet::with_capacity(alloc, clients.len())?;
-    for client in clients {
-        ids.insert(client.id())?;
-    }
-    Ok(ids)
-}
 
 /// The clients, each with nothing under way.
 pub fn open_clients(alloc: Global, scene: &Scene) -> Result<Vec<CoreClient>, AllocError>

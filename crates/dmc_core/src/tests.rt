@@ -33,8 +33,6 @@ fn open(alloc: Global, scene: &str, client: &str) -> Result<Core, Fail> {
 [[client]]\nid = 1\nweight = 1\nrequests = 2\nwindow = 1\n{client}\n"
     )?;
     let scene = read_scene(alloc, text.as_bytes())?;
-    let _hz = scene.config().hz();
-    let _clients = scene.clients();
     match scene.tags() {
         TagKind::Tick => Ok(ClusterCore::new(alloc, &scene)?),
         TagKind::Ratio => Err(Fail::new("no ticks")),

@@ -92,11 +92,18 @@ impl<T: Tag, I: Indexes<T>> PullQueue<T, I> {
         self.queued as u32
     }
 
-    /// Whether nothing is queued.
+    /// Whether nothing is queued (Ceph's name).
     pub fn empty(&self) -> bool
         ensures { result ≡ (length (state_of self.now).requests == 0) }
     {
         self.queued == 0
+    }
+
+    /// The same, under the name that Rust's collections give it.
+    pub fn is_empty(&self) -> bool
+        ensures { result ≡ (length (state_of self.now).requests == 0) }
+    {
+        self.empty()
     }
 
     /// The index by R: each client with a queued request has one key, under the tag of its first request, and no other

@@ -1,6 +1,7 @@
 //! The ratio tag.
-ghost use Rattle.std.specs.Prelude.{◌≡◌, ◌*◌, ◌<◌, ◌≤◌, ◌^◌, ◌*ℤ◌, pos, unsigned_abs, T};
+ghost use Rattle.std.specs.Prelude.{◌≡◌, ◌*◌, ◌<◌, ◌≤◌, ◌^◌, ◌*ℤ◌, false, pos, unsigned_abs, T};
 ghost use Rattle.std.proofs.Common.{refl};
+ghost use Rattle.std.proofs.lemmas.Bool.{false≢true};
 ghost use Rattle.std.specs.Cmp.{partial_order_from_agreeing_total};
 ghost use Rattle.std.specs.Ordering.{as_partial_cmp};
 ghost use Rattle.dmc_tag.specs.Tag.{Gives};
@@ -151,9 +152,17 @@ impl Tag for RatioTag {
 
     ghost is_value = { IsRatioValue };
 
+    ghost whole = { false };
+
     ghost compares = { λ a b. refl };
 
     ghost exact = { ratio_exact };
+
+    ghost interval = { λ e. absurd (false≢true e) };
+
+    fn is_whole() -> bool {
+        false
+    }
 
     fn of_moment(at: Moment) -> RatioTag {
         RatioTag {

@@ -90,7 +90,7 @@ impl<T: Tag> Roster<T> {
 
     /// The record under a key, to change; none where the key is not held.
     pub fn at_mut(&mut self, key: usize) -> Option<&mut ClientRec<T>>
-        ensures* writes_back { sem 𝓛 (LendsIf (the_row T.row (record { ops = T.ops; fraction = T.fraction; is_value = T.is_value }) (record { cmp = T.cmp }) (record { eq = T.eq }) (record { partial_cmp = T.partial_cmp })) (record_row T.row (record { ops = T.ops; fraction = T.fraction; is_value = T.is_value }) (record { cmp = T.cmp }) (record { eq = T.eq }) (record { partial_cmp = T.partial_cmp })) self.entry result (λ rec. entries.with_record_at self.old key rec) self.old) }
+        ensures* writes_back { sem 𝓛 (LendsIf (the_row T.row (record { ops = T.ops; fraction = T.fraction; is_value = T.is_value; whole = T.whole }) (record { cmp = T.cmp }) (record { eq = T.eq }) (record { partial_cmp = T.partial_cmp })) (record_row T.row (record { ops = T.ops; fraction = T.fraction; is_value = T.is_value; whole = T.whole }) (record { cmp = T.cmp }) (record { eq = T.eq }) (record { partial_cmp = T.partial_cmp })) self.entry result (λ rec. entries.with_record_at self.old key rec) self.old) }
         ensures value { is_some (entries.entry_keyed key self.old.entries) ≡ true → option_copied_mut result ≡ entries.record_at key self.old.entries }
     {
         self.records.get_mut(key)

@@ -1,5 +1,5 @@
 -- What contracts see of a scene, and the limits that each scene keeps.
-use Rattle.std.specs.Prelude.{◌≢◌, ℕ, ◌%◌, ◌<◌, ◌≤◌, ◌^◌, ◌==◌, Bool, true, IsTrue, IfSome, List, length, All, AllPairs}
+use Rattle.std.specs.Prelude.{◌≢◌, ℕ, ◌%◌, ◌<◌, ◌≤◌, ◌^◌, ◌==◌, ◌&&◌, nat_le, Bool, IsTrue, IfSome, List, length, All, AllPairs}
 use Rattle.dmc_types.specs.Values.{Rates, Setting}
 use Rattle.dmc_types.specs.declared.ids.ClientId.{ClientId}
 use Rattle.dmc_types.specs.declared.config.Counting.{Counting}
@@ -24,10 +24,10 @@ pub record SceneValue : Type 0 where
   pub counting : Counting
   pub clients : List ClientValue
 
--- in ticks a rate has a spacing where it divides hz; in ratios each rate has one
+-- in ticks a rate has a spacing where it divides hz; in ratios where it is 1 to 2^32, which is the greatest denominator
 abbrev pub has_spacing : TagKind → ℕ → ℕ → Bool
 has_spacing Tick hz rate = hz % rate == 0
-has_spacing Ratio hz rate = true
+has_spacing Ratio hz rate = nat_le 1 rate && nat_le rate (2 ^ 32)
 
 abbrev pub HasSpacing : TagKind → ℕ → ℕ → Type 0
 HasSpacing tags hz rate = IsTrue (has_spacing tags hz rate)
@@ -64,8 +64,10 @@ pub record AreSizes (servers workers step seed max_pulls : ℕ) : Type 0 where
   pub some_pulls : 0 < max_pulls
   pub pulls_limit : max_pulls ≤ 2 ^ 30
 
--- the limits of its clients
+-- the limits of its ticks a second and of its clients
 pub record AreClients (tags : TagKind) (hz : ℕ) (clients : List ClientValue) : Type 0 where
+  pub some_hz : 0 < hz
+  pub hz_limit : hz ≤ 1000000000
   pub some : 0 < length clients
   pub limit : length clients ≤ 256
   pub apart : AllPairs AreApart clients

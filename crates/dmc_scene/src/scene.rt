@@ -68,9 +68,12 @@ impl Scene {
         self.config
     }
 
-    /// Which tags the queues run on.
+    /// Which tags the queues run on. Each rate of the clients has a spacing in them.
     pub fn tags(&self) -> TagKind
-        ensures { result ≡ self.now.tags }
+        ensures value { result ≡ self.now.tags }
+        ensures some_hz { 0 < self.now.config.hz }
+        ensures hz_limit { self.now.config.hz ≤ 1000000000 }
+        ensures spaced { All (λ client. AreSpaced result self.now.config.hz client.info) self.now.clients }
     {
         self.tags
     }

@@ -19,10 +19,7 @@ use Rattle.dmc_tag.proofs.Before.{before_order}
 use Rattle.dmc_tag.proofs.BestIs as scans
 use Rattle.dmc_tag.proofs.FutureLaw as futures
 use Rattle.dmc_tag.proofs.PullLaw as pulls
-use Rattle.dmc_tag.proofs.Queued as queued
 use Rattle.dmc_tag.proofs.Running as running
-use Rattle.dmc_tag.proofs.TagOrder as orders
-use Rattle.dmc_tag.proofs.TagValues as values
 -- each change keeps it that queued clients are active
 pub use Rattle.dmc_tag.proofs.Active.{registration_keeps_active, update_keeps_active, arrival_keeps_active, reduction_keeps_active, removal_keeps_active, clean_keeps_active}
 -- an order that is the same as a total one is total: so the order of a tag type is
@@ -36,6 +33,9 @@ pub use Rattle.dmc_tag.proofs.TagOrder.{plus_keeps_order, minus_keeps_order, nex
 -- a sum may be turned round; a value less nothing is itself; the tags of moments, those that an assignment gives for P, and
 -- differences are values
 pub use Rattle.dmc_tag.proofs.TagValues.{plus_commutes, minus_nothing, moments_are_values, weights_are_values, differences_are_values}
+-- what two amounts leave, their sum leaves; a value and an amount, less the amount, is the value; of whole numbers, what lies
+-- between two that have so much to lose has it too
+pub use Rattle.dmc_tag.proofs.TakenOff.{minus_twice, plus_then_minus, between_has_less}
 -- only a client's Add queues its first request; who is granted had a queued request; a step keeps it that queued clients are
 -- active, and so after each history they are
 pub use Rattle.dmc_tag.proofs.Queued.{only_an_add_queues, grants_what_is_queued, step_keeps_active, queued_clients_are_active}

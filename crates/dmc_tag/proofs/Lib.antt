@@ -13,6 +13,7 @@ pub mod FutureLaw
 pub mod Scaled
 pub mod TagOrder
 pub mod TagValues
+pub mod TakenOff
 pub mod Active
 pub mod Queued
 pub mod ForCallers

@@ -92,7 +92,7 @@ pub from_range : {A : Type 0} (o : Option A) (x : A) → in_range o ≡ Ok x →
 from_range o x e = from_option o _ x e
 
 module _ {T : Type 0} (ops : Tagging T) (fraction : T → Fraction) (is_value : Fraction → Type 0) (exact : IsExact ops fraction is_value) where
-  given : (o : Option T) (f : Fraction) (a : T) → Gives fraction is_value o f → o ≡ Some a → IsSame (fraction a) f
+  pub given : (o : Option T) (f : Fraction) (a : T) → Gives fraction is_value o f → o ≡ Some a → IsSame (fraction a) f
   given None f a g e = cc
   given (Some b) f a g e = let same : b ≡ a = cc in subst (λ c. IsSame (fraction c) f) same g.1
 

@@ -28,7 +28,7 @@ module _ {T : Type 0} (ops : Tagging T) (fraction : T → Fraction) (is_value : 
   sum_value : (a b c : T) → ops.plus a b ≡ Some c → is_value (fraction c)
   sum_value a b c e = value_given (ops.plus a b) (sum_of (fraction a) (fraction b)) c (positive _ _ (exact.denom a) (exact.denom b)) (exact.plus a b) e
 
-  difference_value : (a b c : T) → ops.minus a b ≡ Some c → is_value (fraction c)
+  pub difference_value : (a b c : T) → ops.minus a b ≡ Some c → is_value (fraction c)
   difference_value a b c e = value_given (ops.minus a b) (difference_of (fraction a) (fraction b)) c (positive _ _ (exact.denom a) (exact.denom b)) (exact.minus a b) e
 
   pub differences_are_values : (a amount : T) → IfSome (ops.minus a amount) (λ x. is_value (fraction x))
@@ -74,7 +74,7 @@ module _ {T : Type 0} (ops : Tagging T) (fraction : T → Fraction) (is_value : 
       scaled_swapped : (z : ℤ) (d e : ℕ) → (z *ℤ pos d) *ℤ pos e ≡ (z *ℤ pos e) *ℤ pos d
       scaled_swapped z d e = let turned : d * e ≡ e * d = omega arith in scaled_twice z d e ∙ ap (λ n. z *ℤ pos n) turned ∙ sym (scaled_twice z e d)
 
-  one_answer : (o p : Option T) (f : Fraction) → 0 < f.denom → Gives fraction is_value o f → Gives fraction is_value p f → o ≡ p
+  pub one_answer : (o p : Option T) (f : Fraction) → 0 < f.denom → Gives fraction is_value o f → Gives fraction is_value p f → o ≡ p
   one_answer None None f some g h = refl
   one_answer None (Some b) f some g h = absurd (g h.0)
   one_answer (Some a) None f some g h = absurd (h g.0)

@@ -20,6 +20,10 @@ IsSame a b = a.numer *ℤ pos b.denom ≡ b.numer *ℤ pos a.denom
 abbrev pub whole : ℕ → Fraction
 whole n = record { numer = pos n; denom = 1 }
 
+-- a whole number, of any sign
+abbrev pub integer : ℤ → Fraction
+integer z = record { numer = z; denom = 1 }
+
 abbrev pub ratio : ℕ → ℕ → Fraction
 ratio n d = record { numer = pos n; denom = d }
 
@@ -64,3 +68,8 @@ pub record IsExact {T : Type 0} (ops : Tagging T) (fraction : T → Fraction) (i
   pub minus : (a b : T) → Gives fraction is_value (ops.minus a b) (difference_of (fraction a) (fraction b))
   -- the least whole number not below
   pub ceil : (a : T) (z : ℤ) → (ops.ceil a ≤ℤ z) ↔ ((fraction a).numer ≤ℤ (z *ℤ pos (fraction a).denom))
+
+-- Every tag is a whole number, and a whole number between two values is a value.
+pub record IsWhole {T : Type 0} (fraction : T → Fraction) (is_value : Fraction → Type 0) : Type 0 where
+  pub denom : (a : T) → (fraction a).denom ≡ 1
+  pub between : (a b c : ℤ) → a ≤ℤ b → b ≤ℤ c → is_value (integer a) → is_value (integer c) → is_value (integer b)

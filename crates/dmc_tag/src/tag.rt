@@ -1,6 +1,6 @@
 //! Tags: the numbers that requests are ordered by.
-ghost use Rattle.std.specs.Prelude.{◌≡◌};
-ghost use Rattle.dmc_tag.specs.Tag.{Fraction, Tagging, IsExact};
+ghost use Rattle.std.specs.Prelude.{◌≡◌, Bool, true};
+ghost use Rattle.dmc_tag.specs.Tag.{Fraction, Tagging, IsExact, IsWhole};
 
 use dmc_types::moment::Moment;
 
@@ -15,6 +15,13 @@ pub trait Tag: Copy + Ord {
     /// Which fractions are values of the type.
     ghost is_value: { Fraction → Type 0 };
 
+    /// Whether the values are the whole numbers of an interval.
+    ghost whole: { Bool };
+
+    /// Whether the values are the whole numbers of an interval, so that a whole number between two values is one too.
+    fn is_whole() -> bool
+        ensures { result ≡ whole };
+
     /// The tag of a moment.
     fn of_moment(at: Moment) -> Self
         ensures { result ≡ ops.of_moment at };
@@ -27,9 +34,10 @@ pub trait Tag: Copy + Ord {
     fn steps(self, k: u32) -> Option<Self>
         ensures { result ≡ ops.steps self k };
 
-    /// The sum.
+    /// The sum. A tag that a program has is a value of the type.
     fn plus(self, other: Self) -> Option<Self>
-        ensures { result ≡ ops.plus self other };
+        ensures sum { result ≡ ops.plus self other }
+        ensures value { is_value (fraction self) };
 
     /// The difference.
     fn minus(self, other: Self) -> Option<Self>
@@ -44,4 +52,7 @@ pub trait Tag: Copy + Ord {
 
     /// The operations are those of fractions.
     ghost exact: { IsExact ops fraction is_value };
+
+    /// What a type whose values are the whole numbers of an interval keeps.
+    ghost interval: { whole ≡ true → IsWhole fraction is_value };
 }

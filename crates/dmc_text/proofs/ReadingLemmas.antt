@@ -1,5 +1,5 @@
 -- Lines in a buffer, and of a text that is read in pieces.
-use Rattle.std.proofs.Common.{◌≡◌, ℕ, Ok, ◌+◌, ◌-◌, ◌≤◌, List, [], ◌++◌, sym, ap, subst, ◌∙◌, arith, length, take, drop, Option, Some, None, position}
+use Rattle.std.proofs.Common.{◌≡◌, ℕ, Ok, ◌+◌, ◌-◌, ◌≤◌, List, [], ◌++◌, append-nil, sym, ap, subst, ◌∙◌, arith, length, take, drop, Option, Some, None, position}
 use Rattle.std.specs.Prelude.{slice_range, OnErr, Result, Err}
 use Rattle.std.specs.Option.{option_map}
 use Rattle.std.proofs.lemmas.List.{take-take, drop-drop, drop-take, append_assoc, take-append-drop, take_rest}
@@ -7,6 +7,7 @@ use Rattle.std.proofs.Math.Seq.{take-add}
 use Rattle.std.specs.Io.KnownBytes.{Keeps, Consumes, Appends}
 use Rattle.dmc_text.specs.Texts.{AppendsSome}
 use Rattle.dmc_text.specs.Reading.{is_end, next_line}
+use Rattle.dmc_text.specs.LineLaws.{consumes_twice, none_taken}
 
 -- the first n of a range
 pub front_of_range : (items : List ℕ) (start end n : ℕ) → start + n ≤ end → take n (slice_range items start end) ≡ slice_range items start (start + n)
@@ -91,3 +92,13 @@ appends_some a b bytes i h = (take i bytes, drop i bytes, h, take-append-drop i 
 pub of_err : {X E : Type 0} {A : Type 0} (r : Result X E) → A → OnErr r A
 of_err (Ok x) a = tt
 of_err (Err e) a = a
+
+-- ---- reading
+
+-- the first i bytes, and the next n behind them
+pub consumes_next : (a b c : Option (List ℕ)) (old new : List ℕ) (i n : ℕ) → take i new ≡ take i old → Consumes a b (take i old) → Consumes b c (take n (drop i new)) → Consumes a c (take (i + n) new)
+consumes_next a b c old new i n same h k =
+    subst (Consumes a c) (sym (take-add i n new)) (consumes_twice a b c (take i new) (take n (drop i new)) (subst (Consumes a b) (sym same) h) k)
+
+pub consumes_then_keeps : (a b c : Option (List ℕ)) (bytes : List ℕ) → Consumes a b bytes → Keeps b c → Consumes a c bytes
+consumes_then_keeps a b c bytes h k = subst (Consumes a c) (append-nil bytes) (consumes_twice a b c bytes [] h (none_taken b c k))

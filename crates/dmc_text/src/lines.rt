@@ -189,6 +189,25 @@ fn read_at<R: Read>(reader: &mut R, buffer: &mut Vec<u8>, at: usize, most: u64) 
     read_once(reader, &mut buffer[at..at + most])
 }
 
+/// Reads until the buffer is full or the reader at its end, and answers how many bytes were read. They stand at the front.
+pub fn read_text<R: Read>(reader: &mut R, buffer: &mut Vec<u8>) -> io::Result<usize>
+    ensures len { vec_len buffer.new ≡ vec_len buffer.old }
+    ensures within { IfOk result (λ n. n ≤ vec_len buffer.old) }
+    ensures bytes { IfOk result (λ n. Consumes (R.remaining reader.old) (R.remaining reader.new) (take n buffer.new.items)) }
+    ensures end { IfOk result (λ n. n < vec_len buffer.old → IsAtEnd (R.remaining reader.new)) }
+    ensures err { OnErr result
+        ((bytes : List ℕ) × Consumes (R.remaining reader.old) (R.remaining reader.new) bytes × (length bytes ≤ vec_len buffer.old)) }
+{
+    let mut len = 0;
+    while len < buffer.len() {
+        match read_at(reader, buffer, len, MOST)? {
+            0 => return Ok(len),
+            n => len += n,
+        }
+    }
+    Ok(len)
+}
+
 /// Whether a text that has all the bytes that it may have goes on. That is an error.
 fn reads_too_much<R: Read>(reader: &mut R) -> io::Result<bool>
     ensures bytes { MatchResult result (λ more. (more ≡ false) × IsAtEnd (R.remaining reader.new) × Keeps (R.remaining reader.old) (R.remaining reader.new))

@@ -5,10 +5,10 @@ use Rattle.std.specs.Ordering.{int_cmp}
 use Rattle.std.proofs.Common.{refl, sym, ap, ◌∙◌, subst, arith}
 use Rattle.std.proofs.lemmas.Bool.{leb-true, leb-false, eqb-true, eqb-false}
 use Rattle.std.proofs.lemmas.Cmp.{int_ranked}
-use Rattle.std.proofs.lemmas.Int.{unsigned_abs-mul}
+use Rattle.std.proofs.lemmas.Int.{ints, unsigned_abs-mul}
 use Rattle.std.proofs.lemmas.Nat.{mod-mul-add, div-add-mod'}
 use Rattle.std.proofs.Math.Nat.{mul-le-mul_left, eq_of_mul-eq-mul_left}
-use Rattle.dmc_tag.specs.Tag.{Fraction, Gives, IsExact, IsSame, ratio}
+use Rattle.dmc_tag.specs.Tag.{Fraction, Gives, IsExact, IsSame, IsWhole, ratio, integer}
 use Rattle.dmc_tag.specs.Tag as fraction_of
 use Rattle.dmc_tick.specs.Tick.{tick, tick_ops, tick_fraction, IsTickValue, greatest}
 
@@ -97,3 +97,17 @@ tick_exact = record {
   minus = λ a b. tick_gives (a -ℤ b) _ (omega arith) (ap (λ x. x -ℤ b *ℤ pos 1) (times_one a) ∙ ap (λ y. a -ℤ y) (times_one b) ∙ sym (times_one (a -ℤ b)));
   ceil = λ a z. (λ h. subst (λ w. a ≤ℤ w) (sym (times_one z)) h, λ h. subst (λ w. a ≤ℤ w) (times_one z) h);
 }
+
+-- ---- every tag is a whole number
+
+-- a number of that size is a value
+value_within : (z : ℤ) → unsigned_abs z ≤ greatest → IsTickValue (integer z)
+value_within z h = value_of (integer z) (unsigned_abs z) (omega arith) h (omega arith)
+
+pub tick_whole : IsWhole tick_fraction IsTickValue
+tick_whole = record {
+  denom = λ a. refl;
+  between = λ a b c h k v w. value_within b (within a b c h k v.bound w.bound);
+} where
+  within : (a b c : ℤ) → a ≤ℤ b → b ≤ℤ c → unsigned_abs a ≤ 1 * greatest → unsigned_abs c ≤ 1 * greatest → unsigned_abs b ≤ greatest
+  within a b c h k v w = omega (arith, ints)

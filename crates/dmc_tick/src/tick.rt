@@ -1,8 +1,8 @@
 //! The tick tag.
-ghost use Rattle.std.specs.Prelude.{◌≡◌, ◌≤◌, unsigned_abs};
+ghost use Rattle.std.specs.Prelude.{◌≡◌, ◌≤◌, true, unsigned_abs};
 ghost use Rattle.std.proofs.Common.{refl};
 ghost use Rattle.dmc_tick.specs.Tick.{greatest, tick, tick_ops, tick_fraction, IsTickValue};
-ghost use Rattle.dmc_tick.specs.TickExact.{tick_exact};
+ghost use Rattle.dmc_tick.specs.TickExact.{tick_exact, tick_whole};
 
 use dmc_tag::tag::Tag;
 use dmc_types::moment::Moment;
@@ -57,9 +57,17 @@ impl Tag for TickTag {
 
     ghost is_value = { IsTickValue };
 
+    ghost whole = { true };
+
     ghost compares = { λ a b. refl };
 
     ghost exact = { tick_exact };
+
+    ghost interval = { λ e. tick_whole };
+
+    fn is_whole() -> bool {
+        true
+    }
 
     fn of_moment(at: Moment) -> TickTag {
         TickTag {

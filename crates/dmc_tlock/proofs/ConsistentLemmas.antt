@@ -1,6 +1,7 @@
 -- A stamp and a response keep a tracker book consistent.
-use Rattle.std.proofs.Common.{◌≡◌, ◌+◌, ◌<◌, ◌≤◌, ◌^◌, List, [], ◌∷◌, ◌++◌, length, map, sym, ap, ◌∙◌, arith}
-use Rattle.std.proofs.lemmas.List.Sums.{sum_by-cons}
+use Rattle.std.proofs.Common.{◌≡◌, ℕ, ◌+◌, ◌<◌, ◌≤◌, ◌^◌, List, [], ◌∷◌, ◌++◌, length, map, refl, sym, ap, ◌∙◌, arith}
+use Rattle.std.specs.Prelude.{slice_set, sum_by}
+use Rattle.std.proofs.lemmas.List.Sums.{sum_by-cons, sum_by-set}
 use Rattle.std.proofs.lemmas.List.{length-append, length-set, length-map}
 use Rattle.dmc_types.specs.Values.{Params}
 use Rattle.dmc_types.specs.declared.ids.ServerId.{ServerId}
@@ -12,11 +13,11 @@ use Rattle.dmc_tracker.specs.declared.event.TrackerEvent.{TrackerEvent}
 use Rattle.dmc_tracker.specs.declared.event.TrackerEvent.TheVariants.{Stamp, Response}
 use Rattle.dmc_tracker.specs.TrackerList.{completed_by, plus, completions, sent, pending, IsTracked}
 use Rattle.dmc_tracker.specs.Numbers.{ServerNumbers, Stands, next_params, grown, servers_grown}
-use Rattle.dmc_tracker.proofs.ForCallers.{Stands-stamp, Stands-response, next_params-stands, IsTracked-stamp, IsTracked-response, sums-all, sums-others, completions-by_server, stamps-le-length}
+use Rattle.dmc_tracker.proofs.ForCallers.{completions-stamp, completions-response, Stands-stamp, Stands-response, next_params-stands, IsTracked-stamp, IsTracked-response, sums-all, sums-others, completions-by_server, stamps-le-length}
 use Rattle.dmc_ledger.specs.Accounts.{total_of}
-use Rattle.dmc_ledger.specs.Bundles.{StampAccounts}
-use Rattle.dmc_tlock.specs.BookState.{BookState, desk_at}
-use Rattle.dmc_tlock.specs.Consistent.{due, IsBalanced, IsDesk, IsConsistent}
+use Rattle.dmc_ledger.specs.Bundles.{ServerSide, StampAccounts}
+use Rattle.dmc_tlock.specs.BookState.{BookState, no_side, desk_at}
+use Rattle.dmc_tlock.specs.Consistent.{due, responded, IsBalanced, IsDesk, IsConsistent}
 use Rattle.dmc_tlock.specs.Entries.{side_after_stamp, side_after_response, book_after_stamp, book_after_response}
 use Rattle.dmc_tlock.proofs.DeskLemmas.{IsDesk-stamp_same, IsDesk-stamp_other, IsDesk-response_same, IsDesk-response_other, at_set}
 
@@ -31,6 +32,22 @@ pub balanced : (b : BookState) → Stands b.tracker b.events → IsTracked b.tra
 balanced b stands tracked servers = λ s within.
     let inside : s.0 < length b.tracker.servers = omega (arith, servers) in
     rw (stands.each s inside) (sum_due b.tracker.counting s b.events tracked)
+
+-- the responses of all desks, after a write at one
+responded_set : (desks : List ServerSide) (s : ServerId) (desk : ServerSide) (n : ℕ) → s.0 < length desks
+    → responded desk ≡ responded (desk_at desks s) + n → sum_by responded (slice_set desks s.0 desk) ≡ sum_by responded desks + n
+responded_set desks s desk n within more =
+    let sums = sum_by-set responded desks s.0 desk no_side within in
+    omega (arith, sums, more)
+
+one_response : (phase : PhaseType) (desk : ServerSide) → responded (side_after_response phase desk) ≡ responded desk + 1
+one_response Reservation desk = omega arith
+one_response Priority desk = omega arith
+
+one_completed : (s : ServerId) (phase : PhaseType) (events : List TrackerEvent)
+    → (completions (events ++ Response s phase ∷ [])).delta ≡ (completions events).delta + 1
+one_completed s Reservation events = ap (λ (x : Params). x.delta) (completions-response events s Reservation)
+one_completed s Priority events = ap (λ (x : Params). x.delta) (completions-response events s Priority)
 
 pub IsConsistent-stamp : (b : BookState) (s : ServerId) → s.0 < length b.desks → length b.events < b.most_events → IsConsistent b
     → IsConsistent (book_after_stamp s b)
@@ -49,6 +66,10 @@ IsConsistent-stamp b s within room h =
           (IsDesk-stamp_same b.client b.events s params (desk_at b.desks s) (h.desks s within))
           (IsDesk-stamp_other b.client b.events s params);
       servers = servers;
+      completed =
+          let kept = ap (λ (x : Params). x.delta) (completions-stamp b.events s params) in
+          let sums = responded_set b.desks s (side_after_stamp params (desk_at b.desks s)) 0 within (omega arith) in
+          omega (arith, kept, sums, h.completed);
       within = omega (arith, length-append b.events (Stamp s params ∷ []));
       limit = h.limit;
     }
@@ -73,6 +94,10 @@ IsConsistent-response b s phase within room h =
           (IsDesk-response_same b.client b.events s phase (desk_at b.desks s) (h.desks s within))
           (IsDesk-response_other b.client b.events s phase);
       servers = servers;
+      completed =
+          let more = one_completed s phase b.events in
+          let sums = responded_set b.desks s (side_after_response phase (desk_at b.desks s)) 1 within (one_response phase (desk_at b.desks s)) in
+          omega (arith, more, sums, h.completed);
       within = omega (arith, length-append b.events (Response s phase ∷ []));
       limit = h.limit;
     }

@@ -1,5 +1,7 @@
 -- A new tracker book is consistent.
-use Rattle.std.proofs.Common.{◌≡◌, ℕ, ◌<◌, ◌≤◌, ◌^◌, List, [], ◌∷◌, ◌++◌, length, map, take, get_or, refl, sym, ap, ◌∙◌, subst, arith}
+use Rattle.std.proofs.Common.{◌≡◌, ℕ, ◌<◌, ◌≤◌, ◌^◌, List, [], ◌∷◌, ◌++◌, length, map, take, get_or, zero, suc, refl, sym, ap, ◌∙◌, subst, arith, ◌+◌}
+use Rattle.std.specs.Prelude.{sum_by}
+use Rattle.std.proofs.lemmas.List.Sums.{sum_by-cons}
 use Rattle.std.proofs.lemmas.List.{get_or-map, length-map, length-replicate}
 use Rattle.dmc_types.specs.declared.ids.ServerId.{ServerId}
 use Rattle.dmc_types.specs.declared.config.Counting.{Counting}
@@ -7,7 +9,7 @@ use Rattle.dmc_tracker.specs.Numbers.{no_numbers, new_numbers, Stands}
 use Rattle.dmc_tracker.proofs.ForCallers.{IsTracked-nil}
 use Rattle.dmc_ledger.specs.Bundles.{ServerSide, new_server_side}
 use Rattle.dmc_tlock.specs.BookState.{no_side, desk_at}
-use Rattle.dmc_tlock.specs.Consistent.{IsDesk, IsConsistent}
+use Rattle.dmc_tlock.specs.Consistent.{responded, IsDesk, IsConsistent}
 use Rattle.dmc_tlock.specs.Opening.{AreNew, IsOneTill, side_after_opening, new_book_state}
 use Rattle.dmc_tlock.proofs.ConsistentLemmas.{balanced}
 
@@ -29,6 +31,13 @@ opened_desk client s n = record {
   held = record { reservation = refl; priority = refl };
 }
 
+none_responded : (desks : List ServerSide) → ((k : ℕ) → k < length desks → responded (get_or desks k no_side) ≡ 0) → sum_by responded desks ≡ 0
+none_responded [] none = refl
+none_responded (d ∷ ds) none =
+    let rest = none_responded ds (λ k within. none (suc k) (omega (arith, within))) in
+    let first = none zero (omega arith) in
+    omega (arith, sum_by-cons responded d ds, first, rest)
+
 pub IsConsistent-new : (client : ℕ) (counting : Counting) (most most_events : ℕ) (desks : List ServerSide) → AreNew client desks
     → Stands (new_numbers counting most (length desks)) [] → most_events ≤ 2 ^ 30
     → IsConsistent (new_book_state client counting most most_events desks)
@@ -47,6 +56,11 @@ IsConsistent-new client counting most most_events desks new stands limit =
           let at : desk_at opened s ≡ side_after_opening (desk_at desks s) = get_or-map side_after_opening desks s.0 no_side no_side inside in
           subst (IsDesk client [] s) (sym (at ∙ ap side_after_opening made.1)) (opened_desk client s made.0);
       servers = servers;
+      completed = sym (none_responded opened (λ k within.
+          let inside : k < length desks = omega (arith, length-map desks side_after_opening) in
+          let made = new (record { 0 = k }) inside in
+          let at : desk_at opened (record { 0 = k }) ≡ side_after_opening (desk_at desks (record { 0 = k })) = get_or-map side_after_opening desks k no_side no_side inside in
+          ap responded (at ∙ ap side_after_opening made.1)));
       within = omega arith;
       limit = limit;
     }

@@ -1,5 +1,5 @@
 -- What holds of every tracker book: the invariant of its type.
-use Rattle.std.specs.Prelude.{◌≡◌, ℕ, ◌<◌, ◌≤◌, ◌^◌, List, length}
+use Rattle.std.specs.Prelude.{◌≡◌, ℕ, ◌+◌, ◌<◌, ◌≤◌, ◌^◌, List, length, sum_by}
 use Rattle.dmc_types.specs.Values.{Params}
 use Rattle.dmc_types.specs.declared.ids.ServerId.{ServerId}
 use Rattle.dmc_types.specs.declared.config.Counting.{Counting}
@@ -48,13 +48,18 @@ pub record IsDesk (client : ℕ) (events : List TrackerEvent) (s : ServerId) (de
   pub books : AreStampBooks events s desk.books
   pub held : AreGrantTills events s desk.held
 
--- the two sums; each stamp of the list carries what the list demands; the tracker's numbers are those of the list; and
--- the desk of each server
+-- the responses that a desk holds, of both phases
+abbrev pub responded : ServerSide → ℕ
+responded desk = desk.held.reservation.amount + desk.held.priority.amount
+
+-- the two sums; each stamp of the list carries what the list demands; the tracker's numbers are those of the list; the desk
+-- of each server; and the desks hold all completions, so each response is of a server that has a desk
 pub record IsConsistent (b : BookState) : Type 0 where
   pub balanced : IsBalanced b
   pub tracked : IsTracked b.tracker.counting b.events
   pub stands : Stands b.tracker b.events
   pub desks : (s : ServerId) → s.0 < length b.desks → IsDesk b.client b.events s (desk_at b.desks s)
   pub servers : length b.desks ≡ length b.tracker.servers
+  pub completed : (completions b.events).delta ≡ sum_by responded b.desks
   pub within : length b.events ≤ b.most_events
   pub limit : b.most_events ≤ 2 ^ 30

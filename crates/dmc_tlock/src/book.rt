@@ -1,5 +1,5 @@
 //! The tracker book.
-ghost use Rattle.std.specs.Prelude.{◌≡◌, ◌<◌, ◌≤◌, ◌↔◌, [], length, map, IfOk, IfErr, OnOk, OnErr, IsOk, IsErrAnd, IsErrOf};
+ghost use Rattle.std.specs.Prelude.{◌≡◌, ◌<◌, ◌≤◌, ◌↔◌, [], length, map, IfOk, IfErr, OnOk, OnErr, IsOk, IsErrAnd, IsErrOf, IsTrue};
 ghost use Rattle.dmc_types.specs.declared.ids.ServerId.{ServerId};
 ghost use Rattle.dmc_tracker.specs.Numbers.{IsSentFull, next_params};
 ghost use Rattle.dmc_ledger.specs.Bundles.{stamp_holdings, server_side};
@@ -271,9 +271,23 @@ impl<S: Setup> TrackerBook<S> {
     }
 
     /// Whose book it is.
-    pub(crate) fn client(&self) -> ClientId
+    pub fn client(&self) -> ClientId
         ensures { result.0 ≡ self.now.client }
     {
         self.client
+    }
+
+    /// Its desk for each server, in their order.
+    pub fn desks(&self) -> &[ServerDesk<S>]
+        ensures { map server_side result.now ≡ self.now.desks }
+    {
+        &self.desks
+    }
+
+    /// Whether the pass is its own: `settle` takes it then.
+    pub fn owns(&self, pass: &ClientPass<S>) -> bool
+        ensures { IsTrue result ↔ IsOwn pass.now self.now.desks }
+    {
+        is_own(&self.desks, &pass.tills)
     }
 }

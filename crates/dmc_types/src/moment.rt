@@ -61,3 +61,20 @@ impl Moment {
         self.ticks
     }
 }
+
+/// The moment of so many ticks, as a `Future` tells them; refused `Moment` past 2^62.
+impl TryFrom<u128> for Moment {
+    ghost use Rattle.std.specs.Prelude.{◌≡◌, ◌≤◌, ◌<◌, ◌^◌, Ok, Err};
+    ghost use Rattle.dmc_types.specs.declared.refusal.ValueFault.{ValueFault};
+
+    type Error = ValueFault;
+
+    ghost try_from_gives = { λ ticks moment. (ticks ≤ 2 ^ 62 → moment ≡ Ok ticks) × (2 ^ 62 < ticks → moment ≡ Err ValueFault.Moment) };
+
+    fn try_from(ticks: u128) -> Result<Moment, ValueFault> {
+        match u64::try_from(ticks) {
+            Ok(ticks) => Moment::new(ticks),
+            Err(_) => Err(ValueFault::Moment),
+        }
+    }
+}

@@ -1,6 +1,8 @@
 //! dmClock for storage back ends: what a back end uses, in one crate. It has no code of its own.
 #![tactic(auto)]
 
+pub mod locks;
+
 pub use dmc_check::check::{Verdict, check};
 use dmc_heap::indexed_heap::HeapIndexes;
 pub use dmc_history::{History, LimitFault, ReserveFault};

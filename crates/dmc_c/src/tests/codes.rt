@@ -5,10 +5,10 @@ use crate::queue::{
     dmc_queue_add, dmc_queue_clean, dmc_queue_counts, dmc_queue_free, dmc_queue_new,
     dmc_queue_pull, dmc_queue_register, dmc_queue_remove, dmc_queue_update,
 };
-use crate::tests::run::{Line, RATIOS, TICKS, no_pull, no_tags, replies};
+use crate::tests::run::{Line, RATIOS, TICKS, no_pull, no_tags, not_memory, replies};
 use crate::tracker::{dmc_tracker_new, dmc_tracker_respond};
 use Line::{Add, Clean, Client, Pull, Update};
-use std::alloc::Global;
+use std::alloc::{AllocError, Global};
 use std::test::Fail;
 
 /// Each call at a handle that holds no queue.
@@ -43,7 +43,8 @@ fn held_or_not(rt: HostRuntime) -> Result<(), Fail> {
     assert_eq!(rt; before, [2; 7]);
     assert_eq!(rt; after, [2; 7]);
     assert_eq!(rt; confused, [2; 7]);
-    assert_eq!(rt; [made, again, no_tracker, tracker], [0, 3, 2, 0]);
+    let codes = [not_memory(made)?, again, no_tracker, not_memory(tracker)?];
+    assert_eq!(rt; codes, [0, 3, 2, 0]);
     Ok(())
 }
 
@@ -126,15 +127,15 @@ fn memory_code(rt: HostRuntime) -> Result<(), Fail> {
 }
 
 /// Fills a queue with clients and requests, and answers the codes of one more of each, then the counts.
-fn fill_queue(queue: &mut Handle, alloc: Global) -> [u32; 8] {
+fn fill_queue(queue: &mut Handle, alloc: Global) -> Result<[u32; 8], AllocError> {
     let mut tags = no_tags();
-    let mut wrong = dmc_queue_new(queue, 0, 1000, 1, 1, 0, alloc);
+    let mut wrong = not_memory(dmc_queue_new(queue, 0, 1000, 1, 1, 0, alloc))?;
     for client in 0..65_536 {
-        wrong |= dmc_queue_register(queue, client, 0, 1, 0, 0, alloc);
+        wrong |= not_memory(dmc_queue_register(queue, client, 0, 1, 0, 0, alloc))?;
     }
     let clients_full = dmc_queue_register(queue, 65_536, 0, 1, 0, 0, alloc);
     for token in 0..1_048_576 {
-        wrong |= dmc_queue_add(queue, 0, token, 0, 0, 0, &mut tags, alloc);
+        wrong |= not_memory(dmc_queue_add(queue, 0, token, 0, 0, 0, &mut tags, alloc))?;
     }
     let queue_full = dmc_queue_add(queue, 0, 0, 0, 0, 0, &mut tags, alloc);
     let (mut clients, mut requests) = (9, 9);
@@ -142,7 +143,7 @@ fn fill_queue(queue: &mut Handle, alloc: Global) -> [u32; 8] {
     let mut pulled = no_pull();
     let pull = dmc_queue_pull(queue, 0, &mut pulled, alloc);
     let accepted = dmc_queue_add(queue, 0, 0, 0, 0, 0, &mut tags, alloc);
-    [
+    Ok([
         wrong,
         clients_full,
         queue_full,
@@ -151,7 +152,7 @@ fn fill_queue(queue: &mut Handle, alloc: Global) -> [u32; 8] {
         requests,
         pull,
         accepted,
-    ]
+    ])
 }
 
 #[test]
@@ -159,6 +160,7 @@ fn queue_limits(rt: HostRuntime) -> Result<(), Fail> {
     let mut queue = Handle::none();
     let codes = fill_queue(&mut queue, rt.alloc());
     queue.end(rt.alloc());
+    let codes = codes?;
     assert_eq!(rt; codes, [0, 25, 26, 0, 65_536, 1_048_576, 0, 0]);
     Ok(())
 }

@@ -95,7 +95,7 @@ fn run_all(
         setting.limit,
         alloc,
     );
-    if code != 0 {
+    if not_memory(code)? != 0 {
         return format!(in alloc; "code {code}");
     }
     let mut told = String::new(alloc);
@@ -157,12 +157,20 @@ fn run_line(queue: &mut Handle, line: Line, alloc: Global) -> Result<String, All
     }
 }
 
+/// The code, unless it says that an allocation failed.
+pub fn not_memory(code: u32) -> Result<u32, AllocError> {
+    if code == 1 {
+        return Err(AllocError);
+    }
+    Ok(code)
+}
+
 /// The word of an accepted command, or the code.
 fn coded(code: u32, word: &str, alloc: Global) -> Result<String, AllocError> {
-    if code == 0 {
-        return format!(in alloc; "{word}");
+    match not_memory(code)? {
+        0 => format!(in alloc; "{word}"),
+        code => format!(in alloc; "code {code}"),
     }
-    format!(in alloc; "code {code}")
 }
 
 /// A tag of these tests, which is not below 0.

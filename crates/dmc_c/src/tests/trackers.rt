@@ -1,6 +1,7 @@
 //! The worked examples of trackers, through the exports.
 use crate::handle::Handle;
 use crate::telling::{DmcStamp, DmcTrack};
+use crate::tests::run::not_memory;
 use crate::tracker::{
     dmc_tracker_free, dmc_tracker_new, dmc_tracker_respond, dmc_tracker_stamp, dmc_tracker_status,
 };
@@ -65,6 +66,7 @@ fn three_stamps(
 #[test]
 fn two_server_tracker(rt: HostRuntime) -> Result<(), Fail> {
     let (codes, stamps, told) = three_stamps(0, rt.alloc());
+    not_memory(codes[0])?;
     assert_eq!(rt; codes, [0, 0, 0]);
     assert_eq!(rt; stamps, [(0, 0, 0), (0, 1, 1), (0, 2, 1)]);
     assert_eq!(rt; told[0], (0, [2, 1, 0, 0, 2, 1]));
@@ -85,11 +87,13 @@ fn two_of_one(alloc: Global) -> (u32, [(u32, u32, u32); 2]) {
 #[test]
 fn others_tracker(rt: HostRuntime) -> Result<(), Fail> {
     let (codes, stamps, told) = three_stamps(1, rt.alloc());
+    not_memory(codes[0])?;
     assert_eq!(rt; codes, [0, 0, 0]);
     assert_eq!(rt; stamps, [(0, 1, 1), (0, 2, 2), (0, 2, 1)]);
     assert_eq!(rt; told[0], (0, [3, 2, 0, 0, 2, 1]));
     assert_eq!(rt; told[1], (0, [2, 2, 0, 0, 2, 1]));
-    assert_eq!(rt; two_of_one(rt.alloc()), (0, [(0, 1, 1), (31, 9, 9)]));
+    let (made, stamps) = two_of_one(rt.alloc());
+    assert_eq!(rt; (not_memory(made)?, stamps), (0, [(0, 1, 1), (31, 9, 9)]));
     Ok(())
 }
 
@@ -114,7 +118,9 @@ fn refusals(alloc: Global) -> [u32; 9] {
 
 #[test]
 fn tracker_limits(rt: HostRuntime) -> Result<(), Fail> {
-    assert_eq!(rt; refusals(rt.alloc()), [0, 3, 30, 30, 14, 30, 0, 31, 2]);
+    let codes = refusals(rt.alloc());
+    not_memory(codes[0])?;
+    assert_eq!(rt; codes, [0, 3, 30, 30, 14, 30, 0, 31, 2]);
     let mut tracker = Handle::none();
     let codes = [
         dmc_tracker_new(&mut tracker, 65, 1, 0, rt.alloc()),

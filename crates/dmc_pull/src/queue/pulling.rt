@@ -144,6 +144,7 @@ impl<T: Tag, I: Indexes<T>> PullQueue<T, I> {
     }
 
     /// Grants the first request of a client in the weight phase, where the test allows it.
+    #[inline(always)]
     fn grant_priority<A: GrantTest>(
         &mut self,
         key: usize,

@@ -6,4 +6,4 @@ use Rattle.dmc_adjust.proofs.reduction.can_reduce.Goals as goal
 pub returns-in-Some-clause-tests : goal.returns-in-Some-clause-tests
 returns-in-Some-clause-tests g c = λ id.
     let spacing : c.args.rec.now.spacings.r ≡ Some c.in-Some.amount = search rules in
-    rw spacing (c.has_less_reservations.ensures ∙ reduction_tests g.T.Tag.ops c.in-Some.amount id (popped c.args.rec.now))
+    rw spacing (c.others_have_less_reservations.ensures ∙ reduction_tests g.T.Tag.ops c.in-Some.amount id (popped c.args.rec.now))

@@ -8,7 +8,7 @@ pub invariant_of-self-2 : goal.invariant_of-self-2
 invariant_of-self-2 g c =
     let ops = g.T.Tag.ops in
     let order = tag_order g.T.Ord.cmp ops.compare g.met.T.Ord.total g.met.T.Tag.compares in
-    let items : c.push_back.new.self.items ≡ c.self.inside.queue.items ++ c.args.request ∷ [] = search rules in
+    let items : c.push.new.self ≡ c.self.inside.queue ++ c.args.request ∷ [] = search rules in
     let next : AreNext ops c.self.inside.info c.self.inside.previous c.args.request.tags = subst (λ rec. AreNext ops rec.info rec.previous c.args.request.tags) (sym c.self.view_is) c.requires in
     rw (items, c.previous_after-self-inside.ensures) (pushed_record ops order _ c.args.request c.args.at c.self.invariant next)
 

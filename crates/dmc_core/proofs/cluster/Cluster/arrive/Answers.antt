@@ -38,7 +38,7 @@ invariant_of-self g c =
     let servers = c.self.inside.servers.items in
     let x = c.index_mut.result.now in
     let within : c.args.server.0 < length servers = simp length-map at (rw (← c.self.view_is) at c.in_ok-place.ensures.server) in
-    server_kept c.self.inside.ids.keys c.self.inside.clients.items servers c.self.invariant c.args.server.0 x c.add.new.self
+    server_kept c.self.inside.ids c.self.inside.clients.items servers c.self.invariant c.args.server.0 x c.add.new.self
     (slice_get_read servers (length servers) c.args.server.0 x refl within c.index_mut.ensures.value) c.add.ensures.full
 
 pub returns-in_err-reply : goal.returns-in_err-reply
@@ -67,9 +67,9 @@ invariant_of-self-in-Tagged g c =
     let h = c.index_mut-in-Tagged.result.now in
     let within : c.args.server.0 < length servers = simp length-map at (rw (← c.self.view_is) at c.in_ok-place.ensures.server) in
     let inside : c.in_ok-place.place < length hs = rw (← c.self.view_is) at c.in_ok-place.ensures.within in
-    let kept = server_kept c.self.inside.ids.keys hs servers c.self.invariant c.args.server.0 x c.add.new.self
+    let kept = server_kept c.self.inside.ids hs servers c.self.invariant c.args.server.0 x c.add.new.self
     (slice_get_read servers (length servers) c.args.server.0 x refl within c.index_mut.ensures.value) c.add.ensures.full in
-    client_kept c.self.inside.ids.keys hs _ kept c.in_ok-place.place h c.take_oldest.new.self
+    client_kept c.self.inside.ids hs _ kept c.in_ok-place.place h c.take_oldest.new.self
     (slice_get_read hs (length hs) c.in_ok-place.place h refl inside c.index_mut-in-Tagged.ensures.value)
     (ap (λ (y : Held). y.id) c.take_oldest.ensures) (rw c.take_oldest.ensures (flight_keeps_grants h.pairs c.args.server _))
 
@@ -78,7 +78,7 @@ invariant_of-self-in_default-reply g c =
     let servers = c.self.inside.servers.items in
     let x = c.index_mut.result.now in
     let within : c.args.server.0 < length servers = simp length-map at (rw (← c.self.view_is) at c.in_ok-place.ensures.server) in
-    server_kept c.self.inside.ids.keys c.self.inside.clients.items servers c.self.invariant c.args.server.0 x c.add.new.self
+    server_kept c.self.inside.ids c.self.inside.clients.items servers c.self.invariant c.args.server.0 x c.add.new.self
     (slice_get_read servers (length servers) c.args.server.0 x refl within c.index_mut.ensures.value) c.add.ensures.full
 
 pub returns : goal.returns

@@ -24,7 +24,7 @@ invariant_of-self g c =
     let servers = c.self.inside.servers.items in
     let x = c.index_mut.result.now in
     let within : c.in_ok-index.index < length servers = simp length-map at (rw (← c.self.view_is) at c.in_ok-index.ensures.ok.1) in
-    server_kept c.self.inside.ids.keys c.self.inside.clients.items servers c.self.invariant c.in_ok-index.index x c.clean.new.self
+    server_kept c.self.inside.ids c.self.inside.clients.items servers c.self.invariant c.in_ok-index.index x c.clean.new.self
     (slice_get_read servers (length servers) c.in_ok-index.index x refl within c.index_mut.ensures.value) c.clean.ensures.full
 
 pub returns : goal.returns

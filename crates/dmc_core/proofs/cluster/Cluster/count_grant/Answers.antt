@@ -36,12 +36,12 @@ invariant_of-self g c =
     let within : s.0 < length servers = simp length-map at (rw (← c.self.view_is) at c.requires.within) in
     let inside : i < length hs = rw (← c.self.view_is) at c.in-Ok.ensures.within in
     let none : full_counts s hs ≡ 0 = rw (← c.self.view_is) at c.requires.room in
-    let knows = known c.self.inside.ids.keys hs servers c.self.invariant s x (slice_get_read servers (length servers) s.0 x refl within c.index_mut-then-count.ensures.value) in
+    let knows = known c.self.inside.ids hs servers c.self.invariant s x (slice_get_read servers (length servers) s.0 x refl within c.index_mut-then-count.ensures.value) in
     let at = slice_get_read hs (length hs) i h refl inside c.index_mut.ensures.value in
     let part = full_counts-part s hs i h at in
     let one = one_if_full-part phase (pair_at s h.pairs) in
     let full : one_if_full (grants phase (pair_at s h.pairs) + 1) ≡ 1 = ap one_if_full (sym c.add_grant-count.ensures.count ∙ c.if-count.true) in
-    count_changed c.self.inside.ids.keys hs servers c.self.invariant i h c.add_grant-count.new.self at (ap (λ (z : Held). z.id) c.add_grant-count.ensures.pairs) s phase (grants phase (pair_at s h.pairs) + 1)
+    count_changed c.self.inside.ids hs servers c.self.invariant i h c.add_grant-count.new.self at (ap (λ (z : Held). z.id) c.add_grant-count.ensures.pairs) s phase (grants phase (pair_at s h.pairs) + 1)
     (ap (λ (z : Held). z.pairs) c.add_grant-count.ensures.pairs) within y (omega arith)
 
 pub invariant_of-self-else-count : goal.invariant_of-self-else-count
@@ -59,7 +59,7 @@ invariant_of-self-else-count g c =
     let part = full_counts-part s hs i h at in
     let one = one_if_full-part phase (pair_at s h.pairs) in
     let not_full = full_not (grants phase (pair_at s h.pairs) + 1) (λ e. c.if-count.false (c.add_grant-count.ensures.count ∙ e)) in
-    count_kept c.self.inside.ids.keys hs servers c.self.invariant i h c.add_grant-count.new.self at (ap (λ (z : Held). z.id) c.add_grant-count.ensures.pairs) s phase (grants phase (pair_at s h.pairs) + 1)
+    count_kept c.self.inside.ids hs servers c.self.invariant i h c.add_grant-count.new.self at (ap (λ (z : Held). z.id) c.add_grant-count.ensures.pairs) s phase (grants phase (pair_at s h.pairs) + 1)
     (ap (λ (z : Held). z.pairs) c.add_grant-count.ensures.pairs) within (omega arith)
 
 pub returns-then-count-clause-servers : goal.returns-then-count-clause-servers

@@ -7,18 +7,18 @@ use Rattle.dmc_core.proofs.cluster.Cluster.place.Goals as goal
 
 pub returns-in_default-clause-value : goal.returns-in_default-clause-value
 returns-in_default-clause-value g c =
-    place_none c.args.client c.args.server c.args.self.now c.self.inside.ids.keys (c.self.invariant.named ∙ ap (λ (v : CoreValue g.row.Q.Denot). map (λ h. h.id) v.clients) c.self.view_is)
-    c.get_index_of.result c.get_index_of.ensures.index c.in_default.is
+    place_none c.args.client c.args.server c.args.self.now c.self.inside.ids (c.self.invariant.named ∙ ap (λ (v : CoreValue g.row.Q.Denot). map (λ h. h.id) v.clients) c.self.view_is)
+    c.place.result c.place.ensures.index c.in_default.is
 
 pub returns-then-server-len-clause-value : goal.returns-then-server-len-clause-value
 returns-then-server-len-clause-value g c =
-    place_past c.args.client c.args.server c.args.self.now c.self.inside.ids.keys (c.self.invariant.named ∙ ap (λ (v : CoreValue g.row.Q.Denot). map (λ h. h.id) v.clients) c.self.view_is)
-    c.get_index_of.result c.get_index_of.ensures.index c.in-Some.place c.in-Some.is (rw (← c.self.view_is) (simp length-map (omega arith)))
+    place_past c.args.client c.args.server c.args.self.now c.self.inside.ids (c.self.invariant.named ∙ ap (λ (v : CoreValue g.row.Q.Denot). map (λ h. h.id) v.clients) c.self.view_is)
+    c.place.result c.place.ensures.index c.in-Some.place c.in-Some.is (rw (← c.self.view_is) (simp length-map (omega arith)))
 
 pub returns-clause-value : goal.returns-clause-value
 returns-clause-value g c =
-    place_found c.args.client c.args.server c.args.self.now c.self.inside.ids.keys (c.self.invariant.named ∙ ap (λ (v : CoreValue g.row.Q.Denot). map (λ h. h.id) v.clients) c.self.view_is)
-    c.get_index_of.result c.get_index_of.ensures.index c.in-Some.place c.in-Some.is (rw (← c.self.view_is) (simp length-map (omega arith)))
+    place_found c.args.client c.args.server c.args.self.now c.self.inside.ids (c.self.invariant.named ∙ ap (λ (v : CoreValue g.row.Q.Denot). map (λ h. h.id) v.clients) c.self.view_is)
+    c.place.result c.place.ensures.index c.in-Some.place c.in-Some.is (rw (← c.self.view_is) (simp length-map (omega arith)))
 
 pub returns-clause-paired : goal.returns-clause-paired
 returns-clause-paired g c = rw (← c.self.view_is) (λ h at.

@@ -27,7 +27,7 @@ returns-then-index-gt0 g c =
     let x = c.index.result.now in
     let place : c.in_ok-index.index ≡ c.args.server.0 = c.in_ok-index.ensures.ok.0 in
     let within : c.args.server.0 < length (map (λ (z : CoreServer g.row.Q.Denot). z.queue) servers) = rw (place, ← c.self.view_is) at c.in_ok-index.ensures.ok.1 in
-    let knows = known c.self.inside.ids.keys c.self.inside.clients.items servers c.self.invariant c.args.server x
+    let knows = known c.self.inside.ids c.self.inside.clients.items servers c.self.invariant c.args.server x
     (slice_get_read servers (length servers) c.args.server.0 x refl (simp length-map at within) (rw place at c.index.ensures)) in
     rw (← c.self.view_is)
     (pull_full g.T.Tag.ops g.Q.Scheduler.state _ c.args.server c.args.at within (omega arith))
@@ -37,7 +37,7 @@ invariant_of-self g c =
     let servers = c.self.inside.servers.items in
     let x = c.index_mut.result.now in
     let within : c.in_ok-index.index < length servers = simp length-map at (rw (← c.self.view_is) at c.in_ok-index.ensures.ok.1) in
-    server_kept c.self.inside.ids.keys c.self.inside.clients.items servers c.self.invariant c.in_ok-index.index x c.pull-reply.new.self
+    server_kept c.self.inside.ids c.self.inside.clients.items servers c.self.invariant c.in_ok-index.index x c.pull-reply.new.self
     (slice_get_read servers (length servers) c.in_ok-index.index x refl within c.index_mut.ensures.value) c.pull-reply.ensures.full
 
 pub invariant_of-self-in_default : goal.invariant_of-self-in_default
@@ -45,7 +45,7 @@ invariant_of-self-in_default g c =
     let servers = c.self.inside.servers.items in
     let x = c.index_mut.result.now in
     let within : c.in_ok-index.index < length servers = simp length-map at (rw (← c.self.view_is) at c.in_ok-index.ensures.ok.1) in
-    server_kept c.self.inside.ids.keys c.self.inside.clients.items servers c.self.invariant c.in_ok-index.index x c.pull-reply.new.self
+    server_kept c.self.inside.ids c.self.inside.clients.items servers c.self.invariant c.in_ok-index.index x c.pull-reply.new.self
     (slice_get_read servers (length servers) c.in_ok-index.index x refl within c.index_mut.ensures.value) c.pull-reply.ensures.full
 
 pub returns : goal.returns
@@ -59,7 +59,7 @@ returns g c =
     let place : i ≡ s.0 = c.in_ok-index.ensures.ok.0 in
     let within : s.0 < length (map queue servers) = rw (place, ← c.self.view_is) at c.in_ok-index.ensures.ok.1 in
     let core : CoreValue g.row.Q.Denot = record { servers = map queue servers; clients = hs } in
-    let knows = known c.self.inside.ids.keys hs servers c.self.invariant s c.index.result.now
+    let knows = known c.self.inside.ids hs servers c.self.invariant s c.index.result.now
     (slice_get_read servers (length servers) s.0 c.index.result.now refl (simp length-map at within) (rw place at c.index.ensures)) in
     let none : full_counts s hs ≡ 0 = omega arith in
     let seen : (q : g.row.Q.Denot) → slice_get (map queue servers) s.0 ≡ Some q → x.queue ≡ q = λ q at.

@@ -48,7 +48,7 @@ overflow_sub-index_mut g c =
     let i = c.in_ok-place.place in
     let within : s.0 < length servers = simp length-map at (rw (← c.self.view_is) at c.in_ok-place.ensures.server) in
     let inside : i < length hs = rw (← c.self.view_is) at c.in_ok-place.ensures.within in
-    let knows = known c.self.inside.ids.keys hs servers c.self.invariant s x (slice_get_read servers (length servers) s.0 x refl within c.index_mut-then-is_full.ensures.value) in
+    let knows = known c.self.inside.ids hs servers c.self.invariant s x (slice_get_read servers (length servers) s.0 x refl within c.index_mut-then-is_full.ensures.value) in
     let part = full_counts-part s hs i h (slice_get_read hs (length hs) i h refl inside c.index.ensures) in
     let one = one_if_full-part c.args.phase (pair_at s h.pairs) in
     let full : one_if_full (grants c.args.phase (pair_at s h.pairs)) ≡ 1 = ap one_if_full (sym c.grants-is_full.ensures ∙ c.if-is_full.true) in
@@ -66,7 +66,7 @@ invariant_of-self-then-is_full g c =
     let y : CoreServer g.row.Q.Denot = record x { full = x.full - 1 } in
     let within : s.0 < length servers = simp length-map at (rw (← c.self.view_is) at c.in_ok-place.ensures.server) in
     let inside : i < length hs = rw (← c.self.view_is) at c.in_ok-place.ensures.within in
-    let knows = known c.self.inside.ids.keys hs servers c.self.invariant s x (slice_get_read servers (length servers) s.0 x refl within c.index_mut-then-is_full.ensures.value) in
+    let knows = known c.self.inside.ids hs servers c.self.invariant s x (slice_get_read servers (length servers) s.0 x refl within c.index_mut-then-is_full.ensures.value) in
     let same : c.index.result.now ≡ h = c.index.ensures ∙ get_or_from_slice_get hs i h c.index.result.now (slice_get_read hs (length hs) i h refl inside c.index_mut.ensures.value) in
     let count : grants phase (pair_at s h.pairs) ≡ most_grants = ap (λ (z : Held). grants phase (pair_at s z.pairs)) (sym same) ∙ sym c.grants-is_full.ensures ∙ c.if-is_full.true in
     let full : one_if_full (grants phase (pair_at s h.pairs)) ≡ 1 = ap one_if_full count in
@@ -74,7 +74,7 @@ invariant_of-self-then-is_full g c =
     let at = slice_get_read hs (length hs) i h refl inside c.index_mut.ensures.value in
     let part = full_counts-part s hs i h at in
     let one = one_if_full-part phase (pair_at s h.pairs) in
-    count_changed c.self.inside.ids.keys hs servers c.self.invariant i h c.respond.new.self at c.respond.ensures.id s phase (grants phase (pair_at s h.pairs) - 1)
+    count_changed c.self.inside.ids hs servers c.self.invariant i h c.respond.new.self at c.respond.ensures.id s phase (grants phase (pair_at s h.pairs) - 1)
     c.in_ok-reply.ensures.pairs within y (omega arith)
 
 pub invariant_of-self-else-is_full : goal.invariant_of-self-else-is_full
@@ -91,7 +91,7 @@ invariant_of-self-else-is_full g c =
     let count : c.grants-is_full.result ≡ grants phase (pair_at s h.pairs) = c.grants-is_full.ensures ∙ ap (λ (z : Held). grants phase (pair_at s z.pairs)) same in
     let not_full = full_not (grants phase (pair_at s h.pairs)) (λ e. c.if-is_full.false (count ∙ e)) in
     let less = full_gone (grants phase (pair_at s h.pairs)) c.in_ok-reply.ensures.some (omega arith) in
-    count_kept c.self.inside.ids.keys hs servers c.self.invariant i h c.respond.new.self (slice_get_read hs (length hs) i h refl inside c.index_mut.ensures.value) c.respond.ensures.id s phase (grants phase (pair_at s h.pairs) - 1)
+    count_kept c.self.inside.ids hs servers c.self.invariant i h c.respond.new.self (slice_get_read hs (length hs) i h refl inside c.index_mut.ensures.value) c.respond.ensures.id s phase (grants phase (pair_at s h.pairs) - 1)
     c.in_ok-reply.ensures.pairs within (not_full ∙ sym less)
 
 pub returns : goal.returns

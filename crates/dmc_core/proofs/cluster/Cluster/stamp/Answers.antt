@@ -25,7 +25,7 @@ invariant_of-self g c =
     let hs = c.self.inside.clients.items in
     let h = c.index_mut.result.now in
     let within : c.in_ok-place.place < length hs = rw (← c.self.view_is) at c.in_ok-place.ensures.within in
-    client_kept c.self.inside.ids.keys hs c.self.inside.servers.items c.self.invariant c.in_ok-place.place h c.stamp.new.self
+    client_kept c.self.inside.ids hs c.self.inside.servers.items c.self.invariant c.in_ok-place.place h c.stamp.new.self
     (slice_get_read hs (length hs) c.in_ok-place.place h refl within c.index_mut.ensures.value) c.stamp.ensures.id c.stamp.ensures.grants
 
 pub returns : goal.returns

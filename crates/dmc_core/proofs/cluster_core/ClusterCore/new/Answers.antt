@@ -10,7 +10,7 @@ pub of_parts-requires : goal.of_parts-requires
 of_parts-requires g c =
     let scene = c.args.scene.now in
     rw c.in_ok-clients.ensures
-    (opened_kept (λ x. state_of x.queue ≡ opening_state g.T.Tag.ops scene) scene.counting scene.servers scene.clients c.in_ok-ids.ids.keys c.in_ok-servers.servers.items
+    (opened_kept (λ x. state_of x.queue ≡ opening_state g.T.Tag.ops scene) scene.counting scene.servers scene.clients c.in_ok-ids.ids c.in_ok-servers.servers.items
     (c.in_ok-ids.ensures ∙ ap (map (λ (k : ClientValue). k.id)) c.clients.ensures.value) c.in_ok-servers.ensures.as_many c.in_ok-servers.ensures.each)
 
 pub returns : goal.returns

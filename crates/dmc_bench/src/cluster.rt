@@ -1,0 +1,275 @@
+//! A server's lock, and clients with a tracker each.
+ghost use Rattle.std.specs.Prelude.{◌≤◌, ◌<◌, ◌^◌, map, IfOk, IsTrue, OnOk};
+ghost use Rattle.std.specs.List.{AllByRecursion};
+ghost use Rattle.dmc_ledger.specs.Bundles.{Covers, client_side, server_side, stamp_holdings};
+ghost use Rattle.dmc_tlock.specs.Opening.{AreNew};
+ghost use Rattle.dmc_book.specs.Opening.{IsNewDesk};
+
+use crate::load::Fault;
+use crate::queues::HZ;
+use dmc_book::book::QueueBook;
+use dmc_book::pass::WorkerPass;
+use dmc_heap::indexed_heap::HeapIndexes;
+use dmc_ledger::bundle::StampTills;
+use dmc_ledger::desk::{ClientDesk, ServerDesk, open_pair};
+use dmc_ledger::mint::Mint;
+use dmc_ledger::setup::Setup;
+use dmc_qlock::lock::QueueLock;
+use dmc_tag::reply::Pulled;
+use dmc_tick::tick::TickTag;
+use dmc_tlock::book::TrackerBook;
+use dmc_tlock::pass::ClientPass;
+use dmc_tlock::stamp::Stamp;
+use dmc_types::command::Command;
+use dmc_types::config::{AtLimit, Counting, PhaseType, QueueConfig};
+use dmc_types::ids::{ClientId, ServerId, Token, WorkerId};
+use dmc_types::info::ClientInfo;
+use dmc_types::moment::Moment;
+use std::alloc::Global;
+use std::sync::Wait;
+
+/// The lock of a queue over heaps.
+pub type Lock<S> = QueueLock<TickTag, HeapIndexes, S>;
+
+/// The one server.
+const SERVER: ServerId = ServerId(0);
+
+/// The most clients, and the most workers.
+const MOST: u32 = 65_536;
+
+/// The most events of a book.
+const MOST_EVENTS: u32 = 1 << 30;
+
+/// A client's tracker of the server, its tills, and its next stamp.
+#[derive(Drop)]
+pub struct Client<S: Setup> {
+    id: ClientId,
+    tracker: TrackerBook<S>,
+    tills: ClientPass<S>,
+    stamp: Option<Stamp>,
+}
+
+/// The clients of a server, and their desks there.
+#[derive(Drop)]
+pub struct Clients<S: Setup> {
+    pub desks: Vec<ClientDesk<S>>,
+    pub clients: Vec<Client<S>>,
+}
+
+/// How many books the server's lock and its clients take: five for each client, and five for each worker.
+pub fn book_count(clients: u32, workers: u32) -> Result<u64, Fault>
+    ensures some { IfOk result (λ books. 0 < books) }
+    ensures limit { IfOk result (λ books. books ≤ 2 ^ 32) }
+{
+    if clients == 0 || clients > MOST || workers == 0 || workers > MOST {
+        return Err(Fault::Usage);
+    }
+    Ok(5 * (u64::from(clients) + u64::from(workers)))
+}
+
+/// The desks of a client and the server.
+fn open_desks<S: Setup>(
+    alloc: Global,
+    mint: &mut Mint<S>,
+    id: ClientId,
+) -> Result<(ClientDesk<S>, Vec<ServerDesk<S>>), Fault>
+    ensures desk { IfOk result (λ opened. IsNewDesk 0 (client_side opened.0)) }
+    ensures sides { IfOk result (λ opened. AreNew id.0 (map server_side opened.1.items)) }
+{
+    let Ok((desk, side)) = open_pair(mint, id, SERVER) else {
+        return Err(Fault::Usage);
+    };
+    match vec![in alloc; side] {
+        Ok(sides) => Ok((desk, sides)),
+        Err(_) => Err(Fault::Memory),
+    }
+}
+
+/// A client, and its desk.
+fn open_client<S: Setup>(
+    alloc: Global,
+    mint: &mut Mint<S>,
+    id: ClientId,
+) -> Result<(ClientDesk<S>, Client<S>), Fault>
+    ensures { IfOk result (λ opened. IsNewDesk 0 (client_side opened.0)) }
+{
+    let (desk, sides) = open_desks(alloc, mint, id)?;
+    match TrackerBook::new(alloc, id, sides, u32::MAX, MOST_EVENTS, Counting::All) {
+        Ok((tracker, tills)) => Ok((
+            desk,
+            Client {
+                id,
+                tracker,
+                tills,
+                stamp: None,
+            },
+        )),
+        Err(_) => Err(Fault::Memory),
+    }
+}
+
+/// One client more.
+fn push_client<S: Setup>(
+    alloc: Global,
+    mint: &mut Mint<S>,
+    id: ClientId,
+    desks: &mut Vec<ClientDesk<S>>,
+    clients: &mut Vec<Client<S>>,
+) -> Result<(), Fault>
+    ensures { OnOk result (AllByRecursion (IsNewDesk 0) (map client_side desks.old.items) → AllByRecursion (IsNewDesk 0) (map client_side desks.new.items)) }
+{
+    let (desk, client) = open_client(alloc, mint, id)?;
+    if desks.push(desk).is_err() || clients.push(client).is_err() {
+        return Err(Fault::Memory);
+    }
+    Ok(())
+}
+
+/// The clients 0, 1, and so on.
+pub fn open_clients<S: Setup>(
+    alloc: Global,
+    mint: &mut Mint<S>,
+    count: u32,
+) -> Result<Clients<S>, Fault>
+    ensures { IfOk result (λ opened. AllByRecursion (IsNewDesk 0) (map client_side opened.desks.items)) }
+{
+    let mut desks = Vec::new(alloc);
+    let mut clients = Vec::new(alloc);
+    for id in 0..count {
+        push_client(alloc, mint, ClientId(id), &mut desks, &mut clients)?;
+    }
+    Ok(Clients { desks, clients })
+}
+
+/// The workers 0, 1, and so on.
+fn workers(alloc: Global, count: u32) -> Result<Vec<WorkerId>, Fault> {
+    (0..count)
+        .map(|id| WorkerId(id))
+        .collect(alloc)
+        .map_err(|_| Fault::Memory)
+}
+
+/// The lock of a server with these desks, and the passes of its workers.
+pub fn open_lock<S: Setup>(
+    alloc: Global,
+    mint: &mut Mint<S>,
+    desks: Vec<ClientDesk<S>>,
+    count: u32,
+) -> Result<(Lock<S>, Vec<WorkerPass<S>>), Fault>
+    requires { AllByRecursion (IsNewDesk 0) (map client_side desks.items) }
+{
+    let config = QueueConfig::new(u64::from(HZ), 1, 1, AtLimit::Wait).map_err(|_| Fault::Usage)?;
+    let workers = workers(alloc, count)?;
+    if workers.len() > MOST as usize {
+        return Err(Fault::Usage);
+    }
+    match QueueBook::new(
+        alloc,
+        config,
+        SERVER,
+        workers.as_slice(),
+        desks,
+        mint,
+        MOST_EVENTS,
+    ) {
+        Ok((book, passes)) => Ok((QueueLock::new(book), passes)),
+        Err(_) => Err(Fault::Memory),
+    }
+}
+
+/// Registers the clients 0, 1, and so on.
+pub fn register_all<S: Setup, R: Wait>(
+    rt: &R,
+    lock: &Lock<S>,
+    pass: &mut WorkerPass<S>,
+    count: u32,
+) -> Result<(), Fault> {
+    let info = ClientInfo::new(None, 1, None).map_err(|_| Fault::Usage)?;
+    for id in 0..count {
+        let client = ClientId(id);
+        let at = Moment::zero();
+        if lock
+            .run(rt, pass, Command::Register { client, info, at })
+            .is_err()
+        {
+            return Err(Fault::Memory);
+        }
+    }
+    Ok(())
+}
+
+/// Makes a stamp for the server.
+fn next_stamp<S: Setup>(
+    tracker: &mut TrackerBook<S>,
+    tills: &mut ClientPass<S>,
+) -> Result<Stamp, Fault> {
+    let Some(tills) = tills.tills(SERVER) else {
+        return Err(Fault::Usage);
+    };
+    tracker.stamp(SERVER, tills).map_err(|_| Fault::Memory)
+}
+
+/// Makes a client's next stamp.
+pub fn stamp<S: Setup>(client: &mut Client<S>) -> Result<(), Fault> {
+    client.stamp = Some(next_stamp(&mut client.tracker, &mut client.tills)?);
+    Ok(())
+}
+
+/// Whether the tills hold what the stamp carries.
+fn covers<S: Setup>(tills: &StampTills<S>, stamp: &Stamp) -> bool
+    ensures { IsTrue result → Covers (stamp_holdings tills.now) stamp.now.params }
+{
+    tills.stamps.amount() > 0
+        && u64::from(stamp.params().delta()) <= tills.delta.amount()
+        && u64::from(stamp.params().rho()) <= tills.rho.amount()
+}
+
+/// Submits a client's request with its stamp.
+pub fn submit<S: Setup, R: Wait>(
+    rt: &R,
+    lock: &Lock<S>,
+    pass: &mut WorkerPass<S>,
+    client: &mut Client<S>,
+    at: Moment,
+) -> Result<(), Fault> {
+    let Some(stamp) = client.stamp.take() else {
+        return Err(Fault::Usage);
+    };
+    let Some(tills) = client.tills.tills(SERVER) else {
+        return Err(Fault::Usage);
+    };
+    if !covers(tills, &stamp) {
+        return Err(Fault::Usage);
+    }
+    match lock.submit(rt, pass, tills, stamp, Token(client.id.0), at) {
+        Ok(_) => Ok(()),
+        Err(_) => Err(Fault::Memory),
+    }
+}
+
+/// Whose request a pull grants, or `None` where it grants none.
+pub fn pull<S: Setup, R: Wait>(
+    rt: &R,
+    lock: &Lock<S>,
+    pass: &mut WorkerPass<S>,
+    at: Moment,
+) -> Option<ClientId> {
+    match lock.pull(rt, pass, at) {
+        Ok(Pulled::Returning { client, .. }) => Some(client),
+        _ => None,
+    }
+}
+
+/// The unit of a grant goes back to its client's tracker.
+pub fn respond<S: Setup>(pass: &mut WorkerPass<S>, client: &mut Client<S>) -> Result<(), Fault> {
+    let Some(till) = pass.grant_till(client.id, PhaseType::Priority) else {
+        return Err(Fault::Usage);
+    };
+    if till.amount() == 0 {
+        return Err(Fault::Usage);
+    }
+    client
+        .tracker
+        .respond(SERVER, PhaseType::Priority, till)
+        .map_err(|_| Fault::Memory)
+}

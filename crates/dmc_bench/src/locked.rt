@@ -1,0 +1,227 @@
+//! A queue behind its lock, which no other thread takes, and the same queue alone.
+ghost use Rattle.std.specs.Prelude.{◌≡◌};
+
+use crate::cluster::{
+    Client, Clients, Lock, open_clients, open_lock, pull, register_all, respond, stamp, submit,
+};
+use crate::load::{Fault, Load, mixed};
+use crate::queues::pull_all;
+use crate::watch::{add_since, start, tell};
+use dmc_book::pass::WorkerPass;
+use dmc_ledger::mint::Blank;
+use dmc_ledger::setup::Setup;
+use dmc_tag::scheduler::Scheduler;
+use dmc_tag::tag::Tag;
+use dmc_types::ids::{ClientId, Token};
+use dmc_types::info::ClientInfo;
+use dmc_types::moment::Moment;
+use dmc_types::params::ReqParams;
+use std::sync::Wait;
+
+/// What a load of batches has come to: the nanoseconds of its two parts, and its checksum.
+#[derive(Clone, Copy)]
+struct Taken {
+    submitting: u128,
+    pulling: u128,
+    checksum: u64,
+}
+
+const NOTHING: Taken = Taken {
+    submitting: 0,
+    pulling: 0,
+    checksum: 0,
+};
+
+/// How many batches the rounds are, each of a request of each client.
+fn batch_count(load: Load) -> u32 {
+    load.rounds.checked_div(load.clients).unwrap_or(0)
+}
+
+/// The moment of a batch: one tick after the one before.
+fn moment_of(batch: u32) -> Result<Moment, Fault> {
+    Moment::new(u64::from(batch)).map_err(|_| Fault::Usage)
+}
+
+/// Tells the two parts, and answers the checksum.
+fn tell_parts(rt: &HostRuntime, load: Load, taken: Taken) -> Result<u64, Fault> {
+    let calls = batch_count(load).saturating_mul(load.clients);
+    tell(rt, "submit", calls, taken.submitting)?;
+    tell(rt, "pull", calls, taken.pulling)?;
+    Ok(taken.checksum)
+}
+
+/// A checksum with the ids of these clients in it.
+fn mix_all(checksum: u64, granted: &[ClientId]) -> u64 {
+    let mut checksum = checksum;
+    for client in granted {
+        checksum = mixed(checksum, u64::from(client.0));
+    }
+    checksum
+}
+
+// ---- behind the lock
+
+/// In batches, each client stamps and submits a request, one worker pulls them all, and each unit goes back to its client's
+/// tracker. What is told is the time of the submits and of the pulls.
+pub fn serve_locked<S: Setup, R: Wait>(
+    rt: &HostRuntime,
+    waiter: &R,
+    load: Load,
+    blank: Blank,
+) -> Result<u64, Fault>
+    requires { blank.name ≡ S.name }
+{
+    let mut mint = blank.open::<S>();
+    let Clients { desks, mut clients } = open_clients(rt.alloc(), &mut mint, load.clients)?;
+    let (lock, mut passes) = open_lock(rt.alloc(), &mut mint, desks, 1)?;
+    let Some(mut pass) = passes.pop() else {
+        return Err(Fault::Usage);
+    };
+    let taken = serve_batches(rt, waiter, &lock, &mut pass, clients.as_mut_slice(), load)?;
+    tell_parts(rt, load, taken)
+}
+
+fn serve_batches<S: Setup, R: Wait>(
+    rt: &HostRuntime,
+    waiter: &R,
+    lock: &Lock<S>,
+    pass: &mut WorkerPass<S>,
+    clients: &mut [Client<S>],
+    load: Load,
+) -> Result<Taken, Fault> {
+    register_all(waiter, lock, pass, load.clients)?;
+    let mut granted = Vec::new(rt.alloc());
+    let mut taken = NOTHING;
+    for batch in 0..batch_count(load) {
+        let at = moment_of(batch)?;
+        taken = serve_batch(rt, waiter, lock, pass, clients, at, taken, &mut granted)?;
+        granted.clear();
+    }
+    Ok(taken)
+}
+
+/// One batch.
+fn serve_batch<S: Setup, R: Wait>(
+    rt: &HostRuntime,
+    waiter: &R,
+    lock: &Lock<S>,
+    pass: &mut WorkerPass<S>,
+    clients: &mut [Client<S>],
+    at: Moment,
+    taken: Taken,
+    granted: &mut Vec<ClientId>,
+) -> Result<Taken, Fault> {
+    stamp_each(clients)?;
+    let begun = start(rt)?;
+    submit_each(waiter, lock, pass, clients, at)?;
+    let submitting = add_since(rt, begun, taken.submitting)?;
+    let begun = start(rt)?;
+    pull_each(waiter, lock, pass, clients.len(), at, granted)?;
+    let pulling = add_since(rt, begun, taken.pulling)?;
+    respond_each(pass, clients)?;
+    Ok(Taken {
+        submitting,
+        pulling,
+        checksum: mix_all(taken.checksum, granted.as_slice()),
+    })
+}
+
+fn stamp_each<S: Setup>(clients: &mut [Client<S>]) -> Result<(), Fault> {
+    for client in clients.iter_mut() {
+        stamp(client)?;
+    }
+    Ok(())
+}
+
+#[inline(never)]
+fn submit_each<S: Setup, R: Wait>(
+    waiter: &R,
+    lock: &Lock<S>,
+    pass: &mut WorkerPass<S>,
+    clients: &mut [Client<S>],
+    at: Moment,
+) -> Result<(), Fault> {
+    for client in clients.iter_mut() {
+        submit(waiter, lock, pass, client, at)?;
+    }
+    Ok(())
+}
+
+/// Pulls so often, and notes whose requests were granted.
+#[inline(never)]
+fn pull_each<S: Setup, R: Wait>(
+    waiter: &R,
+    lock: &Lock<S>,
+    pass: &mut WorkerPass<S>,
+    count: usize,
+    at: Moment,
+    granted: &mut Vec<ClientId>,
+) -> Result<(), Fault> {
+    for _ in 0..count {
+        if let Some(client) = pull(waiter, lock, pass, at) {
+            granted.push(client).map_err(|_| Fault::Memory)?;
+        }
+    }
+    Ok(())
+}
+
+/// Each client was granted its request.
+fn respond_each<S: Setup>(
+    pass: &mut WorkerPass<S>,
+    clients: &mut [Client<S>],
+) -> Result<(), Fault> {
+    for client in clients.iter_mut() {
+        respond(pass, client)?;
+    }
+    Ok(())
+}
+
+// ---- alone
+
+/// The same batches of the queue alone, whose requests carry what the stamps carry: nothing at first, and then a delta of 1.
+pub fn serve_alone<T: Tag, Q: Scheduler<T>>(
+    rt: &HostRuntime,
+    queue: &mut Q,
+    load: Load,
+) -> Result<u64, Fault> {
+    register_alone(queue, load.clients)?;
+    let mut granted = Vec::new(rt.alloc());
+    let mut taken = NOTHING;
+    for batch in 0..batch_count(load) {
+        let begun = start(rt)?;
+        let at = moment_of(batch)?;
+        add_each(queue, load.clients, batch.min(1), at)?;
+        taken.submitting = add_since(rt, begun, taken.submitting)?;
+        let begun = start(rt)?;
+        pull_all(queue, load.clients, at, &mut granted)?;
+        taken.pulling = add_since(rt, begun, taken.pulling)?;
+        taken.checksum = mix_all(taken.checksum, granted.as_slice());
+        granted.clear();
+    }
+    tell_parts(rt, load, taken)
+}
+
+fn register_alone<T: Tag, Q: Scheduler<T>>(queue: &mut Q, count: u32) -> Result<(), Fault> {
+    let info = ClientInfo::new(None, 1, None).map_err(|_| Fault::Usage)?;
+    for id in 0..count {
+        let registered = queue.register(ClientId(id), info, Moment::zero());
+        registered.map_err(|_| Fault::Memory)?;
+    }
+    Ok(())
+}
+
+/// Queues a request of each client.
+#[inline(never)]
+fn add_each<T: Tag, Q: Scheduler<T>>(
+    queue: &mut Q,
+    count: u32,
+    delta: u32,
+    at: Moment,
+) -> Result<(), Fault> {
+    let params = ReqParams::new(delta, 0).map_err(|_| Fault::Usage)?;
+    for id in 0..count {
+        let added = queue.add_request(ClientId(id), Token(id), params, at);
+        added.map_err(|_| Fault::Memory)?;
+    }
+    Ok(())
+}

@@ -1,0 +1,118 @@
+-- What a command that is handed to the queue gives.
+use Rattle.std.proofs.Common.{◌≡◌, ℕ, Bool, true, true≢false, List, map, ap, ◌∙◌, refl, sym, subst, Some, Result, Ok, Err}
+use mathlib.Core.Path.{fun_ext}
+use Rattle.std.specs.Prelude.{⊤, Option, None, is_some}
+use Rattle.std.specs.Cmp.{IsTotalOrder}
+use Rattle.dmc_types.specs.declared.ids.ClientId.{ClientId}
+use Rattle.dmc_types.specs.declared.config.PhaseType.{PhaseType}
+use Rattle.dmc_types.specs.declared.refusal.Refusal.{Refusal}
+use Rattle.dmc_types.specs.declared.command.Command.{Command}
+use Rattle.dmc_types.specs.declared.command.Command.TheVariants.{Register, Update, Add, Pull, Remove, Clean}
+use Rattle.dmc_tag.specs.Tag.{Tagging}
+use Rattle.dmc_tag.specs.State.{State, StandsFor}
+use Rattle.dmc_tag.specs.Outcome.{◌>>=◌}
+use Rattle.dmc_tag.specs.Rules.{Outcome, can_register, can_update, can_add, can_remove}
+use Rattle.dmc_tag.specs.Step.{step, settled}
+use Rattle.dmc_tag.specs.Steps.{Steps}
+use Rattle.dmc_tag.specs.Answers.{pull_reply}
+use Rattle.dmc_tag.specs.declared.reply.Pulled.{Pulled}
+use Rattle.dmc_tag.specs.declared.reply.Reply.{Reply}
+use Rattle.dmc_tag.specs.declared.reply.Reply.TheVariants.{Registered, Updated, Tagged, Granted, Later, Nothing, Removed, Cleaned, Refused}
+use Rattle.dmc_tag.proofs.ForCallers.{steps_exactly, steps_agree}
+use Rattle.dmc_ledger.specs.Bundles.{ClientSide, GrantHoldings, client_side}
+use Rattle.dmc_ledger.specs.declared.desk.ClientDesk.{ClientDesk}
+use Rattle.dmc_pull.specs.Allowed.{is_allowed, PullsIf}
+use Rattle.dmc_pull.specs.declared.granting.PullFault.TheVariants as pull
+use Rattle.dmc_book.specs.declared.fault.RunFault.{RunFault}
+use Rattle.dmc_book.specs.declared.fault.RunFault.TheVariants as run
+use Rattle.dmc_book.specs.Calls.{Asks, Strays, reply_to}
+use Rattle.dmc_book.specs.BookState.{BookState}
+use Rattle.dmc_book.specs.Consistent.{HasDesk, IsConsistent}
+use Rattle.dmc_book.specs.Counts.{grant_in}
+use Rattle.dmc_tag.specs.Replay.{after}
+use Rattle.dmc_book.proofs.Counting.{consistent_memory, reply_after}
+use Rattle.dmc_book.specs.Moves.{desk_place, takes, takes_at, takes_by, place_of, same_place}
+use Rattle.dmc_book.proofs.DeskLemmas.{places_agree}
+
+-- the names of the desks ask as the desks do
+pub asks_by_desks : {T S : Type 0} (clients : List ClientId) (ds : List (ClientDesk S)) (names : List ClientId) (units : List GrantHoldings) → clients ≡ map (λ d. d.client) ds → (ops : Tagging T) (old new : State T) (command : Command) (answer : Result (Reply T) RunFault) → Asks ops (takes_by clients (map client_side ds) names units) old new command answer → Asks ops (takes (map client_side ds) names units) old new command answer
+asks_by_desks clients ds names units named ops old new command answer = subst (λ allows. Asks ops allows old new command answer) (fun_ext (λ client. fun_ext (λ phase. ap (λ o. takes_at phase (map client_side ds) units (same_place o (place_of client.0 names))) (places_agree client.0 clients ds named))))
+
+-- ---- a pull
+
+module _ {T : Type 0} (ops : Tagging T) (order : IsTotalOrder ops.compare) (allows : ClientId → PhaseType → Bool) (old new : State T) (at : ℕ) where
+  pub pull_answers : (pulled : Pulled) → PullsIf allows ops old new at (Ok pulled) → Asks ops allows old new (Pull at) (Ok (pull_reply pulled))
+  pull_answers pulled h = (steps_exactly ops order old new (Pull at) (Some (pull_reply pulled)) h.0, h.1, λ s. true≢false (sym h.1 ∙ s))
+
+  pub pull_refused : (refusal : Refusal) → PullsIf allows ops old new at (Err (pull.Refused refusal)) → Asks ops allows old new (Pull at) (Ok (Refused refusal))
+  pull_refused refusal h = (steps_exactly ops order old new (Pull at) (Some (Refused refusal)) h, refl, λ s. true≢false s)
+
+-- ---- a command that is no pull grants nothing
+
+module _ {T : Type 0} (ops : Tagging T) (allows : ClientId → PhaseType → Bool) (s : State T) where
+  abbrev Passes : Outcome T → Type 0
+  Passes o = is_allowed allows ((settled s o).1) ≡ true
+
+  after_test : {X : Type 0} (r : Result X Refusal) (f : X → Outcome T) → ((x : X) → Passes (f x)) → Passes (r >>= f)
+  after_test (Ok x) f h = h x
+  after_test (Err e) f h = refl
+
+  abbrev IsNoPull : Command → Type 0
+  IsNoPull (Register client info at) = ⊤
+  IsNoPull (Update client info at) = ⊤
+  IsNoPull (Add client token params at) = ⊤
+  IsNoPull (Pull at) = ⊥
+  IsNoPull (Remove client) = ⊤
+  IsNoPull (Clean at) = ⊤
+
+  passes : (command : Command) → IsNoPull command → is_allowed allows ((step ops s command).1) ≡ true
+  passes (Register client info at) other = after_test (can_register ops s client info) _ (λ x. refl)
+  passes (Update client info at) other = after_test (can_update ops s client info) _ (λ x. refl)
+  passes (Add client token params at) other = after_test (can_add ops s client params _) _ (λ x. refl)
+  passes (Pull at) other = absurd other
+  passes (Remove client) other = after_test (can_remove s client) _ (λ x. refl)
+  passes (Clean at) other = refl
+
+  -- what stands for itself
+  itself : StandsFor s s
+  itself = record { config = refl; requests = λ id. refl; clients = refl; last_moment = refl }
+
+  pub no_pull : (new : State T) (command : Command) (reply : Reply T) → ((at : ℕ) → command ≡ Pull at → ⊥) → Steps ops s new command (Some reply) → Asks ops allows s new command (Ok reply)
+  no_pull new (Register client info at) reply other steps = (steps, ap (is_allowed allows) (steps s itself).0 ∙ passes (Register client info at) tt, λ x. x)
+  no_pull new (Update client info at) reply other steps = (steps, ap (is_allowed allows) (steps s itself).0 ∙ passes (Update client info at) tt, λ x. x)
+  no_pull new (Add client token params at) reply other steps = (steps, ap (is_allowed allows) (steps s itself).0 ∙ passes (Add client token params at) tt, λ x. x)
+  no_pull new (Pull at) reply other steps = absurd (other at refl)
+  no_pull new (Remove client) reply other steps = (steps, ap (is_allowed allows) (steps s itself).0 ∙ passes (Remove client) tt, λ x. x)
+  no_pull new (Clean at) reply other steps = (steps, ap (is_allowed allows) (steps s itself).0 ∙ passes (Clean at) tt, λ x. x)
+
+-- ---- what a book keeps where nothing is answered
+
+module _ {T : Type 0} (ops : Tagging T) (order : IsTotalOrder ops.compare) (allows : ClientId → PhaseType → Bool) (q p : State T) (b : BookState T) (command : Command) (h : IsConsistent ops q b) where
+  pub consistent_unasked : (fault : RunFault) → Asks ops allows q p command (Err fault) → IsConsistent ops p b
+  consistent_unasked run.Stranger a = subst (λ s. IsConsistent ops s b) (sym a.0) h
+  consistent_unasked run.NoDesk a = absurd a
+  consistent_unasked run.HistoryFull a = absurd a
+  consistent_unasked run.Memory a = consistent_memory ops q p b command h a
+
+  pub strays_by_history : Asks ops allows q p command (Err run.Stranger) → Strays allows command (reply_to ops b command)
+  strays_by_history a = subst (Strays allows command) (steps_agree ops order q (after ops b.config b.history) command h.stands).0 a.1
+
+  pub granted_by_history : (reply : Reply T) → Asks ops allows q p command (Ok reply) → Strays allows command (reply_to ops b command) → ⊥
+  granted_by_history reply a s = a.2 (subst (Strays allows command) (sym (reply_after ops q p b command reply h a.0)) s)
+
+-- ---- who is granted has a desk
+
+has_place : (phase : PhaseType) (desks : List ClientSide) (units : List GrantHoldings) (here there : Option ℕ) → takes_at phase desks units (same_place here there) ≡ true → is_some here ≡ true
+has_place phase desks units None there h = absurd (true≢false (sym h))
+has_place phase desks units (Some i) there h = refl
+
+pub taken_has_desk : {T : Type 0} (desks : List ClientSide) (names : List ClientId) (units : List GrantHoldings) (reply : Reply T) → is_allowed (takes desks names units) reply ≡ true → HasDesk desks (grant_in reply)
+taken_has_desk desks names units Registered h = tt
+taken_has_desk desks names units Updated h = tt
+taken_has_desk desks names units (Tagged tags) h = tt
+taken_has_desk desks names units (Granted client token phase beyond) h = has_place phase desks units (desk_place client.0 desks) (place_of client.0 names) h
+taken_has_desk desks names units (Later m) h = tt
+taken_has_desk desks names units Nothing h = tt
+taken_has_desk desks names units (Removed count) h = tt
+taken_has_desk desks names units (Cleaned idled erased) h = tt
+taken_has_desk desks names units (Refused refusal) h = tt

@@ -1,0 +1,280 @@
+-- What is written at the desk of one client is what the event moves in all desks.
+use Rattle.std.proofs.Common.{◌≡◌, ℕ, zero, suc, ◌+◌, ◌<◌, ◌≤◌, ◌&&◌, Bool, true, false, not, true≢false, List, [], ◌∷◌, map, length, ap, ◌∙◌, refl, sym, subst, Option, Some, None, slice_index_or, slice_set, slice_get, arith}
+use Rattle.std.specs.Prelude.{◌==◌, if◌then◌else◌, is_some}
+use Rattle.std.specs.List.{AllByRecursion, position}
+use Rattle.std.proofs.lemmas.List.Quantifiers.{position-Some}
+use Rattle.std.proofs.lemmas.Bool.{eq-eqb, eqb-true}
+use Rattle.dmc_types.specs.Values.{Params}
+use Rattle.dmc_types.specs.declared.ids.ClientId.{ClientId}
+use Rattle.dmc_types.specs.declared.config.PhaseType.{PhaseType}
+use Rattle.dmc_types.specs.declared.command.Command.{Command}
+use Rattle.dmc_types.specs.declared.command.Command.TheVariants.{Register, Update, Add, Pull, Remove, Clean}
+use Rattle.dmc_types.specs.declared.config.PhaseType.TheVariants.{Reservation, Priority}
+use Rattle.dmc_tag.specs.declared.event.Event.{Event}
+use Rattle.dmc_ledger.specs.Accounts.{Holding, total_of}
+use Rattle.dmc_ledger.specs.Bundles.{ClientSide, GrantAccounts, GrantHoldings, StampHoldings, client_side, grant_accounts, grant_holdings, stamp_holdings}
+use Rattle.dmc_ledger.specs.Moves.{after_issue, with_more, book_in, till_in, books_after_grant, tills_after_stamp, tills_after_response}
+use Rattle.dmc_ledger.specs.declared.desk.ClientDesk.{ClientDesk}
+use Rattle.dmc_ledger.specs.declared.bundle.GrantTills.{GrantTills}
+use Rattle.dmc_tag.specs.declared.reply.Reply.{Reply}
+use Rattle.dmc_tag.specs.declared.reply.Reply.TheVariants.{Registered, Updated, Tagged, Granted, Later, Nothing, Removed, Cleaned, Refused}
+use Rattle.dmc_pull.specs.Allowed.{is_allowed}
+use Rattle.dmc_tlock.specs.BookState.{StampValue}
+use Rattle.dmc_book.specs.BookState.{no_desk}
+use Rattle.dmc_book.specs.Calls.{AreAlike, IsForDesk, lacks_desk, names_none}
+use Rattle.dmc_book.specs.Consistent.{AreClientsApart, AreGrantsWithin}
+use Rattle.dmc_book.specs.Counts.{accepted, grant_in, grants_added, stamps_added, delta_added, rho_added, stamps_for, params_for, units_for, no_params, one_if, is_phase}
+use Rattle.dmc_book.specs.Moves.{desk_after, desk_place, same_place, takes_at, is_unit_of, unit_at}
+use Rattle.dmc_book.proofs.Lists.{map_unmoved, all_weaker, turned, position_map}
+use Rattle.dmc_book.proofs.WorkerLemmas.{issue_none}
+
+more_none : (h : Holding) → with_more 0 h ≡ h
+more_none h = let e : h.amount + 0 ≡ h.amount = omega arith in ap (λ (n : ℕ). record h { amount = n }) e
+
+-- ---- places
+
+-- the names of the desks find the same place
+pub places_agree : {S : Type 0} (id : ℕ) (names : List ClientId) (ds : List (ClientDesk S)) → names ≡ map (λ d. d.client) ds → position (λ (k : ClientId). id == k.0) names ≡ desk_place id (map client_side ds)
+places_agree id names ds named = ap (position (λ (k : ClientId). id == k.0)) named ∙ position_map (λ d. d.client) (λ (k : ClientId). id == k.0) ds ∙ sym (position_map client_side (λ d. id == d.client) ds)
+
+-- a place is that of a desk of this client
+pub placed : (id : ℕ) (ds : List ClientSide) (i : ℕ) → desk_place id ds ≡ Some i → (i < length ds) × ((slice_index_or ds i no_desk).client ≡ id)
+placed id ds i h =
+    let found = position-Some (λ d. id == d.client) ds i no_desk h in
+    (found.0, sym (eqb-true id _ found.1))
+
+-- ---- one desk
+
+module _ {T : Type 0} (e : Event T) where
+  -- what moves no stamp and no unit of a client leaves its desk
+  pub record IsIdle (d : ClientSide) : Type 0 where
+    pub stamps : stamps_added d.client e ≡ 0
+    pub delta : delta_added d.client e ≡ 0
+    pub rho : rho_added d.client e ≡ 0
+    pub reservation : grants_added d.client Reservation e ≡ 0
+    pub priority : grants_added d.client Priority e ≡ 0
+
+  idle_stays : (d : ClientSide) → IsIdle d → desk_after e d ≡ d
+  idle_stays d h =
+      rw (
+        ap (λ n. with_more n d.held.stamps) h.stamps ∙ more_none d.held.stamps,
+        ap (λ n. with_more n d.held.delta) h.delta ∙ more_none d.held.delta,
+        ap (λ n. with_more n d.held.rho) h.rho ∙ more_none d.held.rho,
+        ap (λ n. after_issue n d.books.reservation) h.reservation ∙ issue_none d.books.reservation,
+        ap (λ n. after_issue n d.books.priority) h.priority ∙ issue_none d.books.priority,
+      ) refl
+
+  -- an event of one client: what it brings, and what it is granted
+  module _ (client : ClientId) (idle : (d : ClientSide) → (client.0 == d.client) ≡ false → IsIdle d) where
+    behind : (d : ClientSide) (ds : List ClientSide) → d.client ≡ client.0 → AllByRecursion (λ other. (other.client == d.client) ≡ false) ds → map (desk_after e) ds ≡ ds
+    behind d ds same h = map_unmoved (desk_after e) ds (all_weaker _ _ (λ o z. idle_stays o (idle o (turned o.client client.0 (ap (λ (n : ℕ). o.client == n) (sym same) ∙ z)))) ds h)
+
+    before : (d : ClientSide) (ds : List ClientSide) (i : ℕ) → i < length ds → AllByRecursion (λ other. (other.client == d.client) ≡ false) ds → (slice_index_or ds i no_desk).client ≡ client.0 → (client.0 == d.client) ≡ false
+    before d [] i w h here = absurd (omega (arith, w))
+    before d (o ∷ ds) zero w h here = ap (λ (n : ℕ). n == d.client) (sym here) ∙ h.0
+    before d (o ∷ ds) (suc i) w h here = before d ds i (omega (arith, w)) h.1 here
+
+    module _ {S : Type 0} where
+      at_map : (ys : List (ClientDesk S)) (j : ℕ) → j < length ys → j < length (map client_side ys)
+      at_map [] j h = absurd (omega (arith, h))
+      at_map (y ∷ ys) zero h = omega arith
+      at_map (y ∷ ys) (suc j) h = let rest = at_map ys j (omega (arith, h)) in omega arith
+
+      pub written : (ds : List (ClientDesk S)) (i : ℕ) (d new : ClientDesk S) → i < length ds → (slice_index_or (map client_side ds) i no_desk).client ≡ client.0 → AreClientsApart (map client_side ds) → ((slice_index_or ds i d).client.0 ≡ client.0 → client_side new ≡ desk_after e (client_side (slice_index_or ds i d))) → map client_side (slice_set ds i new) ≡ map (desk_after e) (map client_side ds)
+      written [] i d new w here apart h = absurd (omega (arith, w))
+      written (x ∷ xs) zero d new w here apart h =
+          ap (λ y. y ∷ map client_side xs) (h here) ∙ ap (λ ys. desk_after e (client_side x) ∷ ys) (sym (behind (client_side x) (map client_side xs) here apart.0))
+      written (x ∷ xs) (suc i) d new w here apart h =
+          let less : i < length xs = omega (arith, w) in
+          ap (λ ys. client_side x ∷ ys) (written xs i d new less here apart.1 h) ∙ ap (λ y. y ∷ map (desk_after e) (map client_side xs)) (sym (idle_stays (client_side x) (idle (client_side x) (before (client_side x) (map client_side xs) i (at_map xs i less) apart.0 here))))
+
+  -- ---- no stamp and no grant; a stamp; a grant
+
+  pub all_stay : accepted e ≡ None → grant_in e.reply ≡ None → (ds : List ClientSide) → map (desk_after e) ds ≡ ds
+  all_stay a g ds = map_unmoved (desk_after e) ds (each ds)
+    where
+      each : (ds : List ClientSide) → AllByRecursion (λ d. desk_after e d ≡ d) ds
+      each [] = tt
+      each (d ∷ ds) = (
+        idle_stays d (record {
+          stamps = ap (stamps_for d.client) a;
+          delta = ap (λ o. (params_for d.client o).delta) a;
+          rho = ap (λ o. (params_for d.client o).rho) a;
+          reservation = ap (units_for d.client Reservation) g;
+          priority = ap (units_for d.client Priority) g;
+        }),
+        each ds,
+      )
+
+  module _ (client : ClientId) (params : Params) (a : accepted e ≡ Some (client, params)) (g : grant_in e.reply ≡ None) where
+    pub stamp_idle : (d : ClientSide) → (client.0 == d.client) ≡ false → IsIdle d
+    stamp_idle d h = record {
+      stamps = ap (stamps_for d.client) a ∙ ap one_if h;
+      delta = ap (λ o. (params_for d.client o).delta) a ∙ ap (λ b. (if b then params else no_params).delta) h;
+      rho = ap (λ o. (params_for d.client o).rho) a ∙ ap (λ b. (if b then params else no_params).rho) h;
+      reservation = ap (units_for d.client Reservation) g;
+      priority = ap (units_for d.client Priority) g;
+    }
+
+    pub stamp_taken : (d : ClientSide) → d.client ≡ client.0 → desk_after e d ≡ record d { held = tills_after_stamp params d.held }
+    stamp_taken d same =
+        let h : (client.0 == d.client) ≡ true = eq-eqb client.0 d.client (sym same) in
+        let s : stamps_added d.client e ≡ 1 = ap (stamps_for d.client) a ∙ ap one_if h in
+        let x : delta_added d.client e ≡ params.delta = ap (λ o. (params_for d.client o).delta) a ∙ ap (λ b. (if b then params else no_params).delta) h in
+        let y : rho_added d.client e ≡ params.rho = ap (λ o. (params_for d.client o).rho) a ∙ ap (λ b. (if b then params else no_params).rho) h in
+        rw (
+          ap (λ n. with_more n d.held.stamps) s,
+          ap (λ n. with_more n d.held.delta) x,
+          ap (λ n. with_more n d.held.rho) y,
+          ap (λ n. after_issue n d.books.reservation) (ap (units_for d.client Reservation) g) ∙ issue_none d.books.reservation,
+          ap (λ n. after_issue n d.books.priority) (ap (units_for d.client Priority) g) ∙ issue_none d.books.priority,
+        ) refl
+
+  module _ (client : ClientId) (phase : PhaseType) (a : accepted e ≡ None) (g : grant_in e.reply ≡ Some (client, phase)) where
+    pub grant_idle : (d : ClientSide) → (client.0 == d.client) ≡ false → IsIdle d
+    grant_idle d h = record {
+      stamps = ap (stamps_for d.client) a;
+      delta = ap (λ o. (params_for d.client o).delta) a;
+      rho = ap (λ o. (params_for d.client o).rho) a;
+      reservation = ap (units_for d.client Reservation) g ∙ ap (λ b. one_if (b && is_phase Reservation phase)) h;
+      priority = ap (units_for d.client Priority) g ∙ ap (λ b. one_if (b && is_phase Priority phase)) h;
+    }
+
+    issued_in : (d : ClientSide) (p : PhaseType) → record d.books { reservation = after_issue (one_if (is_phase Reservation p)) d.books.reservation; priority = after_issue (one_if (is_phase Priority p)) d.books.priority } ≡ books_after_grant p d.books
+    issued_in d Reservation = rw (issue_none d.books.priority) refl
+    issued_in d Priority = rw (issue_none d.books.reservation) refl
+
+    pub grant_issued : (d : ClientSide) → d.client ≡ client.0 → desk_after e d ≡ record d { books = books_after_grant phase d.books }
+    grant_issued d same =
+        let h : (client.0 == d.client) ≡ true = eq-eqb client.0 d.client (sym same) in
+        rw (
+          ap (λ n. with_more n d.held.stamps) (ap (stamps_for d.client) a) ∙ more_none d.held.stamps,
+          ap (λ n. with_more n d.held.delta) (ap (λ o. (params_for d.client o).delta) a) ∙ more_none d.held.delta,
+          ap (λ n. with_more n d.held.rho) (ap (λ o. (params_for d.client o).rho) a) ∙ more_none d.held.rho,
+          ap (λ n. after_issue n d.books.reservation) (ap (units_for d.client Reservation) g ∙ ap (λ b. one_if (b && is_phase Reservation phase)) h),
+          ap (λ n. after_issue n d.books.priority) (ap (units_for d.client Priority) g ∙ ap (λ b. one_if (b && is_phase Priority phase)) h),
+        )
+        (ap (λ bs. record d { books = bs }) (issued_in d phase))
+
+pub phase_fits : (n : ℕ) (phase : PhaseType) (books : GrantAccounts) → AreGrantsWithin n books → total_of (book_in phase books) ≤ n
+phase_fits n Reservation books h = h.reservation
+phase_fits n Priority books h = h.priority
+
+-- ---- what is at a place
+
+module _ {S : Type 0} where
+  pub desk_within : (ds : List (ClientDesk S)) (i : ℕ) → i < length (map client_side ds) → i < length ds
+  desk_within [] i h = absurd (omega (arith, h))
+  desk_within (x ∷ xs) zero h = omega arith
+  desk_within (x ∷ xs) (suc i) h = let rest = desk_within xs i (omega (arith, h)) in omega arith
+
+  pub desk_at : (ds : List (ClientDesk S)) (i : ℕ) (d : ClientDesk S) → i < length ds → slice_index_or (map client_side ds) i no_desk ≡ client_side (slice_index_or ds i d)
+  desk_at [] i d h = absurd (omega (arith, h))
+  desk_at (x ∷ xs) zero d h = refl
+  desk_at (x ∷ xs) (suc i) d h = desk_at xs i d (omega (arith, h))
+
+  pub grants_fit : (n : ℕ) (ds : List (ClientDesk S)) (i : ℕ) (d : ClientDesk S) → AllByRecursion (λ d. AreGrantsWithin n d.books) (map client_side ds) → i < length ds → AreGrantsWithin n (grant_accounts ((slice_index_or ds i d).books))
+  grants_fit n [] i d h l = absurd (omega (arith, l))
+  grants_fit n (x ∷ xs) zero d h l = h.0
+  grants_fit n (x ∷ xs) (suc i) d h l = grants_fit n xs i d h.1 (omega (arith, l))
+
+  pub names_stay : (ds : List (ClientDesk S)) (i : ℕ) (d new : ClientDesk S) → new.client ≡ (slice_index_or ds i d).client → map (λ d. d.client) (slice_set ds i new) ≡ map (λ d. d.client) ds
+  names_stay [] i d new h = refl
+  names_stay (x ∷ xs) zero d new h = ap (λ k. k ∷ map (λ d. d.client) xs) h
+  names_stay (x ∷ xs) (suc i) d new h = ap (λ ks. x.client ∷ ks) (names_stay xs i d new h)
+
+  -- a pass that takes a grant has a till of the desk's book
+  taken_from : (phase : PhaseType) (desk : ClientSide) (us : List (GrantTills S)) (i : ℕ) (u : GrantTills S) → is_unit_of phase (Some desk) (slice_get (map grant_holdings us) i) ≡ true → (till_in phase (grant_holdings (slice_index_or us i u))).number ≡ (book_in phase desk.books).number
+  taken_from phase desk [] i u h = absurd (true≢false (sym h))
+  taken_from phase desk (x ∷ xs) zero u h = eqb-true _ _ h
+  taken_from phase desk (x ∷ xs) (suc i) u h = taken_from phase desk xs i u h
+
+  within_units : (phase : PhaseType) (desk : ClientSide) (us : List (GrantTills S)) (i : ℕ) → is_unit_of phase (Some desk) (slice_get (map grant_holdings us) i) ≡ true → i < length us
+  within_units phase desk [] i h = absurd (true≢false (sym h))
+  within_units phase desk (x ∷ xs) zero h = omega arith
+  within_units phase desk (x ∷ xs) (suc i) h = let rest = within_units phase desk xs i h in omega arith
+
+  some_desk : (ds : List (ClientDesk S)) (i : ℕ) (d : ClientDesk S) → i < length ds → slice_get (map client_side ds) i ≡ Some (client_side (slice_index_or ds i d))
+  some_desk [] i d h = absurd (omega (arith, h))
+  some_desk (x ∷ xs) zero d h = refl
+  some_desk (x ∷ xs) (suc i) d h = some_desk xs i d (omega (arith, h))
+
+  pub unit_within : (phase : PhaseType) (ds : List (ClientDesk S)) (us : List (GrantTills S)) (i : ℕ) (d : ClientDesk S) → i < length ds → takes_at phase (map client_side ds) (map grant_holdings us) (Some i) ≡ true → i < length us
+  unit_within phase ds us i d w h = within_units phase (client_side (slice_index_or ds i d)) us i (ap (λ o. is_unit_of phase o (slice_get (map grant_holdings us) i)) (sym (some_desk ds i d w)) ∙ h)
+
+  pub unit_of : (phase : PhaseType) (ds : List (ClientDesk S)) (us : List (GrantTills S)) (i : ℕ) (d : ClientDesk S) (u : GrantTills S) → i < length ds → takes_at phase (map client_side ds) (map grant_holdings us) (Some i) ≡ true → (till_in phase (grant_holdings (slice_index_or us i u))).number ≡ (book_in phase (grant_accounts ((slice_index_or ds i d).books))).number
+  unit_of phase ds us i d u w h = taken_from phase (client_side (slice_index_or ds i d)) us i u (ap (λ o. is_unit_of phase o (slice_get (map grant_holdings us) i)) (sym (some_desk ds i d w)) ∙ h)
+
+  pub unit_set : (us : List (GrantTills S)) (i : ℕ) (u new : GrantTills S) (phase : PhaseType) → i < length us → grant_holdings new ≡ tills_after_response phase (grant_holdings (slice_index_or us i u)) → map grant_holdings (slice_set us i new) ≡ unit_at phase (Some i) (map grant_holdings us)
+  unit_set [] i u new phase w h = absurd (omega (arith, w))
+  unit_set (x ∷ xs) zero u new phase w h = ap (λ y. y ∷ map grant_holdings xs) h
+  unit_set (x ∷ xs) (suc i) u new phase w h = ap (λ ys. grant_holdings x ∷ ys) (unit_set xs i u new phase (omega (arith, w)) h)
+
+-- ---- a grant that is allowed
+
+abbrev value : {X : Type 0} → X → Option X → X
+value x None = x
+value x (Some y) = y
+
+some_same : {X : Type 0} (x y : X) → Some x ≡ Some y → x ≡ y
+some_same x y e = ap (value x) e
+
+pub allowed_grant : {T : Type 0} (allows : ClientId → PhaseType → Bool) (reply : Reply T) (client : ClientId) (phase : PhaseType) → grant_in reply ≡ Some (client, phase) → is_allowed allows reply ≡ true → allows client phase ≡ true
+allowed_grant allows Registered client phase g h = absurd cc
+allowed_grant allows Updated client phase g h = absurd cc
+allowed_grant allows (Tagged tags) client phase g h = absurd cc
+allowed_grant allows (Granted other token p beyond) client phase g h =
+    let same = some_same (other, p) (client, phase) g in
+    ap (λ (x : ClientId × PhaseType). allows x.0 x.1) (sym same) ∙ h
+allowed_grant allows (Later m) client phase g h = absurd cc
+allowed_grant allows Nothing client phase g h = absurd cc
+allowed_grant allows (Removed count) client phase g h = absurd cc
+allowed_grant allows (Cleaned idled erased) client phase g h = absurd cc
+allowed_grant allows (Refused refusal) client phase g h = absurd cc
+
+-- ---- a pass that takes a grant names the client at the place of its desk
+
+module _ (phase : PhaseType) (ds : List ClientSide) (us : List GrantHoldings) where
+  there : (i j : ℕ) (b : Bool) → (i == j) ≡ b → takes_at phase ds us (if b then Some i else None) ≡ true → (Some i ≡ Some j) × (takes_at phase ds us (Some j) ≡ true)
+  there i j true e h = let same = eqb-true i j e in (ap Some same, ap (λ k. takes_at phase ds us (Some k)) (sym same) ∙ h)
+  there i j false e h = absurd (true≢false (sym h))
+
+  pub named_there : (desk named : Option ℕ) (j : ℕ) → named ≡ Some j → takes_at phase ds us (same_place desk named) ≡ true → (desk ≡ Some j) × (takes_at phase ds us (Some j) ≡ true)
+  named_there None named j is h = absurd (true≢false (sym h))
+  named_there (Some i) named j is h = there i j (i == j) refl (ap (λ o. takes_at phase ds us (same_place (Some i) o)) (sym is) ∙ h)
+
+  pub named_nowhere : (desk named : Option ℕ) → named ≡ None → takes_at phase ds us (same_place desk named) ≡ true → ⊥
+  named_nowhere None named is h = true≢false (sym h)
+  named_nowhere (Some i) named is h = true≢false (sym h ∙ ap (λ o. takes_at phase ds us (same_place (Some i) o)) is)
+
+-- the names of the desks tell who has none
+pub lacks_agree : {S : Type 0} (names : List ClientId) (ds : List (ClientDesk S)) → names ≡ map (λ d. d.client) ds → (command : Command) → names_none names command ≡ lacks_desk (map client_side ds) command
+lacks_agree names ds named (Register client info at) = ap (λ o. not (is_some o)) (places_agree client.0 names ds named)
+lacks_agree names ds named (Update client info at) = refl
+lacks_agree names ds named (Add client token params at) = refl
+lacks_agree names ds named (Pull at) = refl
+lacks_agree names ds named (Remove client) = refl
+lacks_agree names ds named (Clean at) = refl
+
+-- ---- whose stamp it is
+
+module _ {S : Type 0} (names : List ClientId) (ds : List (ClientDesk S)) (named : names ≡ map (λ d. d.client) ds) (server : ℕ) (stamp : StampValue) (tills : StampHoldings) where
+  -- no desk of its client
+  pub no_desk_for : position (λ (k : ClientId). stamp.client == k.0) names ≡ None → IsForDesk server (map client_side ds) stamp tills → ⊥
+  no_desk_for none h = none_some (sym none ∙ places_agree stamp.client names ds named ∙ h.here)
+    where
+      none_some : {i : ℕ} → None ≡ Some i → ⊥
+      none_some e = absurd cc
+
+  pub no_till_for : (place : ℕ) (d : ClientDesk S) → position (λ (k : ClientId). stamp.client == k.0) names ≡ Some place → place < length ds → (AreAlike tills (stamp_holdings ((slice_index_or ds place d).held)) → ⊥) → IsForDesk server (map client_side ds) stamp tills → ⊥
+  no_till_for place d found within others h =
+      let same : place ≡ h.place = some_same place h.place (sym found ∙ places_agree stamp.client names ds named ∙ h.here) in
+      others (subst (λ (s : ClientSide). AreAlike tills s.held) (ap (λ n. slice_index_or (map client_side ds) n no_desk) (sym same) ∙ desk_at ds place d within) h.its_tills)
+
+  pub for_desk : (place : ℕ) (d : ClientDesk S) → stamp.server ≡ server → position (λ (k : ClientId). stamp.client == k.0) names ≡ Some place → place < length ds → AreAlike tills (stamp_holdings ((slice_index_or ds place d).held)) → IsForDesk server (map client_side ds) stamp tills
+  for_desk place d its found within alike = record {
+    its_server = its;
+    place = place;
+    here = sym (places_agree stamp.client names ds named) ∙ found;
+    its_tills = subst (λ (s : ClientSide). AreAlike tills s.held) (sym (desk_at ds place d within)) alike;
+  }

@@ -1,0 +1,10 @@
+mod AskLemmas
+mod Causes
+mod Counting
+mod DeskLemmas
+mod GrantLemmas
+mod IndexLemmas
+mod Lists
+mod OpeningLemmas
+mod SettlingLemmas
+mod WorkerLemmas

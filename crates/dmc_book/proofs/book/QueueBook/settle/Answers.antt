@@ -1,0 +1,62 @@
+use Rattle.std.proofs.Common.{◌≡◌, List, length, map, drop, sym, subst, ap, ◌∙◌, rules}
+use Rattle.std.specs.List.{AllByRecursion}
+use Rattle.dmc_ledger.specs.Bundles.{ClientSide, client_side}
+use Rattle.dmc_ledger.specs.declared.desk.ClientDesk.{ClientDesk}
+use Rattle.dmc_tag.specs.Replay.{after}
+use Rattle.dmc_tag.proofs.ForCallers.{as_many_requests}
+use Rattle.dmc_pull.specs.Queue.{state_of}
+use Rattle.dmc_book.specs.BookState.{WorkerSide, pass_state, worker_side}
+use Rattle.dmc_book.specs.Settling.{AreOneOpen, ArePassesTakenIn, closed_worker}
+use Rattle.dmc_book.specs.declared.pass.WorkerPass.{WorkerPass}
+use Rattle.dmc_book.specs.declared.seat.Seat.{Seat}
+use Rattle.dmc_book.proofs.OpeningLemmas.{consistent_empty, lent_back}
+use Rattle.dmc_book.proofs.SettlingLemmas.{one_open, settled_desks, settled_workers}
+use Rattle.dmc_book.proofs.book.QueueBook.settle.Goals as goal
+
+pub take_passes-requires-clause-one_open : goal.take_passes-requires-clause-one_open
+take_passes-requires-clause-one_open g c =
+    let here = c.self.inside in
+    let same : c.deref_mut.result.now ≡ here.workers.items = c.deref_mut.ensures.value in
+    subst (λ (ws : List (Seat g.row.S.Denot)). AllByRecursion (λ (w : WorkerSide). AreOneOpen w.books) (map worker_side ws)) (sym same)
+    (one_open here.history.events (map worker_side here.workers.items) c.self.invariant.0.workers)
+
+pub invariant_of-self : goal.invariant_of-self
+invariant_of-self g c =
+    let here = c.self.inside in
+    rw (c.take_history.ensures.emptied, c.replace.ensures.after, c.replace-2.ensures.after, c.new-3.ensures.items, c.new-4.ensures.items) (
+      consistent_empty g.T.Tag.ops (state_of c.new.result) here.config here.server.0 here.history.most here.closed c.new.ensures c.self.invariant.0.limit,
+      c.new-2.ensures.empty,
+    )
+
+pub returns-clause-left : goal.returns-clause-left
+returns-clause-left g c =
+    let here = c.self.inside in
+    let requests = as_many_requests (state_of here.queue.0) (after g.T.Tag.ops here.config here.history.events) c.self.invariant.0.stands in
+    rw (← c.self.view_is) (c.request_count-left.ensures ∙ requests)
+
+pub returns-clause-counts : goal.returns-clause-counts
+returns-clause-counts g c =
+    let here = c.self.inside in
+    let f : Seat g.row.S.Denot → WorkerSide = worker_side in
+    let new = c.take_passes.new.workers in
+    let same : c.deref_mut.result.now ≡ here.workers.items = c.deref_mut.ensures.value in
+    let as_many : length new ≡ length here.workers.items = search rules in
+    let back = lent_back new (drop (length new) here.workers.items) here.workers.len (as_many ∙ sym here.workers.ok.0) in
+    let closed : map f new ≡ map closed_worker (map f here.workers.items) = c.take_passes.ensures.workers ∙ ap (λ (ws : List (Seat g.row.S.Denot)). map closed_worker (map f ws)) same in
+    rw (← c.self.view_is, c.replace.ensures.value, back, closed) (settled_workers here.history.events (map f here.workers.items) c.self.invariant.0.workers)
+
+pub returns-clause-desks : goal.returns-clause-desks
+returns-clause-desks g c =
+    let here = c.self.inside in
+    let f : ClientDesk g.row.S.Denot → ClientSide = client_side in
+    let passes = map (pass_state {S = g.row.S.Denot}) c.args.passes.items in
+    let workers = map (worker_side {S = g.row.S.Denot}) here.workers.items in
+    let own = c.are_own.ensures.0 c.if-not-are_own.false in
+    let passes_many : length passes ≡ length workers = ap (λ (ps : List (WorkerPass g.row.S.Denot)). length (map pass_state ps)) (sym c.deref-3.ensures.value) ∙ own.as_many
+    ∙ ap (λ (ws : List (Seat g.row.S.Denot)). length (map worker_side ws)) c.deref.ensures.value in
+    let new = c.take_passes.new.desks in
+    let same : c.deref_mut-2.result.now ≡ here.desks.items = c.deref_mut-2.ensures.value in
+    let as_many : length new ≡ length here.desks.items = search rules in
+    let back = lent_back new (drop (length new) here.desks.items) here.desks.len (as_many ∙ sym here.desks.ok.0) in
+    let taken = subst (λ (ds : List (ClientDesk g.row.S.Denot)). ArePassesTakenIn passes (map f ds) (map f new)) same c.take_passes.ensures.desks in
+    rw (← c.self.view_is, c.replace-2.ensures.value, back) (settled_desks here.history.events here.server.0 (length workers) passes (map f here.desks.items) (map f new) passes_many c.self.invariant.0.desks taken)

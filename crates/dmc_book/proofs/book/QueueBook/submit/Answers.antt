@@ -1,0 +1,87 @@
+use Rattle.std.proofs.Common.{rules, ℕ, ◌≡◌, ◌<◌, ◌≤◌, ◌^◌, ◌∙◌, ◌++◌, ◌∷◌, [], ap, map, length, refl, sym, subst, arith}
+use Rattle.dmc_types.specs.Values.{Params}
+use Rattle.dmc_types.specs.declared.ids.ClientId.{ClientId}
+use Rattle.dmc_types.specs.declared.command.Command.{Command}
+use Rattle.dmc_types.specs.declared.command.Command.TheVariants.{Add}
+use Rattle.dmc_tag.specs.Steps.{Steps}
+use Rattle.dmc_tag.specs.declared.reply.Reply.TheVariants.{Tagged, Refused}
+use Rattle.dmc_ledger.specs.Bundles.{client_side}
+use Rattle.dmc_pull.specs.Queue as queue
+use Rattle.dmc_book.specs.BookState.{BookState, PassState, worker_side, worker_holdings, state_of, pass_state}
+use Rattle.dmc_book.specs.Consistent.{IsConsistent}
+use Rattle.dmc_book.specs.Calls.{added_reply, event_of, Ran}
+use Rattle.dmc_book.specs.Moves.{book_after}
+use Rattle.dmc_book.proofs.Counting.{consistent_memory, consistent_more, reply_after, workers_within}
+use Rattle.dmc_book.proofs.DeskLemmas.{all_stay}
+use Rattle.dmc_book.proofs.book.QueueBook.submit.Goals as goal
+
+pub count-requires-clause-fits : goal.count-requires-clause-fits
+count-requires-clause-fits g c =
+    let fewer : length c.self.inside.history.events < c.self.inside.history.most = search rules in
+    let limit : c.self.inside.history.most ≤ 2 ^ 30 = c.self.invariant.0.limit in
+    let below : length c.self.inside.history.events < 2 ^ 30 = omega (arith, fewer, limit) in
+    workers_within c.self.inside.history.events below (map worker_side c.self.inside.workers.items) c.self.invariant.0.workers
+
+pub count-requires-in-Refused-clause-fits : goal.count-requires-in-Refused-clause-fits
+count-requires-in-Refused-clause-fits g c =
+    let fewer : length c.self.inside.history.events < c.self.inside.history.most = search rules in
+    let limit : c.self.inside.history.most ≤ 2 ^ 30 = c.self.invariant.0.limit in
+    let below : length c.self.inside.history.events < 2 ^ 30 = omega (arith, fewer, limit) in
+    workers_within c.self.inside.history.events below (map worker_side c.self.inside.workers.items) c.self.invariant.0.workers
+
+pub invariant_of-self-in-Tagged : goal.invariant_of-self-in-Tagged
+invariant_of-self-in-Tagged g c =
+    let command = Add c.client-client.result c.args.token c.params-params.result c.args.at in
+    let e = event_of c.args.pass.now.worker.0 command (Tagged c.in-Tagged.tags) in
+    let asked = subst (λ a. Steps g.T.Tag.ops (queue.state_of c.self.inside.queue.0) (queue.state_of c.ask_to_add.new.queue) command (added_reply a)) c.in-Tagged.is c.ask_to_add.ensures in
+    let events : c.push_reserved.new.self.events ≡ c.self.inside.history.events ++ e ∷ [] = c.push_reserved.ensures.events ∙ ap (λ es. es ++ e ∷ []) c.reserve_one.ensures.events in
+    let most : c.push_reserved.new.self.most ≡ c.self.inside.history.most = c.push_reserved.ensures.most ∙ c.reserve_one.ensures.most in
+    rw (events, most, c.count.ensures.workers, c.take_in.ensures.desks) (
+      consistent_more g.T.Tag.ops (queue.state_of c.self.inside.queue.0) (queue.state_of c.ask_to_add.new.queue) _ e c.count.ensures.small tt c.self.invariant.0 asked,
+      c.self.invariant.1 ∙ sym c.take_in.ensures.names,
+    )
+
+pub invariant_of-self-in-Refused : goal.invariant_of-self-in-Refused
+invariant_of-self-in-Refused g c =
+    let command = Add c.client-client.result c.args.token c.params-params.result c.args.at in
+    let e = event_of c.args.pass.now.worker.0 command (Refused c.in-Refused.refusal) in
+    let asked = subst (λ a. Steps g.T.Tag.ops (queue.state_of c.self.inside.queue.0) (queue.state_of c.ask_to_add.new.queue) command (added_reply a)) c.in-Refused.is c.ask_to_add.ensures in
+    let events : c.push_reserved-in-Refused.new.self.events ≡ c.self.inside.history.events ++ e ∷ [] = c.push_reserved-in-Refused.ensures.events ∙ ap (λ es. es ++ e ∷ []) c.reserve_one.ensures.events in
+    let most : c.push_reserved-in-Refused.new.self.most ≡ c.self.inside.history.most = c.push_reserved-in-Refused.ensures.most ∙ c.reserve_one.ensures.most in
+    let desks = all_stay e refl refl (map client_side c.self.inside.desks.items) in
+    let b : BookState g.row.T.Denot = state_of c.self.inside.config c.self.inside.server.0 c.self.inside.history (map worker_side c.self.inside.workers.items) (map client_side c.self.inside.desks.items) c.self.inside.closed in
+    rw (events, most, c.count-in-Refused.ensures.workers) (
+      subst (λ ds. IsConsistent g.T.Tag.ops (queue.state_of c.ask_to_add.new.queue) (record (book_after e b) { desks = ds })) desks
+          (consistent_more g.T.Tag.ops (queue.state_of c.self.inside.queue.0) (queue.state_of c.ask_to_add.new.queue) b e c.count-in-Refused.ensures.small tt c.self.invariant.0 asked),
+      c.self.invariant.1,
+    )
+
+pub invariant_of-self-in-Memory : goal.invariant_of-self-in-Memory
+invariant_of-self-in-Memory g c =
+    let command = Add c.client-client.result c.args.token c.params-params.result c.args.at in
+    let asked = subst (λ a. Steps g.T.Tag.ops (queue.state_of c.self.inside.queue.0) (queue.state_of c.ask_to_add.new.queue) command (added_reply a)) c.in-Memory.is c.ask_to_add.ensures in
+    rw (c.reserve_one.ensures.events, c.reserve_one.ensures.most) (
+      consistent_memory g.T.Tag.ops (queue.state_of c.self.inside.queue.0) (queue.state_of c.ask_to_add.new.queue) _ command c.self.invariant.0 asked,
+      c.self.invariant.1,
+    )
+
+pub returns-in-Refused-clause-refused : goal.returns-in-Refused-clause-refused
+returns-in-Refused-clause-refused g c =
+    let command = Add c.client-client.result c.args.token c.params-params.result c.args.at in
+    let e = event_of c.args.pass.now.worker.0 command (Refused c.in-Refused.refusal) in
+    let asked = subst (λ a. Steps g.T.Tag.ops (queue.state_of c.self.inside.queue.0) (queue.state_of c.ask_to_add.new.queue) command (added_reply a)) c.in-Refused.is c.ask_to_add.ensures in
+    let events : c.push_reserved-in-Refused.new.self.events ≡ c.self.inside.history.events ++ e ∷ [] = c.push_reserved-in-Refused.ensures.events ∙ ap (λ es. es ++ e ∷ []) c.reserve_one.ensures.events in
+    let most : c.push_reserved-in-Refused.new.self.most ≡ c.self.inside.history.most = c.push_reserved-in-Refused.ensures.most ∙ c.reserve_one.ensures.most in
+    let desks = all_stay e refl refl (map client_side c.self.inside.desks.items) in
+    let b : BookState g.row.T.Denot = state_of c.self.inside.config c.self.inside.server.0 c.self.inside.history (map worker_side c.self.inside.workers.items) (map client_side c.self.inside.desks.items) c.self.inside.closed in
+    let new : BookState g.row.T.Denot = state_of c.self.inside.config c.self.inside.server.0 c.push_reserved-in-Refused.new.self (map worker_side c.count-in-Refused.new.workers.items) (map client_side c.self.inside.desks.items) c.self.inside.closed in
+    let later : PassState = record (pass_state c.args.pass.now) { tills = worker_holdings c.count-in-Refused.new.tills } in
+    let ran : Ran g.T.Tag.ops b new (pass_state c.args.pass.now) later command (Refused c.in-Refused.refusal) = record {
+      reply_is = reply_after g.T.Tag.ops (queue.state_of c.self.inside.queue.0) (queue.state_of c.ask_to_add.new.queue) b command (Refused c.in-Refused.refusal) c.self.invariant.0 asked;
+      book = rw (events, most, c.count-in-Refused.ensures.workers, desks) refl;
+      pass = rw (c.count-in-Refused.ensures.tills) refl;
+    } in
+    let client_is = ap (λ (n : ℕ). let k : ClientId = record { 0 = n } in k) c.client-client.ensures in
+    let command_is = ap (λ (k : ClientId). Add k c.args.token c.params-params.result c.args.at) client_is ∙ ap (λ (p : Params). Add (record { 0 = c.args.stamp.client }) c.args.token p c.args.at) c.params-params.ensures in
+    subst (λ (d : Command). Ran g.T.Tag.ops c.args.self.now new (pass_state c.args.pass.now) later d (Refused c.in-Refused.refusal)) command_is
+    (subst (λ (a : BookState g.row.T.Denot). Ran g.T.Tag.ops a new (pass_state c.args.pass.now) later command (Refused c.in-Refused.refusal)) c.self.view_is ran)

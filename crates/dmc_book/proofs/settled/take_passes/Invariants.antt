@@ -1,0 +1,20 @@
+use Rattle.std.proofs.Common.{◌≡◌, List, ◌++◌, length, map}
+use Rattle.std.specs.List.{AllByRecursion}
+use Rattle.dmc_ledger.specs.Bundles.{client_side}
+use Rattle.dmc_book.specs.BookState.{PassState, pass_state, worker_side}
+use Rattle.dmc_book.specs.Settling.{ArePassesTakenIn, IsOwn}
+use Rattle.dmc_book.proofs.SettlingLemmas.{ArePartly, open_calls}
+use Rattle.dmc_book.proofs.settled.take_passes.Given as goal
+
+abbrev pub invariant-loop-pass : goal.invariant-loop-pass
+invariant-loop-pass g l = record {
+  workers : ArePartly (map worker_side l.fn.workers) (map worker_side l.workers);
+  still_open : open_calls (map worker_side l.workers) ≡ length l.passes.items;
+  own : AllByRecursion (IsOwn (map worker_side l.fn.workers) (map client_side l.fn.desks)) (map pass_state l.passes.items);
+  taken : List PassState;
+  all : map pass_state l.fn.passes.items ≡ map pass_state l.passes.items ++ taken;
+  desks : ArePassesTakenIn taken (map client_side l.fn.desks) (map client_side l.desks);
+}
+
+abbrev pub decreases-loop-pass : goal.decreases-loop-pass
+decreases-loop-pass g l = goal.left-loop-pass g l

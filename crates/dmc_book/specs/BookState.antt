@@ -1,0 +1,101 @@
+-- What contracts see of a queue's book and of a worker's pass.
+use Rattle.std.specs.Prelude.{ℕ, Bool, List, map}
+use Rattle.dmc_types.specs.Values.{Setting}
+use Rattle.dmc_types.specs.declared.ids.ClientId.{ClientId}
+use Rattle.dmc_tag.specs.declared.event.Event.{Event}
+use Rattle.dmc_history.specs.Log.{Log}
+use Rattle.dmc_ledger.specs.Accounts.{Account, Holding}
+use Rattle.dmc_ledger.specs.Bundles.{ClientSide, GrantHoldings, grant_holdings}
+use Rattle.dmc_tlock.specs.BookState.{no_account, no_holding}
+use Rattle.dmc_book.specs.declared.seat.WorkerBooks.{WorkerBooks}
+use Rattle.dmc_book.specs.declared.seat.WorkerTills.{WorkerTills}
+use Rattle.dmc_book.specs.declared.seat.Seat.{Seat}
+use Rattle.dmc_book.specs.declared.pass.WorkerPass.{WorkerPass}
+
+-- a worker's five books, and its five tills of them
+pub record WorkerAccounts : Type 0 where
+  pub calls : Account
+  pub misses : Account
+  pub tokens : Account
+  pub grants : Account
+  pub granted : Account
+
+pub record WorkerHoldings : Type 0 where
+  pub calls : Holding
+  pub misses : Holding
+  pub tokens : Holding
+  pub grants : Holding
+  pub granted : Holding
+
+-- an enrolled worker
+pub record WorkerSide : Type 0 where
+  pub worker : ℕ
+  pub books : WorkerAccounts
+
+-- the configuration, the number of the server, what the queue answered, how much of that there may be, the workers, the
+-- desk of each client, and whether no more requests are taken
+pub record BookState (T : Type 0) : Type 0 where
+  pub config : Setting
+  pub server : ℕ
+  pub history : List (Event T)
+  pub most : ℕ
+  pub workers : List WorkerSide
+  pub desks : List ClientSide
+  pub closed : Bool
+
+-- a worker's pass: the worker and its place in the book, its five tills, and for each desk a till of each phase
+pub record PassState : Type 0 where
+  pub worker : ℕ
+  pub place : ℕ
+  pub tills : WorkerHoldings
+  pub clients : List ClientId
+  pub units : List GrantHoldings
+
+module _ {S : Type 0} where
+  abbrev pub worker_accounts : WorkerBooks S → WorkerAccounts
+  worker_accounts b = record { calls = b.calls; misses = b.misses; tokens = b.tokens; grants = b.grants; granted = b.granted }
+
+  abbrev pub worker_holdings : WorkerTills S → WorkerHoldings
+  worker_holdings t = record { calls = t.calls; misses = t.misses; tokens = t.tokens; grants = t.grants; granted = t.granted }
+
+  abbrev pub worker_side : Seat S → WorkerSide
+  worker_side s = record { worker = s.worker.0; books = worker_accounts s.books }
+
+  abbrev pub pass_state : WorkerPass S → PassState
+  pass_state p = record {
+    worker = p.worker.0;
+    place = p.place;
+    tills = worker_holdings p.tills;
+    clients = p.clients.keys;
+    units = map grant_holdings p.units.items;
+  }
+
+-- the state of a book of these parts
+abbrev pub state_of : {T : Type 0} → Setting → ℕ → Log (Event T) → List WorkerSide → List ClientSide → Bool → BookState T
+state_of config server history workers desks closed = record {
+  config = config;
+  server = server;
+  history = history.events;
+  most = history.most;
+  workers = workers;
+  desks = desks;
+  closed = closed;
+}
+
+-- what stands at a place where there is no worker, no desk, no unit
+abbrev pub no_worker : WorkerSide
+no_worker = record {
+  worker = 0;
+  books = record { calls = no_account; misses = no_account; tokens = no_account; grants = no_account; granted = no_account };
+}
+
+abbrev pub no_desk : ClientSide
+no_desk = record {
+  client = 0;
+  server = 0;
+  held = record { stamps = no_holding; delta = no_holding; rho = no_holding };
+  books = record { reservation = no_account; priority = no_account };
+}
+
+abbrev pub no_unit : GrantHoldings
+no_unit = record { reservation = no_holding; priority = no_holding }

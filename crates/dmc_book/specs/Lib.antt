@@ -1,0 +1,10 @@
+pub mod BookState
+pub mod Calls
+pub mod Consistent
+pub mod Counts
+pub mod Lending
+pub mod Moves
+pub mod Opening
+pub mod Rooms
+pub mod Settling
+pub mod Status

@@ -1,0 +1,123 @@
+-- What an event moves in a book and in the pass of its worker.
+use Rattle.std.specs.Prelude.{◌≡◌, ℕ, ◌<◌, ◌==◌, Bool, false, if◌then◌else◌, List, [], ◌∷◌, ◌++◌, map, length, Option, Some, None, slice_get, slice_index_or, slice_set}
+use Rattle.std.specs.List.{position}
+use Rattle.dmc_types.specs.declared.ids.ClientId.{ClientId}
+use Rattle.dmc_types.specs.declared.config.PhaseType.{PhaseType}
+use Rattle.dmc_types.specs.declared.config.PhaseType.TheVariants.{Reservation, Priority}
+use Rattle.dmc_types.specs.declared.command.Command.{Command}
+use Rattle.dmc_tag.specs.declared.event.Event.{Event}
+use Rattle.dmc_tag.specs.declared.reply.Reply.{Reply}
+use Rattle.dmc_ledger.specs.Bundles.{ClientSide, GrantHoldings}
+use Rattle.dmc_ledger.specs.Moves.{after_issue, with_more, till_in, book_in, tills_after_response}
+use Rattle.dmc_book.specs.declared.counts.Numbers.{Numbers}
+use Rattle.dmc_book.specs.BookState.{WorkerAccounts, WorkerHoldings, WorkerSide, BookState, PassState, no_worker, no_unit}
+use Rattle.dmc_book.specs.Counts.{numbers_of, worker_adds, stamps_added, delta_added, rho_added, grants_added, grant_in}
+
+-- each of the five books issues its number, into its till
+abbrev pub books_after : Numbers → WorkerAccounts → WorkerAccounts
+books_after n books = record {
+  calls = after_issue n.calls books.calls;
+  misses = after_issue n.misses books.misses;
+  tokens = after_issue n.tokens books.tokens;
+  grants = after_issue n.grants books.grants;
+  granted = after_issue n.granted books.granted;
+}
+
+abbrev pub tills_after : Numbers → WorkerHoldings → WorkerHoldings
+tills_after n tills = record {
+  calls = with_more n.calls tills.calls;
+  misses = with_more n.misses tills.misses;
+  tokens = with_more n.tokens tills.tokens;
+  grants = with_more n.grants tills.grants;
+  granted = with_more n.granted tills.granted;
+}
+
+-- each worker's books and each desk count what the event adds to their counts
+abbrev pub worker_after : {T : Type 0} → Event T → WorkerSide → WorkerSide
+worker_after e w = record w { books = books_after (worker_adds w.worker e) w.books }
+
+abbrev pub desk_after : {T : Type 0} → Event T → ClientSide → ClientSide
+desk_after e d = record d {
+  held = record {
+    stamps = with_more (stamps_added d.client e) d.held.stamps;
+    delta = with_more (delta_added d.client e) d.held.delta;
+    rho = with_more (rho_added d.client e) d.held.rho;
+  };
+  books = record {
+    reservation = after_issue (grants_added d.client Reservation e) d.books.reservation;
+    priority = after_issue (grants_added d.client Priority e) d.books.priority;
+  };
+}
+
+-- the book, with the event recorded
+abbrev pub book_after : {T : Type 0} → Event T → BookState T → BookState T
+book_after e b = record b {
+  history = b.history ++ e ∷ [];
+  workers = map (worker_after e) b.workers;
+  desks = map (desk_after e) b.desks;
+}
+
+-- where the desk of a client is
+abbrev pub desk_place : ℕ → List ClientSide → Option ℕ
+desk_place client desks = position (λ d. client == d.client) desks
+
+-- where a client is among these names
+abbrev pub place_of : ℕ → List ClientId → Option ℕ
+place_of client names = position (λ id. client == id.0) names
+
+-- a grant is one unit more in the till of its phase at the client's place
+abbrev pub unit_at : PhaseType → Option ℕ → List GrantHoldings → List GrantHoldings
+unit_at phase None units = units
+unit_at phase (Some i) units = slice_set units i (tills_after_response phase (slice_index_or units i no_unit))
+
+abbrev pub units_after : List ClientId → Option (ClientId × PhaseType) → List GrantHoldings → List GrantHoldings
+units_after names None units = units
+units_after names (Some grant) units = unit_at grant.1 (place_of grant.0.0 names) units
+
+-- the pass of the worker whose command was answered so: of a grant it has the unit where it names the client
+abbrev pub pass_after : {T : Type 0} → Command → Reply T → PassState → PassState
+pass_after command reply p = record p {
+  tills = tills_after (numbers_of command reply) p.tills;
+  units = units_after p.clients (grant_in reply) p.units;
+}
+
+-- ---- whose pass it is
+
+-- the tills are of these books
+pub record AreOf (tills : WorkerHoldings) (books : WorkerAccounts) : Type 0 where
+  pub calls : tills.calls.number ≡ books.calls.number
+  pub misses : tills.misses.number ≡ books.misses.number
+  pub tokens : tills.tokens.number ≡ books.tokens.number
+  pub grants : tills.grants.number ≡ books.grants.number
+  pub granted : tills.granted.number ≡ books.granted.number
+
+-- the pass is of a worker that is enrolled, and its five tills are of that worker's books
+pub record IsEnrolled (workers : List WorkerSide) (p : PassState) : Type 0 where
+  pub within : p.place < length workers
+  pub its_worker : (slice_index_or workers p.place no_worker).worker ≡ p.worker
+  pub its_tills : AreOf p.tills (slice_index_or workers p.place no_worker).books
+
+-- the till of the phase is of the desk's book
+abbrev pub is_unit_of : PhaseType → Option ClientSide → Option GrantHoldings → Bool
+is_unit_of phase None units = false
+is_unit_of phase (Some desk) None = false
+is_unit_of phase (Some desk) (Some unit) = (till_in phase unit).number == (book_in phase desk.books).number
+
+abbrev pub takes_at : PhaseType → List ClientSide → List GrantHoldings → Option ℕ → Bool
+takes_at phase desks units None = false
+takes_at phase desks units (Some i) = is_unit_of phase (slice_get desks i) (slice_get units i)
+
+-- a place, where it is found and the other is the same one
+abbrev pub same_place : Option ℕ → Option ℕ → Option ℕ
+same_place None o = None
+same_place (Some i) None = None
+same_place (Some i) (Some j) = if i == j then Some i else None
+
+-- a pass of these names and units can take a grant of the client in the phase: the client has a desk, the pass names it at
+-- the desk's place, and the till there is of the desk's book
+abbrev pub takes : List ClientSide → List ClientId → List GrantHoldings → ClientId → PhaseType → Bool
+takes desks names units client phase = takes_at phase desks units (same_place (desk_place client.0 desks) (place_of client.0 names))
+
+-- the same, with the names of the clients that have a desk
+abbrev pub takes_by : List ClientId → List ClientSide → List ClientId → List GrantHoldings → ClientId → PhaseType → Bool
+takes_by clients desks names units client phase = takes_at phase desks units (same_place (place_of client.0 clients) (place_of client.0 names))

@@ -1,0 +1,102 @@
+-- A queue's book that is made.
+use Rattle.std.specs.Prelude.{◌≡◌, ℕ, ◌+◌, ◌*◌, ◌<◌, ◌≤◌, ◌^◌, ◌==◌, false, List, [], ◌∷◌, map, length, ⊤}
+use Rattle.std.specs.List.{AllByRecursion}
+use Rattle.dmc_types.specs.Values.{Setting}
+use Rattle.dmc_types.specs.declared.ids.ClientId.{ClientId}
+use Rattle.dmc_types.specs.declared.ids.WorkerId.{WorkerId}
+use Rattle.dmc_ledger.specs.Accounts.{Account, new_book, new_till}
+use Rattle.dmc_ledger.specs.Bundles.{ClientSide, GrantAccounts, GrantHoldings, new_client_side}
+use Rattle.dmc_book.specs.BookState.{BookState, PassState, WorkerAccounts, WorkerHoldings, WorkerSide}
+
+-- the desk is this server's, as `open_pair` gave it
+abbrev pub IsNewDesk : ℕ → ClientSide → Type 0
+IsNewDesk server d = (n : ℕ) × (d ≡ new_client_side d.client server n)
+
+-- the limits of a history, of the desks, and of the books that the mint has left: five for each worker
+pub record AreBookLimits (workers desks left most : ℕ) : Type 0 where
+  pub some_events : 0 < most
+  pub events_limit : most ≤ 2 ^ 30
+  pub desks_limit : desks ≤ 65536
+  pub books : 5 * workers ≤ left
+
+-- no number is named twice
+abbrev pub AreApart : {X : Type 0} → (X → ℕ) → List X → Type 0
+AreApart number [] = ⊤
+AreApart number (x ∷ xs) = AllByRecursion (λ other. (number other == number x) ≡ false) xs × AreApart number xs
+
+-- neither a worker nor a client is named twice
+pub record AreNamedOnce (workers : List WorkerId) (desks : List ClientSide) : Type 0 where
+  pub workers_once : AreApart (λ (w : WorkerId). w.0) workers
+  pub clients_once : AreApart (λ (d : ClientSide). d.client) desks
+
+-- a worker's five books from the n-th on, each with one till open, and these tills
+abbrev pub new_accounts : ℕ → WorkerAccounts
+new_accounts n = record {
+  calls = new_book n;
+  misses = new_book (n + 1);
+  tokens = new_book (n + 2);
+  grants = new_book (n + 3);
+  granted = new_book (n + 4);
+}
+
+abbrev pub new_holdings : ℕ → WorkerHoldings
+new_holdings n = record {
+  calls = new_till n;
+  misses = new_till (n + 1);
+  tokens = new_till (n + 2);
+  grants = new_till (n + 3);
+  granted = new_till (n + 4);
+}
+
+abbrev pub new_worker : ℕ → WorkerId → WorkerSide
+new_worker n w = record { worker = w.0; books = new_accounts n }
+
+-- the workers, whose books are the next of the mint
+abbrev pub new_workers : ℕ → List WorkerId → List WorkerSide
+new_workers n [] = []
+new_workers n (w ∷ ws) = new_worker n w ∷ new_workers (n + 5) ws
+
+-- so many tills more are open of a desk's grant books
+abbrev pub with_tills : ℕ → Account → Account
+with_tills k book = record book { open_tills = book.open_tills + k }
+
+abbrev pub desk_with_tills : ℕ → ClientSide → ClientSide
+desk_with_tills k d = record d {
+  books = record { reservation = with_tills k d.books.reservation; priority = with_tills k d.books.priority };
+}
+
+-- a new till of each phase of a desk
+abbrev pub new_unit : ClientSide → GrantHoldings
+new_unit d = record { reservation = new_till d.books.reservation.number; priority = new_till d.books.priority.number }
+
+-- the pass of a worker: it holds nothing
+abbrev pub new_pass : ℕ → ℕ → List ClientId → List ClientSide → WorkerId → PassState
+new_pass place n clients desks w = record {
+  worker = w.0;
+  place = place;
+  tills = new_holdings n;
+  clients = clients;
+  units = map new_unit desks;
+}
+
+-- the passes of the workers, in their order
+abbrev pub new_passes : ℕ → ℕ → List ClientId → List ClientSide → List WorkerId → List PassState
+new_passes place n clients desks [] = []
+new_passes place n clients desks (w ∷ ws) = new_pass place n clients desks w ∷ new_passes (place + 1) (n + 5) clients desks ws
+
+-- a book of an empty history, which is open; each desk has a till open for each worker beside the held ones
+abbrev pub new_state : {T : Type 0} → Setting → ℕ → ℕ → ℕ → List WorkerId → List ClientSide → BookState T
+new_state config server most n workers desks = record {
+  config = config;
+  server = server;
+  history = [];
+  most = most;
+  workers = new_workers n workers;
+  desks = map (desk_with_tills (length workers)) desks;
+  closed = false;
+}
+
+-- one more till of each of the books may be opened
+pub record HaveRoom (books : GrantAccounts) : Type 0 where
+  pub reservation : books.reservation.open_tills < 4294967295
+  pub priority : books.priority.open_tills < 4294967295

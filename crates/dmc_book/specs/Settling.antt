@@ -1,0 +1,131 @@
+-- A queue's book that is settled.
+use Rattle.std.specs.Prelude.{◌≡◌, ℕ, ◌+◌, ◌<◌, List, [], ◌∷◌, length, slice_index_or}
+use Rattle.std.specs.List.{AllByRecursion}
+use Rattle.dmc_types.specs.declared.config.PhaseType.{PhaseType}
+use Rattle.dmc_types.specs.declared.config.PhaseType.TheVariants.{Reservation, Priority}
+use Rattle.dmc_tag.specs.declared.event.Event.{Event}
+use Rattle.dmc_ledger.specs.Accounts.{Account, closed, total_of}
+use Rattle.dmc_ledger.specs.Bundles.{ClientSide, GrantAccounts, GrantHoldings}
+use Rattle.dmc_ledger.specs.Moves.{till_in}
+use Rattle.dmc_book.specs.BookState.{BookState, PassState, WorkerAccounts, WorkerSide, no_desk, no_unit}
+use Rattle.dmc_book.specs.Counts.{count, worker_adds, stamps_added, delta_added, rho_added, grants_added}
+use Rattle.dmc_book.specs.Moves.{IsEnrolled}
+
+-- ---- whose passes they are
+
+-- the tills are of these grant books
+pub record AreUnitsOf (tills : GrantHoldings) (books : GrantAccounts) : Type 0 where
+  pub reservation : tills.reservation.number ≡ books.reservation.number
+  pub priority : tills.priority.number ≡ books.priority.number
+
+-- tills of each desk's grant books, in the order of the desks
+pub record AreDeskUnits (desks : List ClientSide) (units : List GrantHoldings) : Type 0 where
+  pub as_many : length units ≡ length desks
+  pub each : (k : ℕ) → k < length desks → AreUnitsOf (slice_index_or units k no_unit) (slice_index_or desks k no_desk).books
+
+-- the pass is of a worker here, and has tills of each desk's grant books
+pub record IsOwn (workers : List WorkerSide) (desks : List ClientSide) (p : PassState) : Type 0 where
+  pub enrolled : IsEnrolled workers p
+  pub units : AreDeskUnits desks p.units
+
+-- As many passes as workers, each of a worker here. One till of each worker's books is open, so none stands there twice.
+pub record AreOwn (workers : List WorkerSide) (desks : List ClientSide) (passes : List PassState) : Type 0 where
+  pub as_many : length passes ≡ length workers
+  pub each : AllByRecursion (IsOwn workers desks) passes
+
+-- ---- the workers
+
+-- each of the five books has one till open
+pub record AreOneOpen (books : WorkerAccounts) : Type 0 where
+  pub calls : books.calls.open_tills ≡ 1
+  pub misses : books.misses.open_tills ≡ 1
+  pub tokens : books.tokens.open_tills ≡ 1
+  pub grants : books.grants.open_tills ≡ 1
+  pub granted : books.granted.open_tills ≡ 1
+
+-- a worker whose pass is gathered
+abbrev pub closed_accounts : WorkerAccounts → WorkerAccounts
+closed_accounts books = record {
+  calls = closed books.calls;
+  misses = closed books.misses;
+  tokens = closed books.tokens;
+  grants = closed books.grants;
+  granted = closed books.granted;
+}
+
+abbrev pub closed_worker : WorkerSide → WorkerSide
+closed_worker w = record w { books = closed_accounts w.books }
+
+-- what was gathered is what the events add, and no till is open
+pub record IsGathered {T : Type 0} (adds : Event T → ℕ) (history : List (Event T)) (book : Account) : Type 0 where
+  pub gathered : book.gathered ≡ count adds history
+  pub held : book.held ≡ 0
+  pub open_tills : book.open_tills ≡ 0
+
+-- the numbers of a worker's pass are its counts over the history
+pub record IsSettledWorker {T : Type 0} (history : List (Event T)) (w : WorkerSide) : Type 0 where
+  pub calls : IsGathered (λ e. (worker_adds w.worker e).calls) history w.books.calls
+  pub misses : IsGathered (λ e. (worker_adds w.worker e).misses) history w.books.misses
+  pub tokens : IsGathered (λ e. (worker_adds w.worker e).tokens) history w.books.tokens
+  pub grants : IsGathered (λ e. (worker_adds w.worker e).grants) history w.books.grants
+  pub granted : IsGathered (λ e. (worker_adds w.worker e).granted) history w.books.granted
+
+-- ---- the desks
+
+-- the units of a phase that are left in the passes at the place of a desk
+abbrev pub left_in : PhaseType → ℕ → List PassState → ℕ
+left_in phase k [] = 0
+left_in phase k (p ∷ ps) = (till_in phase (slice_index_or p.units k no_unit)).amount + left_in phase k ps
+
+-- the book gathered so many tills, which held so many units
+pub record IsTakenIn (tills units : ℕ) (old new : Account) : Type 0 where
+  pub number : new.number ≡ old.number
+  pub gathered : new.gathered ≡ old.gathered + units
+  pub total : total_of new ≡ total_of old
+  pub open_tills : new.open_tills + tills ≡ old.open_tills
+
+-- the desk gathered tills of each phase, and is else as it was
+pub record IsDeskTakenIn (tills reservation priority : ℕ) (old new : ClientSide) : Type 0 where
+  pub its : new ≡ record old { books = new.books }
+  pub reservations : IsTakenIn tills reservation old.books.reservation new.books.reservation
+  pub priorities : IsTakenIn tills priority old.books.priority new.books.priority
+
+-- each desk gathered its tills of these
+pub record AreUnitsTakenIn (units : List GrantHoldings) (old new : List ClientSide) : Type 0 where
+  pub as_many : length new ≡ length old
+  pub each : (k : ℕ) → k < length old
+      → IsDeskTakenIn 1 (slice_index_or units k no_unit).reservation.amount (slice_index_or units k no_unit).priority.amount
+      (slice_index_or old k no_desk) (slice_index_or new k no_desk)
+
+-- each desk gathered its tills of these passes
+pub record ArePassesTakenIn (passes : List PassState) (old new : List ClientSide) : Type 0 where
+  pub as_many : length new ≡ length old
+  pub each : (k : ℕ) → k < length old
+      → IsDeskTakenIn (length passes) (left_in Reservation k passes) (left_in Priority k passes)
+      (slice_index_or old k no_desk) (slice_index_or new k no_desk)
+
+-- the grant book totals what it did; what the passes held is gathered, and the held till of its pair alone is open
+pub record IsSettledBook {T : Type 0} (adds : Event T → ℕ) (history : List (Event T)) (held : ℕ) (old new : Account) : Type 0 where
+  pub number : new.number ≡ old.number
+  pub total : total_of new ≡ count adds history
+  pub gathered : new.gathered ≡ held
+  pub open_tills : new.open_tills ≡ 1
+
+-- the desk at a place, which gathered its tills of these passes, and is else as it was
+pub record IsSettledDesk {T : Type 0} (history : List (Event T)) (passes : List PassState) (k : ℕ) (old new : ClientSide) : Type 0 where
+  pub its : new ≡ record old { books = new.books }
+  pub stamps : new.held.stamps.amount ≡ count (stamps_added old.client) history
+  pub delta : new.held.delta.amount ≡ count (delta_added old.client) history
+  pub rho : new.held.rho.amount ≡ count (rho_added old.client) history
+  pub reservations : IsSettledBook (grants_added old.client Reservation) history (left_in Reservation k passes) old.books.reservation new.books.reservation
+  pub priorities : IsSettledBook (grants_added old.client Priority) history (left_in Priority k passes) old.books.priority new.books.priority
+
+pub record AreSettledDesks {T : Type 0} (history : List (Event T)) (passes : List PassState) (old new : List ClientSide) : Type 0 where
+  pub as_many : length new ≡ length old
+  pub each : (k : ℕ) → k < length old → IsSettledDesk history passes k (slice_index_or old k no_desk) (slice_index_or new k no_desk)
+
+-- ---- the book
+
+-- nothing of the book is left that could be settled again
+abbrev pub emptied : {T : Type 0} → BookState T → BookState T
+emptied b = record b { history = []; workers = []; desks = [] }

@@ -1,0 +1,96 @@
+//! Commands handed to the queue.
+ghost use Rattle.std.specs.Prelude.{◌≡◌, true, false, map, Option, Some, None};
+ghost use Rattle.dmc_ledger.specs.Bundles.{client_side};
+ghost use Rattle.dmc_tag.specs.Answers.{told};
+ghost use Rattle.dmc_tag.specs.Steps.{Steps};
+ghost use Rattle.dmc_tag.specs.declared.reply.Reply.TheVariants as replies;
+ghost use Rattle.dmc_types.specs.declared.command.Command.TheVariants as commands;
+ghost use Rattle.dmc_pull.specs.Queue.{state_of};
+ghost use Rattle.dmc_book.specs.BookState.{pass_state};
+ghost use Rattle.dmc_book.specs.Calls.{Asks, is_add, added_reply};
+ghost use Rattle.dmc_book.specs.Moves.{takes, takes_by};
+
+use crate::desk::UnitTest;
+use crate::fault::RunFault;
+use crate::pass::WorkerPass;
+use dmc_index::index::Indexes;
+use dmc_ledger::desk::ClientDesk;
+use dmc_ledger::setup::Setup;
+use dmc_pull::granting::PullFault;
+use dmc_pull::queue::PullQueue;
+use dmc_tag::answers;
+use dmc_tag::reply::{Reply, Tags};
+use dmc_tag::scheduler::Scheduler;
+use dmc_tag::tag::Tag;
+use dmc_types::command::Command;
+use dmc_types::ids::{ClientId, Token};
+use dmc_types::moment::Moment;
+use dmc_types::params::ReqParams;
+use dmc_types::refusal::{QueueFault, Refusal};
+use indexmap::IndexSet;
+
+/// What the queue makes of an add.
+#[derive(Clone, Copy)]
+pub(crate) enum Added<T> {
+    Tagged(Tags<T>),
+    Refused(Refusal),
+    Memory,
+}
+
+/// Hands an add to the queue.
+pub(crate) fn ask_to_add<T: Tag, I: Indexes<T>>(
+    queue: &mut PullQueue<T, I>,
+    client: ClientId,
+    token: Token,
+    params: ReqParams,
+    at: Moment,
+) -> Added<T>
+    ensures { Steps T.ops (state_of queue.old) (state_of queue.new) (commands.Add client token params at) (added_reply result) }
+{
+    match queue.add_request(client, token, params, at) {
+        Ok(tags) => Added::Tagged(tags),
+        Err(QueueFault::Refused(refusal)) => Added::Refused(refusal),
+        Err(QueueFault::Memory) => Added::Memory,
+    }
+}
+
+/// Pulls, where the pass has a till for the grant.
+fn ask_to_pull<T: Tag, I: Indexes<T>, S: Setup>(
+    queue: &mut PullQueue<T, I>,
+    test: &UnitTest<S>,
+    at: Moment,
+) -> Result<Reply<T>, RunFault>
+    ensures { Asks T.ops (takes_by test.now.clients.now.keys (map client_side test.now.desks.now) (pass_state test.now.pass.now).clients (pass_state test.now.pass.now).units) (state_of queue.old) (state_of queue.new) (commands.Pull at) result }
+{
+    match queue.pull_allowed(at, test) {
+        Ok(pulled) => Ok(answers::pulled(Ok(pulled))),
+        Err(PullFault::Refused(refusal)) => Ok(Reply::Refused(refusal)),
+        Err(PullFault::Declined) => Err(RunFault::Stranger),
+    }
+}
+
+/// Hands a command that is not an Add to the queue.
+pub(crate) fn ask<T: Tag, I: Indexes<T>, S: Setup>(
+    queue: &mut PullQueue<T, I>,
+    clients: &IndexSet<ClientId>,
+    desks: &[ClientDesk<S>],
+    pass: &WorkerPass<S>,
+    command: &Command,
+) -> Result<Reply<T>, RunFault>
+    requires plain { is_add command.now ≡ false }
+    requires named { clients.now.keys ≡ map (λ d. d.client) desks.now }
+    ensures { Asks T.ops (takes (map client_side desks.now) (pass_state pass.now).clients (pass_state pass.now).units) (state_of queue.old) (state_of queue.new) command.now result }
+{
+    if let Command::Pull { at } = *command {
+        let test = UnitTest {
+            clients,
+            desks,
+            pass,
+        };
+        return ask_to_pull(queue, &test, at);
+    }
+    match queue.apply(command) {
+        Ok(reply) => Ok(reply),
+        Err(_) => Err(RunFault::Memory),
+    }
+}

@@ -1,0 +1,390 @@
+//! The queue's book.
+ghost use Rattle.std.specs.Prelude.{◌≡◌, ◌==◌, ◌≤◌, ◌<◌, ◌+◌, ◌*◌, ◌^◌, ◌↔◌, length, map, true, false, not, is_some, Some, None, IfOk, IfErr, IsOk, OnOk, OnErr, IsErrOf, IsErrAnd, IsTrue, IfSome, slice_index_or};
+ghost use Rattle.std.specs.List.{AllByRecursion};
+ghost use Rattle.dmc_ledger.specs.Bundles.{Covers, client_side, grant_holdings, stamp_holdings};
+ghost use Rattle.dmc_ledger.specs.Moves.{tills_after_submit};
+ghost use Rattle.dmc_tag.specs.Answers.{told};
+ghost use Rattle.dmc_tag.specs.Replay.{after, replays};
+ghost use Rattle.dmc_tag.specs.Steps.{Steps};
+ghost use Rattle.dmc_tag.specs.declared.reply.Reply.TheVariants as replies;
+ghost use Rattle.dmc_types.specs.declared.command.Command.TheVariants as commands;
+ghost use Rattle.dmc_pull.specs.Queue as queue_specs;
+ghost use Rattle.dmc_book.specs.BookState.{pass_state, worker_side};
+ghost use Rattle.dmc_book.specs.Calls.{IsForDesk, names_none, Ran, Strays, SubmitRefused, is_add, lacks_desk, reply_to};
+ghost use Rattle.dmc_book.specs.Moves.{IsEnrolled, takes};
+ghost use Rattle.dmc_book.specs.Opening.{AreBookLimits, AreNamedOnce, IsNewDesk, new_passes, new_state};
+ghost use Rattle.dmc_book.specs.Settling.{AreOwn, AreSettledDesks, IsSettledWorker, closed_worker, emptied};
+ghost use Rattle.dmc_book.specs.Status.{IsStatusOf};
+
+use crate::asking::{Added, ask, ask_to_add};
+use crate::desk::{find_stamps, hand_out, take_in};
+use crate::fault::{BookFault, NewFault, RunFault, SubmitCause, SubmitFault};
+use crate::opening::{Parts, Room, make_parts, open_workers};
+use crate::pass::WorkerPass;
+use crate::seat::{Seat, count, is_enrolled};
+use crate::settled::{Settled, are_own, take_history, take_passes};
+use crate::status::Status;
+use dmc_history::History;
+use dmc_index::index::Indexes;
+use dmc_ledger::bundle::StampTills;
+use dmc_ledger::desk::ClientDesk;
+use dmc_ledger::mint::Mint;
+use dmc_ledger::setup::Setup;
+use dmc_pull::queue::PullQueue;
+use dmc_tag::event::Event;
+use dmc_tag::reply::{Reply, Tags};
+use dmc_tag::tag::Tag;
+use dmc_tlock::stamp::Stamp;
+use dmc_types::command::Command;
+use dmc_types::config::QueueConfig;
+use dmc_types::ids::{ClientId, ServerId, Token, WorkerId};
+use dmc_types::moment::Moment;
+use indexmap::IndexSet;
+use std::alloc::Global;
+use std::marker::Model;
+use std::mem::replace;
+
+/// A part of a book. A struct that is generic in indexes has a rule for letting it go, as generic code does, where such a
+/// part stands behind a type parameter.
+#[derive(Drop)]
+pub(crate) struct Part<P>(pub(crate) P);
+
+/// A server's queue with the history of what it answered, five books for each enrolled worker, and a desk for each client.
+///
+/// What holds of every book is the invariant of its type: the three indexes hold exactly the clients with a queued request,
+/// the history replays, the books of each worker total its counts over the history, and each desk holds what the history
+/// took from its client and totals what it granted. The laws tell it.
+#[derive(Drop)]
+pub struct QueueBook<T: Tag, I: Indexes<T>, S: Setup> {
+    pub(crate) config: QueueConfig,
+    server: ServerId,
+    pub(crate) queue: Part<PullQueue<T, I>>,
+    history: History<Event<T>>,
+    pub(crate) workers: Vec<Seat<S>>,
+    clients: IndexSet<ClientId>,
+    pub(crate) desks: Vec<ClientDesk<S>>,
+    closed: bool,
+}
+
+impl<T: Tag, I: Indexes<T>, S: Setup> Model for QueueBook<T, I, S> {
+    ghost use Rattle.std.specs.Prelude.{◌≡◌, map};
+    ghost use Rattle.dmc_ledger.specs.Bundles.{client_side};
+    ghost use Rattle.dmc_pull.specs.Queue as queue_specs;
+    ghost use Rattle.dmc_book.specs.BookState.{BookState, state_of, worker_side};
+    ghost use Rattle.dmc_book.specs.Consistent.{IsConsistent};
+
+    ghost Value = { BookState T };
+
+    ghost view = { λ b. state_of b.config b.server.0 b.history (map worker_side b.workers.items) (map client_side b.desks.items) b.closed };
+
+    ghost invariant = { λ b. IsConsistent T.ops (queue_specs.state_of b.queue.0) (state_of b.config b.server.0 b.history (map worker_side b.workers.items) (map client_side b.desks.items) b.closed)
+        × (b.clients.keys ≡ map (λ d. d.client) b.desks.items) };
+}
+
+impl<T: Tag, I: Indexes<T>, S: Setup> QueueBook<T, I, S> {
+    /// A book of an empty queue, which is open, and a pass for each worker, in their order, which holds nothing. The desks are
+    /// this server's, as `open_pair` gave them; beside the held till of each of their books each pass has one. `most` is the
+    /// history's (1 to 2^30).
+    ///
+    /// Refused `Limit`, `Twice`, `Memory`, with the desks handed back and the mint as it was. Names are compared in room that
+    /// is made for it: where there is none, names that stand there twice are refused `Memory`.
+    pub fn new(
+        alloc: Global,
+        config: QueueConfig,
+        server: ServerId,
+        workers: &[WorkerId],
+        desks: Vec<ClientDesk<S>>,
+        mint: &mut Mint<S>,
+        most: u32,
+    ) -> Result<(QueueBook<T, I, S>, Vec<WorkerPass<S>>), BookFault<S>>
+        requires few { length workers.now ≤ 4294967294 }
+        requires new { AllByRecursion (IsNewDesk server.0) (map client_side desks.items) }
+        ensures book { IfOk result (λ made.
+            made.0 ≡ new_state config server.0 most mint.old.opened workers.now (map client_side desks.items)) }
+        ensures passes { IfOk result (λ made. map pass_state made.1.items
+            ≡ new_passes 0 mint.old.opened (map (λ d. d.client) desks.items) (map client_side desks.items) workers.now) }
+        ensures opened { OnOk result (mint.new.opened ≡ mint.old.opened + 5 * length workers.now) }
+        ensures left { OnOk result (mint.new.left + 5 * length workers.now ≡ mint.old.left) }
+        ensures once { OnOk result (AreNamedOnce workers.now (map client_side desks.items)) }
+        ensures back { IfErr result (λ fault. fault.desks ≡ desks) }
+        ensures mint_kept { OnErr result (mint.new ≡ mint.old) }
+        ensures limit { IsErrAnd result (λ fault. fault.cause ≡ NewFault.Limit)
+            ↔ (AreBookLimits (length workers.now) (length desks.items) mint.old.left most → ⊥) }
+        ensures twice { IsErrAnd result (λ fault. fault.cause ≡ NewFault.Twice)
+            → AreNamedOnce workers.now (map client_side desks.items) → ⊥ }
+    {
+        let parts = match make_parts(alloc, workers, &desks, mint.left(), most) {
+            Ok(parts) => parts,
+            Err(cause) => return Err(BookFault { desks, cause }),
+        };
+        let Parts {
+            history,
+            clients,
+            room,
+        } = parts;
+        let Room {
+            rooms,
+            mut seats,
+            mut passes,
+        } = room;
+        let mut desks = desks;
+        open_workers(mint, workers, &mut desks, rooms, &mut seats, &mut passes);
+        let book = QueueBook {
+            config,
+            server,
+            queue: Part(PullQueue::new(alloc, config)),
+            history,
+            workers: seats,
+            clients,
+            desks,
+            closed: false,
+        };
+        Ok((book, passes))
+    }
+
+    /// What the queue answered, oldest first. It replays.
+    pub fn history(&self) -> &History<Event<T>>
+        ensures events { result.now.events ≡ self.now.history }
+        ensures most { result.now.most ≡ self.now.most }
+        ensures replays { replays T.ops self.now.config self.now.history }
+    {
+        &self.history
+    }
+
+    /// Whose book it is.
+    pub fn server(&self) -> ServerId
+        ensures { result.0 ≡ self.now.server }
+    {
+        self.server
+    }
+
+    /// Whether no request is queued.
+    pub fn is_empty(&self) -> bool
+        ensures { result ≡ (length (after T.ops self.now.config self.now.history).requests == 0) }
+    {
+        self.queue.0.empty()
+    }
+
+    /// Whether it takes no more requests.
+    pub fn is_closed(&self) -> bool
+        ensures { result ≡ self.now.closed }
+    {
+        self.closed
+    }
+
+    /// Takes no more requests from now on. What is queued is still granted. A second close changes nothing.
+    pub fn close(&mut self)
+        ensures { self.new ≡ record self.old { closed = true } }
+    {
+        self.closed = true;
+    }
+
+    /// What the pass holds of the worker's counts, and how the book stands; refused `Stranger` where the pass is of no worker
+    /// that is enrolled here, or its tills are not of that worker's books.
+    pub fn status(&self, pass: &WorkerPass<S>) -> Result<Status, RunFault>
+        ensures status { IfOk result (λ status. IsStatusOf T.ops self.now (pass_state pass.now).tills status) }
+        ensures enrolled { OnOk result (IsEnrolled self.now.workers (pass_state pass.now)) }
+        ensures stranger { OnErr result (IsEnrolled self.now.workers (pass_state pass.now) → ⊥) }
+        ensures cause { IfErr result (λ fault. fault ≡ RunFault.Stranger) }
+    {
+        if !is_enrolled(&self.workers, pass) {
+            return Err(RunFault::Stranger);
+        }
+        Ok(Status {
+            calls: pass.tills.calls.amount(),
+            misses: pass.tills.misses.amount(),
+            tokens: pass.tills.tokens.amount(),
+            grants: pass.tills.grants.amount(),
+            granted: pass.tills.granted.amount(),
+            clients: self.queue.0.client_count(),
+            requests: self.queue.0.request_count(),
+            events: self.history.len() as u32,
+            closed: self.closed,
+        })
+    }
+
+    /// Hands a command that is not an Add to the queue, and records what the queue answered, its refusals included. It adds
+    /// one to the worker's calls, one to its misses where the reply is Later, Nothing or Refused, and of a grant one unit of
+    /// its client and phase to the pass.
+    ///
+    /// Refused, with nothing recorded: `Stranger`, `NoDesk`, `HistoryFull`, `Memory`. A pull that would grant a request whose
+    /// unit the pass has no till for is `Stranger` too; that is seen once the place of the event is made.
+    pub fn run(&mut self, pass: &mut WorkerPass<S>, command: Command) -> Result<Reply<T>, RunFault>
+        requires { is_add command ≡ false }
+        ensures ran { IfOk result (λ reply. Ran T.ops self.old self.new (pass_state pass.old) (pass_state pass.new) command reply) }
+        ensures kept { OnErr result (self.new ≡ self.old) }
+        ensures pass_kept { OnErr result (pass_state pass.new ≡ pass_state pass.old) }
+        ensures stranger { (IsEnrolled self.old.workers (pass_state pass.old) → ⊥) → result ≡ Err RunFault.Stranger }
+        ensures strays { IsErrOf result RunFault.Stranger → IsEnrolled self.old.workers (pass_state pass.old)
+            → Strays (takes self.old.desks (pass_state pass.old).clients (pass_state pass.old).units) command (reply_to T.ops self.old command) }
+        ensures granted { OnOk result
+            (Strays (takes self.old.desks (pass_state pass.old).clients (pass_state pass.old).units) command (reply_to T.ops self.old command) → ⊥) }
+        ensures no_desk { IsErrOf result RunFault.NoDesk
+            ↔ (IsEnrolled self.old.workers (pass_state pass.old) × (lacks_desk self.old.desks command ≡ true)) }
+        ensures history_full { IsErrOf result RunFault.HistoryFull
+            ↔ (IsEnrolled self.old.workers (pass_state pass.old) × (lacks_desk self.old.desks command ≡ false)
+            × (length self.old.history ≡ self.old.most)) }
+    {
+        if !is_enrolled(&self.workers, pass) {
+            return Err(RunFault::Stranger);
+        }
+        if lacks_desk_for(&self.clients, &command) {
+            return Err(RunFault::NoDesk);
+        }
+        self.history.reserve_one()?;
+        let reply = ask(
+            &mut self.queue.0,
+            &self.clients,
+            &self.desks,
+            pass,
+            &command,
+        )?;
+        let event = Event {
+            worker: pass.worker,
+            command,
+            reply,
+        };
+        count(&mut self.workers, pass.place, &mut pass.tills, &event);
+        hand_out(&pass.clients, &mut self.desks, &mut pass.units, &event);
+        self.history.push_reserved(event);
+        Ok(reply)
+    }
+
+    /// Queues a stamped request for its client, and answers its tags. It moves the stamp with its delta and rho from the tills
+    /// to the client's desk, and adds one to the worker's calls, and the token to its tokens.
+    ///
+    /// Refused `Stranger`, `Closed`, `HistoryFull`, `Memory`, or as the queue refuses an add; this last is recorded, as a call
+    /// and a miss, and nothing else moves. Each refusal hands the stamp back.
+    pub fn submit(
+        &mut self,
+        pass: &mut WorkerPass<S>,
+        tills: &mut StampTills<S>,
+        stamp: Stamp,
+        token: Token,
+        at: Moment,
+    ) -> Result<Tags<T>, SubmitFault>
+        requires { Covers (stamp_holdings tills.old) stamp.params }
+        ensures accepted { IfOk result (λ tags. Ran T.ops self.old self.new (pass_state pass.old) (pass_state pass.new) (commands.Add (record { 0 = stamp.client }) token stamp.params at) (replies.Tagged tags)) }
+        ensures taken { OnOk result (stamp_holdings tills.new ≡ tills_after_submit stamp.params (stamp_holdings tills.old)) }
+        ensures refused { IfErr result (λ fault. SubmitRefused T.ops self.old self.new (pass_state pass.old) (pass_state pass.new) (commands.Add (record { 0 = stamp.client }) token stamp.params at) fault.cause) }
+        ensures handed_back { IfErr result (λ fault. fault.stamp ≡ stamp) }
+        ensures tills_kept { OnErr result (stamp_holdings tills.new ≡ stamp_holdings tills.old) }
+        ensures stranger { IsErrAnd result (λ fault. fault.cause ≡ SubmitCause.Stranger)
+            ↔ (IsEnrolled self.old.workers (pass_state pass.old) × IsForDesk self.old.server self.old.desks stamp (stamp_holdings tills.old) → ⊥) }
+        ensures closed { IsErrAnd result (λ fault. fault.cause ≡ SubmitCause.Closed)
+            ↔ (IsEnrolled self.old.workers (pass_state pass.old) × IsForDesk self.old.server self.old.desks stamp (stamp_holdings tills.old)
+            × (self.old.closed ≡ true)) }
+        ensures history_full { IsErrAnd result (λ fault. fault.cause ≡ SubmitCause.HistoryFull)
+            ↔ (IsEnrolled self.old.workers (pass_state pass.old) × IsForDesk self.old.server self.old.desks stamp (stamp_holdings tills.old)
+            × (self.old.closed ≡ false) × (length self.old.history ≡ self.old.most)) }
+    {
+        if !is_enrolled(&self.workers, pass) {
+            return Err(SubmitFault {
+                stamp,
+                cause: SubmitCause::Stranger,
+            });
+        }
+        let Some(desk) = find_stamps(&self.clients, &self.desks, self.server, tills, &stamp) else {
+            return Err(SubmitFault {
+                stamp,
+                cause: SubmitCause::Stranger,
+            });
+        };
+        if self.closed {
+            return Err(SubmitFault {
+                stamp,
+                cause: SubmitCause::Closed,
+            });
+        }
+        if let Err(fault) = self.history.reserve_one() {
+            let cause = SubmitCause::from(fault);
+            return Err(SubmitFault { stamp, cause });
+        }
+        let (client, params) = (stamp.client(), stamp.params());
+        let command = Command::Add {
+            client,
+            token,
+            params,
+            at,
+        };
+        let worker = pass.worker;
+        match ask_to_add(&mut self.queue.0, client, token, params, at) {
+            Added::Tagged(tags) => {
+                let event = Event {
+                    worker,
+                    command,
+                    reply: Reply::Tagged(tags),
+                };
+                count(&mut self.workers, pass.place, &mut pass.tills, &event);
+                take_in(&mut self.desks, desk, tills, client, params, &event);
+                self.history.push_reserved(event);
+                Ok(tags)
+            }
+            Added::Refused(refusal) => {
+                let event = Event {
+                    worker,
+                    command,
+                    reply: Reply::Refused(refusal),
+                };
+                count(&mut self.workers, pass.place, &mut pass.tills, &event);
+                self.history.push_reserved(event);
+                let cause = SubmitCause::Refused(refusal);
+                Err(SubmitFault { stamp, cause })
+            }
+            Added::Memory => Err(SubmitFault {
+                stamp,
+                cause: SubmitCause::Memory,
+            }),
+        }
+    }
+
+    /// Settles the book with exactly the passes that `new` gave, in any order. It gathers them, and answers what the queue
+    /// answered, how many requests are queued, the workers with what their passes held, and the desks: of each grant book what
+    /// was gathered is what the passes held, and the held till of its pair alone is open. The book is then empty: it has no
+    /// worker, no desk and no event, so nothing is counted twice. Other passes are handed back, and the book is as it was. It
+    /// takes no memory.
+    pub fn settle(
+        &mut self,
+        alloc: Global,
+        passes: Vec<WorkerPass<S>>,
+    ) -> Result<Settled<T, S>, Vec<WorkerPass<S>>>
+        ensures own { IsOk result ↔ AreOwn self.old.workers self.old.desks (map pass_state passes.items) }
+        ensures back { IfErr result (λ back. back ≡ passes) }
+        ensures kept { OnErr result (self.new ≡ self.old) }
+        ensures emptied { OnOk result (self.new ≡ emptied self.old) }
+        ensures history { IfOk result (λ settled. settled.history.events ≡ self.old.history) }
+        ensures replays { IfOk result (λ settled. replays T.ops self.old.config settled.history.events) }
+        ensures left { IfOk result (λ settled. settled.left ≡ length (after T.ops self.old.config self.old.history).requests) }
+        ensures workers { IfOk result (λ settled. map worker_side settled.workers.items ≡ map closed_worker self.old.workers) }
+        ensures counts { IfOk result (λ settled. AllByRecursion (IsSettledWorker self.old.history) (map worker_side settled.workers.items)) }
+        ensures desks { IfOk result (λ settled.
+            AreSettledDesks self.old.history (map pass_state passes.items) self.old.desks (map client_side settled.desks.items)) }
+    {
+        if !are_own(&self.workers, &self.desks, &passes) {
+            return Err(passes);
+        }
+        let left = self.queue.0.request_count();
+        take_passes(&mut self.workers, &mut self.desks, passes);
+        self.queue = Part(PullQueue::new(alloc, self.config));
+        self.clients = IndexSet::new(alloc);
+        Ok(Settled {
+            history: take_history(&mut self.history, alloc),
+            left,
+            workers: replace(&mut self.workers, Vec::new(alloc)),
+            desks: replace(&mut self.desks, Vec::new(alloc)),
+        })
+    }
+}
+
+/// Whether the command registers a client that has no desk.
+fn lacks_desk_for(clients: &IndexSet<ClientId>, command: &Command) -> bool
+    ensures { result ≡ names_none clients.now.keys command.now }
+{
+    match *command {
+        Command::Register { client, .. } => match clients.get_index_of(&client) {
+            Some(_) => false,
+            None => true,
+        },
+        _ => false,
+    }
+}

@@ -1,0 +1,86 @@
+//! What an event adds to the counts.
+ghost use Rattle.std.specs.Prelude.{◌≡◌, ◌≤◌};
+ghost use Rattle.dmc_book.specs.Counts as counts;
+
+use dmc_tag::reply::Reply;
+use dmc_types::command::Command;
+use dmc_types::config::PhaseType;
+use dmc_types::ids::{ClientId, Token};
+
+/// What an event adds to the five counts of its worker.
+#[derive(Clone, Copy)]
+pub(crate) struct Numbers {
+    pub(crate) calls: u32,
+    pub(crate) misses: u32,
+    pub(crate) tokens: u32,
+    pub(crate) grants: u32,
+    pub(crate) granted: u32,
+}
+
+/// The token of an add that was accepted, else 0.
+fn token_added<T: Copy>(command: &Command, reply: &Reply<T>) -> u32
+    ensures { result ≡ (counts.numbers_of command.now reply.now).tokens }
+{
+    match (*command, *reply) {
+        (
+            Command::Add {
+                client: _,
+                token: Token(token),
+                params: _,
+                at: _,
+            },
+            Reply::Tagged(_),
+        ) => token,
+        _ => 0,
+    }
+}
+
+fn is_miss<T: Copy>(reply: &Reply<T>) -> bool
+    ensures { result ≡ counts.is_miss reply.now }
+{
+    matches!(*reply, Reply::Later(_) | Reply::Nothing | Reply::Refused(_))
+}
+
+/// The token of a grant, else 0.
+fn token_granted<T: Copy>(reply: &Reply<T>) -> u32
+    ensures { result ≡ counts.token_granted reply.now }
+{
+    match *reply {
+        Reply::Granted {
+            client: _,
+            token: Token(token),
+            phase: _,
+            beyond: _,
+        } => token,
+        _ => 0,
+    }
+}
+
+/// Who is granted, and in which phase.
+pub(crate) fn grant_in<T: Copy>(reply: &Reply<T>) -> Option<(ClientId, PhaseType)>
+    ensures { result ≡ counts.grant_in reply.now }
+{
+    match *reply {
+        Reply::Granted {
+            client,
+            token: _,
+            phase,
+            beyond: _,
+        } => Some((client, phase)),
+        _ => None,
+    }
+}
+
+/// What an event of this command and this reply adds.
+pub(crate) fn numbers_of<T: Copy>(command: &Command, reply: &Reply<T>) -> Numbers
+    ensures value { result ≡ counts.numbers_of command.now reply.now }
+    ensures small { counts.IsSmall result }
+{
+    Numbers {
+        calls: 1,
+        misses: u32::from(is_miss(reply)),
+        tokens: token_added(command, reply),
+        grants: u32::from(grant_in(reply).is_some()),
+        granted: token_granted(reply),
+    }
+}

@@ -1,0 +1,215 @@
+//! The clients' desks.
+ghost use Rattle.std.specs.Prelude.{◌≡◌, ◌==◌, ◌≤◌, ◌<◌, ◌^◌, ◌↔◌, length, map, true, None, Some, IfSome, IsSome, IsTrue, slice_index_or};
+ghost use Rattle.std.specs.List.{AllByRecursion};
+ghost use Rattle.dmc_ledger.specs.Accounts.{total_of};
+ghost use Rattle.dmc_ledger.specs.Bundles.{Covers, client_side, grant_accounts, grant_holdings, stamp_holdings};
+ghost use Rattle.dmc_ledger.specs.Moves.{book_in, till_in, books_after_grant, tills_after_response, tills_after_stamp, tills_after_submit};
+ghost use Rattle.dmc_pull.specs.Allowed.{is_allowed};
+ghost use Rattle.dmc_book.specs.Calls.{AreAlike, IsForDesk};
+ghost use Rattle.dmc_book.specs.Consistent.{AreClientsApart, AreGrantsWithin};
+ghost use Rattle.dmc_book.specs.Counts as counts;
+ghost use Rattle.dmc_book.specs.Moves.{desk_after, takes, takes_at, takes_by, desk_place, units_after, unit_at};
+ghost use Rattle.dmc_book.specs.BookState.{no_desk, pass_state};
+
+use crate::counts::grant_in;
+use crate::pass::WorkerPass;
+use crate::seat::credit;
+use dmc_ledger::bundle::{GrantBooks, GrantTills, StampTills};
+use dmc_ledger::desk::ClientDesk;
+use dmc_ledger::setup::Setup;
+use dmc_ledger::till::shift_till;
+use dmc_pull::granting::GrantTest;
+use dmc_tag::event::Event;
+use dmc_tlock::stamp::Stamp;
+use dmc_types::config::PhaseType;
+use dmc_types::ids::{ClientId, ServerId};
+use dmc_types::params::ReqParams;
+use indexmap::IndexSet;
+
+/// Whether a pass has a till for a grant: the client has a desk, the pass names the client at the same place, and the till of
+/// the phase there is of the desk's book.
+#[derive(Drop)]
+pub(crate) struct UnitTest<'a, S: Setup> {
+    pub(crate) clients: &'a IndexSet<ClientId>,
+    pub(crate) desks: &'a [ClientDesk<S>],
+    pub(crate) pass: &'a WorkerPass<S>,
+}
+
+impl<'a, S: Setup> GrantTest for UnitTest<'a, S> {
+    ghost allows = { λ s client phase. takes_by s.clients.now.keys (map client_side s.desks.now) (pass_state s.pass.now).clients (pass_state s.pass.now).units client phase };
+
+    fn allows(&self, client: ClientId, phase: PhaseType) -> bool {
+        let Some(place) = self.clients.get_index_of(&client) else {
+            return false;
+        };
+        let Some(named) = self.pass.clients.get_index_of(&client) else {
+            return false;
+        };
+        place == named && takes_unit(self.desks, &self.pass.units, place, phase)
+    }
+}
+
+/// Whether the till of the phase at a place is of the book of the desk there.
+fn takes_unit<S: Setup>(
+    desks: &[ClientDesk<S>],
+    units: &[GrantTills<S>],
+    place: usize,
+    phase: PhaseType,
+) -> bool
+    ensures { result ≡ takes_at phase (map client_side desks.now) (map grant_holdings units.now) (Some place) }
+{
+    let (Some(desk), Some(unit)) = (desks.get(place), units.get(place)) else {
+        return false;
+    };
+    unit_number(unit, phase) == grant_number(&desk.books, phase)
+}
+
+fn unit_number<S: Setup>(unit: &GrantTills<S>, phase: PhaseType) -> u32
+    ensures { result ≡ (till_in phase (grant_holdings unit.now)).number }
+{
+    match phase {
+        PhaseType::Reservation => unit.reservation.number(),
+        PhaseType::Priority => unit.priority.number(),
+    }
+}
+
+fn grant_number<S: Setup>(books: &GrantBooks<S>, phase: PhaseType) -> u32
+    ensures { result ≡ (book_in phase (grant_accounts books.now)).number }
+{
+    match phase {
+        PhaseType::Reservation => books.reservation.number(),
+        PhaseType::Priority => books.priority.number(),
+    }
+}
+
+/// Issues a unit of a phase.
+fn issue_unit<S: Setup>(books: &mut GrantBooks<S>, unit: &mut GrantTills<S>, phase: PhaseType)
+    requires its { (till_in phase (grant_holdings unit.old)).number ≡ (book_in phase (grant_accounts books.old)).number }
+    requires fits { total_of (book_in phase (grant_accounts books.old)) ≤ 2 ^ 62 }
+    ensures books { grant_accounts books.new ≡ books_after_grant phase (grant_accounts books.old) }
+    ensures unit { grant_holdings unit.new ≡ tills_after_response phase (grant_holdings unit.old) }
+{
+    match phase {
+        PhaseType::Reservation => credit(&mut books.reservation, &mut unit.reservation, 1),
+        PhaseType::Priority => credit(&mut books.priority, &mut unit.priority, 1),
+    }
+}
+
+/// Issues the unit of a grant at the desk of its client, and into the till where the pass names the client.
+pub(crate) fn hand_out<T: Copy, S: Setup>(
+    names: &IndexSet<ClientId>,
+    desks: &mut Vec<ClientDesk<S>>,
+    units: &mut Vec<GrantTills<S>>,
+    event: &Event<T>,
+)
+    requires no_stamp { counts.accepted event.now ≡ None }
+    requires its { is_allowed (takes (map client_side desks.old.items) names.now.keys (map grant_holdings units.old.items)) event.now.reply ≡ true }
+    requires fits { AllByRecursion (λ d. AreGrantsWithin (2 ^ 62) d.books) (map client_side desks.old.items) }
+    requires apart { AreClientsApart (map client_side desks.old.items) }
+    ensures desks { map client_side desks.new.items ≡ map (desk_after event.now) (map client_side desks.old.items) }
+    ensures names { map (λ d. d.client) desks.new.items ≡ map (λ d. d.client) desks.old.items }
+    ensures units { map grant_holdings units.new.items ≡ units_after names.now.keys (counts.grant_in event.now.reply) (map grant_holdings units.old.items) }
+{
+    let Some((client, phase)) = grant_in(&event.reply) else {
+        return;
+    };
+    let Some(place) = names.get_index_of(&client) else {
+        unreachable!()
+    };
+    hand_out_at(desks, units, place, client, phase, event);
+}
+
+/// Issues a unit of a phase at the place of a desk.
+fn hand_out_at<T: Copy, S: Setup>(
+    desks: &mut Vec<ClientDesk<S>>,
+    units: &mut Vec<GrantTills<S>>,
+    place: usize,
+    client: ClientId,
+    phase: PhaseType,
+    event: &Event<T>,
+)
+    requires here { desk_place client.0 (map client_side desks.old.items) ≡ Some place }
+    requires grant { counts.grant_in event.now.reply ≡ Some (client, phase) }
+    requires no_stamp { counts.accepted event.now ≡ None }
+    requires its { takes_at phase (map client_side desks.old.items) (map grant_holdings units.old.items) (Some place) ≡ true }
+    requires fits { AllByRecursion (λ d. AreGrantsWithin (2 ^ 62) d.books) (map client_side desks.old.items) }
+    requires apart { AreClientsApart (map client_side desks.old.items) }
+    ensures desks { map client_side desks.new.items ≡ map (desk_after event.now) (map client_side desks.old.items) }
+    ensures names { map (λ d. d.client) desks.new.items ≡ map (λ d. d.client) desks.old.items }
+    ensures units { map grant_holdings units.new.items ≡ unit_at phase (Some place) (map grant_holdings units.old.items) }
+{
+    issue_unit(&mut desks[place].books, &mut units[place], phase);
+}
+
+/// Whether both are of the same books.
+fn are_alike<S: Setup>(tills: &StampTills<S>, held: &StampTills<S>) -> bool
+    ensures { IsTrue result ↔ AreAlike (stamp_holdings tills.now) (stamp_holdings held.now) }
+{
+    tills.stamps.number() == held.stamps.number()
+        && tills.delta.number() == held.delta.number()
+        && tills.rho.number() == held.rho.number()
+}
+
+/// The place of the desk of a stamp's client, where the stamp is for this server and the tills are of the books of that
+/// desk's stamps.
+pub(crate) fn find_stamps<S: Setup>(
+    clients: &IndexSet<ClientId>,
+    desks: &[ClientDesk<S>],
+    server: ServerId,
+    tills: &StampTills<S>,
+    stamp: &Stamp,
+) -> Option<usize>
+    requires named { clients.now.keys ≡ map (λ d. d.client) desks.now }
+    ensures some { IsSome result ↔ IsForDesk server.0 (map client_side desks.now) stamp.now (stamp_holdings tills.now) }
+    ensures here { IfSome result (λ place. desk_place stamp.now.client (map client_side desks.now) ≡ Some place) }
+    ensures within { IfSome result (λ place. place < length desks.now) }
+    ensures its { IfSome result (λ place. AreAlike (stamp_holdings tills.now) (slice_index_or (map client_side desks.now) place no_desk).held) }
+{
+    if stamp.server() != server {
+        return None;
+    }
+    let Some(place) = clients.get_index_of(&stamp.client()) else {
+        return None;
+    };
+    if !are_alike(tills, &desks[place].held) {
+        return None;
+    }
+    Some(place)
+}
+
+/// Moves a stamp, its delta and its rho into the held tills of a desk.
+fn take_stamp<S: Setup>(held: &mut StampTills<S>, tills: &mut StampTills<S>, params: ReqParams)
+    requires its { AreAlike (stamp_holdings tills.old) (stamp_holdings held.old) }
+    requires covers { Covers (stamp_holdings tills.old) params }
+    ensures held { stamp_holdings held.new ≡ tills_after_stamp params (stamp_holdings held.old) }
+    ensures tills { stamp_holdings tills.new ≡ tills_after_submit params (stamp_holdings tills.old) }
+{
+    let delta = u64::from(params.delta());
+    let rho = u64::from(params.rho());
+    shift_till(&mut tills.stamps, &mut held.stamps, 1);
+    shift_till(&mut tills.delta, &mut held.delta, delta);
+    shift_till(&mut tills.rho, &mut held.rho, rho);
+}
+
+/// Moves the stamp of an accepted add to the desk of its client.
+pub(crate) fn take_in<T: Copy, S: Setup>(
+    desks: &mut Vec<ClientDesk<S>>,
+    place: usize,
+    tills: &mut StampTills<S>,
+    client: ClientId,
+    params: ReqParams,
+    event: &Event<T>,
+)
+    requires within { place < length desks.old.items }
+    requires its { AreAlike (stamp_holdings tills.old) (slice_index_or (map client_side desks.old.items) place no_desk).held }
+    requires covers { Covers (stamp_holdings tills.old) params }
+    requires here { desk_place client.0 (map client_side desks.old.items) ≡ Some place }
+    requires no_grant { counts.grant_in event.now.reply ≡ None }
+    requires stamp { counts.accepted event.now ≡ Some (client, params) }
+    requires apart { AreClientsApart (map client_side desks.old.items) }
+    ensures desks { map client_side desks.new.items ≡ map (desk_after event.now) (map client_side desks.old.items) }
+    ensures names { map (λ d. d.client) desks.new.items ≡ map (λ d. d.client) desks.old.items }
+    ensures tills { stamp_holdings tills.new ≡ tills_after_submit params (stamp_holdings tills.old) }
+{
+    take_stamp(&mut desks[place].held, tills, params);
+}

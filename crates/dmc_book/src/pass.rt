@@ -1,0 +1,68 @@
+//! The tills of a worker.
+ghost use Rattle.std.specs.Prelude.{◌≡◌, slice_get};
+ghost use Rattle.std.specs.Borrow.{sem, Lends, LendsIf};
+ghost use Rattle.std.specs.Option.{option_copied_mut};
+ghost use Rattle.dmc_ledger.specs.Bundles.{grant_holdings};
+ghost use Rattle.dmc_ledger.specs.Moves.{till_in};
+ghost use Rattle.dmc_ledger.specs.contracts.bundle.GrantTills.{the_row as unit_row};
+ghost use Rattle.dmc_ledger.specs.contracts.till.Till.{the_row as till_row};
+ghost use Rattle.dmc_book.specs.BookState.{pass_state};
+ghost use Rattle.dmc_book.specs.Lending.{till_for, with_till, with_unit, given_back};
+ghost use Rattle.dmc_book.specs.contracts.pass.WorkerPass.{the_row as pass_row};
+
+use crate::seat::WorkerTills;
+use dmc_ledger::bundle::GrantTills;
+use dmc_ledger::setup::Setup;
+use dmc_ledger::till::Till;
+use dmc_types::config::PhaseType;
+use dmc_types::ids::{ClientId, WorkerId};
+use indexmap::IndexSet;
+
+/// A worker's tills: five of its own counts, and for each client with a desk one for the grants of each phase.
+///
+/// A till of grants is lent to whoever responds. What was lent may come back changed: that is found out when it is next
+/// used, or when the pass is settled.
+#[derive(Drop)]
+pub struct WorkerPass<S: Setup> {
+    pub(crate) worker: WorkerId,
+    // Where the worker is in the book.
+    pub(crate) place: usize,
+    pub(crate) tills: WorkerTills<S>,
+    pub(crate) clients: IndexSet<ClientId>,
+    pub(crate) units: Vec<GrantTills<S>>,
+}
+
+impl<S: Setup> WorkerPass<S> {
+    /// Lends the till of a client's grants in a phase, or `None` where the pass has none for the client.
+    pub fn grant_till(&mut self, client: ClientId, phase: PhaseType) -> Option<&mut Till<S>>
+        // The pass has then this till as it was given back, and all else as it was.
+        ensures* writes_back { sem 𝓛 (LendsIf (pass_row S.row (record { name = S.name })) (till_row S.row (record { name = S.name })) self.entry result (λ till. given_back self.old client phase till) self.old) }
+
+        ensures value { option_copied_mut result ≡ till_for (pass_state self.old) client phase }
+    {
+        let place = self.clients.get_index_of(&client)?;
+        let unit = self.unit_mut(place)?;
+        Some(till_mut(unit, phase))
+    }
+
+    /// Lends the tills of the client at a place.
+    fn unit_mut(&mut self, place: usize) -> Option<&mut GrantTills<S>>
+        ensures* writes_back { sem 𝓛 (LendsIf (pass_row S.row (record { name = S.name })) (unit_row S.row (record { name = S.name })) self.entry result (λ unit. with_unit self.old place unit) self.old) }
+
+        ensures value { option_copied_mut result ≡ slice_get self.old.units.items place }
+    {
+        self.units.get_mut(place)
+    }
+}
+
+/// Lends the till of a phase.
+fn till_mut<S: Setup>(unit: &mut GrantTills<S>, phase: PhaseType) -> &mut Till<S>
+    ensures* writes_back { sem 𝓛 (Lends (unit_row S.row (record { name = S.name })) (till_row S.row (record { name = S.name })) unit.entry result (λ till. with_till phase till unit.old)) }
+
+    ensures value { result.now ≡ till_in phase (grant_holdings unit.old) }
+{
+    match phase {
+        PhaseType::Reservation => &mut unit.reservation,
+        PhaseType::Priority => &mut unit.priority,
+    }
+}

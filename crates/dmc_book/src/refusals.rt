@@ -1,0 +1,136 @@
+ghost use Rattle.std.specs.Prelude.{◌≡◌};
+
+use crate::fault::{NewFault, RunFault, SubmitCause};
+use crate::pass::WorkerPass;
+use crate::tests::{Book, ONE, SEVEN, ZERO, open, open_desks, pull, register, submit};
+use dmc_ledger::bundle::StampTills;
+use dmc_ledger::mint::Blank;
+use dmc_ledger::setup::Setup;
+use dmc_tag::reply::Reply;
+use dmc_tlock::book::TrackerBook;
+use dmc_types::config::{AtLimit, QueueConfig};
+use dmc_types::ids::{ClientId, Token};
+use dmc_types::moment::Moment;
+use std::alloc::Global;
+use std::marker::Brand;
+use std::test::Fail;
+
+/// What the calls of a book of two events answer.
+#[derive(Clone, Copy, Debug, PartialEq, Eq)]
+struct Answers {
+    no_desk: Option<RunFault>,
+    full: Option<RunFault>,
+    stranger: Option<RunFault>,
+    numbers: (u32, u64, u64),
+}
+
+/// The history is full, and another book's pass is a stranger.
+fn fill<S: Setup>(
+    book: &mut Book<S>,
+    pass: &mut WorkerPass<S>,
+    other: &mut WorkerPass<S>,
+) -> Result<Answers, Fail> {
+    let no_desk = book.run(pass, register(ClientId(2))?).err();
+    book.run(pass, register(ONE)?)?;
+    book.run(pass, pull())?;
+    let full = book.run(pass, pull()).err();
+    let stranger = book.run(other, pull()).err();
+    let status = book.status(pass)?;
+    let numbers = (status.events, status.calls, status.misses);
+    Ok(Answers {
+        no_desk,
+        full,
+        stranger,
+        numbers,
+    })
+}
+
+fn full<S: Setup>(alloc: Global, blank: Blank) -> Result<Answers, Fail>
+    requires { blank.name ≡ S.name }
+{
+    let mut mint = blank.open::<S>();
+    let mut opened = open(alloc, &mut mint, 2)?;
+    let mut other = open(alloc, &mut mint, 2)?;
+    fill(&mut opened.book, &mut opened.pass, &mut other.pass)
+}
+
+/// Stamps and submits where that is refused: whose stamp came back, and the cause.
+fn refuse<S: Setup>(
+    book: &mut Book<S>,
+    pass: &mut WorkerPass<S>,
+    tracker: &mut TrackerBook<S>,
+    tills: &mut StampTills<S>,
+) -> Result<(ClientId, SubmitCause), Fail> {
+    let stamp = tracker.stamp(ZERO, tills)?;
+    match book.submit(pass, tills, stamp, Token(9), Moment::zero()) {
+        Ok(_) => Err(Fail::new("a refusal")),
+        Err(fault) => Ok((fault.stamp.client(), fault.cause)),
+    }
+}
+
+/// After a close a submit is refused with its stamp, and what is queued is still granted.
+fn close_in_hand<S: Setup>(
+    book: &mut Book<S>,
+    pass: &mut WorkerPass<S>,
+    tracker: &mut TrackerBook<S>,
+    tills: &mut StampTills<S>,
+) -> Result<(ClientId, SubmitCause, bool), Fail> {
+    book.run(pass, register(ONE)?)?;
+    submit(book, pass, tracker, tills)?;
+    book.close();
+    let (client, cause) = refuse(book, pass, tracker, tills)?;
+    let granted = book.run(pass, pull())?;
+    Ok((client, cause, matches!(granted, Reply::Granted { .. })))
+}
+
+fn closed<S: Setup>(alloc: Global, blank: Blank) -> Result<(ClientId, SubmitCause, bool), Fail>
+    requires { blank.name ≡ S.name }
+{
+    let mut mint = blank.open::<S>();
+    let mut opened = open(alloc, &mut mint, 8)?;
+    let Some(tills) = opened.tills.tills(ZERO) else {
+        return Err(Fail::new("tills for the server"));
+    };
+    close_in_hand(
+        &mut opened.book,
+        &mut opened.pass,
+        &mut opened.tracker,
+        tills,
+    )
+}
+
+/// Two workers of one number are refused.
+fn twice<S: Setup>(alloc: Global, blank: Blank) -> Result<Option<NewFault>, Fail>
+    requires { blank.name ≡ S.name }
+{
+    let mut mint = blank.open::<S>();
+    let (desks, _) = open_desks(alloc, &mut mint)?;
+    let config = QueueConfig::new(1000, 1 << 62, 1 << 62, AtLimit::Wait)?;
+    match Book::<S>::new(alloc, config, ZERO, &[SEVEN, SEVEN], desks, &mut mint, 8) {
+        Ok(_) => Ok(None),
+        Err(fault) => match fault.cause {
+            NewFault::Memory => Err(NewFault::Memory.into()),
+            cause => Ok(Some(cause)),
+        },
+    }
+}
+
+#[test]
+fn full_closed_stranger(rt: HostRuntime) -> Result<(), Fail> {
+    let answers = Answers {
+        no_desk: Some(RunFault::NoDesk),
+        full: Some(RunFault::HistoryFull),
+        stranger: Some(RunFault::Stranger),
+        numbers: (2, 2, 1),
+    };
+    assert_eq!(rt; full::<Brand>(rt.alloc(), Blank::new(20))?, answers);
+    assert_eq!(rt;
+        closed::<Brand>(rt.alloc(), Blank::new(10))?,
+        (ONE, SubmitCause::Closed, true)
+    );
+    assert_eq!(rt;
+        twice::<Brand>(rt.alloc(), Blank::new(20))?,
+        Some(NewFault::Twice)
+    );
+    Ok(())
+}

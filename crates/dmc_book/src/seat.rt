@@ -1,0 +1,156 @@
+//! The enrolled workers.
+ghost use Rattle.std.specs.Prelude.{◌≡◌, ◌≤◌, ◌<◌, ◌^◌, ◌↔◌, length, map, IsTrue, slice_index_or};
+ghost use Rattle.std.specs.List.{AllByRecursion};
+ghost use Rattle.dmc_ledger.specs.Accounts.{total_of};
+ghost use Rattle.dmc_ledger.specs.Moves.{after_issue, with_more};
+ghost use Rattle.dmc_book.specs.BookState.{worker_accounts, worker_holdings, worker_side, pass_state, no_worker};
+ghost use Rattle.dmc_book.specs.Consistent.{AreWorkersApart, AreWithin};
+ghost use Rattle.dmc_book.specs.Counts as counts;
+ghost use Rattle.dmc_book.specs.Moves.{AreOf, IsEnrolled, books_after, tills_after, worker_after};
+
+use crate::counts::{Numbers, numbers_of};
+use crate::pass::WorkerPass;
+use dmc_ledger::book::Book;
+use dmc_ledger::setup::Setup;
+use dmc_ledger::till::Till;
+use dmc_tag::event::Event;
+use dmc_types::ids::WorkerId;
+
+/// The books of a worker: its calls, its misses, the tokens of the adds accepted from it, its grants, and their tokens.
+#[derive(Drop)]
+pub(crate) struct WorkerBooks<S: Setup> {
+    pub(crate) calls: Book<S>,
+    pub(crate) misses: Book<S>,
+    pub(crate) tokens: Book<S>,
+    pub(crate) grants: Book<S>,
+    pub(crate) granted: Book<S>,
+}
+
+/// The worker's tills of them.
+#[derive(Drop)]
+pub(crate) struct WorkerTills<S: Setup> {
+    pub(crate) calls: Till<S>,
+    pub(crate) misses: Till<S>,
+    pub(crate) tokens: Till<S>,
+    pub(crate) grants: Till<S>,
+    pub(crate) granted: Till<S>,
+}
+
+/// An enrolled worker, with the books of its counts. A settled book hands it back: what was gathered of its pass is then all
+/// that was counted of the worker.
+#[derive(Drop)]
+pub struct Seat<S: Setup> {
+    pub(crate) worker: WorkerId,
+    pub(crate) books: WorkerBooks<S>,
+}
+
+impl<S: Setup> Seat<S> {
+    /// Who it is.
+    pub fn worker(&self) -> WorkerId
+        ensures { result.0 ≡ (worker_side self.now).worker }
+    {
+        self.worker
+    }
+
+    /// The worker's calls that the queue answered, as gathered of its pass.
+    pub fn calls(&self) -> u64
+        ensures { result ≡ (worker_side self.now).books.calls.gathered }
+    {
+        self.books.calls.gathered()
+    }
+
+    /// Those of them that were answered Later, Nothing or by a refusal.
+    pub fn misses(&self) -> u64
+        ensures { result ≡ (worker_side self.now).books.misses.gathered }
+    {
+        self.books.misses.gathered()
+    }
+
+    /// The tokens of the adds that were accepted from it, summed.
+    pub fn tokens(&self) -> u64
+        ensures { result ≡ (worker_side self.now).books.tokens.gathered }
+    {
+        self.books.tokens.gathered()
+    }
+
+    /// The grants that it got.
+    pub fn grants(&self) -> u64
+        ensures { result ≡ (worker_side self.now).books.grants.gathered }
+    {
+        self.books.grants.gathered()
+    }
+
+    /// The tokens of these grants, summed.
+    pub fn granted(&self) -> u64
+        ensures { result ≡ (worker_side self.now).books.granted.gathered }
+    {
+        self.books.granted.gathered()
+    }
+}
+
+/// Adds to a book and to its till.
+pub(crate) fn credit<S: Setup>(book: &mut Book<S>, till: &mut Till<S>, amount: u32)
+    requires its { till.old.number ≡ book.old.number }
+    requires fits { total_of book.old ≤ 2 ^ 62 }
+    ensures book { book.new ≡ after_issue amount book.old }
+    ensures till { till.new ≡ with_more amount till.old }
+{
+    let Ok(()) = book.issue(till, u64::from(amount)) else {
+        unreachable!()
+    };
+}
+
+/// Adds to the five books and to their tills.
+fn credit_all<S: Setup>(books: &mut WorkerBooks<S>, tills: &mut WorkerTills<S>, numbers: Numbers)
+    requires its { AreOf (worker_holdings tills.old) (worker_accounts books.old) }
+    requires fits { AreWithin (2 ^ 62) (worker_accounts books.old) }
+    ensures books { worker_accounts books.new ≡ books_after numbers (worker_accounts books.old) }
+    ensures tills { worker_holdings tills.new ≡ tills_after numbers (worker_holdings tills.old) }
+{
+    credit(&mut books.calls, &mut tills.calls, numbers.calls);
+    credit(&mut books.misses, &mut tills.misses, numbers.misses);
+    credit(&mut books.tokens, &mut tills.tokens, numbers.tokens);
+    credit(&mut books.grants, &mut tills.grants, numbers.grants);
+    credit(&mut books.granted, &mut tills.granted, numbers.granted);
+}
+
+/// Whether the tills are of these books.
+pub(crate) fn are_of<S: Setup>(tills: &WorkerTills<S>, books: &WorkerBooks<S>) -> bool
+    ensures { IsTrue result ↔ AreOf (worker_holdings tills.now) (worker_accounts books.now) }
+{
+    tills.calls.number() == books.calls.number()
+        && tills.misses.number() == books.misses.number()
+        && tills.tokens.number() == books.tokens.number()
+        && tills.grants.number() == books.grants.number()
+        && tills.granted.number() == books.granted.number()
+}
+
+/// Whether the pass is of a worker that is enrolled, and its tills are of that worker's books.
+pub(crate) fn is_enrolled<S: Setup>(workers: &[Seat<S>], pass: &WorkerPass<S>) -> bool
+    ensures { IsTrue result ↔ IsEnrolled (map worker_side workers.now) (pass_state pass.now) }
+{
+    let Some(seat) = workers.get(pass.place) else {
+        return false;
+    };
+    seat.worker == pass.worker && are_of(&pass.tills, &seat.books)
+}
+
+/// Counts an event in the books and the tills of its worker.
+pub(crate) fn count<T: Copy, S: Setup>(
+    workers: &mut Vec<Seat<S>>,
+    place: usize,
+    tills: &mut WorkerTills<S>,
+    event: &Event<T>,
+)
+    requires within { place < length workers.old.items }
+    requires its_worker { (slice_index_or (map worker_side workers.old.items) place no_worker).worker ≡ event.now.worker.0 }
+    requires its_tills { AreOf (worker_holdings tills.old) (slice_index_or (map worker_side workers.old.items) place no_worker).books }
+    requires fits { AllByRecursion (λ w. AreWithin (2 ^ 62) w.books) (map worker_side workers.old.items) }
+    requires apart { AreWorkersApart (map worker_side workers.old.items) }
+    ensures workers { map worker_side workers.new.items ≡ map (worker_after event.now) (map worker_side workers.old.items) }
+    ensures small { counts.IsSmall (counts.numbers_of event.now.command event.now.reply) }
+    ensures tills { worker_holdings tills.new ≡ tills_after (counts.numbers_of event.now.command event.now.reply) (worker_holdings tills.old) }
+{
+    let numbers = numbers_of(&event.command, &event.reply);
+    credit_all(&mut workers[place].books, tills, numbers);
+}

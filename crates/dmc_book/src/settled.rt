@@ -1,0 +1,204 @@
+//! What a queue's book leaves.
+ghost use Rattle.std.specs.Prelude.{◌≡◌, ◌≤◌, ◌<◌, ◌↔◌, ℕ, [], length, map, IfSome, IsSome, IsTrue, slice_index_or, slice_set};
+ghost use Rattle.std.specs.List.{AllByRecursion};
+ghost use Rattle.dmc_ledger.specs.Accounts.{closed};
+ghost use Rattle.dmc_ledger.specs.Bundles.{client_side, grant_accounts, grant_holdings};
+ghost use Rattle.dmc_book.specs.BookState.{pass_state, worker_accounts, worker_holdings, worker_side, no_desk, no_worker};
+ghost use Rattle.dmc_book.specs.Moves.{AreOf};
+ghost use Rattle.dmc_book.specs.Settling.{AreDeskUnits, AreOneOpen, AreOwn, AreUnitsOf, AreUnitsTakenIn, ArePassesTakenIn, IsDeskTakenIn, IsOwn, IsTakenIn, closed_accounts, closed_worker};
+
+use crate::pass::WorkerPass;
+use crate::seat::{Seat, WorkerBooks, WorkerTills, is_enrolled};
+use dmc_history::History;
+use dmc_ledger::book::Book;
+use dmc_ledger::bundle::{GrantBooks, GrantTills};
+use dmc_ledger::desk::ClientDesk;
+use dmc_ledger::setup::Setup;
+use dmc_ledger::till::Till;
+use dmc_tag::event::Event;
+use dmc_tag::tag::Tag;
+use std::alloc::Global;
+use std::mem::replace;
+
+/// What was left of a client's grants in the workers' passes: units of each phase.
+#[derive(Clone, Copy, Debug, Default, PartialEq, Eq)]
+pub struct GrantsHeld {
+    pub reservation: u64,
+    pub priority: u64,
+}
+
+/// What a queue's book leaves: what the queue answered, how many requests were queued, the workers, and the desks.
+#[derive(Drop)]
+pub struct Settled<T: Tag, S: Setup> {
+    pub history: History<Event<T>>,
+    pub left: u32,
+    pub workers: Vec<Seat<S>>,
+    pub desks: Vec<ClientDesk<S>>,
+}
+
+impl<T: Tag, S: Setup> Settled<T, S> {
+    /// What was left in the passes for the client of the desk at a place, or `None` where there is no desk.
+    pub fn held(&self, place: usize) -> Option<GrantsHeld>
+        ensures desk { IsSome result ↔ (place < length self.now.desks.items) }
+        ensures reservation { IfSome result (λ held.
+            held.reservation ≡ (slice_index_or (map client_side self.now.desks.items) place no_desk).books.reservation.gathered) }
+        ensures priority { IfSome result (λ held.
+            held.priority ≡ (slice_index_or (map client_side self.now.desks.items) place no_desk).books.priority.gathered) }
+    {
+        let desk = self.desks.get(place)?;
+        Some(GrantsHeld {
+            reservation: desk.books.reservation.gathered(),
+            priority: desk.books.priority.gathered(),
+        })
+    }
+}
+
+fn are_units_of<S: Setup>(tills: &GrantTills<S>, books: &GrantBooks<S>) -> bool
+    ensures { IsTrue result ↔ AreUnitsOf (grant_holdings tills.now) (grant_accounts books.now) }
+{
+    tills.reservation.number() == books.reservation.number()
+        && tills.priority.number() == books.priority.number()
+}
+
+/// Whether the tills are of the desks' grant books, in the order of the desks.
+fn are_desk_units<S: Setup>(desks: &[ClientDesk<S>], units: &[GrantTills<S>]) -> bool
+    ensures { IsTrue result ↔ AreDeskUnits (map client_side desks.now) (map grant_holdings units.now) }
+{
+    if units.len() != desks.len() {
+        return false;
+    }
+    for i in 0..desks.len() {
+        if !are_units_of(&units[i], &desks[i].books) {
+            return false;
+        }
+    }
+    true
+}
+
+/// Whether the pass is of a worker here, and has tills of each desk.
+fn is_own<S: Setup>(workers: &[Seat<S>], desks: &[ClientDesk<S>], pass: &WorkerPass<S>) -> bool
+    ensures { IsTrue result ↔ IsOwn (map worker_side workers.now) (map client_side desks.now) (pass_state pass.now) }
+{
+    is_enrolled(workers, pass) && are_desk_units(desks, &pass.units)
+}
+
+/// Whether these are as many passes as workers, each of a worker here.
+pub(crate) fn are_own<S: Setup>(
+    workers: &[Seat<S>],
+    desks: &[ClientDesk<S>],
+    passes: &[WorkerPass<S>],
+) -> bool
+    ensures { IsTrue result ↔ AreOwn (map worker_side workers.now) (map client_side desks.now) (map pass_state passes.now) }
+{
+    if passes.len() != workers.len() {
+        return false;
+    }
+    for pass in passes {
+        if !is_own(workers, desks, pass) {
+            return false;
+        }
+    }
+    true
+}
+
+/// Gathers a till.
+fn take_till<S: Setup>(book: &mut Book<S>, till: Till<S>)
+    requires { till.number ≡ book.old.number }
+    ensures taken { IsTakenIn 1 till.amount book.old book.new }
+    ensures only { book.old.open_tills ≡ 1 → book.new ≡ closed book.old }
+{
+    book.gather(till);
+}
+
+/// Gathers the tills of a worker.
+fn take_tills<S: Setup>(books: &mut WorkerBooks<S>, tills: WorkerTills<S>)
+    requires { AreOf (worker_holdings tills) (worker_accounts books.old) }
+    ensures some { 0 < (worker_accounts books.old).calls.open_tills }
+    ensures only { AreOneOpen (worker_accounts books.old) → worker_accounts books.new ≡ closed_accounts (worker_accounts books.old) }
+{
+    let WorkerTills {
+        calls,
+        misses,
+        tokens,
+        grants,
+        granted,
+    } = tills;
+    take_till(&mut books.calls, calls);
+    take_till(&mut books.misses, misses);
+    take_till(&mut books.tokens, tokens);
+    take_till(&mut books.grants, grants);
+    take_till(&mut books.granted, granted);
+}
+
+/// Gathers the tills of the worker at a place.
+fn take_seat<S: Setup>(workers: &mut [Seat<S>], place: usize, tills: WorkerTills<S>)
+    requires within { place < length workers.old }
+    requires its { AreOf (worker_holdings tills) (slice_index_or (map worker_side workers.old) place no_worker).books }
+    ensures some { 0 < (slice_index_or (map worker_side workers.old) place no_worker).books.calls.open_tills }
+    ensures only { AreOneOpen (slice_index_or (map worker_side workers.old) place no_worker).books
+        → map worker_side workers.new
+        ≡ slice_set (map worker_side workers.old) place (closed_worker (slice_index_or (map worker_side workers.old) place no_worker)) }
+{
+    take_tills(&mut workers[place].books, tills);
+}
+
+/// Gathers the tills of a desk.
+fn take_unit<S: Setup>(desk: &mut ClientDesk<S>, unit: GrantTills<S>)
+    requires { AreUnitsOf (grant_holdings unit) (client_side desk.old).books }
+    ensures { IsDeskTakenIn 1 (grant_holdings unit).reservation.amount (grant_holdings unit).priority.amount (client_side desk.old) (client_side desk.new) }
+{
+    let GrantTills {
+        reservation,
+        priority,
+    } = unit;
+    take_till(&mut desk.books.reservation, reservation);
+    take_till(&mut desk.books.priority, priority);
+}
+
+/// Gathers the tills of each desk, from the last on.
+fn take_units<S: Setup>(desks: &mut [ClientDesk<S>], units: Vec<GrantTills<S>>)
+    requires { AreDeskUnits (map client_side desks.old) (map grant_holdings units.items) }
+    ensures { AreUnitsTakenIn (map grant_holdings units.items) (map client_side desks.old) (map client_side desks.new) }
+{
+    let mut units = units;
+    while let Some(unit) = units.pop() {
+        let i = units.len();
+        take_unit(&mut desks[i], unit);
+    }
+}
+
+/// Gathers passes, each of a worker here.
+pub(crate) fn take_passes<S: Setup>(
+    workers: &mut [Seat<S>],
+    desks: &mut [ClientDesk<S>],
+    passes: Vec<WorkerPass<S>>,
+)
+    requires own { AreOwn (map worker_side workers.old) (map client_side desks.old) (map pass_state passes.items) }
+    requires one_open { AllByRecursion (λ w. AreOneOpen w.books) (map worker_side workers.old) }
+    ensures workers { map worker_side workers.new ≡ map closed_worker (map worker_side workers.old) }
+    ensures desks { ArePassesTakenIn (map pass_state passes.items) (map client_side desks.old) (map client_side desks.new) }
+{
+    let mut passes = passes;
+    while let Some(pass) = passes.pop() {
+        let WorkerPass {
+            worker: _,
+            place,
+            tills,
+            clients: _,
+            units,
+        } = pass;
+        take_seat(workers, place, tills);
+        take_units(desks, units);
+    }
+}
+
+/// Takes the events of a history, which has then none.
+pub(crate) fn take_history<E: Drop>(history: &mut History<E>, alloc: Global) -> History<E>
+    ensures taken { result ≡ history.old }
+    ensures emptied { history.new ≡ record { events = []; most = history.old.most; room = 0 } }
+{
+    let Ok(empty) = History::new(alloc, history.most()) else {
+        unreachable!()
+    };
+    replace(history, empty)
+}

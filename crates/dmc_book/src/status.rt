@@ -1,0 +1,24 @@
+//! What a queue's book tells.
+
+/// What a worker's pass holds, and how its book stands.
+#[derive(Clone, Copy, Debug, PartialEq, Eq)]
+pub struct Status {
+    /// The worker's calls that the queue answered.
+    pub calls: u64,
+    /// Those of them that were answered Later, Nothing or by a refusal.
+    pub misses: u64,
+    /// The tokens of the adds that were accepted from it, summed.
+    pub tokens: u64,
+    /// The grants that it got.
+    pub grants: u64,
+    /// The tokens of these grants, summed.
+    pub granted: u64,
+    /// How many clients are registered.
+    pub clients: u32,
+    /// How many requests are queued.
+    pub requests: u32,
+    /// How many events the history has.
+    pub events: u32,
+    /// Whether no more requests are taken.
+    pub closed: bool,
+}

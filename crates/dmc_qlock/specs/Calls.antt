@@ -1,0 +1,90 @@
+-- What a call through the lock tells its caller: what its own pass holds afterwards.
+use Rattle.std.specs.Prelude.{◌≡◌, ℕ, ◌==◌, ◌&&◌, Bool, true, false, not, length, ⊤, Option, Some, None, Result, Ok, Err}
+use Rattle.dmc_types.specs.declared.command.Command.{Command}
+use Rattle.dmc_types.specs.declared.command.Command.TheVariants.{Register, Update, Add, Pull, Remove, Clean}
+use Rattle.dmc_types.specs.declared.refusal.Refusal.TheVariants.{Range}
+use Rattle.dmc_tag.specs.Tag.{Tagging}
+use Rattle.dmc_tag.specs.State.{State}
+use Rattle.dmc_tag.specs.Step.{step}
+use Rattle.dmc_tag.specs.Replay.{after}
+use Rattle.dmc_tag.specs.Answers.{pull_reply}
+use Rattle.dmc_tag.specs.declared.reply.Pulled.{Pulled}
+use Rattle.dmc_tag.specs.declared.reply.Reply.{Reply}
+use Rattle.dmc_tag.specs.declared.reply.Reply.TheVariants.{Registered, Updated, Tagged, Granted, Later, Nothing, Removed, Cleaned, Refused}
+use Rattle.dmc_book.specs.BookState.{BookState, PassState, WorkerHoldings}
+use Rattle.dmc_book.specs.Calls.{Ran}
+use Rattle.dmc_book.specs.Moves.{pass_after}
+use Rattle.dmc_book.specs.declared.fault.RunFault.TheVariants as run
+use Rattle.dmc_book.specs.declared.fault.SubmitCause.{SubmitCause}
+use Rattle.dmc_book.specs.declared.fault.SubmitCause.TheVariants as submit
+use Rattle.dmc_book.specs.declared.status.Status.{Status}
+use Rattle.dmc_qlock.specs.declared.fault.RunOrRange.{RunOrRange}
+use Rattle.dmc_qlock.specs.declared.fault.RunOrRange.TheVariants as pull
+
+-- ---- commands through the lock
+
+-- The queue answered: the rules give this reply to the command in some state, and the pass steps with it.
+pub record Answered {T : Type 0} (ops : Tagging T) (before later : PassState) (command : Command) (reply : Reply T) : Type 0 where
+  pub pass : later ≡ pass_after command reply before
+  pub state : State T
+  pub reply_is : reply ≡ (step ops state command).1
+
+abbrev pub registers : Command → Bool
+registers (Register client info at) = true
+registers (Update client info at) = false
+registers (Add client token params at) = false
+registers (Pull at) = false
+registers (Remove client) = false
+registers (Clean at) = false
+
+-- a refusal of the queue is counted, and no other
+abbrev pub SubmitAnswered : {T : Type 0} → Tagging T → PassState → PassState → Command → SubmitCause → Type 0
+SubmitAnswered ops before later command submit.Stranger = later ≡ before
+SubmitAnswered ops before later command submit.Closed = later ≡ before
+SubmitAnswered ops before later command submit.HistoryFull = later ≡ before
+SubmitAnswered ops before later command submit.Memory = later ≡ before
+SubmitAnswered ops before later command (submit.Refused refusal) = Answered ops before later command (Refused refusal)
+
+-- what the pass's five tills hold
+pub record IsStatusOf (tills : WorkerHoldings) (status : Status) : Type 0 where
+  pub calls : status.calls ≡ tills.calls.amount
+  pub misses : status.misses ≡ tills.misses.amount
+  pub tokens : status.tokens ≡ tills.tokens.amount
+  pub grants : status.grants ≡ tills.grants.amount
+  pub granted : status.granted ≡ tills.granted.amount
+
+-- ---- pulls through the lock
+
+-- The queue answered, if only by Range; or the pull was not handed on, which is never for want of a desk.
+abbrev pub PullAnswered : {T : Type 0} → Tagging T → PassState → PassState → ℕ → Result Pulled RunOrRange → Type 0
+PullAnswered ops before later at (Ok pulled) = Answered ops before later (Pull at) (pull_reply pulled)
+PullAnswered ops before later at (Err pull.Range) = Answered ops before later (Pull at) (Refused Range)
+PullAnswered ops before later at (Err (pull.Run fault)) = (later ≡ before) × (fault ≡ run.NoDesk → ⊥)
+
+-- the same of the book behind the lock
+abbrev pub WasPulled : {T : Type 0} → Tagging T → BookState T → BookState T → PassState → PassState → ℕ → Result Pulled RunOrRange → Type 0
+WasPulled ops old new before later at (Ok pulled) = Ran ops old new before later (Pull at) (pull_reply pulled)
+WasPulled ops old new before later at (Err pull.Range) = Ran ops old new before later (Pull at) (Refused Range)
+WasPulled ops old new before later at (Err (pull.Run fault)) = (new ≡ old) × (later ≡ before) × (fault ≡ run.NoDesk → ⊥)
+
+-- nothing is queued, and the book is open
+abbrev pub must_wait : {T : Type 0} → Tagging T → BookState T → Bool
+must_wait ops b = (length (after ops b.config b.history).requests == 0) && not b.closed
+
+-- what a pull may be answered
+abbrev pub IsPullReply : {T : Type 0} → Reply T → Type 0
+IsPullReply Registered = ⊥
+IsPullReply Updated = ⊥
+IsPullReply (Tagged tags) = ⊥
+IsPullReply (Granted client token phase beyond) = ⊤
+IsPullReply (Later m) = ⊤
+IsPullReply Nothing = ⊤
+IsPullReply (Removed count) = ⊥
+IsPullReply (Cleaned idled erased) = ⊥
+IsPullReply (Refused refusal) = refusal ≡ Range
+
+-- the reply of a pull that the queue answered
+abbrev pub pull_told : {T : Type 0} → Result Pulled RunOrRange → Option (Reply T)
+pull_told (Ok pulled) = Some (pull_reply pulled)
+pull_told (Err pull.Range) = Some (Refused Range)
+pull_told (Err (pull.Run fault)) = None

@@ -1,0 +1,8 @@
+//! A server's queue behind its lock.
+#![tactic(auto)]
+
+pub mod fault;
+pub mod lock;
+mod pulling;
+#[cfg(test)]
+mod tests;

@@ -1,0 +1,198 @@
+//! A queue's book behind a lock. Each time that the lock is taken the book is consistent: that is the invariant of its type.
+ghost use Rattle.std.specs.Prelude.{◌≡◌, ℕ, true, false, IfOk, IfErr, OnOk, OnErr, IsErrOf, IsErrAnd};
+ghost use Rattle.dmc_ledger.specs.Bundles.{Covers, stamp_holdings};
+ghost use Rattle.dmc_ledger.specs.Moves.{tills_after_submit};
+ghost use Rattle.dmc_tag.specs.declared.reply.Reply.TheVariants as replies;
+ghost use Rattle.dmc_types.specs.declared.command.Command.TheVariants as commands;
+ghost use Rattle.dmc_book.specs.BookState.{pass_state};
+ghost use Rattle.dmc_book.specs.Calls.{is_add};
+ghost use Rattle.dmc_qlock.specs.Calls.{Answered, IsStatusOf, PullAnswered, SubmitAnswered, registers};
+
+use crate::fault::RunOrRange;
+use crate::pulling;
+use dmc_book::book::QueueBook;
+use dmc_book::fault::{RunFault, SubmitCause, SubmitFault};
+use dmc_book::pass::WorkerPass;
+use dmc_book::status::Status;
+use dmc_index::index::Indexes;
+use dmc_ledger::bundle::StampTills;
+use dmc_ledger::setup::Setup;
+use dmc_tag::reply::{Pulled, Reply, Tags};
+use dmc_tag::tag::Tag;
+use dmc_tlock::stamp::Stamp;
+use dmc_types::command::Command;
+use dmc_types::ids::{ServerId, Token};
+use dmc_types::moment::Moment;
+use std::marker::Model;
+use std::sync::{Condvar, Mutex, Wait};
+
+/// What is of one server.
+pub trait OfServer {
+    /// The number of its server.
+    ghost server_of: { Self → ℕ };
+
+    /// Its server.
+    fn its_server(&self) -> ServerId
+        ensures { result.0 ≡ server_of self.now };
+}
+
+impl<T: Tag, I: Indexes<T>, S: Setup> OfServer for QueueBook<T, I, S> {
+    ghost server_of = { λ book. book.server };
+
+    fn its_server(&self) -> ServerId {
+        self.server()
+    }
+}
+
+/// A book that threads share. Contracts see whose it is. It is generic in the book, since generic code may not hand on by value
+/// what is generic in indexes, but for what stands behind a type parameter.
+#[derive(Drop)]
+pub struct Locked<B> {
+    server: ServerId,
+    book: Mutex<B>,
+    // Notified where a request is queued, and where the book is closed.
+    changed: Condvar,
+}
+
+/// A queue's book that threads share. A worker's own pass steps with each call; each call is one of the book's, and refuses as
+/// that does.
+pub type QueueLock<T, I, S> = Locked<QueueBook<T, I, S>>;
+
+impl<B> Model for Locked<B> {
+    ghost use Rattle.dmc_qlock.specs.LockState.{LockState};
+
+    ghost Value = { LockState };
+
+    ghost view = { λ l. record { server = l.server.0 } };
+}
+
+impl<B: OfServer> Locked<B> {
+    /// The book behind a lock.
+    pub fn new(book: B) -> Locked<B>
+        ensures { result.server ≡ B.server_of book }
+    {
+        Locked {
+            server: book.its_server(),
+            book: Mutex::new(book),
+            changed: Condvar::new(),
+        }
+    }
+}
+
+impl<B> Locked<B> {
+    /// Whose book it is.
+    pub fn server(&self) -> ServerId
+        ensures { result.0 ≡ self.now.server }
+    {
+        self.server
+    }
+
+    /// The book, once no thread shares the lock. What it keeps the laws of dmc_book tell.
+    pub fn into_book(self) -> B {
+        let Locked { book, .. } = self;
+        book.into_inner()
+    }
+}
+
+impl<T: Tag, I: Indexes<T>, S: Setup> Locked<QueueBook<T, I, S>> {
+    /// Hands a command that is not an Add to the queue, which answers and records it. The pass has one call more, one miss
+    /// more where the reply is Later, Nothing or Refused, and of a grant one grant, its token, and one unit of its client and
+    /// phase.
+    ///
+    /// Refused, with nothing recorded: `Stranger`, `NoDesk` (of a Register alone), `HistoryFull`, `Memory`.
+    pub fn run<R: Wait>(
+        &self,
+        rt: &R,
+        pass: &mut WorkerPass<S>,
+        command: Command,
+    ) -> Result<Reply<T>, RunFault>
+        requires { is_add command ≡ false }
+        ensures answered { IfOk result (λ reply. Answered T.ops (pass_state pass.old) (pass_state pass.new) command reply) }
+        ensures kept { OnErr result (pass_state pass.new ≡ pass_state pass.old) }
+        ensures no_desk { IsErrOf result RunFault.NoDesk → registers command ≡ true }
+    {
+        self.book.lock(rt).run(pass, command)
+    }
+
+    /// Queues a stamped request for its client, and answers its tags. The pass has one call and the token more, and the tills
+    /// one stamp, its delta and its rho less. It wakes who waits for a request.
+    ///
+    /// Refused `Stranger` (where the stamp names another server, before the lock is taken), `Closed`, `HistoryFull`, `Memory`,
+    /// or as the queue refuses an add; this last is recorded, and the pass has one call and one miss more. Nothing else moves.
+    /// Each refusal hands the stamp back.
+    pub fn submit<R: Wait>(
+        &self,
+        rt: &R,
+        pass: &mut WorkerPass<S>,
+        tills: &mut StampTills<S>,
+        stamp: Stamp,
+        token: Token,
+        at: Moment,
+    ) -> Result<Tags<T>, SubmitFault>
+        requires { Covers (stamp_holdings tills.old) stamp.params }
+        ensures accepted { IfOk result (λ tags. Answered T.ops (pass_state pass.old) (pass_state pass.new) (commands.Add (record { 0 = stamp.client }) token stamp.params at) (replies.Tagged tags)) }
+        ensures taken { OnOk result (stamp_holdings tills.new ≡ tills_after_submit stamp.params (stamp_holdings tills.old)) }
+        ensures its_server { OnOk result (stamp.server ≡ self.now.server) }
+        ensures refused { IfErr result (λ fault. SubmitAnswered T.ops (pass_state pass.old) (pass_state pass.new) (commands.Add (record { 0 = stamp.client }) token stamp.params at) fault.cause) }
+        ensures handed_back { IfErr result (λ fault. fault.stamp ≡ stamp) }
+        ensures tills_kept { OnErr result (stamp_holdings tills.new ≡ stamp_holdings tills.old) }
+        ensures stranger { (stamp.server ≡ self.now.server → ⊥) → IsErrAnd result (λ fault. fault.cause ≡ SubmitCause.Stranger) }
+    {
+        if stamp.server() != self.server {
+            return Err(SubmitFault {
+                stamp,
+                cause: SubmitCause::Stranger,
+            });
+        }
+        let answer = self.book.lock(rt).submit(pass, tills, stamp, token, at);
+        if answer.is_ok() {
+            // All: a pull may leave the request queued, and then nobody is to wait.
+            self.changed.notify_all();
+        }
+        answer
+    }
+
+    /// Pulls: grants the next request, or tells when one is due, or that nothing is queued. The pass steps as for `run`.
+    ///
+    /// Refused `Range` by the rules, which is recorded; and `Stranger`, `HistoryFull` or `Memory`, with nothing recorded.
+    pub fn pull<R: Wait>(
+        &self,
+        rt: &R,
+        pass: &mut WorkerPass<S>,
+        at: Moment,
+    ) -> Result<Pulled, RunOrRange>
+        ensures { PullAnswered T.ops (pass_state pass.old) (pass_state pass.new) at result }
+    {
+        pulling::pull(&mut *self.book.lock(rt), pass, at)
+    }
+
+    /// Waits, recording nothing, while nothing is queued and the book isn't closed, and then pulls once.
+    pub fn pull_or_wait<R: Wait>(
+        &self,
+        rt: &R,
+        pass: &mut WorkerPass<S>,
+        at: Moment,
+    ) -> Result<Pulled, RunOrRange>
+        ensures { PullAnswered T.ops (pass_state pass.old) (pass_state pass.new) at result }
+    {
+        let free = self.book.lock(rt);
+        let mut book = self
+            .changed
+            .wait_while(rt, free, |book| pulling::must_wait(book));
+        pulling::pull_waited(&mut *book, pass, at)
+    }
+
+    /// What the pass holds of the worker's counts, and how the book stands; refused `Stranger` alone.
+    pub fn status<R: Wait>(&self, rt: &R, pass: &WorkerPass<S>) -> Result<Status, RunFault>
+        ensures held { IfOk result (λ status. IsStatusOf (pass_state pass.now).tills status) }
+        ensures stranger { IfErr result (λ fault. fault ≡ RunFault.Stranger) }
+    {
+        self.book.lock(rt).status(pass)
+    }
+
+    /// Takes no more requests from now on, and wakes who waits for one. What is queued is still granted.
+    pub fn close<R: Wait>(&self, rt: &R) {
+        self.book.lock(rt).close();
+        self.changed.notify_all();
+    }
+}

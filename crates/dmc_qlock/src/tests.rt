@@ -1,0 +1,7 @@
+//! Tests of the lock, which threads share.
+mod circle;
+mod refusals;
+mod settling;
+mod setup;
+mod threads;
+mod waiting;

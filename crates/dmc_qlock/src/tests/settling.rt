@@ -1,0 +1,59 @@
+//! What the book of a lock leaves, once no thread shares the lock.
+use super::setup::Lock;
+use dmc_book::fault::NewFault;
+use dmc_book::pass::WorkerPass;
+use dmc_book::seat::Seat;
+use dmc_book::settled::Settled;
+use dmc_ledger::setup::Setup;
+use dmc_tick::tick::TickTag;
+use std::alloc::Global;
+use std::test::Fail;
+
+/// What a worker leaves.
+#[derive(Clone, Copy, Debug, PartialEq, Eq)]
+pub(super) struct Numbers {
+    pub(super) worker: u32,
+    pub(super) calls: u64,
+    pub(super) misses: u64,
+    pub(super) tokens: u64,
+    pub(super) grants: u64,
+    pub(super) granted: u64,
+}
+
+/// The requests that are left, and what each of two workers leaves.
+pub(super) type Remains = (u32, Numbers, Numbers);
+
+fn numbers_of<S: Setup>(seat: &Seat<S>) -> Numbers {
+    Numbers {
+        worker: seat.worker().0,
+        calls: seat.calls(),
+        misses: seat.misses(),
+        tokens: seat.tokens(),
+        grants: seat.grants(),
+        granted: seat.granted(),
+    }
+}
+
+fn remains<S: Setup>(settled: &Settled<TickTag, S>) -> Result<Remains, Fail> {
+    match (settled.workers.first(), settled.workers.get(1)) {
+        (Some(first), Some(second)) => Ok((settled.left, numbers_of(first), numbers_of(second))),
+        _ => Err(Fail::new("two workers")),
+    }
+}
+
+/// Opens the lock of two workers, and settles its book with their passes.
+pub(super) fn settle<S: Setup>(
+    alloc: Global,
+    lock: Lock<S>,
+    first: WorkerPass<S>,
+    second: WorkerPass<S>,
+) -> Result<Remains, Fail> {
+    let Ok(passes) = vec![in alloc; first, second] else {
+        return Err(NewFault::Memory.into());
+    };
+    let mut book = lock.into_book();
+    match book.settle(alloc, passes) {
+        Ok(settled) => remains(&settled),
+        Err(_) => Err(Fail::new("its own passes")),
+    }
+}

@@ -1,0 +1,11 @@
+pub mod Balance
+pub mod Circles
+pub mod Completed
+pub mod Granted
+pub mod Granting
+pub mod Holding
+pub mod Lists
+pub mod Ready
+pub mod Reported
+pub mod Sums
+pub mod Together

@@ -1,0 +1,53 @@
+use Rattle.std.proofs.Common.{◌≡◌, ℕ, ◌<◌, List, [], length, get_or, map, refl, sym, ap, ◌∙◌, rules, arith, below_more, subst}
+use Rattle.std.proofs.lemmas.Bool.{false≢true}
+use Rattle.std.proofs.lemmas.List.{get_or-map, get_or_read, length-map}
+use Rattle.dmc_book.specs.BookState.{BookState, PassState, pass_state}
+use Rattle.dmc_book.specs.declared.pass.WorkerPass.{WorkerPass}
+use Rattle.dmc_settle.specs.Checks.{AreServerParts}
+use Rattle.dmc_settle.specs.Places.{no_book, pass_states}
+use Rattle.dmc_settle.specs.Remains.{IsServerPart}
+use Rattle.dmc_settle.proofs.checks.are_server_parts.Goals as goal
+
+pub returns-then-not-is_server_part : goal.returns-then-not-is_server_part
+returns-then-not-is_server_part g c =
+    let s = c.loop-s.s in
+    let in_books : s < length c.args.books.now = search rules in
+    let in_passes : s < length c.args.passes.now = search rules in
+    let all_passes : List (List PassState) = map pass_states c.args.passes.now in
+    let at = get_or_read c.args.books.now s c.index-books-s.result in_books c.index-books-s.is no_book in
+    let at_passes : get_or all_passes s [] ≡ map pass_state c.deref.result.now =
+    get_or-map pass_states c.args.passes.now s c.index-passes-s.result [] in_passes ∙ ap pass_states (sym c.index-passes-s.is)
+    ∙ ap (λ (ps : List (WorkerPass g.row.S.Denot)). map pass_state ps) (sym c.deref.ensures.value) in (
+      (λ e. cc),
+      (λ (all : AreServerParts c.args.scene.now c.args.books.now all_passes). absurd (false≢true (sym c.if-not-is_server_part.true ∙ c.is_server_part.ensures.1
+          (subst (λ (b : BookState g.row.T.Denot). IsServerPart c.args.scene.now s b (map pass_state c.deref.result.now)) (sym at)
+          (subst (λ (p : List PassState). IsServerPart c.args.scene.now s (get_or c.args.books.now s no_book) p) at_passes
+          (all.each s (omega (arith, c.loop-s-test.true, c.servers-servers.ensures.value)))))))),
+    )
+
+pub loop-s-preserved : goal.loop-s-preserved
+loop-s-preserved g c =
+    let s = c.loop-s.s in
+    let in_books : s < length c.args.books.now = search rules in
+    let in_passes : s < length c.args.passes.now = search rules in
+    let all_passes : List (List PassState) = map pass_states c.args.passes.now in
+    let at = get_or_read c.args.books.now s c.index-books-s.result in_books c.index-books-s.is no_book in
+    let at_passes : get_or all_passes s [] ≡ map pass_state c.deref.result.now =
+    get_or-map pass_states c.args.passes.now s c.index-passes-s.result [] in_passes ∙ ap pass_states (sym c.index-passes-s.is)
+    ∙ ap (λ (ps : List (WorkerPass g.row.S.Denot)). map pass_state ps) (sym c.deref.ensures.value) in
+    below_more (λ (k : ℕ). IsServerPart c.args.scene.now k (get_or c.args.books.now k no_book) (get_or all_passes k [])) s c.loop-s.invariant
+    (subst (λ (b : BookState g.row.T.Denot). IsServerPart c.args.scene.now s b (get_or all_passes s [])) at
+    (subst (λ (p : List PassState). IsServerPart c.args.scene.now s c.index-books-s.result p) (sym at_passes)
+    (c.is_server_part.ensures.0 c.if-not-is_server_part.false)))
+
+pub returns : goal.returns
+returns g c =
+    let books_each : length c.args.books.now ≡ c.args.scene.now.servers = search rules in
+    let passes_each : length c.args.passes.now ≡ c.args.scene.now.servers = search rules in (
+      (λ e. record {
+        a_book_each = books_each;
+        passes_each = length-map c.args.passes.now (pass_states {S = g.row.S.Denot}) ∙ passes_each;
+        each = λ s within. c.loop-s.invariant s (omega (arith, within, c.loop-s-test.false, c.servers-servers.ensures.value));
+      }),
+      (λ all. refl),
+    )

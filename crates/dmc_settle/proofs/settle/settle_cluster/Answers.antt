@@ -1,0 +1,180 @@
+use Rattle.std.proofs.Common.{◌≡◌, ℕ, ◌<◌, List, [], length, map, drop, get_or, refl, sym, ap, ◌∙◌, subst, arith}
+use Rattle.std.specs.Global.{Vec}
+use Rattle.std.specs.Vec.{with_items}
+use Rattle.std.proofs.lemmas.Bool.{false≢true}
+use Rattle.std.proofs.lemmas.List.{length-map}
+use Rattle.dmc_ledger.specs.Bundles.{ClientSide}
+use Rattle.dmc_ledger.specs.declared.desk.ClientDesk.{ClientDesk}
+use Rattle.dmc_book.specs.BookState.{PassState}
+use Rattle.dmc_book.specs.Settling.{AreSettledDesks}
+use Rattle.dmc_scene.specs.SceneValue.{ClientValue}
+use Rattle.dmc_settle.specs.Filled.{AreServerNumbers, IsReadyServer, no_server_numbers, server_numbers}
+use Rattle.dmc_settle.specs.Places.{no_book, pass_states, sides}
+use Rattle.dmc_settle.specs.Remains.{AreTogether, Remains, remains}
+use Rattle.dmc_settle.specs.Reports.{AreRows}
+use Rattle.dmc_settle.specs.declared.report.ClientReport.{ClientReport}
+use Rattle.dmc_settle.specs.declared.report.ServerReport.{ServerReport}
+use Rattle.dmc_settle.specs.declared.report.ClusterReport.{ClusterReport}
+use Rattle.dmc_settle.proofs.Circles.{IsSettledCluster, circles}
+use Rattle.dmc_settle.proofs.Completed.{report}
+use Rattle.dmc_settle.proofs.Lists.{alike_long, lent_back}
+use Rattle.dmc_settle.proofs.Ready.{ready_clients, ready_servers}
+use Rattle.dmc_settle.proofs.Reported.{report_of}
+use Rattle.dmc_settle.proofs.Together.{passes_seen}
+use Rattle.dmc_settle.proofs.settle.settle_cluster.Given.{Over}
+use Rattle.dmc_settle.proofs.settle.settle_cluster.Goals as goal
+
+pub returns-then-not-are_together-clause-together : goal.returns-then-not-are_together-clause-together
+returns-then-not-are_together-clause-together g c =
+    let r : Remains g.row.T.Denot = remains c.args.books.now (map (λ v. v.items) c.args.passes.workers.items) c.args.trackers.items c.args.passes.clients.items in (
+      (λ e. cc),
+      (λ (both : AreTogether c.args.scene.now r × AreRows c.args.scene.now c.args.report). absurd (false≢true (sym c.if-not-are_together.true ∙ c.are_together.ensures.1
+          (rw (c.deref.ensures.value, c.deref-2.ensures.value, c.deref-3.ensures.value) both.0)))),
+    )
+
+pub returns-then-not-are_rows-clause-together : goal.returns-then-not-are_rows-clause-together
+returns-then-not-are_rows-clause-together g c =
+    let r : Remains g.row.T.Denot = remains c.args.books.now (map (λ v. v.items) c.args.passes.workers.items) c.args.trackers.items c.args.passes.clients.items in (
+      (λ e. cc),
+      (λ (both : AreTogether c.args.scene.now r × AreRows c.args.scene.now c.args.report). absurd (false≢true (sym c.if-not-are_rows.true ∙ c.are_rows.ensures.1 both.1))),
+    )
+
+pub settle_servers-requires-clause-passes : goal.settle_servers-requires-clause-passes
+settle_servers-requires-clause-passes g c =
+    let r : Remains g.row.T.Denot = remains c.args.books.now (map (λ v. v.items) c.args.passes.workers.items) c.args.trackers.items c.args.passes.clients.items in
+    let together : AreTogether c.args.scene.now r = rw (c.deref.ensures.value, c.deref-2.ensures.value, c.deref-3.ensures.value) at (c.are_together.ensures.0 c.if-not-are_together.false) in
+    omega (arith, together.books, together.worker_passes, ap length (passes_seen c.args.passes.workers.items), length-map c.args.passes.workers.items (pass_states {S = g.row.S.Denot}))
+
+pub settle_servers-requires-clause-ready : goal.settle_servers-requires-clause-ready
+settle_servers-requires-clause-ready g c =
+    let r : Remains g.row.T.Denot = remains c.args.books.now (map (λ v. v.items) c.args.passes.workers.items) c.args.trackers.items c.args.passes.clients.items in
+    let together : AreTogether c.args.scene.now r = rw (c.deref.ensures.value, c.deref-2.ensures.value, c.deref-3.ensures.value) at (c.are_together.ensures.0 c.if-not-are_together.false) in
+    λ s within. subst (λ (ps : List (List PassState)). IsReadyServer (get_or c.args.books.now s no_book) (get_or ps s [])) (passes_seen c.args.passes.workers.items)
+    (ready_servers c.args.scene.now r together c.has_few_parts.ensures.clients s within)
+
+pub returns-clause-together : goal.returns-clause-together
+returns-clause-together g c =
+    let r : Remains g.row.T.Denot = remains c.args.books.now (map (λ v. v.items) c.args.passes.workers.items) c.args.trackers.items c.args.passes.clients.items in
+    let together : AreTogether c.args.scene.now r = rw (c.deref.ensures.value, c.deref-2.ensures.value, c.deref-3.ensures.value) at (c.are_together.ensures.0 c.if-not-are_together.false) in
+    ((λ e. (together, c.are_rows.ensures.0 c.if-not-are_rows.false)), (λ both. refl))
+
+pub settle_servers-requires-clause-rows : goal.settle_servers-requires-clause-rows
+settle_servers-requires-clause-rows g c =
+    let r : Remains g.row.T.Denot = remains c.args.books.now (map (λ v. v.items) c.args.passes.workers.items) c.args.trackers.items c.args.passes.clients.items in
+    let together : AreTogether c.args.scene.now r = rw (c.deref.ensures.value, c.deref-2.ensures.value, c.deref-3.ensures.value) at (c.are_together.ensures.0 c.if-not-are_together.false) in
+    let rows : AreRows c.args.scene.now c.args.report = c.are_rows.ensures.0 c.if-not-are_rows.false in
+    omega (arith, ap length c.deref_mut.ensures.value, rows.as_many_servers, together.books)
+
+pub settle_servers-requires-clause-room : goal.settle_servers-requires-clause-room
+settle_servers-requires-clause-room g c =
+    let r : Remains g.row.T.Denot = remains c.args.books.now (map (λ v. v.items) c.args.passes.workers.items) c.args.trackers.items c.args.passes.clients.items in
+    let together : AreTogether c.args.scene.now r = rw (c.deref.ensures.value, c.deref-2.ensures.value, c.deref-3.ensures.value) at (c.are_together.ensures.0 c.if-not-are_together.false) in
+    omega (arith, together.books, c.requires.room, c.room.view_is)
+
+pub settle_clients-requires-clause-passes : goal.settle_clients-requires-clause-passes
+settle_clients-requires-clause-passes g c =
+    let r : Remains g.row.T.Denot = remains c.args.books.now (map (λ v. v.items) c.args.passes.workers.items) c.args.trackers.items c.args.passes.clients.items in
+    let together : AreTogether c.args.scene.now r = rw (c.deref.ensures.value, c.deref-2.ensures.value, c.deref-3.ensures.value) at (c.are_together.ensures.0 c.if-not-are_together.false) in
+    together.client_passes ∙ sym together.trackers
+
+pub settle_clients-requires-clause-rows : goal.settle_clients-requires-clause-rows
+settle_clients-requires-clause-rows g c =
+    let r : Remains g.row.T.Denot = remains c.args.books.now (map (λ v. v.items) c.args.passes.workers.items) c.args.trackers.items c.args.passes.clients.items in
+    let together : AreTogether c.args.scene.now r = rw (c.deref.ensures.value, c.deref-2.ensures.value, c.deref-3.ensures.value) at (c.are_together.ensures.0 c.if-not-are_together.false) in
+    let rows : AreRows c.args.scene.now c.args.report = c.are_rows.ensures.0 c.if-not-are_rows.false in
+    let long = alike_long (λ (x : ClientReport). x.client) (λ (x : ClientValue). x.id) c.args.report.clients.items c.args.scene.now.clients rows.clients in
+    omega (arith, ap length c.deref_mut-2.ensures.value, long, together.trackers)
+
+pub settle_clients-requires-clause-few : goal.settle_clients-requires-clause-few
+settle_clients-requires-clause-few g c =
+    let r : Remains g.row.T.Denot = remains c.args.books.now (map (λ v. v.items) c.args.passes.workers.items) c.args.trackers.items c.args.passes.clients.items in
+    let together : AreTogether c.args.scene.now r = rw (c.deref.ensures.value, c.deref-2.ensures.value, c.deref-3.ensures.value) at (c.are_together.ensures.0 c.if-not-are_together.false) in
+    omega (arith, ap length c.deref-4.ensures.value, c.settle_servers.ensures.desks_each, together.books, c.has_few_parts.ensures.servers)
+
+pub settle_clients-requires-clause-ready : goal.settle_clients-requires-clause-ready
+settle_clients-requires-clause-ready g c =
+    let r : Remains g.row.T.Denot = remains c.args.books.now (map (λ v. v.items) c.args.passes.workers.items) c.args.trackers.items c.args.passes.clients.items in
+    let together : AreTogether c.args.scene.now r = rw (c.deref.ensures.value, c.deref-2.ensures.value, c.deref-3.ensures.value) at (c.are_together.ensures.0 c.if-not-are_together.false) in
+    let see : Vec (ClientDesk g.row.S.Denot) → List ClientSide = sides in
+    let desks = map see c.settle_servers.new.desks.items in
+    let seen = passes_seen c.args.passes.workers.items in
+    let desks_each : length desks ≡ length c.args.books.now = length-map c.settle_servers.new.desks.items see ∙ c.settle_servers.ensures.desks_each in
+    let settled = subst (λ (ps : List (List PassState)). (s : ℕ) → s < length c.args.books.now
+    → AreSettledDesks (get_or c.args.books.now s no_book).history (get_or ps s []) (get_or c.args.books.now s no_book).desks (get_or desks s [])) (sym seen) c.settle_servers.ensures.desks in
+    rw c.deref-4.ensures.value (λ k within. ready_clients c.args.scene.now r together desks desks_each settled k within)
+
+-- the report that is handed back, and what the two walks left of it
+abbrev new_report : (g : Over) → goal.After-drop-desks g → ClusterReport g.row.T.Denot
+new_report g c = record {
+  clients = with_items c.args.report.clients c.settle_clients.new.rows;
+  servers = with_items c.args.report.servers c.settle_servers.new.rows;
+}
+
+server_rows : (g : Over) (c : goal.After-drop-desks g) → (new_report g c).servers.items ≡ c.settle_servers.new.rows
+server_rows g c =
+    let new = c.settle_servers.new.rows in
+    let same = c.deref_mut.ensures.value in
+    let long = alike_long (λ (x : ServerReport g.row.T.Denot). x.server) (λ (x : ServerReport g.row.T.Denot). x.server) new c.deref_mut.result.now c.settle_servers.ensures.servers ∙ ap length same in
+    lent_back new (drop (length new) c.args.report.servers.items) c.args.report.servers.len (long ∙ sym c.args.report.servers.ok.0)
+
+client_rows : (g : Over) (c : goal.After-drop-desks g) → (new_report g c).clients.items ≡ c.settle_clients.new.rows
+client_rows g c =
+    let new = c.settle_clients.new.rows in
+    let same = c.deref_mut-2.ensures.value in
+    let long = alike_long (λ (x : ClientReport). x.client) (λ (x : ClientReport). x.client) new c.deref_mut-2.result.now c.settle_clients.ensures.clients ∙ ap length same in
+    lent_back new (drop (length new) c.args.report.clients.items) c.args.report.clients.len (long ∙ sym c.args.report.clients.ok.0)
+
+settled_cluster : (g : Over) (c : goal.After-drop-desks g) → IsSettledCluster g.T.Tag.ops c.args.scene.now
+    (remains c.args.books.now (map (λ v. v.items) c.args.passes.workers.items) c.args.trackers.items c.args.passes.clients.items)
+    (map sides c.settle_servers.new.desks.items) c.args.report (new_report g c)
+settled_cluster g c =
+    let r : Remains g.row.T.Denot = remains c.args.books.now (map (λ v. v.items) c.args.passes.workers.items) c.args.trackers.items c.args.passes.clients.items in
+    let together : AreTogether c.args.scene.now r = rw (c.deref.ensures.value, c.deref-2.ensures.value, c.deref-3.ensures.value) at (c.are_together.ensures.0 c.if-not-are_together.false) in
+    let rows : AreRows c.args.scene.now c.args.report = c.are_rows.ensures.0 c.if-not-are_rows.false in
+    let see : Vec (ClientDesk g.row.S.Denot) → List ClientSide = sides in
+    let desks = map see c.settle_servers.new.desks.items in
+    let seen = passes_seen c.args.passes.workers.items in
+    let desks_each : length desks ≡ length c.args.books.now = length-map c.settle_servers.new.desks.items see ∙ c.settle_servers.ensures.desks_each in
+    let settled = subst (λ (ps : List (List PassState)). (s : ℕ) → s < length c.args.books.now
+    → AreSettledDesks (get_or c.args.books.now s no_book).history (get_or ps s []) (get_or c.args.books.now s no_book).desks (get_or desks s [])) (sym seen) c.settle_servers.ensures.desks in
+    let of_servers = server_rows g c in
+    let of_clients = client_rows g c in
+    let lent = c.deref-4.ensures.value in
+    record {
+      together = together;
+      rows = rows;
+      desks_each = desks_each;
+      settled = settled;
+      servers = rw of_servers (subst (λ (ps : List (List PassState)). (s : ℕ) → s < length c.args.books.now
+          → AreServerNumbers g.T.Tag.ops (get_or c.args.books.now s no_book) (get_or ps s []) (get_or (map server_numbers c.settle_servers.new.rows) s no_server_numbers)) (sym seen) c.settle_servers.ensures.numbers);
+      clients = rw of_clients (rw lent at c.settle_clients.ensures.numbers);
+      balanced = rw lent at c.settle_clients.ensures.balanced;
+      consistent = c.settle_clients.ensures.consistent;
+      same_servers = rw of_servers (c.settle_servers.ensures.servers ∙ ap (λ (xs : List (ServerReport g.row.T.Denot)). map (λ (x : ServerReport g.row.T.Denot). x.server) xs) c.deref_mut.ensures.value);
+      same_clients = rw of_clients (c.settle_clients.ensures.clients ∙ ap (λ (xs : List ClientReport). map (λ (x : ClientReport). x.client) xs) c.deref_mut-2.ensures.value);
+    }
+
+pub returns-clause-circle : goal.returns-clause-circle
+returns-clause-circle g c =
+    let r : Remains g.row.T.Denot = remains c.args.books.now (map (λ v. v.items) c.args.passes.workers.items) c.args.trackers.items c.args.passes.clients.items in
+    circles g.T.Tag.ops c.args.scene.now r (map sides c.settle_servers.new.desks.items) c.args.report (new_report g c) (settled_cluster g c)
+
+pub returns-clause-report : goal.returns-clause-report
+returns-clause-report g c =
+    let r : Remains g.row.T.Denot = remains c.args.books.now (map (λ v. v.items) c.args.passes.workers.items) c.args.trackers.items c.args.passes.clients.items in
+    report g.T.Tag.ops c.args.scene.now r (map sides c.settle_servers.new.desks.items) c.args.report (new_report g c) (settled_cluster g c)
+
+pub returns-clause-its_report : goal.returns-clause-its_report
+returns-clause-its_report g c =
+    let r : Remains g.row.T.Denot = remains c.args.books.now (map (λ v. v.items) c.args.passes.workers.items) c.args.trackers.items c.args.passes.clients.items in
+    report_of g.T.Tag.ops c.args.scene.now r (map sides c.settle_servers.new.desks.items) c.args.report (new_report g c) (settled_cluster g c)
+
+pub returns-clause-stops : goal.returns-clause-stops
+returns-clause-stops g c =
+    let of_servers = server_rows g c in
+    let of_clients = client_rows g c in
+    record {
+      clients = rw of_clients (c.settle_clients.ensures.stops ∙ ap (λ (xs : List ClientReport). map (λ (x : ClientReport). x.stop) xs) c.deref_mut-2.ensures.value);
+      failed = rw of_clients (c.settle_clients.ensures.failed ∙ ap (λ (xs : List ClientReport). map (λ (x : ClientReport). x.failed) xs) c.deref_mut-2.ensures.value);
+      servers = rw of_servers (c.settle_servers.ensures.stops ∙ ap (λ (xs : List (ServerReport g.row.T.Denot)). map (λ (x : ServerReport g.row.T.Denot). x.stops) xs) c.deref_mut.ensures.value);
+    }

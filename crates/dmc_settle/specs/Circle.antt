@@ -1,0 +1,33 @@
+-- The circle: what a server's queue and a client's tracker say of each other.
+use Rattle.std.specs.Prelude.{◌≡◌, ℕ, ◌+◌, List, Some, slice_get}
+use Rattle.dmc_types.specs.declared.ids.ServerId.{ServerId}
+use Rattle.dmc_types.specs.declared.config.PhaseType.TheVariants.{Reservation, Priority}
+use Rattle.dmc_tag.specs.declared.event.Event.{Event}
+use Rattle.dmc_tracker.specs.declared.event.TrackerEvent.{TrackerEvent}
+use Rattle.dmc_tracker.specs.TrackerList.{stamps, sent, responses}
+use Rattle.dmc_ledger.specs.Bundles.{StampHoldings}
+use Rattle.dmc_tlock.specs.BookState as tracker_book
+use Rattle.dmc_tlock.specs.BookState.{tills_at}
+use Rattle.dmc_book.specs.BookState.{BookState, PassState}
+use Rattle.dmc_book.specs.Counts.{count, stamps_added, delta_added, rho_added, grants_added}
+use Rattle.dmc_book.specs.Settling.{left_in}
+use Rattle.dmc_settle.specs.Remains.{Remains}
+
+-- Of a client and a server s, by the queue's history, the tracker's list, the tills that are left of the client's stamps to s,
+-- and the units that are left of its grants at s: each accepted add was stamped, each response was granted, and what is missing
+-- is what was left.
+pub record IsCircle {T : Type 0} (client : ℕ) (s : ServerId) (history : List (Event T)) (events : List TrackerEvent)
+    (tills : StampHoldings) (reservations priorities : ℕ) : Type 0 where
+  pub stamps : count (stamps_added client) history + tills.stamps.amount ≡ stamps s events
+  pub delta : count (delta_added client) history + tills.delta.amount ≡ (sent s events).delta
+  pub rho : count (rho_added client) history + tills.rho.amount ≡ (sent s events).rho
+  pub reservation : responses s Reservation events + reservations ≡ count (grants_added client Reservation) history
+  pub priority : responses s Priority events + priorities ≡ count (grants_added client Priority) history
+
+-- of each client and each server
+abbrev pub AreCircles : {T : Type 0} → Remains T → Type 0
+AreCircles {T} r = (c s : ℕ) (queue : BookState T) (passes : List PassState) (book : tracker_book.BookState) (pass : List StampHoldings)
+    → slice_get r.books s ≡ Some queue → slice_get r.worker_passes s ≡ Some passes
+    → slice_get r.trackers c ≡ Some book → slice_get r.client_passes c ≡ Some pass
+    → IsCircle book.client (record { 0 = s }) queue.history book.events (tills_at pass (record { 0 = s }))
+    (left_in Reservation c passes) (left_in Priority c passes)

@@ -1,0 +1,84 @@
+-- What a report of a run says.
+use Rattle.std.specs.Prelude.{◌≡◌, ℕ, ◌+◌, ◌≤◌, List, Some, length, map, slice_get, sum_by}
+use Rattle.dmc_types.specs.Values.{Setting}
+use Rattle.dmc_types.specs.declared.config.Counting.{Counting}
+use Rattle.dmc_types.specs.declared.config.Counting.TheVariants.{All, Others}
+use Rattle.dmc_types.specs.declared.config.PhaseType.{PhaseType}
+use Rattle.dmc_types.specs.declared.config.PhaseType.TheVariants.{Reservation, Priority}
+use Rattle.dmc_tag.specs.Tag.{Tagging}
+use Rattle.dmc_tag.specs.Replay.{after, replays}
+use Rattle.dmc_book.specs.Counts.{count, stamps_added, delta_added, phase_grants}
+use Rattle.dmc_tracker.specs.TrackerList.{completions}
+use Rattle.dmc_ledger.specs.Bundles.{StampHoldings}
+use Rattle.dmc_ledger.specs.Moves.{till_in}
+use Rattle.dmc_tlock.specs.declared.settled.StampsHeld.{StampsHeld}
+use Rattle.dmc_book.specs.BookState.{PassState}
+use Rattle.dmc_scene.specs.SceneValue.{SceneValue, ClientValue}
+use Rattle.dmc_settle.specs.Remains.{Remains}
+use Rattle.dmc_settle.specs.declared.report.ClientReport.{ClientReport}
+use Rattle.dmc_settle.specs.declared.report.ServerReport.{ServerReport}
+use Rattle.dmc_settle.specs.declared.report.ClusterReport.{ClusterReport}
+
+-- a server: its history replays, and its numbers are those of the history
+pub record IsServerReport {T : Type 0} (ops : Tagging T) (config : Setting) (server : ℕ) (r : ServerReport T) : Type 0 where
+  pub its_server : r.server.0 ≡ server
+  pub replays : replays ops config r.history.events
+  pub reservation : r.reservation ≡ count (phase_grants Reservation) r.history.events
+  pub priority : r.priority ≡ count (phase_grants Priority) r.history.events
+  pub left : r.left ≡ length (after ops config r.history.events).requests
+
+-- the deltas of a client's accepted adds at a server are at most this
+abbrev pub delta_bound : Counting → ClientReport → ℕ
+delta_bound All r = r.completed
+delta_bound Others r = r.completed + r.sent + r.held.stamps
+
+-- a client: it sent its accepted adds over all histories
+pub record IsClientReport {T : Type 0} (scene : SceneValue) (servers : List (ServerReport T)) (client : ClientValue) (r : ClientReport) : Type 0 where
+  pub its_client : r.client ≡ client.id
+  pub sent : r.sent ≡ sum_by (λ s. count (stamps_added client.id.0) s.history.events) servers
+  pub delta : (k : ℕ) (s : ServerReport T) → slice_get servers k ≡ Some s
+      → count (delta_added client.id.0) s.history.events ≤ delta_bound scene.counting r
+
+-- the servers and clients of the scene; all completions and all units left are all grants
+pub record IsReport {T : Type 0} (ops : Tagging T) (scene : SceneValue) (r : ClusterReport T) : Type 0 where
+  pub as_many_servers : length r.servers.items ≡ scene.servers
+  pub as_many_clients : length r.clients.items ≡ length scene.clients
+  pub servers : (k : ℕ) (s : ServerReport T) → slice_get r.servers.items k ≡ Some s → IsServerReport ops scene.config k s
+  pub clients : (k : ℕ) (client : ClientValue) (c : ClientReport) → slice_get scene.clients k ≡ Some client
+      → slice_get r.clients.items k ≡ Some c → IsClientReport scene r.servers.items client c
+  pub completed : sum_by (λ c. c.completed) r.clients.items + sum_by (λ s. s.held.reservation + s.held.priority) r.servers.items
+      ≡ sum_by (λ s. s.reservation + s.priority) r.servers.items
+
+-- ---- a report of what threads left
+
+-- what a client's pass holds, over all servers
+abbrev pub stamps_left : List StampHoldings → StampsHeld
+stamps_left pass = record {
+  stamps = sum_by (λ t. t.stamps.amount) pass;
+  delta = sum_by (λ t. t.delta.amount) pass;
+  rho = sum_by (λ t. t.rho.amount) pass;
+}
+
+-- what the passes of a server's workers hold, over all clients
+abbrev pub units_left : PhaseType → List PassState → ℕ
+units_left phase passes = sum_by (λ p. sum_by (λ u. (till_in phase u).amount) p.units) passes
+
+-- the histories, the completions, and what was left
+pub record IsReportOf {T : Type 0} (remains : Remains T) (r : ClusterReport T) : Type 0 where
+  pub histories : map (λ s. s.history.events) r.servers.items ≡ map (λ b. b.history) remains.books
+  pub completed : map (λ c. c.completed) r.clients.items ≡ map (λ t. (completions t.events).delta) remains.trackers
+  pub stamps_left : map (λ c. c.held) r.clients.items ≡ map stamps_left remains.client_passes
+  pub units_left : map (λ s. s.held) r.servers.items
+      ≡ map (λ passes. record { reservation = units_left Reservation passes; priority = units_left Priority passes }) remains.worker_passes
+
+-- the rows are those of the scene
+pub record AreRows {T : Type 0} (scene : SceneValue) (r : ClusterReport T) : Type 0 where
+  pub clients : map (λ c. c.client) r.clients.items ≡ map (λ c. c.id) scene.clients
+  pub as_many_servers : length r.servers.items ≡ scene.servers
+  pub servers : (k : ℕ) (s : ServerReport T) → slice_get r.servers.items k ≡ Some s → s.server.0 ≡ k
+
+-- the stops and the failures are as they were
+pub record KeepsStops {T : Type 0} (old new : ClusterReport T) : Type 0 where
+  pub clients : map (λ c. c.stop) new.clients.items ≡ map (λ c. c.stop) old.clients.items
+  pub failed : map (λ c. c.failed) new.clients.items ≡ map (λ c. c.failed) old.clients.items
+  pub servers : map (λ s. s.stops) new.servers.items ≡ map (λ s. s.stops) old.servers.items

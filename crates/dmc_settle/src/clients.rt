@@ -1,0 +1,162 @@
+//! Settling the clients' tracker books.
+ghost use Rattle.std.specs.Prelude.{◌≡◌, ◌≤◌, ◌<◌, ℕ, [], length, map, slice_index_or, sum_by};
+ghost use Rattle.dmc_ledger.specs.Bundles.{client_side, server_side};
+ghost use Rattle.dmc_tlock.specs.BookState.{no_side};
+ghost use Rattle.dmc_tlock.specs.Consistent.{IsConsistent, responded};
+ghost use Rattle.dmc_settle.specs.Filled.{AreBalanced, AreClientNumbers, AreHeldWithin, IsAudited, IsClosing, IsReadyClient, all_held, client_numbers, no_client_numbers, stamps_taken, with_held, with_pair};
+ghost use Rattle.dmc_settle.specs.Places as places;
+ghost use Rattle.dmc_settle.specs.Places.{desk_of, no_held, no_tracker};
+
+use crate::report::ClientReport;
+use dmc_ledger::desk::{ClientDesk, ServerDesk};
+use dmc_ledger::setup::Setup;
+use dmc_tlock::book::TrackerBook;
+use dmc_tlock::pass::ClientPass;
+use dmc_tlock::settled::StampsHeld;
+
+/// What the desks of a client took in: stamps at the servers' queues, and responses at its tracker.
+#[derive(Clone, Copy)]
+pub(crate) struct TakenIn {
+    sent: u64,
+    completed: u64,
+}
+
+/// Changes nothing, and tells that each held till of a pair is all that its book issued beside what was gathered.
+fn audit_pair<S: Setup>(desk: &ClientDesk<S>, side: &ServerDesk<S>)
+    requires { IsClosing (client_side desk.now) (server_side side.now) }
+    ensures { IsAudited (client_side desk.now) (server_side side.now) }
+{
+    side.books.stamps.audit(&desk.held.stamps);
+    side.books.delta.audit(&desk.held.delta);
+    side.books.rho.audit(&desk.held.rho);
+    desk.books.reservation.audit(&side.held.reservation);
+    desk.books.priority.audit(&side.held.priority);
+}
+
+/// Audits a pair, and adds what its held tills hold.
+fn add_pair<S: Setup>(taken: TakenIn, desk: &ClientDesk<S>, side: &ServerDesk<S>) -> TakenIn
+    requires closing { IsClosing (client_side desk.now) (server_side side.now) }
+    requires sent { taken.sent ≤ 1099511627776 }
+    requires completed { taken.completed ≤ 1099511627776 }
+    ensures value { result ≡ with_pair taken (client_side desk.now) (server_side side.now) }
+    ensures audited { IsAudited (client_side desk.now) (server_side side.now) }
+{
+    audit_pair(desk, side);
+    let responded = side.held.reservation.amount() + side.held.priority.amount();
+    TakenIn {
+        sent: taken.sent + desk.held.stamps.amount(),
+        completed: taken.completed + responded,
+    }
+}
+
+/// Audits the pairs of a client, and sums what their held tills hold.
+fn audit_pairs<S: Setup>(
+    client: usize,
+    desks: &[Vec<ClientDesk<S>>],
+    sides: &[ServerDesk<S>],
+) -> TakenIn
+    requires few { length desks.now ≤ 64 }
+    requires as_many { length sides.now ≡ length desks.now }
+    requires within { (s : ℕ) → s < length desks.now → client < length (slice_index_or (map places.sides desks.now) s []) }
+    requires closing { (s : ℕ) → s < length desks.now
+        → IsClosing (desk_of (map places.sides desks.now) s client) (slice_index_or (map server_side sides.now) s no_side) }
+    ensures audited { (s : ℕ) → s < length desks.now
+        → IsAudited (desk_of (map places.sides desks.now) s client) (slice_index_or (map server_side sides.now) s no_side) }
+    ensures sent { result.sent ≡ stamps_taken (map places.sides desks.now) client }
+    ensures completed { result.completed ≡ sum_by responded (map server_side sides.now) }
+{
+    let mut taken = TakenIn {
+        sent: 0,
+        completed: 0,
+    };
+    for s in 0..desks.len() {
+        taken = add_pair(taken, &desks[s][client], &sides[s]);
+    }
+    taken
+}
+
+/// Adds what was left for a server.
+fn add_held(sum: StampsHeld, left: StampsHeld) -> StampsHeld
+    requires left { AreHeldWithin 2147483648 left }
+    requires fits { AreHeldWithin 1099511627776 sum }
+    ensures { result ≡ with_held sum left }
+{
+    StampsHeld {
+        stamps: sum.stamps + left.stamps,
+        delta: sum.delta + left.delta,
+        rho: sum.rho + left.rho,
+    }
+}
+
+/// Sums what was left in a pass for each server.
+fn sum_held(held: &[StampsHeld]) -> StampsHeld
+    requires few { length held.now ≤ 64 }
+    requires each { (s : ℕ) → s < length held.now → AreHeldWithin 2147483648 (slice_index_or held.now s no_held) }
+    ensures { result ≡ all_held held.now }
+{
+    let mut sum = StampsHeld::default();
+    for left in held {
+        sum = add_held(sum, *left);
+    }
+    sum
+}
+
+/// Settles a client's tracker book with its pass, audits its pair at each server, and fills in its row.
+fn settle_client<S: Setup>(
+    client: usize,
+    tracker: TrackerBook<S>,
+    pass: ClientPass<S>,
+    desks: &[Vec<ClientDesk<S>>],
+    row: &mut ClientReport,
+)
+    requires ready { IsReadyClient (map places.sides desks.now) client tracker pass }
+    requires few { length desks.now ≤ 64 }
+    ensures numbers { AreClientNumbers (map places.sides desks.now) client tracker pass (client_numbers row.new) }
+    ensures balanced { AreBalanced (map places.sides desks.now) client tracker pass }
+    ensures consistent { IsConsistent tracker }
+    ensures client { row.new.client ≡ row.old.client }
+    ensures failed { row.new.failed ≡ row.old.failed }
+    ensures stop { row.new.stop ≡ row.old.stop }
+{
+    let Ok(settled) = tracker.settle(pass) else {
+        unreachable!()
+    };
+    let taken = audit_pairs(client, desks, &settled.desks);
+    row.sent = taken.sent;
+    row.completed = taken.completed;
+    row.held = sum_held(&settled.held);
+}
+
+/// Settles each client's tracker book with its pass, from the last on, and fills in the rows.
+pub(crate) fn settle_clients<S: Setup>(
+    trackers: Vec<TrackerBook<S>>,
+    passes: Vec<ClientPass<S>>,
+    desks: &[Vec<ClientDesk<S>>],
+    rows: &mut [ClientReport],
+)
+    requires passes { length passes.items ≡ length trackers.items }
+    requires rows { length rows.old ≡ length trackers.items }
+    requires few { length desks.now ≤ 64 }
+    requires ready { (c : ℕ) → c < length trackers.items
+        → IsReadyClient (map places.sides desks.now) c (slice_index_or trackers.items c no_tracker) (slice_index_or passes.items c []) }
+    ensures a_row_each { length rows.new ≡ length trackers.items }
+    ensures numbers { (c : ℕ) → c < length trackers.items
+        → AreClientNumbers (map places.sides desks.now) c (slice_index_or trackers.items c no_tracker) (slice_index_or passes.items c [])
+        (slice_index_or (map client_numbers rows.new) c no_client_numbers) }
+    ensures balanced { (c : ℕ) → c < length trackers.items
+        → AreBalanced (map places.sides desks.now) c (slice_index_or trackers.items c no_tracker) (slice_index_or passes.items c []) }
+    ensures consistent { (c : ℕ) → c < length trackers.items → IsConsistent (slice_index_or trackers.items c no_tracker) }
+    ensures clients { map (λ r. r.client) rows.new ≡ map (λ r. r.client) rows.old }
+    ensures failed { map (λ r. r.failed) rows.new ≡ map (λ r. r.failed) rows.old }
+    ensures stops { map (λ r. r.stop) rows.new ≡ map (λ r. r.stop) rows.old }
+{
+    let mut trackers = trackers;
+    let mut passes = passes;
+    while let Some(tracker) = trackers.pop() {
+        let client = trackers.len();
+        let Some(pass) = passes.pop() else {
+            unreachable!()
+        };
+        settle_client(client, tracker, pass, desks, &mut rows[client]);
+    }
+}

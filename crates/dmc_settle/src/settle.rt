@@ -1,0 +1,80 @@
+//! Settling a cluster.
+ghost use Rattle.std.specs.Prelude.{◌≡◌, ◌≤◌, ◌↔◌, length, map, IfOk, OnOk, IsOk};
+ghost use Rattle.dmc_settle.specs.Remains.{AreTogether, remains};
+ghost use Rattle.dmc_settle.specs.Circle.{AreCircles};
+ghost use Rattle.dmc_settle.specs.Reports.{AreRows, IsReport, IsReportOf, KeepsStops};
+
+use crate::checks::{are_rows, are_together};
+use crate::clients::settle_clients;
+use crate::report::ClusterReport;
+use crate::room::SettleRoom;
+use crate::servers::settle_servers;
+use dmc_book::book::QueueBook;
+use dmc_book::pass::WorkerPass;
+use dmc_index::index::Indexes;
+use dmc_ledger::setup::Setup;
+use dmc_scene::scene::Scene;
+use dmc_tag::tag::Tag;
+use dmc_tlock::book::TrackerBook;
+use dmc_tlock::pass::ClientPass;
+use std::alloc::Global;
+use thiserror::Error;
+
+/// The parts are not those of one cluster that the scene sets up.
+#[derive(Clone, Copy, Debug, PartialEq, Eq, Error)]
+#[error("the parts are not those of one cluster")]
+pub struct Torn;
+
+/// The passes of a cluster: for each server those of its workers, and one for each client.
+#[derive(Drop)]
+pub struct Passes<S: Setup> {
+    pub workers: Vec<Vec<WorkerPass<S>>>,
+    pub clients: Vec<ClientPass<S>>,
+}
+
+/// Settles a cluster once its threads have ended: settles each book with its passes, audits the pair of each client and each
+/// server, and fills in the report. What is in the report of stops and failures stays. It takes no memory.
+///
+/// Refused `Torn`, which hands nothing back, where these are not the parts of one cluster that the scene sets up, by their
+/// configurations, their ids and the numbers of their books, or the report's rows are not the scene's.
+pub fn settle_cluster<T: Tag, I: Indexes<T>, S: Setup>(
+    alloc: Global,
+    scene: &Scene,
+    books: &mut [QueueBook<T, I, S>],
+    trackers: Vec<TrackerBook<S>>,
+    passes: Passes<S>,
+    report: ClusterReport<T>,
+    room: SettleRoom<S>,
+) -> Result<ClusterReport<T>, Torn>
+    requires room { scene.now.servers ≤ room }
+    ensures together { IsOk result
+        ↔ AreTogether scene.now (remains books.old (map (λ v. v.items) passes.workers.items) trackers.items passes.clients.items) × AreRows scene.now report }
+    ensures circle { OnOk result
+        (AreCircles (remains books.old (map (λ v. v.items) passes.workers.items) trackers.items passes.clients.items)) }
+    ensures report { IfOk result (IsReport T.ops scene.now) }
+    ensures its_report { IfOk result
+        (IsReportOf (remains books.old (map (λ v. v.items) passes.workers.items) trackers.items passes.clients.items)) }
+    ensures stops { IfOk result (KeepsStops report) }
+{
+    if !are_together(scene, books, &passes.workers, &trackers, &passes.clients) {
+        return Err(Torn);
+    }
+    if !are_rows(scene, &report) {
+        return Err(Torn);
+    }
+    has_few_parts(scene);
+    let Passes { workers, clients } = passes;
+    let SettleRoom { mut desks } = room;
+    let mut report = report;
+    settle_servers(alloc, books, workers, &mut report.servers, &mut desks);
+    settle_clients(trackers, clients, &desks, &mut report.clients);
+    Ok(report)
+}
+
+/// Changes nothing, and tells how few servers and clients a scene has.
+fn has_few_parts(scene: &Scene)
+    ensures servers { scene.now.servers ≤ 64 }
+    ensures clients { length scene.now.clients ≤ 256 }
+{
+    let _ = (scene.servers(), scene.clients().len());
+}

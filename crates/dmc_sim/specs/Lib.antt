@@ -1,0 +1,4 @@
+pub mod Reports
+pub mod Texts
+pub mod Counts
+pub mod Rows

@@ -1,0 +1,86 @@
+//! A client of a simulation.
+ghost use Rattle.std.specs.Prelude.{◌≡◌, ◌+◌, ◌<◌, ◌≤◌, ◌^◌, ◌==◌, IfOk, IfSome, vec_len};
+
+use dmc_scene::client::SceneClient;
+use dmc_types::config::PhaseType;
+use dmc_types::ids::{ClientId, ServerId};
+use dmc_work::plan;
+use std::alloc::{AllocError, Global};
+
+/// A client: what the scene says of it, the servers of its requests, how many of them it has sent, and how many are completed,
+/// all and in the constraint phase. A round completes at most one request a server, so a simulation of 2^30 rounds and 64
+/// servers completes at most 2^36.
+#[derive(Drop)]
+pub struct SimClient {
+    pub scene: SceneClient,
+    plan: Vec<ServerId>,
+    pub sent: u32,
+    pub completed: u64,
+    pub reservation: u64,
+    ghost few: { scene.requests ≤ 1000000 },
+    ghost planned: { vec_len plan ≡ scene.requests },
+    ghost within: { sent ≤ scene.requests },
+    ghost phases: { reservation ≤ completed },
+    ghost limit: { completed ≤ 2 ^ 36 },
+}
+
+impl SimClient {
+    /// A client that has sent nothing.
+    pub fn new(
+        alloc: Global,
+        scene: SceneClient,
+        seed: u64,
+        servers: u32,
+    ) -> Result<SimClient, AllocError>
+        requires { 0 < servers }
+        ensures scene { IfOk result (λ client. client.scene ≡ scene) }
+        ensures completed { IfOk result (λ client. client.completed ≡ 0) }
+    {
+        let plan = plan(alloc, seed, scene.id(), servers, scene.requests())?;
+        Ok(SimClient {
+            scene,
+            plan,
+            sent: 0,
+            completed: 0,
+            reservation: 0,
+        })
+    }
+
+    /// The server of its next request, if it has requests left and fewer outstanding than its window.
+    pub fn next_server(&self) -> Option<ServerId>
+        ensures { IfSome result (λ _. self.now.sent < self.now.scene.requests) }
+    {
+        if u64::from(self.sent) >= self.completed + u64::from(self.scene.window()) {
+            return None;
+        }
+        self.plan.get(self.sent as usize).copied()
+    }
+
+    /// Counts a request that it sent.
+    pub fn count_sent(&mut self)
+        requires { self.old.sent < self.old.scene.requests }
+        ensures scene { self.new.scene ≡ self.old.scene }
+        ensures completed { self.new.completed ≡ self.old.completed }
+    {
+        self.sent += 1;
+    }
+
+    /// Counts the completion of a request.
+    pub fn count_completed(&mut self, phase: PhaseType)
+        requires { self.old.completed < 2 ^ 36 }
+        ensures scene { self.new.scene ≡ self.old.scene }
+        ensures completed { self.new.completed ≡ self.old.completed + 1 }
+    {
+        self.completed += 1;
+        if phase == PhaseType::Reservation {
+            self.reservation += 1;
+        }
+    }
+
+    /// Whether all of its requests are completed.
+    pub fn is_complete(&self) -> bool
+        ensures { result ≡ (self.now.completed == self.now.scene.requests) }
+    {
+        self.completed == u64::from(self.scene.requests())
+    }
+}

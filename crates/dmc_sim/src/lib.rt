@@ -1,0 +1,8 @@
+//! Simulations: a scene's clients and servers, round by round, in one thread.
+#![tactic(auto)]
+
+mod client;
+pub mod report;
+mod round;
+mod rows;
+pub mod simulation;

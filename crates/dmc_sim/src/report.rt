@@ -1,0 +1,126 @@
+//! What a simulation tells.
+ghost use Rattle.std.specs.Prelude.{◌≡◌, ◌++◌, IfOk, OnOk, flat_map, string_bytes};
+ghost use Rattle.dmc_sim.specs.Texts.{client_line, report_text, server_line};
+ghost use Rattle.dmc_sim.specs.declared.report.SimFault.TheVariants.{Memory};
+
+use dmc_types::ids::{ClientId, ServerId};
+use dmc_types::moment::Moment;
+use dmc_types::refusal::Refusal;
+use std::alloc::{AllocError, Global};
+
+/// What a client did, in numbers of requests.
+#[derive(Clone, Copy, Debug, PartialEq, Eq)]
+pub struct ClientReport {
+    pub client: ClientId,
+    /// Those that it sent, at most those that the scene gives it.
+    pub sent: u32,
+    /// Those of them that were completed: granted, and the client heard of it.
+    pub completed: u64,
+    /// Those that were completed by a grant in the constraint phase.
+    pub reservation: u64,
+    /// Those that were completed by a grant in the weight phase, beyond the limit or not.
+    pub priority: u64,
+}
+
+/// What a server did, in numbers of requests.
+#[derive(Clone, Copy, Debug, PartialEq, Eq)]
+pub struct ServerReport {
+    pub server: ServerId,
+    /// Those that it granted in the constraint phase.
+    pub reservation: u32,
+    /// Those that it granted in the weight phase, beyond the limit or not.
+    pub priority: u32,
+    /// Those that were queued at it in the end.
+    pub left: u32,
+}
+
+/// What came of a simulation.
+#[derive(Drop)]
+pub struct SimReport {
+    /// The clients, in the scene's order.
+    pub clients: Vec<ClientReport>,
+    /// Server 0, 1, ..
+    pub servers: Vec<ServerReport>,
+    /// The moment of the last round in ticks, 0 where there was none.
+    pub end: Moment,
+    /// The rounds ended before all requests were completed.
+    pub turns_out: bool,
+}
+
+/// Why a simulation has no report.
+#[derive(Clone, Copy, Debug, PartialEq, Eq)]
+pub enum SimFault {
+    /// A queue refused an arrival or a pull: a sum that it needs is no value of the tag type.
+    Refused(Refusal),
+    /// The allocator refused a growth.
+    Memory,
+}
+
+impl From<AllocError> for SimFault {
+    ghost from_gives = { λ _ fault. fault ≡ Memory };
+
+    fn from(_: AllocError) -> SimFault {
+        SimFault::Memory
+    }
+}
+
+/// The lines of a report: one for each client, one for each server, and `end T`, T the moment of the last round.
+pub fn report_text(alloc: Global, report: &SimReport) -> Result<String, AllocError>
+    ensures { IfOk result (λ text. string_bytes text ≡ report_text report.now) }
+{
+    let mut text = String::new(alloc);
+    put_clients(&report.clients, &mut text)?;
+    put_servers(&report.servers, &mut text)?;
+    let end = report.end.ticks();
+    writeln!(text, "end {end}")?;
+    Ok(text)
+}
+
+/// Adds the line of each client.
+fn put_clients(rows: &[ClientReport], text: &mut String) -> Result<(), AllocError>
+    ensures { OnOk result (string_bytes text.new ≡ string_bytes text.old ++ flat_map client_line rows.now) }
+{
+    for row in rows {
+        put_client(row, text)?;
+    }
+    Ok(())
+}
+
+/// Adds the line of a client.
+fn put_client(row: &ClientReport, text: &mut String) -> Result<(), AllocError>
+    ensures { OnOk result (string_bytes text.new ≡ string_bytes text.old ++ client_line row.now) }
+{
+    let client = row.client.0;
+    let sent = row.sent;
+    let completed = row.completed;
+    let reservation = row.reservation;
+    let priority = row.priority;
+    writeln!(
+        text,
+        "client {client} sent {sent} completed {completed} reservation {reservation} priority {priority}"
+    )
+}
+
+/// Adds the line of each server.
+fn put_servers(rows: &[ServerReport], text: &mut String) -> Result<(), AllocError>
+    ensures { OnOk result (string_bytes text.new ≡ string_bytes text.old ++ flat_map server_line rows.now) }
+{
+    for row in rows {
+        put_server(row, text)?;
+    }
+    Ok(())
+}
+
+/// Adds the line of a server.
+fn put_server(row: &ServerReport, text: &mut String) -> Result<(), AllocError>
+    ensures { OnOk result (string_bytes text.new ≡ string_bytes text.old ++ server_line row.now) }
+{
+    let server = row.server.0;
+    let reservation = row.reservation;
+    let priority = row.priority;
+    let left = row.left;
+    writeln!(
+        text,
+        "server {server} reservation {reservation} priority {priority} left {left}"
+    )
+}

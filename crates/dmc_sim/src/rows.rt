@@ -1,0 +1,60 @@
+//! The rows of a report.
+ghost use Rattle.std.specs.Prelude.{◌≡◌, ◌≤◌, [], IfOk, length, map, vec_capacity};
+ghost use Rattle.std.specs.List.{range_with_len};
+ghost use Rattle.dmc_sim.specs.Rows.{idle_row, row_of};
+
+use crate::client::SimClient;
+use crate::report::{ClientReport, ServerReport};
+use dmc_core::cluster_core::ClusterCore;
+use dmc_tag::tag::Tag;
+use dmc_types::ids::ServerId;
+use std::alloc::{AllocError, Global};
+
+/// The servers, before they grant anything.
+pub fn idle_servers(alloc: Global, servers: u32) -> Result<Vec<ServerReport>, AllocError>
+    ensures { IfOk result (λ rows. rows.items ≡ map idle_row (range_with_len 0 servers)) }
+{
+    let mut rows = Vec::with_capacity(alloc, servers as usize)?;
+    for server in 0..servers {
+        rows.push(ServerReport {
+            server: ServerId(server),
+            reservation: 0,
+            priority: 0,
+            left: 0,
+        })?;
+    }
+    Ok(rows)
+}
+
+/// Counts what is queued at each server.
+pub fn count_left<T: Tag>(core: &ClusterCore<T>, servers: &mut [ServerReport])
+    ensures { map (λ r. r.server.0) servers.new ≡ map (λ r. r.server.0) servers.old }
+{
+    for row in servers.iter_mut() {
+        row.left = core.request_count(row.server).unwrap_or(0);
+    }
+}
+
+/// Adds a row for each client, in room that was made.
+pub fn put_rows(clients: &[SimClient], rows: &mut Vec<ClientReport>)
+    requires none { rows.old.items ≡ [] }
+    requires room { length clients.now ≤ vec_capacity rows.old }
+    ensures { rows.new.items ≡ map row_of clients.now }
+{
+    for client in clients {
+        rows.push(row_of(client)).unwrap();
+    }
+}
+
+/// What a client did so far.
+fn row_of(client: &SimClient) -> ClientReport
+    ensures { result ≡ row_of client.now }
+{
+    ClientReport {
+        client: client.scene.id(),
+        sent: client.sent,
+        completed: client.completed,
+        reservation: client.reservation,
+        priority: client.completed - client.reservation,
+    }
+}

@@ -1,0 +1,15 @@
+-- What was read stands at the front.
+use Rattle.std.proofs.Common.{◌≡◌, ◌-◌, ◌≤◌, take}
+use Rattle.std.specs.Prelude.{vec_len}
+use Rattle.std.specs.Io.KnownBytes.{Consumes}
+use Rattle.dmc_text.proofs.lines.read_text.Given as goal
+
+abbrev pub invariant-loop-len : goal.invariant-loop-len
+invariant-loop-len g l = record {
+  within : l.len ≤ vec_len l.buffer;
+  room : vec_len l.buffer ≡ vec_len l.fn.buffer;
+  read : Consumes (g.R.Read.remaining l.fn.reader) (g.R.Read.remaining l.reader) (take l.len l.buffer.items);
+}
+
+abbrev pub decreases-loop-len : goal.decreases-loop-len
+decreases-loop-len g l = vec_len l.buffer - l.len

@@ -1,0 +1,41 @@
+//! Queues and trackers that threads share: each behind a lock, with the books that count what goes between them.
+
+pub use dmc_book::book::QueueBook;
+pub use dmc_book::fault::{BookFault, NewFault, RunFault, SubmitCause, SubmitFault};
+pub use dmc_book::laws::{history_is_counted, history_replays};
+pub use dmc_book::pass::WorkerPass;
+pub use dmc_book::seat::Seat;
+pub use dmc_book::settled::{GrantsHeld, Settled};
+pub use dmc_book::status::Status;
+use dmc_heap::indexed_heap::HeapIndexes;
+pub use dmc_ledger::bundle::StampTills;
+pub use dmc_ledger::desk::{ClientDesk, ServerDesk, close_pair, open_pair};
+pub use dmc_ledger::full::Full;
+pub use dmc_ledger::mint::{Blank, Mint};
+pub use dmc_ledger::setup::Setup;
+pub use dmc_ledger::till::Till;
+pub use dmc_qlock::fault::RunOrRange;
+pub use dmc_qlock::lock::{Locked, OfServer, QueueLock};
+use dmc_ratio::ratio::RatioTag;
+use dmc_tick::tick::TickTag;
+pub use dmc_tlock::book::{TrackerBook, TrackerFault};
+pub use dmc_tlock::fault::{EntryFault, TillFault};
+pub use dmc_tlock::laws::book_is_consistent;
+pub use dmc_tlock::lock::TrackerLock;
+pub use dmc_tlock::pass::ClientPass;
+pub use dmc_tlock::settled::{StampsHeld, TrackerSettled};
+pub use dmc_tlock::stamp::Stamp;
+pub use dmc_tlock::status::TrackStatus;
+pub use dmc_tracker::event::TrackerEvent;
+
+/// The book of a `TickQueue`.
+pub type TickBook<S> = QueueBook<TickTag, HeapIndexes, S>;
+
+/// The book of a `RatioQueue`.
+pub type RatioBook<S> = QueueBook<RatioTag, HeapIndexes, S>;
+
+/// A `TickQueue` with its book behind a lock.
+pub type TickLock<S> = QueueLock<TickTag, HeapIndexes, S>;
+
+/// A `RatioQueue` with its book behind a lock.
+pub type RatioLock<S> = QueueLock<RatioTag, HeapIndexes, S>;

@@ -1,4 +1,6 @@
 // An unverified indexed queue in plain Rust: tags of 128 bits, no test of ranges, no limit on clients or requests, at limit Wait.
+#![allow(dead_code)] // not every program calls all of it
+
 use std::collections::{HashMap, VecDeque};
 
 const VACANT: usize = usize::MAX;
@@ -63,8 +65,8 @@ impl<R: Copy + Ord> Heap<R> {
     }
 }
 
-#[derive(Clone, Copy)]
-struct Tags {
+#[derive(Clone, Copy, PartialEq)]
+pub struct Tags {
     r: Option<i128>,
     l: i128,
     p: i128,
@@ -102,7 +104,8 @@ impl Queue {
         }
     }
 
-    pub fn register(&mut self, id: u32, spacing: (Option<i128>, i128, i128)) {
+    pub fn register(&mut self, id: u32, spacing: (Option<u64>, u64, u64)) {
+        let spacing = (spacing.0.map(i128::from), spacing.1.into(), spacing.2.into());
         self.ids.insert(id, self.clients.len());
         self.clients.push(Client { id, spacing, previous: (0, 0, 0), idle: true, requests: VecDeque::new() });
         self.early.places.push(VACANT);
@@ -152,7 +155,8 @@ impl Queue {
         self.least = Some(t);
     }
 
-    pub fn add(&mut self, id: u32, token: u32, delta: i128, rho: i128, at: i128) {
+    /// The tags of the request.
+    pub fn add(&mut self, id: u32, token: u32, delta: i128, rho: i128, at: i128) -> Tags {
         let t = at.max(self.last);
         let key = self.ids[&id];
         if self.clients[key].idle {
@@ -165,7 +169,8 @@ impl Queue {
         client.previous = (r.unwrap_or(client.previous.0), l, p);
         client.idle = false;
         let is_first = client.requests.is_empty();
-        client.requests.push_back((token, Tags { r, l, p }));
+        let tags = Tags { r, l, p };
+        client.requests.push_back((token, tags));
         if is_first {
             if self.shares.heap.is_empty() {
                 self.least = Some(p);
@@ -175,6 +180,7 @@ impl Queue {
             self.head(key, true);
         }
         self.last = t;
+        tags
     }
 
     /// The client and token of the request that is granted, and whether by its weight.
@@ -198,6 +204,21 @@ impl Queue {
             return None;
         }
         Some(self.grant(key, true))
+    }
+
+    /// The least moment at which a request is granted, where the last pull granted none.
+    pub fn due(&self) -> Option<i128> {
+        let (early, limit) = (self.early.least()?.0, self.limits.least()?.0);
+        Some(if early.0 { limit.1 } else { early.1.min(limit.1) })
+    }
+
+    pub fn is_empty(&self) -> bool {
+        self.shares.heap.is_empty()
+    }
+
+    /// How many requests are queued.
+    pub fn len(&self) -> usize {
+        self.clients.iter().map(|client| client.requests.len()).sum()
     }
 
     fn grant(&mut self, key: usize, reduces: bool) -> (u32, u32, bool) {

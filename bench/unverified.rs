@@ -14,7 +14,7 @@ fn main() {
     let words: Vec<usize> = std::env::args().skip(1).map(|word| word.parse().unwrap()).collect();
     let (clients, rounds) = (words[0], words[1]);
     // a limit's spacing, and the ticks from one batch to the next
-    let spacing = words.get(2).map_or(0, |limit| 1_000_000 / *limit as i128);
+    let spacing = words.get(2).map_or(0, |limit| 1_000_000 / *limit as u64);
     let step = if spacing == 0 { 1 } else { spacing / 2 };
     let mut queue = Queue::new();
     let start = Instant::now();
@@ -31,7 +31,7 @@ fn main() {
     let mut granted = Vec::with_capacity(batch);
     let (mut pulling, mut adding, mut checksum) = (0, 0, 0u64);
     for round in 0..rounds / batch {
-        let at = round as i128 * step;
+        let at = (round as u64 * step) as i128;
         let start = Instant::now();
         for _ in 0..batch {
             granted.extend(queue.pull(at).map(|grant| grant.0));

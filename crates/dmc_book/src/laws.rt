@@ -61,9 +61,11 @@ pub fn history_keeps_to_reservations<T: Tag, I: Indexes<T>, S: Setup>(book: &Que
 
 /// The index clause, of the index by R: it holds exactly the clients with a queued request in the state after the history,
 /// each under the tag of its first request.
-pub fn reservation_index<T: Tag, I: Indexes<T>, S: Setup>(book: &QueueBook<T, I, S>) -> &I::TagIndex
+pub fn reservation_index<T: Tag, I: Indexes<T>, S: Setup>(
+    book: &QueueBook<T, I, S>,
+) -> &I::ReservationIndex
     ensures { (heads : List (Option (Head T))) × AreFirstRequests T.ops (after T.ops book.now.config book.now.history) heads
-        × Ranks heads_of.tag_rank heads (I.TagIndex.slots result.now) }
+        × Ranks heads_of.tag_rank heads (I.ReservationIndex.slots result.now) }
 {
     book.queue.0.reservation_index()
 }
@@ -77,9 +79,9 @@ pub fn limit_index<T: Tag, I: Indexes<T>, S: Setup>(book: &QueueBook<T, I, S>) -
 }
 
 /// The index clause, of the index by P.
-pub fn shares_index<T: Tag, I: Indexes<T>, S: Setup>(book: &QueueBook<T, I, S>) -> &I::ReadyIndex
+pub fn weight_index<T: Tag, I: Indexes<T>, S: Setup>(book: &QueueBook<T, I, S>) -> &I::WeightIndex
     ensures { (heads : List (Option (Head T))) × AreFirstRequests T.ops (after T.ops book.now.config book.now.history) heads
-        × Ranks heads_of.ready_rank heads (I.ReadyIndex.slots result.now) }
+        × Ranks heads_of.ready_rank heads (I.WeightIndex.slots result.now) }
 {
-    book.queue.0.shares_index()
+    book.queue.0.weight_index()
 }

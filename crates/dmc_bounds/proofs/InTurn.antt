@@ -12,7 +12,7 @@ use Rattle.dmc_tag.specs.Tag.{Tagging}
 use Rattle.dmc_tag.specs.Order.{AtMost}
 use Rattle.dmc_tag.specs.Rank.{last_if_absent, client_cmp, absent_total}
 use Rattle.dmc_tag.specs.State.{State, is_client, client_named}
-use Rattle.dmc_tag.specs.Best.{by_reservation, by_shares, is_before, is_early, is_free, is_any, is_due, IsBest, best}
+use Rattle.dmc_tag.specs.Best.{by_reservation, by_weight, is_before, is_early, is_free, is_any, is_due, IsBest, best}
 use Rattle.dmc_tag.specs.declared.plain.PlainRequest.{PlainRequest}
 use Rattle.dmc_tag.specs.declared.plain.PlainClient.{PlainClient}
 use Rattle.dmc_tag.specs.declared.reply.Tags.{Tags}
@@ -112,10 +112,10 @@ module _ {T : Type 0} (ops : Tagging T) (order : IsTotalOrder ops.compare) where
   pub early_first : (t : ℕ) (xs : List (PlainRequest T)) → Pairwise InOrder xs → (r : PlainRequest T) (others : List (PlainRequest T)) (is : IsBest (by_reservation ops) (is_early ops t) xs r others) → AllByRecursion (λ x. is_client r.client x.client ≡ false) is.front
   early_first t = first_of_client (λ r. r.tags.r) (is_early ops t) (λ x z n. n.r) (λ x z n. due_before t x.tags.r z.tags.r n.r)
 
-  pub free_first : (t : ℕ) (xs : List (PlainRequest T)) → Pairwise InOrder xs → (r : PlainRequest T) (others : List (PlainRequest T)) (is : IsBest (by_shares ops) (is_free ops t) xs r others) → AllByRecursion (λ x. is_client r.client x.client ≡ false) is.front
+  pub free_first : (t : ℕ) (xs : List (PlainRequest T)) → Pairwise InOrder xs → (r : PlainRequest T) (others : List (PlainRequest T)) (is : IsBest (by_weight ops) (is_free ops t) xs r others) → AllByRecursion (λ x. is_client r.client x.client ≡ false) is.front
   free_first t = first_of_client (λ r. Some r.tags.p) (is_free ops t) (λ x z n. n.p) (λ x z n. due_before t (Some x.tags.l) (Some z.tags.l) n.l)
 
-  pub any_first : (xs : List (PlainRequest T)) → Pairwise InOrder xs → (r : PlainRequest T) (others : List (PlainRequest T)) (is : IsBest (by_shares ops) is_any xs r others) → AllByRecursion (λ x. is_client r.client x.client ≡ false) is.front
+  pub any_first : (xs : List (PlainRequest T)) → Pairwise InOrder xs → (r : PlainRequest T) (others : List (PlainRequest T)) (is : IsBest (by_weight ops) is_any xs r others) → AllByRecursion (λ x. is_client r.client x.client ≡ false) is.front
   any_first = first_of_client (λ r. Some r.tags.p) is_any (λ x z n. n.p) (λ x z n m. m)
 
 -- the set that the granted request is taken from
@@ -137,7 +137,7 @@ pub record IsGrant {T : Type 0} (ops : Tagging T) (s : State T) (t : ℕ) (r : P
 
 -- What holds of each of these holds of every pull.
 module _ {T : Type 0} (ops : Tagging T) (order : IsTotalOrder ops.compare) (s : State T) (t : ℕ) (pairs : Pairwise (InOrder ops order) s.requests) (P : Outcome T → Type 0) (refused : (e : Refusal) → P (Err e)) (waits : (m : ℕ) → P (Ok (record s { last_moment = t }, Later m))) (idles : P (Ok (record s { last_moment = t }, Nothing))) (grants : (r : PlainRequest T) (others : List (PlainRequest T)) (amount : Option T) (phase : PhaseType) (beyond : Bool) → IsGrant ops s t r others amount phase beyond → P (Ok (rules_of.reduced_by ops r.client amount (rules_of.without s t others), rules_of.granted r phase beyond))) where
-  priority : {member : PlainRequest T → Bool} (beyond : Bool) (r : PlainRequest T) (others : List (PlainRequest T)) → (is : IsBest (by_shares ops) member s.requests r others) → AllByRecursion (λ x. is_client r.client x.client ≡ false) is.front → IsDueIn ops t Priority beyond r → P (rules_of.grant_priority ops s t (r, others) beyond)
+  priority : {member : PlainRequest T → Bool} (beyond : Bool) (r : PlainRequest T) (others : List (PlainRequest T)) → (is : IsBest (by_weight ops) member s.requests r others) → AllByRecursion (λ x. is_client r.client x.client ≡ false) is.front → IsDueIn ops t Priority beyond r → P (rules_of.grant_priority ops s t (r, others) beyond)
   priority beyond r others is first due = bind_goes P (rules_of.can_grant ops s.config.hz r.client s.clients others) _ refused (λ amount e.
       let given = bound (rules_of.reduction_of ops s.config.hz r.client s.clients) _ amount e in
       let range = bound (refuse_if (not (rules_of.can_reduce_by ops r.client given.0 s.clients others)) Range) _ amount given.2 in
@@ -153,19 +153,19 @@ module _ {T : Type 0} (ops : Tagging T) (order : IsTotalOrder ops.compare) (s : 
         can = subst (λ o. rules_of.can_reduce_by ops r.client o s.clients others ≡ true) same (not_not _ (allowed _ Range range.0 range.1));
       }))
 
-  any : (b : Option (PlainRequest T × List (PlainRequest T))) → best (by_shares ops) is_any s.requests ≡ b → P (rules_of.grant_found ops s t true b)
+  any : (b : Option (PlainRequest T × List (PlainRequest T))) → best (by_weight ops) is_any s.requests ≡ b → P (rules_of.grant_found ops s t true b)
   any None q = idles
   any (Some (r, others)) q = let is = found_is_best ops order (λ r. Some r.tags.p) is_any s.requests others r q in priority true r others is (any_first ops order s.requests pairs r others is) tt
 
   limit : (x : PlainRequest T) (xs : List (PlainRequest T)) → s.requests ≡ x ∷ xs → (mode : AtLimit) → P (rules_of.at_limit ops s t mode x xs)
   limit x xs e Wait = waits (rules_of.least_due ops x xs)
-  limit x xs e Allow = any _ (ap (best (by_shares ops) is_any) e)
+  limit x xs e Allow = any _ (ap (best (by_weight ops) is_any) e)
 
   nothing : (xs : List (PlainRequest T)) → s.requests ≡ xs → P (rules_of.nothing_due ops s t xs)
   nothing [] e = idles
   nothing (x ∷ xs) e = limit x xs e s.config.at_limit
 
-  free : (b : Option (PlainRequest T × List (PlainRequest T))) → best (by_shares ops) (is_free ops t) s.requests ≡ b → P (rules_of.pulled_free ops s t b)
+  free : (b : Option (PlainRequest T × List (PlainRequest T))) → best (by_weight ops) (is_free ops t) s.requests ≡ b → P (rules_of.pulled_free ops s t b)
   free None q = nothing s.requests refl
   free (Some (r, others)) q = let is = found_is_best ops order (λ r. Some r.tags.p) (is_free ops t) s.requests others r q in priority false r others is (free_first ops order t s.requests pairs r others is) is.is_member
 

@@ -19,7 +19,7 @@ use Rattle.dmc_tag.specs.Order.{AtMost, AreNext}
 use Rattle.dmc_tag.specs.Outcome.{refuse_if, in_range, exactly}
 use Rattle.dmc_tag.specs.Spacing.{spacing_of, optional_spacing, spacings_of}
 use Rattle.dmc_tag.specs.State.{State, is_client, has_queued, client_named, effective}
-use Rattle.dmc_tag.specs.Best.{best, by_shares, is_any}
+use Rattle.dmc_tag.specs.Best.{best, by_weight, is_any}
 use Rattle.dmc_tag.specs.Rules as rules_of
 use Rattle.dmc_tag.specs.Rules.{Outcome, next_tags}
 use Rattle.dmc_tag.specs.Step.{settled, outcome}
@@ -121,7 +121,7 @@ module _ {T : Type 0} (ops : Tagging T) (fraction : T → Fraction) (is_value : 
   -- where there is a shift the arriving client is idle
   shift_idle : (requests : List (PlainRequest T)) (c : PlainClient T) (t amount : T) → rules_of.shift_of ops requests c t ≡ Ok (Some amount) → c.idle ≡ true
   shift_idle requests c t amount e = at c.idle refl e where
-    at : (b : Bool) → c.idle ≡ b → (if b then rules_of.shift_from ops t (best (by_shares ops) is_any requests) else Ok None) ≡ Ok (Some amount) → c.idle ≡ true
+    at : (b : Bool) → c.idle ≡ b → (if b then rules_of.shift_from ops t (best (by_weight ops) is_any requests) else Ok None) ≡ Ok (Some amount) → c.idle ≡ true
     at true i e = i
     at false i e = cc
 

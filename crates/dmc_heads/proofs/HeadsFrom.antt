@@ -25,30 +25,30 @@ module _ {T : Type 0} where
   head_from_none_limit None c = refl
   head_from_none_limit (Some a) c = refl
 
-  pub held-heads_from : (early : List (Option (TagRank T))) (limits : List (Option (LimitRank T))) (ready : List (Option (ReadyRank T))) (key : ℕ) → held (heads_from early limits ready) key ≡ head_from (held early key) (held limits key) (held ready key)
+  pub held-heads_from : (reservation : List (Option (TagRank T))) (limits : List (Option (LimitRank T))) (ready : List (Option (ReadyRank T))) (key : ℕ) → held (heads_from reservation limits ready) key ≡ head_from (held reservation key) (held limits key) (held ready key)
   held-heads_from [] limits ready key = refl
-  held-heads_from (a ∷ early) [] ready key = sym (head_from_none_limit (held (a ∷ early) key) (held ready key))
-  held-heads_from (a ∷ early) (b ∷ limits) [] key = sym (head_from_none (held (a ∷ early) key) (held (b ∷ limits) key))
-  held-heads_from (a ∷ early) (b ∷ limits) (c ∷ ready) zero = refl
-  held-heads_from (a ∷ early) (b ∷ limits) (c ∷ ready) (suc key) = held-heads_from early limits ready key
+  held-heads_from (a ∷ reservation) [] ready key = sym (head_from_none_limit (held (a ∷ reservation) key) (held ready key))
+  held-heads_from (a ∷ reservation) (b ∷ limits) [] key = sym (head_from_none (held (a ∷ reservation) key) (held (b ∷ limits) key))
+  held-heads_from (a ∷ reservation) (b ∷ limits) (c ∷ ready) zero = refl
+  held-heads_from (a ∷ reservation) (b ∷ limits) (c ∷ ready) (suc key) = held-heads_from reservation limits ready key
 
-  pub heads_from-set : (early : List (Option (TagRank T))) (limits : List (Option (LimitRank T))) (ready : List (Option (ReadyRank T))) (key : ℕ) (a : Option (TagRank T)) (b : Option (LimitRank T)) (c : Option (ReadyRank T)) → heads_from (set early key a) (set limits key b) (set ready key c) ≡ set (heads_from early limits ready) key (head_from a b c)
+  pub heads_from-set : (reservation : List (Option (TagRank T))) (limits : List (Option (LimitRank T))) (ready : List (Option (ReadyRank T))) (key : ℕ) (a : Option (TagRank T)) (b : Option (LimitRank T)) (c : Option (ReadyRank T)) → heads_from (set reservation key a) (set limits key b) (set ready key c) ≡ set (heads_from reservation limits ready) key (head_from a b c)
   heads_from-set [] limits ready key a b c = refl
-  heads_from-set (x ∷ early) [] ready zero a b c = refl
-  heads_from-set (x ∷ early) [] ready (suc key) a b c = refl
-  heads_from-set (x ∷ early) (y ∷ limits) [] zero a b c = refl
-  heads_from-set (x ∷ early) (y ∷ limits) [] (suc key) a b c = refl
-  heads_from-set (x ∷ early) (y ∷ limits) (z ∷ ready) zero a b c = refl
-  heads_from-set (x ∷ early) (y ∷ limits) (z ∷ ready) (suc key) a b c =
-      ap (λ hs. head_from x y z ∷ hs) (heads_from-set early limits ready key a b c)
+  heads_from-set (x ∷ reservation) [] ready zero a b c = refl
+  heads_from-set (x ∷ reservation) [] ready (suc key) a b c = refl
+  heads_from-set (x ∷ reservation) (y ∷ limits) [] zero a b c = refl
+  heads_from-set (x ∷ reservation) (y ∷ limits) [] (suc key) a b c = refl
+  heads_from-set (x ∷ reservation) (y ∷ limits) (z ∷ ready) zero a b c = refl
+  heads_from-set (x ∷ reservation) (y ∷ limits) (z ∷ ready) (suc key) a b c =
+      ap (λ hs. head_from x y z ∷ hs) (heads_from-set reservation limits ready key a b c)
 
   -- the heads are those below the least of the rooms
-  pub length-heads_from : (early : List (Option (TagRank T))) (limits : List (Option (LimitRank T))) (ready : List (Option (ReadyRank T))) → (length (heads_from early limits ready) ≤ length early) × (length (heads_from early limits ready) ≤ length limits) × (length (heads_from early limits ready) ≤ length ready)
+  pub length-heads_from : (reservation : List (Option (TagRank T))) (limits : List (Option (LimitRank T))) (ready : List (Option (ReadyRank T))) → (length (heads_from reservation limits ready) ≤ length reservation) × (length (heads_from reservation limits ready) ≤ length limits) × (length (heads_from reservation limits ready) ≤ length ready)
   length-heads_from [] limits ready = (omega arith, omega arith, omega arith)
-  length-heads_from (a ∷ early) [] ready = (omega arith, omega arith, omega arith)
-  length-heads_from (a ∷ early) (b ∷ limits) [] = (omega arith, omega arith, omega arith)
-  length-heads_from (a ∷ early) (b ∷ limits) (c ∷ ready) =
-      let rest = length-heads_from early limits ready in (omega arith, omega arith, omega arith)
+  length-heads_from (a ∷ reservation) [] ready = (omega arith, omega arith, omega arith)
+  length-heads_from (a ∷ reservation) (b ∷ limits) [] = (omega arith, omega arith, omega arith)
+  length-heads_from (a ∷ reservation) (b ∷ limits) (c ∷ ready) =
+      let rest = length-heads_from reservation limits ready in (omega arith, omega arith, omega arith)
 
 -- ---- ranks
 

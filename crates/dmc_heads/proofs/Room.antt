@@ -20,22 +20,22 @@ length-with_room slots n =
     length-append slots (replicate (n - length slots) None) ∙ ap (λ k. length slots + k) (length-replicate (n - length slots) None)
 
 module _ {T : Type 0} where
-  least_room : (early : List (Option (TagRank T))) (limits : List (Option (LimitRank T))) (ready : List (Option (ReadyRank T))) → length (heads_from early limits ready) ≡ min (length early) (min (length limits) (length ready))
+  least_room : (reservation : List (Option (TagRank T))) (limits : List (Option (LimitRank T))) (ready : List (Option (ReadyRank T))) → length (heads_from reservation limits ready) ≡ min (length reservation) (min (length limits) (length ready))
   least_room [] limits ready = omega arith
-  least_room (a ∷ early) [] ready = omega arith
-  least_room (a ∷ early) (b ∷ limits) [] = omega arith
-  least_room (a ∷ early) (b ∷ limits) (c ∷ ready) = omega (arith, least_room early limits ready)
+  least_room (a ∷ reservation) [] ready = omega arith
+  least_room (a ∷ reservation) (b ∷ limits) [] = omega arith
+  least_room (a ∷ reservation) (b ∷ limits) (c ∷ ready) = omega (arith, least_room reservation limits ready)
 
-module _ {T : Type 0} (early early' : List (Option (TagRank T))) (limits limits' : List (Option (LimitRank T))) (ready ready' : List (Option (ReadyRank T))) (e : (key : ℕ) → held early' key ≡ held early key) (l : (key : ℕ) → held limits' key ≡ held limits key) (r : (key : ℕ) → held ready' key ≡ held ready key) where
-  pub same_held : (key : ℕ) → held (heads_from early' limits' ready') key ≡ held (heads_from early limits ready) key
+module _ {T : Type 0} (reservation reservation' : List (Option (TagRank T))) (limits limits' : List (Option (LimitRank T))) (ready ready' : List (Option (ReadyRank T))) (e : (key : ℕ) → held reservation' key ≡ held reservation key) (l : (key : ℕ) → held limits' key ≡ held limits key) (r : (key : ℕ) → held ready' key ≡ held ready key) where
+  pub same_held : (key : ℕ) → held (heads_from reservation' limits' ready') key ≡ held (heads_from reservation limits ready) key
   same_held key =
-      held-heads_from early' limits' ready' key
+      held-heads_from reservation' limits' ready' key
       ∙ ap (λ a. head_from a (held limits' key) (held ready' key)) (e key)
-      ∙ ap (λ b. head_from (held early key) b (held ready' key)) (l key)
-      ∙ ap (head_from (held early key) (held limits key)) (r key)
-      ∙ sym (held-heads_from early limits ready key)
+      ∙ ap (λ b. head_from (held reservation key) b (held ready' key)) (l key)
+      ∙ ap (head_from (held reservation key) (held limits key)) (r key)
+      ∙ sym (held-heads_from reservation limits ready key)
 
-  still_least : (ops : Tagging T) (least : Option T) → IfSome least (IsLeastShare ops (heads_from early limits ready)) → IfSome least (IsLeastShare ops (heads_from early' limits' ready'))
+  still_least : (ops : Tagging T) (least : Option T) → IfSome least (IsLeastShare ops (heads_from reservation limits ready)) → IfSome least (IsLeastShare ops (heads_from reservation' limits' ready'))
   still_least ops None was = tt
   still_least ops (Some p) was = record {
     key = was.key;
@@ -45,29 +45,29 @@ module _ {T : Type 0} (early early' : List (Option (TagRank T))) (limits limits'
     below = λ k other q. was.below k other (sym (same_held k) ∙ q);
   }
 
-  pub grown : (ops : Tagging T) (least : Option T) (room room' : ℕ) → length ready' ≡ room' → IsSound ops early limits ready least room → IsSound ops early' limits' ready' least room'
+  pub grown : (ops : Tagging T) (least : Option T) (room room' : ℕ) → length ready' ≡ room' → IsSound ops reservation limits ready least room → IsSound ops reservation' limits' ready' least room'
   grown ops least room room' size sound = record {
-    early_is = λ key. e key ∙ sound.early_is key ∙ ap (option_map tag_rank) (sym (same_held key));
-    limits_is = λ key. l key ∙ sound.limits_is key ∙ ap (option_map limit_rank) (sym (same_held key));
-    ready_is = λ key. r key ∙ sound.ready_is key ∙ ap (option_map ready_rank) (sym (same_held key));
+    reservation_is = λ key. e key ∙ sound.reservation_is key ∙ ap (option_map tag_rank) (sym (same_held key));
+    limit_is = λ key. l key ∙ sound.limit_is key ∙ ap (option_map limit_rank) (sym (same_held key));
+    weight_is = λ key. r key ∙ sound.weight_is key ∙ ap (option_map ready_rank) (sym (same_held key));
     apart = λ key h q k other ne q'. sound.apart key h (sym (same_held key) ∙ q) k other ne (sym (same_held k) ∙ q');
     least_is = still_least ops least sound.least_is;
     room_is = size;
   }
 
-module _ {T : Type 0} (early : List (Option (TagRank T))) (limits : List (Option (LimitRank T))) (ready : List (Option (ReadyRank T))) (n : ℕ) where
+module _ {T : Type 0} (reservation : List (Option (TagRank T))) (limits : List (Option (LimitRank T))) (ready : List (Option (ReadyRank T))) (n : ℕ) where
   -- room for n keys in all three
-  pub all_grown : heads_from (with_room early n) (with_room limits n) (with_room ready n) ≡ with_room (heads_from early limits ready) n
+  pub all_grown : heads_from (with_room reservation n) (with_room limits n) (with_room ready n) ≡ with_room (heads_from reservation limits ready) n
   all_grown =
-      let old = heads_from early limits ready in
-      same_slots (heads_from (with_room early n) (with_room limits n) (with_room ready n)) (with_room old n)
-      (omega (arith, least_room (with_room early n) (with_room limits n) (with_room ready n), least_room early limits ready, length-with_room early n, length-with_room limits n, length-with_room ready n, length-with_room old n))
-      (λ key. same_held early (with_room early n) limits (with_room limits n) ready (with_room ready n) (held-more early (n - length early)) (held-more limits (n - length limits)) (held-more ready (n - length ready)) key ∙ sym (held-more old (n - length old) key))
+      let old = heads_from reservation limits ready in
+      same_slots (heads_from (with_room reservation n) (with_room limits n) (with_room ready n)) (with_room old n)
+      (omega (arith, least_room (with_room reservation n) (with_room limits n) (with_room ready n), least_room reservation limits ready, length-with_room reservation n, length-with_room limits n, length-with_room ready n, length-with_room old n))
+      (λ key. same_held reservation (with_room reservation n) limits (with_room limits n) ready (with_room ready n) (held-more reservation (n - length reservation)) (held-more limits (n - length limits)) (held-more ready (n - length ready)) key ∙ sym (held-more old (n - length old) key))
 
-  pub one_grown : length (heads_from early limits ready) ≤ length (heads_from (with_room early n) limits ready)
+  pub one_grown : length (heads_from reservation limits ready) ≤ length (heads_from (with_room reservation n) limits ready)
   one_grown =
-      omega (arith, least_room (with_room early n) limits ready, least_room early limits ready, length-with_room early n)
+      omega (arith, least_room (with_room reservation n) limits ready, least_room reservation limits ready, length-with_room reservation n)
 
-  pub two_grown : length (heads_from early limits ready) ≤ length (heads_from (with_room early n) (with_room limits n) ready)
+  pub two_grown : length (heads_from reservation limits ready) ≤ length (heads_from (with_room reservation n) (with_room limits n) ready)
   two_grown =
-      omega (arith, least_room (with_room early n) (with_room limits n) ready, least_room early limits ready, length-with_room early n, length-with_room limits n)
+      omega (arith, least_room (with_room reservation n) (with_room limits n) ready, least_room reservation limits ready, length-with_room reservation n, length-with_room limits n)

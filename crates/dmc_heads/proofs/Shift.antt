@@ -70,12 +70,12 @@ module _ {T : Type 0} (ops : Tagging T) (keeps : SubtractionKeeps ops) (amount :
   head_shifted (Some a) (Some b) None = refl
   head_shifted (Some a) (Some b) (Some c) = refl
 
-  pub heads_shifted : (early : List (Option (TagRank T))) (limits : List (Option (LimitRank T))) (ready : List (Option (ReadyRank T))) → heads_from early limits (map (option_map (less_rank ops amount)) ready) ≡ map (option_map (shifted ops amount)) (heads_from early limits ready)
+  pub heads_shifted : (reservation : List (Option (TagRank T))) (limits : List (Option (LimitRank T))) (ready : List (Option (ReadyRank T))) → heads_from reservation limits (map (option_map (less_rank ops amount)) ready) ≡ map (option_map (shifted ops amount)) (heads_from reservation limits ready)
   heads_shifted [] limits ready = refl
-  heads_shifted (a ∷ early) [] ready = refl
-  heads_shifted (a ∷ early) (b ∷ limits) [] = refl
-  heads_shifted (a ∷ early) (b ∷ limits) (c ∷ ready) =
-      ap (λ h. h ∷ heads_from early limits (map (option_map (less_rank ops amount)) ready)) (head_shifted a b c) ∙ ap (λ hs. option_map (shifted ops amount) (head_from a b c) ∷ hs) (heads_shifted early limits ready)
+  heads_shifted (a ∷ reservation) [] ready = refl
+  heads_shifted (a ∷ reservation) (b ∷ limits) [] = refl
+  heads_shifted (a ∷ reservation) (b ∷ limits) (c ∷ ready) =
+      ap (λ h. h ∷ heads_from reservation limits (map (option_map (less_rank ops amount)) ready)) (head_shifted a b c) ∙ ap (λ hs. option_map (shifted ops amount) (head_from a b c) ∷ hs) (heads_shifted reservation limits ready)
 
   same_rank : {R : Type 0} (rank : Head T → R) → ((h : Head T) → rank (shifted ops amount h) ≡ rank h) → (heads : List (Option (Head T))) (slots : List (Option R)) → Ranks rank heads slots → Ranks rank (map (option_map (shifted ops amount)) heads) slots
   same_rank rank same heads slots ranks key =
@@ -98,14 +98,14 @@ module _ {T : Type 0} (ops : Tagging T) (keeps : SubtractionKeeps ops) (amount :
       let was = apart key x.0 x.1 k y.0 ne y.1 in
       cc (was, ap (λ (z : Head T). z.client) x.2, ap (λ (z : Head T). z.client) y.2)
 
-  pub shifted_sound : (early : List (Option (TagRank T))) (limits : List (Option (LimitRank T))) (ready : List (Option (ReadyRank T))) (least : Option T) (room : ℕ) → IsSound ops early limits ready least room → CanShift ops amount (heads_from early limits ready) → IsSound ops early limits (map (option_map (less_rank ops amount)) ready) (option_map (less ops amount) least) room
-  shifted_sound early limits ready least room sound can =
-      let heads = heads_from early limits ready in
-      let same = sym (heads_shifted early limits ready) in
+  pub shifted_sound : (reservation : List (Option (TagRank T))) (limits : List (Option (LimitRank T))) (ready : List (Option (ReadyRank T))) (least : Option T) (room : ℕ) → IsSound ops reservation limits ready least room → CanShift ops amount (heads_from reservation limits ready) → IsSound ops reservation limits (map (option_map (less_rank ops amount)) ready) (option_map (less ops amount) least) room
+  shifted_sound reservation limits ready least room sound can =
+      let heads = heads_from reservation limits ready in
+      let same = sym (heads_shifted reservation limits ready) in
       record {
-        early_is = subst (λ hs. Ranks tag_rank hs early) same (same_rank tag_rank (λ h. refl) heads early sound.early_is);
-        limits_is = subst (λ hs. Ranks limit_rank hs limits) same (same_rank limit_rank (λ h. refl) heads limits sound.limits_is);
-        ready_is = subst (λ hs. Ranks ready_rank hs (map (option_map (less_rank ops amount)) ready)) same (less_ranks heads ready sound.ready_is);
+        reservation_is = subst (λ hs. Ranks tag_rank hs reservation) same (same_rank tag_rank (λ h. refl) heads reservation sound.reservation_is);
+        limit_is = subst (λ hs. Ranks limit_rank hs limits) same (same_rank limit_rank (λ h. refl) heads limits sound.limit_is);
+        weight_is = subst (λ hs. Ranks ready_rank hs (map (option_map (less_rank ops amount)) ready)) same (less_ranks heads ready sound.weight_is);
         apart = subst AreApart same (still_apart heads sound.apart);
         least_is = subst (λ hs. IfSome (option_map (less ops amount) least) (IsLeastShare ops hs)) same (shifted_is heads can least sound.least_is);
         room_is = length-map ready (option_map (less_rank ops amount)) ∙ sound.room_is;

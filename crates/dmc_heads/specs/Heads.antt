@@ -40,10 +40,10 @@ head_from None b c = None
 
 -- what each key below the least of the three rooms holds
 abbrev pub heads_from : {T : Type 0} → List (Option (TagRank T)) → List (Option (LimitRank T)) → List (Option (ReadyRank T)) → List (Option (Head T))
-heads_from (a ∷ early) (b ∷ limits) (c ∷ ready) = head_from a b c ∷ heads_from early limits ready
-heads_from (a ∷ early) (b ∷ limits) [] = []
-heads_from (a ∷ early) [] ready = []
-heads_from [] limits ready = []
+heads_from (a ∷ reservation) (b ∷ limit) (c ∷ weight) = head_from a b c ∷ heads_from reservation limit weight
+heads_from (a ∷ reservation) (b ∷ limit) [] = []
+heads_from (a ∷ reservation) [] weight = []
+heads_from [] limit weight = []
 
 -- ---- what is true of them
 
@@ -65,13 +65,13 @@ pub record IsLeastShare {T : Type 0} (ops : Tagging T) (heads : List (Option (He
 
 -- The three indexes hold the same clients, each under the rank of its first request, no two keys have one client, the
 -- least P that is kept is the least, and the room is that of the last index.
-pub record IsSound {T : Type 0} (ops : Tagging T) (early : List (Option (TagRank T))) (limits : List (Option (LimitRank T))) (ready : List (Option (ReadyRank T))) (least : Option T) (room : ℕ) : Type 0 where
-  pub early_is : Ranks tag_rank (heads_from early limits ready) early
-  pub limits_is : Ranks limit_rank (heads_from early limits ready) limits
-  pub ready_is : Ranks ready_rank (heads_from early limits ready) ready
-  pub apart : AreApart (heads_from early limits ready)
-  pub least_is : IfSome least (IsLeastShare ops (heads_from early limits ready))
-  pub room_is : length ready ≡ room
+pub record IsSound {T : Type 0} (ops : Tagging T) (reservation : List (Option (TagRank T))) (limit : List (Option (LimitRank T))) (weight : List (Option (ReadyRank T))) (least : Option T) (room : ℕ) : Type 0 where
+  pub reservation_is : Ranks tag_rank (heads_from reservation limit weight) reservation
+  pub limit_is : Ranks limit_rank (heads_from reservation limit weight) limit
+  pub weight_is : Ranks ready_rank (heads_from reservation limit weight) weight
+  pub apart : AreApart (heads_from reservation limit weight)
+  pub least_is : IfSome least (IsLeastShare ops (heads_from reservation limit weight))
+  pub room_is : length weight ≡ room
 
 -- ---- the least of an order
 

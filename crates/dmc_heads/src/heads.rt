@@ -22,9 +22,9 @@ use std::marker::Model;
 /// keys have one client. No call but `reserve` takes memory.
 #[derive(Drop)]
 pub struct Heads<T: Tag, I: Indexes<T>> {
-    early: I::TagIndex,
-    limits: I::LimitIndex,
-    ready: I::ReadyIndex,
+    reservation: I::ReservationIndex,
+    limit: I::LimitIndex,
+    weight: I::WeightIndex,
     // The least P, where it is known.
     least: Option<T>,
     // The keys below it have room in the last index.
@@ -38,9 +38,9 @@ impl<T: Tag, I: Indexes<T>> Model for Heads<T, I> {
 
     ghost Value = { List (Option (Head T)) };
 
-    ghost view = { λ x. heads_from (I.TagIndex.slots x.early) (I.LimitIndex.slots x.limits) (I.ReadyIndex.slots x.ready) };
+    ghost view = { λ x. heads_from (I.ReservationIndex.slots x.reservation) (I.LimitIndex.slots x.limit) (I.WeightIndex.slots x.weight) };
 
-    ghost invariant = { λ x. IsSound T.ops (I.TagIndex.slots x.early) (I.LimitIndex.slots x.limits) (I.ReadyIndex.slots x.ready) x.least x.room };
+    ghost invariant = { λ x. IsSound T.ops (I.ReservationIndex.slots x.reservation) (I.LimitIndex.slots x.limit) (I.WeightIndex.slots x.weight) x.least x.room };
 }
 
 impl<T: Tag, I: Indexes<T>> Heads<T, I> {
@@ -49,9 +49,9 @@ impl<T: Tag, I: Indexes<T>> Heads<T, I> {
         ensures { result ≡ [] }
     {
         Heads {
-            early: I::TagIndex::new(alloc),
-            limits: I::LimitIndex::new(alloc),
-            ready: I::ReadyIndex::new(alloc),
+            reservation: I::ReservationIndex::new(alloc),
+            limit: I::LimitIndex::new(alloc),
+            weight: I::WeightIndex::new(alloc),
             least: None,
             room: 0,
         }
@@ -61,7 +61,7 @@ impl<T: Tag, I: Indexes<T>> Heads<T, I> {
     pub fn len(&self) -> usize
         ensures { result ≡ count_by is_some self.now }
     {
-        self.ready.len()
+        self.weight.len()
     }
 
     /// Makes room for the keys below n, in all three orders. Room never shrinks.
@@ -70,53 +70,53 @@ impl<T: Tag, I: Indexes<T>> Heads<T, I> {
         ensures err { OnErr result ((key : ℕ) → held self.new key ≡ held self.old key) }
         ensures room { length self.old ≤ length self.new }
     {
-        self.early.reserve_keys(n)?;
-        self.limits.reserve_keys(n)?;
-        self.ready.reserve_keys(n)?;
+        self.reservation.reserve_keys(n)?;
+        self.limit.reserve_keys(n)?;
+        self.weight.reserve_keys(n)?;
         self.room = self.room.max(n);
         Ok(())
     }
 
     /// The index by R.
-    pub fn by_reservation(&self) -> &I::TagIndex
-        ensures { Ranks heads_of.tag_rank self.now (I.TagIndex.slots result.now) }
+    pub fn by_reservation(&self) -> &I::ReservationIndex
+        ensures { Ranks heads_of.tag_rank self.now (I.ReservationIndex.slots result.now) }
     {
-        &self.early
+        &self.reservation
     }
 
     /// The index by L, what is unready first.
     pub fn by_limit(&self) -> &I::LimitIndex
         ensures { Ranks heads_of.limit_rank self.now (I.LimitIndex.slots result.now) }
     {
-        &self.limits
+        &self.limit
     }
 
     /// The index by P, what is ready first.
-    pub fn by_shares(&self) -> &I::ReadyIndex
-        ensures { Ranks heads_of.ready_rank self.now (I.ReadyIndex.slots result.now) }
+    pub fn by_weight(&self) -> &I::WeightIndex
+        ensures { Ranks heads_of.ready_rank self.now (I.WeightIndex.slots result.now) }
     {
-        &self.ready
+        &self.weight
     }
 
     /// The key of the least R, and the rank. An absent R is last.
     pub fn least_by_reservation(&self) -> Option<(usize, &TagRank<T>)>
         ensures { MatchOption result (IsEmpty self.now) (λ p. IsFirst heads_of.tag_rank (tag_rank_cmp T.ops.compare) self.now p.0 p.1.now) }
     {
-        self.early.least()
+        self.reservation.least()
     }
 
     /// The key of the least L of those that are unready, or of all where none is, and the rank.
     pub fn least_by_limit(&self) -> Option<(usize, &LimitRank<T>)>
         ensures { MatchOption result (IsEmpty self.now) (λ p. IsFirst heads_of.limit_rank (limit_rank_cmp T.ops.compare) self.now p.0 p.1.now) }
     {
-        self.limits.least()
+        self.limit.least()
     }
 
     /// The key of the least P of those that are ready, or of all where none is, and the rank.
-    pub fn least_by_shares(&self) -> Option<(usize, &ReadyRank<T>)>
+    pub fn least_by_weight(&self) -> Option<(usize, &ReadyRank<T>)>
         ensures { MatchOption result (IsEmpty self.now) (λ p. IsFirst heads_of.ready_rank (ready_rank_cmp T.ops.compare) self.now p.0 p.1.now) }
     {
-        self.ready.least()
+        self.weight.least()
     }
 
     /// Gives a head to a key that has none, of a client that no key has.
@@ -126,10 +126,10 @@ impl<T: Tag, I: Indexes<T>> Heads<T, I> {
         requires apart { IsOthers self.old key head.client }
         ensures { self.new ≡ slice_set self.old key (Some head) }
     {
-        let is_first = self.ready.is_empty();
-        self.early.insert(key, head.tag_rank());
-        self.limits.insert(key, head.limit_rank());
-        self.ready.insert(key, head.ready_rank());
+        let is_first = self.weight.is_empty();
+        self.reservation.insert(key, head.tag_rank());
+        self.limit.insert(key, head.limit_rank());
+        self.weight.insert(key, head.ready_rank());
         self.least = least_with(is_first, self.least, head.tags.p);
     }
 
@@ -138,10 +138,10 @@ impl<T: Tag, I: Indexes<T>> Heads<T, I> {
         requires here { option_map (λ h. h.client) (held self.old key) ≡ Some head.client }
         ensures { self.new ≡ slice_set self.old key (Some head) }
     {
-        let old = self.ready.get(key).unwrap().tag;
-        self.early.change(key, head.tag_rank());
-        self.limits.change(key, head.limit_rank());
-        self.ready.change(key, head.ready_rank());
+        let old = self.weight.get(key).unwrap().tag;
+        self.reservation.change(key, head.tag_rank());
+        self.limit.change(key, head.limit_rank());
+        self.weight.change(key, head.ready_rank());
         self.least = least_after(self.least, old, head.tags.p);
     }
 
@@ -150,9 +150,9 @@ impl<T: Tag, I: Indexes<T>> Heads<T, I> {
         requires { IsSome (held self.old key) }
         ensures { self.new ≡ slice_set self.old key None }
     {
-        self.early.remove(key);
-        self.limits.remove(key);
-        let rank = self.ready.remove(key);
+        self.reservation.remove(key);
+        self.limit.remove(key);
+        let rank = self.weight.remove(key);
         self.least = least_without(self.least, rank.tag);
     }
 
@@ -161,7 +161,7 @@ impl<T: Tag, I: Indexes<T>> Heads<T, I> {
         requires { CanShift T.ops amount self.old }
         ensures { self.new ≡ map (option_map (heads_of.shifted T.ops amount)) self.old }
     {
-        self.ready.map_ranks(
+        self.weight.map_ranks(
             |rank: ReadyRank<T>| -> ReadyRank<T>
                 ensures { result ≡ heads_of.less_rank T.ops amount rank }
             { less_rank(rank, amount) },
@@ -198,7 +198,7 @@ impl<T: Tag, I: Indexes<T>> Heads<T, I> {
         ensures same { self.new ≡ self.old }
     {
         if self.least.is_none() {
-            self.least = find_least(&self.ready, self.room);
+            self.least = find_least(&self.weight, self.room);
         }
         self.least
     }
@@ -208,17 +208,17 @@ impl<T: Tag, I: Indexes<T>> Heads<T, I> {
         requires { IsSome (held self.old key) }
         ensures { self.new ≡ slice_set self.old key (option_map (marks_of.with_ready ready) (held self.old key)) }
     {
-        let limit = *self.limits.get(key).unwrap();
-        let share = *self.ready.get(key).unwrap();
-        self.limits.change(key, LimitRank { ready, ..limit });
-        self.ready.change(key, ReadyRank { ready, ..share });
+        let limit = *self.limit.get(key).unwrap();
+        let share = *self.weight.get(key).unwrap();
+        self.limit.change(key, LimitRank { ready, ..limit });
+        self.weight.change(key, ReadyRank { ready, ..share });
     }
 
     // The key of an unready head whose L is not past t.
     fn next_to_mark(&self, t: Moment) -> Option<usize>
         ensures { MatchOption result (map (option_map (heads_of.marked T.ops t)) self.now ≡ self.now) (λ key. IsSomeAnd (held self.now key) (CanMark T.ops t)) }
     {
-        match self.limits.least() {
+        match self.limit.least() {
             None => None,
             Some((key, rank)) => {
                 if rank.ready || !is_due(rank.tag, t) {
@@ -242,7 +242,7 @@ impl<T: Tag, I: Indexes<T>> Heads<T, I> {
     fn is_past(&self, key: usize, t: Moment) -> bool
         ensures { result ≡ option_map_or (marks_of.is_past T.ops t) (held self.now key) false }
     {
-        match self.limits.get(key) {
+        match self.limit.get(key) {
             None => false,
             Some(rank) => rank.ready && !is_due(rank.tag, t),
         }

@@ -198,9 +198,9 @@ impl<R: Rank> OrderIndex<R> for IndexedHeap<R> {
 pub struct HeapIndexes;
 
 impl<T: Tag> Indexes<T> for HeapIndexes {
-    type TagIndex = IndexedHeap<TagRank<T>>;
+    type ReservationIndex = IndexedHeap<TagRank<T>>;
 
     type LimitIndex = IndexedHeap<LimitRank<T>>;
 
-    type ReadyIndex = IndexedHeap<ReadyRank<T>>;
+    type WeightIndex = IndexedHeap<ReadyRank<T>>;
 }

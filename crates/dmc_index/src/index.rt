@@ -71,11 +71,11 @@ pub trait OrderIndex<R: Rank>: Drop {
 /// Names the three indexes of a queue.
 pub trait Indexes<T: Tag> {
     /// By reservation tag.
-    type TagIndex: OrderIndex<TagRank<T>>;
+    type ReservationIndex: OrderIndex<TagRank<T>>;
 
     /// By limit tag, what is unready first.
     type LimitIndex: OrderIndex<LimitRank<T>>;
 
     /// By shares tag, what is ready first.
-    type ReadyIndex: OrderIndex<ReadyRank<T>>;
+    type WeightIndex: OrderIndex<ReadyRank<T>>;
 }

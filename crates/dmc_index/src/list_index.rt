@@ -119,9 +119,9 @@ impl<R: Rank> OrderIndex<R> for ListIndex<R> {
 pub struct ListIndexes;
 
 impl<T: Tag> Indexes<T> for ListIndexes {
-    type TagIndex = ListIndex<TagRank<T>>;
+    type ReservationIndex = ListIndex<TagRank<T>>;
 
     type LimitIndex = ListIndex<LimitRank<T>>;
 
-    type ReadyIndex = ListIndex<ReadyRank<T>>;
+    type WeightIndex = ListIndex<ReadyRank<T>>;
 }

@@ -3,7 +3,7 @@ use Rattle.std.specs.Prelude.{◌≡◌, [], ◌∷◌, ℕ, Bool, false, not, �
 use Rattle.std.specs.Option.{option_map}
 use Rattle.std.specs.List.{remove}
 use Rattle.dmc_tag.specs.Tag.{Tagging}
-use Rattle.dmc_tag.specs.Best.{is_early, is_free, is_any, by_reservation, by_shares}
+use Rattle.dmc_tag.specs.Best.{is_early, is_free, is_any, by_reservation, by_weight}
 use Rattle.dmc_types.specs.declared.config.PhaseType.TheVariants as phases
 use Rattle.dmc_tag.specs.State.{State}
 use Rattle.dmc_tag.specs.Rules.{Outcome, without, granted}
@@ -23,8 +23,8 @@ members ops All = is_any
 
 abbrev pub order : {T : Type 0} → Tagging T → Set → PlainRequest T → PlainRequest T → Bool
 order ops (Early t) = by_reservation ops
-order ops (Free t) = by_shares ops
-order ops All = by_shares ops
+order ops (Free t) = by_weight ops
+order ops All = by_weight ops
 
 abbrev pub rank_of : {T : Type 0} → Set → PlainRequest T → TagRank T
 rank_of (Early t) r = record { tag = r.tags.r; client = r.client }

@@ -4,7 +4,7 @@ use Rattle.std.specs.Option.{option_map, option_and_then}
 use Rattle.dmc_types.specs.declared.ids.ClientId.{ClientId}
 use Rattle.dmc_tag.specs.Tag.{Tagging}
 use Rattle.dmc_tag.specs.State.{State}
-use Rattle.dmc_tag.specs.Best.{best, by_reservation, by_shares, is_early, is_free, is_any}
+use Rattle.dmc_tag.specs.Best.{best, by_reservation, by_weight, is_early, is_free, is_any}
 use Rattle.dmc_types.specs.declared.refusal.Refusal.TheVariants.{Range}
 use Rattle.dmc_tag.specs.Rules.{Outcome, can_grant}
 use Rattle.dmc_tag.specs.Step.{settled}
@@ -33,10 +33,10 @@ Early ops t entries (Some (key, client)) = (best (by_reservation ops) (is_early 
 
 -- The first request of the client that is named is the best of the free ones; or none is free, and it is the best of all.
 -- Nothing is queued where no client is named.
-abbrev pub ByShares : {T : Type 0} → Tagging T → ℕ → List (Entry T) → Option (ℕ × ClientId × Bool) → Type 0
-ByShares ops t entries None = requests_in entries ≡ []
-ByShares ops t entries (Some (key, client, true)) = (best (by_shares ops) (is_free ops t) (requests_in entries) ≡ first_at key entries) × IsFirstOf entries key client
-ByShares ops t entries (Some (key, client, false)) = (best (by_shares ops) (is_free ops t) (requests_in entries) ≡ None) × (best (by_shares ops) is_any (requests_in entries) ≡ first_at key entries) × IsFirstOf entries key client
+abbrev pub ByWeight : {T : Type 0} → Tagging T → ℕ → List (Entry T) → Option (ℕ × ClientId × Bool) → Type 0
+ByWeight ops t entries None = requests_in entries ≡ []
+ByWeight ops t entries (Some (key, client, true)) = (best (by_weight ops) (is_free ops t) (requests_in entries) ≡ first_at key entries) × IsFirstOf entries key client
+ByWeight ops t entries (Some (key, client, false)) = (best (by_weight ops) (is_free ops t) (requests_in entries) ≡ None) × (best (by_weight ops) is_any (requests_in entries) ≡ first_at key entries) × IsFirstOf entries key client
 
 -- a call's answer is the outcome's, and its state
 abbrev pub Settles : {T : Type 0} → State T → State T → Outcome T → Option (Reply T) → Type 0

@@ -108,9 +108,9 @@ impl<T: Tag, I: Indexes<T>> PullQueue<T, I> {
 
     /// The index by R: each client with a queued request has one key, under the tag of its first request, and no other
     /// client has a key. The three indexes have the same keys.
-    pub fn reservation_index(&self) -> &I::TagIndex
+    pub fn reservation_index(&self) -> &I::ReservationIndex
         ensures heads { AreFirstRequests T.ops (state_of self.now) self.now.heads }
-        ensures ranks { Ranks heads_of.tag_rank self.now.heads (I.TagIndex.slots result.now) }
+        ensures ranks { Ranks heads_of.tag_rank self.now.heads (I.ReservationIndex.slots result.now) }
     {
         self.heads.0.by_reservation()
     }
@@ -124,11 +124,11 @@ impl<T: Tag, I: Indexes<T>> PullQueue<T, I> {
     }
 
     /// The index by P, what is ready first.
-    pub fn shares_index(&self) -> &I::ReadyIndex
+    pub fn weight_index(&self) -> &I::WeightIndex
         ensures heads { AreFirstRequests T.ops (state_of self.now) self.now.heads }
-        ensures ranks { Ranks heads_of.ready_rank self.now.heads (I.ReadyIndex.slots result.now) }
+        ensures ranks { Ranks heads_of.ready_rank self.now.heads (I.WeightIndex.slots result.now) }
     {
-        self.heads.0.by_shares()
+        self.heads.0.by_weight()
     }
 
     /// The effective moment of a call.

@@ -75,7 +75,7 @@ fn marks_of<I: Indexes<TickTag>>(rt: &impl Abort, alloc: Global) -> Result<(), F
     assert_eq!(rt; key, 0);
     assert_eq!(rt; rank.tag, Some(tick(30)?));
     heads.promote(Moment::new(15)?);
-    let (key, rank) = heads.least_by_shares().expect(rt, "two heads are held");
+    let (key, rank) = heads.least_by_weight().expect(rt, "two heads are held");
     assert_eq!(rt; key, 3);
     assert!(rt; rank.ready);
     let (key, rank) = heads.least_by_limit().expect(rt, "two heads are held");
@@ -85,7 +85,7 @@ fn marks_of<I: Indexes<TickTag>>(rt: &impl Abort, alloc: Global) -> Result<(), F
     heads.set_back(Moment::new(19)?);
     let rank = heads.by_limit().get(0).expect(rt, "a head");
     assert!(rt; !rank.ready);
-    let rank = heads.by_shares().get(3).expect(rt, "a head");
+    let rank = heads.by_weight().get(3).expect(rt, "a head");
     assert!(rt; rank.ready);
     Ok(())
 }

@@ -27,18 +27,18 @@ use std::test::Fail;
 // their readers say.
 fn indexes<T: Tag, I: Indexes<T>>(
     queue: &PullQueue<T, I>,
-) -> (&I::TagIndex, &I::LimitIndex, &I::ReadyIndex)
+) -> (&I::ReservationIndex, &I::LimitIndex, &I::WeightIndex)
     ensures by_reservation { (id : ClientId) → (has_queued id (state_of queue.now).requests ≡ true)
-        ↔ ((key : ℕ) × (client_at (λ (r : TagRank T). r.client) (I.TagIndex.slots result.0.now) key ≡ Some id)) }
+        ↔ ((key : ℕ) × (client_at (λ (r : TagRank T). r.client) (I.ReservationIndex.slots result.0.now) key ≡ Some id)) }
     ensures by_limit { (id : ClientId) → (has_queued id (state_of queue.now).requests ≡ true)
         ↔ ((key : ℕ) × (client_at (λ (r : LimitRank T). r.client) (I.LimitIndex.slots result.1.now) key ≡ Some id)) }
     ensures by_weight { (id : ClientId) → (has_queued id (state_of queue.now).requests ≡ true)
-        ↔ ((key : ℕ) × (client_at (λ (r : ReadyRank T). r.client) (I.ReadyIndex.slots result.2.now) key ≡ Some id)) }
+        ↔ ((key : ℕ) × (client_at (λ (r : ReadyRank T). r.client) (I.WeightIndex.slots result.2.now) key ≡ Some id)) }
 {
     (
         queue.reservation_index(),
         queue.limit_index(),
-        queue.shares_index(),
+        queue.weight_index(),
     )
 }
 

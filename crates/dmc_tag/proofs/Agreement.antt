@@ -16,7 +16,7 @@ use Rattle.dmc_types.specs.declared.command.Command.TheVariants.{Register, Updat
 use Rattle.dmc_tag.specs.Tag.{Tagging}
 use Rattle.dmc_tag.specs.Outcome.{◌>>=◌, refuse_if, in_range}
 use Rattle.dmc_tag.specs.State.{State, StandsFor, is_client, has_queued, client_named, is_active}
-use Rattle.dmc_tag.specs.Best.{best, by_reservation, by_shares, is_early, is_free, is_any}
+use Rattle.dmc_tag.specs.Best.{best, by_reservation, by_weight, is_early, is_free, is_any}
 use Rattle.dmc_tag.specs.Rules as rules_of
 use Rattle.dmc_tag.specs.Rules.{Outcome}
 use Rattle.dmc_tag.specs.Step.{outcome, settled, step}
@@ -62,8 +62,8 @@ module _ {T : Type 0} (ops : Tagging T) (o : IsTotalOrder ops.compare) (config :
   stands : (clients : List (PlainClient T)) (last : ℕ) (xs ys : List (PlainRequest T)) → Agree xs ys → StandsFor (state_of clients last xs) (state_of clients last ys)
   stands clients last xs ys s = record { config = refl; requests = λ id. of_key-swaps client_of id.0 xs ys s; clients = refl; last_moment = refl }
 
-  best_by_shares : (member : PlainRequest T → Bool) (xs ys : List (PlainRequest T)) → Agree xs ys → SameBest client_of (best (by_shares ops) member xs) (best (by_shares ops) member ys)
-  best_by_shares member = best-swaps client_of (by_shares ops) (before_order ops o (λ r. Some r.tags.p)) member
+  best_by_weight : (member : PlainRequest T → Bool) (xs ys : List (PlainRequest T)) → Agree xs ys → SameBest client_of (best (by_weight ops) member xs) (best (by_weight ops) member ys)
+  best_by_weight member = best-swaps client_of (by_weight ops) (before_order ops o (λ r. Some r.tags.p)) member
 
   best_by_reservation : (member : PlainRequest T → Bool) (xs ys : List (PlainRequest T)) → Agree xs ys → SameBest client_of (best (by_reservation ops) member xs) (best (by_reservation ops) member ys)
   best_by_reservation member = best-swaps client_of (by_reservation ops) (before_order ops o (λ r. r.tags.r)) member
@@ -77,7 +77,7 @@ module _ {T : Type 0} (ops : Tagging T) (o : IsTotalOrder ops.compare) (config :
   shift_from_same t (Some (x, us)) (Some (y, vs)) (p, s) = ap (λ (r : PlainRequest T). in_range (ops.minus r.tags.p t) >>= (λ amount. Ok (Some amount))) p
 
   shift_same : (xs ys : List (PlainRequest T)) → Agree xs ys → (c : PlainClient T) (t : T) → rules_of.shift_of ops xs c t ≡ rules_of.shift_of ops ys c t
-  shift_same xs ys s c t = ap (λ m. cond c.idle m (Ok None)) (shift_from_same t (best (by_shares ops) is_any xs) (best (by_shares ops) is_any ys) (best_by_shares is_any xs ys s))
+  shift_same xs ys s c t = ap (λ m. cond c.idle m (Ok None)) (shift_from_same t (best (by_weight ops) is_any xs) (best (by_weight ops) is_any ys) (best_by_weight is_any xs ys s))
 
   can_shift_same : (xs ys : List (PlainRequest T)) → Agree xs ys → (shift : Option T) (clients : List (PlainClient T)) → rules_of.can_shift_by ops shift clients xs ≡ rules_of.can_shift_by ops shift clients ys
   can_shift_same xs ys s None clients = refl
@@ -159,7 +159,7 @@ module _ {T : Type 0} (ops : Tagging T) (o : IsTotalOrder ops.compare) (config :
 
   same_at_limit : (clients : List (PlainClient T)) (last t : ℕ) (mode : AtLimit) (x y : PlainRequest T) (xs ys : List (PlainRequest T)) → Agree (x ∷ xs) (y ∷ ys) → SameOutcome (rules_of.at_limit ops (state_of clients last (x ∷ xs)) t mode x xs) (rules_of.at_limit ops (state_of clients last (y ∷ ys)) t mode y ys)
   same_at_limit clients last t Wait x y xs ys s = (ap Later (least_due_same x y xs ys s), stands clients t (x ∷ xs) (y ∷ ys) s)
-  same_at_limit clients last t Allow x y xs ys s = same_found clients last t (x ∷ xs) (y ∷ ys) s true _ _ (best_by_shares is_any (x ∷ xs) (y ∷ ys) s)
+  same_at_limit clients last t Allow x y xs ys s = same_found clients last t (x ∷ xs) (y ∷ ys) s true _ _ (best_by_weight is_any (x ∷ xs) (y ∷ ys) s)
 
   same_nothing : (clients : List (PlainClient T)) (last t : ℕ) (xs ys : List (PlainRequest T)) → Agree xs ys → SameOutcome (rules_of.nothing_due ops (state_of clients last xs) t xs) (rules_of.nothing_due ops (state_of clients last ys) t ys)
   same_nothing clients last t [] [] s = (refl, stands clients t [] [] s)
@@ -174,7 +174,7 @@ module _ {T : Type 0} (ops : Tagging T) (o : IsTotalOrder ops.compare) (config :
   same_free clients last t xs ys s (Some (x, us)) (Some (y, vs)) (p, q) = same_priority clients last t xs ys us vs q x y p false
 
   same_early : (clients : List (PlainClient T)) (last t : ℕ) (xs ys : List (PlainRequest T)) → Agree xs ys → (a b : Option (PlainRequest T × List (PlainRequest T))) → SameBest client_of a b → SameOutcome (rules_of.pulled_early ops (state_of clients last xs) t a) (rules_of.pulled_early ops (state_of clients last ys) t b)
-  same_early clients last t xs ys s None None e = same_free clients last t xs ys s _ _ (best_by_shares (is_free ops t) xs ys s)
+  same_early clients last t xs ys s None None e = same_free clients last t xs ys s _ _ (best_by_weight (is_free ops t) xs ys s)
   same_early clients last t xs ys s None (Some b) e = absurd e
   same_early clients last t xs ys s (Some a) None e = absurd e
   same_early clients last t xs ys s (Some (x, us)) (Some (y, vs)) (p, q) = (ap (λ r. rules_of.granted r phases.Reservation false) p, stands clients t us vs q)

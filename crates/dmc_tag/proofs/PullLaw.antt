@@ -11,7 +11,7 @@ use Rattle.dmc_types.specs.declared.refusal.Refusal.TheVariants.{Range}
 use Rattle.dmc_tag.specs.Tag.{Tagging, Fraction, IsExact}
 use Rattle.dmc_tag.specs.Outcome.{◌>>=◌, refuse_if, in_range}
 use Rattle.dmc_tag.specs.State.{State}
-use Rattle.dmc_tag.specs.Best.{best, by_reservation, by_shares, is_early, is_free, is_any, IsBest, HasNone}
+use Rattle.dmc_tag.specs.Best.{best, by_reservation, by_weight, is_early, is_free, is_any, IsBest, HasNone}
 use Rattle.dmc_tag.specs.Rules as rules_of
 use Rattle.dmc_tag.specs.Rules.{Outcome}
 use Rattle.dmc_tag.specs.Step.{settled}
@@ -61,7 +61,7 @@ module _ {T : Type 0} (ops : Tagging T) (fraction : T → Fraction) (is_value : 
       let tested = bound (refuse_if (not (rules_of.can_reduce_by ops id taken.0 clients others)) Range) _ amount taken.2 in
       taken.1 ∙ tested.2
 
-  priority_says : (t : ℕ) (s : State T) (r : PlainRequest T) (others : List (PlainRequest T)) (beyond : Bool) (member : PlainRequest T → Bool) → IsBest (by_shares ops) member s.requests r others → ((new : State T) → Grants ops t phases.Priority (by_shares ops) member s new r.client r.token → Pulls ops t s new (rules_of.granted r phases.Priority beyond)) → (given : Result (Option T) Refusal) → rules_of.can_grant ops s.config.hz r.client s.clients others ≡ given → OnlyRange given → Says t s (given >>= (λ amount. Ok (rules_of.reduced_by ops r.client amount (rules_of.without s t others), rules_of.granted r phases.Priority beyond)))
+  priority_says : (t : ℕ) (s : State T) (r : PlainRequest T) (others : List (PlainRequest T)) (beyond : Bool) (member : PlainRequest T → Bool) → IsBest (by_weight ops) member s.requests r others → ((new : State T) → Grants ops t phases.Priority (by_weight ops) member s new r.client r.token → Pulls ops t s new (rules_of.granted r phases.Priority beyond)) → (given : Result (Option T) Refusal) → rules_of.can_grant ops s.config.hz r.client s.clients others ≡ given → OnlyRange given → Says t s (given >>= (λ amount. Ok (rules_of.reduced_by ops r.client amount (rules_of.without s t others), rules_of.granted r phases.Priority beyond)))
   priority_says t s r others beyond member is says (Ok amount) e h =
       says _ (record {
         request = r;
@@ -78,11 +78,11 @@ module _ {T : Type 0} (ops : Tagging T) (fraction : T → Fraction) (is_value : 
       })
   priority_says t s r others beyond member is says (Err f) e h = (h, refl)
 
-  any_found : (t : ℕ) (s : State T) (x : PlainRequest T) (xs : List (PlainRequest T)) → s.requests ≡ x ∷ xs → HasNone (is_early ops t) s.requests → HasNone (is_free ops t) s.requests → s.config.at_limit ≡ Allow → (b : Option (PlainRequest T × List (PlainRequest T))) → best (by_shares ops) is_any (x ∷ xs) ≡ b → Says t s (rules_of.grant_found ops s t true b)
-  any_found t s x xs e early free allow None q = let none = none_found (λ (r : PlainRequest T). r.client.0) (by_shares ops) (before_order ops o (λ r. Some r.tags.p)) is_any (x ∷ xs) q in cc
+  any_found : (t : ℕ) (s : State T) (x : PlainRequest T) (xs : List (PlainRequest T)) → s.requests ≡ x ∷ xs → HasNone (is_early ops t) s.requests → HasNone (is_free ops t) s.requests → s.config.at_limit ≡ Allow → (b : Option (PlainRequest T × List (PlainRequest T))) → best (by_weight ops) is_any (x ∷ xs) ≡ b → Says t s (rules_of.grant_found ops s t true b)
+  any_found t s x xs e early free allow None q = let none = none_found (λ (r : PlainRequest T). r.client.0) (by_weight ops) (before_order ops o (λ r. Some r.tags.p)) is_any (x ∷ xs) q in cc
   any_found t s x xs e early free allow (Some (r, others)) q =
-      let is = found_is (λ (r : PlainRequest T). r.client.0) (by_shares ops) (before_order ops o (λ r. Some r.tags.p)) is_any (x ∷ xs) (r, others) q in
-      priority_says t s r others true is_any (subst (λ zs. IsBest (by_shares ops) is_any zs r others) (sym e) is) (λ new g. (early, free, allow, g)) _ refl (can_grant_range s r others)
+      let is = found_is (λ (r : PlainRequest T). r.client.0) (by_weight ops) (before_order ops o (λ r. Some r.tags.p)) is_any (x ∷ xs) (r, others) q in
+      priority_says t s r others true is_any (subst (λ zs. IsBest (by_weight ops) is_any zs r others) (sym e) is) (λ new g. (early, free, allow, g)) _ refl (can_grant_range s r others)
 
   at_limit_says : (t : ℕ) (s : State T) (x : PlainRequest T) (xs : List (PlainRequest T)) → s.requests ≡ x ∷ xs → HasNone (is_early ops t) s.requests → HasNone (is_free ops t) s.requests → (mode : AtLimit) → s.config.at_limit ≡ mode → Says t s (rules_of.at_limit ops s t mode x xs)
   at_limit_says t s x xs e early free Wait m = (early, free, m, subst (λ zs. IsNextDue ops (rules_of.least_due ops x xs) zs) (sym e) (next_due ops fraction is_value exact x xs), refl)
@@ -92,9 +92,9 @@ module _ {T : Type 0} (ops : Tagging T) (fraction : T → Fraction) (is_value : 
   nothing_says t s [] e early free = (e, refl)
   nothing_says t s (x ∷ xs) e early free = at_limit_says t s x xs e early free s.config.at_limit refl
 
-  free_says : (t : ℕ) (s : State T) → HasNone (is_early ops t) s.requests → (b : Option (PlainRequest T × List (PlainRequest T))) → best (by_shares ops) (is_free ops t) s.requests ≡ b → Says t s (rules_of.pulled_free ops s t b)
-  free_says t s early None q = nothing_says t s s.requests refl early (none_found (λ (r : PlainRequest T). r.client.0) (by_shares ops) (before_order ops o (λ r. Some r.tags.p)) (is_free ops t) s.requests q)
-  free_says t s early (Some (r, others)) q = priority_says t s r others false (is_free ops t) (found_is (λ (r : PlainRequest T). r.client.0) (by_shares ops) (before_order ops o (λ r. Some r.tags.p)) (is_free ops t) s.requests (r, others) q) (λ new g. (early, g)) _ refl (can_grant_range s r others)
+  free_says : (t : ℕ) (s : State T) → HasNone (is_early ops t) s.requests → (b : Option (PlainRequest T × List (PlainRequest T))) → best (by_weight ops) (is_free ops t) s.requests ≡ b → Says t s (rules_of.pulled_free ops s t b)
+  free_says t s early None q = nothing_says t s s.requests refl early (none_found (λ (r : PlainRequest T). r.client.0) (by_weight ops) (before_order ops o (λ r. Some r.tags.p)) (is_free ops t) s.requests q)
+  free_says t s early (Some (r, others)) q = priority_says t s r others false (is_free ops t) (found_is (λ (r : PlainRequest T). r.client.0) (by_weight ops) (before_order ops o (λ r. Some r.tags.p)) (is_free ops t) s.requests (r, others) q) (λ new g. (early, g)) _ refl (can_grant_range s r others)
 
   early_says : (t : ℕ) (s : State T) → (b : Option (PlainRequest T × List (PlainRequest T))) → best (by_reservation ops) (is_early ops t) s.requests ≡ b → Says t s (rules_of.pulled_early ops s t b)
   early_says t s None q = free_says t s (none_found (λ (r : PlainRequest T). r.client.0) (by_reservation ops) (before_order ops o (λ r. r.tags.r)) (is_early ops t) s.requests q) _ refl

@@ -29,8 +29,8 @@ is_before ops tag a b = is_lt (ordering_then (last_if_absent ops.compare (tag a)
 abbrev pub by_reservation : {T : Type 0} → Tagging T → PlainRequest T → PlainRequest T → Bool
 by_reservation ops = is_before ops (λ r. r.tags.r)
 
-abbrev pub by_shares : {T : Type 0} → Tagging T → PlainRequest T → PlainRequest T → Bool
-by_shares ops = is_before ops (λ r. Some r.tags.p)
+abbrev pub by_weight : {T : Type 0} → Tagging T → PlainRequest T → PlainRequest T → Bool
+by_weight ops = is_before ops (λ r. Some r.tags.p)
 
 -- x and the requests after it, or the best of those where x is no member or they have one before it
 abbrev pub better : {R : Type 0} → (R → R → Bool) → Bool → R → List R → Option (R × List R) → Option (R × List R)

@@ -9,7 +9,7 @@ use Rattle.dmc_types.specs.declared.refusal.Refusal.TheVariants.{Range}
 use Rattle.dmc_types.specs.declared.command.Command.{Command}
 use Rattle.dmc_tag.specs.Tag.{Tagging}
 use Rattle.dmc_tag.specs.State.{State, StandsFor}
-use Rattle.dmc_tag.specs.Best.{IsBest, HasNone, is_early, is_free, is_any, by_reservation, by_shares}
+use Rattle.dmc_tag.specs.Best.{IsBest, HasNone, is_early, is_free, is_any, by_reservation, by_weight}
 use Rattle.dmc_tag.specs.Rules.{reduction_of, reduced_requests, reduced_clients}
 use Rattle.dmc_tag.specs.Step.{step}
 use Rattle.dmc_tag.specs.declared.plain.PlainRequest.{PlainRequest}
@@ -57,8 +57,8 @@ pub record IsNextDue {T : Type 0} (ops : Tagging T) (m : ℕ) (requests : List (
 -- what the reply to a pull at t says, and the state after it
 abbrev pub Pulls : {T : Type 0} → Tagging T → ℕ → State T → State T → Reply T → Type 0
 Pulls ops t old new (Granted client token phases.Reservation beyond) = (beyond ≡ false) × Grants ops t phases.Reservation (by_reservation ops) (is_early ops t) old new client token
-Pulls ops t old new (Granted client token phases.Priority false) = HasNone (is_early ops t) old.requests × Grants ops t phases.Priority (by_shares ops) (is_free ops t) old new client token
-Pulls ops t old new (Granted client token phases.Priority true) = HasNone (is_early ops t) old.requests × HasNone (is_free ops t) old.requests × (old.config.at_limit ≡ Allow) × Grants ops t phases.Priority (by_shares ops) is_any old new client token
+Pulls ops t old new (Granted client token phases.Priority false) = HasNone (is_early ops t) old.requests × Grants ops t phases.Priority (by_weight ops) (is_free ops t) old new client token
+Pulls ops t old new (Granted client token phases.Priority true) = HasNone (is_early ops t) old.requests × HasNone (is_free ops t) old.requests × (old.config.at_limit ≡ Allow) × Grants ops t phases.Priority (by_weight ops) is_any old new client token
 Pulls ops t old new (Later m) = HasNone (is_early ops t) old.requests × HasNone (is_free ops t) old.requests × (old.config.at_limit ≡ Wait) × IsNextDue ops m old.requests × (new ≡ record old { last_moment = t })
 Pulls ops t old new Nothing = (old.requests ≡ []) × (new ≡ record old { last_moment = t })
 Pulls ops t old new (Refused refusal) = (refusal ≡ Range) × (new ≡ old)

@@ -17,7 +17,7 @@ use Rattle.dmc_tag.specs.Tag.{Tagging}
 use Rattle.dmc_tag.specs.Outcome.{◌>>=◌, refuse_if, in_range, exactly}
 use Rattle.dmc_tag.specs.Spacing.{spacings_of}
 use Rattle.dmc_tag.specs.State.{State, is_client, has_queued, client_named, is_active, requests_of}
-use Rattle.dmc_tag.specs.Best.{best, by_reservation, by_shares, is_early, is_free, is_any}
+use Rattle.dmc_tag.specs.Best.{best, by_reservation, by_weight, is_early, is_free, is_any}
 use Rattle.dmc_tag.specs.declared.plain.PlainRequest.{PlainRequest}
 use Rattle.dmc_tag.specs.declared.plain.PlainClient.{PlainClient}
 use Rattle.dmc_tag.specs.declared.plain.Previous.{Previous}
@@ -133,7 +133,7 @@ shift_from ops t None = Ok None
 shift_from ops t (Some least) = in_range (ops.minus least.0.tags.p t) >>= λ amount. Ok (Some amount)
 
 abbrev pub shift_of : {T : Type 0} → Tagging T → List (PlainRequest T) → PlainClient T → T → Result (Option T) Refusal
-shift_of ops requests arriving t = if arriving.idle then shift_from ops t (best (by_shares ops) is_any requests) else Ok None
+shift_of ops requests arriving t = if arriving.idle then shift_from ops t (best (by_weight ops) is_any requests) else Ok None
 
 -- with no amount there is no shift
 abbrev pub can_shift_by : {T : Type 0} → Tagging T → Option T → List (PlainClient T) → List (PlainRequest T) → Bool
@@ -270,7 +270,7 @@ grant_found ops s t beyond (Some found) = grant_priority ops s t found beyond
 -- no request is early or free, and something is queued
 abbrev pub at_limit : {T : Type 0} → Tagging T → State T → ℕ → AtLimit → PlainRequest T → List (PlainRequest T) → Outcome T
 at_limit ops s t Wait x xs = Ok (record s { last_moment = t }, Later (least_due ops x xs))
-at_limit ops s t Allow x xs = grant_found ops s t true (best (by_shares ops) is_any (x ∷ xs))
+at_limit ops s t Allow x xs = grant_found ops s t true (best (by_weight ops) is_any (x ∷ xs))
 
 abbrev pub nothing_due : {T : Type 0} → Tagging T → State T → ℕ → List (PlainRequest T) → Outcome T
 nothing_due ops s t [] = Ok (record s { last_moment = t }, Nothing)
@@ -282,7 +282,7 @@ pulled_free ops s t None = nothing_due ops s t s.requests
 
 abbrev pub pulled_early : {T : Type 0} → Tagging T → State T → ℕ → Option (PlainRequest T × List (PlainRequest T)) → Outcome T
 pulled_early ops s t (Some (r, others)) = Ok (without s t others, granted r phases.Reservation false)
-pulled_early ops s t None = pulled_free ops s t (best (by_shares ops) (is_free ops t) s.requests)
+pulled_early ops s t None = pulled_free ops s t (best (by_weight ops) (is_free ops t) s.requests)
 
 -- the best by R of the early ones, else the best by P of the free ones, else as the configuration says
 abbrev pub pulled : {T : Type 0} → Tagging T → State T → ℕ → Outcome T

@@ -8,7 +8,7 @@ use Rattle.dmc_types.specs.declared.command.Command.TheVariants.{Register, Updat
 use Rattle.dmc_tag.specs.Tag.{Tagging}
 use Rattle.dmc_tag.specs.Outcome.{◌>>=◌}
 use Rattle.dmc_tag.specs.State.{State, effective}
-use Rattle.dmc_tag.specs.Best.{best, by_reservation, by_shares, is_early, is_free, is_any}
+use Rattle.dmc_tag.specs.Best.{best, by_reservation, by_weight, is_early, is_free, is_any}
 use Rattle.dmc_tag.specs.Rules.{Outcome, can_register, can_update, can_add, can_remove, can_grant, grant_priority, grant_found, at_limit, nothing_due, pulled_free, pulled_early}
 use Rattle.dmc_tag.specs.Step.{settled, step}
 use Rattle.dmc_tag.specs.declared.plain.PlainRequest.{PlainRequest}
@@ -27,7 +27,7 @@ told_found ops u s t (Some found) = told_priority ops u s t found true
 
 told_limit : {T : Type 0} (ops : Tagging T) (u s : State T) (t : ℕ) (kind : AtLimit) (x : PlainRequest T) (xs : List (PlainRequest T)) → IsTellable ((settled u (at_limit ops s t kind x xs)).1)
 told_limit ops u s t Wait x xs = tt
-told_limit ops u s t Allow x xs = told_found ops u s t (best (by_shares ops) is_any (x ∷ xs))
+told_limit ops u s t Allow x xs = told_found ops u s t (best (by_weight ops) is_any (x ∷ xs))
 
 told_none : {T : Type 0} (ops : Tagging T) (u s : State T) (t : ℕ) (requests : List (PlainRequest T)) → IsTellable ((settled u (nothing_due ops s t requests)).1)
 told_none ops u s t [] = tt
@@ -39,7 +39,7 @@ told_free ops u s t None = told_none ops u s t s.requests
 
 told_early : {T : Type 0} (ops : Tagging T) (u s : State T) (t : ℕ) (found : Option (PlainRequest T × List (PlainRequest T))) → IsTellable ((settled u (pulled_early ops s t found)).1)
 told_early ops u s t (Some (r, others)) = refl
-told_early ops u s t None = told_free ops u s t (best (by_shares ops) (is_free ops t) s.requests)
+told_early ops u s t None = told_free ops u s t (best (by_weight ops) (is_free ops t) s.requests)
 
 -- each reply of a step can be told
 pub tellable : {T : Type 0} (ops : Tagging T) (s : State T) (command : Command) → IsTellable ((step ops s command).1)

@@ -2,7 +2,7 @@
 ghost use Rattle.std.specs.Prelude.{◌≡◌, ◌<◌, true, length, Some, remove, slice_get};
 ghost use Rattle.std.specs.Option.{option_map_or};
 ghost use Rattle.dmc_tag.specs.declared.reply.Pulled.TheVariants as pulls;
-ghost use Rattle.dmc_tag.specs.Best.{best, by_shares, is_any, is_free};
+ghost use Rattle.dmc_tag.specs.Best.{best, by_weight, is_any, is_free};
 ghost use Rattle.dmc_tag.specs.Answers.{told_surely, pull_reply};
 ghost use Rattle.dmc_tag.specs.Rules as rules_of;
 ghost use Rattle.dmc_tag.specs.Steps.{Exactly};
@@ -123,7 +123,7 @@ impl<T: Tag> PlainQueue<T> {
     /// Grants the next request in the weight phase, where none is due by its reservation; refused `Range`.
     fn pull_free(&mut self, at: Moment) -> Result<Pulled, Refusal>
         ensures { Settles self.old self.new
-            (rules_of.pulled_free T.ops self.old at (best (by_shares T.ops) (is_free T.ops at) self.old.requests))
+            (rules_of.pulled_free T.ops self.old at (best (by_weight T.ops) (is_free T.ops at) self.old.requests))
             (told_surely pull_reply result) }
     {
         match best_index(&self.requests, &Set::Free(at)) {
@@ -135,7 +135,7 @@ impl<T: Tag> PlainQueue<T> {
     /// Grants the best by weight, though it is beyond its limit; refused `Range`.
     fn pull_beyond(&mut self, at: Moment) -> Result<Pulled, Refusal>
         ensures { Settles self.old self.new
-            (rules_of.grant_found T.ops self.old at true (best (by_shares T.ops) is_any self.old.requests))
+            (rules_of.grant_found T.ops self.old at true (best (by_weight T.ops) is_any self.old.requests))
             (told_surely pull_reply result) }
     {
         match best_index(&self.requests, &Set::All) {

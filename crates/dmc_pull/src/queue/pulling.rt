@@ -3,12 +3,12 @@ ghost use Rattle.std.specs.Prelude.{◌≡◌, ◌≤◌, List, ◌∷◌, false
 ghost use Rattle.std.specs.Option.{option_map};
 ghost use Rattle.dmc_adjust.specs.Changes as changes;
 ghost use Rattle.dmc_pull.specs.Allowed.{PullsIf, SettlesIf};
-ghost use Rattle.dmc_pull.specs.Choice.{first_at, after_grant, IsFirstOf, Early, ByShares, IsGrantable, Settles};
+ghost use Rattle.dmc_pull.specs.Choice.{first_at, after_grant, IsFirstOf, Early, ByWeight, IsGrantable, Settles};
 ghost use Rattle.dmc_pull.specs.Queue.{state_of, IsMarked};
 ghost use Rattle.dmc_pull.specs.Standing.{requests_in};
 ghost use Rattle.dmc_roster.specs.Entries.{record_at, with_record_at, AreDistinct};
 ghost use Rattle.dmc_tag.specs.Answers.{told_surely, pull_reply};
-ghost use Rattle.dmc_tag.specs.Best.{best, by_reservation, by_shares, is_early, is_free};
+ghost use Rattle.dmc_tag.specs.Best.{best, by_reservation, by_weight, is_early, is_free};
 ghost use Rattle.dmc_tag.specs.Rules as rules_of;
 ghost use Rattle.dmc_tag.specs.Steps.{Exactly};
 ghost use Rattle.dmc_tag.specs.declared.plain.PlainRequest.{PlainRequest};
@@ -66,11 +66,11 @@ impl<T: Tag, I: Indexes<T>> PullQueue<T, I> {
 
     /// The key and the client of the least P of what is free, or of all, and whether it is free; none where nothing is
     /// queued.
-    fn by_shares(&self) -> Option<(usize, ClientId, bool)>
+    fn by_weight(&self) -> Option<(usize, ClientId, bool)>
         requires { IsMarked T.ops self.now }
-        ensures { ByShares T.ops self.now.last_moment self.now.roster.entries result }
+        ensures { ByWeight T.ops self.now.last_moment self.now.roster.entries result }
     {
-        match self.heads.0.least_by_shares() {
+        match self.heads.0.least_by_weight() {
             None => None,
             Some((key, rank)) => Some((key, rank.client, rank.ready)),
         }
@@ -79,7 +79,7 @@ impl<T: Tag, I: Indexes<T>> PullQueue<T, I> {
     /// The least whole number at which some request is early or free, where none is and something is queued.
     fn next_due(&self) -> u128
         requires none_early { best (by_reservation T.ops) (is_early T.ops self.now.last_moment) (requests_in self.now.roster.entries) ≡ None }
-        requires none_free { best (by_shares T.ops) (is_free T.ops self.now.last_moment) (requests_in self.now.roster.entries) ≡ None }
+        requires none_free { best (by_weight T.ops) (is_free T.ops self.now.last_moment) (requests_in self.now.roster.entries) ≡ None }
         ensures { (first : PlainRequest T) (rest : List (PlainRequest T)) → requests_in self.now.roster.entries ≡ first ∷ rest →
             result ≡ rules_of.least_due T.ops first rest }
     {
@@ -173,14 +173,14 @@ impl<T: Tag, I: Indexes<T>> PullQueue<T, I> {
     }
 
     /// Answers a pull where no request is early.
-    fn pull_by_shares<A: GrantTest>(&mut self, test: &A) -> Result<Pulled, PullFault>
+    fn pull_by_weight<A: GrantTest>(&mut self, test: &A) -> Result<Pulled, PullFault>
         requires marked { IsMarked T.ops self.old }
         requires none_early { best (by_reservation T.ops) (is_early T.ops self.old.last_moment) (requests_in self.old.roster.entries) ≡ None }
         ensures { SettlesIf (A.allows test.now) (state_of self.old) (state_of self.new)
-            (rules_of.pulled_free T.ops (state_of self.old) self.old.last_moment (best (by_shares T.ops) (is_free T.ops self.old.last_moment) (requests_in self.old.roster.entries)))
+            (rules_of.pulled_free T.ops (state_of self.old) self.old.last_moment (best (by_weight T.ops) (is_free T.ops self.old.last_moment) (requests_in self.old.roster.entries)))
             result }
     {
-        let Some((key, client, free)) = self.by_shares() else {
+        let Some((key, client, free)) = self.by_weight() else {
             return Ok(Pulled::Nothing);
         };
         if free {
@@ -216,7 +216,7 @@ impl<T: Tag, I: Indexes<T>> PullQueue<T, I> {
             return Ok(self.grant_early(key, client, at));
         }
         self.advance(at);
-        let answer = self.pull_by_shares(test);
+        let answer = self.pull_by_weight(test);
         if answer.is_err() {
             self.go_back(before);
         }

@@ -1,7 +1,7 @@
 use Rattle.std.proofs.Common.{map, ap}
 use Rattle.dmc_roster.specs.Entries.{with_rec}
 use Rattle.dmc_pull.specs.Adding.{shifted_but}
-use Rattle.dmc_pull.proofs.Parts.{filter_true}
+use Rattle.dmc_pull.proofs.Common.Parts.{filter_true}
 use Rattle.dmc_pull.proofs.adding.shift_others.Goals as goal
 
 pub returns-in-Some-clause-entries : goal.returns-in-Some-clause-entries

@@ -1,5 +1,5 @@
 use Rattle.std.proofs.Common.{sym}
-use Rattle.dmc_pull.proofs.Lent.{unchanged}
+use Rattle.dmc_pull.proofs.Common.Lent.{unchanged}
 use Rattle.dmc_pull.proofs.records.push_at.Goals as goal
 
 pub returns-in-Some-clause-err : goal.returns-in-Some-clause-err

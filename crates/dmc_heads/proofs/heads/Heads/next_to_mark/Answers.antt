@@ -10,14 +10,14 @@ use Rattle.dmc_heads.proofs.heads.Heads.next_to_mark.Goals.{then-rank-via-then-r
 pub returns-then-rank : goal.returns-then-rank
 returns-then-rank g c =
     let x = c.self.inside in
-    let early = g.I.TagIndex.OrderIndex.slots x.early in
-    let limits = g.I.LimitIndex.OrderIndex.slots x.limits in
-    let ready = g.I.ReadyIndex.OrderIndex.slots x.ready in
-    let heads = heads_from early limits ready in
+    let reservation = g.I.ReservationIndex.OrderIndex.slots x.reservation in
+    let limits = g.I.LimitIndex.OrderIndex.slots x.limit in
+    let ready = g.I.WeightIndex.OrderIndex.slots x.weight in
+    let heads = heads_from reservation limits ready in
     let order = tag_order g.T.Ord.cmp g.T.Tag.ops.compare g.met.T.Ord.total g.met.T.Tag.compares in
     let same = same_compare g.T.Ord.cmp g.T.Tag.ops.compare g.met.T.Tag.compares in
     let least = c.in-Some.rank.now in
-    let first = subst (λ compare. IsFirst limit_rank (limit_rank_cmp compare) heads c.in-Some.key least) same (is_first limit_rank heads limits c.self.invariant.limits_is (limit_rank_cmp g.T.Ord.cmp) c.in-Some.key least c.in-Some.ensures) in
+    let first = subst (λ compare. IsFirst limit_rank (limit_rank_cmp compare) heads c.in-Some.key least) same (is_first limit_rank heads limits c.self.invariant.limit_is (limit_rank_cmp g.T.Ord.cmp) c.in-Some.key least c.in-Some.ensures) in
     subst (λ hs. map (option_map (marked g.T.Tag.ops c.args.t)) hs ≡ hs) c.self.view_is (elim c.then-rank.branch [
       | then-rank-via-then-rank w ↦ all_ready g.T.Tag.ops c.args.t order heads c.in-Some.key least first w.if-rank.true
       | then-rank-via-else-rank+then-not-is_due w ↦ none_due g.T.Tag.ops c.args.t order heads c.in-Some.key least first w.if-rank.false (cc (w.is_due.ensures, w.if-not-is_due.true))
@@ -26,8 +26,8 @@ returns-then-rank g c =
 pub returns-in-None : goal.returns-in-None
 returns-in-None g c =
     let x = c.self.inside in
-    let early = g.I.TagIndex.OrderIndex.slots x.early in
-    let limits = g.I.LimitIndex.OrderIndex.slots x.limits in
-    let ready = g.I.ReadyIndex.OrderIndex.slots x.ready in
-    let heads = heads_from early limits ready in
-    subst (λ hs. map (option_map (marked g.T.Tag.ops c.args.t)) hs ≡ hs) c.self.view_is (none_marked g.T.Tag.ops c.args.t heads (is_empty limit_rank heads limits c.self.invariant.limits_is c.in-None.ensures))
+    let reservation = g.I.ReservationIndex.OrderIndex.slots x.reservation in
+    let limits = g.I.LimitIndex.OrderIndex.slots x.limit in
+    let ready = g.I.WeightIndex.OrderIndex.slots x.weight in
+    let heads = heads_from reservation limits ready in
+    subst (λ hs. map (option_map (marked g.T.Tag.ops c.args.t)) hs ≡ hs) c.self.view_is (none_marked g.T.Tag.ops c.args.t heads (is_empty limit_rank heads limits c.self.invariant.limit_is c.in-None.ensures))

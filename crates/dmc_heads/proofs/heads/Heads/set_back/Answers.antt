@@ -11,11 +11,11 @@ use Rattle.dmc_heads.proofs.heads.Heads.set_back.Goals as goal
 pub returns : goal.returns
 returns g c =
     let x = c.self.inside in
-    let early = g.I.TagIndex.OrderIndex.slots x.early in
-    let limits = g.I.LimitIndex.OrderIndex.slots x.limits in
-    let ready = g.I.ReadyIndex.OrderIndex.slots x.ready in
-    let size = length-heads_from early limits ready in
-    let within : length (heads_from early limits ready) ≤ x.room = omega (arith, size.2, c.self.invariant.room_is) in
+    let reservation = g.I.ReservationIndex.OrderIndex.slots x.reservation in
+    let limits = g.I.LimitIndex.OrderIndex.slots x.limit in
+    let ready = g.I.WeightIndex.OrderIndex.slots x.weight in
+    let size = length-heads_from reservation limits ready in
+    let within : length (heads_from reservation limits ready) ≤ x.room = omega (arith, size.2, c.self.invariant.room_is) in
     let f = set_back g.T.Tag.ops c.args.t in
     let old = c.args.self.now in
     let new = c.loop-key.self in

@@ -11,33 +11,33 @@ use Rattle.dmc_heads.proofs.heads.Heads.set_ready.Goals as goal
 pub invariant_of-self : goal.invariant_of-self
 invariant_of-self g c =
     let x = c.self.inside in
-    let early = g.I.TagIndex.OrderIndex.slots x.early in
-    let limits = g.I.LimitIndex.OrderIndex.slots x.limits in
-    let ready = g.I.ReadyIndex.OrderIndex.slots x.ready in
-    let heads = heads_from early limits ready in
+    let reservation = g.I.ReservationIndex.OrderIndex.slots x.reservation in
+    let limits = g.I.LimitIndex.OrderIndex.slots x.limit in
+    let ready = g.I.WeightIndex.OrderIndex.slots x.weight in
+    let heads = heads_from reservation limits ready in
     let order = tag_order g.T.Ord.cmp g.T.Tag.ops.compare g.met.T.Ord.total g.met.T.Tag.compares in
     let old = some_of (held heads c.args.key) (subst (λ hs. IsSome (held hs c.args.key)) (sym c.self.view_is) c.requires) in
     let in_room = within heads c.args.key old.0 old.1 in
-    let read_limit : Some c.unwrap-limit.result.now ≡ Some (limit_rank old.0) = sym (ap option_copied c.unwrap-limit.ensures) ∙ c.get.ensures ∙ rank_held limit_rank heads limits c.self.invariant.limits_is c.args.key old.0 old.1 in
+    let read_limit : Some c.unwrap-limit.result.now ≡ Some (limit_rank old.0) = sym (ap option_copied c.unwrap-limit.ensures) ∙ c.get.ensures ∙ rank_held limit_rank heads limits c.self.invariant.limit_is c.args.key old.0 old.1 in
     let limit : c.unwrap-limit.result.now ≡ limit_rank old.0 = cc in
-    let read_share : Some c.unwrap-share.result.now ≡ Some (ready_rank old.0) = sym (ap option_copied c.unwrap-share.ensures) ∙ c.get-2.ensures ∙ rank_held ready_rank heads ready c.self.invariant.ready_is c.args.key old.0 old.1 in
+    let read_share : Some c.unwrap-share.result.now ≡ Some (ready_rank old.0) = sym (ap option_copied c.unwrap-share.ensures) ∙ c.get-2.ensures ∙ rank_held ready_rank heads ready c.self.invariant.weight_is c.args.key old.0 old.1 in
     let share : c.unwrap-share.result.now ≡ ready_rank old.0 = cc in
-    rw (c.change.ensures, c.change-2.ensures, limit, share) (marked_sound g.T.Tag.ops early limits ready x.least x.room c.self.invariant order c.args.key in_room old.0 old.1 c.args.ready)
+    rw (c.change.ensures, c.change-2.ensures, limit, share) (marked_sound g.T.Tag.ops reservation limits ready x.least x.room c.self.invariant order c.args.key in_room old.0 old.1 c.args.ready)
 
 pub returns : goal.returns
 returns g c =
     let x = c.self.inside in
-    let early = g.I.TagIndex.OrderIndex.slots x.early in
-    let limits = g.I.LimitIndex.OrderIndex.slots x.limits in
-    let ready = g.I.ReadyIndex.OrderIndex.slots x.ready in
-    let heads = heads_from early limits ready in
+    let reservation = g.I.ReservationIndex.OrderIndex.slots x.reservation in
+    let limits = g.I.LimitIndex.OrderIndex.slots x.limit in
+    let ready = g.I.WeightIndex.OrderIndex.slots x.weight in
+    let heads = heads_from reservation limits ready in
     let order = tag_order g.T.Ord.cmp g.T.Tag.ops.compare g.met.T.Ord.total g.met.T.Tag.compares in
     let old = some_of (held heads c.args.key) (subst (λ hs. IsSome (held hs c.args.key)) (sym c.self.view_is) c.requires) in
     let in_room = within heads c.args.key old.0 old.1 in
-    let read_limit : Some c.unwrap-limit.result.now ≡ Some (limit_rank old.0) = sym (ap option_copied c.unwrap-limit.ensures) ∙ c.get.ensures ∙ rank_held limit_rank heads limits c.self.invariant.limits_is c.args.key old.0 old.1 in
+    let read_limit : Some c.unwrap-limit.result.now ≡ Some (limit_rank old.0) = sym (ap option_copied c.unwrap-limit.ensures) ∙ c.get.ensures ∙ rank_held limit_rank heads limits c.self.invariant.limit_is c.args.key old.0 old.1 in
     let limit : c.unwrap-limit.result.now ≡ limit_rank old.0 = cc in
-    let read_share : Some c.unwrap-share.result.now ≡ Some (ready_rank old.0) = sym (ap option_copied c.unwrap-share.ensures) ∙ c.get-2.ensures ∙ rank_held ready_rank heads ready c.self.invariant.ready_is c.args.key old.0 old.1 in
+    let read_share : Some c.unwrap-share.result.now ≡ Some (ready_rank old.0) = sym (ap option_copied c.unwrap-share.ensures) ∙ c.get-2.ensures ∙ rank_held ready_rank heads ready c.self.invariant.weight_is c.args.key old.0 old.1 in
     let share : c.unwrap-share.result.now ≡ ready_rank old.0 = cc in
-    rw (c.change.ensures, c.change-2.ensures, limit, share) (marked_heads g.T.Tag.ops early limits ready x.least x.room c.self.invariant order c.args.key in_room old.0 old.1 c.args.ready)
+    rw (c.change.ensures, c.change-2.ensures, limit, share) (marked_heads g.T.Tag.ops reservation limits ready x.least x.room c.self.invariant order c.args.key in_room old.0 old.1 c.args.ready)
     ∙ ap (λ o. set heads c.args.key (option_map (with_ready c.args.ready) o)) (sym old.1)
     ∙ ap (λ hs. set hs c.args.key (option_map (with_ready c.args.ready) (held hs c.args.key))) c.self.view_is

@@ -1,8 +1,8 @@
 use Rattle.std.proofs.Common.{◌≡◌, ℕ, ◌≤◌, ◌-◌, suc, length, ◌∙◌, sym, ap, subst, arith}
 use Rattle.dmc_tag.proofs.ForCallers.{due_from_ceil}
 use Rattle.dmc_pull.specs.Queue.{IsKept}
-use Rattle.dmc_pull.proofs.Aging.{held_grown}
-use Rattle.dmc_pull.proofs.Registering.{roomier_is, registered_is, registered_state, has_room, not_added, was_added, distinct_added}
+use Rattle.dmc_pull.proofs.Clean.Aging.{held_grown}
+use Rattle.dmc_pull.proofs.Clients.Registering.{roomier_is, registered_is, registered_state, has_room, not_added, was_added, distinct_added}
 use Rattle.dmc_pull.proofs.queue.PullQueue.admit.Goals as goal
 
 pub invariant_of-self : goal.invariant_of-self

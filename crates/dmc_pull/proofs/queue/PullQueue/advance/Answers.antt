@@ -4,7 +4,7 @@ use Rattle.std.specs.Option.{option_map}
 use Rattle.dmc_heads.specs.Heads.{marked}
 use Rattle.dmc_tag.proofs.ForCallers.{due_from_ceil}
 use Rattle.dmc_pull.specs.Queue.{IsQueue, IsMarked}
-use Rattle.dmc_pull.proofs.Kept.{same_roster, length_map, promoted, all_marked}
+use Rattle.dmc_pull.proofs.Common.Kept.{same_roster, length_map, promoted, all_marked}
 use Rattle.dmc_pull.proofs.queue.PullQueue.advance.Goals as goal
 
 pub invariant_of-self : goal.invariant_of-self

@@ -6,8 +6,8 @@ use Rattle.dmc_pull.specs.Standing.{clients_in, requests_in}
 use Rattle.dmc_roster.specs.Entries.{entry_keyed, entry_named, record_at}
 use Rattle.dmc_pull.specs.Adding.{CanAdd}
 use Rattle.dmc_pull.specs.Queue.{IsQueue, state_of}
-use Rattle.dmc_pull.proofs.Adds as adds
-use Rattle.dmc_pull.proofs.Allowed as allowed
+use Rattle.dmc_pull.proofs.Add.Adds as adds
+use Rattle.dmc_pull.proofs.Pull.Allowed as allowed
 use Rattle.dmc_pull.proofs.queue.PullQueue.can_add.Goals as goal
 
 pub returns-in_default-clause-outcome : goal.returns-in_default-clause-outcome

@@ -7,8 +7,8 @@ use Rattle.dmc_tag.specs.Rules.{can_reduce_by, reduction_at}
 use Rattle.dmc_tag.specs.Spacing.{spacings_of}
 use Rattle.dmc_pull.specs.Queue.{Queue, state_of}
 use Rattle.dmc_pull.specs.Choice.{IsFirstOf, IsGrantable, first_at}
-use Rattle.dmc_pull.proofs.Grants.{asked, spaced, can_grant_is, is_grantable}
-use Rattle.dmc_pull.proofs.Replaced.{waits}
+use Rattle.dmc_pull.proofs.Pull.Grants.{asked, spaced, can_grant_is, is_grantable}
+use Rattle.dmc_pull.proofs.Common.Replaced.{waits}
 use Rattle.dmc_pull.proofs.queue.PullQueue.can_grant.Goals as goal
 
 pub returns-clause-value : goal.returns-clause-value

@@ -1,7 +1,7 @@
 use Rattle.std.proofs.Common.{◌≤◌, ◌<◌, Ok, Err, ◌∙◌, sym, subst}
 use Rattle.dmc_pull.specs.Queue.{state_of}
-use Rattle.dmc_pull.proofs.Entries.{length_clients}
-use Rattle.dmc_pull.proofs.Registering.{is_known, spacings_at, refused_known, refused_inexact, refused_clients, may_register}
+use Rattle.dmc_pull.proofs.Common.Entries.{length_clients}
+use Rattle.dmc_pull.proofs.Clients.Registering.{is_known, spacings_at, refused_known, refused_inexact, refused_clients, may_register}
 use Rattle.dmc_pull.proofs.queue.PullQueue.can_register.Goals as goal
 
 pub returns-then-is_some-clause-outcome : goal.returns-then-is_some-clause-outcome

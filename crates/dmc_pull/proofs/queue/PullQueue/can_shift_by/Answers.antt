@@ -4,8 +4,8 @@ use Rattle.dmc_adjust.specs.Changes.{is_shiftable}
 use Rattle.dmc_roster.specs.Entries.{Entry}
 use Rattle.dmc_tag.specs.Rules.{can_shift_by}
 use Rattle.dmc_pull.specs.Standing.{clients_in, requests_in}
-use Rattle.dmc_pull.proofs.Parts.{all_is}
-use Rattle.dmc_pull.proofs.Shifted.{shiftable}
+use Rattle.dmc_pull.proofs.Common.Parts.{all_is}
+use Rattle.dmc_pull.proofs.Add.Shifted.{shiftable}
 use Rattle.dmc_pull.proofs.queue.PullQueue.can_shift_by.Goals as goal
 
 pub returns-in-Some : goal.returns-in-Some

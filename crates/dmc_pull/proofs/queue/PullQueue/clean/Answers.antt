@@ -2,7 +2,7 @@ use Rattle.std.proofs.Common.{◌≡◌, ◌≤◌, ℕ, sym, ap, subst}
 use Rattle.dmc_tag.specs.State.{effective}
 use Rattle.dmc_tag.proofs.ForCallers.{due_from_ceil}
 use Rattle.dmc_pull.specs.Queue.{state_of}
-use Rattle.dmc_pull.proofs.Aged.{cleaned_is, cleaned_step}
+use Rattle.dmc_pull.proofs.Clean.Aged.{cleaned_is, cleaned_step}
 use Rattle.dmc_pull.proofs.queue.PullQueue.clean.Goals as goal
 
 pub invariant_of-self : goal.invariant_of-self

@@ -1,7 +1,7 @@
 use Rattle.std.proofs.Common.{sym, subst, Some, None}
 use Rattle.dmc_tag.proofs.ForCallers.{best_is_found, none_is_found}
 use Rattle.dmc_pull.specs.Choice.{Early}
-use Rattle.dmc_pull.proofs.Picks.{tag_order, records_of, no_head_early, least_early, least_late}
+use Rattle.dmc_pull.proofs.Pull.Picks.{tag_order, records_of, no_head_early, least_early, least_late}
 use Rattle.dmc_pull.proofs.queue.PullQueue.early.Goals as goal
 
 pub returns-in-None : goal.returns-in-None

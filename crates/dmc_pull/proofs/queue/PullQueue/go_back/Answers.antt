@@ -4,7 +4,7 @@ use Rattle.std.specs.Option.{option_map}
 use Rattle.dmc_heads.specs.Heads.{set_back}
 use Rattle.dmc_tag.proofs.ForCallers.{due_from_ceil}
 use Rattle.dmc_pull.specs.Queue.{IsQueue}
-use Rattle.dmc_pull.proofs.Kept.{same_roster, length_map, went_back}
+use Rattle.dmc_pull.proofs.Common.Kept.{same_roster, length_map, went_back}
 use Rattle.dmc_pull.proofs.queue.PullQueue.go_back.Goals as goal
 
 pub invariant_of-self : goal.invariant_of-self

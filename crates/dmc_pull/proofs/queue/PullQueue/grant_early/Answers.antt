@@ -1,5 +1,5 @@
-use Rattle.dmc_pull.proofs.Grants.{early_settles}
-use Rattle.dmc_pull.proofs.Replaced.{waits}
+use Rattle.dmc_pull.proofs.Pull.Grants.{early_settles}
+use Rattle.dmc_pull.proofs.Common.Replaced.{waits}
 use Rattle.dmc_pull.proofs.queue.PullQueue.grant_early.Goals as goal
 
 pub returns : goal.returns

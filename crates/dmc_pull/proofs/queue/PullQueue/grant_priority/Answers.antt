@@ -3,8 +3,8 @@ use Rattle.dmc_tag.specs.Rules.{grant_priority}
 use Rattle.dmc_types.specs.declared.config.PhaseType.TheVariants as phases
 use Rattle.dmc_pull.specs.Choice.{first_at}
 use Rattle.dmc_pull.specs.Queue.{state_of}
-use Rattle.dmc_pull.proofs.Grants.{priority_settles, refusal_settles, priority_declined, allowed_settles}
-use Rattle.dmc_pull.proofs.Replaced.{waits}
+use Rattle.dmc_pull.proofs.Pull.Grants.{priority_settles, refusal_settles, priority_declined, allowed_settles}
+use Rattle.dmc_pull.proofs.Common.Replaced.{waits}
 use Rattle.dmc_pull.proofs.queue.PullQueue.grant_priority.Goals as goal
 
 pub returns-then-not-can_grant : goal.returns-then-not-can_grant

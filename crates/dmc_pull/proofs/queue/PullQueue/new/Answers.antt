@@ -1,4 +1,4 @@
-use Rattle.dmc_pull.proofs.Kept.{empty_is}
+use Rattle.dmc_pull.proofs.Common.Kept.{empty_is}
 use Rattle.dmc_pull.proofs.queue.PullQueue.new.Goals as goal
 
 pub invariant_of-result : goal.invariant_of-result

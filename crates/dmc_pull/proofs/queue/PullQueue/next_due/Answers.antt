@@ -1,12 +1,12 @@
 use Rattle.std.proofs.Common.{◌≡◌, min, None, Some, sym, subst, ap, ◌∙◌}
 use Rattle.std.specs.Option.{option_map}
-use Rattle.dmc_tag.specs.Best.{best, by_reservation, by_shares, is_early, is_free}
+use Rattle.dmc_tag.specs.Best.{best, by_reservation, by_weight, is_early, is_free}
 use Rattle.dmc_tag.specs.Rules.{moment_of, earlier}
 use Rattle.dmc_tag.proofs.ForCallers.{due_from_ceil, future_is_exact, not_found_has_none}
 use Rattle.dmc_pull.specs.Standing.{requests_in}
-use Rattle.dmc_pull.proofs.Picks.{tag_order, records_of}
-use Rattle.dmc_pull.proofs.Choices.{none_queued}
-use Rattle.dmc_pull.proofs.Due.{due_told, not_nothing}
+use Rattle.dmc_pull.proofs.Pull.Picks.{tag_order, records_of}
+use Rattle.dmc_pull.proofs.Pull.Choices.{none_queued}
+use Rattle.dmc_pull.proofs.Pull.Due.{due_told, not_nothing}
 use Rattle.dmc_pull.proofs.queue.PullQueue.next_due.Goals as goal
 
 pub returns-in_default : goal.returns-in_default
@@ -23,7 +23,7 @@ returns-in-None g c = λ first rest whole.
     let d = c.self.invariant.distinct in
     let records = records_of ops g.T.Tag.fraction g.T.Tag.is_value q.config.hz q.roster.entries c.self.invariant.kept in
     let none_early : best (by_reservation ops) (is_early ops q.last_moment) (requests_in q.roster.entries) ≡ None = subst (λ v. best (by_reservation ops) (is_early ops v.last_moment) (requests_in v.roster.entries) ≡ None) (sym c.self.view_is) c.requires.none_early in
-    let none_free : best (by_shares ops) (is_free ops q.last_moment) (requests_in q.roster.entries) ≡ None = subst (λ v. best (by_shares ops) (is_free ops v.last_moment) (requests_in v.roster.entries) ≡ None) (sym c.self.view_is) c.requires.none_free in
+    let none_free : best (by_weight ops) (is_free ops q.last_moment) (requests_in q.roster.entries) ≡ None = subst (λ v. best (by_weight ops) (is_free ops v.last_moment) (requests_in v.roster.entries) ≡ None) (sym c.self.view_is) c.requires.none_free in
     let has_none = (not_found_has_none g.T.Tag.ops order) (λ r. Some r.tags.p) (is_free ops q.last_moment) (requests_in q.roster.entries) none_free in
     let free = moment_of (ops.ceil c.in-Some.limit.now.tag) in
     due_told ops order q.last_moment q.roster.entries q.heads.0 c.self.invariant.heads d records (due_from_ceil g.T.Tag.ops g.T.Tag.fraction g.T.Tag.is_value g.met.T.Tag.exact) (future_is_exact g.T.Tag.ops g.T.Tag.fraction g.T.Tag.is_value g.met.T.Tag.exact order) q.config none_early none_free has_none c.in-Some-least_by_reservation.field-0-0 c.in-Some-least_by_reservation.reservation.now c.in-Some-least_by_reservation.ensures c.in-Some.field-0-0 c.in-Some.limit.now c.in-Some.ensures
@@ -37,7 +37,7 @@ returns-in-Some-tag g c = λ first rest whole.
     let d = c.self.invariant.distinct in
     let records = records_of ops g.T.Tag.fraction g.T.Tag.is_value q.config.hz q.roster.entries c.self.invariant.kept in
     let none_early : best (by_reservation ops) (is_early ops q.last_moment) (requests_in q.roster.entries) ≡ None = subst (λ v. best (by_reservation ops) (is_early ops v.last_moment) (requests_in v.roster.entries) ≡ None) (sym c.self.view_is) c.requires.none_early in
-    let none_free : best (by_shares ops) (is_free ops q.last_moment) (requests_in q.roster.entries) ≡ None = subst (λ v. best (by_shares ops) (is_free ops v.last_moment) (requests_in v.roster.entries) ≡ None) (sym c.self.view_is) c.requires.none_free in
+    let none_free : best (by_weight ops) (is_free ops q.last_moment) (requests_in q.roster.entries) ≡ None = subst (λ v. best (by_weight ops) (is_free ops v.last_moment) (requests_in v.roster.entries) ≡ None) (sym c.self.view_is) c.requires.none_free in
     let has_none = (not_found_has_none g.T.Tag.ops order) (λ r. Some r.tags.p) (is_free ops q.last_moment) (requests_in q.roster.entries) none_free in
     let free = moment_of (ops.ceil c.in-Some.limit.now.tag) in
     due_told ops order q.last_moment q.roster.entries q.heads.0 c.self.invariant.heads d records (due_from_ceil g.T.Tag.ops g.T.Tag.fraction g.T.Tag.is_value g.met.T.Tag.exact) (future_is_exact g.T.Tag.ops g.T.Tag.fraction g.T.Tag.is_value g.met.T.Tag.exact order) q.config none_early none_free has_none c.in-Some-least_by_reservation.field-0-0 c.in-Some-least_by_reservation.reservation.now c.in-Some-least_by_reservation.ensures c.in-Some.field-0-0 c.in-Some.limit.now c.in-Some.ensures

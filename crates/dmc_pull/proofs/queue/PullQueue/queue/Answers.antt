@@ -9,8 +9,8 @@ use Rattle.dmc_tag.specs.Rules.{can_shift_by, shifted_by, queued}
 use Rattle.dmc_tag.proofs.ForCallers.{differences_are_values, due_from_ceil}
 use Rattle.dmc_pull.specs.Queue.{Queue, IsQueue, head_at, state_of}
 use Rattle.dmc_pull.specs.Standing.{clients_in, requests_in}
-use Rattle.dmc_pull.proofs.Adds.{record_is}
-use Rattle.dmc_pull.proofs.Arrived.{of_client, heads_can_shift, after_calls, within, vacant, apart, with_first, with_more, stands}
+use Rattle.dmc_pull.proofs.Add.Adds.{record_is}
+use Rattle.dmc_pull.proofs.Add.Arrived.{of_client, heads_can_shift, after_calls, within, vacant, apart, with_first, with_more, stands}
 use Rattle.dmc_pull.proofs.queue.PullQueue.queue.Goals as goal
 use Rattle.dmc_pull.proofs.queue.PullQueue.queue.Goals.{then-is_first, else-is_first}
 

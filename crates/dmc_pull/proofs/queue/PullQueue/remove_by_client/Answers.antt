@@ -2,8 +2,8 @@ use Rattle.std.proofs.Common.{◌≡◌, length, arith}
 use Rattle.dmc_client.specs.Record.{IsRecord}
 use Rattle.dmc_roster.specs.Entries.{with_record_at}
 use Rattle.dmc_pull.specs.Queue.{state_of}
-use Rattle.dmc_pull.proofs.Updating.{client_at, of_record, unnamed}
-use Rattle.dmc_pull.proofs.Removing.{emptied, has_head, fewer, removed_is, removed_step, refused_remove}
+use Rattle.dmc_pull.proofs.Clients.Updating.{client_at, of_record, unnamed}
+use Rattle.dmc_pull.proofs.Remove.Removing.{emptied, has_head, fewer, removed_is, removed_step, refused_remove}
 use Rattle.dmc_pull.proofs.queue.PullQueue.remove_by_client.Goals as goal
 
 pub returns-in_default : goal.returns-in_default

@@ -1,7 +1,7 @@
 use Rattle.std.proofs.Common.{subst}
 use Rattle.dmc_pull.specs.Queue.{state_of}
 use Rattle.dmc_pull.specs.FirstRequests.{AreFirstRequests}
-use Rattle.dmc_pull.proofs.FirstRequests.{first_requests}
+use Rattle.dmc_pull.proofs.Common.FirstRequests.{first_requests}
 use Rattle.dmc_pull.proofs.queue.PullQueue.reservation_index.Goals as goal
 
 pub returns-clause-heads : goal.returns-clause-heads

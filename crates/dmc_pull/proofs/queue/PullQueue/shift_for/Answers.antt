@@ -7,9 +7,9 @@ use Rattle.dmc_tag.proofs.ForCallers.{found_is_best, not_found_has_none}
 use Rattle.dmc_pull.specs.Adding.{shift_for, unless_nothing}
 use Rattle.dmc_pull.specs.Queue.{IsKept}
 use Rattle.dmc_pull.specs.Standing.{requests_in}
-use Rattle.dmc_pull.proofs.Parts.{all_as}
-use Rattle.dmc_pull.proofs.Choices.{none_queued}
-use Rattle.dmc_pull.proofs.Adds.{tag_order, if_all, record_is, shift_past, shift_empty, shift_by_least}
+use Rattle.dmc_pull.proofs.Common.Parts.{all_as}
+use Rattle.dmc_pull.proofs.Pull.Choices.{none_queued}
+use Rattle.dmc_pull.proofs.Add.Adds.{tag_order, if_all, record_is, shift_past, shift_empty, shift_by_least}
 use Rattle.dmc_pull.proofs.queue.PullQueue.shift_for.Goals as goal
 use Rattle.dmc_pull.proofs.queue.PullQueue.shift_for.Goals.{in-None, in-Some-shift_for}
 

@@ -2,7 +2,7 @@ use Rattle.std.proofs.Common.{sym, subst}
 use Rattle.std.specs.Prelude.{◌≤◌}
 use Rattle.dmc_tag.proofs.ForCallers.{due_from_ceil}
 use Rattle.dmc_pull.specs.Choice.{IsFirstOf}
-use Rattle.dmc_pull.proofs.Replaced.{waits, held_after, one_at_least, granted}
+use Rattle.dmc_pull.proofs.Common.Replaced.{waits, held_after, one_at_least, granted}
 use Rattle.dmc_pull.proofs.queue.PullQueue.take_out.Goals as goal
 
 pub first_tags-tags-requires : goal.first_tags-tags-requires

@@ -6,7 +6,7 @@ use Rattle.dmc_tag.specs.Spacing.{spacings_of}
 use Rattle.dmc_tag.specs.Rules.{can_update}
 use Rattle.dmc_tag.proofs.ForCallers.{due_from_ceil}
 use Rattle.dmc_pull.specs.Queue.{state_of}
-use Rattle.dmc_pull.proofs.Updating.{HasClient, client_at, of_record, with_rates, updated_is, updated_step}
+use Rattle.dmc_pull.proofs.Clients.Updating.{HasClient, client_at, of_record, with_rates, updated_is, updated_step}
 use Rattle.dmc_pull.proofs.queue.PullQueue.update_info.Goals as goal
 
 pub invariant_of-self : goal.invariant_of-self

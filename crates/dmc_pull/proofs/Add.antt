@@ -1,0 +1,6 @@
+-- Adding a request.
+pub mod Shifted
+pub mod LeastShare
+pub mod Adds
+pub mod NothingOff
+pub mod Arrived

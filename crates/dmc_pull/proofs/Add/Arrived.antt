@@ -1,0 +1,245 @@
+-- What an arrival makes of the entries and the heads.
+use Rattle.std.proofs.Common.{◌≡◌, ℕ, suc, ◌+◌, ◌≤◌, ◌<◌, Bool, true, false, List, [], ◌∷◌, ◌++◌, map, length, Option, Some, None, Result, Ok, Err, refl, sym, ap, ◌∙◌, subst, arith}
+use Rattle.std.specs.Prelude.{◌≢◌, ◌==◌, IfSome, IsSome, OnOk, slice_get, slice_set, is_some, nat_le}
+use Rattle.std.specs.Result.{is_err}
+use Rattle.std.specs.Option.{option_map, option_and_then}
+use Rattle.std.specs.List.{AllByRecursion}
+use Rattle.std.proofs.lemmas.Bool.{eqb-true, eqb-false}
+use Rattle.std.proofs.lemmas.Bool.Decides.{nat_tests}
+use Rattle.std.proofs.lemmas.List.{length-map, length-set, get_or-set_same, get_or-set_other}
+use Rattle.dmc_types.specs.Values.{Setting}
+use Rattle.dmc_types.specs.declared.ids.ClientId.{ClientId}
+use Rattle.dmc_tag.specs.Tag.{Fraction, Tagging}
+use Rattle.dmc_tag.specs.Best.{is_due}
+use Rattle.dmc_tag.specs.State.{StandsFor, is_client, requests_of}
+use Rattle.dmc_tag.specs.Rules.{moment_of, can_shift_by, shifted_requests, shifted_request, shifted_by, change_client, after_arrival, queued}
+use Rattle.dmc_client.specs.declared.request.QueuedRequest.{QueuedRequest}
+use Rattle.dmc_client.specs.Record.{Rec, IsRecord, request_of, pushed}
+use Rattle.dmc_adjust.specs.Changes.{shifted}
+use Rattle.dmc_roster.specs.Entries.{Entry, Listing, entry_named, entry_keyed, record_at, with_rec, with_record, with_record_at, AreDistinct}
+use Rattle.dmc_index.specs.Index.{held}
+use Rattle.dmc_heads.specs.declared.head.Head.{Head}
+use Rattle.dmc_heads.specs.Heads.{CanShift, IsOthers}
+use Rattle.dmc_pull.specs.Queue.{Queue, IsQueue, IsKept, AreHeads, head_of, head_at, unready}
+use Rattle.dmc_pull.specs.Standing.{clients_in, requests_in}
+use Rattle.dmc_pull.proofs.Common.Parts.{all_as, all_both, all_append, found_holds, found_passes}
+use Rattle.dmc_pull.proofs.Common.Entries.{Differs, split, name_is, all_changed}
+use Rattle.dmc_pull.proofs.Common.Keyed.{same_client, split_keyed, distinct_changed, read_changed, read_other, read_kept}
+use Rattle.dmc_pull.proofs.Add.Shifted.{pushed_clients, pushed_requests, length_pushed}
+use Rattle.dmc_pull.proofs.Pull.Choices.{entry_at}
+use Rattle.dmc_pull.proofs.Add.Adds.{held_entry, if_holds}
+use Rattle.dmc_pull.proofs.Common.Moved.{HasRest, pushed_values, Moved, unmoved, moved, can_shift, all_shiftable, arrived_others}
+use Rattle.dmc_pull.specs.Adding.{others_shifted, heads_shifted}
+
+empty_list : {X : Type 0} (xs : List X) → (length xs == 0) ≡ true → xs ≡ []
+empty_list [] h = refl
+empty_list (x ∷ xs) h = let none : suc (length xs) ≡ 0 = eqb-true (suc (length xs)) 0 h in absurd (omega arith)
+
+-- the entries that have come, and the heads as they were, or as they were shifted
+pub record After {T : Type 0} (ops : Tagging T) (value : T → Type 0) (hz t : ℕ) (shift : Option T) (key : ℕ) (e : Entry T) (es : List (Entry T)) (request : QueuedRequest T) (at : ℕ) (now : List (Entry T)) (heads : List (Option (Head T))) : Type 0 where
+  pub entries : List (Entry T)
+  pub moved : Moved ops value hz t shift key e es entries heads
+  pub whole : now ≡ with_record key (pushed request at e.rec) entries
+  pub records : AllByRecursion (λ f. IsRecord ops f.rec) now
+
+module _ {T : Type 0} {ops : Tagging T} {value : T → Type 0} {hz t : ℕ} {shift : Option T} {key : ℕ} {e : Entry T} {es : List (Entry T)} {request : QueuedRequest T} {at : ℕ} {now : List (Entry T)} {heads : List (Option (Head T))} (after : After ops value hz t shift key e es request at now heads) where
+  abbrev came : List (Entry T)
+  came = with_record key (pushed request at e.rec) after.entries
+
+  keyed : entry_keyed key after.entries ≡ Some e
+  keyed = split_keyed after.moved.here
+
+  below : e.key < length heads
+  below = found_holds (λ f. f.key < length heads) (λ f. f.key == key) after.entries e after.moved.in_room keyed
+
+  pub within : key < length heads
+  within = subst (λ n. n < length heads) (eqb-true e.key key after.moved.here.keyed) below
+
+  here_first : option_map unready (held heads key) ≡ head_of e
+  here_first = after.moved.heads_are.here key ∙ ap (option_and_then head_of) keyed
+
+  pub vacant : (length e.rec.requests == 0) ≡ true → held heads key ≡ None
+  vacant none = at_none (held heads key) (here_first ∙ ap (λ l. option_map (λ r. record { client = e.id; tags = r.tags; ready = false }) (slice_get l 0)) (empty_list e.rec.requests none)) where
+    at_none : (o : Option (Head T)) → option_map unready o ≡ None → o ≡ None
+    at_none None h = refl
+    at_none (Some head) h = cc
+
+  pub apart : IsOthers heads key e.id
+  apart = λ k other ne h.
+      let x = entry_at ops t after.entries heads after.moved.heads_are k other h in
+      let s = after.moved.here in
+      let all = subst (AllByRecursion (λ f. (f.key == e.key) ≡ false → is_client e.id f.id ≡ false)) (sym s.whole) (all_append (λ f. (f.key == e.key) ≡ false → is_client e.id f.id ≡ false) s.front (e ∷ s.back) (all_as (Differs e) (λ f. (f.key == e.key) ≡ false → is_client e.id f.id ≡ false) (λ f d o. d.1) s.front s.ahead) ((λ o. absurd (same_key o)), all_as (Differs e) (λ f. (f.key == e.key) ≡ false → is_client e.id f.id ≡ false) (λ f d o. d.1) s.back s.behind)) in
+      let one : x.entry.key ≡ k = eqb-true x.entry.key k (found_passes (λ f. f.key == k) after.entries x.entry x.found) in
+      let two : e.key ≡ key = eqb-true e.key key s.keyed in
+      subst (λ id. is_client e.id id ≡ false) (sym x.of.client) (found_holds (λ f. (f.key == e.key) ≡ false → is_client e.id f.id ≡ false) (λ f. f.key == k) after.entries x.entry all x.found (neq_eqb x.entry.key e.key (λ same. ne (sym one ∙ same ∙ two))))
+    where
+      neq_eqb : (a b : ℕ) → a ≢ b → (a == b) ≡ false
+      neq_eqb a b ne = by (a == b) refl where
+        by : (r : Bool) → (a == b) ≡ r → (a == b) ≡ false
+        by true e = absurd (ne (eqb-true a b e))
+        by false e = e
+
+      same_key : (e.key == e.key) ≡ false → ⊥
+      same_key o = eqb-false e.key e.key o refl
+
+  -- ---- the heads
+
+  module _ (later : t ≤ at) (due_from : (tag : T) (n : ℕ) → is_due ops n (Some tag) ≡ nat_le (moment_of (ops.ceil tag)) n) where
+    due_later : (l : T) → is_due ops t (Some l) ≡ true → is_due ops at (Some l) ≡ true
+    due_later l due =
+        let before : nat_le (moment_of (ops.ceil l)) t ≡ true = sym (due_from l t) ∙ due in
+        let still : nat_le (moment_of (ops.ceil l)) at ≡ true = grind (arith, nat_tests) in
+        due_from l at ∙ still
+
+    same_first : (l : List (QueuedRequest T)) → (length l == 0) ≡ false → slice_get (l ++ request ∷ []) 0 ≡ slice_get l 0
+    same_first [] h = absurd (eqb-false 0 0 h refl)
+    same_first (r ∷ l) h = refl
+
+    -- the client had a head, which stays
+    pub heads_more : (length e.rec.requests == 0) ≡ false → AreHeads ops at came heads
+    heads_more some = record {
+      here = λ k. after.moved.heads_are.here k ∙ sym (read_kept head_of after.moved.here (pushed request at e.rec) (ap (option_map (λ r. record { client = e.id; tags = r.tags; ready = false })) (same_first e.rec.requests some)) k);
+      marks = λ k head h r. due_later head.tags.l (after.moved.heads_are.marks k head h r);
+    }
+
+    abbrev head : Head T
+    head = head_at ops at e.id request.tags
+
+    -- it had none, and gets one
+    pub heads_first : (length e.rec.requests == 0) ≡ true → AreHeads ops at came (slice_set heads key (Some head))
+    heads_first none = record { here = λ k. here_at k (k == key) refl; marks = λ k h p r. mark_at k h (k == key) refl p r } where
+      here_at : (k : ℕ) (b : Bool) → (k == key) ≡ b → option_map unready (held (slice_set heads key (Some head)) k) ≡ option_and_then head_of (entry_keyed k came)
+      here_at k true same =
+          subst (λ k. option_map unready (held (slice_set heads key (Some head)) k) ≡ option_and_then head_of (entry_keyed k came)) (sym (eqb-true k key same))
+          (ap (option_map unready) (get_or-set_same heads key (Some head) None within)
+          ∙ sym (read_changed head_of after.moved.here (pushed request at e.rec) ∙ ap (λ l. option_map (λ r. record { client = e.id; tags = r.tags; ready = false }) (slice_get (l ++ request ∷ []) 0)) (empty_list e.rec.requests none)))
+      here_at k false other =
+          ap (option_map unready) (get_or-set_other heads key k (Some head) None (eqb-false k key other))
+          ∙ after.moved.heads_are.here k
+          ∙ sym (read_other head_of key (pushed request at e.rec) k after.entries other)
+
+      mark_at : (k : ℕ) (h : Head T) (b : Bool) → (k == key) ≡ b → held (slice_set heads key (Some head)) k ≡ Some h → h.ready ≡ true → is_due ops at (Some h.tags.l) ≡ true
+      mark_at k h true same p r =
+          let one : Some h ≡ Some head = sym p ∙ ap (held (slice_set heads key (Some head))) (eqb-true k key same) ∙ get_or-set_same heads key (Some head) None within in
+          let own : head ≡ h = cc (one) in
+          subst (λ x. x.ready ≡ true → is_due ops at (Some x.tags.l) ≡ true) own (λ due. due) r
+      mark_at k h false other p r = due_later h.tags.l (after.moved.heads_are.marks k h (sym (get_or-set_other heads key k (Some head) None (eqb-false k key other)) ∙ p) r)
+
+-- ---- the queue that it is
+
+module _ {T : Type 0} {ops : Tagging T} (fraction : T → Fraction) (is_value : Fraction → Type 0) (config : Setting) (roster : Listing T) {t : ℕ} {shift : Option T} {key : ℕ} {e : Entry T} {es : List (Entry T)} {request : QueuedRequest T} {at : ℕ} {heads : List (Option (Head T))}
+    (after : After ops (λ tag. is_value (fraction tag)) config.hz t shift key e es request at roster.entries heads) where
+  abbrev value : T → Type 0
+  value tag = is_value (fraction tag)
+
+  all_kept : value request.tags.p → AllByRecursion (λ f. IsKept ops fraction is_value config.hz f.rec) roster.entries
+  all_kept v =
+      let of_e = found_holds (λ f. HasRest ops value config.hz f.rec) (λ f. f.key == key) after.entries e after.moved.rest (split_keyed after.moved.here) in
+      let rest = all_changed after.moved.here (λ f. HasRest ops value config.hz f.rec) (pushed request at e.rec) after.moved.rest (of_e.0, pushed_values ops value e.rec.requests e.rec.previous.p request of_e.1 v) in
+      all_as (λ f. IsRecord ops f.rec × HasRest ops value config.hz f.rec) (λ f. IsKept ops fraction is_value config.hz f.rec) (λ f h. record { is_record = h.0; spacings = h.1.0; values = h.1.1 }) roster.entries
+      (all_both (λ f. IsRecord ops f.rec) (λ f. HasRest ops value config.hz f.rec) roster.entries after.records (subst (AllByRecursion (λ f. HasRest ops value config.hz f.rec)) (sym after.whole) rest))
+
+  length_shifted : (s : Option T) → length (shifted_requests ops s (clients_in es) (requests_in es)) ≡ length (requests_in es)
+  length_shifted None = refl
+  length_shifted (Some amount) = length-map (requests_in es) (shifted_request ops amount (clients_in es))
+
+  counted : length (requests_in roster.entries) ≡ suc (length (requests_in es))
+  counted =
+      ap (λ xs. length (requests_in xs)) after.whole
+      ∙ length_pushed after.moved.here request at
+      ∙ ap (λ rs. suc (length rs)) after.moved.requests
+      ∙ ap suc (length_shifted shift)
+
+  module _ (n : ℕ) (count : n ≡ length (requests_in es)) (room : length (requests_in es) < 1048576) (v : value request.tags.p) where
+    pub is_queue : (new : List (Option (Head T))) → AreHeads ops at (with_record key (pushed request at e.rec) after.entries) new → length new ≡ length heads → IsQueue ops fraction is_value (record { config = config; roster = roster; heads = new; last_moment = at }) (n + 1)
+    is_queue new are same =
+        let came = all_changed after.moved.here (λ f. f.key < length heads) (pushed request at e.rec) after.moved.in_room (found_holds (λ f. f.key < length heads) (λ f. f.key == key) after.entries e after.moved.in_room (split_keyed after.moved.here)) in
+        record {
+          kept = all_kept v;
+          distinct = subst AreDistinct (sym after.whole) (distinct_changed key (pushed request at e.rec) after.entries after.moved.distinct);
+          heads = subst (λ xs. AreHeads ops at xs new) (sym after.whole) are;
+          in_room = subst (λ xs. AllByRecursion (λ f. f.key < length new) xs) (sym after.whole) (subst (λ m. AllByRecursion (λ f. f.key < m) (with_record key (pushed request at e.rec) after.entries)) (sym same) came);
+          counted = omega (arith, count, counted);
+          bound = omega (arith, count, room);
+        }
+
+    module _ (later : t ≤ at) (due_from : (tag : T) (n : ℕ) → is_due ops n (Some tag) ≡ nat_le (moment_of (ops.ceil tag)) n) where
+      pub with_more : (length e.rec.requests == 0) ≡ false → IsQueue ops fraction is_value (record { config = config; roster = roster; heads = heads; last_moment = at }) (n + 1)
+      with_more some = is_queue heads (heads_more after later due_from some) refl
+
+      pub with_first : (length e.rec.requests == 0) ≡ true → IsQueue ops fraction is_value (record { config = config; roster = roster; heads = slice_set heads key (Some (head_at ops at e.id request.tags)); last_moment = at }) (n + 1)
+      with_first none = is_queue _ (heads_first after later due_from none) (length-set heads key (Some (head_at ops at e.id request.tags)))
+
+  -- the plain state of the queue, and of one that keeps its requests in order of arrival
+  pub stands : (last : ℕ) → StandsFor (record { config = config; requests = requests_in roster.entries; clients = clients_in roster.entries; last_moment = at }) (queued (shifted_by ops shift (record { config = config; requests = requests_in es; clients = clients_in es; last_moment = last })) (record { client = e.id; token = request.token; tags = request.tags }) at)
+  stands last = record {
+    config = refl;
+    requests = λ id. ap (λ xs. requests_of id (requests_in xs)) after.whole ∙ pushed_requests after.moved.here request at id ∙ ap (λ rs. requests_of id (rs ++ request_of e.id request ∷ [])) after.moved.requests;
+    clients = ap clients_in after.whole ∙ pushed_clients after.moved.here request at ∙ ap (change_client e.id (after_arrival request.tags at)) after.moved.clients;
+    last_moment = refl;
+  }
+
+-- ---- from what calls answer
+
+-- a client's entry in a queue
+pub record IsOf {T : Type 0} (ops : Tagging T) (fraction : T → Fraction) (is_value : Fraction → Type 0) (q : Queue T) (n key : ℕ) (client : ClientId) : Type 0 where
+  pub entry : Entry T
+  pub found : entry_keyed key q.roster.entries ≡ Some entry
+  pub id : entry.id ≡ client
+  pub distinct : AreDistinct q.roster.entries
+  pub is : IsQueue ops fraction is_value q n
+
+pub of_client : {T : Type 0} (ops : Tagging T) (fraction : T → Fraction) (is_value : Fraction → Type 0) (q : Queue T) (n key : ℕ) (client : ClientId) → IsQueue ops fraction is_value q n → AreDistinct q.roster.entries → entry_keyed key q.roster.entries ≡ entry_named client q.roster.entries → is_some (entry_keyed key q.roster.entries) ≡ true → IsOf ops fraction is_value q n key client
+of_client ops fraction is_value q n key client is d same held =
+    let x = held_entry (entry_keyed key q.roster.entries) held in
+    record { entry = x.0; found = x.1; id = same_client client x.0.id (name_is client q.roster.entries x.0 (sym same ∙ x.1)); distinct = d; is = is }
+
+-- what a push that did not fail says of the client's record
+did : {T A E : Type 0} (r : Result A E) (P : Rec T → Type 0) (key : ℕ) (es : List (Entry T)) (e : Entry T) → is_err r ≡ false → entry_keyed key es ≡ Some e → OnOk r (IfSome (record_at key es) P) → P e.rec
+did (Ok x) P key es e ok f h = if_holds P (record_at key es) e.rec (ap (option_map (λ e. e.rec)) f) h
+did (Err fault) P key es e ok f h = cc
+
+module _ {T : Type 0} {ops : Tagging T} {fraction : T → Fraction} {is_value : Fraction → Type 0} {q : Queue T} {n key : ℕ} {client : ClientId} (of : IsOf ops fraction is_value q n key client) where
+  abbrev known : List (Entry T)
+  known = q.roster.entries
+
+  rest_of : AllByRecursion (λ f. HasRest ops (λ tag. is_value (fraction tag)) q.config.hz f.rec) known
+  rest_of = all_as (λ f. IsKept ops fraction is_value q.config.hz f.rec) (λ f. HasRest ops (λ tag. is_value (fraction tag)) q.config.hz f.rec) (λ f k. (k.spacings, k.values)) known of.is.kept
+
+  records_of : AllByRecursion (λ f. IsRecord ops f.rec) known
+  records_of = all_as (λ f. IsKept ops fraction is_value q.config.hz f.rec) (λ f. IsRecord ops f.rec) (λ f k. k.is_record) known of.is.kept
+
+  -- each head can be shifted
+  pub heads_can_shift : (shift : Option T) → can_shift_by ops shift (clients_in known) (requests_in known) ≡ true → IfSome shift (λ amount. CanShift ops amount q.heads)
+  heads_can_shift None can = tt
+  heads_can_shift (Some amount) can = can_shift ops amount q.last_moment known q.heads of.is.heads records_of (all_shiftable ops amount known of.distinct can)
+
+  module _ (differences : (a amount : T) → IfSome (ops.minus a amount) (λ tag. is_value (fraction tag))) (request : QueuedRequest T) (at : ℕ) where
+    after_shift : (shift : Option T) → (IsSome shift → of.entry.rec.idle ≡ true) → can_shift_by ops shift (clients_in known) (requests_in known) ≡ true → (now : List (Entry T)) → now ≡ others_shifted ops shift key (with_record key (pushed request at of.entry.rec) known) → AllByRecursion (λ f. IsRecord ops f.rec) now → After ops (λ tag. is_value (fraction tag)) q.config.hz q.last_moment shift key of.entry known request at now (heads_shifted ops shift q.heads)
+    after_shift None idle can now same records = record {
+      entries = known;
+      moved = unmoved ops (λ tag. is_value (fraction tag)) q.config.hz q.last_moment key of.entry known q.heads of.found of.distinct of.is.heads of.is.in_room rest_of;
+      whole = same;
+      records = records;
+    }
+    after_shift (Some amount) idle can now same records = record {
+      entries = map (λ e. with_rec (shifted ops amount) e) known;
+      moved = moved ops (λ tag. is_value (fraction tag)) q.config.hz q.last_moment key of.entry known q.heads of.found of.distinct of.is.heads of.is.in_room rest_of differences amount (idle refl) records_of;
+      whole = same ∙ arrived_others ops amount (split key known of.entry of.found of.distinct) (idle refl) (all_shiftable ops amount known of.distinct can) request at;
+      records = records;
+    }
+
+    -- after a push that did not fail, and the shift of the others
+    pub after_calls : {A E : Type 0} (result : Result A E) → is_err result ≡ false → (pushed_roster : Listing T) → OnOk result (IfSome (record_at key known) (λ rec. pushed_roster ≡ with_record_at q.roster key (pushed request at rec))) → OnOk result (IfSome (record_at key known) (λ rec. IsRecord ops (pushed request at rec)))
+        → (shift : Option T) → (IsSome shift → IfSome (record_at key known) (λ rec. rec.idle ≡ true)) → can_shift_by ops shift (clients_in known) (requests_in known) ≡ true
+        → (now : List (Entry T)) → now ≡ others_shifted ops shift key pushed_roster.entries → (AllByRecursion (λ f. IsRecord ops f.rec) pushed_roster.entries → AllByRecursion (λ f. IsRecord ops f.rec) now)
+        → (heads : List (Option (Head T))) → heads ≡ heads_shifted ops shift q.heads
+        → After ops (λ tag. is_value (fraction tag)) q.config.hz q.last_moment shift key of.entry known request at now heads
+    after_calls result ok pushed_roster came kept shift idle can now same keeps heads moves =
+        let roster = did result (λ rec. pushed_roster ≡ with_record_at q.roster key (pushed request at rec)) key known of.entry ok of.found came in
+        let entries = ap (λ r. r.entries) roster in
+        let is = did result (λ rec. IsRecord ops (pushed request at rec)) key known of.entry ok of.found kept in
+        let records = all_changed (split key known of.entry of.found of.distinct) (λ f. IsRecord ops f.rec) (pushed request at of.entry.rec) records_of is in
+        let is_idle = λ (some : IsSome shift). if_holds (λ rec. rec.idle ≡ true) (record_at key known) of.entry.rec (ap (option_map (λ e. e.rec)) of.found) (idle some) in
+        subst (After ops (λ tag. is_value (fraction tag)) q.config.hz q.last_moment shift key of.entry known request at now) (sym moves)
+        (after_shift shift is_idle can now (same ∙ ap (others_shifted ops shift key) entries) (keeps (subst (AllByRecursion (λ f. IsRecord ops f.rec)) (sym entries) records)))

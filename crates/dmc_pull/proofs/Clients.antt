@@ -1,0 +1,3 @@
+-- Registering and updating clients.
+pub mod Registering
+pub mod Updating

@@ -1,0 +1,119 @@
+-- A registration.
+use Rattle.std.proofs.Common.{◌≡◌, ℕ, suc, ◌+◌, ◌-◌, ◌<◌, ◌≤◌, true, false, List, [], ◌∷◌, ◌++◌, Option, Some, None, length, replicate, refl, sym, ap, ◌∙◌, subst, arith}
+use Rattle.std.specs.Prelude.{Result, Ok, Err}
+use Rattle.std.specs.Option.{option_map, is_some}
+use Rattle.std.specs.List.{AllByRecursion}
+use Rattle.std.specs.Result.{is_err}
+use Rattle.std.proofs.lemmas.Bool.{le-leb, lt-leb}
+use Rattle.std.proofs.lemmas.List.{length-append, length-replicate}
+use Rattle.dmc_types.specs.Values.{Rates}
+use Rattle.dmc_types.specs.declared.ids.ClientId.{ClientId}
+use Rattle.dmc_types.specs.declared.refusal.Field.{Field}
+use Rattle.dmc_types.specs.declared.refusal.Refusal.TheVariants.{Known, Inexact, Clients}
+use Rattle.dmc_tag.specs.Tag.{Fraction, Tagging}
+use Rattle.dmc_tag.specs.State.{State, client_named}
+use Rattle.dmc_tag.specs.Spacing.{spacings_of}
+use Rattle.dmc_tag.specs.Rules.{can_register}
+use Rattle.dmc_tag.specs.declared.spacing.Spacings.{Spacings}
+use Rattle.dmc_client.specs.Record.{Rec, client_of}
+use Rattle.dmc_roster.specs.Entries.{Entry, Listing, entry_named, Adds, AreDistinct}
+use Rattle.dmc_roster.specs.declared.fault.RosterFault.{RosterFault}
+use Rattle.dmc_roster.specs.declared.fault.RosterFault.TheVariants as faults
+use Rattle.dmc_index.specs.Index.{held}
+use Rattle.dmc_heads.specs.declared.head.Head.{Head}
+use Rattle.dmc_pull.specs.Standing.{clients_in, requests_in}
+use Rattle.dmc_pull.specs.Queue.{Queue, state_of, IsQueue, IsKept, AreHeads, head_of}
+use Rattle.dmc_pull.proofs.Common.Parts.{all_as}
+use Rattle.dmc_pull.proofs.Common.Entries.{named, all_last, registered_clients, registered_requests}
+use Rattle.dmc_pull.proofs.Common.Keyed.{read_last}
+use Rattle.dmc_pull.proofs.Clean.Aging.{DueFromCeil, heads_later}
+
+-- ---- the tests
+
+module _ {T : Type 0} where
+  -- a key is found exactly where a client has the id
+  pub is_known : (id : ClientId) (es : List (Entry T)) (found : Option ℕ) → found ≡ option_map (λ e. e.key) (entry_named id es) → is_some (client_named id (clients_in es)) ≡ is_some found
+  is_known id es found e = ap is_some (named id es) ∙ at (entry_named id es) ∙ ap is_some (sym e) where
+    at : (o : Option (Entry T)) → is_some (option_map (λ e. client_of e.id e.rec) o) ≡ is_some (option_map (λ e. e.key) o)
+    at None = refl
+    at (Some x) = refl
+
+module _ {T : Type 0} (ops : Tagging T) (s : State T) (id : ClientId) (info : Rates) where
+  pub refused_known : is_some (client_named id s.clients) ≡ true → Err Known ≡ can_register ops s id info
+  refused_known known = rw known refl
+
+  pub refused_inexact : (field : Field) → is_some (client_named id s.clients) ≡ false → spacings_of ops s.config.hz info ≡ Err field → Err (Inexact field) ≡ can_register ops s id info
+  refused_inexact field known inexact = rw (known, inexact) refl
+
+  pub refused_clients : (spacings : Spacings T) → is_some (client_named id s.clients) ≡ false → spacings_of ops s.config.hz info ≡ Ok spacings → 65536 ≤ length s.clients → Err Clients ≡ can_register ops s id info
+  refused_clients spacings known exact full = rw (known, exact, le-leb 65536 (length s.clients) full) refl
+
+  pub may_register : (spacings : Spacings T) → is_some (client_named id s.clients) ≡ false → spacings_of ops s.config.hz info ≡ Ok spacings → length s.clients < 65536 → Ok tt ≡ can_register ops s id info
+  may_register spacings known exact room = rw (known, exact, lt-leb 65536 (length s.clients) room) refl
+
+-- the answer about the spacings, at the rate of the clock that was read
+pub spacings_at : {T : Type 0} → (ops : Tagging T) (info : Rates) (answer : Result (Spacings T) Field) (read hz : ℕ) → read ≡ hz → answer ≡ spacings_of ops read info → (found : Result (Spacings T) Field) → answer ≡ found → spacings_of ops hz info ≡ found
+spacings_at ops info answer read hz same given found is = ap (λ n. spacings_of ops n info) (sym same) ∙ sym given ∙ is
+
+-- ---- the queue after it
+
+module _ {T : Type 0} (ops : Tagging T) (fraction : T → Fraction) (is_value : Fraction → Type 0) where
+  abbrev Is : Queue T → ℕ → Type 0
+  Is q queued = IsQueue ops fraction is_value q queued
+
+  -- more room in the indexes
+  pub roomier_is : DueFromCeil ops → {q : Queue T} {queued : ℕ} → Is q queued → (heads : List (Option (Head T))) → ((key : ℕ) → held heads key ≡ held q.heads key) → length q.heads ≤ length heads → Is (record q { heads = heads }) queued
+  roomier_is due_from {q} is heads holds more = record {
+    kept = is.kept;
+    distinct = is.distinct;
+    heads = heads_later ops due_from q.last_moment q.last_moment (omega arith) q.roster.entries q.roster.entries (λ key. refl) q.heads heads holds is.heads;
+    in_room = all_as (λ e. e.key < length q.heads) (λ e. e.key < length heads) (λ e within. omega arith) q.roster.entries is.in_room;
+    counted = is.counted;
+    bound = is.bound;
+  }
+
+  -- a client comes last, under a key that has room
+  pub registered_is : DueFromCeil ops → {q : Queue T} {queued : ℕ} → Is q queued → (roster : Listing T) (e : Entry T) → roster.entries ≡ q.roster.entries ++ e ∷ [] → AreDistinct roster.entries → e.key < length q.heads → IsKept ops fraction is_value q.config.hz e.rec → e.rec.requests ≡ [] → (at : ℕ) → q.last_moment ≤ at → Is (record q { roster = roster; last_moment = at }) queued
+  registered_is due_from {q} {queued} is roster e last distinct within keeps none at later =
+      let es = q.roster.entries in
+      let no_head : head_of e ≡ None = rw none refl in
+      let heads = heads_later ops due_from q.last_moment at later es (es ++ e ∷ []) (read_last head_of es e no_head) q.heads q.heads (λ key. refl) is.heads in
+      let keepers = all_last (λ f. IsKept ops fraction is_value q.config.hz f.rec) es e is.kept keeps in
+      let inside = all_last (λ f. f.key < length q.heads) es e is.in_room within in
+      record {
+        kept = subst (AllByRecursion (λ f. IsKept ops fraction is_value q.config.hz f.rec)) (sym last) keepers;
+        distinct = distinct;
+        heads = subst (λ fs. AreHeads ops at fs q.heads) (sym last) heads;
+        in_room = subst (AllByRecursion (λ f. f.key < length q.heads)) (sym last) inside;
+        counted = is.counted ∙ ap length (sym (registered_requests es e none) ∙ ap requests_in (sym last));
+        bound = is.bound;
+      }
+
+-- the state after it
+pub registered_state : {T : Type 0} → (q : Queue T) (roster : Listing T) (heads : List (Option (Head T))) (e : Entry T) (at : ℕ) → roster.entries ≡ q.roster.entries ++ e ∷ [] → e.rec.requests ≡ [] → state_of (record { config = q.config; roster = roster; heads = heads; last_moment = at }) ≡ record (state_of q) { clients = clients_in q.roster.entries ++ client_of e.id e.rec ∷ []; last_moment = at }
+registered_state q roster heads e at last none = rw (last, registered_clients q.roster.entries e, registered_requests q.roster.entries e none) refl
+
+-- the indexes have room for a key
+pub has_room : {X : Type 0} → (slots more : List (Option X)) (key room : ℕ) → room ≡ suc key → more ≡ slots ++ replicate (room - length slots) None → key < length more
+has_room {X} slots more key room e h =
+    let none : List (Option X) = replicate (room - length slots) None in
+    let rest : length none ≡ room - length slots = length-replicate (room - length slots) None in
+    let size : length more ≡ length slots + length none = ap length h ∙ length-append slots none in
+    omega arith
+
+-- ---- what an add to the roster answers
+
+module _ {T : Type 0} (old new : Listing T) (id : ClientId) (rec : Rec T) where
+  pub not_added : (answer : Result ℕ RosterFault) → is_err answer ≡ true → Adds old new id rec answer → new ≡ old
+  not_added (Ok key) e adds = cc
+  not_added (Err faults.Known) e adds = adds.1
+  not_added (Err faults.Clients) e adds = adds.2
+  not_added (Err faults.Memory) e adds = adds.2
+
+  pub distinct_added : (answer : Result ℕ RosterFault) → is_err answer ≡ false → Adds old new id rec answer → AreDistinct new.entries
+  distinct_added (Ok key) e adds = adds.4
+  distinct_added (Err fault) e adds = cc
+
+  pub was_added : (answer : Result ℕ RosterFault) → is_err answer ≡ false → Adds old new id rec answer → new.entries ≡ old.entries ++ record { id = id; key = old.next_key; rec = rec } ∷ []
+  was_added (Ok key) e adds = adds.3 ∙ ap (λ k. old.entries ++ record { id = id; key = k; rec = rec } ∷ []) adds.2
+  was_added (Err fault) e adds = cc

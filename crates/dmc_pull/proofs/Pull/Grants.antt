@@ -1,0 +1,162 @@
+-- What a grant makes of the plain state.
+use Rattle.std.proofs.Common.{◌≡◌, ℕ, Bool, true, false, not, cond, List, [], ◌∷◌, Option, Some, None, refl, sym, ap, ◌∙◌, subst}
+use Rattle.std.specs.Prelude.{◌==◌, IfSome, Ok, Err, Result}
+use Rattle.std.specs.Option.{option_map, option_and_then}
+use Rattle.dmc_types.specs.declared.ids.ClientId.{ClientId}
+use Rattle.dmc_types.specs.declared.ids.Token.{Token}
+use Rattle.dmc_types.specs.declared.config.PhaseType.{PhaseType}
+use Rattle.dmc_types.specs.declared.config.PhaseType.TheVariants as phases
+use Rattle.dmc_types.specs.declared.refusal.Refusal.{Refusal}
+use Rattle.dmc_types.specs.declared.refusal.Refusal.TheVariants.{Range}
+use Rattle.dmc_tag.specs.Tag.{Fraction, Tagging}
+use Rattle.dmc_tag.specs.Outcome.{◌>>=◌, refuse_if}
+use Rattle.dmc_tag.specs.Spacing.{spacings_of}
+use Rattle.dmc_tag.specs.Rules.{Outcome, pulled_early, without, granted, grant_priority, can_grant, reduction_of, reduction_at, can_reduce_by, reduced_by, reduced_requests}
+use Rattle.dmc_tag.specs.Step.{settled}
+use Rattle.dmc_tag.specs.declared.plain.PlainRequest.{PlainRequest}
+use Rattle.dmc_tag.specs.declared.plain.PlainClient.{PlainClient}
+use Rattle.dmc_tag.specs.declared.reply.Reply.TheVariants.{Granted}
+use Rattle.dmc_tag.specs.State.{State}
+use Rattle.dmc_tag.specs.declared.reply.Reply.TheVariants as replies
+use Rattle.dmc_tag.specs.declared.reply.Pulled.TheVariants as pulls
+use Rattle.dmc_pull.specs.Allowed.{is_allowed, SettlesIf}
+use Rattle.dmc_pull.specs.declared.granting.PullFault.TheVariants as faults
+use Rattle.dmc_client.specs.Record.{Rec, client_of, request_of, requests_of_record}
+use Rattle.dmc_roster.specs.Entries.{Entry, record_at, with_record, with_record_at, AreDistinct}
+use Rattle.dmc_adjust.specs.Changes.{popped, reduced}
+use Rattle.dmc_pull.specs.Standing.{clients_in, requests_in}
+use Rattle.dmc_pull.specs.Queue.{Queue, IsQueue, IsKept, state_of}
+use Rattle.dmc_pull.proofs.Common.Parts.{found_holds}
+use Rattle.dmc_pull.specs.Choice.{first_at, after_grant, IsGrantable, Settles}
+use Rattle.dmc_pull.proofs.Common.Entries.{Split, split, named, clients_whole, changed_client, change_whole}
+use Rattle.dmc_pull.proofs.Common.Keyed.{split_named}
+use Rattle.dmc_pull.proofs.Pull.Reduced.{reducible, reduced_clients_in, reduced_requests_in}
+use Rattle.dmc_pull.proofs.Pull.Picks.{first_chosen}
+use Rattle.dmc_pull.proofs.Common.Replaced.{Waits}
+
+module _ {T : Type 0} (ops : Tagging T) where
+  -- the queue after a grant: the config stays, the record is the granted one's, and the moment is t
+  pub record After (old new : Queue T) (key : ℕ) (reduces : Bool) (t : ℕ) : Type 0 where
+    pub roster : IfSome (record_at key old.roster.entries) (λ rec. new.roster ≡ with_record_at old.roster key (after_grant ops reduces rec))
+    pub config : new.config ≡ old.config
+    pub moment : new.last_moment ≡ t
+
+  module _ (old new : Queue T) (key : ℕ) (client : ClientId) (t : ℕ) (d : AreDistinct old.roster.entries) (w : Waits old.roster.entries key client) where
+    abbrev es : List (Entry T)
+    es = old.roster.entries
+
+    own_split : Split key w.entry es
+    own_split = split key es w.entry w.found d
+
+    abbrev others : List (PlainRequest T)
+    others = requests_in (with_record key (popped w.entry.rec) es)
+
+    pub first_is : first_at key es ≡ Some (request_of w.entry.id w.request, others)
+    first_is = first_chosen ops es key w.entry w.request w.rest w.found w.requests
+
+    same_roster : (reduces : Bool) → After old new key reduces t → new.roster ≡ with_record_at old.roster key (after_grant ops reduces w.entry.rec)
+    same_roster reduces a = subst (λ o. IfSome o (λ rec. new.roster ≡ with_record_at old.roster key (after_grant ops reduces rec))) (ap (option_map (λ e. e.rec)) w.found) a.roster
+
+    state_after : (reduces : Bool) → After old new key reduces t → state_of new ≡ record { config = old.config; requests = requests_in (with_record key (after_grant ops reduces w.entry.rec) es); clients = clients_in (with_record key (after_grant ops reduces w.entry.rec) es); last_moment = t }
+    state_after reduces a =
+        ap (λ c. record { config = c; requests = requests_in new.roster.entries; clients = clients_in new.roster.entries; last_moment = new.last_moment }) a.config
+        ∙ ap (λ m. record { config = old.config; requests = requests_in new.roster.entries; clients = clients_in new.roster.entries; last_moment = m }) a.moment
+        ∙ ap (λ r. record { config = old.config; requests = requests_in r.entries; clients = clients_in r.entries; last_moment = t }) (same_roster reduces a)
+
+    popped_clients : clients_in (with_record key (popped w.entry.rec) es) ≡ clients_in es
+    popped_clients = changed_client own_split (λ c. c) (popped w.entry.rec) refl ∙ change_whole own_split (λ c. c) ∙ sym (clients_whole own_split)
+
+    -- in the constraint phase
+    early_state : After old new key false t → state_of new ≡ without (state_of old) t others
+    early_state a = state_after false a ∙ ap (λ cs. record { config = old.config; requests = others; clients = cs; last_moment = t }) popped_clients
+
+    same_reply : (token : Token) (phase : PhaseType) (beyond : Bool) → token ≡ w.request.token → Granted client token phase beyond ≡ granted (request_of w.entry.id w.request) phase beyond
+    same_reply token phase beyond e = ap (λ id. Granted id token phase beyond) w.client_is ∙ ap (λ k. Granted w.entry.id k phase beyond) e
+
+    token_is : (token : Token) → Some token ≡ option_map (λ found. found.0.token) (first_at key es) → token ≡ w.request.token
+    token_is token e = let same : Some token ≡ Some w.request.token = e ∙ ap (option_map (λ (found : PlainRequest T × List (PlainRequest T)). found.0.token)) first_is in cc (same)
+
+    pair : {A B : Type 0} (a b : A) (x y : B) → a ≡ b → x ≡ y → let p : A × B = (a, x) in let q : A × B = (b, y) in p ≡ q
+    pair a b x y e f = λ i. (e i, f i)
+
+    pub early_settles : (token : Token) → After old new key false t → Some token ≡ option_map (λ found. found.0.token) (first_at key es) → IfSome (first_at key es) (λ found. Settles (state_of old) (state_of new) (Ok (without (state_of old) t found.1, granted found.0 phases.Reservation false)) (Some (Granted client token phases.Reservation false)))
+    early_settles token a k =
+        subst (λ o. IfSome o (λ found. Settles (state_of old) (state_of new) (Ok (without (state_of old) t found.1, granted found.0 phases.Reservation false)) (Some (Granted client token phases.Reservation false)))) (sym first_is)
+        (pair _ _ _ _ (early_state a) (same_reply token phases.Reservation false (token_is token k)))
+
+    -- ---- in the weight phase
+
+    module _ (spaced : spacings_of ops old.config.hz w.entry.rec.info ≡ Ok w.entry.rec.spacings) (amount_is : reduction_at ops old.config.hz w.entry.rec.info.reservation ≡ Ok w.entry.rec.spacings.r) where
+      reduction_is : reduction_of ops old.config.hz w.entry.id (clients_in es) ≡ Ok w.entry.rec.spacings.r
+      reduction_is =
+          ap (λ o. reduction_at ops old.config.hz (option_and_then (λ (c : PlainClient T). c.info.reservation) o)) (named w.entry.id es ∙ ap (option_map (λ e. client_of e.id e.rec)) (split_named own_split))
+          ∙ amount_is
+
+      tested : (can : Bool) → (refuse_if (not can) Range >>= λ x. Ok w.entry.rec.spacings.r) ≡ cond can (Ok w.entry.rec.spacings.r) (Err Range)
+      tested true = refl
+      tested false = refl
+
+      pub can_grant_is : (can : Bool) → can ≡ can_reduce_by ops w.entry.id w.entry.rec.spacings.r (client_of w.entry.id w.entry.rec ∷ []) (requests_of_record w.entry.id (popped w.entry.rec)) → can_grant ops old.config.hz w.entry.id (clients_in es) others ≡ cond can (Ok w.entry.rec.spacings.r) (Err Range)
+      can_grant_is can e =
+          ap (λ r. r >>= λ amount. refuse_if (not (can_reduce_by ops w.entry.id amount (clients_in es) others)) Range >>= λ x. Ok amount) reduction_is
+          ∙ ap (λ b. refuse_if (not b) Range >>= λ x. Ok w.entry.rec.spacings.r) (reducible ops own_split w.entry.rec.spacings.r ∙ sym e)
+          ∙ tested can
+
+    own_rec : record_at key es ≡ Some w.entry.rec
+    own_rec = ap (option_map (λ e. e.rec)) w.found
+
+    -- what the test says of the grant
+    grantable_is : (can : Bool) → IfSome (first_at key es) (λ found. IsGrantable ops (state_of old) found (record_at key es) can) → can_grant ops old.config.hz w.entry.id (clients_in es) others ≡ cond can (Ok w.entry.rec.spacings.r) (Err Range)
+    grantable_is can h =
+        subst (λ o. IsGrantable ops (state_of old) (request_of w.entry.id w.request, others) o can) own_rec
+        (subst (λ o. IfSome o (λ found. IsGrantable ops (state_of old) found (record_at key es) can)) first_is h)
+
+    pub is_grantable : (can : Bool) → can_grant ops old.config.hz w.entry.id (clients_in es) others ≡ cond can (Ok w.entry.rec.spacings.r) (Err Range) → IfSome (first_at key es) (λ found. IsGrantable ops (state_of old) found (record_at key es) can)
+    is_grantable can e =
+        subst (λ o. IfSome o (λ found. IsGrantable ops (state_of old) found (record_at key es) can)) (sym first_is)
+        (subst (λ o. IsGrantable ops (state_of old) (request_of w.entry.id w.request, others) o can) (sym own_rec) e)
+
+    abbrev granted_by : Result (Option T) Refusal → Bool → Outcome T
+    granted_by r beyond = r >>= λ amount. Ok (reduced_by ops w.entry.id amount (without (state_of old) t others), granted (request_of w.entry.id w.request) phases.Priority beyond)
+
+    priority_state : After old new key true t → state_of new ≡ reduced_by ops w.entry.id w.entry.rec.spacings.r (without (state_of old) t others)
+    priority_state a =
+        state_after true a
+        ∙ ap (λ rs. record { config = old.config; requests = rs; clients = clients_in (with_record key (reduced ops (popped w.entry.rec)) es); last_moment = t }) (reduced_requests_in ops own_split)
+        ∙ ap (λ cs. record { config = old.config; requests = reduced_requests ops w.entry.id w.entry.rec.spacings.r others; clients = cs; last_moment = t }) (reduced_clients_in ops own_split)
+
+    pub priority_settles : (token : Token) (beyond : Bool) → IfSome (first_at key es) (λ found. IsGrantable ops (state_of old) found (record_at key es) true) → After old new key true t → Some token ≡ option_map (λ found. found.0.token) (first_at key es) → IfSome (first_at key es) (λ found. Settles (state_of old) (state_of new) (grant_priority ops (state_of old) t found beyond) (Some (Granted client token phases.Priority beyond)))
+    priority_settles token beyond can a k =
+        subst (λ o. IfSome o (λ found. Settles (state_of old) (state_of new) (grant_priority ops (state_of old) t found beyond) (Some (Granted client token phases.Priority beyond)))) (sym first_is)
+        (pair _ _ _ _ (priority_state a) (same_reply token phases.Priority beyond (token_is token k)) ∙ ap (λ r. settled (state_of old) (granted_by r beyond)) (sym (grantable_is true can)))
+
+    pub refusal_settles : (beyond : Bool) → IfSome (first_at key es) (λ found. IsGrantable ops (state_of old) found (record_at key es) false) → IfSome (first_at key es) (λ found. Settles (state_of old) (state_of old) (grant_priority ops (state_of old) t found beyond) (Some (replies.Refused Range)))
+    refusal_settles beyond can =
+        subst (λ o. IfSome o (λ found. Settles (state_of old) (state_of old) (grant_priority ops (state_of old) t found beyond) (Some (replies.Refused Range)))) (sym first_is)
+        (ap (λ r. settled (state_of old) (granted_by r beyond)) (sym (grantable_is false can)))
+
+    -- ---- with a test
+
+    pub priority_declined : (allows : ClientId → PhaseType → Bool) → allows client phases.Priority ≡ false → (beyond : Bool) → IfSome (first_at key es) (λ found. IsGrantable ops (state_of old) found (record_at key es) true) → IfSome (first_at key es) (λ found. SettlesIf allows (state_of old) (state_of old) (grant_priority ops (state_of old) t found beyond) (Err faults.Declined))
+    priority_declined allows denied beyond can =
+        subst (λ o. IfSome o (λ found. SettlesIf allows (state_of old) (state_of old) (grant_priority ops (state_of old) t found beyond) (Err faults.Declined))) (sym first_is)
+        (refl, ap (λ r. is_allowed allows ((settled (state_of old) (granted_by r beyond)).1)) (grantable_is true can) ∙ ap (λ id. allows id phases.Priority) (sym w.client_is) ∙ denied)
+
+    pub early_declined : (allows : ClientId → PhaseType → Bool) → allows client phases.Reservation ≡ false → (o : Option (PlainRequest T × List (PlainRequest T))) → o ≡ first_at key es → is_allowed allows ((settled (state_of old) (pulled_early ops (state_of old) t o)).1) ≡ false
+    early_declined allows denied o e =
+        ap (λ o. is_allowed allows ((settled (state_of old) (pulled_early ops (state_of old) t o)).1)) (e ∙ first_is) ∙ ap (λ id. allows id phases.Reservation) (sym w.client_is) ∙ denied
+
+-- what settles with a grant that the test allows
+pub allowed_settles : {T : Type 0} (allows : ClientId → PhaseType → Bool) (old new : State T) (outcomes : PlainRequest T × List (PlainRequest T) → Outcome T) (client : ClientId) (token : Token) (phase : PhaseType) (beyond : Bool) → allows client phase ≡ true → (o : Option (PlainRequest T × List (PlainRequest T)))
+    → IfSome o (λ found. Settles old new (outcomes found) (Some (Granted client token phase beyond))) → IfSome o (λ found. SettlesIf allows old new (outcomes found) (Ok (pulls.Returning client token phase beyond)))
+allowed_settles allows old new outcomes client token phase beyond allowed None h = h
+allowed_settles allows old new outcomes client token phase beyond allowed (Some found) h = (h, allowed)
+
+-- ---- the record that was asked
+
+module _ {T : Type 0} (ops : Tagging T) (fraction : T → Fraction) (is_value : Fraction → Type 0) (q : Queue T) (queued : ℕ) (is : IsQueue ops fraction is_value q queued) (key : ℕ) (client : ClientId) (w : Waits q.roster.entries key client) where
+  pub asked : (rec : Rec T) → record_at key q.roster.entries ≡ Some rec → rec ≡ w.entry.rec
+  asked rec e = let same : Some rec ≡ Some w.entry.rec = sym e ∙ ap (option_map (λ e. e.rec)) w.found in cc (same)
+
+  pub spaced : spacings_of ops q.config.hz w.entry.rec.info ≡ Ok w.entry.rec.spacings
+  spaced = (found_holds (λ e. IsKept ops fraction is_value q.config.hz e.rec) (λ e. e.key == key) q.roster.entries w.entry is.kept w.found).spacings

@@ -1,0 +1,2 @@
+-- Removing a client's requests.
+pub mod Removing

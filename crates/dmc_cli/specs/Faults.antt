@@ -4,6 +4,8 @@ use Rattle.dmc_scene.specs.declared.fault.SceneFault.{SceneFault}
 use Rattle.dmc_scene.specs.declared.fault.SceneFault.TheVariants as scene
 use Rattle.dmc_sim.specs.declared.report.SimFault.{SimFault}
 use Rattle.dmc_sim.specs.declared.report.SimFault.TheVariants as sim
+use Rattle.dmc_run.specs.declared.run.RunSceneFault.{RunSceneFault}
+use Rattle.dmc_run.specs.declared.run.RunSceneFault.TheVariants as run
 use Rattle.dmc_text.specs.declared.cause.LineCause.{LineCause}
 use Rattle.dmc_text.specs.declared.cause.LineCause.TheVariants as cause
 use Rattle.dmc_text.specs.declared.script.ScriptFault.{ScriptFault}
@@ -58,3 +60,11 @@ fault_of_scene scene.Memory = fault.Memory
 abbrev pub fault_of_sim : SimFault → Fault
 fault_of_sim (sim.Refused refusal) = fault.Range
 fault_of_sim sim.Memory = fault.Memory
+
+-- the program's fault for that of a run
+abbrev pub fault_of_run : RunSceneFault → Fault
+fault_of_run run.Memory = fault.Memory
+fault_of_run run.Torn = fault.Torn
+fault_of_run run.Write = fault.Write
+fault_of_run run.TurnsOut = fault.TurnsOut
+fault_of_run run.Stopped = fault.Stopped

@@ -20,6 +20,7 @@ use Rattle.dmc_cli.specs.declared.words.ToolCommand.{ToolCommand}
 use Rattle.dmc_cli.specs.declared.words.ToolCommand.TheVariants.{Script, Check, Sim, Run}
 use Rattle.dmc_cli.specs.Faults as faults
 use Rattle.dmc_cli.specs.Outcomes as outcomes
+use Rattle.dmc_cli.specs.SceneRuns.{RunsRun}
 use Rattle.dmc_cli.specs.Sims.{RunsSim}
 
 -- ---- tags of a kind
@@ -58,12 +59,12 @@ exit_status (Err fault) = faults.status_of fault
 
 -- ---- what a run does
 
--- What the run of a command reads and writes, and how it ends. The others are not written, so no words ask for them.
+-- what the run of a command reads and writes, and how it ends
 abbrev pub RunsCommand : ToolCommand → TagKind → (before after old new : Option (List ℕ)) → Result Outcome Fault → Type 0
 RunsCommand Script tags before after old new end = (ended : Result ⊤ ScriptFault) × RunsScript tags before after old new ended × (end ≡ end_of_script ended)
 RunsCommand Check tags before after old new end = (ended : Result Verdict ScriptFault) × ChecksEvents tags before after old new ended × (end ≡ end_of_check ended)
 RunsCommand Sim tags before after old new end = RunsSim before after old new end
-RunsCommand Run tags before after old new end = ⊥
+RunsCommand Run tags before after old new end = RunsRun before after old new end
 
 -- Words that ask for no tool: nothing is read, nothing is written, and the fault is Usage, or Memory, which reading the words
 -- takes. Words that ask for one: what its command does.

@@ -1,10 +1,12 @@
 //! The scripts that docs/CHOOSING.md cites, each under its name and without its comments. Lines are parted by `; `.
 use crate::runs::{lines, runs};
 use std::process::Abort;
+use std::sync::Wait;
 use std::test::Fail;
+use std::thread::Threads;
 
 /// A script that writes these lines and no fault, with this kind of tags.
-fn gives<T: AllocGlobal + Abort>(
+fn gives<T: AllocGlobal + Threads + Wait + Sync + Abort>(
     rt: &T,
     tags: &str,
     input: &str,

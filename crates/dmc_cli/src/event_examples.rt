@@ -1,10 +1,12 @@
 //! The worked examples of event texts, each under its name.
 use crate::runs::{FailingReader, FailingWriter, ROOM, lines, runs, tells};
 use std::process::Abort;
+use std::sync::Wait;
 use std::test::Fail;
+use std::thread::Threads;
 
 /// An event text with this verdict and this status.
-fn checks<T: AllocGlobal + Abort>(
+fn checks<T: AllocGlobal + Threads + Wait + Sync + Abort>(
     rt: &T,
     tags: &str,
     input: &str,
@@ -17,7 +19,11 @@ fn checks<T: AllocGlobal + Abort>(
 }
 
 /// An event text that has this fault.
-fn faults<T: AllocGlobal + Abort>(rt: &T, input: &str, fault: &[u8]) -> Result<(), Fail> {
+fn faults<T: AllocGlobal + Threads + Wait + Sync + Abort>(
+    rt: &T,
+    input: &str,
+    fault: &[u8],
+) -> Result<(), Fail> {
     let input = lines(rt.alloc(), input)?;
     runs(rt, ["check"].as_slice(), &input, b"", fault, 1)
 }

@@ -3,14 +3,16 @@ use crate::queues::over_queues;
 use crate::runs::{FailingReader, FailingWriter, ROOM, lines, runs, tells};
 use std::alloc::{AllocError, Global};
 use std::process::Abort;
+use std::sync::Wait;
 use std::test::Fail;
+use std::thread::Threads;
 
 /// An example whose rates have whole spacings means the same with either tag type.
 const BOTH: &[&str] = &["tick", "ratio"];
 
 /// A script that writes these lines and no fault, with each of the tag types, over the plain queue, the indexed queue over
 /// sorted vectors, and the program's own queue over heaps.
-fn gives<T: AllocGlobal + Abort>(
+fn gives<T: AllocGlobal + Threads + Wait + Sync + Abort>(
     rt: &T,
     tags: &[&str],
     input: &str,
@@ -27,7 +29,7 @@ fn gives<T: AllocGlobal + Abort>(
 }
 
 /// A script that writes these lines and then the fault.
-fn faults<T: AllocGlobal + Abort>(
+fn faults<T: AllocGlobal + Threads + Wait + Sync + Abort>(
     rt: &T,
     input: &[u8],
     output: &[u8],

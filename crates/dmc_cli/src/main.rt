@@ -13,6 +13,9 @@ mod makers;
 mod outcome;
 #[cfg(test)]
 mod queues;
+mod run;
+#[cfg(test)]
+mod run_examples;
 #[cfg(test)]
 mod runs;
 mod scenes;

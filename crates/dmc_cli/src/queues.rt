@@ -11,7 +11,9 @@ use dmc_tick::tick::TickTag;
 use dmc_types::config::QueueConfig;
 use std::alloc::{AllocError, Global};
 use std::process::Abort;
+use std::sync::Wait;
 use std::test::Fail;
+use std::thread::Threads;
 
 /// Makes plain queues.
 #[derive(Drop)]
@@ -50,7 +52,7 @@ impl QueueMaker<RatioTag> for ListMaker {
 }
 
 /// Runs a script over both queues with the tags of this name, and checks what it writes. Want of memory is an error.
-pub fn over_queues<A: AllocGlobal + Abort>(
+pub fn over_queues<A: AllocGlobal + Threads + Wait + Sync + Abort>(
     rt: &A,
     tags: &str,
     input: &[u8],
@@ -67,7 +69,7 @@ pub fn over_queues<A: AllocGlobal + Abort>(
 }
 
 /// Runs a script over the queue that is made.
-fn over<T: TagText, M: QueueMaker<T> + Drop, A: AllocGlobal + Abort>(
+fn over<T: TagText, M: QueueMaker<T> + Drop, A: AllocGlobal + Threads + Wait + Sync + Abort>(
     rt: &A,
     maker: M,
     input: &[u8],

@@ -4,7 +4,9 @@ use crate::tool::run_tool;
 use std::alloc::{AllocError, Global};
 use std::io::{self, Read, Write};
 use std::process::Abort;
+use std::sync::Wait;
 use std::test::Fail;
+use std::thread::Threads;
 
 /// More bytes than any run of the tests writes.
 pub const ROOM: usize = 4096;
@@ -29,7 +31,7 @@ pub fn lines(alloc: Global, text: &str) -> Result<Vec<u8>, AllocError> {
 }
 
 /// Runs the program on these words, checks what it tells of a fault, and answers its status. Want of memory is an error.
-pub fn tells<T: AllocGlobal + Abort, R: Read, W: Write>(
+pub fn tells<T: AllocGlobal + Threads + Wait + Sync + Abort, R: Read, W: Write>(
     rt: &T,
     words: &[&str],
     reader: &mut R,
@@ -46,7 +48,7 @@ pub fn tells<T: AllocGlobal + Abort, R: Read, W: Write>(
 }
 
 /// Runs the program on these words and bytes, and checks all that it writes and its status. Want of memory is an error.
-pub fn runs<T: AllocGlobal + Abort>(
+pub fn runs<T: AllocGlobal + Threads + Wait + Sync + Abort>(
     rt: &T,
     words: &[&str],
     input: &[u8],

@@ -2,7 +2,9 @@
 use crate::runs::{FailingReader, FailingWriter, lines, runs, tells};
 use std::alloc::{AllocError, Global};
 use std::process::Abort;
+use std::sync::Wait;
 use std::test::Fail;
+use std::thread::Threads;
 
 /// The clients of the scene `two_clients`.
 const TWO: &str = "[[client]]; id = 1; reservation = 10; weight = 1; requests = 2; window = 1; \
@@ -20,7 +22,7 @@ fn scene(alloc: Global, keys: &str, clients: &str) -> Result<Vec<u8>, AllocError
 }
 
 /// A scene with this report, fault and status.
-fn ends<T: AllocGlobal + Abort>(
+fn ends<T: AllocGlobal + Threads + Wait + Sync + Abort>(
     rt: &T,
     scene: &[u8],
     report: &str,
@@ -32,7 +34,11 @@ fn ends<T: AllocGlobal + Abort>(
 }
 
 /// The scene `two_clients` with these keys and this report.
-fn gives<T: AllocGlobal + Abort>(rt: &T, keys: &str, report: &str) -> Result<(), Fail> {
+fn gives<T: AllocGlobal + Threads + Wait + Sync + Abort>(
+    rt: &T,
+    keys: &str,
+    report: &str,
+) -> Result<(), Fail> {
     ends(rt, &scene(rt.alloc(), keys, TWO)?, report, b"", 0)
 }
 
@@ -116,12 +122,16 @@ fn no_requests(rt: HostRuntime) -> Result<(), Fail> {
 }
 
 /// A text that is no scene.
-fn faults<T: AllocGlobal + Abort>(rt: &T, scene: &[u8], fault: &[u8]) -> Result<(), Fail> {
+fn faults<T: AllocGlobal + Threads + Wait + Sync + Abort>(
+    rt: &T,
+    scene: &[u8],
+    fault: &[u8],
+) -> Result<(), Fail> {
     ends(rt, scene, "", fault, 1)
 }
 
 /// A scene with a first key and these clients that has this fault.
-fn refuses<T: AllocGlobal + Abort>(
+fn refuses<T: AllocGlobal + Threads + Wait + Sync + Abort>(
     rt: &T,
     hz: &str,
     clients: &str,

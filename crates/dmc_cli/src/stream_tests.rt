@@ -3,7 +3,9 @@ use crate::event_examples::{PULLS, PULLS_VERDICT};
 use crate::examples::{AT_LIMIT, AT_LIMIT_OUT};
 use crate::runs::{FailingReader, FailingWriter, Interrupted, ROOM, tells};
 use std::process::Abort;
+use std::sync::Wait;
 use std::test::Fail;
+use std::thread::Threads;
 
 /// A command, a text, and what is written for it.
 const RUNS: [(&str, &[u8], &[u8]); 2] = [
@@ -44,7 +46,10 @@ fn interrupted_streams(rt: HostRuntime) -> Result<(), Fail> {
 }
 
 /// Words that ask for no tool: the usage is told, no byte is read and none written.
-fn refuses<T: AllocGlobal + Abort>(rt: &T, words: &[&str]) -> Result<(), Fail> {
+fn refuses<T: AllocGlobal + Threads + Wait + Sync + Abort>(
+    rt: &T,
+    words: &[&str],
+) -> Result<(), Fail> {
     let mut reader = AT_LIMIT;
     let mut written = Vec::with_capacity(rt.alloc(), ROOM)?;
     let usage = b"usage: dmclock script|check [--tags tick|ratio] | sim | run\n";
@@ -68,5 +73,5 @@ fn refused_words(rt: HostRuntime) -> Result<(), Fail> {
     refuses(&rt, ["script", "check"].as_slice())?;
     refuses(&rt, ["check", "--tags", "tick", "ratio"].as_slice())?;
     refuses(&rt, ["sim", "--tags", "tick"].as_slice())?;
-    refuses(&rt, ["run"].as_slice())
+    refuses(&rt, ["run", "--tags", "tick"].as_slice())
 }

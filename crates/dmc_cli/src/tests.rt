@@ -101,9 +101,10 @@ fn calls_for_help(rt: HostRuntime) -> Result<(), Fail> {
 
 // A command that is not written yet is refused as if it were unknown.
 #[test]
-fn commands_to_come(rt: HostRuntime) -> Result<(), Fail> {
+fn words_of_a_run(rt: HostRuntime) -> Result<(), Fail> {
     let alloc = rt.alloc();
-    assert_eq!(rt; ask(alloc, ["run"].as_slice())?, None);
+    let run = tool(ToolCommand::Run, TagKind::Tick);
+    assert_eq!(rt; ask(alloc, ["run"].as_slice())?, run);
     Ok(())
 }
 

@@ -7,15 +7,16 @@ ghost use Rattle.dmc_cli.specs.Words.{asked};
 use crate::fault::Fault;
 use crate::outcome::Outcome;
 use crate::words::{Tool, ToolCommand, WRITTEN, read_words};
-use crate::{check, script, sim};
-use std::alloc::Global;
+use crate::{check, run, script, sim};
 use std::convert::AsStr;
 use std::io::{Read, Write};
+use std::sync::Wait;
+use std::thread::Threads;
 
 /// Runs the tool that the words name: replies and verdicts go to the writer, a fault's text to the fault writer as one
 /// line. The words are those after the program's name. The answer is the exit status: 0 where all is done, 1 at a fault,
-/// 2 where the words name no tool, 3 where events do not replay, 4 where a simulation's rounds ended early.
-pub fn run_tool<T: AllocGlobal, S: AsStr, R: Read, W: Write, E: Write>(
+/// 2 where the words name no tool, 3 where events do not replay, 4 where a simulation's rounds or a run ended early.
+pub fn run_tool<T: AllocGlobal + Threads + Wait + Sync, S: AsStr, R: Read, W: Write, E: Write>(
     rt: &T,
     words: &[S],
     reader: &mut R,
@@ -26,7 +27,7 @@ pub fn run_tool<T: AllocGlobal, S: AsStr, R: Read, W: Write, E: Write>(
         (R.remaining reader.old) (R.remaining reader.new) (W.contents writer.old) (W.contents writer.new) result }
     ensures status { result ≤ 4 }
 {
-    match run_words(rt.alloc(), words, reader, writer) {
+    match run_words(rt, words, reader, writer) {
         Ok(outcome) => outcome.status(),
         Err(fault) => tell(fault, fault_writer),
     }
@@ -41,8 +42,8 @@ pub fn tell<E: Write>(fault: Fault, fault_writer: &mut E) -> u8
 }
 
 /// Runs the tool that the words name.
-fn run_words<S: AsStr, R: Read, W: Write>(
-    alloc: Global,
+fn run_words<T: AllocGlobal + Threads + Wait + Sync, S: AsStr, R: Read, W: Write>(
+    rt: &T,
     words: &[S],
     reader: &mut R,
     writer: &mut W,
@@ -50,6 +51,7 @@ fn run_words<S: AsStr, R: Read, W: Write>(
     ensures { RunsWords (asked WRITTEN (map S.text words.now))
         (R.remaining reader.old) (R.remaining reader.new) (W.contents writer.old) (W.contents writer.new) result }
 {
+    let alloc = rt.alloc();
     let Tool { command, tags } = read_words(alloc, words)?;
     match command {
         ToolCommand::Script => {
@@ -58,6 +60,6 @@ fn run_words<S: AsStr, R: Read, W: Write>(
         }
         ToolCommand::Check => Ok(check::check_on(alloc, tags, reader, writer)?.into()),
         ToolCommand::Sim => sim::simulate_on(alloc, reader, writer),
-        ToolCommand::Run => Err(Fault::Usage),
+        ToolCommand::Run => run::run_on(rt, alloc, reader, writer),
     }
 }

@@ -25,8 +25,13 @@ pub enum ToolCommand {
     Run,
 }
 
-/// The commands that are written yet. Any other is a usage fault.
-pub const WRITTEN: [ToolCommand; 3] = [ToolCommand::Script, ToolCommand::Check, ToolCommand::Sim];
+/// The commands of the program. Any other is a usage fault.
+pub const WRITTEN: [ToolCommand; 4] = [
+    ToolCommand::Script,
+    ToolCommand::Check,
+    ToolCommand::Sim,
+    ToolCommand::Run,
+];
 
 /// What the command line asks for.
 #[derive(Clone, Copy, Debug, PartialEq, Eq)]
@@ -131,7 +136,7 @@ fn tags_of(options: &ArgMatches<'_>) -> Option<TagKind>
     }
 }
 
-// The command that is written and has this name.
+// The command that has this name.
 fn command_named(word: &str) -> Option<ToolCommand>
     ensures { result ≡ find (λ command. bytes_eq (name_of command) word.now) WRITTEN }
 {
@@ -141,6 +146,8 @@ fn command_named(word: &str) -> Option<ToolCommand>
         Some(ToolCommand::Check)
     } else if ToolCommand::Sim.name() == word {
         Some(ToolCommand::Sim)
+    } else if ToolCommand::Run.name() == word {
+        Some(ToolCommand::Run)
     } else {
         None
     }

@@ -8,3 +8,5 @@ pub mod report;
 pub mod room;
 mod servers;
 pub mod settle;
+#[cfg(test)]
+mod tests;

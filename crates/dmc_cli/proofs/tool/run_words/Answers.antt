@@ -2,11 +2,11 @@
 use Rattle.std.proofs.Common.{map, Err, ap}
 use Rattle.dmc_cli.specs.Words.{asked}
 use Rattle.dmc_cli.specs.declared.words.TheConstants.{WRITTEN}
-use Rattle.dmc_cli.proofs.RunLemmas.{asked_is_written, words_unread}
+use Rattle.dmc_cli.proofs.RunLemmas.{words_unread}
 use Rattle.dmc_cli.proofs.tool.run_words.Goals as goal
 
 pub returns-in_err-command : goal.returns-in_err-command
 returns-in_err-command g c =
     let words = map g.S.AsStr.text c.args.words.now in
     words_unread (asked WRITTEN words) (g.R.Read.remaining c.args.reader.now) (g.W.Write.contents c.args.writer.now) c.in_err-command.field-0.0 c.from_residual.result
-    (asked_is_written words) (λ usage. c.in_err-command.ensures.usage (ap Err usage)) c.from_residual.ensures.1
+    (λ usage. c.in_err-command.ensures.usage (ap Err usage)) c.from_residual.ensures.1

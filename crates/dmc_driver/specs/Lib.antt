@@ -1,0 +1,5 @@
+pub mod Causes
+pub mod Desks
+pub mod Done
+pub mod Ending
+pub mod LimitsValue

@@ -1,0 +1,114 @@
+//! How a run ends, by its report.
+ghost use Rattle.std.specs.Prelude.{◌≡◌, ◌↔◌, All, IsTrue, length};
+ghost use Rattle.dmc_settle.specs.Reports.{IsReport};
+ghost use Rattle.dmc_driver.specs.Done.{IsClientDone, IsDone, IsServerDone, RanOut};
+ghost use Rattle.dmc_driver.specs.Ending.{AreClientsDone, AreWithin, EndsSo, KeepsWithin, RanOutAt, Reports};
+
+use crate::fault::DriveFault;
+use crate::limits::Limits;
+use dmc_scene::client::SceneClient;
+use dmc_scene::scene::Scene;
+use dmc_settle::report::{ClientReport, ClusterReport, ServerReport, StopCause};
+use dmc_tag::tag::Tag;
+
+/// Whether the client sent and completed its requests, has nothing left, and did not stop.
+fn is_client_done(client: SceneClient, row: &ClientReport) -> bool
+    ensures { IsTrue result ↔ IsClientDone client row.now }
+{
+    let requests = u64::from(client.requests());
+    row.sent == requests
+        && row.completed == requests
+        && row.held.stamps == 0
+        && row.held.delta == 0
+        && row.held.rho == 0
+        && row.stop.is_none()
+}
+
+/// Whether the server has nothing left, and none of its workers stopped.
+fn is_server_done<T: Tag>(row: &ServerReport<T>) -> bool
+    ensures { IsTrue result ↔ IsServerDone row.now }
+{
+    row.left == 0 && row.held.reservation == 0 && row.held.priority == 0 && row.stops.is_empty()
+}
+
+/// Whether all was done.
+fn is_done<T: Tag>(scene: &Scene, report: &ClusterReport<T>) -> bool
+    requires { length report.now.clients.items ≡ length scene.now.clients }
+    ensures { IsTrue result ↔ IsDone scene.now report.now }
+{
+    if !are_clients_done(scene.clients(), &report.clients) {
+        return false;
+    }
+    are_servers_done(&report.servers)
+}
+
+/// Whether each of the servers is done.
+fn are_servers_done<T: Tag>(rows: &[ServerReport<T>]) -> bool
+    ensures { IsTrue result ↔ All IsServerDone rows.now }
+{
+    rows.iter().all(|row| is_server_done(row))
+}
+
+/// Whether each of the clients is done.
+fn are_clients_done(clients: &[SceneClient], rows: &[ClientReport]) -> bool
+    requires { length rows.now ≡ length clients.now }
+    ensures { IsTrue result ↔ AreClientsDone clients.now rows.now }
+{
+    for i in 0..clients.len() {
+        if !is_client_done(clients[i], &rows[i]) {
+            return false;
+        }
+    }
+    true
+}
+
+/// Whether a worker of the server took its last turn.
+fn ran_out_at<T: Tag>(row: &ServerReport<T>) -> bool
+    ensures { IsTrue result ↔ RanOutAt row.now }
+{
+    row.stops.iter().any(|cause| *cause == StopCause::Turns)
+}
+
+/// Whether some server's worker took its last turn.
+fn ran_out<T: Tag>(report: &ClusterReport<T>) -> bool
+    ensures { IsTrue result ↔ RanOut report.now }
+{
+    for i in 0..report.servers.len() {
+        if ran_out_at(&report.servers[i]) {
+            return true;
+        }
+    }
+    false
+}
+
+/// Whether no history has more events than the limits allow.
+fn are_within<T: Tag>(rows: &[ServerReport<T>], limits: Limits) -> bool
+    ensures { IsTrue result ↔ AreWithin limits.events rows.now }
+{
+    let most = limits.events() as usize;
+    rows.iter().all(|row| row.history.len() <= most)
+}
+
+/// The answer of a run with these limits, by its report.
+pub(crate) fn end<T: Tag>(
+    scene: &Scene,
+    limits: Limits,
+    report: ClusterReport<T>,
+) -> Result<ClusterReport<T>, DriveFault<T>>
+    requires { IsReport T.ops scene.now report }
+    ensures report { Reports T.ops scene.now result }
+    ensures ending { EndsSo scene.now result }
+    ensures histories { KeepsWithin limits.events result }
+{
+    if !are_within(&report.servers, limits) {
+        // The books were made with these limits.
+        return Err(DriveFault::Torn);
+    }
+    if is_done(scene, &report) {
+        Ok(report)
+    } else if ran_out(&report) {
+        Err(DriveFault::TurnsOut(report))
+    } else {
+        Err(DriveFault::Stopped(report))
+    }
+}

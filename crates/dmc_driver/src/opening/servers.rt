@@ -1,0 +1,275 @@
+//! The servers of a run, opened: their queues, at which every client is registered, and their workers.
+ghost use Rattle.std.specs.Prelude.{◌≡◌, ◌≤◌, length};
+
+use super::desks::QueueDesks;
+use crate::bell::Ringer;
+use crate::client_worker::ClientJob;
+use crate::fault::{OpenFault, of_new, of_register};
+use crate::limits::Limits;
+use crate::server_worker::ServerJob;
+use crate::threads::Senders;
+use dmc_book::book::QueueBook;
+use dmc_book::pass::WorkerPass;
+use dmc_book::settled::GrantsHeld;
+use dmc_heap::indexed_heap::HeapIndexes;
+use dmc_history::History;
+use dmc_ledger::mint::Mint;
+use dmc_ledger::setup::Setup;
+use dmc_qlock::lock::{Locked, QueueLock};
+use dmc_scene::client::SceneClient;
+use dmc_scene::scene::Scene;
+use dmc_settle::report::{ServerReport, StopCause};
+use dmc_tag::reply::Reply;
+use dmc_tag::tag::Tag;
+use dmc_types::command::Command;
+use dmc_types::ids::{ServerId, WorkerId};
+use dmc_types::moment::Moment;
+use std::alloc::{AllocError, Global};
+
+/// The servers of a run, and room for what their threads leave.
+#[derive(Drop)]
+pub(crate) struct OpenServers<T: Tag, S: Setup> {
+    pub(crate) queues: Vec<QueueLock<T, HeapIndexes, S>>,
+    pub(crate) jobs: Vec<ServerJob<S>>,
+    pub(crate) rows: Vec<ServerReport<T>>,
+    pub(crate) books: Vec<QueueBook<T, HeapIndexes, S>>,
+    pub(crate) passes: Vec<Vec<WorkerPass<S>>>,
+}
+
+/// How many workers the servers have.
+pub(crate) fn server_workers(scene: &Scene) -> usize
+    ensures { result ≤ 1024 }
+{
+    (scene.servers() * scene.workers()) as usize
+}
+
+/// No server yet, and room for those of a scene.
+pub(crate) fn no_servers<T: Tag, S: Setup>(
+    alloc: Global,
+    scene: &Scene,
+) -> Result<OpenServers<T, S>, AllocError> {
+    let servers = scene.servers() as usize;
+    Ok(OpenServers {
+        queues: Vec::with_capacity(alloc, servers)?,
+        jobs: Vec::with_capacity(alloc, server_workers(scene))?,
+        rows: Vec::with_capacity(alloc, servers)?,
+        books: Vec::with_capacity(alloc, servers)?,
+        passes: Vec::with_capacity(alloc, servers)?,
+    })
+}
+
+/// The desks of each server, none yet, and room for those of all clients.
+pub(crate) fn no_desks<S: Setup>(
+    alloc: Global,
+    scene: &Scene,
+) -> Result<Vec<QueueDesks<S>>, AllocError> {
+    let mut queues = Vec::with_capacity(alloc, scene.servers() as usize)?;
+    for server in 0..scene.servers() {
+        queues.push(QueueDesks::new(alloc, ServerId(server), scene.clients().len())?)?;
+    }
+    Ok(queues)
+}
+
+/// A server with its desks, the next of the cluster. Its worker 0, the first client's, registers every client.
+pub(crate) fn open_server<T: Tag, S: Setup>(
+    alloc: Global,
+    mint: &mut Mint<S>,
+    scene: &Scene,
+    limits: Limits,
+    desks: QueueDesks<S>,
+    senders: &mut Senders<S>,
+    servers: &mut OpenServers<T, S>,
+) -> Result<(), OpenFault> {
+    let server = desks.server;
+    let workers = enroll(alloc, scene, server)?;
+    let mut row = new_row(alloc, server, limits, workers.len())?;
+    let mut passes = open_queue(
+        alloc,
+        mint,
+        scene,
+        limits,
+        desks,
+        &workers,
+        &mut servers.queues,
+        &mut row.stops,
+    )?;
+    hand_to_server(
+        alloc,
+        scene,
+        server,
+        &mut passes,
+        senders,
+        &mut servers.jobs,
+    )?;
+    hand_to_clients(&mut passes, &mut senders.jobs)?;
+    servers.rows.push(row)?;
+    servers.passes.push(passes)?;
+    Ok(())
+}
+
+/// The workers that are enrolled at a server: those of all clients, and then its own.
+fn enroll(alloc: Global, scene: &Scene, server: ServerId) -> Result<Vec<WorkerId>, AllocError> {
+    let clients = scene.clients().len() as u32;
+    let workers = scene.workers();
+    let first = clients.saturating_add(server.0.saturating_mul(workers));
+    let mut ids = Vec::with_capacity(alloc, (clients + workers) as usize)?;
+    add_workers(0, clients, &mut ids)?;
+    add_workers(first, workers, &mut ids)?;
+    Ok(ids)
+}
+
+/// So many workers more, numbered from the first on.
+fn add_workers(first: u32, count: u32, ids: &mut Vec<WorkerId>) -> Result<(), AllocError> {
+    for worker in 0..count {
+        ids.push(WorkerId(first.saturating_add(worker)))?;
+    }
+    Ok(())
+}
+
+/// A server that did nothing yet, with room for a stop of each of its workers.
+fn new_row<T: Tag>(
+    alloc: Global,
+    server: ServerId,
+    limits: Limits,
+    stops: usize,
+) -> Result<ServerReport<T>, AllocError> {
+    let stops = Vec::with_capacity(alloc, stops)?;
+    Ok(ServerReport {
+        server,
+        reservation: 0,
+        priority: 0,
+        left: 0,
+        held: GrantsHeld {
+            reservation: 0,
+            priority: 0,
+        },
+        history: History::new(alloc, limits.events()).unwrap(),
+        stops,
+    })
+}
+
+/// A server's queue behind its lock, with every client registered, and the passes of its workers. What the queue refuses is put
+/// among the stops.
+fn open_queue<T: Tag, S: Setup>(
+    alloc: Global,
+    mint: &mut Mint<S>,
+    scene: &Scene,
+    limits: Limits,
+    desks: QueueDesks<S>,
+    workers: &[WorkerId],
+    queues: &mut Vec<QueueLock<T, HeapIndexes, S>>,
+    stops: &mut Vec<StopCause>,
+) -> Result<Vec<WorkerPass<S>>, OpenFault> {
+    if workers.len() > 65_536 {
+        return Err(OpenFault::Torn);
+    }
+    let QueueDesks { server, desks } = desks;
+    let most = limits.events();
+    match QueueBook::new(alloc, scene.config(), server, workers, desks, mint, most) {
+        Ok((mut book, mut passes)) => {
+            let registered = register_all(&mut book, &mut passes, scene.clients(), stops);
+            let kept = queues.push(Locked::new(book));
+            registered?;
+            kept?;
+            Ok(passes)
+        }
+        Err(fault) => Err(of_new(fault.cause)),
+    }
+}
+
+/// Registers the clients by the first of the passes.
+fn register_all<T: Tag, S: Setup>(
+    book: &mut QueueBook<T, HeapIndexes, S>,
+    passes: &mut [WorkerPass<S>],
+    clients: &[SceneClient],
+    stops: &mut Vec<StopCause>,
+) -> Result<(), OpenFault> {
+    let Some(pass) = passes.first_mut() else {
+        return Err(OpenFault::Torn);
+    };
+    for client in clients {
+        register(book, pass, *client, stops)?;
+    }
+    Ok(())
+}
+
+/// Registers a client at moment 0.
+fn register<T: Tag, S: Setup>(
+    book: &mut QueueBook<T, HeapIndexes, S>,
+    pass: &mut WorkerPass<S>,
+    client: SceneClient,
+    stops: &mut Vec<StopCause>,
+) -> Result<(), OpenFault> {
+    let command = Command::Register {
+        client: client.id(),
+        info: client.info(),
+        at: Moment::zero(),
+    };
+    match book.run(pass, command) {
+        Ok(Reply::Refused(refusal)) => {
+            stops.push(StopCause::Refused(refusal))?;
+            Ok(())
+        }
+        Ok(_) => Ok(()),
+        Err(fault) => Err(of_register(fault)),
+    }
+}
+
+/// Hands the last passes to the workers of a server.
+fn hand_to_server<S: Setup>(
+    alloc: Global,
+    scene: &Scene,
+    server: ServerId,
+    passes: &mut Vec<WorkerPass<S>>,
+    senders: &mut Senders<S>,
+    jobs: &mut Vec<ServerJob<S>>,
+) -> Result<(), OpenFault> {
+    for _ in 0..scene.workers() {
+        let Some(pass) = passes.pop() else {
+            return Err(OpenFault::Torn);
+        };
+        jobs.push(new_job(alloc, server, pass, &mut senders.ringers)?)?;
+    }
+    Ok(())
+}
+
+/// The worker of a server, with a ringer at each client's door.
+fn new_job<S: Setup>(
+    alloc: Global,
+    server: ServerId,
+    pass: WorkerPass<S>,
+    ringers: &mut [Ringer],
+) -> Result<ServerJob<S>, AllocError> {
+    let failures = vec![in alloc; 0u64; ringers.len()]?;
+    let ringers = more_ringers(alloc, ringers)?;
+    Ok(ServerJob {
+        server,
+        pass,
+        ringers,
+        failures,
+        stop: Some(StopCause::Spawn),
+    })
+}
+
+/// One ringer more at each door.
+fn more_ringers(alloc: Global, ringers: &mut [Ringer]) -> Result<Vec<Ringer>, AllocError> {
+    let mut more = Vec::with_capacity(alloc, ringers.len())?;
+    for ringer in ringers.iter_mut() {
+        more.push(ringer.another()?)?;
+    }
+    Ok(more)
+}
+
+/// Hands the passes to the workers of the clients, in order.
+fn hand_to_clients<S: Setup>(
+    passes: &mut Vec<WorkerPass<S>>,
+    jobs: &mut [ClientJob<S>],
+) -> Result<(), OpenFault> {
+    for job in jobs.iter_mut().rev() {
+        let Some(pass) = passes.pop() else {
+            return Err(OpenFault::Torn);
+        };
+        job.passes.push(pass)?;
+    }
+    Ok(())
+}

@@ -1,0 +1,125 @@
+//! A scene that is run in threads, and its report.
+ghost use Rattle.std.specs.Prelude.{◌≡◌};
+ghost use Rattle.dmc_run.specs.Runs.{RunsOn, RunsScene, Tells, TellsFault};
+ghost use Rattle.dmc_run.specs.declared.run.RunSceneFault.TheVariants.{Memory};
+
+use crate::text::report_text;
+use crate::verdicts::check_all;
+use dmc_check::text::send;
+use dmc_driver::fault::DriveFault;
+use dmc_driver::moments::StepClock;
+use dmc_driver::run::run_cluster;
+use dmc_driver::service::{Job, ServeFault, Service};
+use dmc_ratio::ratio::RatioTag;
+use dmc_scene::scene::Scene;
+use dmc_settle::report::ClusterReport;
+use dmc_tag::tag::Tag;
+use dmc_tick::tick::TickTag;
+use dmc_types::config::{QueueConfig, TagKind};
+use std::alloc::{AllocError, Global};
+use std::io::Write;
+use std::sync::Wait;
+use std::thread::Threads;
+
+/// Why a run did not end with all of it done and told.
+#[derive(Clone, Copy, Debug, PartialEq, Eq)]
+pub enum RunSceneFault {
+    /// The allocator refused a growth, before any thread was started or for the report's text.
+    Memory,
+    /// What was set up and what came back are of different set-ups.
+    Torn,
+    /// The report can't be written.
+    Write,
+    /// The report is written: not all was done, and some worker took its last turn.
+    TurnsOut,
+    /// The report is written: not all was done, and no worker took its last turn.
+    Stopped,
+}
+
+impl From<AllocError> for RunSceneFault {
+    ghost from_gives = { λ _ fault. fault ≡ Memory };
+
+    fn from(_: AllocError) -> RunSceneFault {
+        RunSceneFault::Memory
+    }
+}
+
+/// A service that does each job by doing nothing.
+struct NoService;
+
+impl Service for NoService {
+    fn serve(&self, _job: &Job) -> Result<(), ServeFault> {
+        Ok(())
+    }
+}
+
+/// Runs a scene in threads, at the moments of a clock that goes on by the scene's step, and writes the report.
+pub fn run_scene<R: Threads + Wait + Sync, W: Write>(
+    rt: &R,
+    alloc: Global,
+    scene: &Scene,
+    writer: &mut W,
+) -> Result<(), RunSceneFault>
+    ensures { RunsScene scene.now (W.contents writer.old) (W.contents writer.new) result }
+{
+    match scene.tags() {
+        TagKind::Tick => run_on::<TickTag, R, W>(rt, alloc, scene, writer),
+        TagKind::Ratio => run_on::<RatioTag, R, W>(rt, alloc, scene, writer),
+    }
+}
+
+/// Runs a scene on tags of this type.
+fn run_on<T: Tag + Send + Sync, R: Threads + Wait + Sync, W: Write>(
+    rt: &R,
+    alloc: Global,
+    scene: &Scene,
+    writer: &mut W,
+) -> Result<(), RunSceneFault>
+    ensures { RunsOn T.ops scene.now (W.contents writer.old) (W.contents writer.new) result }
+{
+    let clock = StepClock::new(scene.step());
+    match run_cluster::<T, R, NoService, StepClock>(rt, alloc, scene, &NoService, &clock) {
+        Ok(report) => tell(alloc, scene.config(), &report, writer),
+        Err(fault) => tell_fault(alloc, scene.config(), fault, writer),
+    }
+}
+
+/// Writes the report of a run that was not done, if it has one, and tells why it was not.
+fn tell_fault<T: Tag, W: Write>(
+    alloc: Global,
+    config: QueueConfig,
+    fault: DriveFault<T>,
+    writer: &mut W,
+) -> Result<(), RunSceneFault>
+    ensures { TellsFault T.ops config fault (W.contents writer.old) (W.contents writer.new) result }
+{
+    match fault {
+        DriveFault::Memory => Err(RunSceneFault::Memory),
+        DriveFault::Torn => Err(RunSceneFault::Torn),
+        DriveFault::TurnsOut(report) => {
+            tell(alloc, config, &report, writer)?;
+            Err(RunSceneFault::TurnsOut)
+        }
+        DriveFault::Stopped(report) => {
+            tell(alloc, config, &report, writer)?;
+            Err(RunSceneFault::Stopped)
+        }
+    }
+}
+
+/// Writes the text of a report.
+fn tell<T: Tag, W: Write>(
+    alloc: Global,
+    config: QueueConfig,
+    report: &ClusterReport<T>,
+    writer: &mut W,
+) -> Result<(), RunSceneFault>
+    ensures { Tells T.ops config report.now (W.contents writer.old) (W.contents writer.new) result }
+{
+    let verdicts = check_all(alloc, config, &report.servers)?;
+    let text = report_text(alloc, report, &verdicts)?;
+    if !send(text.as_bytes(), writer) {
+        return Err(RunSceneFault::Write);
+    }
+    Ok(())
+}

@@ -1,0 +1,4 @@
+//! Tests of settling two servers and two clients.
+mod playing;
+mod settling;
+mod setup;

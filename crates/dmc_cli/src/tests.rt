@@ -99,12 +99,13 @@ fn calls_for_help(rt: HostRuntime) -> Result<(), Fail> {
     Ok(())
 }
 
-// A command that is not written yet is refused as if it were unknown.
+// A run takes no option: its tags are those of the scene.
 #[test]
 fn words_of_a_run(rt: HostRuntime) -> Result<(), Fail> {
     let alloc = rt.alloc();
     let run = tool(ToolCommand::Run, TagKind::Tick);
     assert_eq!(rt; ask(alloc, ["run"].as_slice())?, run);
+    assert_eq!(rt; ask(alloc, ["run", "--tags", "tick"].as_slice())?, None);
     Ok(())
 }
 

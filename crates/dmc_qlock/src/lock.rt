@@ -44,13 +44,20 @@ impl<T: Tag, I: Indexes<T>, S: Setup> OfServer for QueueBook<T, I, S> {
     }
 }
 
+/// What the lock guards: a book, and how many threads are in a pull that waits.
+#[derive(Drop)]
+struct Guarded<B> {
+    book: B,
+    waiting: u64,
+}
+
 /// A book that threads share. Contracts see whose it is. It is generic in the book, since generic code may not hand on by value
 /// what is generic in indexes, but for what stands behind a type parameter.
 #[derive(Drop)]
 pub struct Locked<B> {
     server: ServerId,
-    book: Mutex<B>,
-    // Notified where a request is queued, and where the book is closed.
+    guarded: Mutex<Guarded<B>>,
+    // Notified where something is queued and a thread waits, and where the book is closed.
     changed: Condvar,
 }
 
@@ -73,7 +80,7 @@ impl<B: OfServer> Locked<B> {
     {
         Locked {
             server: book.its_server(),
-            book: Mutex::new(book),
+            guarded: Mutex::new(Guarded { book, waiting: 0 }),
             changed: Condvar::new(),
         }
     }
@@ -89,8 +96,16 @@ impl<B> Locked<B> {
 
     /// The book, once no thread shares the lock. What it keeps the laws of dmc_book tell.
     pub fn into_book(self) -> B {
-        let Locked { book, .. } = self;
-        book.into_inner()
+        let Locked { guarded, .. } = self;
+        let Guarded { book, .. } = guarded.into_inner();
+        book
+    }
+}
+
+impl<T: Tag, I: Indexes<T>, S: Setup> Guarded<QueueBook<T, I, S>> {
+    /// Whether a thread that waits can pull now.
+    fn must_wake(&self) -> bool {
+        self.waiting > 0 && !pulling::must_wait(&self.book)
     }
 }
 
@@ -111,11 +126,11 @@ impl<T: Tag, I: Indexes<T>, S: Setup> Locked<QueueBook<T, I, S>> {
         ensures kept { OnErr result (pass_state pass.new ≡ pass_state pass.old) }
         ensures no_desk { IsErrOf result RunFault.NoDesk → registers command ≡ true }
     {
-        self.book.lock(rt).run(pass, command)
+        self.guarded.lock(rt).book.run(pass, command)
     }
 
     /// Queues a stamped request for its client, and answers its tags. The pass has one call and the token more, and the tills
-    /// one stamp, its delta and its rho less. It wakes who waits for a request.
+    /// one stamp, its delta and its rho less. It wakes a thread that waits for a request.
     ///
     /// Refused `Stranger` (where the stamp names another server, before the lock is taken), `Closed`, `HistoryFull`, `Memory`,
     /// or as the queue refuses an add; this last is recorded, and the pass has one call and one miss more. Nothing else moves.
@@ -144,10 +159,12 @@ impl<T: Tag, I: Indexes<T>, S: Setup> Locked<QueueBook<T, I, S>> {
                 cause: SubmitCause::Stranger,
             });
         }
-        let answer = self.book.lock(rt).submit(pass, tills, stamp, token, at);
-        if answer.is_ok() {
-            // All: a pull may leave the request queued, and then nobody is to wait.
-            self.changed.notify_all();
+        let mut guarded = self.guarded.lock(rt);
+        let answer = guarded.book.submit(pass, tills, stamp, token, at);
+        let wakes = guarded.must_wake();
+        drop(guarded);
+        if wakes {
+            self.changed.notify_one();
         }
         answer
     }
@@ -163,10 +180,11 @@ impl<T: Tag, I: Indexes<T>, S: Setup> Locked<QueueBook<T, I, S>> {
     ) -> Result<Pulled, RunOrRange>
         ensures { PullAnswered T.ops (pass_state pass.old) (pass_state pass.new) at result }
     {
-        pulling::pull(&mut *self.book.lock(rt), pass, at)
+        pulling::pull(&mut self.guarded.lock(rt).book, pass, at)
     }
 
-    /// Waits, recording nothing, while nothing is queued and the book isn't closed, and then pulls once.
+    /// Waits, recording nothing, while nothing is queued and the book isn't closed, and then pulls once. Where something is
+    /// still queued, it wakes the next thread that waits.
     pub fn pull_or_wait<R: Wait>(
         &self,
         rt: &R,
@@ -175,11 +193,19 @@ impl<T: Tag, I: Indexes<T>, S: Setup> Locked<QueueBook<T, I, S>> {
     ) -> Result<Pulled, RunOrRange>
         ensures { PullAnswered T.ops (pass_state pass.old) (pass_state pass.new) at result }
     {
-        let free = self.book.lock(rt);
-        let mut book = self
+        let mut free = self.guarded.lock(rt);
+        free.waiting = free.waiting.saturating_add(1);
+        let mut guarded = self
             .changed
-            .wait_while(rt, free, |book| pulling::must_wait(book));
-        pulling::pull_waited(&mut *book, pass, at)
+            .wait_while(rt, free, |guarded| pulling::must_wait(&guarded.book));
+        guarded.waiting = guarded.waiting.saturating_sub(1);
+        let answer = pulling::pull_waited(&mut guarded.book, pass, at);
+        let wakes = guarded.must_wake();
+        drop(guarded);
+        if wakes {
+            self.changed.notify_one();
+        }
+        answer
     }
 
     /// What the pass holds of the worker's counts, and how the book stands; refused `Stranger` alone.
@@ -187,12 +213,12 @@ impl<T: Tag, I: Indexes<T>, S: Setup> Locked<QueueBook<T, I, S>> {
         ensures held { IfOk result (λ status. IsStatusOf (pass_state pass.now).tills status) }
         ensures stranger { IfErr result (λ fault. fault ≡ RunFault.Stranger) }
     {
-        self.book.lock(rt).status(pass)
+        self.guarded.lock(rt).book.status(pass)
     }
 
     /// Takes no more requests from now on, and wakes who waits for one. What is queued is still granted.
     pub fn close<R: Wait>(&self, rt: &R) {
-        self.book.lock(rt).close();
+        self.guarded.lock(rt).book.close();
         self.changed.notify_all();
     }
 }

@@ -1,5 +1,6 @@
 -- What contracts see of a queue's book and of a worker's pass.
 use Rattle.std.specs.Prelude.{ℕ, Bool, List, map}
+use Rattle.std.specs.Arc.{arc_value}
 use Rattle.dmc_types.specs.Values.{Setting}
 use Rattle.dmc_types.specs.declared.ids.ClientId.{ClientId}
 use Rattle.dmc_tag.specs.declared.event.Event.{Event}
@@ -66,7 +67,7 @@ module _ {S : Type 0} where
     worker = p.worker.0;
     place = p.place;
     tills = worker_holdings p.tills;
-    clients = p.clients.keys;
+    clients = (arc_value p.clients).keys;
     units = map grant_holdings p.units.items;
   }
 

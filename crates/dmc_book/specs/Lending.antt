@@ -1,5 +1,6 @@
 -- What a pass lends, and what it is once that came back.
 use Rattle.std.specs.Prelude.{ℕ, ◌==◌, Option, Some, None, slice_get}
+use Rattle.std.specs.Arc.{arc_value}
 use Rattle.std.specs.List.{position}
 use Rattle.std.specs.Option.{option_map, option_and_then}
 use Rattle.std.specs.Vec.{with_item}
@@ -36,4 +37,4 @@ module _ {S : Type 0} where
 
   -- the pass, with the client's till of the phase given back as `till`, and all else as it was
   abbrev pub given_back : WorkerPass S → ClientId → PhaseType → Holding → WorkerPass S
-  given_back p client phase till = given_back_at p phase till (position (λ k. client.0 == k.0) p.clients.keys)
+  given_back p client phase till = given_back_at p phase till (position (λ k. client.0 == k.0) (arc_value p.clients).keys)

@@ -1,6 +1,7 @@
 //! What a queue's book opens with.
 ghost use Rattle.std.specs.Prelude.{◌≡◌, ◌+◌, ◌-◌, ◌*◌, ◌<◌, ◌≤◌, ◌↔◌, ℕ, [], length, map, vec_capacity, slice_index_or, IfOk, OnOk, IfSome, IsSome, IsTrue, IsErrOf};
 ghost use Rattle.std.specs.List.{AllByRecursion};
+ghost use Rattle.std.specs.Arc.{arc_value};
 ghost use Rattle.dmc_ledger.specs.Accounts.{new_book, new_till};
 ghost use Rattle.dmc_ledger.specs.Bundles.{client_side, grant_holdings};
 ghost use Rattle.dmc_book.specs.BookState.{pass_state, worker_accounts, worker_holdings, worker_side, no_desk};
@@ -22,6 +23,7 @@ use dmc_tag::tag::Tag;
 use dmc_types::ids::{ClientId, WorkerId};
 use indexmap::IndexSet;
 use std::alloc::{AllocError, Global};
+use std::sync::Arc;
 
 /// The most desks that a book has.
 const MOST_DESKS: usize = 65_536;
@@ -56,21 +58,21 @@ fn are_apart(alloc: Global, workers: &[WorkerId]) -> Result<bool, AllocError>
     Ok(true)
 }
 
-/// Room for a pass: the names of the clients, and no till yet.
+/// Room for a pass: the names of the clients, which the passes share, and no till yet.
 #[derive(Drop)]
 pub(crate) struct PassRoom<S: Setup> {
-    pub(crate) clients: IndexSet<ClientId>,
+    pub(crate) clients: Arc<IndexSet<ClientId>, Global>,
     pub(crate) units: Vec<GrantTills<S>>,
 }
 
-fn room_for<S: Setup>(alloc: Global, desks: &[ClientDesk<S>]) -> Result<PassRoom<S>, AllocError>
-    requires { AreApart (λ d. d.client) (map client_side desks.now) }
-    ensures { IfOk result (IsRoom (map (λ d. d.client) desks.now)) }
+fn room_for<S: Setup>(
+    alloc: Global,
+    clients: &Arc<IndexSet<ClientId>, Global>,
+) -> Result<PassRoom<S>, AllocError>
+    ensures { IfOk result (IsRoom (arc_value clients.now).keys) }
 {
-    let units = Vec::with_capacity(alloc, desks.len())?;
-    let Some(clients) = name_clients(alloc, desks)? else {
-        unreachable!()
-    };
+    let units = Vec::with_capacity(alloc, clients.len())?;
+    let clients = Arc::try_clone(clients)?;
     Ok(PassRoom { clients, units })
 }
 
@@ -84,9 +86,13 @@ fn rooms_for<S: Setup>(
     ensures rooms { IfOk result (λ rooms. AllByRecursion (IsRoom (map (λ d. d.client) desks.now)) rooms.items) }
     ensures as_many { IfOk result (λ rooms. length rooms.items ≡ workers) }
 {
+    let Some(clients) = name_clients(alloc, desks)? else {
+        unreachable!()
+    };
+    let clients = Arc::new(alloc, clients)?;
     let mut rooms = Vec::with_capacity(alloc, workers)?;
     for _ in 0..workers {
-        let room = room_for(alloc, desks)?;
+        let room = room_for(alloc, &clients)?;
         rooms.push(room)?;
     }
     Ok(rooms)
@@ -274,7 +280,7 @@ fn open_one<S: Setup>(
     requires empty { length room.units.items ≡ 0 }
     requires room { length desks.old ≤ vec_capacity room.units }
     ensures seat { worker_side result.0 ≡ new_worker mint.old.opened worker }
-    ensures pass { pass_state result.1 ≡ new_pass place mint.old.opened room.clients.keys (map client_side desks.old) worker }
+    ensures pass { pass_state result.1 ≡ new_pass place mint.old.opened (arc_value room.clients).keys (map client_side desks.old) worker }
     ensures desks { map client_side desks.new ≡ map (desk_with_tills 1) (map client_side desks.old) }
     ensures mint { mint.new ≡ record { opened = mint.old.opened + 5; left = mint.old.left - 5 } }
 {

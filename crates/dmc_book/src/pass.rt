@@ -17,6 +17,8 @@ use dmc_ledger::till::Till;
 use dmc_types::config::PhaseType;
 use dmc_types::ids::{ClientId, WorkerId};
 use indexmap::IndexSet;
+use std::alloc::Global;
+use std::sync::Arc;
 
 /// A worker's tills: five of its own counts, and for each client with a desk one for the grants of each phase.
 ///
@@ -28,7 +30,8 @@ pub struct WorkerPass<S: Setup> {
     // Where the worker is in the book.
     pub(crate) place: usize,
     pub(crate) tills: WorkerTills<S>,
-    pub(crate) clients: IndexSet<ClientId>,
+    // The names of the desks, in order. The passes share them.
+    pub(crate) clients: Arc<IndexSet<ClientId>, Global>,
     pub(crate) units: Vec<GrantTills<S>>,
 }
 

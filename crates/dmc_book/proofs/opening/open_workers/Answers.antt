@@ -1,5 +1,6 @@
 use Rattle.std.proofs.Common.{◌≡◌, ◌+◌, ◌*◌, ◌<◌, List, [], ◌∷◌, ◌++◌, length, map, get_or, sym, ap, ◌∙◌, arith, rules}
 use Rattle.std.proofs.lemmas.List.{get_or_default, length-append, length-map, map-append, take_all}
+use Rattle.std.specs.Arc.{arc_value}
 use Rattle.dmc_types.specs.declared.ids.ClientId.{ClientId}
 use Rattle.dmc_types.specs.declared.ids.WorkerId.{WorkerId}
 use Rattle.dmc_ledger.specs.Bundles.{ClientSide, client_side}
@@ -43,8 +44,8 @@ loop-place-preserved g c =
     let seat : worker_side c.open_one-seat.result.0 ≡ new_worker (c.args.mint.now.opened + 5 * i) w =
     c.open_one-seat.ensures.seat ∙ ap (λ n. new_worker n w) inv.opened in
     let pass : pass_state c.open_one-seat.result.1 ≡ new_pass i (c.args.mint.now.opened + 5 * i) names start w =
-    c.open_one-seat.ensures.pass ∙ ap (λ n. new_pass i n c.in-Some.room.clients.keys (map client_side c.loop-place.desks) w) inv.opened
-    ∙ pass_as i (c.args.mint.now.opened + 5 * i) i c.in-Some.room.clients.keys names (map client_side c.loop-place.desks) start w left.1.named inv.desks in
+    c.open_one-seat.ensures.pass ∙ ap (λ n. new_pass i n (arc_value c.in-Some.room.clients).keys (map client_side c.loop-place.desks) w) inv.opened
+    ∙ pass_as i (c.args.mint.now.opened + 5 * i) i (arc_value c.in-Some.room.clients).keys names (map client_side c.loop-place.desks) start w left.1.named inv.desks in
     record {
       rooms = left.0;
       rooms_left = omega (arith, fewer, inv.rooms_left);

@@ -3,6 +3,7 @@ use Rattle.dmc_ledger.specs.Bundles.{client_side, grant_holdings}
 use Rattle.dmc_ledger.specs.declared.desk.ClientDesk.{ClientDesk}
 use Rattle.dmc_pull.specs.Queue as queue
 use Rattle.std.specs.Prelude.{IsErrOf}
+use Rattle.std.specs.Arc.{arc_value}
 use Rattle.dmc_book.specs.declared.fault.RunFault.TheVariants as run
 use Rattle.dmc_book.specs.BookState.{BookState, worker_side, pass_state}
 use Rattle.dmc_book.specs.Calls.{Asks, Strays, reply_to, event_of}
@@ -49,10 +50,10 @@ returns-in_err-reserve_one-clause-history_full g c =
 
 pub invariant_of-self-in_err-reply : goal.invariant_of-self-in_err-reply
 invariant_of-self-in_err-reply g c =
-    let asks = takes (map client_side c.self.inside.desks.items) c.args.pass.now.clients.keys (map grant_holdings c.args.pass.now.units.items) in
+    let asks = takes (map client_side c.self.inside.desks.items) (arc_value c.args.pass.now.clients).keys (map grant_holdings c.args.pass.now.units.items) in
     let order = tag_order g.T.Ord.cmp g.T.Tag.ops.compare g.met.T.Ord.total g.met.T.Tag.compares in
     let desks_are : c.deref-2.result.now ≡ c.self.inside.desks.items = search rules in
-    let answer = subst (λ ds. Asks g.T.Tag.ops (takes (map client_side ds) c.args.pass.now.clients.keys (map grant_holdings c.args.pass.now.units.items)) (queue.state_of c.self.inside.queue.0) (queue.state_of c.ask.new.queue) c.args.command c.ask.result) desks_are c.ask.ensures in
+    let answer = subst (λ ds. Asks g.T.Tag.ops (takes (map client_side ds) (arc_value c.args.pass.now.clients).keys (map grant_holdings c.args.pass.now.units.items)) (queue.state_of c.self.inside.queue.0) (queue.state_of c.ask.new.queue) c.args.command c.ask.result) desks_are c.ask.ensures in
     let asked = subst (Asks g.T.Tag.ops asks (queue.state_of c.self.inside.queue.0) (queue.state_of c.ask.new.queue) c.args.command) c.in_err-reply.was answer in
     rw (c.reserve_one.ensures.events, c.reserve_one.ensures.most) (
       consistent_unasked g.T.Tag.ops order asks (queue.state_of c.self.inside.queue.0) (queue.state_of c.ask.new.queue) _ c.args.command c.self.invariant.0 c.in_err-reply.field-0.0 asked,
@@ -61,23 +62,23 @@ invariant_of-self-in_err-reply g c =
 
 pub returns-in_err-reply-clause-strays : goal.returns-in_err-reply-clause-strays
 returns-in_err-reply-clause-strays g c =
-    let asks = takes (map client_side c.self.inside.desks.items) c.args.pass.now.clients.keys (map grant_holdings c.args.pass.now.units.items) in
+    let asks = takes (map client_side c.self.inside.desks.items) (arc_value c.args.pass.now.clients).keys (map grant_holdings c.args.pass.now.units.items) in
     let order = tag_order g.T.Ord.cmp g.T.Tag.ops.compare g.met.T.Ord.total g.met.T.Tag.compares in
     let is = cause_is c.from_residual-in_err-reply.result _ c.from_residual-in_err-reply.ensures.1 in
     let desks_are : c.deref-2.result.now ≡ c.self.inside.desks.items = search rules in
-    let answer = subst (λ ds. Asks g.T.Tag.ops (takes (map client_side ds) c.args.pass.now.clients.keys (map grant_holdings c.args.pass.now.units.items)) (queue.state_of c.self.inside.queue.0) (queue.state_of c.ask.new.queue) c.args.command c.ask.result) desks_are c.ask.ensures in
+    let answer = subst (λ ds. Asks g.T.Tag.ops (takes (map client_side ds) (arc_value c.args.pass.now.clients).keys (map grant_holdings c.args.pass.now.units.items)) (queue.state_of c.self.inside.queue.0) (queue.state_of c.ask.new.queue) c.args.command c.ask.result) desks_are c.ask.ensures in
     let asked = subst (Asks g.T.Tag.ops asks (queue.state_of c.self.inside.queue.0) (queue.state_of c.ask.new.queue) c.args.command) c.in_err-reply.was answer in
-    subst (λ (b : BookState g.row.T.Denot). IsErrOf c.from_residual-in_err-reply.result run.Stranger → IsEnrolled b.workers (pass_state c.args.pass.now) → Strays (takes b.desks c.args.pass.now.clients.keys (map grant_holdings c.args.pass.now.units.items)) c.args.command (reply_to g.T.Tag.ops b c.args.command)) c.self.view_is (λ h enrolled. strays_by_history g.T.Tag.ops order asks (queue.state_of c.self.inside.queue.0) (queue.state_of c.ask.new.queue) _ c.args.command c.self.invariant.0
+    subst (λ (b : BookState g.row.T.Denot). IsErrOf c.from_residual-in_err-reply.result run.Stranger → IsEnrolled b.workers (pass_state c.args.pass.now) → Strays (takes b.desks (arc_value c.args.pass.now.clients).keys (map grant_holdings c.args.pass.now.units.items)) c.args.command (reply_to g.T.Tag.ops b c.args.command)) c.self.view_is (λ h enrolled. strays_by_history g.T.Tag.ops order asks (queue.state_of c.self.inside.queue.0) (queue.state_of c.ask.new.queue) _ c.args.command c.self.invariant.0
     (subst (λ e. Asks g.T.Tag.ops asks (queue.state_of c.self.inside.queue.0) (queue.state_of c.ask.new.queue) c.args.command (Err e)) (same_cause _ _ (sym is ∙ h)) asked))
 
 pub returns-in_err-reply-clause-no_desk : goal.returns-in_err-reply-clause-no_desk
 returns-in_err-reply-clause-no_desk g c =
     let here = c.self.inside in
-    let asks = takes (map client_side here.desks.items) c.args.pass.now.clients.keys (map grant_holdings c.args.pass.now.units.items) in
+    let asks = takes (map client_side here.desks.items) (arc_value c.args.pass.now.clients).keys (map grant_holdings c.args.pass.now.units.items) in
     let lacks = sym (lacks_agree here.clients.keys here.desks.items c.self.invariant.1 c.args.command) ∙ sym c.lacks_desk_for.ensures ∙ c.if-lacks_desk_for.false in
     let is = cause_is c.from_residual-in_err-reply.result _ c.from_residual-in_err-reply.ensures.1 in
     let desks_are : c.deref-2.result.now ≡ c.self.inside.desks.items = search rules in
-    let answer = subst (λ ds. Asks g.T.Tag.ops (takes (map client_side ds) c.args.pass.now.clients.keys (map grant_holdings c.args.pass.now.units.items)) (queue.state_of c.self.inside.queue.0) (queue.state_of c.ask.new.queue) c.args.command c.ask.result) desks_are c.ask.ensures in
+    let answer = subst (λ ds. Asks g.T.Tag.ops (takes (map client_side ds) (arc_value c.args.pass.now.clients).keys (map grant_holdings c.args.pass.now.units.items)) (queue.state_of c.self.inside.queue.0) (queue.state_of c.ask.new.queue) c.args.command c.ask.result) desks_are c.ask.ensures in
     let asked = subst (Asks g.T.Tag.ops asks (queue.state_of c.self.inside.queue.0) (queue.state_of c.ask.new.queue) c.args.command) c.in_err-reply.was answer in
     rw (← c.self.view_is) (
       (λ h. absurd (subst (λ e. Asks g.T.Tag.ops asks (queue.state_of c.self.inside.queue.0) (queue.state_of c.ask.new.queue) c.args.command (Err e)) (same_cause _ _ (sym is ∙ h)) asked)),
@@ -111,7 +112,7 @@ invariant_of-self-2 g c =
     let most : c.push_reserved.new.self.most ≡ c.self.inside.history.most = c.push_reserved.ensures.most ∙ c.in_ok-reserve_one.ensures.most in
     let desks_are : c.deref-2.result.now ≡ c.self.inside.desks.items = search rules in
     let has_desk = subst (λ (ds : List (ClientDesk g.row.S.Denot)). HasDesk (map client_side ds) (grant_in c.in_ok-reply.reply)) desks_are
-    (taken_has_desk (map client_side c.deref-2.result.now) c.args.pass.now.clients.keys (map grant_holdings c.args.pass.now.units.items) c.in_ok-reply.reply c.in_ok-reply.ensures.1) in
+    (taken_has_desk (map client_side c.deref-2.result.now) (arc_value c.args.pass.now.clients).keys (map grant_holdings c.args.pass.now.units.items) c.in_ok-reply.reply c.in_ok-reply.ensures.1) in
     rw (events, most, c.count.ensures.workers, c.hand_out.ensures.desks) (
       consistent_more g.T.Tag.ops (queue.state_of c.self.inside.queue.0) (queue.state_of c.ask.new.queue) _ e c.count.ensures.small has_desk c.self.invariant.0 c.in_ok-reply.ensures.0,
       c.self.invariant.1 ∙ sym c.hand_out.ensures.names,

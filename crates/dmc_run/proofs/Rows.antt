@@ -1,5 +1,5 @@
 -- Rows one by one.
-use Rattle.std.proofs.Common.{◌≡◌, ◌<◌, ◌+◌, ◌++◌, ◌∷◌, [], List, length, take, get_or, ℕ, zero, suc, refl, ap, sym, ◌∙◌, arith}
+use Rattle.std.proofs.Common.{◌≡◌, ◌<◌, ◌+◌, ◌++◌, ◌∷◌, [], List, length, take, get_or, ℕ, zero, suc, refl, ap, sym, ◌∙◌, subst, arith}
 use Rattle.std.proofs.lemmas.List.{append-nil, append_assoc}
 use Rattle.dmc_types.specs.Values.{Setting}
 use Rattle.dmc_tag.specs.Tag.{Tagging}
@@ -10,12 +10,21 @@ use Rattle.dmc_run.specs.Verdicts.{AreVerdicts}
 use Rattle.dmc_run.specs.Texts.{server_line, server_lines}
 
 -- one verdict more
-pub verdicts_more : {T : Type 0} (ops : Tagging T) (config : Setting) (ss : List (ServerReport T)) (vs : List Verdict) (s : ServerReport T) (v : Verdict)
-    → AreVerdicts ops config ss vs → IsVerdict ops config s.history.events v → AreVerdicts ops config (ss ++ s ∷ []) (vs ++ v ∷ [])
-verdicts_more ops config [] [] s v are is = (is, tt)
-verdicts_more ops config [] (w ∷ vs) s v are is = absurd are
-verdicts_more ops config (t ∷ ss) [] s v are is = absurd are
-verdicts_more ops config (t ∷ ss) (w ∷ vs) s v are is = (are.0, verdicts_more ops config ss vs s v are.1 is)
+verdicts_suc : {T : Type 0} (ops : Tagging T) (config : Setting) (ss : List (ServerReport T)) (vs : List Verdict) (i : ℕ) (v : Verdict) → i < length ss
+    → ((s : ServerReport T) → IsVerdict ops config (get_or ss i s).history.events v) → AreVerdicts ops config (take i ss) vs
+    → AreVerdicts ops config (take (suc i) ss) (vs ++ v ∷ [])
+verdicts_suc ops config [] vs i v below is are = absurd (omega (arith, below))
+verdicts_suc ops config (s ∷ ss) [] zero v below is are = (is s, tt)
+verdicts_suc ops config (s ∷ ss) (w ∷ vs) zero v below is are = absurd are
+verdicts_suc ops config (s ∷ ss) [] (suc i) v below is are = absurd are
+verdicts_suc ops config (s ∷ ss) (w ∷ vs) (suc i) v below is are = (are.0, verdicts_suc ops config ss vs i v (omega (arith, below)) is are.1)
+
+pub verdicts_more : {T : Type 0} (ops : Tagging T) (config : Setting) (ss : List (ServerReport T)) (vs : List Verdict) (i : ℕ) (v : Verdict) → i < length ss
+    → ((s : ServerReport T) → IsVerdict ops config (get_or ss i s).history.events v) → AreVerdicts ops config (take i ss) vs
+    → AreVerdicts ops config (take (i + 1) ss) (vs ++ v ∷ [])
+verdicts_more ops config ss vs i v below is are =
+    let next : i + 1 ≡ suc i = omega arith in
+    subst (λ k. AreVerdicts ops config (take k ss) (vs ++ v ∷ [])) (sym next) (verdicts_suc ops config ss vs i v below is are)
 
 -- one line more
 lines_suc : {T : Type 0} (rows : List (ServerReport T)) (vs : List Verdict) (i : ℕ) (d : ServerReport T) (w : Verdict) → i < length rows → i < length vs

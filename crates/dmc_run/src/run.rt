@@ -79,13 +79,14 @@ fn run_on<T: Tag + Send + Sync, R: Threads + Wait + Sync, W: Write>(
 {
     let clock = StepClock::new(scene.step());
     match run_cluster::<T, R, NoService, StepClock>(rt, alloc, scene, &NoService, &clock) {
-        Ok(report) => tell(alloc, scene.config(), &report, writer),
-        Err(fault) => tell_fault(alloc, scene.config(), fault, writer),
+        Ok(report) => tell(rt, alloc, scene.config(), &report, writer),
+        Err(fault) => tell_fault(rt, alloc, scene.config(), fault, writer),
     }
 }
 
 /// Writes the report of a run that was not done, if it has one, and tells why it was not.
-fn tell_fault<T: Tag, W: Write>(
+fn tell_fault<T: Tag + Sync, R: Threads + Sync, W: Write>(
+    rt: &R,
     alloc: Global,
     config: QueueConfig,
     fault: DriveFault<T>,
@@ -97,18 +98,19 @@ fn tell_fault<T: Tag, W: Write>(
         DriveFault::Memory => Err(RunSceneFault::Memory),
         DriveFault::Torn => Err(RunSceneFault::Torn),
         DriveFault::TurnsOut(report) => {
-            tell(alloc, config, &report, writer)?;
+            tell(rt, alloc, config, &report, writer)?;
             Err(RunSceneFault::TurnsOut)
         }
         DriveFault::Stopped(report) => {
-            tell(alloc, config, &report, writer)?;
+            tell(rt, alloc, config, &report, writer)?;
             Err(RunSceneFault::Stopped)
         }
     }
 }
 
 /// Writes the text of a report.
-fn tell<T: Tag, W: Write>(
+fn tell<T: Tag + Sync, R: Threads + Sync, W: Write>(
+    rt: &R,
     alloc: Global,
     config: QueueConfig,
     report: &ClusterReport<T>,
@@ -116,7 +118,7 @@ fn tell<T: Tag, W: Write>(
 ) -> Result<(), RunSceneFault>
     ensures { Tells T.ops config report.now (W.contents writer.old) (W.contents writer.new) result }
 {
-    let verdicts = check_all(alloc, config, &report.servers)?;
+    let verdicts = check_all(rt, alloc, config, &report.servers)?;
     let text = report_text(alloc, report, &verdicts)?;
     if !send(text.as_bytes(), writer) {
         return Err(RunSceneFault::Write);

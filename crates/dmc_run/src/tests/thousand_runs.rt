@@ -62,7 +62,7 @@ fn run_once<R: Threads + Wait + Sync>(
     let clock = JumpingClock::new(seed);
     let answer = run_cluster(rt, alloc, scene, &Fickle, &clock);
     let (report, done) = told(answer)?;
-    if !replays(alloc, scene, &report)? {
+    if !replays(rt, alloc, scene, &report)? {
         return Err(Fail::new("a history differs"));
     }
     Ok((totals_of(&report), done))

@@ -5,6 +5,7 @@ use dmc_scene::scene::Scene;
 use dmc_settle::report::{ClientReport, ClusterReport, ServerReport};
 use dmc_tag::tag::Tag;
 use std::alloc::{AllocError, Global};
+use std::thread::Threads;
 
 /// Numbers of requests, over all clients and servers.
 #[derive(Clone, Copy, Debug, PartialEq, Eq)]
@@ -88,11 +89,12 @@ pub(super) fn are_balanced(totals: Totals) -> bool {
 }
 
 /// Whether each server's history replays.
-pub(super) fn replays<T: Tag>(
+pub(super) fn replays<T: Tag + Sync, R: Threads + Sync>(
+    rt: &R,
     alloc: Global,
     scene: &Scene,
     report: &ClusterReport<T>,
 ) -> Result<bool, AllocError> {
-    let verdicts = check_all(alloc, scene.config(), &report.servers)?;
+    let verdicts = check_all(rt, alloc, scene.config(), &report.servers)?;
     Ok(verdicts.iter().all(|verdict| *verdict == Verdict::Replays))
 }

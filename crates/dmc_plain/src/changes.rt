@@ -19,21 +19,22 @@ use dmc_types::moment::Moment;
 pub trait Change<X> {
     ghost changed: { Self → X → X };
 
-    fn apply(&self, item: X) -> X
-        ensures { result ≡ changed self.now item };
+    /// Changes an element in its place.
+    fn apply(&self, item: &mut X)
+        ensures { item.new ≡ changed self.now item.old };
 }
 
 /// Changes each element.
-pub fn change_each<X: Copy, C: Change<X>>(items: &mut [X], change: &C)
+pub fn change_each<X, C: Change<X>>(items: &mut [X], change: &C)
     ensures { items.new ≡ map (C.changed change.now) items.old }
 {
     for item in items.iter_mut() {
-        *item = change.apply(*item);
+        change.apply(item);
     }
 }
 
 /// Changes each element of a vector.
-pub fn change_all<X: Copy, C: Change<X>>(items: &mut Vec<X>, change: &C)
+pub fn change_all<X, C: Change<X>>(items: &mut Vec<X>, change: &C)
     ensures items { items.new.items ≡ map (C.changed change.now) items.old.items }
     ensures len { vec_len items.new ≡ vec_len items.old }
 {
@@ -41,13 +42,13 @@ pub fn change_all<X: Copy, C: Change<X>>(items: &mut Vec<X>, change: &C)
 }
 
 /// Changes the first n elements of a vector.
-pub fn change_first<X: Copy, C: Change<X>>(items: &mut Vec<X>, n: usize, change: &C)
+pub fn change_first<X, C: Change<X>>(items: &mut Vec<X>, n: usize, change: &C)
     requires { n ≤ vec_len items.old }
     ensures items { items.new.items ≡ map (C.changed change.now) (take n items.old.items) ++ drop n items.old.items }
     ensures len { vec_len items.new ≡ vec_len items.old }
 {
     for i in 0..n {
-        items[i] = change.apply(items[i]);
+        change.apply(&mut items[i]);
     }
 }
 
@@ -61,13 +62,9 @@ pub struct Update {
 impl<T> Change<PlainClient<T>> for Update {
     ghost changed = { λ s c. if is_client s.client c.id then rules_of.with_info s.info c else c };
 
-    fn apply(&self, client: PlainClient<T>) -> PlainClient<T> {
-        if client.id != self.client {
-            return client;
-        }
-        PlainClient {
-            info: self.info,
-            ..client
+    fn apply(&self, client: &mut PlainClient<T>) {
+        if client.id == self.client {
+            client.info = self.info;
         }
     }
 }
@@ -83,15 +80,11 @@ pub struct Arrival<T> {
 impl<T: Copy> Change<PlainClient<T>> for Arrival<T> {
     ghost changed = { λ s c. if is_client s.client c.id then rules_of.after_arrival s.tags s.at c else c };
 
-    fn apply(&self, client: PlainClient<T>) -> PlainClient<T> {
-        if client.id != self.client {
-            return client;
-        }
-        PlainClient {
-            previous: previous_after(self.tags, client.previous),
-            idle: false,
-            last_arrival: self.at,
-            ..client
+    fn apply(&self, client: &mut PlainClient<T>) {
+        if client.id == self.client {
+            client.previous = previous_after(self.tags, client.previous);
+            client.idle = false;
+            client.last_arrival = self.at;
         }
     }
 }
@@ -105,16 +98,10 @@ pub struct ClientShift<T> {
 impl<T: Tag> Change<PlainClient<T>> for ClientShift<T> {
     ghost changed = { λ s c. rules_of.shifted_client T.ops s.amount c };
 
-    fn apply(&self, client: PlainClient<T>) -> PlainClient<T> {
-        if client.idle {
-            return client;
+    fn apply(&self, client: &mut PlainClient<T>) {
+        if !client.idle {
+            client.previous.p = less(client.previous.p, self.amount);
         }
-        let p = less(client.previous.p, self.amount);
-        let previous = Previous {
-            p,
-            ..client.previous
-        };
-        PlainClient { previous, ..client }
     }
 }
 
@@ -127,10 +114,8 @@ pub struct RequestShift<T> {
 impl<T: Tag> Change<PlainRequest<T>> for RequestShift<T> {
     ghost changed = { λ s r. less_share T.ops s.amount r };
 
-    fn apply(&self, request: PlainRequest<T>) -> PlainRequest<T> {
-        let p = less(request.tags.p, self.amount);
-        let tags = Tags { p, ..request.tags };
-        PlainRequest { tags, ..request }
+    fn apply(&self, request: &mut PlainRequest<T>) {
+        request.tags.p = less(request.tags.p, self.amount);
     }
 }
 
@@ -144,16 +129,10 @@ pub struct ClientReduction<T> {
 impl<T: Tag> Change<PlainClient<T>> for ClientReduction<T> {
     ghost changed = { λ s c. if is_client s.client c.id then rules_of.reduced_client T.ops s.amount c else c };
 
-    fn apply(&self, client: PlainClient<T>) -> PlainClient<T> {
-        if client.id != self.client {
-            return client;
+    fn apply(&self, client: &mut PlainClient<T>) {
+        if client.id == self.client {
+            client.previous.r = less(client.previous.r, self.amount);
         }
-        let r = less(client.previous.r, self.amount);
-        let previous = Previous {
-            r,
-            ..client.previous
-        };
-        PlainClient { previous, ..client }
     }
 }
 
@@ -167,16 +146,13 @@ pub struct RequestReduction<T> {
 impl<T: Tag> Change<PlainRequest<T>> for RequestReduction<T> {
     ghost changed = { λ s r. rules_of.reduced_request T.ops s.client s.amount r };
 
-    fn apply(&self, request: PlainRequest<T>) -> PlainRequest<T> {
+    fn apply(&self, request: &mut PlainRequest<T>) {
         if request.client != self.client {
-            return request;
+            return;
         }
-        let r = match request.tags.r {
-            None => None,
-            Some(r) => Some(less(r, self.amount)),
-        };
-        let tags = Tags { r, ..request.tags };
-        PlainRequest { tags, ..request }
+        if let Some(r) = request.tags.r {
+            request.tags.r = Some(less(r, self.amount));
+        }
     }
 }
 
@@ -191,9 +167,8 @@ pub struct Mark<'a, T> {
 impl<'a, T> Change<PlainClient<T>> for Mark<'a, T> {
     ghost changed = { λ s c. record c { idle = c.idle || rules_of.is_stale s.requests.now s.at s.idle_age c } };
 
-    fn apply(&self, client: PlainClient<T>) -> PlainClient<T> {
-        let idle = client.idle || is_stale(self.requests, self.at, self.idle_age, &client);
-        PlainClient { idle, ..client }
+    fn apply(&self, client: &mut PlainClient<T>) {
+        client.idle = client.idle || is_stale(self.requests, self.at, self.idle_age, client);
     }
 }
 

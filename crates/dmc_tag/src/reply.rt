@@ -3,7 +3,7 @@ use dmc_types::config::PhaseType;
 use dmc_types::ids::{ClientId, Token};
 use dmc_types::refusal::Refusal;
 
-/// The tags of a request: reservation (absent without one), limit and shares.
+/// The tags of a request: reservation (absent without one), limit and weight.
 #[derive(Clone, Copy, Debug, PartialEq, Eq)]
 pub struct Tags<T> {
     pub r: Option<T>,

@@ -28,6 +28,7 @@ use dmc_types::moment::Moment;
 use dmc_types::params::ReqParams;
 use dmc_types::refusal::{QueueFault, Refusal};
 use indexmap::IndexSet;
+use std::cell::Cell;
 
 /// What the queue makes of an add.
 #[derive(Clone, Copy)]
@@ -69,12 +70,13 @@ fn ask_to_pull<T: Tag, I: Indexes<T>, S: Setup>(
     }
 }
 
-/// Hands a command that is not an Add to the queue.
+/// Hands a command that is not an Add to the queue. The place of a granted client's desk is left in `found`.
 pub(crate) fn ask<T: Tag, I: Indexes<T>, S: Setup>(
     queue: &mut PullQueue<T, I>,
     clients: &IndexSet<ClientId>,
     desks: &[ClientDesk<S>],
     pass: &WorkerPass<S>,
+    found: &Cell<usize>,
     command: &Command,
 ) -> Result<Reply<T>, RunFault>
     requires plain { is_add command.now ≡ false }
@@ -86,6 +88,7 @@ pub(crate) fn ask<T: Tag, I: Indexes<T>, S: Setup>(
             clients,
             desks,
             pass,
+            found,
         };
         return ask_to_pull(queue, &test, at);
     }

@@ -41,6 +41,7 @@ use dmc_types::ids::{ClientId, ServerId, Token, WorkerId};
 use dmc_types::moment::Moment;
 use indexmap::IndexSet;
 use std::alloc::Global;
+use std::cell::Cell;
 use std::marker::Model;
 use std::mem::replace;
 
@@ -232,11 +233,13 @@ impl<T: Tag, I: Indexes<T>, S: Setup> QueueBook<T, I, S> {
             return Err(RunFault::NoDesk);
         }
         self.history.reserve_one()?;
+        let found = Cell::new(0);
         let reply = ask(
             &mut self.queue.0,
             &self.clients,
             &self.desks,
             pass,
+            &found,
             &command,
         )?;
         let event = Event {
@@ -245,7 +248,13 @@ impl<T: Tag, I: Indexes<T>, S: Setup> QueueBook<T, I, S> {
             reply,
         };
         count(&mut self.workers, pass.place, &mut pass.tills, &event);
-        hand_out(&pass.clients, &mut self.desks, &mut pass.units, &event);
+        hand_out(
+            &pass.clients,
+            found.get(),
+            &mut self.desks,
+            &mut pass.units,
+            &event,
+        );
         self.history.push_reserved(event);
         Ok(reply)
     }

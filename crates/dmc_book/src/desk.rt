@@ -12,6 +12,7 @@ ghost use Rattle.dmc_book.specs.Moves.{desk_after, takes, takes_at, takes_by, de
 ghost use Rattle.dmc_book.specs.BookState.{no_desk, pass_state};
 
 use crate::counts::grant_in;
+use crate::names::place_near;
 use crate::pass::WorkerPass;
 use crate::seat::credit;
 use dmc_ledger::bundle::{GrantBooks, GrantTills, StampTills};
@@ -25,6 +26,7 @@ use dmc_types::config::PhaseType;
 use dmc_types::ids::{ClientId, ServerId};
 use dmc_types::params::ReqParams;
 use indexmap::IndexSet;
+use std::cell::Cell;
 
 /// Whether a pass has a till for a grant: the client has a desk, the pass names the client at the same place, and the till of
 /// the phase there is of the desk's book.
@@ -33,6 +35,8 @@ pub(crate) struct UnitTest<'a, S: Setup> {
     pub(crate) clients: &'a IndexSet<ClientId>,
     pub(crate) desks: &'a [ClientDesk<S>],
     pub(crate) pass: &'a WorkerPass<S>,
+    // The place of the desk that was found last.
+    pub(crate) found: &'a Cell<usize>,
 }
 
 impl<'a, S: Setup> GrantTest for UnitTest<'a, S> {
@@ -42,7 +46,8 @@ impl<'a, S: Setup> GrantTest for UnitTest<'a, S> {
         let Some(place) = self.clients.get_index_of(&client) else {
             return false;
         };
-        let Some(named) = self.pass.clients.get_index_of(&client) else {
+        self.found.set(place);
+        let Some(named) = place_near(&self.pass.clients, place, client) else {
             return false;
         };
         place == named && takes_unit(self.desks, &self.pass.units, place, phase)
@@ -95,9 +100,11 @@ fn issue_unit<S: Setup>(books: &mut GrantBooks<S>, unit: &mut GrantTills<S>, pha
     }
 }
 
-/// Issues the unit of a grant at the desk of its client, and into the till where the pass names the client.
+/// Issues the unit of a grant at the desk of its client, and into the till where the pass names the client, who is looked for
+/// near by first.
 pub(crate) fn hand_out<T: Copy, S: Setup>(
     names: &IndexSet<ClientId>,
+    near: usize,
     desks: &mut Vec<ClientDesk<S>>,
     units: &mut Vec<GrantTills<S>>,
     event: &Event<T>,
@@ -113,7 +120,7 @@ pub(crate) fn hand_out<T: Copy, S: Setup>(
     let Some((client, phase)) = grant_in(&event.reply) else {
         return;
     };
-    let Some(place) = names.get_index_of(&client) else {
+    let Some(place) = place_near(names, near, client) else {
         unreachable!()
     };
     hand_out_at(desks, units, place, client, phase, event);

@@ -7,6 +7,7 @@ mod counts;
 mod desk;
 pub mod fault;
 pub mod laws;
+mod names;
 mod opening;
 mod parts;
 pub mod pass;

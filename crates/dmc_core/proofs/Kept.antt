@@ -15,7 +15,8 @@ use Rattle.dmc_core.specs.Parts.{IsKept, KeepsGrants, full_at, full_counts, full
 use Rattle.dmc_core.proofs.Clients.{false_unless}
 use Rattle.dmc_core.specs.declared.server.CoreServer.{CoreServer}
 use Rattle.dmc_core.proofs.Counts.{full_counts-set, full_counts-there, full_counts-elsewhere, same_counts}
-use Rattle.dmc_core.proofs.Lists.{all_at, all_set}
+use Rattle.dmc_tag.proofs.Ids.{all_there}
+use Rattle.dmc_core.proofs.Lists.{all_set}
 
 module _ {Q : Type 0} (ids : List ClientId) (hs : List Held) (servers : List (CoreServer Q)) (k : IsKept ids hs servers) where
   -- another client with the same id, and as many pairs
@@ -23,7 +24,7 @@ module _ {Q : Type 0} (ids : List ClientId) (hs : List Held) (servers : List (Co
   named_after i h h' at id = k.named ∙ sym (map-set_same (λ (x : Held). x.id) hs i h' h (id ∙ ap (λ (x : Held). x.id) (sym (get_or_from_slice_get hs i h h at))))
 
   paired_after : (i : ℕ) (h h' : Held) → slice_get hs i ≡ Some h → length h'.pairs ≡ length h.pairs → AllByRecursion (λ h. length h.pairs ≡ length servers) (set hs i h')
-  paired_after i h h' at same = all_set (λ (h : Held). length h.pairs ≡ length servers) hs i h' k.paired (same ∙ all_at (λ (h : Held). length h.pairs ≡ length servers) hs i h k.paired at)
+  paired_after i h h' at same = all_set (λ (h : Held). length h.pairs ≡ length servers) hs i h' k.paired (same ∙ all_there (λ (h : Held). length h.pairs ≡ length servers) hs i h k.paired at)
 
   -- a client that waits for the same grants
   pub client_kept : (i : ℕ) (h h' : Held) → slice_get hs i ≡ Some h → h'.id ≡ h.id → KeepsGrants h.pairs h'.pairs → IsKept ids (set hs i h') servers
@@ -63,7 +64,7 @@ module _ {Q : Type 0} (ids : List ClientId) (hs : List Held) (servers : List (Co
     as_many = ap length pairs_is ∙ length-set h.pairs s.0 _
 
     within : s.0 < length h.pairs
-    within = let e = all_at (λ (h : Held). length h.pairs ≡ length servers) hs i h k.paired at in omega arith
+    within = let e = all_there (λ (h : Held). length h.pairs ≡ length servers) hs i h k.paired at in omega arith
 
     counts_at : (other : ServerId) (b : Bool) → eqb other.0 s.0 ≡ b → one_if_full (grants phase (pair_at s h.pairs)) ≡ one_if_full n → full_counts other (set hs i h') ≡ full_counts other hs
     counts_at other true e same =

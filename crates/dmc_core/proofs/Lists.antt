@@ -32,15 +32,6 @@ set_same (y ∷ ys) zero x e = rw (some_is y x e) refl
     some_is a b e = cc
 set_same (y ∷ ys) (suc i) x e = ap (λ zs. y ∷ zs) (set_same ys i x e)
 
--- what holds of each element holds of that one
-pub all_at : {A : Type 0} (P : A → Type 0) (xs : List A) (i : ℕ) (x : A) → AllByRecursion P xs → slice_get xs i ≡ Some x → P x
-all_at P [] i x h e = cc
-all_at P (y ∷ ys) zero x h e = rw (some_is y x e) h.0
-  where
-    some_is : {A : Type 0} (a b : A) → Some a ≡ Some b → b ≡ a
-    some_is a b e = cc
-all_at P (y ∷ ys) (suc i) x h e = all_at P ys i x h.1 e
-
 pub all_set : {A : Type 0} (P : A → Type 0) (xs : List A) (i : ℕ) (x : A) → AllByRecursion P xs → P x → AllByRecursion P (set xs i x)
 all_set P [] i x h p = h
 all_set P (y ∷ ys) zero x h p = (p, h.1)

@@ -1,4 +1,5 @@
 pub mod Booleans
+pub mod Ids
 pub mod Lists
 pub mod Options
 pub mod Orderings

@@ -2,7 +2,7 @@ use Rattle.std.proofs.Common.{◌≡◌, ◌<◌, ◌≤◌, length, map, slice_
 use Rattle.std.proofs.lemmas.List.{length-map}
 use Rattle.dmc_core.specs.Core.{Held, CoreValue}
 use Rattle.dmc_core.proofs.Places.{place_none, place_past, place_found}
-use Rattle.dmc_core.proofs.Lists.{all_at}
+use Rattle.dmc_tag.proofs.Ids.{all_there}
 use Rattle.dmc_core.proofs.cluster.Cluster.place.Goals as goal
 
 pub returns-in_default-clause-value : goal.returns-in_default-clause-value
@@ -22,5 +22,5 @@ returns-clause-value g c =
 
 pub returns-clause-paired : goal.returns-clause-paired
 returns-clause-paired g c = rw (← c.self.view_is) (λ h at.
-    let here = all_at (λ (h : Held). length h.pairs ≡ length c.self.inside.servers.items) c.self.inside.clients.items c.in-Some.place h c.self.invariant.paired at in
+    let here = all_there (λ (h : Held). length h.pairs ≡ length c.self.inside.servers.items) c.self.inside.clients.items c.in-Some.place h c.self.invariant.paired at in
     omega arith)

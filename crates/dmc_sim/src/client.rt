@@ -1,5 +1,7 @@
 //! A client of a simulation.
-ghost use Rattle.std.specs.Prelude.{◌≡◌, ◌+◌, ◌<◌, ◌≤◌, ◌^◌, ◌==◌, IfOk, IfSome, vec_len};
+ghost use Rattle.std.specs.Prelude.{◌≡◌, ◌+◌, ◌<◌, ◌≤◌, ◌^◌, ◌==◌, IfOk, IfSome, None, slice_get, vec_len};
+ghost use Rattle.dmc_types.specs.declared.config.PhaseType.TheVariants as phases_of;
+ghost use Rattle.dmc_work.specs.Plan.{generator, planned, word};
 
 use dmc_scene::client::SceneClient;
 use dmc_types::config::PhaseType;
@@ -34,7 +36,10 @@ impl SimClient {
     ) -> Result<SimClient, AllocError>
         requires { 0 < servers }
         ensures scene { IfOk result (λ client. client.scene ≡ scene) }
+        ensures plan { IfOk result (λ client. client.plan.items ≡ planned (word (generator seed scene.id.0)) servers scene.requests) }
+        ensures sent { IfOk result (λ client. client.sent ≡ 0) }
         ensures completed { IfOk result (λ client. client.completed ≡ 0) }
+        ensures reservation { IfOk result (λ client. client.reservation ≡ 0) }
     {
         let plan = plan(alloc, seed, scene.id(), servers, scene.requests())?;
         Ok(SimClient {
@@ -48,7 +53,9 @@ impl SimClient {
 
     /// The server of its next request, if it has requests left and fewer outstanding than its window.
     pub fn next_server(&self) -> Option<ServerId>
-        ensures { IfSome result (λ _. self.now.sent < self.now.scene.requests) }
+        ensures left { IfSome result (λ _. self.now.sent < self.now.scene.requests) }
+        ensures full { self.now.completed + self.now.scene.window ≤ self.now.sent → result ≡ None }
+        ensures next { self.now.sent < self.now.completed + self.now.scene.window → result ≡ slice_get self.now.plan.items self.now.sent }
     {
         if u64::from(self.sent) >= self.completed + u64::from(self.scene.window()) {
             return None;
@@ -60,7 +67,10 @@ impl SimClient {
     pub fn count_sent(&mut self)
         requires { self.old.sent < self.old.scene.requests }
         ensures scene { self.new.scene ≡ self.old.scene }
+        ensures plan { self.new.plan.items ≡ self.old.plan.items }
+        ensures sent { self.new.sent ≡ self.old.sent + 1 }
         ensures completed { self.new.completed ≡ self.old.completed }
+        ensures reservation { self.new.reservation ≡ self.old.reservation }
     {
         self.sent += 1;
     }
@@ -69,7 +79,11 @@ impl SimClient {
     pub fn count_completed(&mut self, phase: PhaseType)
         requires { self.old.completed < 2 ^ 36 }
         ensures scene { self.new.scene ≡ self.old.scene }
+        ensures plan { self.new.plan.items ≡ self.old.plan.items }
+        ensures sent { self.new.sent ≡ self.old.sent }
         ensures completed { self.new.completed ≡ self.old.completed + 1 }
+        ensures reservation { phase ≡ phases_of.Reservation → self.new.reservation ≡ self.old.reservation + 1 }
+        ensures priority { phase ≡ phases_of.Priority → self.new.reservation ≡ self.old.reservation }
     {
         self.completed += 1;
         if phase == PhaseType::Reservation {

@@ -1,3 +1,4 @@
 pub mod LinkLemmas
 pub mod OrderLemmas
 pub mod SlotLemmas
+pub mod SoundLemmas

@@ -1,10 +1,10 @@
-ghost use Rattle.std.specs.Prelude.{◌≡◌, ◌<◌, length, map, IfOk};
+ghost use Rattle.std.specs.Prelude.{◌≡◌, length, map, IfOk};
 ghost use Rattle.dmc_ledger.specs.Bundles.{server_side};
 ghost use Rattle.dmc_tlock.specs.Consistent.{IsBalanced};
 ghost use Rattle.dmc_tlock.specs.Opening.{AreNew};
 
 use crate::book::TrackerBook;
-use crate::fault::{EntryFault, TillFault};
+use crate::fault::EntryFault;
 use crate::laws::book_is_consistent;
 use crate::lock::TrackerLock;
 use crate::pass::ClientPass;
@@ -27,24 +27,22 @@ use std::test::Fail;
 use std::thread;
 use std::thread::Threads;
 
-const ZERO: ServerId = ServerId(0);
-
-const ONE: ServerId = ServerId(1);
+pub(crate) const ZERO: ServerId = ServerId(0);
 
 // How often each of two threads stamps and responds.
 const TIMES: u64 = 1000;
 
 /// A client's book for server 0 with its pass, the queue's desk of the pair, and grants of it in phase Priority.
 #[derive(Drop)]
-struct Opened<S: Setup> {
-    book: TrackerBook<S>,
-    pass: ClientPass<S>,
-    desk: ClientDesk<S>,
-    grants: Till<S>,
+pub(crate) struct Opened<S: Setup> {
+    pub(crate) book: TrackerBook<S>,
+    pub(crate) pass: ClientPass<S>,
+    pub(crate) desk: ClientDesk<S>,
+    pub(crate) grants: Till<S>,
 }
 
 /// The desks of a client and server 0.
-fn open_desks<S: Setup>(
+pub(crate) fn open_desks<S: Setup>(
     alloc: Global,
     mint: &mut Mint<S>,
     client: ClientId,
@@ -59,7 +57,7 @@ fn open_desks<S: Setup>(
 }
 
 /// A book of a tracker with this `most` and this counting form, whose list may have `most_events`.
-fn open_book<S: Setup>(
+pub(crate) fn open_book<S: Setup>(
     alloc: Global,
     mint: &mut Mint<S>,
     client: ClientId,
@@ -245,137 +243,6 @@ fn one_circle(rt: HostRuntime) -> Result<(), Fail> {
         let (delta, rho) = told.status.sent;
         assert_eq!(rt; held, Some((2, u64::from(delta), u64::from(rho))));
     }
-    Ok(())
-}
-
-/// What stamp, status and respond are refused with.
-type Refused = (Option<EntryFault>, Option<TillFault>, Option<EntryFault>);
-
-fn refused_in_hand<S: Setup>(
-    book: &mut TrackerBook<S>,
-    server: ServerId,
-    tills: &mut StampTills<S>,
-    grants: &mut Till<S>,
-) -> Refused
-    requires { 0 < grants.old.amount }
-{
-    let stamped = book.stamp(server, tills).err();
-    let seen = book.status(server, tills).err();
-    let responded = book.respond(server, PhaseType::Priority, grants).err();
-    (stamped, seen, responded)
-}
-
-fn refused_at_lock<S: Setup, R: Wait>(
-    rt: &R,
-    lock: &TrackerLock<S>,
-    server: ServerId,
-    tills: &mut StampTills<S>,
-    grants: &mut Till<S>,
-) -> Refused
-    requires { 0 < grants.old.amount }
-{
-    let stamped = lock.stamp(rt, server, tills).err();
-    let seen = lock.status(rt, server, tills).err();
-    let responded = lock.respond(rt, server, PhaseType::Priority, grants).err();
-    (stamped, seen, responded)
-}
-
-/// What each call answers at server 0 to another client's tills, and at a server that the tracker has not.
-const STRANGERS: [(ServerId, Refused); 2] = [
-    (
-        ZERO,
-        (
-            Some(EntryFault::Stranger),
-            Some(TillFault::Stranger),
-            Some(EntryFault::Stranger),
-        ),
-    ),
-    (
-        ONE,
-        (
-            Some(EntryFault::NoServer),
-            Some(TillFault::NoServer),
-            Some(EntryFault::NoServer),
-        ),
-    ),
-];
-
-/// Refused in one hand and through the lock alike. What a second stamp then answers, where the list may carry one.
-fn strangers<S: Setup, R: Abort + Wait>(
-    rt: &R,
-    alloc: Global,
-    blank: Blank,
-    counting: Counting,
-) -> Result<Option<EntryFault>, Fail>
-    requires { blank.name ≡ S.name }
-{
-    let mut mint = blank.open::<S>();
-    let own = open_book(alloc, &mut mint, ClientId(1), (1, 9), counting)?;
-    let mut other = open_book(alloc, &mut mint, ClientId(2), (9, 9), counting)?;
-    let Opened {
-        mut book,
-        mut desk,
-        ..
-    } = own;
-    let (tills, grants) = (&mut other.desk.held, &mut other.grants);
-    for (server, refused) in STRANGERS {
-        assert!(rt; grants.amount() > 0);
-        assert_eq!(rt; refused_in_hand(&mut book, server, tills, grants), refused);
-    }
-    let lock = TrackerLock::new(book);
-    for (server, refused) in STRANGERS {
-        assert!(rt; grants.amount() > 0);
-        assert_eq!(rt; refused_at_lock(rt, &lock, server, tills, grants), refused);
-    }
-    lock.stamp(rt, ZERO, &mut desk.held)?;
-    Ok(lock.stamp(rt, ZERO, &mut desk.held).err())
-}
-
-/// Another's pass comes back with the book, and each book settles with its own.
-fn passes<S: Setup>(rt: &impl Abort, alloc: Global, blank: Blank) -> Result<(), Fail>
-    requires { blank.name ≡ S.name }
-{
-    let mut mint = blank.open::<S>();
-    let own = open_book(alloc, &mut mint, ClientId(1), (9, 9), Counting::All)?;
-    let other = open_book(alloc, &mut mint, ClientId(2), (9, 9), Counting::All)?;
-    let Err(back) = own.book.settle(other.pass) else {
-        panic!(rt; "another's pass")
-    };
-    assert!(rt; back.book.settle(own.pass).is_ok());
-    assert!(rt; other.book.settle(back.pass).is_ok());
-    Ok(())
-}
-
-#[test]
-fn full_closed_stranger(rt: HostRuntime) -> Result<(), Fail> {
-    for (counting, full) in [
-        (Counting::All, None),
-        (Counting::Others, Some(EntryFault::TrackFull)),
-    ] {
-        let blank = Blank::new(10);
-        let refused = strangers::<Brand, HostRuntime>(&rt, rt.alloc(), blank, counting)?;
-        assert_eq!(rt; refused, full);
-    }
-    passes::<Brand>(&rt, rt.alloc(), Blank::new(10))?;
-    Ok(())
-}
-
-/// A limit hands the desks back.
-fn limit<S: Setup>(rt: &impl Abort, alloc: Global, blank: Blank) -> Result<(), Fail>
-    requires { blank.name ≡ S.name }
-{
-    let mut mint = blank.open::<S>();
-    let (_desk, desks) = open_desks(alloc, &mut mint, ClientId(1))?;
-    let Err(fault) = TrackerBook::new(alloc, ClientId(1), desks, 0, 1, Counting::All) else {
-        panic!(rt; "a limit")
-    };
-    assert_eq!(rt; (fault.cause, fault.desks.len()), (MakeFault::Limit, 1));
-    Ok(())
-}
-
-#[test]
-fn make_limits(rt: HostRuntime) -> Result<(), Fail> {
-    limit::<Brand>(&rt, rt.alloc(), Blank::new(5))?;
     Ok(())
 }
 

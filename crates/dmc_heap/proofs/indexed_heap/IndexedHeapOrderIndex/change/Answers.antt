@@ -1,7 +1,7 @@
 use Rattle.std.proofs.Common.{length, drop, refl, arith}
 use Rattle.std.proofs.lemmas.List.{take_at}
 use Rattle.std.proofs.lemmas.Option.{slice_get_read}
-use Rattle.dmc_heap.proofs.SlotLemmas.{key_in_room_if_held, hole_to_change, changed}
+use Rattle.dmc_heap.proofs.SoundLemmas.{key_in_room_if_held, hole_to_change, changed}
 use Rattle.dmc_heap.proofs.indexed_heap.IndexedHeapOrderIndex.change.Goals as goal
 
 pub settle-requires : goal.settle-requires

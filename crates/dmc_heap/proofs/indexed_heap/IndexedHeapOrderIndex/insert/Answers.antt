@@ -1,6 +1,6 @@
 use Rattle.std.proofs.Common.{length, drop, ap, ◌∙◌, arith}
 use Rattle.std.proofs.lemmas.List.{take_at}
-use Rattle.dmc_heap.proofs.SlotLemmas.{length-slots, heap_short, hole_to_insert, inserted}
+use Rattle.dmc_heap.proofs.SoundLemmas.{length-slots, heap_short, hole_to_insert, inserted}
 use Rattle.dmc_heap.proofs.indexed_heap.IndexedHeapOrderIndex.insert.Goals as goal
 
 pub unwrap-requires : goal.unwrap-requires

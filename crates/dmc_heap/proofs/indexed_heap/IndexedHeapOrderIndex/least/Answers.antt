@@ -1,5 +1,5 @@
 use Rattle.std.proofs.Common.{sym}
-use Rattle.dmc_heap.proofs.SlotLemmas.{IsLeast-first}
+use Rattle.dmc_heap.proofs.SoundLemmas.{IsLeast-first}
 use Rattle.dmc_heap.proofs.indexed_heap.IndexedHeapOrderIndex.least.Goals as goal
 
 pub returns : goal.returns

@@ -1,7 +1,7 @@
 use Rattle.std.proofs.Common.{length, drop, get_or, sym, ◌∙◌}
 use Rattle.std.proofs.lemmas.List.{take_at}
 use Rattle.std.proofs.lemmas.Option.{slice_get-get_or}
-use Rattle.dmc_heap.proofs.SlotLemmas.{held_entry, IsSound-mapped, IsMapped-slots_of}
+use Rattle.dmc_heap.proofs.SoundLemmas.{held_entry, IsSound-mapped, IsMapped-slots_of}
 use Rattle.dmc_heap.proofs.indexed_heap.IndexedHeapOrderIndex.map_ranks.Goals as goal
 
 pub map_entries-requires : goal.map_entries-requires

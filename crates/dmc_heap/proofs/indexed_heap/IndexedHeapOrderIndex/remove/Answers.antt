@@ -4,7 +4,7 @@ use Rattle.std.proofs.lemmas.List.{take_at, length-set}
 use Rattle.std.proofs.lemmas.Option.{slice_get_read, slice_get_within}
 use Rattle.dmc_index.specs.Index.{held}
 use Rattle.dmc_heap.specs.Heap.{IsSound, slots_of}
-use Rattle.dmc_heap.proofs.SlotLemmas.{key_in_room_if_held, found, held_entry, hole_to_remove, removed_inner, removed_last}
+use Rattle.dmc_heap.proofs.SoundLemmas.{key_in_room_if_held, found, held_entry, hole_to_remove, removed_inner, removed_last}
 use Rattle.dmc_heap.proofs.indexed_heap.IndexedHeapOrderIndex.remove.Goals as goal
 
 pub index-removed-requires : goal.index-removed-requires

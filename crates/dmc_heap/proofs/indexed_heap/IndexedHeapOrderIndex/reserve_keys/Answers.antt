@@ -1,6 +1,6 @@
 use Rattle.std.proofs.Common.{◌-◌, length, arith}
 use Rattle.std.proofs.lemmas.List.{take_all}
-use Rattle.dmc_heap.proofs.SlotLemmas.{length-slots, heap_in_room, slots_of-more, IsSound-more}
+use Rattle.dmc_heap.proofs.SoundLemmas.{length-slots, heap_in_room, slots_of-more, IsSound-more}
 use Rattle.dmc_heap.proofs.indexed_heap.IndexedHeapOrderIndex.reserve_keys.Goals as goal
 
 pub returns-in_ok-resize-clause-ok : goal.returns-in_ok-resize-clause-ok

@@ -1,4 +1,4 @@
-use Rattle.dmc_tlock.proofs.tests.full_closed_stranger.Given as goal
+use Rattle.dmc_tlock.proofs.refusal_tests.full_closed_stranger.Given as goal
 
 abbrev pub ghosts-strangers : goal.ghosts-strangers
 ghosts-strangers g a = record { name = a.blank.name }

@@ -1,11 +1,11 @@
 -- An index that holds the first keys, each under a rank of its own client.
 use Rattle.std.specs.Prelude.{◌≡◌, ℕ, ◌≤◌, ◌<◌, List, Option, Some, None, IsSome, length}
-use Rattle.dmc_index.specs.Index.{held}
+use Rattle.dmc_index.specs.Index.{slot_of_key}
 use Rattle.dmc_tag.specs.declared.rank.TagRank.{TagRank}
 
 -- The keys below the count are held and no others, within the room, and each key's rank is that of the client of its number.
 pub record HoldsFirst {T : Type 0} (count room : ℕ) (slots : List (Option (TagRank T))) : Type 0 where
   pub size : length slots ≡ room
-  pub here : (key : ℕ) → key < count → IsSome (held slots key)
-  pub absent : (key : ℕ) → count ≤ key → held slots key ≡ None
-  pub own : (key : ℕ) (rank : TagRank T) → held slots key ≡ Some rank → rank.client.0 ≡ key
+  pub here : (key : ℕ) → key < count → IsSome (slot_of_key slots key)
+  pub absent : (key : ℕ) → count ≤ key → slot_of_key slots key ≡ None
+  pub own : (key : ℕ) (rank : TagRank T) → slot_of_key slots key ≡ Some rank → rank.client.0 ≡ key

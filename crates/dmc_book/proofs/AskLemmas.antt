@@ -12,7 +12,7 @@ use Rattle.dmc_tag.specs.Tag.{Tagging}
 use Rattle.dmc_tag.specs.State.{State, StandsFor}
 use Rattle.dmc_tag.specs.Outcome.{◌>>=◌}
 use Rattle.dmc_tag.specs.Rules.{Outcome, can_register, can_update, can_add, can_remove}
-use Rattle.dmc_tag.specs.Step.{step, settled}
+use Rattle.dmc_tag.specs.Step.{step, answer_of}
 use Rattle.dmc_tag.specs.Steps.{Steps}
 use Rattle.dmc_tag.specs.Answers.{pull_reply}
 use Rattle.dmc_tag.specs.declared.reply.Pulled.{Pulled}
@@ -51,7 +51,7 @@ module _ {T : Type 0} (ops : Tagging T) (order : IsTotalOrder ops.compare) (allo
 
 module _ {T : Type 0} (ops : Tagging T) (allows : ClientId → PhaseType → Bool) (s : State T) where
   abbrev Passes : Outcome T → Type 0
-  Passes o = is_allowed allows ((settled s o).1) ≡ true
+  Passes o = is_allowed allows ((answer_of s o).1) ≡ true
 
   after_test : {X : Type 0} (r : Result X Refusal) (f : X → Outcome T) → ((x : X) → Passes (f x)) → Passes (r >>= f)
   after_test (Ok x) f h = h x

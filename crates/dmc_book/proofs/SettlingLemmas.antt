@@ -5,7 +5,7 @@ use Rattle.std.specs.List.{AllByRecursion}
 use Rattle.std.proofs.lemmas.List.{map-append}
 use Rattle.dmc_types.specs.declared.config.PhaseType.TheVariants.{Reservation, Priority}
 use Rattle.dmc_tag.specs.declared.event.Event.{Event}
-use Rattle.dmc_ledger.specs.Accounts.{Account, closed}
+use Rattle.dmc_ledger.specs.Accounts.{Account, after_closing}
 use Rattle.dmc_ledger.specs.Bundles.{ClientSide, GrantHoldings}
 use Rattle.dmc_book.specs.BookState.{PassState, WorkerSide, WorkerHoldings, no_desk, no_unit, no_worker}
 use Rattle.dmc_book.specs.Consistent.{IsCounted, IsDesk, IsWorker}
@@ -172,7 +172,7 @@ units_at units ps ds es h own = record {
 -- ---- a consistent book's workers and desks, once its passes are gathered
 
 module _ {T : Type 0} where
-  gathered_all : (adds : Event T → ℕ) (es : List (Event T)) (b : Account) → IsCounted adds es 1 b → IsGathered adds es (closed b)
+  gathered_all : (adds : Event T → ℕ) (es : List (Event T)) (b : Account) → IsCounted adds es 1 b → IsGathered adds es (after_closing b)
   gathered_all adds es b h = record { gathered = h.total; held = refl; open_tills = refl }
 
   settled_worker : (es : List (Event T)) (w : WorkerSide) → IsWorker es w → IsSettledWorker es (closed_worker w)

@@ -4,7 +4,7 @@ use Rattle.std.specs.List.{AllByRecursion}
 use Rattle.dmc_types.specs.declared.config.PhaseType.{PhaseType}
 use Rattle.dmc_types.specs.declared.config.PhaseType.TheVariants.{Reservation, Priority}
 use Rattle.dmc_tag.specs.declared.event.Event.{Event}
-use Rattle.dmc_ledger.specs.Accounts.{Account, closed, total_of}
+use Rattle.dmc_ledger.specs.Accounts.{Account, after_closing, total_of}
 use Rattle.dmc_ledger.specs.Bundles.{ClientSide, GrantAccounts, GrantHoldings}
 use Rattle.dmc_ledger.specs.Moves.{till_in}
 use Rattle.dmc_book.specs.BookState.{BookState, PassState, WorkerAccounts, WorkerSide, no_desk, no_unit}
@@ -46,11 +46,11 @@ pub record AreOneOpen (books : WorkerAccounts) : Type 0 where
 -- a worker whose pass is gathered
 abbrev pub closed_accounts : WorkerAccounts → WorkerAccounts
 closed_accounts books = record {
-  calls = closed books.calls;
-  misses = closed books.misses;
-  tokens = closed books.tokens;
-  grants = closed books.grants;
-  granted = closed books.granted;
+  calls = after_closing books.calls;
+  misses = after_closing books.misses;
+  tokens = after_closing books.tokens;
+  grants = after_closing books.grants;
+  granted = after_closing books.granted;
 }
 
 abbrev pub closed_worker : WorkerSide → WorkerSide
@@ -127,5 +127,5 @@ pub record AreSettledDesks {T : Type 0} (history : List (Event T)) (passes : Lis
 -- ---- the book
 
 -- nothing of the book is left that could be settled again
-abbrev pub emptied : {T : Type 0} → BookState T → BookState T
-emptied b = record b { history = []; workers = []; desks = [] }
+abbrev pub after_settling : {T : Type 0} → BookState T → BookState T
+after_settling b = record b { history = []; workers = []; desks = [] }

@@ -3,7 +3,7 @@ ghost use Rattle.std.specs.Prelude.{◌≡◌, ◌==◌, ◌≤◌, ◌<◌, ◌
 ghost use Rattle.std.specs.List.{AllByRecursion};
 ghost use Rattle.dmc_ledger.specs.Bundles.{Covers, client_side, grant_holdings, stamp_holdings};
 ghost use Rattle.dmc_ledger.specs.Moves.{tills_after_submit};
-ghost use Rattle.dmc_tag.specs.Answers.{told};
+ghost use Rattle.dmc_tag.specs.Answers.{call_reply};
 ghost use Rattle.dmc_tag.specs.Replay.{after, replays};
 ghost use Rattle.dmc_tag.specs.Steps.{Steps};
 ghost use Rattle.dmc_tag.specs.declared.reply.Reply.TheVariants as replies;
@@ -13,7 +13,7 @@ ghost use Rattle.dmc_book.specs.BookState.{pass_state, worker_side};
 ghost use Rattle.dmc_book.specs.Calls.{IsForDesk, names_none, Ran, Strays, SubmitRefused, is_add, lacks_desk, reply_to};
 ghost use Rattle.dmc_book.specs.Moves.{IsEnrolled, takes};
 ghost use Rattle.dmc_book.specs.Opening.{AreBookLimits, AreNamedOnce, IsNewDesk, new_passes, new_state};
-ghost use Rattle.dmc_book.specs.Settling.{AreOwn, AreSettledDesks, IsSettledWorker, closed_worker, emptied};
+ghost use Rattle.dmc_book.specs.Settling.{AreOwn, AreSettledDesks, IsSettledWorker, closed_worker, after_settling};
 ghost use Rattle.dmc_book.specs.Status.{IsStatusOf};
 
 use crate::asking::{Added, ask, ask_to_add};
@@ -360,7 +360,7 @@ impl<T: Tag, I: Indexes<T>, S: Setup> QueueBook<T, I, S> {
         ensures own { IsOk result ↔ AreOwn self.old.workers self.old.desks (map pass_state passes.items) }
         ensures back { IfErr result (λ back. back ≡ passes) }
         ensures kept { OnErr result (self.new ≡ self.old) }
-        ensures emptied { OnOk result (self.new ≡ emptied self.old) }
+        ensures emptied { OnOk result (self.new ≡ after_settling self.old) }
         ensures history { IfOk result (λ settled. settled.history.events ≡ self.old.history) }
         ensures replays { IfOk result (λ settled. replays T.ops self.old.config settled.history.events) }
         ensures left { IfOk result (λ settled. settled.left ≡ length (after T.ops self.old.config self.old.history).requests) }

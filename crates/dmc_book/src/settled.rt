@@ -1,7 +1,7 @@
 //! What a queue's book leaves.
 ghost use Rattle.std.specs.Prelude.{◌≡◌, ◌≤◌, ◌<◌, ◌↔◌, ℕ, [], length, map, IfSome, IsSome, IsTrue, slice_index_or, slice_set};
 ghost use Rattle.std.specs.List.{AllByRecursion};
-ghost use Rattle.dmc_ledger.specs.Accounts.{closed};
+ghost use Rattle.dmc_ledger.specs.Accounts.{after_closing};
 ghost use Rattle.dmc_ledger.specs.Bundles.{client_side, grant_accounts, grant_holdings};
 ghost use Rattle.dmc_book.specs.BookState.{pass_state, worker_accounts, worker_holdings, worker_side, no_desk, no_worker};
 ghost use Rattle.dmc_book.specs.Moves.{AreOf};
@@ -105,7 +105,7 @@ pub(crate) fn are_own<S: Setup>(
 fn take_till<S: Setup>(book: &mut Book<S>, till: Till<S>)
     requires { till.number ≡ book.old.number }
     ensures taken { IsTakenIn 1 till.amount book.old book.new }
-    ensures only { book.old.open_tills ≡ 1 → book.new ≡ closed book.old }
+    ensures only { book.old.open_tills ≡ 1 → book.new ≡ after_closing book.old }
 {
     book.gather(till);
 }

@@ -14,7 +14,7 @@ use Rattle.dmc_tag.specs.Tag.{Tagging, Fraction, IsExact}
 use Rattle.dmc_tag.specs.State.{State, is_client, requests_of, effective, opening}
 use Rattle.dmc_tag.specs.Rules as rules_of
 use Rattle.dmc_tag.specs.Rules.{Outcome}
-use Rattle.dmc_tag.specs.Step.{settled, step}
+use Rattle.dmc_tag.specs.Step.{answer_of, step}
 use Rattle.dmc_tag.specs.declared.plain.PlainRequest.{PlainRequest}
 use Rattle.dmc_tag.specs.declared.reply.Reply.{Reply}
 use Rattle.dmc_tag.specs.declared.reply.Reply.TheVariants.{Granted}
@@ -52,7 +52,7 @@ module _ {T : Type 0} (ops : Tagging T) (order : IsTotalOrder ops.compare) (id :
 
   module _ (s : State T) where
     abbrev Goes : Command → Outcome T → Type 0
-    Goes c o = Moves c s (settled s o)
+    Goes c o = Moves c s (answer_of s o)
 
     refused : (c : Command) (e : Refusal) → Goes c (Err e)
     refused (Register client info at) e = (none_left _, omega arith, tt)

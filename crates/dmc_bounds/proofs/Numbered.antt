@@ -11,7 +11,7 @@ use Rattle.dmc_types.specs.declared.command.Command.TheVariants.{Register, Add, 
 use Rattle.dmc_tag.specs.Tag.{Fraction, Tagging, IsExact}
 use Rattle.dmc_tag.specs.State.{State, is_client, client_named, effective, requests_of, opening}
 use Rattle.dmc_tag.specs.Rules as rules_of
-use Rattle.dmc_tag.specs.Step.{settled, step}
+use Rattle.dmc_tag.specs.Step.{answer_of, step}
 use Rattle.dmc_tag.specs.declared.plain.PlainClient.{PlainClient}
 use Rattle.dmc_tag.specs.declared.reply.Tags.{Tags}
 use Rattle.dmc_tag.specs.declared.reply.Reply.{Reply}
@@ -87,8 +87,8 @@ module _ {T : Type 0} (ops : Tagging T) (fraction : T → Fraction) (is_value : 
   Opens c p = Arrives id c p.1 → AreDistinct p.0.clients → rate_of p.0 ≡ Some q → Opened p.0
 
   opens_by : (s : State T) (c : Command) → IsSound ops fraction is_value exact order config some s → Opens c (step ops s c)
-  opens_by s (Add client token params at) is = bind_goes (λ o. Opens (Add client token params at) (settled s o)) (rules_of.can_add ops s client params (ops.of_moment (effective s at))) _ (λ e arrives. absurd arrives) (λ x e arrives. added_paced s is client token params (effective s at) arrives x e)
-  opens_by s (Register client info at) is = bind_goes (λ o. Opens (Register client info at) (settled s o)) (rules_of.can_register ops s client info) _ (λ e arrives. absurd arrives) (λ x e arrives. absurd arrives)
+  opens_by s (Add client token params at) is = bind_goes (λ o. Opens (Add client token params at) (answer_of s o)) (rules_of.can_add ops s client params (ops.of_moment (effective s at))) _ (λ e arrives. absurd arrives) (λ x e arrives. added_paced s is client token params (effective s at) arrives x e)
+  opens_by s (Register client info at) is = bind_goes (λ o. Opens (Register client info at) (answer_of s o)) (rules_of.can_register ops s client info) _ (λ e arrives. absurd arrives) (λ x e arrives. absurd arrives)
   opens_by s c is = λ arrives. absurd arrives
 
   -- right after an accepted add
@@ -188,7 +188,7 @@ module _ {T : Type 0} (ops : Tagging T) (fraction : T → Fraction) (is_value : 
     at reservations h = h
 
   grant_within : (from taken sent : ℕ) (waiting : List ℕ) (s : State T) (at : ℕ) (token : Token) → Sound s → Paced from taken sent waiting s → (step ops s (Pull at)).1 ≡ Granted id token (phase_of side) false → IsWithin ops fraction is_value exact order id side config.hz q from taken waiting (effective s at)
-  grant_within from taken sent waiting s at token is paced = pull_is ops order s (effective s at) is.turn.pairs (λ o. (settled s o).1 ≡ Granted id token (phase_of side) false → Within) (λ e k. cc) (λ m k. cc) (λ k. cc) (λ r others amount phase beyond g k.
+  grant_within from taken sent waiting s at token is paced = pull_is ops order s (effective s at) is.turn.pairs (λ o. (answer_of s o).1 ≡ Granted id token (phase_of side) false → Within) (λ e k. cc) (λ m k. cc) (λ k. cc) (λ r others amount phase beyond g k.
       let same : r.client ≡ id = cc in
       let own : is_client id r.client ≡ true = ap (is_client id) same ∙ itself_id id in
       let phase_is : phase ≡ phase_of side = cc in

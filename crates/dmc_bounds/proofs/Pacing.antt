@@ -19,7 +19,7 @@ use Rattle.dmc_tag.specs.State.{State, is_client, effective, requests_of}
 use Rattle.dmc_tag.specs.Best.{is_due}
 use Rattle.dmc_tag.specs.Rules as rules_of
 use Rattle.dmc_tag.specs.Rules.{Outcome}
-use Rattle.dmc_tag.specs.Step.{settled, outcome}
+use Rattle.dmc_tag.specs.Step.{answer_of, outcome}
 use Rattle.dmc_tag.specs.declared.plain.PlainRequest.{PlainRequest}
 use Rattle.dmc_tag.specs.declared.plain.PlainClient.{PlainClient}
 use Rattle.dmc_tag.specs.declared.reply.Reply.{Reply}
@@ -97,7 +97,7 @@ module _ {T : Type 0} (ops : Tagging T) (fraction : T → Fraction) (is_value : 
 
   module _ (taken sent : ℕ) (waiting : List ℕ) (s : State T) (is : IsPaced taken sent waiting s) where
     abbrev Goes : Command → Outcome T → Type 0
-    Goes c o = Paces taken sent waiting c (settled s o)
+    Goes c o = Paces taken sent waiting c (answer_of s o)
 
     same_taken : (sent : ℕ) (waiting : List ℕ) (new : State T) → IsPaced taken sent waiting new → IsPaced (taken + taken_in side 0) sent waiting new
     same_taken sent waiting new h = subst (λ n. IsPaced n sent waiting new) (none_taken taken) h

@@ -52,15 +52,15 @@ module _ {T : Type 0} (ops : Tagging T) (order : IsTotalOrder ops.compare) where
   pub same_queued : (a b : ClientId) (xs : List (PlainRequest T)) → is_client a b ≡ true → has_queued a xs ≡ true → has_queued b xs ≡ true
   same_queued a b xs e h = let x : b.0 ≡ a.0 = eqb-true b.0 a.0 e in ap (λ n. list_any (λ (r : PlainRequest T). r.client.0 == n) xs) x ∙ h
 
-  cleaned_known : (s : State T) (t : ℕ) (x : PlainRequest T) → has_queued x.client s.requests ≡ true → IsKnown ops order s.clients x → IsKnown ops order (map (rules_of.marked s t) (filter (λ c. not (rules_of.is_erased s t c)) s.clients)) x
+  cleaned_known : (s : State T) (t : ℕ) (x : PlainRequest T) → has_queued x.client s.requests ≡ true → IsKnown ops order s.clients x → IsKnown ops order (map (rules_of.with_idle_mark s t) (filter (λ c. not (rules_of.is_erased s t c)) s.clients)) x
   cleaned_known s t x queued k =
       let here : has_queued k.client.id s.requests ≡ true = same_queued x.client k.client.id s.requests (mine s.clients x.client k.client k.named) queued in
       let kept = find_kept (λ (c : PlainClient T). is_client x.client c.id) (λ c. not (rules_of.is_erased s t c)) s.clients k.client k.named (ap not (not_stale s.requests t s.config.erase_age k.client here)) in
       let busy = ap (λ b. b || rules_of.is_stale s.requests t s.config.idle_age k.client) k.follows.busy ∙ not_stale s.requests t s.config.idle_age k.client here in
-      known_mapped (rules_of.marked s t) (λ c. refl) _ x k.client kept (record { busy = busy; reserved = k.follows.reserved; r = k.follows.r; l = k.follows.l; p = k.follows.p })
+      known_mapped (rules_of.with_idle_mark s t) (λ c. refl) _ x k.client kept (record { busy = busy; reserved = k.follows.reserved; r = k.follows.r; l = k.follows.l; p = k.follows.p })
 
-  pub cleaned_turn : (s : State T) (t : ℕ) → AreInTurn ops order s → AreInTurn ops order (record s { clients = map (rules_of.marked s t) (filter (λ c. not (rules_of.is_erased s t c)) s.clients); last_moment = t })
-  cleaned_turn s t is = record { pairs = is.pairs; known = all_as _ (IsKnown ops order (map (rules_of.marked s t) (filter (λ c. not (rules_of.is_erased s t c)) s.clients))) (λ x h. cleaned_known s t x h.0 h.1) s.requests (all_both _ _ s.requests (queued_own s.requests) is.known); distinct = ids-kept (rules_of.marked s t) (λ c. refl) _ (pairs_kept Differ _ s.clients is.distinct) }
+  pub cleaned_turn : (s : State T) (t : ℕ) → AreInTurn ops order s → AreInTurn ops order (record s { clients = map (rules_of.with_idle_mark s t) (filter (λ c. not (rules_of.is_erased s t c)) s.clients); last_moment = t })
+  cleaned_turn s t is = record { pairs = is.pairs; known = all_as _ (IsKnown ops order (map (rules_of.with_idle_mark s t) (filter (λ c. not (rules_of.is_erased s t c)) s.clients))) (λ x h. cleaned_known s t x h.0 h.1) s.requests (all_both _ _ s.requests (queued_own s.requests) is.known); distinct = ids-kept (rules_of.with_idle_mark s t) (λ c. refl) _ (pairs_kept Differ _ s.clients is.distinct) }
 
   -- ---- a request leaves the list
 

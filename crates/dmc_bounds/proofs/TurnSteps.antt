@@ -22,7 +22,7 @@ use Rattle.dmc_tag.specs.State.{State, is_client, has_queued, client_named, effe
 use Rattle.dmc_tag.specs.Best.{best, by_weight, is_any}
 use Rattle.dmc_tag.specs.Rules as rules_of
 use Rattle.dmc_tag.specs.Rules.{Outcome, next_tags}
-use Rattle.dmc_tag.specs.Step.{settled, outcome}
+use Rattle.dmc_tag.specs.Step.{answer_of, outcome}
 use Rattle.dmc_tag.specs.declared.plain.PlainRequest.{PlainRequest}
 use Rattle.dmc_tag.specs.declared.plain.PlainClient.{PlainClient}
 use Rattle.dmc_tag.specs.declared.spacing.Spacings.{Spacings}
@@ -78,7 +78,7 @@ module _ {T : Type 0} (ops : Tagging T) (fraction : T → Fraction) (is_value : 
   Turn s = AreInTurn ops order s
 
   abbrev Stays : State T → Outcome T → Type 0
-  Stays s o = Turn ((settled s o).0) × (((settled s o).0).config ≡ s.config)
+  Stays s o = Turn ((answer_of s o).0) × (((answer_of s o).0).config ≡ s.config)
 
   -- ---- add
 

@@ -91,10 +91,10 @@ abbrev pub requests_told : Result (ℕ × ℕ) Fault → ℕ → ℕ
 requests_told (Ok counts) old = counts.1
 requests_told (Err fault) old = old
 
--- a value that a call answered
-abbrev pub told : {X : Type 0} → Result X Fault → X → X
-told (Ok x) old = x
-told (Err fault) old = old
+-- the value that a call answered, or what stood there
+abbrev pub value_or_old : {X : Type 0} → Result X Fault → X → X
+value_or_old (Ok x) old = x
+value_or_old (Err fault) old = old
 
 -- ---- trackers
 

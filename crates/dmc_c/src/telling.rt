@@ -1,6 +1,6 @@
 //! What C reads: the header's structs, and how a reply is written to them. A call that is not `DMC_OK` writes nothing.
 ghost use Rattle.std.specs.Prelude.{◌≡◌};
-ghost use Rattle.dmc_c.specs.Telling.{value_of, IsTags, granted, future, TagsTold, pulled_told, removed_told, idled_told, erased_told, clients_told, requests_told, stamp_told, told};
+ghost use Rattle.dmc_c.specs.Telling.{value_of, IsTags, granted, future, TagsTold, pulled_told, removed_told, idled_told, erased_told, clients_told, requests_told, stamp_told, value_or_old};
 
 use crate::fault::Fault;
 use dmc_front::fraction::TagFraction;
@@ -213,7 +213,7 @@ pub fn tell_stamp(answer: &Result<ReqParams, Fault>, out: &mut DmcStamp)
 
 /// Writes a value that a call answered.
 pub fn tell<X: Copy + Drop>(answer: &Result<X, Fault>, out: &mut X)
-    ensures { out.new ≡ told answer.now out.old }
+    ensures { out.new ≡ value_or_old answer.now out.old }
 {
     if let Ok(value) = answer {
         *out = *value;

@@ -5,7 +5,7 @@ ghost use Rattle.dmc_types.specs.declared.ids.ServerId.{ServerId};
 ghost use Rattle.dmc_c.specs.declared.fault.Fault.{Fault};
 ghost use Rattle.dmc_c.specs.Codes.{code_of};
 ghost use Rattle.dmc_c.specs.Reading as reading;
-ghost use Rattle.dmc_c.specs.Telling.{told, stamp_told};
+ghost use Rattle.dmc_c.specs.Telling.{value_or_old, stamp_told};
 ghost use Rattle.dmc_c.specs.Calls.{StampsHeld, RespondsHeld, track_held, new_tracker, Makes, tracker_opened, Opens};
 
 use crate::fault::{Fault, code_of};
@@ -156,7 +156,7 @@ pub extern "C" fn dmc_tracker_status(
 ) -> u32
     ensures code { result ≡ code_of (track_held (record { 0 = server }) tracker.old.value) }
     ensures same { tracker.new.value ≡ tracker.old.value }
-    ensures written { status.new ≡ told (track_held (record { 0 = server }) tracker.old.value) status.old }
+    ensures written { status.new ≡ value_or_old (track_held (record { 0 = server }) tracker.old.value) status.old }
 {
     let answer = track(tracker, ServerId(server), alloc);
     tell(&answer, status);

@@ -18,10 +18,10 @@ use Rattle.dmc_text.specs.Texts.{lines_of, AppendsSome, ReadsWithin}
 use Rattle.dmc_text.specs.Runs.{turn_of}
 use Rattle.dmc_text.specs.LineLaws.{first_line, no_line, line_first, last_line, lines_behind, leads, behind_line, line_and_more, shorter, long_kind, consumes_twice}
 use Rattle.dmc_check.specs.declared.replay.Replay.{Replay}
-use Rattle.dmc_check.specs.declared.line.EventLine.TheVariants.{Told}
+use Rattle.dmc_check.specs.declared.line.EventLine.TheVariants as event_lines
 use Rattle.dmc_check.specs.declared.text.Checking.{Checking}
 use Rattle.dmc_check.specs.declared.text.Checked.{Checked}
-use Rattle.dmc_check.specs.EventLines.{event_of, told}
+use Rattle.dmc_check.specs.EventLines.{event_of, event_line_of_kind}
 use Rattle.dmc_check.specs.EventTexts.{Recorded, with_line, or_fault, with_lines, record_of, verdict_text, ChecksAs}
 use Rattle.dmc_check.specs.Checking.{Holds, IsBelow, Progress, Taken, Takes, IsCounted, IsFaultHere, IsFaulty, Turns, Starts, Ends, closed_of, left}
 use Rattle.dmc_check.specs.Verdicts.{Stands}
@@ -46,13 +46,13 @@ module _ {T : Type 0} (ops : Tagging T) (made : ℤ → ℕ → Option T) where
   headed (Some r) (Some replay) h = refl
 
   told_holds : (recorded : Option (Recorded T)) (old new : Replay T) (event : Event T) → ((config : Setting) (events : List (Event T)) → Stands ops config events old → Stands ops config (events ++ event ∷ []) new)
-      → Holds ops recorded (Some old) → Holds ops (with_line recorded (Told event)) (Some new)
+      → Holds ops recorded (Some old) → Holds ops (with_line recorded (event_lines.Event event)) (Some new)
   told_holds None old new event f h = absurd h
   told_holds (Some r) old new event f h = f r.config r.events h
 
   -- an event is replayed
   pub told_on : {X E : Type 0} (result : Result X E) (old new : Replay T) (event : Event T) → ((config : Setting) (events : List (Event T)) → Stands ops config events old → OnOk result (Stands ops config (events ++ event ∷ []) new))
-      → OnOk result ((recorded : Option (Recorded T)) → Holds ops recorded (Some old) → Holds ops (with_line recorded (Told event)) (Some new))
+      → OnOk result ((recorded : Option (Recorded T)) → Holds ops recorded (Some old) → Holds ops (with_line recorded (event_lines.Event event)) (Some new))
   told_on (Ok x) old new event f = λ recorded h. told_holds recorded old new event f h
   told_on (Err e) old new event f = tt
 
@@ -99,7 +99,7 @@ module _ {T : Type 0} (ops : Tagging T) (made : ℤ → ℕ → Option T) where
       fault_first recorded old.number cause (old.lines.rest ++ more) l.line (lines_of (l.rest ++ more)) (line_and_more old.lines.rest l more found) (ap (λ b. event_of made b l.line) same ∙ e)
 
   long_line : (heads : Bool) (line : List ℕ) → 256 < length line → event_of made heads line ≡ Err Bytes
-  long_line heads line h = ap (λ k. k >>= λ x. told made x (words line)) (long_kind heads line h)
+  long_line heads line h = ap (λ k. k >>= λ x. event_line_of_kind made x (words line)) (long_kind heads line h)
 
   pub long : (old : Checking T) (rest : List ℕ) → old.lines.rest ≡ rest → next_line rest ≡ None → 256 < length rest → IsFaultHere made old Bytes
   long old [] same none h = absurd (omega (arith, h))

@@ -17,7 +17,8 @@ use Rattle.dmc_text.specs.Replies.{Saying, saying, reply_said, seen_reply}
 use Rattle.dmc_text.specs.Lines.{kind_of}
 use Rattle.dmc_check.specs.declared.line.EventWords.{EventWords}
 use Rattle.dmc_check.specs.declared.line.EventLine.{EventLine}
-use Rattle.dmc_check.specs.declared.line.EventLine.TheVariants.{Skip, Config, Told}
+use Rattle.dmc_check.specs.declared.line.EventLine.TheVariants.{Skip, Config}
+use Rattle.dmc_check.specs.declared.line.EventLine.TheVariants as event_lines
 
 -- ---- words
 
@@ -55,14 +56,14 @@ event_said made s = do
 -- ---- lines
 
 -- what the words of a line of this kind say
-abbrev pub told : {T : Type 0} → (ℤ → ℕ → Option T) → LineKind → List (List ℕ) → Result (EventLine T) LineCause
-told made kinds.Skip ws = Ok Skip
-told made (kinds.Config config) ws = Ok (Config config)
-told made kinds.Command ws = event_words ws >>= event_said made >>= (λ event. Ok (Told event))
+abbrev pub event_line_of_kind : {T : Type 0} → (ℤ → ℕ → Option T) → LineKind → List (List ℕ) → Result (EventLine T) LineCause
+event_line_of_kind made kinds.Skip ws = Ok Skip
+event_line_of_kind made (kinds.Config config) ws = Ok (Config config)
+event_line_of_kind made kinds.Command ws = event_words ws >>= event_said made >>= (λ event. Ok (event_lines.Event event))
 
 -- what a line says; headed: an hz line was read before
 abbrev pub event_of : {T : Type 0} → (ℤ → ℕ → Option T) → Bool → List ℕ → Result (EventLine T) LineCause
-event_of made headed line = kind_of headed line >>= λ k. told made k (words line)
+event_of made headed line = kind_of headed line >>= λ k. event_line_of_kind made k (words line)
 
 -- ---- the code's words
 

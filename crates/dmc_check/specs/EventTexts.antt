@@ -12,11 +12,12 @@ use Rattle.dmc_text.specs.declared.cause.LineCause.TheVariants.{Hz}
 use Rattle.dmc_text.specs.declared.script.ScriptFault.{ScriptFault}
 use Rattle.dmc_text.specs.declared.script.ScriptFault.TheVariants as faults
 use Rattle.dmc_text.specs.Reading.{most_bytes}
-use Rattle.dmc_text.specs.Texts.{lines_of, ended, AppendsSome, ReadsWithin}
+use Rattle.dmc_text.specs.Texts.{lines_of, with_line_end, AppendsSome, ReadsWithin}
 use Rattle.dmc_check.specs.declared.check.Verdict.{Verdict}
 use Rattle.dmc_check.specs.declared.check.Verdict.TheVariants.{Replays, Differs}
 use Rattle.dmc_check.specs.declared.line.EventLine.{EventLine}
-use Rattle.dmc_check.specs.declared.line.EventLine.TheVariants.{Skip, Config, Told}
+use Rattle.dmc_check.specs.declared.line.EventLine.TheVariants.{Skip, Config}
+use Rattle.dmc_check.specs.declared.line.EventLine.TheVariants as event_lines
 use Rattle.dmc_check.specs.EventLines.{event_of}
 use Rattle.dmc_check.specs.Verdicts.{IsVerdict}
 
@@ -31,8 +32,8 @@ pub record Recorded (T : Type 0) : Type 0 where
 abbrev pub with_line : {T : Type 0} → Option (Recorded T) → EventLine T → Option (Recorded T)
 with_line r Skip = r
 with_line r (Config config) = Some (record { config = config; events = [] })
-with_line None (Told event) = None
-with_line (Some r) (Told event) = Some (record { config = r.config; events = r.events ++ event ∷ [] })
+with_line None (event_lines.Event event) = None
+with_line (Some r) (event_lines.Event event) = Some (record { config = r.config; events = r.events ++ event ∷ [] })
 
 abbrev pub or_fault : {T X : Type 0} → ℕ → Result T LineCause → (T → Result X (ℕ × LineCause)) → Result X (ℕ × LineCause)
 or_fault n (Err cause) more = Err (n, cause)
@@ -52,8 +53,8 @@ record_of made text = with_lines made None 1 (lines_of text)
 
 -- the line of a verdict on so many events
 abbrev pub verdict_text : Verdict → ℕ → List ℕ
-verdict_text Replays n = ended (join_with_byte 32 (codes "replays" ∷ decimal n ∷ []))
-verdict_text (Differs i) n = ended (join_with_byte 32 (codes "differs" ∷ decimal i ∷ []))
+verdict_text Replays n = with_line_end (join_with_byte 32 (codes "replays" ∷ decimal n ∷ []))
+verdict_text (Differs i) n = with_line_end (join_with_byte 32 (codes "differs" ∷ decimal i ∷ []))
 
 -- ---- what a check does
 

@@ -24,7 +24,7 @@ pub enum EventLine<T> {
     /// How the queue is set up.
     Config(QueueConfig),
     /// What a worker asked, and what was answered.
-    Told(Event<T>),
+    Event(Event<T>),
 }
 
 /// An event whose words are not read as numbers or tags yet.
@@ -82,6 +82,6 @@ pub fn read_event_line<T: TagText>(line: &[u8], headed: bool) -> Result<EventLin
     match read_kind(line, headed)? {
         LineKind::Skip => Ok(EventLine::Skip),
         LineKind::Config(config) => Ok(EventLine::Config(config)),
-        LineKind::Command => Ok(EventLine::Told(read_event(event_words(line)?)?)),
+        LineKind::Command => Ok(EventLine::Event(read_event(event_words(line)?)?)),
     }
 }

@@ -49,7 +49,7 @@ fn carry_out<T: TagText>(
             *replay = Some(Replay::new(alloc, config));
             Ok(())
         }
-        EventLine::Told(event) => match replay {
+        EventLine::Event(event) => match replay {
             None => Ok(()),
             Some(replay) => replay.add(&event),
         },

@@ -6,7 +6,7 @@ use Rattle.dmc_types.specs.declared.config.TagKind.TheVariants as kinds
 use Rattle.dmc_tick.specs.Tick.{tick, tick_ops}
 use Rattle.dmc_ratio.specs.Ratio.{Ratio, ratio_ops}
 use Rattle.dmc_text.specs.declared.script.ScriptFault.{ScriptFault}
-use Rattle.dmc_text.specs.RatioText.{kept}
+use Rattle.dmc_text.specs.RatioText.{ratio_if_lowest}
 use Rattle.dmc_text.specs.Replies.{in_ticks, tag_text}
 use Rattle.dmc_text.specs.Texts.{RunsAs}
 use Rattle.dmc_check.specs.declared.check.Verdict.{Verdict}
@@ -40,7 +40,7 @@ RunsScript kinds.Ratio before after old new ended = RunsAs ratio_ops ratio_text 
 -- what a check reads and writes on tags of this kind
 abbrev pub ChecksEvents : TagKind → (before after old new : Option (List ℕ)) → Result Verdict ScriptFault → Type 0
 ChecksEvents kinds.Tick before after old new ended = ChecksAs tick_ops tick_of before after old new ended
-ChecksEvents kinds.Ratio before after old new ended = ChecksAs ratio_ops kept before after old new ended
+ChecksEvents kinds.Ratio before after old new ended = ChecksAs ratio_ops ratio_if_lowest before after old new ended
 
 -- ---- how a run ends
 

@@ -74,8 +74,8 @@ tool_in written = option_and_then (λ m.
     (find (λ c. bytes_eq (name_of c) m.0) written))
 
 -- the tool that the words ask for
-abbrev pub asked : List ToolCommand → List Text → Option Tool
-asked written words = tool_in written (match_of words)
+abbrev pub tool_of_words : List ToolCommand → List Text → Option Tool
+tool_of_words written words = tool_in written (match_of words)
 
 -- the fault that stands for an error of clap
 abbrev pub fault_at : ErrorKind → WordsFault

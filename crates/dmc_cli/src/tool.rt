@@ -2,7 +2,7 @@
 ghost use Rattle.std.specs.Prelude.{◌≡◌, ◌≤◌, map};
 ghost use Rattle.dmc_cli.specs.Faults.{status_of};
 ghost use Rattle.dmc_cli.specs.Runs.{RunsTool, RunsWords};
-ghost use Rattle.dmc_cli.specs.Words.{asked};
+ghost use Rattle.dmc_cli.specs.Words.{tool_of_words};
 
 use crate::fault::Fault;
 use crate::outcome::Outcome;
@@ -23,7 +23,7 @@ pub fn run_tool<T: AllocGlobal + Threads + Wait + Sync, S: AsStr, R: Read, W: Wr
     writer: &mut W,
     fault_writer: &mut E,
 ) -> u8
-    ensures runs { RunsTool (asked WRITTEN (map S.text words.now))
+    ensures runs { RunsTool (tool_of_words WRITTEN (map S.text words.now))
         (R.remaining reader.old) (R.remaining reader.new) (W.contents writer.old) (W.contents writer.new) result }
     ensures status { result ≤ 4 }
 {
@@ -48,7 +48,7 @@ fn run_words<T: AllocGlobal + Threads + Wait + Sync, S: AsStr, R: Read, W: Write
     reader: &mut R,
     writer: &mut W,
 ) -> Result<Outcome, Fault>
-    ensures { RunsWords (asked WRITTEN (map S.text words.now))
+    ensures { RunsWords (tool_of_words WRITTEN (map S.text words.now))
         (R.remaining reader.old) (R.remaining reader.new) (W.contents writer.old) (W.contents writer.new) result }
 {
     let alloc = rt.alloc();

@@ -3,7 +3,7 @@ ghost use Rattle.std.specs.Prelude.{◌≡◌, IfOk, false, find, map};
 ghost use Rattle.std.specs.Str.{bytes_eq};
 ghost use Rattle.clap.specs.Words.{app_of, found_of, kind_of, rows_of, subcommand_rows_of};
 ghost use Rattle.clap.specs.declared.builder.command.Command.TheViews.{out-Command as fields_of};
-ghost use Rattle.dmc_cli.specs.Words.{asked, fault_at, kind_named, name_of, program_app, tagged_app, tags_in, tool_in};
+ghost use Rattle.dmc_cli.specs.Words.{tool_of_words, fault_at, kind_named, name_of, program_app, tagged_app, tags_in, tool_in};
 ghost use Rattle.dmc_cli.specs.declared.words.WordsFault.TheVariants.{Memory, Usage};
 
 use clap::error::ErrorKind;
@@ -86,8 +86,8 @@ impl ToolCommand {
 /// The tool that the words ask for, as clap matches them; they are the arguments after the program's name. Without
 /// the option `--tags` the tags are ticks.
 pub fn read_words<S: AsStr>(alloc: Global, words: &[S]) -> Result<Tool, WordsFault>
-    ensures ok { IfOk result (λ tool. asked WRITTEN (map S.text words.now) ≡ Some tool) }
-    ensures usage { result ≡ Err WordsFault.Usage → asked WRITTEN (map S.text words.now) ≡ None }
+    ensures ok { IfOk result (λ tool. tool_of_words WRITTEN (map S.text words.now) ≡ Some tool) }
+    ensures usage { result ≡ Err WordsFault.Usage → tool_of_words WRITTEN (map S.text words.now) ≡ None }
 {
     let matches = program(alloc)?.try_get_matches_from(words)?;
     tool_of(&matches).ok_or(WordsFault::Usage)

@@ -14,7 +14,7 @@ use Rattle.dmc_tag.specs.Tag.{Tagging}
 use Rattle.dmc_tag.specs.State.{State, StandsFor, effective}
 use Rattle.dmc_tag.specs.Outcome.{◌>>=◌}
 use Rattle.dmc_tag.specs.Rules.{can_add, added}
-use Rattle.dmc_tag.specs.Step.{step, settled, outcome as step_outcome}
+use Rattle.dmc_tag.specs.Step.{step, answer_of, outcome as step_outcome}
 use Rattle.dmc_tag.specs.Steps.{Steps}
 use Rattle.dmc_tag.specs.declared.reply.Tags.{Tags}
 use Rattle.dmc_tag.specs.declared.reply.Reply.{Reply}

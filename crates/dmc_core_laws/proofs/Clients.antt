@@ -25,7 +25,7 @@ use Rattle.dmc_core.specs.declared.event.Message.{Message}
 use Rattle.dmc_core.specs.declared.event.CoreReply.TheVariants.{Served}
 use Rattle.dmc_core.specs.Run.{Pair, Client, no_pair, pair_at, with_pair, with_flight, grants, with_grants, change_first}
 use Rattle.dmc_core.specs.Events.{after_stamp, after_arrival, client_after_arrival, after_grant, after_response}
-use Rattle.dmc_core_laws.specs.Histories.{is_server, recorded, entry}
+use Rattle.dmc_core_laws.specs.Histories.{is_server, recorded_events, entry}
 use Rattle.dmc_core_laws.specs.Bounds.{stamp_in, stamps_to}
 
 -- ---- the first that passes a test, after a change
@@ -157,7 +157,7 @@ module _ (counting : Counting) (s : ServerId) (arrived : List Params) (c : Clien
   -- an arrival at q
   module _ {T : Type 0} (id : ClientId) (q : ServerId) (m : Message) (at : ℕ) (first : slice_get (pair_at q c.pairs).flight 0 ≡ Some m) where
     abbrev told_of : Reply T → List (Event T)
-    told_of reply = recorded (is_server s q) (Some (commands.Add id m.token m.params at)) (Ok (Served reply))
+    told_of reply = recorded_events (is_server s q) (Some (commands.Add id m.token m.params at)) (Ok (Served reply))
 
     abbrev Follows : Reply T → Type 0
     Follows reply = IsFollowed counting s (arrived ++ params_of (arrivals id (told_of reply))) (client_after_arrival q reply c)
@@ -166,14 +166,14 @@ module _ (counting : Counting) (s : ServerId) (arrived : List Params) (c : Clien
     unaccepted : (reply : Reply T) → ((pair : Pair) → after_arrival reply pair ≡ pair) → arrivals id (entry (commands.Add id m.token m.params at) reply ∷ []) ≡ [] → Follows reply
     unaccepted reply same none = subst (λ ps. IsFollowed counting s ps (client_after_arrival q reply c)) (sym (ap (λ (qs : List Arrival). arrived ++ params_of qs) (by (is_server s q)) ∙ append-nil arrived)) (stays q reply same)
       where
-        by : (b : Bool) → arrivals id (recorded b (Some (commands.Add id m.token m.params at)) (Ok (Served reply))) ≡ []
+        by : (b : Bool) → arrivals id (recorded_events b (Some (commands.Add id m.token m.params at)) (Ok (Served reply))) ≡ []
         by true = none
         by false = refl
 
     accepted : (tags : Tags T) → Follows (replies.Tagged tags)
     accepted tags = record { tracked = f.tracked; paired = paired_after q _; stamps = by (q.0 == s.0) refl }
       where
-        by : (b : Bool) → (q.0 == s.0) ≡ b → (arrived ++ params_of (arrivals id (recorded b (Some (commands.Add id m.token m.params at)) (Ok (Served (replies.Tagged tags)))))) ++ params_in (pair_at s (with_pair q (without_first q) c.pairs)).flight ≡ stamps_to s c.list
+        by : (b : Bool) → (q.0 == s.0) ≡ b → (arrived ++ params_of (arrivals id (recorded_events b (Some (commands.Add id m.token m.params at)) (Ok (Served (replies.Tagged tags)))))) ++ params_in (pair_at s (with_pair q (without_first q) c.pairs)).flight ≡ stamps_to s c.list
         by true e =
             let own : is_client id id ≡ true = eq-eqb id.0 id.0 refl in
             let place : q.0 ≡ s.0 = eqb-true q.0 s.0 e in

@@ -22,7 +22,7 @@ use Rattle.dmc_core.specs.declared.event.CoreFault.{CoreFault}
 use Rattle.dmc_core.specs.Run.{Run, pair_at}
 use Rattle.dmc_core.specs.Events.{cluster_step, after_pull, registration, run_after}
 use Rattle.dmc_core.specs.Opening.{named_rates, opening_of}
-use Rattle.dmc_core_laws.specs.Histories.{Answer, is_server, server_named, handed, recorded, registrations, history_from, oldest, HistoriesReplay}
+use Rattle.dmc_core_laws.specs.Histories.{Answer, is_server, server_named, queue_command, recorded_events, registrations, history_from, oldest, HistoriesReplay}
 use Rattle.dmc_core_laws.proofs.Given.{step_goes, Gives, gives}
 
 -- ---- lists
@@ -46,12 +46,12 @@ at_replicate (suc n) (suc i) x within = at_replicate n i x (omega (arith, within
 
 -- ---- what is recorded
 
-pub nothing_refused : {T : Type 0} (here : Bool) (command : Option Command) (fault : CoreFault) → recorded {T = T} here command (Err fault) ≡ []
+pub nothing_refused : {T : Type 0} (here : Bool) (command : Option Command) (fault : CoreFault) → recorded_events {T = T} here command (Err fault) ≡ []
 nothing_refused true None fault = refl
 nothing_refused true (Some command) fault = refl
 nothing_refused false command fault = refl
 
-pub nothing_handed : {T : Type 0} (here : Bool) (answer : Answer T) → recorded here None answer ≡ []
+pub nothing_handed : {T : Type 0} (here : Bool) (answer : Answer T) → recorded_events here None answer ≡ []
 nothing_handed true answer = refl
 nothing_handed false answer = refl
 
@@ -83,9 +83,9 @@ module _ {T : Type 0} (ops : Tagging T) where
 
     -- a command to the queue of a server
     served : (server : ServerId) (command : Command) (old : State T) (handed_is : Option Command) (next : Run T) (reply : Reply T) → slice_get run.servers server.0 ≡ Some old → handed_is ≡ Some command
-        → reply ≡ (step ops old command).1 → next.servers ≡ set run.servers server.0 ((step ops old command).0) → Told s u (recorded (is_server s server) handed_is (Ok (Served reply))) next
+        → reply ≡ (step ops old command).1 → next.servers ≡ set run.servers server.0 ((step ops old command).0) → Told s u (recorded_events (is_server s server) handed_is (Ok (Served reply))) next
     served server command old handed_is next reply found asked reply_is servers_are = by (is_server s server) refl where
-      by : (b : Bool) → is_server s server ≡ b → Told s u (recorded b handed_is (Ok (Served reply))) next
+      by : (b : Bool) → is_server s server ≡ b → Told s u (recorded_events b handed_is (Ok (Served reply))) next
       by true e =
           let place : server.0 ≡ s.0 = eqb-true server.0 s.0 e in
           let same : old ≡ u = some_is (sym found ∙ ap (slice_get run.servers) place ∙ here) in
@@ -102,12 +102,12 @@ module _ {T : Type 0} (ops : Tagging T) where
 
   -- one event
   pub accepted : (s : ServerId) (u : State T) (run : Run T) → slice_get run.servers s.0 ≡ Some u → (e : CoreEvent) (x : Run T × CoreReply T) → Gives ops run e x
-      → Told s u (recorded (is_server s (server_named e)) (handed run e) (Ok x.1)) x.0
+      → Told s u (recorded_events (is_server s (server_named e)) (queue_command run e) (Ok x.1)) x.0
   accepted s u run here (Stamp id server token) x g = quiet s u run here _ x.0 (nothing_handed (is_server s server) (Ok x.1)) (ap (λ (y : Run T × CoreReply T). y.0.servers) g.is)
   accepted s u run here (Respond id server phase) x g = quiet s u run here _ x.0 (nothing_handed (is_server s server) (Ok x.1)) (ap (λ (y : Run T × CoreReply T). y.0.servers) g.is)
   accepted s u run here (Arrive id server at) x g =
       let oldest_is : oldest run id server ≡ Some g.message = ap (option_and_then (λ c. slice_get (pair_at server c.pairs).flight 0)) g.found ∙ g.first in
-      rw g.is (served s u run here server (commands.Add id g.message.token g.message.params at) g.state (handed run (Arrive id server at)) _ _ g.state_is
+      rw g.is (served s u run here server (commands.Add id g.message.token g.message.params at) g.state (queue_command run (Arrive id server at)) _ _ g.state_is
       (ap (option_map (λ m. commands.Add id m.token m.params at)) oldest_is) refl refl)
   accepted s u run here (Pull server at) x g = rw g.is (served s u run here server (commands.Pull at) g.state (Some (commands.Pull at)) _ _ g.state_is refl refl (pull_leaves_servers server _ _))
   accepted s u run here (Update server id info at) x g = rw g.is (served s u run here server (commands.Update id info at) g.state (Some (commands.Update id info at)) _ _ g.state_is refl refl refl)
@@ -115,16 +115,16 @@ module _ {T : Type 0} (ops : Tagging T) where
   accepted s u run here (Clean server at) x g = rw g.is (served s u run here server (commands.Clean at) g.state (Some (commands.Clean at)) _ _ g.state_is refl refl refl)
 
   told : (s : ServerId) (u : State T) (run : Run T) (e : CoreEvent) → slice_get run.servers s.0 ≡ Some u
-      → Told s u (recorded (is_server s (server_named e)) (handed run e) ((cluster_step ops run e).1)) ((cluster_step ops run e).0)
-  told s u run e here = step_goes ops run e (λ p. Told s u (recorded (is_server s (server_named e)) (handed run e) p.1) p.0)
-      (λ fault. quiet s u run here _ run (nothing_refused (is_server s (server_named e)) (handed run e) fault) refl)
+      → Told s u (recorded_events (is_server s (server_named e)) (queue_command run e) ((cluster_step ops run e).1)) ((cluster_step ops run e).0)
+  told s u run e here = step_goes ops run e (λ p. Told s u (recorded_events (is_server s (server_named e)) (queue_command run e) p.1) p.0)
+      (λ fault. quiet s u run here _ run (nothing_refused (is_server s (server_named e)) (queue_command run e) fault) refl)
       (λ x is. accepted s u run here e x (gives ops run e x is))
 
   -- all events from a run on
   pub all_told : (s : ServerId) (u : State T) (run : Run T) (es : List CoreEvent) → slice_get run.servers s.0 ≡ Some u → Told s u (history_from ops s run es) (run_after ops run es)
   all_told s u run [] here = record { replays_told = tt; state_is = here }
   all_told s u run (e ∷ es) here =
-      let now = recorded (is_server s (server_named e)) (handed run e) ((cluster_step ops run e).1) in
+      let now = recorded_events (is_server s (server_named e)) (queue_command run e) ((cluster_step ops run e).1) in
       let one = told s u run e here in
       let rest = all_told s (state_after ops u (commands_of now)) ((cluster_step ops run e).0) es one.state_is in
       record {

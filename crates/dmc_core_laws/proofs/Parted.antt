@@ -27,7 +27,7 @@ use Rattle.dmc_core.specs.declared.event.CoreReply.TheVariants.{Stamped, Served,
 use Rattle.dmc_core.specs.Run.{Run}
 use Rattle.dmc_core.specs.Events.{Outcome, conclusion, cluster_step, outcome, run_after}
 use Rattle.dmc_core.specs.Opening.{named_rates, opening_of}
-use Rattle.dmc_core_laws.specs.Histories.{Answer, is_server, server_named, handed, recorded, entry, registrations, history_from, history, oldest}
+use Rattle.dmc_core_laws.specs.Histories.{Answer, is_server, server_named, queue_command, recorded_events, entry, registrations, history_from, history, oldest}
 use Rattle.dmc_core_laws.specs.Bounds.{run_of, NotUpdated, NoneUpdated, Parts, first_events, first_part, second_part}
 use Rattle.dmc_core_laws.proofs.Given.{gives}
 use Rattle.dmc_core_laws.proofs.Histories.{histories_replay}
@@ -42,8 +42,8 @@ module _ {T : Type 0} (ops : Tagging T) where
   history_both : (s : ServerId) (run : Run T) (es fs : List CoreEvent) → history_from ops s run (es ++ fs) ≡ history_from ops s run es ++ history_from ops s (run_after ops run es) fs
   history_both s run [] fs = refl
   history_both s run (e ∷ es) fs =
-      ap (λ xs. recorded (is_server s (server_named e)) (handed run e) ((cluster_step ops run e).1) ++ xs) (history_both s ((cluster_step ops run e).0) es fs)
-      ∙ sym (append_assoc (recorded (is_server s (server_named e)) (handed run e) ((cluster_step ops run e).1)) (history_from ops s ((cluster_step ops run e).0) es) (history_from ops s (run_after ops ((cluster_step ops run e).0) es) fs))
+      ap (λ xs. recorded_events (is_server s (server_named e)) (queue_command run e) ((cluster_step ops run e).1) ++ xs) (history_both s ((cluster_step ops run e).0) es fs)
+      ∙ sym (append_assoc (recorded_events (is_server s (server_named e)) (queue_command run e) ((cluster_step ops run e).1)) (history_from ops s ((cluster_step ops run e).0) es) (history_from ops s (run_after ops ((cluster_step ops run e).0) es) fs))
 
   pub history_more : (scene : SceneValue) (s : ServerId) (es fs : List CoreEvent) → history ops scene s (es ++ fs) ≡ history ops scene s es ++ history_from ops s (run_of ops scene es) fs
   history_more scene s es fs =
@@ -92,7 +92,7 @@ module _ {T : Type 0} (id : ClientId) where
   all_keep [] ys h k = k
   all_keep (x ∷ xs) ys h k = (h.0, all_keep xs ys h.1 k)
 
-  recorded_keeps : (b : Bool) (o : Option Command) (a : Answer T) → ((c : Command) (reply : Reply T) → b ≡ true → o ≡ Some c → a ≡ Ok (Served reply) → Keeps id c reply) → AllKeep id (recorded b o a)
+  recorded_keeps : (b : Bool) (o : Option Command) (a : Answer T) → ((c : Command) (reply : Reply T) → b ≡ true → o ≡ Some c → a ≡ Ok (Served reply) → Keeps id c reply) → AllKeep id (recorded_events b o a)
   recorded_keeps true (Some c) (Ok (Served reply)) f = (f c reply refl refl refl, tt)
   recorded_keeps true (Some c) (Ok (Stamped params)) f = tt
   recorded_keeps true (Some c) (Ok Counted) f = tt
@@ -106,9 +106,9 @@ module _ {T : Type 0} (id : ClientId) where
     keeps_update server client info at Updated here h = and_second (is_server s server) (is_client id client) here h
     keeps_update server client info at reply here h = tt
 
-    event_keeps : (run : Run T) (e : CoreEvent) (a : Answer T) → NotUpdated id s e a → AllKeep id (recorded (is_server s (server_named e)) (handed run e) a)
+    event_keeps : (run : Run T) (e : CoreEvent) (a : Answer T) → NotUpdated id s e a → AllKeep id (recorded_events (is_server s (server_named e)) (queue_command run e) a)
     event_keeps run (Stamp client server token) a h = recorded_keeps (is_server s server) None a (λ c reply here asked is. cc)
-    event_keeps run (Arrive client server at) a h = recorded_keeps (is_server s server) (handed run (Arrive client server at)) a (λ c reply here asked is.
+    event_keeps run (Arrive client server at) a h = recorded_keeps (is_server s server) (queue_command run (Arrive client server at)) a (λ c reply here asked is.
         let m = mapped_is (λ (m : Message). commands.Add client m.token m.params at) (oldest run client server) c asked in subst (λ d. Keeps id d reply) m.1 tt)
     event_keeps run (Pull server at) a h = recorded_keeps (is_server s server) (Some (commands.Pull at)) a (λ c reply here asked is. subst (λ d. Keeps id d reply) (some_is (commands.Pull at) c asked) tt)
     event_keeps run (Respond client server phase) a h = recorded_keeps (is_server s server) None a (λ c reply here asked is. cc)
@@ -119,7 +119,7 @@ module _ {T : Type 0} (id : ClientId) where
 
     history_keeps : (ops : Tagging T) (run : Run T) (es : List CoreEvent) → NoneUpdated ops id s run es → AllKeep id (history_from ops s run es)
     history_keeps ops run [] h = tt
-    history_keeps ops run (e ∷ es) h = all_keep (recorded (is_server s (server_named e)) (handed run e) ((cluster_step ops run e).1)) (history_from ops s ((cluster_step ops run e).0) es) (event_keeps run e ((cluster_step ops run e).1) h.0) (history_keeps ops ((cluster_step ops run e).0) es h.1)
+    history_keeps ops run (e ∷ es) h = all_keep (recorded_events (is_server s (server_named e)) (queue_command run e) ((cluster_step ops run e).1)) (history_from ops s ((cluster_step ops run e).0) es) (event_keeps run e ((cluster_step ops run e).1) h.0) (history_keeps ops ((cluster_step ops run e).0) es h.1)
 
 -- ---- the parts of a history
 

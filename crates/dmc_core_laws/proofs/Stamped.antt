@@ -28,7 +28,7 @@ use Rattle.dmc_core.specs.declared.event.CoreReply.TheVariants.{Stamped, Served,
 use Rattle.dmc_core.specs.Run.{Pair, Client, Run, no_pair, pair_at, change_first, with_server}
 use Rattle.dmc_core.specs.Events.{after_stamp, after_response, after_grant, client_after_arrival, after_pull, cluster_step, registration, run_after}
 use Rattle.dmc_core.specs.Opening.{named_rates, opening_of}
-use Rattle.dmc_core_laws.specs.Histories.{Answer, client_in, is_server, server_named, handed, oldest, recorded, entry, registrations, history_from, history}
+use Rattle.dmc_core_laws.specs.Histories.{Answer, client_in, is_server, server_named, queue_command, oldest, recorded_events, entry, registrations, history_from, history}
 use Rattle.dmc_core_laws.specs.Bounds.{run_of, stamps_to, ArrivalsFollowStamps}
 use Rattle.dmc_core_laws.proofs.Given.{Gives, gives, step_goes}
 use Rattle.dmc_core_laws.proofs.Histories.{nothing_refused, nothing_handed}
@@ -93,7 +93,7 @@ module _ {T : Type 0} (ops : Tagging T) (counting : Counting) (id : ClientId) (s
   }
 
   -- what is recorded of another command than an add is no arrival
-  no_arrival : (b : Bool) (command : Command) (answer : Answer T) → ((reply : Reply T) → arrivals id (entry command reply ∷ []) ≡ []) → arrivals id (recorded b (Some command) answer) ≡ []
+  no_arrival : (b : Bool) (command : Command) (answer : Answer T) → ((reply : Reply T) → arrivals id (entry command reply ∷ []) ≡ []) → arrivals id (recorded_events b (Some command) answer) ≡ []
   no_arrival true command (Ok (Served reply)) none = none reply
   no_arrival true command (Ok (Stamped params)) none = refl
   no_arrival true command (Ok Counted) none = refl
@@ -116,7 +116,7 @@ module _ {T : Type 0} (ops : Tagging T) (counting : Counting) (id : ClientId) (s
   the_same run client c d same found there = some_is c d (sym found ∙ ap (client_in run) same ∙ there)
 
   abbrev told_by : Run T → CoreEvent → Answer T → List (Event T)
-  told_by run e answer = recorded (is_server s (server_named e)) (handed run e) answer
+  told_by run e answer = recorded_events (is_server s (server_named e)) (queue_command run e) answer
 
   accepted : (arrived : List Params) (run : Run T) (e : CoreEvent) (x : Run T × CoreReply T) → AreFollowed arrived run → Gives ops run e x → AreFollowed (more arrived (told_by run e (Ok x.1))) x.0
   accepted arrived run (Stamp client q token) x is g =
@@ -143,15 +143,15 @@ module _ {T : Type 0} (ops : Tagging T) (counting : Counting) (id : ClientId) (s
       let m = g.message in
       let reply = (step ops g.state (commands.Add client m.token m.params at)).1 in
       let oldest_is : oldest run client q ≡ Some m = ap (option_and_then (λ c. slice_get (pair_at q c.pairs).flight 0)) g.found ∙ g.first in
-      let handed_is : handed run (Arrive client q at) ≡ Some (commands.Add client m.token m.params at) = ap (option_map (λ n. commands.Add client n.token n.params at)) oldest_is in
-      let told_is : told_by run (Arrive client q at) (Ok x.1) ≡ recorded (is_server s q) (Some (commands.Add client m.token m.params at)) (Ok (Served reply)) =
-      ap (λ o. recorded (is_server s q) o (Ok x.1)) handed_is ∙ ap (λ (y : Run T × CoreReply T). recorded (is_server s q) (Some (commands.Add client m.token m.params at)) (Ok y.1)) g.is in
+      let handed_is : queue_command run (Arrive client q at) ≡ Some (commands.Add client m.token m.params at) = ap (option_map (λ n. commands.Add client n.token n.params at)) oldest_is in
+      let told_is : told_by run (Arrive client q at) (Ok x.1) ≡ recorded_events (is_server s q) (Some (commands.Add client m.token m.params at)) (Ok (Served reply)) =
+      ap (λ o. recorded_events (is_server s q) o (Ok x.1)) handed_is ∙ ap (λ (y : Run T × CoreReply T). recorded_events (is_server s q) (Some (commands.Add client m.token m.params at)) (Ok y.1)) g.is in
       subst (λ told. AreFollowed (more arrived told) x.0) (sym told_is)
-      (changed arrived run x.0 (recorded (is_server s q) (Some (commands.Add client m.token m.params at)) (Ok (Served reply))) client (λ old. client_after_arrival q reply g.client) is (ap (λ (y : Run T × CoreReply T). y.0.counting) g.is) (ap (λ (y : Run T × CoreReply T). y.0.clients) g.is)
+      (changed arrived run x.0 (recorded_events (is_server s q) (Some (commands.Add client m.token m.params at)) (Ok (Served reply))) client (λ old. client_after_arrival q reply g.client) is (ap (λ (y : Run T × CoreReply T). y.0.counting) g.is) (ap (λ (y : Run T × CoreReply T). y.0.clients) g.is)
       (λ y h. passes (λ (z : Client). is_client client z.id) run.clients g.client g.found)
       (λ same c found follows.
       let one = the_same run client g.client c same g.found found in
-      subst (λ (k : ClientId). IsFollowed counting s (more arrived (recorded (is_server s q) (Some (commands.Add k m.token m.params at)) (Ok (Served reply)))) (client_after_arrival q reply g.client)) (sym same)
+      subst (λ (k : ClientId). IsFollowed counting s (more arrived (recorded_events (is_server s q) (Some (commands.Add k m.token m.params at)) (Ok (Served reply)))) (client_after_arrival q reply g.client)) (sym same)
       (arrival_follows counting s arrived g.client (subst (IsFollowed counting s arrived) (sym one) follows) id q m at g.first reply))
       (λ e. no_arrival (is_server s q) (commands.Add client m.token m.params at) (Ok (Served reply)) (λ r. no_other client m at r e)))
   accepted arrived run (Pull q at) x is g =
@@ -163,7 +163,7 @@ module _ {T : Type 0} (ops : Tagging T) (counting : Counting) (id : ClientId) (s
 
   event_follows : (arrived : List Params) (run : Run T) (e : CoreEvent) → AreFollowed arrived run → AreFollowed (more arrived (told_by run e ((cluster_step ops run e).1))) ((cluster_step ops run e).0)
   event_follows arrived run e is = step_goes ops run e (λ p. AreFollowed (more arrived (told_by run e p.1)) p.0)
-      (λ fault. untouched arrived run run (told_by run e (Err fault)) is refl refl (ap (arrivals id) (nothing_refused (is_server s (server_named e)) (handed run e) fault)))
+      (λ fault. untouched arrived run run (told_by run e (Err fault)) is refl refl (ap (arrivals id) (nothing_refused (is_server s (server_named e)) (queue_command run e) fault)))
       (λ x given. accepted arrived run e x is (gives ops run e x given))
 
   events_follow : (arrived : List Params) (run : Run T) (es : List CoreEvent) → AreFollowed arrived run → AreFollowed (more arrived (history_from ops s run es)) (run_after ops run es)

@@ -48,14 +48,14 @@ server_named (Remove server client) = server
 server_named (Clean server at) = server
 
 -- the command that it hands to that server's queue
-abbrev pub handed : {T : Type 0} → Run T → CoreEvent → Option Command
-handed run (Stamp client server token) = None
-handed run (Arrive client server at) = option_map (λ m. commands.Add client m.token m.params at) (oldest run client server)
-handed run (Pull server at) = Some (commands.Pull at)
-handed run (Respond client server phase) = None
-handed run (Update server client info at) = Some (commands.Update client info at)
-handed run (Remove server client) = Some (commands.Remove client)
-handed run (Clean server at) = Some (commands.Clean at)
+abbrev pub queue_command : {T : Type 0} → Run T → CoreEvent → Option Command
+queue_command run (Stamp client server token) = None
+queue_command run (Arrive client server at) = option_map (λ m. commands.Add client m.token m.params at) (oldest run client server)
+queue_command run (Pull server at) = Some (commands.Pull at)
+queue_command run (Respond client server phase) = None
+queue_command run (Update server client info at) = Some (commands.Update client info at)
+queue_command run (Remove server client) = Some (commands.Remove client)
+queue_command run (Clean server at) = Some (commands.Clean at)
 
 abbrev pub is_server : ServerId → ServerId → Bool
 is_server s server = server.0 == s.0
@@ -65,9 +65,9 @@ abbrev pub entry : {T : Type 0} → Command → Reply T → Event T
 entry command reply = record { worker = record { 0 = 0 }; command = command; reply = reply }
 
 -- what a queue is asked and answers
-abbrev pub recorded : {T : Type 0} → Bool → Option Command → Answer T → List (Event T)
-recorded true (Some command) (Ok (Served reply)) = entry command reply ∷ []
-recorded here command answer = []
+abbrev pub recorded_events : {T : Type 0} → Bool → Option Command → Answer T → List (Event T)
+recorded_events true (Some command) (Ok (Served reply)) = entry command reply ∷ []
+recorded_events here command answer = []
 
 -- ---- the history of a server
 
@@ -79,7 +79,7 @@ registrations ops u (c ∷ cs) = entry (registration c) (step ops u (registratio
 abbrev pub history_from : {T : Type 0} → Tagging T → ServerId → Run T → List CoreEvent → List (Event T)
 history_from ops s run [] = []
 history_from ops s run (e ∷ es) =
-    recorded (is_server s (server_named e)) (handed run e) ((cluster_step ops run e).1) ++ history_from ops s ((cluster_step ops run e).0) es
+    recorded_events (is_server s (server_named e)) (queue_command run e) ((cluster_step ops run e).1) ++ history_from ops s ((cluster_step ops run e).0) es
 
 abbrev pub history : {T : Type 0} → Tagging T → SceneValue → ServerId → List CoreEvent → List (Event T)
 history ops scene s events = registrations ops (opening scene.config) (map named_rates scene.clients) ++ history_from ops s (opening_of ops scene) events

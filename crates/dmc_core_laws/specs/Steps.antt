@@ -51,8 +51,8 @@ StepsAreRuns {T} {Q} ops state =
 -- ---- a core's answers in parts
 
 -- the events that were answered
-abbrev pub asked : {T : Type 0} → List (CoreEvent × Answer T) → List CoreEvent
-asked steps = map (λ x. x.0) (heard steps)
+abbrev pub answered_events : {T : Type 0} → List (CoreEvent × Answer T) → List CoreEvent
+answered_events steps = map (λ x. x.0) (heard steps)
 
 -- no Update of the client at s is answered as accepted
 abbrev pub NoneAccepted : {T : Type 0} → ClientId → ServerId → List (CoreEvent × Answer T) → Type 0
@@ -78,21 +78,21 @@ pub record CoreParts {T Q : Type 0} (ops : Tagging T) (state : Q → State T) (s
 abbrev pub AnswersArePartsOfRuns : {T Q : Type 0} → Tagging T → (Q → State T) → Type 0
 AnswersArePartsOfRuns ops state =
     (scene : SceneValue) (id : ClientId) (s : ServerId) (phase : PhaseType) (k : CoreParts ops state scene id s phase)
-    → (p : Parts ops scene id s phase) × (p.before ≡ asked k.before) × (p.arrived ≡ k.arrived) × (p.second ≡ asked k.second) × (p.pulled ≡ k.pulled) × (p.token ≡ k.token)
+    → (p : Parts ops scene id s phase) × (p.before ≡ answered_events k.before) × (p.arrived ≡ k.arrived) × (p.second ≡ answered_events k.second) × (p.pulled ≡ k.pulled) × (p.token ≡ k.token)
 
 -- ---- the bounds of a core's answers
 
 module _ {T Q : Type 0} {ops : Tagging T} {state : Q → State T} {scene : SceneValue} {id : ClientId} {s : ServerId} {phase : PhaseType} (k : CoreParts ops state scene id s phase) where
   -- the history of s up to a_i, and from there to the grant
   abbrev pub core_first : List (Event T)
-  core_first = history ops scene s (asked k.before ++ Arrive id s k.arrived ∷ [])
+  core_first = history ops scene s (answered_events k.before ++ Arrive id s k.arrived ∷ [])
 
   abbrev pub core_second : List (Event T)
-  core_second = history_from ops s (run_of ops scene (asked k.before ++ Arrive id s k.arrived ∷ [])) (asked k.second)
+  core_second = history_from ops s (run_of ops scene (answered_events k.before ++ Arrive id s k.arrived ∷ [])) (answered_events k.second)
 
   -- the run that the pull finds
   abbrev pub core_run : Run T
-  core_run = run_of ops scene ((asked k.before ++ Arrive id s k.arrived ∷ []) ++ asked k.second)
+  core_run = run_of ops scene ((answered_events k.before ++ Arrive id s k.arrived ∷ []) ++ answered_events k.second)
 
 abbrev pub LimitOfCores : {T Q : Type 0} → Tagging T → (Q → State T) → Type 0
 LimitOfCores ops state =

@@ -11,10 +11,10 @@ use mathlib.Core.Path.{fun_ext}
 use Rattle.dmc_types.specs.declared.ids.ClientId.{ClientId}
 use Rattle.dmc_tag.specs.State.{is_client}
 use Rattle.dmc_tag.specs.Rank.{tag_rank_cmp, limit_rank_cmp, ready_rank_cmp}
-use Rattle.dmc_index.specs.Index.{held, IsEmpty, IsApart, IsApartFromOthers, IsLeast}
+use Rattle.dmc_index.specs.Index.{slot_of_key, IsEmpty, IsApart, IsApartFromOthers, IsLeast}
 use Rattle.dmc_heads.specs.declared.head.Head.{Head}
 use Rattle.dmc_heads.specs.Heads.{tag_rank, limit_rank, ready_rank, Ranks, IsOthers, AreApart, IsFirst}
-use Rattle.dmc_heads.proofs.Slots.{some_if_mapped, none_if_mapped, is_some_mapped, held-set_same, held-set_other}
+use Rattle.dmc_heads.proofs.Slots.{some_if_mapped, none_if_mapped, is_some_mapped, slot_of_key-set_same, slot_of_key-set_other}
 use Rattle.dmc_tag.proofs.Orderings.{then_equal}
 pub use Rattle.dmc_tag.proofs.Orderings.{tag_order}
 
@@ -49,31 +49,31 @@ module _ {T : Type 0} (compare : T → T → Ordering) where
 -- ---- one index
 
 module _ {T R : Type 0} (rank : Head T → R) (heads : List (Option (Head T))) (slots : List (Option R)) (ranks : Ranks rank heads slots) where
-  pub vacant : (key : ℕ) → held heads key ≡ None → held slots key ≡ None
+  pub vacant : (key : ℕ) → slot_of_key heads key ≡ None → slot_of_key slots key ≡ None
   vacant key e = ranks key ∙ ap (option_map rank) e
 
-  pub is_held : (key : ℕ) → IsSome (held heads key) → IsSome (held slots key)
-  is_held key e = ap is_some (ranks key) ∙ is_some_mapped rank (held heads key) ∙ e
+  pub is_held : (key : ℕ) → IsSome (slot_of_key heads key) → IsSome (slot_of_key slots key)
+  is_held key e = ap is_some (ranks key) ∙ is_some_mapped rank (slot_of_key heads key) ∙ e
 
-  pub rank_held : (key : ℕ) (h : Head T) → held heads key ≡ Some h → held slots key ≡ Some (rank h)
+  pub rank_held : (key : ℕ) (h : Head T) → slot_of_key heads key ≡ Some h → slot_of_key slots key ≡ Some (rank h)
   rank_held key h e = ranks key ∙ ap (option_map rank) e
 
   -- the rank of a client that no other key has
   module _ (compare : R → R → Ordering) (ends : EndsWithClient rank compare) (key : ℕ) (h : Head T) (others : IsOthers heads key h.client) where
     pub apart_from_others : IsApartFromOthers compare slots key (rank h)
     apart_from_others k other ne q e =
-        let at = some_if_mapped rank (held heads k) other (sym (ranks k) ∙ q) in
+        let at = some_if_mapped rank (slot_of_key heads k) other (sym (ranks k) ∙ q) in
         other_client h.client at.0.client (others k at.0 ne at.1) (ends h at.0 (ap (compare (rank h)) at.2 ∙ e))
 
-    pub apart_from_all : held heads key ≡ None → IsApart compare slots (rank h)
+    pub apart_from_all : slot_of_key heads key ≡ None → IsApart compare slots (rank h)
     apart_from_all none k other q =
         elim (cases_eq k key) [
-          | inl same ↦ let no : held slots key ≡ None = vacant key none in let yes : held slots key ≡ Some other = ap (held slots) (sym same) ∙ q in cc
+          | inl same ↦ let no : slot_of_key slots key ≡ None = vacant key none in let yes : slot_of_key slots key ≡ Some other = ap (slot_of_key slots) (sym same) ∙ q in cc
           | inr ne ↦ apart_from_others k other ne q
         ]
 
   pub is_empty : IsEmpty slots → IsEmpty heads
-  is_empty h key = none_if_mapped rank (held heads key) (sym (ranks key) ∙ h key)
+  is_empty h key = none_if_mapped rank (slot_of_key heads key) (sym (ranks key) ∙ h key)
 
   pub is_first : (compare : R → R → Ordering) (key : ℕ) (least : R) → IsLeast compare slots key least → IsFirst rank compare heads key least
   is_first compare key least h = record {
@@ -93,15 +93,15 @@ module _ {T : Type 0} (heads : List (Option (Head T))) (key : ℕ) (o : Option (
   apart_set k h q k' other ne q' =
       elim (cases_eq k key) [
         | inl e ↦
-            let here : o ≡ Some h = sym (held-set_same heads key o within) ∙ ap (held (set heads key o)) (sym e) ∙ q in
+            let here : o ≡ Some h = sym (slot_of_key-set_same heads key o within) ∙ ap (slot_of_key (set heads key o)) (sym e) ∙ q in
             let ne' : k' ≢ key = λ s. ne (s ∙ sym e) in
-            others h here k' other ne' (sym (held-set_other heads key k' o ne') ∙ q')
+            others h here k' other ne' (sym (slot_of_key-set_other heads key k' o ne') ∙ q')
         | inr ne1 ↦
-            let was : held heads k ≡ Some h = sym (held-set_other heads key k o ne1) ∙ q in
+            let was : slot_of_key heads k ≡ Some h = sym (slot_of_key-set_other heads key k o ne1) ∙ q in
             elim (cases_eq k' key) [
               | inl e ↦
-                  let here : o ≡ Some other = sym (held-set_same heads key o within) ∙ ap (held (set heads key o)) (sym e) ∙ q' in
+                  let here : o ≡ Some other = sym (slot_of_key-set_same heads key o within) ∙ ap (slot_of_key (set heads key o)) (sym e) ∙ q' in
                   client_turned other.client h.client (others other here k h ne1 was)
-              | inr ne2 ↦ apart k h was k' other ne (sym (held-set_other heads key k' o ne2) ∙ q')
+              | inr ne2 ↦ apart k h was k' other ne (sym (slot_of_key-set_other heads key k' o ne2) ∙ q')
             ]
       ]

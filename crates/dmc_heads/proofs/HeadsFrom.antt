@@ -5,10 +5,10 @@ use Rattle.std.proofs.lemmas.Bool.{cases_eq}
 use Rattle.dmc_tag.specs.declared.rank.TagRank.{TagRank}
 use Rattle.dmc_tag.specs.declared.rank.LimitRank.{LimitRank}
 use Rattle.dmc_tag.specs.declared.rank.ReadyRank.{ReadyRank}
-use Rattle.dmc_index.specs.Index.{held}
+use Rattle.dmc_index.specs.Index.{slot_of_key}
 use Rattle.dmc_heads.specs.declared.head.Head.{Head}
 use Rattle.dmc_heads.specs.Heads.{tag_rank, limit_rank, ready_rank, Ranks, head_from, heads_from}
-use Rattle.dmc_heads.proofs.Slots.{held-set_same, held-set_other, is_some_mapped, count_same}
+use Rattle.dmc_heads.proofs.Slots.{slot_of_key-set_same, slot_of_key-set_other, is_some_mapped, count_same}
 
 module _ {T : Type 0} where
   -- a head is made of its ranks
@@ -25,12 +25,12 @@ module _ {T : Type 0} where
   head_from_none_limit None c = refl
   head_from_none_limit (Some a) c = refl
 
-  pub held-heads_from : (reservation : List (Option (TagRank T))) (limits : List (Option (LimitRank T))) (ready : List (Option (ReadyRank T))) (key : ℕ) → held (heads_from reservation limits ready) key ≡ head_from (held reservation key) (held limits key) (held ready key)
-  held-heads_from [] limits ready key = refl
-  held-heads_from (a ∷ reservation) [] ready key = sym (head_from_none_limit (held (a ∷ reservation) key) (held ready key))
-  held-heads_from (a ∷ reservation) (b ∷ limits) [] key = sym (head_from_none (held (a ∷ reservation) key) (held (b ∷ limits) key))
-  held-heads_from (a ∷ reservation) (b ∷ limits) (c ∷ ready) zero = refl
-  held-heads_from (a ∷ reservation) (b ∷ limits) (c ∷ ready) (suc key) = held-heads_from reservation limits ready key
+  pub slot_of_key-heads_from : (reservation : List (Option (TagRank T))) (limits : List (Option (LimitRank T))) (ready : List (Option (ReadyRank T))) (key : ℕ) → slot_of_key (heads_from reservation limits ready) key ≡ head_from (slot_of_key reservation key) (slot_of_key limits key) (slot_of_key ready key)
+  slot_of_key-heads_from [] limits ready key = refl
+  slot_of_key-heads_from (a ∷ reservation) [] ready key = sym (head_from_none_limit (slot_of_key (a ∷ reservation) key) (slot_of_key ready key))
+  slot_of_key-heads_from (a ∷ reservation) (b ∷ limits) [] key = sym (head_from_none (slot_of_key (a ∷ reservation) key) (slot_of_key (b ∷ limits) key))
+  slot_of_key-heads_from (a ∷ reservation) (b ∷ limits) (c ∷ ready) zero = refl
+  slot_of_key-heads_from (a ∷ reservation) (b ∷ limits) (c ∷ ready) (suc key) = slot_of_key-heads_from reservation limits ready key
 
   pub heads_from-set : (reservation : List (Option (TagRank T))) (limits : List (Option (LimitRank T))) (ready : List (Option (ReadyRank T))) (key : ℕ) (a : Option (TagRank T)) (b : Option (LimitRank T)) (c : Option (ReadyRank T)) → heads_from (set reservation key a) (set limits key b) (set ready key c) ≡ set (heads_from reservation limits ready) key (head_from a b c)
   heads_from-set [] limits ready key a b c = refl
@@ -56,9 +56,9 @@ module _ {T R : Type 0} (rank : Head T → R) (heads : List (Option (Head T))) (
   pub ranks_set : (key : ℕ) (o : Option (Head T)) → key < length heads → length heads ≤ length slots → Ranks rank (set heads key o) (set slots key (option_map rank o))
   ranks_set key o l m k =
       elim (cases_eq k key) [
-        | inl e ↦ ap (held (set slots key (option_map rank o))) e ∙ held-set_same slots key (option_map rank o) (omega arith) ∙ sym (ap (option_map rank) (ap (held (set heads key o)) e ∙ held-set_same heads key o l))
-        | inr ne ↦ held-set_other slots key k (option_map rank o) ne ∙ ranks k ∙ sym (ap (option_map rank) (held-set_other heads key k o ne))
+        | inl e ↦ ap (slot_of_key (set slots key (option_map rank o))) e ∙ slot_of_key-set_same slots key (option_map rank o) (omega arith) ∙ sym (ap (option_map rank) (ap (slot_of_key (set heads key o)) e ∙ slot_of_key-set_same heads key o l))
+        | inr ne ↦ slot_of_key-set_other slots key k (option_map rank o) ne ∙ ranks k ∙ sym (ap (option_map rank) (slot_of_key-set_other heads key k o ne))
       ]
 
   pub count_ranks : count_by is_some slots ≡ count_by is_some heads
-  count_ranks = count_same slots heads (λ key. ap is_some (ranks key) ∙ is_some_mapped rank (held heads key))
+  count_ranks = count_same slots heads (λ key. ap is_some (ranks key) ∙ is_some_mapped rank (slot_of_key heads key))

@@ -11,11 +11,11 @@ use Rattle.std.proofs.lemmas.Bool.{cases_eq}
 use Rattle.dmc_tag.specs.Tag.{Tagging}
 use Rattle.dmc_tag.specs.Order.{AtMost}
 use Rattle.dmc_tag.specs.declared.rank.ReadyRank.{ReadyRank}
-use Rattle.dmc_index.specs.Index.{held, IsEmpty}
+use Rattle.dmc_index.specs.Index.{slot_of_key, IsEmpty}
 use Rattle.dmc_heads.specs.declared.head.Head.{Head}
 use Rattle.dmc_heads.specs.Heads.{ready_rank, Ranks, IsLeastShare}
 use Rattle.dmc_heads.specs.Least.{least_of_two, least_with, least_without, least_after, IsLeastTag, FindsLeast}
-use Rattle.dmc_heads.proofs.Slots.{some_if_mapped, none_if_mapped, within, held-set_same, held-set_other}
+use Rattle.dmc_heads.proofs.Slots.{some_if_mapped, none_if_mapped, within, slot_of_key-set_same, slot_of_key-set_other}
 
 turned : (r s : Ordering) → s ≡ ordering_reverse r → is_gt r ≡ true → is_gt s ≡ false
 turned Less s e g = cc
@@ -43,11 +43,11 @@ module _ {T : Type 0} (ops : Tagging T) (order : IsTotalOrder ops.compare) where
 
   module _ (heads : List (Option (Head T))) (key : ℕ) (o : Option (Head T)) (in' : key < length heads) where
     -- a head after a write was written, or was there
-    below_set : (least : T) → ((h : Head T) → o ≡ Some h → AtMost ops least h.tags.p) → ((k : ℕ) (other : Head T) → held heads k ≡ Some other → AtMost ops least other.tags.p) → (k : ℕ) (other : Head T) → held (set heads key o) k ≡ Some other → AtMost ops least other.tags.p
+    below_set : (least : T) → ((h : Head T) → o ≡ Some h → AtMost ops least h.tags.p) → ((k : ℕ) (other : Head T) → slot_of_key heads k ≡ Some other → AtMost ops least other.tags.p) → (k : ℕ) (other : Head T) → slot_of_key (set heads key o) k ≡ Some other → AtMost ops least other.tags.p
     below_set least new old k other q =
         elim (cases_eq k key) [
-          | inl e ↦ new other (sym (held-set_same heads key o in') ∙ ap (held (set heads key o)) (sym e) ∙ q)
-          | inr ne ↦ old k other (sym (held-set_other heads key k o ne) ∙ q)
+          | inl e ↦ new other (sym (slot_of_key-set_same heads key o in') ∙ ap (slot_of_key (set heads key o)) (sym e) ∙ q)
+          | inr ne ↦ old k other (sym (slot_of_key-set_other heads key k o ne) ∙ q)
         ]
 
     -- another key has the least P
@@ -55,17 +55,17 @@ module _ {T : Type 0} (ops : Tagging T) (order : IsTotalOrder ops.compare) where
     stays least was ne new = record {
       key = was.key;
       head = was.head;
-      here = held-set_other heads key was.key o ne ∙ was.here;
+      here = slot_of_key-set_other heads key was.key o ne ∙ was.here;
       share = was.share;
       below = below_set least new was.below;
     }
 
     -- what is written has the least P
-    comes : (h : Head T) → o ≡ Some h → ((k : ℕ) (other : Head T) → held heads k ≡ Some other → AtMost ops h.tags.p other.tags.p) → IsLeastShare ops (set heads key o) h.tags.p
+    comes : (h : Head T) → o ≡ Some h → ((k : ℕ) (other : Head T) → slot_of_key heads k ≡ Some other → AtMost ops h.tags.p other.tags.p) → IsLeastShare ops (set heads key o) h.tags.p
     comes h e old = record {
       key = key;
       head = h;
-      here = held-set_same heads key o in' ∙ e;
+      here = slot_of_key-set_same heads key o in' ∙ e;
       share = refl;
       below = below_set h.tags.p (λ h' e'. let same : h ≡ h' = cc in at_most_itself h.tags.p h'.tags.p (ap (λ (x : Head T). x.tags.p) same)) old;
     }
@@ -74,37 +74,37 @@ module _ {T : Type 0} (ops : Tagging T) (order : IsTotalOrder ops.compare) where
     comes_below h e least was l = comes h e (λ k other q. upto order h.tags.p least other.tags.p l (was.below k other q))
 
     -- the head that leaves hasn't the least P
-    elsewhere : (old : Head T) → held heads key ≡ Some old → (least : T) (was : IsLeastShare ops heads least) → is_eq (ops.compare old.tags.p least) ≡ false → was.key ≢ key
+    elsewhere : (old : Head T) → slot_of_key heads key ≡ Some old → (least : T) (was : IsLeastShare ops heads least) → is_eq (ops.compare old.tags.p least) ≡ false → was.key ≢ key
     elsewhere old here least was e same =
-        let both : Some old ≡ Some was.head = sym here ∙ ap (held heads) (sym same) ∙ was.here in
+        let both : Some old ≡ Some was.head = sym here ∙ ap (slot_of_key heads) (sym same) ∙ was.here in
         let one : old ≡ was.head = cc in
         not_equal (ops.compare old.tags.p least) e (ap (λ p. ops.compare p least) (ap (λ (x : Head T). x.tags.p) one ∙ was.share) ∙ tied_itself order least)
 
     -- ---- a head comes
 
-    pub with_is : held heads key ≡ None → (h : Head T) → o ≡ Some h → (first : Bool) → (first ≡ true → IsEmpty heads) → (least : Option T) → IfSome least (IsLeastShare ops heads) → IfSome (least_with ops first least h.tags.p) (IsLeastShare ops (set heads key o))
-    with_is vacant h e true empty least was = comes h e (λ k other q. let no : held heads k ≡ None = empty refl k in cc)
+    pub with_is : slot_of_key heads key ≡ None → (h : Head T) → o ≡ Some h → (first : Bool) → (first ≡ true → IsEmpty heads) → (least : Option T) → IfSome least (IsLeastShare ops heads) → IfSome (least_with ops first least h.tags.p) (IsLeastShare ops (set heads key o))
+    with_is vacant h e true empty least was = comes h e (λ k other q. let no : slot_of_key heads k ≡ None = empty refl k in cc)
     with_is vacant h e false empty None was = tt
     with_is vacant h e false empty (Some p) was = at (is_gt (ops.compare h.tags.p p)) refl where
       at : (b : Bool) → is_gt (ops.compare h.tags.p p) ≡ b → IsLeastShare ops (set heads key o) (if b then p else h.tags.p)
-      at true g = stays p was (λ same. let no : held heads key ≡ Some was.head = ap (held heads) (sym same) ∙ was.here in cc) (λ h' e'. let one : h ≡ h' = cc in subst (λ (x : Head T). AtMost ops p x.tags.p) one (at_most_turned h.tags.p p g))
+      at true g = stays p was (λ same. let no : slot_of_key heads key ≡ Some was.head = ap (slot_of_key heads) (sym same) ∙ was.here in cc) (λ h' e'. let one : h ≡ h' = cc in subst (λ (x : Head T). AtMost ops p x.tags.p) one (at_most_turned h.tags.p p g))
       at false g = comes_below h e p was g
 
     -- ---- a head leaves
 
-    without : (old : Head T) → held heads key ≡ Some old → (p : T) → IsLeastShare ops heads p → ((h : Head T) → o ≡ Some h → AtMost ops p h.tags.p) → IfSome (least_without ops (Some p) old.tags.p) (IsLeastShare ops (set heads key o))
+    without : (old : Head T) → slot_of_key heads key ≡ Some old → (p : T) → IsLeastShare ops heads p → ((h : Head T) → o ≡ Some h → AtMost ops p h.tags.p) → IfSome (least_without ops (Some p) old.tags.p) (IsLeastShare ops (set heads key o))
     without old here p was new = at (is_eq (ops.compare old.tags.p p)) refl where
       at : (b : Bool) → is_eq (ops.compare old.tags.p p) ≡ b → IfSome (if b then None else Some p) (IsLeastShare ops (set heads key o))
       at true e = tt
       at false e = stays p was (elsewhere old here p was e) new
 
-    pub without_is : (old : Head T) → held heads key ≡ Some old → o ≡ None → (least : Option T) → IfSome least (IsLeastShare ops heads) → IfSome (least_without ops least old.tags.p) (IsLeastShare ops (set heads key o))
+    pub without_is : (old : Head T) → slot_of_key heads key ≡ Some old → o ≡ None → (least : Option T) → IfSome least (IsLeastShare ops heads) → IfSome (least_without ops least old.tags.p) (IsLeastShare ops (set heads key o))
     without_is old here none None was = tt
     without_is old here none (Some p) was = without old here p was (λ h e. cc)
 
     -- ---- a head changes
 
-    pub after_is : (old : Head T) → held heads key ≡ Some old → (h : Head T) → o ≡ Some h → (least : Option T) → IfSome least (IsLeastShare ops heads) → IfSome (least_after ops least old.tags.p h.tags.p) (IsLeastShare ops (set heads key o))
+    pub after_is : (old : Head T) → slot_of_key heads key ≡ Some old → (h : Head T) → o ≡ Some h → (least : Option T) → IfSome least (IsLeastShare ops heads) → IfSome (least_after ops least old.tags.p h.tags.p) (IsLeastShare ops (set heads key o))
     after_is old here h e None was = tt
     after_is old here h e (Some p) was = at (is_gt (ops.compare h.tags.p p)) refl where
       at : (b : Bool) → is_gt (ops.compare h.tags.p p) ≡ b → IfSome (if b then least_without ops (Some p) old.tags.p else Some h.tags.p) (IsLeastShare ops (set heads key o))
@@ -112,15 +112,15 @@ module _ {T : Type 0} (ops : Tagging T) (order : IsTotalOrder ops.compare) where
       at false g = comes_below h e p was g
 
     -- a head changes, and its P stays
-    pub unmoved_is : (old : Head T) → held heads key ≡ Some old → (h : Head T) → o ≡ Some h → h.tags.p ≡ old.tags.p → (least : Option T) → IfSome least (IsLeastShare ops heads) → IfSome least (IsLeastShare ops (set heads key o))
+    pub unmoved_is : (old : Head T) → slot_of_key heads key ≡ Some old → (h : Head T) → o ≡ Some h → h.tags.p ≡ old.tags.p → (least : Option T) → IfSome least (IsLeastShare ops heads) → IfSome least (IsLeastShare ops (set heads key o))
     unmoved_is old here h e same None was = tt
     unmoved_is old here h e same (Some p) was =
         let new : (h' : Head T) → o ≡ Some h' → AtMost ops p h'.tags.p = λ h' e'. let one : h ≡ h' = cc in subst (λ (x : Head T). AtMost ops p x.tags.p) one (subst (AtMost ops p) (sym same) (was.below key old here)) in
         elim (cases_eq was.key key) [
           | inl k ↦
-              let both : Some old ≡ Some was.head = sym here ∙ ap (held heads) (sym k) ∙ was.here in
+              let both : Some old ≡ Some was.head = sym here ∙ ap (slot_of_key heads) (sym k) ∙ was.here in
               let one : old ≡ was.head = cc in
-              record { key = key; head = h; here = held-set_same heads key o in' ∙ e; share = same ∙ ap (λ (x : Head T). x.tags.p) one ∙ was.share; below = below_set p new was.below }
+              record { key = key; head = h; here = slot_of_key-set_same heads key o in' ∙ e; share = same ∙ ap (λ (x : Head T). x.tags.p) one ∙ was.share; below = below_set p new was.below }
           | inr ne ↦ stays p was ne new
         ]
 
@@ -129,18 +129,18 @@ module _ {T : Type 0} (ops : Tagging T) (order : IsTotalOrder ops.compare) where
   module _ (heads : List (Option (Head T))) (ready : List (Option (ReadyRank T))) (ranks : Ranks ready_rank heads ready) where
     found_share : (p : T) → IsLeastTag ops ready (length ready) p → IsLeastShare ops heads p
     found_share p at =
-        let h = some_if_mapped ready_rank (held heads at.key) at.rank (sym (ranks at.key) ∙ at.here) in record {
+        let h = some_if_mapped ready_rank (slot_of_key heads at.key) at.rank (sym (ranks at.key) ∙ at.here) in record {
           key = at.key;
           head = h.0;
           here = h.1;
           share = ap (λ (r : ReadyRank T). r.tag) h.2 ∙ at.tag;
-          below = λ k other q. let r : held ready k ≡ Some (ready_rank other) = ranks k ∙ ap (option_map ready_rank) q in at.below k (ready_rank other) (within ready k (ready_rank other) r) r;
+          below = λ k other q. let r : slot_of_key ready k ≡ Some (ready_rank other) = ranks k ∙ ap (option_map ready_rank) q in at.below k (ready_rank other) (within ready k (ready_rank other) r) r;
         }
 
     pub found_is : (room : ℕ) → length ready ≡ room → (found : Option T) → FindsLeast ops ready room found → MatchOption found (IsEmpty heads) (IsLeastShare ops heads)
     found_is room e None h =
-        λ key. none_if_mapped ready_rank (held heads key) (sym (ranks key) ∙ empty key (held ready key) refl) where
-          empty : (key : ℕ) → (o : Option (ReadyRank T)) → held ready key ≡ o → held ready key ≡ None
+        λ key. none_if_mapped ready_rank (slot_of_key heads key) (sym (ranks key) ∙ empty key (slot_of_key ready key) refl) where
+          empty : (key : ℕ) → (o : Option (ReadyRank T)) → slot_of_key ready key ≡ o → slot_of_key ready key ≡ None
           empty key None q = q
           empty key (Some r) q = h key (omega (arith, within ready key r q))
     found_is room e (Some p) h = found_share p (subst (λ n. IsLeastTag ops ready n p) (sym e) h)
@@ -152,12 +152,12 @@ module _ {T : Type 0} (ops : Tagging T) (order : IsTotalOrder ops.compare) where
     found_none key l = absurd (omega arith)
 
     -- one more key
-    pub found_more : (n : ℕ) (found : Option T) → FindsLeast ops slots n found → FindsLeast ops slots (n + 1) (least_of_two ops found (option_map (λ (r : ReadyRank T). r.tag) (held slots n)))
-    found_more n found h = at found (held slots n) refl h where
+    pub found_more : (n : ℕ) (found : Option T) → FindsLeast ops slots n found → FindsLeast ops slots (n + 1) (least_of_two ops found (option_map (λ (r : ReadyRank T). r.tag) (slot_of_key slots n)))
+    found_more n found h = at found (slot_of_key slots n) refl h where
       first : (k : ℕ) → k < n + 1 → (k ≢ n → k < n)
       first k l ne = omega arith
 
-      single : (r : ReadyRank T) → held slots n ≡ Some r → ((key : ℕ) → key < n → held slots key ≡ None) → IsLeastTag ops slots (n + 1) r.tag
+      single : (r : ReadyRank T) → slot_of_key slots n ≡ Some r → ((key : ℕ) → key < n → slot_of_key slots key ≡ None) → IsLeastTag ops slots (n + 1) r.tag
       single r q none = record {
         key = n;
         rank = r;
@@ -165,12 +165,12 @@ module _ {T : Type 0} (ops : Tagging T) (order : IsTotalOrder ops.compare) where
         here = q;
         tag = refl;
         below = λ k other l q'. elim (cases_eq k n) [
-          | inl e ↦ let both : Some r ≡ Some other = sym q ∙ ap (held slots) (sym e) ∙ q' in let one : r ≡ other = cc in at_most_itself r.tag other.tag (ap (λ (x : ReadyRank T). x.tag) one)
-          | inr ne ↦ let no : held slots k ≡ None = none k (first k l ne) in cc
+          | inl e ↦ let both : Some r ≡ Some other = sym q ∙ ap (slot_of_key slots) (sym e) ∙ q' in let one : r ≡ other = cc in at_most_itself r.tag other.tag (ap (λ (x : ReadyRank T). x.tag) one)
+          | inr ne ↦ let no : slot_of_key slots k ≡ None = none k (first k l ne) in cc
         ];
       }
 
-      more : (p : T) → IsLeastTag ops slots n p → ((r : ReadyRank T) → held slots n ≡ Some r → AtMost ops p r.tag) → IsLeastTag ops slots (n + 1) p
+      more : (p : T) → IsLeastTag ops slots n p → ((r : ReadyRank T) → slot_of_key slots n ≡ Some r → AtMost ops p r.tag) → IsLeastTag ops slots (n + 1) p
       more p was new = record {
         key = was.key;
         rank = was.rank;
@@ -178,12 +178,12 @@ module _ {T : Type 0} (ops : Tagging T) (order : IsTotalOrder ops.compare) where
         here = was.here;
         tag = was.tag;
         below = λ k other l q. elim (cases_eq k n) [
-          | inl e ↦ new other (ap (held slots) (sym e) ∙ q)
+          | inl e ↦ new other (ap (slot_of_key slots) (sym e) ∙ q)
           | inr ne ↦ was.below k other (first k l ne) q
         ];
       }
 
-      less' : (p : T) (r : ReadyRank T) → held slots n ≡ Some r → IsLeastTag ops slots n p → AtMost ops r.tag p → IsLeastTag ops slots (n + 1) r.tag
+      less' : (p : T) (r : ReadyRank T) → slot_of_key slots n ≡ Some r → IsLeastTag ops slots n p → AtMost ops r.tag p → IsLeastTag ops slots (n + 1) r.tag
       less' p r q was l = record {
         key = n;
         rank = r;
@@ -191,17 +191,17 @@ module _ {T : Type 0} (ops : Tagging T) (order : IsTotalOrder ops.compare) where
         here = q;
         tag = refl;
         below = λ k other l' q'. elim (cases_eq k n) [
-          | inl e ↦ let both : Some r ≡ Some other = sym q ∙ ap (held slots) (sym e) ∙ q' in let one : r ≡ other = cc in at_most_itself r.tag other.tag (ap (λ (x : ReadyRank T). x.tag) one)
+          | inl e ↦ let both : Some r ≡ Some other = sym q ∙ ap (slot_of_key slots) (sym e) ∙ q' in let one : r ≡ other = cc in at_most_itself r.tag other.tag (ap (λ (x : ReadyRank T). x.tag) one)
           | inr ne ↦ upto order r.tag p other.tag l (was.below k other (first k l' ne) q')
         ];
       }
 
-      both : (p : T) (r : ReadyRank T) → held slots n ≡ Some r → IsLeastTag ops slots n p → (b : Bool) → is_gt (ops.compare p r.tag) ≡ b → IsLeastTag ops slots (n + 1) (if b then r.tag else p)
+      both : (p : T) (r : ReadyRank T) → slot_of_key slots n ≡ Some r → IsLeastTag ops slots n p → (b : Bool) → is_gt (ops.compare p r.tag) ≡ b → IsLeastTag ops slots (n + 1) (if b then r.tag else p)
       both p r q was true g = less' p r q was (at_most_turned p r.tag g)
       both p r q was false g = more p was (λ r' q'. let one' : Some r ≡ Some r' = sym q ∙ q' in let one : r ≡ r' = cc in subst (λ (x : ReadyRank T). AtMost ops p x.tag) one g)
 
-      at : (found : Option T) (o : Option (ReadyRank T)) → held slots n ≡ o → FindsLeast ops slots n found → FindsLeast ops slots (n + 1) (least_of_two ops found (option_map (λ (r : ReadyRank T). r.tag) o))
-      at None None q was = λ key l. elim (cases_eq key n) [ inl e ↦ ap (held slots) e ∙ q | inr ne ↦ was key (first key l ne) ]
+      at : (found : Option T) (o : Option (ReadyRank T)) → slot_of_key slots n ≡ o → FindsLeast ops slots n found → FindsLeast ops slots (n + 1) (least_of_two ops found (option_map (λ (r : ReadyRank T). r.tag) o))
+      at None None q was = λ key l. elim (cases_eq key n) [ inl e ↦ ap (slot_of_key slots) e ∙ q | inr ne ↦ was key (first key l ne) ]
       at None (Some r) q was = single r q was
       at (Some p) None q was = more p was (λ r q'. cc)
       at (Some p) (Some r) q was = both p r q was (is_gt (ops.compare p r.tag)) refl

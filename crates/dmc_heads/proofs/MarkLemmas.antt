@@ -12,11 +12,11 @@ use Rattle.dmc_tag.specs.Order.{AtMost}
 use Rattle.dmc_tag.specs.Best.{is_due}
 use Rattle.dmc_tag.specs.Rank.{limit_rank_cmp}
 use Rattle.dmc_tag.specs.declared.rank.LimitRank.{LimitRank}
-use Rattle.dmc_index.specs.Index.{held, IsEmpty}
+use Rattle.dmc_index.specs.Index.{slot_of_key, IsEmpty}
 use Rattle.dmc_heads.specs.declared.head.Head.{Head}
-use Rattle.dmc_heads.specs.Heads.{limit_rank, IsFirst, marked, set_back}
+use Rattle.dmc_heads.specs.Heads.{limit_rank, IsFirst, with_ready_mark, set_back}
 use Rattle.dmc_heads.specs.Marks.{with_ready, is_past, CanMark}
-use Rattle.dmc_heads.proofs.Slots.{map_set, set-held, held-map}
+use Rattle.dmc_heads.proofs.Slots.{map_set, set-slot_of_key, slot_of_key-map}
 use Rattle.dmc_tag.proofs.Orderings.{then_less}
 
 or_true : (a d : Bool) → a ≡ true → (a || d) ≡ a
@@ -45,33 +45,33 @@ unready_behind false true s h e f = cc
 unready_behind true b s h e f = cc
 
 module _ {T : Type 0} where
-  same_heads : (f : Head T → Head T) (heads : List (Option (Head T))) → ((key : ℕ) (h : Head T) → held heads key ≡ Some h → f h ≡ h) → map (option_map f) heads ≡ heads
+  same_heads : (f : Head T → Head T) (heads : List (Option (Head T))) → ((key : ℕ) (h : Head T) → slot_of_key heads key ≡ Some h → f h ≡ h) → map (option_map f) heads ≡ heads
   same_heads f [] e = refl
   same_heads f (None ∷ heads) e = ap (λ hs. None ∷ hs) (same_heads f heads (λ key h q. e (suc key) h q))
   same_heads f (Some x ∷ heads) e =
       ap (λ y. Some y ∷ map (option_map f) heads) (e 0 x refl) ∙ ap (λ hs. Some x ∷ hs) (same_heads f heads (λ key h q. e (suc key) h q))
 
 module _ {T : Type 0} (ops : Tagging T) (t : ℕ) where
-  pub none_marked : (heads : List (Option (Head T))) → IsEmpty heads → map (option_map (marked ops t)) heads ≡ heads
+  pub none_marked : (heads : List (Option (Head T))) → IsEmpty heads → map (option_map (with_ready_mark ops t)) heads ≡ heads
   none_marked heads empty =
-      same_heads (marked ops t) heads (λ key h q. let no : held heads key ≡ None = empty key in cc)
+      same_heads (with_ready_mark ops t) heads (λ key h q. let no : slot_of_key heads key ≡ None = empty key in cc)
 
-  still_ready : (h : Head T) → h.ready ≡ true → marked ops t h ≡ h
+  still_ready : (h : Head T) → h.ready ≡ true → with_ready_mark ops t h ≡ h
   still_ready h e = ap (λ b. record h { ready = b }) (or_true h.ready (is_due ops t (Some h.tags.l)) e)
 
-  still_unready : (h : Head T) → is_due ops t (Some h.tags.l) ≡ false → marked ops t h ≡ h
+  still_unready : (h : Head T) → is_due ops t (Some h.tags.l) ≡ false → with_ready_mark ops t h ≡ h
   still_unready h e = ap (λ b. record h { ready = b }) (or_false h.ready (is_due ops t (Some h.tags.l)) e)
 
   module _ (order : IsTotalOrder ops.compare) (heads : List (Option (Head T))) (key : ℕ) (least : LimitRank T) (first : IsFirst limit_rank (limit_rank_cmp ops.compare) heads key least) where
     -- the head of the first key
-    first_head : (k : ℕ) (h : Head T) → held heads k ≡ Some h → k ≡ key → limit_rank h ≡ least
+    first_head : (k : ℕ) (h : Head T) → slot_of_key heads k ≡ Some h → k ≡ key → limit_rank h ≡ least
     first_head k h q e =
-        let both : Some (limit_rank h) ≡ Some least = sym (ap (option_map limit_rank) q) ∙ ap (λ n. option_map limit_rank (held heads n)) e ∙ first.here in cc
+        let both : Some (limit_rank h) ≡ Some least = sym (ap (option_map limit_rank) q) ∙ ap (λ n. option_map limit_rank (slot_of_key heads n)) e ∙ first.here in cc
 
     -- where the first is ready, all are
-    pub all_ready : least.ready ≡ true → map (option_map (marked ops t)) heads ≡ heads
-    all_ready r = same_heads (marked ops t) heads (λ k h q. still_ready h (ready k h q)) where
-      ready : (k : ℕ) (h : Head T) → held heads k ≡ Some h → h.ready ≡ true
+    pub all_ready : least.ready ≡ true → map (option_map (with_ready_mark ops t)) heads ≡ heads
+    all_ready r = same_heads (with_ready_mark ops t) heads (λ k h q. still_ready h (ready k h q)) where
+      ready : (k : ℕ) (h : Head T) → slot_of_key heads k ≡ Some h → h.ready ≡ true
       ready k h q =
           elim (cases_eq k key) [
             | inl e ↦ ap (λ (x : LimitRank T). x.ready) (first_head k h q e) ∙ r
@@ -86,32 +86,32 @@ module _ {T : Type 0} (ops : Tagging T) (t : ℕ) where
           let due : is_due ops t (Some least.tag) ≡ true = ap not (upto order least.tag tag (ops.of_moment t) l g) in cc
 
     -- where the first is unready and past t, no unready one is due
-    pub none_due : least.ready ≡ false → is_due ops t (Some least.tag) ≡ false → map (option_map (marked ops t)) heads ≡ heads
-    none_due r d = same_heads (marked ops t) heads (λ k h q. at k h q h.ready refl) where
-      behind : (k : ℕ) (h : Head T) → held heads k ≡ Some h → h.ready ≡ false → AtMost ops least.tag h.tags.l
+    pub none_due : least.ready ≡ false → is_due ops t (Some least.tag) ≡ false → map (option_map (with_ready_mark ops t)) heads ≡ heads
+    none_due r d = same_heads (with_ready_mark ops t) heads (λ k h q. at k h q h.ready refl) where
+      behind : (k : ℕ) (h : Head T) → slot_of_key heads k ≡ Some h → h.ready ≡ false → AtMost ops least.tag h.tags.l
       behind k h q e =
           elim (cases_eq k key) [
             | inl s ↦ let one = ap (λ (x : LimitRank T). x.tag) (first_head k h q s) in subst (λ x. AtMost ops least.tag x) (sym one) (ap is_gt (tied_itself order least.tag))
             | inr ne ↦ then_less _ _ (unready_behind least.ready h.ready _ (first.below k h ne q) r e)
           ]
 
-      at : (k : ℕ) (h : Head T) → held heads k ≡ Some h → (b : Bool) → h.ready ≡ b → marked ops t h ≡ h
+      at : (k : ℕ) (h : Head T) → slot_of_key heads k ≡ Some h → (b : Bool) → h.ready ≡ b → with_ready_mark ops t h ≡ h
       at k h q true e = still_ready h e
       at k h q false e = still_unready h (late h.tags.l d (behind k h q e))
 
   -- ---- a mark more
 
-  once : (o : Option (Head T)) → IsSomeAnd o (CanMark ops t) → option_map (marked ops t) (option_map (with_ready true) o) ≡ option_map (marked ops t) o
+  once : (o : Option (Head T)) → IsSomeAnd o (CanMark ops t) → option_map (with_ready_mark ops t) (option_map (with_ready true) o) ≡ option_map (with_ready_mark ops t) o
   once None h = absurd h
   once (Some x) h =
       let now : (x.ready || is_due ops t (Some x.tags.l)) ≡ true = ap (λ b. b || is_due ops t (Some x.tags.l)) h.0 ∙ h.1 in
       ap (λ b. Some (record x { ready = b })) (sym now)
 
-  pub mark_more : (heads : List (Option (Head T))) (key : ℕ) → IsSomeAnd (held heads key) (CanMark ops t) → map (option_map (marked ops t)) (set heads key (option_map (with_ready true) (held heads key))) ≡ map (option_map (marked ops t)) heads
+  pub mark_more : (heads : List (Option (Head T))) (key : ℕ) → IsSomeAnd (slot_of_key heads key) (CanMark ops t) → map (option_map (with_ready_mark ops t)) (set heads key (option_map (with_ready true) (slot_of_key heads key))) ≡ map (option_map (with_ready_mark ops t)) heads
   mark_more heads key h =
-      map_set (marked ops t) heads key (option_map (with_ready true) (held heads key))
-      ∙ ap (set (map (option_map (marked ops t)) heads) key) (once (held heads key) h ∙ sym (held-map (marked ops t) heads key))
-      ∙ set-held (map (option_map (marked ops t)) heads) key
+      map_set (with_ready_mark ops t) heads key (option_map (with_ready true) (slot_of_key heads key))
+      ∙ ap (set (map (option_map (with_ready_mark ops t)) heads) key) (once (slot_of_key heads key) h ∙ sym (slot_of_key-map (with_ready_mark ops t) heads key))
+      ∙ set-slot_of_key (map (option_map (with_ready_mark ops t)) heads) key
 
   -- ---- a mark set back
 
@@ -119,5 +119,5 @@ module _ {T : Type 0} (ops : Tagging T) (t : ℕ) where
   not_past None e = refl
   not_past (Some h) e = ap (λ b. Some (record h { ready = b })) (and_stays h.ready (is_due ops t (Some h.tags.l)) e)
 
-  pub not_set_back : (heads : List (Option (Head T))) (key : ℕ) → option_map_or (is_past ops t) (held heads key) false ≡ false → set heads key (option_map (set_back ops t) (held heads key)) ≡ heads
-  not_set_back heads key e = ap (set heads key) (not_past (held heads key) e) ∙ set-held heads key
+  pub not_set_back : (heads : List (Option (Head T))) (key : ℕ) → option_map_or (is_past ops t) (slot_of_key heads key) false ≡ false → set heads key (option_map (set_back ops t) (slot_of_key heads key)) ≡ heads
+  not_set_back heads key e = ap (set heads key) (not_past (slot_of_key heads key) e) ∙ set-slot_of_key heads key

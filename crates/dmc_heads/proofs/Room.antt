@@ -6,10 +6,10 @@ use Rattle.dmc_tag.specs.Tag.{Tagging}
 use Rattle.dmc_tag.specs.declared.rank.TagRank.{TagRank}
 use Rattle.dmc_tag.specs.declared.rank.LimitRank.{LimitRank}
 use Rattle.dmc_tag.specs.declared.rank.ReadyRank.{ReadyRank}
-use Rattle.dmc_index.specs.Index.{held}
+use Rattle.dmc_index.specs.Index.{slot_of_key}
 use Rattle.dmc_heads.specs.Heads.{tag_rank, limit_rank, ready_rank, head_from, heads_from, IsLeastShare, IsSound}
-use Rattle.dmc_heads.proofs.Slots.{held-more, same_slots}
-use Rattle.dmc_heads.proofs.HeadsFrom.{held-heads_from}
+use Rattle.dmc_heads.proofs.Slots.{slot_of_key-more, same_slots}
+use Rattle.dmc_heads.proofs.HeadsFrom.{slot_of_key-heads_from}
 
 -- as much room, or up to n
 abbrev pub with_room : {X : Type 0} → List (Option X) → ℕ → List (Option X)
@@ -26,14 +26,14 @@ module _ {T : Type 0} where
   least_room (a ∷ reservation) (b ∷ limits) [] = omega arith
   least_room (a ∷ reservation) (b ∷ limits) (c ∷ ready) = omega (arith, least_room reservation limits ready)
 
-module _ {T : Type 0} (reservation reservation' : List (Option (TagRank T))) (limits limits' : List (Option (LimitRank T))) (ready ready' : List (Option (ReadyRank T))) (e : (key : ℕ) → held reservation' key ≡ held reservation key) (l : (key : ℕ) → held limits' key ≡ held limits key) (r : (key : ℕ) → held ready' key ≡ held ready key) where
-  pub same_held : (key : ℕ) → held (heads_from reservation' limits' ready') key ≡ held (heads_from reservation limits ready) key
+module _ {T : Type 0} (reservation reservation' : List (Option (TagRank T))) (limits limits' : List (Option (LimitRank T))) (ready ready' : List (Option (ReadyRank T))) (e : (key : ℕ) → slot_of_key reservation' key ≡ slot_of_key reservation key) (l : (key : ℕ) → slot_of_key limits' key ≡ slot_of_key limits key) (r : (key : ℕ) → slot_of_key ready' key ≡ slot_of_key ready key) where
+  pub same_held : (key : ℕ) → slot_of_key (heads_from reservation' limits' ready') key ≡ slot_of_key (heads_from reservation limits ready) key
   same_held key =
-      held-heads_from reservation' limits' ready' key
-      ∙ ap (λ a. head_from a (held limits' key) (held ready' key)) (e key)
-      ∙ ap (λ b. head_from (held reservation key) b (held ready' key)) (l key)
-      ∙ ap (head_from (held reservation key) (held limits key)) (r key)
-      ∙ sym (held-heads_from reservation limits ready key)
+      slot_of_key-heads_from reservation' limits' ready' key
+      ∙ ap (λ a. head_from a (slot_of_key limits' key) (slot_of_key ready' key)) (e key)
+      ∙ ap (λ b. head_from (slot_of_key reservation key) b (slot_of_key ready' key)) (l key)
+      ∙ ap (head_from (slot_of_key reservation key) (slot_of_key limits key)) (r key)
+      ∙ sym (slot_of_key-heads_from reservation limits ready key)
 
   still_least : (ops : Tagging T) (least : Option T) → IfSome least (IsLeastShare ops (heads_from reservation limits ready)) → IfSome least (IsLeastShare ops (heads_from reservation' limits' ready'))
   still_least ops None was = tt
@@ -62,7 +62,7 @@ module _ {T : Type 0} (reservation : List (Option (TagRank T))) (limits : List (
       let old = heads_from reservation limits ready in
       same_slots (heads_from (with_room reservation n) (with_room limits n) (with_room ready n)) (with_room old n)
       (omega (arith, least_room (with_room reservation n) (with_room limits n) (with_room ready n), least_room reservation limits ready, length-with_room reservation n, length-with_room limits n, length-with_room ready n, length-with_room old n))
-      (λ key. same_held reservation (with_room reservation n) limits (with_room limits n) ready (with_room ready n) (held-more reservation (n - length reservation)) (held-more limits (n - length limits)) (held-more ready (n - length ready)) key ∙ sym (held-more old (n - length old) key))
+      (λ key. same_held reservation (with_room reservation n) limits (with_room limits n) ready (with_room ready n) (slot_of_key-more reservation (n - length reservation)) (slot_of_key-more limits (n - length limits)) (slot_of_key-more ready (n - length ready)) key ∙ sym (slot_of_key-more old (n - length old) key))
 
   pub one_grown : length (heads_from reservation limits ready) ≤ length (heads_from (with_room reservation n) limits ready)
   one_grown =

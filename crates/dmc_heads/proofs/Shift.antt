@@ -10,10 +10,10 @@ use Rattle.dmc_tag.specs.Rank.{ready_rank_cmp, client_cmp}
 use Rattle.dmc_tag.specs.declared.rank.TagRank.{TagRank}
 use Rattle.dmc_tag.specs.declared.rank.LimitRank.{LimitRank}
 use Rattle.dmc_tag.specs.declared.rank.ReadyRank.{ReadyRank}
-use Rattle.dmc_index.specs.Index.{held, IsMapped}
+use Rattle.dmc_index.specs.Index.{slot_of_key, IsMapped}
 use Rattle.dmc_heads.specs.declared.head.Head.{Head}
 use Rattle.dmc_heads.specs.Heads.{tag_rank, limit_rank, ready_rank, Ranks, head_from, heads_from, AreApart, IsLeastShare, IsSound, CanShift, shifted, less_rank}
-use Rattle.dmc_heads.proofs.Slots.{some_if_mapped, same_slots, held-map}
+use Rattle.dmc_heads.proofs.Slots.{some_if_mapped, same_slots, slot_of_key-map}
 
 -- an amount off each of two tags keeps their order
 abbrev pub SubtractionKeeps : {T : Type 0} → Tagging T → Type 0
@@ -30,10 +30,10 @@ module _ {T : Type 0} (ops : Tagging T) (keeps : SubtractionKeeps ops) (amount :
 
   module _ (heads : List (Option (Head T))) (can : CanShift ops amount heads) where
     -- the order of the ready index is kept
-    pub keeps_order : (ready : List (Option (ReadyRank T))) → Ranks ready_rank heads ready → (a b : ℕ) (r s : ReadyRank T) → held ready a ≡ Some r → held ready b ≡ Some s → ready_rank_cmp ops.compare r s ≡ Less → ready_rank_cmp ops.compare (less_rank ops amount r) (less_rank ops amount s) ≡ Less
+    pub keeps_order : (ready : List (Option (ReadyRank T))) → Ranks ready_rank heads ready → (a b : ℕ) (r s : ReadyRank T) → slot_of_key ready a ≡ Some r → slot_of_key ready b ≡ Some s → ready_rank_cmp ops.compare r s ≡ Less → ready_rank_cmp ops.compare (less_rank ops amount r) (less_rank ops amount s) ≡ Less
     keeps_order ready ranks a b r s p q l =
-        let x = some_if_mapped ready_rank (held heads a) r (sym (ranks a) ∙ p) in
-        let y = some_if_mapped ready_rank (held heads b) s (sym (ranks b) ∙ q) in
+        let x = some_if_mapped ready_rank (slot_of_key heads a) r (sym (ranks a) ∙ p) in
+        let y = some_if_mapped ready_rank (slot_of_key heads b) s (sym (ranks b) ∙ q) in
         let has_r = ap (λ (z : ReadyRank T). has_less ops amount z.tag) (sym x.2) ∙ can a x.0 x.1 in
         let has_s = ap (λ (z : ReadyRank T). has_less ops amount z.tag) (sym y.2) ∙ can b y.0 y.1 in
         ap (λ c. ordering_then (bool_cmp s.ready r.ready) (ordering_then c (client_cmp r.client s.client))) (compare_less r.tag s.tag has_r has_s) ∙ l
@@ -42,10 +42,10 @@ module _ {T : Type 0} (ops : Tagging T) (keeps : SubtractionKeeps ops) (amount :
     shifted_least p was = record {
       key = was.key;
       head = shifted ops amount was.head;
-      here = held-map (shifted ops amount) heads was.key ∙ ap (option_map (shifted ops amount)) was.here;
+      here = slot_of_key-map (shifted ops amount) heads was.key ∙ ap (option_map (shifted ops amount)) was.here;
       share = ap (less ops amount) was.share;
       below = λ k other q.
-          let x = some_if_mapped (shifted ops amount) (held heads k) other (sym (held-map (shifted ops amount) heads k) ∙ q) in
+          let x = some_if_mapped (shifted ops amount) (slot_of_key heads k) other (sym (slot_of_key-map (shifted ops amount) heads k) ∙ q) in
           let has_p = ap (has_less ops amount) (sym was.share) ∙ can was.key was.head was.here in
           let same = compare_less p x.0.tags.p has_p (can k x.0 x.1) in
           subst (λ (h : Head T). is_gt (ops.compare (less ops amount p) h.tags.p) ≡ false) x.2 (ap is_gt same ∙ was.below k x.0 x.1);
@@ -58,7 +58,7 @@ module _ {T : Type 0} (ops : Tagging T) (keeps : SubtractionKeeps ops) (amount :
   -- what the index holds after
   pub mapped_slots : (gives : ReadyRank T → ReadyRank T → Type 0) → ((r x : ReadyRank T) → gives r x → x ≡ less_rank ops amount r) → (old new : List (Option (ReadyRank T))) → IsMapped gives old new → new ≡ map (option_map (less_rank ops amount)) old
   mapped_slots gives is old new h =
-      same_slots new (map (option_map (less_rank ops amount)) old) (h.room ∙ sym (length-map old (option_map (less_rank ops amount)))) (λ key. at (held old key) (held new key) (h.ranks key) ∙ sym (held-map (less_rank ops amount) old key)) where
+      same_slots new (map (option_map (less_rank ops amount)) old) (h.room ∙ sym (length-map old (option_map (less_rank ops amount)))) (λ key. at (slot_of_key old key) (slot_of_key new key) (h.ranks key) ∙ sym (slot_of_key-map (less_rank ops amount) old key)) where
         at : (o n : Option (ReadyRank T)) → MatchOption o (n ≡ None) (λ rank. IsSomeAnd n (gives rank)) → n ≡ option_map (less_rank ops amount) o
         at None n e = e
         at (Some r) None e = absurd e
@@ -79,22 +79,22 @@ module _ {T : Type 0} (ops : Tagging T) (keeps : SubtractionKeeps ops) (amount :
 
   same_rank : {R : Type 0} (rank : Head T → R) → ((h : Head T) → rank (shifted ops amount h) ≡ rank h) → (heads : List (Option (Head T))) (slots : List (Option R)) → Ranks rank heads slots → Ranks rank (map (option_map (shifted ops amount)) heads) slots
   same_rank rank same heads slots ranks key =
-      ranks key ∙ at (held heads key) ∙ ap (option_map rank) (sym (held-map (shifted ops amount) heads key)) where
+      ranks key ∙ at (slot_of_key heads key) ∙ ap (option_map rank) (sym (slot_of_key-map (shifted ops amount) heads key)) where
         at : (o : Option (Head T)) → option_map rank o ≡ option_map rank (option_map (shifted ops amount) o)
         at None = refl
         at (Some h) = ap Some (sym (same h))
 
   less_ranks : (heads : List (Option (Head T))) (ready : List (Option (ReadyRank T))) → Ranks ready_rank heads ready → Ranks ready_rank (map (option_map (shifted ops amount)) heads) (map (option_map (less_rank ops amount)) ready)
   less_ranks heads ready ranks key =
-      held-map (less_rank ops amount) ready key ∙ ap (option_map (less_rank ops amount)) (ranks key) ∙ at (held heads key) ∙ ap (option_map ready_rank) (sym (held-map (shifted ops amount) heads key)) where
+      slot_of_key-map (less_rank ops amount) ready key ∙ ap (option_map (less_rank ops amount)) (ranks key) ∙ at (slot_of_key heads key) ∙ ap (option_map ready_rank) (sym (slot_of_key-map (shifted ops amount) heads key)) where
         at : (o : Option (Head T)) → option_map (less_rank ops amount) (option_map ready_rank o) ≡ option_map ready_rank (option_map (shifted ops amount) o)
         at None = refl
         at (Some h) = refl
 
   still_apart : (heads : List (Option (Head T))) → AreApart heads → AreApart (map (option_map (shifted ops amount)) heads)
   still_apart heads apart key h q k other ne q' =
-      let x = some_if_mapped (shifted ops amount) (held heads key) h (sym (held-map (shifted ops amount) heads key) ∙ q) in
-      let y = some_if_mapped (shifted ops amount) (held heads k) other (sym (held-map (shifted ops amount) heads k) ∙ q') in
+      let x = some_if_mapped (shifted ops amount) (slot_of_key heads key) h (sym (slot_of_key-map (shifted ops amount) heads key) ∙ q) in
+      let y = some_if_mapped (shifted ops amount) (slot_of_key heads k) other (sym (slot_of_key-map (shifted ops amount) heads k) ∙ q') in
       let was = apart key x.0 x.1 k y.0 ne y.1 in
       cc (was, ap (λ (z : Head T). z.client) x.2, ap (λ (z : Head T). z.client) y.2)
 

@@ -4,10 +4,10 @@ use Rattle.std.specs.Option.{option_map}
 use Rattle.std.proofs.lemmas.Bool.{cases_lt}
 use Rattle.std.proofs.lemmas.List.Sums.{sum_by-cons}
 use Rattle.std.proofs.lemmas.List.{get_or_past, get_or-set_same, get_or-set_other}
-use Rattle.dmc_index.specs.Index.{held}
+use Rattle.dmc_index.specs.Index.{slot_of_key}
 use Rattle.dmc_tag.proofs.Options.{option_cases}
 pub use Rattle.dmc_tag.proofs.Options.{is_some_mapped}
-pub use Rattle.dmc_index.proofs.Slots.{held-more, held-set_other}
+pub use Rattle.dmc_index.proofs.Slots.{slot_of_key-more, slot_of_key-set_other}
 
 pub some_of : {X : Type 0} (o : Option X) → IsSome o → (x : X) × (o ≡ Some x)
 some_of None h = cc
@@ -23,14 +23,14 @@ none_if_mapped f (Some x) e = cc
 
 module _ {X : Type 0} where
   -- a key that holds something is below the room
-  pub within : (slots : List (Option X)) (key : ℕ) (x : X) → held slots key ≡ Some x → key < length slots
+  pub within : (slots : List (Option X)) (key : ℕ) (x : X) → slot_of_key slots key ≡ Some x → key < length slots
   within slots key x h =
       elim (cases_lt key (length slots)) [ inl l ↦ l | inr l ↦ let none = get_or_past slots key None l in cc ]
 
-  pub held-set_same : (slots : List (Option X)) (key : ℕ) (o : Option X) → key < length slots → held (set slots key o) key ≡ o
-  held-set_same slots key o l = get_or-set_same slots key o None l
+  pub slot_of_key-set_same : (slots : List (Option X)) (key : ℕ) (o : Option X) → key < length slots → slot_of_key (set slots key o) key ≡ o
+  slot_of_key-set_same slots key o l = get_or-set_same slots key o None l
 
-  pub same_slots : (xs ys : List (Option X)) → length xs ≡ length ys → ((key : ℕ) → held xs key ≡ held ys key) → xs ≡ ys
+  pub same_slots : (xs ys : List (Option X)) → length xs ≡ length ys → ((key : ℕ) → slot_of_key xs key ≡ slot_of_key ys key) → xs ≡ ys
   same_slots [] [] e h = refl
   same_slots [] (y ∷ ys) e h = absurd (omega arith)
   same_slots (x ∷ xs) [] e h = absurd (omega arith)
@@ -38,17 +38,17 @@ module _ {X : Type 0} where
       ap (λ z. z ∷ xs) (h 0) ∙ ap (λ zs. y ∷ zs) (same_slots xs ys (omega arith) (λ key. h (suc key)))
 
   -- a key's value replaced by what it is
-  pub set-held : (slots : List (Option X)) (key : ℕ) → set slots key (held slots key) ≡ slots
-  set-held [] key = refl
-  set-held (x ∷ slots) zero = refl
-  set-held (x ∷ slots) (suc key) = ap (λ zs. x ∷ zs) (set-held slots key)
+  pub set-slot_of_key : (slots : List (Option X)) (key : ℕ) → set slots key (slot_of_key slots key) ≡ slots
+  set-slot_of_key [] key = refl
+  set-slot_of_key (x ∷ slots) zero = refl
+  set-slot_of_key (x ∷ slots) (suc key) = ap (λ zs. x ∷ zs) (set-slot_of_key slots key)
 
-  count_none : (slots : List (Option X)) → ((key : ℕ) → held slots key ≡ None) → count_by is_some slots ≡ 0
+  count_none : (slots : List (Option X)) → ((key : ℕ) → slot_of_key slots key ≡ None) → count_by is_some slots ≡ 0
   count_none [] h = refl
   count_none (None ∷ slots) h = count_none slots (λ key. h (suc key))
   count_none (Some x ∷ slots) h = let no : Some x ≡ None = h 0 in cc
 
-  pub none_if_count_zero : (slots : List (Option X)) → count_by is_some slots ≡ 0 → (key : ℕ) → held slots key ≡ None
+  pub none_if_count_zero : (slots : List (Option X)) → count_by is_some slots ≡ 0 → (key : ℕ) → slot_of_key slots key ≡ None
   none_if_count_zero [] e key = refl
   none_if_count_zero (None ∷ slots) e zero = refl
   none_if_count_zero (None ∷ slots) e (suc key) = none_if_count_zero slots e key
@@ -56,18 +56,18 @@ module _ {X : Type 0} where
 
 module _ {X Y : Type 0} where
   -- two maps with the same keys have one number of keys
-  pub count_same : (xs : List (Option X)) (ys : List (Option Y)) → ((key : ℕ) → is_some (held xs key) ≡ is_some (held ys key)) → count_by is_some xs ≡ count_by is_some ys
-  count_same [] ys h = sym (count_none ys (λ key. option_cases (held ys key) (λ none. none) (λ y some. let no = h key in cc (ap is_some some))))
-  count_same (x ∷ xs) [] h = count_none (x ∷ xs) (λ key. option_cases (held (x ∷ xs) key) (λ none. none) (λ y some. let no = h key in cc (ap is_some some)))
+  pub count_same : (xs : List (Option X)) (ys : List (Option Y)) → ((key : ℕ) → is_some (slot_of_key xs key) ≡ is_some (slot_of_key ys key)) → count_by is_some xs ≡ count_by is_some ys
+  count_same [] ys h = sym (count_none ys (λ key. option_cases (slot_of_key ys key) (λ none. none) (λ y some. let no = h key in cc (ap is_some some))))
+  count_same (x ∷ xs) [] h = count_none (x ∷ xs) (λ key. option_cases (slot_of_key (x ∷ xs) key) (λ none. none) (λ y some. let no = h key in cc (ap is_some some)))
   count_same (x ∷ xs) (y ∷ ys) h =
       let first : ◌≡◌ {A = ℕ} (cond (is_some x) 1 0) (cond (is_some y) 1 0) = ap (λ b. cond b 1 0) (h 0) in
       let rest = count_same xs ys (λ key. h (suc key)) in
       omega (arith, first, rest, sum_by-cons (λ (o : Option X). cond (is_some o) 1 0) x xs, sum_by-cons (λ (o : Option Y). cond (is_some o) 1 0) y ys)
 
-  pub held-map : (f : X → Y) (slots : List (Option X)) (key : ℕ) → held (map (option_map f) slots) key ≡ option_map f (held slots key)
-  held-map f [] key = refl
-  held-map f (x ∷ slots) zero = refl
-  held-map f (x ∷ slots) (suc key) = held-map f slots key
+  pub slot_of_key-map : (f : X → Y) (slots : List (Option X)) (key : ℕ) → slot_of_key (map (option_map f) slots) key ≡ option_map f (slot_of_key slots key)
+  slot_of_key-map f [] key = refl
+  slot_of_key-map f (x ∷ slots) zero = refl
+  slot_of_key-map f (x ∷ slots) (suc key) = slot_of_key-map f slots key
 
 -- what a map makes of one key
 pub map_set : {X Y : Type 0} (f : X → Y) (slots : List (Option X)) (key : ℕ) (o : Option X) → map (option_map f) (set slots key o) ≡ set (map (option_map f) slots) key (option_map f o)

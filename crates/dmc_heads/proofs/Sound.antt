@@ -7,12 +7,12 @@ use Rattle.dmc_tag.specs.Tag.{Tagging}
 use Rattle.dmc_tag.specs.declared.rank.TagRank.{TagRank}
 use Rattle.dmc_tag.specs.declared.rank.LimitRank.{LimitRank}
 use Rattle.dmc_tag.specs.declared.rank.ReadyRank.{ReadyRank}
-use Rattle.dmc_index.specs.Index.{held, IsEmpty}
+use Rattle.dmc_index.specs.Index.{slot_of_key, IsEmpty}
 use Rattle.dmc_heads.specs.declared.head.Head.{Head}
 use Rattle.dmc_heads.specs.Heads.{tag_rank, limit_rank, ready_rank, Ranks, heads_from, IsOthers, AreApart, IsLeastShare, IsSound}
 use Rattle.dmc_heads.specs.Marks.{with_ready}
 use Rattle.dmc_heads.specs.Least.{least_with, least_without, least_after}
-use Rattle.dmc_heads.proofs.Slots.{none_if_count_zero, set-held}
+use Rattle.dmc_heads.proofs.Slots.{none_if_count_zero, set-slot_of_key}
 use Rattle.dmc_heads.proofs.HeadsFrom.{head_from_ranks, heads_from-set, length-heads_from, ranks_set}
 use Rattle.dmc_heads.proofs.Clients.{apart_set, is_empty, rank_held}
 use Rattle.dmc_heads.proofs.Least.{with_is, without_is, after_is, unmoved_is}
@@ -49,7 +49,7 @@ module _ {T : Type 0} (ops : Tagging T) (reservation : List (Option (TagRank T))
       let one : h ≡ h' = cc in
       subst (λ (x : Head T). IsOthers (heads_from reservation limits ready) key x.client) one others
 
-  own_key : (key : ℕ) (old h : Head T) → held (heads_from reservation limits ready) key ≡ Some old → old.client ≡ h.client → IsOthers (heads_from reservation limits ready) key h.client
+  own_key : (key : ℕ) (old h : Head T) → slot_of_key (heads_from reservation limits ready) key ≡ Some old → old.client ≡ h.client → IsOthers (heads_from reservation limits ready) key h.client
   own_key key old h here e = subst (IsOthers (heads_from reservation limits ready) key) e (sound.apart key old here)
 
   -- all keys are vacant where an index holds none
@@ -58,11 +58,11 @@ module _ {T : Type 0} (ops : Tagging T) (reservation : List (Option (TagRank T))
       is_empty ready_rank (heads_from reservation limits ready) ready sound.weight_is (none_if_count_zero ready (eqb-true (count_by is_some ready) 0 (sym e ∙ f)))
 
   module _ (order : IsTotalOrder ops.compare) (key : ℕ) (l : key < length (heads_from reservation limits ready)) where
-    pub inserted : (h : Head T) → held (heads_from reservation limits ready) key ≡ None → IsOthers (heads_from reservation limits ready) key h.client → (first : Bool) → (first ≡ true → IsEmpty (heads_from reservation limits ready)) → IsSound ops (set reservation key (Some (tag_rank h))) (set limits key (Some (limit_rank h))) (set ready key (Some (ready_rank h))) (least_with ops first least h.tags.p) room
+    pub inserted : (h : Head T) → slot_of_key (heads_from reservation limits ready) key ≡ None → IsOthers (heads_from reservation limits ready) key h.client → (first : Bool) → (first ≡ true → IsEmpty (heads_from reservation limits ready)) → IsSound ops (set reservation key (Some (tag_rank h))) (set limits key (Some (limit_rank h))) (set ready key (Some (ready_rank h))) (least_with ops first least h.tags.p) room
     inserted h vacant others first empty =
         sound_set key (Some h) l (own key (Some h) h refl others) (least_with ops first least h.tags.p) (with_is ops order (heads_from reservation limits ready) key (Some h) l vacant h refl first empty least sound.least_is)
 
-    module _ (old : Head T) (here : held (heads_from reservation limits ready) key ≡ Some old) where
+    module _ (old : Head T) (here : slot_of_key (heads_from reservation limits ready) key ≡ Some old) where
       pub changed : (h : Head T) → old.client ≡ h.client → IsSound ops (set reservation key (Some (tag_rank h))) (set limits key (Some (limit_rank h))) (set ready key (Some (ready_rank h))) (least_after ops least old.tags.p h.tags.p) room
       changed h e =
           sound_set key (Some h) l (own key (Some h) h refl (own_key key old h here e)) (least_after ops least old.tags.p h.tags.p) (after_is ops order (heads_from reservation limits ready) key (Some h) l old here h refl least sound.least_is)
@@ -74,7 +74,7 @@ module _ {T : Type 0} (ops : Tagging T) (reservation : List (Option (TagRank T))
       -- the R of a head doesn't change with its mark
       early_stays : (b : Bool) → set reservation key (Some (tag_rank (with_ready b old))) ≡ reservation
       early_stays b =
-          ap (set reservation key) (sym (rank_held tag_rank (heads_from reservation limits ready) reservation sound.reservation_is key old here)) ∙ set-held reservation key
+          ap (set reservation key) (sym (rank_held tag_rank (heads_from reservation limits ready) reservation sound.reservation_is key old here)) ∙ set-slot_of_key reservation key
 
       pub marked_heads : (b : Bool) → heads_from reservation (set limits key (Some (limit_rank (with_ready b old)))) (set ready key (Some (ready_rank (with_ready b old)))) ≡ set (heads_from reservation limits ready) key (Some (with_ready b old))
       marked_heads b =

@@ -12,7 +12,7 @@ use Rattle.dmc_tag.specs.Rules.{less, has_less}
 use Rattle.dmc_tag.specs.declared.rank.TagRank.{TagRank}
 use Rattle.dmc_tag.specs.declared.rank.LimitRank.{LimitRank}
 use Rattle.dmc_tag.specs.declared.rank.ReadyRank.{ReadyRank}
-use Rattle.dmc_index.specs.Index.{held}
+use Rattle.dmc_index.specs.Index.{slot_of_key}
 use Rattle.dmc_heads.specs.declared.head.Head.{Head}
 
 -- ---- the ranks of a head
@@ -28,7 +28,7 @@ ready_rank h = record { ready = h.ready; tag = h.tags.p; client = h.client }
 
 -- an index has the keys that the heads have and no other, each under the rank of its head
 abbrev pub Ranks : {T R : Type 0} → (Head T → R) → List (Option (Head T)) → List (Option R) → Type 0
-Ranks rank heads slots = (key : ℕ) → held slots key ≡ option_map rank (held heads key)
+Ranks rank heads slots = (key : ℕ) → slot_of_key slots key ≡ option_map rank (slot_of_key heads key)
 
 -- ---- the heads, from what three indexes hold
 
@@ -49,19 +49,19 @@ heads_from [] limit weight = []
 
 -- no other key has this client
 abbrev pub IsOthers : {T : Type 0} → List (Option (Head T)) → ℕ → ClientId → Type 0
-IsOthers {T} heads key client = (k : ℕ) (other : Head T) → k ≢ key → held heads k ≡ Some other → is_client client other.client ≡ false
+IsOthers {T} heads key client = (k : ℕ) (other : Head T) → k ≢ key → slot_of_key heads k ≡ Some other → is_client client other.client ≡ false
 
 -- no two keys have one client
 abbrev pub AreApart : {T : Type 0} → List (Option (Head T)) → Type 0
-AreApart {T} heads = (key : ℕ) (head : Head T) → held heads key ≡ Some head → IsOthers heads key head.client
+AreApart {T} heads = (key : ℕ) (head : Head T) → slot_of_key heads key ≡ Some head → IsOthers heads key head.client
 
 -- the least P of all heads
 pub record IsLeastShare {T : Type 0} (ops : Tagging T) (heads : List (Option (Head T))) (least : T) : Type 0 where
   pub key : ℕ
   pub head : Head T
-  pub here : held heads key ≡ Some head
+  pub here : slot_of_key heads key ≡ Some head
   pub share : head.tags.p ≡ least
-  pub below : (k : ℕ) (other : Head T) → held heads k ≡ Some other → AtMost ops least other.tags.p
+  pub below : (k : ℕ) (other : Head T) → slot_of_key heads k ≡ Some other → AtMost ops least other.tags.p
 
 -- The three indexes hold the same clients, each under the rank of its first request, no two keys have one client, the
 -- least P that is kept is the least, and the room is that of the last index.
@@ -77,8 +77,8 @@ pub record IsSound {T : Type 0} (ops : Tagging T) (reservation : List (Option (T
 
 -- the key has a head of this rank, which is below those of all other keys
 pub record IsFirst {T R : Type 0} (rank : Head T → R) (compare : R → R → Ordering) (heads : List (Option (Head T))) (key : ℕ) (least : R) : Type 0 where
-  pub here : option_map rank (held heads key) ≡ Some least
-  pub below : (k : ℕ) (other : Head T) → k ≢ key → held heads k ≡ Some other → compare least (rank other) ≡ Less
+  pub here : option_map rank (slot_of_key heads key) ≡ Some least
+  pub below : (k : ℕ) (other : Head T) → k ≢ key → slot_of_key heads k ≡ Some other → compare least (rank other) ≡ Less
 
 -- ---- what calls make of a head
 
@@ -92,11 +92,11 @@ less_rank ops amount rank = record rank { tag = less ops amount rank.tag }
 
 -- each of those is a value
 abbrev pub CanShift : {T : Type 0} → Tagging T → T → List (Option (Head T)) → Type 0
-CanShift {T} ops amount heads = (key : ℕ) (head : Head T) → held heads key ≡ Some head → has_less ops amount head.tags.p ≡ true
+CanShift {T} ops amount heads = (key : ℕ) (head : Head T) → slot_of_key heads key ≡ Some head → has_less ops amount head.tags.p ≡ true
 
 -- ready where its L is not past t, or it was so before
-abbrev pub marked : {T : Type 0} → Tagging T → ℕ → Head T → Head T
-marked ops t h = record h { ready = h.ready || is_due ops t (Some h.tags.l) }
+abbrev pub with_ready_mark : {T : Type 0} → Tagging T → ℕ → Head T → Head T
+with_ready_mark ops t h = record h { ready = h.ready || is_due ops t (Some h.tags.l) }
 
 -- unready where its L is past t
 abbrev pub set_back : {T : Type 0} → Tagging T → ℕ → Head T → Head T

@@ -5,7 +5,7 @@ use Rattle.std.specs.Ordering.{is_gt, is_eq}
 use Rattle.dmc_tag.specs.Tag.{Tagging}
 use Rattle.dmc_tag.specs.Order.{AtMost}
 use Rattle.dmc_tag.specs.declared.rank.ReadyRank.{ReadyRank}
-use Rattle.dmc_index.specs.Index.{held}
+use Rattle.dmc_index.specs.Index.{slot_of_key}
 
 -- the lesser of two
 abbrev pub lesser : {T : Type 0} → Tagging T → T → T → T
@@ -36,10 +36,10 @@ pub record IsLeastTag {T : Type 0} (ops : Tagging T) (slots : List (Option (Read
   pub key : ℕ
   pub rank : ReadyRank T
   pub within : key < room
-  pub here : held slots key ≡ Some rank
+  pub here : slot_of_key slots key ≡ Some rank
   pub tag : rank.tag ≡ least
-  pub below : (k : ℕ) (other : ReadyRank T) → k < room → held slots k ≡ Some other → AtMost ops least other.tag
+  pub below : (k : ℕ) (other : ReadyRank T) → k < room → slot_of_key slots k ≡ Some other → AtMost ops least other.tag
 
 -- no key below the room is held, or it is the least of those
 abbrev pub FindsLeast : {T : Type 0} → Tagging T → List (Option (ReadyRank T)) → ℕ → Option T → Type 0
-FindsLeast ops slots room found = MatchOption found ((key : ℕ) → key < room → held slots key ≡ None) (IsLeastTag ops slots room)
+FindsLeast ops slots room found = MatchOption found ((key : ℕ) → key < room → slot_of_key slots key ≡ None) (IsLeastTag ops slots room)

@@ -1,7 +1,7 @@
 //! The heads in three orders.
 ghost use Rattle.std.specs.Prelude.{◌≡◌, ℕ, ◌-◌, ◌<◌, ◌≤◌, ◌++◌, [], Some, None, OnOk, OnErr, MatchOption, IsSome, IsSomeAnd, false, length, replicate, slice_set, map, count_by, is_some};
 ghost use Rattle.std.specs.Option.{option_map, option_map_or};
-ghost use Rattle.dmc_index.specs.Index.{held, IsEmpty};
+ghost use Rattle.dmc_index.specs.Index.{slot_of_key, IsEmpty};
 ghost use Rattle.dmc_tag.specs.Rank.{tag_rank_cmp, limit_rank_cmp, ready_rank_cmp};
 ghost use Rattle.dmc_heads.specs.Heads as heads_of;
 ghost use Rattle.dmc_heads.specs.Marks as marks_of;
@@ -67,7 +67,7 @@ impl<T: Tag, I: Indexes<T>> Heads<T, I> {
     /// Makes room for the keys below n, in all three orders. Room never shrinks.
     pub fn reserve(&mut self, n: usize) -> Result<(), AllocError>
         ensures ok { OnOk result (self.new ≡ self.old ++ replicate (n - length self.old) None) }
-        ensures err { OnErr result ((key : ℕ) → held self.new key ≡ held self.old key) }
+        ensures err { OnErr result ((key : ℕ) → slot_of_key self.new key ≡ slot_of_key self.old key) }
         ensures room { length self.old ≤ length self.new }
     {
         self.reservation.reserve_keys(n)?;
@@ -122,7 +122,7 @@ impl<T: Tag, I: Indexes<T>> Heads<T, I> {
     /// Gives a head to a key that has none, of a client that no key has.
     pub fn insert(&mut self, key: usize, head: Head<T>)
         requires in_room { key < length self.old }
-        requires vacant { held self.old key ≡ None }
+        requires vacant { slot_of_key self.old key ≡ None }
         requires apart { IsOthers self.old key head.client }
         ensures { self.new ≡ slice_set self.old key (Some head) }
     {
@@ -135,7 +135,7 @@ impl<T: Tag, I: Indexes<T>> Heads<T, I> {
 
     /// Gives a key another head of its client.
     pub fn change(&mut self, key: usize, head: Head<T>)
-        requires here { option_map (λ h. h.client) (held self.old key) ≡ Some head.client }
+        requires here { option_map (λ h. h.client) (slot_of_key self.old key) ≡ Some head.client }
         ensures { self.new ≡ slice_set self.old key (Some head) }
     {
         let old = self.weight.get(key).unwrap().tag;
@@ -147,7 +147,7 @@ impl<T: Tag, I: Indexes<T>> Heads<T, I> {
 
     /// Takes a key out.
     pub fn remove(&mut self, key: usize)
-        requires { IsSome (held self.old key) }
+        requires { IsSome (slot_of_key self.old key) }
         ensures { self.new ≡ slice_set self.old key None }
     {
         self.reservation.remove(key);
@@ -174,7 +174,7 @@ impl<T: Tag, I: Indexes<T>> Heads<T, I> {
 
     /// Marks each head ready whose L is not past t.
     pub fn promote(&mut self, t: Moment)
-        ensures { self.new ≡ map (option_map (heads_of.marked T.ops t)) self.old }
+        ensures { self.new ≡ map (option_map (heads_of.with_ready_mark T.ops t)) self.old }
     {
         while let Some(key) = self.next_to_mark(t) {
             self.set_ready(key, true);
@@ -205,8 +205,8 @@ impl<T: Tag, I: Indexes<T>> Heads<T, I> {
 
     // Sets the ready mark of a head.
     fn set_ready(&mut self, key: usize, ready: bool)
-        requires { IsSome (held self.old key) }
-        ensures { self.new ≡ slice_set self.old key (option_map (marks_of.with_ready ready) (held self.old key)) }
+        requires { IsSome (slot_of_key self.old key) }
+        ensures { self.new ≡ slice_set self.old key (option_map (marks_of.with_ready ready) (slot_of_key self.old key)) }
     {
         let limit = *self.limit.get(key).unwrap();
         let share = *self.weight.get(key).unwrap();
@@ -216,7 +216,7 @@ impl<T: Tag, I: Indexes<T>> Heads<T, I> {
 
     // The key of an unready head whose L is not past t.
     fn next_to_mark(&self, t: Moment) -> Option<usize>
-        ensures { MatchOption result (map (option_map (heads_of.marked T.ops t)) self.now ≡ self.now) (λ key. IsSomeAnd (held self.now key) (CanMark T.ops t)) }
+        ensures { MatchOption result (map (option_map (heads_of.with_ready_mark T.ops t)) self.now ≡ self.now) (λ key. IsSomeAnd (slot_of_key self.now key) (CanMark T.ops t)) }
     {
         match self.limit.least() {
             None => None,
@@ -231,7 +231,7 @@ impl<T: Tag, I: Indexes<T>> Heads<T, I> {
 
     // Sets back the ready mark of a key whose L is past t.
     fn set_back_at(&mut self, key: usize, t: Moment)
-        ensures { self.new ≡ slice_set self.old key (option_map (heads_of.set_back T.ops t) (held self.old key)) }
+        ensures { self.new ≡ slice_set self.old key (option_map (heads_of.set_back T.ops t) (slot_of_key self.old key)) }
     {
         if self.is_past(key, t) {
             self.set_ready(key, false);
@@ -240,7 +240,7 @@ impl<T: Tag, I: Indexes<T>> Heads<T, I> {
 
     // Whether the key has a head that is ready, and whose L is past t.
     fn is_past(&self, key: usize, t: Moment) -> bool
-        ensures { result ≡ option_map_or (marks_of.is_past T.ops t) (held self.now key) false }
+        ensures { result ≡ option_map_or (marks_of.is_past T.ops t) (slot_of_key self.now key) false }
     {
         match self.limit.get(key) {
             None => false,

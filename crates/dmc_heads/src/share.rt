@@ -1,7 +1,7 @@
 //! The least P of all heads, as it is kept, and tests of tags.
 ghost use Rattle.std.specs.Prelude.{◌≡◌, Some};
 ghost use Rattle.std.specs.Option.{option_map};
-ghost use Rattle.dmc_index.specs.Index.{held};
+ghost use Rattle.dmc_index.specs.Index.{slot_of_key};
 ghost use Rattle.dmc_tag.specs.Best as best;
 ghost use Rattle.dmc_heads.specs.Heads as heads_of;
 ghost use Rattle.dmc_heads.specs.Least as least_share;
@@ -94,7 +94,7 @@ pub fn find_least<T: Tag, X: OrderIndex<ReadyRank<T>>>(ready: &X, room: usize) -
 
 /// The tag of a key.
 fn tag_of<T: Tag, X: OrderIndex<ReadyRank<T>>>(ready: &X, key: usize) -> Option<T>
-    ensures { result ≡ option_map (λ rank. rank.tag) (held (X.slots ready.now) key) }
+    ensures { result ≡ option_map (λ rank. rank.tag) (slot_of_key (X.slots ready.now) key) }
 {
     match ready.get(key) {
         None => None,

@@ -8,7 +8,7 @@ use Rattle.std.proofs.lemmas.Bool.{cases_lt, cases_eq}
 use Rattle.std.proofs.lemmas.List.{length-set, length-map, length-append, get_or-set_same, get_or-set_other, set_at, set-append_left, set-set, set_comm, get_or_default, same_lists}
 use Rattle.std.proofs.lemmas.List.Sums.{sum_by-set}
 use Rattle.std.proofs.lemmas.Option.{slice_get_within, slice_get_past}
-use Rattle.dmc_index.specs.Index.{held, IsApartFromOthers, AreApart}
+use Rattle.dmc_index.specs.Index.{slot_of_key, IsApartFromOthers, AreApart}
 use Rattle.dmc_heap.specs.Heap.{rank_at, rank_of, slots_of, parent_of, IsLinked, IsHeap, IsHole}
 use Rattle.dmc_heap.specs.declared.indexed_heap.Entry.{Entry}
 use Rattle.dmc_heap.specs.declared.indexed_heap.TheConstants.{VACANT}
@@ -49,12 +49,12 @@ module _ {X : Type 0} where
 -- ---- maps
 
 module _ {R : Type 0} where
-  pub held-slots_of : (heap : List (Entry R)) (places : List ℕ) (key : ℕ) → held (slots_of heap places) key ≡ rank_of heap places key
-  held-slots_of heap [] key = refl
-  held-slots_of heap (p ∷ ps) zero = refl
-  held-slots_of heap (p ∷ ps) (suc key) = held-slots_of heap ps key
+  pub slot_of_key-slots_of : (heap : List (Entry R)) (places : List ℕ) (key : ℕ) → slot_of_key (slots_of heap places) key ≡ rank_of heap places key
+  slot_of_key-slots_of heap [] key = refl
+  slot_of_key-slots_of heap (p ∷ ps) zero = refl
+  slot_of_key-slots_of heap (p ∷ ps) (suc key) = slot_of_key-slots_of heap ps key
 
-  pub same_slots : (xs ys : List (Option R)) → length xs ≡ length ys → ((key : ℕ) → held xs key ≡ held ys key) → xs ≡ ys
+  pub same_slots : (xs ys : List (Option R)) → length xs ≡ length ys → ((key : ℕ) → slot_of_key xs key ≡ slot_of_key ys key) → xs ≡ ys
   same_slots xs ys e h =
       same_lists xs ys e (λ k d l. get_or_default xs k d None l ∙ h k ∙ get_or_default ys k None d (omega arith))
 
@@ -64,13 +64,13 @@ module _ {R : Type 0} where
       let old = slots_of heap places in
       let in' : key < length old = omega (arith, length-map places (rank_at heap)) in
       same_slots (slots_of new_heap new_places) (set old key v) (length-map new_places (rank_at new_heap) ∙ e ∙ sym (length-map places (rank_at heap)) ∙ sym (length-set old key v)) (λ k. elim (cases_eq k key) [
-        | inl s ↦ held-slots_of new_heap new_places k ∙ ap (rank_of new_heap new_places) s ∙ at ∙ sym (get_or-set_same old key v None in') ∙ ap (held (set old key v)) (sym s)
-        | inr p ↦ held-slots_of new_heap new_places k ∙ else' k p ∙ sym (held-slots_of heap places k) ∙ sym (get_or-set_other old key k v None p)
+        | inl s ↦ slot_of_key-slots_of new_heap new_places k ∙ ap (rank_of new_heap new_places) s ∙ at ∙ sym (get_or-set_same old key v None in') ∙ ap (slot_of_key (set old key v)) (sym s)
+        | inr p ↦ slot_of_key-slots_of new_heap new_places k ∙ else' k p ∙ sym (slot_of_key-slots_of heap places k) ∙ sym (get_or-set_other old key k v None p)
       ])
 
   -- what a map holds after a write was written, or held before
-  held-set : (slots : List (Option R)) (i key : ℕ) (v : Option R) (rank : R) → held (set slots i v) key ≡ Some rank → ((key ≡ i) × (v ≡ Some rank)) ⊎ (((key ≡ i → ⊥) × (held slots key ≡ Some rank)) ⊎ (length slots ≤ i))
-  held-set slots i key v rank h =
+  slot_of_key-set : (slots : List (Option R)) (i key : ℕ) (v : Option R) (rank : R) → slot_of_key (set slots i v) key ≡ Some rank → ((key ≡ i) × (v ≡ Some rank)) ⊎ (((key ≡ i → ⊥) × (slot_of_key slots key ≡ Some rank)) ⊎ (length slots ≤ i))
+  slot_of_key-set slots i key v rank h =
       elim (cases_lt i (length slots)) [
         | inr l ↦ inr (inr l)
         | inl l ↦ elim (cases_eq key i) [
@@ -81,13 +81,13 @@ module _ {R : Type 0} where
 
   pub AreApart-set : (compare : R → R → Ordering) (o : IsTotalOrder compare) (slots : List (Option R)) (key : ℕ) (v : Option R) → key < length slots → AreApart compare slots → ((rank : R) → v ≡ Some rank → IsApartFromOthers compare slots key rank) → AreApart compare (set slots key v)
   AreApart-set compare o slots key v l apart new a r h b s ne q =
-      elim (held-set slots key a v r h) [
-        | inl w ↦ elim (held-set slots key b v s q) [
+      elim (slot_of_key-set slots key a v r h) [
+        | inl w ↦ elim (slot_of_key-set slots key b v s q) [
           | inl u ↦ absurd (ne (u.0 ∙ sym w.0))
           | inr (inl u) ↦ new r w.1 b s u.0 u.1
           | inr (inr u) ↦ absurd (omega arith)
         ]
-        | inr (inl w) ↦ elim (held-set slots key b v s q) [
+        | inr (inl w) ↦ elim (slot_of_key-set slots key b v s q) [
           | inl u ↦ λ e. new s u.1 a r w.0 w.1 (tied_back o r s e)
           | inr (inl u) ↦ apart a r w.1 b s ne u.1
           | inr (inr u) ↦ absurd (omega arith)
@@ -95,16 +95,16 @@ module _ {R : Type 0} where
         | inr (inr w) ↦ absurd (omega arith)
       ]
 
-  count-set : (slots : List (Option R)) (key : ℕ) (v : Option R) → key < length slots → count_by is_some (set slots key v) + cond (is_some (held slots key)) 1 0 ≡ count_by is_some slots + cond (is_some v) 1 0
+  count-set : (slots : List (Option R)) (key : ℕ) (v : Option R) → key < length slots → count_by is_some (set slots key v) + cond (is_some (slot_of_key slots key)) 1 0 ≡ count_by is_some slots + cond (is_some v) 1 0
   count-set slots key v l = sum_by-set (λ (o : Option R). cond (is_some o) 1 0) slots key v None l
 
   bit_of : (v w : Option R) → v ≡ w → ◌≡◌ {A = ℕ} (cond (is_some v) 1 0) (cond (is_some w) 1 0)
   bit_of v w e = ap (λ (o : Option R). cond (is_some o) 1 0) e
 
-  pub count_changed : (slots : List (Option R)) (key : ℕ) (old rank : R) → key < length slots → held slots key ≡ Some old → count_by is_some (set slots key (Some rank)) ≡ count_by is_some slots
+  pub count_changed : (slots : List (Option R)) (key : ℕ) (old rank : R) → key < length slots → slot_of_key slots key ≡ Some old → count_by is_some (set slots key (Some rank)) ≡ count_by is_some slots
   count_changed slots key old rank l h = omega (arith, count-set slots key (Some rank) l, bit_of _ _ h)
 
-  pub count_removed : (slots : List (Option R)) (key : ℕ) (old : R) → key < length slots → held slots key ≡ Some old → count_by is_some (set slots key None) + 1 ≡ count_by is_some slots
+  pub count_removed : (slots : List (Option R)) (key : ℕ) (old : R) → key < length slots → slot_of_key slots key ≡ Some old → count_by is_some (set slots key None) + 1 ≡ count_by is_some slots
   count_removed slots key old l h = omega (arith, count-set slots key None l, bit_of _ _ h)
 
 -- ---- where a key is

@@ -10,14 +10,14 @@ use Rattle.std.proofs.lemmas.List.{length-set, length-map, length-append, length
 use Rattle.std.proofs.lemmas.List.Sums.{sum_by-append, sum_by-cons, count_by-le-length}
 use Rattle.std.proofs.lemmas.List.Folds.{sum_by-replicate}
 use Rattle.std.proofs.lemmas.Option.{slice_get_within, slice_get_past, slice_get-get_or, get_or_from_slice_get}
-use Rattle.dmc_index.specs.Index.{held, IsApart, IsApartFromOthers, AreApart, IsLeast, KeepsOrder, IsMapped}
+use Rattle.dmc_index.specs.Index.{slot_of_key, IsApart, IsApartFromOthers, AreApart, IsLeast, KeepsOrder, IsMapped}
 use Rattle.dmc_heap.specs.Heap.{rank_at, rank_of, slots_of, parent_of, IsLinked, IsUpto, IsHeap, IsHole, IsSettled, IsSound, MapsEntries}
 use Rattle.dmc_heap.specs.declared.indexed_heap.Entry.{Entry}
 use Rattle.dmc_heap.specs.declared.indexed_heap.TheConstants.{VACANT}
 use Rattle.dmc_heap.proofs.LinkLemmas.{option_cases, rank_of_some, rank_of_none}
 use Rattle.dmc_heap.proofs.OrderLemmas.{upto_trans, upto_itself, same_some}
-use Rattle.dmc_index.proofs.Slots.{held-replicate, count-set_some, count_below}
-use Rattle.dmc_heap.proofs.SlotLemmas.{append_some, push_cases, replicate_cases, held-slots_of, slots_of-set, AreApart-set, count_changed, count_removed, place_of_held, IsHole-change, rank_of_changed, rank_of_others, IsHole-push, rank_of_pushed, rank_of_others_pushed, IsLinked-pop, rank_of_popped, rank_of_others_popped, IsHeap-pop, IsHole-remove, rank_of_removed, rank_of_others_left}
+use Rattle.dmc_index.proofs.Slots.{slot_of_key-replicate, count-set_some, count_below}
+use Rattle.dmc_heap.proofs.SlotLemmas.{append_some, push_cases, replicate_cases, slot_of_key-slots_of, slots_of-set, AreApart-set, count_changed, count_removed, place_of_held, IsHole-change, rank_of_changed, rank_of_others, IsHole-push, rank_of_pushed, rank_of_others_pushed, IsLinked-pop, rank_of_popped, rank_of_others_popped, IsHeap-pop, IsHole-remove, rank_of_removed, rank_of_others_left}
 
 -- ---- the type's invariant after an edit
 
@@ -28,18 +28,18 @@ module _ {R : Type 0} (compare : R → R → Ordering) (o : IsTotalOrder compare
   pub heap_in_room : length heap ≤ length places
   heap_in_room = omega (arith, sound.counted, count_by-le-length is_some (slots_of heap places), length-slots)
 
-  pub heap_short : (key : ℕ) (rank : R) → key < length places → held (slots_of heap places) key ≡ None → length heap < length places
+  pub heap_short : (key : ℕ) (rank : R) → key < length places → slot_of_key (slots_of heap places) key ≡ None → length heap < length places
   heap_short key rank l h =
       omega (arith, sound.counted, count_below (slots_of heap places) key rank (omega (arith, length-slots)) h, length-slots)
 
   -- the entry of a key that is held
-  pub found : (key place : ℕ) → slice_get places key ≡ Some place → IsSome (held (slots_of heap places) key) → (old : Entry R) × (slice_get heap place ≡ Some old) × (old.key ≡ key) × (held (slots_of heap places) key ≡ Some old.rank)
+  pub found : (key place : ℕ) → slice_get places key ≡ Some place → IsSome (slot_of_key (slots_of heap places) key) → (old : Entry R) × (slice_get heap place ≡ Some old) × (old.key ≡ key) × (slot_of_key (slots_of heap places) key ≡ Some old.rank)
   found key place at h =
-      option_cases (slice_get heap place) (λ none. cc (subst IsSome (held-slots_of heap places key ∙ ap (option_and_then (rank_at heap)) at ∙ ap (option_map (λ (e : Entry R). e.rank)) none) h)) (λ old there. (old, there, sound.linked.keyed key place old at there, held-slots_of heap places key ∙ rank_of_some heap places key place old at there))
+      option_cases (slice_get heap place) (λ none. cc (subst IsSome (slot_of_key-slots_of heap places key ∙ ap (option_and_then (rank_at heap)) at ∙ ap (option_map (λ (e : Entry R). e.rank)) none) h)) (λ old there. (old, there, sound.linked.keyed key place old at there, slot_of_key-slots_of heap places key ∙ rank_of_some heap places key place old at there))
 
-  pub key_in_room_if_held : (key : ℕ) → IsSome (held (slots_of heap places) key) → key < length places
+  pub key_in_room_if_held : (key : ℕ) → IsSome (slot_of_key (slots_of heap places) key) → key < length places
   key_in_room_if_held key h =
-      option_cases (slice_get places key) (λ none. cc (subst IsSome (held-slots_of heap places key ∙ rank_of_none heap places key none) h)) (λ place some. slice_get_within places key place some)
+      option_cases (slice_get places key) (λ none. cc (subst IsSome (slot_of_key-slots_of heap places key ∙ rank_of_none heap places key none) h)) (λ place some. slice_get_within places key place some)
 
   module _ (key : ℕ) (v : Option R) (in' : key < length places) (new_heap : List (Entry R)) (new_places : List ℕ) (room : length new_places ≡ length places) (at : rank_of new_heap new_places key ≡ v) (others : (k : ℕ) → k ≢ key → rank_of new_heap new_places k ≡ rank_of heap places k) where
     pub slots_of-edit : slots_of new_heap new_places ≡ set (slots_of heap places) key v
@@ -56,7 +56,7 @@ module _ {R : Type 0} (compare : R → R → Ordering) (o : IsTotalOrder compare
 
   -- ---- change
 
-  module _ (key : ℕ) (rank : R) (place : ℕ) (at : slice_get places key ≡ Some place) (here : IsSome (held (slots_of heap places) key)) where
+  module _ (key : ℕ) (rank : R) (place : ℕ) (at : slice_get places key ≡ Some place) (here : IsSome (slot_of_key (slots_of heap places) key)) where
     pub hole_to_change : IsHole compare heap places place (record { rank = rank; key = key })
     hole_to_change =
         let old = found key place at here in
@@ -74,12 +74,12 @@ module _ {R : Type 0} (compare : R → R → Ordering) (o : IsTotalOrder compare
 
   -- ---- insert
 
-  module _ (key : ℕ) (rank : R) (in' : key < length places) (none : held (slots_of heap places) key ≡ None) (fits : length places ≤ VACANT) where
+  module _ (key : ℕ) (rank : R) (in' : key < length places) (none : slot_of_key (slots_of heap places) key ≡ None) (fits : length places ≤ VACANT) where
     small_heap : length heap < VACANT
     small_heap = omega (arith, heap_short key rank in' none)
 
     vacant_key : rank_of heap places key ≡ None
-    vacant_key = sym (held-slots_of heap places key) ∙ none
+    vacant_key = sym (slot_of_key-slots_of heap places key) ∙ none
 
     pub hole_to_insert : IsHole compare (heap ++ (record { rank = rank; key = key }) ∷ []) places (length heap) (record { rank = rank; key = key })
     hole_to_insert =
@@ -95,12 +95,12 @@ module _ {R : Type 0} (compare : R → R → Ordering) (o : IsTotalOrder compare
 
 -- ---- remove
 
-module _ {R : Type 0} (compare : R → R → Ordering) (o : IsTotalOrder compare) (capacity : ℕ) (heap : List (Entry R)) (last : Entry R) (places : List ℕ) (sound : IsSound compare capacity (heap ++ last ∷ []) places) (fits : length places ≤ VACANT) (key place : ℕ) (at : slice_get places key ≡ Some place) (here : IsSome (held (slots_of (heap ++ last ∷ []) places) key)) where
+module _ {R : Type 0} (compare : R → R → Ordering) (o : IsTotalOrder compare) (capacity : ℕ) (heap : List (Entry R)) (last : Entry R) (places : List ℕ) (sound : IsSound compare capacity (heap ++ last ∷ []) places) (fits : length places ≤ VACANT) (key place : ℕ) (at : slice_get places key ≡ Some place) (here : IsSome (slot_of_key (slots_of (heap ++ last ∷ []) places) key)) where
   small_rest : length heap < VACANT
   small_rest =
       omega (arith, heap_in_room compare o capacity (heap ++ last ∷ []) places sound, length-append heap (last ∷ []))
 
-  old_of : (old : Entry R) × (slice_get (heap ++ last ∷ []) place ≡ Some old) × (old.key ≡ key) × (held (slots_of (heap ++ last ∷ []) places) key ≡ Some old.rank)
+  old_of : (old : Entry R) × (slice_get (heap ++ last ∷ []) place ≡ Some old) × (old.key ≡ key) × (slot_of_key (slots_of (heap ++ last ∷ []) places) key ≡ Some old.rank)
   old_of = found compare o capacity (heap ++ last ∷ []) places sound key place at here
 
   key_within : key < length places
@@ -172,8 +172,8 @@ module _ {R : Type 0} (compare : R → R → Ordering) (o : IsTotalOrder compare
       ]
 
 module _ {R : Type 0} (compare : R → R → Ordering) (o : IsTotalOrder compare) (capacity : ℕ) (heap : List (Entry R)) (places : List ℕ) (sound : IsSound compare capacity heap places) where
-  pub held_entry : (key place : ℕ) (e : Entry R) → slice_get places key ≡ Some place → slice_get heap place ≡ Some e → held (slots_of heap places) key ≡ Some e.rank
-  held_entry key place e at there = held-slots_of heap places key ∙ rank_of_some heap places key place e at there
+  pub held_entry : (key place : ℕ) (e : Entry R) → slice_get places key ≡ Some place → slice_get heap place ≡ Some e → slot_of_key (slots_of heap places) key ≡ Some e.rank
+  held_entry key place e at there = slot_of_key-slots_of heap places key ∙ rank_of_some heap places key place e at there
 
   pub IsLeast-first : (first : Entry R) → slice_get heap 0 ≡ Some first → IsLeast compare (slots_of heap places) first.key first.rank
   IsLeast-first first h =
@@ -181,7 +181,7 @@ module _ {R : Type 0} (compare : R → R → Ordering) (o : IsTotalOrder compare
       record {
         here = here;
         below = λ k other ne q.
-            let at = place_of_held heap places sound.linked k other (sym (held-slots_of heap places k) ∙ q) in
+            let at = place_of_held heap places sound.linked k other (sym (slot_of_key-slots_of heap places k) ∙ q) in
             let u = root_upto compare o heap sound.ordered at.0 at.0 (omega arith) first at.1.0 h at.1.2 in
             less_from (compare first.rank other) (subst (λ r. is_gt (compare first.rank r) ≡ false) at.1.4 u) (sound.apart first.key first.rank here k other ne q);
       }
@@ -212,18 +212,18 @@ module _ {R : Type 0} (compare : R → R → Ordering) (o : IsTotalOrder compare
       ];
     }
 
-    held-more : (slots : List (Option R)) (key : ℕ) → held (slots ++ replicate n None) key ≡ held slots key
-    held-more slots key =
+    slot_of_key-more : (slots : List (Option R)) (key : ℕ) → slot_of_key (slots ++ replicate n None) key ≡ slot_of_key slots key
+    slot_of_key-more slots key =
         elim (cases_lt key (length slots)) [
           | inl l ↦ get_or_append_left slots (replicate n None) None key l
-          | inr l ↦ get_or-append_right slots (replicate n None) (length slots) key None refl l ∙ held-replicate n (key - length slots) ∙ sym (get_or_past slots key None l)
+          | inr l ↦ get_or-append_right slots (replicate n None) (length slots) key None refl l ∙ slot_of_key-replicate n (key - length slots) ∙ sym (get_or_past slots key None l)
         ]
 
     pub IsSound-more : (more : ℕ) → length places + n ≤ more → IsSound compare more heap (places ++ replicate n VACANT)
     IsSound-more more m = record {
       linked = IsLinked-more;
       ordered = sound.ordered;
-      apart = subst (AreApart compare) (sym slots_of-more) (λ key r h k s ne q. sound.apart key r (sym (held-more (slots_of heap places) key) ∙ h) k s ne (sym (held-more (slots_of heap places) k) ∙ q));
+      apart = subst (AreApart compare) (sym slots_of-more) (λ key r h k s ne q. sound.apart key r (sym (slot_of_key-more (slots_of heap places) key) ∙ h) k s ne (sym (slot_of_key-more (slots_of heap places) k) ∙ q));
       counted = ap (count_by is_some) slots_of-more ∙ (omega (arith, sum_by-append (λ (v : Option R). cond (is_some v) 1 0) (slots_of heap places) (replicate n None), sum_by-replicate (λ (v : Option R). cond (is_some v) 1 0) n None, sound.counted));
       memory = omega (arith, length-append places (replicate n VACANT), length-replicate n VACANT);
     }
@@ -265,22 +265,22 @@ module _ {R : Type 0} (compare : R → R → Ordering) (o : IsTotalOrder compare
         omega (arith, bit, same_count ps, sum_by-cons (λ (v : Option R). cond (is_some v) 1 0) (rank_at new p) (map (rank_at new) ps), sum_by-cons (λ (v : Option R). cond (is_some v) 1 0) (rank_at heap p) (map (rank_at heap) ps))
 
     -- the rank of a key, before and after
-    rank_before : (key : ℕ) (y : R) → held (slots_of new places) key ≡ Some y → (x : R) × (held (slots_of heap places) key ≡ Some x) × gives x y
+    rank_before : (key : ℕ) (y : R) → slot_of_key (slots_of new places) key ≡ Some y → (x : R) × (slot_of_key (slots_of heap places) key ≡ Some x) × gives x y
     rank_before key y h =
-        let at = place_of_held new places IsLinked-mapped key y (sym (held-slots_of new places key) ∙ h) in
+        let at = place_of_held new places IsLinked-mapped key y (sym (slot_of_key-slots_of new places key) ∙ h) in
         let old = old_entry at.0 at.1.0 at.1.2 in
         ((get_or heap at.0 at.1.0).rank, held_entry key at.0 (get_or heap at.0 at.1.0) at.1.1 old.0, subst (gives (get_or heap at.0 at.1.0).rank) at.1.4 old.2)
 
-    rank_after : (key : ℕ) (x : R) → held (slots_of heap places) key ≡ Some x → (y : R) × (held (slots_of new places) key ≡ Some y) × gives x y
+    rank_after : (key : ℕ) (x : R) → slot_of_key (slots_of heap places) key ≡ Some x → (y : R) × (slot_of_key (slots_of new places) key ≡ Some y) × gives x y
     rank_after key x h =
-        let at = place_of_held heap places sound.linked key x (sym (held-slots_of heap places key) ∙ h) in
+        let at = place_of_held heap places sound.linked key x (sym (slot_of_key-slots_of heap places key) ∙ h) in
         let next = mapped_entry at.0 at.1.0 at.1.2 in
-        ((get_or new at.0 at.1.0).rank, held-slots_of new places key ∙ rank_of_some new places key at.0 (get_or new at.0 at.1.0) at.1.1 next.0, subst (λ r. gives r (get_or new at.0 at.1.0).rank) at.1.4 next.2)
+        ((get_or new at.0 at.1.0).rank, slot_of_key-slots_of new places key ∙ rank_of_some new places key at.0 (get_or new at.0 at.1.0) at.1.1 next.0, subst (λ r. gives r (get_or new at.0 at.1.0).rank) at.1.4 next.2)
 
     pub IsMapped-slots_of : IsMapped gives (slots_of heap places) (slots_of new places)
     IsMapped-slots_of = record {
       room = length-map places (rank_at new) ∙ sym (length-map places (rank_at heap));
-      ranks = λ key. option_cases (held (slots_of heap places) key) (λ none. rw none (option_cases (held (slots_of new places) key) (λ none'. none') (λ y some. cc (sym none ∙ (rank_before key y some).1)))) (λ x some. let next = rank_after key x some in rw (some, next.1) next.2);
+      ranks = λ key. option_cases (slot_of_key (slots_of heap places) key) (λ none. rw none (option_cases (slot_of_key (slots_of new places) key) (λ none'. none') (λ y some. cc (sym none ∙ (rank_before key y some).1)))) (λ x some. let next = rank_after key x some in rw (some, next.1) next.2);
     }
 
     module _ (keeps : KeepsOrder compare (slots_of heap places) gives) where

@@ -15,20 +15,20 @@ use Rattle.std.proofs.lemmas.List.Edits.{length-insert, get_or-insert_below, get
 use Rattle.std.proofs.lemmas.List.Sums.{count_by-le-length, prefix_len_passes}
 use Rattle.std.proofs.lemmas.List.Folds.{sum_by-replicate}
 use Rattle.std.proofs.lemmas.List.Quantifiers.{position-Some, all_pairs_remove}
-use Rattle.dmc_index.specs.Index.{held, IsEmpty, IsApart, AreApart, IsLeast, KeepsOrder, IsMapped}
+use Rattle.dmc_index.specs.Index.{slot_of_key, IsEmpty, IsApart, AreApart, IsLeast, KeepsOrder, IsMapped}
 use Rattle.dmc_index.specs.Entries.{slots_of, IsRising, IsSound, MapsEntries}
 use Rattle.dmc_index.specs.declared.list_index.Entry.{Entry}
 pub use Rattle.dmc_tag.proofs.Orderings.{less_if_lt}
 use Rattle.dmc_tag.proofs.Options.{option_cases}
 use Rattle.std.proofs.lemmas.Bool.{not-true}
-use Rattle.dmc_index.proofs.Slots.{held-replicate, count-set_some, count_below}
+use Rattle.dmc_index.proofs.Slots.{slot_of_key-replicate, count-set_some, count_below}
 
 -- ---- lists
 
 module _ {R : Type 0} where
   -- what a map holds after a write was written, or held before
-  held-set : (slots : List (Option R)) (i key : ℕ) (v : Option R) (rank : R) → held (set slots i v) key ≡ Some rank → ((key ≡ i) × (v ≡ Some rank)) ⊎ (held slots key ≡ Some rank)
-  held-set slots i key v rank h =
+  slot_of_key-set : (slots : List (Option R)) (i key : ℕ) (v : Option R) (rank : R) → slot_of_key (set slots i v) key ≡ Some rank → ((key ≡ i) × (v ≡ Some rank)) ⊎ (slot_of_key slots key ≡ Some rank)
+  slot_of_key-set slots i key v rank h =
       elim (cases_eq key i) [
         | inr ne ↦ inr (sym (get_or-set_other slots i key v None ne) ∙ h)
         | inl e ↦ elim (cases_lt i (length slots)) [
@@ -128,22 +128,22 @@ module _ {R : Type 0} where
       ap (λ s. set s x.key (Some x.rank)) (slots_of-insert room xs ys e (All-tail (λ x. x.key ≢ e.key) x xs h)) ∙ set_comm (slots_of room (xs ++ ys)) e.key x.key (Some e.rank) (Some x.rank) (λ q. All-head (λ x. x.key ≢ e.key) x xs h (sym q))
 
   -- a key without an entry is not held
-  absent : (room : ℕ) (es : List (Entry R)) (key : ℕ) → All (λ e. e.key ≢ key) es → held (slots_of room es) key ≡ None
-  absent room [] key h = held-replicate room key
+  absent : (room : ℕ) (es : List (Entry R)) (key : ℕ) → All (λ e. e.key ≢ key) es → slot_of_key (slots_of room es) key ≡ None
+  absent room [] key h = slot_of_key-replicate room key
   absent room (e ∷ es) key h =
       get_or-set_other (slots_of room es) e.key key (Some e.rank) None (λ q. All-head (λ e. e.key ≢ key) e es h (sym q)) ∙ absent room es key (All-tail (λ e. e.key ≢ key) e es h)
 
   -- what is said of each entry is true of each key that is held
-  held_all : (P : ℕ → R → Type 0) (room : ℕ) (es : List (Entry R)) → All (λ e. P e.key e.rank) es → (key : ℕ) (rank : R) → held (slots_of room es) key ≡ Some rank → P key rank
-  held_all P room [] h key rank q = cc (held-replicate {X = R} room key)
+  held_all : (P : ℕ → R → Type 0) (room : ℕ) (es : List (Entry R)) → All (λ e. P e.key e.rank) es → (key : ℕ) (rank : R) → slot_of_key (slots_of room es) key ≡ Some rank → P key rank
+  held_all P room [] h key rank q = cc (slot_of_key-replicate {X = R} room key)
   held_all P room (e ∷ es) h key rank q =
-      elim (held-set (slots_of room es) e.key key (Some e.rank) rank q) [
+      elim (slot_of_key-set (slots_of room es) e.key key (Some e.rank) rank q) [
         | inl w ↦ let same : e.rank ≡ rank = cc in subst (λ r. P key r) same (subst (λ k. P k e.rank) (sym w.0) (All-head (λ e. P e.key e.rank) e es h))
         | inr w ↦ held_all P room es (All-tail (λ e. P e.key e.rank) e es h) key rank w
       ]
 
   -- each entry's key is held
-  held_at : (room : ℕ) (es : List (Entry R)) → AllPairs (λ a b. a.key ≢ b.key) es → All (λ e. e.key < room) es → (i : ℕ) (d : Entry R) → i < length es → held (slots_of room es) (get_or es i d).key ≡ Some (get_or es i d).rank
+  held_at : (room : ℕ) (es : List (Entry R)) → AllPairs (λ a b. a.key ≢ b.key) es → All (λ e. e.key < room) es → (i : ℕ) (d : Entry R) → i < length es → slot_of_key (slots_of room es) (get_or es i d).key ≡ Some (get_or es i d).rank
   held_at room [] h b i d l = absurd (omega arith)
   held_at room (e ∷ es) h b zero d l =
       get_or-set_same (slots_of room es) e.key (Some e.rank) None (rw length-slots_of (All-head (λ e. e.key < room) e es b))
@@ -187,7 +187,7 @@ module _ {R : Type 0} (compare : R → R → Ordering) (o : IsTotalOrder compare
 
   pub AreApart-slots_of : AreApart compare (slots_of room es)
   AreApart-slots_of =
-      held_all (λ key rank. (k : ℕ) (other : R) → k ≢ key → held (slots_of room es) k ≡ Some other → compare rank other ≢ Equal) room es (λ i d l k other ne q. held_all (λ k other. k ≢ (get_or es i d).key → compare (get_or es i d).rank other ≢ Equal) room es (λ j d' m. rw (get_or_default es j d' d m) (λ ne'. entries_apart i j d l m (λ same. ne' (ap (λ n. (get_or es n d).key) (sym same))))) k other q ne)
+      held_all (λ key rank. (k : ℕ) (other : R) → k ≢ key → slot_of_key (slots_of room es) k ≡ Some other → compare rank other ≢ Equal) room es (λ i d l k other ne q. held_all (λ k other. k ≢ (get_or es i d).key → compare (get_or es i d).rank other ≢ Equal) room es (λ j d' m. rw (get_or_default es j d' d m) (λ ne'. entries_apart i j d l m (λ same. ne' (ap (λ n. (get_or es n d).key) (sym same))))) k other q ne)
 
   pub IsLeast-first : (d : Entry R) → 0 < length es → IsLeast compare (slots_of room es) (get_or es 0 d).key (get_or es 0 d).rank
   IsLeast-first d l = record {
@@ -195,7 +195,7 @@ module _ {R : Type 0} (compare : R → R → Ordering) (o : IsTotalOrder compare
     below = λ k other ne q. held_all (λ k other. k ≢ (get_or es 0 d).key → compare (get_or es 0 d).rank other ≡ Less) room es (λ j d' m. rw (get_or_default es j d' d m) (λ ne'. elim (cases_eq j 0) [ inl same ↦ absurd (ne' (ap (λ n. (get_or es n d).key) same)) | inr other ↦ sound.rising 0 j d (omega arith) m ])) k other q ne;
   }
 
-  pub held_entry : (i : ℕ) (d : Entry R) → i < length es → held (slots_of room es) (get_or es i d).key ≡ Some (get_or es i d).rank
+  pub held_entry : (i : ℕ) (d : Entry R) → i < length es → slot_of_key (slots_of room es) (get_or es i d).key ≡ Some (get_or es i d).rank
   held_entry = held_at room es sound.distinct sound.in_room
 
   pub IsEmpty-nil : length es ≤ 0 → IsEmpty (slots_of room es)
@@ -207,27 +207,27 @@ module _ {R : Type 0} (compare : R → R → Ordering) (o : IsTotalOrder compare
 
   -- ---- a place by its key
 
-  pub held_found : (key i : ℕ) (d : Entry R) → position (λ e. e.key == key) es ≡ Some i → (i < length es) × ((get_or es i d).key ≡ key) × (held (slots_of room es) key ≡ Some (get_or es i d).rank)
+  pub held_found : (key i : ℕ) (d : Entry R) → position (λ e. e.key == key) es ≡ Some i → (i < length es) × ((get_or es i d).key ≡ key) × (slot_of_key (slots_of room es) key ≡ Some (get_or es i d).rank)
   held_found key i d h =
       let found = position-Some (λ e. e.key == key) es i d h in
       let same = eqb-true (get_or es i d).key key found.1 in
-      (found.0, same, subst (λ k. held (slots_of room es) k ≡ Some (get_or es i d).rank) same (held_at room es sound.distinct sound.in_room i d found.0))
+      (found.0, same, subst (λ k. slot_of_key (slots_of room es) k ≡ Some (get_or es i d).rank) same (held_at room es sound.distinct sound.in_room i d found.0))
 
-  pub held_not_found : (key : ℕ) → position (λ e. e.key == key) es ≡ None → held (slots_of room es) key ≡ None
+  pub held_not_found : (key : ℕ) → position (λ e. e.key == key) es ≡ None → slot_of_key (slots_of room es) key ≡ None
   held_not_found key h = absent room es key (λ k d l. eqb-false (get_or es k d).key key (not_passing (λ e. e.key == key) es h k d l))
 
-  pub found_if_held : (key : ℕ) (at : Option ℕ) → at ≡ position (λ e. e.key == key) es → IsSome (held (slots_of room es) key) → IsSome at
+  pub found_if_held : (key : ℕ) (at : Option ℕ) → at ≡ position (λ e. e.key == key) es → IsSome (slot_of_key (slots_of room es) key) → IsSome at
   found_if_held key at p h =
       option_cases at (λ none. cc (subst IsSome (held_not_found key (sym p ∙ none)) h)) (λ i some. rw some refl)
 
   -- ---- insert
 
-  pub short_of_room : (key : ℕ) (rank : R) → key < room → held (slots_of room es) key ≡ None → length es < capacity
+  pub short_of_room : (key : ℕ) (rank : R) → key < room → slot_of_key (slots_of room es) key ≡ None → length es < capacity
   short_of_room key rank l h =
       let below = count_below (slots_of room es) key rank (rw length-slots_of l) h in
       omega (arith, below, count-slots_of room es sound.distinct sound.in_room, length-slots_of room es, sound.memory)
 
-  module _ (key : ℕ) (rank : R) (n : ℕ) (bound : n ≤ length es) (below : AllWithin (λ e. compare e.rank rank ≡ Less) es 0 n) (above : AllWithin (λ e. compare e.rank rank ≢ Less) es n (length es)) (vacant : held (slots_of room es) key ≡ None) (apart : IsApart compare (slots_of room es) rank) where
+  module _ (key : ℕ) (rank : R) (n : ℕ) (bound : n ≤ length es) (below : AllWithin (λ e. compare e.rank rank ≡ Less) es 0 n) (above : AllWithin (λ e. compare e.rank rank ≢ Less) es n (length es)) (vacant : slot_of_key (slots_of room es) key ≡ None) (apart : IsApart compare (slots_of room es) rank) where
     other_keys : All (λ e. e.key ≢ key) es
     other_keys k d l q = cc (held_at room es sound.distinct sound.in_room k d l, vacant)
 
@@ -292,10 +292,10 @@ module _ {R : Type 0} (compare : R → R → Ordering) (o : IsTotalOrder compare
         let in' : k < length es = omega arith in
         rw (maps.keys k d in') (sound.in_room k d in')
 
-    new_at : (i : ℕ) (d : Entry R) → i < length es → held (slots_of room new) (get_or es i d).key ≡ Some (get_or new i d).rank
+    new_at : (i : ℕ) (d : Entry R) → i < length es → slot_of_key (slots_of room new) (get_or es i d).key ≡ Some (get_or new i d).rank
     new_at i d l =
         let size = maps.size in
-        subst (λ k. held (slots_of room new) k ≡ Some (get_or new i d).rank) (maps.keys i d l) (held_at room new new_distinct new_in_room i d (omega arith))
+        subst (λ k. slot_of_key (slots_of room new) k ≡ Some (get_or new i d).rank) (maps.keys i d l) (held_at room new new_distinct new_in_room i d (omega arith))
 
     pub IsSound-mapped : KeepsOrder compare (slots_of room es) gives → (more : ℕ) → capacity ≤ more → IsSound compare room more new
     IsSound-mapped keeps more m = record {
@@ -308,5 +308,5 @@ module _ {R : Type 0} (compare : R → R → Ordering) (o : IsTotalOrder compare
     pub IsMapped-slots_of : IsMapped gives (slots_of room es) (slots_of room new)
     IsMapped-slots_of = record {
       room = length-slots_of room new ∙ sym (length-slots_of room es);
-      ranks = λ key. option_cases (held (slots_of room es) key) (λ none. rw none (absent room new key (λ k d l w. let size = maps.size in let in' : k < length es = omega arith in let at = held_at room es sound.distinct sound.in_room k d in' in let same : (get_or es k d).key ≡ key = sym (maps.keys k d in') ∙ w in cc (subst (λ k'. held (slots_of room es) k' ≡ Some (get_or es k d).rank) same at, none)))) (λ rank some. rw some (held_all (λ key rank. IsSomeAnd (held (slots_of room new) key) (gives rank)) room es (λ i d l. rw (new_at i d l) (maps.ranks i d l)) key rank some));
+      ranks = λ key. option_cases (slot_of_key (slots_of room es) key) (λ none. rw none (absent room new key (λ k d l w. let size = maps.size in let in' : k < length es = omega arith in let at = held_at room es sound.distinct sound.in_room k d in' in let same : (get_or es k d).key ≡ key = sym (maps.keys k d in') ∙ w in cc (subst (λ k'. slot_of_key (slots_of room es) k' ≡ Some (get_or es k d).rank) same at, none)))) (λ rank some. rw some (held_all (λ key rank. IsSomeAnd (slot_of_key (slots_of room new) key) (gives rank)) room es (λ i d l. rw (new_at i d l) (maps.ranks i d l)) key rank some));
     }

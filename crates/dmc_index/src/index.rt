@@ -1,6 +1,6 @@
 //! What an index over ranks promises.
 ghost use Rattle.std.specs.Prelude.{◌≡◌, ◌≢◌, ℕ, ◌-◌, ◌≤◌, ◌<◌, ◌++◌, ◌==◌, List, [], Option, Some, None, MatchOption, OnOk, OnErr, IsOk, IsSome, length, replicate, count_by, is_some, slice_set, option_copied};
-ghost use Rattle.dmc_index.specs.Index.{held, IsEmpty, IsApart, IsApartFromOthers, AreApart, IsLeast, KeepsOrder, IsMapped};
+ghost use Rattle.dmc_index.specs.Index.{slot_of_key, IsEmpty, IsApart, IsApartFromOthers, AreApart, IsLeast, KeepsOrder, IsMapped};
 
 use dmc_tag::rank::{LimitRank, Rank, ReadyRank, TagRank};
 use dmc_tag::tag::Tag;
@@ -25,25 +25,25 @@ pub trait OrderIndex<R: Rank>: Drop {
     /// Gives a rank to a key that has none.
     fn insert(&mut self, key: usize, rank: R)
         requires in_room { key < length (slots self.old) }
-        requires vacant { held (slots self.old) key ≡ None }
+        requires vacant { slot_of_key (slots self.old) key ≡ None }
         requires apart { IsApart R.cmp (slots self.old) rank }
         ensures { slots self.new ≡ slice_set (slots self.old) key (Some rank) };
 
     /// Gives a key another rank.
     fn change(&mut self, key: usize, rank: R)
-        requires here { IsSome (held (slots self.old) key) }
+        requires here { IsSome (slot_of_key (slots self.old) key) }
         requires apart { IsApartFromOthers R.cmp (slots self.old) key rank }
         ensures { slots self.new ≡ slice_set (slots self.old) key (Some rank) };
 
     /// Takes a key out, and answers the rank that it had.
     fn remove(&mut self, key: usize) -> R
-        requires { IsSome (held (slots self.old) key) }
-        ensures value { held (slots self.old) key ≡ Some result }
+        requires { IsSome (slot_of_key (slots self.old) key) }
+        ensures value { slot_of_key (slots self.old) key ≡ Some result }
         ensures rest { slots self.new ≡ slice_set (slots self.old) key None };
 
     /// The rank of a key, if it has one.
     fn get(&self, key: usize) -> Option<&R>
-        ensures { option_copied result ≡ held (slots self.now) key };
+        ensures { option_copied result ≡ slot_of_key (slots self.now) key };
 
     /// The key whose rank is below all others, and that rank.
     fn least(&self) -> Option<(usize, &R)>
@@ -51,7 +51,7 @@ pub trait OrderIndex<R: Rank>: Drop {
 
     /// Maps every rank by `f`, which keeps their order. The keys stay.
     fn map_ranks<F: Fn(R) -> R>(&mut self, f: F)
-        requires callable { (key : ℕ) (rank : R) → held (slots self.old) key ≡ Some rank → F.pre f rank }
+        requires callable { (key : ℕ) (rank : R) → slot_of_key (slots self.old) key ≡ Some rank → F.pre f rank }
         requires ordered { KeepsOrder R.cmp (slots self.old) (F.post f) }
         ensures { IsMapped (F.post f) (slots self.old) (slots self.new) };
 

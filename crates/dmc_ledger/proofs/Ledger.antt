@@ -12,7 +12,7 @@ use types.Keyed.{entry, entries_from, entries_new, entries_take}
 use types.Kit.{‵, raw, ◌⊛◌, some, given, later, ◌$◌, ◌∵◌, !, qed, by, move, keep, drop, split, join, fsplit, fjoin, fpick, fpack, pick, learn, check, suffices, settle, frame, assume, rewrite, done, use0, use1, use2, use3, updating, await, now}
 use denote.Steps.{nothing}
 use Rattle.core.proofs.ledger.Sums.{HasRow, Backed}
-use Rattle.dmc_ledger.specs.Rows.{halved, named, known, roster, AddsUp, state, Rule, knows, mint_owns, book_owns, till_owns, row, owns}
+use Rattle.dmc_ledger.specs.Rows.{row_shares, name_shares, known, roster, AddsUp, state, Rule, knows, mint_owns, book_owns, till_owns, row, owns}
 use Rattle.dmc_ledger.proofs.Agreed.{cuts, agrees, sets}
 use Rattle.dmc_ledger.proofs.Rows.{finds, puts, adds}
 use Rattle.dmc_ledger.proofs.Sums.{Seen, seen_row, adds_up_set, adds_up_append}
@@ -35,16 +35,16 @@ module _ {M : Type 1} {𝓤 : Ura M} (𝓛 : Logic 𝓤) where
   infix 26 ◌⊢◌
   infixr 35 ◌∗◌
   module _ (γ n : ℕ) where
-    known_in : (q : Share) (δ : ℕ) → ⟦ entry named γ n (q, δ) ⟧ ⊢ ⟦ known γ n δ ⟧
-    known_in q δ = qed 𝓛 (‵ (entry named γ n (q, δ)) ∷ []) ∵ fpack ! Share (λ r. entry named γ n (r, δ)) q $ done !
+    known_in : (q : Share) (δ : ℕ) → ⟦ entry name_shares γ n (q, δ) ⟧ ⊢ ⟦ known γ n δ ⟧
+    known_in q δ = qed 𝓛 (‵ (entry name_shares γ n (q, δ)) ∷ []) ∵ fpack ! Share (λ r. entry name_shares γ n (r, δ)) q $ done !
 
     known_twice : (δ : ℕ) → ⟦ known γ n δ ⟧ ⊢ ⟦ known γ n δ ⟧ ∗ ⟦ known γ n δ ⟧
-    known_twice δ = qed 𝓛 (‵ (known γ n δ) ∷ []) ∵ fpick ! (λ q. use1 𝓛 (‵ (entry named γ n (left q, δ)) ⊛ ‵ (entry named γ n (right q, δ))) (cuts coded_ℕ 𝓛 γ n δ q (left q) (right q) (Share.halves q)) $ split ! $
+    known_twice δ = qed 𝓛 (‵ (known γ n δ) ∷ []) ∵ fpick ! (λ q. use1 𝓛 (‵ (entry name_shares γ n (left q, δ)) ⊛ ‵ (entry name_shares γ n (right q, δ))) (cuts coded_ℕ 𝓛 γ n δ q (left q) (right q) (Share.halves q)) $ split ! $
         use1 𝓛 (‵ (known γ n δ)) (known_in (left q) δ) $ move ! (1 ∷ []) $ use1 𝓛 (‵ (known γ n δ)) (known_in (right q) δ) $ done !)
 
     known_agree : (δ ε : ℕ) → ⟦ known γ n δ ⟧ ∗ ⟦ known γ n ε ⟧ ⊢ guard 𝓤 (δ ≡ ε) (⟦ known γ n δ ⟧ ∗ ⟦ known γ n ε ⟧)
     known_agree δ ε = qed 𝓛 (‵ (known γ n δ) ∷ ‵ (known γ n ε) ∷ []) ∵ fpick ! (λ q. move ! (1 ∷ []) $ fpick ! (λ r. move ! (1 ∷ 0 ∷ []) $
-        use2 𝓛 (given (δ ≡ ε) (‵ (entry named γ n (q, δ)) ⊛ ‵ (entry named γ n (r, ε)))) (agrees coded_ℕ 𝓛 γ n q r δ ε) $ learn ! (λ same. check ! same $ split ! $
+        use2 𝓛 (given (δ ≡ ε) (‵ (entry name_shares γ n (q, δ)) ⊛ ‵ (entry name_shares γ n (r, ε)))) (agrees coded_ℕ 𝓛 γ n q r δ ε) $ learn ! (λ same. check ! same $ split ! $
         use1 𝓛 (‵ (known γ n δ)) (known_in q δ) $ move ! (1 ∷ []) $ use1 𝓛 (‵ (known γ n ε)) (known_in r ε) $ move ! (1 ∷ 0 ∷ []) $ done !)))
 
     pub knows_twice : (δ : ℕ) → ⟦ knows γ n δ ⟧ ⊢ ⟦ knows γ n δ ⟧ ∗ ⟦ knows γ n δ ⟧
@@ -180,9 +180,9 @@ module _ {M : Type 1} {𝓤 : Ura M} (𝓛 : Logic 𝓤) where
     -- the next number gets its rows: the book's own, with no till
     pub opens_book : ⟦ mint_owns γ n ⟧ ⊢ H.⇛ (⟦ mint_owns γ (suc n) ⟧ ∗ ⟦ fex ℕ (λ δ. book_owns γ n δ 0 0) ⟧)
     unfolding mint_owns book_owns
-    opens_book = let Rest : ℕ → Fml = λ k. entries_from named γ k (λ _. (full_share, 0)) in let Name : ℕ → Fml = λ d. entry named γ n (full_share, d) in
-        qed 𝓛 (‵ (Rest n) ∷ []) ∵ updating ! $ use1 𝓛 (‵ (Name 0) ⊛ ‵ (Rest (suc n))) (entries_take named 𝓛 γ n (λ _. (full_share, 0))) $ split ! $
-        use0 𝓛 (later (some (λ (δ : ℕ). ‵ (roster δ 0 [])))) (via 𝓤 _ (entries_new halved 𝓛 0 (λ _. (full_share, (0, 0)))) (basic 𝓛 _)) $ await ! tt $ pick ! (λ δ.
+    opens_book = let Rest : ℕ → Fml = λ k. entries_from name_shares γ k (λ _. (full_share, 0)) in let Name : ℕ → Fml = λ d. entry name_shares γ n (full_share, d) in
+        qed 𝓛 (‵ (Rest n) ∷ []) ∵ updating ! $ use1 𝓛 (‵ (Name 0) ⊛ ‵ (Rest (suc n))) (entries_take name_shares 𝓛 γ n (λ _. (full_share, 0))) $ split ! $
+        use0 𝓛 (later (some (λ (δ : ℕ). ‵ (roster δ 0 [])))) (via 𝓤 _ (entries_new row_shares 𝓛 0 (λ _. (full_share, (0, 0)))) (basic 𝓛 _)) $ await ! tt $ pick ! (λ δ.
         use1 𝓛 (later (‵ (roster δ 0 ((0, 0) ∷ [])) ⊛ ‵ (row δ 0 (0, 0) full_share))) (via 𝓤 _ (adds 𝓛 δ [] 0 0 refl (0, 0)) (basic 𝓛 _)) $ await ! tt $ split ! $
         use1 𝓛 (‵ (Rule δ)) (kept δ (0, 0) [] ((refl, refl, tt), omega arith)) $ use1 𝓛 (later (‵ (finv (Rule δ)))) (𝓛.invs.inv_new (Rule δ)) $ await ! tt $ move ! (2 ∷ []) $
         use1 𝓛 (later (‵ (Name δ))) (via 𝓤 _ (sets coded_ℕ 𝓛 γ n 0 δ) (basic 𝓛 _)) $ await ! tt $ use1 𝓛 (‵ (known γ n δ)) (known_in γ n full_share δ) $ move ! (0 ∷ 1 ∷ []) $ fjoin ! $ move ! (0 ∷ 1 ∷ []) $ fjoin ! $
@@ -190,4 +190,4 @@ module _ {M : Type 1} {𝓤 : Ura M} (𝓛 : Logic 𝓤) where
 
   pub begins : emp 𝓤 ⊢ H.⇛ (ex 𝓤 (λ (γ : ℕ). ⟦ mint_owns γ 0 ⟧))
   unfolding mint_owns
-  begins = via 𝓤 _ (entries_new named 𝓛 0 (λ _. (full_share, 0))) (basic 𝓛 _)
+  begins = via 𝓤 _ (entries_new name_shares 𝓛 0 (λ _. (full_share, 0))) (basic 𝓛 _)

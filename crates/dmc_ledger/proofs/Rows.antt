@@ -13,7 +13,7 @@ use types.Logic.{Logic, sem}
 use types.Keyed.{entries_take, entries_beside}
 use types.Kit.{‵, raw, ◌⊛◌, given, ◌$◌, ◌∵◌, !, qed, move, split, join, learn, check, suffices, settle, done, use1, use2, rewrite}
 use Rattle.core.proofs.ledger.Sums.{HasRow}
-use Rattle.dmc_ledger.specs.Rows.{halved, part, roster}
+use Rattle.dmc_ledger.specs.Rows.{row_shares, part, roster}
 use Rattle.dmc_ledger.proofs.Agreed.{cuts, agrees, joins, sets}
 
 module _ {M : Type 1} {𝓤 : Ura M} (𝓛 : Logic 𝓤) (δ : ℕ) where
@@ -44,7 +44,7 @@ module _ {M : Type 1} {𝓤 : Ura M} (𝓛 : Logic 𝓤) (δ : ℕ) where
   -- whoever has a share of a row finds it
   pub finds : (xs : List (ℕ × ℕ)) (k i j : ℕ) → k + i ≡ j → (q : Share) (x : ℕ × ℕ) → ⟦ roster δ k xs ⟧ ∗ ⟦ part δ j q x ⟧ ⊢ guard 𝓤 (HasRow xs i x) (⟦ roster δ k xs ⟧ ∗ ⟦ part δ j q x ⟧)
   finds [] k i j e q x = qed 𝓛 (‵ (roster δ k []) ∷ ‵ (part δ j q x) ∷ []) ∵ move ! (1 ∷ 0 ∷ []) $
-      use2 𝓛 (given (OpDef halved.op (q, x) (full_share, (0, 0))) (‵ (part δ j q x) ⊛ ‵ (roster δ k []))) (entries_beside halved 𝓛 δ k j (λ _. (full_share, (0, 0))) (q, x) (omega arith)) $
+      use2 𝓛 (given (OpDef row_shares.op (q, x) (full_share, (0, 0))) (‵ (part δ j q x) ⊛ ‵ (roster δ k []))) (entries_beside row_shares 𝓛 δ k j (λ _. (full_share, (0, 0))) (q, x) (omega arith)) $
       learn ! (λ d. absurd (not-OpDef-full_share q ((OpDef-comm (pcs shares) {a = q} {b = full_share}).0 d.0)))
   finds (z ∷ xs) k zero j e q x = let is : j ≡ k = omega arith in qed 𝓛 ((‵ (kept k z) ⊛ ‵ (roster δ (suc k) xs)) ∷ ‵ (part δ j q x) ∷ []) ∵ split ! $ rewrite ! 2 (λ (m : ℕ). ‵ (part δ m q x)) is refl $ move ! (0 ∷ 2 ∷ []) $
       use2 𝓛 (given (z ≡ x) (‵ (kept k z) ⊛ ‵ (part δ k q x))) (agrees c 𝓛 δ k (right full_share) q z x) $ learn ! (λ same. check ! same $ split ! $
@@ -70,7 +70,7 @@ module _ {M : Type 1} {𝓤 : Ura M} (𝓛 : Logic 𝓤) (δ : ℕ) where
   -- a new row behind the last
   pub adds : (xs : List (ℕ × ℕ)) (k j : ℕ) → k + length xs ≡ j → (y : ℕ × ℕ) → ⟦ roster δ k xs ⟧ ⊢ upd 𝓤 (⟦ roster δ k (xs ++ y ∷ []) ⟧ ∗ ⟦ ours j y ⟧)
   adds [] k j e y = let is : j ≡ k = omega arith in let Z : Pr = ⟦ roster δ k (y ∷ []) ⟧ ∗ ⟦ ours j y ⟧ in qed 𝓛 (‵ (roster δ k []) ∷ []) ∵
-      use1 𝓛 (‵ (part δ k full_share (0, 0)) ⊛ ‵ (roster δ (suc k) [])) (entries_take halved 𝓛 δ k (λ _. (full_share, (0, 0)))) $ split ! $
+      use1 𝓛 (‵ (part δ k full_share (0, 0)) ⊛ ‵ (roster δ (suc k) [])) (entries_take row_shares 𝓛 δ k (λ _. (full_share, (0, 0)))) $ split ! $
       use1 𝓛 (raw (upd 𝓤 ⟦ part δ k full_share y ⟧)) (sets c 𝓛 δ k (0, 0) y) $ settle 𝓛 Z (‵ (part δ k full_share y)) $
       use1 𝓛 (‵ (ours k y) ⊛ ‵ (kept k y)) (cuts c 𝓛 δ k y full_share (left full_share) (right full_share) (Share.halves full_share)) $ split ! $ suffices ! Z (upd_i 𝓤 Z) $
       rewrite ! 0 (λ (m : ℕ). ‵ (ours m y)) (sym is) refl $ move ! (1 ∷ 2 ∷ []) $ join ! $ done !

@@ -16,7 +16,7 @@ use types.Tokens.{bor_fracture}
 use denote.Sharing.{ShrLaws, said, one}
 use denote.SharingLaws.{beside_shr_laws, one_shr_laws}
 use denote.Struct.Lending.{Lends, Lends-both}
-use Rattle.dmc_ledger.specs.Rows.{halved, named, roster, knows, row, owns, shows, mint_owns, book_owns, book_shares, till_owns, till_shares}
+use Rattle.dmc_ledger.specs.Rows.{row_shares, name_shares, roster, knows, row, owns, shows, mint_owns, book_owns, book_shares, till_owns, till_shares}
 use Rattle.dmc_ledger.proofs.Agreed.{cuts, joins}
 use Rattle.dmc_ledger.proofs.Ledger.{knows_twice}
 
@@ -77,28 +77,28 @@ till_shown γ n δ j amount {𝓤 = 𝓤} 𝓛 κ = id⊢ 𝓤 _
 
 -- ---- no thread's key is named
 roster_keyless : (δ k : ℕ) (xs : List (ℕ × ℕ)) → Keyless (roster δ k xs)
-roster_keyless δ k [] = entries_keyless halved δ k (λ _. (full_share, (0, 0)))
-roster_keyless δ k (x ∷ xs) = (entry_keyless halved δ k (right full_share, x), roster_keyless δ (suc k) xs)
+roster_keyless δ k [] = entries_keyless row_shares δ k (λ _. (full_share, (0, 0)))
+roster_keyless δ k (x ∷ xs) = (entry_keyless row_shares δ k (right full_share, x), roster_keyless δ (suc k) xs)
 
 knows_keyless : (γ n δ : ℕ) → Keyless (knows γ n δ)
-knows_keyless γ n δ = ((λ q. entry_keyless named γ n (q, δ)), λ s. (roster_keyless δ 0 (s.0 ∷ s.1), λ _. tt))
+knows_keyless γ n δ = ((λ q. entry_keyless name_shares γ n (q, δ)), λ s. (roster_keyless δ 0 (s.0 ∷ s.1), λ _. tt))
 
 pub mint_keyless : (γ n : ℕ) → Keyless (mint_owns γ n)
 unfolding mint_owns
-mint_keyless γ n = entries_keyless named γ n (λ _. (full_share, 0))
+mint_keyless γ n = entries_keyless name_shares γ n (λ _. (full_share, 0))
 
 pub book_keyless : (γ n δ tills held : ℕ) → Keyless (book_owns γ n δ tills held)
 unfolding book_owns
-book_keyless γ n δ tills held = (knows_keyless γ n δ, entry_keyless halved δ 0 (left full_share, (tills, held)))
+book_keyless γ n δ tills held = (knows_keyless γ n δ, entry_keyless row_shares δ 0 (left full_share, (tills, held)))
 
 pub till_keyless : (γ n δ j amount : ℕ) → Keyless (till_owns γ n δ j amount)
 unfolding till_owns
-till_keyless γ n δ j amount = (knows_keyless γ n δ, entry_keyless halved δ (suc j) (left full_share, (1, amount)))
+till_keyless γ n δ j amount = (knows_keyless γ n δ, entry_keyless row_shares δ (suc j) (left full_share, (1, amount)))
 
 pub book_shown_keyless : (γ n δ tills held : ℕ) (κ : Lft) → Keyless (book_shares γ n δ tills held κ)
 unfolding book_shares
-book_shown_keyless γ n δ tills held κ = (knows_keyless γ n δ, λ q. entry_keyless halved δ 0 (left q, (tills, held)))
+book_shown_keyless γ n δ tills held κ = (knows_keyless γ n δ, λ q. entry_keyless row_shares δ 0 (left q, (tills, held)))
 
 pub till_shown_keyless : (γ n δ j amount : ℕ) (κ : Lft) → Keyless (till_shares γ n δ j amount κ)
 unfolding till_shares
-till_shown_keyless γ n δ j amount κ = (knows_keyless γ n δ, λ q. entry_keyless halved δ (suc j) (left q, (1, amount)))
+till_shown_keyless γ n δ j amount κ = (knows_keyless γ n δ, λ q. entry_keyless row_shares δ (suc j) (left q, (1, amount)))

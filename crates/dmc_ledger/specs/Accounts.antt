@@ -28,8 +28,8 @@ abbrev pub total_of : Account → ℕ
 total_of b = b.gathered + b.held
 
 -- the book with its only till gathered
-abbrev pub closed : Account → Account
-closed b = record { number = b.number; gathered = total_of b; held = 0; open_tills = 0 }
+abbrev pub after_closing : Account → Account
+after_closing b = record { number = b.number; gathered = total_of b; held = 0; open_tills = 0 }
 
 -- a book of which one till is open, and that till, both new
 abbrev pub new_book : ℕ → Account

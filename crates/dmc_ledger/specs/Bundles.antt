@@ -1,7 +1,7 @@
 -- What contracts see of the bundles and desks of a pair.
 use Rattle.std.specs.Prelude.{◌≡◌, ℕ, ◌+◌, ◌<◌, ◌≤◌}
 use Rattle.dmc_types.specs.Values.{Params}
-use Rattle.dmc_ledger.specs.Accounts.{Account, Holding, closed, new_book, new_till}
+use Rattle.dmc_ledger.specs.Accounts.{Account, Holding, after_closing, new_book, new_till}
 use Rattle.dmc_ledger.specs.declared.bundle.StampTills.{StampTills}
 use Rattle.dmc_ledger.specs.declared.bundle.GrantTills.{GrantTills}
 use Rattle.dmc_ledger.specs.declared.bundle.StampBooks.{StampBooks}
@@ -99,7 +99,7 @@ pub record IsPair (c : ClientSide) (s : ServerSide) : Type 0 where
   pub priority : IsOnlyTill c.books.priority s.held.priority
 
 abbrev pub closed_stamps : StampAccounts → StampAccounts
-closed_stamps b = record { stamps = closed b.stamps; delta = closed b.delta; rho = closed b.rho }
+closed_stamps b = record { stamps = after_closing b.stamps; delta = after_closing b.delta; rho = after_closing b.rho }
 
 abbrev pub closed_grants : GrantAccounts → GrantAccounts
-closed_grants b = record { reservation = closed b.reservation; priority = closed b.priority }
+closed_grants b = record { reservation = after_closing b.reservation; priority = after_closing b.priority }

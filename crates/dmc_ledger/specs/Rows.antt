@@ -15,23 +15,23 @@ use denote.Sharing.{said, one, beside}
 use Rattle.core.specs.Sync.Ledger.{IsBalanced}
 
 -- a share of a row's two numbers
-abbrev pub halved : Algebra
-halved = both shares (agreed (coded (coded× coded_ℕ coded_ℕ)))
+abbrev pub row_shares : Algebra
+row_shares = both shares (agreed (coded (coded× coded_ℕ coded_ℕ)))
 
 -- a share of the name of a book's rows
-abbrev pub named : Algebra
-named = both shares (agreed (coded coded_ℕ))
+abbrev pub name_shares : Algebra
+name_shares = both shares (agreed (coded coded_ℕ))
 
 abbrev pub part : ℕ → ℕ → Share → ℕ × ℕ → Fml
-part rows k q x = entry halved rows k (q, x)
+part rows k q x = entry row_shares rows k (q, x)
 
 -- the book of this number has these rows, for good
 abbrev pub known : ℕ → ℕ → ℕ → Fml
-known name number rows = fex Share (λ q. entry named name number (q, rows))
+known name number rows = fex Share (λ q. entry name_shares name number (q, rows))
 
 -- the rule's half of each row from the k-th on. No one has the rows behind them yet
 abbrev pub roster : ℕ → ℕ → List (ℕ × ℕ) → Fml
-roster rows k [] = entries_from halved rows k (λ _. (full_share, (0, 0)))
+roster rows k [] = entries_from row_shares rows k (λ _. (full_share, (0, 0)))
 roster rows k (x ∷ xs) = fsep (part rows k (right full_share) x) (roster rows (suc k) xs)
 
 -- the tills' rows add up to the book's, which holds at most 2 ^ 63
@@ -51,7 +51,7 @@ knows name number rows = fsep (known name number rows) (finv (Rule rows))
 
 -- the books from this number on are still to be opened
 unfoldable pub mint_owns : ℕ → ℕ → Fml
-mint_owns name opened = entries_from named name opened (λ _. (full_share, 0))
+mint_owns name opened = entries_from name_shares name opened (λ _. (full_share, 0))
 
 -- a row of the book, of which a share q of the token's half is had
 abbrev pub row : ℕ → ℕ → ℕ × ℕ → Share → Fml

@@ -1,7 +1,7 @@
 //! The two desks of a client at a server. Each keeps the books of what it hands out, and a till of the other's books
 //! for what it has taken in.
 ghost use Rattle.std.specs.Prelude.{◌≡◌, ◌+◌, ◌-◌, ◌<◌, ◌↔◌, IfOk, OnOk, OnErr, IsErr};
-ghost use Rattle.dmc_ledger.specs.Accounts.{closed, new_book, new_till};
+ghost use Rattle.dmc_ledger.specs.Accounts.{after_closing, new_book, new_till};
 ghost use Rattle.dmc_ledger.specs.Bundles.{IsOnlyTill, IsPair, client_side, server_side, stamp_accounts, grant_accounts, new_client_side, new_server_side, closed_stamps, closed_grants};
 
 use crate::book::Book;
@@ -160,7 +160,7 @@ fn gather_grants<S: Setup>(books: GrantBooks<S>, tills: GrantTills<S>) -> GrantB
 /// The book with its only till gathered.
 fn gather_last<S: Setup>(book: Book<S>, till: Till<S>) -> Book<S>
     requires { IsOnlyTill book till }
-    ensures { result ≡ closed book }
+    ensures { result ≡ after_closing book }
 {
     let mut book = book;
     book.gather(till);

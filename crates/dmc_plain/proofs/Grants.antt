@@ -3,7 +3,7 @@ use Rattle.std.proofs.Common.{◌≡◌, ℕ, Bool, not, List, length, Option, O
 use Rattle.dmc_types.specs.declared.config.PhaseType.TheVariants as phases
 use Rattle.dmc_tag.specs.Tag.{Tagging}
 use Rattle.dmc_tag.specs.State.{State, effective, is_client, requests_of}
-use Rattle.dmc_tag.specs.Step.{step, settled}
+use Rattle.dmc_tag.specs.Step.{step, answer_of}
 use Rattle.dmc_tag.specs.declared.reply.Reply.{Reply}
 use Rattle.dmc_tag.specs.declared.reply.Reply.TheVariants.{Removed, Updated}
 use Rattle.dmc_types.specs.declared.ids.ClientId.{ClientId}
@@ -22,11 +22,11 @@ abbrev pub removal : {T : Type 0} → ClientId → State T → State T × Reply 
 removal id s = (record s { requests = filter (λ r. not (is_client id r.client)) s.requests }, Removed (length (requests_of id s.requests)))
 
 pub removed_as : {T : Type 0} (ops : Tagging T) (s : State T) (id : ClientId) (x : ⊤) → can_remove s id ≡ Ok x → step ops s (Remove id) ≡ removal id s
-removed_as ops s id x e = ap (λ outcome. settled s (outcome >>= (λ _. Ok (removal id s)))) e
+removed_as ops s id x e = ap (λ outcome. answer_of s (outcome >>= (λ _. Ok (removal id s)))) e
 
 -- the state and the reply of an update
 abbrev pub update : {T : Type 0} → ClientId → Rates → ℕ → State T → State T × Reply T
 update id info at s = (record s { clients = change_client id (with_info info) s.clients; last_moment = effective s at }, Updated)
 
 pub updated_as : {T : Type 0} (ops : Tagging T) (s : State T) (id : ClientId) (info : Rates) (at : ℕ) (x : ⊤) → can_update ops s id info ≡ Ok x → step ops s (Update id info at) ≡ update id info at s
-updated_as ops s id info at x e = ap (λ outcome. settled s (outcome >>= (λ _. Ok (update id info at s)))) e
+updated_as ops s id info at x e = ap (λ outcome. answer_of s (outcome >>= (λ _. Ok (update id info at s)))) e

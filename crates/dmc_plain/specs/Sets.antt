@@ -8,7 +8,7 @@ use Rattle.dmc_types.specs.declared.config.PhaseType.TheVariants as phases
 use Rattle.dmc_tag.specs.State.{State}
 use Rattle.dmc_tag.specs.Rules.{Outcome, without, granted}
 use Rattle.dmc_tag.specs.Rules as rules_of
-use Rattle.dmc_tag.specs.Step.{settled}
+use Rattle.dmc_tag.specs.Step.{answer_of}
 use Rattle.dmc_tag.specs.declared.reply.Reply.{Reply}
 use Rattle.dmc_tag.specs.declared.reply.Reply.TheVariants.{Nothing}
 use Rattle.dmc_tag.specs.declared.plain.PlainRequest.{PlainRequest}
@@ -53,7 +53,7 @@ grants_early s t (Some (r, others)) = (without s t others, granted r phases.Rese
 -- the new state and the reply are those of the outcome
 abbrev pub Settles : {T : Type 0} → State T → State T → Outcome T → Option (Reply T) → Type 0
 Settles old new result None = ⊥
-Settles old new result (Some reply) = (new, reply) ≡ settled old result
+Settles old new result (Some reply) = (new, reply) ≡ answer_of old result
 
 -- the least whole number at which some request is early or free, where there is one
 abbrev pub least_due : {T : Type 0} → Tagging T → List (PlainRequest T) → Option ℕ

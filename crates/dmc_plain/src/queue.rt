@@ -1,6 +1,6 @@
 //! The plain queue.
 ghost use Rattle.std.specs.Prelude.{◌≡◌, ◌<◌, length, OnOk, ◌==◌};
-ghost use Rattle.dmc_tag.specs.Answers.{told, told_surely, clean_reply};
+ghost use Rattle.dmc_tag.specs.Answers.{call_reply, sure_call_reply, clean_reply};
 ghost use Rattle.dmc_tag.specs.Rules as rules_of;
 ghost use Rattle.dmc_tag.specs.State.{opening, effective};
 ghost use Rattle.dmc_tag.specs.Steps.{Exactly};
@@ -111,7 +111,7 @@ impl<T: Tag> PlainQueue<T> {
         info: ClientInfo,
         at: Moment,
     ) -> Result<(), QueueFault>
-        ensures { Exactly T.ops self.old self.new (commands.Register client info at) (told (λ _. replies.Registered) result) }
+        ensures { Exactly T.ops self.old self.new (commands.Register client info at) (call_reply (λ _. replies.Registered) result) }
     {
         let at = self.effective(at);
         self.can_register(client, info)?;
@@ -144,7 +144,7 @@ impl<T: Tag> PlainQueue<T> {
         info: ClientInfo,
         at: Moment,
     ) -> Result<(), Refusal>
-        ensures { Exactly T.ops self.old self.new (commands.Update client info at) (told_surely (λ _. replies.Updated) result) }
+        ensures { Exactly T.ops self.old self.new (commands.Update client info at) (sure_call_reply (λ _. replies.Updated) result) }
     {
         let at = self.effective(at);
         self.can_update(client, info)?;
@@ -165,7 +165,7 @@ impl<T: Tag> PlainQueue<T> {
 
     /// Takes out a client's queued requests, and answers how many; refused `Unknown`.
     pub fn remove_by_client(&mut self, client: ClientId) -> Result<u32, Refusal>
-        ensures { Exactly T.ops self.old self.new (commands.Remove client) (told_surely replies.Removed result) }
+        ensures { Exactly T.ops self.old self.new (commands.Remove client) (sure_call_reply replies.Removed result) }
     {
         self.can_remove(client)?;
         let count = requests::count_of(&self.requests, client);

@@ -6,7 +6,7 @@ use Rattle.dmc_types.specs.declared.ids.ClientId.{ClientId}
 use Rattle.dmc_tag.specs.Answers.{pull_reply}
 use Rattle.dmc_tag.specs.Rules.{Outcome}
 use Rattle.dmc_tag.specs.State.{State}
-use Rattle.dmc_tag.specs.Step.{settled, step}
+use Rattle.dmc_tag.specs.Step.{answer_of, step}
 use Rattle.dmc_tag.specs.Steps.{Exactly}
 use Rattle.dmc_tag.specs.Tag.{Tagging}
 use Rattle.dmc_tag.specs.declared.reply.Pulled.{Pulled}
@@ -38,4 +38,4 @@ PullsIf allows ops old new at (Err faults.Declined) = (new ≡ old) × (is_allow
 abbrev pub SettlesIf : {T : Type 0} → (ClientId → PhaseType → Bool) → State T → State T → Outcome T → Result Pulled PullFault → Type 0
 SettlesIf {T} allows old new outcome (Ok pulled) = Settles old new outcome (Some (pull_reply pulled)) × (is_allowed {T = T} allows (pull_reply pulled) ≡ true)
 SettlesIf allows old new outcome (Err (faults.Refused refusal)) = Settles old new outcome (Some (Refused refusal))
-SettlesIf allows old new outcome (Err faults.Declined) = (new ≡ old) × (is_allowed allows ((settled old outcome).1) ≡ false)
+SettlesIf allows old new outcome (Err faults.Declined) = (new ≡ old) × (is_allowed allows ((answer_of old outcome).1) ≡ false)

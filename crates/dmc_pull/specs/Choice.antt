@@ -7,7 +7,7 @@ use Rattle.dmc_tag.specs.State.{State}
 use Rattle.dmc_tag.specs.Best.{best, by_reservation, by_weight, is_early, is_free, is_any}
 use Rattle.dmc_types.specs.declared.refusal.Refusal.TheVariants.{Range}
 use Rattle.dmc_tag.specs.Rules.{Outcome, can_grant}
-use Rattle.dmc_tag.specs.Step.{settled}
+use Rattle.dmc_tag.specs.Step.{answer_of}
 use Rattle.dmc_tag.specs.declared.plain.PlainRequest.{PlainRequest}
 use Rattle.dmc_tag.specs.declared.reply.Reply.{Reply}
 use Rattle.dmc_client.specs.Record.{Rec, request_of}
@@ -40,7 +40,7 @@ ByWeight ops t entries (Some (key, client, false)) = (best (by_weight ops) (is_f
 
 -- a call's answer is the outcome's, and its state
 abbrev pub Settles : {T : Type 0} → State T → State T → Outcome T → Option (Reply T) → Type 0
-Settles old new outcome (Some reply) = (new, reply) ≡ settled old outcome
+Settles old new outcome (Some reply) = (new, reply) ≡ answer_of old outcome
 Settles old new outcome None = ⊥
 
 -- a record after a grant of its first request; in the weight phase it is reduced

@@ -10,5 +10,6 @@ is_stale t age rec = (length rec.requests == 0) && nat_le age (t - rec.last_arri
 abbrev pub is_idled : {T : Type 0} → ℕ → ℕ → ℕ → Rec T → Bool
 is_idled t idle_age erase_age rec = not (is_stale t erase_age rec) && is_stale t idle_age rec && not rec.idle
 
-abbrev pub marked : {T : Type 0} → ℕ → ℕ → Rec T → Rec T
-marked t idle_age rec = record rec { idle = rec.idle || is_stale t idle_age rec }
+-- idle where it is that stale, or was so before
+abbrev pub with_idle_mark : {T : Type 0} → ℕ → ℕ → Rec T → Rec T
+with_idle_mark t idle_age rec = record rec { idle = rec.idle || is_stale t idle_age rec }

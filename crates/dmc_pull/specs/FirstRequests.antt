@@ -6,7 +6,7 @@ use Rattle.dmc_tag.specs.Tag.{Tagging}
 use Rattle.dmc_tag.specs.State.{State, requests_of, has_queued}
 use Rattle.dmc_tag.specs.Best.{is_due}
 use Rattle.dmc_tag.specs.declared.plain.PlainRequest.{PlainRequest}
-use Rattle.dmc_index.specs.Index.{held}
+use Rattle.dmc_index.specs.Index.{slot_of_key}
 use Rattle.dmc_heads.specs.declared.head.Head.{Head}
 
 -- the client's queued request that arrived first
@@ -15,7 +15,7 @@ first_request id requests = slice_get (requests_of id requests) 0
 
 -- the client of a key
 abbrev pub client_at : {X : Type 0} → (X → ClientId) → List (Option X) → ℕ → Option ClientId
-client_at client slots key = option_map client (held slots key)
+client_at client slots key = option_map client (slot_of_key slots key)
 
 abbrev pub head_client : {T : Type 0} → Head T → ClientId
 head_client head = head.client
@@ -24,9 +24,9 @@ head_client head = head.client
 -- true only where the L is not past the last effective moment.
 pub record AreFirstRequests {T : Type 0} (ops : Tagging T) (s : State T) (heads : List (Option (Head T))) : Type 0 where
   -- what a key has are the tags of its client's first request
-  pub tags : (key : ℕ) (head : Head T) → held heads key ≡ Some head → option_map (λ r. r.tags) (first_request head.client s.requests) ≡ Some head.tags
+  pub tags : (key : ℕ) (head : Head T) → slot_of_key heads key ≡ Some head → option_map (λ r. r.tags) (first_request head.client s.requests) ≡ Some head.tags
   -- each client with a queued request has a key
   pub has_key : (id : ClientId) → has_queued id s.requests ≡ true → (key : ℕ) × (client_at head_client heads key ≡ Some id)
   -- and no other key
   pub one_key : (a b : ℕ) (id : ClientId) → client_at head_client heads a ≡ Some id → client_at head_client heads b ≡ Some id → a ≡ b
-  pub marks : (key : ℕ) (head : Head T) → held heads key ≡ Some head → head.ready ≡ true → is_due ops s.last_moment (Some head.tags.l) ≡ true
+  pub marks : (key : ℕ) (head : Head T) → slot_of_key heads key ≡ Some head → head.ready ≡ true → is_due ops s.last_moment (Some head.tags.l) ≡ true

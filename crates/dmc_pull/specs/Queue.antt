@@ -12,7 +12,7 @@ use Rattle.dmc_tag.specs.Best.{is_due}
 use Rattle.dmc_tag.specs.Spacing.{spacings_of}
 use Rattle.dmc_client.specs.Record.{Rec, IsRecord, share_tags}
 use Rattle.dmc_roster.specs.Entries.{Entry, Listing, entry_keyed, AreDistinct}
-use Rattle.dmc_index.specs.Index.{held}
+use Rattle.dmc_index.specs.Index.{slot_of_key}
 use Rattle.dmc_heads.specs.declared.head.Head.{Head}
 use Rattle.dmc_pull.specs.Standing.{clients_in, requests_in}
 
@@ -46,12 +46,12 @@ head_of e = option_map (λ r. unready_head e.id r.tags) (slice_get e.rec.request
 -- The indexes hold exactly the clients with a queued request, each under the tags of its first request; a ready mark is
 -- true only where the L is not past the last effective moment.
 pub record AreHeads {T : Type 0} (ops : Tagging T) (t : ℕ) (entries : List (Entry T)) (heads : List (Option (Head T))) : Type 0 where
-  pub here : (key : ℕ) → option_map unready (held heads key) ≡ option_and_then head_of (entry_keyed key entries)
-  pub marks : (key : ℕ) (head : Head T) → held heads key ≡ Some head → head.ready ≡ true → is_due ops t (Some head.tags.l) ≡ true
+  pub here : (key : ℕ) → option_map unready (slot_of_key heads key) ≡ option_and_then head_of (entry_keyed key entries)
+  pub marks : (key : ℕ) (head : Head T) → slot_of_key heads key ≡ Some head → head.ready ≡ true → is_due ops t (Some head.tags.l) ≡ true
 
 -- each head is marked ready that is free
 abbrev pub IsMarked : {T : Type 0} → Tagging T → Queue T → Type 0
-IsMarked {T} ops q = (key : ℕ) (head : Head T) → held q.heads key ≡ Some head → head.ready ≡ false → is_due ops q.last_moment (Some head.tags.l) ≡ false
+IsMarked {T} ops q = (key : ℕ) (head : Head T) → slot_of_key q.heads key ≡ Some head → head.ready ≡ false → is_due ops q.last_moment (Some head.tags.l) ≡ false
 
 -- ---- what is true of each queue
 
@@ -70,6 +70,6 @@ pub record IsQueue {T : Type 0} (ops : Tagging T) (fraction : T → Fraction) (i
   pub bound : queued ≤ 1048576
 
 -- a test's answer, whatever it found
-abbrev pub tested : {X : Type 0} → Result X Refusal → Result ⊤ Refusal
-tested (Ok x) = Ok tt
-tested (Err refusal) = Err refusal
+abbrev pub without_value : {X : Type 0} → Result X Refusal → Result ⊤ Refusal
+without_value (Ok x) = Ok tt
+without_value (Err refusal) = Err refusal

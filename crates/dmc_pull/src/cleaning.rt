@@ -62,7 +62,7 @@ struct Clean {
 impl<T: Tag> RecordRule<T> for Clean {
     ghost keeps = { λ s key rec. not (cleaning_of.is_stale s.at s.erase_age rec) };
 
-    ghost changed = { λ s key rec. cleaning_of.marked s.at s.idle_age rec };
+    ghost changed = { λ s key rec. cleaning_of.with_idle_mark s.at s.idle_age rec };
 
     fn apply(&self, _key: usize, rec: &mut ClientRec<T>) -> bool {
         let erased = is_stale(rec, self.at, self.erase_age);
@@ -96,7 +96,7 @@ pub fn count_erased<T: Tag>(roster: &Roster<T>, at: Moment, erase_age: u64) -> u
 /// Erases the old clients, and marks the others idle that are stale.
 pub fn age_all<T: Tag>(roster: &mut Roster<T>, at: Moment, idle_age: u64, erase_age: u64)
     ensures kept { AllByRecursion (λ e. IsRecord T.ops e.rec) roster.new.entries }
-    ensures value { roster.new.entries ≡ map (λ e. with_rec (cleaning_of.marked at idle_age) e) (filter (λ e. not (cleaning_of.is_stale at erase_age e.rec)) roster.old.entries) }
+    ensures value { roster.new.entries ≡ map (λ e. with_rec (cleaning_of.with_idle_mark at idle_age) e) (filter (λ e. not (cleaning_of.is_stale at erase_age e.rec)) roster.old.entries) }
 {
     roster.retain(&Clean {
         at,

@@ -1,7 +1,7 @@
 //! The heads of a queue's clients.
 ghost use Rattle.std.specs.Prelude.{◌≡◌, ◌==◌, not, None, Some, slice_set, is_some, true};
 ghost use Rattle.std.specs.Option.{option_map};
-ghost use Rattle.dmc_index.specs.Index.{held};
+ghost use Rattle.dmc_index.specs.Index.{slot_of_key};
 ghost use Rattle.dmc_pull.specs.Queue as queue_of;
 ghost use Rattle.dmc_tag.specs.Best as best_of;
 ghost use Rattle.dmc_tag.specs.Rules as rules_of;
@@ -43,7 +43,7 @@ pub fn renew<T: Tag, I: Indexes<T>>(
     tags: Option<Tags<T>>,
     at: Moment,
 )
-    requires { option_map (λ h. h.client) (held heads.old key) ≡ Some client }
+    requires { option_map (λ h. h.client) (slot_of_key heads.old key) ≡ Some client }
     ensures { heads.new ≡ slice_set heads.old key (option_map (queue_of.head_at T.ops at client) tags) }
 {
     match tags {
@@ -54,7 +54,7 @@ pub fn renew<T: Tag, I: Indexes<T>>(
 
 /// Takes out the head of a client that had so many requests queued; without any it has no head.
 pub fn clear<T: Tag, I: Indexes<T>>(heads: &mut Heads<T, I>, key: usize, queued: usize)
-    requires { is_some (held heads.old key) ≡ not (queued == 0) }
+    requires { is_some (slot_of_key heads.old key) ≡ not (queued == 0) }
     ensures { heads.new ≡ slice_set heads.old key None }
 {
     if queued > 0 {

@@ -4,7 +4,7 @@ ghost use Rattle.dmc_heads.specs.Heads as heads_of;
 ghost use Rattle.dmc_heads.specs.Heads.{Ranks};
 ghost use Rattle.dmc_pull.specs.FirstRequests.{AreFirstRequests};
 ghost use Rattle.dmc_pull.specs.Queue.{state_of};
-ghost use Rattle.dmc_tag.specs.Answers.{told_surely, clean_reply};
+ghost use Rattle.dmc_tag.specs.Answers.{sure_call_reply, clean_reply};
 ghost use Rattle.dmc_tag.specs.State.{opening, effective};
 ghost use Rattle.dmc_tag.specs.Steps.{Exactly};
 ghost use Rattle.dmc_tag.specs.declared.reply.Reply.TheVariants as replies;
@@ -148,7 +148,7 @@ impl<T: Tag, I: Indexes<T>> PullQueue<T, I> {
 
     /// Takes out a client's queued requests, and answers how many; refused `Unknown`.
     pub fn remove_by_client(&mut self, client: ClientId) -> Result<u32, Refusal>
-        ensures { Exactly T.ops (state_of self.old) (state_of self.new) (commands.Remove client) (told_surely replies.Removed result) }
+        ensures { Exactly T.ops (state_of self.old) (state_of self.new) (commands.Remove client) (sure_call_reply replies.Removed result) }
     {
         let Some(key) = self.roster.find(client) else {
             return Err(Refusal::Unknown);

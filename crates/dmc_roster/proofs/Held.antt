@@ -14,7 +14,7 @@ use Rattle.std.proofs.lemmas.Bool.{eqb-true, eqb-false, eq-eqb}
 use Rattle.dmc_types.specs.declared.ids.ClientId.{ClientId}
 use Rattle.dmc_tag.specs.State.{is_client}
 use Rattle.dmc_client.specs.Record.{Rec}
-use Rattle.dmc_roster.specs.Entries.{Entry, entry_named, entry_keyed, record_at, with_rec, with_record, entry_of, entries_of, kept, kept_slots, AreApart, AreHeld, AreDistinct}
+use Rattle.dmc_roster.specs.Entries.{Entry, entry_named, entry_keyed, record_at, with_rec, with_record, entry_of, entries_of, after_retain, slots_after_retain, AreApart, AreHeld, AreDistinct}
 use Rattle.dmc_tag.proofs.Options.{map_cond}
 pub use Rattle.dmc_tag.proofs.Options.{is_some_mapped}
 use Rattle.dmc_tag.proofs.Lists.{all_filtered, found_holds}
@@ -149,9 +149,9 @@ module _ {T : Type 0} where
     keeps_entry e = keeps e.key e.rec
 
     abbrev kept_at : ℕ → Option (Rec T)
-    kept_at key = kept (keeps key) (changed key) (old key)
+    kept_at key = after_retain (keeps key) (changed key) (old key)
 
-    retained_at : (p : ClientId × ℕ) (xs : List (Entry T)) (es : List (Entry T)) (o : Option (Rec T)) → xs ≡ map changes_of (filter keeps_entry es) → cond (is_some (kept (keeps p.1) (changed p.1) o)) (cons_option (option_map (λ rec. record { id = p.0; key = p.1; rec = rec }) (kept (keeps p.1) (changed p.1) o)) xs) xs ≡ map changes_of (filter keeps_entry (cons_option (option_map (λ rec. record { id = p.0; key = p.1; rec = rec }) o) es))
+    retained_at : (p : ClientId × ℕ) (xs : List (Entry T)) (es : List (Entry T)) (o : Option (Rec T)) → xs ≡ map changes_of (filter keeps_entry es) → cond (is_some (after_retain (keeps p.1) (changed p.1) o)) (cons_option (option_map (λ rec. record { id = p.0; key = p.1; rec = rec }) (after_retain (keeps p.1) (changed p.1) o)) xs) xs ≡ map changes_of (filter keeps_entry (cons_option (option_map (λ rec. record { id = p.0; key = p.1; rec = rec }) o) es))
     retained_at p xs es None e = e
     retained_at p xs es (Some rec) e = at (keeps p.1 rec) where
       at : (b : Bool) → cond (is_some (cond b (Some (changed p.1 rec)) None)) (cons_option (option_map (λ rec. record { id = p.0; key = p.1; rec = rec }) (cond b (Some (changed p.1 rec)) None)) xs) xs ≡ map changes_of (cond b (record { id = p.0; key = p.1; rec = rec } ∷ filter keeps_entry es) (filter keeps_entry es))
@@ -164,23 +164,23 @@ module _ {T : Type 0} where
         entries_cond kept_at p (filter (λ p. is_some (kept_at p.1)) ids) (is_some (kept_at p.1))
         ∙ retained_at p _ (entries_by old ids) (old p.1) (retained ids)
 
-  slot_kept_from : (keeps : ℕ → Rec T → Bool) (changed : ℕ → Rec T → Rec T) (first : ℕ) (slots : List (Option (Rec T))) (n : ℕ) → slice_index_or (kept_slots keeps changed first slots) n None ≡ kept (keeps (first + n)) (changed (first + n)) (slice_index_or slots n None)
+  slot_kept_from : (keeps : ℕ → Rec T → Bool) (changed : ℕ → Rec T → Rec T) (first : ℕ) (slots : List (Option (Rec T))) (n : ℕ) → slice_index_or (slots_after_retain keeps changed first slots) n None ≡ after_retain (keeps (first + n)) (changed (first + n)) (slice_index_or slots n None)
   slot_kept_from keeps changed first [] n = refl
   slot_kept_from keeps changed first (o ∷ slots) zero =
       let here : first ≡ first + 0 = omega arith in
-      ap (λ key. kept (keeps key) (changed key) o) here
+      ap (λ key. after_retain (keeps key) (changed key) o) here
   slot_kept_from keeps changed first (o ∷ slots) (suc n) =
       let next : first + 1 + n ≡ first + suc n = omega arith in
-      slot_kept_from keeps changed (first + 1) slots n ∙ ap (λ key. kept (keeps key) (changed key) (slice_index_or slots n None)) next
+      slot_kept_from keeps changed (first + 1) slots n ∙ ap (λ key. after_retain (keeps key) (changed key) (slice_index_or slots n None)) next
 
-  pub slot_kept : (keeps : ℕ → Rec T → Bool) (changed : ℕ → Rec T → Rec T) (slots : List (Option (Rec T))) (key : ℕ) → slice_index_or (kept_slots keeps changed 0 slots) key None ≡ kept (keeps key) (changed key) (slice_index_or slots key None)
+  pub slot_kept : (keeps : ℕ → Rec T → Bool) (changed : ℕ → Rec T → Rec T) (slots : List (Option (Rec T))) (key : ℕ) → slice_index_or (slots_after_retain keeps changed 0 slots) key None ≡ after_retain (keeps key) (changed key) (slice_index_or slots key None)
   slot_kept keeps changed slots key =
       let same : 0 + key ≡ key = omega arith in
-      slot_kept_from keeps changed 0 slots key ∙ ap (λ n. kept (keeps n) (changed n) (slice_index_or slots key None)) same
+      slot_kept_from keeps changed 0 slots key ∙ ap (λ n. after_retain (keeps n) (changed n) (slice_index_or slots key None)) same
 
-  pub slots_kept : (keeps : ℕ → Rec T → Bool) (changed : ℕ → Rec T → Rec T) (slots : List (Option (Rec T))) (ids : List (ClientId × ℕ)) → entries_of (filter (λ p. is_some (slice_index_or (kept_slots keeps changed 0 slots) p.1 None)) ids) (kept_slots keeps changed 0 slots) ≡ map (λ e. with_rec (changed e.key) e) (filter (λ e. keeps e.key e.rec) (entries_of ids slots))
+  pub slots_kept : (keeps : ℕ → Rec T → Bool) (changed : ℕ → Rec T → Rec T) (slots : List (Option (Rec T))) (ids : List (ClientId × ℕ)) → entries_of (filter (λ p. is_some (slice_index_or (slots_after_retain keeps changed 0 slots) p.1 None)) ids) (slots_after_retain keeps changed 0 slots) ≡ map (λ e. with_rec (changed e.key) e) (filter (λ e. keeps e.key e.rec) (entries_of ids slots))
   slots_kept keeps changed slots ids =
-      let at : (λ (k : ℕ). slice_index_or (kept_slots keeps changed 0 slots) k None) ≡ (λ (k : ℕ). kept (keeps k) (changed k) (slice_index_or slots k None)) = fun_ext (slot_kept keeps changed slots) in
+      let at : (λ (k : ℕ). slice_index_or (slots_after_retain keeps changed 0 slots) k None) ≡ (λ (k : ℕ). after_retain (keeps k) (changed k) (slice_index_or slots k None)) = fun_ext (slot_kept keeps changed slots) in
       ap (λ (f : ℕ → Option (Rec T)). entries_by f (filter (λ p. is_some (f p.1)) ids)) at ∙ retained keeps changed (λ k. slice_index_or slots k None) ids
 
   pub held_kept : (slots : List (Option (Rec T))) (ids : List (ClientId × ℕ)) → Held slots (filter (λ p. is_some (slice_index_or slots p.1 None)) ids)
@@ -231,7 +231,7 @@ none_named id (p ∷ ids) h = by (id.0 == p.0.0) refl h (none_named id ids) wher
 -- ---- what a slab's retain leaves
 
 module _ {T F : Type 0} (step : F → ℕ → MutBor (Rec T) → Bool → MutBor (Rec T) → F → Type 0) (f : F) (keeps : ℕ → Rec T → Bool) (changed : ℕ → Rec T → Rec T) (says : (key : ℕ) (old : Rec T) (keep : Bool) (new : Rec T) (next : F) → CalledAt step f key old keep new next → (keep ≡ keeps key old) × (new ≡ changed key old) × (next ≡ f)) where
-  pub slots_retained : (key : ℕ) (slots left : List (Option (Rec T))) → RetainsFrom step f key slots left → left ≡ kept_slots keeps changed key slots
+  pub slots_retained : (key : ℕ) (slots left : List (Option (Rec T))) → RetainsFrom step f key slots left → left ≡ slots_after_retain keeps changed key slots
   slots_retained key [] left h = h
   slots_retained key (None ∷ slots) left h = h.1 ∙ ap (λ xs. None ∷ xs) (slots_retained (key + 1) slots h.0 h.2)
   slots_retained key (Some old ∷ slots) left h =

@@ -64,14 +64,14 @@ abbrev pub entries_of : {T : Type 0} → List (ClientId × ℕ) → List (Option
 entries_of ids slots = filter_map (entry_of slots) ids
 
 -- a record kept and changed, or taken out
-abbrev pub kept : {T : Type 0} → (Rec T → Bool) → (Rec T → Rec T) → Option (Rec T) → Option (Rec T)
-kept keeps changed None = None
-kept keeps changed (Some rec) = if keeps rec then Some (changed rec) else None
+abbrev pub after_retain : {T : Type 0} → (Rec T → Bool) → (Rec T → Rec T) → Option (Rec T) → Option (Rec T)
+after_retain keeps changed None = None
+after_retain keeps changed (Some rec) = if keeps rec then Some (changed rec) else None
 
 -- the slots from a key on, each record kept and changed, or taken out
-abbrev pub kept_slots : {T : Type 0} → (ℕ → Rec T → Bool) → (ℕ → Rec T → Rec T) → ℕ → List (Option (Rec T)) → List (Option (Rec T))
-kept_slots keeps changed key [] = []
-kept_slots keeps changed key (o ∷ slots) = kept (keeps key) (changed key) o ∷ kept_slots keeps changed (key + 1) slots
+abbrev pub slots_after_retain : {T : Type 0} → (ℕ → Rec T → Bool) → (ℕ → Rec T → Rec T) → ℕ → List (Option (Rec T)) → List (Option (Rec T))
+slots_after_retain keeps changed key [] = []
+slots_after_retain keeps changed key (o ∷ slots) = after_retain (keeps key) (changed key) o ∷ slots_after_retain keeps changed (key + 1) slots
 
 -- no id and no key stands twice
 abbrev pub AreApart : List (ClientId × ℕ) → Type 0

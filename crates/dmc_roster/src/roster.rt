@@ -142,7 +142,7 @@ impl<T: Tag> Roster<T> {
 
 /// Lets the rule change or take out each record.
 fn apply_to_each<T: Tag, R: RecordRule<T>>(records: &mut Slab<ClientRec<T>>, rule: &R)
-    ensures slots { records.new.slots ≡ entries.kept_slots (R.keeps rule.now) (R.changed rule.now) 0 records.old.slots }
+    ensures slots { records.new.slots ≡ entries.slots_after_retain (R.keeps rule.now) (R.changed rule.now) 0 records.old.slots }
     ensures kept { AllByRecursion (λ o. IfSome o (IsRecord T.ops)) records.new.slots }
 {
     records.retain(

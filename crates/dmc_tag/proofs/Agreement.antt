@@ -19,7 +19,7 @@ use Rattle.dmc_tag.specs.State.{State, StandsFor, is_client, has_queued, client_
 use Rattle.dmc_tag.specs.Best.{best, by_reservation, by_weight, is_early, is_free, is_any}
 use Rattle.dmc_tag.specs.Rules as rules_of
 use Rattle.dmc_tag.specs.Rules.{Outcome}
-use Rattle.dmc_tag.specs.Step.{outcome, settled, step}
+use Rattle.dmc_tag.specs.Step.{outcome, answer_of, step}
 use Rattle.dmc_tag.specs.Steps.{Exactly, Steps}
 use Rattle.dmc_tag.specs.Laws.{SameStep}
 use Rattle.dmc_tag.specs.declared.plain.PlainRequest.{PlainRequest}
@@ -197,11 +197,11 @@ module _ {T : Type 0} (ops : Tagging T) (o : IsTotalOrder ops.compare) (config :
 
 -- ---- one command
 
-same_settled : {T : Type 0} (s u : State T) (a b : Outcome T) → StandsFor s u → SameOutcome a b → ((settled s a).1 ≡ (settled u b).1) × StandsFor ((settled s a).0) ((settled u b).0)
-same_settled s u (Ok (v, r)) (Ok (w, q)) h e = e
-same_settled s u (Ok a) (Err f) h e = absurd e
-same_settled s u (Err e') (Ok b) h e = absurd e
-same_settled s u (Err e') (Err f) h e = (ap Refused e, h)
+same_answer : {T : Type 0} (s u : State T) (a b : Outcome T) → StandsFor s u → SameOutcome a b → ((answer_of s a).1 ≡ (answer_of u b).1) × StandsFor ((answer_of s a).0) ((answer_of u b).0)
+same_answer s u (Ok (v, r)) (Ok (w, q)) h e = e
+same_answer s u (Ok a) (Err f) h e = absurd e
+same_answer s u (Err e') (Ok b) h e = absurd e
+same_answer s u (Err e') (Err f) h e = (ap Refused e, h)
 
 same_ok : {T : Type 0} (a b : Outcome T) → SameOutcome a b → IsOk a → IsOk b
 same_ok (Ok a) (Ok b) e k = k
@@ -225,7 +225,7 @@ module _ {T : Type 0} (ops : Tagging T) (o : IsTotalOrder ops.compare) where
   outcomes_agree s u c h = subst (λ v. SameOutcome (outcome ops s c) (outcome ops v c)) (aligned s u h) (same_outcome ops o s.config s.clients s.last_moment s.requests u.requests (agreeing s u h) c)
 
   pub steps_agree : (s u : State T) (c : Command) → StandsFor s u → SameStep ops s u c
-  steps_agree s u c h = same_settled s u (outcome ops s c) (outcome ops u c) h (outcomes_agree s u c h)
+  steps_agree s u c h = same_answer s u (outcome ops s c) (outcome ops u c) h (outcomes_agree s u c h)
 
   -- a step from one state is the step from each that it stands for
   pub steps_exactly : (old new : State T) (c : Command) (answer : Option (Reply T)) → Exactly ops old new c answer → Steps ops old new c answer

@@ -14,7 +14,7 @@ use Rattle.dmc_tag.specs.State.{State}
 use Rattle.dmc_tag.specs.Best.{best, by_reservation, by_weight, is_early, is_free, is_any, IsBest, HasNone}
 use Rattle.dmc_tag.specs.Rules as rules_of
 use Rattle.dmc_tag.specs.Rules.{Outcome}
-use Rattle.dmc_tag.specs.Step.{settled}
+use Rattle.dmc_tag.specs.Step.{answer_of}
 use Rattle.dmc_tag.specs.Laws.{Grants, Pulls, IsNextDue}
 use Rattle.dmc_tag.proofs.FutureLaw.{next_due}
 use Rattle.dmc_tag.specs.declared.reply.Reply.{Reply}
@@ -52,7 +52,7 @@ module _ {T : Type 0} (ops : Tagging T) (fraction : T → Fraction) (is_value : 
 
   -- the state and the reply of an outcome are those of a pull
   abbrev Says : ℕ → State T → Outcome T → Type 0
-  Says t s result = Pulls ops t s ((settled s result).0) ((settled s result).1)
+  Says t s result = Pulls ops t s ((answer_of s result).0) ((answer_of s result).1)
 
   -- the amount that is taken off is that of the rule
   reduction_given : (hz : ℕ) (id : ClientId) (clients : List (PlainClient T)) (others : List (PlainRequest T)) (amount : Option T) → rules_of.can_grant ops hz id clients others ≡ Ok amount → rules_of.reduction_of ops hz id clients ≡ Ok amount
@@ -121,5 +121,5 @@ module _ {T : Type 0} (ops : Tagging T) (fraction : T → Fraction) (is_value : 
   later_says : (t m : ℕ) (s new : State T) (reply : Reply T) → reply ≡ Later m → Pulls ops t s new reply → IsNextDue ops m s.requests
   later_says t m s new reply e says = let p = subst (Pulls ops t s new) e says in p.3
 
-  pub future_says : (t m : ℕ) (s : State T) → (settled s (rules_of.pulled ops s t)).1 ≡ Later m → IsNextDue ops m s.requests
+  pub future_says : (t m : ℕ) (s : State T) → (answer_of s (rules_of.pulled ops s t)).1 ≡ Later m → IsNextDue ops m s.requests
   future_says t m s e = later_says t m s _ _ e (pull_says t s)

@@ -20,7 +20,7 @@ use Rattle.dmc_tag.specs.State.{State, opening, effective, is_client, is_active,
 use Rattle.dmc_tag.specs.Queued.{AreActive, is_add_of}
 use Rattle.dmc_tag.specs.Rules as rules_of
 use Rattle.dmc_tag.specs.Rules.{Outcome}
-use Rattle.dmc_tag.specs.Step.{settled, step}
+use Rattle.dmc_tag.specs.Step.{answer_of, step}
 use Rattle.dmc_tag.specs.Replay.{after, state_after}
 use Rattle.dmc_tag.specs.declared.event.Event.{Event}
 use Rattle.dmc_tag.specs.Laws.{Grants, Pulls}
@@ -49,7 +49,7 @@ module _ {T : Type 0} (ops : Tagging T) (s : State T) where
   own : (command : Command) → AllByRecursion (λ r. Comes command r.client) s.requests
   own command = all_as (λ r. has_queued r.client s.requests ≡ true) (λ r. Comes command r.client) (λ r h. inl h) s.requests (queued_own s.requests)
 
-  chained : {X : Type 0} (command : Command) (r : Result X Refusal) (f : X → Outcome T) → ((x : X) → r ≡ Ok x → Settles command (settled s (f x))) → Settles command (settled s (r >>= f))
+  chained : {X : Type 0} (command : Command) (r : Result X Refusal) (f : X → Outcome T) → ((x : X) → r ≡ Ok x → Settles command (answer_of s (f x))) → Settles command (answer_of s (r >>= f))
   chained command (Ok x) f h = h x refl
   chained command (Err e) f h = record { comes = own command; active = λ a. a; granted = λ client token phase beyond e. cc }
 

@@ -8,15 +8,16 @@ use Rattle.dmc_tag.specs.declared.reply.Pulled.TheVariants as pulls
 use Rattle.dmc_tag.specs.declared.reply.Reply.{Reply}
 use Rattle.dmc_tag.specs.declared.reply.Reply.TheVariants.{Granted, Later, Nothing, Cleaned, Refused}
 
--- a value is told as a reply, and so is a refusal; memory is not
-abbrev pub told : {T X : Type 0} → (X → Reply T) → Result X QueueFault → Option (Reply T)
-told tell (Ok x) = Some (tell x)
-told tell (Err (faults.Refused refusal)) = Some (Refused refusal)
-told tell (Err faults.Memory) = None
+-- the reply of a call that answered so: its value or its refusal, and none where it wanted memory
+abbrev pub call_reply : {T X : Type 0} → (X → Reply T) → Result X QueueFault → Option (Reply T)
+call_reply tell (Ok x) = Some (tell x)
+call_reply tell (Err (faults.Refused refusal)) = Some (Refused refusal)
+call_reply tell (Err faults.Memory) = None
 
-abbrev pub told_surely : {T X : Type 0} → (X → Reply T) → Result X Refusal → Option (Reply T)
-told_surely tell (Ok x) = Some (tell x)
-told_surely tell (Err refusal) = Some (Refused refusal)
+-- the same of a call that wants no memory
+abbrev pub sure_call_reply : {T X : Type 0} → (X → Reply T) → Result X Refusal → Option (Reply T)
+sure_call_reply tell (Ok x) = Some (tell x)
+sure_call_reply tell (Err refusal) = Some (Refused refusal)
 
 abbrev pub pull_reply : {T : Type 0} → Pulled → Reply T
 pull_reply (pulls.Returning client token phase beyond) = Granted client token phase beyond

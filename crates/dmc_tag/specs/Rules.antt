@@ -311,11 +311,12 @@ is_erased s t = is_stale s.requests t s.config.erase_age
 abbrev pub is_idled : {T : Type 0} → State T → ℕ → PlainClient T → Bool
 is_idled s t c = not (is_erased s t c) && is_stale s.requests t s.config.idle_age c && not c.idle
 
-abbrev pub marked : {T : Type 0} → State T → ℕ → PlainClient T → PlainClient T
-marked s t c = record c { idle = c.idle || is_stale s.requests t s.config.idle_age c }
+-- idle where it is that stale, or was so before
+abbrev pub with_idle_mark : {T : Type 0} → State T → ℕ → PlainClient T → PlainClient T
+with_idle_mark s t c = record c { idle = c.idle || is_stale s.requests t s.config.idle_age c }
 
 abbrev pub cleaned : {T : Type 0} → State T → ℕ → Outcome T
 cleaned s t = Ok (
-  record s { clients = map (marked s t) (filter (λ c. not (is_erased s t c)) s.clients); last_moment = t },
+  record s { clients = map (with_idle_mark s t) (filter (λ c. not (is_erased s t c)) s.clients); last_moment = t },
   Cleaned (length (filter (is_idled s t) s.clients)) (length (filter (is_erased s t) s.clients)),
 )

@@ -16,10 +16,10 @@ outcome ops s (Pull at) = pulled ops s (effective s at)
 outcome ops s (Remove client) = removed s client
 outcome ops s (Clean at) = cleaned s (effective s at)
 
--- a refusal is answered, and changes nothing
-abbrev pub settled : {T : Type 0} → State T → Outcome T → State T × Reply T
-settled s (Ok answer) = answer
-settled s (Err refusal) = (s, Refused refusal)
+-- the state and the reply of an outcome: a refusal is answered, and changes nothing
+abbrev pub answer_of : {T : Type 0} → State T → Outcome T → State T × Reply T
+answer_of s (Ok answer) = answer
+answer_of s (Err refusal) = (s, Refused refusal)
 
 abbrev pub step : {T : Type 0} → Tagging T → State T → Command → State T × Reply T
-step ops s command = settled s (outcome ops s command)
+step ops s command = answer_of s (outcome ops s command)

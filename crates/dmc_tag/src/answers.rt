@@ -1,7 +1,7 @@
 //! What a scheduler's calls answer, as replies. Want of memory is an error.
 ghost use Rattle.std.specs.Prelude.{◌≡◌};
 ghost use Rattle.std.specs.Result.{result_ok};
-ghost use Rattle.dmc_tag.specs.Answers.{told, told_surely, pull_reply, clean_reply};
+ghost use Rattle.dmc_tag.specs.Answers.{call_reply, sure_call_reply, pull_reply, clean_reply};
 ghost use Rattle.dmc_tag.specs.declared.reply.Reply.TheVariants as replies;
 
 use crate::reply::{Pulled, Reply, Tags};
@@ -10,7 +10,7 @@ use std::alloc::AllocError;
 
 /// What `register` answered.
 pub fn registered<T>(answer: Result<(), QueueFault>) -> Result<Reply<T>, AllocError>
-    ensures { result_ok result ≡ told (λ _. replies.Registered) answer }
+    ensures { result_ok result ≡ call_reply (λ _. replies.Registered) answer }
 {
     match answer {
         Ok(()) => Ok(Reply::Registered),
@@ -21,7 +21,7 @@ pub fn registered<T>(answer: Result<(), QueueFault>) -> Result<Reply<T>, AllocEr
 
 /// What `update_info` answered.
 pub fn updated<T>(answer: Result<(), Refusal>) -> Reply<T>
-    ensures { Some result ≡ told_surely (λ _. replies.Updated) answer }
+    ensures { Some result ≡ sure_call_reply (λ _. replies.Updated) answer }
 {
     match answer {
         Ok(()) => Reply::Updated,
@@ -31,7 +31,7 @@ pub fn updated<T>(answer: Result<(), Refusal>) -> Reply<T>
 
 /// What `add_request` answered.
 pub fn tagged<T>(answer: Result<Tags<T>, QueueFault>) -> Result<Reply<T>, AllocError>
-    ensures { result_ok result ≡ told replies.Tagged answer }
+    ensures { result_ok result ≡ call_reply replies.Tagged answer }
 {
     match answer {
         Ok(tags) => Ok(Reply::Tagged(tags)),
@@ -42,7 +42,7 @@ pub fn tagged<T>(answer: Result<Tags<T>, QueueFault>) -> Result<Reply<T>, AllocE
 
 /// What `pull_request` answered.
 pub fn pulled<T>(answer: Result<Pulled, Refusal>) -> Reply<T>
-    ensures { Some result ≡ told_surely pull_reply answer }
+    ensures { Some result ≡ sure_call_reply pull_reply answer }
 {
     match answer {
         Ok(
@@ -66,7 +66,7 @@ pub fn pulled<T>(answer: Result<Pulled, Refusal>) -> Reply<T>
 
 /// What `remove_by_client` answered.
 pub fn removed<T>(answer: Result<u32, Refusal>) -> Reply<T>
-    ensures { Some result ≡ told_surely replies.Removed answer }
+    ensures { Some result ≡ sure_call_reply replies.Removed answer }
 {
     match answer {
         Ok(count) => Reply::Removed(count),

@@ -1,7 +1,7 @@
 //! What every queue promises.
 ghost use Rattle.std.specs.Prelude.{◌≡◌, length, Some};
 ghost use Rattle.std.specs.Result.{result_ok};
-ghost use Rattle.dmc_tag.specs.Answers.{told, told_surely, pull_reply, clean_reply};
+ghost use Rattle.dmc_tag.specs.Answers.{call_reply, sure_call_reply, pull_reply, clean_reply};
 ghost use Rattle.dmc_tag.specs.State.{State, StandsFor};
 ghost use Rattle.dmc_tag.specs.Steps.{Steps};
 ghost use Rattle.dmc_types.specs.declared.command.Command.TheVariants as commands;
@@ -26,12 +26,12 @@ pub trait Scheduler<T: Tag> {
     /// Registers a client; refused `Known`, `Inexact`, `Clients`, in this order, and `Memory` last.
     fn register(&mut self, client: ClientId, info: ClientInfo, at: Moment) -> Result<(), QueueFault>
         ensures { Steps T.ops (state self.old) (state self.new) (commands.Register client info at)
-            (told (λ _. replies.Registered) result) };
+            (call_reply (λ _. replies.Registered) result) };
 
     /// Replaces a client's rates; refused `Unknown`, `Inexact`, `Busy`, in this order.
     fn update_info(&mut self, client: ClientId, info: ClientInfo, at: Moment) -> Result<(), Refusal>
         ensures { Steps T.ops (state self.old) (state self.new) (commands.Update client info at)
-            (told_surely (λ _. replies.Updated) result) };
+            (sure_call_reply (λ _. replies.Updated) result) };
 
     /// Queues a request, and answers its tags; refused `Unknown`, `QueueFull`, `Range`, in this order, and `Memory` last.
     fn add_request(
@@ -42,16 +42,16 @@ pub trait Scheduler<T: Tag> {
         at: Moment,
     ) -> Result<Tags<T>, QueueFault>
         ensures { Steps T.ops (state self.old) (state self.new) (commands.Add client token params at)
-            (told replies.Tagged result) };
+            (call_reply replies.Tagged result) };
 
     /// Grants the next request, or tells when one is due; refused `Range`.
     fn pull_request(&mut self, at: Moment) -> Result<Pulled, Refusal>
-        ensures { Steps T.ops (state self.old) (state self.new) (commands.Pull at) (told_surely pull_reply result) };
+        ensures { Steps T.ops (state self.old) (state self.new) (commands.Pull at) (sure_call_reply pull_reply result) };
 
     /// Takes out a client's queued requests, and answers how many; refused `Unknown`.
     fn remove_by_client(&mut self, client: ClientId) -> Result<u32, Refusal>
         ensures { Steps T.ops (state self.old) (state self.new) (commands.Remove client)
-            (told_surely replies.Removed result) };
+            (sure_call_reply replies.Removed result) };
 
     /// Marks idle clients and erases old ones, and answers how many became idle and how many were erased.
     fn clean(&mut self, at: Moment) -> (u32, u32)

@@ -9,7 +9,7 @@ use Rattle.dmc_tag.specs.Laws.{SameStep}
 use Rattle.dmc_text.specs.declared.line.Line.{Line}
 use Rattle.dmc_text.specs.declared.line.Line.TheVariants.{Skip, Config, Ask, Value}
 use Rattle.dmc_text.specs.Replies.{reply_text}
-use Rattle.dmc_text.specs.Texts.{ended, value_text, written}
+use Rattle.dmc_text.specs.Texts.{with_line_end, value_text, written}
 
 -- each state stands for itself
 pub same_state : {T : Type 0} (s : State T) → StandsFor s s
@@ -21,11 +21,11 @@ pub written_alike : {T : Type 0} (ops : Tagging T) (text : T → List ℕ) (law 
 written_alike ops text law [] s u h = refl
 written_alike ops text law (Skip ∷ lines) s u h = written_alike ops text law lines s u h
 written_alike ops text law (Config config ∷ lines) s u h = refl
-written_alike ops text law (Value fault ∷ lines) s u h = ap (λ more. ended (value_text fault) ++ more) (written_alike ops text law lines s u h)
+written_alike ops text law (Value fault ∷ lines) s u h = ap (λ more. with_line_end (value_text fault) ++ more) (written_alike ops text law lines s u h)
 written_alike ops text law (Ask command ∷ lines) s u h =
     let same = law s u command h in
-    ap (λ reply. ended (reply_text text reply) ++ written ops text (Some ((step ops s command).0)) lines) same.0
-    ∙ ap (λ more. ended (reply_text text ((step ops u command).1)) ++ more) (written_alike ops text law lines ((step ops s command).0) ((step ops u command).0) same.1)
+    ap (λ reply. with_line_end (reply_text text reply) ++ written ops text (Some ((step ops s command).0)) lines) same.0
+    ∙ ap (λ more. with_line_end (reply_text text ((step ops u command).1)) ++ more) (written_alike ops text law lines ((step ops s command).0) ((step ops u command).0) same.1)
 
 -- of two facts of an Ok a third follows
 pub on_both : {X E : Type 0} {A B C : Type 0} (r : Result X E) → OnOk r A → OnOk r B → (A → B → C) → OnOk r C
@@ -34,10 +34,10 @@ on_both (Err e) a b f = tt
 
 -- a command is answered, and then the rest from the state that is reached, or from one that agrees
 pub asked_alike : {T : Type 0} (ops : Tagging T) (text : T → List ℕ) (law : (s u : State T) (command : Command) → StandsFor s u → SameStep ops s u command)
-    (old new : List ℕ) (s u : State T) (command : Command) → new ≡ old ++ ended (reply_text text ((step ops s command).1)) → StandsFor u ((step ops s command).0)
+    (old new : List ℕ) (s u : State T) (command : Command) → new ≡ old ++ with_line_end (reply_text text ((step ops s command).1)) → StandsFor u ((step ops s command).0)
     → (rest : List Line) → new ++ written ops text (Some u) rest ≡ old ++ written ops text (Some s) (Ask command ∷ rest)
 asked_alike ops text law old new s u command e h rest =
-    let reply = ended (reply_text text ((step ops s command).1)) in
+    let reply = with_line_end (reply_text text ((step ops s command).1)) in
     ap (λ w. w ++ written ops text (Some u) rest) e
     ∙ append_assoc old reply (written ops text (Some u) rest)
     ∙ ap (λ w. old ++ (reply ++ w)) (written_alike ops text law rest u ((step ops s command).0) h)

@@ -10,34 +10,34 @@ use Rattle.dmc_tag.specs.Outcome.{◌>>=◌}
 use Rattle.dmc_tag.specs.State.{State, effective}
 use Rattle.dmc_tag.specs.Best.{best, by_reservation, by_weight, is_early, is_free, is_any}
 use Rattle.dmc_tag.specs.Rules.{Outcome, can_register, can_update, can_add, can_remove, can_grant, grant_priority, grant_found, at_limit, nothing_due, pulled_free, pulled_early}
-use Rattle.dmc_tag.specs.Step.{settled, step}
+use Rattle.dmc_tag.specs.Step.{answer_of, step}
 use Rattle.dmc_tag.specs.declared.plain.PlainRequest.{PlainRequest}
 use Rattle.dmc_text.specs.Replies.{IsTellable}
 
-told_of : {T A : Type 0} (s : State T) (r : Result A Refusal) (f : A → Outcome T) → ((a : A) → IsTellable ((settled s (f a)).1)) → IsTellable ((settled s (r >>= f)).1)
+told_of : {T A : Type 0} (s : State T) (r : Result A Refusal) (f : A → Outcome T) → ((a : A) → IsTellable ((answer_of s (f a)).1)) → IsTellable ((answer_of s (r >>= f)).1)
 told_of s (Ok a) f h = h a
 told_of s (Err e) f h = tt
 
-told_priority : {T : Type 0} (ops : Tagging T) (u s : State T) (t : ℕ) (found : PlainRequest T × List (PlainRequest T)) (beyond : Bool) → IsTellable ((settled u (grant_priority ops s t found beyond)).1)
+told_priority : {T : Type 0} (ops : Tagging T) (u s : State T) (t : ℕ) (found : PlainRequest T × List (PlainRequest T)) (beyond : Bool) → IsTellable ((answer_of u (grant_priority ops s t found beyond)).1)
 told_priority ops u s t found beyond = told_of u (can_grant ops s.config.hz found.0.client s.clients found.1) _ (λ a. tt)
 
-told_found : {T : Type 0} (ops : Tagging T) (u s : State T) (t : ℕ) (found : Option (PlainRequest T × List (PlainRequest T))) → IsTellable ((settled u (grant_found ops s t true found)).1)
+told_found : {T : Type 0} (ops : Tagging T) (u s : State T) (t : ℕ) (found : Option (PlainRequest T × List (PlainRequest T))) → IsTellable ((answer_of u (grant_found ops s t true found)).1)
 told_found ops u s t None = tt
 told_found ops u s t (Some found) = told_priority ops u s t found true
 
-told_limit : {T : Type 0} (ops : Tagging T) (u s : State T) (t : ℕ) (kind : AtLimit) (x : PlainRequest T) (xs : List (PlainRequest T)) → IsTellable ((settled u (at_limit ops s t kind x xs)).1)
+told_limit : {T : Type 0} (ops : Tagging T) (u s : State T) (t : ℕ) (kind : AtLimit) (x : PlainRequest T) (xs : List (PlainRequest T)) → IsTellable ((answer_of u (at_limit ops s t kind x xs)).1)
 told_limit ops u s t Wait x xs = tt
 told_limit ops u s t Allow x xs = told_found ops u s t (best (by_weight ops) is_any (x ∷ xs))
 
-told_none : {T : Type 0} (ops : Tagging T) (u s : State T) (t : ℕ) (requests : List (PlainRequest T)) → IsTellable ((settled u (nothing_due ops s t requests)).1)
+told_none : {T : Type 0} (ops : Tagging T) (u s : State T) (t : ℕ) (requests : List (PlainRequest T)) → IsTellable ((answer_of u (nothing_due ops s t requests)).1)
 told_none ops u s t [] = tt
 told_none ops u s t (x ∷ xs) = told_limit ops u s t s.config.at_limit x xs
 
-told_free : {T : Type 0} (ops : Tagging T) (u s : State T) (t : ℕ) (found : Option (PlainRequest T × List (PlainRequest T))) → IsTellable ((settled u (pulled_free ops s t found)).1)
+told_free : {T : Type 0} (ops : Tagging T) (u s : State T) (t : ℕ) (found : Option (PlainRequest T × List (PlainRequest T))) → IsTellable ((answer_of u (pulled_free ops s t found)).1)
 told_free ops u s t (Some found) = told_priority ops u s t found false
 told_free ops u s t None = told_none ops u s t s.requests
 
-told_early : {T : Type 0} (ops : Tagging T) (u s : State T) (t : ℕ) (found : Option (PlainRequest T × List (PlainRequest T))) → IsTellable ((settled u (pulled_early ops s t found)).1)
+told_early : {T : Type 0} (ops : Tagging T) (u s : State T) (t : ℕ) (found : Option (PlainRequest T × List (PlainRequest T))) → IsTellable ((answer_of u (pulled_early ops s t found)).1)
 told_early ops u s t (Some (r, others)) = refl
 told_early ops u s t None = told_free ops u s t (best (by_weight ops) (is_free ops t) s.requests)
 

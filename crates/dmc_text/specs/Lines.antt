@@ -89,21 +89,22 @@ seen_heading c = record { hz = c.hz.now; ages = seen_ages c.ages; at_limit = c.a
 -- ---- commands
 
 -- a value out of its limits is told; a word that is no number ends the run
-abbrev pub told : Result Command CommandFault → Result Line LineCause
-told (Ok c) = Ok (Ask c)
-told (Err (unread.Value v)) = Ok (Value v)
-told (Err unread.Number) = Err Number
+abbrev pub line_of_command : Result Command CommandFault → Result Line LineCause
+line_of_command (Ok c) = Ok (Ask c)
+line_of_command (Err (unread.Value v)) = Ok (Value v)
+line_of_command (Err unread.Number) = Err Number
 
 -- a command, and no word behind it
 abbrev pub alone : Phrase × List (List ℕ) → Result Phrase LineCause
 alone (p, []) = Ok p
 alone (p, w ∷ ws) = Err Words
 
-unfoldable pub asked : List (List ℕ) → Result Line LineCause
-asked ws = do
+-- the line that a command's words say
+unfoldable pub line_of_words : List (List ℕ) → Result Line LineCause
+line_of_words ws = do
   x ← phrase ws
   p ← alone x
-  told (command p)
+  line_of_command (command p)
 
 -- ---- lines
 
@@ -128,7 +129,7 @@ kind_of headed line = if is_clean line then kind headed (words line) else Err By
 abbrev pub said : LineKind → List (List ℕ) → Result Line LineCause
 said kinds.Skip ws = Ok Skip
 said (kinds.Config config) ws = Ok (Config config)
-said kinds.Command ws = asked ws
+said kinds.Command ws = line_of_words ws
 
 -- what a line of a script says; headed: an hz line was read before
 abbrev pub line_of : Bool → List ℕ → Result Line LineCause

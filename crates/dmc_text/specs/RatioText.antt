@@ -9,8 +9,8 @@ use Rattle.dmc_ratio.specs.Lowest.{is_lowest, over, lowest_apart}
 use Rattle.dmc_ratio.specs.Ratio.{Ratio, same_ratio, lowest_terms, reduced, is_small, greatest_numer, greatest_denom}
 
 -- the ratio of n/d, where these are in lowest terms: reducing leaves the denominator
-abbrev pub kept : ℤ → ℕ → Option Ratio
-kept n d = option_and_then (λ a. if a.denom == d then Some a else None) (reduced n d)
+abbrev pub ratio_if_lowest : ℤ → ℕ → Option Ratio
+ratio_if_lowest n d = option_and_then (λ a. if a.denom == d then Some a else None) (reduced n d)
 
 -- ---- what is kept is n/d
 
@@ -33,15 +33,15 @@ same_denominator n d e =
     let whole : suc d / g * g ≡ suc d = div-mul_cancel g (gcd_is (unsigned_abs n) (suc d)).1 in
     one_factor d g (ap (λ k. k * g) (sym e) ∙ whole)
 
-kept_by : (n : ℤ) (d : ℕ) (a : Ratio) (small whole : Bool) → is_small (lowest_terms n d) ≡ small → eqb ((lowest_terms n d).denom) (suc d) ≡ whole
-    → kept n (suc d) ≡ Some a → (a.numer ≡ n) × (a.denom ≡ suc d)
-kept_by n d a false whole s w e = let none : None ≡ Some a = ap (λ b. option_and_then (λ x. cond (eqb x.denom (suc d)) (Some x) None) (cond b (Some (lowest_terms n d)) None)) (sym s) ∙ e in absurd (cc)
-kept_by n d a true false s w e =
+ratio_if_lowest_by : (n : ℤ) (d : ℕ) (a : Ratio) (small whole : Bool) → is_small (lowest_terms n d) ≡ small → eqb ((lowest_terms n d).denom) (suc d) ≡ whole
+    → ratio_if_lowest n (suc d) ≡ Some a → (a.numer ≡ n) × (a.denom ≡ suc d)
+ratio_if_lowest_by n d a false whole s w e = let none : None ≡ Some a = ap (λ b. option_and_then (λ x. cond (eqb x.denom (suc d)) (Some x) None) (cond b (Some (lowest_terms n d)) None)) (sym s) ∙ e in absurd (cc)
+ratio_if_lowest_by n d a true false s w e =
     let none : None ≡ Some a =
     ap (λ b. cond b (Some (lowest_terms n d)) None) (sym w)
     ∙ ap (λ b. option_and_then (λ x. cond (eqb x.denom (suc d)) (Some x) None) (cond b (Some (lowest_terms n d)) None)) (sym s) ∙ e in
     absurd (cc)
-kept_by n d a true true s w e =
+ratio_if_lowest_by n d a true true s w e =
     let some : Some (lowest_terms n d) ≡ Some a =
     ap (λ b. cond b (Some (lowest_terms n d)) None) (sym w)
     ∙ ap (λ b. option_and_then (λ x. cond (eqb x.denom (suc d)) (Some x) None) (cond b (Some (lowest_terms n d)) None)) (sym s) ∙ e in
@@ -53,13 +53,13 @@ kept_by n d a true true s w e =
     of_some : (x y : Ratio) → Some x ≡ Some y → x ≡ y
     of_some x y h = cc
 
-pub kept_has : (n : ℤ) (d : ℕ) (a : Ratio) → kept n d ≡ Some a → (a.numer ≡ n) × (a.denom ≡ d)
-kept_has n zero a e = absurd (cc)
-kept_has n (suc d) a e = kept_by n d a (is_small (lowest_terms n d)) (eqb ((lowest_terms n d).denom) (suc d)) refl refl e
+pub ratio_if_lowest_has : (n : ℤ) (d : ℕ) (a : Ratio) → ratio_if_lowest n d ≡ Some a → (a.numer ≡ n) × (a.denom ≡ d)
+ratio_if_lowest_has n zero a e = absurd (cc)
+ratio_if_lowest_has n (suc d) a e = ratio_if_lowest_by n d a (is_small (lowest_terms n d)) (eqb ((lowest_terms n d).denom) (suc d)) refl refl e
 
 -- ---- a ratio is kept
 
-again : (n : ℤ) (d : ℕ) (h : T (is_lowest n d)) → is_small (record { numer = n; denom = d; lowest = h }) ≡ true → kept n d ≡ Some (record { numer = n; denom = d; lowest = h })
+again : (n : ℤ) (d : ℕ) (h : T (is_lowest n d)) → is_small (record { numer = n; denom = d; lowest = h }) ≡ true → ratio_if_lowest n d ≡ Some (record { numer = n; denom = d; lowest = h })
 again n zero h small = elim h [ ]
 again n (suc d) h small =
     let one : gcd (unsigned_abs n) (suc d) ≡ 1 = lowest_apart n (suc d) h in
@@ -70,13 +70,13 @@ again n (suc d) h small =
     ∙ ap (λ b. option_and_then (λ y. cond (eqb y.denom (suc d)) (Some y) None) (cond b (Some r) None)) small
     ∙ ap (λ b. cond b (Some r) None) (eq-eqb (suc d) (suc d) refl)
 
-pub kept_again : (a : Ratio) → is_small a ≡ true → kept a.numer a.denom ≡ Some a
-kept_again a small = again a.numer a.denom a.lowest small
+pub ratio_if_lowest_again : (a : Ratio) → is_small a ≡ true → ratio_if_lowest a.numer a.denom ≡ Some a
+ratio_if_lowest_again a small = again a.numer a.denom a.lowest small
 
 -- a ratio whose two numbers are within their bounds is made again of them
-pub made_again : (a : Ratio) (n : ℤ) (d : ℕ) → n ≡ a.numer → d ≡ a.denom → unsigned_abs n ≤ greatest_numer → d ≤ greatest_denom → kept n d ≡ Some a
+pub made_again : (a : Ratio) (n : ℤ) (d : ℕ) → n ≡ a.numer → d ≡ a.denom → unsigned_abs n ≤ greatest_numer → d ≤ greatest_denom → ratio_if_lowest n d ≡ Some a
 made_again a n d n-is d-is over under =
     let small : is_small a ≡ true = ap (λ z. nat_le (unsigned_abs z) greatest_numer && nat_le a.denom greatest_denom) (sym n-is)
     ∙ ap (λ k. nat_le (unsigned_abs n) greatest_numer && nat_le k greatest_denom) (sym d-is)
     ∙ ap (λ b. b && nat_le d greatest_denom) (le-leb (unsigned_abs n) greatest_numer over) ∙ le-leb d greatest_denom under in
-    ap (λ z. kept z d) n-is ∙ ap (kept a.numer) d-is ∙ kept_again a small
+    ap (λ z. ratio_if_lowest z d) n-is ∙ ap (ratio_if_lowest a.numer) d-is ∙ ratio_if_lowest_again a small

@@ -71,17 +71,18 @@ value_text faults.Params = codes "refused params"
 value_text faults.Rate = codes "refused rate"
 value_text faults.Config = codes "refused config"
 
-abbrev pub ended : List ℕ → List ℕ
-ended line = line ++ 10 ∷ []
+-- a line with the LF that ends it
+abbrev pub with_line_end : List ℕ → List ℕ
+with_line_end line = line ++ 10 ∷ []
 
 -- what is written for what the lines say, from a state on; there is none before the hz line
 abbrev pub written : {T : Type 0} → Tagging T → (T → List ℕ) → Option (State T) → List Line → List ℕ
 written ops text s [] = []
 written ops text s (Skip ∷ lines) = written ops text s lines
 written ops text s (Config config ∷ lines) = written ops text (Some (opening config)) lines
-written ops text s (Value fault ∷ lines) = ended (value_text fault) ++ written ops text s lines
+written ops text s (Value fault ∷ lines) = with_line_end (value_text fault) ++ written ops text s lines
 written ops text None (Ask command ∷ lines) = written ops text None lines
-written ops text (Some s) (Ask command ∷ lines) = ended (reply_text text ((step ops s command).1)) ++ written ops text (Some ((step ops s command).0)) lines
+written ops text (Some s) (Ask command ∷ lines) = with_line_end (reply_text text ((step ops s command).1)) ++ written ops text (Some ((step ops s command).0)) lines
 
 -- what is written for the rest of a text, from a state on
 abbrev pub written_for : {T : Type 0} → Tagging T → (T → List ℕ) → Option (State T) → List ℕ → List ℕ

@@ -38,7 +38,7 @@ pub fn tags_of_words()
 {}
 
 /// The order of the causes.
-#[tactic(auto, unfolding(crate::specs::Lines::is_clean, crate::specs::Lines::asked, crate::specs::Lines::heading, crate::specs::Lines::setting, crate::specs::Lines::figure, crate::specs::Lines::configured, crate::specs::Commands::phrase, crate::specs::Commands::command, crate::specs::Commands::small, crate::specs::Commands::long, crate::specs::Commands::optional, crate::specs::Commands::moment, crate::specs::Commands::params, crate::specs::Commands::rates))]
+#[tactic(auto, unfolding(crate::specs::Lines::is_clean, crate::specs::Lines::line_of_words, crate::specs::Lines::heading, crate::specs::Lines::setting, crate::specs::Lines::figure, crate::specs::Lines::configured, crate::specs::Commands::phrase, crate::specs::Commands::command, crate::specs::Commands::small, crate::specs::Commands::long, crate::specs::Commands::optional, crate::specs::Commands::moment, crate::specs::Commands::params, crate::specs::Commands::rates))]
 pub fn lines_of_a_script()
     ensures comment { line_of true (codes "# pull") ≡ Ok Skip }
     ensures bytes { line_of true (13 ∷ codes "hz") ≡ Err causes.Bytes }

@@ -3,7 +3,7 @@ ghost use Rattle.std.specs.Prelude.{◌≡◌};
 ghost use Rattle.std.specs.List.{list_all};
 ghost use Rattle.dmc_text.specs.Words.{words};
 ghost use Rattle.dmc_text.specs.Answers.{Gives};
-ghost use Rattle.dmc_text.specs.Lines.{is_line_byte, limit_of, seen_ages, seen_heading, is_clean, heading, figure, ages_of, configured, setting, asked, is_comment, kind_of, line_of};
+ghost use Rattle.dmc_text.specs.Lines.{is_line_byte, limit_of, seen_ages, seen_heading, is_clean, heading, figure, ages_of, configured, setting, line_of_words, is_comment, kind_of, line_of};
 
 use crate::cause::LineCause;
 use crate::command::{CommandFault, command_words, next_word, read_command};
@@ -99,9 +99,9 @@ fn configured(
 }
 
 /// The one command of a line.
-#[tactic(auto, unfolding(crate::specs::Lines::asked))]
+#[tactic(auto, unfolding(crate::specs::Lines::line_of_words))]
 fn asked(line: &[u8]) -> Result<Line, LineCause>
-    ensures { result ≡ asked (words line.now) }
+    ensures { result ≡ line_of_words (words line.now) }
 {
     let (command, rest) = command_words(line)?;
     if first_word(rest).is_some() {

@@ -8,7 +8,7 @@ ghost use Rattle.dmc_tag.specs.Step.{step};
 ghost use Rattle.dmc_text.specs.Replies.{IsTellable, reply_text, tag_text};
 ghost use Rattle.std.specs.Prelude.{is_some};
 ghost use Rattle.std.specs.Option.{option_map};
-ghost use Rattle.dmc_text.specs.Texts.{ended, value_text, headed_by, written, AppendsSome, RunsAs};
+ghost use Rattle.dmc_text.specs.Texts.{with_line_end, value_text, headed_by, written, AppendsSome, RunsAs};
 ghost use Rattle.dmc_text.specs.Runs.{IsCut, CarriesOut, IsCounted, Turns, turn_of, Starts, Progress, Ends, closed_of, settled_of};
 ghost use Rattle.dmc_text.specs.Reading.{next_line};
 
@@ -51,7 +51,7 @@ fn value_text(fault: ValueFault) -> &'static [u8]
 
 /// Adds a line with these bytes. Where there is no memory, nothing is left to write.
 fn put_line(text: &[u8], out: &mut Vec<u8>) -> Result<(), AllocError>
-    ensures ok { OnOk result (out.new.items ≡ out.old.items ++ ended text.now) }
+    ensures ok { OnOk result (out.new.items ≡ out.old.items ++ with_line_end text.now) }
     ensures err { OnErr result (IsCut out.old.items out.new.items) }
 {
     if out.extend_from_slice(text).is_err() || out.push(b'\n').is_err() {
@@ -64,7 +64,7 @@ fn put_line(text: &[u8], out: &mut Vec<u8>) -> Result<(), AllocError>
 /// Adds the line of a reply. Where there is no memory, nothing is left to write.
 fn put_reply<T: TagText>(reply: &Reply<T>, out: &mut Vec<u8>) -> Result<(), AllocError>
     requires { IsTellable reply.now }
-    ensures ok { OnOk result (out.new.items ≡ out.old.items ++ ended (reply_text (tag_text T.numerator T.denominator) reply.now)) }
+    ensures ok { OnOk result (out.new.items ≡ out.old.items ++ with_line_end (reply_text (tag_text T.numerator T.denominator) reply.now)) }
     ensures err { OnErr result (IsCut out.old.items out.new.items) }
 {
     if write_reply(reply, out).is_err() || out.push(b'\n').is_err() {
@@ -80,7 +80,7 @@ fn ask<T: TagText, Q: Scheduler<T>>(
     command: &Command,
     out: &mut Vec<u8>,
 ) -> Result<(), AllocError>
-    ensures reply { OnOk result (out.new.items ≡ out.old.items ++ ended (reply_text (tag_text T.numerator T.denominator) ((step T.ops (Q.state queue.old) command.now).1))) }
+    ensures reply { OnOk result (out.new.items ≡ out.old.items ++ with_line_end (reply_text (tag_text T.numerator T.denominator) ((step T.ops (Q.state queue.old) command.now).1))) }
     ensures state { OnOk result (StandsFor (Q.state queue.new) ((step T.ops (Q.state queue.old) command.now).0)) }
     ensures err { OnErr result (IsCut out.old.items out.new.items) }
 {

@@ -3,7 +3,7 @@ ghost use Rattle.std.specs.Prelude.{◌==◌, None, if◌then◌else◌};
 ghost use Rattle.std.proofs.Common.{arith};
 ghost use Rattle.std.proofs.lemmas.Bool.Decides.{nat_tests};
 ghost use Rattle.dmc_tick.specs.Tick.{tick};
-ghost use Rattle.dmc_text.specs.RatioText.{kept, kept_has};
+ghost use Rattle.dmc_text.specs.RatioText.{ratio_if_lowest, ratio_if_lowest_has};
 
 use crate::tag::TagText;
 use dmc_ratio::ratio::RatioTag;
@@ -37,9 +37,9 @@ impl TagText for RatioTag {
 
     ghost denominator = { λ a. a.denom };
 
-    ghost made = { kept };
+    ghost made = { ratio_if_lowest };
 
-    ghost only = { kept_has };
+    ghost only = { ratio_if_lowest_has };
 
     fn parts(self) -> (i128, u64) {
         (self.numer(), self.denom())

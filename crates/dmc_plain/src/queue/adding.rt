@@ -1,6 +1,6 @@
 //! An add to the plain queue.
 ghost use Rattle.std.specs.Prelude.{◌≡◌, ◌<◌, ◌≤◌, ◌++◌, length, Some, true, is_some, OnOk, OnErr, IsOkUnless, take, drop, vec_len};
-ghost use Rattle.dmc_tag.specs.Answers.{told};
+ghost use Rattle.dmc_tag.specs.Answers.{call_reply};
 ghost use Rattle.dmc_tag.specs.Rules as rules_of;
 ghost use Rattle.dmc_tag.specs.State.{client_named};
 ghost use Rattle.dmc_tag.specs.Steps.{Exactly};
@@ -98,7 +98,7 @@ impl<T: Tag> PlainQueue<T> {
         params: ReqParams,
         at: Moment,
     ) -> Result<Tags<T>, QueueFault>
-        ensures { Exactly T.ops self.old self.new (commands.Add client token params at) (told replies.Tagged result) }
+        ensures { Exactly T.ops self.old self.new (commands.Add client token params at) (call_reply replies.Tagged result) }
     {
         let at = self.effective(at);
         let (shift, tags) = self.can_add(client, params, T::of_moment(at))?;

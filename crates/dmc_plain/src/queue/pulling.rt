@@ -3,7 +3,7 @@ ghost use Rattle.std.specs.Prelude.{◌≡◌, ◌<◌, true, length, Some, remo
 ghost use Rattle.std.specs.Option.{option_map_or};
 ghost use Rattle.dmc_tag.specs.declared.reply.Pulled.TheVariants as pulls;
 ghost use Rattle.dmc_tag.specs.Best.{best, by_weight, is_any, is_free};
-ghost use Rattle.dmc_tag.specs.Answers.{told_surely, pull_reply};
+ghost use Rattle.dmc_tag.specs.Answers.{sure_call_reply, pull_reply};
 ghost use Rattle.dmc_tag.specs.Rules as rules_of;
 ghost use Rattle.dmc_tag.specs.Steps.{Exactly};
 ghost use Rattle.dmc_plain.specs.Sets.{found_at, grants_early, Settles};
@@ -95,7 +95,7 @@ impl<T: Tag> PlainQueue<T> {
     /// Grants a request in the weight phase; refused `Range`.
     fn grant_priority(&mut self, index: usize, at: Moment, beyond: bool) -> Result<Pulled, Refusal>
         requires { index < length self.old.requests }
-        ensures { Settles self.old self.new (rules_of.grant_found T.ops self.old at beyond (found_at self.old.requests (Some index))) (told_surely pull_reply result) }
+        ensures { Settles self.old self.new (rules_of.grant_found T.ops self.old at beyond (found_at self.old.requests (Some index))) (sure_call_reply pull_reply result) }
     {
         let PlainRequest { client, token, .. } = self.request_at(index);
         let amount = self.can_grant(index, client)?;
@@ -111,7 +111,7 @@ impl<T: Tag> PlainQueue<T> {
 
     /// Grants the next request, or tells when one is due; refused `Range`.
     pub fn pull_request(&mut self, at: Moment) -> Result<Pulled, Refusal>
-        ensures { Exactly T.ops self.old self.new (commands.Pull at) (told_surely pull_reply result) }
+        ensures { Exactly T.ops self.old self.new (commands.Pull at) (sure_call_reply pull_reply result) }
     {
         let at = self.effective(at);
         if let Some(index) = best_index(&self.requests, &Set::Early(at)) {
@@ -124,7 +124,7 @@ impl<T: Tag> PlainQueue<T> {
     fn pull_free(&mut self, at: Moment) -> Result<Pulled, Refusal>
         ensures { Settles self.old self.new
             (rules_of.pulled_free T.ops self.old at (best (by_weight T.ops) (is_free T.ops at) self.old.requests))
-            (told_surely pull_reply result) }
+            (sure_call_reply pull_reply result) }
     {
         match best_index(&self.requests, &Set::Free(at)) {
             Some(index) => self.grant_priority(index, at, false),
@@ -136,7 +136,7 @@ impl<T: Tag> PlainQueue<T> {
     fn pull_beyond(&mut self, at: Moment) -> Result<Pulled, Refusal>
         ensures { Settles self.old self.new
             (rules_of.grant_found T.ops self.old at true (best (by_weight T.ops) is_any self.old.requests))
-            (told_surely pull_reply result) }
+            (sure_call_reply pull_reply result) }
     {
         match best_index(&self.requests, &Set::All) {
             Some(index) => self.grant_priority(index, at, true),
@@ -149,7 +149,7 @@ impl<T: Tag> PlainQueue<T> {
 
     /// Answers a pull where no request is early or free.
     fn pull_at_limit(&mut self, at: Moment) -> Result<Pulled, Refusal>
-        ensures { Settles self.old self.new (rules_of.nothing_due T.ops self.old at self.old.requests) (told_surely pull_reply result) }
+        ensures { Settles self.old self.new (rules_of.nothing_due T.ops self.old at self.old.requests) (sure_call_reply pull_reply result) }
     {
         match self.config.at_limit() {
             AtLimit::Allow => self.pull_beyond(at),

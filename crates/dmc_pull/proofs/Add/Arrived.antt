@@ -17,7 +17,7 @@ use Rattle.dmc_client.specs.declared.request.QueuedRequest.{QueuedRequest}
 use Rattle.dmc_client.specs.Record.{Rec, IsRecord, request_of, pushed}
 use Rattle.dmc_adjust.specs.Changes.{shifted}
 use Rattle.dmc_roster.specs.Entries.{Entry, Listing, entry_named, entry_keyed, record_at, with_rec, with_record, with_record_at, AreDistinct}
-use Rattle.dmc_index.specs.Index.{held}
+use Rattle.dmc_index.specs.Index.{slot_of_key}
 use Rattle.dmc_heads.specs.declared.head.Head.{Head}
 use Rattle.dmc_heads.specs.Heads.{CanShift, IsOthers}
 use Rattle.dmc_pull.specs.Queue.{Queue, IsQueue, IsKept, AreHeads, head_of, head_at, unready}
@@ -55,11 +55,11 @@ module _ {T : Type 0} {ops : Tagging T} {value : T → Type 0} {hz t : ℕ} {shi
   pub within : key < length heads
   within = subst (λ n. n < length heads) (eqb-true e.key key after.moved.here.keyed) below
 
-  here_first : option_map unready (held heads key) ≡ head_of e
+  here_first : option_map unready (slot_of_key heads key) ≡ head_of e
   here_first = after.moved.heads_are.here key ∙ ap (option_and_then head_of) keyed
 
-  pub vacant : (length e.rec.requests == 0) ≡ true → held heads key ≡ None
-  vacant none = at_none (held heads key) (here_first ∙ ap (λ l. option_map (λ r. record { client = e.id; tags = r.tags; ready = false }) (slice_get l 0)) (empty_list e.rec.requests none)) where
+  pub vacant : (length e.rec.requests == 0) ≡ true → slot_of_key heads key ≡ None
+  vacant none = at_none (slot_of_key heads key) (here_first ∙ ap (λ l. option_map (λ r. record { client = e.id; tags = r.tags; ready = false }) (slice_get l 0)) (empty_list e.rec.requests none)) where
     at_none : (o : Option (Head T)) → option_map unready o ≡ None → o ≡ None
     at_none None h = refl
     at_none (Some head) h = cc
@@ -108,9 +108,9 @@ module _ {T : Type 0} {ops : Tagging T} {value : T → Type 0} {hz t : ℕ} {shi
     -- it had none, and gets one
     pub heads_first : (length e.rec.requests == 0) ≡ true → AreHeads ops at came (slice_set heads key (Some head))
     heads_first none = record { here = λ k. here_at k (k == key) refl; marks = λ k h p r. mark_at k h (k == key) refl p r } where
-      here_at : (k : ℕ) (b : Bool) → (k == key) ≡ b → option_map unready (held (slice_set heads key (Some head)) k) ≡ option_and_then head_of (entry_keyed k came)
+      here_at : (k : ℕ) (b : Bool) → (k == key) ≡ b → option_map unready (slot_of_key (slice_set heads key (Some head)) k) ≡ option_and_then head_of (entry_keyed k came)
       here_at k true same =
-          subst (λ k. option_map unready (held (slice_set heads key (Some head)) k) ≡ option_and_then head_of (entry_keyed k came)) (sym (eqb-true k key same))
+          subst (λ k. option_map unready (slot_of_key (slice_set heads key (Some head)) k) ≡ option_and_then head_of (entry_keyed k came)) (sym (eqb-true k key same))
           (ap (option_map unready) (get_or-set_same heads key (Some head) None within)
           ∙ sym (read_changed head_of after.moved.here (pushed request at e.rec) ∙ ap (λ l. option_map (λ r. record { client = e.id; tags = r.tags; ready = false }) (slice_get (l ++ request ∷ []) 0)) (empty_list e.rec.requests none)))
       here_at k false other =
@@ -118,9 +118,9 @@ module _ {T : Type 0} {ops : Tagging T} {value : T → Type 0} {hz t : ℕ} {shi
           ∙ after.moved.heads_are.here k
           ∙ sym (read_other head_of key (pushed request at e.rec) k after.entries other)
 
-      mark_at : (k : ℕ) (h : Head T) (b : Bool) → (k == key) ≡ b → held (slice_set heads key (Some head)) k ≡ Some h → h.ready ≡ true → is_due ops at (Some h.tags.l) ≡ true
+      mark_at : (k : ℕ) (h : Head T) (b : Bool) → (k == key) ≡ b → slot_of_key (slice_set heads key (Some head)) k ≡ Some h → h.ready ≡ true → is_due ops at (Some h.tags.l) ≡ true
       mark_at k h true same p r =
-          let one : Some h ≡ Some head = sym p ∙ ap (held (slice_set heads key (Some head))) (eqb-true k key same) ∙ get_or-set_same heads key (Some head) None within in
+          let one : Some h ≡ Some head = sym p ∙ ap (slot_of_key (slice_set heads key (Some head))) (eqb-true k key same) ∙ get_or-set_same heads key (Some head) None within in
           let own : head ≡ h = cc (one) in
           subst (λ x. x.ready ≡ true → is_due ops at (Some x.tags.l) ≡ true) own (λ due. due) r
       mark_at k h false other p r = due_later h.tags.l (after.moved.heads_are.marks k h (sym (get_or-set_other heads key k (Some head) None (eqb-false k key other)) ∙ p) r)
@@ -190,8 +190,8 @@ pub record IsOf {T : Type 0} (ops : Tagging T) (fraction : T → Fraction) (is_v
   pub is : IsQueue ops fraction is_value q n
 
 pub of_client : {T : Type 0} (ops : Tagging T) (fraction : T → Fraction) (is_value : Fraction → Type 0) (q : Queue T) (n key : ℕ) (client : ClientId) → IsQueue ops fraction is_value q n → AreDistinct q.roster.entries → entry_keyed key q.roster.entries ≡ entry_named client q.roster.entries → is_some (entry_keyed key q.roster.entries) ≡ true → IsOf ops fraction is_value q n key client
-of_client ops fraction is_value q n key client is d same held =
-    let x = held_entry (entry_keyed key q.roster.entries) held in
+of_client ops fraction is_value q n key client is d same slot_of_key =
+    let x = held_entry (entry_keyed key q.roster.entries) slot_of_key in
     record { entry = x.0; found = x.1; id = same_client client x.0.id (name_is client q.roster.entries x.0 (sym same ∙ x.1)); distinct = d; is = is }
 
 -- what a push that did not fail says of the client's record

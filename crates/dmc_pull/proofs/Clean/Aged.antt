@@ -8,12 +8,12 @@ use Rattle.dmc_tag.specs.Tag.{Fraction, Tagging}
 use Rattle.dmc_tag.specs.State.{effective}
 use Rattle.dmc_tag.specs.Spacing.{spacings_of}
 use Rattle.dmc_tag.specs.Rules.{cleaned}
-use Rattle.dmc_tag.specs.Step.{settled, step}
+use Rattle.dmc_tag.specs.Step.{answer_of, step}
 use Rattle.dmc_tag.specs.Answers.{clean_reply}
 use Rattle.dmc_client.specs.declared.request.QueuedRequest.{QueuedRequest}
 use Rattle.dmc_client.specs.Record.{IsRecord, share_tags}
 use Rattle.dmc_roster.specs.Entries.{Entry, Listing, entry_keyed, with_rec, AreDistinct}
-use Rattle.dmc_pull.specs.Cleaning.{is_stale, is_idled, marked}
+use Rattle.dmc_pull.specs.Cleaning.{is_stale, is_idled, with_idle_mark}
 use Rattle.dmc_pull.specs.Standing.{requests_in}
 use Rattle.dmc_pull.specs.Queue.{Queue, state_of, IsQueue, IsKept, AreHeads, head_of, unready_head}
 use Rattle.dmc_pull.proofs.Common.Parts.{all_as, all_both, all_filtered, all_mapped}
@@ -23,14 +23,14 @@ use Rattle.dmc_pull.proofs.Clean.Aging.{DueFromCeil, heads_later, all_true}
 
 -- the entries that stay, marked
 abbrev pub kept_entries : {T : Type 0} → ℕ → ℕ → ℕ → List (Entry T) → List (Entry T)
-kept_entries t idle_age erase_age es = map (λ e. with_rec (marked t idle_age) e) (filter (λ e. not (is_stale t erase_age e.rec)) es)
+kept_entries t idle_age erase_age es = map (λ e. with_rec (with_idle_mark t idle_age) e) (filter (λ e. not (is_stale t erase_age e.rec)) es)
 
 module _ {T : Type 0} (t idle_age erase_age : ℕ) where
   -- what holds of each, whatever its idle mark, holds of those that stay
-  pub all_kept : (P : Entry T → Type 0) → ((e : Entry T) → P e → P (with_rec (marked t idle_age) e)) → (es : List (Entry T)) → AllByRecursion P es → AllByRecursion P (kept_entries t idle_age erase_age es)
+  pub all_kept : (P : Entry T → Type 0) → ((e : Entry T) → P e → P (with_rec (with_idle_mark t idle_age) e)) → (es : List (Entry T)) → AllByRecursion P es → AllByRecursion P (kept_entries t idle_age erase_age es)
   all_kept P gives es h =
       let stay = λ (e : Entry T). not (is_stale t erase_age e.rec) in
-      all_mapped P (λ e. with_rec (marked t idle_age) e) (filter stay es) (all_as P (λ e. P (with_rec (marked t idle_age) e)) gives (filter stay es) (all_filtered P stay es h))
+      all_mapped P (λ e. with_rec (with_idle_mark t idle_age) e) (filter stay es) (all_as P (λ e. P (with_rec (with_idle_mark t idle_age) e)) gives (filter stay es) (all_filtered P stay es h))
 
   not_kept : (e : Entry T) → not (is_stale t erase_age e.rec) ≡ false → head_of e ≡ None
   not_kept e gone = at (is_stale t erase_age e.rec) refl gone where
@@ -40,9 +40,9 @@ module _ {T : Type 0} (t idle_age erase_age : ℕ) where
 
   pub heads_kept : (es : List (Entry T)) → AreDistinct es → (key : ℕ) → option_and_then head_of (entry_keyed key (kept_entries t idle_age erase_age es)) ≡ option_and_then head_of (entry_keyed key es)
   heads_kept es distinct key =
-      read_retained head_of (λ e. marked t idle_age) (λ e. not (is_stale t erase_age e.rec)) es distinct
+      read_retained head_of (λ e. with_idle_mark t idle_age) (λ e. not (is_stale t erase_age e.rec)) es distinct
       (all_true (λ e. not (is_stale t erase_age e.rec) ≡ false → head_of e ≡ None) not_kept es)
-      (all_true (λ e. head_of (with_rec (marked t idle_age) e) ≡ head_of e) (λ e. refl) es)
+      (all_true (λ e. head_of (with_rec (with_idle_mark t idle_age) e) ≡ head_of e) (λ e. refl) es)
       key
 
 module _ {T : Type 0} (ops : Tagging T) (fraction : T → Fraction) (is_value : Fraction → Type 0) where
@@ -63,7 +63,7 @@ module _ {T : Type 0} (ops : Tagging T) (fraction : T → Fraction) (is_value : 
       let heads = heads_later ops due_from q.last_moment at later es stay (heads_kept at q.config.idle_age q.config.erase_age es distinct) q.heads q.heads (λ key. refl) is.heads in
       record {
         kept = subst (AllByRecursion (λ f. IsKept ops fraction is_value hz f.rec)) (sym e) keepers;
-        distinct = subst AreDistinct (sym e) (distinct_with (λ f. marked at q.config.idle_age) (filter (λ f. not (is_stale at q.config.erase_age f.rec)) es) (distinct_filtered (λ f. not (is_stale at q.config.erase_age f.rec)) es is.distinct));
+        distinct = subst AreDistinct (sym e) (distinct_with (λ f. with_idle_mark at q.config.idle_age) (filter (λ f. not (is_stale at q.config.erase_age f.rec)) es) (distinct_filtered (λ f. not (is_stale at q.config.erase_age f.rec)) es is.distinct));
         heads = subst (λ fs. AreHeads ops at fs q.heads) (sym e) heads;
         in_room = subst (AllByRecursion (λ f. f.key < length q.heads)) (sym e) inside;
         counted = is.counted ∙ ap length (sym (cleaned_requests (state_of q) at es distinct refl) ∙ ap requests_in (sym e));
@@ -74,6 +74,6 @@ module _ {T : Type 0} (ops : Tagging T) (fraction : T → Fraction) (is_value : 
   cleaned_step q distinct roster at t idled erased moment e i j =
       let s = state_of q in
       let es = q.roster.entries in
-      let here : (state_of (record { config = q.config; roster = roster; heads = q.heads; last_moment = t }), clean_reply (idled, erased)) ≡ settled s (cleaned s t) =
+      let here : (state_of (record { config = q.config; roster = roster; heads = q.heads; last_moment = t }), clean_reply (idled, erased)) ≡ answer_of s (cleaned s t) =
       rw (e, i, j, cleaned_clients s t es distinct refl, cleaned_requests s t es distinct refl, count_idled s t es distinct refl, count_erased s t es distinct refl) refl in
-      here ∙ ap (λ n. settled s (cleaned s n)) moment
+      here ∙ ap (λ n. answer_of s (cleaned s n)) moment

@@ -8,11 +8,11 @@ use Rattle.dmc_tag.specs.Tag.{Tagging}
 use Rattle.dmc_tag.specs.Best.{is_due}
 use Rattle.dmc_tag.specs.Rules.{moment_of}
 use Rattle.dmc_roster.specs.Entries.{Entry, entry_keyed}
-use Rattle.dmc_index.specs.Index.{held}
+use Rattle.dmc_index.specs.Index.{slot_of_key}
 use Rattle.dmc_heads.specs.declared.head.Head.{Head}
 use Rattle.dmc_pull.specs.Queue.{AreHeads, head_of, unready}
-use Rattle.dmc_index.proofs.Slots.{held-more}
-pub use Rattle.dmc_index.proofs.Slots.{held-set_other}
+use Rattle.dmc_index.proofs.Slots.{slot_of_key-more}
+pub use Rattle.dmc_index.proofs.Slots.{slot_of_key-set_other}
 
 pub all_true : {X : Type 0} (P : X → Type 0) → ((x : X) → P x) → (xs : List X) → AllByRecursion P xs
 all_true P h [] = tt
@@ -21,17 +21,17 @@ all_true P h (x ∷ xs) = (h x, all_true P h xs)
 -- ---- what a key holds
 
 module _ {X : Type 0} where
-  pub held_grown : (slots more : List (Option X)) (n : ℕ) → more ≡ slots ++ replicate n None → (key : ℕ) → held more key ≡ held slots key
-  held_grown slots more n e key = ap (λ xs. held xs key) e ∙ held-more slots n key
+  pub held_grown : (slots more : List (Option X)) (n : ℕ) → more ≡ slots ++ replicate n None → (key : ℕ) → slot_of_key more key ≡ slot_of_key slots key
+  held_grown slots more n e key = ap (λ xs. slot_of_key xs key) e ∙ slot_of_key-more slots n key
 
-  pub held_emptied : (slots : List (Option X)) (key : ℕ) → held (set slots key None) key ≡ None
+  pub held_emptied : (slots : List (Option X)) (key : ℕ) → slot_of_key (set slots key None) key ≡ None
   held_emptied slots key = elim (cases_lt key (length slots)) [
     | inl l ↦ get_or-set_same slots key None None l
     | inr l ↦ get_or_past (set slots key None) key None (subst (λ n. n ≤ key) (sym (length-set slots key None)) l)
   ]
 
   -- nothing in place of nothing
-  pub set_same : (slots : List (Option X)) (key : ℕ) (o : Option X) → held slots key ≡ o → set slots key o ≡ slots
+  pub set_same : (slots : List (Option X)) (key : ℕ) (o : Option X) → slot_of_key slots key ≡ o → set slots key o ≡ slots
   set_same [] key o e = refl
   set_same (x ∷ slots) zero o e = ap (λ y. y ∷ slots) (sym e)
   set_same (x ∷ slots) (suc key) o e = ap (λ ys. x ∷ ys) (set_same slots key o e)
@@ -48,7 +48,7 @@ module _ {T : Type 0} (ops : Tagging T) where
       due_from tag u ∙ le-leb (moment_of (ops.ceil tag)) u (omega arith)
 
   -- each key holds what it held, and each client has the first request that it had
-  pub heads_later : DueFromCeil → (t u : ℕ) → t ≤ u → (es fs : List (Entry T)) → ((key : ℕ) → option_and_then head_of (entry_keyed key fs) ≡ option_and_then head_of (entry_keyed key es)) → (hs gs : List (Option (Head T))) → ((key : ℕ) → held gs key ≡ held hs key) → AreHeads ops t es hs → AreHeads ops u fs gs
+  pub heads_later : DueFromCeil → (t u : ℕ) → t ≤ u → (es fs : List (Entry T)) → ((key : ℕ) → option_and_then head_of (entry_keyed key fs) ≡ option_and_then head_of (entry_keyed key es)) → (hs gs : List (Option (Head T))) → ((key : ℕ) → slot_of_key gs key ≡ slot_of_key hs key) → AreHeads ops t es hs → AreHeads ops u fs gs
   heads_later due_from t u later es fs same hs gs holds are = record {
     here = λ key. ap (option_map unready) (holds key) ∙ are.here key ∙ sym (same key);
     marks = λ key head here ready. due_later due_from head.tags.l t u later (are.marks key head (sym (holds key) ∙ here) ready);

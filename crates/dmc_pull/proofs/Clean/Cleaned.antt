@@ -5,7 +5,7 @@ use Rattle.std.specs.List.{AllByRecursion}
 use Rattle.std.proofs.lemmas.Bool.{eqb-true, and_parts}
 use Rattle.std.proofs.lemmas.List.{nil_from_length}
 use Rattle.dmc_tag.specs.State.{State}
-use Rattle.dmc_tag.specs.Rules.{is_stale, is_erased, is_idled, marked}
+use Rattle.dmc_tag.specs.Rules.{is_stale, is_erased, is_idled, with_idle_mark}
 use Rattle.dmc_client.specs.Record.{Rec, client_of, request_of, requests_of_record}
 use Rattle.dmc_roster.specs.Entries.{Entry, with_rec, AreDistinct}
 use Rattle.dmc_pull.specs.Standing.{clients_in, requests_in}
@@ -52,17 +52,17 @@ module _ {T : Type 0} where
     abbrev kept_of : List (Entry T) → List (Entry T)
     kept_of xs = map (λ e. with_rec (marked_record t s.config.idle_age) e) (filter (λ e. not (stale t s.config.erase_age e.rec)) xs)
 
-    clients_of_kept : (xs : List (Entry T)) → AllByRecursion (IsStaleAs s.config.erase_age) xs → AllByRecursion (IsStaleAs s.config.idle_age) xs → clients_in (kept_of xs) ≡ map (marked s t) (filter (λ c. not (is_erased s t c)) (clients_in xs))
+    clients_of_kept : (xs : List (Entry T)) → AllByRecursion (IsStaleAs s.config.erase_age) xs → AllByRecursion (IsStaleAs s.config.idle_age) xs → clients_in (kept_of xs) ≡ map (with_idle_mark s t) (filter (λ c. not (is_erased s t c)) (clients_in xs))
     clients_of_kept [] h k = refl
     clients_of_kept (x ∷ xs) h k =
         at (clients_of_kept xs h.1 k.1) (stale t s.config.erase_age x.rec)
-        ∙ ap (λ b. map (marked s t) (cond (not b) (client_of x.id x.rec ∷ filter (λ c. not (is_erased s t c)) (clients_in xs)) (filter (λ c. not (is_erased s t c)) (clients_in xs)))) (sym h.0) where
-          here : client_of x.id (marked_record t s.config.idle_age x.rec) ≡ marked s t (client_of x.id x.rec)
+        ∙ ap (λ b. map (with_idle_mark s t) (cond (not b) (client_of x.id x.rec ∷ filter (λ c. not (is_erased s t c)) (clients_in xs)) (filter (λ c. not (is_erased s t c)) (clients_in xs)))) (sym h.0) where
+          here : client_of x.id (marked_record t s.config.idle_age x.rec) ≡ with_idle_mark s t (client_of x.id x.rec)
           here = ap (λ b. client_of x.id (record (x.rec) { idle = x.rec.idle || b })) (sym k.0)
 
-          at : clients_in (kept_of xs) ≡ map (marked s t) (filter (λ c. not (is_erased s t c)) (clients_in xs)) → (b : Bool) → clients_in (map (λ e. with_rec (marked_record t s.config.idle_age) e) (cond (not b) (x ∷ filter (λ e. not (stale t s.config.erase_age e.rec)) xs) (filter (λ e. not (stale t s.config.erase_age e.rec)) xs))) ≡ map (marked s t) (cond (not b) (client_of x.id x.rec ∷ filter (λ c. not (is_erased s t c)) (clients_in xs)) (filter (λ c. not (is_erased s t c)) (clients_in xs)))
+          at : clients_in (kept_of xs) ≡ map (with_idle_mark s t) (filter (λ c. not (is_erased s t c)) (clients_in xs)) → (b : Bool) → clients_in (map (λ e. with_rec (marked_record t s.config.idle_age) e) (cond (not b) (x ∷ filter (λ e. not (stale t s.config.erase_age e.rec)) xs) (filter (λ e. not (stale t s.config.erase_age e.rec)) xs))) ≡ map (with_idle_mark s t) (cond (not b) (client_of x.id x.rec ∷ filter (λ c. not (is_erased s t c)) (clients_in xs)) (filter (λ c. not (is_erased s t c)) (clients_in xs)))
           at more true = more
-          at more false = ap (λ c. c ∷ clients_in (kept_of xs)) here ∙ ap (λ cs. marked s t (client_of x.id x.rec) ∷ cs) more
+          at more false = ap (λ c. c ∷ clients_in (kept_of xs)) here ∙ ap (λ cs. with_idle_mark s t (client_of x.id x.rec) ∷ cs) more
 
     requests_of_kept : (xs : List (Entry T)) → requests_in (kept_of xs) ≡ requests_in xs
     requests_of_kept [] = refl
@@ -76,7 +76,7 @@ module _ {T : Type 0} where
       all_stale_as : (age : ℕ) → AllByRecursion (IsStaleAs age) es
       all_stale_as age = subst (λ rs. AllByRecursion (λ e. is_stale rs t age (client_of e.id e.rec) ≡ stale t age e.rec) es) (sym same) (all_stale es d t age)
 
-      pub cleaned_clients : clients_in (map (λ e. with_rec (λ rec. record rec { idle = rec.idle || stale t s.config.idle_age rec }) e) (filter (λ e. not (stale t s.config.erase_age e.rec)) es)) ≡ map (marked s t) (filter (λ c. not (is_erased s t c)) (clients_in es))
+      pub cleaned_clients : clients_in (map (λ e. with_rec (λ rec. record rec { idle = rec.idle || stale t s.config.idle_age rec }) e) (filter (λ e. not (stale t s.config.erase_age e.rec)) es)) ≡ map (with_idle_mark s t) (filter (λ c. not (is_erased s t c)) (clients_in es))
       cleaned_clients = clients_of_kept es (all_stale_as s.config.erase_age) (all_stale_as s.config.idle_age)
 
       pub cleaned_requests : requests_in (map (λ e. with_rec (λ rec. record rec { idle = rec.idle || stale t s.config.idle_age rec }) e) (filter (λ e. not (stale t s.config.erase_age e.rec)) es)) ≡ requests_in es

@@ -19,7 +19,7 @@ use Rattle.dmc_client.specs.Record.{Rec, client_of}
 use Rattle.dmc_roster.specs.Entries.{Entry, Listing, entry_named, Adds, AreDistinct}
 use Rattle.dmc_roster.specs.declared.fault.RosterFault.{RosterFault}
 use Rattle.dmc_roster.specs.declared.fault.RosterFault.TheVariants as faults
-use Rattle.dmc_index.specs.Index.{held}
+use Rattle.dmc_index.specs.Index.{slot_of_key}
 use Rattle.dmc_heads.specs.declared.head.Head.{Head}
 use Rattle.dmc_pull.specs.Standing.{clients_in, requests_in}
 use Rattle.dmc_pull.specs.Queue.{Queue, state_of, IsQueue, IsKept, AreHeads, head_of}
@@ -62,7 +62,7 @@ module _ {T : Type 0} (ops : Tagging T) (fraction : T → Fraction) (is_value : 
   Is q queued = IsQueue ops fraction is_value q queued
 
   -- more room in the indexes
-  pub roomier_is : DueFromCeil ops → {q : Queue T} {queued : ℕ} → Is q queued → (heads : List (Option (Head T))) → ((key : ℕ) → held heads key ≡ held q.heads key) → length q.heads ≤ length heads → Is (record q { heads = heads }) queued
+  pub roomier_is : DueFromCeil ops → {q : Queue T} {queued : ℕ} → Is q queued → (heads : List (Option (Head T))) → ((key : ℕ) → slot_of_key heads key ≡ slot_of_key q.heads key) → length q.heads ≤ length heads → Is (record q { heads = heads }) queued
   roomier_is due_from {q} is heads holds more = record {
     kept = is.kept;
     distinct = is.distinct;

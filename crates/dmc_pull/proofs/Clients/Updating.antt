@@ -12,7 +12,7 @@ use Rattle.dmc_tag.specs.Tag.{Fraction, Tagging}
 use Rattle.dmc_tag.specs.State.{State, client_named, has_queued, effective}
 use Rattle.dmc_tag.specs.Spacing.{spacings_of}
 use Rattle.dmc_tag.specs.Rules.{can_update, changes_reservation, change_client, with_info, updated}
-use Rattle.dmc_tag.specs.Step.{settled, step}
+use Rattle.dmc_tag.specs.Step.{answer_of, step}
 use Rattle.dmc_types.specs.declared.command.Command.TheVariants.{Update}
 use Rattle.dmc_tag.specs.declared.spacing.Spacings.{Spacings}
 use Rattle.dmc_tag.specs.declared.plain.PlainClient.{PlainClient}
@@ -120,5 +120,5 @@ module _ {T : Type 0} (ops : Tagging T) (fraction : T → Fraction) (is_value : 
       let es = q.roster.entries in
       let requests = same_requests h.at rec refl in
       let clients : clients_in (with_record key rec es) ≡ change_client id (with_info info) (clients_in es) = changed_client h.at (with_info info) rec refl ∙ ap (λ i. change_client i (with_info info) (clients_in es)) h.is in
-      let here : (state_of (record { config = q.config; roster = roster; heads = q.heads; last_moment = t }), Updated) ≡ settled (state_of q) (updated ops (state_of q) id info t) = rw (← may, e, requests, clients) refl in
-      here ∙ ap (λ n. settled (state_of q) (updated ops (state_of q) id info n)) moment
+      let here : (state_of (record { config = q.config; roster = roster; heads = q.heads; last_moment = t }), Updated) ≡ answer_of (state_of q) (updated ops (state_of q) id info t) = rw (← may, e, requests, clients) refl in
+      here ∙ ap (λ n. answer_of (state_of q) (updated ops (state_of q) id info n)) moment

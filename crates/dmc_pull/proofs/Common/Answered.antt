@@ -7,11 +7,11 @@ use Rattle.dmc_types.specs.declared.refusal.Refusal.{Refusal}
 use Rattle.dmc_tag.specs.Tag.{Tagging}
 use Rattle.dmc_tag.specs.State.{State, effective}
 use Rattle.dmc_tag.specs.Outcome.{◌>>=◌}
-use Rattle.dmc_tag.specs.Answers.{told_surely, pull_reply}
+use Rattle.dmc_tag.specs.Answers.{sure_call_reply, pull_reply}
 use Rattle.dmc_tag.specs.Best.{best, by_reservation, by_weight, is_early, is_free, is_any}
 use Rattle.dmc_tag.specs.Rules.{Outcome, pulled, pulled_early, pulled_free, nothing_due, at_limit, grant_found, grant_priority, can_grant, reduced_by, without, granted}
 use Rattle.dmc_types.specs.declared.config.PhaseType.TheVariants as phases
-use Rattle.dmc_tag.specs.Step.{settled, step}
+use Rattle.dmc_tag.specs.Step.{answer_of, step}
 use Rattle.dmc_tag.specs.Steps.{Exactly}
 use Rattle.dmc_types.specs.declared.command.Command.TheVariants.{Pull}
 use Rattle.dmc_tag.specs.declared.plain.PlainRequest.{PlainRequest}
@@ -86,7 +86,7 @@ module _ {T : Type 0} (ops : Tagging T) (s : State T) (t : ℕ) where
   done (Ok a) new x h = h
   done (Err e) new x h = never_refused x e (ap (λ p. p.1) h)
 
-  pub answered : (o : Outcome T) (answer : Result Pulled Refusal) (new : State T) → is_err answer ≡ false → Settles on new o (told_surely pull_reply answer) → Settles s new o (told_surely pull_reply answer)
+  pub answered : (o : Outcome T) (answer : Result Pulled Refusal) (new : State T) → is_err answer ≡ false → Settles on new o (sure_call_reply pull_reply answer) → Settles s new o (sure_call_reply pull_reply answer)
   answered o (Ok x) new n h = done o new x h
   answered o (Err e) new n h = cc
 
@@ -96,7 +96,7 @@ module _ {T : Type 0} (ops : Tagging T) (s : State T) (t : ℕ) where
       let state : record new { last_moment = s.last_moment } ≡ s = ap (λ p. record (p.0) { last_moment = s.last_moment }) h in
       λ i. (state i, (h i).1)
 
-  pub went_back : (o : Outcome T) (answer : Result Pulled Refusal) (new : State T) → is_err answer ≡ true → IsTold o → Settles on new o (told_surely pull_reply answer) → Settles s (record new { last_moment = s.last_moment }) o (told_surely pull_reply answer)
+  pub went_back : (o : Outcome T) (answer : Result Pulled Refusal) (new : State T) → is_err answer ≡ true → IsTold o → Settles on new o (sure_call_reply pull_reply answer) → Settles s (record new { last_moment = s.last_moment }) o (sure_call_reply pull_reply answer)
   went_back o (Ok x) new n told h = cc
   went_back o (Err e) new n told h = back o e new told h
 
@@ -104,25 +104,25 @@ module _ {T : Type 0} (ops : Tagging T) (s new : State T) (at t : ℕ) (e : t �
   abbrev pub free : State T → Option (PlainRequest T × List (PlainRequest T))
   free v = best (by_weight ops) (is_free ops v.last_moment) v.requests
 
-  pull_is : settled s (pulled_free ops s t (best (by_weight ops) (is_free ops t) s.requests)) ≡ step ops s (Pull at)
-  pull_is = ap (λ o. settled s (pulled_early ops s t o)) (sym none) ∙ ap (λ n. settled s (pulled ops s n)) e
+  pull_is : answer_of s (pulled_free ops s t (best (by_weight ops) (is_free ops t) s.requests)) ≡ step ops s (Pull at)
+  pull_is = ap (λ o. answer_of s (pulled_early ops s t o)) (sym none) ∙ ap (λ n. answer_of s (pulled ops s n)) e
 
   exactly_when : (reply : Option (Reply T)) (after : State T) → Settles s after (pulled_free ops s t (best (by_weight ops) (is_free ops t) s.requests)) reply → Exactly ops s after (Pull at) reply
   exactly_when (Some reply) after h = h ∙ pull_is
   exactly_when None after h = absurd h
 
   -- the answer of the state that went on to the moment
-  module _ (went : State T) (went_is : went ≡ record s { last_moment = t }) (answer : Result Pulled Refusal) (h : Settles went new (pulled_free ops went went.last_moment (free went)) (told_surely pull_reply answer)) where
-    on_moment : Settles (record s { last_moment = t }) new (pulled_free ops s t (best (by_weight ops) (is_free ops t) s.requests)) (told_surely pull_reply answer)
+  module _ (went : State T) (went_is : went ≡ record s { last_moment = t }) (answer : Result Pulled Refusal) (h : Settles went new (pulled_free ops went went.last_moment (free went)) (sure_call_reply pull_reply answer)) where
+    on_moment : Settles (record s { last_moment = t }) new (pulled_free ops s t (best (by_weight ops) (is_free ops t) s.requests)) (sure_call_reply pull_reply answer)
     on_moment =
-        subst (λ o. Settles (record s { last_moment = t }) new o (told_surely pull_reply answer)) (free_same ops s t (best (by_weight ops) (is_free ops t) s.requests))
-        (subst (λ v. Settles v new (pulled_free ops v v.last_moment (free v)) (told_surely pull_reply answer)) went_is h)
+        subst (λ o. Settles (record s { last_moment = t }) new o (sure_call_reply pull_reply answer)) (free_same ops s t (best (by_weight ops) (is_free ops t) s.requests))
+        (subst (λ v. Settles v new (pulled_free ops v v.last_moment (free v)) (sure_call_reply pull_reply answer)) went_is h)
 
-    pub pulled_on : is_err answer ≡ false → Exactly ops s new (Pull at) (told_surely pull_reply answer)
-    pulled_on n = exactly_when (told_surely pull_reply answer) new (answered ops s t (pulled_free ops s t (best (by_weight ops) (is_free ops t) s.requests)) answer new n on_moment)
+    pub pulled_on : is_err answer ≡ false → Exactly ops s new (Pull at) (sure_call_reply pull_reply answer)
+    pulled_on n = exactly_when (sure_call_reply pull_reply answer) new (answered ops s t (pulled_free ops s t (best (by_weight ops) (is_free ops t) s.requests)) answer new n on_moment)
 
-    pub refused_on : is_err answer ≡ true → (after : State T) → after ≡ record new { last_moment = s.last_moment } → Exactly ops s after (Pull at) (told_surely pull_reply answer)
-    refused_on n after a = subst (λ v. Exactly ops s v (Pull at) (told_surely pull_reply answer)) (sym a) (exactly_when (told_surely pull_reply answer) (record new { last_moment = s.last_moment }) (went_back ops s t (pulled_free ops s t (best (by_weight ops) (is_free ops t) s.requests)) answer new n (free_told ops s t (best (by_weight ops) (is_free ops t) s.requests)) on_moment))
+    pub refused_on : is_err answer ≡ true → (after : State T) → after ≡ record new { last_moment = s.last_moment } → Exactly ops s after (Pull at) (sure_call_reply pull_reply answer)
+    refused_on n after a = subst (λ v. Exactly ops s v (Pull at) (sure_call_reply pull_reply answer)) (sym a) (exactly_when (sure_call_reply pull_reply answer) (record new { last_moment = s.last_moment }) (went_back ops s t (pulled_free ops s t (best (by_weight ops) (is_free ops t) s.requests)) answer new n (free_told ops s t (best (by_weight ops) (is_free ops t) s.requests)) on_moment))
 
   -- ---- with a test
 
@@ -135,15 +135,15 @@ module _ {T : Type 0} (ops : Tagging T) (s new : State T) (at t : ℕ) (e : t �
     pulled_if (Ok x) h n = (pulled_on went went_is (Ok x) h.0 refl, h.1)
     pulled_if (Err fault) h n = cc
 
-    same_reply : (v : State T) (o : Outcome T) → (settled v o).1 ≡ (settled s o).1
+    same_reply : (v : State T) (o : Outcome T) → (answer_of v o).1 ≡ (answer_of s o).1
     same_reply v (Ok answer) = refl
     same_reply v (Err refusal) = refl
 
-    reply_is : (settled went (weighed went)).1 ≡ (step ops s (Pull at)).1
+    reply_is : (answer_of went (weighed went)).1 ≡ (step ops s (Pull at)).1
     reply_is =
-        ap (λ v. (settled v (weighed v)).1) went_is
+        ap (λ v. (answer_of v (weighed v)).1) went_is
         ∙ same_reply (record s { last_moment = t }) (weighed (record s { last_moment = t }))
-        ∙ ap (λ o. (settled s o).1) (free_same ops s t (best (by_weight ops) (is_free ops t) s.requests))
+        ∙ ap (λ o. (answer_of s o).1) (free_same ops s t (best (by_weight ops) (is_free ops t) s.requests))
         ∙ ap (λ p. p.1) pull_is
 
     pub back_if : (answer : Result Pulled PullFault) → SettlesIf allows went new (pulled_free ops went went.last_moment (free went)) answer → is_err answer ≡ true → (after : State T) → after ≡ record new { last_moment = s.last_moment } → PullsIf allows ops s after at answer

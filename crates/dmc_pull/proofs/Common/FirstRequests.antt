@@ -11,7 +11,7 @@ use Rattle.dmc_tag.specs.declared.reply.Tags.{Tags}
 use Rattle.dmc_client.specs.Record.{request_of, requests_of_record}
 use Rattle.dmc_client.specs.declared.request.QueuedRequest.{QueuedRequest}
 use Rattle.dmc_roster.specs.Entries.{Entry, entry_named, entry_keyed, AreDistinct}
-use Rattle.dmc_index.specs.Index.{held}
+use Rattle.dmc_index.specs.Index.{slot_of_key}
 use Rattle.dmc_heads.specs.declared.head.Head.{Head}
 use Rattle.dmc_heads.specs.Heads.{Ranks}
 use Rattle.dmc_pull.specs.Standing.{requests_in}
@@ -26,7 +26,7 @@ module _ {T : Type 0} (ops : Tagging T) (t : ℕ) (es : List (Entry T)) (heads :
   own_requests : (key : ℕ) (e : Entry T) → entry_keyed key es ≡ Some e → requests_of e.id (requests_in es) ≡ requests_of_record e.id e.rec
   own_requests key e f = requests_named es d e.id ∙ ap (λ o. option_map_or (λ e. requests_of_record e.id e.rec) o []) (split_named (split key es e f d))
 
-  first_tags : (key : ℕ) (head : Head T) → held heads key ≡ Some head → option_map (λ r. r.tags) (first_request head.client (requests_in es)) ≡ Some head.tags
+  first_tags : (key : ℕ) (head : Head T) → slot_of_key heads key ≡ Some head → option_map (λ r. r.tags) (first_request head.client (requests_in es)) ≡ Some head.tags
   first_tags key head h =
       let x = entry_at ops t es heads are key head h in
       ap (λ id. option_map (λ r. r.tags) (first_request id (requests_in es))) x.of.client
@@ -51,8 +51,8 @@ module _ {T : Type 0} (ops : Tagging T) (t : ℕ) (es : List (Entry T)) (heads :
     by (Some e) n own = of_entry e n (own ∙ ap (λ o. option_map_or (λ e. requests_of_record e.id e.rec) o []) n) e.rec.requests refl
 
   keyed_named : (key : ℕ) (id : ClientId) → client_at head_client heads key ≡ Some id → (e : Entry T) × (entry_named id es ≡ Some e) × (e.key ≡ key)
-  keyed_named key id c = by (held heads key) refl c where
-    by : (o : Option (Head T)) → held heads key ≡ o → option_map head_client o ≡ Some id → (e : Entry T) × (entry_named id es ≡ Some e) × (e.key ≡ key)
+  keyed_named key id c = by (slot_of_key heads key) refl c where
+    by : (o : Option (Head T)) → slot_of_key heads key ≡ o → option_map head_client o ≡ Some id → (e : Entry T) × (entry_named id es ≡ Some e) × (e.key ≡ key)
     by None h c = cc
     by (Some head) h c =
         let x = entry_at ops t es heads are key head h in
@@ -94,17 +94,17 @@ module _ {T R : Type 0} (ops : Tagging T) (s : State T) (heads : List (Option (H
   client_of (Some head) = ap Some (same head)
 
   ranked : (key : ℕ) → client_at client slots key ≡ client_at head_client heads key
-  ranked key = ap (option_map client) (ranks key) ∙ client_of (held heads key)
+  ranked key = ap (option_map client) (ranks key) ∙ client_of (slot_of_key heads key)
 
   queued_of : (id : ClientId) (tags : Tags T) → (rs : List (PlainRequest T)) → requests_of id s.requests ≡ rs → option_map (λ r. r.tags) (slice_get rs 0) ≡ Some tags → has_queued id s.requests ≡ true
   queued_of id tags [] e h = cc
   queued_of id tags (r ∷ rs) e h = any_is (λ r. is_client id r.client) s.requests ∙ ap (λ rs. not (length rs == 0)) e ∙ ap not (positive rs)
 
-  of_head : (id : ClientId) (key : ℕ) (o : Option (Head T)) → held heads key ≡ o → option_map head_client o ≡ Some id → has_queued id s.requests ≡ true
+  of_head : (id : ClientId) (key : ℕ) (o : Option (Head T)) → slot_of_key heads key ≡ o → option_map head_client o ≡ Some id → has_queued id s.requests ≡ true
   of_head id key None h c = cc
   of_head id key (Some head) h c =
       let own : head.client ≡ id = cc in
       queued_of id head.tags (requests_of id s.requests) refl (subst (λ i. option_map (λ r. r.tags) (first_request i s.requests) ≡ Some head.tags) own (are.tags key head h))
 
   pub has_key_exactly : (id : ClientId) → (has_queued id s.requests ≡ true) ↔ ((key : ℕ) × (client_at client slots key ≡ Some id))
-  has_key_exactly id = (λ has. let k = are.has_key id has in (k.0, ranked k.0 ∙ k.1), λ k. of_head id k.0 (held heads k.0) refl (sym (ranked k.0) ∙ k.1))
+  has_key_exactly id = (λ has. let k = are.has_key id has in (k.0, ranked k.0 ∙ k.1), λ k. of_head id k.0 (slot_of_key heads k.0) refl (sym (ranked k.0) ∙ k.1))

@@ -8,7 +8,7 @@ use Rattle.dmc_types.specs.Values.{Setting}
 use Rattle.dmc_tag.specs.Tag.{Fraction, Tagging}
 use Rattle.dmc_tag.specs.Best.{is_due}
 use Rattle.dmc_roster.specs.Entries.{Entry, Listing}
-use Rattle.dmc_index.specs.Index.{held}
+use Rattle.dmc_index.specs.Index.{slot_of_key}
 use Rattle.dmc_heads.specs.declared.head.Head.{Head}
 use Rattle.dmc_heads.specs.Heads as heads_of
 use Rattle.dmc_tag.specs.Rules.{moment_of}
@@ -27,12 +27,12 @@ module _ {T : Type 0} (ops : Tagging T) (fraction : T → Fraction) (is_value : 
         bound = omega arith;
       }))
     where
-      none_held : {P : Type 0} (key : ℕ) (head : Head T) → held [] key ≡ Some head → P
+      none_held : {P : Type 0} (key : ℕ) (head : Head T) → slot_of_key [] key ≡ Some head → P
       none_held key head h = cc
 
 -- ---- the heads marked anew
 
-pub held_map : {X : Type 0} (f : X → X) (xs : List (Option X)) (key : ℕ) → held (map (option_map f) xs) key ≡ option_map f (held xs key)
+pub held_map : {X : Type 0} (f : X → X) (xs : List (Option X)) (key : ℕ) → slot_of_key (map (option_map f) xs) key ≡ option_map f (slot_of_key xs key)
 held_map f [] key = refl
 held_map f (x ∷ xs) zero = refl
 held_map f (x ∷ xs) (suc key) = held_map f xs key
@@ -43,12 +43,12 @@ length_map f (x ∷ xs) = ap suc (length_map f xs)
 
 pub record Mapped {X : Type 0} (f : X → X) (xs : List (Option X)) (key : ℕ) (y : X) : Type 0 where
   pub from : X
-  pub here : held xs key ≡ Some from
+  pub here : slot_of_key xs key ≡ Some from
   pub is : f from ≡ y
 
-pub mapped : {X : Type 0} (f : X → X) (xs : List (Option X)) (key : ℕ) (y : X) → held (map (option_map f) xs) key ≡ Some y → Mapped f xs key y
-mapped {X} f xs key y h = at (held xs key) refl (sym (held_map f xs key) ∙ h) where
-  at : (o : Option X) → held xs key ≡ o → option_map f o ≡ Some y → Mapped f xs key y
+pub mapped : {X : Type 0} (f : X → X) (xs : List (Option X)) (key : ℕ) (y : X) → slot_of_key (map (option_map f) xs) key ≡ Some y → Mapped f xs key y
+mapped {X} f xs key y h = at (slot_of_key xs key) refl (sym (held_map f xs key) ∙ h) where
+  at : (o : Option X) → slot_of_key xs key ≡ o → option_map f o ≡ Some y → Mapped f xs key y
   at None e k = cc
   at (Some x) e k = record { from = x; here = e; is = cc (k) }
 
@@ -69,9 +69,9 @@ module _ {T : Type 0} (ops : Tagging T) where
   unready_map f same None = refl
   unready_map f same (Some h) = ap Some (same h)
 
-  pub map_heads : (f : Head T → Head T) (t last : ℕ) (es : List (Entry T)) (heads : List (Option (Head T))) → ((h : Head T) → unready (f h) ≡ unready h) → AreHeads ops t es heads → ((h : Head T) → (key : ℕ) → held heads key ≡ Some h → (f h).ready ≡ true → is_due ops last (Some h.tags.l) ≡ true) → AreHeads ops last es (map (option_map f) heads)
+  pub map_heads : (f : Head T → Head T) (t last : ℕ) (es : List (Entry T)) (heads : List (Option (Head T))) → ((h : Head T) → unready (f h) ≡ unready h) → AreHeads ops t es heads → ((h : Head T) → (key : ℕ) → slot_of_key heads key ≡ Some h → (f h).ready ≡ true → is_due ops last (Some h.tags.l) ≡ true) → AreHeads ops last es (map (option_map f) heads)
   map_heads f t last es heads same are due = record {
-    here = λ key. ap (option_map unready) (held_map f heads key) ∙ unready_map f same (held heads key) ∙ are.here key;
+    here = λ key. ap (option_map unready) (held_map f heads key) ∙ unready_map f same (slot_of_key heads key) ∙ are.here key;
     marks = λ key head h r.
         let m = mapped f heads key head h in
         let tags : head.tags ≡ m.from.tags = sym (ap (λ x. x.tags) m.is) ∙ ap (λ x. x.tags) (same m.from) in
@@ -93,9 +93,9 @@ module _ {T : Type 0} (ops : Tagging T) (due_from : (tag : T) (n : ℕ) → is_d
   either true b e f = f refl
   either false b e f = e
 
-  pub promoted : (t last : ℕ) (es : List (Entry T)) (heads : List (Option (Head T))) → t ≤ last → AreHeads ops t es heads → AreHeads ops last es (map (option_map (heads_of.marked ops last)) heads)
+  pub promoted : (t last : ℕ) (es : List (Entry T)) (heads : List (Option (Head T))) → t ≤ last → AreHeads ops t es heads → AreHeads ops last es (map (option_map (heads_of.with_ready_mark ops last)) heads)
   promoted t last es heads h are =
-      map_heads ops (heads_of.marked ops last) t last es heads (λ x. refl) are
+      map_heads ops (heads_of.with_ready_mark ops last) t last es heads (λ x. refl) are
       (λ x key k r. either x.ready (is_due ops last (Some x.tags.l)) r (λ e. due_later x.tags.l t last h (are.marks key x k e)))
 
   second : (a b : Bool) → (a && b) ≡ true → b ≡ true
@@ -109,8 +109,8 @@ module _ {T : Type 0} (ops : Tagging T) (due_from : (tag : T) (n : ℕ) → is_d
   none_of_two true b e = cc
   none_of_two false b e = e
 
-  pub all_marked : (last : ℕ) (heads : List (Option (Head T))) (key : ℕ) (head : Head T) → held (map (option_map (heads_of.marked ops last)) heads) key ≡ Some head → head.ready ≡ false → is_due ops last (Some head.tags.l) ≡ false
+  pub all_marked : (last : ℕ) (heads : List (Option (Head T))) (key : ℕ) (head : Head T) → slot_of_key (map (option_map (heads_of.with_ready_mark ops last)) heads) key ≡ Some head → head.ready ≡ false → is_due ops last (Some head.tags.l) ≡ false
   all_marked last heads key head h e =
-      let m = mapped (heads_of.marked ops last) heads key head h in
+      let m = mapped (heads_of.with_ready_mark ops last) heads key head h in
       let tags : m.from.tags ≡ head.tags = ap (λ x. x.tags) m.is in
       subst (λ g. is_due ops last (Some g.l) ≡ false) tags (none_of_two m.from.ready (is_due ops last (Some m.from.tags.l)) (ap (λ x. x.ready) m.is ∙ e))

@@ -13,7 +13,7 @@ use Rattle.dmc_client.specs.declared.request.QueuedRequest.{QueuedRequest}
 use Rattle.dmc_client.specs.Record.{Rec, IsRecord, pushed, less_share, less_shares, share_tags}
 use Rattle.dmc_adjust.specs.Changes.{shifted, is_shiftable}
 use Rattle.dmc_roster.specs.Entries.{Entry, entry_keyed, with_rec, with_record, AreDistinct}
-use Rattle.dmc_index.specs.Index.{held}
+use Rattle.dmc_index.specs.Index.{slot_of_key}
 use Rattle.dmc_heads.specs.declared.head.Head.{Head}
 use Rattle.dmc_heads.specs.Heads as heads_of
 use Rattle.dmc_heads.specs.Heads.{CanShift}
@@ -26,7 +26,7 @@ use Rattle.dmc_pull.proofs.Common.Keyed.{keyed_with, distinct_with}
 use Rattle.dmc_pull.proofs.Add.Shifted.{shiftable, shifted_clients_in, shifted_requests_in, arrived}
 use Rattle.dmc_pull.proofs.Pull.Choices.{entry_at}
 
-pub held_map : {X Y : Type 0} (f : X → Y) (slots : List (Option X)) (key : ℕ) → held (map (option_map f) slots) key ≡ option_map f (held slots key)
+pub held_map : {X Y : Type 0} (f : X → Y) (slots : List (Option X)) (key : ℕ) → slot_of_key (map (option_map f) slots) key ≡ option_map f (slot_of_key slots key)
 held_map f [] key = refl
 held_map f (x ∷ slots) zero = refl
 held_map f (x ∷ slots) (suc key) = held_map f slots key
@@ -87,11 +87,11 @@ module _ {T : Type 0} (ops : Tagging T) where
     -- a shifted head's L and its mark are the head's
     record IsSameMark (heads : List (Option (Head T))) (key : ℕ) (head : Head T) : Type 0 where
       old : Head T
-      here : held heads key ≡ Some old
+      here : slot_of_key heads key ≡ Some old
       ready : head.ready ≡ old.ready
       limit : head.tags.l ≡ old.tags.l
 
-    same_mark : (heads : List (Option (Head T))) (key : ℕ) (head : Head T) (o : Option (Head T)) → held heads key ≡ o → option_map (heads_of.shifted ops amount) o ≡ Some head → IsSameMark heads key head
+    same_mark : (heads : List (Option (Head T))) (key : ℕ) (head : Head T) (o : Option (Head T)) → slot_of_key heads key ≡ o → option_map (heads_of.shifted ops amount) o ≡ Some head → IsSameMark heads key head
     same_mark heads key head None h e = cc
     same_mark heads key head (Some old) h e =
         let one : heads_of.shifted ops amount old ≡ head = cc (e) in
@@ -106,12 +106,12 @@ module _ {T : Type 0} (ops : Tagging T) where
       heads_shifted = record {
         here = λ key.
             ap (option_map unready) (held_map (heads_of.shifted ops amount) heads key)
-            ∙ unready_shifted (held heads key)
+            ∙ unready_shifted (slot_of_key heads key)
             ∙ ap (option_map (heads_of.shifted ops amount)) (are.here key)
             ∙ entries_at key (entry_keyed key es) refl
             ∙ ap (option_and_then head_of) (sym (keyed_with (λ e. shifted ops amount) key es));
         marks = λ key head h r.
-            let x = same_mark heads key head (held heads key) refl (sym (held_map (heads_of.shifted ops amount) heads key) ∙ h) in
+            let x = same_mark heads key head (slot_of_key heads key) refl (sym (held_map (heads_of.shifted ops amount) heads key) ∙ h) in
             subst (λ l. is_due ops t (Some l) ≡ true) (sym x.limit) (are.marks key x.old x.here (sym x.ready ∙ r));
       }
 

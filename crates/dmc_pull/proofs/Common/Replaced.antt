@@ -14,7 +14,7 @@ use Rattle.dmc_client.specs.Record.{Rec, request_of, IsRecord, share_tags, less_
 use Rattle.dmc_client.specs.declared.request.QueuedRequest.{QueuedRequest}
 use Rattle.dmc_roster.specs.Entries.{Entry, Listing, entry_keyed, record_at, with_record, with_record_at, AreDistinct}
 use Rattle.dmc_adjust.specs.Changes.{popped, reduced}
-use Rattle.dmc_index.specs.Index.{held}
+use Rattle.dmc_index.specs.Index.{slot_of_key}
 use Rattle.dmc_heads.specs.declared.head.Head.{Head}
 use Rattle.dmc_pull.specs.Standing.{requests_in}
 use Rattle.dmc_pull.specs.Queue.{Queue, IsQueue, IsKept, AreHeads, head_of, unready, unready_head, head_at}
@@ -28,12 +28,12 @@ use Rattle.dmc_pull.proofs.Common.Kept.{marks_later}
 
 -- ---- a slot replaced
 
-pub set_here : {X : Type 0} (xs : List (Option X)) (key : ℕ) (o : Option X) → key < length xs → held (slice_set xs key o) key ≡ o
+pub set_here : {X : Type 0} (xs : List (Option X)) (key : ℕ) (o : Option X) → key < length xs → slot_of_key (slice_set xs key o) key ≡ o
 set_here [] key o h = absurd (omega arith)
 set_here (x ∷ xs) zero o h = refl
 set_here (x ∷ xs) (suc key) o h = set_here xs key o (omega arith)
 
-pub set_other : {X : Type 0} (xs : List (Option X)) (key other : ℕ) (o : Option X) → (other ≡ key → ⊥) → held (slice_set xs key o) other ≡ held xs other
+pub set_other : {X : Type 0} (xs : List (Option X)) (key other : ℕ) (o : Option X) → (other ≡ key → ⊥) → slot_of_key (slice_set xs key o) other ≡ slot_of_key xs other
 set_other [] key other o ne = refl
 set_other (x ∷ xs) zero zero o ne = absurd (ne refl)
 set_other (x ∷ xs) zero (suc other) o ne = refl
@@ -52,15 +52,15 @@ module _ {T : Type 0} (ops : Tagging T) (t : ℕ) {key : ℕ} {e : Entry T} {es 
     here = λ k. here_at k (k == key) refl;
     marks = λ k head h r. marks_at k head (k == key) refl h r;
   } where
-    here_at : (k : ℕ) (b : Bool) → (k == key) ≡ b → option_map unready (held (slice_set heads key o) k) ≡ option_and_then head_of (entry_keyed k (with_record key rec es))
+    here_at : (k : ℕ) (b : Bool) → (k == key) ≡ b → option_map unready (slot_of_key (slice_set heads key o) k) ≡ option_and_then head_of (entry_keyed k (with_record key rec es))
     here_at k true q =
         let at : k ≡ key = eqb-true k key q in
-        let own : option_map unready (held (slice_set heads key o) key) ≡ option_and_then head_of (entry_keyed key (with_record key rec es)) = ap (option_map unready) (set_here heads key o in_room) ∙ same ∙ sym (read_changed head_of s rec) in
-        subst (λ n. option_map unready (held (slice_set heads key o) n) ≡ option_and_then head_of (entry_keyed n (with_record key rec es))) (sym at) own
+        let own : option_map unready (slot_of_key (slice_set heads key o) key) ≡ option_and_then head_of (entry_keyed key (with_record key rec es)) = ap (option_map unready) (set_here heads key o in_room) ∙ same ∙ sym (read_changed head_of s rec) in
+        subst (λ n. option_map unready (slot_of_key (slice_set heads key o) n) ≡ option_and_then head_of (entry_keyed n (with_record key rec es))) (sym at) own
     here_at k false q = ap (option_map unready) (set_other heads key k o (eqb-false k key q)) ∙ are.here k ∙ sym (read_other head_of key rec k es q)
 
-    marks_at : (k : ℕ) (head : Head T) (b : Bool) → (k == key) ≡ b → held (slice_set heads key o) k ≡ Some head → head.ready ≡ true → is_due ops t (Some head.tags.l) ≡ true
-    marks_at k head true q h r = due head (sym (set_here heads key o in_room) ∙ ap (held (slice_set heads key o)) (sym (eqb-true k key q)) ∙ h) r
+    marks_at : (k : ℕ) (head : Head T) (b : Bool) → (k == key) ≡ b → slot_of_key (slice_set heads key o) k ≡ Some head → head.ready ≡ true → is_due ops t (Some head.tags.l) ≡ true
+    marks_at k head true q h r = due head (sym (set_here heads key o in_room) ∙ ap (slot_of_key (slice_set heads key o)) (sym (eqb-true k key q)) ∙ h) r
     marks_at k head false q h r = are.marks k head (sym (set_other heads key k o (eqb-false k key q)) ∙ h) r
 
 -- ---- a grant

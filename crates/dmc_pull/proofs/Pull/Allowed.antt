@@ -15,7 +15,7 @@ use Rattle.dmc_tag.specs.Tag.{Fraction, Tagging}
 use Rattle.dmc_tag.specs.Outcome.{◌>>=◌, in_range}
 use Rattle.dmc_tag.specs.Spacing.{spacings_of}
 use Rattle.dmc_tag.specs.State.{State, client_named, effective}
-use Rattle.dmc_tag.specs.Step.{settled, step}
+use Rattle.dmc_tag.specs.Step.{answer_of, step}
 use Rattle.dmc_tag.specs.declared.reply.Reply.{Reply}
 use Rattle.dmc_tag.specs.declared.reply.Reply.TheVariants.{Tagged}
 use Rattle.dmc_tag.specs.Rules as rules_of
@@ -34,7 +34,7 @@ use Rattle.dmc_pull.proofs.Add.NothingOff.{all_requests, all_clients, same_test,
 
 -- the step of an add, from what it comes to at the effective moment
 pub step_of_add : {T : Type 0} (ops : Tagging T) (s : State T) (id : ClientId) (token : Token) (params : Params) (at moment : ℕ) (answer : State T × Reply T) → moment ≡ effective s at → added ops s id token params moment ≡ Ok answer → step ops s (Add id token params at) ≡ answer
-step_of_add ops s id token params at moment answer e h = ap (settled s) (ap (added ops s id token params) (sym e) ∙ h)
+step_of_add ops s id token params at moment answer e h = ap (answer_of s) (ap (added ops s id token params) (sym e) ∙ h)
 
 module _ {T : Type 0} (ops : Tagging T) (fraction : T → Fraction) (is_value : Fraction → Type 0) (q : Queue T) (queued : ℕ) (is : IsQueue ops fraction is_value q queued) where
   abbrev entries : List (Entry T)

@@ -16,7 +16,7 @@ use Rattle.dmc_client.specs.Record.{request_of}
 use Rattle.dmc_client.specs.declared.request.QueuedRequest.{QueuedRequest}
 use Rattle.dmc_roster.specs.Entries.{Entry, entry_keyed, with_record, AreDistinct}
 use Rattle.dmc_adjust.specs.Changes.{popped}
-use Rattle.dmc_index.specs.Index.{held, IsEmpty}
+use Rattle.dmc_index.specs.Index.{slot_of_key, IsEmpty}
 use Rattle.dmc_heads.specs.declared.head.Head.{Head}
 use Rattle.dmc_pull.specs.Standing.{requests_in}
 use Rattle.dmc_pull.specs.Queue.{unready, head_of, AreHeads}
@@ -47,10 +47,10 @@ module _ {T : Type 0} where
   -- the entry that a key finds has a head under the key, where it has a request
   pub record HasHead (heads : List (Option (Head T))) (key : ℕ) (id : ClientId) (r : QueuedRequest T) : Type 0 where
     pub head : Head T
-    pub here : held heads key ≡ Some head
+    pub here : slot_of_key heads key ≡ Some head
     pub of : IsHeadOf head id r
 
-  has_head : (o : Option (Head T)) (heads : List (Option (Head T))) (key : ℕ) (id : ClientId) (r : QueuedRequest T) → held heads key ≡ o → option_map unready o ≡ Some (record { client = id; tags = r.tags; ready = false }) → HasHead heads key id r
+  has_head : (o : Option (Head T)) (heads : List (Option (Head T))) (key : ℕ) (id : ClientId) (r : QueuedRequest T) → slot_of_key heads key ≡ o → option_map unready o ≡ Some (record { client = id; tags = r.tags; ready = false }) → HasHead heads key id r
   has_head None heads key id r h e = cc
   has_head (Some head) heads key id r h e = record { head = head; here = h; of = is_head head id r (some_inj e) } where
     some_inj : {X : Type 0} {x y : X} → Some x ≡ Some y → x ≡ y
@@ -59,7 +59,7 @@ module _ {T : Type 0} where
 module _ {T : Type 0} (ops : Tagging T) (t : ℕ) (es : List (Entry T)) (heads : List (Option (Head T))) (are : AreHeads ops t es heads) where
   pub head_at : (key : ℕ) (e : Entry T) (r : QueuedRequest T) (rest : List (QueuedRequest T)) → entry_keyed key es ≡ Some e → e.rec.requests ≡ r ∷ rest → HasHead heads key e.id r
   head_at key e r rest f q =
-      has_head (held heads key) heads key e.id r refl
+      has_head (slot_of_key heads key) heads key e.id r refl
       (are.here key ∙ ap (option_and_then head_of) f ∙ ap (λ l. option_map (λ r. record { client = e.id; tags = r.tags; ready = false }) (slice_get l 0)) q)
 
   -- a held key finds an entry with a request
@@ -80,7 +80,7 @@ module _ {T : Type 0} (ops : Tagging T) (t : ℕ) (es : List (Entry T)) (heads :
         let same : Some (unready head) ≡ Some (record { client = entry.id; tags = r.tags; ready = false }) = e ∙ ap (λ l. option_map (λ r. record { client = entry.id; tags = r.tags; ready = false }) (slice_get l 0)) q in
         record { entry = entry; request = r; rest = rest; found = f; requests = q; of = is_head head entry.id r (cc (same)) }
 
-  pub entry_at : (key : ℕ) (head : Head T) → held heads key ≡ Some head → HasEntry key head
+  pub entry_at : (key : ℕ) (head : Head T) → slot_of_key heads key ≡ Some head → HasEntry key head
   entry_at key head h = entry_from key head (entry_keyed key es) refl (sym (ap (option_map unready) h) ∙ are.here key)
 
   -- with no head no client has a request
@@ -111,7 +111,7 @@ module _ {T : Type 0} (ops : Tagging T) (t : ℕ) (es : List (Entry T)) (heads :
     others key first (x ∷ xs) h k = (h.0 k.0, others key first xs h.1 k.1)
 
     -- the head's request is the best, where every other head that is a member is behind it
-    pub chosen : (key : ℕ) (head : Head T) → held heads key ≡ Some head → member head.tags ≡ true → ((k : ℕ) (other : Head T) → k ≢ key → held heads k ≡ Some other → member other.tags ≡ true → tag_rank_cmp ops.compare (record { tag = tag head.tags; client = head.client }) (record { tag = tag other.tags; client = other.client }) ≡ Less) → IsChosen ops tag member es key head.client
+    pub chosen : (key : ℕ) (head : Head T) → slot_of_key heads key ≡ Some head → member head.tags ≡ true → ((k : ℕ) (other : Head T) → k ≢ key → slot_of_key heads k ≡ Some other → member other.tags ≡ true → tag_rank_cmp ops.compare (record { tag = tag head.tags; client = head.client }) (record { tag = tag other.tags; client = other.client }) ≡ Less) → IsChosen ops tag member es key head.client
     chosen key head h m below =
         let x = entry_at key head h in
         let at = is_at key es x.entry d x.found in
@@ -129,7 +129,7 @@ module _ {T : Type 0} (ops : Tagging T) (t : ℕ) (es : List (Entry T)) (heads :
           best = first_is_best ops order tag member es key x.entry at x.request x.rest x.requests (subst (λ g. member g ≡ true) x.of.tags m) own (others key first at.front parts.0 at.ahead) (others key first at.back parts.1 at.behind);
         }
       where
-        behind_at : (key : ℕ) (head : Head T) (e : Entry T) (r : QueuedRequest T) → IsHeadOf head e.id r → ((k : ℕ) (other : Head T) → k ≢ key → held heads k ≡ Some other → member other.tags ≡ true → tag_rank_cmp ops.compare (record { tag = tag head.tags; client = head.client }) (record { tag = tag other.tags; client = other.client }) ≡ Less) → (f : Entry T) → entry_keyed f.key es ≡ Some f → (f.key == key) ≡ false → (l : List (QueuedRequest T)) → f.rec.requests ≡ l → IsBehind ops order tag member (record { tag = tag r.tags; client = e.id }) f.id l
+        behind_at : (key : ℕ) (head : Head T) (e : Entry T) (r : QueuedRequest T) → IsHeadOf head e.id r → ((k : ℕ) (other : Head T) → k ≢ key → slot_of_key heads k ≡ Some other → member other.tags ≡ true → tag_rank_cmp ops.compare (record { tag = tag head.tags; client = head.client }) (record { tag = tag other.tags; client = other.client }) ≡ Less) → (f : Entry T) → entry_keyed f.key es ≡ Some f → (f.key == key) ≡ false → (l : List (QueuedRequest T)) → f.rec.requests ≡ l → IsBehind ops order tag member (record { tag = tag r.tags; client = e.id }) f.id l
         behind_at key head e r of below f g ne [] q = tt
         behind_at key head e r of below f g ne (s ∷ rest) q = λ m.
             let k = head_at f.key f s rest g q in
@@ -139,7 +139,7 @@ module _ {T : Type 0} (ops : Tagging T) (t : ℕ) (es : List (Entry T)) (heads :
             (subst (λ id. tag_rank_cmp ops.compare (record { tag = tag r.tags; client = id }) (record { tag = tag k.head.tags; client = k.head.client }) ≡ Less) of.client
             (subst (λ tags. tag_rank_cmp ops.compare (record { tag = tag tags; client = head.client }) (record { tag = tag k.head.tags; client = k.head.client }) ≡ Less) of.tags less)))
 
-        other_of : (key : ℕ) (head : Head T) (e : Entry T) (r : QueuedRequest T) → IsHeadOf head e.id r → ((k : ℕ) (other : Head T) → k ≢ key → held heads k ≡ Some other → member other.tags ≡ true → tag_rank_cmp ops.compare (record { tag = tag head.tags; client = head.client }) (record { tag = tag other.tags; client = other.client }) ≡ Less) → (f : Entry T) → entry_keyed f.key es ≡ Some f → (f.key == key) ≡ false → IsOther ops order tag member (record { tag = tag r.tags; client = e.id }) f
+        other_of : (key : ℕ) (head : Head T) (e : Entry T) (r : QueuedRequest T) → IsHeadOf head e.id r → ((k : ℕ) (other : Head T) → k ≢ key → slot_of_key heads k ≡ Some other → member other.tags ≡ true → tag_rank_cmp ops.compare (record { tag = tag head.tags; client = head.client }) (record { tag = tag other.tags; client = other.client }) ≡ Less) → (f : Entry T) → entry_keyed f.key es ≡ Some f → (f.key == key) ≡ false → IsOther ops order tag member (record { tag = tag r.tags; client = e.id }) f
         other_of key head e r of below f g ne = record {
           least = found_holds (λ e. FirstIsLeast ops tag e.rec.requests) (λ y. y.key == f.key) es f least g;
           members = found_holds (λ e. FirstIsMember member e.rec.requests) (λ y. y.key == f.key) es f members g;
@@ -147,7 +147,7 @@ module _ {T : Type 0} (ops : Tagging T) (t : ℕ) (es : List (Entry T)) (heads :
         }
 
     -- no request is a member, where no head is one
-    pub none_chosen : ((k : ℕ) (head : Head T) → held heads k ≡ Some head → member head.tags ≡ false) → HasNone (λ r. member r.tags) (requests_in es)
+    pub none_chosen : ((k : ℕ) (head : Head T) → slot_of_key heads k ≡ Some head → member head.tags ≡ false) → HasNone (λ r. member r.tags) (requests_in es)
     none_chosen none = none_are ops order tag member es (two _ _ es members (all_found (λ f. FirstIsNone ops order tag member f.rec.requests) es d (λ f g. none_at f g f.rec.requests refl))) where
       none_at : (f : Entry T) → entry_keyed f.key es ≡ Some f → (l : List (QueuedRequest T)) → f.rec.requests ≡ l → FirstIsNone ops order tag member l
       none_at f g [] q = tt

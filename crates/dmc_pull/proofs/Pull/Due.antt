@@ -12,7 +12,7 @@ use Rattle.dmc_tag.specs.Tag.{Tagging}
 use Rattle.dmc_tag.specs.Best.{best, by_reservation, by_weight, is_due, is_early, is_free, HasNone}
 use Rattle.dmc_tag.specs.Rank.{tag_rank_cmp, limit_rank_cmp}
 use Rattle.dmc_tag.specs.Rules.{moment_of, earlier, least_due, pulled, pulled_early, pulled_free}
-use Rattle.dmc_tag.specs.Step.{step, settled}
+use Rattle.dmc_tag.specs.Step.{step, answer_of}
 use Rattle.dmc_tag.specs.State.{State}
 use Rattle.dmc_types.specs.Values.{Setting}
 use Rattle.dmc_types.specs.declared.config.AtLimit.TheVariants.{Wait}
@@ -25,7 +25,7 @@ use Rattle.dmc_tag.specs.declared.rank.LimitRank.{LimitRank}
 use Rattle.dmc_client.specs.Record.{IsRecord, request_of}
 use Rattle.dmc_client.specs.declared.request.QueuedRequest.{QueuedRequest}
 use Rattle.dmc_roster.specs.Entries.{Entry, AreDistinct}
-use Rattle.dmc_index.specs.Index.{held}
+use Rattle.dmc_index.specs.Index.{slot_of_key}
 use Rattle.dmc_heads.specs.declared.head.Head.{Head}
 use Rattle.dmc_heads.specs.Heads.{IsFirst, tag_rank, limit_rank}
 use Rattle.dmc_pull.specs.Standing.{requests_in}
@@ -74,7 +74,7 @@ module _ {T : Type 0} (ops : Tagging T) (xs : List (PlainRequest T)) where
 -- ---- the moment that the indexes tell
 
 module _ {T : Type 0} (ops : Tagging T) (order : IsTotalOrder ops.compare) (t : ℕ) (es : List (Entry T)) (heads : List (Option (Head T))) (are : AreHeads ops t es heads) (d : AreDistinct es) (records : AllByRecursion (λ e. IsRecord ops e.rec) es)
-    (due_from : (tag : T) (n : ℕ) → is_due ops n (Some tag) ≡ nat_le (moment_of (ops.ceil tag)) n) (unready : (k : ℕ) (head : Head T) → held heads k ≡ Some head → head.ready ≡ false)
+    (due_from : (tag : T) (n : ℕ) → is_due ops n (Some tag) ≡ nat_le (moment_of (ops.ceil tag)) n) (unready : (k : ℕ) (head : Head T) → slot_of_key heads k ≡ Some head → head.ready ≡ false)
     (kr : ℕ) (r : TagRank T) (first_r : IsFirst tag_rank (tag_rank_cmp ops.compare) heads kr r) (kl : ℕ) (l : LimitRank T) (first_l : IsFirst limit_rank (limit_rank_cmp ops.compare) heads kl l) where
   moment_r : Option ℕ
   moment_r = option_map (λ tag. moment_of (ops.ceil tag)) r.tag
@@ -97,12 +97,12 @@ module _ {T : Type 0} (ops : Tagging T) (order : IsTotalOrder ops.compare) (t : 
   limit_order false p q c e s h = then_less _ _ h
   limit_order true p q c e s h = cc
 
-  none_free_at : (n : ℕ) → is_due ops n (Some l.tag) ≡ false → (k : ℕ) (head : Head T) → held heads k ≡ Some head → is_due ops n (Some head.tags.l) ≡ false
+  none_free_at : (n : ℕ) → is_due ops n (Some l.tag) ≡ false → (k : ℕ) (head : Head T) → slot_of_key heads k ≡ Some head → is_due ops n (Some head.tags.l) ≡ false
   none_free_at n h k head here = ⊎_elim same other (either_key k kl) where
     same : k ≡ kl → is_due ops n (Some head.tags.l) ≡ false
     same e =
         let u = head_under limit_rank heads kl l first_l.here in
-        let one : u.head ≡ head = same_some u.here (ap (held heads) (sym e) ∙ here) in
+        let one : u.head ≡ head = same_some u.here (ap (slot_of_key heads) (sym e) ∙ here) in
         subst (λ x. is_due ops n (Some x.tags.l) ≡ false) one (subst (λ g. is_due ops n (Some g.tag) ≡ false) (sym u.ranked) h)
 
     other : k ≢ kl → is_due ops n (Some head.tags.l) ≡ false
@@ -160,13 +160,13 @@ module _ {T : Type 0} (ops : Tagging T) (exactly : (s : State T) (at m : ℕ) �
       let s : State T = record { config = record config { at_limit = Wait }; requests = first ∷ rest; clients = []; last_moment = t } in
       let same : max t t ≡ t = omega arith in
       exactly s t (least_due ops first rest)
-      (ap (λ n. (settled s (pulled ops s n)).1) same
-      ∙ ap (λ o. (settled s (pulled_early ops s t o)).1) none_early
-      ∙ ap (λ o. (settled s (pulled_free ops s t o)).1) none_free)
+      (ap (λ n. (answer_of s (pulled ops s n)).1) same
+      ∙ ap (λ o. (answer_of s (pulled_early ops s t o)).1) none_early
+      ∙ ap (λ o. (answer_of s (pulled_free ops s t o)).1) none_free)
 
 module _ {T : Type 0} (ops : Tagging T) (t : ℕ) (es : List (Entry T)) (heads : List (Option (Head T))) (are : AreHeads ops t es heads) (d : AreDistinct es) (none : HasNone (is_free ops t) (requests_in es)) where
   -- where nothing is free no head is marked
-  pub all_unmarked : (k : ℕ) (head : Head T) → held heads k ≡ Some head → head.ready ≡ false
+  pub all_unmarked : (k : ℕ) (head : Head T) → slot_of_key heads k ≡ Some head → head.ready ≡ false
   all_unmarked k head here = at head.ready refl where
     at : (b : Bool) → head.ready ≡ b → head.ready ≡ false
     at false e = e

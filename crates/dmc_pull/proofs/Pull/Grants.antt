@@ -12,7 +12,7 @@ use Rattle.dmc_tag.specs.Tag.{Fraction, Tagging}
 use Rattle.dmc_tag.specs.Outcome.{◌>>=◌, refuse_if}
 use Rattle.dmc_tag.specs.Spacing.{spacings_of}
 use Rattle.dmc_tag.specs.Rules.{Outcome, pulled_early, without, granted, grant_priority, can_grant, reduction_of, reduction_at, can_reduce_by, reduced_by, reduced_requests}
-use Rattle.dmc_tag.specs.Step.{settled}
+use Rattle.dmc_tag.specs.Step.{answer_of}
 use Rattle.dmc_tag.specs.declared.plain.PlainRequest.{PlainRequest}
 use Rattle.dmc_tag.specs.declared.plain.PlainClient.{PlainClient}
 use Rattle.dmc_tag.specs.declared.reply.Reply.TheVariants.{Granted}
@@ -128,23 +128,23 @@ module _ {T : Type 0} (ops : Tagging T) where
     pub priority_settles : (token : Token) (beyond : Bool) → IfSome (first_at key es) (λ found. IsGrantable ops (state_of old) found (record_at key es) true) → After old new key true t → Some token ≡ option_map (λ found. found.0.token) (first_at key es) → IfSome (first_at key es) (λ found. Settles (state_of old) (state_of new) (grant_priority ops (state_of old) t found beyond) (Some (Granted client token phases.Priority beyond)))
     priority_settles token beyond can a k =
         subst (λ o. IfSome o (λ found. Settles (state_of old) (state_of new) (grant_priority ops (state_of old) t found beyond) (Some (Granted client token phases.Priority beyond)))) (sym first_is)
-        (pair _ _ _ _ (priority_state a) (same_reply token phases.Priority beyond (token_is token k)) ∙ ap (λ r. settled (state_of old) (granted_by r beyond)) (sym (grantable_is true can)))
+        (pair _ _ _ _ (priority_state a) (same_reply token phases.Priority beyond (token_is token k)) ∙ ap (λ r. answer_of (state_of old) (granted_by r beyond)) (sym (grantable_is true can)))
 
     pub refusal_settles : (beyond : Bool) → IfSome (first_at key es) (λ found. IsGrantable ops (state_of old) found (record_at key es) false) → IfSome (first_at key es) (λ found. Settles (state_of old) (state_of old) (grant_priority ops (state_of old) t found beyond) (Some (replies.Refused Range)))
     refusal_settles beyond can =
         subst (λ o. IfSome o (λ found. Settles (state_of old) (state_of old) (grant_priority ops (state_of old) t found beyond) (Some (replies.Refused Range)))) (sym first_is)
-        (ap (λ r. settled (state_of old) (granted_by r beyond)) (sym (grantable_is false can)))
+        (ap (λ r. answer_of (state_of old) (granted_by r beyond)) (sym (grantable_is false can)))
 
     -- ---- with a test
 
     pub priority_declined : (allows : ClientId → PhaseType → Bool) → allows client phases.Priority ≡ false → (beyond : Bool) → IfSome (first_at key es) (λ found. IsGrantable ops (state_of old) found (record_at key es) true) → IfSome (first_at key es) (λ found. SettlesIf allows (state_of old) (state_of old) (grant_priority ops (state_of old) t found beyond) (Err faults.Declined))
     priority_declined allows denied beyond can =
         subst (λ o. IfSome o (λ found. SettlesIf allows (state_of old) (state_of old) (grant_priority ops (state_of old) t found beyond) (Err faults.Declined))) (sym first_is)
-        (refl, ap (λ r. is_allowed allows ((settled (state_of old) (granted_by r beyond)).1)) (grantable_is true can) ∙ ap (λ id. allows id phases.Priority) (sym w.client_is) ∙ denied)
+        (refl, ap (λ r. is_allowed allows ((answer_of (state_of old) (granted_by r beyond)).1)) (grantable_is true can) ∙ ap (λ id. allows id phases.Priority) (sym w.client_is) ∙ denied)
 
-    pub early_declined : (allows : ClientId → PhaseType → Bool) → allows client phases.Reservation ≡ false → (o : Option (PlainRequest T × List (PlainRequest T))) → o ≡ first_at key es → is_allowed allows ((settled (state_of old) (pulled_early ops (state_of old) t o)).1) ≡ false
+    pub early_declined : (allows : ClientId → PhaseType → Bool) → allows client phases.Reservation ≡ false → (o : Option (PlainRequest T × List (PlainRequest T))) → o ≡ first_at key es → is_allowed allows ((answer_of (state_of old) (pulled_early ops (state_of old) t o)).1) ≡ false
     early_declined allows denied o e =
-        ap (λ o. is_allowed allows ((settled (state_of old) (pulled_early ops (state_of old) t o)).1)) (e ∙ first_is) ∙ ap (λ id. allows id phases.Reservation) (sym w.client_is) ∙ denied
+        ap (λ o. is_allowed allows ((answer_of (state_of old) (pulled_early ops (state_of old) t o)).1)) (e ∙ first_is) ∙ ap (λ id. allows id phases.Reservation) (sym w.client_is) ∙ denied
 
 -- what settles with a grant that the test allows
 pub allowed_settles : {T : Type 0} (allows : ClientId → PhaseType → Bool) (old new : State T) (outcomes : PlainRequest T × List (PlainRequest T) → Outcome T) (client : ClientId) (token : Token) (phase : PhaseType) (beyond : Bool) → allows client phase ≡ true → (o : Option (PlainRequest T × List (PlainRequest T)))

@@ -16,7 +16,7 @@ use Rattle.dmc_client.specs.Record.{IsRecord, request_of}
 use Rattle.dmc_client.specs.declared.request.QueuedRequest.{QueuedRequest}
 use Rattle.dmc_roster.specs.Entries.{Entry, AreDistinct, entry_keyed, with_record}
 use Rattle.dmc_adjust.specs.Changes.{popped}
-use Rattle.dmc_index.specs.Index.{held, IsEmpty}
+use Rattle.dmc_index.specs.Index.{slot_of_key, IsEmpty}
 use Rattle.dmc_heads.specs.declared.head.Head.{Head}
 use Rattle.dmc_heads.specs.Heads.{IsFirst, tag_rank, ready_rank}
 use Rattle.dmc_pull.specs.Standing.{requests_in}
@@ -57,7 +57,7 @@ module _ {T : Type 0} (ops : Tagging T) (order : IsTotalOrder ops.compare) (find
     pub least_late : (key : ℕ) (rank : TagRank T) → IsFirst tag_rank (tag_rank_cmp ops.compare) heads key rank → is_due ops t rank.tag ≡ false → Early ops t es None
     least_late key rank f late = none (λ r. r.tags.r) (is_early ops t) (requests_in es) (early_none ops order t es heads t0 are d records key rank f late)
 
-  module _ (are : AreHeads ops t es heads) (marked : (k : ℕ) (head : Head T) → held heads k ≡ Some head → head.ready ≡ false → is_due ops t (Some head.tags.l) ≡ false) where
+  module _ (are : AreHeads ops t es heads) (marked : (k : ℕ) (head : Head T) → slot_of_key heads k ≡ Some head → head.ready ≡ false → is_due ops t (Some head.tags.l) ≡ false) where
     pub no_head_shares : IsEmpty heads → ByWeight ops t es None
     no_head_shares h = none_queued ops t es heads are d h
 

@@ -14,7 +14,7 @@ use Rattle.dmc_tag.specs.declared.rank.TagRank.{TagRank}
 use Rattle.dmc_tag.specs.declared.rank.ReadyRank.{ReadyRank}
 use Rattle.dmc_client.specs.Record.{Rec, IsRecord}
 use Rattle.dmc_roster.specs.Entries.{Entry, AreDistinct}
-use Rattle.dmc_index.specs.Index.{held, IsEmpty}
+use Rattle.dmc_index.specs.Index.{slot_of_key, IsEmpty}
 use Rattle.dmc_heads.specs.declared.head.Head.{Head}
 use Rattle.dmc_heads.specs.Heads.{IsFirst, tag_rank, ready_rank}
 use Rattle.dmc_pull.specs.Standing.{requests_in}
@@ -27,12 +27,12 @@ pub use Rattle.dmc_tag.proofs.Orderings.{then_less}
 
 pub record HeadUnder {T R : Type 0} (rank : Head T → R) (heads : List (Option (Head T))) (key : ℕ) (r : R) : Type 0 where
   pub head : Head T
-  pub here : held heads key ≡ Some head
+  pub here : slot_of_key heads key ≡ Some head
   pub ranked : rank head ≡ r
 
-pub head_under : {T R : Type 0} (rank : Head T → R) (heads : List (Option (Head T))) (key : ℕ) (r : R) → option_map rank (held heads key) ≡ Some r → HeadUnder rank heads key r
-head_under {T} rank heads key r e = at (held heads key) refl e where
-  at : (o : Option (Head T)) → held heads key ≡ o → option_map rank o ≡ Some r → HeadUnder rank heads key r
+pub head_under : {T R : Type 0} (rank : Head T → R) (heads : List (Option (Head T))) (key : ℕ) (r : R) → option_map rank (slot_of_key heads key) ≡ Some r → HeadUnder rank heads key r
+head_under {T} rank heads key r e = at (slot_of_key heads key) refl e where
+  at : (o : Option (Head T)) → slot_of_key heads key ≡ o → option_map rank o ≡ Some r → HeadUnder rank heads key r
   at None h e = cc
   at (Some head) h e = record { head = head; here = h; ranked = cc (e) }
 
@@ -68,12 +68,12 @@ module _ {T : Type 0} (ops : Tagging T) (order : IsTotalOrder ops.compare) (t : 
         subst (IsChosen ops (λ g. g.r) (λ g. is_due ops t g.r) es key) (ap (λ r. r.client) h.ranked) (chosen ops t0 es heads are order d (λ g. g.r) (λ g. is_due ops t g.r) reservations early_members key h.head h.here (subst (λ r. is_due ops t r.tag ≡ true) (sym h.ranked) due)
         (λ k other ne here m. subst (λ r. tag_rank_cmp ops.compare r (tag_rank other) ≡ Less) (sym h.ranked) (f.below k other ne here)))
 
-    none_due_at : (key : ℕ) (rank : TagRank T) → IsFirst tag_rank (tag_rank_cmp ops.compare) heads key rank → is_due ops t rank.tag ≡ false → (k : ℕ) (head : Head T) → held heads k ≡ Some head → is_due ops t head.tags.r ≡ false
+    none_due_at : (key : ℕ) (rank : TagRank T) → IsFirst tag_rank (tag_rank_cmp ops.compare) heads key rank → is_due ops t rank.tag ≡ false → (k : ℕ) (head : Head T) → slot_of_key heads k ≡ Some head → is_due ops t head.tags.r ≡ false
     none_due_at key rank f late k head here = ⊎_elim same other (either_key k key) where
       same : k ≡ key → is_due ops t head.tags.r ≡ false
       same e =
           let h = head_under tag_rank heads key rank f.here in
-          let one : h.head ≡ head = same_some h.here (ap (held heads) (sym e) ∙ here) in
+          let one : h.head ≡ head = same_some h.here (ap (slot_of_key heads) (sym e) ∙ here) in
           subst (λ x. is_due ops t x.tags.r ≡ false) one (subst (λ r. is_due ops t r.tag ≡ false) (sym h.ranked) late)
 
       other : k ≢ key → is_due ops t head.tags.r ≡ false
@@ -94,7 +94,7 @@ module _ {T : Type 0} (ops : Tagging T) (order : IsTotalOrder ops.compare) (t : 
 
   -- ---- by P: the weight phase, where each head is marked that is free
 
-  module _ (are : AreHeads ops t es heads) (marked : (k : ℕ) (head : Head T) → held heads k ≡ Some head → head.ready ≡ false → is_due ops t (Some head.tags.l) ≡ false) (d : AreDistinct es) (records : AllByRecursion (λ e. IsRecord ops e.rec) es) where
+  module _ (are : AreHeads ops t es heads) (marked : (k : ℕ) (head : Head T) → slot_of_key heads k ≡ Some head → head.ready ≡ false → is_due ops t (Some head.tags.l) ≡ false) (d : AreDistinct es) (records : AllByRecursion (λ e. IsRecord ops e.rec) es) where
     shares : AllByRecursion (λ e. FirstIsLeast ops (λ g. Some g.p) e.rec.requests) es
     shares = all_are (λ rec. FirstIsLeast ops (λ g. Some g.p) rec.requests) (share_first ops) es records
 
@@ -104,7 +104,7 @@ module _ {T : Type 0} (ops : Tagging T) (order : IsTotalOrder ops.compare) (t : 
     free_members : AllByRecursion (λ e. FirstIsMember (λ g. is_due ops t (Some g.l)) e.rec.requests) es
     free_members = all_are (λ rec. FirstIsMember (λ g. is_due ops t (Some g.l)) rec.requests) (λ rec is. due_members ops order t (λ g. Some g.l) rec.requests (limit_first ops rec is)) es records
 
-    ready_of : (k : ℕ) (head : Head T) → held heads k ≡ Some head → is_due ops t (Some head.tags.l) ≡ true → head.ready ≡ true
+    ready_of : (k : ℕ) (head : Head T) → slot_of_key heads k ≡ Some head → is_due ops t (Some head.tags.l) ≡ true → head.ready ≡ true
     ready_of k head here due = at head.ready refl where
       at : (b : Bool) → head.ready ≡ b → head.ready ≡ true
       at true e = e
@@ -129,12 +129,12 @@ module _ {T : Type 0} (ops : Tagging T) (order : IsTotalOrder ops.compare) (t : 
     unready_first true p q c e h = cc
     unready_first false p q c e h = refl
 
-    pub all_unready : (key : ℕ) (rank : ReadyRank T) → IsFirst ready_rank (ready_rank_cmp ops.compare) heads key rank → rank.ready ≡ false → (k : ℕ) (head : Head T) → held heads k ≡ Some head → head.ready ≡ false
+    pub all_unready : (key : ℕ) (rank : ReadyRank T) → IsFirst ready_rank (ready_rank_cmp ops.compare) heads key rank → rank.ready ≡ false → (k : ℕ) (head : Head T) → slot_of_key heads k ≡ Some head → head.ready ≡ false
     all_unready key rank f unready k head here = ⊎_elim same other (either_key k key) where
       same : k ≡ key → head.ready ≡ false
       same e =
           let h = head_under ready_rank heads key rank f.here in
-          let one : h.head ≡ head = same_some h.here (ap (held heads) (sym e) ∙ here) in
+          let one : h.head ≡ head = same_some h.here (ap (slot_of_key heads) (sym e) ∙ here) in
           subst (λ x. x.ready ≡ false) one (ap (λ r. r.ready) h.ranked ∙ unready)
 
       other : k ≢ key → head.ready ≡ false

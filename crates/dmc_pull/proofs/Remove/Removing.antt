@@ -16,14 +16,14 @@ use Rattle.dmc_types.specs.declared.command.Command.TheVariants.{Remove}
 use Rattle.dmc_client.specs.Record.{Rec, IsRecord}
 use Rattle.dmc_client.specs.declared.request.QueuedRequest.{QueuedRequest}
 use Rattle.dmc_roster.specs.Entries.{Entry, Listing, entry_keyed, with_record, with_record_at}
-use Rattle.dmc_index.specs.Index.{held}
+use Rattle.dmc_index.specs.Index.{slot_of_key}
 use Rattle.dmc_heads.specs.declared.head.Head.{Head}
 use Rattle.dmc_pull.specs.Standing.{clients_in, requests_in}
 use Rattle.dmc_pull.specs.Queue.{Queue, state_of, IsQueue, IsKept, AreHeads, head_of, unready, unready_head}
 use Rattle.dmc_pull.proofs.Common.Parts.{all_back, found_holds}
 use Rattle.dmc_pull.proofs.Common.Entries.{split_changed, clients_whole, all_changed, drained, length_drained, length_of_client}
 use Rattle.dmc_pull.proofs.Common.Keyed.{distinct_changed, read_changed, read_other}
-use Rattle.dmc_pull.proofs.Clean.Aging.{held_emptied, held-set_other}
+use Rattle.dmc_pull.proofs.Clean.Aging.{held_emptied, slot_of_key-set_other}
 use Rattle.dmc_pull.proofs.Clients.Updating.{HasClient}
 use Rattle.dmc_tag.proofs.Options.{is_some_mapped}
 
@@ -37,9 +37,9 @@ some_more n false e = refl
 
 module _ {T : Type 0} (ops : Tagging T) where
   -- a client has a head exactly where it has a request
-  pub has_head : {t : ℕ} {es : List (Entry T)} {heads : List (Option (Head T))} → AreHeads ops t es heads → {id : ClientId} {key : ℕ} → (h : HasClient id key es) (count : ℕ) → count ≡ length h.entry.rec.requests → is_some (held heads key) ≡ not (count == 0)
+  pub has_head : {t : ℕ} {es : List (Entry T)} {heads : List (Option (Head T))} → AreHeads ops t es heads → {id : ClientId} {key : ℕ} → (h : HasClient id key es) (count : ℕ) → count ≡ length h.entry.rec.requests → is_some (slot_of_key heads key) ≡ not (count == 0)
   has_head {t} {es} {heads} are {id} {key} h count e =
-      sym (is_some_mapped unready (held heads key))
+      sym (is_some_mapped unready (slot_of_key heads key))
       ∙ ap is_some (are.here key)
       ∙ ap (λ o. is_some (option_and_then head_of o)) h.keyed
       ∙ of_first h.entry.rec.requests
@@ -54,20 +54,20 @@ module _ {T : Type 0} (ops : Tagging T) where
     rec : Rec T
     rec = emptied h.entry.rec
 
-    here : (k : ℕ) (b : Bool) → (k == key) ≡ b → option_map unready (held (set heads key None) k) ≡ option_and_then head_of (entry_keyed k (with_record key (emptied h.entry.rec) es))
+    here : (k : ℕ) (b : Bool) → (k == key) ≡ b → option_map unready (slot_of_key (set heads key None) k) ≡ option_and_then head_of (entry_keyed k (with_record key (emptied h.entry.rec) es))
     here k true e =
         let one : k ≡ key = eqb-true k key e in
-        subst (λ n. option_map unready (held (set heads key None) n) ≡ option_and_then head_of (entry_keyed n (with_record key (emptied h.entry.rec) es))) (sym one)
+        subst (λ n. option_map unready (slot_of_key (set heads key None) n) ≡ option_and_then head_of (entry_keyed n (with_record key (emptied h.entry.rec) es))) (sym one)
         (ap (option_map unready) (held_emptied heads key) ∙ sym (read_changed head_of h.at (emptied h.entry.rec)))
     here k false e =
-        ap (option_map unready) (held-set_other heads key k None (eqb-false k key e)) ∙ are.here k ∙ sym (read_other head_of key (emptied h.entry.rec) k es e)
+        ap (option_map unready) (slot_of_key-set_other heads key k None (eqb-false k key e)) ∙ are.here k ∙ sym (read_other head_of key (emptied h.entry.rec) k es e)
 
-    marks : (k : ℕ) (head : Head T) → held (set heads key None) k ≡ Some head → head.ready ≡ true → (b : Bool) → (k == key) ≡ b → is_due ops t (Some head.tags.l) ≡ true
+    marks : (k : ℕ) (head : Head T) → slot_of_key (set heads key None) k ≡ Some head → head.ready ≡ true → (b : Bool) → (k == key) ≡ b → is_due ops t (Some head.tags.l) ≡ true
     marks k head holds ready true e =
         let one : k ≡ key = eqb-true k key e in
-        let none : held (set heads key None) k ≡ None = ap (held (set heads key None)) one ∙ held_emptied heads key in
+        let none : slot_of_key (set heads key None) k ≡ None = ap (slot_of_key (set heads key None)) one ∙ held_emptied heads key in
         cc
-    marks k head holds ready false e = are.marks k head (sym (held-set_other heads key k None (eqb-false k key e)) ∙ holds) ready
+    marks k head holds ready false e = are.marks k head (sym (slot_of_key-set_other heads key k None (eqb-false k key e)) ∙ holds) ready
 
 -- as many requests fewer
 pub fewer : {T : Type 0} {id : ClientId} {key : ℕ} {es : List (Entry T)} → (h : HasClient id key es) (queued count : ℕ) → queued ≡ length (requests_in es) → count ≡ length h.entry.rec.requests → queued ≡ length (requests_in (with_record key (emptied h.entry.rec) es)) + count

@@ -5,7 +5,7 @@ ghost use Rattle.dmc_pull.specs.Adding as adding_of;
 ghost use Rattle.dmc_pull.specs.Adding.{CanAdd};
 ghost use Rattle.dmc_pull.specs.Queue.{state_of};
 ghost use Rattle.dmc_roster.specs.Entries.{entry_named, entry_keyed, record_at};
-ghost use Rattle.dmc_tag.specs.Answers.{told};
+ghost use Rattle.dmc_tag.specs.Answers.{call_reply};
 ghost use Rattle.dmc_tag.specs.Order.{AreNext};
 ghost use Rattle.dmc_tag.specs.Rules as rules_of;
 ghost use Rattle.dmc_tag.specs.State.{StandsFor};
@@ -142,7 +142,7 @@ impl<T: Tag, I: Indexes<T>> PullQueue<T, I> {
         params: ReqParams,
         at: Moment,
     ) -> Result<Tags<T>, QueueFault>
-        ensures { Steps T.ops (state_of self.old) (state_of self.new) (commands.Add client token params at) (told replies.Tagged result) }
+        ensures { Steps T.ops (state_of self.old) (state_of self.new) (commands.Add client token params at) (call_reply replies.Tagged result) }
     {
         let at = self.effective(at);
         let addition = self.can_add(client, params, at)?;

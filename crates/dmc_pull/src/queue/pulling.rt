@@ -7,7 +7,7 @@ ghost use Rattle.dmc_pull.specs.Choice.{first_at, after_grant, IsFirstOf, Early,
 ghost use Rattle.dmc_pull.specs.Queue.{state_of, IsMarked};
 ghost use Rattle.dmc_pull.specs.Standing.{requests_in};
 ghost use Rattle.dmc_roster.specs.Entries.{record_at, with_record_at, AreDistinct};
-ghost use Rattle.dmc_tag.specs.Answers.{told_surely, pull_reply};
+ghost use Rattle.dmc_tag.specs.Answers.{sure_call_reply, pull_reply};
 ghost use Rattle.dmc_tag.specs.Best.{best, by_reservation, by_weight, is_early, is_free};
 ghost use Rattle.dmc_tag.specs.Rules as rules_of;
 ghost use Rattle.dmc_tag.specs.Steps.{Exactly};
@@ -194,7 +194,7 @@ impl<T: Tag, I: Indexes<T>> PullQueue<T, I> {
 
     /// Grants the next request, or tells when one is due; refused `Range` (Algorithm 1; the future time is own).
     pub fn pull_request(&mut self, at: Moment) -> Result<Pulled, Refusal>
-        ensures { Exactly T.ops (state_of self.old) (state_of self.new) (commands.Pull at) (told_surely pull_reply result) }
+        ensures { Exactly T.ops (state_of self.old) (state_of self.new) (commands.Pull at) (sure_call_reply pull_reply result) }
     {
         match self.pull_allowed(at, &AllowAll) {
             Ok(pulled) => Ok(pulled),

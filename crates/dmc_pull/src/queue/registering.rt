@@ -1,9 +1,9 @@
 //! A registration, and an update of rates.
 ghost use Rattle.std.specs.Prelude.{◌≡◌, ◌≤◌, ◌<◌, [], ◌∷◌, ◌++◌, true, Some, None, Ok, length, is_some, IfSome, IfOk, OnOk, OnErr, IsOkUnless};
 ghost use Rattle.dmc_client.specs.Record.{client_of};
-ghost use Rattle.dmc_pull.specs.Queue.{state_of, tested, IsKept};
+ghost use Rattle.dmc_pull.specs.Queue.{state_of, without_value, IsKept};
 ghost use Rattle.dmc_roster.specs.Entries.{entry_named, entry_keyed, record_at, AreDistinct};
-ghost use Rattle.dmc_tag.specs.Answers.{told, told_surely};
+ghost use Rattle.dmc_tag.specs.Answers.{call_reply, sure_call_reply};
 ghost use Rattle.dmc_tag.specs.Order.{AreSpacings};
 ghost use Rattle.dmc_tag.specs.Rules as rules_of;
 ghost use Rattle.dmc_tag.specs.Spacing.{spacings_of};
@@ -28,7 +28,7 @@ const CLIENTS: usize = 65_536;
 impl<T: Tag, I: Indexes<T>> PullQueue<T, I> {
     /// The tests of a registration, and the spacings of the rates.
     fn can_register(&self, client: ClientId, info: ClientInfo) -> Result<Spacings<T>, Refusal>
-        ensures outcome { tested result ≡ rules_of.can_register T.ops (state_of self.now) client info }
+        ensures outcome { without_value result ≡ rules_of.can_register T.ops (state_of self.now) client info }
         ensures spacings { IfOk result (λ spacings. spacings_of T.ops self.now.config.hz info ≡ Ok spacings) }
         ensures are { IfOk result (AreSpacings T.ops info) }
         ensures new { OnOk result (entry_named client self.now.roster.entries ≡ None) }
@@ -78,7 +78,7 @@ impl<T: Tag, I: Indexes<T>> PullQueue<T, I> {
         info: ClientInfo,
         at: Moment,
     ) -> Result<(), QueueFault>
-        ensures { Exactly T.ops (state_of self.old) (state_of self.new) (commands.Register client info at) (told (λ _. replies.Registered) result) }
+        ensures { Exactly T.ops (state_of self.old) (state_of self.new) (commands.Register client info at) (call_reply (λ _. replies.Registered) result) }
     {
         let at = self.effective(at);
         let spacings = self.can_register(client, info)?;
@@ -92,7 +92,7 @@ impl<T: Tag, I: Indexes<T>> PullQueue<T, I> {
         client: ClientId,
         info: ClientInfo,
     ) -> Result<(usize, Spacings<T>), Refusal>
-        ensures outcome { tested result ≡ rules_of.can_update T.ops (state_of self.now) client info }
+        ensures outcome { without_value result ≡ rules_of.can_update T.ops (state_of self.now) client info }
         ensures spacings { IfOk result (λ p. spacings_of T.ops self.now.config.hz info ≡ Ok p.1) }
         ensures are { IfOk result (λ p. AreSpacings T.ops info p.1) }
         ensures key { IfOk result (λ p. entry_keyed p.0 self.now.roster.entries ≡ entry_named client self.now.roster.entries) }
@@ -120,7 +120,7 @@ impl<T: Tag, I: Indexes<T>> PullQueue<T, I> {
         info: ClientInfo,
         at: Moment,
     ) -> Result<(), Refusal>
-        ensures { Exactly T.ops (state_of self.old) (state_of self.new) (commands.Update client info at) (told_surely (λ _. replies.Updated) result) }
+        ensures { Exactly T.ops (state_of self.old) (state_of self.new) (commands.Update client info at) (sure_call_reply (λ _. replies.Updated) result) }
     {
         let at = self.effective(at);
         let (key, spacings) = self.can_update(client, info)?;

@@ -7,7 +7,7 @@ use Rattle.std.proofs.lemmas.Cmp.{ranked}
 use Rattle.std.proofs.lemmas.Bool.{cases_eq}
 use Rattle.std.proofs.lemmas.List.{length-set, get_or-set_same, get_or-set_other}
 use Rattle.dmc_tag.specs.declared.rank.TagRank.{TagRank}
-use Rattle.dmc_index.specs.Index.{held}
+use Rattle.dmc_index.specs.Index.{slot_of_key}
 use Rattle.dmc_tag.proofs.Options.{option_cases}
 use Rattle.dmc_heap.proofs.OrderLemmas.{same_some}
 use Rattle.dmc_queue_tests.proofs.heaps.order_of.Goals as goal
@@ -25,20 +25,20 @@ insert-requires-clause-apart g c k other h e =
 
 pub insert-requires-clause-vacant : goal.insert-requires-clause-vacant
 insert-requires-clause-vacant g c =
-    option_cases (held (g.I.OrderIndex.slots c.loop-key.index) c.loop-key.key) (λ none. none) (λ r some. let at = c.loop-key.invariant.clients c.loop-key.key r some in absurd (omega arith))
+    option_cases (slot_of_key (g.I.OrderIndex.slots c.loop-key.index) c.loop-key.key) (λ none. none) (λ r some. let at = c.loop-key.invariant.clients c.loop-key.key r some in absurd (omega arith))
 
 module _ {T : Type 0} (old : List (Option (TagRank T))) (key : ℕ) (rank : TagRank T) (in' : key < length old) (own : rank.client.0 ≡ key) where
-  all_after : ((k : ℕ) → k < key → IsSome (held old k)) → (k : ℕ) → k < key + 1 → IsSome (held (set old key (Some rank)) k)
+  all_after : ((k : ℕ) → k < key → IsSome (slot_of_key old k)) → (k : ℕ) → k < key + 1 → IsSome (slot_of_key (set old key (Some rank)) k)
   all_after all k l =
       elim (cases_eq k key) [
-        | inl s ↦ subst IsSome (sym (ap (held (set old key (Some rank))) s ∙ get_or-set_same old key (Some rank) None in')) refl
+        | inl s ↦ subst IsSome (sym (ap (slot_of_key (set old key (Some rank))) s ∙ get_or-set_same old key (Some rank) None in')) refl
         | inr p ↦ subst IsSome (sym (get_or-set_other old key k (Some rank) None p)) (all k (omega arith))
       ]
 
-  clients_after : ((k : ℕ) (r : TagRank T) → held old k ≡ Some r → (k < key) × (r.client.0 ≡ k)) → (k : ℕ) (r : TagRank T) → held (set old key (Some rank)) k ≡ Some r → (k < key + 1) × (r.client.0 ≡ k)
+  clients_after : ((k : ℕ) (r : TagRank T) → slot_of_key old k ≡ Some r → (k < key) × (r.client.0 ≡ k)) → (k : ℕ) (r : TagRank T) → slot_of_key (set old key (Some rank)) k ≡ Some r → (k < key + 1) × (r.client.0 ≡ k)
   clients_after clients k r h =
       elim (cases_eq k key) [
-        | inl s ↦ let same : rank ≡ r = same_some rank r (sym (get_or-set_same old key (Some rank) None in') ∙ ap (held (set old key (Some rank))) (sym s) ∙ h) in (omega (arith, s), ap (λ (x : TagRank T). x.client.0) (sym same) ∙ own ∙ sym s)
+        | inl s ↦ let same : rank ≡ r = same_some rank r (sym (get_or-set_same old key (Some rank) None in') ∙ ap (slot_of_key (set old key (Some rank))) (sym s) ∙ h) in (omega (arith, s), ap (λ (x : TagRank T). x.client.0) (sym same) ∙ own ∙ sym s)
         | inr p ↦ let at = clients k r (sym (get_or-set_other old key k (Some rank) None p) ∙ h) in (omega (arith, at.0), at.1)
       ]
 

@@ -1,6 +1,6 @@
 use Rattle.std.proofs.Common.{◌≡◌, Some, set, sym, ap, ◌∙◌, subst}
 use Rattle.std.specs.Option.{option_map, option_copied}
-use Rattle.dmc_index.specs.Index.{held}
+use Rattle.dmc_index.specs.Index.{slot_of_key}
 use Rattle.dmc_heads.specs.Heads.{ready_rank, heads_from}
 use Rattle.dmc_heads.proofs.Slots.{some_if_mapped, within}
 use Rattle.dmc_heads.proofs.Clients.{tag_order, rank_held}
@@ -15,7 +15,7 @@ invariant_of-self g c =
     let ready = g.I.WeightIndex.OrderIndex.slots x.weight in
     let heads = heads_from reservation limits ready in
     let order = tag_order g.T.Ord.cmp g.T.Tag.ops.compare g.met.T.Ord.total g.met.T.Tag.compares in
-    let old = some_if_mapped (λ h. h.client) (held heads c.args.key) c.args.head.client (subst (λ hs. option_map (λ h. h.client) (held hs c.args.key) ≡ Some c.args.head.client) (sym c.self.view_is) c.requires.here) in
+    let old = some_if_mapped (λ h. h.client) (slot_of_key heads c.args.key) c.args.head.client (subst (λ hs. option_map (λ h. h.client) (slot_of_key hs c.args.key) ≡ Some c.args.head.client) (sym c.self.view_is) c.requires.here) in
     let in_room = within heads c.args.key old.0 old.1 in
     let read : Some c.unwrap.result.now ≡ Some (ready_rank old.0) = sym (ap option_copied c.unwrap.ensures) ∙ c.get.ensures ∙ rank_held ready_rank heads ready c.self.invariant.weight_is c.args.key old.0 old.1 in
     let rank : c.unwrap.result.now ≡ ready_rank old.0 = cc in

@@ -1,5 +1,5 @@
 use Rattle.std.proofs.Common.{◌≡◌, ◌<◌, Some, None, length, set, sym, ap, ◌∙◌, subst}
-use Rattle.dmc_index.specs.Index.{held}
+use Rattle.dmc_index.specs.Index.{slot_of_key}
 use Rattle.dmc_heads.specs.Heads.{IsOthers}
 use Rattle.dmc_heads.proofs.Clients.{tag_order}
 use Rattle.dmc_heads.proofs.Sound.{room_of, heads_set, empty_if, inserted}
@@ -37,7 +37,7 @@ invariant_of-self g c =
     let ready = g.I.WeightIndex.OrderIndex.slots x.weight in
     let order = tag_order g.T.Ord.cmp g.T.Tag.ops.compare g.met.T.Ord.total g.met.T.Tag.compares in
     let in_room = subst (λ hs. c.args.key < length hs) (sym c.self.view_is) c.requires.in_room in
-    let vacant = subst (λ hs. held hs c.args.key ≡ None) (sym c.self.view_is) c.requires.vacant in
+    let vacant = subst (λ hs. slot_of_key hs c.args.key ≡ None) (sym c.self.view_is) c.requires.vacant in
     let others = subst (λ hs. IsOthers hs c.args.key c.args.head.client) (sym c.self.view_is) c.requires.apart in
     let empty = empty_if g.T.Tag.ops reservation limits ready x.least x.room c.self.invariant c.is_empty-is_first.result c.is_empty-is_first.ensures in
     rw (c.insert.ensures, c.insert-2.ensures, c.insert-3.ensures, c.tag_rank.ensures, c.limit_rank.ensures, c.ready_rank.ensures, c.least_with-self-inside.ensures) (inserted g.T.Tag.ops reservation limits ready x.least x.room c.self.invariant order c.args.key in_room c.args.head vacant others c.is_empty-is_first.result empty)

@@ -1,5 +1,5 @@
 use Rattle.std.proofs.Common.{◌≡◌, Some, None, IsSome, set, sym, ap, ◌∙◌, subst}
-use Rattle.dmc_index.specs.Index.{held}
+use Rattle.dmc_index.specs.Index.{slot_of_key}
 use Rattle.dmc_heads.specs.Heads.{ready_rank, heads_from}
 use Rattle.dmc_heads.proofs.Slots.{some_of, within}
 use Rattle.dmc_heads.proofs.Clients.{tag_order, rank_held}
@@ -14,7 +14,7 @@ invariant_of-self g c =
     let ready = g.I.WeightIndex.OrderIndex.slots x.weight in
     let heads = heads_from reservation limits ready in
     let order = tag_order g.T.Ord.cmp g.T.Tag.ops.compare g.met.T.Ord.total g.met.T.Tag.compares in
-    let old = some_of (held heads c.args.key) (subst (λ hs. IsSome (held hs c.args.key)) (sym c.self.view_is) c.requires) in
+    let old = some_of (slot_of_key heads c.args.key) (subst (λ hs. IsSome (slot_of_key hs c.args.key)) (sym c.self.view_is) c.requires) in
     let in_room = within heads c.args.key old.0 old.1 in
     let read : Some c.remove-rank.result ≡ Some (ready_rank old.0) = sym c.remove-rank.ensures.value ∙ rank_held ready_rank heads ready c.self.invariant.weight_is c.args.key old.0 old.1 in
     let rank : c.remove-rank.result ≡ ready_rank old.0 = cc in

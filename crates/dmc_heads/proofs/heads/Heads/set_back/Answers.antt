@@ -2,10 +2,10 @@ use Rattle.std.proofs.Common.{◌≡◌, ◌≤◌, None, length, map, sym, ap, 
 use Rattle.std.specs.Option.{option_map}
 use Rattle.std.proofs.lemmas.Bool.{cases_lt}
 use Rattle.std.proofs.lemmas.List.{length-map, get_or_past}
-use Rattle.dmc_index.specs.Index.{held}
+use Rattle.dmc_index.specs.Index.{slot_of_key}
 use Rattle.dmc_heads.specs.Heads.{heads_from, set_back}
 use Rattle.dmc_heads.proofs.HeadsFrom.{length-heads_from}
-use Rattle.dmc_heads.proofs.Slots.{same_slots, held-map}
+use Rattle.dmc_heads.proofs.Slots.{same_slots, slot_of_key-map}
 use Rattle.dmc_heads.proofs.heads.Heads.set_back.Goals as goal
 
 pub returns : goal.returns
@@ -20,10 +20,10 @@ returns g c =
     let old = c.args.self.now in
     let new = c.loop-key.self in
     same_slots new (map (option_map f) old) (c.loop-key.invariant.room ∙ sym (length-map old (option_map f))) (λ k. elim (cases_lt k c.loop-key.key) [
-      | inl l ↦ c.loop-key.invariant.done k l ∙ sym (held-map f old k)
+      | inl l ↦ c.loop-key.invariant.done k l ∙ sym (slot_of_key-map f old k)
       | inr l ↦
           let all : length old ≤ x.room = subst (λ hs. length hs ≤ x.room) c.self.view_is within in
           let past : length old ≤ k = omega arith in
-          let none : held old k ≡ None = get_or_past old k None past in
-          c.loop-key.invariant.rest k l ∙ none ∙ sym (held-map f old k ∙ ap (option_map f) none)
+          let none : slot_of_key old k ≡ None = get_or_past old k None past in
+          c.loop-key.invariant.rest k l ∙ none ∙ sym (slot_of_key-map f old k ∙ ap (option_map f) none)
     ])

@@ -1,6 +1,6 @@
 use Rattle.std.proofs.Common.{◌≡◌, ℕ, ◌<◌, ◌≤◌, length}
 use Rattle.std.specs.Option.{option_map}
-use Rattle.dmc_index.specs.Index.{held}
+use Rattle.dmc_index.specs.Index.{slot_of_key}
 use Rattle.dmc_heads.specs.Heads.{set_back}
 use Rattle.dmc_heads.proofs.heads.Heads.set_back.Given as goal
 
@@ -8,6 +8,6 @@ use Rattle.dmc_heads.proofs.heads.Heads.set_back.Given as goal
 abbrev pub invariant-loop-key : goal.invariant-loop-key
 invariant-loop-key g l = record {
   room : length l.self ≡ length l.fn.self;
-  done : (k : ℕ) → k < l.key → held l.self k ≡ option_map (set_back g.T.Tag.ops l.t) (held l.fn.self k);
-  rest : (k : ℕ) → l.key ≤ k → held l.self k ≡ held l.fn.self k;
+  done : (k : ℕ) → k < l.key → slot_of_key l.self k ≡ option_map (set_back g.T.Tag.ops l.t) (slot_of_key l.fn.self k);
+  rest : (k : ℕ) → l.key ≤ k → slot_of_key l.self k ≡ slot_of_key l.fn.self k;
 }

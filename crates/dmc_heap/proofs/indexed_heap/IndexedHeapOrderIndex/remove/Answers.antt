@@ -2,7 +2,7 @@
 use Rattle.std.proofs.Common.{IsSome, length, drop, set, refl, sym, subst, arith}
 use Rattle.std.proofs.lemmas.List.{take_at, length-set}
 use Rattle.std.proofs.lemmas.Option.{slice_get_read, slice_get_within}
-use Rattle.dmc_index.specs.Index.{held}
+use Rattle.dmc_index.specs.Index.{slot_of_key}
 use Rattle.dmc_heap.specs.Heap.{IsSound, slots_of}
 use Rattle.dmc_heap.proofs.SoundLemmas.{key_in_room_if_held, found, held_entry, hole_to_remove, removed_inner, removed_last}
 use Rattle.dmc_heap.proofs.indexed_heap.IndexedHeapOrderIndex.remove.Goals as goal
@@ -24,7 +24,7 @@ settle-requires g c =
     let at = slice_get_read x.places.items (length x.places.items) c.args.key c.index-at.result.now refl in' c.index-at.ensures in
     let split = rw c.unwrap-last.ensures at c.pop.ensures.items in
     let sound = subst (λ h. IsSound g.R.Ord.cmp x.heap.cap h x.places.items) split c.self.invariant in
-    let still = subst (λ h. IsSome (held (slots_of h x.places.items) c.args.key)) split here in
+    let still = subst (λ h. IsSome (slot_of_key (slots_of h x.places.items) c.args.key)) split here in
     rw (c.deref_mut.ensures.value, c.deref_mut-then-at-len.ensures.value) (hole_to_remove g.R.Ord.cmp g.met.R.Ord.total _ c.pop.new.self.items c.unwrap-last.result x.places.items sound (omega (arith, x.places.ok.0, x.places.ok.1, x.places.small)) c.args.key c.index-at.result.now at still (omega (arith, c.if-at-len.true, c.len.ensures, c.pop.new.self.ok.0)))
 
 pub invariant_of-self : goal.invariant_of-self
@@ -35,7 +35,7 @@ invariant_of-self g c =
     let at = slice_get_read x.places.items (length x.places.items) c.args.key c.index-at.result.now refl in' c.index-at.ensures in
     let split = rw c.unwrap-last.ensures at c.pop.ensures.items in
     let sound = subst (λ h. IsSound g.R.Ord.cmp x.heap.cap h x.places.items) split c.self.invariant in
-    let still = subst (λ h. IsSome (held (slots_of h x.places.items) c.args.key)) split here in
+    let still = subst (λ h. IsSome (slot_of_key (slots_of h x.places.items) c.args.key)) split here in
     let settled = rw (c.deref_mut.ensures.value, c.deref_mut-then-at-len.ensures.value) at c.settle.ensures in
     let heap = take_at c.settle.new.heap (drop (length c.settle.new.heap) c.pop.new.self.items) c.pop.new.self.len (omega (arith, settled.size, c.pop.new.self.ok.0)) in
     let places = take_at c.settle.new.places (drop (length c.settle.new.places) (set x.places.items c.args.key 18446744073709551615)) x.places.len (omega (arith, settled.room, x.places.ok.0, length-set x.places.items c.args.key 18446744073709551615)) in
@@ -59,7 +59,7 @@ returns-then-at-len-clause-rest g c =
     let at = slice_get_read x.places.items (length x.places.items) c.args.key c.index-at.result.now refl in' c.index-at.ensures in
     let split = rw c.unwrap-last.ensures at c.pop.ensures.items in
     let sound = subst (λ h. IsSound g.R.Ord.cmp x.heap.cap h x.places.items) split c.self.invariant in
-    let still = subst (λ h. IsSome (held (slots_of h x.places.items) c.args.key)) split here in
+    let still = subst (λ h. IsSome (slot_of_key (slots_of h x.places.items) c.args.key)) split here in
     let settled = rw (c.deref_mut.ensures.value, c.deref_mut-then-at-len.ensures.value) at c.settle.ensures in
     let heap = take_at c.settle.new.heap (drop (length c.settle.new.heap) c.pop.new.self.items) c.pop.new.self.len (omega (arith, settled.size, c.pop.new.self.ok.0)) in
     let places = take_at c.settle.new.places (drop (length c.settle.new.places) (set x.places.items c.args.key 18446744073709551615)) x.places.len (omega (arith, settled.room, x.places.ok.0, length-set x.places.items c.args.key 18446744073709551615)) in
@@ -73,7 +73,7 @@ invariant_of-self-else-at-len g c =
     let at = slice_get_read x.places.items (length x.places.items) c.args.key c.index-at.result.now refl in' c.index-at.ensures in
     let split = rw c.unwrap-last.ensures at c.pop.ensures.items in
     let sound = subst (λ h. IsSound g.R.Ord.cmp x.heap.cap h x.places.items) split c.self.invariant in
-    let still = subst (λ h. IsSome (held (slots_of h x.places.items) c.args.key)) split here in
+    let still = subst (λ h. IsSome (slot_of_key (slots_of h x.places.items) c.args.key)) split here in
     rw c.pop.ensures.capacity ((removed_last g.R.Ord.cmp g.met.R.Ord.total _ c.pop.new.self.items c.unwrap-last.result x.places.items sound (omega (arith, x.places.ok.0, x.places.ok.1, x.places.small)) c.args.key c.index-at.result.now at still (omega (arith, c.if-at-len.false, c.len.ensures, c.pop.new.self.ok.0))).0)
 
 pub returns-else-at-len-clause-value : goal.returns-else-at-len-clause-value
@@ -94,5 +94,5 @@ returns-else-at-len-clause-rest g c =
     let at = slice_get_read x.places.items (length x.places.items) c.args.key c.index-at.result.now refl in' c.index-at.ensures in
     let split = rw c.unwrap-last.ensures at c.pop.ensures.items in
     let sound = subst (λ h. IsSound g.R.Ord.cmp x.heap.cap h x.places.items) split c.self.invariant in
-    let still = subst (λ h. IsSome (held (slots_of h x.places.items) c.args.key)) split here in
+    let still = subst (λ h. IsSome (slot_of_key (slots_of h x.places.items) c.args.key)) split here in
     rw (← c.self.view_is, split) ((removed_last g.R.Ord.cmp g.met.R.Ord.total _ c.pop.new.self.items c.unwrap-last.result x.places.items sound (omega (arith, x.places.ok.0, x.places.ok.1, x.places.small)) c.args.key c.index-at.result.now at still (omega (arith, c.if-at-len.false, c.len.ensures, c.pop.new.self.ok.0))).1)

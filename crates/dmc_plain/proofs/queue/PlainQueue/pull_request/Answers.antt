@@ -1,7 +1,7 @@
 -- No request is early, so the free ones are asked.
 use Rattle.std.proofs.Common.{◌≡◌, ◌∙◌, ℕ, sym, subst, ap, Option, Some, None}
 use Rattle.dmc_types.specs.declared.command.Command.TheVariants as commands
-use Rattle.dmc_tag.specs.Answers.{told_surely, pull_reply}
+use Rattle.dmc_tag.specs.Answers.{sure_call_reply, pull_reply}
 use Rattle.dmc_tag.specs.Best.{best, by_reservation, is_early}
 use Rattle.dmc_tag.specs.Rules as rules_of
 use Rattle.dmc_tag.specs.State.{State, effective}
@@ -20,7 +20,7 @@ returns g c =
     let ops = g.T.Tag.ops in
     let old = c.args.self.now in
     let t = c.effective-at.result in
-    let reply = told_surely pull_reply c.pull_free.result in
+    let reply = sure_call_reply pull_reply c.pull_free.result in
     let none = subst (λ rs. best (by_reservation ops) (is_early ops t) rs ≡ None) (c.deref.ensures.value ∙ ap (λ s. s.requests) c.self.view_is) (sym c.best_index.ensures.found ∙ ap (found_at c.deref.result.now) c.in_default.is) in
     let free = subst (λ early. Settles old c.pull_free.new.self (rules_of.pulled_early ops old t early) reply) (sym none) c.pull_free.ensures in
     settles_pull ops old c.pull_free.new.self c.args.at reply (subst (λ t. Settles old c.pull_free.new.self (rules_of.pulled ops old t) reply) c.effective-at.ensures free)

@@ -1,5 +1,5 @@
 use Rattle.dmc_types.specs.declared.command.Command.TheVariants.{Remove}
-use Rattle.dmc_tag.specs.Answers.{told_surely}
+use Rattle.dmc_tag.specs.Answers.{sure_call_reply}
 use Rattle.dmc_tag.specs.declared.reply.Reply.TheVariants.{Removed}
 use Rattle.dmc_tag.proofs.ForCallers.{tag_order, steps_exactly}
 use Rattle.dmc_plain.proofs.scheduler.PlainQueueScheduler.remove_by_client.Goals as goal
@@ -7,4 +7,4 @@ use Rattle.dmc_plain.proofs.scheduler.PlainQueueScheduler.remove_by_client.Goals
 pub returns : goal.returns
 returns g c =
     let order = tag_order g.T.Ord.cmp g.T.Tag.ops.compare g.met.T.Ord.total g.met.T.Tag.compares in
-    steps_exactly g.T.Tag.ops order c.args.self.now c.remove_by_client.new.self (Remove c.args.client) (told_surely Removed c.remove_by_client.result) c.remove_by_client.ensures
+    steps_exactly g.T.Tag.ops order c.args.self.now c.remove_by_client.new.self (Remove c.args.client) (sure_call_reply Removed c.remove_by_client.result) c.remove_by_client.ensures

@@ -1,5 +1,5 @@
 use Rattle.dmc_types.specs.declared.command.Command.TheVariants.{Pull}
-use Rattle.dmc_tag.specs.Answers.{told_surely, pull_reply}
+use Rattle.dmc_tag.specs.Answers.{sure_call_reply, pull_reply}
 use Rattle.dmc_tag.proofs.ForCallers.{tag_order, steps_exactly}
 use Rattle.dmc_pull.specs.Queue.{state_of}
 use Rattle.dmc_pull.proofs.scheduler.PullQueueScheduler.pull_request.Goals as goal
@@ -7,4 +7,4 @@ use Rattle.dmc_pull.proofs.scheduler.PullQueueScheduler.pull_request.Goals as go
 pub returns : goal.returns
 returns g c =
     let order = tag_order g.T.Ord.cmp g.T.Tag.ops.compare g.met.T.Ord.total g.met.T.Tag.compares in
-    steps_exactly g.T.Tag.ops order (state_of c.args.self.now) (state_of c.pull_request.new.self) (Pull c.args.at) (told_surely pull_reply c.pull_request.result) c.pull_request.ensures
+    steps_exactly g.T.Tag.ops order (state_of c.args.self.now) (state_of c.pull_request.new.self) (Pull c.args.at) (sure_call_reply pull_reply c.pull_request.result) c.pull_request.ensures

@@ -51,10 +51,7 @@ pub fn grant_first<T: Tag>(
     ensures rest { IfSome (record_at key roster.old.entries) (λ rec. roster.new ≡ with_record_at roster.old key (after_grant T.ops reduces rec)) }
     ensures kept { IfSome (record_at key roster.old.entries) (λ rec. IsRecord T.ops (after_grant T.ops reduces rec)) }
 {
-    match roster.at_mut(key) {
-        None => None,
-        Some(rec) => grant_on(rec, reduces),
-    }
+    grant_on(roster.at_mut(key), reduces)
 }
 
 /// The same on the record.
@@ -78,10 +75,7 @@ pub fn drain_at<T: Tag>(roster: &mut Roster<T>, key: usize) -> usize
     ensures rest { IfSome (record_at key roster.old.entries) (λ rec. roster.new ≡ with_record_at roster.old key (record rec { requests = [] })) }
     ensures kept { IfSome (record_at key roster.old.entries) (λ rec. IsRecord T.ops (record rec { requests = [] })) }
 {
-    match roster.at_mut(key) {
-        None => 0,
-        Some(rec) => rec.drain(),
-    }
+    roster.at_mut(key).drain()
 }
 
 /// Queues a request that comes at a moment. A refused growth changes nothing.
@@ -98,10 +92,7 @@ pub fn push_at<T: Tag>(
     ensures err { OnErr result (roster.new ≡ roster.old) }
     ensures kept { OnOk result (IfSome (record_at key roster.old.entries) (λ rec. IsRecord T.ops (record_of.pushed request at rec))) }
 {
-    match roster.at_mut(key) {
-        None => Err(AllocError),
-        Some(rec) => rec.push(request, at),
-    }
+    roster.at_mut(key).push(request, at)
 }
 
 /// Replaces the client's rates and their spacings. A reservation is given or taken only with nothing queued.
@@ -117,7 +108,5 @@ pub fn set_info_at<T: Tag>(
     ensures value { IfSome (record_at key roster.old.entries) (λ rec. roster.new ≡ with_record_at roster.old key (record rec { info = info; spacings = spacings })) }
     ensures kept { IfSome (record_at key roster.old.entries) (λ rec. IsRecord T.ops (record rec { info = info; spacings = spacings })) }
 {
-    if let Some(rec) = roster.at_mut(key) {
-        rec.set_info(info, spacings);
-    }
+    roster.at_mut(key).set_info(info, spacings);
 }

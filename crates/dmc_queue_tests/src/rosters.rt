@@ -3,7 +3,6 @@ ghost use Rattle.std.specs.Prelude.{◌==◌, not, []};
 
 use dmc_client::record::ClientRec;
 use dmc_roster::change::{RecordRule, RecordTest};
-use dmc_roster::fault::RosterFault;
 use dmc_roster::roster::Roster;
 use dmc_tag::spacing::spacings_for;
 use dmc_tick::tick::TickTag;
@@ -52,22 +51,36 @@ fn new_record(alloc: Global, at: Moment) -> Result<ClientRec<TickTag>, Fail> {
     Ok(ClientRec::new(alloc, info, spacings, at))
 }
 
+/// Registers a client that the roster does not have.
+fn add_new(
+    alloc: Global,
+    roster: &mut Roster<TickTag>,
+    id: ClientId,
+    at: Moment,
+) -> Result<usize, Fail> {
+    let rec = new_record(alloc, at)?;
+    if roster.find(id).is_some() {
+        return Err(Fail::from("registered already"));
+    }
+    if roster.len() >= 65_536 {
+        return Err(Fail::from("no room"));
+    }
+    Ok(roster.add(id, rec)?)
+}
+
 #[test]
 fn roster_calls(rt: HostRuntime) -> Result<(), Fail> {
     let mut roster = Roster::new(rt.alloc());
     for id in [5, 3, 8] {
         let told = roster.next_key();
-        let key = roster.add(ClientId(id), new_record(rt.alloc(), Moment::zero())?)?;
+        let key = add_new(rt.alloc(), &mut roster, ClientId(id), Moment::zero())?;
         assert_eq!(rt; key, told);
     }
-    let third = roster.find(ClientId(3)).ok_or("3 is registered")?;
-    roster.erase(third);
-    assert_eq!(rt; roster.len(), 2);
-    assert!(rt; roster.find(ClientId(3)).is_none());
-    let again = roster.add(ClientId(5), new_record(rt.alloc(), Moment::zero())?);
-    assert_eq!(rt; again, Err(RosterFault::Known));
-    assert_eq!(rt; roster.len(), 2);
-    assert!(rt; roster.find(ClientId(8)).is_some());
+    assert_eq!(rt; roster.len(), 3);
+    assert!(rt; roster.find(ClientId(4)).is_none());
+    let last = roster.find(ClientId(8)).ok_or("8 is registered")?;
+    assert!(rt; roster.at_mut(last).pop().is_none());
+    assert!(rt; roster.at(last).is_idle());
     Ok(())
 }
 
@@ -76,7 +89,7 @@ fn roster_passes(rt: HostRuntime) -> Result<(), Fail> {
     let mut roster = Roster::new(rt.alloc());
     let (early, late) = (Moment::zero(), Moment::new(7)?);
     for (id, at) in [(5, late), (3, late), (8, early)] {
-        roster.add(ClientId(id), new_record(rt.alloc(), at)?)?;
+        add_new(rt.alloc(), &mut roster, ClientId(id), at)?;
     }
     assert_eq!(rt; roster.count(&Arrived { at: late }), 2);
     let key = roster.find(ClientId(3)).ok_or("3 is registered")?;

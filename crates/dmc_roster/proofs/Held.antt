@@ -1,5 +1,5 @@
 -- What the entries are, of ids with their keys and a record or nothing at each key.
-use Rattle.std.proofs.Common.{◌≡◌, ℕ, zero, suc, ◌+◌, ◌≤◌, Bool, true, false, not, cond, List, [], ◌∷◌, ◌++◌, map, length, Option, Some, None, refl, sym, ap, ◌∙◌, subst, arith}
+use Rattle.std.proofs.Common.{◌≡◌, ℕ, zero, suc, ◌+◌, Bool, true, false, cond, List, [], ◌∷◌, ◌++◌, map, length, Option, Some, None, refl, sym, ap, ◌∙◌, subst, arith}
 use Rattle.std.specs.Prelude.{filter, filter_map, is_some, slice_index_or, slice_set, ◌==◌}
 use Rattle.std.specs.Option.{option_map, option_map_or}
 use Rattle.std.specs.List.{find, cons_option, AllByRecursion}
@@ -22,10 +22,6 @@ pub use Rattle.dmc_tag.proofs.Lists.{length_filtered}
 pub use Rattle.dmc_tag.proofs.Booleans.{eqb_turned}
 
 -- ---- options
-
-pub none_of : {X : Type 0} (o : Option X) → is_some o ≡ false → o ≡ None
-none_of None e = refl
-none_of (Some x) e = cc
 
 length_cons : {X : Type 0} (o : Option X) (xs : List X) → is_some o ≡ true → length (cons_option o xs) ≡ suc (length xs)
 length_cons None xs e = cc
@@ -53,8 +49,9 @@ module _ {T : Type 0} where
       ∙ ap (cond (is_client id p.0) (Some p.1)) (named slots id test same ids h.1)
       ∙ ap (λ b. cond b (Some p.1) (lookup test ids)) (sym (same p.0))
 
-  pub is_named : (slots : List (Option (Rec T))) (id : ClientId) (test : ClientId → Bool) → ((other : ClientId) → test other ≡ is_client id other) → (ids : List (ClientId × ℕ)) → Held slots ids → is_some (entry_named id (entries_of ids slots)) ≡ is_some (lookup test ids)
-  is_named slots id test same ids h = sym (is_some_mapped (λ e. e.key) (entry_named id (entries_of ids slots))) ∙ ap is_some (named slots id test same ids h)
+  -- an id that no entry has is none of the ids
+  pub absent : (slots : List (Option (Rec T))) (id : ClientId) (test : ClientId → Bool) → ((other : ClientId) → test other ≡ is_client id other) → (ids : List (ClientId × ℕ)) → Held slots ids → entry_named id (entries_of ids slots) ≡ None → lookup test ids ≡ None
+  absent slots id test same ids h none = sym (named slots id test same ids h) ∙ ap (option_map (λ e. e.key)) none
 
   -- ---- at
 
@@ -109,35 +106,6 @@ module _ {T : Type 0} where
     pub counted : (ids : List (ClientId × ℕ)) → length (filter (λ e. passes e.rec) (entries_by at ids)) ≡ length (filter (λ key. option_map_or passes (at key) false) (map (λ p. p.1) ids))
     counted [] = refl
     counted (p ∷ ids) = counted_at p (entries_by at ids) (filter (λ key. option_map_or passes (at key) false) (map (λ p. p.1) ids)) (at p.1) (counted ids)
-
-  -- ---- erase
-
-  module _ (key : ℕ) (old new : ℕ → Option (Rec T)) (others : (other : ℕ) → (other ≡ key → ⊥) → new other ≡ old other) where
-    filter_cons : (p : ClientId × ℕ) (es : List (Entry T)) (o : Option (Rec T)) → filter (λ e. not (e.key == key)) (cons_option (option_map (λ rec. record { id = p.0; key = p.1; rec = rec }) o) es) ≡ cond (not (p.1 == key)) (cons_option (option_map (λ rec. record { id = p.0; key = p.1; rec = rec }) o) (filter (λ e. not (e.key == key)) es)) (filter (λ e. not (e.key == key)) es)
-    filter_cons p es None = at (not (p.1 == key)) where
-      at : (b : Bool) → filter (λ e. not (e.key == key)) es ≡ cond b (filter (λ e. not (e.key == key)) es) (filter (λ e. not (e.key == key)) es)
-      at true = refl
-      at false = refl
-    filter_cons p es (Some rec) = refl
-
-    same_entry : (p : ClientId × ℕ) (es : List (Entry T)) (b : Bool) → (p.1 == key) ≡ b → cond (not b) (cons_option (option_map (λ rec. record { id = p.0; key = p.1; rec = rec }) (new p.1)) es) es ≡ cond (not b) (cons_option (option_map (λ rec. record { id = p.0; key = p.1; rec = rec }) (old p.1)) es) es
-    same_entry p es true e = refl
-    same_entry p es false e = ap (λ o. cons_option (option_map (λ rec. record { id = p.0; key = p.1; rec = rec }) o) es) (others p.1 (eqb-false p.1 key e))
-
-    pub erased : (ids : List (ClientId × ℕ)) → entries_by new (filter (λ p. not (p.1 == key)) ids) ≡ filter (λ e. not (e.key == key)) (entries_by old ids)
-    erased [] = refl
-    erased (p ∷ ids) =
-        entries_cond new p (filter (λ p. not (p.1 == key)) ids) (not (p.1 == key))
-        ∙ same_entry p (entries_by new (filter (λ p. not (p.1 == key)) ids)) (p.1 == key) refl
-        ∙ ap (λ es. cond (not (p.1 == key)) (cons_option (option_map (λ rec. record { id = p.0; key = p.1; rec = rec }) (old p.1)) es) es) (erased ids)
-        ∙ sym (filter_cons p (entries_by old ids) (old p.1))
-
-    pub held_others : (ids : List (ClientId × ℕ)) → AllByRecursion (λ p. is_some (old p.1) ≡ true) ids → AllByRecursion (λ p. is_some (new p.1) ≡ true) (filter (λ p. not (p.1 == key)) ids)
-    held_others [] h = tt
-    held_others (p ∷ ids) h = at (held_others ids h.1) (p.1 == key) refl where
-      at : AllByRecursion (λ p. is_some (new p.1) ≡ true) (filter (λ p. not (p.1 == key)) ids) → (b : Bool) → (p.1 == key) ≡ b → AllByRecursion (λ p. is_some (new p.1) ≡ true) (cond (not b) (p ∷ filter (λ p. not (p.1 == key)) ids) (filter (λ p. not (p.1 == key)) ids))
-      at more true e = more
-      at more false e = (ap is_some (others p.1 (eqb-false p.1 key e)) ∙ h.0, more)
 
   -- ---- retain
 

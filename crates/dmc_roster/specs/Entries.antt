@@ -1,12 +1,11 @@
 -- What contracts see of a roster: its clients in order of registration.
-use Rattle.std.specs.Prelude.{◌≡◌, ℕ, ◌+◌, ◌≤◌, ◌<◌, Bool, true, false, List, [], ◌∷◌, ◌++◌, map, length, Option, Some, None, is_some, ◌==◌, filter_map, slice_index_or, Result, Ok, Err, if◌then◌else◌, ⊤}
+use Rattle.std.specs.Prelude.{◌≡◌, ℕ, ◌+◌, ◌≤◌, Bool, true, false, List, [], ◌∷◌, ◌++◌, map, length, Option, Some, None, is_some, ◌==◌, filter_map, slice_index_or, Result, Ok, Err, if◌then◌else◌, ⊤}
 use Rattle.std.specs.Option.{option_map}
 use Rattle.std.specs.List.{find, AllByRecursion}
+use Rattle.std.specs.declared.alloc.AllocError.{AllocError}
 use Rattle.dmc_types.specs.declared.ids.ClientId.{ClientId}
 use Rattle.dmc_tag.specs.State.{is_client}
 use Rattle.dmc_client.specs.Record.{Rec}
-use Rattle.dmc_roster.specs.declared.fault.RosterFault.{RosterFault}
-use Rattle.dmc_roster.specs.declared.fault.RosterFault.TheVariants.{Known, Clients, Memory}
 
 -- a registered client: its id, the key that its record is reached by, and the record
 pub record Entry (T : Type 0) : Type 0 where
@@ -46,14 +45,11 @@ abbrev pub AreDistinct : {T : Type 0} → List (Entry T) → Type 0
 AreDistinct [] = ⊤
 AreDistinct (e ∷ entries) = AllByRecursion (λ f. (is_client e.id f.id ≡ false) × ((e.key == f.key) ≡ false)) entries × AreDistinct entries
 
--- what an add answers: the key that was told, and the client is last; or a refusal, which leaves all
-abbrev pub Adds : {T : Type 0} → Listing T → Listing T → ClientId → Rec T → Result ℕ RosterFault → Type 0
+-- what an add of a new client comes to: the client is last, under the key that was told; or memory lacks, and all stays
+abbrev pub Adds : {T : Type 0} → Listing T → Listing T → ClientId → Rec T → Result ℕ AllocError → Type 0
 Adds old new id rec (Ok key) =
-    (entry_named id old.entries ≡ None) × (length old.entries < 65536) × (key ≡ old.next_key)
-    × (new.entries ≡ old.entries ++ record { id = id; key = key; rec = rec } ∷ []) × AreDistinct new.entries
-Adds old new id rec (Err Known) = (is_some (entry_named id old.entries) ≡ true) × (new ≡ old)
-Adds old new id rec (Err Clients) = (entry_named id old.entries ≡ None) × (length old.entries ≡ 65536) × (new ≡ old)
-Adds old new id rec (Err Memory) = (entry_named id old.entries ≡ None) × (length old.entries < 65536) × (new ≡ old)
+    (key ≡ old.next_key) × (new.entries ≡ old.entries ++ record { id = id; key = key; rec = rec } ∷ []) × AreDistinct new.entries
+Adds old new id rec (Err fault) = new ≡ old
 
 -- ---- how it is kept: ids with their keys, in order, and a record or nothing at each key
 

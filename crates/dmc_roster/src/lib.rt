@@ -2,5 +2,4 @@
 #![tactic(auto)]
 
 pub mod change;
-pub mod fault;
 pub mod roster;

@@ -1,18 +1,15 @@
 //! The roster.
-ghost use Rattle.std.specs.Prelude.{◌≡◌, ◌==◌, ◌≤◌, true, false, not, length, [], ◌∷◌, ◌++◌, None, IfOk, IfSome, OnErr, map, filter, Some, is_some};
+ghost use Rattle.std.specs.Prelude.{◌≡◌, ◌≤◌, ◌<◌, true, false, length, [], None, IfSome, map, filter, Some, is_some};
 ghost use Rattle.std.specs.Option.{option_map, option_map_or};
-ghost use Rattle.slab.specs.Slab.{get, Updates};
+ghost use Rattle.slab.specs.Slab.{get};
 ghost use Rattle.std.specs.List.{AllByRecursion};
-ghost use Rattle.std.specs.Map.{lookup};
 ghost use Rattle.dmc_client.specs.Record.{IsRecord};
 ghost use Rattle.dmc_roster.specs.Entries as entries;
 ghost use Rattle.dmc_roster.specs.contracts.roster.Roster.{the_row};
 ghost use Rattle.dmc_client.specs.contracts.record.ClientRec.{the_row as record_row};
-ghost use Rattle.std.specs.Borrow.{LendsIf, sem};
-ghost use Rattle.std.specs.Option.{option_copied_mut};
+ghost use Rattle.std.specs.Borrow.{Lends, sem};
 
 use crate::change::{RecordRule, RecordTest};
-use crate::fault::RosterFault;
 use dmc_client::record::ClientRec;
 use dmc_tag::tag::Tag;
 use dmc_types::ids::ClientId;
@@ -20,9 +17,6 @@ use indexmap::IndexMap;
 use slab::Slab;
 use std::alloc::{AllocError, Global};
 use std::marker::Model;
-
-/// The most clients that a roster holds.
-const MOST: usize = 65_536;
 
 /// The registered clients, in order of registration: an id, the key of its record, and the record. No two have one id or
 /// one key, and there are at most 65,536.
@@ -88,37 +82,29 @@ impl<T: Tag> Roster<T> {
         self.records.get(key).unwrap()
     }
 
-    /// The record under a key, to change; none where the key is not held.
-    pub fn at_mut(&mut self, key: usize) -> Option<&mut ClientRec<T>>
-        ensures* writes_back { sem 𝓛 (LendsIf (the_row T.row (record { ops = T.ops; fraction = T.fraction; is_value = T.is_value; whole = T.whole }) (record { cmp = T.cmp }) (record { eq = T.eq }) (record { partial_cmp = T.partial_cmp })) (record_row T.row (record { ops = T.ops; fraction = T.fraction; is_value = T.is_value; whole = T.whole }) (record { cmp = T.cmp }) (record { eq = T.eq }) (record { partial_cmp = T.partial_cmp })) self.entry result (λ rec. entries.with_record_at self.old key rec) self.old) }
-        ensures value { is_some (entries.entry_keyed key self.old.entries) ≡ true → option_copied_mut result ≡ entries.record_at key self.old.entries }
-    {
-        self.records.get_mut(key)
-    }
-
-    /// Erases the client under a key. The others keep their order.
-    pub fn erase(&mut self, key: usize)
+    /// The record under a key, to change.
+    pub fn at_mut(&mut self, key: usize) -> &mut ClientRec<T>
         requires { is_some (entries.entry_keyed key self.old.entries) ≡ true }
-        ensures { self.new.entries ≡ filter (λ e. not (e.key == key)) self.old.entries }
+        ensures* writes_back { sem 𝓛 (Lends (the_row T.row (record { ops = T.ops; fraction = T.fraction; is_value = T.is_value; whole = T.whole }) (record { cmp = T.cmp }) (record { eq = T.eq }) (record { partial_cmp = T.partial_cmp })) (record_row T.row (record { ops = T.ops; fraction = T.fraction; is_value = T.is_value; whole = T.whole }) (record { cmp = T.cmp }) (record { eq = T.eq }) (record { partial_cmp = T.partial_cmp })) self.entry result (λ rec. entries.with_record_at self.old key rec)) }
+        ensures value { entries.record_at key self.old.entries ≡ Some result.now }
     {
-        drop_key(&mut self.ids, key);
-        self.records.try_remove(key);
+        &mut self.records[key]
     }
 
-    /// Registers a client; refused `Known`, `Clients`, `Memory`, in this order. It answers the key of the record. No two
-    /// clients then have one id or one key.
-    pub fn add(&mut self, id: ClientId, rec: ClientRec<T>) -> Result<usize, RosterFault>
+    /// Registers a client, and answers the key of its record. No two clients then have one id or one key. A refused growth
+    /// changes nothing.
+    pub fn add(&mut self, id: ClientId, rec: ClientRec<T>) -> Result<usize, AllocError>
+        requires new { entries.entry_named id self.old.entries ≡ None }
+        requires room { length self.old.entries < 65536 }
         ensures { entries.Adds self.old self.new id rec result }
     {
-        if self.ids.contains_key(&id) {
-            return Err(RosterFault::Known);
-        }
-        if self.ids.len() >= MOST {
-            return Err(RosterFault::Clients);
-        }
-        let Ok(key) = insert_new(&mut self.ids, &mut self.records, id, rec) else {
-            return Err(RosterFault::Memory);
+        self.ids.reserve(1)?;
+        let Ok(key) = self.records.insert(rec) else {
+            return Err(AllocError);
         };
+        if self.ids.insert(id, key).is_err() {
+            unreachable!();
+        }
         Ok(key)
     }
 
@@ -184,41 +170,4 @@ fn drop_vacant<T: Tag>(ids: &mut IndexMap<ClientId, usize>, records: &Slab<Clien
             ensures { (result ≡ is_some (get records.entry.now key.old)) × (key.new ≡ key.old) }
         { records.contains(*key) },
     );
-}
-
-/// Drops the id of a key.
-fn drop_key(ids: &mut IndexMap<ClientId, usize>, key: usize)
-    ensures { ids.new.entries ≡ filter (λ p. not (p.1 == key)) ids.old.entries }
-{
-    ids.retain(
-        |_id: &ClientId, at: &mut usize| -> bool
-            ensures { (result ≡ not (at.old == key)) × (at.new ≡ at.old) }
-        { *at != key },
-    );
-}
-
-/// Stores a record, and its id last. A refused growth leaves both.
-fn insert_new<T: Tag>(
-    ids: &mut IndexMap<ClientId, usize>,
-    records: &mut Slab<ClientRec<T>>,
-    id: ClientId,
-    rec: ClientRec<T>,
-) -> Result<usize, AllocError>
-    requires { lookup (λ other. id.0 == other.0) ids.old.entries ≡ None }
-    ensures key { IfOk result (λ key. key ≡ records.old.vacant_key) }
-    ensures vacant { IfOk result (λ key. get records.old key ≡ None) }
-    ensures updates { IfOk result (λ key. Updates records.old records.new key (Some rec)) }
-    ensures last { IfOk result (λ key. ids.new.entries ≡ ids.old.entries ++ (id, key) ∷ []) }
-    ensures ids { OnErr result (ids.new.entries ≡ ids.old.entries) }
-    ensures slots { OnErr result (records.new.slots ≡ records.old.slots) }
-    ensures next { OnErr result (records.new.vacant_key ≡ records.old.vacant_key) }
-{
-    ids.reserve(1)?;
-    let Ok(key) = records.insert(rec) else {
-        return Err(AllocError);
-    };
-    if ids.insert(id, key).is_err() {
-        unreachable!();
-    }
-    Ok(key)
 }

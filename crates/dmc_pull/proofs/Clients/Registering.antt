@@ -3,7 +3,6 @@ use Rattle.std.proofs.Common.{◌≡◌, ℕ, suc, ◌+◌, ◌-◌, ◌<◌, �
 use Rattle.std.specs.Prelude.{Result, Ok, Err}
 use Rattle.std.specs.Option.{option_map, is_some}
 use Rattle.std.specs.List.{AllByRecursion}
-use Rattle.std.specs.Result.{is_err}
 use Rattle.std.proofs.lemmas.Bool.{le-leb, lt-leb}
 use Rattle.std.proofs.lemmas.List.{length-append, length-replicate}
 use Rattle.dmc_types.specs.Values.{Rates}
@@ -17,8 +16,6 @@ use Rattle.dmc_tag.specs.Rules.{can_register}
 use Rattle.dmc_tag.specs.declared.spacing.Spacings.{Spacings}
 use Rattle.dmc_client.specs.Record.{Rec, client_of}
 use Rattle.dmc_roster.specs.Entries.{Entry, Listing, entry_named, Adds, AreDistinct}
-use Rattle.dmc_roster.specs.declared.fault.RosterFault.{RosterFault}
-use Rattle.dmc_roster.specs.declared.fault.RosterFault.TheVariants as faults
 use Rattle.dmc_index.specs.Index.{slot_of_key}
 use Rattle.dmc_heads.specs.declared.head.Head.{Head}
 use Rattle.dmc_pull.specs.Standing.{clients_in, requests_in}
@@ -104,16 +101,5 @@ has_room {X} slots more key room e h =
 -- ---- what an add to the roster answers
 
 module _ {T : Type 0} (old new : Listing T) (id : ClientId) (rec : Rec T) where
-  pub not_added : (answer : Result ℕ RosterFault) → is_err answer ≡ true → Adds old new id rec answer → new ≡ old
-  not_added (Ok key) e adds = cc
-  not_added (Err faults.Known) e adds = adds.1
-  not_added (Err faults.Clients) e adds = adds.2
-  not_added (Err faults.Memory) e adds = adds.2
-
-  pub distinct_added : (answer : Result ℕ RosterFault) → is_err answer ≡ false → Adds old new id rec answer → AreDistinct new.entries
-  distinct_added (Ok key) e adds = adds.4
-  distinct_added (Err fault) e adds = cc
-
-  pub was_added : (answer : Result ℕ RosterFault) → is_err answer ≡ false → Adds old new id rec answer → new.entries ≡ old.entries ++ record { id = id; key = old.next_key; rec = rec } ∷ []
-  was_added (Ok key) e adds = adds.3 ∙ ap (λ k. old.entries ++ record { id = id; key = k; rec = rec } ∷ []) adds.2
-  was_added (Err fault) e adds = cc
+  pub was_added : (key : ℕ) → Adds old new id rec (Ok key) → new.entries ≡ old.entries ++ record { id = id; key = old.next_key; rec = rec } ∷ []
+  was_added key adds = adds.1 ∙ ap (λ k. old.entries ++ record { id = id; key = k; rec = rec } ∷ []) adds.0

@@ -63,9 +63,7 @@ impl<T: Tag, I: Indexes<T>> PullQueue<T, I> {
             return Err(QueueFault::Memory);
         };
         self.heads.0.reserve(room)?;
-        if self.roster.add(client, rec).is_err() {
-            return Err(QueueFault::Memory);
-        }
+        self.roster.add(client, rec)?;
         self.last_moment = at;
         Ok(())
     }

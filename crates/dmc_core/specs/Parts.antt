@@ -1,6 +1,7 @@
 -- What the core keeps, and what is true of it.
-use Rattle.std.specs.Prelude.{◌≡◌, ℕ, ◌+◌, ◌<◌, ◌==◌, nat_le, if◌then◌else◌, List, map, length, position, sum_by, slice_index_or, Result, Ok}
-use Rattle.std.specs.List.{AllByRecursion}
+use Rattle.std.specs.Prelude.{◌≡◌, ℕ, ◌+◌, ◌<◌, ◌==◌, true, nat_le, if◌then◌else◌, is_some, List, map, length, position, sum_by, slice_index_or, Result, Ok}
+use Rattle.std.specs.List.{AllByRecursion, cons_option}
+use Rattle.std.specs.VecDeque.{deque_len, deque_capacity}
 use Rattle.std.specs.Option.{ok_or}
 use Rattle.dmc_types.specs.declared.ids.ClientId.{ClientId}
 use Rattle.dmc_types.specs.declared.ids.ServerId.{ServerId}
@@ -15,7 +16,11 @@ use Rattle.dmc_core.specs.declared.pair.Pairing.{Pairing}
 use Rattle.dmc_core.specs.declared.server.CoreServer.{CoreServer}
 
 abbrev pub pair_of : Pairing → Pair
-pair_of p = record { flight = p.flight.items; reservation = p.reservation; priority = p.priority }
+pair_of p = record { flight = cons_option p.flight.oldest p.flight.later.items; reservation = p.reservation; priority = p.priority }
+
+-- one more message has room
+abbrev pub HasRoom : Pairing → Type 0
+HasRoom p = is_some p.flight.oldest ≡ true → deque_len p.flight.later < deque_capacity p.flight.later
 
 -- the same grants wait for their responses at each server
 pub record KeepsGrants (old new : List Pair) : Type 0 where

@@ -22,8 +22,8 @@ use std::marker::Model;
 ///
 /// Contracts see each server's queue, and each client with its tracker's numbers, messages and counts. Which states of a
 /// cluster run the core stands for says `StandsForRun` (`specs/Core.antt`); what a run is and what an event makes of it,
-/// `specs/Run.antt` and `specs/Events.antt`. A client is found by a hash of its id, where it is not the one that was found last or
-/// the next, and a server by its index. No call walks over clients or servers but inside a queue, as a clean does.
+/// `specs/Run.antt` and `specs/Events.antt`. A client is found where a table of hints has it, or else by a hash of its id, and
+/// a server by its index. No call walks over clients or servers but inside a queue, as a clean does.
 #[derive(Drop)]
 pub struct ClusterCore<T: Tag> {
     cluster: Cluster<PullQueue<T, HeapIndexes>>,

@@ -6,17 +6,21 @@ use dmc_scene::client::SceneClient;
 use dmc_types::ids::ClientId;
 use indexmap::IndexSet;
 use std::alloc::{AllocError, Global};
-use std::cell::Cell;
 use std::marker::Model;
+
+/// An odd number whose products have their high bits far apart, for ids that are close together and for ids that are evenly
+/// spaced.
+const SPREAD: u32 = 0x9E37_79B1;
 
 /// The ids of a scene's clients, in the scene's order.
 ///
-/// A client that one event names is often named by the next one too, or the client after it is. So the place that was found last
-/// is kept, and an id is looked for there before it is hashed.
+/// Each event of a cluster looks for a client. So a table has for each id, by a product of it, the place of a client that may be
+/// the one: that place is looked at first, and an id is hashed only where another stands there.
 #[derive(Drop)]
 pub struct ClientIds {
     ids: IndexSet<ClientId>,
-    recent: Cell<usize>,
+    // Places that may be those of the ids that have these slots.
+    hints: Vec<usize>,
 }
 
 impl Model for ClientIds {
@@ -38,10 +42,8 @@ impl ClientIds {
         for client in clients {
             ids.insert(client.id())?;
         }
-        Ok(ClientIds {
-            ids,
-            recent: Cell::new(0),
-        })
+        let hints = hints_for(alloc, ids.as_slice())?;
+        Ok(ClientIds { ids, hints })
     }
 
     /// The place of a client, if there is one of this id.
@@ -49,32 +51,46 @@ impl ClientIds {
         ensures index { result ≡ position (λ id. client.0 == id.0) self.now }
         ensures within { IfSome result (λ place. place < length self.now) }
     {
-        let place = self.find(client)?;
-        self.recent.set(place);
-        Some(place)
-    }
-
-    fn find(&self, client: ClientId) -> Option<usize>
-        ensures index { result ≡ position (λ id. client.0 == id.0) self.now }
-        ensures within { IfSome result (λ place. place < length self.now) }
-    {
-        if let Some(place) = find_near(self.ids.as_slice(), self.recent.get(), client) {
+        let hint = hint_at(&self.hints, client);
+        if let Some(place) = find_at(self.ids.as_slice(), hint, client) {
             return Some(place);
         }
         self.ids.get_index_of(&client)
     }
 }
 
-/// Looks for a client at a place and at the one after it.
-fn find_near(ids: &[ClientId], place: usize, client: ClientId) -> Option<usize>
+/// Looks for a client at a place.
+fn find_at(ids: &[ClientId], place: usize, client: ClientId) -> Option<usize>
     ensures { IfSome result (λ found. slice_get ids.now found ≡ Some client) }
 {
     if ids.get(place) == Some(&client) {
         return Some(place);
     }
-    let next = place.wrapping_add(1);
-    if ids.get(next) == Some(&client) {
-        return Some(next);
-    }
     None
+}
+
+/// A table of hints for these ids, with some room between them. Where two have one slot, the later one has it.
+fn hints_for(alloc: Global, ids: &[ClientId]) -> Result<Vec<usize>, AllocError> {
+    let mut hints = vec![in alloc; 0; ids.len().saturating_mul(4)]?;
+    for (place, id) in ids.iter().enumerate() {
+        let slot = slot_of(*id, hints.len());
+        if let Some(hint) = hints.get_mut(slot) {
+            *hint = place;
+        }
+    }
+    Ok(hints)
+}
+
+/// The place that the hints give for a client.
+fn hint_at(hints: &[usize], client: ClientId) -> usize {
+    hints
+        .get(slot_of(client, hints.len()))
+        .copied()
+        .unwrap_or(0)
+}
+
+/// The slot of an id among so many.
+fn slot_of(client: ClientId, slots: usize) -> usize {
+    let spread = u64::from(client.0.wrapping_mul(SPREAD));
+    (spread.wrapping_mul(slots as u64) >> 32) as usize
 }

@@ -6,6 +6,7 @@ mod client;
 mod cluster;
 pub mod cluster_core;
 pub mod event;
+mod flight;
 pub mod ids;
 mod opening;
 mod pair;

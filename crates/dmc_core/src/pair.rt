@@ -1,13 +1,12 @@
 //! What is under way between a client and a server.
-ghost use Rattle.std.specs.Prelude.{◌≡◌, ◌<◌, ◌∷◌, ◌++◌, [], drop, slice_get, nat_le, length, OnOk};
-ghost use Rattle.std.specs.VecDeque.{deque_len, deque_capacity};
-ghost use Rattle.dmc_core.specs.Parts.{pair_of};
+ghost use Rattle.std.specs.Prelude.{◌≡◌, ◌∷◌, ◌++◌, [], drop, slice_get, nat_le, length, OnOk};
+ghost use Rattle.dmc_core.specs.Parts.{pair_of, HasRoom};
 ghost use Rattle.dmc_core.specs.Run.{no_pair, with_flight, grants, with_grants, most_in_flight};
 
 use crate::event::Message;
+use crate::flight::Flight;
 use dmc_types::config::PhaseType;
 use std::alloc::{AllocError, Global};
-use std::collections::VecDeque;
 
 /// The most messages in flight.
 const MOST_IN_FLIGHT: usize = 1 << 20;
@@ -15,12 +14,12 @@ const MOST_IN_FLIGHT: usize = 1 << 20;
 /// What is under way between a client and a server.
 #[derive(Drop)]
 pub struct Pairing {
-    /// Messages that were stamped and have not yet arrived, oldest first.
-    pub flight: VecDeque<Message>,
     /// Grants in the constraint phase that wait for their responses.
     pub reservation: u32,
     /// Grants in the weight phase that wait for their responses.
     pub priority: u32,
+    /// Messages that were stamped and have not yet arrived, oldest first.
+    pub flight: Flight,
 }
 
 impl Pairing {
@@ -29,9 +28,9 @@ impl Pairing {
         ensures { pair_of result ≡ no_pair }
     {
         Pairing {
-            flight: VecDeque::new(alloc),
             reservation: 0,
             priority: 0,
+            flight: Flight::new(alloc),
         }
     }
 
@@ -45,31 +44,31 @@ impl Pairing {
     /// Makes room for one more message.
     pub fn reserve(&mut self) -> Result<(), AllocError>
         ensures same { pair_of self.new ≡ pair_of self.old }
-        ensures room { OnOk result (deque_len self.new.flight < deque_capacity self.new.flight) }
+        ensures room { OnOk result (HasRoom self.new) }
     {
-        self.flight.reserve(1)
+        self.flight.reserve()
     }
 
     /// Puts a message behind the others, in the room that was made.
     pub fn send(&mut self, message: Message)
-        requires { deque_len self.old.flight < deque_capacity self.old.flight }
+        requires { HasRoom self.old }
         ensures { pair_of self.new ≡ with_flight ((pair_of self.old).flight ++ message ∷ []) (pair_of self.old) }
     {
-        self.flight.push_back_reserved(message);
+        self.flight.send(message);
     }
 
     /// The oldest message in flight.
     pub fn oldest(&self) -> Option<Message>
         ensures { result ≡ slice_get (pair_of self.now).flight 0 }
     {
-        self.flight.front().copied()
+        self.flight.oldest
     }
 
     /// Takes out the oldest message.
     pub fn take_oldest(&mut self)
         ensures { pair_of self.new ≡ with_flight (drop 1 (pair_of self.old).flight) (pair_of self.old) }
     {
-        self.flight.pop_front();
+        self.flight.take_oldest();
     }
 
     /// How many grants of a phase wait for their responses.

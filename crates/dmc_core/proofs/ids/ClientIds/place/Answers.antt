@@ -1,7 +1,7 @@
 use Rattle.std.proofs.Common.{◌≡◌, ◌<◌, length, slice_get, Some, sym, rules}
 use Rattle.std.proofs.lemmas.Option.{slice_get_within}
 use Rattle.dmc_tag.proofs.Ids.{position_at}
-use Rattle.dmc_core.proofs.ids.ClientIds.find.Goals as goal
+use Rattle.dmc_core.proofs.ids.ClientIds.place.Goals as goal
 
 pub returns-in-Some-clause-index : goal.returns-in-Some-clause-index
 returns-in-Some-clause-index c =

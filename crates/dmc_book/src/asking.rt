@@ -28,7 +28,6 @@ use dmc_types::moment::Moment;
 use dmc_types::params::ReqParams;
 use dmc_types::refusal::{QueueFault, Refusal};
 use indexmap::IndexSet;
-use std::cell::Cell;
 
 /// What the queue makes of an add.
 #[derive(Clone, Copy)]
@@ -38,9 +37,10 @@ pub(crate) enum Added<T> {
     Memory,
 }
 
-/// Hands an add to the queue.
+/// Hands an add to the queue. The client is looked for at a place in order of registration first.
 pub(crate) fn ask_to_add<T: Tag, I: Indexes<T>>(
     queue: &mut PullQueue<T, I>,
+    near: usize,
     client: ClientId,
     token: Token,
     params: ReqParams,
@@ -48,7 +48,7 @@ pub(crate) fn ask_to_add<T: Tag, I: Indexes<T>>(
 ) -> Added<T>
     ensures { Steps T.ops (state_of queue.old) (state_of queue.new) (commands.Add client token params at) (added_reply result) }
 {
-    match queue.add_request(client, token, params, at) {
+    match queue.add_request_near(near, client, token, params, at) {
         Ok(tags) => Added::Tagged(tags),
         Err(QueueFault::Refused(refusal)) => Added::Refused(refusal),
         Err(QueueFault::Memory) => Added::Memory,
@@ -70,13 +70,12 @@ fn ask_to_pull<T: Tag, I: Indexes<T>, S: Setup>(
     }
 }
 
-/// Hands a command that is not an Add to the queue. The place of a granted client's desk is left in `found`.
+/// Hands a command that is not an Add to the queue. The pass keeps the place of a granted client's desk.
 pub(crate) fn ask<T: Tag, I: Indexes<T>, S: Setup>(
     queue: &mut PullQueue<T, I>,
     clients: &IndexSet<ClientId>,
     desks: &[ClientDesk<S>],
     pass: &WorkerPass<S>,
-    found: &Cell<usize>,
     command: &Command,
 ) -> Result<Reply<T>, RunFault>
     requires plain { is_add command.now ≡ false }
@@ -88,7 +87,6 @@ pub(crate) fn ask<T: Tag, I: Indexes<T>, S: Setup>(
             clients,
             desks,
             pass,
-            found,
         };
         return ask_to_pull(queue, &test, at);
     }

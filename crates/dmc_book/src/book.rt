@@ -41,7 +41,6 @@ use dmc_types::ids::{ClientId, ServerId, Token, WorkerId};
 use dmc_types::moment::Moment;
 use indexmap::IndexSet;
 use std::alloc::Global;
-use std::cell::Cell;
 use std::marker::Model;
 use std::mem::replace;
 
@@ -233,13 +232,11 @@ impl<T: Tag, I: Indexes<T>, S: Setup> QueueBook<T, I, S> {
             return Err(RunFault::NoDesk);
         }
         self.history.reserve_one()?;
-        let found = Cell::new(0);
         let reply = ask(
             &mut self.queue.0,
             &self.clients,
             &self.desks,
             pass,
-            &found,
             &command,
         )?;
         let event = Event {
@@ -250,7 +247,7 @@ impl<T: Tag, I: Indexes<T>, S: Setup> QueueBook<T, I, S> {
         count(&mut self.workers, pass.place, &mut pass.tills, &event);
         hand_out(
             &pass.clients,
-            found.get(),
+            pass.recent.get(),
             &mut self.desks,
             &mut pass.units,
             &event,
@@ -293,7 +290,14 @@ impl<T: Tag, I: Indexes<T>, S: Setup> QueueBook<T, I, S> {
                 cause: SubmitCause::Stranger,
             });
         }
-        let Some(desk) = find_stamps(&self.clients, &self.desks, self.server, tills, &stamp) else {
+        let Some(desk) = find_stamps(
+            &self.clients,
+            &self.desks,
+            self.server,
+            tills,
+            &stamp,
+            &pass.recent,
+        ) else {
             return Err(SubmitFault {
                 stamp,
                 cause: SubmitCause::Stranger,
@@ -317,7 +321,7 @@ impl<T: Tag, I: Indexes<T>, S: Setup> QueueBook<T, I, S> {
             at,
         };
         let worker = pass.worker;
-        match ask_to_add(&mut self.queue.0, client, token, params, at) {
+        match ask_to_add(&mut self.queue.0, desk, client, token, params, at) {
             Added::Tagged(tags) => {
                 let event = Event {
                     worker,

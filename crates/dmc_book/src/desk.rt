@@ -12,7 +12,7 @@ ghost use Rattle.dmc_book.specs.Moves.{desk_after, takes, takes_at, takes_by, de
 ghost use Rattle.dmc_book.specs.BookState.{no_desk, pass_state};
 
 use crate::counts::grant_in;
-use crate::names::place_near;
+use crate::names::{place_near, place_recent};
 use crate::pass::WorkerPass;
 use crate::seat::credit;
 use dmc_ledger::bundle::{GrantBooks, GrantTills, StampTills};
@@ -35,18 +35,16 @@ pub(crate) struct UnitTest<'a, S: Setup> {
     pub(crate) clients: &'a IndexSet<ClientId>,
     pub(crate) desks: &'a [ClientDesk<S>],
     pub(crate) pass: &'a WorkerPass<S>,
-    // The place of the desk that was found last.
-    pub(crate) found: &'a Cell<usize>,
 }
 
 impl<'a, S: Setup> GrantTest for UnitTest<'a, S> {
     ghost allows = { λ s client phase. takes_by s.clients.now.keys (map client_side s.desks.now) (pass_state s.pass.now).clients (pass_state s.pass.now).units client phase };
 
-    fn allows(&self, client: ClientId, phase: PhaseType) -> bool {
-        let Some(place) = self.clients.get_index_of(&client) else {
+    fn allows(&self, client: ClientId, phase: PhaseType, near: usize) -> bool {
+        let Some(place) = place_near(self.clients, near, client) else {
             return false;
         };
-        self.found.set(place);
+        self.pass.recent.set(place);
         let Some(named) = place_near(&self.pass.clients, place, client) else {
             return false;
         };
@@ -158,13 +156,14 @@ fn are_alike<S: Setup>(tills: &StampTills<S>, held: &StampTills<S>) -> bool
 }
 
 /// The place of the desk of a stamp's client, where the stamp is for this server and the tills are of the books of that
-/// desk's stamps.
+/// desk's stamps. It is looked for where one was found last.
 pub(crate) fn find_stamps<S: Setup>(
     clients: &IndexSet<ClientId>,
     desks: &[ClientDesk<S>],
     server: ServerId,
     tills: &StampTills<S>,
     stamp: &Stamp,
+    recent: &Cell<usize>,
 ) -> Option<usize>
     requires named { clients.now.keys ≡ map (λ d. d.client) desks.now }
     ensures some { IsSome result ↔ IsForDesk server.0 (map client_side desks.now) stamp.now (stamp_holdings tills.now) }
@@ -175,7 +174,7 @@ pub(crate) fn find_stamps<S: Setup>(
     if stamp.server() != server {
         return None;
     }
-    let Some(place) = clients.get_index_of(&stamp.client()) else {
+    let Some(place) = place_recent(clients, recent, stamp.client()) else {
         return None;
     };
     if !are_alike(tills, &desks[place].held) {

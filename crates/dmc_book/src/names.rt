@@ -4,6 +4,7 @@ ghost use Rattle.dmc_book.specs.Moves.{place_of};
 
 use dmc_types::ids::ClientId;
 use indexmap::IndexSet;
+use std::cell::Cell;
 
 /// Whether a client stands at a place.
 fn is_at(names: &[ClientId], place: usize, client: ClientId) -> bool
@@ -12,7 +13,7 @@ fn is_at(names: &[ClientId], place: usize, client: ClientId) -> bool
     names.get(place) == Some(&client)
 }
 
-/// The place of a client: looked for near by first, where it often is, and else by its hash.
+/// The place of a client: looked for at a place first, where it often is, and else by its hash.
 pub(crate) fn place_near(names: &IndexSet<ClientId>, near: usize, client: ClientId) -> Option<usize>
     ensures { result ≡ place_of client.0 names.now.keys }
 {
@@ -20,4 +21,22 @@ pub(crate) fn place_near(names: &IndexSet<ClientId>, near: usize, client: Client
         return Some(near);
     }
     names.get_index_of(&client)
+}
+
+/// The place of a client: where one was found last, or at the place after it, and else by its hash. It is then where one was
+/// found last.
+pub(crate) fn place_recent(
+    names: &IndexSet<ClientId>,
+    recent: &Cell<usize>,
+    client: ClientId,
+) -> Option<usize>
+    ensures { result ≡ place_of client.0 names.now.keys }
+{
+    let last = recent.get();
+    if is_at(names.as_slice(), last, client) {
+        return Some(last);
+    }
+    let place = place_near(names, last.wrapping_add(1), client)?;
+    recent.set(place);
+    Some(place)
 }

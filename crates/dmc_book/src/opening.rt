@@ -23,6 +23,7 @@ use dmc_tag::tag::Tag;
 use dmc_types::ids::{ClientId, WorkerId};
 use indexmap::IndexSet;
 use std::alloc::{AllocError, Global};
+use std::cell::Cell;
 use std::sync::Arc;
 
 /// The most desks that a book has.
@@ -293,6 +294,7 @@ fn open_one<S: Setup>(
         tills,
         clients,
         units,
+        recent: Cell::new(0),
     };
     (Seat { worker, books }, pass)
 }

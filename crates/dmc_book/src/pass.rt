@@ -18,6 +18,7 @@ use dmc_types::config::PhaseType;
 use dmc_types::ids::{ClientId, WorkerId};
 use indexmap::IndexSet;
 use std::alloc::Global;
+use std::cell::Cell;
 use std::sync::Arc;
 
 /// A worker's tills: five of its own counts, and for each client with a desk one for the grants of each phase.
@@ -33,6 +34,8 @@ pub struct WorkerPass<S: Setup> {
     // The names of the desks, in order. The passes share them.
     pub(crate) clients: Arc<IndexSet<ClientId>, Global>,
     pub(crate) units: Vec<GrantTills<S>>,
+    // The place of the desk that was found last, where the next one is looked for first.
+    pub(crate) recent: Cell<usize>,
 }
 
 impl<S: Setup> WorkerPass<S> {

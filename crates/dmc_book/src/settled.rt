@@ -186,6 +186,7 @@ pub(crate) fn take_passes<S: Setup>(
             tills,
             clients: _,
             units,
+            recent: _,
         } = pass;
         take_seat(workers, place, tills);
         take_units(desks, units);

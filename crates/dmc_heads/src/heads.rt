@@ -9,8 +9,9 @@ ghost use Rattle.dmc_heads.specs.Marks.{CanMark};
 ghost use Rattle.dmc_heads.specs.Heads.{Ranks, IsOthers, IsFirst, IsLeastShare, CanShift};
 
 use crate::head::Head;
-use crate::share::{find_least, is_due, least_after, least_with, least_without, less_rank};
+use crate::share::{find_least, least_after, least_with, least_without, less_rank};
 use dmc_index::index::{Indexes, OrderIndex};
+use dmc_tag::due::is_due;
 use dmc_tag::rank::{LimitRank, ReadyRank, TagRank};
 use dmc_tag::shifting::less;
 use dmc_tag::tag::Tag;
@@ -221,7 +222,7 @@ impl<T: Tag, I: Indexes<T>> Heads<T, I> {
         match self.limit.least() {
             None => None,
             Some((key, rank)) => {
-                if rank.ready || !is_due(rank.tag, t) {
+                if rank.ready || !is_due(Some(rank.tag), t) {
                     return None;
                 }
                 Some(key)
@@ -244,7 +245,7 @@ impl<T: Tag, I: Indexes<T>> Heads<T, I> {
     {
         match self.limit.get(key) {
             None => false,
-            Some(rank) => rank.ready && !is_due(rank.tag, t),
+            Some(rank) => rank.ready && !is_due(Some(rank.tag), t),
         }
     }
 }

@@ -1,8 +1,7 @@
-//! The least P of all heads, as it is kept, and tests of tags.
+//! The least P of all heads, as it is kept.
 ghost use Rattle.std.specs.Prelude.{◌≡◌, Some};
 ghost use Rattle.std.specs.Option.{option_map};
 ghost use Rattle.dmc_index.specs.Index.{slot_of_key};
-ghost use Rattle.dmc_tag.specs.Best as best;
 ghost use Rattle.dmc_heads.specs.Heads as heads_of;
 ghost use Rattle.dmc_heads.specs.Least as least_share;
 ghost use Rattle.dmc_heads.specs.Least.{FindsLeast};
@@ -11,14 +10,6 @@ use dmc_index::index::OrderIndex;
 use dmc_tag::rank::ReadyRank;
 use dmc_tag::shifting::less;
 use dmc_tag::tag::Tag;
-use dmc_types::moment::Moment;
-
-/// Whether a tag is at or before a moment.
-pub fn is_due<T: Tag>(tag: T, t: Moment) -> bool
-    ensures { result ≡ best.is_due T.ops t (Some tag) }
-{
-    !tag.cmp(&T::of_moment(t)).is_gt()
-}
 
 /// The lesser of two tags.
 pub fn lesser<T: Tag>(a: T, b: T) -> T

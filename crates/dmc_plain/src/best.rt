@@ -1,6 +1,6 @@
 //! The best of a set of requests.
 ghost use Rattle.std.specs.Prelude.{◌≡◌, ◌<◌, length, IfSome, Some};
-ghost use Rattle.dmc_tag.specs.Best.{best, is_due};
+ghost use Rattle.dmc_tag.specs.Best.{best};
 ghost use Rattle.dmc_plain.specs.Sets.{members, order, rank_of, found_at, better_at};
 
 use dmc_tag::plain::PlainRequest;
@@ -25,11 +25,8 @@ impl Set {
         ensures { result ≡ members T.ops self.now request.now }
     {
         match *self {
-            Set::Early(at) => match request.tags.r {
-                None => false,
-                Some(r) => is_due(r, at),
-            },
-            Set::Free(at) => is_due(request.tags.l, at),
+            Set::Early(at) => is_due(request.tags.r, at),
+            Set::Free(at) => is_due(Some(request.tags.l), at),
             Set::All => true,
         }
     }
@@ -54,13 +51,6 @@ impl Set {
     {
         self.rank(a).cmp(&self.rank(b)).is_lt()
     }
-}
-
-/// Whether the tag is at or before the moment.
-fn is_due<T: Tag>(tag: T, at: Moment) -> bool
-    ensures { result ≡ is_due T.ops at (Some tag) }
-{
-    !tag.cmp(&T::of_moment(at)).is_gt()
 }
 
 /// Where the best of the set is: the scan goes from the back, so that the first of equals is kept.

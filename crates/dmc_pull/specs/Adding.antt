@@ -37,8 +37,8 @@ unless_nothing ops None = None
 unless_nothing ops (Some amount) = if is_eq (ops.compare amount (ops.of_moment 0)) then None else Some amount
 
 -- how far all others are shifted for a client that comes at t
-abbrev pub shift_for : {T : Type 0} → Tagging T → List (PlainRequest T) → PlainClient T → T → Result (Option T) Refusal
-shift_for ops requests arriving t = shift_of ops requests arriving t >>= λ full. Ok (unless_nothing ops full)
+abbrev pub needed_shift : {T : Type 0} → Tagging T → List (PlainRequest T) → PlainClient T → T → Result (Option T) Refusal
+needed_shift ops requests arriving t = shift_of ops requests arriving t >>= λ full. Ok (unless_nothing ops full)
 
 -- the tests of an add held: the new tags are these, and so is the shift, which is left out where it is nothing
 pub record Allows {T : Type 0} (ops : Tagging T) (s : State T) (id : ClientId) (params : Params) (t : ℕ) (addition : Addition T) : Type 0 where

@@ -13,8 +13,9 @@ pub trait GrantTest {
     /// Whether a grant may go to a client in a phase.
     ghost allows: { Self → Client → Phase → Bool };
 
-    /// Whether a grant may go to the client in this phase.
-    fn allows(&self, client: ClientId, phase: PhaseType) -> bool
+    /// Whether a grant may go to the client in this phase. `near` is the client's place in order of registration as long as no
+    /// client is erased: a test that keeps clients in that order may look there first.
+    fn allows(&self, client: ClientId, phase: PhaseType, near: usize) -> bool
         ensures { result ≡ allows self.now client phase };
 }
 
@@ -25,7 +26,7 @@ pub struct AllowAll;
 impl GrantTest for AllowAll {
     ghost allows = { λ s client phase. true };
 
-    fn allows(&self, _client: ClientId, _phase: PhaseType) -> bool {
+    fn allows(&self, _client: ClientId, _phase: PhaseType, _near: usize) -> bool {
         true
     }
 }

@@ -3,26 +3,16 @@ ghost use Rattle.std.specs.Prelude.{◌≡◌, ◌==◌, not, None, Some, slice_
 ghost use Rattle.std.specs.Option.{option_map};
 ghost use Rattle.dmc_index.specs.Index.{slot_of_key};
 ghost use Rattle.dmc_pull.specs.Queue as queue_of;
-ghost use Rattle.dmc_tag.specs.Best as best_of;
 ghost use Rattle.dmc_tag.specs.Rules as rules_of;
 
 use dmc_heads::head::Head;
 use dmc_heads::heads::Heads;
 use dmc_index::index::Indexes;
+use dmc_tag::due::is_due;
 use dmc_tag::reply::Tags;
 use dmc_tag::tag::Tag;
 use dmc_types::ids::ClientId;
 use dmc_types::moment::Moment;
-
-/// Whether there is a tag, and it is at or before a moment.
-pub fn is_due<T: Tag>(tag: Option<T>, at: Moment) -> bool
-    ensures { result ≡ best_of.is_due T.ops at tag }
-{
-    match tag {
-        None => false,
-        Some(tag) => !tag.cmp(&T::of_moment(at)).is_gt(),
-    }
-}
 
 /// A client's head at a moment, marked ready where its L is not past then: so it need not be marked by a later pull.
 pub fn head_at<T: Tag>(client: ClientId, tags: Tags<T>, at: Moment) -> Head<T>

@@ -18,6 +18,9 @@ use slab::Slab;
 use std::alloc::{AllocError, Global};
 use std::marker::Model;
 
+/// A place where no client stands.
+const NOWHERE: usize = usize::MAX;
+
 /// The registered clients, in order of registration: an id, the key of its record, and the record. No two have one id or
 /// one key, and there are at most 65,536.
 #[derive(Drop)]
@@ -70,7 +73,18 @@ impl<T: Tag> Roster<T> {
         ensures held { IfSome result (λ key. is_some (entries.entry_keyed key self.now.entries) ≡ true) }
         ensures distinct { entries.AreDistinct self.now.entries }
     {
-        self.ids.get(&id).copied()
+        self.find_near(id, NOWHERE)
+    }
+
+    /// The same, where the client may be the one that was the `near`-th to register, counted from 0, of those that are
+    /// registered: that one is looked at first.
+    pub fn find_near(&self, id: ClientId, near: usize) -> Option<usize>
+        ensures key { result ≡ option_map (λ e. e.key) (entries.entry_named id self.now.entries) }
+        ensures entry { IfSome result (λ key. entries.entry_keyed key self.now.entries ≡ entries.entry_named id self.now.entries) }
+        ensures held { IfSome result (λ key. is_some (entries.entry_keyed key self.now.entries) ≡ true) }
+        ensures distinct { entries.AreDistinct self.now.entries }
+    {
+        key_near(&self.ids, id, near)
     }
 
     /// The record under a key.
@@ -124,6 +138,18 @@ impl<T: Tag> Roster<T> {
     {
         count_passing(&self.ids, &self.records, test)
     }
+}
+
+/// The key of an id: at a place, where the id may stand, and else by its hash.
+fn key_near(ids: &IndexMap<ClientId, usize>, id: ClientId, near: usize) -> Option<usize>
+    ensures { result ≡ lookup (λ other. id.0 == other.0) ids.now.entries }
+{
+    if let Some((other, key)) = ids.get_index(near) {
+        if *other == id {
+            return Some(*key);
+        }
+    }
+    ids.get(&id).copied()
 }
 
 /// Lets the rule change or take out each record.

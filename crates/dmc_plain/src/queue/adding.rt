@@ -57,7 +57,7 @@ impl<T: Tag> PlainQueue<T> {
         if self.requests.len() >= REQUESTS {
             return Err(Refusal::QueueFull);
         }
-        let shift = shift_for(&self.requests, &arriving, t)?;
+        let shift = shift_of(&self.requests, &arriving, t)?;
         if !self.can_shift_by(shift) {
             return Err(Refusal::Range);
         }
@@ -113,7 +113,7 @@ impl<T: Tag> PlainQueue<T> {
 }
 
 /// How far all others are shifted for a client that comes at t; none where it is not idle, or nothing is queued.
-fn shift_for<T: Tag>(
+fn shift_of<T: Tag>(
     requests: &[PlainRequest<T>],
     arriving: &PlainClient<T>,
     t: T,

@@ -22,7 +22,7 @@ use Rattle.dmc_client.specs.Record.{Rec, IsRecord, client_of}
 use Rattle.dmc_roster.specs.Entries.{Entry, entry_named, entry_keyed, record_at, AreDistinct}
 use Rattle.dmc_heads.specs.declared.head.Head.{Head}
 use Rattle.dmc_heads.specs.Heads.{IsLeastShare}
-use Rattle.dmc_pull.specs.Adding.{shift_for, unless_nothing}
+use Rattle.dmc_pull.specs.Adding.{needed_shift, unless_nothing}
 use Rattle.dmc_pull.specs.Queue.{AreHeads}
 use Rattle.dmc_pull.specs.Standing.{clients_in, requests_in}
 use Rattle.dmc_pull.proofs.Common.Entries.{named}
@@ -72,14 +72,14 @@ module _ {T : Type 0} (ops : Tagging T) where
   past_of None = refl
   past_of (Some amount) = refl
 
-  pub shift_idle : (requests : List (PlainRequest T)) (arriving : PlainClient T) (t : T) (r : PlainRequest T) (others : List (PlainRequest T)) → arriving.idle ≡ true → best (by_weight ops) is_any requests ≡ Some (r, others) → shift_past r.tags.p t ≡ shift_for ops requests arriving t
+  pub shift_idle : (requests : List (PlainRequest T)) (arriving : PlainClient T) (t : T) (r : PlainRequest T) (others : List (PlainRequest T)) → arriving.idle ≡ true → best (by_weight ops) is_any requests ≡ Some (r, others) → shift_past r.tags.p t ≡ needed_shift ops requests arriving t
   shift_idle requests arriving t r others idle b =
       past_of (ops.minus r.tags.p t)
       ∙ ap (λ o. shift_from ops t o >>= λ full. Ok (unless_nothing ops full)) (sym b)
       ∙ ap (λ i. (if i then shift_from ops t (best (by_weight ops) is_any requests) else Ok None) >>= λ full. Ok (unless_nothing ops full)) (sym idle)
 
-  pub shift_empty : (requests : List (PlainRequest T)) (arriving : PlainClient T) (t : T) → requests ≡ [] → Ok None ≡ shift_for ops requests arriving t
-  shift_empty requests arriving t e = at arriving.idle ∙ ap (λ rs. shift_for ops rs arriving t) (sym e) where
+  pub shift_empty : (requests : List (PlainRequest T)) (arriving : PlainClient T) (t : T) → requests ≡ [] → Ok None ≡ needed_shift ops requests arriving t
+  shift_empty requests arriving t e = at arriving.idle ∙ ap (λ rs. needed_shift ops rs arriving t) (sym e) where
     at : (i : Bool) → Ok None ≡ ((if i then shift_from ops t None else Ok None) >>= λ full. Ok (unless_nothing ops full))
     at true = refl
     at false = refl
@@ -89,9 +89,9 @@ module _ {T : Type 0} (ops : Tagging T) where
       (found : (xs others : List (PlainRequest T)) (r : PlainRequest T) → best (by_weight ops) is_any xs ≡ Some (r, others) → IsBest (by_weight ops) is_any xs r others)
       (not_found : (xs : List (PlainRequest T)) → best (by_weight ops) is_any xs ≡ None → HasNone is_any xs) where
     -- the least P of the heads is what the shift is reckoned from
-    pub shift_by_least : (least : T) → IsLeastShare ops heads least → (arriving : PlainClient T) (t : T) → arriving.idle ≡ true → shift_past least t ≡ shift_for ops (requests_in es) arriving t
+    pub shift_by_least : (least : T) → IsLeastShare ops heads least → (arriving : PlainClient T) (t : T) → arriving.idle ≡ true → shift_past least t ≡ needed_shift ops (requests_in es) arriving t
     shift_by_least least is arriving t idle = at (best (by_weight ops) is_any (requests_in es)) refl where
-      at : (o : Option (PlainRequest T × List (PlainRequest T))) → best (by_weight ops) is_any (requests_in es) ≡ o → shift_past least t ≡ shift_for ops (requests_in es) arriving t
+      at : (o : Option (PlainRequest T × List (PlainRequest T))) → best (by_weight ops) is_any (requests_in es) ≡ o → shift_past least t ≡ needed_shift ops (requests_in es) arriving t
       at None b =
           let x = has_least ops order same t0 es heads are d records least is in
           let none = at_in (λ (r : PlainRequest T). is_any r ≡ false) x.among.front x.request x.among.back (subst (HasNone is_any) x.among.whole (not_found (requests_in es) b)) in
@@ -125,7 +125,7 @@ module _ {T : Type 0} (ops : Tagging T) where
         roomy = known ∙ ap (λ b. refuse_if b QueueFull >>= λ _. (shift_of ops s.requests client t >>= with_shift client)) room
 
         -- the shift is refused
-        pub no_shift : (refusal : Refusal) → Err refusal ≡ shift_for ops s.requests client t → can_add ops s id params t ≡ Err refusal
+        pub no_shift : (refusal : Refusal) → Err refusal ≡ needed_shift ops s.requests client t → can_add ops s id params t ≡ Err refusal
         no_shift refusal e = roomy ∙ at (shift_of ops s.requests client t) e where
           at : (o : Result (Option T) Refusal) → Err refusal ≡ (o >>= λ amount. Ok (unless_nothing ops amount)) → (o >>= with_shift client) ≡ Err refusal
           at (Ok amount) e = cc
@@ -137,7 +137,7 @@ module _ {T : Type 0} (ops : Tagging T) where
           pub is : shift_of ops s.requests client t ≡ Ok amount
           pub left : shift ≡ unless_nothing ops amount
 
-        pub whole : (shift : Option T) → Ok shift ≡ shift_for ops s.requests client t → Whole shift
+        pub whole : (shift : Option T) → Ok shift ≡ needed_shift ops s.requests client t → Whole shift
         whole shift e = at (shift_of ops s.requests client t) refl e where
           at : (o : Result (Option T) Refusal) → shift_of ops s.requests client t ≡ o → Ok shift ≡ (o >>= λ amount. Ok (unless_nothing ops amount)) → Whole shift
           at (Ok amount) f e = record { amount = amount; is = f; left = cc (e) }

@@ -23,7 +23,7 @@ use Rattle.dmc_tag.specs.Rules.{can_add, can_shift_by, shifted_by, assigned, add
 use Rattle.dmc_tag.specs.declared.reply.Tags.{Tags}
 use Rattle.dmc_client.specs.Record.{Rec, client_of, share_tags}
 use Rattle.dmc_roster.specs.Entries.{Entry, entry_named, entry_keyed, record_at}
-use Rattle.dmc_pull.specs.Adding.{shift_for, unless_nothing, Allows}
+use Rattle.dmc_pull.specs.Adding.{needed_shift, unless_nothing, Allows}
 use Rattle.dmc_pull.specs.Queue.{Queue, IsQueue, IsKept, state_of}
 use Rattle.dmc_pull.specs.Standing.{clients_in, requests_in}
 use Rattle.dmc_pull.specs.declared.adding.Addition.{Addition}
@@ -73,12 +73,12 @@ module _ {T : Type 0} (ops : Tagging T) (fraction : T → Fraction) (is_value : 
           let le : nat_le 1048576 (length (requests_in entries)) ≡ true = grind (arith, nat_tests) in
           full ops (state_of q) id params (ops.of_moment at) (client_of found.0.id found.0.rec) known le
 
-      module _ (below : queued < 1048576) (r : Result (Option T) Refusal) (t : T) (moment : t ≡ ops.of_moment at) (value : IfSome (entry_keyed key entries) (λ e. r ≡ shift_for ops (requests_in entries) (client_of e.id e.rec) t)) where
+      module _ (below : queued < 1048576) (r : Result (Option T) Refusal) (t : T) (moment : t ≡ ops.of_moment at) (value : IfSome (entry_keyed key entries) (λ e. r ≡ needed_shift ops (requests_in entries) (client_of e.id e.rec) t)) where
         room : nat_le 1048576 (length (requests_in entries)) ≡ false
         room = let counted = is.counted in grind (arith, nat_tests)
 
-        shift_is : r ≡ shift_for ops (requests_in entries) (client_of found.0.id found.0.rec) (ops.of_moment at)
-        shift_is = if_holds _ (entry_keyed key entries) found.0 found.1 value ∙ ap (shift_for ops (requests_in entries) (client_of found.0.id found.0.rec)) moment
+        shift_is : r ≡ needed_shift ops (requests_in entries) (client_of found.0.id found.0.rec) (ops.of_moment at)
+        shift_is = if_holds _ (entry_keyed key entries) found.0 found.1 value ∙ ap (needed_shift ops (requests_in entries) (client_of found.0.id found.0.rec)) moment
 
         pub shift_refused : (refusal : Refusal) → r ≡ Err refusal → test ≡ Err refusal
         shift_refused refusal e = no_shift ops (state_of q) id params (ops.of_moment at) (client_of found.0.id found.0.rec) known room refusal (sym e ∙ shift_is)

@@ -32,13 +32,16 @@ use dmc_types::refusal::{QueueFault, Refusal};
 /// The most queued requests of a queue.
 const REQUESTS: usize = 1 << 20;
 
+/// A place where no client is registered.
+const NOWHERE: usize = usize::MAX;
+
 impl<T: Tag, I: Indexes<T>> PullQueue<T, I> {
     /// How far all others are shifted for a client that comes at t; none where it is not idle, where nothing is queued, or
     /// where the shift is nothing.
-    fn shift_for(&mut self, key: usize, t: T) -> Result<Option<T>, Refusal>
+    fn needed_shift(&mut self, key: usize, t: T) -> Result<Option<T>, Refusal>
         requires { is_some (entry_keyed key self.old.roster.entries) ≡ true }
         ensures value { IfSome (entry_keyed key self.old.roster.entries) (λ e.
-            result ≡ adding_of.shift_for T.ops (state_of self.old).requests (client_of e.id e.rec) t) }
+            result ≡ adding_of.needed_shift T.ops (state_of self.old).requests (client_of e.id e.rec) t) }
         ensures same { self.new ≡ self.old }
     {
         if !self.roster.at(key).is_idle() {
@@ -63,10 +66,12 @@ impl<T: Tag, I: Indexes<T>> PullQueue<T, I> {
         }
     }
 
-    /// The tests of an add, and what it comes to: the key of the client, the shift of all others and the new tags.
+    /// The tests of an add, and what it comes to: the key of the client, the shift of all others and the new tags. The client is
+    /// looked for at a place first.
     fn can_add(
         &mut self,
         client: ClientId,
+        near: usize,
         params: ReqParams,
         at: Moment,
     ) -> Result<Addition<T>, Refusal>
@@ -82,14 +87,14 @@ impl<T: Tag, I: Indexes<T>> PullQueue<T, I> {
         ensures room { OnOk result (length (state_of self.old).requests < 1048576) }
         ensures same { self.new ≡ self.old }
     {
-        let Some(key) = self.roster.find(client) else {
+        let Some(key) = self.roster.find_near(client, near) else {
             return Err(Refusal::Unknown);
         };
         if self.queued >= REQUESTS {
             return Err(Refusal::QueueFull);
         }
         let t = T::of_moment(at);
-        let shift = self.shift_for(key, t)?;
+        let shift = self.needed_shift(key, t)?;
         if !self.can_shift_by(shift) {
             return Err(Refusal::Range);
         }
@@ -144,8 +149,23 @@ impl<T: Tag, I: Indexes<T>> PullQueue<T, I> {
     ) -> Result<Tags<T>, QueueFault>
         ensures { Steps T.ops (state_of self.old) (state_of self.new) (commands.Add client token params at) (call_reply replies.Tagged result) }
     {
+        self.add_request_near(NOWHERE, client, token, params, at)
+    }
+
+    /// The same, where the client may be the one that was the `near`-th to register, counted from 0, of those that are
+    /// registered: that one is looked at first. So a caller that knows the order finds it without its hash (own).
+    pub fn add_request_near(
+        &mut self,
+        near: usize,
+        client: ClientId,
+        token: Token,
+        params: ReqParams,
+        at: Moment,
+    ) -> Result<Tags<T>, QueueFault>
+        ensures { Steps T.ops (state_of self.old) (state_of self.new) (commands.Add client token params at) (told replies.Tagged result) }
+    {
         let at = self.effective(at);
-        let addition = self.can_add(client, params, at)?;
+        let addition = self.can_add(client, near, params, at)?;
         let tags = addition.tags;
         self.queue(client, token, addition, at)?;
         Ok(tags)

@@ -17,11 +17,12 @@ ghost use Rattle.dmc_types.specs.declared.ids.Token.{Token};
 ghost use Rattle.dmc_types.specs.declared.config.PhaseType.TheVariants as phases;
 
 use crate::granting::{AllowAll, GrantTest, PullFault};
-use crate::heads::{due_moment, is_due, renew};
+use crate::heads::{due_moment, renew};
 use crate::queue::PullQueue;
 use crate::records::{first_tags, grant_first};
 use dmc_adjust::reduction::can_reduce;
 use dmc_index::index::Indexes;
+use dmc_tag::due::is_due;
 use dmc_tag::reply::Pulled;
 use dmc_tag::tag::Tag;
 use dmc_types::config::{AtLimit, PhaseType};
@@ -159,7 +160,7 @@ impl<T: Tag, I: Indexes<T>> PullQueue<T, I> {
         if !self.can_grant(key, client) {
             return Err(PullFault::Refused(Refusal::Range));
         }
-        if !test.allows(client, PhaseType::Priority) {
+        if !test.allows(client, PhaseType::Priority, key) {
             return Err(PullFault::Declined);
         }
         let at = self.last_moment();
@@ -210,7 +211,7 @@ impl<T: Tag, I: Indexes<T>> PullQueue<T, I> {
         let before = self.last_moment();
         let at = self.effective(at);
         if let Some((key, client)) = self.early(at) {
-            if !test.allows(client, PhaseType::Reservation) {
+            if !test.allows(client, PhaseType::Reservation, key) {
                 return Err(PullFault::Declined);
             }
             return Ok(self.grant_early(key, client, at));

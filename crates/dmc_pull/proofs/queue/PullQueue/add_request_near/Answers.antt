@@ -6,7 +6,7 @@ use Rattle.dmc_tag.specs.declared.reply.Reply.TheVariants.{Tagged}
 use Rattle.dmc_tag.proofs.ForCallers.{steps_agreeing, steps_exactly, tag_order}
 use Rattle.dmc_pull.specs.Queue.{state_of}
 use Rattle.dmc_pull.proofs.Pull.Allowed.{step_of_add}
-use Rattle.dmc_pull.proofs.queue.PullQueue.add_request.Goals as goal
+use Rattle.dmc_pull.proofs.queue.PullQueue.add_request_near.Goals as goal
 
 pub returns : goal.returns
 returns g c =

@@ -162,7 +162,7 @@ impl<T: Tag, I: Indexes<T>> PullQueue<T, I> {
         params: ReqParams,
         at: Moment,
     ) -> Result<Tags<T>, QueueFault>
-        ensures { Steps T.ops (state_of self.old) (state_of self.new) (commands.Add client token params at) (told replies.Tagged result) }
+        ensures { Steps T.ops (state_of self.old) (state_of self.new) (commands.Add client token params at) (call_reply replies.Tagged result) }
     {
         let at = self.effective(at);
         let addition = self.can_add(client, near, params, at)?;

@@ -1,5 +1,5 @@
 -- A queue's book that is settled.
-use Rattle.std.specs.Prelude.{◌≡◌, ℕ, ◌+◌, ◌<◌, List, [], ◌∷◌, length, slice_index_or}
+use Rattle.std.specs.Prelude.{◌≡◌, ℕ, ◌+◌, ◌<◌, List, [], ◌∷◌, length, slice_index_or, sum_by}
 use Rattle.std.specs.List.{AllByRecursion}
 use Rattle.dmc_types.specs.declared.config.PhaseType.{PhaseType}
 use Rattle.dmc_types.specs.declared.config.PhaseType.TheVariants.{Reservation, Priority}
@@ -8,7 +8,7 @@ use Rattle.dmc_ledger.specs.Accounts.{Account, after_closing, total_of}
 use Rattle.dmc_ledger.specs.Bundles.{ClientSide, GrantAccounts, GrantHoldings}
 use Rattle.dmc_ledger.specs.Moves.{till_in}
 use Rattle.dmc_book.specs.BookState.{BookState, PassState, WorkerAccounts, WorkerSide, no_desk, no_unit}
-use Rattle.dmc_book.specs.Counts.{count, worker_adds, stamps_added, delta_added, rho_added, grants_added}
+use Rattle.dmc_book.specs.Counts.{count, worker_adds, stamps_added, delta_added, rho_added, grants_added, phase_grants}
 use Rattle.dmc_book.specs.Moves.{IsEnrolled}
 
 -- ---- whose passes they are
@@ -32,6 +32,14 @@ pub record IsOwn (workers : List WorkerSide) (desks : List ClientSide) (p : Pass
 pub record AreOwn (workers : List WorkerSide) (desks : List ClientSide) (passes : List PassState) : Type 0 where
   pub as_many : length passes ≡ length workers
   pub each : AllByRecursion (IsOwn workers desks) passes
+
+-- ---- the grants
+
+-- What the desks' clients were granted in a phase is together all that was granted in it: each grant is of a client that has
+-- a desk, and no two desks are of one client.
+abbrev pub AreGrantsOfDesks : {T : Type 0} → List (Event T) → List ClientSide → Type 0
+AreGrantsOfDesks history desks = (phase : PhaseType) →
+    sum_by (λ d. count (grants_added d.client phase) history) desks ≡ count (phase_grants phase) history
 
 -- ---- the workers
 

@@ -13,7 +13,7 @@ ghost use Rattle.dmc_book.specs.BookState.{pass_state, worker_side};
 ghost use Rattle.dmc_book.specs.Calls.{IsForDesk, names_none, Ran, Strays, SubmitRefused, is_add, lacks_desk, reply_to};
 ghost use Rattle.dmc_book.specs.Moves.{IsEnrolled, takes};
 ghost use Rattle.dmc_book.specs.Opening.{AreBookLimits, AreNamedOnce, IsNewDesk, new_passes, new_state};
-ghost use Rattle.dmc_book.specs.Settling.{AreOwn, AreSettledDesks, IsSettledWorker, closed_worker, after_settling};
+ghost use Rattle.dmc_book.specs.Settling.{AreGrantsOfDesks, AreOwn, AreSettledDesks, IsSettledWorker, after_settling, closed_worker};
 ghost use Rattle.dmc_book.specs.Status.{IsStatusOf};
 
 use crate::asking::{Added, ask, ask_to_add};
@@ -22,7 +22,7 @@ use crate::fault::{BookFault, NewFault, RunFault, SubmitCause, SubmitFault};
 use crate::opening::{Parts, Room, make_parts, open_workers};
 use crate::pass::WorkerPass;
 use crate::seat::{Seat, count, is_enrolled};
-use crate::settled::{Settled, are_own, take_history, take_passes};
+use crate::settled::{Settled, are_own, take_passes};
 use crate::status::Status;
 use dmc_history::History;
 use dmc_index::index::Indexes;
@@ -376,16 +376,33 @@ impl<T: Tag, I: Indexes<T>, S: Setup> QueueBook<T, I, S> {
         if !are_own(&self.workers, &self.desks, &passes) {
             return Err(passes);
         }
+        Ok(self.settle_own(alloc, passes))
+    }
+
+    /// Settles the book with passes that are its own, as `owns` tells. The desks are of different clients, and each grant is of a
+    /// client with a desk: so what the desks' clients were granted in a phase is together all that was granted in it.
+    pub fn settle_own(&mut self, alloc: Global, passes: Vec<WorkerPass<S>>) -> Settled<T, S>
+        requires own { AreOwn self.old.workers self.old.desks (map pass_state passes.items) }
+        ensures emptied { self.new ≡ after_settling self.old }
+        ensures history { result.history.events ≡ self.old.history }
+        ensures few { length result.history.events ≤ 2 ^ 30 }
+        ensures replays { replays T.ops self.old.config result.history.events }
+        ensures left { result.left ≡ length (after T.ops self.old.config self.old.history).requests }
+        ensures workers { map worker_side result.workers.items ≡ map closed_worker self.old.workers }
+        ensures counts { AllByRecursion (IsSettledWorker self.old.history) (map worker_side result.workers.items) }
+        ensures desks { AreSettledDesks self.old.history (map pass_state passes.items) self.old.desks (map client_side result.desks.items) }
+        ensures grants { AreGrantsOfDesks self.old.history self.old.desks }
+    {
         let left = self.queue.0.request_count();
         take_passes(&mut self.workers, &mut self.desks, passes);
         self.queue = Part(PullQueue::new(alloc, self.config));
         self.clients = IndexSet::new(alloc);
-        Ok(Settled {
-            history: take_history(&mut self.history, alloc),
+        Settled {
+            history: self.history.take(),
             left,
             workers: replace(&mut self.workers, Vec::new(alloc)),
             desks: replace(&mut self.desks, Vec::new(alloc)),
-        })
+        }
     }
 }
 

@@ -1,6 +1,6 @@
 //! What holds of every queue's book, by its type, wherever the book came from: out of a lock that was opened, for one. Each
 //! law is the contract of a function that changes nothing: a caller that calls it knows the law.
-ghost use Rattle.std.specs.Prelude.{◌≡◌, List, Option, length, sum_by};
+ghost use Rattle.std.specs.Prelude.{◌≡◌, List, Option, length};
 ghost use Rattle.std.specs.List.{AllByRecursion};
 ghost use Rattle.dmc_heads.specs.Heads as heads_of;
 ghost use Rattle.dmc_heads.specs.Heads.{Ranks};
@@ -8,9 +8,8 @@ ghost use Rattle.dmc_heads.specs.declared.head.Head.{Head};
 ghost use Rattle.dmc_pull.specs.FirstRequests.{AreFirstRequests};
 ghost use Rattle.dmc_tag.specs.Replay.{after, replays};
 ghost use Rattle.dmc_bounds.specs.Bounds.{KeepsToLimits, KeepsToReservations};
-ghost use Rattle.dmc_types.specs.declared.config.PhaseType.{PhaseType};
 ghost use Rattle.dmc_book.specs.Consistent.{IsWorker, IsDesk};
-ghost use Rattle.dmc_book.specs.Counts.{count, grants_added, phase_grants};
+ghost use Rattle.dmc_book.specs.Settling.{AreGrantsOfDesks};
 
 use crate::book::QueueBook;
 use dmc_index::index::Indexes;
@@ -36,8 +35,7 @@ pub fn history_is_counted<T: Tag, I: Indexes<T>, S: Setup>(book: &QueueBook<T, I
 /// The grants: each is of a client that has a desk, and no two desks are of one client. So what the desks' clients were granted
 /// in a phase is together all that was granted in it.
 pub fn grants_are_of_desks<T: Tag, I: Indexes<T>, S: Setup>(book: &QueueBook<T, I, S>)
-    ensures { (phase : PhaseType) → sum_by (λ d. count (grants_added d.client phase) book.now.history) book.now.desks
-        ≡ count (phase_grants phase) book.now.history }
+    ensures { AreGrantsOfDesks book.now.history book.now.desks }
 {
     let _ = &book.queue;
 }

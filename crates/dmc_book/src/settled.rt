@@ -192,14 +192,3 @@ pub(crate) fn take_passes<S: Setup>(
         take_units(desks, units);
     }
 }
-
-/// Takes the events of a history, which has then none.
-pub(crate) fn take_history<E: Drop>(history: &mut History<E>, alloc: Global) -> History<E>
-    ensures taken { result ≡ history.old }
-    ensures emptied { history.new ≡ record { events = []; most = history.old.most; room = 0 } }
-{
-    let Ok(empty) = History::new(alloc, history.most()) else {
-        unreachable!()
-    };
-    replace(history, empty)
-}

@@ -8,6 +8,7 @@ ghost use Rattle.dmc_history.specs.Log.{block_size};
 pub use dmc_tag::event::Event;
 use std::alloc::{AllocError, Global};
 use std::marker::Model;
+use std::mem::replace;
 use thiserror::Error;
 
 // How many events a block has room for.
@@ -154,6 +155,22 @@ impl<E: Drop> History<E> {
         let block = &mut self.blocks[self.len / BLOCK];
         block.push(event).unwrap();
         self.len += 1;
+    }
+
+    /// Takes out all events, and with them the places that are reserved. It takes no memory.
+    pub fn take(&mut self) -> History<E>
+        ensures value { result ≡ self.old }
+        ensures within { length result.events ≤ result.most }
+        ensures limit { result.most ≤ 2 ^ 30 }
+        ensures empty { self.new ≡ record { events = []; most = self.old.most; room = 0 } }
+    {
+        let empty = History {
+            alloc: self.alloc,
+            blocks: Vec::new(self.alloc),
+            len: 0,
+            most: self.most,
+        };
+        replace(self, empty)
     }
 }
 

@@ -1,5 +1,5 @@
 //! Whether parts are those of one cluster.
-ghost use Rattle.std.specs.Prelude.{◌≡◌, ◌↔◌, ℕ, Some, length, map, slice_get, IsTrue};
+ghost use Rattle.std.specs.Prelude.{◌≡◌, ◌≤◌, ◌↔◌, ℕ, Some, length, map, slice_get, IsTrue};
 ghost use Rattle.dmc_ledger.specs.Bundles.{client_side, server_side};
 ghost use Rattle.dmc_book.specs.BookState.{pass_state};
 ghost use Rattle.dmc_settle.specs.Checks.{AreServerParts, AreClientParts, IsPairAt, ArePairsOf, ArePairs};
@@ -216,9 +216,11 @@ fn are_server_rows<T: Tag>(rows: &[ServerReport<T>]) -> bool
     true
 }
 
-/// Whether the report's rows are those of the scene.
+/// Whether the report's rows are those of the scene, which has at most 64 servers and 256 clients.
 pub(crate) fn are_rows<T: Tag>(scene: &Scene, report: &ClusterReport<T>) -> bool
-    ensures { IsTrue result ↔ AreRows scene.now report.now }
+    ensures rows { IsTrue result ↔ AreRows scene.now report.now }
+    ensures servers { IsTrue result → scene.now.servers ≤ 64 }
+    ensures clients { IsTrue result → length scene.now.clients ≤ 256 }
 {
     report.servers.len() == scene.servers() as usize
         && are_client_rows(&report.clients, scene.clients())

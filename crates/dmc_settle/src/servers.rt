@@ -8,10 +8,8 @@ ghost use Rattle.dmc_settle.specs.Places.{no_book, pass_states, sides};
 
 use crate::report::ServerReport;
 use dmc_book::book::QueueBook;
-use dmc_book::laws::grants_are_of_desks;
 use dmc_book::pass::WorkerPass;
 use dmc_book::settled::GrantsHeld;
-use dmc_history::History;
 use dmc_index::index::Indexes;
 use dmc_ledger::desk::ClientDesk;
 use dmc_ledger::setup::Setup;
@@ -25,13 +23,6 @@ pub(crate) struct Granted {
     reservation: u64,
     priority: u64,
     held: GrantsHeld,
-}
-
-/// Changes nothing, and tells that no history has more than 2^30 events.
-fn has_few_events<E: Drop>(history: &History<E>)
-    ensures { length history.now.events ≤ 1073741824 }
-{
-    let _ = (history.len(), history.most());
 }
 
 /// Adds what the grant books of a desk total, and what they have gathered.
@@ -81,11 +72,7 @@ fn settle_server<T: Tag, I: Indexes<T>, S: Setup>(
     ensures server { row.new.server ≡ row.old.server }
     ensures stops { row.new.stops ≡ row.old.stops }
 {
-    grants_are_of_desks(book);
-    let Ok(settled) = book.settle(alloc, passes) else {
-        unreachable!()
-    };
-    has_few_events(&settled.history);
+    let settled = book.settle_own(alloc, passes);
     let granted = sum_grants(&settled.desks);
     row.reservation = granted.reservation;
     row.priority = granted.priority;

@@ -62,19 +62,10 @@ pub fn settle_cluster<T: Tag, I: Indexes<T>, S: Setup>(
     if !are_rows(scene, &report) {
         return Err(Torn);
     }
-    has_few_parts(scene);
     let Passes { workers, clients } = passes;
     let SettleRoom { mut desks } = room;
     let mut report = report;
     settle_servers(alloc, books, workers, &mut report.servers, &mut desks);
     settle_clients(trackers, clients, &desks, &mut report.clients);
     Ok(report)
-}
-
-/// Changes nothing, and tells how few servers and clients a scene has.
-fn has_few_parts(scene: &Scene)
-    ensures servers { scene.now.servers ≤ 64 }
-    ensures clients { length scene.now.clients ≤ 256 }
-{
-    let _ = (scene.servers(), scene.clients().len());
 }

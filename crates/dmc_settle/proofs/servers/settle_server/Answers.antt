@@ -15,25 +15,25 @@ pub sum_grants-granted-requires-clause-few_grants : goal.sum_grants-granted-requ
 sum_grants-granted-requires-clause-few_grants g c =
     let f : ClientDesk g.row.S.Denot → ClientSide = client_side in
     let passes : List PassState = map pass_state c.args.passes.items in
-    let same : c.deref.result.now ≡ c.in-Ok.settled.desks.items = c.deref.ensures.value in
-    let few = ap length c.in-Ok.ensures.history in
-    rw same (λ k within. few_granted c.args.book.now.history passes c.args.book.now.desks (map f c.in-Ok.settled.desks.items) c.in-Ok.ensures.desks
-    (omega (arith, few, c.has_few_events.ensures)) k (omega (arith, within, ap length same, length-map c.in-Ok.settled.desks.items f)))
+    let same : c.deref.result.now ≡ c.settle_own-settled.result.desks.items = c.deref.ensures.value in
+    let few = ap length c.settle_own-settled.ensures.history in
+    rw same (λ k within. few_granted c.args.book.now.history passes c.args.book.now.desks (map f c.settle_own-settled.result.desks.items) c.settle_own-settled.ensures.desks
+    (omega (arith, few, c.settle_own-settled.ensures.few)) k (omega (arith, within, ap length same, length-map c.settle_own-settled.result.desks.items f)))
 
 pub returns-clause-numbers : goal.returns-clause-numbers
 returns-clause-numbers g c =
     let f : ClientDesk g.row.S.Denot → ClientSide = client_side in
     let passes : List PassState = map pass_state c.args.passes.items in
-    let same : c.deref.result.now ≡ c.in-Ok.settled.desks.items = c.deref.ensures.value in
+    let same : c.deref.result.now ≡ c.settle_own-settled.result.desks.items = c.deref.ensures.value in
     let book = c.args.book.now in
-    let new = map f c.in-Ok.settled.desks.items in
+    let new = map f c.settle_own-settled.result.desks.items in
     let granted : c.sum_grants-granted.result ≡ granted_at new = c.sum_grants-granted.ensures ∙ ap (λ (ds : List (ClientDesk g.row.S.Denot)). granted_at (map f ds)) same in
     record {
-      events = c.in-Ok.ensures.history;
-      replays = subst (λ (es : List (Event g.row.T.Denot)). replays g.T.Tag.ops book.config es) c.in-Ok.ensures.history c.in-Ok.ensures.replays;
-      reservation = ap (λ (x : Granted). x.reservation) granted ∙ reservations_granted book.history passes book.desks new c.in-Ok.ensures.desks ∙ c.grants_are_of_desks.ensures Reservation;
-      priority = ap (λ (x : Granted). x.priority) granted ∙ priorities_granted book.history passes book.desks new c.in-Ok.ensures.desks ∙ c.grants_are_of_desks.ensures Priority;
-      left = c.in-Ok.ensures.left;
-      held = ap (λ (x : Granted). x.held) granted ∙ held_granted book.history passes book.desks new c.in-Ok.ensures.desks book.workers c.requires.own.each;
-      of_desks = c.grants_are_of_desks.ensures;
+      events = c.settle_own-settled.ensures.history;
+      replays = subst (λ (es : List (Event g.row.T.Denot)). replays g.T.Tag.ops book.config es) c.settle_own-settled.ensures.history c.settle_own-settled.ensures.replays;
+      reservation = ap (λ (x : Granted). x.reservation) granted ∙ reservations_granted book.history passes book.desks new c.settle_own-settled.ensures.desks ∙ c.settle_own-settled.ensures.grants Reservation;
+      priority = ap (λ (x : Granted). x.priority) granted ∙ priorities_granted book.history passes book.desks new c.settle_own-settled.ensures.desks ∙ c.settle_own-settled.ensures.grants Priority;
+      left = c.settle_own-settled.ensures.left;
+      held = ap (λ (x : Granted). x.held) granted ∙ held_granted book.history passes book.desks new c.settle_own-settled.ensures.desks book.workers c.requires.own.each;
+      of_desks = c.settle_own-settled.ensures.grants;
     }

@@ -36,7 +36,7 @@ pub returns-then-not-are_rows-clause-together : goal.returns-then-not-are_rows-c
 returns-then-not-are_rows-clause-together g c =
     let r : Remains g.row.T.Denot = remains c.args.books.now (map (λ v. v.items) c.args.passes.workers.items) c.args.trackers.items c.args.passes.clients.items in (
       (λ e. cc),
-      (λ (both : AreTogether c.args.scene.now r × AreRows c.args.scene.now c.args.report). absurd (false≢true (sym c.if-not-are_rows.true ∙ c.are_rows.ensures.1 both.1))),
+      (λ (both : AreTogether c.args.scene.now r × AreRows c.args.scene.now c.args.report). absurd (false≢true (sym c.if-not-are_rows.true ∙ c.are_rows.ensures.rows.1 both.1))),
     )
 
 pub settle_servers-requires-clause-passes : goal.settle_servers-requires-clause-passes
@@ -50,19 +50,19 @@ settle_servers-requires-clause-ready g c =
     let r : Remains g.row.T.Denot = remains c.args.books.now (map (λ v. v.items) c.args.passes.workers.items) c.args.trackers.items c.args.passes.clients.items in
     let together : AreTogether c.args.scene.now r = rw (c.deref.ensures.value, c.deref-2.ensures.value, c.deref-3.ensures.value) at (c.are_together.ensures.0 c.if-not-are_together.false) in
     λ s within. subst (λ (ps : List (List PassState)). IsReadyServer (get_or c.args.books.now s no_book) (get_or ps s [])) (passes_seen c.args.passes.workers.items)
-    (ready_servers c.args.scene.now r together c.has_few_parts.ensures.clients s within)
+    (ready_servers c.args.scene.now r together (c.are_rows.ensures.clients c.if-not-are_rows.false) s within)
 
 pub returns-clause-together : goal.returns-clause-together
 returns-clause-together g c =
     let r : Remains g.row.T.Denot = remains c.args.books.now (map (λ v. v.items) c.args.passes.workers.items) c.args.trackers.items c.args.passes.clients.items in
     let together : AreTogether c.args.scene.now r = rw (c.deref.ensures.value, c.deref-2.ensures.value, c.deref-3.ensures.value) at (c.are_together.ensures.0 c.if-not-are_together.false) in
-    ((λ e. (together, c.are_rows.ensures.0 c.if-not-are_rows.false)), (λ both. refl))
+    ((λ e. (together, c.are_rows.ensures.rows.0 c.if-not-are_rows.false)), (λ both. refl))
 
 pub settle_servers-requires-clause-rows : goal.settle_servers-requires-clause-rows
 settle_servers-requires-clause-rows g c =
     let r : Remains g.row.T.Denot = remains c.args.books.now (map (λ v. v.items) c.args.passes.workers.items) c.args.trackers.items c.args.passes.clients.items in
     let together : AreTogether c.args.scene.now r = rw (c.deref.ensures.value, c.deref-2.ensures.value, c.deref-3.ensures.value) at (c.are_together.ensures.0 c.if-not-are_together.false) in
-    let rows : AreRows c.args.scene.now c.args.report = c.are_rows.ensures.0 c.if-not-are_rows.false in
+    let rows : AreRows c.args.scene.now c.args.report = c.are_rows.ensures.rows.0 c.if-not-are_rows.false in
     omega (arith, ap length c.deref_mut.ensures.value, rows.as_many_servers, together.books)
 
 pub settle_servers-requires-clause-room : goal.settle_servers-requires-clause-room
@@ -81,7 +81,7 @@ pub settle_clients-requires-clause-rows : goal.settle_clients-requires-clause-ro
 settle_clients-requires-clause-rows g c =
     let r : Remains g.row.T.Denot = remains c.args.books.now (map (λ v. v.items) c.args.passes.workers.items) c.args.trackers.items c.args.passes.clients.items in
     let together : AreTogether c.args.scene.now r = rw (c.deref.ensures.value, c.deref-2.ensures.value, c.deref-3.ensures.value) at (c.are_together.ensures.0 c.if-not-are_together.false) in
-    let rows : AreRows c.args.scene.now c.args.report = c.are_rows.ensures.0 c.if-not-are_rows.false in
+    let rows : AreRows c.args.scene.now c.args.report = c.are_rows.ensures.rows.0 c.if-not-are_rows.false in
     let long = alike_long (λ (x : ClientReport). x.client) (λ (x : ClientValue). x.id) c.args.report.clients.items c.args.scene.now.clients rows.clients in
     omega (arith, ap length c.deref_mut-2.ensures.value, long, together.trackers)
 
@@ -89,7 +89,7 @@ pub settle_clients-requires-clause-few : goal.settle_clients-requires-clause-few
 settle_clients-requires-clause-few g c =
     let r : Remains g.row.T.Denot = remains c.args.books.now (map (λ v. v.items) c.args.passes.workers.items) c.args.trackers.items c.args.passes.clients.items in
     let together : AreTogether c.args.scene.now r = rw (c.deref.ensures.value, c.deref-2.ensures.value, c.deref-3.ensures.value) at (c.are_together.ensures.0 c.if-not-are_together.false) in
-    omega (arith, ap length c.deref-4.ensures.value, c.settle_servers.ensures.desks_each, together.books, c.has_few_parts.ensures.servers)
+    omega (arith, ap length c.deref-4.ensures.value, c.settle_servers.ensures.desks_each, together.books, c.are_rows.ensures.servers c.if-not-are_rows.false)
 
 pub settle_clients-requires-clause-ready : goal.settle_clients-requires-clause-ready
 settle_clients-requires-clause-ready g c =
@@ -130,7 +130,7 @@ settled_cluster : (g : Over) (c : goal.After-drop-desks g) → IsSettledCluster 
 settled_cluster g c =
     let r : Remains g.row.T.Denot = remains c.args.books.now (map (λ v. v.items) c.args.passes.workers.items) c.args.trackers.items c.args.passes.clients.items in
     let together : AreTogether c.args.scene.now r = rw (c.deref.ensures.value, c.deref-2.ensures.value, c.deref-3.ensures.value) at (c.are_together.ensures.0 c.if-not-are_together.false) in
-    let rows : AreRows c.args.scene.now c.args.report = c.are_rows.ensures.0 c.if-not-are_rows.false in
+    let rows : AreRows c.args.scene.now c.args.report = c.are_rows.ensures.rows.0 c.if-not-are_rows.false in
     let see : Vec (ClientDesk g.row.S.Denot) → List ClientSide = sides in
     let desks = map see c.settle_servers.new.desks.items in
     let seen = passes_seen c.args.passes.workers.items in

@@ -9,9 +9,10 @@ use Rattle.dmc_book.specs.BookState.{WorkerSide, pass_state, worker_side}
 use Rattle.dmc_book.specs.Settling.{AreOneOpen, ArePassesTakenIn, closed_worker}
 use Rattle.dmc_book.specs.declared.pass.WorkerPass.{WorkerPass}
 use Rattle.dmc_book.specs.declared.seat.Seat.{Seat}
+use Rattle.dmc_book.proofs.GrantLemmas.{grants_of_desks}
 use Rattle.dmc_book.proofs.OpeningLemmas.{consistent_empty, lent_back}
 use Rattle.dmc_book.proofs.SettlingLemmas.{one_open, settled_desks, settled_workers}
-use Rattle.dmc_book.proofs.book.QueueBook.settle.Goals as goal
+use Rattle.dmc_book.proofs.book.QueueBook.settle_own.Goals as goal
 
 pub take_passes-requires-clause-one_open : goal.take_passes-requires-clause-one_open
 take_passes-requires-clause-one_open g c =
@@ -23,7 +24,7 @@ take_passes-requires-clause-one_open g c =
 pub invariant_of-self : goal.invariant_of-self
 invariant_of-self g c =
     let here = c.self.inside in
-    rw (c.take_history.ensures.emptied, c.replace.ensures.after, c.replace-2.ensures.after, c.new-3.ensures.items, c.new-4.ensures.items) (
+    rw (c.take.ensures.empty, c.replace.ensures.after, c.replace-2.ensures.after, c.new-3.ensures.items, c.new-4.ensures.items) (
       consistent_empty g.T.Tag.ops (state_of c.new.result) here.config here.server.0 here.history.most here.closed c.new.ensures c.self.invariant.0.limit,
       c.new-2.ensures.empty,
     )
@@ -51,12 +52,17 @@ returns-clause-desks g c =
     let f : ClientDesk g.row.S.Denot → ClientSide = client_side in
     let passes = map (pass_state {S = g.row.S.Denot}) c.args.passes.items in
     let workers = map (worker_side {S = g.row.S.Denot}) here.workers.items in
-    let own = c.are_own.ensures.0 c.if-not-are_own.false in
-    let passes_many : length passes ≡ length workers = ap (λ (ps : List (WorkerPass g.row.S.Denot)). length (map pass_state ps)) (sym c.deref-3.ensures.value) ∙ own.as_many
-    ∙ ap (λ (ws : List (Seat g.row.S.Denot)). length (map worker_side ws)) c.deref.ensures.value in
+    let own = c.requires.own in
+    let passes_many : length passes ≡ length workers = own.as_many ∙ ap (λ b. length b.workers) (sym c.self.view_is) in
     let new = c.take_passes.new.desks in
     let same : c.deref_mut-2.result.now ≡ here.desks.items = c.deref_mut-2.ensures.value in
     let as_many : length new ≡ length here.desks.items = search rules in
     let back = lent_back new (drop (length new) here.desks.items) here.desks.len (as_many ∙ sym here.desks.ok.0) in
     let taken = subst (λ (ds : List (ClientDesk g.row.S.Denot)). ArePassesTakenIn passes (map f ds) (map f new)) same c.take_passes.ensures.desks in
     rw (← c.self.view_is, c.replace-2.ensures.value, back) (settled_desks here.history.events here.server.0 (length workers) passes (map f here.desks.items) (map f new) passes_many c.self.invariant.0.desks taken)
+
+pub returns-clause-grants : goal.returns-clause-grants
+returns-clause-grants g c =
+    let here = c.self.inside in
+    let known = c.self.invariant.0 in
+    rw (← c.self.view_is) (λ phase. grants_of_desks phase (map client_side here.desks.items) known.clients_apart here.history.events known.granted)

@@ -3,6 +3,7 @@ ghost use Rattle.std.specs.Prelude.{◌≡◌, ◌<◌, length, IfSome, Some};
 ghost use Rattle.dmc_tag.specs.Best.{best};
 ghost use Rattle.dmc_plain.specs.Sets.{members, order, rank_of, found_at, better_at};
 
+use dmc_tag::due::is_due;
 use dmc_tag::plain::PlainRequest;
 use dmc_tag::rank::TagRank;
 use dmc_tag::tag::Tag;

@@ -1,8 +1,9 @@
 //! The roster.
-ghost use Rattle.std.specs.Prelude.{◌≡◌, ◌≤◌, ◌<◌, true, false, length, [], None, IfSome, map, filter, Some, is_some};
+ghost use Rattle.std.specs.Prelude.{◌≡◌, ◌==◌, ◌≤◌, ◌<◌, true, false, length, [], None, IfSome, map, filter, Some, is_some};
 ghost use Rattle.std.specs.Option.{option_map, option_map_or};
 ghost use Rattle.slab.specs.Slab.{get};
 ghost use Rattle.std.specs.List.{AllByRecursion};
+ghost use Rattle.std.specs.Map.{lookup};
 ghost use Rattle.dmc_client.specs.Record.{IsRecord};
 ghost use Rattle.dmc_roster.specs.Entries as entries;
 ghost use Rattle.dmc_roster.specs.contracts.roster.Roster.{the_row};

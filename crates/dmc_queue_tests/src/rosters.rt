@@ -79,8 +79,8 @@ fn roster_calls(rt: HostRuntime) -> Result<(), Fail> {
     assert_eq!(rt; roster.len(), 3);
     assert!(rt; roster.find(ClientId(4)).is_none());
     let last = roster.find(ClientId(8)).ok_or("8 is registered")?;
-    assert!(rt; roster.at_mut(last).pop().is_none());
     assert!(rt; roster.at(last).is_idle());
+    assert!(rt; roster.at_mut(last).pop().is_none());
     Ok(())
 }
 

@@ -1,6 +1,7 @@
 //! A server's lock, and clients with a tracker each.
-ghost use Rattle.std.specs.Prelude.{◌≤◌, ◌<◌, ◌^◌, map, IfOk, IsTrue, OnOk};
+ghost use Rattle.std.specs.Prelude.{◌≤◌, ◌<◌, map, IfOk, IsTrue, OnOk};
 ghost use Rattle.std.specs.List.{AllByRecursion};
+ghost use Rattle.dmc_types.specs.Limits.{most_books};
 ghost use Rattle.dmc_ledger.specs.Bundles.{Covers, client_side, server_side, stamp_holdings};
 ghost use Rattle.dmc_tlock.specs.Opening.{AreNew};
 ghost use Rattle.dmc_book.specs.Opening.{IsNewDesk};
@@ -59,7 +60,7 @@ pub struct Clients<S: Setup> {
 /// How many books the server's lock and its clients take: five for each client, and five for each worker.
 pub fn book_count(clients: u32, workers: u32) -> Result<u64, Fault>
     ensures some { IfOk result (λ books. 0 < books) }
-    ensures limit { IfOk result (λ books. books ≤ 2 ^ 32) }
+    ensures limit { IfOk result (λ books. books ≤ most_books) }
 {
     if clients == 0 || clients > MOST || workers == 0 || workers > MOST {
         return Err(Fault::Usage);

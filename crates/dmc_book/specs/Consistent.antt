@@ -1,6 +1,7 @@
 -- What holds of every queue's book: the invariant of its type.
-use Rattle.std.specs.Prelude.{◌≡◌, ℕ, ◌+◌, ◌*◌, ◌≤◌, ◌^◌, ◌==◌, true, false, List, [], ◌∷◌, length, Option, Some, None, is_some, ⊤}
+use Rattle.std.specs.Prelude.{◌≡◌, ℕ, ◌+◌, ◌*◌, ◌≤◌, ◌==◌, true, false, List, [], ◌∷◌, length, Option, Some, None, is_some, ⊤}
 use Rattle.std.specs.List.{AllByRecursion}
+use Rattle.dmc_types.specs.Limits.{most_events}
 use Rattle.dmc_types.specs.declared.ids.ClientId.{ClientId}
 use Rattle.dmc_types.specs.declared.config.PhaseType.{PhaseType}
 use Rattle.dmc_types.specs.declared.config.PhaseType.TheVariants.{Reservation, Priority}
@@ -11,14 +12,14 @@ use Rattle.dmc_tag.specs.declared.event.Event.{Event}
 use Rattle.dmc_ledger.specs.Accounts.{Account, total_of}
 use Rattle.dmc_ledger.specs.Bundles.{ClientSide, GrantAccounts}
 use Rattle.dmc_book.specs.BookState.{BookState, WorkerAccounts, WorkerSide}
-use Rattle.dmc_book.specs.Counts.{count, worker_adds, stamps_added, delta_added, rho_added, grant_in, grants_added}
+use Rattle.dmc_book.specs.Counts.{most_added, count, worker_adds, stamps_added, delta_added, rho_added, grant_in, grants_added}
 use Rattle.dmc_book.specs.Moves.{desk_place}
 
 -- The book totals what the events add. Nothing of it is gathered, and so many of its tills are open. No event adds more
 -- than 2^32-1, so the total stays far below the 2^63 of a book.
 pub record IsCounted {T : Type 0} (adds : Event T → ℕ) (history : List (Event T)) (tills : ℕ) (book : Account) : Type 0 where
   pub total : total_of book ≡ count adds history
-  pub bound : total_of book ≤ length history * 4294967295
+  pub bound : total_of book ≤ length history * most_added
   pub gathered : book.gathered ≡ 0
   pub open_tills : book.open_tills ≡ tills
 
@@ -64,7 +65,7 @@ pub record IsConsistent {T : Type 0} (ops : Tagging T) (queue : State T) (b : Bo
   pub workers_apart : AreWorkersApart b.workers
   pub clients_apart : AreClientsApart b.desks
   pub granted : AllByRecursion (λ e. HasDesk b.desks (grant_in e.reply)) b.history
-  pub limit : b.most ≤ 2 ^ 30
+  pub limit : b.most ≤ most_events
 
 -- none of the totals is past a bound
 pub record AreWithin (n : ℕ) (books : WorkerAccounts) : Type 0 where

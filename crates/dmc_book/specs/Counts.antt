@@ -1,5 +1,5 @@
 -- Counts over a queue's history: what each event adds to a count, and the sums.
-use Rattle.std.specs.Prelude.{ℕ, ◌+◌, ◌≤◌, ◌==◌, ◌&&◌, Bool, true, false, if◌then◌else◌, List, [], ◌∷◌, Option, Some, None, is_some}
+use Rattle.std.specs.Prelude.{ℕ, ◌+◌, ◌-◌, ◌^◌, ◌≤◌, ◌==◌, ◌&&◌, Bool, true, false, if◌then◌else◌, List, [], ◌∷◌, Option, Some, None, is_some}
 use Rattle.dmc_types.specs.Values.{Params}
 use Rattle.dmc_types.specs.declared.ids.ClientId.{ClientId}
 use Rattle.dmc_types.specs.declared.config.PhaseType.{PhaseType}
@@ -10,6 +10,10 @@ use Rattle.dmc_tag.specs.declared.event.Event.{Event}
 use Rattle.dmc_tag.specs.declared.reply.Reply.{Reply}
 use Rattle.dmc_tag.specs.declared.reply.Reply.TheVariants.{Registered, Updated, Tagged, Granted, Later, Nothing, Removed, Cleaned, Refused}
 use Rattle.dmc_book.specs.declared.counts.Numbers.{Numbers}
+
+-- the most that an event adds to a book
+abbrev pub most_added : ℕ
+most_added = 2 ^ 32 - 1
 
 abbrev pub one_if : Bool → ℕ
 one_if b = if b then 1 else 0
@@ -158,8 +162,8 @@ count adds (e ∷ es) = adds e + count adds es
 
 -- each number fits an u32
 pub record IsSmall (n : Numbers) : Type 0 where
-  pub calls : n.calls ≤ 4294967295
-  pub misses : n.misses ≤ 4294967295
-  pub tokens : n.tokens ≤ 4294967295
-  pub grants : n.grants ≤ 4294967295
-  pub granted : n.granted ≤ 4294967295
+  pub calls : n.calls ≤ most_added
+  pub misses : n.misses ≤ most_added
+  pub tokens : n.tokens ≤ most_added
+  pub grants : n.grants ≤ most_added
+  pub granted : n.granted ≤ most_added

@@ -1,6 +1,7 @@
 -- A queue's book that is made.
-use Rattle.std.specs.Prelude.{◌≡◌, ℕ, ◌+◌, ◌*◌, ◌<◌, ◌≤◌, ◌^◌, ◌==◌, false, List, [], ◌∷◌, map, length, ⊤}
+use Rattle.std.specs.Prelude.{◌≡◌, ℕ, ◌+◌, ◌*◌, ◌<◌, ◌≤◌, ◌==◌, false, List, [], ◌∷◌, map, length, ⊤}
 use Rattle.std.specs.List.{AllByRecursion}
+use Rattle.dmc_types.specs.Limits.{most_clients, most_events, most_open_tills}
 use Rattle.dmc_types.specs.Values.{Setting}
 use Rattle.dmc_types.specs.declared.ids.ClientId.{ClientId}
 use Rattle.dmc_types.specs.declared.ids.WorkerId.{WorkerId}
@@ -15,8 +16,8 @@ IsNewDesk server d = (n : ℕ) × (d ≡ new_client_side d.client server n)
 -- the limits of a history, of the desks, and of the books that the mint has left: five for each worker
 pub record AreBookLimits (workers desks left most : ℕ) : Type 0 where
   pub some_events : 0 < most
-  pub events_limit : most ≤ 2 ^ 30
-  pub desks_limit : desks ≤ 65536
+  pub events_limit : most ≤ most_events
+  pub desks_limit : desks ≤ most_clients
   pub books : 5 * workers ≤ left
 
 -- no number is named twice
@@ -98,5 +99,5 @@ new_state config server most n workers desks = record {
 
 -- one more till of each of the books may be opened
 pub record HaveRoom (books : GrantAccounts) : Type 0 where
-  pub reservation : books.reservation.open_tills < 4294967295
-  pub priority : books.priority.open_tills < 4294967295
+  pub reservation : books.reservation.open_tills < most_open_tills
+  pub priority : books.priority.open_tills < most_open_tills

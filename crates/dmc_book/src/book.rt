@@ -1,6 +1,7 @@
 //! The queue's book.
-ghost use Rattle.std.specs.Prelude.{◌≡◌, ◌==◌, ◌≤◌, ◌<◌, ◌+◌, ◌*◌, ◌^◌, ◌↔◌, length, map, true, false, not, is_some, Some, None, IfOk, IfErr, IsOk, OnOk, OnErr, IsErrOf, IsErrAnd, IsTrue, IfSome, slice_index_or};
+ghost use Rattle.std.specs.Prelude.{◌≡◌, ◌==◌, ◌≤◌, ◌<◌, ◌+◌, ◌*◌, ◌↔◌, length, map, true, false, not, is_some, Some, None, IfOk, IfErr, IsOk, OnOk, OnErr, IsErrOf, IsErrAnd, IsTrue, IfSome, slice_index_or};
 ghost use Rattle.std.specs.List.{AllByRecursion};
+ghost use Rattle.dmc_types.specs.Limits.{most_workers};
 ghost use Rattle.dmc_ledger.specs.Bundles.{Covers, client_side, grant_holdings, stamp_holdings};
 ghost use Rattle.dmc_ledger.specs.Moves.{tills_after_submit};
 ghost use Rattle.dmc_tag.specs.Answers.{call_reply};
@@ -97,7 +98,7 @@ impl<T: Tag, I: Indexes<T>, S: Setup> QueueBook<T, I, S> {
         mint: &mut Mint<S>,
         most: u32,
     ) -> Result<(QueueBook<T, I, S>, Vec<WorkerPass<S>>), BookFault<S>>
-        requires few { length workers.now ≤ 4294967294 }
+        requires few { length workers.now ≤ most_workers }
         requires new { AllByRecursion (IsNewDesk server.0) (map client_side desks.items) }
         ensures book { IfOk result (λ made.
             made.0 ≡ new_state config server.0 most mint.old.opened workers.now (map client_side desks.items)) }
@@ -385,7 +386,7 @@ impl<T: Tag, I: Indexes<T>, S: Setup> QueueBook<T, I, S> {
         requires own { AreOwn self.old.workers self.old.desks (map pass_state passes.items) }
         ensures emptied { self.new ≡ after_settling self.old }
         ensures history { result.history.events ≡ self.old.history }
-        ensures few { length result.history.events ≤ 2 ^ 30 }
+        ensures few { length result.history.events ≤ most_events }
         ensures replays { replays T.ops self.old.config result.history.events }
         ensures left { result.left ≡ length (after T.ops self.old.config self.old.history).requests }
         ensures workers { map worker_side result.workers.items ≡ map closed_worker self.old.workers }

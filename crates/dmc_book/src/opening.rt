@@ -2,6 +2,7 @@
 ghost use Rattle.std.specs.Prelude.{◌≡◌, ◌+◌, ◌-◌, ◌*◌, ◌<◌, ◌≤◌, ◌↔◌, ℕ, [], length, map, vec_capacity, slice_index_or, IfOk, OnOk, IfSome, IsSome, IsTrue, IsErrOf};
 ghost use Rattle.std.specs.List.{AllByRecursion};
 ghost use Rattle.std.specs.Arc.{arc_value};
+ghost use Rattle.dmc_types.specs.Limits.{most_workers};
 ghost use Rattle.dmc_ledger.specs.Accounts.{new_book, new_till};
 ghost use Rattle.dmc_ledger.specs.Bundles.{client_side, grant_holdings};
 ghost use Rattle.dmc_book.specs.BookState.{pass_state, worker_accounts, worker_holdings, worker_side, no_desk};
@@ -25,6 +26,9 @@ use indexmap::IndexSet;
 use std::alloc::{AllocError, Global};
 use std::cell::Cell;
 use std::sync::Arc;
+
+/// The most events of a history.
+const MOST_EVENTS: u32 = 1 << 30;
 
 /// The most desks that a book has.
 const MOST_DESKS: usize = 65_536;
@@ -103,7 +107,7 @@ fn rooms_for<S: Setup>(
 fn are_limits(workers: usize, desks: usize, left: u64, most: u32) -> bool
     ensures { IsTrue result ↔ AreBookLimits workers desks left most }
 {
-    0 < most && most <= 1 << 30 && desks <= MOST_DESKS && workers as u64 <= left / 5
+    0 < most && most <= MOST_EVENTS && desks <= MOST_DESKS && workers as u64 <= left / 5
 }
 
 /// The clients of the desks, in order: refused `Twice`, `Memory`.
@@ -308,7 +312,7 @@ pub(crate) fn open_workers<S: Setup>(
     seats: &mut Vec<Seat<S>>,
     passes: &mut Vec<WorkerPass<S>>,
 )
-    requires few { length workers.now ≤ 4294967294 }
+    requires few { length workers.now ≤ most_workers }
     requires left { 5 * length workers.now ≤ mint.old.left }
     requires new { (server : ℕ) × AllByRecursion (IsNewDesk server) (map client_side desks.old) }
     requires rooms { AllByRecursion (IsRoom (map (λ d. d.client) desks.old)) rooms.items }

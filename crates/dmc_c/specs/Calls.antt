@@ -1,6 +1,7 @@
 -- What each call of the header comes to. In each, answer is what the call answers: a value or the fault.
 use Rattle.std.specs.Prelude.{◌≡◌, ℕ, ◌<◌, ◌≤◌, ⊤, List, [], ◌∷◌, ◌++◌, length, Option, Some, None, Result, Ok, Err, nat_lt, nat_le, ◌&&◌, if◌then◌else◌, slice_get}
 use Rattle.std.specs.Option.{option_map, ok_or}
+use Rattle.dmc_types.specs.Limits.{most_servers}
 use Rattle.dmc_types.specs.Values.{Params}
 use Rattle.dmc_types.specs.declared.ids.ServerId.{ServerId}
 use Rattle.dmc_types.specs.declared.config.Counting.{Counting}
@@ -125,7 +126,7 @@ new_queue tags hz idle_age erase_age limit = do
 -- the numbers of a tracker's empty list
 unfoldable pub tracker_of : Counting → (servers most : ℕ) → Result Numbers Fault
 tracker_of form servers most =
-    if nat_lt 0 servers && nat_le servers 64 && nat_lt 0 most then Ok (new_numbers form most servers) else Err faults.Limit
+    if nat_lt 0 servers && nat_le servers most_servers && nat_lt 0 most then Ok (new_numbers form most servers) else Err faults.Limit
 
 abbrev pub new_tracker : (servers most form : ℕ) → Result Numbers Fault
 new_tracker servers most form = counting form >>= λ count. tracker_of count servers most

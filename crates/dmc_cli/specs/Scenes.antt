@@ -1,6 +1,7 @@
 -- What reading a scene takes from the reader, and what comes of it.
-use Rattle.std.specs.Prelude.{◌≡◌, ◌+◌, ◌^◌, ◌<◌, ℕ, List, length, Option, Result, Ok, Err}
+use Rattle.std.specs.Prelude.{◌≡◌, ◌+◌, ◌<◌, ℕ, List, length, Option, Result, Ok, Err}
 use Rattle.std.specs.Io.KnownBytes.{IsAtEnd}
+use Rattle.dmc_types.specs.Limits.{most_scene_bytes}
 use Rattle.dmc_text.specs.Texts.{ReadsWithin}
 use Rattle.dmc_scene.specs.declared.fault.SceneFault.{SceneFault}
 use Rattle.dmc_scene.specs.declared.fault.SceneFault.TheVariants as scene
@@ -11,7 +12,7 @@ use Rattle.dmc_cli.specs.declared.fault.Fault.TheVariants.{Read, Memory, SceneTe
 
 -- one more byte than a scene may have
 abbrev pub most_bytes : ℕ
-most_bytes = 2 ^ 20 + 1
+most_bytes = most_scene_bytes + 1
 
 -- All of a text is read, or as much as tells that it is too long, and this is the scene that it is, or why it is none.
 abbrev pub ReadsAs : (before after : Option (List ℕ)) → Result SceneValue SceneFault → Type 0

@@ -1,8 +1,9 @@
 -- A cluster run: a plain state per server, a tracker list per client, and per pair of a client and a server the messages
 -- in flight and the counts of grants not yet responded.
-use Rattle.std.specs.Prelude.{ℕ, Bool, ◌||◌, ◌==◌, if◌then◌else◌, List, [], ◌∷◌, slice_get, slice_index_or, slice_set, Result, Ok, Err, ⊤}
+use Rattle.std.specs.Prelude.{ℕ, ◌-◌, ◌^◌, Bool, ◌||◌, ◌==◌, if◌then◌else◌, List, [], ◌∷◌, slice_get, slice_index_or, slice_set, Result, Ok, Err, ⊤}
 use Rattle.std.specs.List.{find, list_any}
 use Rattle.std.specs.Option.{ok_or}
+use Rattle.dmc_types.specs.Limits as limits
 use Rattle.dmc_types.specs.declared.ids.ClientId.{ClientId}
 use Rattle.dmc_types.specs.declared.ids.ServerId.{ServerId}
 use Rattle.dmc_types.specs.declared.config.Counting.{Counting}
@@ -38,15 +39,15 @@ pub record Run (T : Type 0) : Type 0 where
 
 -- what a tracker counts at most
 abbrev pub most_completions : ℕ
-most_completions = 4294967295
+most_completions = limits.most_completions
 
 -- the most messages in flight of a pair
 abbrev pub most_in_flight : ℕ
-most_in_flight = 1048576
+most_in_flight = 2 ^ 20
 
 -- the most grants of a pair and phase that are not yet responded
 abbrev pub most_grants : ℕ
-most_grants = 4294967295
+most_grants = 2 ^ 32 - 1
 
 -- ---- pairs
 

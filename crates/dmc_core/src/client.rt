@@ -1,5 +1,6 @@
 //! A client of the cluster: its tracker, and what is under way between it and each server.
 ghost use Rattle.std.specs.Prelude.{◌≡◌, ◌≢◌, ◌+◌, ◌-◌, ◌<◌, ◌≤◌, drop, length, map, replicate, slice_get, Err, IfOk, OnOk};
+ghost use Rattle.dmc_types.specs.Limits.{most_servers};
 ghost use Rattle.dmc_tracker.specs.Numbers.{new_numbers};
 ghost use Rattle.dmc_core.specs.Core.{ClientFollows};
 ghost use Rattle.dmc_core.specs.Events.{stamp, response};
@@ -42,7 +43,7 @@ impl CoreClient {
         counting: Counting,
     ) -> Result<CoreClient, AllocError>
         requires some { 0 < servers }
-        requires limit { servers ≤ 64 }
+        requires limit { servers ≤ most_servers }
         ensures { IfOk result (λ client. client ≡ record {
           id = id;
           tracker = new_numbers counting most_completions servers;

@@ -2,6 +2,7 @@
 //! tracker of its own. Nothing is in flight.
 ghost use Rattle.std.specs.Prelude.{◌≡◌, ◌≤◌, All, AllPairs, IsOk, IfOk, length, map};
 ghost use Rattle.std.specs.List.{AllByRecursion};
+ghost use Rattle.dmc_types.specs.Limits.{most_scene_clients};
 ghost use Rattle.dmc_pull.specs.Queue.{state_of};
 ghost use Rattle.dmc_scene.specs.SceneValue.{AreApart};
 ghost use Rattle.dmc_tag.specs.Replay.{state_after};
@@ -43,7 +44,7 @@ fn open_queue<T: Tag>(
 ) -> Result<PullQueue<T, HeapIndexes>, AllocError>
     requires apart { AllPairs AreApart clients.now }
     requires spaced { All (λ c. IsOk (spacings_of T.ops config.hz c.info)) clients.now }
-    requires limit { length clients.now ≤ 256 }
+    requires limit { length clients.now ≤ most_scene_clients }
     ensures { IfOk result (λ queue. state_of queue ≡ state_after T.ops (opening config) (map registration (map named_rates clients.now))) }
 {
     let mut queue = PullQueue::new(alloc, config);

@@ -1,7 +1,11 @@
 //! How long the histories of a run may grow, and how far its trackers count.
-ghost use Rattle.std.specs.Prelude.{◌≡◌, ◌≤◌, ◌<◌, ◌^◌, ◌↔◌, IfSome, IsSome};
+ghost use Rattle.std.specs.Prelude.{◌≡◌, ◌≤◌, ◌<◌, ◌↔◌, IfSome, IsSome};
+ghost use Rattle.dmc_types.specs.Limits.{most_completions, most_events};
 
 use std::marker::Model;
+
+/// The most events of a history.
+const MOST_EVENTS: u32 = 1 << 30;
 
 /// The most events of a history, 256 to 2^30, and the most completions that a tracker counts, 1 to 2^32-1.
 #[derive(Clone, Copy, Debug, PartialEq, Eq)]
@@ -11,14 +15,15 @@ pub struct Limits {
 }
 
 impl Model for Limits {
-    ghost use Rattle.std.specs.Prelude.{◌≤◌, ◌^◌};
+    ghost use Rattle.std.specs.Prelude.{◌≤◌};
+    ghost use Rattle.dmc_types.specs.Limits.{most_events};
     ghost use Rattle.dmc_driver.specs.LimitsValue.{LimitsValue};
 
     ghost Value = { LimitsValue };
 
     ghost view = { λ l. record { events = l.events; completions = l.completions } };
 
-    ghost invariant = { λ l. (256 ≤ l.events) × (l.events ≤ 2 ^ 30) × (1 ≤ l.completions) };
+    ghost invariant = { λ l. (256 ≤ l.events) × (l.events ≤ most_events) × (1 ≤ l.completions) };
 
     ghost inverse = { λ l. record { events = l.events; completions = l.completions } };
 }
@@ -26,10 +31,10 @@ impl Model for Limits {
 impl Limits {
     /// These limits, or `None` where one is out of its own.
     pub fn new(events: u32, completions: u32) -> Option<Limits>
-        ensures some { IsSome result ↔ ((256 ≤ events) × (events ≤ 2 ^ 30) × (1 ≤ completions)) }
+        ensures some { IsSome result ↔ ((256 ≤ events) × (events ≤ most_events) × (1 ≤ completions)) }
         ensures value { IfSome result (λ limits. limits ≡ record { events = events; completions = completions }) }
     {
-        if events < 256 || events > 1 << 30 || completions < 1 {
+        if events < 256 || events > MOST_EVENTS || completions < 1 {
             return None;
         }
         Some(Limits {
@@ -40,10 +45,10 @@ impl Limits {
 
     /// The widest limits: 2^30 events and 2^32-1 completions.
     pub fn widest() -> Limits
-        ensures { result ≡ record { events = 2 ^ 30; completions = 4294967295 } }
+        ensures { result ≡ record { events = most_events; completions = most_completions } }
     {
         Limits {
-            events: 1 << 30,
+            events: MOST_EVENTS,
             completions: u32::MAX,
         }
     }
@@ -52,7 +57,7 @@ impl Limits {
     pub fn events(self) -> u32
         ensures value { result ≡ self.events }
         ensures some { 256 ≤ result }
-        ensures limit { result ≤ 2 ^ 30 }
+        ensures limit { result ≤ most_events }
     {
         self.events
     }

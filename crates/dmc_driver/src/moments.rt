@@ -1,5 +1,6 @@
 //! What time it is, for the workers of a run.
-ghost use Rattle.std.specs.Prelude.{◌≡◌, ◌*◌, ◌^◌, min};
+ghost use Rattle.std.specs.Prelude.{◌≡◌, ◌*◌, min};
+ghost use Rattle.dmc_types.specs.Limits.{greatest_moment};
 
 use dmc_types::moment::Moment;
 use std::sync::atomic::{AtomicU64, Ordering};
@@ -34,9 +35,12 @@ impl Moments for StepClock {
     }
 }
 
+/// The last moment, in ticks.
+const GREATEST_MOMENT: u64 = 1 << 62;
+
 /// The moment of a reading.
 fn moment_of(reading: u64, step: u64) -> Moment
-    ensures { result ≡ min (reading * step) (2 ^ 62) }
+    ensures { result ≡ min (reading * step) greatest_moment }
 {
-    Moment::new(reading.saturating_mul(step).min(1 << 62)).unwrap()
+    Moment::new(reading.saturating_mul(step).min(GREATEST_MOMENT)).unwrap()
 }

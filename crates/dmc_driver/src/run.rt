@@ -1,5 +1,6 @@
 //! A run of a scene's cluster.
-ghost use Rattle.std.specs.Prelude.{◌≡◌, ◌<◌, ◌≤◌, ◌^◌};
+ghost use Rattle.std.specs.Prelude.{◌≡◌, ◌<◌, ◌≤◌};
+ghost use Rattle.dmc_types.specs.Limits.{most_books};
 ghost use Rattle.dmc_driver.specs.Ending.{EndsSo, KeepsWithin, Reports};
 
 use crate::cluster::Cluster;
@@ -75,7 +76,7 @@ where
 /// How many books a run opens: five of each client at each server, and five of each worker that a server enrols.
 fn books_of(scene: &Scene) -> u64
     ensures some { 0 < result }
-    ensures limit { result ≤ 2 ^ 32 }
+    ensures limit { result ≤ most_books }
 {
     let clients = scene.clients().len() as u64;
     let servers = u64::from(scene.servers());

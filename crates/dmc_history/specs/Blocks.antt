@@ -1,7 +1,8 @@
 -- How a history keeps its events. No public clause cites this module.
-use Rattle.std.specs.Prelude.{◌≡◌, ℕ, ◌-◌, ◌*◌, ◌<◌, ◌≤◌, ◌^◌, List, [], ◌∷◌, length, min, vec_capacity}
+use Rattle.std.specs.Prelude.{◌≡◌, ℕ, ◌-◌, ◌*◌, ◌<◌, ◌≤◌, List, [], ◌∷◌, length, min, vec_capacity}
 use Rattle.std.specs.List.{flat_map}
 use Rattle.std.specs.Global.{Vec}
+use Rattle.dmc_types.specs.Limits.{most_events}
 use Rattle.dmc_history.specs.Log.{block_size}
 
 module _ {E : Type 0} where
@@ -22,5 +23,5 @@ module _ {E : Type 0} where
 -- the limits of a history
 pub record AreLimits (len most : ℕ) : Type 0 where
   pub some : 0 < most
-  pub greatest : most ≤ 2 ^ 30
+  pub greatest : most ≤ most_events
   pub within : len ≤ most

@@ -1,8 +1,9 @@
 //! A history: a list of events that only grows, kept in blocks of 1,024, so that a growth copies no event.
 #![tactic(auto)]
 
-ghost use Rattle.std.specs.Prelude.{◌≡◌, ◌↔◌, ◌+◌, ◌-◌, ◌<◌, ◌≤◌, ◌^◌, [], ◌∷◌, ◌++◌, length, IsTrue, OnOk, OnErr, IsErrOf, IsOk, min, option_copied, slice_get, vec_capacity};
+ghost use Rattle.std.specs.Prelude.{◌≡◌, ◌↔◌, ◌+◌, ◌-◌, ◌<◌, ◌≤◌, [], ◌∷◌, ◌++◌, length, IsTrue, OnOk, OnErr, IsErrOf, IsOk, min, option_copied, slice_get, vec_capacity};
 ghost use Rattle.std.specs.Global.{Vec};
+ghost use Rattle.dmc_types.specs.Limits.{most_events};
 ghost use Rattle.dmc_history.specs.Log.{block_size};
 
 pub use dmc_tag::event::Event;
@@ -13,6 +14,9 @@ use thiserror::Error;
 
 // How many events a block has room for.
 const BLOCK: usize = 1024;
+
+/// The most events of a history.
+const MOST_EVENTS: u32 = 1 << 30;
 
 /// A history that could not be made: `most` was not 1 to 2^30.
 #[derive(Clone, Copy, Debug, PartialEq, Eq, Error)]
@@ -74,10 +78,10 @@ impl<E> Model for History<E> {
 impl<E: Drop> History<E> {
     /// An empty history of at most `most` events, which takes no memory; refused `Limit` where `most` is not 1 to 2^30.
     pub fn new(alloc: Global, most: u32) -> Result<History<E>, LimitFault>
-        ensures ok { (0 < most) × (most ≤ 2 ^ 30) → result ≡ Ok (record { events = []; most = most; room = 0 }) }
-        ensures refused { ((0 < most) × (most ≤ 2 ^ 30) → ⊥) → result ≡ Err LimitFault.Limit }
+        ensures ok { (0 < most) × (most ≤ most_events) → result ≡ Ok (record { events = []; most = most; room = 0 }) }
+        ensures refused { ((0 < most) × (most ≤ most_events) → ⊥) → result ≡ Err LimitFault.Limit }
     {
-        if most < 1 || most > 1 << 30 {
+        if most < 1 || most > MOST_EVENTS {
             return Err(LimitFault::Limit);
         }
         Ok(History {
@@ -107,7 +111,7 @@ impl<E: Drop> History<E> {
     pub fn most(&self) -> u32
         ensures value { result ≡ self.now.most }
         ensures some { 0 < result }
-        ensures limit { result ≤ 2 ^ 30 }
+        ensures limit { result ≤ most_events }
     {
         self.most
     }
@@ -161,7 +165,7 @@ impl<E: Drop> History<E> {
     pub fn take(&mut self) -> History<E>
         ensures value { result ≡ self.old }
         ensures within { length result.events ≤ result.most }
-        ensures limit { result.most ≤ 2 ^ 30 }
+        ensures limit { result.most ≤ most_events }
         ensures empty { self.new ≡ record { events = []; most = self.old.most; room = 0 } }
     {
         let empty = History {

@@ -1,5 +1,6 @@
 //! A set-up, and its one mint, which opens the books.
-ghost use Rattle.std.specs.Prelude.{◌≡◌, ◌+◌, ◌-◌, ◌<◌, ◌≤◌, ◌^◌, ◌↔◌, IfOk, OnOk, OnErr, IsErr};
+ghost use Rattle.std.specs.Prelude.{◌≡◌, ◌+◌, ◌-◌, ◌<◌, ◌≤◌, ◌↔◌, IfOk, OnOk, OnErr, IsErr};
+ghost use Rattle.dmc_types.specs.Limits.{most_books};
 
 use crate::book::Book;
 use crate::full::Full;
@@ -15,14 +16,15 @@ pub struct Blank {
 }
 
 impl Model for Blank {
-    ghost use Rattle.std.specs.Prelude.{◌≤◌, ◌^◌};
+    ghost use Rattle.std.specs.Prelude.{◌≤◌};
+    ghost use Rattle.dmc_types.specs.Limits.{most_books};
     ghost use Rattle.dmc_ledger.specs.Accounts.{Unopened};
 
     ghost Value = { Unopened };
 
     ghost view = { λ b. record { name = b.token.name; books = b.books } };
 
-    ghost invariant = { λ b. b.books ≤ 2 ^ 32 };
+    ghost invariant = { λ b. b.books ≤ most_books };
 }
 
 impl Blank {
@@ -30,7 +32,7 @@ impl Blank {
     /// `std::marker::Brand`, and `open` the set-up there.
     pub fn new(books: u64) -> Blank
         requires some { 0 < books }
-        requires limit { books ≤ 2 ^ 32 }
+        requires limit { books ≤ most_books }
         ensures { result.books ≡ books }
     {
         Blank {
@@ -62,14 +64,15 @@ pub struct Mint<S: Setup> {
 }
 
 impl<S: Setup> Model for Mint<S> {
-    ghost use Rattle.std.specs.Prelude.{◌≡◌, ◌+◌, ◌≤◌, ◌^◌};
+    ghost use Rattle.std.specs.Prelude.{◌≡◌, ◌+◌, ◌≤◌};
+    ghost use Rattle.dmc_types.specs.Limits.{most_books};
     ghost use Rattle.dmc_ledger.specs.Accounts.{Stock};
 
     ghost Value = { Stock };
 
     ghost view = { λ m. record { opened = m.opened; left = m.left } };
 
-    ghost invariant = { λ m. (m.token.opened ≡ m.opened) × (m.opened + m.left ≤ 2 ^ 32) };
+    ghost invariant = { λ m. (m.token.opened ≡ m.opened) × (m.opened + m.left ≤ most_books) };
 }
 
 impl<S: Setup> Mint<S> {
@@ -93,7 +96,7 @@ impl<S: Setup> Mint<S> {
     /// How many books may still be opened.
     pub fn left(&self) -> u64
         ensures value { result ≡ self.now.left }
-        ensures limit { self.now.opened + result ≤ 2 ^ 32 }
+        ensures limit { self.now.opened + result ≤ most_books }
     {
         self.left
     }

@@ -1,5 +1,6 @@
 //! The plain queue.
 ghost use Rattle.std.specs.Prelude.{◌≡◌, ◌<◌, length, OnOk, ◌==◌};
+ghost use Rattle.dmc_types.specs.Limits.{most_clients};
 ghost use Rattle.dmc_tag.specs.Answers.{call_reply, sure_call_reply, clean_reply};
 ghost use Rattle.dmc_tag.specs.Rules as rules_of;
 ghost use Rattle.dmc_tag.specs.State.{opening, effective};
@@ -39,6 +40,7 @@ pub struct PlainQueue<T> {
 
 impl<T> Model for PlainQueue<T> {
     ghost use Rattle.std.specs.Prelude.{◌≤◌, length};
+    ghost use Rattle.dmc_types.specs.Limits.{most_clients, most_requests};
     ghost use Rattle.dmc_tag.specs.State.{State};
     ghost use Rattle.dmc_tag.specs.Queued.{AreActive};
 
@@ -46,7 +48,7 @@ impl<T> Model for PlainQueue<T> {
 
     ghost view = { λ q. record { config = q.config; requests = q.requests.items; clients = q.clients.items; last_moment = q.last_moment } };
 
-    ghost invariant = { λ q. (length q.requests.items ≤ 1048576) × (length q.clients.items ≤ 65536) × AreActive q.clients.items q.requests.items };
+    ghost invariant = { λ q. (length q.requests.items ≤ most_requests) × (length q.clients.items ≤ most_clients) × AreActive q.clients.items q.requests.items };
 }
 
 impl<T> PlainQueue<T> {
@@ -92,7 +94,7 @@ impl<T: Tag> PlainQueue<T> {
     /// The tests of a registration.
     fn can_register(&self, client: ClientId, info: ClientInfo) -> Result<(), Refusal>
         ensures outcome { result ≡ rules_of.can_register T.ops self.now client info }
-        ensures room { OnOk result (length self.now.clients < 65536) }
+        ensures room { OnOk result (length self.now.clients < most_clients) }
     {
         if client_named(&self.clients, client).is_some() {
             return Err(Refusal::Known);

@@ -2,6 +2,7 @@
 use Rattle.std.specs.Prelude.{◌≡◌, ℕ, ◌≤◌, ◌<◌, true, false, List, Option, Some, Result, Ok, Err, ⊤, length, slice_get}
 use Rattle.std.specs.Option.{option_map, option_and_then}
 use Rattle.std.specs.List.{AllByRecursion}
+use Rattle.dmc_types.specs.Limits.{most_requests}
 use Rattle.dmc_types.specs.Values.{Setting}
 use Rattle.dmc_types.specs.declared.ids.ClientId.{ClientId}
 use Rattle.dmc_tag.specs.declared.reply.Tags.{Tags}
@@ -67,7 +68,7 @@ pub record IsQueue {T : Type 0} (ops : Tagging T) (fraction : T → Fraction) (i
   pub heads : AreHeads ops q.last_moment q.roster.entries q.heads
   pub in_room : AllByRecursion (λ e. e.key < length q.heads) q.roster.entries
   pub counted : queued ≡ length (requests_in q.roster.entries)
-  pub bound : queued ≤ 1048576
+  pub bound : queued ≤ most_requests
 
 -- a test's answer, whatever it found
 abbrev pub without_value : {X : Type 0} → Result X Refusal → Result ⊤ Refusal

@@ -1,5 +1,6 @@
 -- Worked examples: the replies that the rules give in ratio tags, computed.
 use Rattle.std.specs.Prelude.{ℕ, ◌-◌, pos, List, false, Option}
+use Rattle.dmc_types.specs.Limits.{greatest_moment}
 use Rattle.dmc_types.specs.Values.{Setting}
 use Rattle.dmc_types.specs.declared.config.AtLimit.TheVariants.{Wait}
 use Rattle.dmc_types.specs.declared.config.PhaseType.TheVariants as phases
@@ -17,8 +18,8 @@ use Rattle.dmc_ratio.specs.Ratio.{Ratio, lowest_terms, ratio_ops}
 abbrev pub ticks_a_second : ℕ → Setting
 ticks_a_second hz = record {
   hz = hz;
-  idle_age = 4611686018427387904;
-  erase_age = 4611686018427387904;
+  idle_age = greatest_moment;
+  erase_age = greatest_moment;
   at_limit = Wait;
 }
 

@@ -8,6 +8,7 @@ use Rattle.std.proofs.lemmas.Int.{ints, by_lt_z, unsigned_abs-mul}
 use Rattle.std.proofs.lemmas.Nat.Gcd.{same_from_IsGcd}
 use Rattle.std.proofs.lemmas.Nat.{div-add-mod'}
 use Rattle.std.proofs.Math.Nat.{div-mul_cancel, mul-le-mul_right, mod-lt, eq-one_of_dvd-one}
+use Rattle.dmc_types.specs.Limits.{greatest_moment}
 use borrow.Author.Differences.{up, down, same_in}
 use Rattle.dmc_tag.specs.Tag.{Fraction, Gives, IsExact, IsSame, ratio, sum_of, difference_of, multiple_of}
 use Rattle.dmc_ratio.specs.Gcd.{gcd}
@@ -144,7 +145,7 @@ ratio_same_value f g f_some g_some same v = at f.numer f.denom g.numer g.denom f
   at n (suc d) m zero p q r w = absurd (omega arith)
   at n (suc d) m (suc e) p q r w = fits_to m e (subst Fits (lowest_same n m d e r) (fits_from n d w))
 
-ratio_moments : (n : ℕ) → n ≤ 4611686018427387904 → IsRatioValue (record { numer = pos n; denom = 1 })
+ratio_moments : (n : ℕ) → n ≤ greatest_moment → IsRatioValue (record { numer = pos n; denom = 1 })
 ratio_moments n h = record {
   some = omega arith;
   numer_fits = λ g is. let one : g ≡ 1 = eq-one_of_dvd-one is.1 in subst (λ (x : ℕ). n / x ≤ greatest_numer) (sym one) (omega (arith, h));

@@ -2,6 +2,7 @@
 ghost use Rattle.std.specs.Prelude.{◌≡◌, ◌==◌, ◌≤◌, ◌<◌, true, false, length, [], None, IfSome, map, filter, Some, is_some};
 ghost use Rattle.std.specs.Option.{option_map, option_map_or};
 ghost use Rattle.slab.specs.Slab.{get};
+ghost use Rattle.dmc_types.specs.Limits.{most_clients};
 ghost use Rattle.std.specs.List.{AllByRecursion};
 ghost use Rattle.std.specs.Map.{lookup};
 ghost use Rattle.dmc_client.specs.Record.{IsRecord};
@@ -54,7 +55,7 @@ impl<T: Tag> Roster<T> {
     /// How many clients are registered.
     pub fn len(&self) -> usize
         ensures value { result ≡ length self.now.entries }
-        ensures bound { result ≤ 65536 }
+        ensures bound { result ≤ most_clients }
         ensures distinct { entries.AreDistinct self.now.entries }
     {
         self.ids.len()
@@ -110,7 +111,7 @@ impl<T: Tag> Roster<T> {
     /// changes nothing.
     pub fn add(&mut self, id: ClientId, rec: ClientRec<T>) -> Result<usize, AllocError>
         requires new { entries.entry_named id self.old.entries ≡ None }
-        requires room { length self.old.entries < 65536 }
+        requires room { length self.old.entries < most_clients }
         ensures { entries.Adds self.old self.new id rec result }
     {
         self.ids.reserve(1)?;
@@ -135,7 +136,7 @@ impl<T: Tag> Roster<T> {
     /// How many records pass a test.
     pub fn count<R: RecordTest<T>>(&self, test: &R) -> usize
         ensures value { result ≡ length (filter (λ e. R.passes test.now e.rec) self.now.entries) }
-        ensures bound { result ≤ 65536 }
+        ensures bound { result ≤ most_clients }
     {
         count_passing(&self.ids, &self.records, test)
     }

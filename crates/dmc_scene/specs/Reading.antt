@@ -3,6 +3,7 @@ use Rattle.std.specs.Prelude.{ℕ, ◌^◌, ◌-◌, ◌==◌, ◌&&◌, nat_le,
 use Rattle.std.specs.List.{list_any}
 use Rattle.std.specs.Option.{ok_or, option_and_then, option_to_list}
 use Rattle.std.specs.Str.{bytes_eq, is_utf8}
+use Rattle.dmc_types.specs.Limits.{greatest_hz, greatest_moment, greatest_step, greatest_window, most_client_requests, most_pulls, most_scene_bytes, most_scene_clients, most_server_workers, most_servers}
 use Rattle.dmc_types.specs.declared.config.AtLimit.{AtLimit}
 use Rattle.dmc_types.specs.declared.config.AtLimit.TheVariants.{Wait, Allow}
 use Rattle.dmc_types.specs.declared.config.Counting.{Counting}
@@ -61,9 +62,9 @@ tables_alone ds = if are_tables ds then Some (tables_in ds) else None
 abbrev pub as_tables : Data → Option (List Members)
 as_tables held = option_and_then tables_alone (as_array held)
 
--- 1 to 256 of them
+-- one or more of them, and no more than a scene may have
 abbrev pub some_clients : List Members → Option (List Members)
-some_clients tables = if nat_le 1 (length tables) && nat_le (length tables) 256 then Some tables else None
+some_clients tables = if nat_le 1 (length tables) && nat_le (length tables) most_scene_clients then Some tables else None
 
 -- the client that a table is, beside those before it
 abbrev pub client_of : TagKind → ℕ → List ClientValue → Members → Result ClientValue SceneFault
@@ -72,8 +73,8 @@ client_of tags hz before table = do
   reservation ← optional as_integer (rate tags hz) key.Reservation table
   weight ← required as_integer (rate tags hz) key.Weight table
   limit ← optional as_integer (rate tags hz) key.Limit table
-  requests ← required as_integer (number 0 1000000) key.Requests table
-  window ← required as_integer (number 1 1024) key.Window table
+  requests ← required as_integer (number 0 most_client_requests) key.Requests table
+  window ← required as_integer (number 1 greatest_window) key.Window table
   Ok (record {
     id = record { 0 = id };
     info = record { reservation = reservation; weight = weight; limit = limit };
@@ -90,15 +91,15 @@ clients_of tags hz before (table ∷ tables) =
 -- the scene that a table is
 abbrev pub scene_of : Members → Result SceneValue SceneFault
 scene_of table = do
-  hz ← required as_integer (number 1 1000000000) key.Hz table
-  idle_age ← defaulted (2 ^ 62) as_integer (number 1 (2 ^ 62)) key.IdleAge table
-  erase_age ← defaulted (2 ^ 62) as_integer (number idle_age (2 ^ 62)) key.EraseAge table
+  hz ← required as_integer (number 1 greatest_hz) key.Hz table
+  idle_age ← defaulted greatest_moment as_integer (number 1 greatest_moment) key.IdleAge table
+  erase_age ← defaulted greatest_moment as_integer (number idle_age greatest_moment) key.EraseAge table
   tags ← required as_str tags_named key.Tags table
-  servers ← required as_integer (number 1 64) key.Servers table
-  workers ← required as_integer (number 1 16) key.Workers table
-  step ← required as_integer (number 1 1000000000) key.Step table
+  servers ← required as_integer (number 1 most_servers) key.Servers table
+  workers ← required as_integer (number 1 most_server_workers) key.Workers table
+  step ← required as_integer (number 1 greatest_step) key.Step table
   seed ← required as_integer (number 0 (2 ^ 63 - 1)) key.Seed table
-  max_pulls ← required as_integer (number 1 (2 ^ 30)) key.MaxPulls table
+  max_pulls ← required as_integer (number 1 most_pulls) key.MaxPulls table
   counting ← defaulted All as_str counting_named key.Counting table
   at_limit ← defaulted Wait as_str at_limit_named key.AtLimit table
   tables ← required as_tables some_clients key.Client table
@@ -115,9 +116,9 @@ scene_of table = do
     clients = clients;
   })
 
--- the table that a text is: UTF-8 of at most 2^20 bytes, and TOML
+-- the table that a text is: UTF-8 of no more bytes than a scene may have, and TOML
 abbrev pub table_of : List ℕ → Option Members
-table_of text = if nat_le (length text) (2 ^ 20) && is_utf8 text then parse_document text else None
+table_of text = if nat_le (length text) most_scene_bytes && is_utf8 text then parse_document text else None
 
 -- the scene that a text is
 abbrev pub scene_in : List ℕ → Result SceneValue SceneFault

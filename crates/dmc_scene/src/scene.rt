@@ -2,6 +2,7 @@
 ghost use Rattle.std.specs.Prelude.{◌≡◌, ◌≢◌, ◌<◌, ◌≤◌, ◌^◌, IfOk, IfErr, IsUtf8, Some, None, Ok, Err, true, List, [], length, All, AllPairs};
 ghost use Rattle.std.specs.Option.{ok_or};
 ghost use Rattle.std.specs.Result.{result_map_both};
+ghost use Rattle.dmc_types.specs.Limits.{greatest_hz, greatest_step, most_pulls, most_scene_bytes, most_scene_clients, most_server_workers, most_servers};
 ghost use Rattle.toml.specs.Data.{as_str, as_array, get_member};
 ghost use Rattle.toml.specs.Parse.{parse_document};
 ghost use Rattle.toml.specs.View.{view, items_view, array_view, table_view};
@@ -20,6 +21,21 @@ use dmc_types::config::{AtLimit, Counting, QueueConfig, TagKind};
 use std::alloc::Global;
 use std::marker::Model;
 use toml::{Table, Value};
+
+/// The most bytes of a scene.
+const MOST_BYTES: usize = 1 << 20;
+
+/// The most ticks a second.
+const GREATEST_HZ: u64 = 1_000_000_000;
+
+/// The greatest age in ticks.
+const GREATEST_AGE: u64 = 1 << 62;
+
+/// The most ticks of a step.
+const GREATEST_STEP: u64 = 1_000_000_000;
+
+/// The most rounds, and the most turns of a worker.
+const MOST_PULLS: u64 = 1 << 30;
 
 /// What a run is set up with: the queues' configuration, the tags, how many servers and workers there are, the step of a
 /// simulation's round, the seed of the plans, the most pulls, the counting form, and the clients.
@@ -72,7 +88,7 @@ impl Scene {
     pub fn tags(&self) -> TagKind
         ensures value { result ≡ self.now.tags }
         ensures some_hz { 0 < self.now.config.hz }
-        ensures hz_limit { self.now.config.hz ≤ 1000000000 }
+        ensures hz_limit { self.now.config.hz ≤ greatest_hz }
         ensures spaced { All (λ client. AreSpaced result self.now.config.hz client.info) self.now.clients }
     {
         self.tags
@@ -82,7 +98,7 @@ impl Scene {
     pub fn servers(&self) -> u32
         ensures value { result ≡ self.now.servers }
         ensures some { 0 < result }
-        ensures limit { result ≤ 64 }
+        ensures limit { result ≤ most_servers }
     {
         self.servers
     }
@@ -91,7 +107,7 @@ impl Scene {
     pub fn workers(&self) -> u32
         ensures value { result ≡ self.now.workers }
         ensures some { 0 < result }
-        ensures limit { result ≤ 16 }
+        ensures limit { result ≤ most_server_workers }
     {
         self.workers
     }
@@ -100,7 +116,7 @@ impl Scene {
     pub fn step(&self) -> u64
         ensures value { result ≡ self.now.step }
         ensures some { 0 < result }
-        ensures limit { result ≤ 1000000000 }
+        ensures limit { result ≤ greatest_step }
     {
         self.step
     }
@@ -117,7 +133,7 @@ impl Scene {
     pub fn max_pulls(&self) -> u32
         ensures value { result ≡ self.now.max_pulls }
         ensures some { 0 < result }
-        ensures limit { result ≤ 2 ^ 30 }
+        ensures limit { result ≤ most_pulls }
     {
         self.max_pulls
     }
@@ -133,7 +149,7 @@ impl Scene {
     pub fn clients(&self) -> &[SceneClient]
         ensures value { result.now ≡ self.now.clients }
         ensures some { 0 < length result.now }
-        ensures limit { length result.now ≤ 256 }
+        ensures limit { length result.now ≤ most_scene_clients }
         ensures apart { AllPairs AreApart result.now }
         ensures spaced { All (λ client. AreSpaced self.now.tags self.now.config.hz client.info) result.now }
     {
@@ -146,9 +162,9 @@ impl Scene {
 pub fn read_scene(alloc: Global, text: &[u8]) -> Result<Scene, SceneFault>
     ensures read { result ≢ Err SceneFault.Memory → result ≡ scene_in text.now }
     // no memory is asked for before the text is known to be a scene's
-    ensures memory { result ≡ Err SceneFault.Memory → (length text.now ≤ 2 ^ 20) × IsUtf8 text.now }
+    ensures memory { result ≡ Err SceneFault.Memory → (length text.now ≤ most_scene_bytes) × IsUtf8 text.now }
 {
-    if text.len() > 1 << 20 {
+    if text.len() > MOST_BYTES {
         return Err(SceneFault::Text);
     }
     match std::str::from_utf8(text) {
@@ -175,15 +191,15 @@ fn table_in(alloc: Global, text: &str) -> Result<Table, SceneFault>
 fn read_table(alloc: Global, table: &Table) -> Result<Scene, SceneFault>
     ensures { result ≢ Err SceneFault.Memory → result ≡ scene_of (table_view table.now) }
 {
-    let hz = integer(table, Key::Hz, 1, 1_000_000_000)? as u32;
-    let idle_age = integer_or(table, Key::IdleAge, 1 << 62, 1, 1 << 62)?;
-    let erase_age = integer_or(table, Key::EraseAge, 1 << 62, idle_age, 1 << 62)?;
+    let hz = integer(table, Key::Hz, 1, GREATEST_HZ)? as u32;
+    let idle_age = integer_or(table, Key::IdleAge, GREATEST_AGE, 1, GREATEST_AGE)?;
+    let erase_age = integer_or(table, Key::EraseAge, GREATEST_AGE, idle_age, GREATEST_AGE)?;
     let tags = read_tags(table)?;
     let servers = integer(table, Key::Servers, 1, 64)? as u32;
     let workers = integer(table, Key::Workers, 1, 16)? as u32;
-    let step = integer(table, Key::Step, 1, 1_000_000_000)?;
+    let step = integer(table, Key::Step, 1, GREATEST_STEP)?;
     let seed = integer(table, Key::Seed, 0, (1 << 63) - 1)?;
-    let max_pulls = integer(table, Key::MaxPulls, 1, 1 << 30)? as u32;
+    let max_pulls = integer(table, Key::MaxPulls, 1, MOST_PULLS)? as u32;
     let counting = read_counting(table)?;
     let at_limit = read_at_limit(table)?;
     let clients = read_clients(alloc, tags, hz, client_tables(table)?)?;
@@ -292,7 +308,7 @@ fn client_tables(table: &Table) -> Result<&[Value], SceneFault>
     ensures value { result_map_both (λ values. tables_in (items_view values.now)) (λ fault. fault) result
         ≡ required as_tables some_clients Key.Client (table_view table.now) }
     ensures some { IfOk result (λ values. 0 < length values.now) }
-    ensures limit { IfOk result (λ values. length values.now ≤ 256) }
+    ensures limit { IfOk result (λ values. length values.now ≤ most_scene_clients) }
     ensures len { IfOk result (λ values. length (tables_in (items_view values.now)) ≡ length values.now) }
 {
     let values = tables_of(required(table, Key::Client)?)?;

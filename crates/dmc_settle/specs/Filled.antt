@@ -1,5 +1,6 @@
 -- What settling fills into a row.
-use Rattle.std.specs.Prelude.{◌≡◌, ℕ, ◌+◌, ◌<◌, ◌≤◌, List, [], length, slice_index_or, sum_by}
+use Rattle.std.specs.Prelude.{◌≡◌, ℕ, ◌+◌, ◌<◌, ◌≤◌, ◌^◌, List, [], length, slice_index_or, sum_by}
+use Rattle.dmc_types.specs.Limits.{most_events, most_scene_clients}
 use Rattle.dmc_types.specs.declared.ids.ServerId.{ServerId}
 use Rattle.dmc_types.specs.declared.config.PhaseType.{PhaseType}
 use Rattle.dmc_types.specs.declared.config.PhaseType.TheVariants.{Reservation, Priority}
@@ -51,7 +52,7 @@ no_server_numbers = record { reservation = 0; priority = 0; left = 0; held = rec
 -- a book and its own passes
 pub record IsReadyServer {T : Type 0} (book : BookState T) (passes : List PassState) : Type 0 where
   pub own : AreOwn book.workers book.desks passes
-  pub few : length book.desks ≤ 256
+  pub few : length book.desks ≤ most_scene_clients
 
 -- what the passes hold, over all clients
 abbrev pub grants_left : List PassState → GrantsHeld
@@ -102,8 +103,8 @@ pub record AreWithin (n : ℕ) (g : Granted) : Type 0 where
 
 -- the grants of a desk are no more than a history has events
 pub record AreFewGrants (d : ClientSide) : Type 0 where
-  pub reservation : total_of d.books.reservation ≤ 1073741824
-  pub priority : total_of d.books.priority ≤ 1073741824
+  pub reservation : total_of d.books.reservation ≤ most_events
+  pub priority : total_of d.books.priority ≤ most_events
 
 -- ---- a client's
 
@@ -137,8 +138,8 @@ pub record IsClosing (d : ClientSide) (t : ServerSide) : Type 0 where
   pub stamps : t.books.stamps.open_tills ≡ 1
   pub delta : t.books.delta.open_tills ≡ 1
   pub rho : t.books.rho.open_tills ≡ 1
-  pub few_stamps : total_of t.books.stamps ≤ 2147483648
-  pub few_responses : responded t ≤ 2147483648
+  pub few_stamps : total_of t.books.stamps ≤ 2 ^ 31
+  pub few_responses : responded t ≤ 2 ^ 31
 
 -- what the desks of a client took in: stamps at the servers' queues, and responses at its tracker
 abbrev pub with_pair : TakenIn → ClientSide → ServerSide → TakenIn

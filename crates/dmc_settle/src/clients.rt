@@ -1,5 +1,6 @@
 //! Settling the clients' tracker books.
-ghost use Rattle.std.specs.Prelude.{◌≡◌, ◌≤◌, ◌<◌, ℕ, [], length, map, slice_index_or, sum_by};
+ghost use Rattle.std.specs.Prelude.{◌≡◌, ◌≤◌, ◌<◌, ◌^◌, ℕ, [], length, map, slice_index_or, sum_by};
+ghost use Rattle.dmc_types.specs.Limits.{most_servers};
 ghost use Rattle.dmc_ledger.specs.Bundles.{client_side, server_side};
 ghost use Rattle.dmc_tlock.specs.BookState.{no_side};
 ghost use Rattle.dmc_tlock.specs.Consistent.{IsConsistent, responded};
@@ -36,8 +37,8 @@ fn audit_pair<S: Setup>(desk: &ClientDesk<S>, side: &ServerDesk<S>)
 /// Audits a pair, and adds what its held tills hold.
 fn add_pair<S: Setup>(taken: TakenIn, desk: &ClientDesk<S>, side: &ServerDesk<S>) -> TakenIn
     requires closing { IsClosing (client_side desk.now) (server_side side.now) }
-    requires sent { taken.sent ≤ 1099511627776 }
-    requires completed { taken.completed ≤ 1099511627776 }
+    requires sent { taken.sent ≤ 2 ^ 40 }
+    requires completed { taken.completed ≤ 2 ^ 40 }
     ensures value { result ≡ with_pair taken (client_side desk.now) (server_side side.now) }
     ensures audited { IsAudited (client_side desk.now) (server_side side.now) }
 {
@@ -55,7 +56,7 @@ fn audit_pairs<S: Setup>(
     desks: &[Vec<ClientDesk<S>>],
     sides: &[ServerDesk<S>],
 ) -> TakenIn
-    requires few { length desks.now ≤ 64 }
+    requires few { length desks.now ≤ most_servers }
     requires as_many { length sides.now ≡ length desks.now }
     requires within { (s : ℕ) → s < length desks.now → client < length (slice_index_or (map places.sides desks.now) s []) }
     requires closing { (s : ℕ) → s < length desks.now
@@ -77,8 +78,8 @@ fn audit_pairs<S: Setup>(
 
 /// Adds what was left for a server.
 fn add_held(sum: StampsHeld, left: StampsHeld) -> StampsHeld
-    requires left { AreHeldWithin 2147483648 left }
-    requires fits { AreHeldWithin 1099511627776 sum }
+    requires left { AreHeldWithin (2 ^ 31) left }
+    requires fits { AreHeldWithin (2 ^ 40) sum }
     ensures { result ≡ with_held sum left }
 {
     StampsHeld {
@@ -90,8 +91,8 @@ fn add_held(sum: StampsHeld, left: StampsHeld) -> StampsHeld
 
 /// Sums what was left in a pass for each server.
 fn sum_held(held: &[StampsHeld]) -> StampsHeld
-    requires few { length held.now ≤ 64 }
-    requires each { (s : ℕ) → s < length held.now → AreHeldWithin 2147483648 (slice_index_or held.now s no_held) }
+    requires few { length held.now ≤ most_servers }
+    requires each { (s : ℕ) → s < length held.now → AreHeldWithin (2 ^ 31) (slice_index_or held.now s no_held) }
     ensures { result ≡ all_held held.now }
 {
     let mut sum = StampsHeld::default();
@@ -110,7 +111,7 @@ fn settle_client<S: Setup>(
     row: &mut ClientReport,
 )
     requires ready { IsReadyClient (map places.sides desks.now) client tracker pass }
-    requires few { length desks.now ≤ 64 }
+    requires few { length desks.now ≤ most_servers }
     ensures numbers { AreClientNumbers (map places.sides desks.now) client tracker pass (client_numbers row.new) }
     ensures balanced { AreBalanced (map places.sides desks.now) client tracker pass }
     ensures consistent { IsConsistent tracker }
@@ -136,7 +137,7 @@ pub(crate) fn settle_clients<S: Setup>(
 )
     requires passes { length passes.items ≡ length trackers.items }
     requires rows { length rows.old ≡ length trackers.items }
-    requires few { length desks.now ≤ 64 }
+    requires few { length desks.now ≤ most_servers }
     requires ready { (c : ℕ) → c < length trackers.items
         → IsReadyClient (map places.sides desks.now) c (slice_index_or trackers.items c no_tracker) (slice_index_or passes.items c []) }
     ensures a_row_each { length rows.new ≡ length trackers.items }

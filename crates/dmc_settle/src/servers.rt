@@ -1,5 +1,6 @@
 //! Settling the servers' books.
-ghost use Rattle.std.specs.Prelude.{◌≡◌, ◌≤◌, ◌<◌, ℕ, [], length, map, slice_index_or, vec_capacity};
+ghost use Rattle.std.specs.Prelude.{◌≡◌, ◌≤◌, ◌<◌, ◌^◌, ℕ, [], length, map, slice_index_or, vec_capacity};
+ghost use Rattle.dmc_types.specs.Limits.{most_scene_clients};
 ghost use Rattle.dmc_ledger.specs.Bundles.{client_side};
 ghost use Rattle.dmc_book.specs.BookState.{no_desk, pass_state};
 ghost use Rattle.dmc_book.specs.Settling.{AreSettledDesks};
@@ -28,7 +29,7 @@ pub(crate) struct Granted {
 /// Adds what the grant books of a desk total, and what they have gathered.
 fn add_desk<S: Setup>(granted: Granted, desk: &ClientDesk<S>) -> Granted
     requires few { AreFewGrants (client_side desk.now) }
-    requires fits { AreWithin 1099511627776 granted }
+    requires fits { AreWithin (2 ^ 40) granted }
     ensures { result ≡ with_desk granted (client_side desk.now) }
 {
     let books = &desk.books;
@@ -44,7 +45,7 @@ fn add_desk<S: Setup>(granted: Granted, desk: &ClientDesk<S>) -> Granted
 
 /// Sums what the grant books of desks total, and what they have gathered.
 fn sum_grants<S: Setup>(desks: &[ClientDesk<S>]) -> Granted
-    requires few { length desks.now ≤ 256 }
+    requires few { length desks.now ≤ most_scene_clients }
     requires few_grants { (k : ℕ) → k < length desks.now → AreFewGrants (slice_index_or (map client_side desks.now) k no_desk) }
     ensures { result ≡ granted_at (map client_side desks.now) }
 {

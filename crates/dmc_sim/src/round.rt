@@ -1,5 +1,6 @@
 //! A round: each client sends, and then each server serves.
 ghost use Rattle.std.specs.Prelude.{◌≡◌, ◌+◌, ◌-◌, ◌<◌, ◌≤◌, ◌^◌, ℕ, All, OnOk, length, map};
+ghost use Rattle.dmc_types.specs.Limits.{most_pulls, most_servers};
 ghost use Rattle.dmc_sim.specs.Counts.{HaveCompleted, HaveGranted, grants_of};
 
 use crate::client::SimClient;
@@ -94,7 +95,7 @@ pub fn send_all<T: Tag>(
 
 /// Counts a grant of a server.
 fn count_grant(row: &mut ServerReport, phase: PhaseType)
-    requires { grants_of row.old < 2 ^ 30 }
+    requires { grants_of row.old < most_pulls }
     ensures server { row.new.server ≡ row.old.server }
     ensures grants { grants_of row.new ≡ grants_of row.old + 1 }
 {
@@ -126,7 +127,7 @@ fn serve<T: Tag>(
 ) -> Result<(), SimFault>
     requires ids { ids.now ≡ map (λ k. k.id) (map (λ c. c.scene) clients.old) }
     requires clients { All (λ c. c.completed < 2 ^ 36) clients.old }
-    requires server { grants_of row.old < 2 ^ 30 }
+    requires server { grants_of row.old < most_pulls }
     ensures server { OnOk result (row.new.server ≡ row.old.server) }
     ensures grants { OnOk result (grants_of row.new ≤ grants_of row.old + 1) }
     ensures scenes { OnOk result (map (λ c. c.scene) clients.new ≡ map (λ c. c.scene) clients.old) }
@@ -157,9 +158,9 @@ pub fn serve_all<T: Tag>(
     at: Moment,
 ) -> Result<(), SimFault>
     requires ids { ids.now ≡ map (λ k. k.id) (map (λ c. c.scene) clients.old) }
-    requires some_servers { length servers.old ≤ 64 }
+    requires some_servers { length servers.old ≤ most_servers }
     requires clients { HaveCompleted (2 ^ 36 - 64) clients.old }
-    requires servers { HaveGranted (2 ^ 30 - 1) servers.old }
+    requires servers { HaveGranted (most_pulls - 1) servers.old }
     ensures numbers { OnOk result (map (λ r. r.server.0) servers.new ≡ map (λ r. r.server.0) servers.old) }
     ensures grants { OnOk result ((n : ℕ) → HaveGranted n servers.old → HaveGranted (n + 1) servers.new) }
     ensures scenes { OnOk result (map (λ c. c.scene) clients.new ≡ map (λ c. c.scene) clients.old) }

@@ -1,5 +1,6 @@
 //! The simulation of a scene.
-ghost use Rattle.std.specs.Prelude.{◌≡◌, ◌*◌, ◌≤◌, ◌^◌, All, IfOk, OnOk, length, map, min, true};
+ghost use Rattle.std.specs.Prelude.{◌≡◌, ◌*◌, ◌≤◌, All, IfOk, OnOk, length, map, min, true};
+ghost use Rattle.dmc_types.specs.Limits.{greatest_moment, greatest_step, most_servers};
 ghost use Rattle.dmc_core.specs.Opening.{HaveSpacings};
 ghost use Rattle.dmc_sim.specs.Counts.{HaveCompleted, HaveGranted};
 ghost use Rattle.dmc_sim.specs.Reports.{IsReportOf};
@@ -17,6 +18,9 @@ use dmc_tick::tick::TickTag;
 use dmc_types::config::TagKind;
 use dmc_types::moment::Moment;
 use std::alloc::{AllocError, Global};
+
+/// The last moment, in ticks.
+const GREATEST_MOMENT: u64 = 1 << 62;
 
 /// Simulates a scene (own). Round 0, 1, .. has the moment that is so many steps from 0, at most 2^62. In a round each client, in
 /// the scene's order, that has requests left and fewer than its window outstanding stamps one, to the server that its plan names,
@@ -78,11 +82,11 @@ fn are_complete(clients: &[SimClient]) -> bool
 
 /// The moment of a round.
 fn moment_of(round: u32, step: u64) -> Moment
-    requires { step ≤ 1000000000 }
-    ensures { result ≡ min (round * step) (2 ^ 62) }
+    requires { step ≤ greatest_step }
+    ensures { result ≡ min (round * step) greatest_moment }
 {
     let ticks = u64::from(round) * step;
-    Moment::new(ticks.min(1 << 62)).unwrap()
+    Moment::new(ticks.min(GREATEST_MOMENT)).unwrap()
 }
 
 /// The rounds, to the last, whose moment it answers; the answer is 0 where there is none.
@@ -94,7 +98,7 @@ fn run<T: Tag>(
     servers: &mut [ServerReport],
 ) -> Result<Moment, SimFault>
     requires ids { ids.now ≡ map (λ k. k.id) (map (λ c. c.scene) clients.old) }
-    requires some_servers { length servers.old ≤ 64 }
+    requires some_servers { length servers.old ≤ most_servers }
     requires completed { HaveCompleted 0 clients.old }
     requires grants { HaveGranted 0 servers.old }
     ensures scenes { OnOk result (map (λ c. c.scene) clients.new ≡ map (λ c. c.scene) clients.old) }

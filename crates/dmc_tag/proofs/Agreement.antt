@@ -1,5 +1,6 @@
 -- States that agree client by client get the same replies, and still agree.
 use Rattle.std.proofs.Common.{◌≡◌, ℕ, ◌-◌, min, Bool, true, false, not, ◌&&◌, ◌||◌, cond, List, [], ◌∷◌, map, length, Option, Some, None, Result, Ok, Err, refl, sym, ap, ◌∙◌, subst, arith}
+use Rattle.dmc_types.specs.Limits.{most_requests}
 use mathlib.Core.Path.{fun_ext}
 use Rattle.std.specs.Prelude.{filter, fold, nat_le, IsOk}
 use Rattle.std.specs.Option.{ok_or, option_map, unwrap_or}
@@ -86,7 +87,7 @@ module _ {T : Type 0} (ops : Tagging T) (o : IsTotalOrder ops.compare) (config :
   can_add_same : (clients : List (PlainClient T)) (last : ℕ) (xs ys : List (PlainRequest T)) → Agree xs ys → (id : ClientId) (params : Params) (t : T) → rules_of.can_add ops (state_of clients last xs) id params t ≡ rules_of.can_add ops (state_of clients last ys) id params t
   can_add_same clients last xs ys s id params t =
       bind_same (ok_or (client_named id clients) Unknown) _ _ (λ c. rw (length-swaps client_of xs ys s)
-      (bind_same (refuse_if (nat_le 1048576 (length ys)) QueueFull) _ _ (λ _. rw (shift_same xs ys s c t)
+      (bind_same (refuse_if (nat_le most_requests (length ys)) QueueFull) _ _ (λ _. rw (shift_same xs ys s c t)
       (bind_same (rules_of.shift_of ops ys c t) _ _ (λ shift. rw (can_shift_same xs ys s shift clients) refl)))))
 
   key_of_shifted : (amount : T) (r : PlainRequest T) (b : Bool) → client_of (cond b (record r { tags = record (r.tags) { p = rules_of.less ops amount r.tags.p } }) r) ≡ client_of r

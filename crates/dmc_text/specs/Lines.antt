@@ -2,6 +2,7 @@
 use Rattle.std.specs.Prelude.{ℕ, ◌^◌, ◌==◌, Bool, false, ◌&&◌, List, [], ◌∷◌, length, Option, Some, None, Result, Ok, Err, nat_lt, nat_le, if◌then◌else◌, codes}
 use Rattle.std.specs.List.{list_all}
 use Rattle.std.specs.Option.{ok_or, option_map}
+use Rattle.dmc_types.specs.Limits.{greatest_hz, greatest_moment, most_line_bytes}
 use denote.Ref.{Bor}
 use Rattle.dmc_text.specs.declared.line.ConfigWords.{ConfigWords}
 use Rattle.std.specs.Str.{bytes_eq}
@@ -27,9 +28,9 @@ use Rattle.dmc_text.specs.Commands.{Phrase, phrase, command}
 abbrev pub is_line_byte : ℕ → Bool
 is_line_byte b = nat_le 32 b && nat_le b 126
 
--- at most 256 bytes, each 32 to 126
+-- of no more bytes than a line may have, each 32 to 126
 unfoldable pub is_clean : List ℕ → Bool
-is_clean line = nat_le (length line) 256 && list_all is_line_byte line
+is_clean line = nat_le (length line) most_line_bytes && list_all is_line_byte line
 
 -- ---- the hz line
 
@@ -58,9 +59,9 @@ heading (h ∷ idle ∷ erase ∷ last) = with_limit h (Some (idle, erase)) last
 unfoldable pub figure : List ℕ → Result ℕ LineCause
 figure word = ok_or (number (2 ^ 64) word) Number
 
--- the ages that are given, or else 2^62
+-- the ages that are given, or else the greatest
 abbrev pub ages_of : Option (List ℕ × List ℕ) → Result (ℕ × ℕ) LineCause
-ages_of None = Ok (2 ^ 62, 2 ^ 62)
+ages_of None = Ok (greatest_moment, greatest_moment)
 ages_of (Some words) = do
   idle ← figure words.0
   erase ← figure words.1
@@ -69,7 +70,7 @@ ages_of (Some words) = do
 -- a configuration within its limits
 unfoldable pub configured : ℕ → ℕ → ℕ → AtLimit → Result Setting LineCause
 configured hz idle erase at_limit =
-    if nat_lt 0 hz && nat_le hz 1000000000 && nat_lt 0 idle && nat_le idle erase && nat_le erase (2 ^ 62)
+    if nat_lt 0 hz && nat_le hz greatest_hz && nat_lt 0 idle && nat_le idle erase && nat_le erase greatest_moment
     then Ok (record { hz = hz; idle_age = idle; erase_age = erase; at_limit = at_limit })
     else Err Hz
 

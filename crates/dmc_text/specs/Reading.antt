@@ -3,6 +3,10 @@ use Rattle.std.specs.Prelude.{◌≡◌, ℕ, suc, ◌+◌, ◌^◌, ◌<◌, �
 use Rattle.std.specs.Option.{option_map}
 use Rattle.std.specs.Io.KnownBytes.{Consumes, IsAtEnd, Keeps}
 
+-- how many bytes a reader of lines keeps at most
+abbrev pub buffer_size : ℕ
+buffer_size = 2 ^ 16
+
 -- the most bytes of a text
 abbrev pub most_bytes : ℕ
 most_bytes = 2 ^ 32

@@ -154,12 +154,15 @@ fn config_words(text: &[u8]) -> Result<ConfigWords<'_>, LineCause>
     })
 }
 
-/// The ages that are given, or else 2^62.
+/// The greatest age of a configuration, in ticks.
+const GREATEST_AGE: u64 = 1 << 62;
+
+/// The ages that are given, or else the greatest.
 fn ages_of(ages: Option<(&[u8], &[u8])>) -> Result<(u64, u64), LineCause>
     ensures { result ≡ ages_of (seen_ages ages.entry) }
 {
     let Some((idle, erase)) = ages else {
-        return Ok((1 << 62, 1 << 62));
+        return Ok((GREATEST_AGE, GREATEST_AGE));
     };
     Ok((figure(idle)?, figure(erase)?))
 }

@@ -2,7 +2,8 @@
 ghost use Rattle.std.specs.Prelude.{◌≡◌, ◌≢◌, ℕ, List, false, ◌+◌, ◌-◌, ◌<◌, ◌≤◌, [], ◌++◌, length, take, drop, slice_range, IfOk, IfErr, OnOk, OnErr, MatchResult, vec_len, position, nat_lt};
 ghost use Rattle.std.specs.Io.KnownBytes.{Keeps, Consumes, IsAtEnd, ReadConsumes};
 ghost use Rattle.std.specs.IoError.{error_kind};
-ghost use Rattle.dmc_text.specs.Reading.{Reading, most_bytes, is_end, Finds, FindsLast, Fills};
+ghost use Rattle.dmc_types.specs.Limits.{most_line_bytes};
+ghost use Rattle.dmc_text.specs.Reading.{Reading, buffer_size, most_bytes, is_end, Finds, FindsLast, Fills};
 
 use std::alloc::{AllocError, Global};
 use std::io::{self, ErrorKind, Read};
@@ -31,18 +32,18 @@ pub struct LineReader {
 
 impl Model for LineReader {
     ghost use Rattle.std.specs.Prelude.{◌≡◌, ◌≤◌, ◌-◌, length, slice_range};
-    ghost use Rattle.dmc_text.specs.Reading.{Reading, most_bytes};
+    ghost use Rattle.dmc_text.specs.Reading.{Reading, buffer_size, most_bytes};
 
     ghost Value = { Reading };
 
-    ghost view = { λ r. record { line = slice_range r.buffer.items r.line_start r.line_end; rest = slice_range r.buffer.items r.start r.end; room = 65536 - r.end; taken = r.taken } };
+    ghost view = { λ r. record { line = slice_range r.buffer.items r.line_start r.line_end; rest = slice_range r.buffer.items r.start r.end; room = buffer_size - r.end; taken = r.taken } };
 
-    ghost invariant = { λ r. (length r.buffer.items ≡ 65536) × (r.line_start ≤ r.line_end) × (r.line_end ≤ 65536) × (r.start ≤ r.end) × (r.end ≤ 65536) × (r.taken ≤ most_bytes) };
+    ghost invariant = { λ r. (length r.buffer.items ≡ buffer_size) × (r.line_start ≤ r.line_end) × (r.line_end ≤ buffer_size) × (r.start ≤ r.end) × (r.end ≤ buffer_size) × (r.taken ≤ most_bytes) };
 }
 
 /// A buffer of zeros.
 fn zeros(alloc: Global) -> Result<Vec<u8>, AllocError>
-    ensures { IfOk result (λ buffer. vec_len buffer ≡ 65536) }
+    ensures { IfOk result (λ buffer. vec_len buffer ≡ buffer_size) }
 {
     let mut buffer = Vec::with_capacity(alloc, CAPACITY)?;
     buffer.resize(CAPACITY, 0)?;
@@ -59,7 +60,7 @@ fn first_end(text: &[u8]) -> Option<usize>
 impl LineReader {
     /// A reader of lines that has read nothing yet.
     pub fn new(alloc: Global) -> Result<LineReader, AllocError>
-        ensures { IfOk result (λ r. r ≡ record { line = []; rest = []; room = 65536; taken = 0 }) }
+        ensures { IfOk result (λ r. r ≡ record { line = []; rest = []; room = buffer_size; taken = 0 }) }
     {
         Ok(LineReader {
             buffer: zeros(alloc)?,
@@ -113,7 +114,7 @@ impl LineReader {
 
     /// Whether what is left has more bytes than a line may have.
     pub fn is_long(&self) -> bool
-        ensures value { result ≡ nat_lt 256 (length self.now.rest) }
+        ensures value { result ≡ nat_lt most_line_bytes (length self.now.rest) }
     {
         self.end - self.start > LONGEST
     }
@@ -121,7 +122,7 @@ impl LineReader {
     /// Moves what is left to the front of the buffer.
     fn move_to_front(&mut self)
         ensures rest { self.new.rest ≡ self.old.rest }
-        ensures room { self.new.room ≡ 65536 - length self.old.rest }
+        ensures room { self.new.room ≡ buffer_size - length self.old.rest }
         ensures taken { self.new.taken ≡ self.old.taken }
     {
         self.buffer.copy_within(self.start..self.end, 0);
@@ -134,7 +135,7 @@ impl LineReader {
     /// Reads more of the text behind what is left; false at its end. A text of more than 2^32 bytes is an error once they
     /// are read. The line that was found last is not kept.
     pub fn fill<R: Read>(&mut self, reader: &mut R) -> io::Result<bool>
-        requires { length self.old.rest ≤ 256 }
+        requires { length self.old.rest ≤ most_line_bytes }
         ensures bytes { Fills (R.remaining reader.old) (R.remaining reader.new) self.old self.new result }
         ensures taken { self.new.taken ≤ most_bytes }
         ensures retried { IfErr result (λ e. error_kind e ≢ ErrorKind.Interrupted) }

@@ -1,5 +1,6 @@
 -- Worked examples: the replies that the rules give, computed.
 use Rattle.std.specs.Prelude.{ℕ, ℤ, List, true, false, Option}
+use Rattle.dmc_types.specs.Limits.{greatest_moment}
 use Rattle.dmc_types.specs.Values.{Setting}
 use Rattle.dmc_types.specs.declared.config.AtLimit.{AtLimit}
 use Rattle.dmc_types.specs.declared.config.AtLimit.TheVariants.{Wait, Allow}
@@ -19,10 +20,10 @@ setting hz idle erase at = record { hz = hz; idle_age = idle; erase_age = erase;
 
 -- 1,000 ticks a second, and no client grows old
 abbrev pub waiting : Setting
-waiting = setting 1000 4611686018427387904 4611686018427387904 Wait
+waiting = setting 1000 greatest_moment greatest_moment Wait
 
 abbrev pub allowing : Setting
-allowing = setting 1000 4611686018427387904 4611686018427387904 Allow
+allowing = setting 1000 greatest_moment greatest_moment Allow
 
 abbrev pub client : ℕ → Option ℕ → ℕ → Option ℕ → ℕ → Command
 client c r w l t = Register (record { 0 = c }) (record { reservation = r; weight = w; limit = l }) t

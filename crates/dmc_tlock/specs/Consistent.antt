@@ -1,5 +1,6 @@
 -- What holds of every tracker book: the invariant of its type.
-use Rattle.std.specs.Prelude.{◌≡◌, ℕ, ◌+◌, ◌<◌, ◌≤◌, ◌^◌, List, length, sum_by}
+use Rattle.std.specs.Prelude.{◌≡◌, ℕ, ◌+◌, ◌<◌, ◌≤◌, List, length, sum_by}
+use Rattle.dmc_types.specs.Limits.{most_events}
 use Rattle.dmc_types.specs.Values.{Params}
 use Rattle.dmc_types.specs.declared.ids.ServerId.{ServerId}
 use Rattle.dmc_types.specs.declared.config.Counting.{Counting}
@@ -62,4 +63,4 @@ pub record IsConsistent (b : BookState) : Type 0 where
   pub servers : length b.desks ≡ length b.tracker.servers
   pub completed : (completions b.events).delta ≡ sum_by responded b.desks
   pub within : length b.events ≤ b.most_events
-  pub limit : b.most_events ≤ 2 ^ 30
+  pub limit : b.most_events ≤ most_events

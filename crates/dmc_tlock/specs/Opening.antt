@@ -1,5 +1,6 @@
 -- A tracker book that is made.
-use Rattle.std.specs.Prelude.{◌≡◌, ℕ, ◌<◌, ◌≤◌, ◌^◌, List, [], length, map}
+use Rattle.std.specs.Prelude.{◌≡◌, ℕ, ◌<◌, ◌≤◌, List, [], length, map}
+use Rattle.dmc_types.specs.Limits as limits
 use Rattle.dmc_types.specs.declared.ids.ServerId.{ServerId}
 use Rattle.dmc_types.specs.declared.config.Counting.{Counting}
 use Rattle.dmc_tracker.specs.Numbers.{AreLimits, new_numbers}
@@ -15,7 +16,7 @@ AreNew client desks = (s : ServerId) → s.0 < length desks → ((n : ℕ) × (d
 pub record AreBookLimits (servers most most_events : ℕ) : Type 0 where
   pub tracker : AreLimits servers most
   pub some_events : 0 < most_events
-  pub events_limit : most_events ≤ 2 ^ 30
+  pub events_limit : most_events ≤ limits.most_events
 
 -- the client's pass opens a till of each stamp book of a desk
 abbrev pub side_after_opening : ServerSide → ServerSide

@@ -1,5 +1,5 @@
 //! What a tracker book is made of.
-ghost use Rattle.std.specs.Prelude.{◌≡◌, ◌<◌, ◌≤◌, ◌^◌, [], length, IfOk, OnOk, IsOkUnless, vec_capacity};
+ghost use Rattle.std.specs.Prelude.{◌≡◌, ◌<◌, ◌≤◌, [], length, IfOk, OnOk, IsOkUnless, vec_capacity};
 ghost use Rattle.dmc_tracker.specs.Numbers.{Stands, new_numbers};
 ghost use Rattle.dmc_tlock.specs.Opening.{AreBookLimits};
 
@@ -11,6 +11,9 @@ use dmc_tracker::event::TrackerEvent;
 use dmc_tracker::tracker::{MakeFault, ServiceTracker};
 use dmc_types::config::Counting;
 use std::alloc::Global;
+
+/// The most servers of a tracker.
+const MOST_SERVERS: usize = 64;
 
 /// An empty tracker and an empty list, room for the client's pass, and room for what it holds when the book is settled.
 #[derive(Drop)]
@@ -37,7 +40,7 @@ pub(crate) fn make_parts<S: Setup>(
     ensures limit { (AreBookLimits servers most most_events → ⊥) → result ≡ Err MakeFault.Limit }
     ensures memory { AreBookLimits servers most most_events → IsOkUnless result MakeFault.Memory }
 {
-    if servers > 64 {
+    if servers > MOST_SERVERS {
         return Err(MakeFault::Limit);
     }
     let Ok(history) = History::new(alloc, most_events) else {

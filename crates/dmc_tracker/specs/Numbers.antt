@@ -1,5 +1,6 @@
 -- What contracts see of a tracker: the numbers of a tracker list, and no list.
 use Rattle.std.specs.Prelude.{◌≡◌, ℕ, ◌<◌, ◌≤◌, List, length, map, replicate, slice_set, slice_index_or, ◌+◌}
+use Rattle.dmc_types.specs.Limits.{most_servers}
 use Rattle.dmc_types.specs.Values.{Params}
 use Rattle.dmc_types.specs.declared.ids.ServerId.{ServerId}
 use Rattle.dmc_types.specs.declared.config.Counting.{Counting}
@@ -25,7 +26,7 @@ no_numbers = record { sent = no_counts; pending = no_counts }
 -- the limits of a tracker
 pub record AreLimits (servers most : ℕ) : Type 0 where
   pub some_servers : 0 < servers
-  pub servers_limit : servers ≤ 64
+  pub servers_limit : servers ≤ most_servers
   pub some_most : 0 < most
 
 -- no entry yet

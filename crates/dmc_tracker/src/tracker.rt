@@ -1,5 +1,6 @@
 //! The tracker.
-ghost use Rattle.std.specs.Prelude.{◌≡◌, ℕ, ◌<◌, ◌≤◌, ◌^◌, ◌+◌, ◌↔◌, Option, List, [], ◌∷◌, ◌++◌, length, replicate, IfOk, OnOk, OnErr, IsErrOf, IsOkUnless, slice_get, option_map};
+ghost use Rattle.std.specs.Prelude.{◌≡◌, ℕ, ◌<◌, ◌≤◌, ◌+◌, ◌↔◌, Option, List, [], ◌∷◌, ◌++◌, length, replicate, IfOk, OnOk, OnErr, IsErrOf, IsOkUnless, slice_get, option_map};
+ghost use Rattle.dmc_types.specs.Limits.{most_servers};
 ghost use Rattle.dmc_types.specs.declared.config.Counting.{Counting};
 ghost use Rattle.dmc_tracker.specs.declared.event.TrackerEvent.{TrackerEvent};
 ghost use Rattle.dmc_tracker.specs.TrackerList.{demanded, IsComplete, IsStampFull};
@@ -14,6 +15,9 @@ use dmc_types::params::ReqParams;
 use std::alloc::{AllocError, Global};
 use std::marker::Model;
 use thiserror::Error;
+
+/// The most servers of a tracker.
+const MOST_SERVERS: u32 = 64;
 
 /// Why a tracker could not be made.
 #[derive(Clone, Copy, Debug, PartialEq, Eq, Error)]
@@ -87,7 +91,7 @@ impl ServiceTracker {
         ensures limit { (AreLimits servers most → ⊥) → result ≡ Err MakeFault.Limit }
         ensures memory { AreLimits servers most → IsOkUnless result MakeFault.Memory }
     {
-        if servers < 1 || servers > 64 || most < 1 {
+        if servers < 1 || servers > MOST_SERVERS || most < 1 {
             return Err(MakeFault::Limit);
         }
         let servers = vec![in alloc; ServerCounts::none(); servers as usize]?;
@@ -240,7 +244,7 @@ impl ServiceTracker {
     pub fn servers(&self) -> u32
         ensures value { result ≡ length self.now.servers }
         ensures some { 0 < result }
-        ensures limit { result ≤ 64 }
+        ensures limit { result ≤ most_servers }
     {
         self.servers.len() as u32
     }

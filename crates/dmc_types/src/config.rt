@@ -1,5 +1,6 @@
 //! How a queue is set up.
-ghost use Rattle.std.specs.Prelude.{◌≡◌, ◌<◌, ◌≤◌, ◌^◌};
+ghost use Rattle.std.specs.Prelude.{◌≡◌, ◌<◌, ◌≤◌};
+ghost use Rattle.dmc_types.specs.Limits.{greatest_hz, greatest_moment};
 ghost use Rattle.dmc_types.specs.Values.{IsSetting};
 ghost use Rattle.dmc_types.specs.declared.refusal.ValueFault.{ValueFault};
 
@@ -42,6 +43,12 @@ pub enum TagKind {
     Ratio,
 }
 
+/// The most ticks a second.
+const GREATEST_HZ: u64 = 1_000_000_000;
+
+/// The greatest age in ticks.
+const GREATEST_AGE: u64 = 1 << 62;
+
 /// A queue's configuration: `hz` ticks a second (1 to 1,000,000,000), the ages in ticks after which a clean marks a
 /// client idle and erases it (1 to 2^62, `idle_age` at most `erase_age`), and what is done at the limit.
 #[derive(Clone, Copy, Debug, PartialEq, Eq)]
@@ -76,8 +83,8 @@ impl QueueConfig {
             result ≡ Ok (record { hz = hz; idle_age = idle_age; erase_age = erase_age; at_limit = at_limit }) }
         ensures refused { (IsSetting hz idle_age erase_age → ⊥) → result ≡ Err ValueFault.Config }
     {
-        let in_order = 1 <= idle_age && idle_age <= erase_age && erase_age <= 1 << 62;
-        if hz < 1 || hz > 1_000_000_000 || !in_order {
+        let in_order = 1 <= idle_age && idle_age <= erase_age && erase_age <= GREATEST_AGE;
+        if hz < 1 || hz > GREATEST_HZ || !in_order {
             return Err(ValueFault::Config);
         }
         Ok(QueueConfig {
@@ -92,7 +99,7 @@ impl QueueConfig {
     pub fn hz(self) -> u32
         ensures value { result ≡ self.hz }
         ensures some { 0 < result }
-        ensures limit { result ≤ 1000000000 }
+        ensures limit { result ≤ greatest_hz }
     {
         self.hz
     }
@@ -109,7 +116,7 @@ impl QueueConfig {
     /// The age in ticks from which a clean erases a client.
     pub fn erase_age(self) -> u64
         ensures value { result ≡ self.erase_age }
-        ensures limit { result ≤ 2 ^ 62 }
+        ensures limit { result ≤ greatest_moment }
     {
         self.erase_age
     }

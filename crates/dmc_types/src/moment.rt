@@ -1,9 +1,13 @@
 //! Time, which the caller hands in.
-ghost use Rattle.std.specs.Prelude.{◌≡◌, ◌<◌, ◌≤◌, ◌^◌, max};
+ghost use Rattle.std.specs.Prelude.{◌≡◌, ◌<◌, ◌≤◌, max};
+ghost use Rattle.dmc_types.specs.Limits.{greatest_moment};
 ghost use Rattle.dmc_types.specs.declared.refusal.ValueFault.{ValueFault};
 
 use crate::refusal::ValueFault;
 use std::marker::Model;
+
+/// The last moment.
+const GREATEST: u64 = 1 << 62;
 
 /// A moment in ticks, at most 2^62. Contracts see it as that number.
 #[derive(Clone, Copy, Debug, PartialEq, Eq, PartialOrd, Ord, Hash)]
@@ -12,13 +16,14 @@ pub struct Moment {
 }
 
 impl Model for Moment {
-    ghost use Rattle.std.specs.Prelude.{ℕ, ◌≤◌, ◌^◌};
+    ghost use Rattle.std.specs.Prelude.{ℕ, ◌≤◌};
+    ghost use Rattle.dmc_types.specs.Limits.{greatest_moment};
 
     ghost Value = { ℕ };
 
     ghost view = { λ m. m.ticks };
 
-    ghost invariant = { λ m. m.ticks ≤ 2 ^ 62 };
+    ghost invariant = { λ m. m.ticks ≤ greatest_moment };
 
     ghost inverse = { λ n. record { ticks = n } };
 }
@@ -26,10 +31,10 @@ impl Model for Moment {
 impl Moment {
     /// The moment of so many ticks; refused `Moment` past 2^62.
     pub fn new(ticks: u64) -> Result<Moment, ValueFault>
-        ensures ok { ticks ≤ 2 ^ 62 → result ≡ Ok ticks }
-        ensures refused { 2 ^ 62 < ticks → result ≡ Err ValueFault.Moment }
+        ensures ok { ticks ≤ greatest_moment → result ≡ Ok ticks }
+        ensures refused { greatest_moment < ticks → result ≡ Err ValueFault.Moment }
     {
-        if ticks > 1 << 62 {
+        if ticks > GREATEST {
             return Err(ValueFault::Moment);
         }
         Ok(Moment { ticks })
@@ -56,7 +61,7 @@ impl Moment {
     /// How many ticks it is.
     pub fn ticks(self) -> u64
         ensures value { result ≡ self }
-        ensures bound { result ≤ 2 ^ 62 }
+        ensures bound { result ≤ greatest_moment }
     {
         self.ticks
     }
@@ -64,12 +69,13 @@ impl Moment {
 
 /// The moment of so many ticks, as a `Future` tells them; refused `Moment` past 2^62.
 impl TryFrom<u128> for Moment {
-    ghost use Rattle.std.specs.Prelude.{◌≡◌, ◌≤◌, ◌<◌, ◌^◌, Ok, Err};
+    ghost use Rattle.std.specs.Prelude.{◌≡◌, ◌≤◌, ◌<◌, Ok, Err};
+    ghost use Rattle.dmc_types.specs.Limits.{greatest_moment};
     ghost use Rattle.dmc_types.specs.declared.refusal.ValueFault.{ValueFault};
 
     type Error = ValueFault;
 
-    ghost try_from_gives = { λ ticks moment. (ticks ≤ 2 ^ 62 → moment ≡ Ok ticks) × (2 ^ 62 < ticks → moment ≡ Err ValueFault.Moment) };
+    ghost try_from_gives = { λ ticks moment. (ticks ≤ greatest_moment → moment ≡ Ok ticks) × (greatest_moment < ticks → moment ≡ Err ValueFault.Moment) };
 
     fn try_from(ticks: u128) -> Result<Moment, ValueFault> {
         match u64::try_from(ticks) {

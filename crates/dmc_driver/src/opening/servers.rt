@@ -1,5 +1,6 @@
 //! The servers of a run, opened: their queues, at which every client is registered, and their workers.
-ghost use Rattle.std.specs.Prelude.{◌≡◌, ◌≤◌, length};
+ghost use Rattle.std.specs.Prelude.{◌≡◌, ◌*◌, ◌≤◌, length};
+ghost use Rattle.dmc_types.specs.Limits.{most_server_workers, most_servers};
 
 use super::desks::QueueDesks;
 use crate::bell::Ringer;
@@ -36,9 +37,12 @@ pub(crate) struct OpenServers<T: Tag, S: Setup> {
     pub(crate) passes: Vec<Vec<WorkerPass<S>>>,
 }
 
+/// The most workers that a server opens with.
+const MOST_WORKERS: usize = 65_536;
+
 /// How many workers the servers have.
 pub(crate) fn server_workers(scene: &Scene) -> usize
-    ensures { result ≤ 1024 }
+    ensures { result ≤ most_servers * most_server_workers }
 {
     (scene.servers() * scene.workers()) as usize
 }
@@ -160,7 +164,7 @@ fn open_queue<T: Tag, S: Setup>(
     queues: &mut Vec<QueueLock<T, HeapIndexes, S>>,
     stops: &mut Vec<StopCause>,
 ) -> Result<Vec<WorkerPass<S>>, OpenFault> {
-    if workers.len() > 65_536 {
+    if workers.len() > MOST_WORKERS {
         return Err(OpenFault::Torn);
     }
     let QueueDesks { server, desks } = desks;

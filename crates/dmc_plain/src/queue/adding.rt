@@ -1,5 +1,6 @@
 //! An add to the plain queue.
 ghost use Rattle.std.specs.Prelude.{◌≡◌, ◌<◌, ◌≤◌, ◌++◌, length, Some, true, is_some, OnOk, OnErr, IsOkUnless, take, drop, vec_len};
+ghost use Rattle.dmc_types.specs.Limits.{most_requests};
 ghost use Rattle.dmc_tag.specs.Answers.{call_reply};
 ghost use Rattle.dmc_tag.specs.Rules as rules_of;
 ghost use Rattle.dmc_tag.specs.State.{client_named};
@@ -48,7 +49,7 @@ impl<T: Tag> PlainQueue<T> {
         t: T,
     ) -> Result<(Option<T>, Tags<T>), Refusal>
         ensures outcome { result ≡ rules_of.can_add T.ops self.now client params t }
-        ensures room { OnOk result (length self.now.requests < 1048576) }
+        ensures room { OnOk result (length self.now.requests < most_requests) }
         ensures known { OnOk result (is_some (client_named client self.now.clients) ≡ true) }
     {
         let Some(arriving) = client_named(&self.clients, client) else {
@@ -72,7 +73,7 @@ impl<T: Tag> PlainQueue<T> {
         shift: Option<T>,
         at: Moment,
     ) -> Result<(), QueueFault>
-        requires room { length self.old.requests < 1048576 }
+        requires room { length self.old.requests < most_requests }
         requires known { is_some (client_named request.client self.old.clients) ≡ true }
         ensures ok { OnOk result (self.new ≡ rules_of.queued (rules_of.shifted_by T.ops shift self.old) request at) }
         ensures err { OnErr result (self.new ≡ self.old) }

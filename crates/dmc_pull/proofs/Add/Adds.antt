@@ -6,6 +6,7 @@ use Rattle.std.specs.Result.{IsErrAnd}
 use Rattle.std.specs.List.{AllByRecursion}
 use Rattle.std.specs.declared.cmp.Ordering.TheVariants.{Equal}
 use Rattle.std.specs.Cmp.{IsTotalOrder}
+use Rattle.dmc_types.specs.Limits.{most_requests}
 use Rattle.dmc_types.specs.Values.{Params}
 use Rattle.dmc_types.specs.declared.ids.ClientId.{ClientId}
 use Rattle.dmc_types.specs.declared.refusal.Refusal.{Refusal}
@@ -108,7 +109,7 @@ module _ {T : Type 0} (ops : Tagging T) where
     with_shift client shift = refuse_if (not (can_shift_by ops shift s.clients s.requests)) Range >>= λ _. (assigned ops s.config.hz client params t >>= λ tags. Ok (shift, tags))
 
     abbrev with_client : PlainClient T → Result (Option T × Tags T) Refusal
-    with_client client = refuse_if (nat_le 1048576 (length s.requests)) QueueFull >>= λ _. (shift_of ops s.requests client t >>= with_shift client)
+    with_client client = refuse_if (nat_le most_requests (length s.requests)) QueueFull >>= λ _. (shift_of ops s.requests client t >>= with_shift client)
 
     pub unknown : client_named id s.clients ≡ None → can_add ops s id params t ≡ Err Unknown
     unknown e = ap (λ o. ok_or o Unknown >>= with_client) e
@@ -117,10 +118,10 @@ module _ {T : Type 0} (ops : Tagging T) where
       known : can_add ops s id params t ≡ with_client client
       known = ap (λ o. ok_or o Unknown >>= with_client) named
 
-      pub full : nat_le 1048576 (length s.requests) ≡ true → can_add ops s id params t ≡ Err QueueFull
+      pub full : nat_le most_requests (length s.requests) ≡ true → can_add ops s id params t ≡ Err QueueFull
       full e = known ∙ ap (λ b. refuse_if b QueueFull >>= λ _. (shift_of ops s.requests client t >>= with_shift client)) e
 
-      module _ (room : nat_le 1048576 (length s.requests) ≡ false) where
+      module _ (room : nat_le most_requests (length s.requests) ≡ false) where
         roomy : can_add ops s id params t ≡ (shift_of ops s.requests client t >>= with_shift client)
         roomy = known ∙ ap (λ b. refuse_if b QueueFull >>= λ _. (shift_of ops s.requests client t >>= with_shift client)) room
 

@@ -7,6 +7,7 @@ use Rattle.std.specs.List.{AllByRecursion}
 use Rattle.std.proofs.lemmas.Bool.{eqb-true, eqb-false}
 use Rattle.std.proofs.lemmas.Bool.Decides.{nat_tests}
 use Rattle.std.proofs.lemmas.List.{length-map, length-set, get_or-set_same, get_or-set_other}
+use Rattle.dmc_types.specs.Limits.{most_requests}
 use Rattle.dmc_types.specs.Values.{Setting}
 use Rattle.dmc_types.specs.declared.ids.ClientId.{ClientId}
 use Rattle.dmc_tag.specs.Tag.{Fraction, Tagging}
@@ -150,7 +151,7 @@ module _ {T : Type 0} {ops : Tagging T} (fraction : T → Fraction) (is_value : 
       ∙ ap (λ rs. suc (length rs)) after.moved.requests
       ∙ ap suc (length_shifted shift)
 
-  module _ (n : ℕ) (count : n ≡ length (requests_in es)) (room : length (requests_in es) < 1048576) (v : value request.tags.p) where
+  module _ (n : ℕ) (count : n ≡ length (requests_in es)) (room : length (requests_in es) < most_requests) (v : value request.tags.p) where
     pub is_queue : (new : List (Option (Head T))) → AreHeads ops at (with_record key (pushed request at e.rec) after.entries) new → length new ≡ length heads → IsQueue ops fraction is_value (record { config = config; roster = roster; heads = new; last_moment = at }) (n + 1)
     is_queue new are same =
         let came = all_changed after.moved.here (λ f. f.key < length heads) (pushed request at e.rec) after.moved.in_room (found_holds (λ f. f.key < length heads) (λ f. f.key == key) after.entries e after.moved.in_room (split_keyed after.moved.here)) in

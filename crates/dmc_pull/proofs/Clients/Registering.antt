@@ -5,6 +5,7 @@ use Rattle.std.specs.Option.{option_map, is_some}
 use Rattle.std.specs.List.{AllByRecursion}
 use Rattle.std.proofs.lemmas.Bool.{le-leb, lt-leb}
 use Rattle.std.proofs.lemmas.List.{length-append, length-replicate}
+use Rattle.dmc_types.specs.Limits.{most_clients}
 use Rattle.dmc_types.specs.Values.{Rates}
 use Rattle.dmc_types.specs.declared.ids.ClientId.{ClientId}
 use Rattle.dmc_types.specs.declared.refusal.Field.{Field}
@@ -42,11 +43,11 @@ module _ {T : Type 0} (ops : Tagging T) (s : State T) (id : ClientId) (info : Ra
   pub refused_inexact : (field : Field) → is_some (client_named id s.clients) ≡ false → spacings_of ops s.config.hz info ≡ Err field → Err (Inexact field) ≡ can_register ops s id info
   refused_inexact field known inexact = rw (known, inexact) refl
 
-  pub refused_clients : (spacings : Spacings T) → is_some (client_named id s.clients) ≡ false → spacings_of ops s.config.hz info ≡ Ok spacings → 65536 ≤ length s.clients → Err Clients ≡ can_register ops s id info
-  refused_clients spacings known exact full = rw (known, exact, le-leb 65536 (length s.clients) full) refl
+  pub refused_clients : (spacings : Spacings T) → is_some (client_named id s.clients) ≡ false → spacings_of ops s.config.hz info ≡ Ok spacings → most_clients ≤ length s.clients → Err Clients ≡ can_register ops s id info
+  refused_clients spacings known exact full = rw (known, exact, le-leb most_clients (length s.clients) full) refl
 
-  pub may_register : (spacings : Spacings T) → is_some (client_named id s.clients) ≡ false → spacings_of ops s.config.hz info ≡ Ok spacings → length s.clients < 65536 → Ok tt ≡ can_register ops s id info
-  may_register spacings known exact room = rw (known, exact, lt-leb 65536 (length s.clients) room) refl
+  pub may_register : (spacings : Spacings T) → is_some (client_named id s.clients) ≡ false → spacings_of ops s.config.hz info ≡ Ok spacings → length s.clients < most_clients → Ok tt ≡ can_register ops s id info
+  may_register spacings known exact room = rw (known, exact, lt-leb most_clients (length s.clients) room) refl
 
 -- the answer about the spacings, at the rate of the clock that was read
 pub spacings_at : {T : Type 0} → (ops : Tagging T) (info : Rates) (answer : Result (Spacings T) Field) (read hz : ℕ) → read ≡ hz → answer ≡ spacings_of ops read info → (found : Result (Spacings T) Field) → answer ≡ found → spacings_of ops hz info ≡ found

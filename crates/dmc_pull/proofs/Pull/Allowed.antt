@@ -5,6 +5,7 @@ use Rattle.std.specs.Option.{option_map}
 use Rattle.std.specs.List.{AllByRecursion}
 use Rattle.std.specs.declared.cmp.Ordering.TheVariants.{Equal}
 use Rattle.std.proofs.lemmas.Bool.Decides.{nat_tests}
+use Rattle.dmc_types.specs.Limits.{most_requests}
 use Rattle.dmc_types.specs.Values.{Params}
 use Rattle.dmc_types.specs.declared.ids.ClientId.{ClientId}
 use Rattle.dmc_types.specs.declared.ids.Token.{Token}
@@ -67,14 +68,14 @@ module _ {T : Type 0} (ops : Tagging T) (fraction : T → Fraction) (is_value : 
       known : client_named id (clients_in entries) ≡ Some (client_of found.0.id found.0.rec)
       known = named id entries ∙ ap (option_map (λ e. client_of e.id e.rec)) (sym entry ∙ found.1)
 
-      pub queue_full : 1048576 ≤ queued → test ≡ Err QueueFull
+      pub queue_full : most_requests ≤ queued → test ≡ Err QueueFull
       queue_full h =
           let counted = is.counted in
-          let le : nat_le 1048576 (length (requests_in entries)) ≡ true = grind (arith, nat_tests) in
+          let le : nat_le most_requests (length (requests_in entries)) ≡ true = grind (arith, nat_tests) in
           full ops (state_of q) id params (ops.of_moment at) (client_of found.0.id found.0.rec) known le
 
-      module _ (below : queued < 1048576) (r : Result (Option T) Refusal) (t : T) (moment : t ≡ ops.of_moment at) (value : IfSome (entry_keyed key entries) (λ e. r ≡ needed_shift ops (requests_in entries) (client_of e.id e.rec) t)) where
-        room : nat_le 1048576 (length (requests_in entries)) ≡ false
+      module _ (below : queued < most_requests) (r : Result (Option T) Refusal) (t : T) (moment : t ≡ ops.of_moment at) (value : IfSome (entry_keyed key entries) (λ e. r ≡ needed_shift ops (requests_in entries) (client_of e.id e.rec) t)) where
+        room : nat_le most_requests (length (requests_in entries)) ≡ false
         room = let counted = is.counted in grind (arith, nat_tests)
 
         shift_is : r ≡ needed_shift ops (requests_in entries) (client_of found.0.id found.0.rec) (ops.of_moment at)

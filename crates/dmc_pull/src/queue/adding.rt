@@ -1,5 +1,6 @@
 //! An add to the indexed queue.
 ghost use Rattle.std.specs.Prelude.{◌≡◌, ◌≤◌, ◌<◌, ◌==◌, true, Some, None, Ok, length, is_some, IfSome, IsSome, IfOk, OnOk, OnErr, IsOkUnless};
+ghost use Rattle.dmc_types.specs.Limits.{most_requests};
 ghost use Rattle.dmc_client.specs.Record.{client_of};
 ghost use Rattle.dmc_pull.specs.Adding as adding_of;
 ghost use Rattle.dmc_pull.specs.Adding.{CanAdd};
@@ -84,7 +85,7 @@ impl<T: Tag, I: Indexes<T>> PullQueue<T, I> {
         ensures idle { IfOk result (λ a. IsSome a.shift → IfSome (record_at a.key self.old.roster.entries) (λ rec. rec.idle ≡ true)) }
         ensures shiftable { IfOk result (λ a. rules_of.can_shift_by T.ops a.shift (state_of self.old).clients (state_of self.old).requests ≡ true) }
         ensures value { IfOk result (λ a. T.is_value (T.fraction a.tags.p)) }
-        ensures room { OnOk result (length (state_of self.old).requests < 1048576) }
+        ensures room { OnOk result (length (state_of self.old).requests < most_requests) }
         ensures same { self.new ≡ self.old }
     {
         let Some(key) = self.roster.find_near(client, near) else {
@@ -118,7 +119,7 @@ impl<T: Tag, I: Indexes<T>> PullQueue<T, I> {
         requires idle { IsSome addition.shift → IfSome (record_at addition.key self.old.roster.entries) (λ rec. rec.idle ≡ true) }
         requires shiftable { rules_of.can_shift_by T.ops addition.shift (state_of self.old).clients (state_of self.old).requests ≡ true }
         requires value { T.is_value (T.fraction addition.tags.p) }
-        requires room { length (state_of self.old).requests < 1048576 }
+        requires room { length (state_of self.old).requests < most_requests }
         requires later { self.old.last_moment ≤ at }
         ensures ok { OnOk result (StandsFor (state_of self.new)
             (rules_of.queued (rules_of.shifted_by T.ops addition.shift (state_of self.old)) (record { client = client; token = token; tags = addition.tags }) at)) }

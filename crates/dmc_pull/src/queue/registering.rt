@@ -1,5 +1,6 @@
 //! A registration, and an update of rates.
 ghost use Rattle.std.specs.Prelude.{◌≡◌, ◌≤◌, ◌<◌, [], ◌∷◌, ◌++◌, true, Some, None, Ok, length, is_some, IfSome, IfOk, OnOk, OnErr, IsOkUnless};
+ghost use Rattle.dmc_types.specs.Limits.{most_clients};
 ghost use Rattle.dmc_client.specs.Record.{client_of};
 ghost use Rattle.dmc_pull.specs.Queue.{state_of, without_value, IsKept};
 ghost use Rattle.dmc_roster.specs.Entries.{entry_named, entry_keyed, record_at, AreDistinct};
@@ -32,7 +33,7 @@ impl<T: Tag, I: Indexes<T>> PullQueue<T, I> {
         ensures spacings { IfOk result (λ spacings. spacings_of T.ops self.now.config.hz info ≡ Ok spacings) }
         ensures are { IfOk result (AreSpacings T.ops info) }
         ensures new { OnOk result (entry_named client self.now.roster.entries ≡ None) }
-        ensures room { OnOk result (length self.now.roster.entries < 65536) }
+        ensures room { OnOk result (length self.now.roster.entries < most_clients) }
     {
         if self.roster.find(client).is_some() {
             return Err(Refusal::Known);
@@ -50,7 +51,7 @@ impl<T: Tag, I: Indexes<T>> PullQueue<T, I> {
     /// Takes a new client in, and makes room for it in all indexes.
     fn admit(&mut self, client: ClientId, rec: ClientRec<T>, at: Moment) -> Result<(), QueueFault>
         requires new { entry_named client self.old.roster.entries ≡ None }
-        requires room { length self.old.roster.entries < 65536 }
+        requires room { length self.old.roster.entries < most_clients }
         requires kept { IsKept T.ops T.fraction T.is_value self.old.config.hz rec }
         requires nothing { rec.requests ≡ [] }
         requires later { self.old.last_moment ≤ at }

@@ -1,5 +1,6 @@
 use Rattle.std.proofs.Common.{◌≡◌, sym, ap, ◌∙◌, subst, Some, true}
 use Rattle.std.specs.Prelude.{is_some, IsSome, IfSome, ◌==◌, ◌≤◌, ◌<◌, ◌+◌, slice_set, length}
+use Rattle.dmc_types.specs.Limits.{most_requests}
 use Rattle.dmc_client.specs.declared.request.QueuedRequest.{QueuedRequest}
 use Rattle.dmc_heads.specs.declared.head.Head.{Head}
 use Rattle.dmc_heads.specs.Heads.{IsOthers}
@@ -94,7 +95,7 @@ invariant_of-self-2 g c =
     let is_value = g.T.Tag.is_value in
     let fraction = g.T.Tag.fraction in
     let at = c.args.at in
-    let room = subst (λ q. length (requests_in q.roster.entries) < 1048576) (sym c.self.view_is) c.requires.room in
+    let room = subst (λ q. length (requests_in q.roster.entries) < most_requests) (sym c.self.view_is) c.requires.room in
     let later = subst (λ q. q.last_moment ≤ at) (sym c.self.view_is) c.requires.later in
     elim c.if-is_first.branch [
       | then-is_first w ↦

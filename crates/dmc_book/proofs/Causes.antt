@@ -1,15 +1,10 @@
 -- Which cause a refusal has.
 use Rattle.std.proofs.Common.{◌≡◌, ap, ◌∙◌, refl, sym, Result, Ok, Err}
-use Rattle.std.specs.Prelude.{IsErrAnd}
 use Rattle.dmc_history.specs.declared.ReserveFault.{ReserveFault}
 use Rattle.dmc_history.specs.declared.ReserveFault.TheVariants as reserve
 use Rattle.dmc_book.specs.declared.fault.RunFault.{RunFault}
 use Rattle.dmc_book.specs.declared.fault.RunFault.TheVariants as run
 use Rattle.dmc_book.specs.Calls.{run_cause}
-
-pub cause_is : {X E : Type 0} (r : Result X E) (e : E) → IsErrAnd r (λ f. f ≡ e) → r ≡ Err e
-cause_is (Ok x) e h = absurd h
-cause_is (Err f) e h = ap Err h
 
 abbrev value : {X E : Type 0} → E → Result X E → E
 value e (Ok x) = e

@@ -23,7 +23,8 @@ use Rattle.dmc_book.specs.Counts.{count, numbers_of, no_numbers, worker_adds, st
 use Rattle.dmc_book.specs.BookState.{BookState, WorkerSide}
 use Rattle.dmc_book.specs.Consistent.{IsConsistent, IsCounted, IsWorker, IsDesk, AreWorkersApart, AreClientsApart, AreWithin, AreGrantsWithin, HasDesk}
 use Rattle.dmc_book.specs.Moves.{worker_after, desk_after, book_after}
-use Rattle.dmc_book.proofs.Lists.{all_map, all_weaker, position_map}
+use Rattle.dmc_book.proofs.Lists.{all_map}
+use Rattle.dmc_tag.proofs.Lists.{all_as, position_map}
 
 -- ---- the counts
 
@@ -81,10 +82,10 @@ module _ {T : Type 0} where
   within_one adds es tills a l h = let bound = h.bound in omega (arith, l)
 
   pub workers_within : (es : List (Event T)) → length es < 2 ^ 30 → (ws : List WorkerSide) → AllByRecursion (IsWorker es) ws → AllByRecursion (λ w. AreWithin (2 ^ 62) w.books) ws
-  workers_within es l = all_weaker _ _ (λ w h. record { calls = within_one _ es 1 w.books.calls l h.calls; misses = within_one _ es 1 w.books.misses l h.misses; tokens = within_one _ es 1 w.books.tokens l h.tokens; grants = within_one _ es 1 w.books.grants l h.grants; granted = within_one _ es 1 w.books.granted l h.granted })
+  workers_within es l = all_as _ _ (λ w h. record { calls = within_one _ es 1 w.books.calls l h.calls; misses = within_one _ es 1 w.books.misses l h.misses; tokens = within_one _ es 1 w.books.tokens l h.tokens; grants = within_one _ es 1 w.books.grants l h.grants; granted = within_one _ es 1 w.books.granted l h.granted })
 
   pub desks_within : (es : List (Event T)) (server workers : ℕ) → length es < 2 ^ 30 → (ds : List ClientSide) → AllByRecursion (IsDesk es server workers) ds → AllByRecursion (λ d. AreGrantsWithin (2 ^ 62) d.books) ds
-  desks_within es server workers l = all_weaker _ _ (λ d h. record { reservation = within_one _ es _ d.books.reservation l h.reservation; priority = within_one _ es _ d.books.priority l h.priority })
+  desks_within es server workers l = all_as _ _ (λ d h. record { reservation = within_one _ es _ d.books.reservation l h.reservation; priority = within_one _ es _ d.books.priority l h.priority })
 
   -- ---- who is who
 

@@ -25,8 +25,10 @@ use Rattle.dmc_book.specs.Calls.{AreAlike, IsForDesk, lacks_desk, names_none}
 use Rattle.dmc_book.specs.Consistent.{AreClientsApart, AreGrantsWithin}
 use Rattle.dmc_book.specs.Counts.{accepted, grant_in, grants_added, stamps_added, delta_added, rho_added, stamps_for, params_for, units_for, no_params, one_if, is_phase}
 use Rattle.dmc_book.specs.Moves.{desk_after, desk_place, same_place, takes_at, is_unit_of, unit_at}
-use Rattle.dmc_book.proofs.Lists.{map_unmoved, all_weaker, turned, position_map}
 use Rattle.dmc_book.proofs.WorkerLemmas.{issue_none}
+use Rattle.dmc_tag.proofs.Lists.{map_unmoved, all_as, position_map}
+use Rattle.dmc_tag.proofs.Booleans.{eqb_turned}
+use Rattle.std.proofs.lemmas.Option.{same_Some}
 
 more_none : (h : Holding) → with_more 0 h ≡ h
 more_none h = let e : h.amount + 0 ≡ h.amount = omega arith in ap (λ (n : ℕ). record h { amount = n }) e
@@ -67,7 +69,7 @@ module _ {T : Type 0} (e : Event T) where
   -- an event of one client: what it brings, and what it is granted
   module _ (client : ClientId) (idle : (d : ClientSide) → (client.0 == d.client) ≡ false → IsIdle d) where
     behind : (d : ClientSide) (ds : List ClientSide) → d.client ≡ client.0 → AllByRecursion (λ other. (other.client == d.client) ≡ false) ds → map (desk_after e) ds ≡ ds
-    behind d ds same h = map_unmoved (desk_after e) ds (all_weaker _ _ (λ o z. idle_stays o (idle o (turned o.client client.0 (ap (λ (n : ℕ). o.client == n) (sym same) ∙ z)))) ds h)
+    behind d ds same h = map_unmoved (desk_after e) ds (all_as _ _ (λ o z. idle_stays o (idle o (eqb_turned client.0 o.client false (ap (λ (n : ℕ). o.client == n) (sym same) ∙ z)))) ds h)
 
     before : (d : ClientSide) (ds : List ClientSide) (i : ℕ) → i < length ds → AllByRecursion (λ other. (other.client == d.client) ≡ false) ds → (slice_index_or ds i no_desk).client ≡ client.0 → (client.0 == d.client) ≡ false
     before d [] i w h here = absurd (omega (arith, w))
@@ -216,15 +218,12 @@ abbrev value : {X : Type 0} → X → Option X → X
 value x None = x
 value x (Some y) = y
 
-some_same : {X : Type 0} (x y : X) → Some x ≡ Some y → x ≡ y
-some_same x y e = ap (value x) e
-
 pub allowed_grant : {T : Type 0} (allows : ClientId → PhaseType → Bool) (reply : Reply T) (client : ClientId) (phase : PhaseType) → grant_in reply ≡ Some (client, phase) → is_allowed allows reply ≡ true → allows client phase ≡ true
 allowed_grant allows Registered client phase g h = absurd cc
 allowed_grant allows Updated client phase g h = absurd cc
 allowed_grant allows (Tagged tags) client phase g h = absurd cc
 allowed_grant allows (Granted other token p beyond) client phase g h =
-    let same = some_same (other, p) (client, phase) g in
+    let same = same_Some (other, p) (client, phase) g in
     ap (λ (x : ClientId × PhaseType). allows x.0 x.1) (sym same) ∙ h
 allowed_grant allows (Later m) client phase g h = absurd cc
 allowed_grant allows Nothing client phase g h = absurd cc
@@ -268,7 +267,7 @@ module _ {S : Type 0} (names : List ClientId) (ds : List (ClientDesk S)) (named 
 
   pub no_till_for : (place : ℕ) (d : ClientDesk S) → position (λ (k : ClientId). stamp.client == k.0) names ≡ Some place → place < length ds → (AreAlike tills (stamp_holdings ((slice_index_or ds place d).held)) → ⊥) → IsForDesk server (map client_side ds) stamp tills → ⊥
   no_till_for place d found within others h =
-      let same : place ≡ h.place = some_same place h.place (sym found ∙ places_agree stamp.client names ds named ∙ h.here) in
+      let same : place ≡ h.place = same_Some place h.place (sym found ∙ places_agree stamp.client names ds named ∙ h.here) in
       others (subst (λ (s : ClientSide). AreAlike tills s.held) (ap (λ n. slice_index_or (map client_side ds) n no_desk) (sym same) ∙ desk_at ds place d within) h.its_tills)
 
   pub for_desk : (place : ℕ) (d : ClientDesk S) → stamp.server ≡ server → position (λ (k : ClientId). stamp.client == k.0) names ≡ Some place → place < length ds → AreAlike tills (stamp_holdings ((slice_index_or ds place d).held)) → IsForDesk server (map client_side ds) stamp tills

@@ -13,7 +13,7 @@ use Rattle.dmc_book.specs.Consistent.{AreClientsApart, HasDesk}
 use Rattle.dmc_book.specs.Counts.{count, grant_in, grants_added, is_phase, one_if, phase_grants, units_for, units_in}
 use Rattle.dmc_book.specs.Moves.{desk_place}
 use Rattle.dmc_book.proofs.DeskLemmas.{placed}
-use Rattle.dmc_book.proofs.Lists.{turned}
+use Rattle.dmc_tag.proofs.Booleans.{eqb_turned}
 
 -- ---- sums over the desks
 
@@ -48,7 +48,7 @@ module _ (phase : PhaseType) where
     none_behind d [] same h = refl
     none_behind d (o ∷ ds) same h =
         let first = sum_by-cons units o ds in
-        let here = none_there o (turned o.client grant.0.0 (ap (λ (n : ℕ). o.client == n) (sym same) ∙ h.0)) in
+        let here = none_there o (eqb_turned grant.0.0 o.client false (ap (λ (n : ℕ). o.client == n) (sym same) ∙ h.0)) in
         let rest = none_behind d ds same h.1 in
         omega (arith, first, here, rest)
 

@@ -18,12 +18,9 @@ use Rattle.dmc_book.specs.BookState.{PassState, WorkerSide, no_desk}
 use Rattle.dmc_book.specs.Consistent.{IsCounted, IsWorker, IsDesk, IsConsistent, AreWorkersApart, AreClientsApart}
 use Rattle.dmc_book.specs.Opening.{AreApart, AreNamedOnce, HaveRoom, IsNewDesk, desk_with_tills, with_tills, new_unit, new_worker, new_workers, new_pass, new_passes, new_state}
 use Rattle.dmc_book.proofs.Lists.{all_map}
+use Rattle.std.proofs.lemmas.Bool.{or_parts}
 
 -- ---- no number is named twice
-
-or_none : (a b : Bool) → (a || b) ≡ false → (a ≡ false) × (b ≡ false)
-or_none true b h = absurd (true≢false h)
-or_none false b h = (refl, h)
 
 either : (a b : Bool) → a ≡ false → (b ≡ true → ⊥) → (a || b) ≡ true → ⊥
 either true b e rest h = true≢false e
@@ -39,7 +36,7 @@ module _ {X : Type 0} (number : X → ℕ) where
   pub apart_more : (xs : List X) (x : X) → AreApart number xs → Lacks x xs → AreApart number (xs ++ x ∷ [])
   apart_more [] x h none = (tt, tt)
   apart_more (y ∷ ys) x h none =
-      let two = or_none (number x == number y) _ none in
+      let two = or_parts (number x == number y) _ none in
       (all_append (λ o. (number o == number y) ≡ false) ys (x ∷ []) h.0 (two.0, tt), apart_more ys x h.1 two.1)
 
   last_of : (P : X → Type 0) (xs ys : List X) (x : X) → AllByRecursion P (xs ++ x ∷ ys) → P x
@@ -280,8 +277,3 @@ module _ {S : Type 0} where
 
   pub as_many_desks : (k : ℕ) (new old : List (ClientDesk S)) → map client_side new ≡ map (desk_with_tills k) (map client_side old) → length new ≡ length old
   as_many_desks k new old h = sym (length-map new client_side) ∙ ap length h ∙ length-map (map client_side old) (desk_with_tills k) ∙ length-map old client_side
-
--- a whole that was lent as a slice, and given back
-pub lent_back : {X : Type 0} (xs zs : List X) (n : ℕ) → length xs ≡ n → take n (xs ++ zs) ≡ xs
-lent_back [] zs n e = rw (← e) refl
-lent_back (x ∷ xs) zs n e = rw (← e) (ap (λ ys. x ∷ ys) (lent_back xs zs (length xs) refl))

@@ -11,8 +11,8 @@ use Rattle.dmc_book.specs.BookState.{PassState, WorkerSide, WorkerHoldings, no_d
 use Rattle.dmc_book.specs.Consistent.{IsCounted, IsDesk, IsWorker}
 use Rattle.dmc_book.specs.Moves.{AreOf, IsEnrolled}
 use Rattle.dmc_book.specs.Settling.{AreDeskUnits, AreOneOpen, ArePassesTakenIn, AreSettledDesks, AreUnitsTakenIn, IsDeskTakenIn, IsGathered, IsSettledBook, IsSettledWorker, IsTakenIn, closed_worker, left_in}
-use Rattle.dmc_tag.proofs.Lists.{all_append}
-use Rattle.dmc_book.proofs.Lists.{all_map, all_weaker}
+use Rattle.dmc_tag.proofs.Lists.{all_append, all_as}
+use Rattle.dmc_book.proofs.Lists.{all_map}
 use Rattle.dmc_book.proofs.OpeningLemmas.{all_popped, seam, split, taken}
 
 -- ---- one after the other
@@ -188,7 +188,7 @@ module _ {T : Type 0} where
   settled_workers es ws h = all_map (IsWorker es) (IsSettledWorker es) closed_worker (settled_worker es) ws h
 
   pub one_open : (es : List (Event T)) (ws : List WorkerSide) → AllByRecursion (IsWorker es) ws → AllByRecursion (λ w. AreOneOpen w.books) ws
-  one_open es ws h = all_weaker _ _ (λ w j. record {
+  one_open es ws h = all_as _ _ (λ w j. record {
     calls = j.calls.open_tills;
     misses = j.misses.open_tills;
     tokens = j.tokens.open_tills;

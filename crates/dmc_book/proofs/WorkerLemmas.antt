@@ -11,7 +11,8 @@ use Rattle.dmc_book.specs.BookState.{WorkerAccounts, WorkerSide, worker_side, wo
 use Rattle.dmc_book.specs.Consistent.{AreWorkersApart, AreWithin}
 use Rattle.dmc_book.specs.Moves.{worker_after, books_after}
 use Rattle.dmc_book.specs.declared.seat.Seat.{Seat}
-use Rattle.dmc_book.proofs.Lists.{map_unmoved, all_weaker, turned}
+use Rattle.dmc_tag.proofs.Lists.{map_unmoved, all_as}
+use Rattle.dmc_tag.proofs.Booleans.{eqb_turned}
 
 pub issue_none : (a : Account) → after_issue 0 a ≡ a
 issue_none a = let e : a.held + 0 ≡ a.held = omega arith in ap (λ (n : ℕ). record a { held = n }) e
@@ -24,7 +25,7 @@ module _ {T : Type 0} (e : Event T) where
   unmoved_at w b is none = rw (is ∙ none) (ap (λ (bs : WorkerAccounts). record w { books = bs }) (books_none w.books))
 
   unmoved : (n : ℕ) → n ≡ e.worker.0 → (other : WorkerSide) → (other.worker == n) ≡ false → worker_after e other ≡ other
-  unmoved n same other h = unmoved_at other _ refl (turned other.worker e.worker.0 (ap (λ (v : ℕ). other.worker == v) (sym same) ∙ h))
+  unmoved n same other h = unmoved_at other _ refl (eqb_turned e.worker.0 other.worker false (ap (λ (v : ℕ). other.worker == v) (sym same) ∙ h))
 
   others : (x : WorkerSide) (xs : List WorkerSide) (i : ℕ) → i < length xs → AllByRecursion (λ other. (other.worker == x.worker) ≡ false) xs → (slice_index_or xs i no_worker).worker ≡ e.worker.0 → (e.worker.0 == x.worker) ≡ false
   others x [] i w h here = absurd (omega (arith, w))
@@ -37,7 +38,7 @@ module _ {T : Type 0} (e : Event T) where
     counted_workers (x ∷ xs) zero d new l here apart w b =
         let is : (e.worker.0 == x.worker.0) ≡ true = eq-eqb e.worker.0 x.worker.0 (sym here) in
         let first : worker_side new ≡ worker_after e (worker_side x) = rw (is, w, b) refl in
-        ap (λ y. y ∷ map worker_side xs) first ∙ ap (λ ys. worker_after e (worker_side x) ∷ ys) (sym (map_unmoved (worker_after e) (map worker_side xs) (all_weaker _ _ (λ o h. unmoved x.worker.0 here o h) (map worker_side xs) apart.0)))
+        ap (λ y. y ∷ map worker_side xs) first ∙ ap (λ ys. worker_after e (worker_side x) ∷ ys) (sym (map_unmoved (worker_after e) (map worker_side xs) (all_as _ _ (λ o h. unmoved x.worker.0 here o h) (map worker_side xs) apart.0)))
     counted_workers (x ∷ xs) (suc i) d new l here apart w b =
         let rest = counted_workers xs i d new (omega (arith, l)) here apart.1 w b in
         let within : i < length (map worker_side xs) = at_map xs i (omega (arith, l)) in

@@ -1,7 +1,7 @@
 //! The queue's book.
 ghost use Rattle.std.specs.Prelude.{◌≡◌, ◌==◌, ◌≤◌, ◌<◌, ◌+◌, ◌*◌, ◌↔◌, length, map, true, false, not, is_some, Some, None, IfOk, IfErr, IsOk, OnOk, OnErr, IsErrOf, IsErrAnd, IsTrue, IfSome, slice_index_or};
 ghost use Rattle.std.specs.List.{AllByRecursion};
-ghost use Rattle.dmc_types.specs.Limits.{most_workers};
+ghost use Rattle.dmc_types.specs.Limits.{most_events, most_workers};
 ghost use Rattle.dmc_ledger.specs.Bundles.{Covers, client_side, grant_holdings, stamp_holdings};
 ghost use Rattle.dmc_ledger.specs.Moves.{tills_after_submit};
 ghost use Rattle.dmc_tag.specs.Answers.{call_reply};

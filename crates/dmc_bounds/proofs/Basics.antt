@@ -2,7 +2,7 @@
 use Rattle.std.proofs.Common.{◌≡◌, Bool, true, false, not, ◌||◌, length, Option, Some, Result, Ok, Err, refl, sym, ap, ◌∙◌, subst}
 use Rattle.std.specs.List.{find}
 use Rattle.std.specs.Result.{result_ok}
-use Rattle.std.proofs.lemmas.Bool.{eqb-true, eq-eqb}
+use Rattle.std.proofs.lemmas.Bool.{eqb-true, eq-eqb, not-false}
 use Rattle.std.specs.Prelude.{List, ◌==◌, ⊤, nat_le}
 use Rattle.std.specs.Option.{ok_or}
 use Rattle.dmc_types.specs.Limits.{most_requests}
@@ -17,11 +17,9 @@ use Rattle.dmc_tag.specs.Rules.{Outcome, shift_of, can_shift_by, assigned, can_a
 use Rattle.dmc_tag.specs.declared.reply.Tags.{Tags}
 use Rattle.dmc_tag.specs.declared.plain.PlainClient.{PlainClient}
 use Rattle.dmc_tag.proofs.TagOrder.{bound, from_option}
+use Rattle.dmc_tag.proofs.Ids.{itself_id}
 
 -- ---- ids
-
-pub itself_id : (a : ClientId) → is_client a a ≡ true
-itself_id a = eq-eqb a.0 a.0 refl
 
 pub same_id : (a b c : ClientId) → is_client a b ≡ true → is_client c b ≡ true → is_client a c ≡ true
 same_id a b c p q =
@@ -42,10 +40,6 @@ pub named_same : {T : Type 0} (a b : ClientId) (clients : List (PlainClient T)) 
 named_same {T} a b clients e = let x : a.0 ≡ b.0 = sym (eqb-true b.0 a.0 e) in ap (λ n. find (λ (c : PlainClient T). c.id.0 == n) clients) x
 
 -- ---- tests
-
-pub not_not : (b : Bool) → not b ≡ false → b ≡ true
-not_not true e = refl
-not_not false e = cc
 
 pub or_second : (b c : Bool) → b ≡ true → (not b || c) ≡ true → c ≡ true
 or_second true c e h = h
@@ -84,4 +78,4 @@ add_gives ops s id params t x e =
     let tags = bound (assigned ops s.config.hz c.0 params t) _ x range.2 in
     let shift_is : shift.0 ≡ x.0 = cc (tags.2) in
     let tags_are : tags.0 ≡ x.1 = cc (tags.2) in
-    record { client = c.0; named = from_option _ _ _ c.1; shift = shift.1 ∙ ap Ok shift_is; can = subst (λ o. can_shift_by ops o s.clients s.requests ≡ true) shift_is (not_not _ (allowed _ Range range.0 range.1)); tags = tags.1 ∙ ap Ok tags_are }
+    record { client = c.0; named = from_option _ _ _ c.1; shift = shift.1 ∙ ap Ok shift_is; can = subst (λ o. can_shift_by ops o s.clients s.requests ≡ true) shift_is (not-false _ (allowed _ Range range.0 range.1)); tags = tags.1 ∙ ap Ok tags_are }

@@ -6,7 +6,7 @@ use Rattle.std.specs.declared.cmp.Ordering.{Ordering}
 use Rattle.std.specs.declared.cmp.Ordering.TheVariants.{Less, Equal, Greater}
 use Rattle.std.specs.Ordering.{is_gt, is_lt, nat_cmp, ordering_reverse, ordering_then}
 use Rattle.std.specs.Cmp.{IsTotalOrder, nat_cmp_total}
-use Rattle.std.proofs.lemmas.Bool.{eqb-true, not-true}
+use Rattle.std.proofs.lemmas.Bool.{eqb-true, not-true, not-false}
 use Rattle.dmc_types.specs.declared.ids.ClientId.{ClientId}
 use Rattle.dmc_tag.specs.Tag.{Tagging}
 use Rattle.dmc_tag.specs.Order.{AtMost}
@@ -16,8 +16,8 @@ use Rattle.dmc_tag.specs.Best.{by_reservation, by_weight, is_before, is_early, i
 use Rattle.dmc_tag.specs.declared.plain.PlainRequest.{PlainRequest}
 use Rattle.dmc_tag.specs.declared.plain.PlainClient.{PlainClient}
 use Rattle.dmc_tag.specs.declared.reply.Tags.{Tags}
-use Rattle.dmc_tag.proofs.Orderings.{at_most_trans}
-use Rattle.dmc_bounds.proofs.Basics.{turned_id, bind_goes, allowed, not_not}
+use Rattle.dmc_tag.proofs.Orderings.{at_most_trans, equals_itself}
+use Rattle.dmc_bounds.proofs.Basics.{turned_id, bind_goes, allowed}
 use Rattle.dmc_bounds.proofs.Pairs.{Pairwise, AreDistinct, pairs_at}
 use Rattle.dmc_types.specs.declared.config.AtLimit.{AtLimit}
 use Rattle.dmc_types.specs.declared.config.AtLimit.TheVariants.{Wait, Allow}
@@ -36,14 +36,6 @@ use Rattle.dmc_tag.proofs.TagOrder.{bound}
 -- ---- orders
 
 module _ {R : Type 0} (C : R → R → Ordering) (o : IsTotalOrder C) where
-  equal_of : (r : Ordering) → r ≡ ordering_reverse r → r ≡ Equal
-  equal_of Less e = cc
-  equal_of Equal e = refl
-  equal_of Greater e = cc
-
-  itself : (a : R) → C a a ≡ Equal
-  itself a = equal_of (C a a) (o.antisymm a a)
-
   -- what is not above is not behind, also by a second order in which the two are equal
   not_ahead : (a b : R) (r : Ordering) → C b a ≡ r → is_gt (C a b) ≡ false → is_lt (ordering_then r Equal) ≡ true → ⊥
   not_ahead a b Less e h t = let back : C a b ≡ Greater = o.antisymm a b ∙ ap ordering_reverse e in cc
@@ -91,7 +83,7 @@ module _ {T : Type 0} (ops : Tagging T) (order : IsTotalOrder ops.compare) where
   due_before t (Some a) (Some b) h d = ap not (at_most_trans ops order a b (ops.of_moment t) _ _ refl refl h (not-true _ d))
 
   same_client_equal : (a b : ClientId) → is_client a b ≡ true → client_cmp a b ≡ Equal
-  same_client_equal a b e = ap (nat_cmp a.0) (eqb-true b.0 a.0 e) ∙ itself nat_cmp nat_cmp_total a.0
+  same_client_equal a b e = ap (nat_cmp a.0) (eqb-true b.0 a.0 e) ∙ equals_itself nat_cmp nat_cmp_total a.0
 
   not_before : (tag : PlainRequest T → Option T) (r x : PlainRequest T) → is_client r.client x.client ≡ true → IsUpto (tag x) (tag r) → is_before ops tag r x ≡ true → ⊥
   not_before tag r x e h b = not_ahead (last_if_absent ops.compare) (absent_total order) (tag x) (tag r) _ refl h (ap (λ o. is_lt (ordering_then (last_if_absent ops.compare (tag r) (tag x)) o)) (sym (same_client_equal r.client x.client e)) ∙ b)
@@ -150,7 +142,7 @@ module _ {T : Type 0} (ops : Tagging T) (order : IsTotalOrder ops.compare) (s : 
         first = first;
         due = due;
         reduction = given.1 ∙ ap Ok same;
-        can = subst (λ o. rules_of.can_reduce_by ops r.client o s.clients others ≡ true) same (not_not _ (allowed _ Range range.0 range.1));
+        can = subst (λ o. rules_of.can_reduce_by ops r.client o s.clients others ≡ true) same (not-false _ (allowed _ Range range.0 range.1));
       }))
 
   any : (b : Option (PlainRequest T × List (PlainRequest T))) → best (by_weight ops) is_any s.requests ≡ b → P (rules_of.grant_found ops s t true b)

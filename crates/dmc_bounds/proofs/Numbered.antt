@@ -18,7 +18,7 @@ use Rattle.dmc_tag.specs.declared.reply.Reply.{Reply}
 use Rattle.dmc_tag.proofs.Active.{either}
 use Rattle.dmc_tag.proofs.Lists.{all_as, all_both}
 use Rattle.dmc_bounds.specs.Bounds.{Arrives, Arrival, arrival_of, arrivals, departed, departures, prioritized, priorities, AllKeep, IsNext, sum_since, ticks_since, LimitBound, ReservationBound}
-use Rattle.dmc_bounds.proofs.Basics.{add_gives, bind_goes, both_id, named_same, itself_id}
+use Rattle.dmc_bounds.proofs.Basics.{add_gives, bind_goes, both_id, named_same}
 use Rattle.dmc_bounds.proofs.Histories.{IsSound, after_from, after-append, replays_split, departures-append, drop-more, longer, sound_step, sound_after, sound_opening, queued, event_moves, tokens_after, queued_is, front, Takes}
 use Rattle.dmc_bounds.proofs.Pace.{NotBelow, next_from}
 use Rattle.dmc_bounds.proofs.Pacing.{IsPaced, IsWithin, counts_of, sums_from, total_from, quiet, step_goes, taken_first, within_of}
@@ -35,6 +35,7 @@ use Rattle.dmc_tag.specs.declared.event.Event.{Event}
 use Rattle.dmc_tag.specs.declared.plain.PlainRequest.{PlainRequest}
 use Rattle.dmc_tag.specs.declared.reply.Reply.TheVariants.{Granted}
 use Rattle.dmc_bounds.proofs.InTurn.{IsDueIn, pull_is}
+use Rattle.dmc_tag.proofs.Ids.{itself_id}
 
 module _ {T : Type 0} (ops : Tagging T) (fraction : T → Fraction) (is_value : Fraction → Type 0) (exact : IsExact ops fraction is_value) (order : IsTotalOrder ops.compare) (config : Setting) (some : 0 < config.hz) (id : ClientId) (side : Side) (q : ℕ) where
   -- the client's rate

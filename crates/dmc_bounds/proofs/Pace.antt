@@ -1,20 +1,20 @@
 -- Fractions that are not below a whole number of ticks over a rate, and what assignment keeps of that.
-use Rattle.std.proofs.Common.{◌≡◌, ℕ, ◌*◌, ◌<◌, ◌≤◌, Bool, true, false, cond, not, Option, Some, None, refl, sym, ap, ◌∙◌, subst, arith}
+use Rattle.std.proofs.Common.{◌≡◌, ℕ, ◌*◌, ◌<◌, ◌≤◌, Bool, true, false, cond, not, Some, refl, sym, ap, ◌∙◌, subst, arith}
 use Rattle.std.specs.Prelude.{ℤ, pos, ◌+ℤ◌, ◌-ℤ◌, ◌*ℤ◌, ◌≤ℤ◌, neg_ℤ, Ok}
 use Rattle.std.specs.declared.cmp.Ordering.{Ordering}
 use Rattle.std.specs.declared.cmp.Ordering.TheVariants.{Less, Equal, Greater}
-use Rattle.std.specs.Ordering.{is_gt, is_lt, ord_max, ordering_reverse}
+use Rattle.std.specs.Ordering.{is_gt, is_lt, ord_max}
 use Rattle.std.specs.Cmp.{IsTotalOrder}
 use Rattle.std.proofs.lemmas.Int.{ints}
-use Rattle.std.proofs.Math.IntN.{*ℤ_comm, *ℤ-one}
-use Rattle.dmc_tag.specs.Tag.{Fraction, Tagging, IsExact, IsSame, Gives}
+use Rattle.std.proofs.Math.IntN.{*ℤ_comm}
+use Rattle.dmc_tag.specs.Tag.{Fraction, Tagging, IsExact}
 use Rattle.dmc_tag.specs.Order.{AtMost}
 use Rattle.dmc_tag.specs.Outcome.{in_range}
 use Rattle.dmc_tag.specs.Rules.{next_tag}
 use Rattle.dmc_tag.specs.Best.{is_due}
 use Rattle.std.proofs.Math.Nat.{mul-le-mul_left}
-use Rattle.dmc_tag.proofs.Scaled.{scaled_twice, scaled_sum, scaled_negative, scaled_le, unscaled_le}
-use Rattle.dmc_tag.proofs.TagOrder.{positive, bound, from_range, at_most_to}
+use Rattle.dmc_tag.proofs.Scaled.{scaled_twice, scaled_sum, scaled_negative, scaled_le, unscaled_le, cancelled, scaled_swapped, times_one}
+use Rattle.dmc_tag.proofs.TagOrder.{positive, bound, from_range, at_most_to, given, not_behind}
 
 -- the fraction is not below m/q
 pub record NotBelow (f : Fraction) (m : ℤ) (q : ℕ) : Type 0 where
@@ -26,24 +26,14 @@ le_of x y e = omega (arith, ints)
 le_trans : (x y z : ℤ) → x ≤ℤ y → y ≤ℤ z → x ≤ℤ z
 le_trans x y z p q = omega (arith, ints)
 
-cancelled : (x y : ℤ) (d : ℕ) → 0 < d → x *ℤ pos d ≡ y *ℤ pos d → x ≡ y
-cancelled x y d some e =
-    let up = unscaled_le x y d some (le_of _ _ e) in
-    let down = unscaled_le y x d some (le_of _ _ (sym e)) in
-    omega (arith, ints)
-
--- two factors turned
-turned : (z : ℤ) (a b : ℕ) → (z *ℤ pos a) *ℤ pos b ≡ (z *ℤ pos b) *ℤ pos a
-turned z a b = scaled_twice z a b ∙ ap (λ n. z *ℤ pos n) (omega arith) ∙ sym (scaled_twice z b a)
-
 -- k spacings of a rate are k*hz over it
 steps_worth : (dn spn : ℤ) (dd spd k hz q : ℕ) → 0 < spd → dn *ℤ pos spd ≡ (pos k *ℤ spn) *ℤ pos dd → spn *ℤ pos q ≡ pos hz *ℤ pos spd → dn *ℤ pos q ≡ pos (hz * k) *ℤ pos dd
 steps_worth dn spn dd spd k hz q some e s =
     cancelled _ _ spd some (
-    turned dn q spd
+    scaled_swapped dn q spd
     ∙ ap (λ z. z *ℤ pos q) (e ∙ ap (λ z. z *ℤ pos dd) (*ℤ_comm (pos k) spn))
-    ∙ turned (spn *ℤ pos k) dd q
-    ∙ ap (λ z. z *ℤ pos dd) (turned spn k q ∙ ap (λ z. z *ℤ pos k) s)
+    ∙ scaled_swapped (spn *ℤ pos k) dd q
+    ∙ ap (λ z. z *ℤ pos dd) (scaled_swapped spn k q ∙ ap (λ z. z *ℤ pos k) s)
     ∙ ap pos (omega arith)
     )
 
@@ -51,10 +41,10 @@ steps_worth dn spn dd spd k hz q some e s =
 pub raised : (f g : Fraction) (m : ℤ) (q : ℕ) → 0 < f.denom → (f.numer *ℤ pos g.denom) ≤ℤ (g.numer *ℤ pos f.denom) → NotBelow f m q → NotBelow g m q
 raised f g m q some le h = record {
   le = unscaled_le _ _ f.denom some (
-      le_trans _ _ _ (le_of _ _ (turned m g.denom f.denom))
+      le_trans _ _ _ (le_of _ _ (scaled_swapped m g.denom f.denom))
       (le_trans _ _ _ (scaled_le _ _ g.denom h.le)
-      (le_trans _ _ _ (le_of _ _ (turned f.numer q g.denom))
-      (le_trans _ _ _ (scaled_le _ _ q le) (le_of _ _ (turned g.numer f.denom q))))));
+      (le_trans _ _ _ (le_of _ _ (scaled_swapped f.numer q g.denom))
+      (le_trans _ _ _ (scaled_le _ _ q le) (le_of _ _ (scaled_swapped g.numer f.denom q))))));
 }
 
 -- moved by k/q, where z over both denominators is added and is worth as much
@@ -62,15 +52,15 @@ moved : (a x : Fraction) (d : ℕ) (z m k : ℤ) (q : ℕ) → 0 < a.denom → 0
 moved a x d z m k q some_a some_d same worth h =
     let both = a.denom * d in
     let right : (x.numer *ℤ pos q) *ℤ pos both ≡ ((a.numer *ℤ pos q) *ℤ pos d) *ℤ pos x.denom +ℤ (k *ℤ pos both) *ℤ pos x.denom =
-    turned x.numer q both
+    scaled_swapped x.numer q both
     ∙ ap (λ w. w *ℤ pos q) same
-    ∙ turned (a.numer *ℤ pos d +ℤ z) x.denom q
+    ∙ scaled_swapped (a.numer *ℤ pos d +ℤ z) x.denom q
     ∙ ap (λ w. w *ℤ pos x.denom) (scaled_sum (a.numer *ℤ pos d) z q)
-    ∙ ap (λ w. (w +ℤ z *ℤ pos q) *ℤ pos x.denom) (turned a.numer d q)
+    ∙ ap (λ w. (w +ℤ z *ℤ pos q) *ℤ pos x.denom) (scaled_swapped a.numer d q)
     ∙ ap (λ w. ((a.numer *ℤ pos q) *ℤ pos d +ℤ w) *ℤ pos x.denom) worth
     ∙ scaled_sum ((a.numer *ℤ pos q) *ℤ pos d) (k *ℤ pos both) x.denom in
     let left : ((m +ℤ k) *ℤ pos x.denom) *ℤ pos both ≡ ((m *ℤ pos a.denom) *ℤ pos d) *ℤ pos x.denom +ℤ (k *ℤ pos both) *ℤ pos x.denom =
-    turned (m +ℤ k) x.denom both
+    scaled_swapped (m +ℤ k) x.denom both
     ∙ ap (λ w. w *ℤ pos x.denom) (scaled_sum m k both)
     ∙ scaled_sum (m *ℤ pos both) (k *ℤ pos both) x.denom
     ∙ ap (λ w. w *ℤ pos x.denom +ℤ (k *ℤ pos both) *ℤ pos x.denom) (sym (scaled_twice m a.denom d)) in
@@ -80,7 +70,7 @@ moved a x d z m k q some_a some_d same worth h =
 
 -- d is worth n/q
 worth_over : (a d : Fraction) (q n : ℕ) → d.numer *ℤ pos q ≡ pos n *ℤ pos d.denom → (d.numer *ℤ pos a.denom) *ℤ pos q ≡ pos n *ℤ pos (a.denom * d.denom)
-worth_over a d q n worth = turned d.numer a.denom q ∙ ap (λ w. w *ℤ pos a.denom) worth ∙ turned (pos n) d.denom a.denom ∙ scaled_twice (pos n) a.denom d.denom
+worth_over a d q n worth = scaled_swapped d.numer a.denom q ∙ ap (λ w. w *ℤ pos a.denom) worth ∙ scaled_swapped (pos n) d.denom a.denom ∙ scaled_twice (pos n) a.denom d.denom
 
 -- more by n, where n over the rate is added, and less, where it is taken off
 added : (a d x : Fraction) (m : ℤ) (q n : ℕ) → 0 < a.denom → 0 < d.denom → x.numer *ℤ pos (a.denom * d.denom) ≡ (a.numer *ℤ pos d.denom +ℤ d.numer *ℤ pos a.denom) *ℤ pos x.denom → d.numer *ℤ pos q ≡ pos n *ℤ pos d.denom → NotBelow a m q → NotBelow x (m +ℤ pos n) q
@@ -93,22 +83,13 @@ taken_off a d x m q n some_a some_d same worth = moved a x d.denom (neg_ℤ (d.n
 pub lowered : (f : Fraction) (m k : ℤ) (q : ℕ) → k ≤ℤ m → NotBelow f m q → NotBelow f k q
 lowered f m k q le h = record { le = le_trans _ _ _ (scaled_le _ _ f.denom le) h.le }
 
-times_one : (z : ℤ) → z ≡ z *ℤ pos 1
-unfolding lib.IntN.one
-times_one z = sym (*ℤ-one z)
-
 module _ {T : Type 0} (ops : Tagging T) (fraction : T → Fraction) (is_value : Fraction → Type 0) (exact : IsExact ops fraction is_value) where
-  -- what an operation gave is its fraction
-  pub given : (o : Option T) (f : Fraction) (a : T) → Gives fraction is_value o f → o ≡ Some a → IsSame (fraction a) f
-  given None f a g e = cc
-  given (Some b) f a g e = let same : b ≡ a = cc in subst (λ c. IsSame (fraction c) f) same g.1
-
   -- a moment is not below an earlier one
   pub moment_from : (at t q : ℕ) → at ≤ t → NotBelow (fraction (ops.of_moment t)) (pos (q * at)) q
   moment_from at t q h =
       let f = fraction (ops.of_moment t) in
       let is : f.numer *ℤ pos 1 ≡ pos t *ℤ pos f.denom = exact.of_moment t in
-      let is_so : f.numer *ℤ pos q ≡ pos (t * f.denom * q) = ap (λ z. z *ℤ pos q) (times_one f.numer ∙ is) in
+      let is_so : f.numer *ℤ pos q ≡ pos (t * f.denom * q) = ap (λ z. z *ℤ pos q) (sym (times_one f.numer) ∙ is) in
       record { le = subst (λ z. (pos (q * at) *ℤ pos f.denom) ≤ℤ z) (sym is_so) (below _ _ (grown at t q f.denom h)) } where
         below : (a b : ℕ) → a ≤ b → pos a ≤ℤ pos b
         below a b h = omega (arith, ints)
@@ -122,7 +103,7 @@ module _ {T : Type 0} (ops : Tagging T) (fraction : T → Fraction) (is_value : 
       let f = fraction (ops.of_moment t) in
       let up = raised (fraction tag) f m q (exact.denom tag) (at_most_to ops fraction is_value exact tag (ops.of_moment t) (not_true _ due)) h in
       let is : f.numer *ℤ pos 1 ≡ pos t *ℤ pos f.denom = exact.of_moment t in
-      let is_so : f.numer *ℤ pos q ≡ pos (q * t) *ℤ pos f.denom = ap (λ z. z *ℤ pos q) (times_one f.numer ∙ is) ∙ ap pos (omega arith) in
+      let is_so : f.numer *ℤ pos q ≡ pos (q * t) *ℤ pos f.denom = ap (λ z. z *ℤ pos q) (sym (times_one f.numer) ∙ is) ∙ ap pos (omega arith) in
       unscaled_le m (pos (q * t)) f.denom (exact.denom (ops.of_moment t)) (subst (λ z. (m *ℤ pos f.denom) ≤ℤ z) is_so up.le) where
         not_true : (b : Bool) → not b ≡ true → b ≡ false
         not_true true e = cc
@@ -130,14 +111,9 @@ module _ {T : Type 0} (ops : Tagging T) (fraction : T → Fraction) (is_value : 
 
   -- a tag less a spacing
   pub less_by : (a amount x : T) (m : ℤ) (hz q : ℕ) → ops.spacing hz q ≡ Some amount → ops.minus a amount ≡ Some x → NotBelow (fraction a) m q → NotBelow (fraction x) (m -ℤ pos hz) q
-  less_by a amount x m hz q s e h = taken_off (fraction a) (fraction amount) (fraction x) m q hz (exact.denom a) (exact.denom amount) (given (ops.minus a amount) _ x (exact.minus a amount) e) (given (ops.spacing hz q) _ amount (exact.spacing hz q) s) h
+  less_by a amount x m hz q s e h = taken_off (fraction a) (fraction amount) (fraction x) m q hz (exact.denom a) (exact.denom amount) (given ops fraction is_value exact (ops.minus a amount) _ x (exact.minus a amount) e) (given ops fraction is_value exact (ops.spacing hz q) _ amount (exact.spacing hz q) s) h
 
   module _ (order : IsTotalOrder ops.compare) where
-    not_behind : (a b : T) (r : Ordering) → ops.compare b a ≡ r → is_lt r ≡ false → AtMost ops a b
-    not_behind a b Less p h = cc
-    not_behind a b Equal p h = ap is_gt (order.antisymm a b ∙ ap ordering_reverse p)
-    not_behind a b Greater p h = ap is_gt (order.antisymm a b ∙ ap ordering_reverse p)
-
     -- the next tag is more by k*hz
     pub next_paced : (previous spacing tag t : T) (m : ℤ) (hz q k : ℕ) → ops.spacing hz q ≡ Some spacing → next_tag ops previous k spacing t ≡ Ok tag → NotBelow (fraction previous) m q → NotBelow (fraction tag) (m +ℤ pos (hz * k)) q
     next_paced previous spacing tag t m hz q k s e h =
@@ -146,12 +122,12 @@ module _ {T : Type 0} (ops : Tagging T) (fraction : T → Fraction) (is_value : 
         let tag_is : ord_max ops.compare sum.0 t ≡ tag = cc (sum.2) in
         let fs = fraction spacing in
         let fd = fraction step.0 in
-        let worth = steps_worth fd.numer fs.numer fd.denom fs.denom k hz q (exact.denom spacing) (given (ops.steps spacing k) _ step.0 (exact.steps spacing k) (from_range _ _ step.1)) (given (ops.spacing hz q) _ spacing (exact.spacing hz q) s) in
-        let more = added (fraction previous) fd (fraction sum.0) m q (hz * k) (exact.denom previous) (exact.denom step.0) (given (ops.plus previous step.0) _ sum.0 (exact.plus previous step.0) (from_range _ _ sum.1)) worth h in
+        let worth = steps_worth fd.numer fs.numer fd.denom fs.denom k hz q (exact.denom spacing) (given ops fraction is_value exact (ops.steps spacing k) _ step.0 (exact.steps spacing k) (from_range _ _ step.1)) (given ops fraction is_value exact (ops.spacing hz q) _ spacing (exact.spacing hz q) s) in
+        let more = added (fraction previous) fd (fraction sum.0) m q (hz * k) (exact.denom previous) (exact.denom step.0) (given ops fraction is_value exact (ops.plus previous step.0) _ sum.0 (exact.plus previous step.0) (from_range _ _ sum.1)) worth h in
         subst (λ x. NotBelow (fraction x) (m +ℤ pos (hz * k)) q) tag_is (greater sum.0 t _ refl more) where
           greater : (sum t : T) (b : Bool) → is_lt (ops.compare t sum) ≡ b → NotBelow (fraction sum) (m +ℤ pos (hz * k)) q → NotBelow (fraction (cond b sum t)) (m +ℤ pos (hz * k)) q
           greater sum t true e h = h
-          greater sum t false e h = raised (fraction sum) (fraction t) _ q (exact.denom sum) (at_most_to ops fraction is_value exact sum t (not_behind sum t _ refl e)) h
+          greater sum t false e h = raised (fraction sum) (fraction t) _ q (exact.denom sum) (at_most_to ops fraction is_value exact sum t (not_behind ops fraction is_value exact order sum t _ refl e)) h
 
     -- and not below the moment
     pub next_from : (previous spacing tag : T) (t hz q k : ℕ) → next_tag ops previous k spacing (ops.of_moment t) ≡ Ok tag → NotBelow (fraction tag) (pos (q * t)) q

@@ -1,6 +1,6 @@
 -- Each command keeps the requests of a client in order of their tags.
 use Rattle.std.proofs.Common.{◌≡◌, ℕ, zero, suc, ◌<◌, Bool, true, false, not, ◌&&◌, List, Option, Some, None, Ok, refl, sym, ap, ◌∙◌, subst, arith, inl, inr}
-use Rattle.std.specs.Prelude.{◌⊎◌, pos, ◌*ℤ◌, ⊤, if◌then◌else◌, is_some, is_none, IfSome}
+use Rattle.std.specs.Prelude.{◌⊎◌, pos, ◌*ℤ◌, ⊤, if◌then◌else◌, is_some, IfSome}
 use Rattle.std.specs.Option.{ok_or}
 use Rattle.std.specs.Result.{result_ok}
 use Rattle.std.specs.Cmp.{IsTotalOrder}
@@ -28,14 +28,14 @@ use Rattle.dmc_tag.specs.declared.plain.PlainClient.{PlainClient}
 use Rattle.dmc_tag.specs.declared.spacing.Spacings.{Spacings}
 use Rattle.dmc_tag.specs.declared.reply.Tags.{Tags}
 use Rattle.dmc_tag.proofs.Orderings.{at_most_trans}
-use Rattle.dmc_tag.proofs.TagOrder.{bound, from_option, from_range, positive, next_tags_follow, spacings_not_below}
+use Rattle.dmc_tag.proofs.TagOrder.{given, bound, from_option, from_range, positive, next_tags_follow, spacings_not_below}
 use Rattle.dmc_tag.proofs.Active.{either, queued_own}
 use Rattle.dmc_tag.proofs.Lists.{all_as, all_both}
 use Rattle.dmc_bounds.proofs.Basics.{bind_goes, add_gives, from_ok, same_id, named_same, allowed}
 use Rattle.dmc_bounds.proofs.InTurn.{pull_is, IsUpto, Follows, IsKnown, AreInTurn}
-use Rattle.dmc_bounds.proofs.Pace.{given}
 use Rattle.dmc_bounds.proofs.Pairs.{ids-kept, find_mapped}
 use Rattle.dmc_bounds.proofs.TurnKept.{known_changed, mine, IsBelow, same_queued, registered_turn, removed_turn, cleaned_turn, left_turn, reduced_turn, shifted_turn, queued_turn}
+use Rattle.dmc_tag.proofs.Options.{same_presence}
 
 module _ {T : Type 0} (ops : Tagging T) (fraction : T → Fraction) (is_value : Fraction → Type 0) (exact : IsExact ops fraction is_value) (order : IsTotalOrder ops.compare) where
   -- ---- rates
@@ -146,12 +146,6 @@ module _ {T : Type 0} (ops : Tagging T) (fraction : T → Fraction) (is_value : 
 
   -- ---- update
 
-  same_there : (old new : Option ℕ) → (if is_some old then is_none new else is_some new) ≡ false → is_some old ≡ is_some new
-  same_there None None e = refl
-  same_there None (Some q) e = cc
-  same_there (Some q) None e = cc
-  same_there (Some q) (Some u) e = refl
-
   and_first : (b c : Bool) → (b && c) ≡ false → c ≡ true → b ≡ false
   and_first true c e f = cc
   and_first false c e f = refl
@@ -163,7 +157,7 @@ module _ {T : Type 0} (ops : Tagging T) (fraction : T → Fraction) (is_value : 
         let same : is_client x.client id ≡ true = same_id x.client k.client.id id (mine ops order s.clients x.client k.client k.named) e in
         let so : Some k.client ≡ Some c = sym k.named ∙ named_same x.client id s.clients same ∙ named in
         let one : k.client ≡ c = cc in
-        let there = same_there c.info.reservation info.reservation (and_first _ _ kept (same_queued ops order x.client id s.requests same queued)) in
+        let there = same_presence c.info.reservation info.reservation (and_first _ _ kept (same_queued ops order x.client id s.requests same queued)) in
         record { busy = k.follows.busy; reserved = k.follows.reserved ∙ ap (λ d. is_some d.info.reservation) one ∙ there; r = k.follows.r; l = k.follows.l; p = k.follows.p }
     at false e = k.follows
 

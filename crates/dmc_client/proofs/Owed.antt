@@ -13,7 +13,8 @@ use Rattle.dmc_tag.proofs.ForCallers.{minus_twice, plus_then_minus}
 use Rattle.dmc_client.specs.declared.request.QueuedRequest.{QueuedRequest}
 use Rattle.dmc_client.specs.Record.{less_share, less_reservation}
 use Rattle.dmc_client.specs.Owed.{tag_less_owed, tag_has_owed, less_owed, all_less_owed, reservation_has_less, has_owed, IsOwed, owed_with}
-use Rattle.dmc_client.proofs.Records.{all-next, all_rest}
+use Rattle.dmc_client.proofs.Records.{all_rest}
+use Rattle.dmc_tag.proofs.Lists.{all_next}
 
 module _ {T : Type 0} (ops : Tagging T) where
   -- nothing owed is nothing taken off
@@ -51,7 +52,7 @@ module _ {T : Type 0} (ops : Tagging T) where
 
   pub next_is_owed : (owed : Option T) (xs : List (QueuedRequest T)) (x : QueuedRequest T) → IsOwed ops owed xs → has_owed ops owed x ≡ true → IsOwed ops owed (xs ++ x ∷ [])
   next_is_owed owed xs x is e = record {
-    values = all-next _ xs x is.values e;
+    values = all_next _ xs x is.values e;
     empty = not_empty xs x owed;
   }
 

@@ -1,6 +1,6 @@
 -- Each call leaves a record a record.
 use Rattle.std.proofs.Common.{◌≡◌, ℕ, Bool, true, false, ◌&&◌, List, [], ◌∷◌, ◌++◌, map, drop, Option, Some, None, refl, sym, ap, ◌∙◌, subst}
-use Rattle.std.specs.Prelude.{filter_map, is_some, is_none, IfSome, if◌then◌else◌}
+use Rattle.std.specs.Prelude.{filter_map, is_some, IfSome}
 use Rattle.std.specs.Option.{option_map, option_map_or, unwrap_or}
 use Rattle.std.specs.List.{AllByRecursion, list_all, cons_option}
 use Rattle.std.specs.Cmp.{IsTotalOrder}
@@ -16,14 +16,11 @@ use Rattle.dmc_client.specs.declared.request.QueuedRequest.{QueuedRequest}
 use Rattle.dmc_client.specs.Order.{InOrder}
 use Rattle.dmc_client.specs.Record.{Rec, IsRecord, reservation_tags, share_tags, pushed, less_share, less_reservation, less_shares, less_reservations, has_less_shares, has_less_reservations}
 use Rattle.dmc_client.proofs.Order.{in_order-next, in_order-less, KeepsOrder}
-use Rattle.dmc_tag.proofs.Options.{is_some_mapped}
+use Rattle.dmc_tag.proofs.Options.{is_some_mapped, same_presence}
 use Rattle.std.proofs.Math.Bool.{and-true}
+use Rattle.dmc_tag.proofs.Lists.{all_next}
 
 -- ---- what holds of each request
-
-pub all-next : {X : Type 0} (P : X → Type 0) (xs : List X) (y : X) → AllByRecursion P xs → P y → AllByRecursion P (xs ++ y ∷ [])
-all-next P [] y h k = (k, tt)
-all-next P (x ∷ xs) y h k = (h.0, all-next P xs y h.1 k)
 
 pub all_rest : {X : Type 0} (P : X → Type 0) (xs : List X) → AllByRecursion P xs → AllByRecursion P (drop 1 xs)
 all_rest P [] h = tt
@@ -39,7 +36,7 @@ module _ {T : Type 0} (ops : Tagging T) (order : IsTotalOrder ops.compare) where
   pub pushed_record : (rec : Rec T) (request : QueuedRequest T) (at : ℕ) → IsRecord ops rec → AreNext ops rec.info rec.previous request.tags → IsRecord ops (pushed request at rec)
   pushed_record rec request at is next = record {
     spacings = is.spacings;
-    reserved = all-next _ rec.requests request is.reserved next.reserved;
+    reserved = all_next _ rec.requests request is.reserved next.reserved;
     reservations =
         let kept = next_reservations (filter_map (λ r. r.tags.r) rec.requests) request.tags.r rec.previous.r next.r is.reservations in
         subst (λ xs. InOrder ops (xs ++ unwrap_or request.tags.r rec.previous.r ∷ [])) (sym (filter_map-append (λ r. r.tags.r) rec.requests (request ∷ []))) kept;
@@ -76,15 +73,9 @@ module _ {T : Type 0} (ops : Tagging T) where
     by_map tag previous [] h = h
     by_map tag previous (r ∷ requests) h = h.1
 
-  same_reservation : (old new : Option ℕ) → (if is_some old then is_none new else is_some new) ≡ false → is_some old ≡ is_some new
-  same_reservation None None e = refl
-  same_reservation None (Some new) e = cc
-  same_reservation (Some old) None e = cc
-  same_reservation (Some old) (Some new) e = refl
-
   all_reserved : (requests : List (QueuedRequest T)) (old new : Rates) (changes : Bool) → changes_reservation old new ≡ changes → (changes ≡ true → requests ≡ []) → AllByRecursion (λ r. is_some r.tags.r ≡ is_some old.reservation) requests → AllByRecursion (λ r. is_some r.tags.r ≡ is_some new.reservation) requests
   all_reserved requests old new true e none h = subst (AllByRecursion (λ r. is_some r.tags.r ≡ is_some new.reservation)) (sym (none refl)) tt
-  all_reserved requests old new false e none h = subst (λ b. AllByRecursion (λ r. is_some r.tags.r ≡ b) requests) (same_reservation old.reservation new.reservation e) h
+  all_reserved requests old new false e none h = subst (λ b. AllByRecursion (λ r. is_some r.tags.r ≡ b) requests) (same_presence old.reservation new.reservation e) h
 
   pub record_with_info : (rec : Rec T) (info : Rates) (spacings : Spacings T) → IsRecord ops rec → AreSpacings ops info spacings → (changes_reservation rec.info info ≡ true → rec.requests ≡ []) → IsRecord ops (record rec { info = info; spacings = spacings })
   record_with_info rec info spacings is are none = record {

@@ -1,6 +1,5 @@
 -- What the rules make of a client that matches one that is held.
 use Rattle.std.proofs.Common.{◌≡◌, ℕ, zero, suc, ◌+◌, ◌-◌, ◌<◌, ◌≤◌, Bool, true, false, List, [], ◌∷◌, ◌++◌, length, map, set, get_or, slice_get, Some, nat_le, ◌==◌, refl, sym, ap, ◌∙◌, subst, arith, Ok, Err}
-use Rattle.std.specs.Result.{IsErrAnd}
 use Rattle.std.specs.Prelude.{Result, IsErrOf, ◌↔◌, ⊤}
 use Rattle.std.proofs.lemmas.Bool.{ltb-true, lt-ltb, eq-eqb, eqb-true}
 use Rattle.std.proofs.Math.Seq.{map-set_same}
@@ -30,11 +29,6 @@ use Rattle.dmc_core.specs.Parts.{pair_of}
 pub false_unless : (b : Bool) → (b ≡ true → ⊥) → b ≡ false
 false_unless true never = absurd (never refl)
 false_unless false never = refl
-
--- what a `?` hands on
-pub err_is : {X E : Type 0} (r : Result X E) (e : E) → IsErrAnd r (λ f. f ≡ e) → r ≡ Err e
-err_is (Ok x) e h = absurd h
-err_is (Err f) e h = ap (λ g. Err g) h
 
 -- ---- Stamp
 

@@ -1,10 +1,10 @@
 -- Lists that match place by place, and what is found and changed in them.
-use Rattle.std.proofs.Common.{◌≡◌, ℕ, zero, suc, ◌+◌, ◌<◌, ◌≤◌, Bool, true, false, not, cond, List, [], ◌∷◌, ◌++◌, length, map, set, get_or, slice_get, nat_lt, Option, Some, None, refl, sym, ap, ◌∙◌, arith, rules, Ok, Err}
-use Rattle.std.specs.List.{AllZip, AllByRecursion, find, position, position_or_len, prefix_len}
-use Rattle.std.proofs.lemmas.List.{length-map}
+use Rattle.std.proofs.Common.{◌≡◌, ℕ, zero, suc, ◌<◌, ◌≤◌, Bool, true, false, List, [], ◌∷◌, length, set, get_or, slice_get, nat_lt, Option, Some, None, refl, sym, ap, ◌∙◌, arith}
+use Rattle.std.specs.List.{AllZip, AllByRecursion, find, position, position_or_len}
 use Rattle.std.proofs.lemmas.Bool.{ltb-false}
 use Rattle.std.proofs.lemmas.List.Quantifiers.{position-Some}
 use Rattle.dmc_core.specs.Run.{change_first}
+use Rattle.std.proofs.lemmas.Option.{same_Some}
 
 -- ---- what is at a place of two lists
 
@@ -26,20 +26,13 @@ at_place R (x ∷ xs) (y ∷ ys) (suc i) z w =
 
 pub set_same : {A : Type 0} (xs : List A) (i : ℕ) (x : A) → slice_get xs i ≡ Some x → set xs i x ≡ xs
 set_same [] i x e = refl
-set_same (y ∷ ys) zero x e = rw (some_is y x e) refl
-  where
-    some_is : {A : Type 0} (a b : A) → Some a ≡ Some b → b ≡ a
-    some_is a b e = cc
+set_same (y ∷ ys) zero x e = rw (sym (same_Some y x e)) refl
 set_same (y ∷ ys) (suc i) x e = ap (λ zs. y ∷ zs) (set_same ys i x e)
 
 pub all_set : {A : Type 0} (P : A → Type 0) (xs : List A) (i : ℕ) (x : A) → AllByRecursion P xs → P x → AllByRecursion P (set xs i x)
 all_set P [] i x h p = h
 all_set P (y ∷ ys) zero x h p = (p, h.1)
 all_set P (y ∷ ys) (suc i) x h p = (h.0, all_set P ys i x h.1 p)
-
-pub all_push : {A : Type 0} (P : A → Type 0) (xs : List A) (x : A) → AllByRecursion P xs → P x → AllByRecursion P (xs ++ x ∷ [])
-all_push P [] x h p = (p, tt)
-all_push P (y ∷ ys) x h p = (h.0, all_push P ys x h.1 p)
 
 -- ---- the first that passes a test, in two lists
 
@@ -91,12 +84,3 @@ module _ {A B : Type 0} (R : A → B → Type 0) (p : A → Bool) (q : B → Boo
       by : (b : Bool) → nat_lt (position_or_len p xs) (length xs) ≡ b → length xs ≤ position_or_len p xs
       by true t = absurd (none_some (position_or_len p xs) (position p xs) e (rw t refl))
       by false t = ltb-false _ _ t
-
--- ---- positions behind a map
-
-prefix_map : {A B : Type 0} (f : A → B) (p : B → Bool) (xs : List A) → prefix_len p (map f xs) ≡ prefix_len (λ x. p (f x)) xs
-prefix_map f p [] = refl
-prefix_map f p (x ∷ xs) = ap (λ k. cond (p (f x)) (1 + k) 0) (prefix_map f p xs)
-
-pub position_map : {A B : Type 0} (f : A → B) (p : B → Bool) (xs : List A) → position p (map f xs) ≡ position (λ x. p (f x)) xs
-position_map f p xs = rw (prefix_map f (λ y. not (p y)) xs, length-map) refl

@@ -10,13 +10,11 @@ use Rattle.dmc_types.specs.Values.{Rates, Setting}
 use Rattle.dmc_types.specs.declared.ids.ClientId.{ClientId}
 use Rattle.dmc_types.specs.declared.ids.ServerId.{ServerId}
 use Rattle.dmc_types.specs.declared.config.Counting.{Counting}
-use Rattle.dmc_types.specs.declared.command.Command.{Command}
 use Rattle.dmc_types.specs.declared.command.Command.TheVariants.{Register}
 use Rattle.dmc_tag.specs.Tag.{Tagging}
 use Rattle.dmc_tag.specs.State.{State, StandsFor, is_client, client_named, effective}
 use Rattle.dmc_tag.specs.Spacing.{spacings_of}
 use Rattle.dmc_tag.specs.Step.{step}
-use Rattle.dmc_tag.specs.Replay.{state_after}
 use Rattle.dmc_tag.specs.Rules.{newcomer}
 use Rattle.dmc_tag.specs.declared.plain.PlainClient.{PlainClient}
 use Rattle.dmc_tag.specs.declared.reply.Reply.TheVariants.{Registered}
@@ -63,10 +61,6 @@ take_one_more f xs i x w is = ap (map f) (take_more xs i x w) ∙ map-append f (
 -- ---- registrations
 
 module _ {T : Type 0} (ops : Tagging T) where
-  pub state_after_more : (u : State T) (cs : List Command) (c : Command) → state_after ops u (cs ++ c ∷ []) ≡ (step ops (state_after ops u cs) c).0
-  state_after_more u [] c = refl
-  state_after_more u (d ∷ cs) c = state_after_more ((step ops u d).0) cs c
-
   ok_value : {X E : Type 0} (r : Result X E) → IsOk r → (x : X) × (r ≡ Ok x)
   ok_value (Ok x) h = (x, refl)
   ok_value (Err e) h = absurd (true≢false (sym h))

@@ -9,7 +9,7 @@ use Rattle.dmc_core.specs.declared.event.CoreFault.TheVariants.{NoClient, NoServ
 use Rattle.dmc_core.specs.Core.{Held, CoreValue}
 use Rattle.dmc_core.specs.Parts.{place_of}
 use Rattle.dmc_core.proofs.Clients.{false_unless}
-use Rattle.dmc_core.proofs.Lists.{position_map}
+use Rattle.dmc_tag.proofs.Lists.{position_map}
 
 eqb_turned : (a b : ℕ) (r : Bool) → eqb a b ≡ r → eqb a b ≡ eqb b a
 eqb_turned a b true e = e ∙ sym (eq-eqb b a (sym (eqb-true a b e)))

@@ -30,13 +30,6 @@ use Rattle.dmc_core_laws.specs.Bounds.{stamp_in, stamps_to}
 
 -- ---- the first that passes a test, after a change
 
-pub passes : {X : Type 0} (q : X → Bool) (xs : List X) (x : X) → find q xs ≡ Some x → q x ≡ true
-passes q [] x e = cc
-passes q (y ∷ ys) x e = by (q y) refl e (passes q ys x) where
-  by : (b : Bool) → q y ≡ b → cond b (Some y) (find q ys) ≡ Some x → (find q ys ≡ Some x → q x ≡ true) → q x ≡ true
-  by true here e more = let same : y ≡ x = cc in subst (λ z. q z ≡ true) same here
-  by false there e more = more e
-
 -- the one that is found after a change is the changed one, or it was found before
 pub found_changed : {X : Type 0} (p q : X → Bool) (f : X → X) (xs : List X) (x' : X) → ((x : X) → p x ≡ true → q x ≡ true) → ((x : X) → p x ≡ true → q (f x) ≡ true) → ((x : X) → q x ≡ true → p x ≡ true)
     → find q (change_first p f xs) ≡ Some x' → (x : X) × (find q xs ≡ Some x) × (x' ≡ f x)

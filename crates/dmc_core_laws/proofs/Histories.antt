@@ -24,6 +24,7 @@ use Rattle.dmc_core.specs.Events.{cluster_step, after_pull, registration, run_af
 use Rattle.dmc_core.specs.Opening.{named_rates, opening_of}
 use Rattle.dmc_core_laws.specs.Histories.{Answer, is_server, server_named, queue_command, recorded_events, registrations, history_from, oldest, HistoriesReplay}
 use Rattle.dmc_core_laws.proofs.Given.{step_goes, Gives, gives}
+use Rattle.std.proofs.lemmas.Option.{same_Some}
 
 -- ---- lists
 
@@ -88,16 +89,13 @@ module _ {T : Type 0} (ops : Tagging T) where
       by : (b : Bool) → is_server s server ≡ b → Told s u (recorded_events b handed_is (Ok (Served reply))) next
       by true e =
           let place : server.0 ≡ s.0 = eqb-true server.0 s.0 e in
-          let same : old ≡ u = some_is (sym found ∙ ap (slice_get run.servers) place ∙ here) in
+          let same : old ≡ u = same_Some old u (sym found ∙ ap (slice_get run.servers) place ∙ here) in
           rw asked (record {
             replays_told = (reply_is ∙ ap (λ (v : State T). (step ops v command).1) same, tt);
             state_is =
                 ap (λ us. slice_get us s.0) servers_are ∙ ap (slice_get (set run.servers server.0 _)) (sym place) ∙ set_here run.servers server.0 old _ found
                 ∙ ap (λ (v : State T). Some ((step ops v command).0)) same;
           })
-        where
-          some_is : {x y : State T} → Some x ≡ Some y → x ≡ y
-          some_is e = cc
       by false e = record { replays_told = tt; state_is = ap (λ us. slice_get us s.0) servers_are ∙ set_there run.servers server.0 s.0 _ (λ same. eqb-false server.0 s.0 e same) ∙ here }
 
   -- one event

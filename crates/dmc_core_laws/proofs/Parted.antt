@@ -31,6 +31,7 @@ use Rattle.dmc_core_laws.specs.Histories.{Answer, is_server, server_named, queue
 use Rattle.dmc_core_laws.specs.Bounds.{run_of, NotUpdated, NoneUpdated, Parts, first_events, first_part, second_part}
 use Rattle.dmc_core_laws.proofs.Given.{gives}
 use Rattle.dmc_core_laws.proofs.Histories.{histories_replay}
+use Rattle.std.proofs.lemmas.Option.{same_Some}
 
 -- ---- runs and histories in two parts
 
@@ -80,11 +81,8 @@ and_second : (a b : Bool) → a ≡ true → (a && b) ≡ false → b ≡ false
 and_second true b e h = h
 and_second false b e h = cc
 
-some_is : {X : Type 0} (x y : X) → Some x ≡ Some y → x ≡ y
-some_is x y e = cc
-
 mapped_is : {X Y : Type 0} (f : X → Y) (o : Option X) (y : Y) → option_map f o ≡ Some y → (x : X) × (f x ≡ y)
-mapped_is f (Some x) y e = (x, some_is (f x) y e)
+mapped_is f (Some x) y e = (x, same_Some (f x) y e)
 mapped_is f None y e = cc
 
 module _ {T : Type 0} (id : ClientId) where
@@ -110,12 +108,12 @@ module _ {T : Type 0} (id : ClientId) where
     event_keeps run (Stamp client server token) a h = recorded_keeps (is_server s server) None a (λ c reply here asked is. cc)
     event_keeps run (Arrive client server at) a h = recorded_keeps (is_server s server) (queue_command run (Arrive client server at)) a (λ c reply here asked is.
         let m = mapped_is (λ (m : Message). commands.Add client m.token m.params at) (oldest run client server) c asked in subst (λ d. Keeps id d reply) m.1 tt)
-    event_keeps run (Pull server at) a h = recorded_keeps (is_server s server) (Some (commands.Pull at)) a (λ c reply here asked is. subst (λ d. Keeps id d reply) (some_is (commands.Pull at) c asked) tt)
+    event_keeps run (Pull server at) a h = recorded_keeps (is_server s server) (Some (commands.Pull at)) a (λ c reply here asked is. subst (λ d. Keeps id d reply) (same_Some (commands.Pull at) c asked) tt)
     event_keeps run (Respond client server phase) a h = recorded_keeps (is_server s server) None a (λ c reply here asked is. cc)
     event_keeps run (Update server client info at) a h = recorded_keeps (is_server s server) (Some (commands.Update client info at)) a (λ c reply here asked is.
-        subst (λ d. Keeps id d reply) (some_is (commands.Update client info at) c asked) (keeps_update server client info at reply here (subst (NotUpdated id s (Update server client info at)) is h)))
-    event_keeps run (Remove server client) a h = recorded_keeps (is_server s server) (Some (commands.Remove client)) a (λ c reply here asked is. subst (λ d. Keeps id d reply) (some_is (commands.Remove client) c asked) tt)
-    event_keeps run (Clean server at) a h = recorded_keeps (is_server s server) (Some (commands.Clean at)) a (λ c reply here asked is. subst (λ d. Keeps id d reply) (some_is (commands.Clean at) c asked) tt)
+        subst (λ d. Keeps id d reply) (same_Some (commands.Update client info at) c asked) (keeps_update server client info at reply here (subst (NotUpdated id s (Update server client info at)) is h)))
+    event_keeps run (Remove server client) a h = recorded_keeps (is_server s server) (Some (commands.Remove client)) a (λ c reply here asked is. subst (λ d. Keeps id d reply) (same_Some (commands.Remove client) c asked) tt)
+    event_keeps run (Clean server at) a h = recorded_keeps (is_server s server) (Some (commands.Clean at)) a (λ c reply here asked is. subst (λ d. Keeps id d reply) (same_Some (commands.Clean at) c asked) tt)
 
     history_keeps : (ops : Tagging T) (run : Run T) (es : List CoreEvent) → NoneUpdated ops id s run es → AllKeep id (history_from ops s run es)
     history_keeps ops run [] h = tt

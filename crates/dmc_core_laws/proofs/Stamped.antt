@@ -32,13 +32,10 @@ use Rattle.dmc_core_laws.specs.Histories.{Answer, client_in, is_server, server_n
 use Rattle.dmc_core_laws.specs.Bounds.{run_of, stamps_to, ArrivalsFollowStamps}
 use Rattle.dmc_core_laws.proofs.Given.{Gives, gives, step_goes}
 use Rattle.dmc_core_laws.proofs.Histories.{nothing_refused, nothing_handed}
-use Rattle.dmc_core_laws.proofs.Clients.{passes, found_changed, found_same, params_of, IsFollowed, stamp_follows, response_follows, grant_follows, arrival_follows}
-
-same_client : (a b : ClientId) → is_client a b ≡ true → b ≡ a
-same_client a b e = ap (λ (n : ℕ). let id : ClientId = record { 0 = n } in id) (eqb-true b.0 a.0 e)
-
-some_is : {X : Type 0} (x y : X) → Some x ≡ Some y → x ≡ y
-some_is x y e = cc
+use Rattle.dmc_core_laws.proofs.Clients.{found_changed, found_same, params_of, IsFollowed, stamp_follows, response_follows, grant_follows, arrival_follows}
+use Rattle.std.proofs.lemmas.Option.{same_Some}
+use Rattle.dmc_tag.proofs.ForCallers.{same_client}
+use Rattle.dmc_tag.proofs.Lists.{found_passes}
 
 pub arrivals_both : {T : Type 0} (id : ClientId) (xs ys : List (Event T)) → arrivals id (xs ++ ys) ≡ arrivals id xs ++ arrivals id ys
 arrivals_both id [] ys = refl
@@ -113,7 +110,7 @@ module _ {T : Type 0} (ops : Tagging T) (counting : Counting) (id : ClientId) (s
 
   -- the one that was found for an id that is the client's
   the_same : (run : Run T) (client : ClientId) (c d : Client) → client ≡ id → client_in run client ≡ Some c → client_in run id ≡ Some d → c ≡ d
-  the_same run client c d same found there = some_is c d (sym found ∙ ap (client_in run) same ∙ there)
+  the_same run client c d same found there = same_Some c d (sym found ∙ ap (client_in run) same ∙ there)
 
   abbrev told_by : Run T → CoreEvent → Answer T → List (Event T)
   told_by run e answer = recorded_events (is_server s (server_named e)) (queue_command run e) answer
@@ -124,7 +121,7 @@ module _ {T : Type 0} (ops : Tagging T) (counting : Counting) (id : ClientId) (s
       let told = told_by run (Stamp client q token) (Ok x.1) in
       let none = ap (arrivals id) (nothing_handed (is_server s q) (Ok x.1)) in
       changed arrived run x.0 told client (λ old. after_stamp q m g.client) is (ap (λ (y : Run T × CoreReply T). y.0.counting) g.is) (ap (λ (y : Run T × CoreReply T). y.0.clients) g.is)
-      (λ y h. passes (λ (z : Client). is_client client z.id) run.clients g.client g.found)
+      (λ y h. found_passes (λ (z : Client). is_client client z.id) run.clients g.client g.found)
       (λ same c found follows.
       let one = the_same run client g.client c same g.found found in
       let due : m.params ≡ demanded counting q g.client.list = ap (λ k. demanded k q g.client.list) is.form in
@@ -134,7 +131,7 @@ module _ {T : Type 0} (ops : Tagging T) (counting : Counting) (id : ClientId) (s
       let told = told_by run (Respond client q phase) (Ok x.1) in
       let none = ap (arrivals id) (nothing_handed (is_server s q) (Ok x.1)) in
       changed arrived run x.0 told client (λ old. after_response q phase g.client) is (ap (λ (y : Run T × CoreReply T). y.0.counting) g.is) (ap (λ (y : Run T × CoreReply T). y.0.clients) g.is)
-      (λ y h. passes (λ (z : Client). is_client client z.id) run.clients g.client g.found)
+      (λ y h. found_passes (λ (z : Client). is_client client z.id) run.clients g.client g.found)
       (λ same c found follows.
       let one = the_same run client g.client c same g.found found in
       subst (λ ps. IsFollowed counting s ps (after_response q phase g.client)) (sym (nothing_more arrived told none)) (response_follows counting s arrived g.client (subst (IsFollowed counting s arrived) (sym one) follows) q phase))
@@ -148,7 +145,7 @@ module _ {T : Type 0} (ops : Tagging T) (counting : Counting) (id : ClientId) (s
       ap (λ o. recorded_events (is_server s q) o (Ok x.1)) handed_is ∙ ap (λ (y : Run T × CoreReply T). recorded_events (is_server s q) (Some (commands.Add client m.token m.params at)) (Ok y.1)) g.is in
       subst (λ told. AreFollowed (more arrived told) x.0) (sym told_is)
       (changed arrived run x.0 (recorded_events (is_server s q) (Some (commands.Add client m.token m.params at)) (Ok (Served reply))) client (λ old. client_after_arrival q reply g.client) is (ap (λ (y : Run T × CoreReply T). y.0.counting) g.is) (ap (λ (y : Run T × CoreReply T). y.0.clients) g.is)
-      (λ y h. passes (λ (z : Client). is_client client z.id) run.clients g.client g.found)
+      (λ y h. found_passes (λ (z : Client). is_client client z.id) run.clients g.client g.found)
       (λ same c found follows.
       let one = the_same run client g.client c same g.found found in
       subst (λ (k : ClientId). IsFollowed counting s (more arrived (recorded_events (is_server s q) (Some (commands.Add k m.token m.params at)) (Ok (Served reply)))) (client_after_arrival q reply g.client)) (sym same)
@@ -189,7 +186,7 @@ module _ (id : ClientId) (n : ℕ) where
   opened_client (d ∷ cs) c e = by (is_client id d.0) e (opened_client cs c)
     where
       by : (b : Bool) → cond b (Some (opened d)) (find (λ x. is_client id x.id) (map opened cs)) ≡ Some c → (find (λ x. is_client id x.id) (map opened cs) ≡ Some c → (c.list ≡ []) × (c.pairs ≡ replicate n no_pair)) → (c.list ≡ []) × (c.pairs ≡ replicate n no_pair)
-      by true e more = let same = some_is (opened d) c e in (ap (λ (x : Client). x.list) (sym same), ap (λ (x : Client). x.pairs) (sym same))
+      by true e more = let same = same_Some (opened d) c e in (ap (λ (x : Client). x.list) (sym same), ap (λ (x : Client). x.pairs) (sym same))
       by false e more = more e
 
 module _ {T : Type 0} (ops : Tagging T) (scene : SceneValue) (id : ClientId) (s : ServerId) (within : s.0 < scene.servers) where

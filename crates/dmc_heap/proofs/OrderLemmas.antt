@@ -7,7 +7,7 @@ use Rattle.std.specs.Cmp.{IsTotalOrder}
 use Rattle.std.proofs.lemmas.Cmp.{upto, tied_itself}
 use Rattle.std.proofs.lemmas.Bool.{cases_eq}
 use Rattle.std.proofs.lemmas.List.{length-set}
-use Rattle.std.proofs.lemmas.Option.{slice_get_within}
+use Rattle.std.proofs.lemmas.Option.{slice_get_within, same_Some}
 use Rattle.dmc_heap.specs.Heap.{parent_of, IsUpto, IsHeap, IsHole, IsLinked, IsMoved, IsUnderParent, IsOverChildren, IsLowerChild, IsSettled}
 use Rattle.dmc_heap.specs.declared.indexed_heap.Entry.{Entry}
 use Rattle.dmc_heap.proofs.LinkLemmas.{slice_get-set_same, slice_get-set_other, IsLinked-move, rank_of-move}
@@ -24,9 +24,6 @@ upto_by Less s e f = cc
 upto_by Equal s e f = ap is_gt e
 upto_by Greater s e f = ap is_gt e
 
-pub same_some : {X : Type 0} (x y : X) → Some x ≡ Some y → x ≡ y
-same_some x y e = cc
-
 module _ {R : Type 0} (compare : R → R → Ordering) (o : IsTotalOrder compare) where
   pub upto_itself : (a b : Entry R) → a ≡ b → IsUpto compare a b
   upto_itself a b e = subst (IsUpto compare a) e (ap is_gt (tied_itself o a.rank))
@@ -37,7 +34,7 @@ module _ {R : Type 0} (compare : R → R → Ordering) (o : IsTotalOrder compare
   module _ (heap : List (Entry R)) (places : List ℕ) (hole : ℕ) (x : Entry R) (is_hole : IsHole compare heap places hole x) where
     -- what stands in the hole once y is put there, and elsewhere
     in_hole : (y e : Entry R) → slice_get (set heap hole y) hole ≡ Some e → y ≡ e
-    in_hole y e h = same_some y e (sym (slice_get-set_same heap hole y is_hole.within) ∙ h)
+    in_hole y e h = same_Some y e (sym (slice_get-set_same heap hole y is_hole.within) ∙ h)
 
     out_of_hole : (y e : Entry R) (i : ℕ) → i ≢ hole → slice_get (set heap hole y) i ≡ Some e → slice_get heap i ≡ Some e
     out_of_hole y e i ne h = sym (slice_get-set_other heap hole i y ne) ∙ h

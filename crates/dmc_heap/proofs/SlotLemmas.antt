@@ -13,7 +13,7 @@ use Rattle.dmc_heap.specs.Heap.{rank_at, rank_of, slots_of, parent_of, IsLinked,
 use Rattle.dmc_heap.specs.declared.indexed_heap.Entry.{Entry}
 use Rattle.dmc_heap.specs.declared.indexed_heap.TheConstants.{VACANT}
 use Rattle.dmc_heap.proofs.LinkLemmas.{slice_get-set_same, slice_get-set_other, option_cases, rank_of_some, rank_of_none, IsLinked-move, rank_of-move, keys_apart}
-use Rattle.dmc_heap.proofs.OrderLemmas.{upto_trans, same_some}
+use Rattle.dmc_heap.proofs.OrderLemmas.{upto_trans}
 
 -- ---- an element of a longer list
 
@@ -28,7 +28,7 @@ module _ {X : Type 0} where
   push_at (x ∷ xs) y = push_at xs y
 
   pub push_cases : (xs : List X) (y : X) (i : ℕ) (x : X) → slice_get (xs ++ y ∷ []) i ≡ Some x → (slice_get xs i ≡ Some x) ⊎ ((i ≡ length xs) × (x ≡ y))
-  push_cases [] y zero x h = inr (refl, sym (same_some y x h))
+  push_cases [] y zero x h = inr (refl, sym (same_Some y x h))
   push_cases [] y (suc i) x h = cc
   push_cases (x' ∷ xs) y zero x h = inl h
   push_cases (x' ∷ xs) y (suc i) x h =
@@ -41,7 +41,7 @@ module _ {X : Type 0} where
 
   pub replicate_cases : (xs : List X) (n : ℕ) (v : X) (i : ℕ) (x : X) → slice_get (xs ++ replicate n v) i ≡ Some x → (slice_get xs i ≡ Some x) ⊎ (x ≡ v)
   replicate_cases [] zero v i x h = cc
-  replicate_cases [] (suc n) v zero x h = inr (sym (same_some v x h))
+  replicate_cases [] (suc n) v zero x h = inr (sym (same_Some v x h))
   replicate_cases [] (suc n) v (suc i) x h = elim (replicate_cases [] n v i x h) [ inl w ↦ cc | inr w ↦ inr w ]
   replicate_cases (x' ∷ xs) n v zero x h = inl h
   replicate_cases (x' ∷ xs) n v (suc i) x h = replicate_cases xs n v i x h
@@ -113,7 +113,7 @@ module _ {R : Type 0} (heap : List (Entry R)) (places : List ℕ) (linked : IsLi
   -- a key that is held has a place, where its entry stands
   pub place_of_held : (key : ℕ) (rank : R) → rank_of heap places key ≡ Some rank → (place : ℕ) × ((entry : Entry R) × (slice_get places key ≡ Some place) × (slice_get heap place ≡ Some entry) × (entry.key ≡ key) × (entry.rank ≡ rank))
   place_of_held key rank h =
-      option_cases (slice_get places key) (λ none. cc (rank_of_none heap places key none)) (λ place some. option_cases (slice_get heap place) (λ none. cc (ap (option_and_then (rank_at heap)) some ∙ ap (option_map (λ (e : Entry R). e.rank)) none)) (λ entry there. (place, (entry, some, there, linked.keyed key place entry some there, same_some entry.rank rank (sym (rank_of_some heap places key place entry some there) ∙ h)))))
+      option_cases (slice_get places key) (λ none. cc (rank_of_none heap places key none)) (λ place some. option_cases (slice_get heap place) (λ none. cc (ap (option_and_then (rank_at heap)) some ∙ ap (option_map (λ (e : Entry R). e.rank)) none)) (λ entry there. (place, (entry, some, there, linked.keyed key place entry some there, same_Some entry.rank rank (sym (rank_of_some heap places key place entry some there) ∙ h)))))
 
   pub key_of_held : (key : ℕ) → rank_of heap places key ≡ None → (place : ℕ) (entry : Entry R) → slice_get heap place ≡ Some entry → entry.key ≢ key
   key_of_held key h place entry there e =
@@ -137,11 +137,11 @@ module _ {R : Type 0} (compare : R → R → Ordering) (o : IsTotalOrder compare
     IsLinked-change : IsLinked (set heap place e) (set places e.key place)
     IsLinked-change = record {
       placed = λ i x h. elim (cases_eq i place) [
-        | inl s ↦ let same : x ≡ e = same_some x e (sym h ∙ ap (slice_get (set heap place e)) s ∙ slice_get-set_same heap place e within_heap) in ap (λ (x : Entry R). slice_get (set places e.key place) x.key) same ∙ same_places e.key ∙ at ∙ ap Some (sym s)
+        | inl s ↦ let same : x ≡ e = same_Some x e (sym h ∙ ap (slice_get (set heap place e)) s ∙ slice_get-set_same heap place e within_heap) in ap (λ (x : Entry R). slice_get (set places e.key place) x.key) same ∙ same_places e.key ∙ at ∙ ap Some (sym s)
         | inr p ↦ same_places x.key ∙ linked.placed i x (sym (slice_get-set_other heap place i e p) ∙ h)
       ];
       keyed = λ k i x h m. let was = sym (same_places k) ∙ h in elim (cases_eq i place) [
-        | inl s ↦ let same : x ≡ e = same_some x e (sym m ∙ ap (slice_get (set heap place e)) s ∙ slice_get-set_same heap place e within_heap) in ap (λ (x : Entry R). x.key) same ∙ sym (linked.keyed e.key place old at there) ∙ linked.keyed k place old (was ∙ ap Some s) there
+        | inl s ↦ let same : x ≡ e = same_Some x e (sym m ∙ ap (slice_get (set heap place e)) s ∙ slice_get-set_same heap place e within_heap) in ap (λ (x : Entry R). x.key) same ∙ sym (linked.keyed e.key place old at there) ∙ linked.keyed k place old (was ∙ ap Some s) there
         | inr p ↦ linked.keyed k i x was (sym (slice_get-set_other heap place i e p) ∙ m)
       ];
       vacant = λ k i h m. elim (cases_eq i place) [
@@ -187,14 +187,14 @@ module _ {R : Type 0} (compare : R → R → Ordering) (heap : List (Entry R)) (
       | inr w ↦ ap (λ (x : Entry R). slice_get (set places e.key (length heap)) x.key) w.1 ∙ new_place ∙ ap Some (sym w.0)
     ];
     keyed = λ k i x h m. elim (cases_eq k e.key) [
-      | inl s ↦ let at : i ≡ length heap = same_some i (length heap) (sym h ∙ ap (slice_get (set places e.key (length heap))) s ∙ new_place) in let same : x ≡ e = same_some x e (sym m ∙ ap (slice_get (heap ++ e ∷ [])) at ∙ push_at heap e) in ap (λ (x : Entry R). x.key) same ∙ sym s
+      | inl s ↦ let at : i ≡ length heap = same_Some i (length heap) (sym h ∙ ap (slice_get (set places e.key (length heap))) s ∙ new_place) in let same : x ≡ e = same_Some x e (sym m ∙ ap (slice_get (heap ++ e ∷ [])) at ∙ push_at heap e) in ap (λ (x : Entry R). x.key) same ∙ sym s
       | inr p ↦ let was = sym (slice_get-set_other places e.key k (length heap) p) ∙ h in elim (push_cases heap e i x m) [
         | inl w ↦ linked.keyed k i x was w
         | inr w ↦ absurd (no_place k (was ∙ ap Some w.0))
       ]
     ];
     vacant = λ k i h m. elim (cases_eq k e.key) [
-      | inl s ↦ let at : i ≡ length heap = same_some i (length heap) (sym h ∙ ap (slice_get (set places e.key (length heap))) s ∙ new_place) in cc (sym m ∙ ap (slice_get (heap ++ e ∷ [])) at ∙ push_at heap e)
+      | inl s ↦ let at : i ≡ length heap = same_Some i (length heap) (sym h ∙ ap (slice_get (set places e.key (length heap))) s ∙ new_place) in cc (sym m ∙ ap (slice_get (heap ++ e ∷ [])) at ∙ push_at heap e)
       | inr p ↦ linked.vacant k i (sym (slice_get-set_other places e.key k (length heap) p) ∙ h) (push_none heap e i m)
     ];
   }
@@ -239,13 +239,13 @@ module _ {R : Type 0} (heap : List (Entry R)) (y : Entry R) (places : List ℕ) 
 
   pub IsLinked-pop : IsLinked heap (set places y.key VACANT)
   IsLinked-pop = record {
-    placed = λ i x h. let at = linked.placed i x (append_some heap (y ∷ []) i x h) in slice_get-set_other places y.key x.key VACANT (λ s. let e : i ≡ length heap = same_some i (length heap) (sym at ∙ ap (slice_get places) s ∙ linked.placed (length heap) y (push_at heap y)) in omega (arith, slice_get_within heap i x h)) ∙ at;
+    placed = λ i x h. let at = linked.placed i x (append_some heap (y ∷ []) i x h) in slice_get-set_other places y.key x.key VACANT (λ s. let e : i ≡ length heap = same_Some i (length heap) (sym at ∙ ap (slice_get places) s ∙ linked.placed (length heap) y (push_at heap y)) in omega (arith, slice_get_within heap i x h)) ∙ at;
     keyed = λ k i x h m. elim (cases_eq k y.key) [
-      | inl s ↦ let e : i ≡ VACANT = same_some i VACANT (sym h ∙ ap (slice_get (set places y.key VACANT)) s ∙ gone) in cc (sym m ∙ ap (slice_get heap) e ∙ past)
+      | inl s ↦ let e : i ≡ VACANT = same_Some i VACANT (sym h ∙ ap (slice_get (set places y.key VACANT)) s ∙ gone) in cc (sym m ∙ ap (slice_get heap) e ∙ past)
       | inr p ↦ linked.keyed k i x (sym (slice_get-set_other places y.key k VACANT p) ∙ h) (append_some heap (y ∷ []) i x m)
     ];
     vacant = λ k i h m. elim (cases_eq k y.key) [
-      | inl s ↦ same_some i VACANT (sym h ∙ ap (slice_get (set places y.key VACANT)) s ∙ gone)
+      | inl s ↦ same_Some i VACANT (sym h ∙ ap (slice_get (set places y.key VACANT)) s ∙ gone)
       | inr p ↦ let was = sym (slice_get-set_other places y.key k VACANT p) ∙ h in option_cases (slice_get (heap ++ y ∷ []) i) (λ none. linked.vacant k i was none) (λ x there. elim (push_cases heap y i x there) [ inl w ↦ cc (sym m ∙ w) | inr w ↦ absurd (p (sym (linked.keyed k i x was there) ∙ ap (λ (e : Entry R). e.key) w.1)) ])
     ];
   }

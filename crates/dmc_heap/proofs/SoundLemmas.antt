@@ -9,13 +9,13 @@ use Rattle.std.proofs.lemmas.Bool.{cases_lt, cases_eq}
 use Rattle.std.proofs.lemmas.List.{length-set, length-map, length-append, length-replicate, map-append, get_or_past, get_or_append_left, get_or-append_right}
 use Rattle.std.proofs.lemmas.List.Sums.{sum_by-append, sum_by-cons, count_by-le-length}
 use Rattle.std.proofs.lemmas.List.Folds.{sum_by-replicate}
-use Rattle.std.proofs.lemmas.Option.{slice_get_within, slice_get_past, slice_get-get_or, get_or_from_slice_get}
+use Rattle.std.proofs.lemmas.Option.{slice_get_within, slice_get_past, slice_get-get_or, get_or_from_slice_get, same_Some}
 use Rattle.dmc_index.specs.Index.{slot_of_key, IsApart, IsApartFromOthers, AreApart, IsLeast, KeepsOrder, IsMapped}
 use Rattle.dmc_heap.specs.Heap.{rank_at, rank_of, slots_of, parent_of, IsLinked, IsUpto, IsHeap, IsHole, IsSettled, IsSound, MapsEntries}
 use Rattle.dmc_heap.specs.declared.indexed_heap.Entry.{Entry}
 use Rattle.dmc_heap.specs.declared.indexed_heap.TheConstants.{VACANT}
 use Rattle.dmc_heap.proofs.LinkLemmas.{option_cases, rank_of_some, rank_of_none}
-use Rattle.dmc_heap.proofs.OrderLemmas.{upto_trans, upto_itself, same_some}
+use Rattle.dmc_heap.proofs.OrderLemmas.{upto_trans, upto_itself}
 use Rattle.dmc_index.proofs.Slots.{slot_of_key-replicate, count-set_some, count_below}
 use Rattle.dmc_heap.proofs.SlotLemmas.{append_some, push_cases, replicate_cases, slot_of_key-slots_of, slots_of-set, AreApart-set, count_changed, count_removed, place_of_held, IsHole-change, rank_of_changed, rank_of_others, IsHole-push, rank_of_pushed, rank_of_others_pushed, IsLinked-pop, rank_of_popped, rank_of_others_popped, IsHeap-pop, IsHole-remove, rank_of_removed, rank_of_others_left}
 
@@ -70,7 +70,7 @@ module _ {R : Type 0} (compare : R → R → Ordering) (o : IsTotalOrder compare
         let has = s.ranks key ∙ rank_of_changed compare o heap places sound.linked sound.ordered e place old.0 at old.1 in
         let others = λ (k : ℕ) (p : k ≢ key). s.ranks k ∙ rank_of_others compare o heap places sound.linked sound.ordered e place old.0 at old.1 k p in
         let count = count_changed (slots_of heap places) key old.0.rank rank (omega (arith, length-slots)) old.3 ∙ sound.counted ∙ sym s.size in
-        (IsSound-edit key (Some rank) in' new_heap new_places s.room has others s.linked s.ordered (λ r e. subst (IsApartFromOthers compare (slots_of heap places) key) (same_some rank r e) apart) count capacity (omega arith), slots_of-edit key (Some rank) in' new_heap new_places s.room has others)
+        (IsSound-edit key (Some rank) in' new_heap new_places s.room has others s.linked s.ordered (λ r e. subst (IsApartFromOthers compare (slots_of heap places) key) (same_Some rank r e) apart) count capacity (omega arith), slots_of-edit key (Some rank) in' new_heap new_places s.room has others)
 
   -- ---- insert
 
@@ -91,7 +91,7 @@ module _ {R : Type 0} (compare : R → R → Ordering) (o : IsTotalOrder compare
         let has = s.ranks key ∙ rank_of_pushed compare heap places sound.linked sound.ordered e in' vacant_key small_heap in
         let others = λ (k : ℕ) (p : k ≢ key). s.ranks k ∙ rank_of_others_pushed compare heap places sound.linked sound.ordered e in' vacant_key small_heap k p in
         let count : count_by is_some (set (slots_of heap places) key (Some rank)) ≡ length new_heap = omega (arith, count-set_some (slots_of heap places) key rank (omega (arith, length-slots)) none, sound.counted, s.size, length-append heap (e ∷ [])) in
-        (IsSound-edit key (Some rank) in' new_heap new_places s.room has others s.linked s.ordered (λ r e k other ne q. subst (λ r. compare r other ≢ Equal) (same_some rank r e) (apart k other q)) count more m, slots_of-edit key (Some rank) in' new_heap new_places s.room has others)
+        (IsSound-edit key (Some rank) in' new_heap new_places s.room has others s.linked s.ordered (λ r e k other ne q. subst (λ r. compare r other ≢ Equal) (same_Some rank r e) (apart k other q)) count more m, slots_of-edit key (Some rank) in' new_heap new_places s.room has others)
 
 -- ---- remove
 
@@ -161,10 +161,10 @@ module _ {R : Type 0} (compare : R → R → Ordering) (o : IsTotalOrder compare
   root_upto : (n i : ℕ) → i ≤ n → (first e : Entry R) → slice_get heap 0 ≡ Some first → slice_get heap i ≡ Some e → IsUpto compare first e
   root_upto zero i l first e h q =
       let none : i ≡ 0 = omega arith in
-      upto_itself compare o first e (same_some first e (sym h ∙ ap (slice_get heap) (sym none) ∙ q))
+      upto_itself compare o first e (same_Some first e (sym h ∙ ap (slice_get heap) (sym none) ∙ q))
   root_upto (suc n) i l first e h q =
       elim (cases_eq i 0) [
-        | inl s ↦ upto_itself compare o first e (same_some first e (sym h ∙ ap (slice_get heap) (sym s) ∙ q))
+        | inl s ↦ upto_itself compare o first e (same_Some first e (sym h ∙ ap (slice_get heap) (sym s) ∙ q))
         | inr p ↦
             let in' : i < length heap = slice_get_within heap i e q in
             let above = slice_get-get_or heap (parent_of i) e (omega arith) in
@@ -300,7 +300,7 @@ module _ {R : Type 0} (compare : R → R → Ordering) (o : IsTotalOrder compare
           let in_b = sound.linked.placed i z b.0 in
           let has_a = held_entry x.key (parent_of i) x in_a a.0 in
           let has_b = held_entry z.key i z in_b b.0 in
-          let ne : z.key ≢ x.key = λ s. let same : i ≡ parent_of i = same_some i (parent_of i) (sym in_b ∙ ap (slice_get places) s ∙ in_a) in omega arith in
+          let ne : z.key ≢ x.key = λ s. let same : i ≡ parent_of i = same_Some i (parent_of i) (sym in_b ∙ ap (slice_get places) s ∙ in_a) in omega arith in
           let less = less_from (compare x.rank z.rank) (sound.ordered i x z pos a.0 b.0) (sound.apart x.key x.rank has_a z.key z.rank ne has_b) in
           ap is_gt (keeps x.key z.key x.rank z.rank above.rank below.rank has_a has_b less a.2 b.2)
 

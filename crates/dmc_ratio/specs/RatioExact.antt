@@ -14,7 +14,8 @@ use Rattle.dmc_tag.specs.Tag.{Fraction, Gives, IsExact, IsSame, ratio, sum_of, d
 use Rattle.dmc_ratio.specs.Gcd.{gcd}
 use Rattle.dmc_ratio.specs.GcdLaws.{gcd_is, same_denom}
 use Rattle.dmc_ratio.specs.Lowest.{over, over_same, unsigned_abs-over, lowest_pos, lowest_apart}
-use Rattle.dmc_ratio.specs.Products.{up_scale, down_scale, up_neg, down_neg, cancel_same}
+use Rattle.dmc_ratio.specs.Products.{up_neg, down_neg}
+use Rattle.dmc_tag.proofs.Scaled.{up_scaled, down_scaled, cancelled, scaled_twice}
 use Rattle.dmc_ratio.specs.Ratio.{Ratio, same_ratio, lowest_terms, reduced, ceil_of, ratio_ops, ratio_fraction, from_fraction, IsRatioValue, greatest_numer, greatest_denom}
 
 -- ---- a sum, a difference, a multiple, a spacing
@@ -56,7 +57,7 @@ same_value a b e =
     let a_some = lowest_pos a.numer a.denom a.lowest in
     let b_some = lowest_pos b.numer b.denom b.lowest in
     let denom : a.denom ≡ b.denom = same_denom (unsigned_abs a.numer) a.denom (unsigned_abs b.numer) b.denom (lowest_apart a.numer a.denom a.lowest) (lowest_apart b.numer b.denom b.lowest) a_some b_some sizes in
-    same_ratio a b (cancel_same a.numer b.numer b.denom b_some (e ∙ ap (λ d. b.numer *ℤ pos d) denom)) denom
+    same_ratio a b (cancelled a.numer b.numer b.denom b_some (e ∙ ap (λ d. b.numer *ℤ pos d) denom)) denom
 
 -- ---- the least whole number not below
 ceil_bounds : (n : ℤ) (d : ℕ) → 0 < d → (up n + down (ceil_of n d) * d ≤ up (ceil_of n d) * d + down n) × (up (ceil_of n d) * d + down n < up n + down (ceil_of n d) * d + d)
@@ -80,7 +81,7 @@ least_from n c z d some p q = (λ h. forth h, λ h. back h)
     forth h =
         let le : up c + down z ≤ up z + down c = omega (arith, ints) in
         let scaled : (up c + down z) * d ≤ (up z + down c) * d = mul-le-mul_right d le in
-        omega (arith, ints, up_scale z d, down_scale z d)
+        omega (arith, ints, up_scaled z d, down_scaled z d)
 
     back : n ≤ℤ (z *ℤ pos d) → c ≤ℤ z
     back h = by_lt_z z c (λ lt. absurd (above lt)) (λ le. le)
@@ -90,7 +91,7 @@ least_from n c z d some p q = (λ h. forth h, λ h. back h)
             let le : up n + down (z *ℤ pos d) ≤ up (z *ℤ pos d) + down n = omega (arith, ints) in
             let more : suc (up z + down c) ≤ up c + down z = omega (arith, ints) in
             let scaled : suc (up z + down c) * d ≤ (up c + down z) * d = mul-le-mul_right d more in
-            omega (arith, up_scale z d, down_scale z d)
+            omega (arith, up_scaled z d, down_scaled z d)
 
 -- ---- whether a fraction is a value depends on its value alone
 
@@ -107,14 +108,11 @@ lowest_same n m d e same =
   where
     crossed : (an bn n m : ℤ) (ad bd d e : ℕ) → 0 < d * e → an *ℤ pos d ≡ n *ℤ pos ad → bn *ℤ pos e ≡ m *ℤ pos bd → n *ℤ pos e ≡ m *ℤ pos d → an *ℤ pos bd ≡ bn *ℤ pos ad
     crossed an bn n m ad bd d e some p q r =
-        let there : (an *ℤ pos bd) *ℤ pos (d * e) ≡ (an *ℤ pos d) *ℤ pos (bd * e) = twice an bd (d * e) ∙ ap (λ k. an *ℤ pos k) (omega arith) ∙ sym (twice an d (bd * e)) in
-        let over_n : (n *ℤ pos ad) *ℤ pos (bd * e) ≡ (n *ℤ pos e) *ℤ pos (ad * bd) = twice n ad (bd * e) ∙ ap (λ k. n *ℤ pos k) (omega arith) ∙ sym (twice n e (ad * bd)) in
-        let over_m : (m *ℤ pos d) *ℤ pos (ad * bd) ≡ (m *ℤ pos bd) *ℤ pos (ad * d) = twice m d (ad * bd) ∙ ap (λ k. m *ℤ pos k) (omega arith) ∙ sym (twice m bd (ad * d)) in
-        let back : (bn *ℤ pos e) *ℤ pos (ad * d) ≡ (bn *ℤ pos ad) *ℤ pos (d * e) = twice bn e (ad * d) ∙ ap (λ k. bn *ℤ pos k) (omega arith) ∙ sym (twice bn ad (d * e)) in
-        cancel_same (an *ℤ pos bd) (bn *ℤ pos ad) (d * e) some (there ∙ ap (λ z. z *ℤ pos (bd * e)) p ∙ over_n ∙ ap (λ z. z *ℤ pos (ad * bd)) r ∙ over_m ∙ ap (λ z. z *ℤ pos (ad * d)) (sym q) ∙ back)
-      where
-        twice : (z : ℤ) (d e : ℕ) → (z *ℤ pos d) *ℤ pos e ≡ z *ℤ pos (d * e)
-        twice z d e = same_in _ _ (omega (arith, up_scale (z *ℤ pos d) e, down_scale (z *ℤ pos d) e, ap (λ k. k * e) (up_scale z d), ap (λ k. k * e) (down_scale z d), up_scale z (d * e), down_scale z (d * e)))
+        let there : (an *ℤ pos bd) *ℤ pos (d * e) ≡ (an *ℤ pos d) *ℤ pos (bd * e) = scaled_twice an bd (d * e) ∙ ap (λ k. an *ℤ pos k) (omega arith) ∙ sym (scaled_twice an d (bd * e)) in
+        let over_n : (n *ℤ pos ad) *ℤ pos (bd * e) ≡ (n *ℤ pos e) *ℤ pos (ad * bd) = scaled_twice n ad (bd * e) ∙ ap (λ k. n *ℤ pos k) (omega arith) ∙ sym (scaled_twice n e (ad * bd)) in
+        let over_m : (m *ℤ pos d) *ℤ pos (ad * bd) ≡ (m *ℤ pos bd) *ℤ pos (ad * d) = scaled_twice m d (ad * bd) ∙ ap (λ k. m *ℤ pos k) (omega arith) ∙ sym (scaled_twice m bd (ad * d)) in
+        let back : (bn *ℤ pos e) *ℤ pos (ad * d) ≡ (bn *ℤ pos ad) *ℤ pos (d * e) = scaled_twice bn e (ad * d) ∙ ap (λ k. bn *ℤ pos k) (omega arith) ∙ sym (scaled_twice bn ad (d * e)) in
+        cancelled (an *ℤ pos bd) (bn *ℤ pos ad) (d * e) some (there ∙ ap (λ z. z *ℤ pos (bd * e)) p ∙ over_n ∙ ap (λ z. z *ℤ pos (ad * bd)) r ∙ over_m ∙ ap (λ z. z *ℤ pos (ad * d)) (sym q) ∙ back)
 
 -- the sizes in lowest terms fit
 record Fits (r : Ratio) : Type 0 where

@@ -12,20 +12,20 @@ use Rattle.std.proofs.lemmas.Int.{ints}
 use Rattle.std.proofs.Math.Nat.{mul-lt-mul_of_pos_right, lt_of_mul-lt-mul_right}
 use borrow.Author.Differences.{up, down}
 use Rattle.dmc_ratio.specs.Lowest.{lowest_pos}
-use Rattle.dmc_ratio.specs.Products.{up_scale, down_scale}
+use Rattle.dmc_tag.proofs.Scaled.{up_scaled, down_scaled}
 use Rattle.dmc_ratio.specs.Ratio.{Ratio, ratio_ops}
 use Rattle.dmc_ratio.specs.RatioExact.{same_value}
 
 -- a/d < b/e and b/e < c/f give a/d < c/f
 chain : (a b c : ℤ) (d e f : ℕ) → 0 < d → 0 < f → (a *ℤ pos e) <ℤ (b *ℤ pos d) → (b *ℤ pos f) <ℤ (c *ℤ pos e) → (a *ℤ pos f) <ℤ (c *ℤ pos d)
 chain a b c d e f d_some f_some h k =
-    let one : up a * e + down b * d < up b * d + down a * e = omega (arith, ints, up_scale a e, down_scale a e, up_scale b d, down_scale b d) in
-    let two : up b * f + down c * e < up c * e + down b * f = omega (arith, ints, up_scale b f, down_scale b f, up_scale c e, down_scale c e) in
+    let one : up a * e + down b * d < up b * d + down a * e = omega (arith, ints, up_scaled a e, down_scaled a e, up_scaled b d, down_scaled b d) in
+    let two : up b * f + down c * e < up c * e + down b * f = omega (arith, ints, up_scaled b f, down_scaled b f, up_scaled c e, down_scaled c e) in
     let first : (up a * e + down b * d) * f < (up b * d + down a * e) * f = mul-lt-mul_of_pos_right one f_some in
     let second : (up b * f + down c * e) * d < (up c * e + down b * f) * d = mul-lt-mul_of_pos_right two d_some in
     let both : (up a * f + down c * d) * e < (up c * d + down a * f) * e = omega arith in
     let less : up a * f + down c * d < up c * d + down a * f = lt_of_mul-lt-mul_right e both in
-    omega (arith, ints, up_scale a f, down_scale a f, up_scale c d, down_scale c d)
+    omega (arith, ints, up_scaled a f, down_scaled a f, up_scaled c d, down_scaled c d)
 
 -- what Less says
 less : (x y : ℤ) → int_cmp x y ≡ Less → x <ℤ y

@@ -2,17 +2,15 @@
 use Rattle.std.proofs.Common.{◌≡◌, ℕ, zero, suc, ◌+◌, ◌<◌, List, [], ◌∷◌, ◌++◌, Some, None, length, map, take, get_or, set, slice_get, refl, sym, ap, ◌∙◌, arith, not, eqb, true}
 use Rattle.std.proofs.lemmas.Bool.{eq-eqb, false≢true}
 use Rattle.std.proofs.lemmas.List.{get_or-map, get_or_append_left, get_or_push, length-append, length-map, take_all, take_more, map_push}
+use Rattle.std.proofs.lemmas.Option.{same_Some}
 
 none≢some : {X : Type 0} {x : X} → None ≡ Some x → ⊥
 none≢some h = cc
 
-some_same : {X : Type 0} (x y : X) → Some x ≡ Some y → x ≡ y
-some_same x y h = cc
-
 -- what is found at a place, and that it is there
 pub got : {X : Type 0} (xs : List X) (k : ℕ) (x d : X) → slice_get xs k ≡ Some x → get_or xs k d ≡ x
 got [] k x d h = absurd (none≢some h)
-got (y ∷ xs) zero x d h = some_same y x h
+got (y ∷ xs) zero x d h = same_Some y x h
 got (y ∷ xs) (suc k) x d h = got xs k x d h
 
 pub inside : {X : Type 0} (xs : List X) (k : ℕ) (x : X) → slice_get xs k ≡ Some x → k < length xs
@@ -84,8 +82,3 @@ alike_places f g (x ∷ xs) [] d e long each = absurd (omega (arith, long))
 alike_places f g (x ∷ xs) (y ∷ ys) d e long each =
     ap (λ z. z ∷ map f xs) (each zero (omega arith))
     ∙ ap (λ zs. g y ∷ zs) (alike_places f g xs ys d e (omega (arith, long)) (λ k within. each (suc k) (omega (arith, within))))
-
--- a whole that was lent as a slice, and given back
-pub lent_back : {X : Type 0} (xs zs : List X) (n : ℕ) → length xs ≡ n → take n (xs ++ zs) ≡ xs
-lent_back [] zs n e = rw (← e) refl
-lent_back (x ∷ xs) zs n e = rw (← e) (ap (λ ys. x ∷ ys) (lent_back xs zs (length xs) refl))

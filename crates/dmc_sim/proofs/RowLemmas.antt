@@ -1,5 +1,5 @@
 -- The rows of a report are those of its clients and servers.
-use Rattle.std.proofs.Common.{◌≡◌, ℕ, zero, suc, ◌+◌, ◌-◌, ◌≤◌, List, [], ◌∷◌, map, refl, ap, arith, Bool, true, false, true≢false, not}
+use Rattle.std.proofs.Common.{◌≡◌, ℕ, zero, suc, ◌+◌, ◌-◌, ◌≤◌, List, [], ◌∷◌, map, refl, ap, arith}
 use Rattle.std.specs.Prelude.{All}
 use Rattle.std.specs.List.{AllZip, range_with_len}
 use Rattle.dmc_sim.specs.Counts.{HaveGranted}
@@ -30,7 +30,3 @@ pub none_granted : (a n : ℕ) → HaveGranted 0 (map idle_row (range_with_len a
 none_granted a zero k d w = absurd (omega (arith, w))
 none_granted a (suc n) zero d w = omega arith
 none_granted a (suc n) (suc k) d w = none_granted (a + 1) n k d (omega (arith, w))
-
-pub was_true : (b : Bool) → not b ≡ false → b ≡ true
-was_true true e = refl
-was_true false e = absurd (true≢false e)

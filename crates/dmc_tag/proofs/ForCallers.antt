@@ -22,6 +22,10 @@ use Rattle.dmc_tag.proofs.PullLaw as pulls
 use Rattle.dmc_tag.proofs.Running as running
 -- each change keeps it that queued clients are active
 pub use Rattle.dmc_tag.proofs.Active.{registration_keeps_active, update_keeps_active, arrival_keeps_active, reduction_keeps_active, removal_keeps_active, clean_keeps_active}
+-- a client that has the id of another is that one
+pub use Rattle.dmc_tag.proofs.Active.{same_client}
+-- one command more is one step more
+pub use Rattle.dmc_tag.proofs.Running.{state_after-more}
 -- an order that is the same as a total one is total: so the order of a tag type is
 pub use Rattle.dmc_tag.proofs.Orderings.{tag_order}
 -- agreeing states get the same reply to a command, and still agree; a step from one state is that step from each that it

@@ -1,12 +1,12 @@
 -- Future is exact: before it no request is early or free, and at it one is.
-use Rattle.std.proofs.Common.{◌≡◌, ℕ, suc, ◌*◌, ◌<◌, ◌≤◌, min, Bool, true, false, not, ◌||◌, List, [], ◌∷◌, ◌++◌, Option, Some, None, refl, sym, ap, ◌∙◌, arith}
-use Rattle.std.specs.Prelude.{ℤ, pos, negsuc, neg_ℤ, ◌*ℤ◌, ◌≤ℤ◌, ◌<ℤ◌, nat_le, fold, ◌⊎◌}
+use Rattle.std.proofs.Common.{◌≡◌, ℕ, ◌*◌, ◌<◌, ◌≤◌, min, Bool, true, false, not, ◌||◌, List, [], ◌∷◌, ◌++◌, Option, Some, None, refl, sym, ap, ◌∙◌, arith}
+use Rattle.std.specs.Prelude.{ℤ, pos, negsuc, ◌*ℤ◌, ◌≤ℤ◌, ◌<ℤ◌, nat_le, fold, ◌⊎◌}
 use Rattle.std.specs.List.{AllByRecursion}
 use Rattle.std.specs.declared.cmp.Ordering.{Ordering}
 use Rattle.std.specs.declared.cmp.Ordering.TheVariants.{Less, Equal, Greater}
 use Rattle.std.specs.Ordering.{is_gt, int_cmp}
 use Rattle.std.proofs.lemmas.Int.{ints, by_lt_z}
-use Rattle.std.proofs.lemmas.Bool.{leb-true, leb-false, le-leb}
+use Rattle.std.proofs.lemmas.Bool.{leb-true, leb-false, le-leb, or_parts}
 use Rattle.std.proofs.lemmas.Bool.Decides.{nat_tests}
 use Rattle.std.specs.Option.{option_map}
 use Rattle.std.proofs.lemmas.Cmp.{int_ranked}
@@ -16,13 +16,9 @@ use Rattle.dmc_tag.specs.Rules.{moment_of, earlier, due_moment, least_due}
 use Rattle.dmc_tag.specs.Laws.{IsNextDue}
 use Rattle.dmc_tag.specs.declared.plain.PlainRequest.{PlainRequest}
 use Rattle.dmc_tag.specs.Tag.{Fraction, Tagging, IsExact}
-use Rattle.dmc_tag.proofs.Scaled.{scaled_le, scaled_lt, not_above}
+use Rattle.dmc_tag.proofs.Scaled.{times_one, scaled_le, scaled_lt, not_above}
 
 -- ---- whole numbers
-
-times_one : (z : ℤ) → z *ℤ pos 1 ≡ z
-times_one (pos n) = ap pos (omega arith)
-times_one (negsuc n) = let e : suc n * 1 ≡ suc n = omega arith in ap (λ m. neg_ℤ (pos m)) e
 
 above_true : (x y : ℤ) (r : Ordering) → r ≡ int_cmp x y → y <ℤ x → is_gt r ≡ true
 above_true x y Less e h = let below = int_ranked x y Less e in absurd (omega (arith, ints))
@@ -80,16 +76,12 @@ module _ {T : Type 0} (ops : Tagging T) (fraction : T → Fraction) (is_value : 
   hit_is : (r : PlainRequest T) (n : ℕ) → (is_early ops n r || is_free ops n r) ≡ nat_le (due_moment ops r) n
   hit_is r n = hit_with r n r.tags.r
 
-  neither : (a b : Bool) → (a || b) ≡ false → (a ≡ false) × (b ≡ false)
-  neither true b e = cc
-  neither false b e = (refl, e)
-
   either : (a b : Bool) → (a || b) ≡ true → (a ≡ true) ⊎ (b ≡ true)
   either true b e = inl refl
   either false b e = inr e
 
   not_yet : (r : PlainRequest T) (n : ℕ) → n < due_moment ops r → (is_early ops n r ≡ false) × (is_free ops n r ≡ false)
-  not_yet r n h = let later : nat_le (due_moment ops r) n ≡ false = grind (arith, nat_tests) in neither _ _ (hit_is r n ∙ later)
+  not_yet r n h = let later : nat_le (due_moment ops r) n ≡ false = grind (arith, nat_tests) in or_parts _ _ (hit_is r n ∙ later)
 
   -- ---- the least of a list
 

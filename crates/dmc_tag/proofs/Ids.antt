@@ -1,20 +1,21 @@
--- Ids in lists where no two are equal: one that is at a place is found there.
-use Rattle.std.proofs.Common.{◌≡◌, ℕ, ◌<◌, false, true, List, length, eqb, zero, suc, [], ◌∷◌, get_or, slice_get, Some, refl, arith}
+-- Ids: one is itself, and in lists where no two are equal one that is at a place is found there.
+use Rattle.std.proofs.Common.{◌≡◌, ℕ, ◌<◌, false, true, List, length, eqb, zero, suc, [], ◌∷◌, get_or, slice_get, Some, refl, sym, arith}
 use Rattle.std.specs.Prelude.{position}
 use Rattle.std.specs.List.{AllByRecursion, IsDistinct}
 use Rattle.std.proofs.lemmas.List.Sums.{position_or_len_is}
-use Rattle.std.proofs.lemmas.Option.{slice_get_within, get_or_from_slice_get}
+use Rattle.std.proofs.lemmas.Option.{same_Some, slice_get_within, get_or_from_slice_get}
 use Rattle.std.proofs.lemmas.Bool.{eq-eqb, lt-ltb}
 use Rattle.dmc_types.specs.declared.ids.ClientId.{ClientId}
+use Rattle.dmc_tag.specs.State.{is_client}
 use Rattle.dmc_tag.proofs.Booleans.{eqb_turned}
+
+pub itself_id : (id : ClientId) → is_client id id ≡ true
+itself_id id = eq-eqb id.0 id.0 refl
 
 -- what holds of each element holds of the one at a place
 pub all_there : {A : Type 0} (P : A → Type 0) (xs : List A) (i : ℕ) (x : A) → AllByRecursion P xs → slice_get xs i ≡ Some x → P x
 all_there P [] i x h e = cc
-all_there P (y ∷ ys) zero x h e = rw (some_is y x e) h.0
-  where
-    some_is : {A : Type 0} (a b : A) → Some a ≡ Some b → b ≡ a
-    some_is a b e = cc
+all_there P (y ∷ ys) zero x h e = rw (sym (same_Some y x e)) h.0
 all_there P (y ∷ ys) (suc i) x h e = all_there P ys i x h.1 e
 
 other_before : (id : ClientId) (ks : List ClientId) (i k : ℕ) → IsDistinct (λ a b. eqb a.0 b.0) ks → slice_get ks i ≡ Some id → k < i → eqb id.0 (get_or ks k id).0 ≡ false

@@ -1,7 +1,8 @@
--- Lists: what holds of each element after a change of the list, what is found, how many a filter leaves.
-use Rattle.std.proofs.Common.{◌≡◌, suc, ◌≤◌, Bool, true, false, cond, List, [], ◌∷◌, ◌++◌, map, length, Some, subst, arith}
+-- Lists: what holds of each element after a change of the list, what is found, how many a filter leaves, parts and maps.
+use Rattle.std.proofs.Common.{◌≡◌, ℕ, suc, ◌+◌, ◌≤◌, Bool, true, false, not, cond, List, [], ◌∷◌, ◌++◌, map, take, length, Some, refl, ap, ◌∙◌, subst, arith}
 use Rattle.std.specs.Prelude.{filter}
-use Rattle.std.specs.List.{find, AllByRecursion}
+use Rattle.std.specs.List.{find, position, prefix_len, AllByRecursion}
+use Rattle.std.proofs.lemmas.List.{length-map}
 
 pub all_as : {X : Type 0} (P Q : X → Type 0) → ((x : X) → P x → Q x) → (xs : List X) → AllByRecursion P xs → AllByRecursion Q xs
 all_as P Q gives [] h = tt
@@ -25,6 +26,9 @@ all_mapped P f keeps (x ∷ xs) h = (keeps x h.0, all_mapped P f keeps xs h.1)
 pub all_append : {X : Type 0} (P : X → Type 0) (xs ys : List X) → AllByRecursion P xs → AllByRecursion P ys → AllByRecursion P (xs ++ ys)
 all_append P [] ys h k = k
 all_append P (x ∷ xs) ys h k = (h.0, all_append P xs ys h.1 k)
+
+pub all_next : {X : Type 0} (P : X → Type 0) (xs : List X) (y : X) → AllByRecursion P xs → P y → AllByRecursion P (xs ++ y ∷ [])
+all_next P xs y h k = all_append P xs (y ∷ []) h (k, tt)
 
 -- ---- one element among others
 
@@ -50,9 +54,35 @@ found_holds P test (x ∷ xs) e h f = at (test x) f (found_holds P test xs e h.1
   at true g more = let same : x ≡ e = cc in subst P same h.0
   at false g more = more g
 
+pub found_passes : {X : Type 0} (test : X → Bool) (xs : List X) (e : X) → find test xs ≡ Some e → test e ≡ true
+found_passes test [] e f = cc
+found_passes test (x ∷ xs) e f = at (found_passes test xs e) (test x) refl f where
+  at : (find test xs ≡ Some e → test e ≡ true) → (b : Bool) → test x ≡ b → cond b (Some x) (find test xs) ≡ Some e → test e ≡ true
+  at more true t g = let same : x ≡ e = cc in subst (λ y. test y ≡ true) same t
+  at more false t g = more g
+
 pub length_filtered : {X : Type 0} (test : X → Bool) (xs : List X) → length (filter test xs) ≤ length xs
 length_filtered test [] = omega arith
 length_filtered test (x ∷ xs) = at (length_filtered test xs) (test x) where
   at : length (filter test xs) ≤ length xs → (b : Bool) → length (cond b (x ∷ filter test xs) (filter test xs)) ≤ suc (length xs)
   at more true = omega arith
   at more false = omega arith
+
+-- ---- maps, and the front of a list
+
+pub map_unmoved : {X : Type 0} (f : X → X) (xs : List X) → AllByRecursion (λ x. f x ≡ x) xs → map f xs ≡ xs
+map_unmoved f [] h = refl
+map_unmoved f (x ∷ xs) h = ap (λ y. y ∷ map f xs) h.0 ∙ ap (λ ys. x ∷ ys) (map_unmoved f xs h.1)
+
+prefix_map : {A B : Type 0} (f : A → B) (p : B → Bool) (xs : List A) → prefix_len p (map f xs) ≡ prefix_len (λ x. p (f x)) xs
+prefix_map f p [] = refl
+prefix_map f p (x ∷ xs) = ap (λ k. cond (p (f x)) (1 + k) 0) (prefix_map f p xs)
+
+-- where such a thing is first, of a list that is seen otherwise
+pub position_map : {A B : Type 0} (f : A → B) (p : B → Bool) (xs : List A) → position p (map f xs) ≡ position (λ x. p (f x)) xs
+position_map f p xs = rw (prefix_map f (λ y. not (p y)) xs, length-map xs f) refl
+
+-- a whole that was lent as a slice, and given back
+pub lent_back : {X : Type 0} (xs zs : List X) (n : ℕ) → length xs ≡ n → take n (xs ++ zs) ≡ xs
+lent_back [] zs n e = rw (← e) refl
+lent_back (x ∷ xs) zs n e = rw (← e) (ap (λ ys. x ∷ ys) (lent_back xs zs (length xs) refl))

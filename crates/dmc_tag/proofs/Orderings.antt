@@ -23,18 +23,21 @@ then_less Less s e = refl
 then_less Equal s e = refl
 then_less Greater s e = cc
 
+-- in a total order each is equal to itself
+pub equals_itself : {R : Type 0} (C : R → R → Ordering) → IsTotalOrder C → (a : R) → C a a ≡ Equal
+equals_itself C o a = equal_of (C a a) (o.antisymm a a) where
+  equal_of : (r : Ordering) → r ≡ ordering_reverse r → r ≡ Equal
+  equal_of Less e = cc
+  equal_of Equal e = refl
+  equal_of Greater e = cc
+
 -- an order that is the same as a total one is total
 pub tag_order : {T : Type 0} (cmp compare : T → T → Ordering) → IsTotalOrder cmp → ((a b : T) → cmp a b ≡ compare a b) → IsTotalOrder compare
 tag_order cmp compare o h = subst IsTotalOrder (fun_ext (λ a. fun_ext (λ b. h a b))) o
 
 module _ {T : Type 0} (ops : Tagging T) (order : IsTotalOrder ops.compare) where
-  itself : (r : Ordering) → r ≡ ordering_reverse r → is_gt r ≡ false
-  itself Less e = refl
-  itself Equal e = refl
-  itself Greater e = cc
-
   pub at_most_itself : (a : T) → AtMost ops a a
-  at_most_itself a = itself _ (order.antisymm a a)
+  at_most_itself a = ap is_gt (equals_itself ops.compare order a)
 
   pub at_most_trans : (a b c : T) (r s : Ordering) → ops.compare a b ≡ r → ops.compare b c ≡ s → is_gt r ≡ false → is_gt s ≡ false → AtMost ops a c
   at_most_trans a b c Less Less p q h k = ap is_gt (order.trans a b c p q)

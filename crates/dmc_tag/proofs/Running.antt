@@ -15,7 +15,7 @@ module _ {T : Type 0} (ops : Tagging T) where
   replies_of-more s [] c = refl
   replies_of-more s (d ∷ cs) c = ap (λ rs. (step ops s d).1 ∷ rs) (replies_of-more ((step ops s d).0) cs c)
 
-  state_after-more : (s : State T) (cs : List Command) (c : Command) → state_after ops s (cs ++ c ∷ []) ≡ (step ops (state_after ops s cs) c).0
+  pub state_after-more : (s : State T) (cs : List Command) (c : Command) → state_after ops s (cs ++ c ∷ []) ≡ (step ops (state_after ops s cs) c).0
   state_after-more s [] c = refl
   state_after-more s (d ∷ cs) c = state_after-more ((step ops s d).0) cs c
 

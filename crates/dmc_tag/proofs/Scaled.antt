@@ -1,6 +1,6 @@
 -- Whole numbers times a natural number, and how their order stays.
-use Rattle.std.proofs.Common.{◌≡◌, ℕ, suc, ◌+◌, ◌*◌, ◌<◌, ◌≤◌, refl, ap, ◌∙◌, arith}
-use Rattle.std.specs.Prelude.{ℤ, pos, ◌+ℤ◌, ◌-ℤ◌, ◌*ℤ◌, ◌≤ℤ◌, ◌<ℤ◌, neg_ℤ}
+use Rattle.std.proofs.Common.{◌≡◌, ℕ, suc, ◌+◌, ◌*◌, ◌<◌, ◌≤◌, refl, sym, ap, ◌∙◌, arith}
+use Rattle.std.specs.Prelude.{ℤ, pos, negsuc, ◌+ℤ◌, ◌-ℤ◌, ◌*ℤ◌, ◌≤ℤ◌, ◌<ℤ◌, neg_ℤ}
 use Rattle.std.specs.declared.cmp.Ordering.{Ordering}
 use Rattle.std.specs.declared.cmp.Ordering.TheVariants.{Less, Equal, Greater}
 use Rattle.std.specs.Ordering.{int_cmp}
@@ -12,10 +12,10 @@ use Rattle.std.proofs.lemmas.Cmp.{int_ranked}
 use Rattle.std.proofs.Math.Nat.{mul-le-mul_left}
 use borrow.Author.Differences.{up, down, same_in, product_is, sum_is_lem}
 
-up_scaled : (z : ℤ) (d : ℕ) → up (z *ℤ pos d) ≡ up z * d
+pub up_scaled : (z : ℤ) (d : ℕ) → up (z *ℤ pos d) ≡ up z * d
 up_scaled z d = let e = product_is z (pos d) in omega arith
 
-down_scaled : (z : ℤ) (d : ℕ) → down (z *ℤ pos d) ≡ down z * d
+pub down_scaled : (z : ℤ) (d : ℕ) → down (z *ℤ pos d) ≡ down z * d
 down_scaled z d = let e = product_is z (pos d) in omega arith
 
 pub scaled_twice : (z : ℤ) (d e : ℕ) → (z *ℤ pos d) *ℤ pos e ≡ z *ℤ pos (d * e)
@@ -23,6 +23,13 @@ scaled_twice z d e =
     let front : up ((z *ℤ pos d) *ℤ pos e) ≡ up z * d * e = up_scaled (z *ℤ pos d) e ∙ ap (λ n. n * e) (up_scaled z d) in
     let back : down ((z *ℤ pos d) *ℤ pos e) ≡ down z * d * e = down_scaled (z *ℤ pos d) e ∙ ap (λ n. n * e) (down_scaled z d) in
     same_in _ _ (omega (arith, up_scaled z (d * e), down_scaled z (d * e)))
+
+pub scaled_swapped : (z : ℤ) (d e : ℕ) → (z *ℤ pos d) *ℤ pos e ≡ (z *ℤ pos e) *ℤ pos d
+scaled_swapped z d e = scaled_twice z d e ∙ ap (λ n. z *ℤ pos n) (omega arith) ∙ sym (scaled_twice z e d)
+
+pub times_one : (z : ℤ) → z *ℤ pos 1 ≡ z
+times_one (pos n) = ap pos (omega arith)
+times_one (negsuc n) = let e : suc n * 1 ≡ suc n = omega arith in ap (λ m. neg_ℤ (pos m)) e
 
 pub scaled_sum : (x y : ℤ) (d : ℕ) → (x +ℤ y) *ℤ pos d ≡ x *ℤ pos d +ℤ y *ℤ pos d
 scaled_sum x y d =
@@ -87,6 +94,12 @@ pub unscaled_le : (x y : ℤ) (d : ℕ) → 0 < d → (x *ℤ pos d) ≤ℤ (y *
 unscaled_le x y d some h = by_lt_z y x (λ lt. absurd (above lt)) (λ le. le) where
   above : y <ℤ x → ⊥
   above lt = let back = scaled_lt y x d some lt in omega (arith, ints)
+
+pub cancelled : (x y : ℤ) (d : ℕ) → 0 < d → x *ℤ pos d ≡ y *ℤ pos d → x ≡ y
+cancelled x y d some e =
+    let up = unscaled_le x y d some (omega (arith, ints)) in
+    let down = unscaled_le y x d some (omega (arith, ints)) in
+    omega (arith, ints)
 
 pub at_least_zero : (z : ℤ) (d : ℕ) → 0 < d → pos 0 ≤ℤ (z *ℤ pos d) → pos 0 ≤ℤ z
 at_least_zero z d some h =

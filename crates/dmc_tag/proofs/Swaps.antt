@@ -94,9 +94,6 @@ module _ {R : Type 0} (key : R → ℕ) where
     whole : ys ≡ front ++ x ∷ back
     none : of_key k front ≡ []
 
-  same_key : (k : ℕ) → (k == k) ≡ true
-  same_key k = eq-eqb k k refl
-
   split_at : (k : ℕ) (y : R) (ys : List R) (x : R) (zs : List R) (b : Bool) → (key y == k) ≡ b → (of_key k ys ≡ x ∷ zs → Split k ys x) → cond b (y ∷ of_key k ys) (of_key k ys) ≡ x ∷ zs → Split k (y ∷ ys) x
   split_at k y ys x zs true q rec e =
       let same : y ≡ x = cc in
@@ -128,11 +125,11 @@ module _ {R : Type 0} (key : R → ℕ) where
   pub agree-swaps : (xs ys : List R) → ((k : ℕ) → of_key k xs ≡ of_key k ys) → Swaps key xs ys
   agree-swaps [] [] h = keep _
   agree-swaps [] (y ∷ ys) h =
-      let e : [] ≡ y ∷ of_key (key y) ys = h (key y) ∙ ap (λ b. cond b (y ∷ of_key (key y) ys) (of_key (key y) ys)) (same_key (key y)) in
+      let e : [] ≡ y ∷ of_key (key y) ys = h (key y) ∙ ap (λ b. cond b (y ∷ of_key (key y) ys) (of_key (key y) ys)) (eq-eqb (key y) (key y) refl) in
       cc
   agree-swaps (x ∷ xs) ys h =
       let own = of_key (key x) xs in
-      let e : of_key (key x) ys ≡ x ∷ own = sym (h (key x)) ∙ ap (λ b. cond b (x ∷ own) own) (same_key (key x)) in
+      let e : of_key (key x) ys ≡ x ∷ own = sym (h (key x)) ∙ ap (λ b. cond b (x ∷ own) own) (eq-eqb (key x) (key x) refl) in
       let p = split (key x) ys x own e in
       let others = p.front ++ p.back in
       let f = first x p.front p.back p.none in

@@ -177,7 +177,7 @@ module _ {T : Type 0} (ops : Tagging T) (fraction : T → Fraction) (is_value : 
   -- ---- assignment
 
   module _ (order : IsTotalOrder ops.compare) where
-    not_behind : (a b : T) (r : Ordering) → ops.compare b a ≡ r → is_lt r ≡ false → AtMost ops a b
+    pub not_behind : (a b : T) (r : Ordering) → ops.compare b a ≡ r → is_lt r ≡ false → AtMost ops a b
     not_behind a b Less p h = cc
     not_behind a b Equal p h = ap is_gt (order.antisymm a b ∙ ap ordering_reverse p)
     not_behind a b Greater p h = ap is_gt (order.antisymm a b ∙ ap ordering_reverse p)

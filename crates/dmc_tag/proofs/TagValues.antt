@@ -13,7 +13,7 @@ use Rattle.dmc_tag.specs.declared.plain.Previous.{Previous}
 use Rattle.dmc_tag.specs.declared.spacing.Spacings.{Spacings}
 use Rattle.dmc_tag.specs.declared.reply.Tags.{Tags}
 use Rattle.dmc_tag.specs.Tag.{Fraction, Tagging, IsExact, IsSame, Gives, whole, sum_of, difference_of}
-use Rattle.dmc_tag.proofs.Scaled.{scaled_twice, scaled_cmp, zero_of}
+use Rattle.dmc_tag.proofs.Scaled.{scaled_swapped, scaled_twice, scaled_cmp, zero_of}
 use Rattle.dmc_tag.proofs.TagOrder.{positive, bound, from_range}
 
 module _ {T : Type 0} (ops : Tagging T) (fraction : T → Fraction) (is_value : Fraction → Type 0) (exact : IsExact ops fraction is_value) where
@@ -71,9 +71,6 @@ module _ {T : Type 0} (ops : Tagging T) (fraction : T → Fraction) (is_value : 
       ∙ ap (λ z. z *ℤ pos j.denom) (sym h)
       ∙ scaled_swapped k.numer f.denom j.denom in
       exact.same a b (exact.order a b ∙ scaled_cmp (j.numer *ℤ pos k.denom) (k.numer *ℤ pos j.denom) f.denom some ∙ sym (int_cmp_is _ _ Equal cross))
-    where
-      scaled_swapped : (z : ℤ) (d e : ℕ) → (z *ℤ pos d) *ℤ pos e ≡ (z *ℤ pos e) *ℤ pos d
-      scaled_swapped z d e = let turned : d * e ≡ e * d = omega arith in scaled_twice z d e ∙ ap (λ n. z *ℤ pos n) turned ∙ sym (scaled_twice z e d)
 
   pub one_answer : (o p : Option T) (f : Fraction) → 0 < f.denom → Gives fraction is_value o f → Gives fraction is_value p f → o ≡ p
   one_answer None None f some g h = refl

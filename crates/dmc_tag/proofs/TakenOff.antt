@@ -4,17 +4,11 @@ use Rattle.std.specs.Prelude.{ℤ, pos, ◌+ℤ◌, ◌-ℤ◌, ◌*ℤ◌, ◌�
 use Rattle.std.proofs.lemmas.Int.{ints}
 use Rattle.dmc_tag.specs.Order.{AtMost}
 use Rattle.dmc_tag.specs.Tag.{Fraction, Tagging, IsExact, IsSame, IsWhole, Gives, difference_of, integer}
-use Rattle.dmc_tag.proofs.Scaled.{scaled_twice, scaled_sum, scaled_difference, unscaled_le}
+use Rattle.dmc_tag.proofs.Scaled.{scaled_twice, scaled_sum, scaled_difference, unscaled_le, cancelled}
 use Rattle.dmc_tag.proofs.TagOrder.{positive, given, at_most_to}
 use Rattle.dmc_tag.proofs.TagValues.{difference_value, one_answer}
 
 -- ---- whole numbers over the denominators of all
-
-cancelled : (x y : ℤ) (d : ℕ) → 0 < d → x *ℤ pos d ≡ y *ℤ pos d → x ≡ y
-cancelled x y d some e =
-    let up = unscaled_le x y d some (omega (arith, ints)) in
-    let down = unscaled_le y x d some (omega (arith, ints)) in
-    omega (arith, ints)
 
 -- one product, parted in two ways
 aside : (z : ℤ) (a b c d : ℕ) → a * b ≡ c * d → (z *ℤ pos a) *ℤ pos b ≡ (z *ℤ pos c) *ℤ pos d

@@ -1,10 +1,10 @@
 -- The lines of a text, one after the other, and what is taken of its bytes.
-use Rattle.std.proofs.Common.{◌≡◌, ℕ, suc, ◌+◌, ◌<◌, ◌≤◌, Bool, true, false, not, cond, ltb, List, [], ◌∷◌, ◌++◌, refl, sym, ap, ◌∙◌, arith, length, length-append, take, drop, get_or, drop-cons, ◌||◌, ◌==◌, Option, Some, None}
+use Rattle.std.proofs.Common.{◌≡◌, ℕ, suc, ◌+◌, ◌<◌, ◌≤◌, Bool, true, false, not, cond, ltb, List, [], ◌∷◌, ◌++◌, refl, sym, ap, ◌∙◌, arith, length, length-append, take, drop, get_or, drop-cons, ◌==◌, Option, Some, None}
 use Rattle.std.specs.Option.{option_map}
 use Rattle.std.specs.List.{position_or_len}
 use Rattle.std.specs.Prelude.{◌&&◌, Err}
 use Rattle.std.specs.List.{list_all}
-use Rattle.std.proofs.lemmas.Bool.{ltb-true, ltb-false, eqb-true, lt-leb}
+use Rattle.std.proofs.lemmas.Bool.{ltb-true, ltb-false, eqb-true, lt-leb, or_parts}
 use Rattle.std.proofs.lemmas.List.{take_all, take-append-drop, append_assoc}
 use Rattle.std.proofs.lemmas.List.Sums.{passes_at_first}
 use Rattle.std.proofs.lemmas.List.Folds.{list_any-append}
@@ -15,6 +15,8 @@ use Rattle.dmc_text.specs.Words.{words}
 use Rattle.dmc_text.specs.Lines.{kind, kind_of, is_clean, is_line_byte}
 use Rattle.dmc_text.specs.Reading.{Reading, is_end, next_line}
 use Rattle.dmc_text.specs.Texts.{onto, lines_of, has_end, whole_lines}
+use Rattle.std.proofs.lemmas.Option.{same_Some}
+use Rattle.std.proofs.Math.Bool.{or-true}
 
 -- ---- the first line
 
@@ -35,9 +37,6 @@ plain_front : (xs : List ℕ) → has_end (take (position_or_len is_end xs) xs) 
 plain_front [] = refl
 plain_front (x ∷ xs) = plain_more x xs (is_end x) refl (plain_front xs)
 
-of_some : {A : Type 0} (x y : A) → Some x ≡ Some y → x ≡ y
-of_some x y h = cc
-
 -- the first line, its LF, and what stands behind
 pub record FirstLine (xs line rest : List ℕ) : Type 0 where
   pub whole : xs ≡ line ++ (10 ∷ rest)
@@ -48,7 +47,7 @@ first_by xs line rest true e h =
     let n : ℕ = position_or_len is_end xs in
     let within : n < length xs = ltb-true _ _ e in
     let found : Some (take n xs, drop (n + 1) xs) ≡ Some (line, rest) = ap (λ b. option_map (λ i. (take i xs, drop (i + 1) xs)) (cond b (Some n) None)) (sym e) ∙ h in
-    let both : (take n xs, drop (n + 1) xs) ≡ (line, rest) = of_some (take n xs, drop (n + 1) xs) (line, rest) found in
+    let both : (take n xs, drop (n + 1) xs) ≡ (line, rest) = same_Some (take n xs, drop (n + 1) xs) (line, rest) found in
     let line-is : take n xs ≡ line = ap (λ p. p.0) both in
     let rest-is : drop (n + 1) xs ≡ rest = ap (λ p. p.1) both in
     let next : n + 1 ≡ suc n = omega arith in
@@ -80,15 +79,11 @@ no_line xs h = none_by xs (ltb (position_or_len is_end xs) (length xs)) refl h
 
 -- ---- lines
 
-or_false : (a b : Bool) → (a || b) ≡ false → (a ≡ false) × (b ≡ false)
-or_false true b h = absurd (cc)
-or_false false b h = (refl, h)
-
 -- a line without an LF comes first
 pub line_first : (line more : List ℕ) → has_end line ≡ false → lines_of (line ++ (10 ∷ more)) ≡ line ∷ lines_of more
 line_first [] more h = refl
 line_first (b ∷ bs) more h =
-    let p = or_false (b == 10) (has_end bs) h in
+    let p = or_parts (b == 10) (has_end bs) h in
     ap (λ t. cond t ([] ∷ lines_of (bs ++ (10 ∷ more))) (onto b (lines_of (bs ++ (10 ∷ more))))) p.0 ∙ ap (onto b) (line_first bs more p.1)
 
 -- bytes in front of the first line
@@ -99,7 +94,7 @@ in_front (b ∷ bs) lines = onto b (in_front bs lines)
 pub lines_behind : (xs more : List ℕ) → has_end xs ≡ false → lines_of (xs ++ more) ≡ in_front xs (lines_of more)
 lines_behind [] more h = refl
 lines_behind (b ∷ bs) more h =
-    let p = or_false (b == 10) (has_end bs) h in
+    let p = or_parts (b == 10) (has_end bs) h in
     ap (λ t. cond t ([] ∷ lines_of (bs ++ more)) (onto b (lines_of (bs ++ more)))) p.0 ∙ ap (onto b) (lines_behind bs more p.1)
 
 -- the first of lines, and that it is as long as what is put in front of it
@@ -121,10 +116,10 @@ leads b (a ∷ cs) lines = leads_onto b (a ∷ cs) lines (leads a cs lines)
 -- a text without an LF is one line
 pub one_line : (b : ℕ) (bs : List ℕ) → has_end (b ∷ bs) ≡ false → lines_of (b ∷ bs) ≡ (b ∷ bs) ∷ []
 one_line b [] h =
-    let p = or_false (b == 10) false h in
+    let p = or_parts (b == 10) false h in
     ap (λ t. cond t ([] ∷ []) ((b ∷ []) ∷ [])) p.0
 one_line b (a ∷ cs) h =
-    let p = or_false (b == 10) (has_end (a ∷ cs)) h in
+    let p = or_parts (b == 10) (has_end (a ∷ cs)) h in
     ap (λ t. cond t ([] ∷ lines_of (a ∷ cs)) (onto b (lines_of (a ∷ cs)))) p.0 ∙ ap (onto b) (one_line a cs p.1)
 
 -- the last line, which lacks its LF
@@ -197,9 +192,5 @@ whole_on (b ∷ bs) xs h = whole_by b bs xs (has_end (b ∷ bs)) refl h (λ k. w
 pub ends_whole : (xs : List ℕ) → whole_lines (xs ++ 10 ∷ []) ≡ xs ++ 10 ∷ []
 ends_whole [] = refl
 ends_whole (b ∷ bs) =
-    let some : has_end (b ∷ (bs ++ 10 ∷ [])) ≡ true = list_any-append (λ b. b == 10) (b ∷ bs) (10 ∷ []) ∙ or_true (has_end (b ∷ bs)) in
+    let some : has_end (b ∷ (bs ++ 10 ∷ [])) ≡ true = list_any-append (λ b. b == 10) (b ∷ bs) (10 ∷ []) ∙ or-true (has_end (b ∷ bs)) in
     ap (λ t. cond t (b ∷ whole_lines (bs ++ 10 ∷ [])) []) some ∙ ap (λ w. b ∷ w) (ends_whole bs)
-  where
-    or_true : (t : Bool) → (t || true) ≡ true
-    or_true true = refl
-    or_true false = refl

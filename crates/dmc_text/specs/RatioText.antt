@@ -7,6 +7,7 @@ use Rattle.dmc_ratio.specs.Gcd.{gcd}
 use Rattle.dmc_ratio.specs.GcdLaws.{gcd_is}
 use Rattle.dmc_ratio.specs.Lowest.{is_lowest, over, lowest_apart}
 use Rattle.dmc_ratio.specs.Ratio.{Ratio, same_ratio, lowest_terms, reduced, is_small, greatest_numer, greatest_denom}
+use Rattle.std.proofs.lemmas.Option.{same_Some}
 
 -- the ratio of n/d, where these are in lowest terms: reducing leaves the denominator
 abbrev pub ratio_if_lowest : ℤ → ℕ → Option Ratio
@@ -45,13 +46,10 @@ ratio_if_lowest_by n d a true true s w e =
     let some : Some (lowest_terms n d) ≡ Some a =
     ap (λ b. cond b (Some (lowest_terms n d)) None) (sym w)
     ∙ ap (λ b. option_and_then (λ x. cond (eqb x.denom (suc d)) (Some x) None) (cond b (Some (lowest_terms n d)) None)) (sym s) ∙ e in
-    let same : lowest_terms n d ≡ a = of_some (lowest_terms n d) a some in
+    let same : lowest_terms n d ≡ a = same_Some (lowest_terms n d) a some in
     let whole : suc d / gcd (unsigned_abs n) (suc d) ≡ suc d = eqb-true _ _ w in
     let one = same_denominator n d whole in
     (ap (λ r. r.numer) (sym same) ∙ ap (over n) one ∙ over_one n, ap (λ r. r.denom) (sym same) ∙ whole)
-  where
-    of_some : (x y : Ratio) → Some x ≡ Some y → x ≡ y
-    of_some x y h = cc
 
 pub ratio_if_lowest_has : (n : ℤ) (d : ℕ) (a : Ratio) → ratio_if_lowest n d ≡ Some a → (a.numer ≡ n) × (a.denom ≡ d)
 ratio_if_lowest_has n zero a e = absurd (cc)

@@ -11,10 +11,7 @@ use Rattle.std.proofs.Math.Nat.{mul-le-mul_left, eq_of_mul-eq-mul_left}
 use Rattle.dmc_tag.specs.Tag.{Fraction, Gives, IsExact, IsSame, IsWhole, ratio, integer}
 use Rattle.dmc_tag.specs.Tag as fraction_of
 use Rattle.dmc_tick.specs.Tick.{tick, tick_ops, tick_fraction, IsTickValue, greatest}
-
-times_one : (z : ℤ) → z *ℤ pos 1 ≡ z
-times_one (pos n) = ap pos (omega arith)
-times_one (negsuc n) = let e : suc n * 1 ≡ suc n = omega arith in ap (λ m. neg_ℤ (pos m)) e
+use Rattle.dmc_tag.proofs.Scaled.{times_one}
 
 -- a fraction that is the whole number z has the absolute value |z|*d over d
 absolute : (z : ℤ) (f : Fraction) → f.numer ≡ z *ℤ pos f.denom → unsigned_abs f.numer ≡ unsigned_abs z * f.denom

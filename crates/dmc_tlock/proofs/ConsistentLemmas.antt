@@ -1,8 +1,8 @@
 -- A stamp and a response keep a tracker book consistent.
-use Rattle.std.proofs.Common.{◌≡◌, ℕ, ◌+◌, ◌<◌, ◌≤◌, ◌^◌, List, [], ◌∷◌, ◌++◌, length, map, refl, sym, ap, ◌∙◌, arith}
+use Rattle.std.proofs.Common.{◌≡◌, ℕ, ◌+◌, ◌<◌, ◌≤◌, ◌^◌, List, [], ◌∷◌, ◌++◌, length, sym, ap, ◌∙◌, arith}
 use Rattle.std.specs.Prelude.{slice_set, sum_by}
 use Rattle.std.proofs.lemmas.List.Sums.{sum_by-cons, sum_by-set}
-use Rattle.std.proofs.lemmas.List.{length-append, length-set, length-map}
+use Rattle.std.proofs.lemmas.List.{length-append, length-set}
 use Rattle.dmc_types.specs.Values.{Params}
 use Rattle.dmc_types.specs.declared.ids.ServerId.{ServerId}
 use Rattle.dmc_types.specs.declared.config.Counting.{Counting}
@@ -12,8 +12,8 @@ use Rattle.dmc_types.specs.declared.config.PhaseType.TheVariants.{Reservation, P
 use Rattle.dmc_tracker.specs.declared.event.TrackerEvent.{TrackerEvent}
 use Rattle.dmc_tracker.specs.declared.event.TrackerEvent.TheVariants.{Stamp, Response}
 use Rattle.dmc_tracker.specs.TrackerList.{completed_by, plus, completions, sent, pending, IsTracked}
-use Rattle.dmc_tracker.specs.Numbers.{ServerNumbers, Stands, next_params, grown, servers_grown}
-use Rattle.dmc_tracker.proofs.ForCallers.{completions-stamp, completions-response, Stands-stamp, Stands-response, next_params-stands, IsTracked-stamp, IsTracked-response, sums-all, sums-others, completions-by_server, stamps-le-length}
+use Rattle.dmc_tracker.specs.Numbers.{ServerNumbers, Stands, next_params}
+use Rattle.dmc_tracker.proofs.ForCallers.{completions-stamp, completions-response, Stands-stamp, Stands-response, next_params-stands, IsTracked-stamp, IsTracked-response, sums-all, sums-others, completions-by_server, stamps-le-length, length-servers_grown}
 use Rattle.dmc_ledger.specs.Accounts.{total_of}
 use Rattle.dmc_ledger.specs.Bundles.{ServerSide, StampAccounts}
 use Rattle.dmc_tlock.specs.BookState.{BookState, no_side, desk_at}
@@ -74,17 +74,12 @@ IsConsistent-stamp b s within room h =
       limit = h.limit;
     }
 
-length-grown : (counting : Counting) (s : ServerId) (phase : PhaseType) (servers : List ServerNumbers)
-    → length (servers_grown counting s phase servers) ≡ length servers
-length-grown All s phase servers = length-map servers (grown phase)
-length-grown Others s phase servers = length-set (map (grown phase) servers) s.0 _ ∙ length-map servers (grown phase)
-
 pub IsConsistent-response : (b : BookState) (s : ServerId) (phase : PhaseType) → s.0 < length b.desks → length b.events < b.most_events
     → IsConsistent b → IsConsistent (book_after_response s phase b)
 IsConsistent-response b s phase within room h =
     let stands = Stands-response b.tracker b.events s phase h.stands in
     let tracked = IsTracked-response b.tracker.counting b.events s phase h.tracked in
-    let servers = length-set b.desks s.0 (side_after_response phase (desk_at b.desks s)) ∙ h.servers ∙ sym (length-grown b.tracker.counting s phase b.tracker.servers) in
+    let servers = length-set b.desks s.0 (side_after_response phase (desk_at b.desks s)) ∙ h.servers ∙ sym (length-servers_grown b.tracker.counting s phase b.tracker.servers) in
     record {
       balanced = balanced (book_after_response s phase b) stands tracked servers;
       tracked = tracked;

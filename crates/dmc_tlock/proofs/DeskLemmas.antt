@@ -9,7 +9,7 @@ use Rattle.dmc_types.specs.declared.config.PhaseType.{PhaseType}
 use Rattle.dmc_types.specs.declared.config.PhaseType.TheVariants.{Reservation, Priority}
 use Rattle.dmc_tracker.specs.declared.event.TrackerEvent.{TrackerEvent}
 use Rattle.dmc_tracker.specs.declared.event.TrackerEvent.TheVariants.{Stamp, Response}
-use Rattle.dmc_tracker.proofs.ForCallers.{sent-response, sent-stamp_same, sent-stamp_other, stamps-response, stamps-stamp_same, stamps-stamp_other, responses-stamp, responses-response_same, responses-response_other, responses-reservation-priority, responses-priority-reservation}
+use Rattle.dmc_tracker.proofs.ForCallers.{sent-response, sent-stamp_same, sent-stamp_other, stamps-response, stamps-stamp_same, stamps-stamp_other, responses-stamp, responses-response_same, responses-response_other, responses-reservation-priority, responses-priority-reservation, same_server}
 use Rattle.dmc_ledger.specs.Accounts.{Account}
 use Rattle.dmc_ledger.specs.Bundles.{ServerSide, StampAccounts, GrantHoldings, server_side}
 use Rattle.dmc_ledger.specs.declared.desk.ServerDesk.{ServerDesk}
@@ -126,9 +126,6 @@ module _ (client : ℕ) (events : List TrackerEvent) (s : ServerId) where
     books = books-response events q s phase d.books h.books;
     held = tills-response_other events q s phase d.held there h.held;
   }
-
-same_server : (q s : ServerId) → q.0 ≡ s.0 → q ≡ s
-same_server q s e = ap (λ (n : ℕ). let id : ServerId = record { 0 = n } in id) e
 
 -- one desk is replaced, and what the others keep stays
 pub at_set : (P Q : ServerId → ServerSide → Type 0) (desks : List ServerSide) (s : ServerId) (x : ServerSide) → s.0 < length desks

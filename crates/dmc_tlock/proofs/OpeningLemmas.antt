@@ -1,5 +1,5 @@
 -- A new tracker book is consistent.
-use Rattle.std.proofs.Common.{◌≡◌, ℕ, ◌<◌, ◌≤◌, ◌^◌, List, [], ◌∷◌, ◌++◌, length, map, take, get_or, zero, suc, refl, sym, ap, ◌∙◌, subst, arith, ◌+◌}
+use Rattle.std.proofs.Common.{◌≡◌, ℕ, ◌<◌, ◌≤◌, ◌^◌, List, [], ◌∷◌, length, map, get_or, zero, suc, refl, sym, ap, ◌∙◌, subst, arith}
 use Rattle.std.specs.Prelude.{sum_by}
 use Rattle.std.proofs.lemmas.List.Sums.{sum_by-cons}
 use Rattle.std.proofs.lemmas.List.{get_or-map, length-map, length-replicate}
@@ -64,8 +64,3 @@ IsConsistent-new client counting most most_events desks new stands limit =
       within = omega arith;
       limit = limit;
     }
-
--- a whole that was lent as a slice, and given back
-pub lent_back : {X : Type 0} (xs zs : List X) (n : ℕ) → length xs ≡ n → take n (xs ++ zs) ≡ xs
-lent_back [] zs n e = rw (← e) refl
-lent_back (x ∷ xs) zs n e = rw (← e) (ap (λ ys. x ∷ ys) (lent_back xs zs (length xs) refl))

@@ -4,6 +4,8 @@
 pub use Rattle.dmc_tracker.proofs.LawLemmas.{IsTracked-nil, IsTracked-stamp, IsTracked-response, IsTracked-front}
 -- a new tracker stands for the empty list; what a stamp carries; what a tracker stands for after a stamp and a response
 pub use Rattle.dmc_tracker.proofs.StandsLemmas.{Stands-new, next_params-stands, Stands-stamp, Stands-response}
+-- a server with the number of another is that one; a response leaves as many servers
+pub use Rattle.dmc_tracker.proofs.StandsLemmas.{same_server, length-servers_grown}
 -- what was sent to a server and is pending there, in `All` and in `Others`
 pub use Rattle.dmc_tracker.proofs.LawLemmas.{sums-all, sums-others}
 -- in `All` what was sent, with what is demanded, is at most the completions; what was sent between two stamps

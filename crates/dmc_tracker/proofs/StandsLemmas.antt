@@ -68,7 +68,7 @@ Stands-stamp numbers events s within h =
         → get_or (set servers i x) j no_numbers ≡ x
     get_or_here servers i j x e inside = rw (← e) (get_or-set_same servers i x no_numbers inside)
 
-length-servers_grown : (counting : Counting) (s : ServerId) (phase : PhaseType) (servers : List ServerNumbers)
+pub length-servers_grown : (counting : Counting) (s : ServerId) (phase : PhaseType) (servers : List ServerNumbers)
     → length (servers_grown counting s phase servers) ≡ length servers
 length-servers_grown All s phase servers = length-map servers (grown phase)
 length-servers_grown Others s phase servers =

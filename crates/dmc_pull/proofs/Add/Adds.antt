@@ -2,7 +2,6 @@
 use Rattle.std.proofs.Common.{◌≡◌, ℕ, Bool, true, false, not, List, [], length, Option, Some, None, Result, Ok, Err, refl, sym, ap, ◌∙◌, subst}
 use Rattle.std.specs.Prelude.{IfSome, is_some, if◌then◌else◌, nat_le}
 use Rattle.std.specs.Option.{option_map, ok_or}
-use Rattle.std.specs.Result.{IsErrAnd}
 use Rattle.std.specs.List.{AllByRecursion}
 use Rattle.std.specs.declared.cmp.Ordering.TheVariants.{Equal}
 use Rattle.std.specs.Cmp.{IsTotalOrder}
@@ -41,10 +40,6 @@ if_holds P o x e h = subst (λ o. IfSome o P) e h
 -- the record of the entry that a key finds
 pub record_is : {T : Type 0} (key : ℕ) (es : List (Entry T)) (e : Entry T) (rec : Rec T) → entry_keyed key es ≡ Some e → record_at key es ≡ Some rec → e.rec ≡ rec
 record_is key es e rec f r = let one : Some e.rec ≡ Some rec = sym (ap (option_map (λ e. e.rec)) f) ∙ r in cc (one)
-
-pub err_is : {X E : Type 0} (r : Result X E) (e : E) → IsErrAnd r (λ f. f ≡ e) → r ≡ Err e
-err_is (Ok x) e h = absurd h
-err_is (Err f) e h = ap Err h
 
 -- ---- the client
 

@@ -17,7 +17,8 @@ use Rattle.dmc_client.specs.Record.{request_of, requests_of_record, share_tags}
 use Rattle.dmc_roster.specs.Entries.{Entry}
 use Rattle.dmc_pull.specs.Adding.{unless_nothing}
 use Rattle.dmc_pull.specs.Standing.{clients_in, requests_in}
-use Rattle.dmc_pull.proofs.Common.Parts.{all_as, all_append, all_pass, map_kept}
+use Rattle.dmc_pull.proofs.Common.Parts.{all_as, all_append, all_pass, map_unmoved}
+use Rattle.std.proofs.Math.Bool.{or-true}
 
 module _ {T : Type 0} (ops : Tagging T) (P : T → Type 0) where
   -- the P of each client and request, where each record has it
@@ -42,14 +43,10 @@ module _ {T : Type 0} (ops : Tagging T) (P : T → Type 0) where
     abbrev nothing : T
     nothing = ops.of_moment 0
 
-    or_true : (b : Bool) → (b || true) ≡ true
-    or_true true = refl
-    or_true false = refl
-
     can_all : can_shift_by ops (Some nothing) s.clients s.requests ≡ true
     can_all =
-        let rs : requests_can_shift ops nothing s.clients s.requests ≡ true = all_pass (λ (r : PlainRequest T). not (is_active r.client s.clients) || has_less ops nothing r.tags.p) s.requests (all_as (λ (r : PlainRequest T). P r.tags.p) (λ r. (not (is_active r.client s.clients) || has_less ops nothing r.tags.p) ≡ true) (λ r v. ap (λ o. not (is_active r.client s.clients) || is_some o) (off r.tags.p v) ∙ or_true (not (is_active r.client s.clients))) s.requests requests) in
-        let cs : clients_can_shift ops nothing s.clients ≡ true = all_pass (λ (c : PlainClient T). c.idle || has_less ops nothing c.previous.p) s.clients (all_as (λ (c : PlainClient T). P c.previous.p) (λ c. (c.idle || has_less ops nothing c.previous.p) ≡ true) (λ c v. ap (λ o. c.idle || is_some o) (off c.previous.p v) ∙ or_true c.idle) s.clients clients) in
+        let rs : requests_can_shift ops nothing s.clients s.requests ≡ true = all_pass (λ (r : PlainRequest T). not (is_active r.client s.clients) || has_less ops nothing r.tags.p) s.requests (all_as (λ (r : PlainRequest T). P r.tags.p) (λ r. (not (is_active r.client s.clients) || has_less ops nothing r.tags.p) ≡ true) (λ r v. ap (λ o. not (is_active r.client s.clients) || is_some o) (off r.tags.p v) ∙ or-true (not (is_active r.client s.clients))) s.requests requests) in
+        let cs : clients_can_shift ops nothing s.clients ≡ true = all_pass (λ (c : PlainClient T). c.idle || has_less ops nothing c.previous.p) s.clients (all_as (λ (c : PlainClient T). P c.previous.p) (λ c. (c.idle || has_less ops nothing c.previous.p) ≡ true) (λ c v. ap (λ o. c.idle || is_some o) (off c.previous.p v) ∙ or-true c.idle) s.clients clients) in
         ap (λ b. b && clients_can_shift ops nothing s.clients) rs ∙ cs
 
     same_less : (a : T) → P a → less ops nothing a ≡ a
@@ -65,8 +62,8 @@ module _ {T : Type 0} (ops : Tagging T) (P : T → Type 0) where
 
     nothing_shifted : shifted_by ops (Some nothing) s ≡ s
     nothing_shifted =
-        let rs : shifted_requests ops (Some nothing) s.clients s.requests ≡ s.requests = map_kept (shifted_request ops nothing s.clients) s.requests (all_as (λ (r : PlainRequest T). P r.tags.p) (λ r. shifted_request ops nothing s.clients r ≡ r) (λ r v. same_request r (is_active r.client s.clients) v) s.requests requests) in
-        let cs : shifted_clients ops (Some nothing) s.clients ≡ s.clients = map_kept (shifted_client ops nothing) s.clients (all_as (λ (c : PlainClient T). P c.previous.p) (λ c. shifted_client ops nothing c ≡ c) (λ c v. same_client c c.idle v) s.clients clients) in
+        let rs : shifted_requests ops (Some nothing) s.clients s.requests ≡ s.requests = map_unmoved (shifted_request ops nothing s.clients) s.requests (all_as (λ (r : PlainRequest T). P r.tags.p) (λ r. shifted_request ops nothing s.clients r ≡ r) (λ r v. same_request r (is_active r.client s.clients) v) s.requests requests) in
+        let cs : shifted_clients ops (Some nothing) s.clients ≡ s.clients = map_unmoved (shifted_client ops nothing) s.clients (all_as (λ (c : PlainClient T). P c.previous.p) (λ c. shifted_client ops nothing c ≡ c) (λ c v. same_client c c.idle v) s.clients clients) in
         ap (λ rs. record s { requests = rs; clients = shifted_clients ops (Some nothing) s.clients }) rs ∙ ap (λ cs. record s { clients = cs }) cs
 
     -- with the shift left out where it is nothing, the test and the state are the same

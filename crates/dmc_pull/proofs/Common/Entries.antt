@@ -16,11 +16,9 @@ use Rattle.dmc_client.specs.declared.request.QueuedRequest.{QueuedRequest}
 use Rattle.dmc_client.specs.Record.{Rec, client_of, request_of, requests_of_record}
 use Rattle.dmc_roster.specs.Entries.{Entry, entry_named, entry_keyed, record_at, with_rec, with_record, AreDistinct}
 use Rattle.dmc_pull.specs.Standing.{clients_in, requests_in}
-use Rattle.dmc_pull.proofs.Common.Parts.{eqb_turned, all_as, all_both, all_append, all_front, all_back, map_kept, any_is, map_cond, found_holds, found_passes, none_found}
+use Rattle.dmc_pull.proofs.Common.Parts.{eqb_turned, all_as, all_both, all_append, all_front, all_back, map_unmoved, any_is, map_cond, found_holds, found_passes, none_found}
 use Rattle.dmc_pull.proofs.Common.Firsts.{requests_append}
-
-pub itself : (id : ClientId) → is_client id id ≡ true
-itself id = eq-eqb id.0 id.0 refl
+use Rattle.dmc_tag.proofs.Ids.{itself_id}
 
 pub client_turned : (a b : ClientId) (r : Bool) → is_client b a ≡ r → is_client a b ≡ r
 client_turned a b r e = eqb_turned b.0 a.0 r e
@@ -105,7 +103,7 @@ module _ {T : Type 0} where
       ap (λ b. if b then with_rec (λ old. rec) f else f) other
 
   others_kept : (key : ℕ) (rec : Rec T) (e : Entry T) → e.key ≡ key → (xs : List (Entry T)) → AllByRecursion (Differs e) xs → with_record key rec xs ≡ xs
-  others_kept key rec e k xs h = map_kept (λ f. if f.key == key then with_rec (λ old. rec) f else f) xs (all_as (Differs e) (λ f. (if f.key == key then with_rec (λ old. rec) f else f) ≡ f) (record_kept key rec e k) xs h)
+  others_kept key rec e k xs h = map_unmoved (λ f. if f.key == key then with_rec (λ old. rec) f else f) xs (all_as (Differs e) (λ f. (if f.key == key then with_rec (λ old. rec) f else f) ≡ f) (record_kept key rec e k) xs h)
 
   pub with_record_split : {key : ℕ} {e : Entry T} {es : List (Entry T)} (s : Split key e es) (rec : Rec T) → with_record key rec es ≡ s.front ++ record e { rec = rec } ∷ s.back
   with_record_split {key} {e} s rec =
@@ -173,7 +171,7 @@ module _ {T : Type 0} where
         ∙ filter-append test (requests_in s.front) (requests_of_record e.id e.rec ++ requests_in s.back)
         ∙ ap (λ rs. rs ++ filter test (requests_of_record e.id e.rec ++ requests_in s.back)) ahead_out
         ∙ filter-append test (requests_of_record e.id e.rec) (requests_in s.back)
-        ∙ ap (λ rs. rs ++ filter test (requests_in s.back)) (record_filtered (is_client e.id) e.id e.rec.requests true (itself e.id))
+        ∙ ap (λ rs. rs ++ filter test (requests_in s.back)) (record_filtered (is_client e.id) e.id e.rec.requests true (itself_id e.id))
         ∙ ap (λ rs. requests_of_record e.id e.rec ++ rs) behind_out
         ∙ append-nil (requests_of_record e.id e.rec)
 
@@ -196,7 +194,7 @@ module _ {T : Type 0} where
         ap (list_any test) (clients_whole s)
         ∙ list_any-append test (clients_in s.front) (client_of e.id e.rec ∷ clients_in s.back)
         ∙ ap (λ b. b || (is_client e.id e.id && not e.rec.idle || list_any test (clients_in s.back))) (none_active s.front s.ahead)
-        ∙ ap (λ b. b && not e.rec.idle || list_any test (clients_in s.back)) (itself e.id)
+        ∙ ap (λ b. b && not e.rec.idle || list_any test (clients_in s.back)) (itself_id e.id)
         ∙ ap (λ b. not e.rec.idle || b) (none_active s.back s.behind)
         ∙ or_false (not e.rec.idle) where
           or_false : (b : Bool) → (b || false) ≡ b
@@ -220,7 +218,7 @@ module _ {T : Type 0} where
         ap (change_client e.id f) (clients_whole s)
         ∙ map-append (λ c. if is_client e.id c.id then f c else c) (clients_in s.front) (client_of e.id e.rec ∷ clients_in s.back)
         ∙ ap (λ cs. cs ++ (if is_client e.id e.id then f (client_of e.id e.rec) else client_of e.id e.rec) ∷ change_client e.id f (clients_in s.back)) (others_unchanged e f s.front s.ahead)
-        ∙ ap (λ b. clients_in s.front ++ (if b then f (client_of e.id e.rec) else client_of e.id e.rec) ∷ change_client e.id f (clients_in s.back)) (itself e.id)
+        ∙ ap (λ b. clients_in s.front ++ (if b then f (client_of e.id e.rec) else client_of e.id e.rec) ∷ change_client e.id f (clients_in s.back)) (itself_id e.id)
         ∙ ap (λ cs. clients_in s.front ++ f (client_of e.id e.rec) ∷ cs) (others_unchanged e f s.back s.behind)
 
     pub changed_client : (f : PlainClient T → PlainClient T) (rec : Rec T) → client_of e.id rec ≡ f (client_of e.id e.rec) → clients_in (with_record key rec es) ≡ change_client e.id f (clients_in es)
@@ -257,7 +255,7 @@ module _ {T : Type 0} where
         let test = λ (r : PlainRequest T). not (is_client e.id r.client) in
         let ahead = all_filtered_in (λ id. not (is_client e.id id)) s.front (all_as (Differs e) (λ f. not (is_client e.id f.id) ≡ true) (λ f d. ap not d.1) s.front s.ahead) in
         let behind = all_filtered_in (λ id. not (is_client e.id id)) s.back (all_as (Differs e) (λ f. not (is_client e.id f.id) ≡ true) (λ f d. ap not d.1) s.back s.behind) in
-        let here = record_filtered (λ id. not (is_client e.id id)) e.id e.rec.requests false (ap not (itself e.id)) in
+        let here = record_filtered (λ id. not (is_client e.id id)) e.id e.rec.requests false (ap not (itself_id e.id)) in
         requests_whole (split_changed s (record (e.rec) { requests = [] }))
         ∙ sym (
         ap (filter test) (requests_whole s)

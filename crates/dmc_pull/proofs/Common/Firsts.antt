@@ -7,8 +7,9 @@ use Rattle.std.specs.declared.cmp.Ordering.{Ordering}
 use Rattle.std.specs.declared.cmp.Ordering.TheVariants.{Less, Equal, Greater}
 use Rattle.std.specs.Ordering.{is_gt, is_lt, ordering_then}
 use Rattle.std.specs.Cmp.{IsTotalOrder}
-use Rattle.std.proofs.lemmas.Bool.{eqb-true, eqb-false, eq-eqb}
+use Rattle.std.proofs.lemmas.Bool.{eqb-true, eq-eqb}
 use Rattle.dmc_types.specs.declared.ids.ClientId.{ClientId}
+use Rattle.dmc_tag.proofs.Booleans.{eqb_turned}
 use Rattle.dmc_tag.specs.Tag.{Tagging}
 use Rattle.dmc_tag.specs.State.{is_client}
 use Rattle.dmc_tag.specs.Best.{is_before, IsBest, HasNone}
@@ -21,9 +22,10 @@ use Rattle.dmc_client.specs.declared.request.QueuedRequest.{QueuedRequest}
 use Rattle.dmc_roster.specs.Entries.{Entry, entry_keyed, record_at, with_record, with_rec, AreDistinct}
 use Rattle.dmc_adjust.specs.Changes.{popped}
 use Rattle.dmc_pull.specs.Standing.{requests_in}
-use Rattle.dmc_pull.proofs.Common.Ordered.{less_upto, not_behind, itself, IsUpto, FirstIsLeast, FirstIsMember}
+use Rattle.dmc_pull.proofs.Common.Ordered.{less_upto, not_behind, IsUpto, FirstIsLeast, FirstIsMember}
 pub use Rattle.dmc_tag.proofs.Lists.{all_append, found_holds}
 use Rattle.std.proofs.lemmas.Bool.{false_from_ne_true}
+use Rattle.dmc_tag.proofs.Orderings.{equals_itself}
 
 -- ---- lists
 
@@ -41,12 +43,6 @@ pub record IsAt {T : Type 0} (entries : List (Entry T)) (key : ℕ) (e : Entry T
   pub ahead : AllByRecursion (λ f. (f.key == key) ≡ false) front
   pub behind : AllByRecursion (λ f. (f.key == key) ≡ false) back
 
-turned_key : (a b : ℕ) → (a == b) ≡ false → (b == a) ≡ false
-turned_key a b h = by (b == a) refl where
-  by : (r : Bool) → (b == a) ≡ r → (b == a) ≡ false
-  by true e = absurd (eqb-false a b h (sym (eqb-true b a e)))
-  by false e = e
-
 module _ {T : Type 0} where
   first_of : (x : Entry T) (rest : Option (Entry T)) (e : Entry T) (b : Bool) → cond b (Some x) rest ≡ Some e → b ≡ true → x ≡ e
   first_of x rest e true h t = cc
@@ -58,7 +54,7 @@ module _ {T : Type 0} where
 
   keys_apart : (x : Entry T) (key : ℕ) (es : List (Entry T)) → (x.key == key) ≡ true → AllByRecursion (λ f. (is_client x.id f.id ≡ false) × ((x.key == f.key) ≡ false)) es → AllByRecursion (λ f. (f.key == key) ≡ false) es
   keys_apart x key [] k h = tt
-  keys_apart x key (f ∷ es) k h = (subst (λ n. (f.key == n) ≡ false) (eqb-true x.key key k) (turned_key x.key f.key h.0.1), keys_apart x key es k h.1)
+  keys_apart x key (f ∷ es) k h = (subst (λ n. (f.key == n) ≡ false) (eqb-true x.key key k) (eqb_turned f.key x.key false h.0.1), keys_apart x key es k h.1)
 
   pub is_at : (key : ℕ) (es : List (Entry T)) (e : Entry T) → AreDistinct es → entry_keyed key es ≡ Some e → IsAt es key e
   is_at key [] e d h = cc
@@ -133,7 +129,7 @@ module _ {T : Type 0} (ops : Tagging T) (order : IsTotalOrder ops.compare) (tag 
   upto_then Greater s h e = cc
 
   upto_rank : (id : ClientId) (a b : Tags T) → IsUpto ops (tag a) (tag b) → is_gt (tag_rank_cmp ops.compare (rank a id) (rank b id)) ≡ false
-  upto_rank id a b h = upto_then (last_if_absent ops.compare (tag a) (tag b)) (client_cmp id id) h (itself client_cmp client_total id)
+  upto_rank id a b h = upto_then (last_if_absent ops.compare (tag a) (tag b)) (client_cmp id id) h (equals_itself client_cmp client_total id)
 
   behind_rest : (first : TagRank T) (id : ClientId) (r : QueuedRequest T) (rest : List (QueuedRequest T)) → AllByRecursion (λ x. IsUpto ops (tag r.tags) (tag x.tags)) rest → AllByRecursion (λ x. member x.tags ≡ true → member r.tags ≡ true) rest → (member r.tags ≡ true → tag_rank_cmp ops.compare first (rank r.tags id) ≡ Less) → AllByRecursion (λ x. member x.tags ≡ true → tag_rank_cmp ops.compare first (rank x.tags id) ≡ Less) rest
   behind_rest first id r [] u m b = tt

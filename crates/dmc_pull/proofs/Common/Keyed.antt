@@ -3,7 +3,7 @@ use Rattle.std.proofs.Common.{◌≡◌, ℕ, Bool, true, false, cond, List, [],
 use Rattle.std.specs.Prelude.{filter, ◌==◌, if◌then◌else◌}
 use Rattle.std.specs.Option.{option_map, option_map_or, option_and_then, option_or}
 use Rattle.std.specs.List.{find, AllByRecursion}
-use Rattle.std.proofs.lemmas.Bool.{eqb-true}
+use Rattle.std.proofs.lemmas.Bool.{eqb-true, eq-eqb}
 use Rattle.std.proofs.lemmas.List.{append-nil}
 use Rattle.std.proofs.lemmas.List.Elements.{filter-append}
 use Rattle.std.proofs.lemmas.List.Folds.{find-append}
@@ -13,8 +13,9 @@ use Rattle.dmc_client.specs.Record.{Rec, requests_of_record}
 use Rattle.dmc_roster.specs.Entries.{Entry, entry_named, entry_keyed, with_rec, with_record, AreDistinct}
 use Rattle.dmc_pull.specs.Standing.{requests_in}
 use Rattle.dmc_pull.proofs.Common.Parts.{all_as, all_filtered, map_cond, found_holds, found_passes}
-use Rattle.dmc_pull.proofs.Common.Entries.{Split, Differs, differs_from, differs_before, split_changed, itself, record_filtered, all_filtered_out}
+use Rattle.dmc_pull.proofs.Common.Entries.{Split, Differs, differs_from, differs_before, split_changed, record_filtered, all_filtered_out}
 pub use Rattle.dmc_tag.proofs.Active.{same_client}
+use Rattle.dmc_tag.proofs.Ids.{itself_id}
 
 none_of_all : {X : Type 0} (test : X → Bool) (xs : List X) → AllByRecursion (λ x. test x ≡ false) xs → find test xs ≡ None
 none_of_all test [] h = refl
@@ -38,7 +39,7 @@ module _ {T : Type 0} where
       ap (entry_named e.id) s.whole
       ∙ find-append (λ f. is_client e.id f.id) s.front (e ∷ s.back)
       ∙ ap (λ o. option_or o (entry_named e.id (e ∷ s.back))) ahead
-      ∙ ap (λ b. cond b (Some e) (entry_named e.id s.back)) (itself e.id)
+      ∙ ap (λ b. cond b (Some e) (entry_named e.id s.back)) (itself_id e.id)
 
   -- ---- each entry is changed, and none its key or id
 
@@ -121,10 +122,7 @@ module _ {T : Type 0} where
   keyed_last key es e = find-append (λ f. f.key == key) es (e ∷ [])
 
   abbrev pub split_last : (es : List (Entry T)) (e : Entry T) → AreDistinct (es ++ e ∷ []) → Split e.key e (es ++ e ∷ [])
-  split_last es e d = record { front = es; back = []; whole = refl; keyed = itself_key e.key; ahead = all_before es d; behind = tt } where
-    itself_key : (key : ℕ) → (key == key) ≡ true
-    itself_key key = itself (record { 0 = key })
-
+  split_last es e d = record { front = es; back = []; whole = refl; keyed = eq-eqb e.key e.key refl; ahead = all_before es d; behind = tt } where
     last_of : (P : Entry T → Type 0) (xs : List (Entry T)) → AllByRecursion P (xs ++ e ∷ []) → P e
     last_of P [] h = h.0
     last_of P (x ∷ xs) h = last_of P xs h.1

@@ -37,14 +37,6 @@ module _ {R : Type 0} (C : R → R → Ordering) (o : IsTotalOrder C) where
   pub not_behind : (a b : R) → is_gt (C a b) ≡ false → is_lt (C b a) ≡ false
   not_behind a b h = ap is_lt (o.antisymm b a) ∙ turned_lt (C a b) ∙ h
 
-  equal_of : (r : Ordering) → r ≡ ordering_reverse r → r ≡ Equal
-  equal_of Less e = cc
-  equal_of Equal e = refl
-  equal_of Greater e = cc
-
-  pub itself : (a : R) → C a a ≡ Equal
-  itself a = equal_of (C a a) (o.antisymm a a)
-
 -- ---- one client's requests
 
 -- a tag is not above another; an absent one is last

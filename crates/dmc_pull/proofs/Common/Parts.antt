@@ -1,10 +1,10 @@
 -- Lists in parts: what holds of each element, and what a map, a filter or a test of all comes to.
-use Rattle.std.proofs.Common.{◌≡◌, ℕ, suc, Bool, true, false, not, ◌&&◌, ◌||◌, cond, List, [], ◌∷◌, ◌++◌, map, length, Some, None, refl, sym, ap, ◌∙◌, subst, arith}
+use Rattle.std.proofs.Common.{◌≡◌, ℕ, suc, Bool, true, false, not, ◌&&◌, ◌||◌, cond, List, [], ◌∷◌, ◌++◌, map, length, Some, None, refl, sym, ap, ◌∙◌, arith}
 use Rattle.std.specs.Prelude.{filter, ◌==◌}
 use Rattle.std.specs.List.{find, list_all, list_any, AllByRecursion}
 use Rattle.std.proofs.lemmas.Bool.{eqb-true, eqb-false, eq-eqb}
 pub use Rattle.dmc_tag.proofs.Options.{map_cond}
-pub use Rattle.dmc_tag.proofs.Lists.{all_as, all_both, all_append, all_filtered, found_holds, length_filtered}
+pub use Rattle.dmc_tag.proofs.Lists.{all_as, all_both, all_append, all_filtered, found_holds, found_passes, length_filtered, map_unmoved}
 pub use Rattle.dmc_tag.proofs.Booleans.{eqb_turned}
 pub use Rattle.std.proofs.Math.Bool.{and-true}
 
@@ -27,10 +27,6 @@ all_mapped P f (y ∷ ys) h = (h.0, all_mapped P f ys h.1)
 pub map_agree : {X Y : Type 0} (f g : X → Y) (xs : List X) → AllByRecursion (λ x. f x ≡ g x) xs → map f xs ≡ map g xs
 map_agree f g [] h = refl
 map_agree f g (x ∷ xs) h = ap (λ y. y ∷ map f xs) h.0 ∙ ap (λ ys. g x ∷ ys) (map_agree f g xs h.1)
-
-pub map_kept : {X : Type 0} (f : X → X) (xs : List X) → AllByRecursion (λ x. f x ≡ x) xs → map f xs ≡ xs
-map_kept f [] h = refl
-map_kept f (x ∷ xs) h = ap (λ y. y ∷ map f xs) h.0 ∙ ap (λ ys. x ∷ ys) (map_kept f xs h.1)
 
 -- ---- filters
 
@@ -87,13 +83,6 @@ all_is test (x ∷ xs) = at (all_is test xs) (test x) where
   at more false = fewer (length (filter test xs) == suc (length xs)) refl
 
 -- ---- what is found
-
-pub found_passes : {X : Type 0} (test : X → Bool) (xs : List X) (e : X) → find test xs ≡ Some e → test e ≡ true
-found_passes test [] e f = cc
-found_passes test (x ∷ xs) e f = at (found_passes test xs e) (test x) refl f where
-  at : (find test xs ≡ Some e → test e ≡ true) → (b : Bool) → test x ≡ b → cond b (Some x) (find test xs) ≡ Some e → test e ≡ true
-  at more true t g = let same : x ≡ e = cc in subst (λ y. test y ≡ true) same t
-  at more false t g = more g
 
 pub none_found : {X : Type 0} (test : X → Bool) (xs : List X) → find test xs ≡ None → AllByRecursion (λ x. test x ≡ false) xs
 none_found test [] f = tt

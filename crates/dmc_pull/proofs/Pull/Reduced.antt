@@ -17,7 +17,8 @@ use Rattle.dmc_adjust.specs.Changes.{popped, reduced}
 use Rattle.dmc_roster.specs.Entries.{Entry, with_record}
 use Rattle.dmc_pull.specs.Standing.{clients_in, requests_in}
 use Rattle.dmc_pull.proofs.Common.Parts.{and-true}
-use Rattle.dmc_pull.proofs.Common.Entries.{Split, Differs, itself, split_changed, clients_whole, requests_whole, changed_client, length_whole, length_as}
+use Rattle.dmc_pull.proofs.Common.Entries.{Split, Differs, split_changed, clients_whole, requests_whole, changed_client, length_whole, length_as}
+use Rattle.dmc_tag.proofs.Ids.{itself_id}
 
 module _ {T : Type 0} (ops : Tagging T) where
   -- ---- other clients
@@ -58,7 +59,7 @@ module _ {T : Type 0} (ops : Tagging T) where
     own_reduced : (qs : List (QueuedRequest T)) → map (reduced_request ops e.id amount) (map (request_of e.id) qs) ≡ map (request_of e.id) (map (less_reservation ops amount) qs)
     own_reduced [] = refl
     own_reduced (q ∷ qs) =
-        ap (λ b. (if b then request_of e.id (less_reservation ops amount q) else request_of e.id q) ∷ map (reduced_request ops e.id amount) (map (request_of e.id) qs)) (itself e.id)
+        ap (λ b. (if b then request_of e.id (less_reservation ops amount q) else request_of e.id q) ∷ map (reduced_request ops e.id amount) (map (request_of e.id) qs)) (itself_id e.id)
         ∙ ap (λ rs. request_of e.id (less_reservation ops amount q) ∷ rs) (own_reduced qs)
 
   module _ {key : ℕ} {e : Entry T} {es : List (Entry T)} (s : Split key e es) where

@@ -16,8 +16,9 @@ use Rattle.dmc_pull.specs.Queue.{state_of}
 use Rattle.dmc_scene.specs.SceneValue.{ClientValue}
 use Rattle.dmc_core.specs.Events.{registration}
 use Rattle.dmc_core.specs.Opening.{named_rates}
-use Rattle.dmc_core.proofs.Opened.{fresh, take_one_more, state_after_more, newcomer_registers}
+use Rattle.dmc_core.proofs.Opened.{fresh, take_one_more, newcomer_registers}
 use Rattle.dmc_core.proofs.opening.open_queue.Goals as goal
+use Rattle.dmc_tag.proofs.ForCallers.{state_after-more}
 
 pub unreachable-requires : goal.unreachable-requires
 unreachable-requires g c =
@@ -61,7 +62,7 @@ loop-client-preserved g c =
     let more : map registration (map named_rates (take (i + 1) cs)) ≡ before ++ registration (named_rates x) ∷ [] =
     ap (map registration) (take_one_more named_rates cs i x within c.client-item.is) ∙ map-append registration (map named_rates (take i cs)) (named_rates x ∷ []) in
     record {
-      state = stepped ∙ ap (λ (v : State g.row.T.Denot). (step ops v command).0) inv.state ∙ sym (state_after_more ops (opening c.args.config) before (registration (named_rates x))) ∙ ap (state_after ops (opening c.args.config)) (sym more);
+      state = stepped ∙ ap (λ (v : State g.row.T.Denot). (step ops v command).0) inv.state ∙ sym (state_after-more ops (opening c.args.config) before (registration (named_rates x))) ∙ ap (state_after ops (opening c.args.config)) (sym more);
       config = ap (λ (v : State g.row.T.Denot). v.config) next ∙ inv.config;
       ids = ap (λ (v : State g.row.T.Denot). map (λ (p : PlainClient g.row.T.Denot). p.id) v.clients) next ∙ map-append (λ (p : PlainClient g.row.T.Denot). p.id) u.clients _
           ∙ ap (λ (ks : List ClientId). ks ++ x.id ∷ []) inv.ids ∙ sym (take_one_more (λ (k : ClientValue). k.id) cs i x within c.client-item.is);

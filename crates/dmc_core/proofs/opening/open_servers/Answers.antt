@@ -1,9 +1,9 @@
 use Rattle.std.proofs.Common.{◌≡◌, ◌+◌, List, [], ◌∷◌, ◌++◌, length, map, refl, sym, ap, ◌∙◌, arith, length-append}
-use Rattle.dmc_core.proofs.Lists.{all_push}
 use Rattle.dmc_core.proofs.opening.open_servers.Goals as goal
+use Rattle.dmc_tag.proofs.Lists.{all_next}
 
 pub loop-preserved : goal.loop-preserved
 loop-preserved g c = record {
   as_many = rw c.in_ok-push.ensures.items (simp length-append (omega arith));
-  each = rw c.in_ok-push.ensures.items (all_push _ c.loop.servers.items _ c.loop.invariant.each (c.in_ok-queue.ensures ∙ rw (c.config.ensures, c.clients.ensures.value) refl, refl));
+  each = rw c.in_ok-push.ensures.items (all_next _ c.loop.servers.items _ c.loop.invariant.each (c.in_ok-queue.ensures ∙ rw (c.config.ensures, c.clients.ensures.value) refl, refl));
 }

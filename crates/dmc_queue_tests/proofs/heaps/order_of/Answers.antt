@@ -9,7 +9,7 @@ use Rattle.std.proofs.lemmas.List.{length-set, get_or-set_same, get_or-set_other
 use Rattle.dmc_tag.specs.declared.rank.TagRank.{TagRank}
 use Rattle.dmc_index.specs.Index.{slot_of_key}
 use Rattle.dmc_tag.proofs.Options.{option_cases}
-use Rattle.dmc_heap.proofs.OrderLemmas.{same_some}
+use Rattle.std.proofs.lemmas.Option.{same_Some}
 use Rattle.dmc_queue_tests.proofs.heaps.order_of.Goals as goal
 
 tied : (tags : Ordering) (x y : ℕ) → ordering_then tags (nat_cmp x y) ≡ Equal → x ≡ y
@@ -38,7 +38,7 @@ module _ {T : Type 0} (old : List (Option (TagRank T))) (key : ℕ) (rank : TagR
   clients_after : ((k : ℕ) (r : TagRank T) → slot_of_key old k ≡ Some r → (k < key) × (r.client.0 ≡ k)) → (k : ℕ) (r : TagRank T) → slot_of_key (set old key (Some rank)) k ≡ Some r → (k < key + 1) × (r.client.0 ≡ k)
   clients_after clients k r h =
       elim (cases_eq k key) [
-        | inl s ↦ let same : rank ≡ r = same_some rank r (sym (get_or-set_same old key (Some rank) None in') ∙ ap (slot_of_key (set old key (Some rank))) (sym s) ∙ h) in (omega (arith, s), ap (λ (x : TagRank T). x.client.0) (sym same) ∙ own ∙ sym s)
+        | inl s ↦ let same : rank ≡ r = same_Some rank r (sym (get_or-set_same old key (Some rank) None in') ∙ ap (slot_of_key (set old key (Some rank))) (sym s) ∙ h) in (omega (arith, s), ap (λ (x : TagRank T). x.client.0) (sym same) ∙ own ∙ sym s)
         | inr p ↦ let at = clients k r (sym (get_or-set_other old key k (Some rank) None p) ∙ h) in (omega (arith, at.0), at.1)
       ]
 

@@ -17,12 +17,13 @@ use Rattle.dmc_settle.specs.declared.report.ServerReport.{ServerReport}
 use Rattle.dmc_settle.specs.declared.report.ClusterReport.{ClusterReport}
 use Rattle.dmc_settle.proofs.Circles.{IsSettledCluster, circles}
 use Rattle.dmc_settle.proofs.Completed.{report}
-use Rattle.dmc_settle.proofs.Lists.{alike_long, lent_back}
+use Rattle.dmc_settle.proofs.Lists.{alike_long}
 use Rattle.dmc_settle.proofs.Ready.{ready_clients, ready_servers}
 use Rattle.dmc_settle.proofs.Reported.{report_of}
 use Rattle.dmc_settle.proofs.Together.{passes_seen}
 use Rattle.dmc_settle.proofs.settle.settle_cluster.Given.{Over}
 use Rattle.dmc_settle.proofs.settle.settle_cluster.Goals as goal
+use Rattle.dmc_tag.proofs.Lists.{lent_back}
 
 pub returns-then-not-are_together-clause-together : goal.returns-then-not-are_together-clause-together
 returns-then-not-are_together-clause-together g c =

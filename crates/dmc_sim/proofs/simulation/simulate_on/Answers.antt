@@ -1,4 +1,4 @@
-use Rattle.std.proofs.Common.{◌≡◌, ◌≤◌, length, map, ap, ◌∙◌, subst, arith}
+use Rattle.std.proofs.Common.{◌≡◌, length, map, ap, ◌∙◌, subst, arith}
 use Rattle.std.specs.List.{AllZip, range_with_len}
 use Rattle.std.specs.Vec.{with_items}
 use Rattle.std.proofs.lemmas.List.{length-map, with_items_is}
@@ -8,8 +8,9 @@ use Rattle.dmc_sim.specs.Reports.{IsClientRow, IsComplete}
 use Rattle.dmc_sim.specs.Rows.{row_of, idle_row}
 use Rattle.dmc_sim.specs.declared.client.SimClient.{SimClient}
 use Rattle.dmc_sim.specs.declared.report.ServerReport.{ServerReport}
-use Rattle.dmc_sim.proofs.RowLemmas.{client_rows, complete_rows, idle_numbers, none_granted, was_true}
+use Rattle.dmc_sim.proofs.RowLemmas.{client_rows, complete_rows, idle_numbers, none_granted}
 use Rattle.dmc_sim.proofs.simulation.simulate_on.Goals as goal
+use Rattle.std.proofs.lemmas.Bool.{not-false}
 
 pub run-requires-clause-ids : goal.run-requires-clause-ids
 run-requires-clause-ids g c =
@@ -43,6 +44,6 @@ returns g c =
       servers = ap numbers (with_items_is (with_items servers c.run.new.servers) c.count_left.new.servers told) ∙ c.count_left.ensures ∙ ap numbers (c.deref_mut-3.ensures.value ∙ run)
           ∙ c.in_ok-end.ensures.numbers ∙ ap numbers (c.deref_mut-2.ensures.value ∙ c.in_ok-servers.ensures) ∙ idle_numbers 0 c.servers.result ∙ ap (range_with_len 0) c.servers.ensures.value;
       in_time = λ e.
-          let all = rw (c.deref-2.ensures.value ∙ held) at (c.are_complete.ensures (was_true c.are_complete.result e)) in
+          let all = rw (c.deref-2.ensures.value ∙ held) at (c.are_complete.ensures (not-false c.are_complete.result e)) in
           rw rows (subst (λ ss. AllZip IsComplete ss (map row_of cs)) scenes (complete_rows cs all));
     }

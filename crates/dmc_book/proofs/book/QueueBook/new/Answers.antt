@@ -4,8 +4,9 @@ use Rattle.dmc_ledger.specs.Bundles.{ClientSide, client_side}
 use Rattle.dmc_ledger.specs.declared.desk.ClientDesk.{ClientDesk}
 use Rattle.dmc_pull.specs.Queue as queue
 use Rattle.dmc_book.specs.Opening.{AreNamedOnce, IsNewDesk, desk_with_tills}
-use Rattle.dmc_book.proofs.OpeningLemmas.{as_many_desks, consistent_new, lent_back, names_stay}
+use Rattle.dmc_book.proofs.OpeningLemmas.{as_many_desks, consistent_new, names_stay}
 use Rattle.dmc_book.proofs.book.QueueBook.new.Goals as goal
+use Rattle.dmc_tag.proofs.Lists.{lent_back}
 
 pub invariant_of-book : goal.invariant_of-book
 invariant_of-book g c =

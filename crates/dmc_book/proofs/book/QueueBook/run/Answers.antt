@@ -14,8 +14,9 @@ use Rattle.dmc_tag.proofs.ForCallers.{tag_order}
 use Rattle.dmc_book.proofs.Counting.{consistent_more, workers_within, desks_within}
 use Rattle.dmc_book.proofs.DeskLemmas.{lacks_agree}
 use Rattle.dmc_book.proofs.AskLemmas.{consistent_unasked, strays_by_history, taken_has_desk}
-use Rattle.dmc_book.proofs.Causes.{cause_is, same_cause, never_no_desk, full_cause, full_named}
+use Rattle.dmc_book.proofs.Causes.{same_cause, never_no_desk, full_cause, full_named}
 use Rattle.dmc_book.proofs.book.QueueBook.run.Goals as goal
+use Rattle.dmc_tag.proofs.Options.{err_is}
 
 pub returns-then-lacks_desk_for-clause-no_desk : goal.returns-then-lacks_desk_for-clause-no_desk
 returns-then-lacks_desk_for-clause-no_desk g c =
@@ -34,7 +35,7 @@ pub returns-in_err-reserve_one-clause-no_desk : goal.returns-in_err-reserve_one-
 returns-in_err-reserve_one-clause-no_desk g c =
     let here = c.self.inside in
     let lacks = sym (lacks_agree here.clients.keys here.desks.items c.self.invariant.1 c.args.command) ∙ sym c.lacks_desk_for.ensures ∙ c.if-lacks_desk_for.false in
-    let is = cause_is c.from_residual.result _ c.from_residual.ensures.1 in
+    let is = err_is c.from_residual.result _ c.from_residual.ensures.1 in
     rw (← c.self.view_is) ((λ h. absurd (never_no_desk c.from_residual.result c.in_err-reserve_one.field-0.0 is h)), (λ h. absurd (true≢false (sym h.1 ∙ lacks))))
 
 pub returns-in_err-reserve_one-clause-history_full : goal.returns-in_err-reserve_one-clause-history_full
@@ -42,7 +43,7 @@ returns-in_err-reserve_one-clause-history_full g c =
     let here = c.self.inside in
     let lacks = sym (lacks_agree here.clients.keys here.desks.items c.self.invariant.1 c.args.command) ∙ sym c.lacks_desk_for.ensures ∙ c.if-lacks_desk_for.false in
     let enrolled : IsEnrolled (map worker_side here.workers.items) (pass_state c.args.pass.now) = search rules in
-    let is = cause_is c.from_residual.result _ c.from_residual.ensures.1 in
+    let is = err_is c.from_residual.result _ c.from_residual.ensures.1 in
     rw (← c.self.view_is) (
       (λ h. (enrolled, lacks, c.reserve_one.ensures.full.0 (c.in_err-reserve_one.was ∙ ap Err (full_cause c.from_residual.result c.in_err-reserve_one.field-0.0 is h)))),
       (λ h. full_named c.from_residual.result c.in_err-reserve_one.field-0.0 is (same_cause {X = Unit} _ _ (sym (c.in_err-reserve_one.was) ∙ c.reserve_one.ensures.full.1 h.2))),
@@ -64,7 +65,7 @@ pub returns-in_err-reply-clause-strays : goal.returns-in_err-reply-clause-strays
 returns-in_err-reply-clause-strays g c =
     let asks = takes (map client_side c.self.inside.desks.items) (arc_value c.args.pass.now.clients).keys (map grant_holdings c.args.pass.now.units.items) in
     let order = tag_order g.T.Ord.cmp g.T.Tag.ops.compare g.met.T.Ord.total g.met.T.Tag.compares in
-    let is = cause_is c.from_residual-in_err-reply.result _ c.from_residual-in_err-reply.ensures.1 in
+    let is = err_is c.from_residual-in_err-reply.result _ c.from_residual-in_err-reply.ensures.1 in
     let desks_are : c.deref-2.result.now ≡ c.self.inside.desks.items = search rules in
     let answer = subst (λ ds. Asks g.T.Tag.ops (takes (map client_side ds) (arc_value c.args.pass.now.clients).keys (map grant_holdings c.args.pass.now.units.items)) (queue.state_of c.self.inside.queue.0) (queue.state_of c.ask.new.queue) c.args.command c.ask.result) desks_are c.ask.ensures in
     let asked = subst (Asks g.T.Tag.ops asks (queue.state_of c.self.inside.queue.0) (queue.state_of c.ask.new.queue) c.args.command) c.in_err-reply.was answer in
@@ -76,7 +77,7 @@ returns-in_err-reply-clause-no_desk g c =
     let here = c.self.inside in
     let asks = takes (map client_side here.desks.items) (arc_value c.args.pass.now.clients).keys (map grant_holdings c.args.pass.now.units.items) in
     let lacks = sym (lacks_agree here.clients.keys here.desks.items c.self.invariant.1 c.args.command) ∙ sym c.lacks_desk_for.ensures ∙ c.if-lacks_desk_for.false in
-    let is = cause_is c.from_residual-in_err-reply.result _ c.from_residual-in_err-reply.ensures.1 in
+    let is = err_is c.from_residual-in_err-reply.result _ c.from_residual-in_err-reply.ensures.1 in
     let desks_are : c.deref-2.result.now ≡ c.self.inside.desks.items = search rules in
     let answer = subst (λ ds. Asks g.T.Tag.ops (takes (map client_side ds) (arc_value c.args.pass.now.clients).keys (map grant_holdings c.args.pass.now.units.items)) (queue.state_of c.self.inside.queue.0) (queue.state_of c.ask.new.queue) c.args.command c.ask.result) desks_are c.ask.ensures in
     let asked = subst (Asks g.T.Tag.ops asks (queue.state_of c.self.inside.queue.0) (queue.state_of c.ask.new.queue) c.args.command) c.in_err-reply.was answer in

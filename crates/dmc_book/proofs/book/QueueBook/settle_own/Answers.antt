@@ -10,7 +10,8 @@ use Rattle.dmc_book.specs.Settling.{AreOneOpen, ArePassesTakenIn, closed_worker}
 use Rattle.dmc_book.specs.declared.pass.WorkerPass.{WorkerPass}
 use Rattle.dmc_book.specs.declared.seat.Seat.{Seat}
 use Rattle.dmc_book.proofs.GrantLemmas.{grants_of_desks}
-use Rattle.dmc_book.proofs.OpeningLemmas.{consistent_empty, lent_back}
+use Rattle.dmc_book.proofs.OpeningLemmas.{consistent_empty}
+use Rattle.dmc_tag.proofs.Lists.{lent_back}
 use Rattle.dmc_book.proofs.SettlingLemmas.{one_open, settled_desks, settled_workers}
 use Rattle.dmc_book.proofs.book.QueueBook.settle_own.Goals as goal
 

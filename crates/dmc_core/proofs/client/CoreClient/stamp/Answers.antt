@@ -4,8 +4,9 @@ use Rattle.dmc_core.specs.declared.event.Message.{Message}
 use Rattle.dmc_core.specs.Core.{Held}
 use Rattle.dmc_core.specs.Parts.{pair_of}
 use Rattle.dmc_core.proofs.Pairs.{pair_seen, pair_changed, pair_same, flight_keeps_grants, same_keeps_grants}
-use Rattle.dmc_core.proofs.Clients.{err_is, stamp-refused, stamp-memory, stamp-sent}
+use Rattle.dmc_core.proofs.Clients.{stamp-refused, stamp-memory, stamp-sent}
 use Rattle.dmc_core.proofs.client.CoreClient.stamp.Goals as goal
+use Rattle.dmc_tag.proofs.Options.{err_is}
 
 pub returns-in_err-can_stamp-clause-follows : goal.returns-in_err-can_stamp-clause-follows
 returns-in_err-can_stamp-clause-follows g c =

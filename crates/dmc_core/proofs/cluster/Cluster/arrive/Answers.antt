@@ -10,12 +10,12 @@ use Rattle.dmc_core.specs.Parts.{one_if_full, full_counts}
 use Rattle.dmc_core.specs.Run.{Pair, Client, pair_at, with_pair, with_flight, grants, with_grants, most_grants}
 use Rattle.dmc_core.specs.declared.event.CoreEvent.TheVariants as events
 use Rattle.dmc_core.specs.declared.server.CoreServer.{CoreServer}
-use Rattle.dmc_core.proofs.Clients.{err_is}
 use Rattle.dmc_core.proofs.Pairs.{seen_map, flight_keeps_grants}
 use Rattle.dmc_core.proofs.Kept.{client_kept, server_kept}
 use Rattle.dmc_core.proofs.Arrivals.{not_tagged, arrival_no_names, arrival_no_flight, arrival_memory, arrival_served, arrival_refused}
 use Rattle.dmc_core.proofs.cluster.Cluster.arrive.Goals as goal
 use Rattle.dmc_core.proofs.cluster.Cluster.arrive.Goals.{in-Tagged, in_default-reply}
+use Rattle.dmc_tag.proofs.Options.{err_is}
 
 pub returns-in_err-place : goal.returns-in_err-place
 returns-in_err-place g c =

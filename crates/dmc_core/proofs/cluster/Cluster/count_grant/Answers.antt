@@ -9,7 +9,6 @@ use Rattle.dmc_core.specs.Parts.{one_if_full, full_counts}
 use Rattle.dmc_core.specs.Run.{Pair, Client, pair_at, with_pair, grants, with_grants, most_grants}
 use Rattle.dmc_core.specs.declared.event.CoreEvent.TheVariants as events
 use Rattle.dmc_core.specs.declared.server.CoreServer.{CoreServer}
-use Rattle.dmc_core.proofs.Clients.{err_is}
 use Rattle.dmc_core.proofs.Pairs.{seen_map, flight_keeps_grants}
 use Rattle.dmc_core.specs.Events.{after_grant}
 use Rattle.dmc_core.proofs.Runs.{no_client_placed, no_one_changed, one_changed, found_place}

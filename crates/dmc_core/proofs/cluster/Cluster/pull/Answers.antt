@@ -9,12 +9,12 @@ use Rattle.dmc_core.specs.Parts.{one_if_full, full_counts}
 use Rattle.dmc_core.specs.Run.{Pair, Client, pair_at, with_pair, grants, with_grants, most_grants}
 use Rattle.dmc_core.specs.declared.event.CoreEvent.TheVariants as events
 use Rattle.dmc_core.specs.declared.server.CoreServer.{CoreServer}
-use Rattle.dmc_core.proofs.Clients.{err_is}
 use Rattle.dmc_core.proofs.Pairs.{seen_map, flight_keeps_grants}
 use Rattle.dmc_core.proofs.Kept.{known, server_kept}
 use Rattle.dmc_core.proofs.Pulls.{not_granted, pull_no_name, pull_full, pull_served}
 use Rattle.dmc_core.proofs.cluster.Cluster.pull.Goals as goal
 use Rattle.dmc_core.proofs.cluster.Cluster.pull.Goals.{in-Granted, in_default}
+use Rattle.dmc_tag.proofs.Options.{err_is}
 
 pub returns-in_err-index : goal.returns-in_err-index
 returns-in_err-index g c =

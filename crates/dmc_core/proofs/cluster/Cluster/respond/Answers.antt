@@ -10,13 +10,13 @@ use Rattle.dmc_core.specs.Parts.{one_if_full, full_counts}
 use Rattle.dmc_core.specs.Run.{Pair, Client, pair_at, with_pair, grants, with_grants, most_grants}
 use Rattle.dmc_core.specs.declared.event.CoreEvent.TheVariants as events
 use Rattle.dmc_core.specs.declared.server.CoreServer.{CoreServer}
-use Rattle.dmc_core.proofs.Clients.{err_is}
 use Rattle.dmc_core.proofs.Pairs.{seen_map, flight_keeps_grants}
 use Rattle.dmc_core.proofs.Kept.{known, count_kept, count_changed, full_gone, full_not}
 use Rattle.dmc_core.proofs.Counts.{full_counts-part, one_if_full-part}
 use Rattle.dmc_core.proofs.Runs.{client_no_names, client_follows}
 use Rattle.dmc_core.proofs.cluster.Cluster.respond.Goals as goal
 use Rattle.dmc_core.proofs.cluster.Cluster.respond.Goals.{then-is_full, else-is_full}
+use Rattle.dmc_tag.proofs.Options.{err_is}
 
 pub returns-in_err-place : goal.returns-in_err-place
 returns-in_err-place g c =

@@ -8,11 +8,11 @@ use Rattle.dmc_core.specs.Events.{stamp, response}
 use Rattle.dmc_core.specs.Run.{Client}
 use Rattle.dmc_core.specs.declared.event.CoreEvent.TheVariants as events
 use Rattle.dmc_core.specs.declared.server.CoreServer.{CoreServer}
-use Rattle.dmc_core.proofs.Clients.{err_is}
 use Rattle.dmc_core.proofs.Pairs.{seen_map}
 use Rattle.dmc_core.proofs.Kept.{client_kept, server_kept}
 use Rattle.dmc_core.proofs.Runs.{client_no_names, client_follows, server_no_name, server_follows}
 use Rattle.dmc_core.proofs.cluster.Cluster.stamp.Goals as goal
+use Rattle.dmc_tag.proofs.Options.{err_is}
 
 pub returns-in_err-place : goal.returns-in_err-place
 returns-in_err-place g c =

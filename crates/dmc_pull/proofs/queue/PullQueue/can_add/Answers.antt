@@ -9,6 +9,7 @@ use Rattle.dmc_pull.specs.Queue.{IsQueue, state_of}
 use Rattle.dmc_pull.proofs.Add.Adds as adds
 use Rattle.dmc_pull.proofs.Pull.Allowed as allowed
 use Rattle.dmc_pull.proofs.queue.PullQueue.can_add.Goals as goal
+use Rattle.dmc_tag.proofs.Options.{err_is}
 
 pub returns-in_default-clause-outcome : goal.returns-in_default-clause-outcome
 returns-in_default-clause-outcome g c =
@@ -28,7 +29,7 @@ returns-in_err-shift-clause-outcome g c =
     let entry = subst (λ q. entry_keyed c.in-Some.key q.roster.entries ≡ entry_named c.args.client q.roster.entries) c.self.view_is c.in-Some.ensures.entry in
     let held = subst (λ q. is_some (entry_keyed c.in-Some.key q.roster.entries) ≡ true) c.self.view_is c.in-Some.ensures.held in
     let refused = allowed.shift_refused g.T.Tag.ops g.T.Tag.fraction g.T.Tag.is_value c.args.self.now c.self.inside.queued is g.met.T.Tag.exact.same (minus_nothing g.T.Tag.ops g.T.Tag.fraction g.T.Tag.is_value g.met.T.Tag.exact) c.args.client c.args.params c.args.at c.in-Some.key entry held c.if-self-ge-REQUESTS.false c.needed_shift.result c.of_moment-t.result c.of_moment-t.ensures c.needed_shift.ensures.value c.in_err-shift.field-0.0 c.in_err-shift.was in
-    subst (λ r. CanAdd g.T.Tag.ops (state_of c.args.self.now) c.args.client c.args.params c.args.at r) (sym (adds.err_is c.from_residual.result c.in_err-shift.field-0.0 c.from_residual.ensures.1)) refused
+    subst (λ r. CanAdd g.T.Tag.ops (state_of c.args.self.now) c.args.client c.args.params c.args.at r) (sym (err_is c.from_residual.result c.in_err-shift.field-0.0 c.from_residual.ensures.1)) refused
 
 pub returns-then-not-can_shift_by-clause-outcome : goal.returns-then-not-can_shift_by-clause-outcome
 returns-then-not-can_shift_by-clause-outcome g c =

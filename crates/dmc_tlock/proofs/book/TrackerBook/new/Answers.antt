@@ -4,8 +4,9 @@ use Rattle.dmc_tracker.specs.Numbers.{Numbers, new_numbers, Stands}
 use Rattle.dmc_ledger.specs.Bundles.{ServerSide, server_side}
 use Rattle.dmc_ledger.specs.declared.desk.ServerDesk.{ServerDesk}
 use Rattle.dmc_tlock.specs.Opening.{side_after_opening}
-use Rattle.dmc_tlock.proofs.OpeningLemmas.{one_till, IsConsistent-new, lent_back}
+use Rattle.dmc_tlock.proofs.OpeningLemmas.{one_till, IsConsistent-new}
 use Rattle.dmc_tlock.proofs.book.TrackerBook.new.Goals as goal
+use Rattle.dmc_tag.proofs.Lists.{lent_back}
 
 pub open_pass-requires-clause-one : goal.open_pass-requires-clause-one
 open_pass-requires-clause-one g c =

@@ -2,9 +2,9 @@ use Rattle.std.proofs.Common.{◌≡◌, length, drop, sym, ◌∙◌}
 use Rattle.std.proofs.lemmas.List.{length-map}
 use Rattle.dmc_ledger.specs.Bundles.{ServerSide, server_side}
 use Rattle.dmc_ledger.specs.declared.desk.ServerDesk.{ServerDesk}
-use Rattle.dmc_tlock.proofs.OpeningLemmas.{lent_back}
 use Rattle.dmc_tlock.proofs.SettlingLemmas.{settled_desks}
 use Rattle.dmc_tlock.proofs.book.TrackerBook.settle.Goals as goal
+use Rattle.dmc_tag.proofs.Lists.{lent_back}
 
 pub returns-clause-desks : goal.returns-clause-desks
 returns-clause-desks g c =

@@ -66,10 +66,10 @@ fn rise<R: Rank>(
 {
     while at > 0 {
         let parent = (at - 1) / 2;
-        let above = heap[parent];
-        if !entry.rank.cmp(&above.rank).is_lt() {
+        if !entry.rank.cmp(&heap[parent].rank).is_lt() {
             return at;
         }
+        let above = heap[parent];
         put(heap, places, at, above);
         at = parent;
     }

@@ -1,7 +1,7 @@
-use Rattle.std.proofs.Common.{◌≢◌, length, refl, sym, ap, ◌∙◌, arith}
+use Rattle.std.proofs.Common.{◌≡◌, ◌≢◌, length, refl, sym, ap, ◌∙◌, subst, arith}
 use Rattle.std.specs.Ordering.{is_lt}
 use Rattle.std.proofs.lemmas.Option.{slice_get_read}
-use Rattle.dmc_heap.specs.Heap.{parent_of}
+use Rattle.dmc_heap.specs.Heap.{parent_of, IsUpto}
 use Rattle.dmc_heap.proofs.LinkLemmas.{y_in_room}
 use Rattle.dmc_heap.proofs.OrderLemmas.{IsHole-up, IsOverChildren-up, IsMoved-more, upto_if_lt}
 use Rattle.dmc_heap.proofs.indexed_heap.rise.Goals as goal
@@ -9,18 +9,23 @@ use Rattle.dmc_heap.proofs.indexed_heap.rise.Goals as goal
 pub put-requires-clause-in_room : goal.put-requires-clause-in_room
 put-requires-clause-in_room g c =
     let hole = c.loop-at.invariant.hole in
+    let above = c.index-heap-parent-in-loop-at in
     let apart : parent_of c.loop-at.at ≢ c.loop-at.at = λ e. omega arith in
-    let here = slice_get_read c.loop-at.heap (length c.loop-at.heap) (parent_of c.loop-at.at) c.index-heap-parent.result refl (omega (arith, hole.within)) c.index-heap-parent.is in
-    y_in_room c.loop-at.heap c.loop-at.places c.args.entry c.index-heap-parent.result c.loop-at.at (parent_of c.loop-at.at) apart hole.within hole.linked here
+    let here = slice_get_read c.loop-at.heap (length c.loop-at.heap) (parent_of c.loop-at.at) above.result refl (omega (arith, hole.within)) above.is in
+    y_in_room c.loop-at.heap c.loop-at.places c.args.entry above.result c.loop-at.at (parent_of c.loop-at.at) apart hole.within hole.linked here
 
 pub loop-at-preserved : goal.loop-at-preserved
 loop-at-preserved g c =
     let hole = c.loop-at.invariant.hole in
+    let compared = c.index-heap-parent in
+    let above = c.index-heap-parent-in-loop-at in
     let apart : parent_of c.loop-at.at ≢ c.loop-at.at = λ e. omega arith in
-    let here = slice_get_read c.loop-at.heap (length c.loop-at.heap) (parent_of c.loop-at.at) c.index-heap-parent.result refl (omega (arith, hole.within)) c.index-heap-parent.is in
-    let lower = upto_if_lt _ (ap is_lt (sym c.cmp.ensures) ∙ sym c.is_lt.ensures ∙ c.if-not-is_lt.false) in
+    let here = slice_get_read c.loop-at.heap (length c.loop-at.heap) (parent_of c.loop-at.at) above.result refl (omega (arith, hole.within)) above.is in
+    let there = slice_get_read c.loop-at.heap (length c.loop-at.heap) (parent_of c.loop-at.at) compared.result refl (omega (arith, hole.within)) compared.is in
+    let same : compared.result ≡ above.result = cc in
+    let lower = subst (λ e. IsUpto g.R.Ord.cmp c.args.entry e) (sym compared.is ∙ same) (upto_if_lt _ (ap is_lt (sym c.cmp.ensures) ∙ sym c.is_lt.ensures ∙ c.if-not-is_lt.false)) in
     rw (c.put.ensures.heap, c.put.ensures.places) (record {
-      hole = IsHole-up g.R.Ord.cmp g.met.R.Ord.total c.loop-at.heap c.loop-at.places c.loop-at.at c.args.entry hole c.index-heap-parent.result c.loop-at-test.true here;
-      moved = IsMoved-more _ _ _ c.loop-at.heap c.loop-at.places c.args.entry c.index-heap-parent.result c.loop-at.at (parent_of c.loop-at.at) apart hole.within hole.linked here c.loop-at.invariant.moved;
-      over = λ _. IsOverChildren-up g.R.Ord.cmp g.met.R.Ord.total c.loop-at.heap c.loop-at.places c.loop-at.at c.args.entry hole c.index-heap-parent.result c.loop-at-test.true here lower;
+      hole = IsHole-up g.R.Ord.cmp g.met.R.Ord.total c.loop-at.heap c.loop-at.places c.loop-at.at c.args.entry hole above.result c.loop-at-test.true here;
+      moved = IsMoved-more _ _ _ c.loop-at.heap c.loop-at.places c.args.entry above.result c.loop-at.at (parent_of c.loop-at.at) apart hole.within hole.linked here c.loop-at.invariant.moved;
+      over = λ _. IsOverChildren-up g.R.Ord.cmp g.met.R.Ord.total c.loop-at.heap c.loop-at.places c.loop-at.at c.args.entry hole above.result c.loop-at-test.true here lower;
     })

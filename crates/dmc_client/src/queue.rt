@@ -7,9 +7,8 @@ ghost use Rattle.dmc_client.specs.Record as record_of;
 ghost use Rattle.dmc_tag.specs.Rules as rules_of;
 
 use crate::request::QueuedRequest;
-use crate::subtraction::{
-    reservation_has_less, shares_have_less, subtract_reservations, subtract_shares,
-};
+use crate::stored::StoredRequests;
+use crate::subtraction::reservation_has_less;
 use dmc_tag::reply::Tags;
 use dmc_tag::shifting::less;
 use dmc_tag::tag::Tag;
@@ -21,7 +20,7 @@ use std::marker::Model;
 /// owed, and walks over no request: what is owed comes off an R as its request is read.
 #[derive(Drop)]
 pub struct RequestQueue<T: Tag> {
-    stored: VecDeque<QueuedRequest<T>>,
+    stored: StoredRequests<T>,
     owed: Option<T>,
 }
 
@@ -32,9 +31,9 @@ impl<T: Tag> Model for RequestQueue<T> {
 
     ghost Value = { List (QueuedRequest T) };
 
-    ghost view = { λ q. all_less_owed T.ops q.owed q.stored.items };
+    ghost view = { λ q. all_less_owed T.ops q.owed q.stored };
 
-    ghost invariant = { λ q. IsOwed T.ops q.owed q.stored.items };
+    ghost invariant = { λ q. IsOwed T.ops q.owed q.stored };
 }
 
 impl<T: Tag> RequestQueue<T> {
@@ -43,7 +42,7 @@ impl<T: Tag> RequestQueue<T> {
         ensures { result ≡ [] }
     {
         RequestQueue {
-            stored: VecDeque::new(alloc),
+            stored: StoredRequests::new(alloc),
             owed: None,
         }
     }
@@ -54,20 +53,20 @@ impl<T: Tag> RequestQueue<T> {
         ensures err { OnErr result (self.new ≡ self.old) }
     {
         if let Some(stored) = with_owed(request, self.owed) {
-            return store(&mut self.stored, stored);
+            return self.stored.push(stored);
         }
         settle(&mut self.stored, self.owed);
         self.owed = None;
-        store(&mut self.stored, request)
+        self.stored.push(request)
     }
 
     /// The request that came first.
     pub fn front(&self) -> Option<QueuedRequest<T>>
         ensures { result ≡ slice_get self.now 0 }
     {
-        match self.stored.front() {
+        match self.stored.get(0) {
             None => None,
-            Some(first) => Some(less_owed(*first, self.owed)),
+            Some(first) => Some(less_owed(first, self.owed)),
         }
     }
 
@@ -77,7 +76,7 @@ impl<T: Tag> RequestQueue<T> {
         ensures rest { self.new ≡ drop 1 self.old }
     {
         let owed = self.owed;
-        let first = self.stored.pop_front()?;
+        let first = self.stored.pop()?;
         if self.stored.is_empty() {
             self.owed = None;
         }
@@ -110,7 +109,7 @@ impl<T: Tag> RequestQueue<T> {
     pub fn has_less_shares(&self, amount: T) -> bool
         ensures { result ≡ list_all (λ r. rules_of.has_less T.ops amount r.tags.p) self.now }
     {
-        shares_have_less(&self.stored, amount)
+        self.stored.shares_have_less(amount)
     }
 
     /// Whether the second request's R less the amount is a value.
@@ -119,7 +118,7 @@ impl<T: Tag> RequestQueue<T> {
     {
         match self.stored.get(1) {
             None => true,
-            Some(request) => reservation_has_less(less_owed(*request, self.owed), amount),
+            Some(request) => reservation_has_less(less_owed(request, self.owed), amount),
         }
     }
 
@@ -127,14 +126,14 @@ impl<T: Tag> RequestQueue<T> {
     pub fn others_have_less(&self, amount: T) -> bool
         ensures { result ≡ list_all (owed_of.reservation_has_less T.ops amount) (drop 1 self.now) }
     {
-        others_have_less(&self.stored, self.owed, amount)
+        others_have_less(self.stored.later(), self.owed, amount)
     }
 
     /// Takes the amount off each P.
     pub fn subtract_shares(&mut self, amount: T)
         ensures { self.new ≡ map (record_of.less_share T.ops amount) self.old }
     {
-        subtract_shares(&mut self.stored, amount);
+        self.stored.subtract_shares(amount);
     }
 
     /// Takes the amount off each R: of whole numbers it is owed, and taken off the stored tags only
@@ -154,7 +153,7 @@ impl<T: Tag> RequestQueue<T> {
         }
         settle(&mut self.stored, self.owed);
         self.owed = None;
-        subtract_reservations(&mut self.stored, amount);
+        self.stored.subtract_reservations(amount);
     }
 }
 
@@ -209,12 +208,12 @@ fn owed_with<T: Tag>(owed: Option<T>, amount: T) -> Option<T>
     }
 }
 
-/// Whether each R but the first request's, less what is owed and the amount, is a value.
-fn others_have_less<T: Tag>(stored: &VecDeque<QueuedRequest<T>>, owed: Option<T>, amount: T) -> bool
-    ensures { result ≡ list_all (λ r. owed_of.reservation_has_less T.ops amount (owed_of.less_owed T.ops owed r)) (drop 1 stored.now.items) }
+/// Whether each R, less what is owed and the amount, is a value.
+fn others_have_less<T: Tag>(others: &VecDeque<QueuedRequest<T>>, owed: Option<T>, amount: T) -> bool
+    ensures { result ≡ list_all (λ r. owed_of.reservation_has_less T.ops amount (owed_of.less_owed T.ops owed r)) others.now.items }
 {
-    for i in 1..stored.len() {
-        if !reservation_has_less(less_owed(stored[i], owed), amount) {
+    for i in 0..others.len() {
+        if !reservation_has_less(less_owed(others[i], owed), amount) {
             return false;
         }
     }
@@ -224,24 +223,10 @@ fn others_have_less<T: Tag>(stored: &VecDeque<QueuedRequest<T>>, owed: Option<T>
 /// Takes what is owed off each stored R.
 #[cold]
 #[inline(never)]
-fn settle<T: Tag>(stored: &mut VecDeque<QueuedRequest<T>>, owed: Option<T>)
-    ensures { stored.new.items ≡ owed_of.all_less_owed T.ops owed stored.old.items }
+fn settle<T: Tag>(stored: &mut StoredRequests<T>, owed: Option<T>)
+    ensures { stored.new ≡ owed_of.all_less_owed T.ops owed stored.old }
 {
     if let Some(amount) = owed {
-        subtract_reservations(stored, amount);
+        stored.subtract_reservations(amount);
     }
-}
-
-/// Puts a request behind the stored ones. A refused growth changes nothing.
-fn store<T: Tag>(
-    stored: &mut VecDeque<QueuedRequest<T>>,
-    request: QueuedRequest<T>,
-) -> Result<(), AllocError>
-    ensures ok { OnOk result (stored.new.items ≡ stored.old.items ++ request ∷ []) }
-    ensures err { OnErr result (stored.new.items ≡ stored.old.items) }
-{
-    if stored.push_back(request).is_err() {
-        return Err(AllocError);
-    }
-    Ok(())
 }

@@ -12,7 +12,8 @@ use dmc_tag::shifting::{has_less, less};
 use dmc_tag::tag::Tag;
 use std::collections::VecDeque;
 
-fn less_share<T: Tag>(request: QueuedRequest<T>, amount: T) -> QueuedRequest<T>
+/// A request with the amount off its P.
+pub fn less_share<T: Tag>(request: QueuedRequest<T>, amount: T) -> QueuedRequest<T>
     ensures { result ≡ record_of.less_share T.ops amount request }
 {
     let p = less(request.tags.p, amount);
@@ -20,7 +21,8 @@ fn less_share<T: Tag>(request: QueuedRequest<T>, amount: T) -> QueuedRequest<T>
     QueuedRequest { tags, ..request }
 }
 
-fn less_reservation<T: Tag>(request: QueuedRequest<T>, amount: T) -> QueuedRequest<T>
+/// A request with the amount off its R, if it has one.
+pub fn less_reservation<T: Tag>(request: QueuedRequest<T>, amount: T) -> QueuedRequest<T>
     ensures { result ≡ record_of.less_reservation T.ops amount request }
 {
     let r = match request.tags.r {

@@ -5,4 +5,4 @@ use Rattle.dmc_client.proofs.queue.others_have_less.Given as goal
 
 -- those before have it
 abbrev pub invariant-loop-i : goal.invariant-loop-i
-invariant-loop-i g l = list_all (λ r. reservation_has_less g.T.Tag.ops l.amount (less_owed g.T.Tag.ops l.owed r)) (drop l.i l.stored.items) ≡ list_all (λ r. reservation_has_less g.T.Tag.ops l.amount (less_owed g.T.Tag.ops l.owed r)) (drop 1 l.stored.items)
+invariant-loop-i g l = list_all (λ r. reservation_has_less g.T.Tag.ops l.amount (less_owed g.T.Tag.ops l.owed r)) (drop l.i l.others.items) ≡ list_all (λ r. reservation_has_less g.T.Tag.ops l.amount (less_owed g.T.Tag.ops l.owed r)) l.others.items

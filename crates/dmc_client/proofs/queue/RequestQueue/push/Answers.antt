@@ -3,20 +3,20 @@ use Rattle.dmc_client.proofs.Owed.{stored_is_owed, stored_ok, stored_err, none_i
 use Rattle.dmc_client.proofs.queue.RequestQueue.push.Goals as goal
 
 pub invariant_of-self : goal.invariant_of-self
-invariant_of-self g c = stored_is_owed g.T.Tag.ops c.store.result c.self.inside.owed c.self.inside.stored.items c.store.new.stored.items c.in-Some.stored c.store.ensures.ok c.store.ensures.err c.self.invariant c.in-Some.ensures.1
+invariant_of-self g c = stored_is_owed g.T.Tag.ops c.push.result c.self.inside.owed c.self.inside.stored c.push.new.self c.in-Some.stored c.push.ensures.ok c.push.ensures.err c.self.invariant c.in-Some.ensures.1
 
 pub returns-in-Some-clause-ok : goal.returns-in-Some-clause-ok
-returns-in-Some-clause-ok g c = stored_ok g.T.Tag.ops c.store.result c.self.inside.owed c.self.inside.stored.items c.store.new.stored.items c.args.self.now c.in-Some.stored c.args.request c.store.ensures.ok c.self.view_is c.in-Some.ensures.0
+returns-in-Some-clause-ok g c = stored_ok g.T.Tag.ops c.push.result c.self.inside.owed c.self.inside.stored c.push.new.self c.args.self.now c.in-Some.stored c.args.request c.push.ensures.ok c.self.view_is c.in-Some.ensures.0
 
 pub invariant_of-self-2 : goal.invariant_of-self-2
 invariant_of-self-2 g c = none_is_owed g.T.Tag.ops _
 
 pub returns-clause-ok : goal.returns-clause-ok
 returns-clause-ok g c =
-    let before = c.settle.new.stored.items in
-    stored_ok g.T.Tag.ops c.store-2.result None before c.store-2.new.stored.items c.args.self.now c.args.request c.args.request c.store-2.ensures.ok (none_owed g.T.Tag.ops before ∙ c.settle.ensures ∙ c.self.view_is) refl
+    let before = c.settle.new.stored in
+    stored_ok g.T.Tag.ops c.push-2.result None before c.push-2.new.self c.args.self.now c.args.request c.args.request c.push-2.ensures.ok (none_owed g.T.Tag.ops before ∙ c.settle.ensures ∙ c.self.view_is) refl
 
 pub returns-clause-err : goal.returns-clause-err
 returns-clause-err g c =
-    let before = c.settle.new.stored.items in
-    stored_err g.T.Tag.ops c.store-2.result None before c.store-2.new.stored.items c.args.self.now c.store-2.ensures.err (none_owed g.T.Tag.ops before ∙ c.settle.ensures ∙ c.self.view_is)
+    let before = c.settle.new.stored in
+    stored_err g.T.Tag.ops c.push-2.result None before c.push-2.new.self c.args.self.now c.push-2.ensures.err (none_owed g.T.Tag.ops before ∙ c.settle.ensures ∙ c.self.view_is)

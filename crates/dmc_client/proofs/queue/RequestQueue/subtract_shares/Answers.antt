@@ -11,5 +11,5 @@ pub returns : goal.returns
 returns g c =
     let ops = g.T.Tag.ops in
     ap (all_less_owed ops c.self.inside.owed) c.subtract_shares.ensures
-    ∙ shares_apart ops c.args.amount c.self.inside.owed c.self.inside.stored.items
+    ∙ shares_apart ops c.args.amount c.self.inside.owed c.self.inside.stored
     ∙ ap (map (less_share ops c.args.amount)) c.self.view_is

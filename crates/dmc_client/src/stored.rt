@@ -1,0 +1,145 @@
+//! The requests that a client's queue stores.
+ghost use Rattle.std.specs.Prelude.{◌≡◌, ◌==◌, ◌++◌, ◌∷◌, [], drop, length, map, slice_get, OnOk, OnErr};
+ghost use Rattle.std.specs.List.{list_all};
+ghost use Rattle.dmc_client.specs.Record as record_of;
+ghost use Rattle.dmc_tag.specs.Rules as rules_of;
+
+use crate::request::QueuedRequest;
+use crate::subtraction::{
+    less_reservation, less_share, shares_have_less, subtract_reservations, subtract_shares,
+};
+use dmc_tag::shifting::has_less;
+use dmc_tag::tag::Tag;
+use std::alloc::{AllocError, Global};
+use std::collections::VecDeque;
+use std::marker::Model;
+
+/// Requests in order of arrival. A client mostly has one request queued at a server, or none: so the first stands in the struct
+/// itself, and takes no memory elsewhere.
+#[derive(Drop)]
+pub struct StoredRequests<T: Tag> {
+    first: Option<QueuedRequest<T>>,
+    // Those behind it, in their order.
+    later: VecDeque<QueuedRequest<T>>,
+}
+
+impl<T: Tag> Model for StoredRequests<T> {
+    ghost use Rattle.std.specs.Prelude.{◌≡◌, List, [], None};
+    ghost use Rattle.std.specs.List.{cons_option};
+    ghost use Rattle.dmc_client.specs.declared.request.QueuedRequest.{QueuedRequest};
+
+    ghost Value = { List (QueuedRequest T) };
+
+    ghost view = { λ s. cons_option s.first s.later.items };
+
+    ghost invariant = { λ s. s.first ≡ None → s.later.items ≡ [] };
+}
+
+impl<T: Tag> StoredRequests<T> {
+    /// No request. It takes no memory.
+    pub fn new(alloc: Global) -> StoredRequests<T>
+        ensures { result ≡ [] }
+    {
+        StoredRequests {
+            first: None,
+            later: VecDeque::new(alloc),
+        }
+    }
+
+    /// Stores a request behind the others. A refused growth changes nothing.
+    pub fn push(&mut self, request: QueuedRequest<T>) -> Result<(), AllocError>
+        ensures ok { OnOk result (self.new ≡ self.old ++ request ∷ []) }
+        ensures err { OnErr result (self.new ≡ self.old) }
+    {
+        if self.first.is_none() {
+            self.first = Some(request);
+            return Ok(());
+        }
+        if self.later.push_back(request).is_err() {
+            return Err(AllocError);
+        }
+        Ok(())
+    }
+
+    /// Takes out the request that came first.
+    pub fn pop(&mut self) -> Option<QueuedRequest<T>>
+        ensures value { result ≡ slice_get self.old 0 }
+        ensures rest { self.new ≡ drop 1 self.old }
+    {
+        let first = self.first;
+        self.first = self.later.pop_front();
+        first
+    }
+
+    /// The request that came as number i, from 0, of those that are stored.
+    pub fn get(&self, i: usize) -> Option<QueuedRequest<T>>
+        ensures { result ≡ slice_get self.now i }
+    {
+        if i == 0 {
+            return self.first;
+        }
+        self.later.get(i - 1).copied()
+    }
+
+    /// The requests behind the first.
+    pub fn later(&self) -> &VecDeque<QueuedRequest<T>>
+        ensures { result.now.items ≡ drop 1 self.now }
+    {
+        &self.later
+    }
+
+    /// Takes out all requests.
+    pub fn clear(&mut self)
+        ensures { self.new ≡ [] }
+    {
+        self.first = None;
+        self.later.clear();
+    }
+
+    /// How many requests are stored.
+    pub fn len(&self) -> usize
+        ensures { result ≡ length self.now }
+    {
+        match self.first {
+            None => 0,
+            Some(_) => self.later.len() + 1,
+        }
+    }
+
+    /// Whether nothing is stored.
+    pub fn is_empty(&self) -> bool
+        ensures { result ≡ (length self.now == 0) }
+    {
+        self.first.is_none()
+    }
+
+    /// Whether each P less the amount is a value.
+    pub fn shares_have_less(&self, amount: T) -> bool
+        ensures { result ≡ list_all (λ r. rules_of.has_less T.ops amount r.tags.p) self.now }
+    {
+        match self.first {
+            None => true,
+            Some(first) => has_less(first.tags.p, amount) && shares_have_less(&self.later, amount),
+        }
+    }
+
+    /// Takes the amount off each P.
+    pub fn subtract_shares(&mut self, amount: T)
+        ensures { self.new ≡ map (record_of.less_share T.ops amount) self.old }
+    {
+        if let Some(first) = self.first {
+            self.first = Some(less_share(first, amount));
+            subtract_shares(&mut self.later, amount);
+        }
+    }
+
+    /// Takes the amount off each R.
+    pub fn subtract_reservations(&mut self, amount: T)
+        ensures { self.new ≡ map (record_of.less_reservation T.ops amount) self.old }
+    {
+        if let Some(first) = self.first {
+            self.first = Some(less_reservation(first, amount));
+            subtract_reservations(&mut self.later, amount);
+        }
+    }
+}

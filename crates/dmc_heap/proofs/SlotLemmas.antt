@@ -7,7 +7,7 @@ use Rattle.std.proofs.lemmas.Cmp.{tied_back}
 use Rattle.std.proofs.lemmas.Bool.{cases_lt, cases_eq}
 use Rattle.std.proofs.lemmas.List.{length-set, length-map, length-append, get_or-set_same, get_or-set_other, set_at, set-append_left, set-set, set_comm, get_or_default, same_lists}
 use Rattle.std.proofs.lemmas.List.Sums.{sum_by-set}
-use Rattle.std.proofs.lemmas.Option.{slice_get_within, slice_get_past}
+use Rattle.std.proofs.lemmas.Option.{slice_get_within, slice_get_past, same_Some}
 use Rattle.dmc_index.specs.Index.{slot_of_key, IsApartFromOthers, AreApart}
 use Rattle.dmc_heap.specs.Heap.{rank_at, rank_of, slots_of, parent_of, IsLinked, IsHeap, IsHole}
 use Rattle.dmc_heap.specs.declared.indexed_heap.Entry.{Entry}

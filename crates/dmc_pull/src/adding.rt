@@ -82,7 +82,7 @@ pub fn shift_others<T: Tag, I: Indexes<T>>(
     ensures kept { AllByRecursion (λ e. IsRecord T.ops e.rec) roster.old.entries → AllByRecursion (λ e. IsRecord T.ops e.rec) roster.new.entries }
 {
     if let Some(amount) = shift {
-        roster.retain(&ShiftOthers { amount, newcomer });
+        roster.change(&ShiftOthers { amount, newcomer });
         heads.shift(amount);
     }
 }

@@ -154,6 +154,29 @@ module _ {T : Type 0} where
   pub held_kept : (slots : List (Option (Rec T))) (ids : List (ClientId × ℕ)) → Held slots (filter (λ p. is_some (slice_index_or slots p.1 None)) ids)
   held_kept slots ids = all_passed (λ p. is_some (slice_index_or slots p.1 None)) ids
 
+  -- ---- change
+
+  module _ (keeps : ℕ → Rec T → Bool) (changed : ℕ → Rec T → Rec T) (keeps_all : (key : ℕ) (rec : Rec T) → keeps key rec ≡ true) where
+    some_changed : (key : ℕ) (o : Option (Rec T)) → is_some o ≡ true → is_some (after_retain (keeps key) (changed key) o) ≡ true
+    some_changed key None h = h
+    some_changed key (Some rec) h = ap (λ b. is_some (cond b (Some (changed key rec)) None)) (keeps_all key rec)
+
+    pub held_changed : (slots : List (Option (Rec T))) (ids : List (ClientId × ℕ)) → Held slots ids → Held (slots_after_retain keeps changed 0 slots) ids
+    held_changed slots [] h = tt
+    held_changed slots (p ∷ ids) h = (ap is_some (slot_kept keeps changed slots p.1) ∙ some_changed p.1 (slice_index_or slots p.1 None) h.0, held_changed slots ids h.1)
+
+    changed_at : (p : ClientId × ℕ) (xs es : List (Entry T)) (o : Option (Rec T)) → xs ≡ map (λ e. with_rec (changed e.key) e) es → cons_option (option_map (λ rec. record { id = p.0; key = p.1; rec = rec }) (after_retain (keeps p.1) (changed p.1) o)) xs ≡ map (λ e. with_rec (changed e.key) e) (cons_option (option_map (λ rec. record { id = p.0; key = p.1; rec = rec }) o) es)
+    changed_at p xs es None e = e
+    changed_at p xs es (Some rec) e =
+        ap (λ b. cons_option (option_map (λ rec. record { id = p.0; key = p.1; rec = rec }) (cond b (Some (changed p.1 rec)) None)) xs) (keeps_all p.1 rec)
+        ∙ ap (λ ys. record { id = p.0; key = p.1; rec = changed p.1 rec } ∷ ys) e
+
+    pub entries_changed : (slots : List (Option (Rec T))) (ids : List (ClientId × ℕ)) → entries_of ids (slots_after_retain keeps changed 0 slots) ≡ map (λ e. with_rec (changed e.key) e) (entries_of ids slots)
+    entries_changed slots [] = refl
+    entries_changed slots (p ∷ ids) =
+        ap (λ o. cons_option (option_map (λ rec. record { id = p.0; key = p.1; rec = rec }) o) (entries_of ids (slots_after_retain keeps changed 0 slots))) (slot_kept keeps changed slots p.1)
+        ∙ changed_at p _ (entries_of ids slots) (slice_index_or slots p.1 None) (entries_changed slots ids)
+
   -- ---- add
 
   module _ (key : ℕ) (old new : ℕ → Option (Rec T)) (others : (other : ℕ) → (other ≡ key → ⊥) → new other ≡ old other) (vacant : old key ≡ None) where

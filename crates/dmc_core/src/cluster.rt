@@ -13,6 +13,7 @@ ghost use Rattle.dmc_core.specs.declared.event.CoreEvent.TheVariants as events;
 use crate::client::CoreClient;
 use crate::event::{CoreFault, CoreReply};
 use crate::ids::ClientIds;
+use crate::near::NearScheduler;
 use crate::server::CoreServer;
 use dmc_tag::reply::Reply;
 use dmc_tag::scheduler::Scheduler;
@@ -92,7 +93,8 @@ impl<Q> Cluster<Q> {
         self.clients[place].stamp(server, token)
     }
 
-    /// The oldest message of a client to a server arrives at the server's queue. It stays in flight where the queue refuses it.
+    /// The oldest message of a client to a server arrives at the server's queue. It stays in flight where the queue refuses it. As
+    /// long as the queue has erased no client, the client has there the place that it has here.
     pub fn arrive<T: Tag>(
         &mut self,
         client: ClientId,
@@ -100,14 +102,14 @@ impl<Q> Cluster<Q> {
         at: Moment,
     ) -> Result<CoreReply<T>, CoreFault>
     where
-        Q: Scheduler<T>,
+        Q: NearScheduler<T>,
         ensures { Follows T.ops Q.state (events.Arrive client server at) self.old self.new result }
     {
         let place = self.place(client, server)?;
         let Some(message) = self.clients[place].oldest(server) else {
             return Err(CoreFault::NoFlight);
         };
-        let reply = self.servers[server.0 as usize].add(client, message, at)?;
+        let reply = self.servers[server.0 as usize].add(place, client, message, at)?;
         if let Reply::Tagged(_) = reply {
             self.clients[place].take_oldest(server);
         }

@@ -20,7 +20,7 @@ const SPREAD: u32 = 0x9E37_79B1;
 pub struct ClientIds {
     ids: IndexSet<ClientId>,
     // Places that may be those of the ids that have these slots.
-    hints: Vec<usize>,
+    hints: Vec<u32>,
 }
 
 impl Model for ClientIds {
@@ -70,23 +70,23 @@ fn find_at(ids: &[ClientId], place: usize, client: ClientId) -> Option<usize>
 }
 
 /// A table of hints for these ids, with some room between them. Where two have one slot, the later one has it.
-fn hints_for(alloc: Global, ids: &[ClientId]) -> Result<Vec<usize>, AllocError> {
-    let mut hints = vec![in alloc; 0; ids.len().saturating_mul(4)]?;
+fn hints_for(alloc: Global, ids: &[ClientId]) -> Result<Vec<u32>, AllocError> {
+    let mut hints = vec![in alloc; 0; ids.len().saturating_mul(8)]?;
     for (place, id) in ids.iter().enumerate() {
         let slot = slot_of(*id, hints.len());
         if let Some(hint) = hints.get_mut(slot) {
-            *hint = place;
+            *hint = u32::try_from(place).unwrap_or(0);
         }
     }
     Ok(hints)
 }
 
 /// The place that the hints give for a client.
-fn hint_at(hints: &[usize], client: ClientId) -> usize {
-    hints
-        .get(slot_of(client, hints.len()))
-        .copied()
-        .unwrap_or(0)
+fn hint_at(hints: &[u32], client: ClientId) -> usize {
+    match hints.get(slot_of(client, hints.len())) {
+        Some(place) => *place as usize,
+        None => 0,
+    }
 }
 
 /// The slot of an id among so many.

@@ -8,6 +8,7 @@ pub mod cluster_core;
 pub mod event;
 mod flight;
 pub mod ids;
+mod near;
 mod opening;
 mod pair;
 mod server;

@@ -1,0 +1,44 @@
+//! A queue that is told where a client may be.
+ghost use Rattle.dmc_tag.specs.Answers.{call_reply};
+ghost use Rattle.dmc_tag.specs.Steps.{Steps};
+ghost use Rattle.dmc_tag.specs.declared.reply.Reply.TheVariants as replies;
+ghost use Rattle.dmc_types.specs.declared.command.Command.TheVariants as commands;
+
+use dmc_index::index::Indexes;
+use dmc_pull::queue::PullQueue;
+use dmc_tag::reply::Tags;
+use dmc_tag::scheduler::Scheduler;
+use dmc_tag::tag::Tag;
+use dmc_types::ids::{ClientId, Token};
+use dmc_types::moment::Moment;
+use dmc_types::params::ReqParams;
+use dmc_types::refusal::QueueFault;
+
+/// A queue of dmClock that need not search for a client whose place it is told (own).
+pub trait NearScheduler<T: Tag>: Scheduler<T> {
+    /// `add_request`, where the client may be the one that was the `near`-th to register, counted from 0: that one is looked at
+    /// first.
+    fn add_request_near(
+        &mut self,
+        near: usize,
+        client: ClientId,
+        token: Token,
+        params: ReqParams,
+        at: Moment,
+    ) -> Result<Tags<T>, QueueFault>
+        ensures { Steps T.ops (Self.state self.old) (Self.state self.new) (commands.Add client token params at)
+            (call_reply replies.Tagged result) };
+}
+
+impl<T: Tag, I: Indexes<T>> NearScheduler<T> for PullQueue<T, I> {
+    fn add_request_near(
+        &mut self,
+        near: usize,
+        client: ClientId,
+        token: Token,
+        params: ReqParams,
+        at: Moment,
+    ) -> Result<Tags<T>, QueueFault> {
+        self.add_request_near(near, client, token, params, at)
+    }
+}

@@ -28,7 +28,7 @@ use Rattle.dmc_book.specs.Moves.{desk_after, desk_place, same_place, takes_at, i
 use Rattle.dmc_book.proofs.WorkerLemmas.{issue_none}
 use Rattle.dmc_tag.proofs.Lists.{map_unmoved, all_as, position_map}
 use Rattle.dmc_tag.proofs.Booleans.{eqb_turned}
-use Rattle.std.proofs.lemmas.Option.{same_Some}
+use Rattle.std.proofs.lemmas.Option.{none-some, same_Some}
 
 more_none : (h : Holding) → with_more 0 h ≡ h
 more_none h = let e : h.amount + 0 ≡ h.amount = omega arith in ap (λ (n : ℕ). record h { amount = n }) e
@@ -260,10 +260,7 @@ lacks_agree names ds named (Clean at) = refl
 module _ {S : Type 0} (names : List ClientId) (ds : List (ClientDesk S)) (named : names ≡ map (λ d. d.client) ds) (server : ℕ) (stamp : StampValue) (tills : StampHoldings) where
   -- no desk of its client
   pub no_desk_for : position (λ (k : ClientId). stamp.client == k.0) names ≡ None → IsForDesk server (map client_side ds) stamp tills → ⊥
-  no_desk_for none h = none_some (sym none ∙ places_agree stamp.client names ds named ∙ h.here)
-    where
-      none_some : {i : ℕ} → None ≡ Some i → ⊥
-      none_some e = absurd cc
+  no_desk_for none h = none-some h.place (sym none ∙ places_agree stamp.client names ds named ∙ h.here)
 
   pub no_till_for : (place : ℕ) (d : ClientDesk S) → position (λ (k : ClientId). stamp.client == k.0) names ≡ Some place → place < length ds → (AreAlike tills (stamp_holdings ((slice_index_or ds place d).held)) → ⊥) → IsForDesk server (map client_side ds) stamp tills → ⊥
   no_till_for place d found within others h =

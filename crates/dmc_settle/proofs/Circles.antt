@@ -1,5 +1,6 @@
 -- A cluster that is settled, and its circle.
 use Rattle.std.proofs.Common.{◌≡◌, ℕ, ◌<◌, List, [], Some, length, map, get_or, slice_get, sym, ap, ◌∙◌, arith}
+use Rattle.std.proofs.lemmas.Option.{get_or_from_slice_get, slice_get-get_or, slice_get_within}
 use Rattle.dmc_types.specs.declared.config.PhaseType.TheVariants.{Reservation, Priority}
 use Rattle.dmc_tag.specs.Tag.{Tagging}
 use Rattle.dmc_ledger.specs.Bundles.{ClientSide}
@@ -15,7 +16,7 @@ use Rattle.dmc_settle.specs.Places.{no_book, no_tracker}
 use Rattle.dmc_settle.specs.Remains.{AreTogether, Remains}
 use Rattle.dmc_settle.specs.Reports.{AreRows}
 use Rattle.dmc_settle.specs.declared.report.ClusterReport.{ClusterReport}
-use Rattle.dmc_settle.proofs.Lists.{alike_at, got, inside, there}
+use Rattle.dmc_settle.proofs.Lists.{alike_at}
 use Rattle.dmc_settle.proofs.Ready.{client_at, desks_long, no_client, server_at}
 
 -- what the two walks leave: over the servers' books, and over the clients' tracker books
@@ -40,9 +41,9 @@ module _ {T : Type 0} (ops : Tagging T) (scene : SceneValue) (r : Remains T) (de
   pub its_desk : (c s : ℕ) (client : ClientValue) → s < scene.servers → slice_get scene.clients c ≡ Some client → (get_or (get_or r.books s no_book).desks c no_desk).client ≡ client.id.0
   its_desk c s client within at =
       let part = server_at scene r h.together s within in
-      let in_clients = inside scene.clients c client at in
+      let in_clients = slice_get_within scene.clients c client at in
       alike_at (λ (d : ClientSide). d.client) (λ (x : ClientValue). x.id.0) (get_or r.books s no_book).desks scene.clients c no_desk client
-      (omega (arith, in_clients, desks_long scene r h.together s within)) in_clients part.desks ∙ ap (λ (x : ClientValue). x.id.0) (got scene.clients c client client at)
+      (omega (arith, in_clients, desks_long scene r h.together s within)) in_clients part.desks ∙ ap (λ (x : ClientValue). x.id.0) (get_or_from_slice_get scene.clients c client client at)
 
   pub its_tracker : (c : ℕ) (client : ClientValue) → slice_get scene.clients c ≡ Some client → (get_or r.trackers c no_tracker).client ≡ client.id.0
   its_tracker c client at = (client_at scene r h.together c client at).its_client
@@ -53,7 +54,7 @@ module _ {T : Type 0} (ops : Tagging T) (scene : SceneValue) (r : Remains T) (de
   circle_at c s in_clients in_servers =
       let book = get_or r.books s no_book in
       let client = get_or scene.clients c no_client in
-      let at = there scene.clients c no_client in_clients in
+      let at = slice_get-get_or scene.clients c no_client in_clients in
       let same : (get_or book.desks c no_desk).client ≡ (get_or r.trackers c no_tracker).client = its_desk c s client in_servers at ∙ sym (its_tracker c client at) in
       let d = (h.settled s (omega (arith, in_servers, h.together.books))).each c (omega (arith, in_clients, desks_long scene r h.together s in_servers)) in
       let pair = h.balanced c (omega (arith, in_clients, h.together.trackers)) s (omega (arith, in_servers, h.desks_each, h.together.books)) in
@@ -67,11 +68,11 @@ module _ {T : Type 0} (ops : Tagging T) (scene : SceneValue) (r : Remains T) (de
 
   pub circles : AreCircles r
   circles c s queue passes book pass at_queue at_passes at_book at_pass =
-      let in_clients : c < length scene.clients = (let w = inside r.trackers c book at_book in omega (arith, w, h.together.trackers)) in
-      let in_servers : s < scene.servers = (let w = inside r.books s queue at_queue in omega (arith, w, h.together.books)) in
+      let in_clients : c < length scene.clients = (let w = slice_get_within r.trackers c book at_book in omega (arith, w, h.together.trackers)) in
+      let in_servers : s < scene.servers = (let w = slice_get_within r.books s queue at_queue in omega (arith, w, h.together.books)) in
       rw (
-        got r.books s queue no_book at_queue,
-        got r.worker_passes s passes [] at_passes,
-        got r.trackers c book no_tracker at_book,
-        got r.client_passes c pass [] at_pass,
+        get_or_from_slice_get r.books s queue no_book at_queue,
+        get_or_from_slice_get r.worker_passes s passes [] at_passes,
+        get_or_from_slice_get r.trackers c book no_tracker at_book,
+        get_or_from_slice_get r.client_passes c pass [] at_pass,
       ) at (circle_at c s in_clients in_servers)

@@ -2,6 +2,7 @@
 use Rattle.std.proofs.Common.{◌≡◌, ℕ, ◌+◌, ◌<◌, List, [], length, map, get_or, sym, ap, ◌∙◌, arith}
 use Rattle.std.specs.Prelude.{sum_by}
 use Rattle.std.proofs.lemmas.List.{length-map}
+use Rattle.std.proofs.lemmas.Option.{slice_get-get_or}
 use Rattle.dmc_types.specs.declared.config.PhaseType.{PhaseType}
 use Rattle.dmc_types.specs.declared.config.PhaseType.TheVariants.{Reservation, Priority}
 use Rattle.dmc_tag.specs.Tag.{Tagging}
@@ -25,7 +26,6 @@ use Rattle.dmc_settle.specs.declared.report.ClusterReport.{ClusterReport}
 use Rattle.dmc_settle.proofs.Balance.{sum_seen}
 use Rattle.dmc_settle.proofs.Circles.{IsSettledCluster, circle_at, its_desk, its_tracker}
 use Rattle.dmc_settle.proofs.Granted.{left_at_all}
-use Rattle.dmc_settle.proofs.Lists.{there}
 use Rattle.dmc_settle.proofs.Ready.{client_at, desks_long, no_client, server_at}
 use Rattle.dmc_settle.proofs.Reported.{client_report, clients_long, server_report, servers_long}
 use Rattle.dmc_settle.proofs.Sums.{sum_to, sum_places, same_sum, sum_plus, sum_grid}
@@ -48,7 +48,7 @@ module _ {T : Type 0} (ops : Tagging T) (scene : SceneValue) (r : Remains T) (de
   one_pair : (s c : ℕ) → s < scene.servers → c < length scene.clients → answered s c + left s c ≡ granted s c
   one_pair s c in_servers in_clients =
       let book = get_or r.books s no_book in
-      let at = there scene.clients c no_client in_clients in
+      let at = slice_get-get_or scene.clients c no_client in_clients in
       let circle = circle_at ops scene r desks old new h c s in_clients in_servers in
       let same : (get_or book.desks c no_desk).client ≡ (get_or r.trackers c no_tracker).client =
       its_desk ops scene r desks old new h c s _ in_servers at ∙ sym (its_tracker ops scene r desks old new h c _ at) in
@@ -61,7 +61,7 @@ module _ {T : Type 0} (ops : Tagging T) (scene : SceneValue) (r : Remains T) (de
   completed_at c in_clients =
       let tracker = get_or r.trackers c no_tracker in
       let consistent = h.consistent c (omega (arith, in_clients, h.together.trackers)) in
-      let part = client_at scene r h.together c _ (there scene.clients c no_client in_clients) in
+      let part = client_at scene r h.together c _ (slice_get-get_or scene.clients c no_client in_clients) in
       consistent.completed ∙ sum_places responded tracker.desks no_side ∙ ap (λ n. sum_to n (λ s. responded (get_or tracker.desks s no_side))) part.desks
       ∙ same_sum scene.servers (λ s. responded (get_or tracker.desks s no_side)) (λ s. answered s c)
       (λ s within. (let its = (consistent.desks (record { 0 = s }) (omega (arith, within, part.desks))).held in omega (arith, its.reservation, its.priority)))

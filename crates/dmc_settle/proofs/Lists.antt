@@ -2,34 +2,15 @@
 use Rattle.std.proofs.Common.{◌≡◌, ℕ, zero, suc, ◌+◌, ◌<◌, List, [], ◌∷◌, ◌++◌, Some, None, length, map, take, get_or, set, slice_get, refl, sym, ap, ◌∙◌, arith, not, eqb, true}
 use Rattle.std.proofs.lemmas.Bool.{eq-eqb, false≢true}
 use Rattle.std.proofs.lemmas.List.{get_or-map, get_or_append_left, get_or_push, length-append, length-map, take_all, take_more, map_push}
-use Rattle.std.proofs.lemmas.Option.{same_Some}
-
-none≢some : {X : Type 0} {x : X} → None ≡ Some x → ⊥
-none≢some h = cc
-
--- what is found at a place, and that it is there
-pub got : {X : Type 0} (xs : List X) (k : ℕ) (x d : X) → slice_get xs k ≡ Some x → get_or xs k d ≡ x
-got [] k x d h = absurd (none≢some h)
-got (y ∷ xs) zero x d h = same_Some y x h
-got (y ∷ xs) (suc k) x d h = got xs k x d h
-
-pub inside : {X : Type 0} (xs : List X) (k : ℕ) (x : X) → slice_get xs k ≡ Some x → k < length xs
-inside [] k x h = absurd (none≢some h)
-inside (y ∷ xs) zero x h = omega arith
-inside (y ∷ xs) (suc k) x h = let rest = inside xs k x h in omega (arith, rest)
-
-pub there : {X : Type 0} (xs : List X) (k : ℕ) (d : X) → k < length xs → slice_get xs k ≡ Some (get_or xs k d)
-there [] k d h = absurd (omega (arith, h))
-there (y ∷ xs) zero d h = refl
-there (y ∷ xs) (suc k) d h = there xs k d (omega (arith, h))
+use Rattle.std.proofs.lemmas.Option.{get_or_from_slice_get, slice_get-get_or, slice_get_within}
 
 -- of a list that is seen otherwise
 module _ {X Y : Type 0} (f : X → Y) (xs : List X) (i : ℕ) (x : X) (within : i < length xs) (at : x ≡ get_or xs i x) where
   pub got_seen : (y : Y) → slice_get (map f xs) i ≡ Some y → f x ≡ y
-  got_seen y h = ap f at ∙ sym (get_or-map f xs i x y within) ∙ got (map f xs) i y y h
+  got_seen y h = ap f at ∙ sym (get_or-map f xs i x y within) ∙ get_or_from_slice_get (map f xs) i y y h
 
   pub there_seen : slice_get (map f xs) i ≡ Some (f x)
-  there_seen = there (map f xs) i (f x) (omega (arith, within, length-map xs f)) ∙ ap Some (get_or-map f xs i x (f x) within ∙ ap f (sym at))
+  there_seen = slice_get-get_or (map f xs) i (f x) (omega (arith, within, length-map xs f)) ∙ ap Some (get_or-map f xs i x (f x) within ∙ ap f (sym at))
 
 -- two numbers that are not the same
 pub differ : (a b : ℕ) → not (eqb a b) ≡ true → a ≡ b → ⊥
@@ -71,7 +52,7 @@ popped_long old new x e = ap length e ∙ length-append new (x ∷ [])
 
 -- what is found, of a list that is seen otherwise
 pub seen_at : {X Y : Type 0} (f : X → Y) (xs : List X) (k : ℕ) (x : X) (e : Y) → slice_get xs k ≡ Some x → get_or (map f xs) k e ≡ f x
-seen_at f xs k x e h = get_or-map f xs k x e (inside xs k x h) ∙ ap f (got xs k x x h)
+seen_at f xs k x e h = get_or-map f xs k x e (slice_get_within xs k x h) ∙ ap f (get_or_from_slice_get xs k x x h)
 
 -- two lists that are seen as one at each place
 pub alike_places : {X Y Z : Type 0} (f : X → Z) (g : Y → Z) (xs : List X) (ys : List Y) (d : X) (e : Y) → length xs ≡ length ys

@@ -1,5 +1,6 @@
 -- Parts of one cluster are ready to be settled: the servers' first, then the clients'.
 use Rattle.std.proofs.Common.{◌≡◌, ℕ, ◌<◌, ◌≤◌, List, [], Some, None, length, get_or, slice_get, sym, ap, ◌∙◌, arith}
+use Rattle.std.proofs.lemmas.Option.{slice_get-get_or, slice_get_within}
 use Rattle.dmc_ledger.specs.Bundles.{ClientSide, ServerSide}
 use Rattle.dmc_tlock.specs.BookState.{no_side}
 use Rattle.dmc_book.specs.BookState.{no_desk}
@@ -10,19 +11,19 @@ use Rattle.dmc_scene.specs.SceneValue.{SceneValue, ClientValue}
 use Rattle.dmc_settle.specs.Filled.{IsLastPair, IsReadyClient, IsReadyServer}
 use Rattle.dmc_settle.specs.Places.{desk_of, no_book, no_tracker}
 use Rattle.dmc_settle.specs.Remains.{AreTogether, ArePaired, IsServerPart, IsClientPart, Remains}
-use Rattle.dmc_settle.proofs.Lists.{alike_long, inside, there}
+use Rattle.dmc_settle.proofs.Lists.{alike_long}
 
 abbrev pub no_client : ClientValue
 no_client = record { id = record { 0 = 0 }; info = record { reservation = None; weight = 0; limit = None }; requests = 0; window = 0 }
 
 module _ {T : Type 0} (scene : SceneValue) (r : Remains T) (h : AreTogether scene r) where
   pub server_at : (s : ℕ) → s < scene.servers → IsServerPart scene s (get_or r.books s no_book) (get_or r.worker_passes s [])
-  server_at s within = h.servers s _ _ (there r.books s no_book (omega (arith, within, h.books))) (there r.worker_passes s [] (omega (arith, within, h.worker_passes)))
+  server_at s within = h.servers s _ _ (slice_get-get_or r.books s no_book (omega (arith, within, h.books))) (slice_get-get_or r.worker_passes s [] (omega (arith, within, h.worker_passes)))
 
   pub client_at : (c : ℕ) (client : ClientValue) → slice_get scene.clients c ≡ Some client → IsClientPart scene client (get_or r.trackers c no_tracker) (get_or r.client_passes c [])
   client_at c client at =
-      let within = inside scene.clients c client at in
-      h.clients c client _ _ at (there r.trackers c no_tracker (omega (arith, within, h.trackers))) (there r.client_passes c [] (omega (arith, within, h.client_passes)))
+      let within = slice_get_within scene.clients c client at in
+      h.clients c client _ _ at (slice_get-get_or r.trackers c no_tracker (omega (arith, within, h.trackers))) (slice_get-get_or r.client_passes c [] (omega (arith, within, h.client_passes)))
 
   pub desks_long : (s : ℕ) → s < scene.servers → length (get_or r.books s no_book).desks ≡ length scene.clients
   desks_long s within = alike_long (λ (d : ClientSide). d.client) (λ (c : ClientValue). c.id.0) (get_or r.books s no_book).desks scene.clients (server_at s within).desks
@@ -51,7 +52,7 @@ module _ {T : Type 0} (scene : SceneValue) (r : Remains T) (h : AreTogether scen
       → (c : ℕ) → c < length r.trackers → IsReadyClient desks c (get_or r.trackers c no_tracker) (get_or r.client_passes c [])
   ready_clients desks desks_each settled c within =
       let in_clients : c < length scene.clients = omega (arith, within, h.trackers) in
-      let part = client_at c _ (there scene.clients c no_client in_clients) in
+      let part = client_at c _ (slice_get-get_or scene.clients c no_client in_clients) in
       record {
         own = part.own;
         as_many = part.desks ∙ sym h.books ∙ sym desks_each;
@@ -66,6 +67,6 @@ module _ {T : Type 0} (scene : SceneValue) (r : Remains T) (h : AreTogether scen
             let in_sides : s < length (get_or r.trackers c no_tracker).desks = omega (arith, in_servers, part.desks) in
             last_settled (get_or r.books s no_book).history (get_or r.worker_passes s []) c (get_or (get_or r.books s no_book).desks c no_desk) (desk_of desks s c)
             (get_or (get_or r.trackers c no_tracker).desks s no_side) ((settled s in_books).each c in_row)
-            (h.pairs c s _ _ _ _ (there r.books s no_book in_books) (there (get_or r.books s no_book).desks c no_desk in_row)
-            (there r.trackers c no_tracker within) (there (get_or r.trackers c no_tracker).desks s no_side in_sides)));
+            (h.pairs c s _ _ _ _ (slice_get-get_or r.books s no_book in_books) (slice_get-get_or (get_or r.books s no_book).desks c no_desk in_row)
+            (slice_get-get_or r.trackers c no_tracker within) (slice_get-get_or (get_or r.trackers c no_tracker).desks s no_side in_sides)));
       }

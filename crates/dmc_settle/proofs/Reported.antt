@@ -3,6 +3,7 @@ use Rattle.std.proofs.Common.{◌≡◌, ℕ, ◌+◌, ◌<◌, ◌≤◌, List,
 use Rattle.std.specs.Prelude.{sum_by}
 use Rattle.std.proofs.lemmas.List.{length-map}
 use Rattle.std.proofs.lemmas.Simd.{map-map}
+use Rattle.std.proofs.lemmas.Option.{get_or_from_slice_get, slice_get-get_or, slice_get_within}
 use Rattle.dmc_types.specs.Values.{Params}
 use Rattle.dmc_types.specs.declared.ids.ServerId.{ServerId}
 use Rattle.dmc_types.specs.declared.config.Counting.{Counting}
@@ -31,7 +32,7 @@ use Rattle.dmc_settle.specs.declared.report.ServerReport.{ServerReport}
 use Rattle.dmc_settle.specs.declared.report.ClusterReport.{ClusterReport}
 use Rattle.dmc_settle.proofs.Balance.{sum_seen}
 use Rattle.dmc_settle.proofs.Circles.{IsSettledCluster, circle_at, its_desk, its_tracker}
-use Rattle.dmc_settle.proofs.Lists.{alike_at, alike_long, alike_places, got, inside, seen_at, there}
+use Rattle.dmc_settle.proofs.Lists.{alike_at, alike_long, alike_places, seen_at}
 use Rattle.dmc_settle.proofs.Ready.{client_at, desks_long, server_at}
 use Rattle.dmc_settle.proofs.Sums.{sum_to, sum_places, same_sum, one_of_sum}
 
@@ -71,7 +72,7 @@ module _ {T : Type 0} (ops : Tagging T) (scene : SceneValue) (r : Remains T) (de
   -- a server's row
   numbers_of : (k : ℕ) (s : ServerReport T) → slice_get new.servers.items k ≡ Some s → filled.AreServerNumbers ops (get_or r.books k no_book) (get_or r.worker_passes k []) (server_numbers s)
   numbers_of k s at =
-      let within = inside new.servers.items k s at in
+      let within = slice_get_within new.servers.items k s at in
       subst (λ (n : filled.ServerNumbers T). filled.AreServerNumbers ops (get_or r.books k no_book) (get_or r.worker_passes k []) n)
       (seen_at server_numbers new.servers.items k s no_server_numbers at)
       (h.servers k (omega (arith, within, servers_long, h.together.books)))
@@ -81,7 +82,7 @@ module _ {T : Type 0} (ops : Tagging T) (scene : SceneValue) (r : Remains T) (de
 
   pub server_report : (k : ℕ) (s : ServerReport T) → slice_get new.servers.items k ≡ Some s → IsServerReport ops scene.config k s
   server_report k s at =
-      let within = inside new.servers.items k s at in
+      let within = slice_get_within new.servers.items k s at in
       let in_servers : k < scene.servers = omega (arith, within, servers_long) in
       let in_old : k < length old.servers.items = omega (arith, in_servers, h.rows.as_many_servers) in
       let book = get_or r.books k no_book in
@@ -89,7 +90,7 @@ module _ {T : Type 0} (ops : Tagging T) (scene : SceneValue) (r : Remains T) (de
       let config : book.config ≡ scene.config = (server_at scene r h.together k in_servers).config in
       let same = alike_at (λ (x : ServerReport T). x.server) (λ (x : ServerReport T). x.server) new.servers.items old.servers.items k s s within in_old h.same_servers in
       record {
-        its_server = ap (λ (x : ServerReport T). x.server.0) (sym (got new.servers.items k s s at)) ∙ ap (λ x. x.0) same ∙ h.rows.servers k _ (there old.servers.items k s in_old);
+        its_server = ap (λ (x : ServerReport T). x.server.0) (sym (get_or_from_slice_get new.servers.items k s s at)) ∙ ap (λ x. x.0) same ∙ h.rows.servers k _ (slice_get-get_or old.servers.items k s in_old);
         replays = rw (n.events, ← config) n.replays;
         reservation = rw n.events n.reservation;
         priority = rw n.events n.priority;
@@ -99,7 +100,7 @@ module _ {T : Type 0} (ops : Tagging T) (scene : SceneValue) (r : Remains T) (de
   -- a client's row
   client_numbers_of : (k : ℕ) (c : ClientReport) → slice_get new.clients.items k ≡ Some c → filled.AreClientNumbers desks k (get_or r.trackers k no_tracker) (get_or r.client_passes k []) (client_numbers c)
   client_numbers_of k c at =
-      let within = inside new.clients.items k c at in
+      let within = slice_get_within new.clients.items k c at in
       subst (λ (n : ClientNumbers). filled.AreClientNumbers desks k (get_or r.trackers k no_tracker) (get_or r.client_passes k []) n)
       (seen_at client_numbers new.clients.items k c no_client_numbers at)
       (h.clients k (omega (arith, within, clients_long, h.together.trackers)))
@@ -108,7 +109,7 @@ module _ {T : Type 0} (ops : Tagging T) (scene : SceneValue) (r : Remains T) (de
   stamps_at : (k : ℕ) (client : ClientValue) → slice_get scene.clients k ≡ Some client → (s : ℕ) → s < scene.servers
       → (get_or (get_or desks s []) k no_desk).held.stamps.amount ≡ count (stamps_added client.id.0) (get_or r.books s no_book).history
   stamps_at k client at s in_servers =
-      let in_clients = inside scene.clients k client at in
+      let in_clients = slice_get_within scene.clients k client at in
       let d = (h.settled s (omega (arith, in_servers, h.together.books))).each k (omega (arith, in_clients, desks_long scene r h.together s in_servers)) in
       d.stamps ∙ ap (λ n. count (stamps_added n) (get_or r.books s no_book).history) (its_desk ops scene r desks old new h k s client in_servers at)
 
@@ -132,8 +133,8 @@ module _ {T : Type 0} (ops : Tagging T) (scene : SceneValue) (r : Remains T) (de
   pub client_report : (k : ℕ) (client : ClientValue) (c : ClientReport) → slice_get scene.clients k ≡ Some client → slice_get new.clients.items k ≡ Some c
       → IsClientReport scene new.servers.items client c
   client_report k client c at at_row =
-      let in_clients = inside scene.clients k client at in
-      let in_rows = inside new.clients.items k c at_row in
+      let in_clients = slice_get_within scene.clients k client at in
+      let in_rows = slice_get_within new.clients.items k c at_row in
       let in_trackers : k < length r.trackers = omega (arith, in_clients, h.together.trackers) in
       let n = client_numbers_of k c at_row in
       let tracker = get_or r.trackers k no_tracker in
@@ -141,12 +142,12 @@ module _ {T : Type 0} (ops : Tagging T) (scene : SceneValue) (r : Remains T) (de
       let sent_all = sent_is k client at in
       let part = client_at scene r h.together k client at in
       record {
-        its_client = ap (λ (x : ClientReport). x.client) (sym (got new.clients.items k c c at_row))
+        its_client = ap (λ (x : ClientReport). x.client) (sym (get_or_from_slice_get new.clients.items k c c at_row))
             ∙ alike_at (λ (x : ClientReport). x.client) (λ (x : ClientValue). x.id) new.clients.items scene.clients k c client in_rows in_clients clients_are
-            ∙ ap (λ (x : ClientValue). x.id) (got scene.clients k client client at);
+            ∙ ap (λ (x : ClientValue). x.id) (get_or_from_slice_get scene.clients k client client at);
         sent = n.sent ∙ sent_all ∙ sym (counted_is (count (stamps_added client.id.0)));
         delta = λ s row at_server. (
-            let in_servers : s < scene.servers = (let w = inside new.servers.items s row at_server in omega (arith, w, servers_long)) in
+            let in_servers : s < scene.servers = (let w = slice_get_within new.servers.items s row at_server in omega (arith, w, servers_long)) in
             let id : ServerId = record { 0 = s } in
             let circle = circle_at ops scene r desks old new h k s in_clients in_servers in
             let consistent = h.consistent k in_trackers in

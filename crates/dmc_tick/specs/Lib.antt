@@ -1,3 +1,4 @@
 pub mod Tick
+pub mod Words
 pub mod TickExact
 pub mod Examples

@@ -53,9 +53,9 @@ for _ in $(seq "$turns"); do in_turn "$folder/scene"; done > "$folder/times"
 events=$((servers * clients + 2 * clients * requests + servers * workers))
 entries=$((2 * clients * requests))
 awk -v e="$events" -v n="$entries" -v l="$(median '$4')" -v u="$(median '$8')" -v r="$(median '$1 / $5')" 'BEGIN {
-  bytes = 128 * e + 16 * n
+  bytes = 112 * e + 16 * n
   library = l * 1024
-  printf "1,000,000 requests: %d events of 128 bytes and %d entries of 16 bytes take %.0f MB\n", e, n, bytes / 1000000
+  printf "1,000,000 requests: %d events of 112 bytes and %d entries of 16 bytes take %.0f MB\n", e, n, bytes / 1000000
   printf "  the most memory: library %.0f MB, %.2f times that", library / 1000000, library / bytes
   printf "; unverified %.0f MB\n", u * 1024 / 1000000
   printf "  time: ratio %.2f\n", r }'

@@ -35,6 +35,8 @@ pub enum Kind {
     LoneQueue,
     /// The same behind its lock.
     LockedQueue,
+    /// That three times in one process.
+    WarmQueue,
     /// The lock, shared by threads.
     SharedQueue,
     /// A sorted vector as an index.
@@ -90,6 +92,7 @@ fn kind_of(word: &str) -> Result<Kind, Fault> {
         "deep" => Ok(Kind::DeepQueue),
         "alone" => Ok(Kind::LoneQueue),
         "locked" => Ok(Kind::LockedQueue),
+        "warm" => Ok(Kind::WarmQueue),
         "shared" => Ok(Kind::SharedQueue),
         "list-index" => Ok(Kind::ListIndex),
         "heap-index" => Ok(Kind::HeapIndex),
@@ -123,6 +126,7 @@ pub fn run_load<R: Threads + Wait + Sync>(
         Kind::PlainQueue | Kind::ListQueue | Kind::HeapQueue | Kind::DeepQueue | Kind::LoneQueue =>
             run_queue(rt, load),
         Kind::LockedQueue => run_locked(rt, threads, load),
+        Kind::WarmQueue => run_warm(rt, threads, load),
         Kind::SharedQueue => run_shared(rt, threads, load),
         Kind::ListIndex => use_index::<ListIndex<TagRank<TickTag>>>(rt, load),
         Kind::HeapIndex => use_index::<IndexedHeap<TagRank<TickTag>>>(rt, load),
@@ -167,6 +171,13 @@ fn run_queue(rt: &HostRuntime, load: Load) -> Result<u64, Fault> {
 fn run_locked<R: Wait>(rt: &HostRuntime, waiter: &R, load: Load) -> Result<u64, Fault> {
     let blank = Blank::new(book_count(load.clients, 1)?);
     serve_locked::<Brand, R>(rt, waiter, load, blank)
+}
+
+/// Runs that load three times, each time with a new lock. The last one's history takes the pages of those before it.
+fn run_warm<R: Wait>(rt: &HostRuntime, waiter: &R, load: Load) -> Result<u64, Fault> {
+    run_locked(rt, waiter, load)?;
+    run_locked(rt, waiter, load)?;
+    run_locked(rt, waiter, load)
 }
 
 /// Runs the load of a lock that threads share.

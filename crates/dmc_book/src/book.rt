@@ -58,13 +58,13 @@ pub(crate) struct Part<P>(pub(crate) P);
 #[derive(Drop)]
 pub struct QueueBook<T: Tag, I: Indexes<T>, S: Setup> {
     pub(crate) config: QueueConfig,
-    server: ServerId,
+    pub(crate) server: ServerId,
     pub(crate) queue: Part<PullQueue<T, I>>,
-    history: History<Event<T>>,
+    pub(crate) history: History<Event<T>>,
     pub(crate) workers: Vec<Seat<S>>,
     clients: IndexSet<ClientId>,
     pub(crate) desks: Vec<ClientDesk<S>>,
-    closed: bool,
+    pub(crate) closed: bool,
 }
 
 impl<T: Tag, I: Indexes<T>, S: Setup> Model for QueueBook<T, I, S> {
@@ -141,36 +141,6 @@ impl<T: Tag, I: Indexes<T>, S: Setup> QueueBook<T, I, S> {
             closed: false,
         };
         Ok((book, passes))
-    }
-
-    /// What the queue answered, oldest first. It replays.
-    pub fn history(&self) -> &History<Event<T>>
-        ensures events { result.now.events ≡ self.now.history }
-        ensures most { result.now.most ≡ self.now.most }
-        ensures replays { replays T.ops self.now.config self.now.history }
-    {
-        &self.history
-    }
-
-    /// Whose book it is.
-    pub fn server(&self) -> ServerId
-        ensures { result.0 ≡ self.now.server }
-    {
-        self.server
-    }
-
-    /// Whether no request is queued.
-    pub fn is_empty(&self) -> bool
-        ensures { result ≡ (length (after T.ops self.now.config self.now.history).requests == 0) }
-    {
-        self.queue.0.empty()
-    }
-
-    /// Whether it takes no more requests.
-    pub fn is_closed(&self) -> bool
-        ensures { result ≡ self.now.closed }
-    {
-        self.closed
     }
 
     /// Takes no more requests from now on. What is queued is still granted. A second close changes nothing.

@@ -1,19 +1,53 @@
-//! A book's parts, and whose passes are its own.
-ghost use Rattle.std.specs.Prelude.{◌≡◌, ◌↔◌, map, IsTrue};
+//! What a book shows of itself, and whose passes are its own.
+ghost use Rattle.std.specs.Prelude.{◌≡◌, ◌==◌, ◌↔◌, length, map, IsTrue};
 ghost use Rattle.dmc_ledger.specs.Bundles.{client_side};
+ghost use Rattle.dmc_tag.specs.Replay.{after, replays};
 ghost use Rattle.dmc_book.specs.BookState.{pass_state};
 ghost use Rattle.dmc_book.specs.Settling.{AreOwn};
 
 use crate::book::QueueBook;
 use crate::pass::WorkerPass;
 use crate::settled::are_own;
+use dmc_history::History;
 use dmc_index::index::Indexes;
 use dmc_ledger::desk::ClientDesk;
 use dmc_ledger::setup::Setup;
+use dmc_tag::event::Event;
 use dmc_tag::tag::Tag;
 use dmc_types::config::QueueConfig;
+use dmc_types::ids::ServerId;
 
 impl<T: Tag, I: Indexes<T>, S: Setup> QueueBook<T, I, S> {
+    /// What the queue answered, oldest first. It replays.
+    pub fn history(&self) -> &History<Event<T>>
+        ensures events { result.now.events ≡ self.now.history }
+        ensures most { result.now.most ≡ self.now.most }
+        ensures replays { replays T.ops self.now.config self.now.history }
+    {
+        &self.history
+    }
+
+    /// Whose book it is.
+    pub fn server(&self) -> ServerId
+        ensures { result.0 ≡ self.now.server }
+    {
+        self.server
+    }
+
+    /// Whether no request is queued.
+    pub fn is_empty(&self) -> bool
+        ensures { result ≡ (length (after T.ops self.now.config self.now.history).requests == 0) }
+    {
+        self.queue.0.empty()
+    }
+
+    /// Whether it takes no more requests.
+    pub fn is_closed(&self) -> bool
+        ensures { result ≡ self.now.closed }
+    {
+        self.closed
+    }
+
     /// How its queue is set up.
     pub fn config(&self) -> QueueConfig
         ensures { result ≡ self.now.config }

@@ -7,7 +7,6 @@ use Rattle.dmc_tag.proofs.ForCallers.{as_many_requests}
 use Rattle.dmc_pull.specs.Queue.{state_of}
 use Rattle.dmc_book.specs.BookState.{WorkerSide, pass_state, worker_side}
 use Rattle.dmc_book.specs.Settling.{AreOneOpen, ArePassesTakenIn, closed_worker}
-use Rattle.dmc_book.specs.declared.pass.WorkerPass.{WorkerPass}
 use Rattle.dmc_book.specs.declared.seat.Seat.{Seat}
 use Rattle.dmc_book.proofs.GrantLemmas.{grants_of_desks}
 use Rattle.dmc_book.proofs.OpeningLemmas.{consistent_empty}

@@ -7,6 +7,7 @@ use Rattle.std.proofs.lemmas.List.{append_assoc}
 use Rattle.dmc_types.specs.Values.{Setting}
 use Rattle.dmc_tag.specs.Tag.{Tagging}
 use Rattle.dmc_tag.specs.declared.event.Event.{Event}
+use Rattle.dmc_pull.specs.Queue.{state_of}
 use Rattle.dmc_text.specs.declared.cause.LineCause.{LineCause}
 use Rattle.dmc_text.specs.declared.cause.LineCause.TheVariants.{Bytes, Hz}
 use Rattle.dmc_text.specs.declared.script.ScriptFault.{ScriptFault}
@@ -205,7 +206,7 @@ module _ {T : Type 0} (ops : Tagging T) (made : ℤ → ℕ → Option T) where
       within = reads.1;
       recorded = recorded;
       says = sym e;
-      is_verdict = verdict_by ops recorded.config recorded.events replay.queue replay.difference h.so_far;
+      is_verdict = verdict_by ops recorded.config recorded.events (state_of replay.queue) replay.difference h.so_far;
       counts = h.count;
     }),
   )

@@ -10,6 +10,7 @@ use Rattle.dmc_tag.specs.Step.{step}
 use Rattle.dmc_tag.specs.Replay.{state_after, replays_from, after, replays}
 use Rattle.dmc_tag.specs.declared.event.Event.{Event}
 use Rattle.dmc_tag.proofs.ForCallers.{after_one_more, replays_one_more}
+use Rattle.dmc_pull.specs.Queue.{state_of}
 use Rattle.dmc_check.specs.Verdicts.{DiffersAt, IsVerdict, verdict_of, SoFar, Stands}
 use Rattle.dmc_check.specs.declared.replay.Replay.{Replay}
 use Rattle.dmc_check.specs.declared.check.Verdict.{Verdict}
@@ -105,7 +106,7 @@ module _ {T : Type 0} (ops : Tagging T) where
 
   -- one more event stands
   pub stands_more : (config : Setting) (events : List (Event T)) (e : Event T) (old new : Replay T) → Stands ops config events old → new.events ≡ suc old.events
-      → SoFar ops config (events ++ e ∷ []) new.queue new.difference → Stands ops config (events ++ e ∷ []) new
+      → SoFar ops config (events ++ e ∷ []) (state_of new.queue) new.difference → Stands ops config (events ++ e ∷ []) new
   stands_more config events e old new h count so_far = record {
     count = count ∙ ap suc h.count ∙ sym (length-append events (e ∷ []) ∙ one_more (length events));
     so_far = so_far;
@@ -126,4 +127,4 @@ module _ {T : Type 0} (ops : Tagging T) where
   pub verdict_is : (config : Setting) (all : List (Event T)) (i : ℕ) (replay : Replay T) → length all ≤ i → Stands ops config (take i all) replay → IsVerdict ops config all (verdict_of replay.difference)
   verdict_is config all i replay past h =
       let whole : take i all ≡ all = take_all i all past in
-      subst (λ es. IsVerdict ops config es (verdict_of replay.difference)) whole (verdict_by config (take i all) replay.queue replay.difference h.so_far)
+      subst (λ es. IsVerdict ops config es (verdict_of replay.difference)) whole (verdict_by config (take i all) (state_of replay.queue) replay.difference h.so_far)

@@ -6,6 +6,7 @@ use Rattle.dmc_tag.specs.State.{State, StandsFor}
 use Rattle.dmc_tag.specs.Step.{step}
 use Rattle.dmc_tag.specs.Replay.{after, replays}
 use Rattle.dmc_tag.specs.declared.event.Event.{Event}
+use Rattle.dmc_pull.specs.Queue.{state_of}
 use Rattle.dmc_check.specs.declared.replay.Replay.{Replay}
 use Rattle.dmc_check.specs.declared.check.Verdict.{Verdict}
 use Rattle.dmc_check.specs.declared.check.Verdict.TheVariants.{Replays, Differs}
@@ -36,4 +37,4 @@ SoFar ops config events s (Some i) = DiffersAt ops config events i
 -- what a replay has after these events
 pub record Stands {T : Type 0} (ops : Tagging T) (config : Setting) (events : List (Event T)) (replay : Replay T) : Type 0 where
   pub count : replay.events ≡ length events
-  pub so_far : SoFar ops config events replay.queue replay.difference
+  pub so_far : SoFar ops config events (state_of replay.queue) replay.difference

@@ -19,7 +19,7 @@ pub enum Verdict {
     Differs(usize),
 }
 
-/// Replays a history over a plain queue in the opening state. An error is want of memory.
+/// Replays a history over an indexed queue in the opening state. An error is want of memory.
 pub fn check<T: Tag>(
     alloc: Global,
     config: QueueConfig,

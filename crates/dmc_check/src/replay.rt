@@ -4,21 +4,23 @@ ghost use Rattle.dmc_types.specs.Values.{Setting};
 ghost use Rattle.dmc_tag.specs.State.{State, StandsFor};
 ghost use Rattle.dmc_tag.specs.Step.{step};
 ghost use Rattle.dmc_tag.specs.declared.event.Event.{Event};
+ghost use Rattle.dmc_pull.specs.Queue.{state_of};
 ghost use Rattle.dmc_check.specs.Verdicts.{Stands, SoFar, verdict_of};
 
 use crate::check::Verdict;
 use crate::same::is_same_reply;
-use dmc_plain::queue::PlainQueue;
+use dmc_heap::indexed_heap::HeapIndexes;
+use dmc_pull::queue::PullQueue;
 use dmc_tag::event::Event;
 use dmc_tag::scheduler::Scheduler;
 use dmc_tag::tag::Tag;
 use dmc_types::config::QueueConfig;
 use std::alloc::{AllocError, Global};
 
-/// A plain queue that carries out the commands of events, up to the first that was answered otherwise.
+/// A queue that carries out the commands of events, up to the first that was answered otherwise.
 #[derive(Drop)]
-pub(crate) struct Replay<T> {
-    queue: PlainQueue<T>,
+pub(crate) struct Replay<T: Tag> {
+    queue: PullQueue<T, HeapIndexes>,
     /// How many events there were.
     events: usize,
     /// The first event that was answered otherwise. Behind it nothing is carried out.
@@ -26,9 +28,12 @@ pub(crate) struct Replay<T> {
 }
 
 /// Carries out the command of an event; whether the reply is the one that was recorded.
-fn replays_next<T: Tag>(queue: &mut PlainQueue<T>, event: &Event<T>) -> Result<bool, AllocError>
-    ensures { (s : State T) → StandsFor queue.old s → IfOk result (λ same.
-        (IsTrue same ↔ (event.now.reply ≡ (step T.ops s event.now.command).1)) × StandsFor queue.new ((step T.ops s event.now.command).0)) }
+fn replays_next<T: Tag>(
+    queue: &mut PullQueue<T, HeapIndexes>,
+    event: &Event<T>,
+) -> Result<bool, AllocError>
+    ensures { (s : State T) → StandsFor (state_of queue.old) s → IfOk result (λ same.
+        (IsTrue same ↔ (event.now.reply ≡ (step T.ops s event.now.command).1)) × StandsFor (state_of queue.new) ((step T.ops s event.now.command).0)) }
 {
     let reply = queue.apply(&event.command)?;
     Ok(is_same_reply(&event.reply, &reply))
@@ -40,7 +45,7 @@ impl<T: Tag> Replay<T> {
         ensures { Stands T.ops config [] result }
     {
         Replay {
-            queue: PlainQueue::new(alloc, config),
+            queue: PullQueue::new(alloc, config),
             events: 0,
             difference: None,
         }
@@ -49,7 +54,7 @@ impl<T: Tag> Replay<T> {
     /// The first difference, with one more event.
     fn difference_with(&mut self, event: &Event<T>) -> Result<Option<usize>, AllocError>
         ensures so_far { (config : Setting) (events : List (Event T)) →
-            Stands T.ops config events self.old → IfOk result (λ found. SoFar T.ops config (events ++ event.now ∷ []) self.new.queue found) }
+            Stands T.ops config events self.old → IfOk result (λ found. SoFar T.ops config (events ++ event.now ∷ []) (state_of self.new.queue) found) }
         ensures count { self.new.events ≡ self.old.events }
     {
         if self.difference.is_some() {

@@ -9,6 +9,7 @@ ghost use Rattle.dmc_check.specs.Checking.{Holds, IsBelow, Takes, IsCounted, Tur
 use crate::check::Verdict;
 use crate::line::{EventLine, read_event_line};
 use crate::replay::Replay;
+use dmc_tag::tag::Tag;
 use dmc_text::cause::LineCause;
 use dmc_text::lines::LineReader;
 use dmc_text::script::{ScriptFault, Turn, answered, send_all};
@@ -18,7 +19,7 @@ use std::io::{Read, Write};
 
 /// A check of an event text.
 #[derive(Drop)]
-struct Checking<T> {
+struct Checking<T: Tag> {
     lines: LineReader,
     /// There is none before the `hz` line.
     replay: Option<Replay<T>>,
@@ -170,7 +171,7 @@ pub fn send<W: Write>(bytes: &[u8], writer: &mut W) -> bool
     writer.flush().is_ok()
 }
 
-/// Checks an event text: each event is replayed over a plain queue, and the verdict is written as a line, `replays N` of N
+/// Checks an event text: each event is replayed over an indexed queue, and the verdict is written as a line, `replays N` of N
 /// events, or `differs I`. All of the text is read, also behind a difference. No event is kept.
 pub fn check_text<T: TagText, R: Read, W: Write>(
     alloc: Global,

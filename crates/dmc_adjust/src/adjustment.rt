@@ -1,6 +1,6 @@
 //! Adjustment: the shares of all who are not idle are shifted, so that the least begins at t (own, after mClock's tag
 //! adjustment).
-ghost use Rattle.std.specs.Prelude.{◌≡◌, ◌&&◌, not, true, Some, List, ◌∷◌, [], map};
+ghost use Rattle.std.specs.Prelude.{◌≡◌, ◌&&◌, not, true, Some, List, ◌∷◌, [], map, if◌then◌else◌};
 ghost use Rattle.std.specs.Option.{option_map};
 ghost use Rattle.dmc_adjust.specs.Changes as changes;
 ghost use Rattle.dmc_client.specs.Record.{client_of, requests_of_record, IsRecord};
@@ -33,16 +33,15 @@ pub fn can_shift<T: Tag>(rec: &ClientRec<T>, amount: T) -> bool
     rec.is_idle() || rec.has_less_shares(amount)
 }
 
-/// Takes the amount off the shares of the client, where it is not idle.
-pub fn shift<T: Tag>(rec: &mut ClientRec<T>, amount: T)
-    requires { changes.is_shiftable T.ops amount rec.old ≡ true }
-    ensures value { rec.new ≡ changes.shifted T.ops amount rec.old }
-    ensures client { (id : ClientId) → client_of id rec.new ≡ rules_of.shifted_client T.ops amount (client_of id rec.old) }
-    ensures requests { (id : ClientId) (clients : List (PlainClient T)) → is_active id clients ≡ not rec.old.idle →
+/// Takes the amount off the shares of the client if each stays a value, and else changes nothing. Answers whether each
+/// does. An idle client isn't shifted.
+pub fn shift<T: Tag>(rec: &mut ClientRec<T>, amount: T) -> bool
+    ensures tests { result ≡ changes.is_shiftable T.ops amount rec.old }
+    ensures value { rec.new ≡ (if result then changes.shifted T.ops amount rec.old else rec.old) }
+    ensures client { (id : ClientId) → result ≡ true → client_of id rec.new ≡ rules_of.shifted_client T.ops amount (client_of id rec.old) }
+    ensures requests { (id : ClientId) (clients : List (PlainClient T)) → result ≡ true → is_active id clients ≡ not rec.old.idle →
         requests_of_record id rec.new ≡ map (rules_of.shifted_request T.ops amount clients) (requests_of_record id rec.old) }
     ensures kept { IsRecord T.ops rec.new }
 {
-    if !rec.is_idle() {
-        rec.subtract_from_shares(amount);
-    }
+    rec.is_idle() || rec.subtract_from_shares(amount)
 }

@@ -1,6 +1,6 @@
 -- What is owed, as requests come and go.
-use Rattle.std.proofs.Common.{◌≡◌, true, ◌&&◌, List, [], ◌∷◌, ◌++◌, map, drop, Option, Some, None, refl, sym, ap, ◌∙◌, subst}
-use Rattle.std.specs.Prelude.{is_some, slice_get, Result, Ok, Err, OnOk, OnErr}
+use Rattle.std.proofs.Common.{◌≡◌, Bool, true, false, ◌&&◌, List, [], ◌∷◌, ◌++◌, map, drop, Option, Some, None, refl, sym, ap, ◌∙◌, subst}
+use Rattle.std.specs.Prelude.{if◌then◌else◌, is_some, slice_get, Result, Ok, Err, OnOk, OnErr}
 use Rattle.std.specs.Option.{option_map, option_map_or, unwrap_or}
 use Rattle.std.specs.List.{AllByRecursion, list_all}
 use Rattle.std.proofs.lemmas.Option.{slice_get-map}
@@ -83,6 +83,16 @@ module _ {T : Type 0} (ops : Tagging T) where
     values = shares_have_owed amount owed xs is.values;
     empty = shares_empty amount owed xs is.empty;
   }
+
+  -- the same, where they change only if a test passes
+
+  pub tested_are_owed : (amount : T) (owed : Option T) (xs : List (QueuedRequest T)) (passes : Bool) → IsOwed ops owed xs → IsOwed ops owed (if passes then map (less_share ops amount) xs else xs)
+  tested_are_owed amount owed xs true is = shares_are_owed amount owed xs is
+  tested_are_owed amount owed xs false is = is
+
+  pub tested_apart : (amount : T) (owed : Option T) (xs : List (QueuedRequest T)) (passes : Bool) → all_less_owed ops owed (if passes then map (less_share ops amount) xs else xs) ≡ (if passes then map (less_share ops amount) (all_less_owed ops owed xs) else all_less_owed ops owed xs)
+  tested_apart amount owed xs true = shares_apart amount owed xs
+  tested_apart amount owed xs false = refl
 
   -- ---- an amount more is owed
 

@@ -151,6 +151,13 @@ module _ {T : Type 0} (ops : Tagging T) (amount : T) where
       idle = λ h. ap (map (less_share ops amount)) (is.idle h);
     }
 
+    -- where the previous one less the amount is this
+    pub record_with_shares : (rec : Rec T) (p : T) → IsRecord ops rec → list_all (λ r. has_less ops amount r.tags.p) rec.requests ≡ true → ops.minus rec.previous.p amount ≡ Some p → IsRecord ops (record rec { previous = record (rec.previous) { p = p }; requests = map (less_share ops amount) rec.requests })
+    record_with_shares rec p is all previous =
+        let values : has_less_shares ops amount rec ≡ true = ap (λ b. b && has_less ops amount rec.previous.p) all ∙ ap is_some previous in
+        let once : less ops amount rec.previous.p ≡ p = ap (λ o. unwrap_or o rec.previous.p) previous in
+        subst (λ q. IsRecord ops (record rec { previous = record (rec.previous) { p = q }; requests = map (less_share ops amount) rec.requests })) once (record_less_shares rec is values)
+
     pub record_less_reservations : (rec : Rec T) → IsRecord ops rec → has_less_reservations ops amount rec ≡ true → IsRecord ops (less_reservations ops amount rec)
     record_less_reservations rec is e = record {
       spacings = is.spacings;

@@ -1,5 +1,5 @@
 //! The queued requests of a client, whose R tags are all reduced at once.
-ghost use Rattle.std.specs.Prelude.{◌≡◌, ◌==◌, ◌++◌, ◌∷◌, [], true, drop, length, map, slice_get, OnOk, OnErr, IfSome, Some};
+ghost use Rattle.std.specs.Prelude.{◌≡◌, ◌==◌, ◌++◌, ◌∷◌, [], true, drop, length, map, slice_get, if◌then◌else◌, OnOk, OnErr, IfSome, Some};
 ghost use Rattle.std.specs.List.{list_all};
 ghost use Rattle.std.specs.Option.{option_map_or};
 ghost use Rattle.dmc_client.specs.Owed as owed_of;
@@ -129,11 +129,12 @@ impl<T: Tag> RequestQueue<T> {
         others_have_less(self.stored.later(), self.owed, amount)
     }
 
-    /// Takes the amount off each P.
-    pub fn subtract_shares(&mut self, amount: T)
-        ensures { self.new ≡ map (record_of.less_share T.ops amount) self.old }
+    /// Takes the amount off each P if each stays a value, and else changes nothing. Answers whether each does.
+    pub fn subtract_shares(&mut self, amount: T) -> bool
+        ensures value { result ≡ list_all (λ r. rules_of.has_less T.ops amount r.tags.p) self.old }
+        ensures new { self.new ≡ (if result then map (record_of.less_share T.ops amount) self.old else self.old) }
     {
-        self.stored.subtract_shares(amount);
+        self.stored.subtract_shares(amount)
     }
 
     /// Takes the amount off each R: of whole numbers it is owed, and taken off the stored tags only

@@ -1,5 +1,5 @@
 //! The record of a client.
-ghost use Rattle.std.specs.Prelude.{◌≡◌, ◌==◌, true, length, [], drop, slice_get, OnOk, OnErr};
+ghost use Rattle.std.specs.Prelude.{◌≡◌, ◌==◌, true, length, [], drop, slice_get, if◌then◌else◌, OnOk, OnErr};
 ghost use Rattle.dmc_tag.specs.Order.{AreSpacings, AreNext};
 ghost use Rattle.dmc_tag.specs.Rules.{changes_reservation};
 ghost use Rattle.dmc_client.specs.Record as record_of;
@@ -200,14 +200,21 @@ impl<T: Tag> ClientRec<T> {
         self.queue.others_have_less(amount)
     }
 
-    /// Takes the amount off the P of each request and off the previous P.
-    pub fn subtract_from_shares(&mut self, amount: T)
-        requires { record_of.has_less_shares T.ops amount self.old ≡ true }
-        ensures value { self.new ≡ record_of.less_shares T.ops amount self.old }
+    /// Takes the amount off the P of each request and off the previous P if each stays a value, and else changes
+    /// nothing. Answers whether each does.
+    pub fn subtract_from_shares(&mut self, amount: T) -> bool
+        ensures value { result ≡ record_of.has_less_shares T.ops amount self.old }
+        ensures new { self.new ≡ (if result then record_of.less_shares T.ops amount self.old else self.old) }
         ensures kept { IsRecord T.ops self.new }
     {
-        self.queue.subtract_shares(amount);
-        self.previous.p = less(self.previous.p, amount);
+        let Some(previous) = self.previous.p.minus(amount) else {
+            return false;
+        };
+        if !self.queue.subtract_shares(amount) {
+            return false;
+        }
+        self.previous.p = previous;
+        true
     }
 
     /// Takes the amount off the R of each request and off the previous R.

@@ -1,12 +1,12 @@
 //! The requests that a client's queue stores.
-ghost use Rattle.std.specs.Prelude.{◌≡◌, ◌==◌, ◌++◌, ◌∷◌, [], drop, length, map, slice_get, OnOk, OnErr};
+ghost use Rattle.std.specs.Prelude.{◌≡◌, ◌==◌, ◌++◌, ◌∷◌, [], drop, length, map, slice_get, if◌then◌else◌, OnOk, OnErr};
 ghost use Rattle.std.specs.List.{list_all};
 ghost use Rattle.dmc_client.specs.Record as record_of;
 ghost use Rattle.dmc_tag.specs.Rules as rules_of;
 
 use crate::request::QueuedRequest;
 use crate::subtraction::{
-    less_reservation, less_share, shares_have_less, subtract_reservations, subtract_shares,
+    checked_less_share, less_reservation, shares_have_less, subtract_reservations, subtract_shares,
 };
 use dmc_tag::shifting::has_less;
 use dmc_tag::tag::Tag;
@@ -123,14 +123,23 @@ impl<T: Tag> StoredRequests<T> {
         }
     }
 
-    /// Takes the amount off each P.
-    pub fn subtract_shares(&mut self, amount: T)
-        ensures { self.new ≡ map (record_of.less_share T.ops amount) self.old }
+    /// Takes the amount off each P if each stays a value, and else changes nothing. Answers whether each does.
+    pub fn subtract_shares(&mut self, amount: T) -> bool
+        ensures value { result ≡ list_all (λ r. rules_of.has_less T.ops amount r.tags.p) self.old }
+        ensures new { self.new ≡ (if result then map (record_of.less_share T.ops amount) self.old else self.old) }
     {
-        if let Some(first) = self.first {
-            self.first = Some(less_share(first, amount));
-            subtract_shares(&mut self.later, amount);
+        let Some(first) = self.first else {
+            return true;
+        };
+        let Some(changed) = checked_less_share(first, amount) else {
+            return false;
+        };
+        if !shares_have_less(&self.later, amount) {
+            return false;
         }
+        self.first = Some(changed);
+        subtract_shares(&mut self.later, amount);
+        true
     }
 
     /// Takes the amount off each R.

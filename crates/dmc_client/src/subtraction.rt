@@ -1,5 +1,5 @@
 //! An amount taken off each tag of one kind, in place, and whether that is a value.
-ghost use Rattle.std.specs.Prelude.{◌≡◌, map};
+ghost use Rattle.std.specs.Prelude.{◌≡◌, map, is_some, IfSome};
 ghost use Rattle.dmc_client.specs.Owed as owed_of;
 ghost use Rattle.dmc_client.specs.Record as record_of;
 ghost use Rattle.dmc_tag.specs.Rules as rules_of;
@@ -19,6 +19,17 @@ pub fn less_share<T: Tag>(request: QueuedRequest<T>, amount: T) -> QueuedRequest
     let p = less(request.tags.p, amount);
     let tags = Tags { p, ..request.tags };
     QueuedRequest { tags, ..request }
+}
+
+/// A request with the amount off its P; None where that is no value.
+pub fn checked_less_share<T: Tag>(request: QueuedRequest<T>, amount: T) -> Option<QueuedRequest<T>>
+    ensures test { is_some result ≡ rules_of.has_less T.ops amount request.tags.p }
+    ensures value { IfSome result (λ changed. changed ≡ record_of.less_share T.ops amount request) }
+{
+    let tags = request.tags;
+    let p = tags.p.minus(amount)?;
+    let tags = Tags { p, ..tags };
+    Some(QueuedRequest { tags, ..request })
 }
 
 /// A request with the amount off its R, if it has one.

@@ -4,3 +4,4 @@ pub mod LeastShare
 pub mod Adds
 pub mod NothingOff
 pub mod Arrived
+pub mod InRange

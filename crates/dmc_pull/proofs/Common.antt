@@ -9,4 +9,5 @@ pub mod Kept
 pub mod Replaced
 pub mod Answered
 pub mod Moved
+pub mod Within
 pub mod FirstRequests

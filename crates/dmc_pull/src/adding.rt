@@ -62,7 +62,7 @@ impl<T: Tag> RecordRule<T> for ShiftOthers<T> {
     ghost changed = { λ s key rec. adding_of.shifted_but T.ops s.amount s.newcomer key rec };
 
     fn apply(&self, key: usize, rec: &mut ClientRec<T>) -> bool {
-        if !rec.is_idle() && key != self.newcomer && can_shift(rec, self.amount) {
+        if !rec.is_idle() && key != self.newcomer {
             shift(rec, self.amount);
         }
         true

@@ -6,5 +6,6 @@ mod cleaning;
 pub mod granting;
 mod heads;
 pub mod queue;
+mod range;
 mod records;
 pub mod scheduler;

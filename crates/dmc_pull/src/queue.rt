@@ -16,6 +16,7 @@ mod registering;
 
 use crate::cleaning::{age_all, count_erased, count_idled};
 use crate::heads::clear;
+use crate::range::{ShareRange, first_range};
 use crate::records::drain_at;
 use dmc_heads::heads::Heads;
 use dmc_index::index::Indexes;
@@ -42,18 +43,21 @@ pub struct PullQueue<T: Tag, I: Indexes<T>> {
     heads: Part<Heads<T, I>>,
     // How many requests are queued.
     queued: usize,
+    // Between which tags each P lies, where that is known.
+    range: Option<ShareRange<T>>,
     last_moment: Moment,
     alloc: Global,
 }
 
 impl<T: Tag, I: Indexes<T>> Model for PullQueue<T, I> {
     ghost use Rattle.dmc_pull.specs.Queue.{Queue, IsQueue};
+    ghost use Rattle.dmc_pull.specs.Range.{AreWithin};
 
     ghost Value = { Queue T };
 
     ghost view = { λ q. record { config = q.config; roster = q.roster; heads = q.heads.0; last_moment = q.last_moment } };
 
-    ghost invariant = { λ q. IsQueue T.ops T.fraction T.is_value (record { config = q.config; roster = q.roster; heads = q.heads.0; last_moment = q.last_moment }) q.queued };
+    ghost invariant = { λ q. IsQueue T.ops T.fraction T.is_value (record { config = q.config; roster = q.roster; heads = q.heads.0; last_moment = q.last_moment }) q.queued × AreWithin T.ops q.range q.roster.entries };
 }
 
 impl<T: Tag, I: Indexes<T>> PullQueue<T, I> {
@@ -66,6 +70,7 @@ impl<T: Tag, I: Indexes<T>> PullQueue<T, I> {
             roster: Roster::new(alloc),
             heads: Part(Heads::new(alloc)),
             queued: 0,
+            range: first_range(),
             last_moment: Moment::zero(),
             alloc,
         }

@@ -196,7 +196,7 @@ of_client ops fraction is_value q n key client is d same slot_of_key =
     record { entry = x.0; found = x.1; id = same_client client x.0.id (name_is client q.roster.entries x.0 (sym same ∙ x.1)); distinct = d; is = is }
 
 -- what a push that did not fail says of the client's record
-did : {T A E : Type 0} (r : Result A E) (P : Rec T → Type 0) (key : ℕ) (es : List (Entry T)) (e : Entry T) → is_err r ≡ false → entry_keyed key es ≡ Some e → OnOk r (IfSome (record_at key es) P) → P e.rec
+pub did : {T A E : Type 0} (r : Result A E) (P : Rec T → Type 0) (key : ℕ) (es : List (Entry T)) (e : Entry T) → is_err r ≡ false → entry_keyed key es ≡ Some e → OnOk r (IfSome (record_at key es) P) → P e.rec
 did (Ok x) P key es e ok f h = if_holds P (record_at key es) e.rec (ap (option_map (λ e. e.rec)) f) h
 did (Err fault) P key es e ok f h = cc
 

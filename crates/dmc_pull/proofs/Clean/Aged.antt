@@ -1,5 +1,5 @@
 -- The queue after a clean.
-use Rattle.std.proofs.Common.{◌≡◌, ℕ, ◌<◌, ◌≤◌, Bool, true, false, not, List, map, length, filter, None, Ok, refl, sym, ap, ◌∙◌, subst}
+use Rattle.std.proofs.Common.{◌≡◌, ℕ, ◌<◌, ◌≤◌, Bool, true, false, not, List, map, length, filter, Option, None, Ok, refl, sym, ap, ◌∙◌, subst}
 use Rattle.std.specs.Option.{option_map, option_and_then}
 use Rattle.std.specs.Prelude.{slice_get}
 use Rattle.std.specs.List.{AllByRecursion}
@@ -14,7 +14,9 @@ use Rattle.dmc_client.specs.declared.request.QueuedRequest.{QueuedRequest}
 use Rattle.dmc_client.specs.Record.{IsRecord, share_tags}
 use Rattle.dmc_roster.specs.Entries.{Entry, Listing, entry_keyed, with_rec, AreDistinct}
 use Rattle.dmc_pull.specs.Cleaning.{is_stale, is_idled, with_idle_mark}
+use Rattle.dmc_pull.specs.Range.{HasSharesIn, AreWithin}
 use Rattle.dmc_pull.specs.Standing.{requests_in}
+use Rattle.dmc_pull.specs.declared.range.ShareRange.{ShareRange}
 use Rattle.dmc_pull.specs.Queue.{Queue, state_of, IsQueue, IsKept, AreHeads, head_of, unready_head}
 use Rattle.dmc_pull.proofs.Common.Parts.{all_as, all_both, all_filtered, all_mapped}
 use Rattle.dmc_pull.proofs.Clean.Cleaned.{stale_empty, cleaned_clients, cleaned_requests, count_idled, count_erased}
@@ -44,6 +46,13 @@ module _ {T : Type 0} (t idle_age erase_age : ℕ) where
       (all_true (λ e. not (is_stale t erase_age e.rec) ≡ false → head_of e ≡ None) not_kept es)
       (all_true (λ e. head_of (with_rec (with_idle_mark t idle_age) e) ≡ head_of e) (λ e. refl) es)
       key
+
+  -- the P tags stay in their range
+  pub cleaned_within : {ops : Tagging T} {range : Option (ShareRange T)} {es : List (Entry T)} → AreWithin ops range es → (now : List (Entry T)) → now ≡ kept_entries t idle_age erase_age es → AreWithin ops range now
+  cleaned_within {ops} {range} {es} are now same = record {
+    zero = are.zero;
+    shares = subst (AllByRecursion (λ f. HasSharesIn ops range f.rec)) (sym same) (all_kept (λ f. HasSharesIn ops range f.rec) (λ f h. h) es are.shares);
+  }
 
 module _ {T : Type 0} (ops : Tagging T) (fraction : T → Fraction) (is_value : Fraction → Type 0) where
   -- what is kept besides the record's own

@@ -125,11 +125,11 @@ module _ {T : Type 0} (ops : Tagging T) where
     at None = refl
     at (Some amount) = length_map (less_reservation ops amount) (drop 1 rec.requests)
 
-module _ {T : Type 0} (ops : Tagging T) (fraction : T → Fraction) (is_value : Fraction → Type 0) where
-  popped_values : (P : T → Type 0) (prev : T) (qs : List (QueuedRequest T)) → AllByRecursion P (map (λ r. r.tags.p) qs ++ prev ∷ []) → AllByRecursion P (map (λ r. r.tags.p) (drop 1 qs) ++ prev ∷ [])
-  popped_values P prev [] h = h
-  popped_values P prev (r ∷ qs) h = h.1
+pub popped_values : {T : Type 0} (P : T → Type 0) (prev : T) (qs : List (QueuedRequest T)) → AllByRecursion P (map (λ r. r.tags.p) qs ++ prev ∷ []) → AllByRecursion P (map (λ r. r.tags.p) (drop 1 qs) ++ prev ∷ [])
+popped_values P prev [] h = h
+popped_values P prev (r ∷ qs) h = h.1
 
+module _ {T : Type 0} (ops : Tagging T) (fraction : T → Fraction) (is_value : Fraction → Type 0) where
   pub grant_kept : (hz : ℕ) (reduces : Bool) (rec : Rec T) → IsKept ops fraction is_value hz rec → IsRecord ops (after_grant ops reduces rec) → IsKept ops fraction is_value hz (after_grant ops reduces rec)
   grant_kept hz reduces rec k is = record {
     is_record = is;

@@ -1,6 +1,8 @@
 //! An add to the indexed queue.
 ghost use Rattle.std.specs.Prelude.{◌≡◌, ◌≤◌, ◌<◌, ◌==◌, true, Some, None, Ok, length, is_some, IfSome, IsSome, IfOk, OnOk, OnErr, IsOkUnless};
 ghost use Rattle.dmc_types.specs.Limits.{most_requests};
+ghost use Rattle.std.specs.List.{list_all};
+ghost use Rattle.dmc_adjust.specs.Changes.{is_shiftable};
 ghost use Rattle.dmc_client.specs.Record.{client_of};
 ghost use Rattle.dmc_pull.specs.Adding as adding_of;
 ghost use Rattle.dmc_pull.specs.Adding.{CanAdd};
@@ -18,6 +20,7 @@ ghost use Rattle.dmc_types.specs.declared.ids.Token.{Token};
 use crate::adding::{Addition, Shiftable, shift_others, unless_nothing};
 use crate::heads::head_at;
 use crate::queue::PullQueue;
+use crate::range::{all_have_less, widen};
 use crate::records::push_at;
 use dmc_adjust::adjustment::shift_for;
 use dmc_assign::assignment::tags_for;
@@ -57,14 +60,21 @@ impl<T: Tag, I: Indexes<T>> PullQueue<T, I> {
         }
     }
 
-    /// Whether each tag that a shift changes stays a value.
+    /// Whether each tag that a shift changes stays a value: asked record by record where it does not follow from the range.
     fn can_shift_by(&self, shift: Option<T>) -> bool
         ensures { result ≡ rules_of.can_shift_by T.ops shift (state_of self.now).clients (state_of self.now).requests }
     {
         match shift {
             None => true,
-            Some(amount) => self.roster.count(&Shiftable { amount }) == self.roster.len(),
+            Some(amount) => all_have_less(self.range, amount) || self.each_has_less(amount),
         }
+    }
+
+    /// Whether each tag of each client that is not idle, less the amount, is a value.
+    fn each_has_less(&self, amount: T) -> bool
+        ensures { result ≡ list_all (λ e. is_shiftable T.ops amount e.rec) self.now.roster.entries }
+    {
+        self.roster.count(&Shiftable { amount }) == self.roster.len()
     }
 
     /// The tests of an add, and what it comes to: the key of the client, the shift of all others and the new tags. The client is
@@ -132,6 +142,7 @@ impl<T: Tag, I: Indexes<T>> PullQueue<T, I> {
             return Err(QueueFault::Memory);
         }
         shift_others(&mut self.roster, &mut self.heads.0, shift, key);
+        widen(&mut self.range, tags.p, shift);
         if is_first {
             self.heads.0.insert(key, head_at(client, tags, at));
         }

@@ -54,6 +54,7 @@ impl<T: Tag, I: Indexes<T>> PullQueue<T, I> {
         requires room { length self.old.roster.entries < most_clients }
         requires kept { IsKept T.ops T.fraction T.is_value self.old.config.hz rec }
         requires nothing { rec.requests ≡ [] }
+        requires zero { rec.previous.p ≡ T.ops.of_moment 0 }
         requires later { self.old.last_moment ≤ at }
         ensures ok { OnOk result (state_of self.new ≡ record (state_of self.old) { clients = (state_of self.old).clients ++ client_of client rec ∷ []; last_moment = at }) }
         ensures err { OnErr result (state_of self.new ≡ state_of self.old) }

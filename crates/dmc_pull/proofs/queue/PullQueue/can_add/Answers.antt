@@ -18,14 +18,14 @@ returns-in_default-clause-outcome g c =
 
 pub returns-then-self-ge-REQUESTS-clause-outcome : goal.returns-then-self-ge-REQUESTS-clause-outcome
 returns-then-self-ge-REQUESTS-clause-outcome g c =
-    let is = subst (λ q. IsQueue g.T.Tag.ops g.T.Tag.fraction g.T.Tag.is_value q c.self.inside.queued) c.self.view_is c.self.invariant in
+    let is = subst (λ q. IsQueue g.T.Tag.ops g.T.Tag.fraction g.T.Tag.is_value q c.self.inside.queued) c.self.view_is c.self.invariant.0 in
     let entry = subst (λ q. entry_keyed c.in-Some.key q.roster.entries ≡ entry_named c.args.client q.roster.entries) c.self.view_is c.in-Some.ensures.entry in
     let held = subst (λ q. is_some (entry_keyed c.in-Some.key q.roster.entries) ≡ true) c.self.view_is c.in-Some.ensures.held in
     allowed.queue_full g.T.Tag.ops g.T.Tag.fraction g.T.Tag.is_value c.args.self.now c.self.inside.queued is g.met.T.Tag.exact.same (minus_nothing g.T.Tag.ops g.T.Tag.fraction g.T.Tag.is_value g.met.T.Tag.exact) c.args.client c.args.params c.args.at c.in-Some.key entry held c.if-self-ge-REQUESTS.true
 
 pub returns-in_err-shift-clause-outcome : goal.returns-in_err-shift-clause-outcome
 returns-in_err-shift-clause-outcome g c =
-    let is = subst (λ q. IsQueue g.T.Tag.ops g.T.Tag.fraction g.T.Tag.is_value q c.self.inside.queued) c.self.view_is c.self.invariant in
+    let is = subst (λ q. IsQueue g.T.Tag.ops g.T.Tag.fraction g.T.Tag.is_value q c.self.inside.queued) c.self.view_is c.self.invariant.0 in
     let entry = subst (λ q. entry_keyed c.in-Some.key q.roster.entries ≡ entry_named c.args.client q.roster.entries) c.self.view_is c.in-Some.ensures.entry in
     let held = subst (λ q. is_some (entry_keyed c.in-Some.key q.roster.entries) ≡ true) c.self.view_is c.in-Some.ensures.held in
     let refused = allowed.shift_refused g.T.Tag.ops g.T.Tag.fraction g.T.Tag.is_value c.args.self.now c.self.inside.queued is g.met.T.Tag.exact.same (minus_nothing g.T.Tag.ops g.T.Tag.fraction g.T.Tag.is_value g.met.T.Tag.exact) c.args.client c.args.params c.args.at c.in-Some.key entry held c.if-self-ge-REQUESTS.false c.needed_shift.result c.of_moment-t.result c.of_moment-t.ensures c.needed_shift.ensures.value c.in_err-shift.field-0.0 c.in_err-shift.was in
@@ -33,7 +33,7 @@ returns-in_err-shift-clause-outcome g c =
 
 pub returns-then-not-can_shift_by-clause-outcome : goal.returns-then-not-can_shift_by-clause-outcome
 returns-then-not-can_shift_by-clause-outcome g c =
-    let is = subst (λ q. IsQueue g.T.Tag.ops g.T.Tag.fraction g.T.Tag.is_value q c.self.inside.queued) c.self.view_is c.self.invariant in
+    let is = subst (λ q. IsQueue g.T.Tag.ops g.T.Tag.fraction g.T.Tag.is_value q c.self.inside.queued) c.self.view_is c.self.invariant.0 in
     let entry = subst (λ q. entry_keyed c.in-Some.key q.roster.entries ≡ entry_named c.args.client q.roster.entries) c.self.view_is c.in-Some.ensures.entry in
     let held = subst (λ q. is_some (entry_keyed c.in-Some.key q.roster.entries) ≡ true) c.self.view_is c.in-Some.ensures.held in
     let can = subst (λ q. c.can_shift_by.result ≡ can_shift_by g.T.Tag.ops c.in_ok-shift.shift (clients_in q.roster.entries) (requests_in q.roster.entries)) c.needed_shift.ensures.same c.can_shift_by.ensures in
@@ -41,7 +41,7 @@ returns-then-not-can_shift_by-clause-outcome g c =
 
 pub returns-in_default-tags_for-clause-outcome : goal.returns-in_default-tags_for-clause-outcome
 returns-in_default-tags_for-clause-outcome g c =
-    let is = subst (λ q. IsQueue g.T.Tag.ops g.T.Tag.fraction g.T.Tag.is_value q c.self.inside.queued) c.self.view_is c.self.invariant in
+    let is = subst (λ q. IsQueue g.T.Tag.ops g.T.Tag.fraction g.T.Tag.is_value q c.self.inside.queued) c.self.view_is c.self.invariant.0 in
     let entry = subst (λ q. entry_keyed c.in-Some.key q.roster.entries ≡ entry_named c.args.client q.roster.entries) c.self.view_is c.in-Some.ensures.entry in
     let held = subst (λ q. is_some (entry_keyed c.in-Some.key q.roster.entries) ≡ true) c.self.view_is c.in-Some.ensures.held in
     let can = subst (λ q. c.can_shift_by.result ≡ can_shift_by g.T.Tag.ops c.in_ok-shift.shift (clients_in q.roster.entries) (requests_in q.roster.entries)) c.needed_shift.ensures.same c.can_shift_by.ensures in
@@ -50,7 +50,7 @@ returns-in_default-tags_for-clause-outcome g c =
 
 pub returns-clause-outcome : goal.returns-clause-outcome
 returns-clause-outcome g c =
-    let is = subst (λ q. IsQueue g.T.Tag.ops g.T.Tag.fraction g.T.Tag.is_value q c.self.inside.queued) c.self.view_is c.self.invariant in
+    let is = subst (λ q. IsQueue g.T.Tag.ops g.T.Tag.fraction g.T.Tag.is_value q c.self.inside.queued) c.self.view_is c.self.invariant.0 in
     let entry = subst (λ q. entry_keyed c.in-Some.key q.roster.entries ≡ entry_named c.args.client q.roster.entries) c.self.view_is c.in-Some.ensures.entry in
     let held = subst (λ q. is_some (entry_keyed c.in-Some.key q.roster.entries) ≡ true) c.self.view_is c.in-Some.ensures.held in
     let can = subst (λ q. c.can_shift_by.result ≡ can_shift_by g.T.Tag.ops c.in_ok-shift.shift (clients_in q.roster.entries) (requests_in q.roster.entries)) c.needed_shift.ensures.same c.can_shift_by.ensures in
@@ -59,7 +59,7 @@ returns-clause-outcome g c =
 
 pub returns-clause-added : goal.returns-clause-added
 returns-clause-added g c =
-    let is = subst (λ q. IsQueue g.T.Tag.ops g.T.Tag.fraction g.T.Tag.is_value q c.self.inside.queued) c.self.view_is c.self.invariant in
+    let is = subst (λ q. IsQueue g.T.Tag.ops g.T.Tag.fraction g.T.Tag.is_value q c.self.inside.queued) c.self.view_is c.self.invariant.0 in
     allowed.added_is g.T.Tag.ops g.T.Tag.fraction g.T.Tag.is_value c.args.self.now c.self.inside.queued is g.met.T.Tag.exact.same (minus_nothing g.T.Tag.ops g.T.Tag.fraction g.T.Tag.is_value g.met.T.Tag.exact) c.args.client c.args.params c.args.at (record { key = c.in-Some.key; shift = c.in_ok-shift.shift; tags = c.in-Some-tags_for.tags }) (returns-clause-outcome g c)
 
 pub returns-clause-value : goal.returns-clause-value

@@ -17,12 +17,12 @@ returns-clause-value g c =
     let q = c.self.inside in
     let view = c.self.view_is in
     let v : Queue g.row.T.Denot = record { config = q.config; roster = q.roster; heads = q.heads.0; last_moment = q.last_moment } in
-    let d = c.self.invariant.distinct in
+    let d = c.self.invariant.0.distinct in
     let first : IsFirstOf q.roster.entries c.args.key c.args.client = subst (λ v. IsFirstOf v.roster.entries c.args.key c.args.client) (sym view) c.requires in
     let w = waits q.roster.entries c.args.key c.args.client first in
     let at : record_at c.args.key q.roster.entries ≡ Some c.at.result.now = c.at.ensures.value in
-    let same = asked ops g.T.Tag.fraction g.T.Tag.is_value _ q.queued c.self.invariant c.args.key c.args.client w c.at.result.now at in
-    let space = spaced ops g.T.Tag.fraction g.T.Tag.is_value _ q.queued c.self.invariant c.args.key c.args.client w in
+    let same = asked ops g.T.Tag.fraction g.T.Tag.is_value _ q.queued c.self.invariant.0 c.args.key c.args.client w c.at.result.now at in
+    let space = spaced ops g.T.Tag.fraction g.T.Tag.is_value _ q.queued c.self.invariant.0 c.args.key c.args.client w in
     let amount = subst (λ r. spacings_of ops q.config.hz r.info ≡ Ok r.spacings → reduction_at ops q.config.hz r.info.reservation ≡ Ok r.spacings.r) same (c.can_reduce.ensures.amount q.config.hz) space in
     let tests = subst (λ r. c.can_reduce.result ≡ can_reduce_by ops w.entry.id r.spacings.r (client_of w.entry.id r ∷ []) (requests_of_record w.entry.id (popped r))) same (c.can_reduce.ensures.tests w.entry.id) in
     subst (λ v. IfSome (first_at c.args.key v.roster.entries) (λ found. IsGrantable ops (state_of v) found (record_at c.args.key v.roster.entries) c.can_reduce.result)) view

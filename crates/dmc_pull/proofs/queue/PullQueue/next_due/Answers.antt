@@ -12,21 +12,21 @@ use Rattle.dmc_pull.proofs.queue.PullQueue.next_due.Goals as goal
 pub returns-in_default : goal.returns-in_default
 returns-in_default g c = λ first rest whole.
     let q = c.self.inside in
-    let d = c.self.invariant.distinct in
-    not_nothing (requests_in q.roster.entries) first rest (none_queued g.T.Tag.ops q.last_moment q.roster.entries q.heads.0 c.self.invariant.heads d c.in_default.ensures) (ap (λ v. requests_in v.roster.entries) c.self.view_is ∙ whole)
+    let d = c.self.invariant.0.distinct in
+    not_nothing (requests_in q.roster.entries) first rest (none_queued g.T.Tag.ops q.last_moment q.roster.entries q.heads.0 c.self.invariant.0.heads d c.in_default.ensures) (ap (λ v. requests_in v.roster.entries) c.self.view_is ∙ whole)
 
 pub returns-in-None : goal.returns-in-None
 returns-in-None g c = λ first rest whole.
     let ops = g.T.Tag.ops in
     let order = tag_order g.T.Ord.cmp ops.compare g.met.T.Ord.total g.met.T.Tag.compares in
     let q = c.self.inside in
-    let d = c.self.invariant.distinct in
-    let records = records_of ops g.T.Tag.fraction g.T.Tag.is_value q.config.hz q.roster.entries c.self.invariant.kept in
+    let d = c.self.invariant.0.distinct in
+    let records = records_of ops g.T.Tag.fraction g.T.Tag.is_value q.config.hz q.roster.entries c.self.invariant.0.kept in
     let none_early : best (by_reservation ops) (is_early ops q.last_moment) (requests_in q.roster.entries) ≡ None = subst (λ v. best (by_reservation ops) (is_early ops v.last_moment) (requests_in v.roster.entries) ≡ None) (sym c.self.view_is) c.requires.none_early in
     let none_free : best (by_weight ops) (is_free ops q.last_moment) (requests_in q.roster.entries) ≡ None = subst (λ v. best (by_weight ops) (is_free ops v.last_moment) (requests_in v.roster.entries) ≡ None) (sym c.self.view_is) c.requires.none_free in
     let has_none = (not_found_has_none g.T.Tag.ops order) (λ r. Some r.tags.p) (is_free ops q.last_moment) (requests_in q.roster.entries) none_free in
     let free = moment_of (ops.ceil c.in-Some.limit.now.tag) in
-    due_told ops order q.last_moment q.roster.entries q.heads.0 c.self.invariant.heads d records (due_from_ceil g.T.Tag.ops g.T.Tag.fraction g.T.Tag.is_value g.met.T.Tag.exact) (future_is_exact g.T.Tag.ops g.T.Tag.fraction g.T.Tag.is_value g.met.T.Tag.exact order) q.config none_early none_free has_none c.in-Some-least_by_reservation.field-0-0 c.in-Some-least_by_reservation.reservation.now c.in-Some-least_by_reservation.ensures c.in-Some.field-0-0 c.in-Some.limit.now c.in-Some.ensures
+    due_told ops order q.last_moment q.roster.entries q.heads.0 c.self.invariant.0.heads d records (due_from_ceil g.T.Tag.ops g.T.Tag.fraction g.T.Tag.is_value g.met.T.Tag.exact) (future_is_exact g.T.Tag.ops g.T.Tag.fraction g.T.Tag.is_value g.met.T.Tag.exact order) q.config none_early none_free has_none c.in-Some-least_by_reservation.field-0-0 c.in-Some-least_by_reservation.reservation.now c.in-Some-least_by_reservation.ensures c.in-Some.field-0-0 c.in-Some.limit.now c.in-Some.ensures
     c.due_moment-free.result (c.due_moment-free.ensures ∙ ap (λ o. earlier free (option_map (λ t. moment_of (ops.ceil t)) o)) (sym c.in-None.is)) first rest (ap (λ v. requests_in v.roster.entries) c.self.view_is ∙ whole)
 
 pub returns-in-Some-tag : goal.returns-in-Some-tag
@@ -34,11 +34,11 @@ returns-in-Some-tag g c = λ first rest whole.
     let ops = g.T.Tag.ops in
     let order = tag_order g.T.Ord.cmp ops.compare g.met.T.Ord.total g.met.T.Tag.compares in
     let q = c.self.inside in
-    let d = c.self.invariant.distinct in
-    let records = records_of ops g.T.Tag.fraction g.T.Tag.is_value q.config.hz q.roster.entries c.self.invariant.kept in
+    let d = c.self.invariant.0.distinct in
+    let records = records_of ops g.T.Tag.fraction g.T.Tag.is_value q.config.hz q.roster.entries c.self.invariant.0.kept in
     let none_early : best (by_reservation ops) (is_early ops q.last_moment) (requests_in q.roster.entries) ≡ None = subst (λ v. best (by_reservation ops) (is_early ops v.last_moment) (requests_in v.roster.entries) ≡ None) (sym c.self.view_is) c.requires.none_early in
     let none_free : best (by_weight ops) (is_free ops q.last_moment) (requests_in q.roster.entries) ≡ None = subst (λ v. best (by_weight ops) (is_free ops v.last_moment) (requests_in v.roster.entries) ≡ None) (sym c.self.view_is) c.requires.none_free in
     let has_none = (not_found_has_none g.T.Tag.ops order) (λ r. Some r.tags.p) (is_free ops q.last_moment) (requests_in q.roster.entries) none_free in
     let free = moment_of (ops.ceil c.in-Some.limit.now.tag) in
-    due_told ops order q.last_moment q.roster.entries q.heads.0 c.self.invariant.heads d records (due_from_ceil g.T.Tag.ops g.T.Tag.fraction g.T.Tag.is_value g.met.T.Tag.exact) (future_is_exact g.T.Tag.ops g.T.Tag.fraction g.T.Tag.is_value g.met.T.Tag.exact order) q.config none_early none_free has_none c.in-Some-least_by_reservation.field-0-0 c.in-Some-least_by_reservation.reservation.now c.in-Some-least_by_reservation.ensures c.in-Some.field-0-0 c.in-Some.limit.now c.in-Some.ensures
+    due_told ops order q.last_moment q.roster.entries q.heads.0 c.self.invariant.0.heads d records (due_from_ceil g.T.Tag.ops g.T.Tag.fraction g.T.Tag.is_value g.met.T.Tag.exact) (future_is_exact g.T.Tag.ops g.T.Tag.fraction g.T.Tag.is_value g.met.T.Tag.exact order) q.config none_early none_free has_none c.in-Some-least_by_reservation.field-0-0 c.in-Some-least_by_reservation.reservation.now c.in-Some-least_by_reservation.ensures c.in-Some.field-0-0 c.in-Some.limit.now c.in-Some.ensures
     c.min.result (c.min.ensures ∙ ap (λ a. min a c.due_moment.result) c.due_moment-free.ensures ∙ ap (λ b. min free b) c.due_moment.ensures ∙ ap (λ o. earlier free (option_map (λ t. moment_of (ops.ceil t)) o)) (sym c.in-Some-tag.is)) first rest (ap (λ v. requests_in v.roster.entries) c.self.view_is ∙ whole)

@@ -7,11 +7,13 @@ use Rattle.dmc_heads.specs.Heads.{IsOthers}
 use Rattle.dmc_roster.specs.Entries.{entry_keyed, entry_named, record_at}
 use Rattle.dmc_tag.specs.State.{StandsFor}
 use Rattle.dmc_tag.specs.Rules.{can_shift_by, shifted_by, queued}
-use Rattle.dmc_tag.proofs.ForCallers.{differences_are_values, due_from_ceil}
+use Rattle.dmc_tag.proofs.ForCallers.{differences_are_values, due_from_ceil, tag_order}
 use Rattle.dmc_pull.specs.Queue.{Queue, IsQueue, head_at, state_of}
+use Rattle.dmc_pull.specs.Range.{AreWithin}
 use Rattle.dmc_pull.specs.Standing.{clients_in, requests_in}
 use Rattle.dmc_pull.proofs.Add.Adds.{record_is}
 use Rattle.dmc_pull.proofs.Add.Arrived.{of_client, heads_can_shift, after_calls, within, vacant, apart, with_first, with_more, stands}
+use Rattle.dmc_pull.proofs.Add.InRange.{arrived_within}
 use Rattle.dmc_pull.proofs.queue.PullQueue.queue.Goals as goal
 use Rattle.dmc_pull.proofs.queue.PullQueue.queue.Goals.{then-is_first, else-is_first}
 
@@ -25,7 +27,7 @@ shift_others-requires g c =
     let same = subst (λ q. entry_keyed key q.roster.entries ≡ entry_named c.args.client q.roster.entries) (sym c.self.view_is) c.requires.key in
     let held = subst (λ q. is_some (entry_keyed key q.roster.entries) ≡ true) (sym c.self.view_is) c.requires.held in
     let can = subst (λ q. can_shift_by ops shift (clients_in q.roster.entries) (requests_in q.roster.entries) ≡ true) (sym c.self.view_is) c.requires.shiftable in
-    let of = of_client ops g.T.Tag.fraction g.T.Tag.is_value q inside.queued key c.args.client c.self.invariant c.at.ensures.distinct same held in
+    let of = of_client ops g.T.Tag.fraction g.T.Tag.is_value q inside.queued key c.args.client c.self.invariant.0 c.at.ensures.distinct same held in
     heads_can_shift of shift can
 
 pub insert-requires-clause-in_room : goal.insert-requires-clause-in_room
@@ -38,7 +40,7 @@ insert-requires-clause-in_room g c =
     let same = subst (λ q. entry_keyed key q.roster.entries ≡ entry_named c.args.client q.roster.entries) (sym c.self.view_is) c.requires.key in
     let held = subst (λ q. is_some (entry_keyed key q.roster.entries) ≡ true) (sym c.self.view_is) c.requires.held in
     let can = subst (λ q. can_shift_by ops shift (clients_in q.roster.entries) (requests_in q.roster.entries) ≡ true) (sym c.self.view_is) c.requires.shiftable in
-    let of = of_client ops g.T.Tag.fraction g.T.Tag.is_value q inside.queued key c.args.client c.self.invariant c.at.ensures.distinct same held in
+    let of = of_client ops g.T.Tag.fraction g.T.Tag.is_value q inside.queued key c.args.client c.self.invariant.0 c.at.ensures.distinct same held in
     let request : QueuedRequest g.row.T.Denot = record { token = c.args.token; tags = c.args.addition.tags } in
     let idle = subst (λ q. IsSome shift → IfSome (record_at key q.roster.entries) (λ rec. rec.idle ≡ true)) (sym c.self.view_is) c.requires.idle in
     let after = after_calls of (differences_are_values g.T.Tag.ops g.T.Tag.fraction g.T.Tag.is_value g.met.T.Tag.exact) request c.args.at c.push_at.result (sym c.if-is_err.ensures.value) c.push_at.new.roster c.push_at.ensures.ok c.push_at.ensures.kept shift idle can c.shift_others.new.roster.entries c.shift_others.ensures.entries c.shift_others.ensures.kept c.shift_others.new.heads c.shift_others.ensures.firsts in
@@ -54,7 +56,7 @@ insert-requires-clause-vacant g c =
     let same = subst (λ q. entry_keyed key q.roster.entries ≡ entry_named c.args.client q.roster.entries) (sym c.self.view_is) c.requires.key in
     let held = subst (λ q. is_some (entry_keyed key q.roster.entries) ≡ true) (sym c.self.view_is) c.requires.held in
     let can = subst (λ q. can_shift_by ops shift (clients_in q.roster.entries) (requests_in q.roster.entries) ≡ true) (sym c.self.view_is) c.requires.shiftable in
-    let of = of_client ops g.T.Tag.fraction g.T.Tag.is_value q inside.queued key c.args.client c.self.invariant c.at.ensures.distinct same held in
+    let of = of_client ops g.T.Tag.fraction g.T.Tag.is_value q inside.queued key c.args.client c.self.invariant.0 c.at.ensures.distinct same held in
     let request : QueuedRequest g.row.T.Denot = record { token = c.args.token; tags = c.args.addition.tags } in
     let idle = subst (λ q. IsSome shift → IfSome (record_at key q.roster.entries) (λ rec. rec.idle ≡ true)) (sym c.self.view_is) c.requires.idle in
     let after = after_calls of (differences_are_values g.T.Tag.ops g.T.Tag.fraction g.T.Tag.is_value g.met.T.Tag.exact) request c.args.at c.push_at.result (sym c.if-is_err.ensures.value) c.push_at.new.roster c.push_at.ensures.ok c.push_at.ensures.kept shift idle can c.shift_others.new.roster.entries c.shift_others.ensures.entries c.shift_others.ensures.kept c.shift_others.new.heads c.shift_others.ensures.firsts in
@@ -71,7 +73,7 @@ insert-requires-clause-apart g c =
     let same = subst (λ q. entry_keyed key q.roster.entries ≡ entry_named c.args.client q.roster.entries) (sym c.self.view_is) c.requires.key in
     let held = subst (λ q. is_some (entry_keyed key q.roster.entries) ≡ true) (sym c.self.view_is) c.requires.held in
     let can = subst (λ q. can_shift_by ops shift (clients_in q.roster.entries) (requests_in q.roster.entries) ≡ true) (sym c.self.view_is) c.requires.shiftable in
-    let of = of_client ops g.T.Tag.fraction g.T.Tag.is_value q inside.queued key c.args.client c.self.invariant c.at.ensures.distinct same held in
+    let of = of_client ops g.T.Tag.fraction g.T.Tag.is_value q inside.queued key c.args.client c.self.invariant.0 c.at.ensures.distinct same held in
     let request : QueuedRequest g.row.T.Denot = record { token = c.args.token; tags = c.args.addition.tags } in
     let idle = subst (λ q. IsSome shift → IfSome (record_at key q.roster.entries) (λ rec. rec.idle ≡ true)) (sym c.self.view_is) c.requires.idle in
     let after = after_calls of (differences_are_values g.T.Tag.ops g.T.Tag.fraction g.T.Tag.is_value g.met.T.Tag.exact) request c.args.at c.push_at.result (sym c.if-is_err.ensures.value) c.push_at.new.roster c.push_at.ensures.ok c.push_at.ensures.kept shift idle can c.shift_others.new.roster.entries c.shift_others.ensures.entries c.shift_others.ensures.kept c.shift_others.new.heads c.shift_others.ensures.firsts in
@@ -87,7 +89,7 @@ invariant_of-self-2 g c =
     let same = subst (λ q. entry_keyed key q.roster.entries ≡ entry_named c.args.client q.roster.entries) (sym c.self.view_is) c.requires.key in
     let held = subst (λ q. is_some (entry_keyed key q.roster.entries) ≡ true) (sym c.self.view_is) c.requires.held in
     let can = subst (λ q. can_shift_by ops shift (clients_in q.roster.entries) (requests_in q.roster.entries) ≡ true) (sym c.self.view_is) c.requires.shiftable in
-    let of = of_client ops g.T.Tag.fraction g.T.Tag.is_value q inside.queued key c.args.client c.self.invariant c.at.ensures.distinct same held in
+    let of = of_client ops g.T.Tag.fraction g.T.Tag.is_value q inside.queued key c.args.client c.self.invariant.0 c.at.ensures.distinct same held in
     let request : QueuedRequest g.row.T.Denot = record { token = c.args.token; tags = c.args.addition.tags } in
     let idle = subst (λ q. IsSome shift → IfSome (record_at key q.roster.entries) (λ rec. rec.idle ≡ true)) (sym c.self.view_is) c.requires.idle in
     let after = after_calls of (differences_are_values g.T.Tag.ops g.T.Tag.fraction g.T.Tag.is_value g.met.T.Tag.exact) request c.args.at c.push_at.result (sym c.if-is_err.ensures.value) c.push_at.new.roster c.push_at.ensures.ok c.push_at.ensures.kept shift idle can c.shift_others.new.roster.entries c.shift_others.ensures.entries c.shift_others.ensures.kept c.shift_others.new.heads c.shift_others.ensures.firsts in
@@ -97,14 +99,17 @@ invariant_of-self-2 g c =
     let at = c.args.at in
     let room = subst (λ q. length (requests_in q.roster.entries) < most_requests) (sym c.self.view_is) c.requires.room in
     let later = subst (λ q. q.last_moment ≤ at) (sym c.self.view_is) c.requires.later in
+    let order = tag_order g.T.Ord.cmp ops.compare g.met.T.Ord.total g.met.T.Tag.compares in
+    let came = arrived_within ops order g.met.T.Tag.exact of request at inside.range c.self.invariant.1 c.push_at.result (sym c.if-is_err.ensures.value) c.push_at.new.roster c.push_at.ensures.ok shift c.shift_others.new.roster.entries c.shift_others.ensures.entries in
+    let within = subst (λ range. AreWithin ops range c.shift_others.new.roster.entries) (sym c.widen.ensures) came in
     elim c.if-is_first.branch [
       | then-is_first w ↦
-          let first = with_first fraction is_value inside.config c.shift_others.new.roster after inside.queued c.self.invariant.counted room c.requires.value later (due_from_ceil g.T.Tag.ops g.T.Tag.fraction g.T.Tag.is_value g.met.T.Tag.exact) (sym empty ∙ w.if-is_first.true) in
+          let first = with_first fraction is_value inside.config c.shift_others.new.roster after inside.queued c.self.invariant.0.counted room c.requires.value later (due_from_ceil g.T.Tag.ops g.T.Tag.fraction g.T.Tag.is_value g.met.T.Tag.exact) (sym empty ∙ w.if-is_first.true) in
           let named = subst (λ id. IsQueue ops fraction is_value (record { config = inside.config; roster = c.shift_others.new.roster; heads = slice_set c.shift_others.new.heads key (Some (head_at ops at id request.tags)); last_moment = at }) (inside.queued + 1)) of.id first in
-          rw (w.self-inside-is, w.insert.ensures, w.head_at.ensures) named
+          rw (w.self-inside-is, w.insert.ensures, w.head_at.ensures) (named, within)
       | else-is_first w ↦
-          let more = with_more fraction is_value inside.config c.shift_others.new.roster after inside.queued c.self.invariant.counted room c.requires.value later (due_from_ceil g.T.Tag.ops g.T.Tag.fraction g.T.Tag.is_value g.met.T.Tag.exact) (sym empty ∙ w.if-is_first.false) in
-          rw w.self-inside-is more
+          let more = with_more fraction is_value inside.config c.shift_others.new.roster after inside.queued c.self.invariant.0.counted room c.requires.value later (due_from_ceil g.T.Tag.ops g.T.Tag.fraction g.T.Tag.is_value g.met.T.Tag.exact) (sym empty ∙ w.if-is_first.false) in
+          rw w.self-inside-is (more, within)
     ]
 
 pub returns-clause-ok : goal.returns-clause-ok
@@ -117,7 +122,7 @@ returns-clause-ok g c =
     let same = subst (λ q. entry_keyed key q.roster.entries ≡ entry_named c.args.client q.roster.entries) (sym c.self.view_is) c.requires.key in
     let held = subst (λ q. is_some (entry_keyed key q.roster.entries) ≡ true) (sym c.self.view_is) c.requires.held in
     let can = subst (λ q. can_shift_by ops shift (clients_in q.roster.entries) (requests_in q.roster.entries) ≡ true) (sym c.self.view_is) c.requires.shiftable in
-    let of = of_client ops g.T.Tag.fraction g.T.Tag.is_value q inside.queued key c.args.client c.self.invariant c.at.ensures.distinct same held in
+    let of = of_client ops g.T.Tag.fraction g.T.Tag.is_value q inside.queued key c.args.client c.self.invariant.0 c.at.ensures.distinct same held in
     let request : QueuedRequest g.row.T.Denot = record { token = c.args.token; tags = c.args.addition.tags } in
     let idle = subst (λ q. IsSome shift → IfSome (record_at key q.roster.entries) (λ rec. rec.idle ≡ true)) (sym c.self.view_is) c.requires.idle in
     let after = after_calls of (differences_are_values g.T.Tag.ops g.T.Tag.fraction g.T.Tag.is_value g.met.T.Tag.exact) request c.args.at c.push_at.result (sym c.if-is_err.ensures.value) c.push_at.new.roster c.push_at.ensures.ok c.push_at.ensures.kept shift idle can c.shift_others.new.roster.entries c.shift_others.ensures.entries c.shift_others.ensures.kept c.shift_others.new.heads c.shift_others.ensures.firsts in

@@ -1,9 +1,10 @@
-use Rattle.std.proofs.Common.{◌≡◌, length, arith}
+use Rattle.std.proofs.Common.{◌≡◌, length, ap, arith}
 use Rattle.dmc_client.specs.Record.{IsRecord}
 use Rattle.dmc_roster.specs.Entries.{with_record_at}
 use Rattle.dmc_pull.specs.Queue.{state_of}
 use Rattle.dmc_pull.proofs.Clients.Updating.{client_at, of_record, unnamed}
 use Rattle.dmc_pull.proofs.Remove.Removing.{emptied, has_head, fewer, removed_is, removed_step, refused_remove}
+use Rattle.dmc_pull.proofs.Common.Within.{emptied_within}
 use Rattle.dmc_pull.proofs.queue.PullQueue.remove_by_client.Goals as goal
 
 pub returns-in_default : goal.returns-in_default
@@ -17,21 +18,21 @@ clear-requires g c =
     let q = c.self.inside in
     let h = client_at c.args.client c.in-Some.key q.roster.entries c.in-Some.ensures.entry c.in-Some.ensures.held c.find.ensures.distinct in
     let all = of_record (λ rec. c.drain_at-count.result ≡ length rec.requests) c.in-Some.key q.roster.entries h.entry h.keyed c.drain_at-count.ensures.count in
-    has_head g.T.Tag.ops c.self.invariant.heads h c.drain_at-count.result all
+    has_head g.T.Tag.ops c.self.invariant.0.heads h c.drain_at-count.result all
 
 pub overflow_sub-self : goal.overflow_sub-self
 overflow_sub-self g c =
     let q = c.self.inside in
     let h = client_at c.args.client c.in-Some.key q.roster.entries c.in-Some.ensures.entry c.in-Some.ensures.held c.find.ensures.distinct in
     let all = of_record (λ rec. c.drain_at-count.result ≡ length rec.requests) c.in-Some.key q.roster.entries h.entry h.keyed c.drain_at-count.ensures.count in
-    omega (arith, fewer h q.queued c.drain_at-count.result c.self.invariant.counted all)
+    omega (arith, fewer h q.queued c.drain_at-count.result c.self.invariant.0.counted all)
 
 pub overflow_cast-result : goal.overflow_cast-result
 overflow_cast-result g c =
     let q = c.self.inside in
     let h = client_at c.args.client c.in-Some.key q.roster.entries c.in-Some.ensures.entry c.in-Some.ensures.held c.find.ensures.distinct in
     let all = of_record (λ rec. c.drain_at-count.result ≡ length rec.requests) c.in-Some.key q.roster.entries h.entry h.keyed c.drain_at-count.ensures.count in
-    omega (arith, fewer h q.queued c.drain_at-count.result c.self.invariant.counted all, c.self.invariant.bound)
+    omega (arith, fewer h q.queued c.drain_at-count.result c.self.invariant.0.counted all, c.self.invariant.0.bound)
 
 pub invariant_of-self : goal.invariant_of-self
 invariant_of-self g c =
@@ -39,8 +40,10 @@ invariant_of-self g c =
     let h = client_at c.args.client c.in-Some.key q.roster.entries c.in-Some.ensures.entry c.in-Some.ensures.held c.find.ensures.distinct in
     let all = of_record (λ rec. c.drain_at-count.result ≡ length rec.requests) c.in-Some.key q.roster.entries h.entry h.keyed c.drain_at-count.ensures.count in
     let holds = of_record (λ rec. IsRecord g.T.Tag.ops (emptied rec)) c.in-Some.key q.roster.entries h.entry h.keyed c.drain_at-count.ensures.kept in
-    let changed = of_record (λ rec. c.drain_at-count.new.roster ≡ with_record_at q.roster c.in-Some.key (emptied rec)) c.in-Some.key q.roster.entries h.entry h.keyed c.drain_at-count.ensures.rest in
-    removed_is g.T.Tag.ops g.T.Tag.fraction g.T.Tag.is_value c.self.invariant h holds c.drain_at-count.new.roster changed c.clear.new.heads c.clear.ensures c.drain_at-count.result all
+    let changed = of_record (λ rec. c.drain_at-count.new.roster ≡ with_record_at q.roster c.in-Some.key (emptied rec)) c.in-Some.key q.roster.entries h.entry h.keyed c.drain_at-count.ensures.rest in (
+      removed_is g.T.Tag.ops g.T.Tag.fraction g.T.Tag.is_value c.self.invariant.0 h holds c.drain_at-count.new.roster changed c.clear.new.heads c.clear.ensures c.drain_at-count.result all,
+      emptied_within c.self.invariant.1 h.at h.keyed c.drain_at-count.new.roster.entries (ap (λ r. r.entries) changed),
+    )
 
 pub returns : goal.returns
 returns g c =

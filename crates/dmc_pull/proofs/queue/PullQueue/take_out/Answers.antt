@@ -1,31 +1,37 @@
-use Rattle.std.proofs.Common.{sym, subst}
+use Rattle.std.proofs.Common.{sym, ap, subst}
 use Rattle.std.specs.Prelude.{◌≤◌}
 use Rattle.dmc_tag.proofs.ForCallers.{due_from_ceil}
 use Rattle.dmc_pull.specs.Choice.{IsFirstOf}
-use Rattle.dmc_pull.proofs.Common.Replaced.{waits, held_after, one_at_least, granted}
+use Rattle.dmc_pull.proofs.Common.Replaced.{waits, roster_after, held_after, one_at_least, granted}
+use Rattle.dmc_pull.proofs.Common.Within.{granted_within}
 use Rattle.dmc_pull.proofs.queue.PullQueue.take_out.Goals as goal
 
 pub first_tags-tags-requires : goal.first_tags-tags-requires
 first_tags-tags-requires g c =
     let ops = g.T.Tag.ops in
     let q = c.self.inside in
-    let d = c.self.invariant.distinct in
+    let d = c.self.invariant.0.distinct in
     let first : IsFirstOf q.roster.entries c.args.key c.args.client = subst (λ v. IsFirstOf v.roster.entries c.args.key c.args.client) (sym c.self.view_is) c.requires.first in
-    held_after ops g.T.Tag.fraction g.T.Tag.is_value (due_from_ceil g.T.Tag.ops g.T.Tag.fraction g.T.Tag.is_value g.met.T.Tag.exact) _ q.queued c.args.key c.args.client c.args.reduces c.args.at d c.self.invariant (waits q.roster.entries c.args.key c.args.client first) c.grant_first.new.roster c.grant_first.ensures.rest
+    held_after ops g.T.Tag.fraction g.T.Tag.is_value (due_from_ceil g.T.Tag.ops g.T.Tag.fraction g.T.Tag.is_value g.met.T.Tag.exact) _ q.queued c.args.key c.args.client c.args.reduces c.args.at d c.self.invariant.0 (waits q.roster.entries c.args.key c.args.client first) c.grant_first.new.roster c.grant_first.ensures.rest
 
 pub overflow_sub-self : goal.overflow_sub-self
 overflow_sub-self g c =
     let ops = g.T.Tag.ops in
     let q = c.self.inside in
-    let d = c.self.invariant.distinct in
+    let d = c.self.invariant.0.distinct in
     let first : IsFirstOf q.roster.entries c.args.key c.args.client = subst (λ v. IsFirstOf v.roster.entries c.args.key c.args.client) (sym c.self.view_is) c.requires.first in
-    one_at_least ops g.T.Tag.fraction g.T.Tag.is_value (due_from_ceil g.T.Tag.ops g.T.Tag.fraction g.T.Tag.is_value g.met.T.Tag.exact) _ q.queued c.args.key c.args.client c.args.reduces c.args.at d c.self.invariant (waits q.roster.entries c.args.key c.args.client first)
+    one_at_least ops g.T.Tag.fraction g.T.Tag.is_value (due_from_ceil g.T.Tag.ops g.T.Tag.fraction g.T.Tag.is_value g.met.T.Tag.exact) _ q.queued c.args.key c.args.client c.args.reduces c.args.at d c.self.invariant.0 (waits q.roster.entries c.args.key c.args.client first)
 
 pub invariant_of-self : goal.invariant_of-self
 invariant_of-self g c =
     let ops = g.T.Tag.ops in
     let q = c.self.inside in
-    let d = c.self.invariant.distinct in
+    let d = c.self.invariant.0.distinct in
     let first : IsFirstOf q.roster.entries c.args.key c.args.client = subst (λ v. IsFirstOf v.roster.entries c.args.key c.args.client) (sym c.self.view_is) c.requires.first in
     let later : q.last_moment ≤ c.args.at = subst (λ v. v.last_moment ≤ c.args.at) (sym c.self.view_is) c.requires.later in
-    granted ops g.T.Tag.fraction g.T.Tag.is_value (due_from_ceil g.T.Tag.ops g.T.Tag.fraction g.T.Tag.is_value g.met.T.Tag.exact) _ q.queued c.args.key c.args.client c.args.reduces c.args.at d c.self.invariant (waits q.roster.entries c.args.key c.args.client first) later c.grant_first.new.roster c.grant_first.ensures.rest c.grant_first.ensures.kept c.first_tags-tags.result c.first_tags-tags.ensures c.renew.new.heads c.renew.ensures
+    let waiting = waits q.roster.entries c.args.key c.args.client first in
+    let due_from = due_from_ceil g.T.Tag.ops g.T.Tag.fraction g.T.Tag.is_value g.met.T.Tag.exact in
+    let roster = roster_after ops g.T.Tag.fraction g.T.Tag.is_value due_from _ q.queued c.args.key c.args.client c.args.reduces c.args.at d c.self.invariant.0 waiting c.grant_first.new.roster c.grant_first.ensures.rest in (
+      granted ops g.T.Tag.fraction g.T.Tag.is_value (due_from_ceil g.T.Tag.ops g.T.Tag.fraction g.T.Tag.is_value g.met.T.Tag.exact) _ q.queued c.args.key c.args.client c.args.reduces c.args.at d c.self.invariant.0 (waits q.roster.entries c.args.key c.args.client first) later c.grant_first.new.roster c.grant_first.ensures.rest c.grant_first.ensures.kept c.first_tags-tags.result c.first_tags-tags.ensures c.renew.new.heads c.renew.ensures,
+      granted_within c.self.invariant.1 d waiting c.args.reduces c.grant_first.new.roster.entries (ap (λ r. r.entries) roster),
+    )

@@ -8,4 +8,4 @@ pub returns-clause-heads : goal.returns-clause-heads
 returns-clause-heads g c =
     let ops = g.T.Tag.ops in
     subst (λ q. AreFirstRequests ops (state_of q) q.heads) c.self.view_is
-    (first_requests ops g.T.Tag.fraction g.T.Tag.is_value _ c.self.inside.queued c.self.invariant)
+    (first_requests ops g.T.Tag.fraction g.T.Tag.is_value _ c.self.inside.queued c.self.invariant.0)

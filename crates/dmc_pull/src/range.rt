@@ -1,0 +1,80 @@
+//! Between which tags the P tags of a queue lie.
+ghost use Rattle.std.specs.Prelude.{◌≡◌};
+ghost use Rattle.dmc_pull.specs.Range as range_of;
+ghost use Rattle.dmc_pull.specs.Range.{IsWithin};
+
+use dmc_tag::shifting::has_less;
+use dmc_tag::tag::Tag;
+use dmc_types::moment::Moment;
+
+/// Two tags between which each P of a queue lies. It may be wider than need be.
+#[derive(Clone, Copy, Debug)]
+pub struct ShareRange<T> {
+    pub least: T,
+    pub greatest: T,
+}
+
+/// The range of a queue without clients: 0 alone. It is kept of whole numbers only.
+pub fn first_range<T: Tag>() -> Option<ShareRange<T>>
+    ensures { IsWithin T.ops result (T.ops.of_moment 0) }
+{
+    if !T::is_whole() {
+        return None;
+    }
+    let zero = T::of_moment(Moment::zero());
+    Some(ShareRange {
+        least: zero,
+        greatest: zero,
+    })
+}
+
+/// Widens the range for a request that comes with such a P, and for a shift of all others. It is not known any more where
+/// a bound is no value then.
+pub fn widen<T: Tag>(range: &mut Option<ShareRange<T>>, share: T, shift: Option<T>)
+    ensures { range.new ≡ range_of.range_after T.ops range.old share shift }
+{
+    let Some(known) = range else {
+        return;
+    };
+    include(known, share);
+    if let Some(amount) = shift {
+        *range = with_less(*known, amount);
+    }
+}
+
+/// Whether it follows from the range that each P less the amount is a value: what lies between two whole numbers that are
+/// values is one.
+pub fn all_have_less<T: Tag>(range: Option<ShareRange<T>>, amount: T) -> bool
+    ensures { result ≡ range_of.all_have_less T.whole T.ops amount range }
+{
+    match range {
+        None => false,
+        Some(range) => {
+            T::is_whole() && has_less(range.least, amount) && has_less(range.greatest, amount)
+        }
+    }
+}
+
+/// Widens the range for a tag more.
+fn include<T: Tag>(range: &mut ShareRange<T>, share: T)
+    ensures { range.new ≡ range_of.with_share T.ops share range.old }
+{
+    if range.least.cmp(&share).is_gt() {
+        range.least = share;
+    }
+    if !range.greatest.cmp(&share).is_gt() {
+        range.greatest = share;
+    }
+}
+
+/// The range with each tag of it less an amount. None where a bound less the amount is no value.
+fn with_less<T: Tag>(range: ShareRange<T>, amount: T) -> Option<ShareRange<T>>
+    ensures { result ≡ range_of.with_less T.ops amount range }
+{
+    let least = range.least.minus(amount)?;
+    let greatest = range.greatest.minus(amount)?;
+    let mut wider = range;
+    include(&mut wider, least);
+    include(&mut wider, greatest);
+    Some(wider)
+}

@@ -66,7 +66,7 @@ fn rise<R: Rank>(
 {
     while at > 0 {
         let parent = (at - 1) / 2;
-        if !entry.rank.cmp(&heap[parent].rank).is_lt() {
+        if !entry.rank.is_below(&heap[parent].rank) {
             return at;
         }
         let above = heap[parent];
@@ -83,7 +83,7 @@ fn lower_child<R: Rank>(heap: &[Entry<R>], at: usize) -> usize
 {
     let left = 2 * at + 1;
     let right = left + 1;
-    if right < heap.len() && heap[right].rank.cmp(&heap[left].rank).is_lt() {
+    if right < heap.len() && heap[right].rank.is_below(&heap[left].rank) {
         return right;
     }
     left

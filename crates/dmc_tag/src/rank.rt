@@ -2,14 +2,18 @@
 ghost use Rattle.std.proofs.Common.{refl};
 ghost use Rattle.std.specs.Prelude.{◌≡◌};
 ghost use Rattle.std.specs.Cmp.{partial_order_from_agreeing_total, partial_equiv_from_equiv, eq_by_cmp_equiv};
-ghost use Rattle.std.specs.Ordering.{as_partial_cmp, eq_by_cmp, ordering_then};
+ghost use Rattle.std.specs.Ordering.{as_partial_cmp, eq_by_cmp, is_lt, ordering_then};
 ghost use Rattle.dmc_tag.specs.Rank.{client_cmp, tag_rank_cmp, tag_rank_total, limit_rank_cmp, limit_rank_total, ready_rank_cmp, ready_rank_total};
 
 use dmc_types::ids::ClientId;
 use std::cmp::Ordering;
 
 /// A lawful total order: that of `Ord`, whose laws each implementation proves.
-pub trait Rank: Copy + Ord {}
+pub trait Rank: Copy + Ord {
+    /// Whether it is below another. A heap asks nothing else, and this takes less than a comparison.
+    fn is_below(&self, other: &Self) -> bool
+        ensures { result ≡ is_lt (Self.cmp self.now other.now) };
+}
 
 /// By tag, and then by client. An absent tag is last.
 #[derive(Clone, Copy, Debug)]
@@ -34,11 +38,44 @@ pub struct ReadyRank<T> {
     pub ready: bool,
 }
 
-impl<T: Copy + Ord> Rank for TagRank<T> {}
+impl<T: Copy + Ord> Rank for TagRank<T> {
+    fn is_below(&self, other: &TagRank<T>) -> bool {
+        match (&self.tag, &other.tag) {
+            (None, None) => self.client.0 < other.client.0,
+            (None, Some(_)) => false,
+            (Some(_), None) => true,
+            (Some(a), Some(b)) => is_below_by_tag(a, b, self.client, other.client),
+        }
+    }
+}
 
-impl<T: Copy + Ord> Rank for LimitRank<T> {}
+impl<T: Copy + Ord> Rank for LimitRank<T> {
+    fn is_below(&self, other: &LimitRank<T>) -> bool {
+        if self.ready != other.ready {
+            return other.ready;
+        }
+        is_below_by_tag(&self.tag, &other.tag, self.client, other.client)
+    }
+}
 
-impl<T: Copy + Ord> Rank for ReadyRank<T> {}
+impl<T: Copy + Ord> Rank for ReadyRank<T> {
+    fn is_below(&self, other: &ReadyRank<T>) -> bool {
+        if self.ready != other.ready {
+            return self.ready;
+        }
+        is_below_by_tag(&self.tag, &other.tag, self.client, other.client)
+    }
+}
+
+/// Whether one tag is below another, or the tags are equal and its client is below.
+fn is_below_by_tag<T: Ord>(a: &T, b: &T, a_client: ClientId, b_client: ClientId) -> bool
+    ensures { result ≡ is_lt (ordering_then (T.cmp a.now b.now) (client_cmp a_client b_client)) }
+{
+    match a.cmp(b) {
+        Ordering::Equal => a_client.0 < b_client.0,
+        unequal => unequal.is_lt(),
+    }
+}
 
 /// The order of two tags, and of their clients where the tags are equal.
 fn by_tag<T: Ord>(a: &T, b: &T, a_client: ClientId, b_client: ClientId) -> Ordering

@@ -1,5 +1,4 @@
-use Rattle.std.proofs.Common.{◌≡◌, ◌≢◌, length, refl, sym, ap, ◌∙◌, subst, arith}
-use Rattle.std.specs.Ordering.{is_lt}
+use Rattle.std.proofs.Common.{◌≡◌, ◌≢◌, length, refl, sym, ◌∙◌, subst, arith}
 use Rattle.std.proofs.lemmas.Option.{slice_get_read}
 use Rattle.dmc_heap.specs.Heap.{parent_of, IsUpto}
 use Rattle.dmc_heap.proofs.LinkLemmas.{y_in_room}
@@ -23,7 +22,7 @@ loop-at-preserved g c =
     let here = slice_get_read c.loop-at.heap (length c.loop-at.heap) (parent_of c.loop-at.at) above.result refl (omega (arith, hole.within)) above.is in
     let there = slice_get_read c.loop-at.heap (length c.loop-at.heap) (parent_of c.loop-at.at) compared.result refl (omega (arith, hole.within)) compared.is in
     let same : compared.result ≡ above.result = cc in
-    let lower = subst (λ e. IsUpto g.R.Ord.cmp c.args.entry e) (sym compared.is ∙ same) (upto_if_lt _ (ap is_lt (sym c.cmp.ensures) ∙ sym c.is_lt.ensures ∙ c.if-not-is_lt.false)) in
+    let lower = subst (λ e. IsUpto g.R.Ord.cmp c.args.entry e) (sym compared.is ∙ same) (upto_if_lt _ (sym c.is_below.ensures ∙ c.if-not-is_below.false)) in
     rw (c.put.ensures.heap, c.put.ensures.places) (record {
       hole = IsHole-up g.R.Ord.cmp g.met.R.Ord.total c.loop-at.heap c.loop-at.places c.loop-at.at c.args.entry hole above.result c.loop-at-test.true here;
       moved = IsMoved-more _ _ _ c.loop-at.heap c.loop-at.places c.args.entry above.result c.loop-at.at (parent_of c.loop-at.at) apart hole.within hole.linked here c.loop-at.invariant.moved;

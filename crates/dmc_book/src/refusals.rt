@@ -2,15 +2,16 @@ ghost use Rattle.std.specs.Prelude.{◌≡◌};
 
 use crate::fault::{NewFault, RunFault, SubmitCause};
 use crate::pass::WorkerPass;
-use crate::tests::{Book, ONE, SEVEN, ZERO, open, open_desks, pull, register, submit};
+use crate::tests::{
+    Book, ONE, SEVEN, ZERO, enroll, must_enroll, open, open_book, open_client_desks, open_other,
+    open_queue, pull, submit, try_submit, wait_config,
+};
 use dmc_ledger::bundle::StampTills;
 use dmc_ledger::mint::Blank;
 use dmc_ledger::setup::Setup;
 use dmc_tag::reply::Reply;
 use dmc_tlock::book::TrackerBook;
-use dmc_types::config::{AtLimit, QueueConfig};
-use dmc_types::ids::{ClientId, Token};
-use dmc_types::moment::Moment;
+use dmc_types::ids::ClientId;
 use std::alloc::Global;
 use std::marker::Brand;
 use std::test::Fail;
@@ -30,11 +31,11 @@ fn fill<S: Setup>(
     pass: &mut WorkerPass<S>,
     other: &mut WorkerPass<S>,
 ) -> Result<Answers, Fail> {
-    let no_desk = book.run(pass, register(ClientId(2))?).err();
-    book.run(pass, register(ONE)?)?;
-    book.run(pass, pull())?;
-    let full = book.run(pass, pull()).err();
-    let stranger = book.run(other, pull()).err();
+    let no_desk = enroll(book, pass, ClientId(2))?;
+    must_enroll(book, pass)?;
+    pull(book, pass)?;
+    let full = pull(book, pass).err();
+    let stranger = pull(book, other).err();
     let status = book.status(pass)?;
     let numbers = (status.events, status.calls, status.misses);
     Ok(Answers {
@@ -49,9 +50,9 @@ fn full<S: Setup>(alloc: Global, blank: Blank) -> Result<Answers, Fail>
     requires { blank.name ≡ S.name }
 {
     let mut mint = blank.open::<S>();
-    let mut opened = open(alloc, &mut mint, 2)?;
-    let mut other = open(alloc, &mut mint, 2)?;
-    fill(&mut opened.book, &mut opened.pass, &mut other.pass)
+    let mut other = open_other(alloc, &mut mint)?;
+    let (mut book, mut pass) = open_queue(alloc, &mut mint)?;
+    fill(&mut book, &mut pass, &mut other)
 }
 
 /// Stamps and submits where that is refused: whose stamp came back, and the cause.
@@ -61,10 +62,9 @@ fn refuse<S: Setup>(
     tracker: &mut TrackerBook<S>,
     tills: &mut StampTills<S>,
 ) -> Result<(ClientId, SubmitCause), Fail> {
-    let stamp = tracker.stamp(ZERO, tills)?;
-    match book.submit(pass, tills, stamp, Token(9), Moment::zero()) {
-        Ok(_) => Err(Fail::new("a refusal")),
-        Err(fault) => Ok((fault.stamp.client(), fault.cause)),
+    match try_submit(book, pass, tracker, tills)? {
+        (_, Ok(_)) => Err(Fail::new("a refusal")),
+        (_, Err(refused)) => Ok(refused),
     }
 }
 
@@ -75,11 +75,11 @@ fn close_in_hand<S: Setup>(
     tracker: &mut TrackerBook<S>,
     tills: &mut StampTills<S>,
 ) -> Result<(ClientId, SubmitCause, bool), Fail> {
-    book.run(pass, register(ONE)?)?;
+    must_enroll(book, pass)?;
     submit(book, pass, tracker, tills)?;
     book.close();
     let (client, cause) = refuse(book, pass, tracker, tills)?;
-    let granted = book.run(pass, pull())?;
+    let granted = pull(book, pass)?;
     Ok((client, cause, matches!(granted, Reply::Granted { .. })))
 }
 
@@ -104,14 +104,12 @@ fn twice<S: Setup>(alloc: Global, blank: Blank) -> Result<Option<NewFault>, Fail
     requires { blank.name ≡ S.name }
 {
     let mut mint = blank.open::<S>();
-    let (desks, _) = open_desks(alloc, &mut mint)?;
-    let config = QueueConfig::new(1000, 1 << 62, 1 << 62, AtLimit::Wait)?;
-    match Book::<S>::new(alloc, config, ZERO, &[SEVEN, SEVEN], desks, &mut mint, 8) {
+    let config = wait_config()?;
+    let desks = open_client_desks(alloc, &mut mint)?;
+    match open_book(alloc, config, &mut mint, desks, &[SEVEN, SEVEN], 8) {
         Ok(_) => Ok(None),
-        Err(fault) => match fault.cause {
-            NewFault::Memory => Err(NewFault::Memory.into()),
-            cause => Ok(Some(cause)),
-        },
+        Err(NewFault::Memory) => Err(NewFault::Memory.into()),
+        Err(cause) => Ok(Some(cause)),
     }
 }
 

@@ -1,11 +1,10 @@
 ghost use Rattle.std.specs.Prelude.{◌≡◌, IsTrue};
 ghost use Rattle.dmc_ledger.specs.Bundles.{IsOnlyTill, IsPair, client_side, server_side};
 
-use crate::fault::NewFault;
 use crate::pass::WorkerPass;
 use crate::seat::Seat;
 use crate::settled::Settled;
-use crate::tests::{Book, Opened, open, play};
+use crate::tests::{Book, Opened, only, open, open_other, open_queue, play};
 use dmc_ledger::book::Book as LedgerBook;
 use dmc_ledger::desk::{ClientDesk, ServerDesk, close_pair};
 use dmc_ledger::mint::Blank;
@@ -14,6 +13,7 @@ use dmc_ledger::till::Till;
 use dmc_tick::tick::TickTag;
 use dmc_tlock::book::TrackerBook;
 use dmc_tlock::pass::ClientPass;
+use dmc_tlock::settled::TrackerSettled;
 use std::alloc::Global;
 use std::marker::Brand;
 use std::test::Fail;
@@ -32,14 +32,6 @@ struct Left {
     queue: QueueLeft,
     stamps: u64,
     closed: (u64, u64),
-}
-
-/// The passes of one worker.
-fn only<S: Setup>(alloc: Global, pass: WorkerPass<S>) -> Result<Vec<WorkerPass<S>>, Fail> {
-    match vec![in alloc; pass] {
-        Ok(passes) => Ok(passes),
-        Err(_) => Err(NewFault::Memory.into()),
-    }
 }
 
 fn numbers<S: Setup>(seat: &Seat<S>) -> (u64, u64, u64, u64, u64) {
@@ -66,6 +58,17 @@ fn read_left<S: Setup>(settled: &Settled<TickTag, S>) -> Result<QueueLeft, Fail>
     })
 }
 
+/// What a queue's book leaves, and the desk of its client.
+fn take_left<S: Setup>(
+    settled: &mut Settled<TickTag, S>,
+) -> Result<(QueueLeft, ClientDesk<S>), Fail> {
+    let left = read_left(settled)?;
+    match settled.desks.pop() {
+        Some(desk) => Ok((left, desk)),
+        None => Err(Fail::new("the desk of the client")),
+    }
+}
+
 /// Settles a queue's book with its one pass: what it leaves, and the desk of its client.
 fn settle_queue<S: Setup>(
     alloc: Global,
@@ -73,14 +76,21 @@ fn settle_queue<S: Setup>(
     pass: WorkerPass<S>,
 ) -> Result<(QueueLeft, ClientDesk<S>), Fail> {
     let passes = only(alloc, pass)?;
-    let Ok(mut settled) = book.settle(alloc, passes) else {
-        return Err(Fail::new("its own pass"));
+    match book.settle(alloc, passes) {
+        Ok(mut settled) => take_left(&mut settled),
+        Err(_) => Err(Fail::new("its own pass")),
+    }
+}
+
+/// The stamps that were left in the pass, and the desk of the one server.
+fn take_stamps<S: Setup>(settled: &mut TrackerSettled<S>) -> Result<(u64, ServerDesk<S>), Fail> {
+    let Some(held) = settled.held.pop() else {
+        return Err(Fail::new("what the pass held"));
     };
-    let left = read_left(&settled)?;
-    let Some(desk) = settled.desks.pop() else {
-        return Err(Fail::new("the desk of the client"));
-    };
-    Ok((left, desk))
+    match settled.desks.pop() {
+        Some(desk) => Ok((held.stamps, desk)),
+        None => Err(Fail::new("the desk of the server")),
+    }
 }
 
 /// Settles a tracker's book: the stamps that were left in the pass, and the desk of the one server.
@@ -88,16 +98,10 @@ fn settle_tracker<S: Setup>(
     tracker: TrackerBook<S>,
     tills: ClientPass<S>,
 ) -> Result<(u64, ServerDesk<S>), Fail> {
-    let Ok(mut settled) = tracker.settle(tills) else {
-        return Err(Fail::new("its own pass"));
-    };
-    let Some(held) = settled.held.pop() else {
-        return Err(Fail::new("what the pass held"));
-    };
-    let Some(desk) = settled.desks.pop() else {
-        return Err(Fail::new("the desk of the server"));
-    };
-    Ok((held.stamps, desk))
+    match tracker.settle(tills) {
+        Ok(mut settled) => take_stamps(&mut settled),
+        Err(_) => Err(Fail::new("its own pass")),
+    }
 }
 
 fn is_only<S: Setup>(book: &LedgerBook<S>, till: &Till<S>) -> bool
@@ -206,37 +210,13 @@ fn hand_in<S: Setup>(
     ])
 }
 
-fn hand_in_opened<S: Setup>(
-    alloc: Global,
-    opened: Opened<S>,
-    other: WorkerPass<S>,
-) -> Result<[Option<usize>; 4], Fail> {
-    let Opened {
-        mut book,
-        pass,
-        tracker: _,
-        tills: _,
-    } = opened;
-    hand_in(alloc, &mut book, pass, other)
-}
-
-fn pass_of<S: Setup>(opened: Opened<S>) -> WorkerPass<S> {
-    let Opened {
-        book: _,
-        pass,
-        tracker: _,
-        tills: _,
-    } = opened;
-    pass
-}
-
 fn settle_in_turn<S: Setup>(alloc: Global, blank: Blank) -> Result<[Option<usize>; 4], Fail>
     requires { blank.name ≡ S.name }
 {
     let mut mint = blank.open::<S>();
-    let other = pass_of(open(alloc, &mut mint, 2)?);
-    let opened = open(alloc, &mut mint, 2)?;
-    hand_in_opened(alloc, opened, other)
+    let other = open_other(alloc, &mut mint)?;
+    let (mut book, own) = open_queue(alloc, &mut mint)?;
+    hand_in(alloc, &mut book, own, other)
 }
 
 #[test]

@@ -3,8 +3,8 @@ ghost use Rattle.std.specs.Prelude.{◌≡◌};
 use crate::fault::{NewFault, RunFault, SubmitCause};
 use crate::pass::WorkerPass;
 use crate::tests::{
-    Book, ONE, SEVEN, ZERO, enroll, must_enroll, open, open_book, open_client_desks, open_other,
-    open_queue, pull, submit, try_submit, wait_config,
+    Book, LONG, ONE, SEVEN, ZERO, enroll, must_enroll, open, open_book, open_client_desks,
+    open_other, open_queue, pull, submit, try_submit, wait_config,
 };
 use dmc_ledger::bundle::StampTills;
 use dmc_ledger::mint::Blank;
@@ -104,7 +104,7 @@ fn twice<S: Setup>(alloc: Global, blank: Blank) -> Result<Option<NewFault>, Fail
     requires { blank.name ≡ S.name }
 {
     let mut mint = blank.open::<S>();
-    let config = wait_config()?;
+    let config = wait_config(LONG)?;
     let desks = open_client_desks(alloc, &mut mint)?;
     match open_book(alloc, config, &mut mint, desks, &[SEVEN, SEVEN], 8) {
         Ok(_) => Ok(None),

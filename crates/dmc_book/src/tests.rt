@@ -39,7 +39,7 @@ pub(crate) const ONE: ClientId = ClientId(1);
 pub(crate) const SEVEN: WorkerId = WorkerId(7);
 
 // An age that no client of a test reaches.
-const LONG: u64 = 1 << 62;
+pub(crate) const LONG: u64 = 1 << 62;
 
 fn register(client: ClientId) -> Result<Command, Fail>
     ensures { IfOk result (λ command. is_add command ≡ false) }
@@ -140,9 +140,9 @@ pub(crate) fn open_client_desks<S: Setup>(
     client_desks(alloc, desk)
 }
 
-/// A queue that waits at a limit.
-pub(crate) fn wait_config() -> Result<QueueConfig, NewFault> {
-    match QueueConfig::new(1000, LONG, LONG, AtLimit::Wait) {
+/// A queue that waits at a limit. A clean idles and erases a client of the age.
+pub(crate) fn wait_config(age: u64) -> Result<QueueConfig, NewFault> {
+    match QueueConfig::new(1000, age, age, AtLimit::Wait) {
         Ok(config) => Ok(config),
         Err(_) => Err(NewFault::Limit),
     }
@@ -175,7 +175,8 @@ fn open_seven<S: Setup>(
 ) -> Result<(Book<S>, WorkerPass<S>), Fail>
     requires { AllByRecursion (IsNewDesk 0) (map client_side desks.items) }
 {
-    let (book, mut passes) = open_book(alloc, wait_config()?, mint, desks, &[SEVEN], most)?;
+    let config = wait_config(LONG)?;
+    let (book, mut passes) = open_book(alloc, config, mint, desks, &[SEVEN], most)?;
     match passes.pop() {
         Some(pass) => Ok((book, pass)),
         None => Err(Fail::new("a pass for the worker")),

@@ -4,12 +4,15 @@ ghost use Rattle.dmc_tag.specs.Replay.{replays};
 ghost use Rattle.dmc_types.specs.declared.config.PhaseType.{PhaseType};
 ghost use Rattle.dmc_book.specs.Counts.{count, grants_added, phase_grants};
 
-use super::setup::{Book, Client, Lock, ONE, ZERO, grant, must_register, open_one};
+use super::setup::{
+    Book, Client, Lock, ONE, ZERO, grant, must_register, open_one, pull_or_wait, submit_stamped,
+};
 use dmc_book::laws::{grants_are_of_desks, history_replays};
 use dmc_book::pass::WorkerPass;
 use dmc_ledger::bundle::StampTills;
 use dmc_ledger::mint::Blank;
 use dmc_ledger::setup::Setup;
+use dmc_ledger::till::Till;
 use dmc_tag::reply::{Pulled, Tags};
 use dmc_tag::tag::Tag;
 use dmc_tick::tick::TickTag;
@@ -17,7 +20,7 @@ use dmc_tlock::lock::TrackerLock;
 use dmc_tlock::pass::ClientPass;
 use dmc_tlock::stamp::Stamp;
 use dmc_types::config::PhaseType;
-use dmc_types::ids::{ServerId, Token};
+use dmc_types::ids::ServerId;
 use dmc_types::moment::Moment;
 use std::alloc::Global;
 use std::marker::Brand;
@@ -38,7 +41,8 @@ fn book_of<S: Setup>(lock: Lock<S>) -> Book<S>
 
 /// What a stamp carries: delta and rho.
 fn carried(stamp: &Stamp) -> (u32, u32) {
-    (stamp.params().delta(), stamp.params().rho())
+    let params = stamp.params();
+    (params.delta(), params.rho())
 }
 
 /// What a request's way into the queue tells: what its stamp carries, its tags, and the worker's
@@ -55,9 +59,9 @@ fn queue_request<S: Setup, R: Wait>(
 ) -> Result<Queued, Fail> {
     let stamp = tracker.stamp(rt, ZERO, tills)?;
     let stamped = carried(&stamp);
-    let tags = match lock.submit(rt, pass, tills, stamp, Token(9), Moment::zero()) {
+    let tags = match submit_stamped(rt, lock, pass, tills, stamp, 9) {
         Ok(tags) => tags,
-        Err(fault) => return Err(fault.cause.into()),
+        Err((_, cause)) => return Err(cause.into()),
     };
     let status = lock.status(rt, pass)?;
     Ok((stamped, tags, (status.calls, status.tokens, status.grants)))
@@ -69,9 +73,22 @@ fn pull_request<S: Setup, R: Wait>(
     lock: &Lock<S>,
     pass: &mut WorkerPass<S>,
 ) -> Result<(Pulled, (u64, u64, u64)), Fail> {
-    let pulled = lock.pull_or_wait(rt, pass, Moment::zero())?;
+    let pulled = pull_or_wait(rt, lock, pass)?;
     let status = lock.status(rt, pass)?;
     Ok((pulled, (status.calls, status.grants, status.granted)))
+}
+
+/// A unit of the till goes back to the tracker.
+fn give_unit<S: Setup, R: Wait>(
+    rt: &R,
+    tracker: &TrackerLock<S>,
+    till: &mut Till<S>,
+) -> Result<(), Fail> {
+    if till.amount() == 0 {
+        return Err(Fail::new("a unit of the grant"));
+    }
+    tracker.respond(rt, ZERO, PhaseType::Priority, till)?;
+    Ok(())
 }
 
 /// The unit of a grant goes back to the tracker.
@@ -80,14 +97,10 @@ fn give_back<S: Setup, R: Wait>(
     pass: &mut WorkerPass<S>,
     tracker: &TrackerLock<S>,
 ) -> Result<(), Fail> {
-    let Some(till) = pass.grant_till(ONE, PhaseType::Priority) else {
-        return Err(Fail::new("a till of the client"));
-    };
-    if till.amount() == 0 {
-        return Err(Fail::new("a unit of the grant"));
+    match pass.grant_till(ONE, PhaseType::Priority) {
+        Some(till) => give_unit(rt, tracker, till),
+        None => Err(Fail::new("a till of the client")),
     }
-    tracker.respond(rt, ZERO, PhaseType::Priority, till)?;
-    Ok(())
 }
 
 /// What the next stamp carries, and what the tracker then has: sent, pending and completions.

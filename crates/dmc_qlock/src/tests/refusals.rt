@@ -3,8 +3,9 @@ ghost use Rattle.std.specs.Prelude.{◌≡◌, IsTrue};
 ghost use Rattle.dmc_ledger.specs.Bundles.{Covers, stamp_holdings};
 
 use super::setup::{
-    Client, Lock, ONE, Opened, Stop, ZERO, grant, last_pass, must_register, open, open_clients,
-    open_lock, open_one, run_register, submit,
+    Client, Clients, LONG, Lock, ONE, Opened, Stop, ZERO, grant, last_pass, must_register, open,
+    open_clients, open_lock, open_one, open_other, pull, pull_or_wait, run_register, submit,
+    submit_stamped, wait_config,
 };
 use crate::fault::RunOrRange;
 use dmc_book::fault::{NewFault, RunFault, SubmitCause};
@@ -17,8 +18,7 @@ use dmc_tlock::fault::EntryFault;
 use dmc_tlock::lock::TrackerLock;
 use dmc_tlock::pass::ClientPass;
 use dmc_tlock::stamp::Stamp;
-use dmc_types::ids::{ClientId, Token, WorkerId};
-use dmc_types::moment::Moment;
+use dmc_types::ids::{ClientId, WorkerId};
 use std::alloc::Global;
 use std::marker::Brand;
 use std::sync::Wait;
@@ -38,8 +38,8 @@ fn pull_twice<S: Setup, R: Wait>(
     lock: &Lock<S>,
     pass: &mut WorkerPass<S>,
 ) -> Result<(Pulled, Option<RunOrRange>), RunOrRange> {
-    let first = lock.pull(rt, pass, Moment::zero())?;
-    Ok((first, lock.pull(rt, pass, Moment::zero()).err()))
+    let first = pull(rt, lock, pass)?;
+    Ok((first, pull(rt, lock, pass).err()))
 }
 
 fn full_told<S: Setup, R: Wait>(
@@ -58,7 +58,7 @@ fn full<S: Setup, R: Wait>(rt: &R, alloc: Global, blank: Blank) -> Result<Full, 
     requires { blank.name ≡ S.name }
 {
     let mut mint = blank.open::<S>();
-    let (lock, mut pass, _) = open_one(alloc, &mut mint, 2)?;
+    let (lock, mut pass, _client) = open_one(alloc, &mut mint, 2)?;
     full_told(rt, &lock, &mut pass)
 }
 
@@ -82,8 +82,8 @@ fn wait_twice<S: Setup, R: Wait>(
     lock: &Lock<S>,
     pass: &mut WorkerPass<S>,
 ) -> Result<(Pulled, Pulled), RunOrRange> {
-    let first = lock.pull_or_wait(rt, pass, Moment::zero())?;
-    let second = lock.pull_or_wait(rt, pass, Moment::zero())?;
+    let first = pull_or_wait(rt, lock, pass)?;
+    let second = pull_or_wait(rt, lock, pass)?;
     Ok((first, second))
 }
 
@@ -122,7 +122,7 @@ fn strange_told<S: Setup, R: Wait>(
     client: &mut Client<S>,
 ) -> Result<Strange, Fail> {
     let ran = run_register(rt, lock, pass, ONE, None)?;
-    let pulled = lock.pull(rt, pass, Moment::zero()).err();
+    let pulled = pull(rt, lock, pass).err();
     let seen = lock.status(rt, pass).err();
     let submitted = submit(rt, lock, pass, client, 9).err();
     Ok((ran, pulled, seen, submitted))
@@ -132,8 +132,8 @@ fn strange<S: Setup, R: Wait>(rt: &R, alloc: Global, blank: Blank) -> Result<Str
     requires { blank.name ≡ S.name }
 {
     let mut mint = blank.open::<S>();
-    let (lock, _, mut client) = open_one(alloc, &mut mint, 8)?;
-    let (_, mut other, _) = open_one(alloc, &mut mint, 8)?;
+    let mut other = open_other(alloc, &mut mint)?;
+    let (lock, _pass, mut client) = open_one(alloc, &mut mint, 8)?;
     strange_told(rt, &lock, &mut other, &mut client)
 }
 
@@ -142,9 +142,14 @@ fn twice<S: Setup>(alloc: Global, blank: Blank) -> Result<Option<NewFault>, Fail
     requires { blank.name ≡ S.name }
 {
     let mut mint = blank.open::<S>();
-    let clients = open_clients(alloc, &mut mint)?;
+    let config = wait_config(LONG)?;
+    let Clients {
+        desks,
+        one: _one,
+        two: _two,
+    } = open_clients(alloc, &mut mint)?;
     let workers = [WorkerId(7), WorkerId(7)];
-    match open_lock(alloc, &mut mint, clients.desks, &workers, 8) {
+    match open_lock(alloc, config, &mut mint, desks, &workers, 8) {
         Ok(_) => Ok(None),
         Err(NewFault::Memory) => Err(NewFault::Memory.into()),
         Err(cause) => Ok(Some(cause)),
@@ -171,9 +176,9 @@ fn submit_with<S: Setup, R: Wait>(
     if !covers(tills, &stamp) {
         return Err(Fail::new("a stamp in the tills"));
     }
-    match lock.submit(rt, pass, tills, stamp, Token(9), Moment::zero()) {
+    match submit_stamped(rt, lock, pass, tills, stamp, 9) {
         Ok(_) => Err(Fail::new("a refusal")),
-        Err(fault) => Ok((fault.stamp.client(), fault.cause)),
+        Err(refused) => Ok(refused),
     }
 }
 
@@ -207,7 +212,7 @@ fn others<S: Setup, R: Wait>(rt: &R, alloc: Global, blank: Blank) -> Result<Othe
         lock,
         one,
         mut two,
-        ..
+        passes: _passes,
     } = opened;
     let Client {
         tracker,

@@ -1,6 +1,5 @@
 //! What the book of a lock leaves, once no thread shares the lock.
-use super::setup::Lock;
-use dmc_book::fault::NewFault;
+use super::setup::{Book, Lock, both};
 use dmc_book::pass::WorkerPass;
 use dmc_book::seat::Seat;
 use dmc_book::settled::Settled;
@@ -41,6 +40,17 @@ fn remains<S: Setup>(settled: &Settled<TickTag, S>) -> Result<Remains, Fail> {
     }
 }
 
+fn settle_book<S: Setup>(
+    alloc: Global,
+    book: &mut Book<S>,
+    passes: Vec<WorkerPass<S>>,
+) -> Result<Remains, Fail> {
+    match book.settle(alloc, passes) {
+        Ok(settled) => remains(&settled),
+        Err(_) => Err(Fail::new("its own passes")),
+    }
+}
+
 /// Opens the lock of two workers, and settles its book with their passes.
 pub(super) fn settle<S: Setup>(
     alloc: Global,
@@ -48,12 +58,7 @@ pub(super) fn settle<S: Setup>(
     first: WorkerPass<S>,
     second: WorkerPass<S>,
 ) -> Result<Remains, Fail> {
-    let Ok(passes) = vec![in alloc; first, second] else {
-        return Err(NewFault::Memory.into());
-    };
+    let passes = both(alloc, first, second)?;
     let mut book = lock.into_book();
-    match book.settle(alloc, passes) {
-        Ok(settled) => remains(&settled),
-        Err(_) => Err(Fail::new("its own passes")),
-    }
+    settle_book(alloc, &mut book, passes)
 }

@@ -1,24 +1,28 @@
 //! A lock with two clients of server 0, and what its tests do with it.
-ghost use Rattle.std.specs.Prelude.{◌≡◌, ◌≤◌, false, length, map, IfOk};
+ghost use Rattle.std.specs.Prelude.{◌≡◌, ◌≤◌, ◌∷◌, [], ℕ, false, length, map, IfOk};
 ghost use Rattle.std.specs.List.{AllByRecursion};
-ghost use Rattle.dmc_ledger.specs.Bundles.{client_side, server_side};
+ghost use Rattle.dmc_ledger.specs.Bundles.{Covers, client_side, new_server_side, server_side, stamp_holdings};
 ghost use Rattle.dmc_tlock.specs.Opening.{AreNew};
 ghost use Rattle.dmc_book.specs.Calls.{is_add};
 ghost use Rattle.dmc_book.specs.Opening.{IsNewDesk};
 
+use crate::fault::RunOrRange;
 use crate::lock::QueueLock;
 use dmc_book::book::QueueBook;
 use dmc_book::fault::{NewFault, RunFault, SubmitCause};
 use dmc_book::pass::WorkerPass;
 use dmc_index::list_index::ListIndexes;
+use dmc_ledger::bundle::StampTills;
 use dmc_ledger::desk::{ClientDesk, ServerDesk, open_pair};
 use dmc_ledger::mint::Mint;
 use dmc_ledger::setup::Setup;
+use dmc_ledger::till::Till;
 use dmc_tag::reply::{Pulled, Tags};
 use dmc_tick::tick::TickTag;
 use dmc_tlock::book::TrackerBook;
 use dmc_tlock::fault::EntryFault;
 use dmc_tlock::pass::ClientPass;
+use dmc_tlock::stamp::Stamp;
 use dmc_types::command::Command;
 use dmc_types::config::{AtLimit, Counting, PhaseType, QueueConfig};
 use dmc_types::ids::{ClientId, ServerId, Token, WorkerId};
@@ -38,13 +42,18 @@ pub(super) const ONE: ClientId = ClientId(1);
 
 pub(super) const TWO: ClientId = ClientId(2);
 
+// An age that no client of a test reaches.
+pub(super) const LONG: u64 = 1 << 62;
+
 /// A client of weight 1, with a limit or none.
 pub(super) fn register(client: ClientId, limit: Option<u32>) -> Result<Command, Fail>
     ensures { IfOk result (λ command. is_add command ≡ false) }
 {
-    let info = ClientInfo::new(None, 1, limit)?;
     let at = Moment::zero();
-    Ok(Command::Register { client, info, at })
+    match ClientInfo::new(None, 1, limit) {
+        Ok(info) => Ok(Command::Register { client, info, at }),
+        Err(_) => Err(Fail::new("a client of weight 1")),
+    }
 }
 
 /// A grant in phase Priority.
@@ -65,20 +74,53 @@ pub(super) struct Client<S: Setup> {
     pub(super) tills: ClientPass<S>,
 }
 
-/// The desks of a client and server 0.
-fn open_desks<S: Setup>(
-    alloc: Global,
-    mint: &mut Mint<S>,
-    id: ClientId,
-) -> Result<(ClientDesk<S>, Vec<ServerDesk<S>>), Fail>
-    ensures desk { IfOk result (λ opened. IsNewDesk 0 (client_side opened.0)) }
-    ensures sides { IfOk result (λ opened. AreNew id.0 (map server_side opened.1.items)) }
+/// A vector of one item.
+fn only<X: Drop>(alloc: Global, item: X) -> Result<Vec<X>, Fail>
+    ensures { IfOk result (λ items. items.items ≡ item ∷ []) }
 {
-    let (desk, side) = open_pair(mint, id, ZERO)?;
-    let Ok(sides) = vec![in alloc; side] else {
-        return Err(NewFault::Memory.into());
-    };
-    Ok((desk, sides))
+    let mut items = Vec::new(alloc);
+    match items.push(item) {
+        Ok(()) => Ok(items),
+        Err(_) => Err(NewFault::Memory.into()),
+    }
+}
+
+/// A vector of two items.
+pub(super) fn both<X: Drop>(alloc: Global, one: X, two: X) -> Result<Vec<X>, Fail>
+    ensures { IfOk result (λ items. items.items ≡ one ∷ two ∷ []) }
+{
+    let mut items = only(alloc, one)?;
+    match items.push(two) {
+        Ok(()) => Ok(items),
+        Err(_) => Err(NewFault::Memory.into()),
+    }
+}
+
+/// The tracker of a client and its one desk, and its tills.
+fn open_tracker<S: Setup>(
+    alloc: Global,
+    id: ClientId,
+    side: ServerDesk<S>,
+) -> Result<Client<S>, Fail>
+    requires { (n : ℕ) × (server_side side ≡ new_server_side id.0 0 n) }
+{
+    let sides = tracker_desks(alloc, id, side)?;
+    match TrackerBook::new(alloc, id, sides, 999, 999, Counting::All) {
+        Ok((tracker, tills)) => Ok(Client { id, tracker, tills }),
+        Err(fault) => Err(fault.cause.into()),
+    }
+}
+
+/// The desks of a client's tracker.
+fn tracker_desks<S: Setup>(
+    alloc: Global,
+    id: ClientId,
+    side: ServerDesk<S>,
+) -> Result<Vec<ServerDesk<S>>, Fail>
+    requires { (n : ℕ) × (server_side side ≡ new_server_side id.0 0 n) }
+    ensures { IfOk result (λ sides. AreNew id.0 (map server_side sides.items)) }
+{
+    only(alloc, side)
 }
 
 /// A client of server 0, and its desk there.
@@ -89,11 +131,8 @@ fn open_client<S: Setup>(
 ) -> Result<(ClientDesk<S>, Client<S>), Fail>
     ensures { IfOk result (λ opened. IsNewDesk 0 (client_side opened.0)) }
 {
-    let (desk, sides) = open_desks(alloc, mint, id)?;
-    match TrackerBook::new(alloc, id, sides, 999, 999, Counting::All) {
-        Ok((tracker, tills)) => Ok((desk, Client { id, tracker, tills })),
-        Err(fault) => Err(fault.cause.into()),
-    }
+    let (desk, side) = open_pair(mint, id, ZERO)?;
+    Ok((desk, open_tracker(alloc, id, side)?))
 }
 
 /// Clients 1 and 2 of server 0, and their desks there.
@@ -104,20 +143,40 @@ pub(super) struct Clients<S: Setup> {
     pub(super) two: Client<S>,
 }
 
+/// The desks of two clients.
+fn client_desks<S: Setup>(
+    alloc: Global,
+    one: ClientDesk<S>,
+    two: ClientDesk<S>,
+) -> Result<Vec<ClientDesk<S>>, Fail>
+    requires one { IsNewDesk 0 (client_side one) }
+    requires two { IsNewDesk 0 (client_side two) }
+    ensures { IfOk result (λ desks. AllByRecursion (IsNewDesk 0) (map client_side desks.items)) }
+{
+    both(alloc, one, two)
+}
+
 pub(super) fn open_clients<S: Setup>(alloc: Global, mint: &mut Mint<S>) -> Result<Clients<S>, Fail>
     ensures { IfOk result (λ clients. AllByRecursion (IsNewDesk 0) (map client_side clients.desks.items)) }
 {
     let (here, one) = open_client(alloc, mint, ONE)?;
     let (there, two) = open_client(alloc, mint, TWO)?;
-    match vec![in alloc; here, there] {
-        Ok(desks) => Ok(Clients { desks, one, two }),
-        Err(_) => Err(NewFault::Memory.into()),
+    let desks = client_desks(alloc, here, there)?;
+    Ok(Clients { desks, one, two })
+}
+
+/// A queue that waits at a limit. A clean idles and erases a client of the age.
+pub(super) fn wait_config(age: u64) -> Result<QueueConfig, NewFault> {
+    match QueueConfig::new(1000, age, age, AtLimit::Wait) {
+        Ok(config) => Ok(config),
+        Err(_) => Err(NewFault::Limit),
     }
 }
 
 /// The lock of the desks' server, and the passes of its workers. The history behind it may have `most` events.
 pub(super) fn open_lock<S: Setup>(
     alloc: Global,
+    config: QueueConfig,
     mint: &mut Mint<S>,
     desks: Vec<ClientDesk<S>>,
     workers: &[WorkerId],
@@ -126,9 +185,6 @@ pub(super) fn open_lock<S: Setup>(
     requires few { length workers.now ≤ 3 }
     requires new { AllByRecursion (IsNewDesk 0) (map client_side desks.items) }
 {
-    let Ok(config) = QueueConfig::new(1000, 1 << 62, 1 << 62, AtLimit::Wait) else {
-        return Err(NewFault::Limit);
-    };
     match QueueBook::new(alloc, config, ZERO, workers, desks, mint, most) {
         Ok((book, passes)) => Ok((QueueLock::new(book), passes)),
         Err(fault) => Err(fault.cause),
@@ -153,8 +209,9 @@ pub(super) fn open<S: Setup>(
 ) -> Result<Opened<S>, Fail>
     requires { length workers.now ≤ 3 }
 {
+    let config = wait_config(LONG)?;
     let Clients { desks, one, two } = open_clients(alloc, mint)?;
-    match open_lock(alloc, mint, desks, workers, most) {
+    match open_lock(alloc, config, mint, desks, workers, most) {
         Ok((lock, passes)) => Ok(Opened {
             lock,
             one,
@@ -173,16 +230,37 @@ pub(super) fn last_pass<S: Setup>(passes: &mut Vec<WorkerPass<S>>) -> Result<Wor
     }
 }
 
+/// The last two passes.
+pub(super) fn last_two<S: Setup>(
+    passes: &mut Vec<WorkerPass<S>>,
+) -> Result<(WorkerPass<S>, WorkerPass<S>), Fail> {
+    let second = last_pass(passes)?;
+    Ok((last_pass(passes)?, second))
+}
+
 /// A lock of worker 7, the worker's pass, and client 1. The history may have `most` events.
 pub(super) fn open_one<S: Setup>(
     alloc: Global,
     mint: &mut Mint<S>,
     most: u32,
 ) -> Result<(Lock<S>, WorkerPass<S>, Client<S>), Fail> {
-    let mut opened = open(alloc, mint, &[WorkerId(7)], most)?;
-    let pass = last_pass(&mut opened.passes)?;
-    let Opened { lock, one, .. } = opened;
+    let Opened {
+        lock,
+        one,
+        two: _two,
+        mut passes,
+    } = open(alloc, mint, &[WorkerId(7)], most)?;
+    let pass = last_pass(&mut passes)?;
     Ok((lock, pass, one))
+}
+
+/// The pass of a lock that is let go.
+pub(super) fn open_other<S: Setup>(
+    alloc: Global,
+    mint: &mut Mint<S>,
+) -> Result<WorkerPass<S>, Fail> {
+    let (_lock, pass, _client) = open_one(alloc, mint, 8)?;
+    Ok(pass)
 }
 
 /// Registers a client at the lock, and tells why it is refused, if it is.
@@ -223,6 +301,46 @@ pub(super) enum Stop {
     Reopened,
 }
 
+/// Submits a stamped request at moment 0: its tags, or whose stamp comes back, and the cause.
+pub(super) fn submit_stamped<S: Setup, R: Wait>(
+    rt: &R,
+    lock: &Lock<S>,
+    pass: &mut WorkerPass<S>,
+    tills: &mut StampTills<S>,
+    stamp: Stamp,
+    token: u32,
+) -> Result<Tags<TickTag>, (ClientId, SubmitCause)>
+    requires { Covers (stamp_holdings tills.old) stamp.params }
+{
+    match lock.submit(rt, pass, tills, stamp, Token(token), Moment::zero()) {
+        Ok(tags) => Ok(tags),
+        Err(fault) => Err((fault.stamp.client(), fault.cause)),
+    }
+}
+
+/// A pull at moment 0.
+pub(super) fn pull<S: Setup, R: Wait>(
+    rt: &R,
+    lock: &Lock<S>,
+    pass: &mut WorkerPass<S>,
+) -> Result<Pulled, RunOrRange> {
+    lock.pull(rt, pass, Moment::zero())
+}
+
+/// Closes the queue.
+pub(super) fn close<S: Setup, R: Wait>(rt: &R, lock: &Lock<S>) {
+    lock.close(rt);
+}
+
+/// A pull at moment 0 that may wait.
+pub(super) fn pull_or_wait<S: Setup, R: Wait>(
+    rt: &R,
+    lock: &Lock<S>,
+    pass: &mut WorkerPass<S>,
+) -> Result<Pulled, RunOrRange> {
+    lock.pull_or_wait(rt, pass, Moment::zero())
+}
+
 /// Stamps a request at its client's tracker, and submits it at moment 0.
 pub(super) fn submit<S: Setup, R: Wait>(
     rt: &R,
@@ -238,9 +356,9 @@ pub(super) fn submit<S: Setup, R: Wait>(
         Ok(stamp) => stamp,
         Err(fault) => return Err(Stop::Stamp(fault)),
     };
-    match lock.submit(rt, pass, tills, stamp, Token(token), Moment::zero()) {
+    match submit_stamped(rt, lock, pass, tills, stamp, token) {
         Ok(tags) => Ok(tags),
-        Err(fault) if fault.stamp.client() == client.id => Err(Stop::Submit(fault.cause)),
+        Err((owner, cause)) if owner == client.id => Err(Stop::Submit(cause)),
         Err(_) => Err(Stop::Swapped),
     }
 }
@@ -254,17 +372,22 @@ pub(super) fn was_closed(answer: Result<Tags<TickTag>, Stop>) -> Result<bool, St
     }
 }
 
+/// A unit of the till goes back to the tracker.
+fn give_back<S: Setup>(tracker: &mut TrackerBook<S>, till: &mut Till<S>) -> Result<(), Fail> {
+    if till.amount() == 0 {
+        return Err(Fail::new("a unit of the grant"));
+    }
+    tracker.respond(ZERO, PhaseType::Priority, till)?;
+    Ok(())
+}
+
 /// The unit of a grant goes back to its client's tracker.
 pub(super) fn respond<S: Setup>(
     pass: &mut WorkerPass<S>,
     client: &mut Client<S>,
 ) -> Result<(), Fail> {
-    let Some(till) = pass.grant_till(client.id, PhaseType::Priority) else {
-        return Err(Fail::new("a till of the client"));
-    };
-    if till.amount() == 0 {
-        return Err(Fail::new("a unit of the grant"));
+    match pass.grant_till(client.id, PhaseType::Priority) {
+        Some(till) => give_back(&mut client.tracker, till),
+        None => Err(Fail::new("a till of the client")),
     }
-    client.tracker.respond(ZERO, PhaseType::Priority, till)?;
-    Ok(())
 }

@@ -3,15 +3,14 @@ ghost use Rattle.std.specs.Prelude.{◌≡◌};
 
 use super::settling::{Numbers, Remains, settle};
 use super::setup::{
-    Client, Lock, ONE, Opened, Stop, TWO, ZERO, grant, last_pass, must_register, open, submit,
-    was_closed,
+    Client, Lock, ONE, Opened, Stop, TWO, ZERO, close, grant, last_two, must_register, open, pull,
+    submit, was_closed,
 };
 use dmc_book::pass::WorkerPass;
 use dmc_ledger::mint::{Blank, Mint};
 use dmc_ledger::setup::Setup;
 use dmc_tag::reply::Pulled;
 use dmc_types::ids::WorkerId;
-use dmc_types::moment::Moment;
 use std::alloc::Global;
 use std::marker::Brand;
 use std::sync::Wait;
@@ -81,10 +80,13 @@ fn open_two<S: Setup>(
     alloc: Global,
     mint: &mut Mint<S>,
 ) -> Result<(Lock<S>, Job<S>, Job<S>), Fail> {
-    let mut opened = open(alloc, mint, &[WorkerId(1), WorkerId(2)], 1000)?;
-    let second = last_pass(&mut opened.passes)?;
-    let first = last_pass(&mut opened.passes)?;
-    let Opened { lock, one, two, .. } = opened;
+    let Opened {
+        lock,
+        one,
+        two,
+        mut passes,
+    } = open(alloc, mint, &[WorkerId(1), WorkerId(2)], 1000)?;
+    let (first, second) = last_two(&mut passes)?;
     let first = Job {
         pass: first,
         client: one,
@@ -131,7 +133,7 @@ fn pull_last<S: Setup, R: Wait>(
     lock: &Lock<S>,
     pass: &mut WorkerPass<S>,
 ) -> Result<(Pulled, (u64, u64, u64, u64)), Fail> {
-    let pulled = lock.pull(rt, pass, Moment::zero())?;
+    let pulled = pull(rt, lock, pass)?;
     let last = lock.status(rt, pass)?;
     Ok((pulled, (last.calls, last.misses, last.grants, last.granted)))
 }
@@ -161,6 +163,15 @@ fn submit_and_pull<S: Setup + Send + Sync, R: Threads + Wait + Sync>(
     })
 }
 
+/// The pass of a job that is let go.
+fn pass_of<S: Setup>(job: Job<S>) -> WorkerPass<S> {
+    let Job {
+        pass,
+        client: _client,
+    } = job;
+    pass
+}
+
 /// Two threads submit; what they leave once the lock is opened.
 fn two_at_once<S: Setup + Send + Sync, R: Threads + Wait + Sync>(
     rt: &R,
@@ -172,7 +183,7 @@ fn two_at_once<S: Setup + Send + Sync, R: Threads + Wait + Sync>(
     let mut mint = blank.open::<S>();
     let (lock, mut first, mut second) = open_two(alloc, &mut mint)?;
     let submitted = submit_and_pull(rt, &lock, &mut first, &mut second)?;
-    let remains = settle(alloc, lock, first.pass, second.pass)?;
+    let remains = settle(alloc, lock, pass_of(first), pass_of(second))?;
     Ok((submitted, remains))
 }
 
@@ -217,7 +228,7 @@ fn submit_amid_close<S: Setup + Send + Sync, R: Threads + Wait + Sync>(
     let (stamps, ()) = thread::join(
         rt,
         move || submit_both(rt, lock, first, second),
-        move || lock.close(rt),
+        move || close(rt, lock),
     );
     stamps
 }

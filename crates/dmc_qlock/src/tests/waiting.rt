@@ -1,7 +1,10 @@
 //! Workers that wait for a request.
 ghost use Rattle.std.specs.Prelude.{◌≡◌};
 
-use super::setup::{Client, Lock, ONE, Opened, last_pass, must_register, open, respond, submit};
+use super::setup::{
+    Client, Lock, ONE, Opened, close, last_pass, last_two, must_register, open, pull, pull_or_wait,
+    respond, submit,
+};
 use crate::fault::RunOrRange;
 use dmc_book::pass::WorkerPass;
 use dmc_ledger::mint::{Blank, Mint};
@@ -9,7 +12,6 @@ use dmc_ledger::setup::Setup;
 use dmc_tag::reply::Pulled;
 use dmc_types::command::Command;
 use dmc_types::ids::WorkerId;
-use dmc_types::moment::Moment;
 use std::alloc::Global;
 use std::marker::Brand;
 use std::sync::Wait;
@@ -28,8 +30,8 @@ fn both_wait<S: Setup + Send + Sync, R: Threads + Wait + Sync>(
 ) -> Answers {
     thread::join(
         rt,
-        move || lock.pull_or_wait(rt, first, Moment::zero()),
-        move || lock.pull_or_wait(rt, second, Moment::zero()),
+        move || pull_or_wait(rt, lock, first),
+        move || pull_or_wait(rt, lock, second),
     )
 }
 
@@ -52,11 +54,14 @@ fn open_three<S: Setup>(
     mint: &mut Mint<S>,
 ) -> Result<(Lock<S>, Waiting<S>, Third<S>), Fail> {
     let workers = [WorkerId(1), WorkerId(2), WorkerId(3)];
-    let mut opened = open(alloc, mint, &workers, 1000)?;
-    let pass = last_pass(&mut opened.passes)?;
-    let second = last_pass(&mut opened.passes)?;
-    let first = last_pass(&mut opened.passes)?;
-    let Opened { lock, one, .. } = opened;
+    let Opened {
+        lock,
+        one,
+        two: _two,
+        mut passes,
+    } = open(alloc, mint, &workers, 1000)?;
+    let pass = last_pass(&mut passes)?;
+    let (first, second) = last_two(&mut passes)?;
     let third = Third { pass, client: one };
     Ok((lock, Waiting { first, second }, third))
 }
@@ -65,7 +70,7 @@ fn open_three<S: Setup>(
 fn spend<S: Setup, R: Wait>(rt: &R, lock: &Lock<S>, third: &mut Third<S>) -> Result<(), Fail> {
     must_register(rt, lock, &mut third.pass, ONE, Some(20))?;
     submit(rt, lock, &mut third.pass, &mut third.client, 0)?;
-    lock.pull(rt, &mut third.pass, Moment::zero())?;
+    pull(rt, lock, &mut third.pass)?;
     respond(&mut third.pass, &mut third.client)
 }
 
@@ -92,7 +97,7 @@ fn wait_for_close<S: Setup + Send + Sync, R: Threads + Wait + Sync>(
     let (ended, ()) = thread::join(
         rt,
         move || both_wait(rt, lock, &mut waiting.first, &mut waiting.second),
-        move || lock.close(rt),
+        move || close(rt, lock),
     );
     ended
 }

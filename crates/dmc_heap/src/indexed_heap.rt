@@ -83,8 +83,8 @@ fn lower_child<R: Rank>(heap: &[Entry<R>], at: usize) -> usize
 {
     let left = 2 * at + 1;
     let right = left + 1;
-    if right < heap.len() && heap[right].rank.is_below(&heap[left].rank) {
-        return right;
+    if right < heap.len() {
+        return left + usize::from(heap[right].rank.is_below(&heap[left].rank));
     }
     left
 }

@@ -11,12 +11,6 @@ mod names;
 mod opening;
 mod parts;
 pub mod pass;
-#[cfg(test)]
-mod refusals;
 pub mod seat;
-#[cfg(test)]
-mod settle_tests;
 pub mod settled;
 pub mod status;
-#[cfg(test)]
-mod tests;

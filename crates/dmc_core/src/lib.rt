@@ -12,5 +12,3 @@ mod near;
 mod opening;
 mod pair;
 mod server;
-#[cfg(test)]
-mod tests;

@@ -14,8 +14,6 @@ mod opening;
 pub mod run;
 mod server_worker;
 pub mod service;
-#[cfg(test)]
-mod tests;
 mod threads;
 
 /// What is proved of a run beside its own contract.

@@ -9,7 +9,5 @@ pub mod desk;
 pub mod full;
 pub mod mint;
 pub mod setup;
-#[cfg(test)]
-mod tests;
 pub mod till;
 mod token;

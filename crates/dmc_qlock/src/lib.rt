@@ -4,5 +4,3 @@
 pub mod fault;
 pub mod lock;
 mod pulling;
-#[cfg(test)]
-mod tests;

@@ -15,3 +15,5 @@ mod records;
 mod rosters;
 #[cfg(test)]
 mod runs;
+#[cfg(test)]
+mod tags;

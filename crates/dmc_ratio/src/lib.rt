@@ -4,5 +4,3 @@
 pub mod divisor;
 pub mod examples;
 pub mod ratio;
-#[cfg(test)]
-mod tests;

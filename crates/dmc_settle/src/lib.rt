@@ -8,5 +8,3 @@ pub mod report;
 pub mod room;
 mod servers;
 pub mod settle;
-#[cfg(test)]
-mod tests;

@@ -168,20 +168,3 @@ impl Tag for TickTag {
         self.ticks()
     }
 }
-
-#[cfg(test)]
-mod tests {
-    use super::*;
-    use std::test::Fail;
-
-    #[test]
-    fn tick_bounds(rt: HostRuntime) -> Result<(), Fail> {
-        let greatest = 1_237_940_039_285_380_274_899_124_224;
-        let tag = TickTag::new(greatest).ok_or("no tag")?;
-        assert_eq!(rt; tag.ticks(), greatest);
-        assert!(rt; TickTag::new(greatest + 1).is_none());
-        assert!(rt; TickTag::new(-greatest).is_some());
-        assert!(rt; TickTag::new(-greatest - 1).is_none());
-        Ok(())
-    }
-}

@@ -10,10 +10,6 @@ pub mod laws;
 pub mod lock;
 mod parts;
 pub mod pass;
-#[cfg(test)]
-mod refusal_tests;
 pub mod settled;
 pub mod stamp;
 pub mod status;
-#[cfg(test)]
-mod tests;

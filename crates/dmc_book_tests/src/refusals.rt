@@ -1,0 +1,134 @@
+ghost use Rattle.std.specs.Prelude.{◌≡◌};
+
+use crate::books::{
+    Book, LONG, ONE, SEVEN, ZERO, enroll, must_enroll, open, open_book, open_client_desks,
+    open_other, open_queue, pull, submit, try_submit, wait_config,
+};
+use dmc_book::fault::{NewFault, RunFault, SubmitCause};
+use dmc_book::pass::WorkerPass;
+use dmc_ledger::bundle::StampTills;
+use dmc_ledger::mint::Blank;
+use dmc_ledger::setup::Setup;
+use dmc_tag::reply::Reply;
+use dmc_tlock::book::TrackerBook;
+use dmc_types::ids::ClientId;
+use std::alloc::Global;
+use std::marker::Brand;
+use std::test::Fail;
+
+/// What the calls of a book of two events answer.
+#[derive(Clone, Copy, Debug, PartialEq, Eq)]
+struct Answers {
+    no_desk: Option<RunFault>,
+    full: Option<RunFault>,
+    stranger: Option<RunFault>,
+    numbers: (u32, u64, u64),
+}
+
+/// The history is full, and another book's pass is a stranger.
+fn fill<S: Setup>(
+    book: &mut Book<S>,
+    pass: &mut WorkerPass<S>,
+    other: &mut WorkerPass<S>,
+) -> Result<Answers, Fail> {
+    let no_desk = enroll(book, pass, ClientId(2))?;
+    must_enroll(book, pass)?;
+    pull(book, pass)?;
+    let full = pull(book, pass).err();
+    let stranger = pull(book, other).err();
+    let status = book.status(pass)?;
+    let numbers = (status.events, status.calls, status.misses);
+    Ok(Answers {
+        no_desk,
+        full,
+        stranger,
+        numbers,
+    })
+}
+
+fn full<S: Setup>(alloc: Global, blank: Blank) -> Result<Answers, Fail>
+    requires { blank.name ≡ S.name }
+{
+    let mut mint = blank.open::<S>();
+    let mut other = open_other(alloc, &mut mint)?;
+    let (mut book, mut pass) = open_queue(alloc, &mut mint)?;
+    fill(&mut book, &mut pass, &mut other)
+}
+
+/// Stamps and submits where that is refused: whose stamp came back, and the cause.
+fn refuse<S: Setup>(
+    book: &mut Book<S>,
+    pass: &mut WorkerPass<S>,
+    tracker: &mut TrackerBook<S>,
+    tills: &mut StampTills<S>,
+) -> Result<(ClientId, SubmitCause), Fail> {
+    match try_submit(book, pass, tracker, tills)? {
+        (_, Ok(_)) => Err(Fail::new("a refusal")),
+        (_, Err(refused)) => Ok(refused),
+    }
+}
+
+/// After a close a submit is refused with its stamp, and what is queued is still granted.
+fn close_in_hand<S: Setup>(
+    book: &mut Book<S>,
+    pass: &mut WorkerPass<S>,
+    tracker: &mut TrackerBook<S>,
+    tills: &mut StampTills<S>,
+) -> Result<(ClientId, SubmitCause, bool), Fail> {
+    must_enroll(book, pass)?;
+    submit(book, pass, tracker, tills)?;
+    book.close();
+    let (client, cause) = refuse(book, pass, tracker, tills)?;
+    let granted = pull(book, pass)?;
+    Ok((client, cause, matches!(granted, Reply::Granted { .. })))
+}
+
+fn closed<S: Setup>(alloc: Global, blank: Blank) -> Result<(ClientId, SubmitCause, bool), Fail>
+    requires { blank.name ≡ S.name }
+{
+    let mut mint = blank.open::<S>();
+    let mut opened = open(alloc, &mut mint, 8)?;
+    let Some(tills) = opened.tills.tills(ZERO) else {
+        return Err(Fail::new("tills for the server"));
+    };
+    close_in_hand(
+        &mut opened.book,
+        &mut opened.pass,
+        &mut opened.tracker,
+        tills,
+    )
+}
+
+/// Two workers of one number are refused.
+fn twice<S: Setup>(alloc: Global, blank: Blank) -> Result<Option<NewFault>, Fail>
+    requires { blank.name ≡ S.name }
+{
+    let mut mint = blank.open::<S>();
+    let config = wait_config(LONG)?;
+    let desks = open_client_desks(alloc, &mut mint)?;
+    match open_book(alloc, config, &mut mint, desks, &[SEVEN, SEVEN], 8) {
+        Ok(_) => Ok(None),
+        Err(NewFault::Memory) => Err(NewFault::Memory.into()),
+        Err(cause) => Ok(Some(cause)),
+    }
+}
+
+#[test]
+fn full_closed_stranger(rt: HostRuntime) -> Result<(), Fail> {
+    let answers = Answers {
+        no_desk: Some(RunFault::NoDesk),
+        full: Some(RunFault::HistoryFull),
+        stranger: Some(RunFault::Stranger),
+        numbers: (2, 2, 1),
+    };
+    assert_eq!(rt; full::<Brand>(rt.alloc(), Blank::new(20))?, answers);
+    assert_eq!(rt;
+        closed::<Brand>(rt.alloc(), Blank::new(10))?,
+        (ONE, SubmitCause::Closed, true)
+    );
+    assert_eq!(rt;
+        twice::<Brand>(rt.alloc(), Blank::new(20))?,
+        Some(NewFault::Twice)
+    );
+    Ok(())
+}

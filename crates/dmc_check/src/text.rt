@@ -171,6 +171,26 @@ pub fn send<W: Write>(bytes: &[u8], writer: &mut W) -> bool
     writer.flush().is_ok()
 }
 
+/// Checks the text to its end, and writes the verdict.
+fn check_lines<T: TagText, R: Read, W: Write>(
+    alloc: Global,
+    run: &mut Checking<T>,
+    reader: &mut R,
+    writer: &mut W,
+) -> Result<Verdict, ScriptFault>
+    requires { Starts run.old }
+    ensures { ChecksAs T.ops T.made (R.remaining reader.old) (R.remaining reader.new) (W.contents writer.old) (W.contents writer.new) result }
+{
+    let checked = read_events(alloc, run, reader)?;
+    let Ok(line) = verdict_line(alloc, checked) else {
+        return Err(ScriptFault::Memory);
+    };
+    if !send(&line, writer) {
+        return Err(ScriptFault::Write);
+    }
+    Ok(checked.verdict)
+}
+
 /// Checks an event text: each event is replayed over an indexed queue, and the verdict is written as a line, `replays N` of N
 /// events, or `differs I`. All of the text is read, also behind a difference. No event is kept.
 pub fn check_text<T: TagText, R: Read, W: Write>(
@@ -188,12 +208,5 @@ pub fn check_text<T: TagText, R: Read, W: Write>(
         replay: None,
         number: 1,
     };
-    let checked = read_events(alloc, &mut run, reader)?;
-    let Ok(line) = verdict_line(alloc, checked) else {
-        return Err(ScriptFault::Memory);
-    };
-    if !send(&line, writer) {
-        return Err(ScriptFault::Write);
-    }
-    Ok(checked.verdict)
+    check_lines(alloc, &mut run, reader, writer)
 }

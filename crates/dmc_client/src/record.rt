@@ -22,12 +22,13 @@ use std::marker::Model;
 /// last queued ones.
 #[derive(Drop)]
 pub struct ClientRec<T: Tag> {
-    info: ClientInfo,
-    spacings: Spacings<T>,
-    previous: Previous<T>,
+    // What a shift of all records reads and writes comes first, side by side: fields lie in this order.
     idle: bool,
-    last_arrival: Moment,
+    previous: Previous<T>,
     queue: RequestQueue<T>,
+    spacings: Spacings<T>,
+    info: ClientInfo,
+    last_arrival: Moment,
 }
 
 impl<T: Tag> Model for ClientRec<T> {

@@ -1,5 +1,5 @@
 //! A client of a simulation.
-ghost use Rattle.std.specs.Prelude.{◌≡◌, ◌+◌, ◌<◌, ◌≤◌, ◌^◌, ◌==◌, IfOk, IfSome, None, slice_get, vec_len};
+ghost use Rattle.std.specs.Prelude.{◌≡◌, ◌+◌, ◌<◌, ◌≤◌, ◌^◌, ◌==◌, ◌&&◌, IfOk, IfSome, None, nat_lt, slice_get, vec_len};
 ghost use Rattle.dmc_types.specs.Limits.{most_client_requests};
 ghost use Rattle.dmc_types.specs.declared.config.PhaseType.TheVariants as phases_of;
 ghost use Rattle.dmc_work.specs.Plan.{generator, planned, word};
@@ -62,6 +62,14 @@ impl SimClient {
             return None;
         }
         self.plan.get(self.sent as usize).copied()
+    }
+
+    /// Whether it has requests left and fewer outstanding than its window.
+    pub fn may_send(&self) -> bool
+        ensures { result ≡ (nat_lt self.now.sent (self.now.completed + self.now.scene.window) && nat_lt self.now.sent self.now.scene.requests) }
+    {
+        u64::from(self.sent) < self.completed + u64::from(self.scene.window())
+            && self.sent < self.scene.requests()
     }
 
     /// Counts a request that it sent.

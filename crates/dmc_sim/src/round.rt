@@ -78,17 +78,37 @@ fn send_to<T: Tag>(
     Ok(())
 }
 
-/// Each client sends a request, if it may, in the scene's order.
+/// A client with a mark sends its next request, if it may send one, and keeps the mark where it may send another.
+fn send_marked<T: Tag>(
+    core: &mut ClusterCore<T>,
+    client: &mut SimClient,
+    mark: &mut bool,
+    at: Moment,
+) -> Result<(), SimFault>
+    ensures scene { OnOk result (client.new.scene ≡ client.old.scene) }
+    ensures completed { OnOk result (client.new.completed ≡ client.old.completed) }
+{
+    if *mark {
+        send(core, client, at)?;
+        *mark = client.may_send();
+    }
+    Ok(())
+}
+
+/// Each client sends a request, if it may, in the scene's order. Only clients with a mark are looked at: few may send in a round,
+/// and the marks of all take little of a cache.
 pub fn send_all<T: Tag>(
     core: &mut ClusterCore<T>,
     clients: &mut [SimClient],
+    marks: &mut [bool],
     at: Moment,
 ) -> Result<(), SimFault>
+    requires { length marks.old ≡ length clients.old }
     ensures scenes { OnOk result (map (λ c. c.scene) clients.new ≡ map (λ c. c.scene) clients.old) }
     ensures completed { OnOk result ((n : ℕ) → HaveCompleted n clients.old → HaveCompleted n clients.new) }
 {
-    for client in clients.iter_mut() {
-        send(core, client, at)?;
+    for place in 0..clients.len() {
+        send_marked(core, &mut clients[place], &mut marks[place], at)?;
     }
     Ok(())
 }
@@ -105,8 +125,15 @@ fn count_grant(row: &mut ServerReport, phase: PhaseType)
     }
 }
 
-/// Counts a completion of a client.
-fn count_completion(ids: &ClientIds, clients: &mut [SimClient], client: ClientId, phase: PhaseType)
+/// Counts a completion of a client, which may then send again.
+fn count_completion(
+    ids: &ClientIds,
+    clients: &mut [SimClient],
+    marks: &mut [bool],
+    client: ClientId,
+    phase: PhaseType,
+)
+    requires marks { length marks.old ≡ length clients.old }
     requires ids { ids.now ≡ map (λ k. k.id) (map (λ c. c.scene) clients.old) }
     requires room { All (λ c. c.completed < 2 ^ 36) clients.old }
     ensures scenes { map (λ c. c.scene) clients.new ≡ map (λ c. c.scene) clients.old }
@@ -114,6 +141,7 @@ fn count_completion(ids: &ClientIds, clients: &mut [SimClient], client: ClientId
 {
     if let Some(place) = ids.place(client) {
         clients[place].count_completed(phase);
+        marks[place] = clients[place].may_send();
     }
 }
 
@@ -122,9 +150,11 @@ fn serve<T: Tag>(
     core: &mut ClusterCore<T>,
     ids: &ClientIds,
     clients: &mut [SimClient],
+    marks: &mut [bool],
     row: &mut ServerReport,
     at: Moment,
 ) -> Result<(), SimFault>
+    requires marks { length marks.old ≡ length clients.old }
     requires ids { ids.now ≡ map (λ k. k.id) (map (λ c. c.scene) clients.old) }
     requires clients { All (λ c. c.completed < 2 ^ 36) clients.old }
     requires server { grants_of row.old < most_pulls }
@@ -136,7 +166,7 @@ fn serve<T: Tag>(
     let server = row.server;
     if let Some(Reply::Granted { client, phase, .. }) = ask(core, CoreEvent::Pull { server, at })? {
         count_grant(row, phase);
-        count_completion(ids, clients, client, phase);
+        count_completion(ids, clients, marks, client, phase);
         ask(
             core,
             CoreEvent::Respond {
@@ -154,9 +184,11 @@ pub fn serve_all<T: Tag>(
     core: &mut ClusterCore<T>,
     ids: &ClientIds,
     clients: &mut [SimClient],
+    marks: &mut [bool],
     servers: &mut [ServerReport],
     at: Moment,
 ) -> Result<(), SimFault>
+    requires marks { length marks.old ≡ length clients.old }
     requires ids { ids.now ≡ map (λ k. k.id) (map (λ c. c.scene) clients.old) }
     requires some_servers { length servers.old ≤ most_servers }
     requires clients { HaveCompleted (2 ^ 36 - 64) clients.old }
@@ -167,7 +199,7 @@ pub fn serve_all<T: Tag>(
     ensures completed { OnOk result ((n : ℕ) → HaveCompleted n clients.old → HaveCompleted (n + length servers.old) clients.new) }
 {
     for row in servers.iter_mut() {
-        serve(core, ids, clients, row, at)?;
+        serve(core, ids, clients, marks, row, at)?;
     }
     Ok(())
 }

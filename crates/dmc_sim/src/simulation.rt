@@ -45,11 +45,8 @@ fn simulate_on<T: Tag>(alloc: Global, scene: &Scene) -> Result<SimReport, SimFau
 {
     let mut rows = Vec::with_capacity(alloc, scene.clients().len())?;
     let mut servers = idle_servers(alloc, scene.servers())?;
-    let ids = ClientIds::of_clients(alloc, scene.clients())?;
     let mut clients = idle_clients(alloc, scene)?;
-    let mut core = ClusterCore::<T>::new(alloc, scene)?;
-    let end = run(&mut core, scene, &ids, &mut clients, &mut servers)?;
-    count_left(&core, &mut servers);
+    let end = run_scene::<T>(alloc, scene, &mut clients, &mut servers)?;
     put_rows(&clients, &mut rows);
     Ok(SimReport {
         clients: rows,
@@ -57,6 +54,27 @@ fn simulate_on<T: Tag>(alloc: Global, scene: &Scene) -> Result<SimReport, SimFau
         end,
         turns_out: !are_complete(&clients),
     })
+}
+
+/// Opens the scene's cluster and runs it to the last round, whose moment it answers. The servers' rows then have what is left.
+fn run_scene<T: Tag>(
+    alloc: Global,
+    scene: &Scene,
+    clients: &mut [SimClient],
+    servers: &mut [ServerReport],
+) -> Result<Moment, SimFault>
+    requires spacings { HaveSpacings T.ops scene.now }
+    requires scenes { map (λ c. c.scene) clients.old ≡ scene.now.clients }
+    requires some_servers { length servers.old ≤ most_servers }
+    requires completed { HaveCompleted 0 clients.old }
+    requires grants { HaveGranted 0 servers.old }
+    ensures scenes { OnOk result (map (λ c. c.scene) clients.new ≡ map (λ c. c.scene) clients.old) }
+    ensures numbers { OnOk result (map (λ r. r.server.0) servers.new ≡ map (λ r. r.server.0) servers.old) }
+{
+    let ids = ClientIds::of_clients(alloc, scene.clients())?;
+    let mut marks = vec![in alloc; true; clients.len()]?;
+    let mut core = ClusterCore::<T>::new(alloc, scene)?;
+    run(&mut core, scene, &ids, clients, &mut marks, servers)
 }
 
 /// The clients, before they send anything.
@@ -89,14 +107,16 @@ fn moment_of(round: u32, step: u64) -> Moment
     Moment::new(ticks.min(GREATEST_MOMENT)).unwrap()
 }
 
-/// The rounds, to the last, whose moment it answers; the answer is 0 where there is none.
+/// The rounds, to the last, whose moment it answers; the answer is 0 where there is none. Then each row has what is left.
 fn run<T: Tag>(
     core: &mut ClusterCore<T>,
     scene: &Scene,
     ids: &ClientIds,
     clients: &mut [SimClient],
+    marks: &mut [bool],
     servers: &mut [ServerReport],
 ) -> Result<Moment, SimFault>
+    requires marks { length marks.old ≡ length clients.old }
     requires ids { ids.now ≡ map (λ k. k.id) (map (λ c. c.scene) clients.old) }
     requires some_servers { length servers.old ≤ most_servers }
     requires completed { HaveCompleted 0 clients.old }
@@ -110,8 +130,9 @@ fn run<T: Tag>(
             break;
         }
         end = moment_of(round, scene.step());
-        send_all(core, clients, end)?;
-        serve_all(core, ids, clients, servers, end)?;
+        send_all(core, clients, marks, end)?;
+        serve_all(core, ids, clients, marks, servers, end)?;
     }
+    count_left(core, servers);
     Ok(end)
 }

@@ -25,6 +25,7 @@ loop-row-preserved g c =
     let inv = c.loop-row.invariant in
     let within : i < length c.args.servers.now = omega arith in
     record {
+      marks = omega arith;
       numbers = map-set_same (λ (r : ServerReport). r.server.0) rows i new (idle_row 0) (ap (λ (s : ServerId). s.0) c.in_ok-serve.ensures.server) ∙ inv.numbers;
       untouched = λ k d h. let ne : k ≢ i = omega arith in get_or-set_other rows i k new d ne ∙ inv.untouched k d (omega (arith, h));
       grants = λ n h.

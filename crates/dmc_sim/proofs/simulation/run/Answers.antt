@@ -1,4 +1,4 @@
-use Rattle.std.proofs.Common.{◌≡◌, ◌+◌, ◌*◌, ◌≤◌, get_or, length, ◌∙◌, arith}
+use Rattle.std.proofs.Common.{◌+◌, ◌*◌, ◌≤◌, get_or, length, ◌∙◌, arith}
 use Rattle.dmc_sim.proofs.simulation.run.Goals as goal
 
 pub serve_all-requires-clause-ids : goal.serve_all-requires-clause-ids
@@ -10,6 +10,7 @@ loop-round-preserved g c =
     let round = c.loop-round.round in
     let servers : length c.loop-round.servers ≤ 64 = omega (arith, c.requires.some_servers) in
     record {
+      marks = omega arith;
       numbers = c.in_ok-serve_all.ensures.numbers ∙ inv.numbers;
       scenes = c.in_ok-serve_all.ensures.scenes ∙ c.in_ok-send_all.ensures.scenes ∙ inv.scenes;
       completed = λ k d w.

@@ -11,7 +11,7 @@ ghost use Rattle.dmc_core.specs.Run.{Client, change_first};
 ghost use Rattle.dmc_core.specs.declared.event.CoreEvent.TheVariants as events;
 
 use crate::client::CoreClient;
-use crate::event::{CoreFault, CoreReply};
+use crate::event::{CoreEvent, CoreFault, CoreReply};
 use crate::ids::ClientIds;
 use crate::near::NearScheduler;
 use crate::server::CoreServer;
@@ -220,6 +220,38 @@ impl<Q> Cluster<Q> {
     {
         let index = self.server(server)?;
         Ok(CoreReply::Served(self.servers[index].clean(at)))
+    }
+
+    /// Carries out an event.
+    #[inline(always)]
+    pub fn step<T: Tag>(&mut self, event: CoreEvent) -> Result<CoreReply<T>, CoreFault>
+    where
+        Q: NearScheduler<T>,
+        ensures { Follows T.ops Q.state event self.old self.new result }
+    {
+        // Inlined: a caller that names its event keeps that arm alone.
+        match event {
+            CoreEvent::Stamp {
+                client,
+                server,
+                token,
+            } => self.stamp(client, server, token),
+            CoreEvent::Arrive { client, server, at } => self.arrive(client, server, at),
+            CoreEvent::Pull { server, at } => self.pull(server, at),
+            CoreEvent::Respond {
+                client,
+                server,
+                phase,
+            } => self.respond(client, server, phase),
+            CoreEvent::Update {
+                server,
+                client,
+                info,
+                at,
+            } => self.update(server, client, info, at),
+            CoreEvent::Remove { server, client } => self.remove(server, client),
+            CoreEvent::Clean { server, at } => self.clean(server, at),
+        }
     }
 
     /// How many requests are queued at a server, if there is such a server.

@@ -62,29 +62,7 @@ impl<T: Tag> ClusterCore<T> {
     pub fn step(&mut self, event: CoreEvent) -> Result<CoreReply<T>, CoreFault>
         ensures { Follows T.ops state_of event self.old self.new result }
     {
-        // Inlined: a caller that names its event keeps that arm alone.
-        match event {
-            CoreEvent::Stamp {
-                client,
-                server,
-                token,
-            } => self.cluster.stamp(client, server, token),
-            CoreEvent::Arrive { client, server, at } => self.cluster.arrive(client, server, at),
-            CoreEvent::Pull { server, at } => self.cluster.pull(server, at),
-            CoreEvent::Respond {
-                client,
-                server,
-                phase,
-            } => self.cluster.respond(client, server, phase),
-            CoreEvent::Update {
-                server,
-                client,
-                info,
-                at,
-            } => self.cluster.update(server, client, info, at),
-            CoreEvent::Remove { server, client } => self.cluster.remove(server, client),
-            CoreEvent::Clean { server, at } => self.cluster.clean(server, at),
-        }
+        self.cluster.step(event)
     }
 
     /// How many requests are queued at a server, if there is such a server.

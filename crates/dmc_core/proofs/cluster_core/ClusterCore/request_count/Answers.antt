@@ -1,0 +1,5 @@
+use Rattle.dmc_core.proofs.cluster_core.ClusterCore.request_count.Goals as goal
+use Rattle.std.proofs.Common.{◌≡◌}
+
+pub returns : goal.returns
+returns g c = rw (← c.self.view_is) c.request_count.ensures

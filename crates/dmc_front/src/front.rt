@@ -49,42 +49,40 @@ impl Model for FrontQueue {
 /// The reply to a command. It is the scheduler's `apply` written out here, so that it can become a part of its callers, where
 /// the command is known.
 #[inline(always)]
-fn reply_to<T: Tag>(
-    queue: &mut PullQueue<T, HeapIndexes>,
+fn reply_to<T: Tag, Q: Scheduler<T>>(
+    queue: &mut Q,
     command: &Command,
 ) -> Result<Reply<T>, AllocError>
-    ensures { Steps T.ops (state_of queue.old) (state_of queue.new) command.now (result_ok result) }
+    ensures { Steps T.ops (Q.state queue.old) (Q.state queue.new) command.now (result_ok result) }
 {
     match *command {
         Command::Register { client, info, at } => {
-            answers::registered(Scheduler::register(queue, client, info, at))
+            answers::registered(queue.register(client, info, at))
         }
-        Command::Update { client, info, at } => Ok(answers::updated(Scheduler::update_info(
-            queue, client, info, at,
+        Command::Update { client, info, at } => Ok(answers::updated(queue.update_info(
+            client, info, at,
         ))),
         Command::Add {
             client,
             token,
             params,
             at,
-        } => answers::tagged(Scheduler::add_request(queue, client, token, params, at)),
-        Command::Pull { at } => Ok(answers::pulled(Scheduler::pull_request(queue, at))),
-        Command::Remove { client } => Ok(answers::removed(Scheduler::remove_by_client(
-            queue, client,
-        ))),
-        Command::Clean { at } => Ok(answers::cleaned(Scheduler::clean(queue, at))),
+        } => answers::tagged(queue.add_request(client, token, params, at)),
+        Command::Pull { at } => Ok(answers::pulled(queue.pull_request(at))),
+        Command::Remove { client } => Ok(answers::removed(queue.remove_by_client(client))),
+        Command::Clean { at } => Ok(answers::cleaned(queue.clean(at))),
     }
 }
 
 /// One command at a queue, and its reply in fractions. An error is want of memory, and changes nothing.
 #[inline(always)]
-fn apply_to<T: AsFraction>(
-    queue: &mut PullQueue<T, HeapIndexes>,
+fn apply_to<T: AsFraction, Q: Scheduler<T>>(
+    queue: &mut Q,
     command: &Command,
 ) -> Result<Reply<TagFraction>, AllocError>
-    ensures { Shows T.ops T.fraction (state_of queue.old) (state_of queue.new) command.now (result_ok result) }
+    ensures { Shows T.ops T.fraction (Q.state queue.old) (Q.state queue.new) command.now (result_ok result) }
 {
-    Ok(in_fractions(reply_to(queue, command)?))
+    Ok(in_fractions(reply_to::<T, Q>(queue, command)?))
 }
 
 impl FrontQueue {
@@ -106,8 +104,8 @@ impl FrontQueue {
         ensures { FrontSteps self.old self.new command.now (result_ok result) }
     {
         match &mut self.queue {
-            Queue::Tick(queue) => apply_to(&mut queue.0, command),
-            Queue::Ratio(queue) => apply_to(&mut queue.0, command),
+            Queue::Tick(queue) => apply_to::<TickTag, _>(&mut queue.0, command),
+            Queue::Ratio(queue) => apply_to::<RatioTag, _>(&mut queue.0, command),
         }
     }
 

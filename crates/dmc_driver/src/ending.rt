@@ -1,5 +1,5 @@
 //! How a run ends, by its report.
-ghost use Rattle.std.specs.Prelude.{◌≡◌, ◌↔◌, All, IsTrue, length};
+ghost use Rattle.std.specs.Prelude.{◌≡◌, ◌↔◌, All, IfOk, IsTrue, length};
 ghost use Rattle.dmc_settle.specs.Reports.{IsReport};
 ghost use Rattle.dmc_driver.specs.Done.{IsClientDone, IsDone, IsServerDone, RanOut};
 ghost use Rattle.dmc_driver.specs.Ending.{AreClientsDone, AreWithin, EndsSo, KeepsWithin, RanOutAt, Reports};
@@ -9,6 +9,7 @@ use crate::limits::Limits;
 use dmc_scene::client::SceneClient;
 use dmc_scene::scene::Scene;
 use dmc_settle::report::{ClientReport, ClusterReport, ServerReport, StopCause};
+use dmc_settle::settle::Torn;
 use dmc_tag::tag::Tag;
 
 /// Whether the client sent and completed its requests, has nothing left, and did not stop.
@@ -90,7 +91,7 @@ fn are_within<T: Tag>(rows: &[ServerReport<T>], limits: Limits) -> bool
 }
 
 /// The answer of a run with these limits, by its report.
-pub(crate) fn end<T: Tag>(
+fn end<T: Tag>(
     scene: &Scene,
     limits: Limits,
     report: ClusterReport<T>,
@@ -110,5 +111,22 @@ pub(crate) fn end<T: Tag>(
         Err(DriveFault::TurnsOut(report))
     } else {
         Err(DriveFault::Stopped(report))
+    }
+}
+
+/// The answer of a run with these limits, once its cluster is settled.
+pub(crate) fn end_settled<T: Tag>(
+    scene: &Scene,
+    limits: Limits,
+    settled: Result<ClusterReport<T>, Torn>,
+) -> Result<ClusterReport<T>, DriveFault<T>>
+    requires { IfOk settled (IsReport T.ops scene.now) }
+    ensures report { Reports T.ops scene.now result }
+    ensures ending { EndsSo scene.now result }
+    ensures histories { KeepsWithin limits.events result }
+{
+    match settled {
+        Ok(report) => end(scene, limits, report),
+        Err(_) => Err(DriveFault::Torn),
     }
 }

@@ -12,7 +12,7 @@ use dmc_ledger::mint::Mint;
 use dmc_ledger::setup::Setup;
 use dmc_scene::scene::Scene;
 use dmc_tag::tag::Tag;
-use servers::{OpenServers, no_desks, no_servers, open_server};
+use servers::{OpenServers, no_desks, no_servers, open_server, reserve_servers};
 use std::alloc::Global;
 
 /// The clients and servers of a run.
@@ -44,9 +44,24 @@ fn open_servers<T: Tag, S: Setup>(
     desks: Vec<QueueDesks<S>>,
     senders: &mut Senders<S>,
 ) -> Result<OpenServers<T, S>, OpenFault> {
-    let mut servers = no_servers(alloc, scene)?;
-    for next in desks {
-        open_server(alloc, mint, scene, limits, next, senders, &mut servers)?;
-    }
+    let mut servers = no_servers(alloc);
+    open_each(alloc, mint, scene, limits, desks, senders, &mut servers)?;
     Ok(servers)
+}
+
+/// Opens the servers with these desks, in order.
+fn open_each<T: Tag, S: Setup>(
+    alloc: Global,
+    mint: &mut Mint<S>,
+    scene: &Scene,
+    limits: Limits,
+    desks: Vec<QueueDesks<S>>,
+    senders: &mut Senders<S>,
+    servers: &mut OpenServers<T, S>,
+) -> Result<(), OpenFault> {
+    reserve_servers(scene, servers)?;
+    for next in desks {
+        open_server(alloc, mint, scene, limits, next, senders, servers)?;
+    }
+    Ok(())
 }

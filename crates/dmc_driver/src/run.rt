@@ -4,7 +4,7 @@ ghost use Rattle.dmc_types.specs.Limits.{most_books};
 ghost use Rattle.dmc_driver.specs.Ending.{EndsSo, KeepsWithin, Reports};
 
 use crate::cluster::Cluster;
-use crate::ending::end;
+use crate::ending::end_settled;
 use crate::fault::{DriveFault, OpenFault};
 use crate::gathering::{gather_clients, gather_servers, take_books, take_trackers};
 use crate::limits::Limits;
@@ -144,10 +144,8 @@ where
         passes,
         report,
     } = run_opened(rt, scene, service, moments, opened);
-    match settle_cluster(alloc, scene, &mut books, trackers, passes, report, room) {
-        Ok(report) => end(scene, limits, report),
-        Err(_) => Err(DriveFault::Torn),
-    }
+    let settled = settle_cluster(alloc, scene, &mut books, trackers, passes, report, room);
+    end_settled(scene, limits, settled)
 }
 
 /// What the threads of a run leave.

@@ -34,24 +34,31 @@ pub(crate) struct OpenClients<S: Setup> {
     pub(crate) tills: Vec<ClientPass<S>>,
 }
 
-/// No client yet, and room for so many.
+/// No client yet, with room for so many ids.
 fn no_clients<S: Setup>(alloc: Global, room: usize) -> Result<OpenClients<S>, AllocError> {
+    let ids = IndexSet::with_capacity(alloc, room)?;
     Ok(OpenClients {
-        ids: IndexSet::with_capacity(alloc, room)?,
-        trackers: Vec::with_capacity(alloc, room)?,
-        senders: no_senders(alloc, room)?,
-        rows: Vec::with_capacity(alloc, room)?,
-        books: Vec::with_capacity(alloc, room)?,
-        tills: Vec::with_capacity(alloc, room)?,
+        ids,
+        trackers: Vec::new(alloc),
+        senders: Senders {
+            jobs: Vec::new(alloc),
+            ringers: Vec::new(alloc),
+        },
+        rows: Vec::new(alloc),
+        books: Vec::new(alloc),
+        tills: Vec::new(alloc),
     })
 }
 
-/// No worker yet, and room for so many.
-fn no_senders<S: Setup>(alloc: Global, room: usize) -> Result<Senders<S>, AllocError> {
-    Ok(Senders {
-        jobs: Vec::with_capacity(alloc, room)?,
-        ringers: Vec::with_capacity(alloc, room)?,
-    })
+/// Makes room for so many clients beside their ids.
+fn reserve_clients<S: Setup>(clients: &mut OpenClients<S>, room: usize) -> Result<(), AllocError> {
+    clients.trackers.reserve_exact(room)?;
+    clients.senders.jobs.reserve_exact(room)?;
+    clients.senders.ringers.reserve_exact(room)?;
+    clients.rows.reserve_exact(room)?;
+    clients.books.reserve_exact(room)?;
+    clients.tills.reserve_exact(room)?;
+    Ok(())
 }
 
 /// The clients of a scene, with a desk of each at each of these servers.
@@ -63,11 +70,33 @@ pub(crate) fn open_clients<S: Setup>(
     queues: &mut [QueueDesks<S>],
 ) -> Result<OpenClients<S>, OpenFault> {
     let mut clients = no_clients(alloc, scene.clients().len())?;
-    for client in scene.clients() {
-        let desks = open_pairs(alloc, mint, client.id(), queues)?;
-        open_client(alloc, scene, limits, *client, desks, &mut clients)?;
-    }
+    open_each(alloc, mint, scene, limits, queues, &mut clients)?;
     Ok(clients)
+}
+
+/// Opens the clients of a scene, in order.
+fn open_each<S: Setup>(
+    alloc: Global,
+    mint: &mut Mint<S>,
+    scene: &Scene,
+    limits: Limits,
+    queues: &mut [QueueDesks<S>],
+    clients: &mut OpenClients<S>,
+) -> Result<(), OpenFault> {
+    reserve_clients(clients, scene.clients().len())?;
+    for client in scene.clients() {
+        name_client(client.id(), clients)?;
+        let desks = open_pairs(alloc, mint, client.id(), queues)?;
+        open_client(alloc, scene, limits, *client, desks, clients)?;
+    }
+    Ok(())
+}
+
+/// The id and the row of the next client.
+fn name_client<S: Setup>(client: ClientId, clients: &mut OpenClients<S>) -> Result<(), OpenFault> {
+    clients.ids.insert(client)?;
+    clients.rows.push(new_row(client))?;
+    Ok(())
 }
 
 /// The next client, with its desks.
@@ -80,8 +109,6 @@ fn open_client<S: Setup>(
     clients: &mut OpenClients<S>,
 ) -> Result<(), OpenFault> {
     let (book, tills) = open_tracker(alloc, scene.counting(), limits, desks)?;
-    clients.ids.insert(client.id())?;
-    clients.rows.push(new_row(client.id()))?;
     let place = clients.trackers.len();
     clients.trackers.push(TrackerLock::new(book))?;
     open_sender(alloc, scene, client, place, tills, &mut clients.senders)?;

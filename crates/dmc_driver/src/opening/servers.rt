@@ -47,19 +47,29 @@ pub(crate) fn server_workers(scene: &Scene) -> usize
     (scene.servers() * scene.workers()) as usize
 }
 
-/// No server yet, and room for those of a scene.
-pub(crate) fn no_servers<T: Tag, S: Setup>(
-    alloc: Global,
+/// No server yet.
+pub(crate) fn no_servers<T: Tag, S: Setup>(alloc: Global) -> OpenServers<T, S> {
+    OpenServers {
+        queues: Vec::new(alloc),
+        jobs: Vec::new(alloc),
+        rows: Vec::new(alloc),
+        books: Vec::new(alloc),
+        passes: Vec::new(alloc),
+    }
+}
+
+/// Makes room for the servers of a scene.
+pub(crate) fn reserve_servers<T: Tag, S: Setup>(
     scene: &Scene,
-) -> Result<OpenServers<T, S>, AllocError> {
-    let servers = scene.servers() as usize;
-    Ok(OpenServers {
-        queues: Vec::with_capacity(alloc, servers)?,
-        jobs: Vec::with_capacity(alloc, server_workers(scene))?,
-        rows: Vec::with_capacity(alloc, servers)?,
-        books: Vec::with_capacity(alloc, servers)?,
-        passes: Vec::with_capacity(alloc, servers)?,
-    })
+    servers: &mut OpenServers<T, S>,
+) -> Result<(), AllocError> {
+    let count = scene.servers() as usize;
+    servers.queues.reserve_exact(count)?;
+    servers.jobs.reserve_exact(server_workers(scene))?;
+    servers.rows.reserve_exact(count)?;
+    servers.books.reserve_exact(count)?;
+    servers.passes.reserve_exact(count)?;
+    Ok(())
 }
 
 /// The desks of each server, none yet, and room for those of all clients.
@@ -170,15 +180,34 @@ fn open_queue<T: Tag, S: Setup>(
     let QueueDesks { server, desks } = desks;
     let most = limits.events();
     match QueueBook::new(alloc, scene.config(), server, workers, desks, mint, most) {
-        Ok((mut book, mut passes)) => {
-            let registered = register_all(&mut book, &mut passes, scene.clients(), stops);
-            let kept = queues.push(Locked::new(book));
-            registered?;
-            kept?;
-            Ok(passes)
-        }
+        Ok((book, passes)) => keep_queue(book, passes, scene.clients(), queues, stops),
         Err(fault) => Err(of_new(fault.cause)),
     }
+}
+
+/// Registers the clients at a server's book, and keeps it behind its lock.
+fn keep_queue<T: Tag, S: Setup>(
+    book: QueueBook<T, HeapIndexes, S>,
+    passes: Vec<WorkerPass<S>>,
+    clients: &[SceneClient],
+    queues: &mut Vec<QueueLock<T, HeapIndexes, S>>,
+    stops: &mut Vec<StopCause>,
+) -> Result<Vec<WorkerPass<S>>, OpenFault> {
+    let mut book = book;
+    let mut passes = passes;
+    let registered = register_all(&mut book, &mut passes, clients, stops);
+    push_queue(book, queues)?;
+    registered?;
+    Ok(passes)
+}
+
+/// One queue more, behind its lock.
+fn push_queue<T: Tag, S: Setup>(
+    book: QueueBook<T, HeapIndexes, S>,
+    queues: &mut Vec<QueueLock<T, HeapIndexes, S>>,
+) -> Result<(), OpenFault> {
+    queues.push(Locked::new(book))?;
+    Ok(())
 }
 
 /// Registers the clients by the first of the passes.
@@ -210,13 +239,17 @@ fn register<T: Tag, S: Setup>(
         at: Moment::zero(),
     };
     match book.run(pass, command) {
-        Ok(Reply::Refused(refusal)) => {
-            stops.push(StopCause::Refused(refusal))?;
-            Ok(())
-        }
-        Ok(_) => Ok(()),
+        Ok(reply) => keep_refusal(reply, stops),
         Err(fault) => Err(of_register(fault)),
     }
+}
+
+/// Puts what the queue refused among the stops.
+fn keep_refusal<T: Tag>(reply: Reply<T>, stops: &mut Vec<StopCause>) -> Result<(), OpenFault> {
+    if let Reply::Refused(refusal) = reply {
+        stops.push(StopCause::Refused(refusal))?;
+    }
+    Ok(())
 }
 
 /// Hands the last passes to the workers of a server.

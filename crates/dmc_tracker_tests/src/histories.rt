@@ -6,17 +6,36 @@ use std::test::Fail;
 // How many events a block has room for.
 const BLOCK: usize = 1024;
 
+// Helpers with no contract: what they do is seen by running them, and a test that calls them is cheap to prove.
+
+fn reserve(history: &mut History<u32>) -> Result<(), ReserveFault> {
+    history.reserve_one()
+}
+
+fn push(history: &mut History<u32>, event: u32) -> Result<(), ReserveFault> {
+    history.reserve_one()?;
+    history.push_reserved(event);
+    Ok(())
+}
+
+fn count(history: &History<u32>) -> usize {
+    history.len()
+}
+
+fn event_at(history: &History<u32>, index: usize) -> Option<u32> {
+    history.at(index).copied()
+}
+
 // Records one event. A growth is refused only at a block's first event: then the history has as many events as before,
 // and the next try is Ok.
 fn record(rt: &impl Abort, history: &mut History<u32>, event: u32) -> Result<(), Fail> {
-    let before = history.len();
-    if let Err(fault) = history.reserve_one() {
+    let before = count(history);
+    if let Err(fault) = reserve(history) {
         assert_eq!(rt; fault, ReserveFault::Memory);
         assert_eq!(rt; before % BLOCK, 0);
-        assert_eq!(rt; history.len(), before);
-        history.reserve_one()?;
+        assert_eq!(rt; count(history), before);
     }
-    history.push_reserved(event);
+    push(history, event)?;
     Ok(())
 }
 
@@ -27,15 +46,13 @@ fn history_limit(rt: HostRuntime) -> Result<(), Fail> {
     let mut history = History::new(rt.alloc(), 2)?;
     assert_eq!(rt; history.most(), 2);
     assert!(rt; history.is_empty());
-    for event in [7, 8] {
-        history.reserve_one()?;
-        history.push_reserved(event);
-    }
-    assert_eq!(rt; history.reserve_one(), Err(ReserveFault::HistoryFull));
-    assert_eq!(rt; history.len(), 2);
+    push(&mut history, 7)?;
+    push(&mut history, 8)?;
+    assert_eq!(rt; reserve(&mut history), Err(ReserveFault::HistoryFull));
+    assert_eq!(rt; count(&history), 2);
     assert!(rt; !history.is_empty());
-    assert_eq!(rt; history.at(1).copied(), Some(8));
-    assert_eq!(rt; history.at(2).copied(), None);
+    assert_eq!(rt; event_at(&history, 1), Some(8));
+    assert_eq!(rt; event_at(&history, 2), None);
     Ok(())
 }
 
@@ -45,10 +62,10 @@ fn history_blocks(rt: HostRuntime) -> Result<(), Fail> {
     for event in 0..2049 {
         record(&rt, &mut history, event)?;
     }
-    assert_eq!(rt; history.len(), 2049);
+    assert_eq!(rt; count(&history), 2049);
     for index in [0, 1023, 1024, 2048] {
-        assert_eq!(rt; history.at(index).copied(), Some(index as u32));
+        assert_eq!(rt; event_at(&history, index), Some(index as u32));
     }
-    assert_eq!(rt; history.at(2049).copied(), None);
+    assert_eq!(rt; event_at(&history, 2049), None);
     Ok(())
 }

@@ -2,90 +2,133 @@
 use dmc_tracker::tracker::{MakeFault, ServiceTracker, TrackFault};
 use dmc_types::config::{Counting, PhaseType};
 use dmc_types::ids::ServerId;
-use dmc_types::params::ReqParams;
 use std::test::Fail;
 
 const ZERO: ServerId = ServerId(0);
 
 const ONE: ServerId = ServerId(1);
 
+// Helpers with no contract: what they do is seen by running them, and a test that calls them is cheap to prove.
+
+fn stamp(tracker: &mut ServiceTracker, server: ServerId) -> Result<(u32, u32), TrackFault> {
+    let params = tracker.get_req_params(server)?;
+    Ok((params.delta(), params.rho()))
+}
+
+fn respond(
+    tracker: &mut ServiceTracker,
+    server: ServerId,
+    phase: PhaseType,
+) -> Result<(), TrackFault> {
+    tracker.track_resp(server, phase)
+}
+
+/// What a tracker tells of a server: what it sent, what is pending, and whether it may stamp and respond.
+#[derive(Clone, Copy, Debug, PartialEq, Eq)]
+struct ServerStatus {
+    sent: Option<(u32, u32)>,
+    pending: Option<(u32, u32)>,
+    stamp: Result<(), TrackFault>,
+    response: Result<(), TrackFault>,
+}
+
+fn status(tracker: &ServiceTracker, server: ServerId) -> ServerStatus {
+    ServerStatus {
+        sent: tracker.sent(server),
+        pending: tracker.pending(server),
+        stamp: tracker.can_stamp(server),
+        response: tracker.can_respond(server),
+    }
+}
+
+/// What a tracker tells of a server that may still be stamped, and may respond.
+fn free(sent: (u32, u32), pending: (u32, u32)) -> ServerStatus {
+    ServerStatus {
+        sent: Some(sent),
+        pending: Some(pending),
+        stamp: Ok(()),
+        response: Ok(()),
+    }
+}
+
 // Stamp 0, response 0 reservation, stamp 1, response 1 priority, stamp 0.
-fn three_stamps(tracker: &mut ServiceTracker) -> Result<[ReqParams; 3], TrackFault> {
-    let first = tracker.get_req_params(ZERO)?;
-    tracker.track_resp(ZERO, PhaseType::Reservation)?;
-    let second = tracker.get_req_params(ONE)?;
-    tracker.track_resp(ONE, PhaseType::Priority)?;
-    let third = tracker.get_req_params(ZERO)?;
+fn three_stamps(tracker: &mut ServiceTracker) -> Result<[(u32, u32); 3], TrackFault> {
+    let first = stamp(tracker, ZERO)?;
+    respond(tracker, ZERO, PhaseType::Reservation)?;
+    let second = stamp(tracker, ONE)?;
+    respond(tracker, ONE, PhaseType::Priority)?;
+    let third = stamp(tracker, ZERO)?;
     Ok([first, second, third])
 }
 
-fn pair(params: ReqParams) -> (u32, u32) {
-    (params.delta(), params.rho())
+/// What a tracker was made with, and how many responses it counted.
+fn made_with(tracker: &ServiceTracker) -> (u32, u32, Counting, (u32, u32)) {
+    (
+        tracker.servers(),
+        tracker.most(),
+        tracker.counting(),
+        tracker.completions(),
+    )
 }
 
 #[test]
 fn two_server_tracker(rt: HostRuntime) -> Result<(), Fail> {
     let mut tracker = ServiceTracker::new(rt.alloc(), 2, 10, Counting::All)?;
-    let [first, second, third] = three_stamps(&mut tracker)?;
-    assert_eq!(rt; pair(first), (0, 0));
-    assert_eq!(rt; pair(second), (1, 1));
-    assert_eq!(rt; pair(third), (2, 1));
-    assert_eq!(rt; tracker.sent(ZERO), Some((2, 1)));
-    assert_eq!(rt; tracker.pending(ZERO), Some((0, 0)));
-    assert_eq!(rt; tracker.sent(ONE), Some((1, 1)));
-    assert_eq!(rt; tracker.pending(ONE), Some((1, 0)));
-    assert_eq!(rt; tracker.completions(), (2, 1));
-    assert_eq!(rt; tracker.servers(), 2);
-    assert_eq!(rt; tracker.most(), 10);
-    assert_eq!(rt; tracker.counting(), Counting::All);
+    assert_eq!(rt; three_stamps(&mut tracker)?, [(0, 0), (1, 1), (2, 1)]);
+    assert_eq!(rt; status(&tracker, ZERO), free((2, 1), (0, 0)));
+    assert_eq!(rt; status(&tracker, ONE), free((1, 1), (1, 0)));
+    assert_eq!(rt; made_with(&tracker), (2, 10, Counting::All, (2, 1)));
     Ok(())
 }
 
 #[test]
 fn others_tracker(rt: HostRuntime) -> Result<(), Fail> {
     let mut tracker = ServiceTracker::new(rt.alloc(), 2, 10, Counting::Others)?;
-    let [first, second, third] = three_stamps(&mut tracker)?;
-    assert_eq!(rt; pair(first), (1, 1));
-    assert_eq!(rt; pair(second), (2, 2));
-    assert_eq!(rt; pair(third), (2, 1));
-    assert_eq!(rt; tracker.sent(ZERO), Some((3, 2)));
-    assert_eq!(rt; tracker.pending(ZERO), Some((0, 0)));
-    assert_eq!(rt; tracker.sent(ONE), Some((2, 2)));
-    assert_eq!(rt; tracker.pending(ONE), Some((0, 0)));
-    assert_eq!(rt; tracker.completions(), (2, 1));
-    let mut small = ServiceTracker::new(rt.alloc(), 2, 1, Counting::Others)?;
-    assert_eq!(rt; pair(small.get_req_params(ZERO)?), (1, 1));
-    assert_eq!(rt;
-        small.get_req_params(ZERO).err(),
-        Some(TrackFault::TrackFull)
-    );
-    assert_eq!(rt; small.sent(ZERO), Some((1, 1)));
+    assert_eq!(rt; three_stamps(&mut tracker)?, [(1, 1), (2, 2), (2, 1)]);
+    assert_eq!(rt; status(&tracker, ZERO), free((3, 2), (0, 0)));
+    assert_eq!(rt; status(&tracker, ONE), free((2, 2), (0, 0)));
+    assert_eq!(rt; made_with(&tracker), (2, 10, Counting::Others, (2, 1)));
+    Ok(())
+}
+
+#[test]
+fn others_tracker_full(rt: HostRuntime) -> Result<(), Fail> {
+    let mut tracker = ServiceTracker::new(rt.alloc(), 2, 1, Counting::Others)?;
+    assert_eq!(rt; status(&tracker, ZERO).stamp, Ok(()));
+    assert_eq!(rt; stamp(&mut tracker, ZERO), Ok((1, 1)));
+    assert_eq!(rt; stamp(&mut tracker, ZERO), Err(TrackFault::TrackFull));
+    assert_eq!(rt; status(&tracker, ZERO).stamp, Err(TrackFault::TrackFull));
+    assert_eq!(rt; status(&tracker, ZERO).sent, Some((1, 1)));
     Ok(())
 }
 
 #[test]
 fn tracker_limits(rt: HostRuntime) -> Result<(), Fail> {
     let mut tracker = ServiceTracker::new(rt.alloc(), 1, 1, Counting::All)?;
-    assert_eq!(rt; tracker.can_respond(ZERO), Ok(()));
-    tracker.track_resp(ZERO, PhaseType::Reservation)?;
+    assert_eq!(rt; status(&tracker, ZERO), free((0, 0), (0, 0)));
+    assert_eq!(rt; respond(&mut tracker, ZERO, PhaseType::Reservation), Ok(()));
     let full = Err(TrackFault::TrackFull);
-    assert_eq!(rt; tracker.can_respond(ZERO), full);
-    assert_eq!(rt; tracker.track_resp(ZERO, PhaseType::Priority), full);
-    let unknown = Err(TrackFault::NoServer);
-    assert_eq!(rt; tracker.can_respond(ONE), unknown);
-    assert_eq!(rt; tracker.track_resp(ONE, PhaseType::Priority), unknown);
-    assert_eq!(rt; tracker.can_stamp(ZERO), Ok(()));
-    assert_eq!(rt; tracker.can_stamp(ONE), unknown);
+    assert_eq!(rt; status(&tracker, ZERO).response, full);
+    assert_eq!(rt; respond(&mut tracker, ZERO, PhaseType::Priority), full);
+    assert_eq!(rt; status(&tracker, ZERO).stamp, Ok(()));
+    Ok(())
+}
+
+#[test]
+fn unknown_server(rt: HostRuntime) -> Result<(), Fail> {
+    let mut tracker = ServiceTracker::new(rt.alloc(), 1, 1, Counting::All)?;
+    let unknown = ServerStatus {
+        sent: None,
+        pending: None,
+        stamp: Err(TrackFault::NoServer),
+        response: Err(TrackFault::NoServer),
+    };
+    assert_eq!(rt; status(&tracker, ONE), unknown);
+    assert_eq!(rt; stamp(&mut tracker, ONE), Err(TrackFault::NoServer));
     assert_eq!(rt;
-        tracker.get_req_params(ONE).err(),
-        Some(TrackFault::NoServer)
+        respond(&mut tracker, ONE, PhaseType::Priority),
+        Err(TrackFault::NoServer)
     );
-    assert_eq!(rt; tracker.sent(ONE), None);
-    assert_eq!(rt; tracker.pending(ONE), None);
-    let mut small = ServiceTracker::new(rt.alloc(), 1, 1, Counting::Others)?;
-    assert_eq!(rt; small.can_stamp(ZERO), Ok(()));
-    small.get_req_params(ZERO)?;
-    assert_eq!(rt; small.can_stamp(ZERO), full);
     Ok(())
 }
 

@@ -1,7 +1,7 @@
 //! A server's lock, and clients with a tracker each.
-ghost use Rattle.std.specs.Prelude.{◌≤◌, ◌<◌, map, IfOk, IsTrue, OnOk};
+ghost use Rattle.std.specs.Prelude.{◌≤◌, ◌<◌, length, map, IfOk, IsTrue, OnOk};
 ghost use Rattle.std.specs.List.{AllByRecursion};
-ghost use Rattle.dmc_types.specs.Limits.{most_books};
+ghost use Rattle.dmc_types.specs.Limits.{most_books, most_workers};
 ghost use Rattle.dmc_ledger.specs.Bundles.{Covers, client_side, server_side, stamp_holdings};
 ghost use Rattle.dmc_tlock.specs.Opening.{AreNew};
 ghost use Rattle.dmc_book.specs.Opening.{IsNewDesk};
@@ -150,6 +150,18 @@ fn workers(alloc: Global, count: u32) -> Result<Vec<WorkerId>, Fault> {
         .map_err(|_| Fault::Memory)
 }
 
+/// How a queue is set up, and its workers.
+fn config_and_workers(alloc: Global, count: u32) -> Result<(QueueConfig, Vec<WorkerId>), Fault>
+    ensures { IfOk result (λ made. length made.1.items ≤ most_workers) }
+{
+    let config = QueueConfig::new(u64::from(HZ), 1, 1, AtLimit::Wait).map_err(|_| Fault::Usage)?;
+    let workers = workers(alloc, count)?;
+    if workers.len() > MOST as usize {
+        return Err(Fault::Usage);
+    }
+    Ok((config, workers))
+}
+
 /// The lock of a server with these desks, and the passes of its workers.
 pub fn open_lock<S: Setup>(
     alloc: Global,
@@ -159,11 +171,7 @@ pub fn open_lock<S: Setup>(
 ) -> Result<(Lock<S>, Vec<WorkerPass<S>>), Fault>
     requires { AllByRecursion (IsNewDesk 0) (map client_side desks.items) }
 {
-    let config = QueueConfig::new(u64::from(HZ), 1, 1, AtLimit::Wait).map_err(|_| Fault::Usage)?;
-    let workers = workers(alloc, count)?;
-    if workers.len() > MOST as usize {
-        return Err(Fault::Usage);
-    }
+    let (config, workers) = config_and_workers(alloc, count)?;
     match QueueBook::new(
         alloc,
         config,

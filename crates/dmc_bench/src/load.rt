@@ -14,6 +14,7 @@ use dmc_plain::queue::PlainQueue;
 use dmc_pull::queue::PullQueue;
 use dmc_ratio::ratio::RatioTag;
 use dmc_tag::rank::TagRank;
+use dmc_tag::scheduler::Scheduler;
 use dmc_tick::tick::TickTag;
 use dmc_types::config::{AtLimit, QueueConfig};
 use std::marker::Brand;
@@ -144,26 +145,31 @@ pub fn run_load<R: Threads + Wait + Sync>(
 fn run_queue(rt: &HostRuntime, load: Load) -> Result<u64, Fault> {
     let config = QueueConfig::new(HZ as u64, 1, 1, AtLimit::Wait).map_err(|_| Fault::Usage)?;
     match load.kind {
+        Kind::PlainQueue => {
+            let mut queue: PlainQueue<TickTag> = PlainQueue::new(rt.alloc(), config);
+            serve_queue(rt, &mut queue, load)
+        }
         Kind::ListQueue => {
             let mut queue: PullQueue<TickTag, ListIndexes> = PullQueue::new(rt.alloc(), config);
             serve_queue(rt, &mut queue, load)
         }
-        Kind::HeapQueue => {
-            let mut queue: PullQueue<TickTag, HeapIndexes> = PullQueue::new(rt.alloc(), config);
-            serve_queue(rt, &mut queue, load)
-        }
-        Kind::DeepQueue => {
-            let mut queue: PullQueue<TickTag, HeapIndexes> = PullQueue::new(rt.alloc(), config);
-            serve_deep(rt, &mut queue, load)
-        }
-        Kind::LoneQueue => {
-            let mut queue: PullQueue<TickTag, HeapIndexes> = PullQueue::new(rt.alloc(), config);
-            serve_alone(rt, &mut queue, load)
-        }
         _ => {
-            let mut queue: PlainQueue<TickTag> = PlainQueue::new(rt.alloc(), config);
-            serve_queue(rt, &mut queue, load)
+            let mut queue: PullQueue<TickTag, HeapIndexes> = PullQueue::new(rt.alloc(), config);
+            run_on_heaps(rt, &mut queue, load)
         }
+    }
+}
+
+/// Runs a load of a queue over heaps.
+fn run_on_heaps<Q: Scheduler<TickTag>>(
+    rt: &HostRuntime,
+    queue: &mut Q,
+    load: Load,
+) -> Result<u64, Fault> {
+    match load.kind {
+        Kind::DeepQueue => serve_deep(rt, queue, load),
+        Kind::LoneQueue => serve_alone(rt, queue, load),
+        _ => serve_queue(rt, queue, load),
     }
 }
 

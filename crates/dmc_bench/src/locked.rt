@@ -74,10 +74,29 @@ pub fn serve_locked<S: Setup, R: Wait>(
     let mut mint = blank.open::<S>();
     let Clients { desks, mut clients } = open_clients(rt.alloc(), &mut mint, load.clients)?;
     let (lock, mut passes) = open_lock(rt.alloc(), &mut mint, desks, 1)?;
-    let Some(mut pass) = passes.pop() else {
+    serve_by_one(
+        rt,
+        waiter,
+        &lock,
+        passes.as_mut_slice(),
+        clients.as_mut_slice(),
+        load,
+    )
+}
+
+/// The first pass serves all batches.
+fn serve_by_one<S: Setup, R: Wait>(
+    rt: &HostRuntime,
+    waiter: &R,
+    lock: &Lock<S>,
+    passes: &mut [WorkerPass<S>],
+    clients: &mut [Client<S>],
+    load: Load,
+) -> Result<u64, Fault> {
+    let Some(pass) = passes.first_mut() else {
         return Err(Fault::Usage);
     };
-    let taken = serve_batches(rt, waiter, &lock, &mut pass, clients.as_mut_slice(), load)?;
+    let taken = serve_batches(rt, waiter, lock, pass, clients, load)?;
     tell_parts(rt, load, taken)
 }
 

@@ -39,11 +39,22 @@ pub fn serve_shared<S: Setup + Send + Sync, R: Threads + Wait + Sync>(
     let (lock, passes) = open_lock(rt.alloc(), &mut mint, desks, load.clients)?;
     let requests = load.rounds.checked_div(load.clients).unwrap_or(0);
     let mut jobs = jobs_of(rt.alloc(), passes, clients, requests)?;
-    register(threads, &lock, jobs.as_mut_slice(), load.clients)?;
+    serve_jobs(rt, threads, &lock, jobs.as_mut_slice(), load)
+}
+
+/// Registers the clients, and has all jobs done.
+fn serve_jobs<S: Setup + Send + Sync, R: Threads + Wait + Sync>(
+    rt: &HostRuntime,
+    threads: &R,
+    lock: &Lock<S>,
+    jobs: &mut [Job<S>],
+    load: Load,
+) -> Result<u64, Fault> {
+    register(threads, lock, jobs, load.clients)?;
     let begun = start(rt)?;
-    work_all(threads, &lock, jobs.as_mut_slice());
+    work_all(threads, lock, jobs);
     tell(rt, "request", load.rounds, add_since(rt, begun, 0)?)?;
-    Ok(granted_in(jobs.as_slice()))
+    Ok(granted_in(jobs))
 }
 
 /// A job for each worker.

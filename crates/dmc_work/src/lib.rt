@@ -5,7 +5,6 @@
 ghost use Rattle.std.specs.Prelude.{◌≡◌, ◌<◌, IfOk, All, vec_len};
 ghost use Rattle.dmc_work.specs.Plan.{generator, word, planned, IsBelow};
 
-
 use dmc_types::ids::{ClientId, ServerId};
 use rand_core::utils::NextWord;
 use rand_pcg::Lcg64Xsh32;

@@ -2,7 +2,6 @@
 ghost use Rattle.std.specs.Prelude.{◌≡◌};
 ghost use Rattle.std.specs.Result.{result_ok};
 ghost use Rattle.dmc_front.specs.Front.{opening_with, Shows, FrontSteps, clients_in, requests_in};
-ghost use Rattle.dmc_pull.specs.Queue.{state_of};
 ghost use Rattle.dmc_tag.specs.Steps.{Steps};
 
 use crate::fraction::{AsFraction, TagFraction, in_fractions};

@@ -8,8 +8,10 @@ use Rattle.dmc_types.specs.declared.config.PhaseType.{PhaseType}
 use Rattle.dmc_types.specs.declared.refusal.Refusal.{Refusal}
 use Rattle.dmc_types.specs.declared.command.Command.{Command}
 use Rattle.dmc_types.specs.declared.command.Command.TheVariants.{Register, Update, Add, Pull, Remove, Clean}
-use Rattle.dmc_tag.specs.Tag.{Tagging}
-use Rattle.dmc_tag.specs.State.{State, StandsFor}
+use Rattle.dmc_tag.specs.Tag.{Tagging, Fraction, IsExact}
+use Rattle.dmc_tag.specs.State.{State, StandsFor, effective}
+use Rattle.dmc_tag.specs.Laws.{Pulls}
+use Rattle.dmc_types.specs.declared.refusal.Refusal.TheVariants.{Range}
 use Rattle.dmc_tag.specs.Outcome.{◌>>=◌}
 use Rattle.dmc_tag.specs.Rules.{Outcome, can_register, can_update, can_add, can_remove}
 use Rattle.dmc_tag.specs.Step.{step, answer_of}
@@ -18,7 +20,7 @@ use Rattle.dmc_tag.specs.Answers.{pull_reply}
 use Rattle.dmc_tag.specs.declared.reply.Pulled.{Pulled}
 use Rattle.dmc_tag.specs.declared.reply.Reply.{Reply}
 use Rattle.dmc_tag.specs.declared.reply.Reply.TheVariants.{Registered, Updated, Tagged, Granted, Later, Nothing, Removed, Cleaned, Refused}
-use Rattle.dmc_tag.proofs.ForCallers.{steps_exactly, steps_agree}
+use Rattle.dmc_tag.proofs.ForCallers.{pull_grants, steps_exactly, steps_agree}
 use Rattle.dmc_ledger.specs.Bundles.{ClientSide, GrantHoldings, client_side}
 use Rattle.dmc_ledger.specs.declared.desk.ClientDesk.{ClientDesk}
 use Rattle.dmc_pull.specs.Allowed.{is_allowed, PullsIf}
@@ -44,8 +46,28 @@ module _ {T : Type 0} (ops : Tagging T) (order : IsTotalOrder ops.compare) (allo
   pub pull_answers : (pulled : Pulled) → PullsIf allows ops old new at (Ok pulled) → Asks ops allows old new (Pull at) (Ok (pull_reply pulled))
   pull_answers pulled h = (steps_exactly ops order old new (Pull at) (Some (pull_reply pulled)) h.0, h.1, λ s. true≢false (sym h.1 ∙ s))
 
-  pub pull_refused : (refusal : Refusal) → PullsIf allows ops old new at (Err (pull.Refused refusal)) → Asks ops allows old new (Pull at) (Ok (Refused refusal))
+  pull_refused : (refusal : Refusal) → PullsIf allows ops old new at (Err (pull.Refused refusal)) → Asks ops allows old new (Pull at) (Ok (Refused refusal))
   pull_refused refusal h = (steps_exactly ops order old new (Pull at) (Some (Refused refusal)) h, refl, λ s. true≢false s)
+
+-- a pull is refused for Range alone
+
+is_range : {T : Type 0} (ops : Tagging T) (t : ℕ) (old new : State T) (reply : Reply T) → Pulls ops t old new reply → (refusal : Refusal) → reply ≡ Refused refusal → refusal ≡ Range
+is_range ops t old new Registered h refusal e = absurd h
+is_range ops t old new Updated h refusal e = absurd h
+is_range ops t old new (Tagged tags) h refusal e = absurd h
+is_range ops t old new (Granted client token phase beyond) h refusal e = absurd cc
+is_range ops t old new (Later m) h refusal e = absurd cc
+is_range ops t old new Nothing h refusal e = absurd cc
+is_range ops t old new (Removed count) h refusal e = absurd h
+is_range ops t old new (Cleaned idled erased) h refusal e = absurd h
+is_range ops t old new (Refused other) h refusal e = let same : other ≡ refusal = cc in sym same ∙ h.0
+
+module _ {T : Type 0} (ops : Tagging T) (fraction : T → Fraction) (is_value : Fraction → Type 0) (exact : IsExact ops fraction is_value) (order : IsTotalOrder ops.compare) (allows : ClientId → PhaseType → Bool) (old new : State T) (at : ℕ) where
+  pub pull_out_of_range : (refusal : Refusal) → PullsIf allows ops old new at (Err (pull.Refused refusal)) → Asks ops allows old new (Pull at) (Ok (Refused Range))
+  pull_out_of_range refusal h =
+      let reply : (step ops old (Pull at)).1 ≡ Refused refusal = ap (λ p. p.1) (sym h) in
+      subst (λ r. Asks ops allows old new (Pull at) (Ok (Refused r))) (is_range ops (effective old at) old _ _ (pull_grants ops fraction is_value exact order old at) refusal reply)
+      (pull_refused ops order allows old new at refusal h)
 
 -- ---- a command that is no pull grants nothing
 

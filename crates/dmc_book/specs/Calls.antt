@@ -5,11 +5,14 @@ use Rattle.dmc_types.specs.declared.ids.ClientId.{ClientId}
 use Rattle.dmc_types.specs.declared.config.PhaseType.{PhaseType}
 use Rattle.dmc_types.specs.declared.command.Command.{Command}
 use Rattle.dmc_types.specs.declared.command.Command.TheVariants.{Register, Update, Add, Pull, Remove, Clean}
+use Rattle.dmc_types.specs.declared.refusal.Refusal.TheVariants.{Range}
 use Rattle.dmc_tag.specs.Tag.{Tagging}
 use Rattle.dmc_tag.specs.State.{State}
 use Rattle.dmc_tag.specs.Step.{step}
 use Rattle.dmc_tag.specs.Steps.{Steps}
 use Rattle.dmc_tag.specs.Replay.{after}
+use Rattle.dmc_tag.specs.Answers.{pull_reply}
+use Rattle.dmc_tag.specs.declared.reply.Pulled.{Pulled}
 use Rattle.dmc_tag.specs.declared.event.Event.{Event}
 use Rattle.dmc_tag.specs.declared.reply.Reply.{Reply}
 use Rattle.dmc_tag.specs.declared.reply.Reply.TheVariants.{Tagged, Refused}
@@ -22,6 +25,8 @@ use Rattle.dmc_tlock.specs.BookState.{StampValue}
 use Rattle.dmc_pull.specs.Allowed.{is_allowed}
 use Rattle.dmc_book.specs.declared.fault.RunFault.{RunFault}
 use Rattle.dmc_book.specs.declared.fault.RunFault.TheVariants as run
+use Rattle.dmc_book.specs.declared.fault.RunOrRange.{RunOrRange}
+use Rattle.dmc_book.specs.declared.fault.RunOrRange.TheVariants as pull
 use Rattle.dmc_book.specs.declared.fault.SubmitCause.{SubmitCause}
 use Rattle.dmc_book.specs.declared.fault.SubmitCause.TheVariants as submit
 use Rattle.dmc_book.specs.BookState.{BookState, PassState, no_desk}
@@ -97,6 +102,14 @@ SubmitRefused ops old new before later command submit.HistoryFull = (new ≡ old
 SubmitRefused ops old new before later command submit.Memory = (new ≡ old) × (later ≡ before)
 SubmitRefused ops old new before later command (submit.Refused refusal) = Ran ops old new before later command (Refused refusal)
 
+-- ---- pulls
+
+-- The queue answered, if only by Range; or the pull was not handed on, which is never for want of a desk.
+abbrev pub WasPulled : {T : Type 0} → Tagging T → BookState T → BookState T → PassState → PassState → ℕ → Result Pulled RunOrRange → Type 0
+WasPulled ops old new before later at (Ok pulled) = Ran ops old new before later (Pull at) (pull_reply pulled)
+WasPulled ops old new before later at (Err pull.Range) = Ran ops old new before later (Pull at) (Refused Range)
+WasPulled ops old new before later at (Err (pull.Run fault)) = (new ≡ old) × (later ≡ before) × (fault ≡ run.NoDesk → ⊥)
+
 -- ---- what the parts' refusals are called by the book
 
 abbrev pub run_cause : ReserveFault → RunFault
@@ -116,6 +129,12 @@ Asks ops takes old new command (Err run.Stranger) = (new ≡ old) × Strays take
 Asks ops takes old new command (Err run.NoDesk) = ⊥
 Asks ops takes old new command (Err run.HistoryFull) = ⊥
 Asks ops takes old new command (Err run.Memory) = Steps ops old new command None
+
+-- what the queue makes of a pull, as a reply
+abbrev pub asked : {T : Type 0} → Result Pulled RunOrRange → Result (Reply T) RunFault
+asked (Ok pulled) = Ok (pull_reply pulled)
+asked (Err pull.Range) = Ok (Refused Range)
+asked (Err (pull.Run fault)) = Err fault
 
 abbrev pub added_reply : {T : Type 0} → Added T → Option (Reply T)
 added_reply (added.Tagged tags) = Some (Tagged tags)

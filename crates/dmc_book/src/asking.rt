@@ -7,11 +7,11 @@ ghost use Rattle.dmc_tag.specs.declared.reply.Reply.TheVariants as replies;
 ghost use Rattle.dmc_types.specs.declared.command.Command.TheVariants as commands;
 ghost use Rattle.dmc_pull.specs.Queue.{state_of};
 ghost use Rattle.dmc_book.specs.BookState.{pass_state};
-ghost use Rattle.dmc_book.specs.Calls.{Asks, is_add, added_reply};
-ghost use Rattle.dmc_book.specs.Moves.{takes, takes_by};
+ghost use Rattle.dmc_book.specs.Calls.{Asks, added_reply, asked, is_add};
+ghost use Rattle.dmc_book.specs.Moves.{takes};
 
 use crate::desk::UnitTest;
-use crate::fault::RunFault;
+use crate::fault::{RunFault, RunOrRange};
 use crate::pass::WorkerPass;
 use dmc_index::index::Indexes;
 use dmc_ledger::desk::ClientDesk;
@@ -19,7 +19,7 @@ use dmc_ledger::setup::Setup;
 use dmc_pull::granting::PullFault;
 use dmc_pull::queue::PullQueue;
 use dmc_tag::answers;
-use dmc_tag::reply::{Reply, Tags};
+use dmc_tag::reply::{Pulled, Reply, Tags};
 use dmc_tag::scheduler::Scheduler;
 use dmc_tag::tag::Tag;
 use dmc_types::command::Command;
@@ -55,18 +55,37 @@ pub(crate) fn ask_to_add<T: Tag, I: Indexes<T>>(
     }
 }
 
-/// Pulls, where the pass has a till for the grant.
-fn ask_to_pull<T: Tag, I: Indexes<T>, S: Setup>(
+/// Pulls, where the pass has a till for the grant. The pass keeps the place of a granted client's desk.
+pub(crate) fn ask_to_pull<T: Tag, I: Indexes<T>, S: Setup>(
     queue: &mut PullQueue<T, I>,
-    test: &UnitTest<S>,
+    clients: &IndexSet<ClientId>,
+    desks: &[ClientDesk<S>],
+    pass: &WorkerPass<S>,
     at: Moment,
-) -> Result<Reply<T>, RunFault>
-    ensures { Asks T.ops (takes_by test.now.clients.now.keys (map client_side test.now.desks.now) (pass_state test.now.pass.now).clients (pass_state test.now.pass.now).units) (state_of queue.old) (state_of queue.new) (commands.Pull at) result }
+) -> Result<Pulled, RunOrRange>
+    requires { clients.now.keys ≡ map (λ d. d.client) desks.now }
+    ensures { Asks T.ops (takes (map client_side desks.now) (pass_state pass.now).clients (pass_state pass.now).units) (state_of queue.old) (state_of queue.new) (commands.Pull at) (asked result) }
 {
-    match queue.pull_allowed(at, test) {
+    let test = UnitTest {
+        clients,
+        desks,
+        pass,
+    };
+    match queue.pull_allowed(at, &test) {
+        Ok(pulled) => Ok(pulled),
+        Err(PullFault::Refused(refusal)) => Err(RunOrRange::Range),
+        Err(PullFault::Declined) => Err(RunOrRange::Run(RunFault::Stranger)),
+    }
+}
+
+/// What a pull is answered, as a reply.
+pub(crate) fn reply_of<T>(answer: Result<Pulled, RunOrRange>) -> Result<Reply<T>, RunFault>
+    ensures { result ≡ asked answer }
+{
+    match answer {
         Ok(pulled) => Ok(answers::pulled(Ok(pulled))),
-        Err(PullFault::Refused(refusal)) => Ok(Reply::Refused(refusal)),
-        Err(PullFault::Declined) => Err(RunFault::Stranger),
+        Err(RunOrRange::Range) => Ok(Reply::Refused(Refusal::Range)),
+        Err(RunOrRange::Run(fault)) => Err(fault),
     }
 }
 
@@ -83,12 +102,7 @@ pub(crate) fn ask<T: Tag, I: Indexes<T>, S: Setup>(
     ensures { Asks T.ops (takes (map client_side desks.now) (pass_state pass.now).clients (pass_state pass.now).units) (state_of queue.old) (state_of queue.new) command.now result }
 {
     if let Command::Pull { at } = *command {
-        let test = UnitTest {
-            clients,
-            desks,
-            pass,
-        };
-        return ask_to_pull(queue, &test, at);
+        return reply_of(ask_to_pull(queue, clients, desks, pass, at));
     }
     match queue.apply(command) {
         Ok(reply) => Ok(reply),

@@ -25,7 +25,7 @@ use crate::pass::WorkerPass;
 use crate::seat::{Seat, count, is_enrolled};
 use crate::settled::{Settled, are_own, take_passes};
 use crate::status::Status;
-use dmc_history::History;
+use dmc_events::history::EventHistory;
 use dmc_index::index::Indexes;
 use dmc_ledger::bundle::StampTills;
 use dmc_ledger::desk::ClientDesk;
@@ -60,9 +60,9 @@ pub struct QueueBook<T: Tag, I: Indexes<T>, S: Setup> {
     pub(crate) config: QueueConfig,
     pub(crate) server: ServerId,
     pub(crate) queue: Part<PullQueue<T, I>>,
-    pub(crate) history: History<Event<T>>,
+    pub(crate) history: EventHistory<T>,
     pub(crate) workers: Vec<Seat<S>>,
-    clients: IndexSet<ClientId>,
+    pub(crate) clients: IndexSet<ClientId>,
     pub(crate) desks: Vec<ClientDesk<S>>,
     pub(crate) closed: bool,
 }
@@ -301,7 +301,8 @@ impl<T: Tag, I: Indexes<T>, S: Setup> QueueBook<T, I, S> {
                 };
                 count(&mut self.workers, pass.place, &mut pass.tills, &event);
                 take_in(&mut self.desks, desk, tills, client, params, &event);
-                self.history.push_reserved(event);
+                self.history
+                    .push_queued(worker, client, token, params, at, tags);
                 Ok(tags)
             }
             Added::Refused(refusal) => {

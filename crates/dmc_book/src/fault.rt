@@ -39,6 +39,15 @@ impl From<ReserveFault> for RunFault {
     }
 }
 
+/// Why a pull is refused.
+#[derive(Clone, Copy, Debug, PartialEq, Eq)]
+pub enum RunOrRange {
+    /// The pull was not handed to the queue. Nothing has changed.
+    Run(RunFault),
+    /// The rules refuse the pull: a sum is no value of the tag type. This is recorded, as a miss.
+    Range,
+}
+
 /// Why a request was not queued (own).
 #[derive(Clone, Copy, Debug, PartialEq, Eq, Error)]
 pub enum SubmitCause {

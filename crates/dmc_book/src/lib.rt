@@ -11,6 +11,7 @@ mod names;
 mod opening;
 mod parts;
 pub mod pass;
+mod pulling;
 pub mod seat;
 pub mod settled;
 pub mod status;

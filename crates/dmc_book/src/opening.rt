@@ -12,14 +12,13 @@ ghost use Rattle.dmc_book.specs.Rooms.{IsRoom, IsRoomFor};
 use crate::fault::NewFault;
 use crate::pass::WorkerPass;
 use crate::seat::{Seat, WorkerBooks, WorkerTills};
-use dmc_history::History;
+use dmc_events::history::EventHistory;
 use dmc_ledger::book::Book;
 use dmc_ledger::bundle::GrantTills;
 use dmc_ledger::desk::ClientDesk;
 use dmc_ledger::mint::Mint;
 use dmc_ledger::setup::Setup;
 use dmc_ledger::till::Till;
-use dmc_tag::event::Event;
 use dmc_tag::tag::Tag;
 use dmc_types::ids::{ClientId, WorkerId};
 use indexmap::IndexSet;
@@ -159,7 +158,7 @@ fn make_room<S: Setup>(
 /// What a book is made of, before anything is opened.
 #[derive(Drop)]
 pub(crate) struct Parts<T: Tag, S: Setup> {
-    pub(crate) history: History<Event<T>>,
+    pub(crate) history: EventHistory<T>,
     pub(crate) clients: IndexSet<ClientId>,
     pub(crate) room: Room<S>,
 }
@@ -183,7 +182,7 @@ pub(crate) fn make_parts<T: Tag, S: Setup>(
     if !are_limits(workers.len(), desks.len(), left, most) {
         return Err(NewFault::Limit);
     }
-    let Ok(history) = History::new(alloc, most) else {
+    let Ok(history) = EventHistory::new(alloc, most) else {
         unreachable!()
     };
     let clients = name_all(alloc, workers, desks)?;

@@ -8,18 +8,17 @@ ghost use Rattle.dmc_book.specs.Settling.{AreOwn};
 use crate::book::QueueBook;
 use crate::pass::WorkerPass;
 use crate::settled::are_own;
-use dmc_history::History;
+use dmc_events::history::EventHistory;
 use dmc_index::index::Indexes;
 use dmc_ledger::desk::ClientDesk;
 use dmc_ledger::setup::Setup;
-use dmc_tag::event::Event;
 use dmc_tag::tag::Tag;
 use dmc_types::config::QueueConfig;
 use dmc_types::ids::ServerId;
 
 impl<T: Tag, I: Indexes<T>, S: Setup> QueueBook<T, I, S> {
     /// What the queue answered, oldest first. It replays.
-    pub fn history(&self) -> &History<Event<T>>
+    pub fn history(&self) -> &EventHistory<T>
         ensures events { result.now.events ≡ self.now.history }
         ensures most { result.now.most ≡ self.now.most }
         ensures replays { replays T.ops self.now.config self.now.history }

@@ -9,13 +9,12 @@ ghost use Rattle.dmc_book.specs.Settling.{AreDeskUnits, AreOneOpen, AreOwn, AreU
 
 use crate::pass::WorkerPass;
 use crate::seat::{Seat, WorkerBooks, WorkerTills, is_enrolled};
-use dmc_history::History;
+use dmc_events::history::EventHistory;
 use dmc_ledger::book::Book;
 use dmc_ledger::bundle::{GrantBooks, GrantTills};
 use dmc_ledger::desk::ClientDesk;
 use dmc_ledger::setup::Setup;
 use dmc_ledger::till::Till;
-use dmc_tag::event::Event;
 use dmc_tag::tag::Tag;
 use std::alloc::Global;
 use std::mem::replace;
@@ -30,7 +29,7 @@ pub struct GrantsHeld {
 /// What a queue's book leaves: what the queue answered, how many requests were queued, the workers, and the desks.
 #[derive(Drop)]
 pub struct Settled<T: Tag, S: Setup> {
-    pub history: History<Event<T>>,
+    pub history: EventHistory<T>,
     pub left: u32,
     pub workers: Vec<Seat<S>>,
     pub desks: Vec<ClientDesk<S>>,

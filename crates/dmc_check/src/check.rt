@@ -4,8 +4,7 @@ ghost use Rattle.dmc_tag.specs.Replay.{replays};
 ghost use Rattle.dmc_check.specs.Verdicts.{IsVerdict};
 
 use crate::replay::Replay;
-use dmc_history::History;
-use dmc_tag::event::Event;
+use dmc_events::list::EventList;
 use dmc_tag::tag::Tag;
 use dmc_types::config::QueueConfig;
 use std::alloc::{AllocError, Global};
@@ -20,18 +19,18 @@ pub enum Verdict {
 }
 
 /// Replays a history over an indexed queue in the opening state. An error is want of memory.
-pub fn check<T: Tag>(
+pub fn check<T: Tag, L: EventList<T>>(
     alloc: Global,
     config: QueueConfig,
-    history: &History<Event<T>>,
+    history: &L,
 ) -> Result<Verdict, AllocError>
-    ensures verdict { IfOk result (λ v. IsVerdict T.ops config history.now.events v) }
-    ensures exactly { IfOk result (λ v. (v ≡ Verdict.Replays) ↔ replays T.ops config history.now.events) }
+    ensures verdict { IfOk result (λ v. IsVerdict T.ops config (L.events history.now) v) }
+    ensures exactly { IfOk result (λ v. (v ≡ Verdict.Replays) ↔ replays T.ops config (L.events history.now)) }
 {
     let mut replay = Replay::new(alloc, config);
-    for index in 0..history.len() {
-        if let Some(event) = history.at(index) {
-            replay.add(event)?;
+    for index in 0..history.count() {
+        if let Some(event) = history.event_at(index) {
+            replay.add(&event)?;
         }
     }
     Ok(replay.verdict())

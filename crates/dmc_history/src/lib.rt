@@ -116,6 +116,15 @@ impl<E: Drop> History<E> {
         self.most
     }
 
+    /// For how many more events a place is reserved.
+    pub fn room(&self) -> usize
+        ensures value { result ≡ self.now.room }
+        ensures bound { length self.now.events + result ≤ self.now.most }
+    {
+        let places = self.blocks.len().saturating_mul(BLOCK);
+        places.min(self.most as usize) - self.len
+    }
+
     /// The event at an index, counted from 0, or `None` past the end.
     pub fn at(&self, index: usize) -> Option<&E>
         ensures { option_copied result ≡ slice_get self.now.events index }
@@ -150,6 +159,7 @@ impl<E: Drop> History<E> {
     }
 
     /// Puts an event at the end, in a reserved place.
+    #[inline(always)]
     pub fn push_reserved(&mut self, event: E)
         requires { 0 < self.old.room }
         ensures events { self.new.events ≡ self.old.events ++ event ∷ [] }
@@ -157,7 +167,7 @@ impl<E: Drop> History<E> {
         ensures used { self.new.room + 1 ≡ self.old.room }
     {
         let block = &mut self.blocks[self.len / BLOCK];
-        block.push(event).unwrap();
+        block.push_reserved(event);
         self.len += 1;
     }
 

@@ -18,8 +18,8 @@ use Rattle.dmc_book.specs.declared.fault.RunFault.TheVariants as run
 use Rattle.dmc_book.specs.declared.fault.SubmitCause.{SubmitCause}
 use Rattle.dmc_book.specs.declared.fault.SubmitCause.TheVariants as submit
 use Rattle.dmc_book.specs.declared.status.Status.{Status}
-use Rattle.dmc_qlock.specs.declared.fault.RunOrRange.{RunOrRange}
-use Rattle.dmc_qlock.specs.declared.fault.RunOrRange.TheVariants as pull
+use Rattle.dmc_book.specs.declared.fault.RunOrRange.{RunOrRange}
+use Rattle.dmc_book.specs.declared.fault.RunOrRange.TheVariants as pull
 
 -- ---- commands through the lock
 
@@ -61,30 +61,6 @@ PullAnswered ops before later at (Ok pulled) = Answered ops before later (Pull a
 PullAnswered ops before later at (Err pull.Range) = Answered ops before later (Pull at) (Refused Range)
 PullAnswered ops before later at (Err (pull.Run fault)) = (later ≡ before) × (fault ≡ run.NoDesk → ⊥)
 
--- the same of the book behind the lock
-abbrev pub WasPulled : {T : Type 0} → Tagging T → BookState T → BookState T → PassState → PassState → ℕ → Result Pulled RunOrRange → Type 0
-WasPulled ops old new before later at (Ok pulled) = Ran ops old new before later (Pull at) (pull_reply pulled)
-WasPulled ops old new before later at (Err pull.Range) = Ran ops old new before later (Pull at) (Refused Range)
-WasPulled ops old new before later at (Err (pull.Run fault)) = (new ≡ old) × (later ≡ before) × (fault ≡ run.NoDesk → ⊥)
-
 -- nothing is queued, and the book is open
 abbrev pub must_wait : {T : Type 0} → Tagging T → BookState T → Bool
 must_wait ops b = (length (after ops b.config b.history).requests == 0) && not b.closed
-
--- what a pull may be answered
-abbrev pub IsPullReply : {T : Type 0} → Reply T → Type 0
-IsPullReply Registered = ⊥
-IsPullReply Updated = ⊥
-IsPullReply (Tagged tags) = ⊥
-IsPullReply (Granted client token phase beyond) = ⊤
-IsPullReply (Later m) = ⊤
-IsPullReply Nothing = ⊤
-IsPullReply (Removed count) = ⊥
-IsPullReply (Cleaned idled erased) = ⊥
-IsPullReply (Refused refusal) = refusal ≡ Range
-
--- the reply of a pull that the queue answered
-abbrev pub pull_told : {T : Type 0} → Result Pulled RunOrRange → Option (Reply T)
-pull_told (Ok pulled) = Some (pull_reply pulled)
-pull_told (Err pull.Range) = Some (Refused Range)
-pull_told (Err (pull.Run fault)) = None

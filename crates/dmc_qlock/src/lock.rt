@@ -180,7 +180,7 @@ impl<T: Tag, I: Indexes<T>, S: Setup> Locked<QueueBook<T, I, S>> {
     ) -> Result<Pulled, RunOrRange>
         ensures { PullAnswered T.ops (pass_state pass.old) (pass_state pass.new) at result }
     {
-        pulling::pull(&mut self.guarded.lock(rt).book, pass, at)
+        self.guarded.lock(rt).book.pull(pass, at)
     }
 
     /// Waits, recording nothing, while nothing is queued and the book isn't closed, and then pulls once. Where something is

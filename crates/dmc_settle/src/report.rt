@@ -1,8 +1,7 @@
 //! What a run of a cluster tells.
 
 use dmc_book::settled::GrantsHeld;
-use dmc_history::History;
-use dmc_tag::event::Event;
+use dmc_events::history::EventHistory;
 use dmc_tag::tag::Tag;
 use dmc_tlock::settled::StampsHeld;
 use dmc_types::ids::{ClientId, ServerId};
@@ -58,7 +57,7 @@ pub struct ServerReport<T: Tag> {
     /// The units of grants that were left in its workers' passes: granted, and not responded.
     pub held: GrantsHeld,
     /// All that its queue answered, in order.
-    pub history: History<Event<T>>,
+    pub history: EventHistory<T>,
     /// Why its workers stopped, those that did.
     pub stops: Vec<StopCause>,
 }

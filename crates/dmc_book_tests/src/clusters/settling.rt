@@ -4,7 +4,7 @@ ghost use Rattle.std.specs.Prelude.{◌≡◌, ◌≤◌};
 use super::playing::play;
 use super::setup::{BOOKS, Cluster, open_cluster, scene};
 use dmc_book::settled::GrantsHeld;
-use dmc_history::History;
+use dmc_events::history::EventHistory;
 use dmc_ledger::mint::{Blank, Mint};
 use dmc_ledger::setup::Setup;
 use dmc_scene::scene::Scene;
@@ -43,7 +43,7 @@ fn server_row(alloc: Global, server: u32) -> Result<ServerReport<TickTag>, Fail>
         priority: 0,
         left: 0,
         held: GrantsHeld::default(),
-        history: History::new(alloc, 9)?,
+        history: EventHistory::new(alloc, 9)?,
         stops,
     })
 }

@@ -12,8 +12,8 @@ use crate::threads::Senders;
 use dmc_book::book::QueueBook;
 use dmc_book::pass::WorkerPass;
 use dmc_book::settled::GrantsHeld;
+use dmc_events::history::EventHistory;
 use dmc_heap::indexed_heap::HeapIndexes;
-use dmc_history::History;
 use dmc_ledger::mint::Mint;
 use dmc_ledger::setup::Setup;
 use dmc_qlock::lock::{Locked, QueueLock};
@@ -157,7 +157,7 @@ fn new_row<T: Tag>(
             reservation: 0,
             priority: 0,
         },
-        history: History::new(alloc, limits.events()).unwrap(),
+        history: EventHistory::new(alloc, limits.events()).unwrap(),
         stops,
     })
 }

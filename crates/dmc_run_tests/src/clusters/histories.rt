@@ -3,7 +3,7 @@ use super::setup::{Prompt, done, three_servers};
 use dmc_driver::moments::StepClock;
 use dmc_driver::run::run_cluster;
 use dmc_driver::service::{Job, ServeFault, Service};
-use dmc_history::History;
+use dmc_events::history::EventHistory;
 use dmc_scene::scene::{Scene, read_scene};
 use dmc_tag::event::Event;
 use dmc_tag::reply::Reply;
@@ -52,12 +52,12 @@ fn are_in_place(
     rt: &impl Abort,
     plans: &[Vec<ServerId>],
     server: ServerId,
-    history: &History<Event<TickTag>>,
+    history: &EventHistory<TickTag>,
 ) {
     for i in 0..history.len() {
         let event = history.at(i);
         assert!(rt;
-            event.is_some_and(|event| is_in_place(plans, server, event)),
+            event.is_some_and(|event| is_in_place(plans, server, &event)),
             "at {i}"
         );
     }
@@ -123,7 +123,7 @@ fn seen_with(seen: Seen, event: &Event<TickTag>) -> Option<Seen> {
 }
 
 /// All that a history told. It is in order, and no more than 3 requests are queued at once.
-fn seen_in(rt: &impl Abort, history: &History<Event<TickTag>>) -> Seen {
+fn seen_in(rt: &impl Abort, history: &EventHistory<TickTag>) -> Seen {
     let mut seen = Seen {
         added: 0,
         granted: 0,
@@ -131,7 +131,7 @@ fn seen_in(rt: &impl Abort, history: &History<Event<TickTag>>) -> Seen {
         last_pull: None,
     };
     for i in 0..history.len() {
-        let next = history.at(i).and_then(|event| seen_with(seen, event));
+        let next = history.at(i).and_then(|event| seen_with(seen, &event));
         assert!(rt; next.is_some(), "at {i}");
         seen = next.unwrap_or(seen);
         assert!(rt; seen.added <= seen.granted.saturating_add(3), "at {i}");

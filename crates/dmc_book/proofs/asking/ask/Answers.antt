@@ -5,13 +5,14 @@ use Rattle.dmc_pull.specs.Queue.{state_of}
 use Rattle.dmc_book.specs.BookState.{pass_state}
 use Rattle.dmc_book.specs.Calls.{Asks}
 use Rattle.dmc_book.specs.Moves.{takes}
-use Rattle.dmc_book.proofs.AskLemmas.{asks_by_desks, no_pull}
+use Rattle.dmc_book.proofs.AskLemmas.{no_pull}
 use Rattle.dmc_book.proofs.asking.ask.Goals as goal
 
 pub returns-in-Pull : goal.returns-in-Pull
 returns-in-Pull g c =
-    subst (λ command. Asks g.T.Tag.ops (takes (map client_side c.args.desks.now) (pass_state c.args.pass.now).clients (pass_state c.args.pass.now).units) (state_of c.args.queue.now) (state_of c.ask_to_pull.new.queue) command c.ask_to_pull.result) (sym c.in-Pull.is)
-    (asks_by_desks c.args.clients.now.keys c.args.desks.now (pass_state c.args.pass.now).clients (pass_state c.args.pass.now).units c.requires.named g.T.Tag.ops (state_of c.args.queue.now) (state_of c.ask_to_pull.new.queue) (Pull c.in-Pull.at) c.ask_to_pull.result c.ask_to_pull.ensures)
+    let allows = takes (map client_side c.args.desks.now) (pass_state c.args.pass.now).clients (pass_state c.args.pass.now).units in
+    subst (λ command. Asks g.T.Tag.ops allows (state_of c.args.queue.now) (state_of c.ask_to_pull.new.queue) command c.reply_of.result) (sym c.in-Pull.is)
+    (subst (Asks g.T.Tag.ops allows (state_of c.args.queue.now) (state_of c.ask_to_pull.new.queue) (Pull c.in-Pull.at)) (sym c.reply_of.ensures) c.ask_to_pull.ensures)
 
 pub returns-in-Ok : goal.returns-in-Ok
 returns-in-Ok g c =

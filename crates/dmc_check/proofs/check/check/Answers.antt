@@ -10,7 +10,7 @@ pub loop-index-preserved : goal.loop-index-preserved
 loop-index-preserved g c =
     let ops = g.T.Tag.ops in
     let config = c.args.config in
-    let all = c.args.history.now.events in
+    let all = g.L.EventList.events c.args.history.now in
     let i = c.loop-index.index in
     elim c.match-at.branch [
       | in-Some+in_ok-add w ↦
@@ -24,13 +24,13 @@ loop-index-preserved g c =
 
 pub returns-clause-verdict : goal.returns-clause-verdict
 returns-clause-verdict g c =
-    let all = c.args.history.now.events in
+    let all = g.L.EventList.events c.args.history.now in
     let past : length all ≤ c.loop-index.index = omega arith in
     subst (IsVerdict g.T.Tag.ops c.args.config all) (sym c.verdict.ensures) (verdict_is g.T.Tag.ops c.args.config all c.loop-index.index c.loop-index.replay past c.loop-index.invariant)
 
 pub returns-clause-exactly : goal.returns-clause-exactly
 returns-clause-exactly g c =
-    let all = c.args.history.now.events in
+    let all = g.L.EventList.events c.args.history.now in
     let past : length all ≤ c.loop-index.index = omega arith in
     let verdict = subst (IsVerdict g.T.Tag.ops c.args.config all) (sym c.verdict.ensures) (verdict_is g.T.Tag.ops c.args.config all c.loop-index.index c.loop-index.replay past c.loop-index.invariant) in
     replays_exactly g.T.Tag.ops c.args.config all c.verdict.result verdict

@@ -4,4 +4,4 @@ use Rattle.dmc_check.specs.Verdicts.{Stands}
 use Rattle.dmc_check.proofs.check.check.Given as goal
 
 abbrev pub invariant-loop-index : goal.invariant-loop-index
-invariant-loop-index g l = Stands g.T.Tag.ops l.fn.config (take l.index l.history.events) l.replay
+invariant-loop-index g l = Stands g.T.Tag.ops l.fn.config (take l.index (g.L.EventList.events l.history)) l.replay

@@ -34,8 +34,8 @@ invariant_of-self-in-Tagged g c =
     let command = Add c.client-client.result c.args.token c.params-params.result c.args.at in
     let e = event_of c.args.pass.now.worker.0 command (Tagged c.in-Tagged.tags) in
     let asked = subst (λ a. Steps g.T.Tag.ops (queue.state_of c.self.inside.queue.0) (queue.state_of c.ask_to_add.new.queue) command (added_reply a)) c.in-Tagged.is c.ask_to_add.ensures in
-    let events : c.push_reserved.new.self.events ≡ c.self.inside.history.events ++ e ∷ [] = c.push_reserved.ensures.events ∙ ap (λ es. es ++ e ∷ []) c.reserve_one.ensures.events in
-    let most : c.push_reserved.new.self.most ≡ c.self.inside.history.most = c.push_reserved.ensures.most ∙ c.reserve_one.ensures.most in
+    let events : c.push_queued.new.self.events ≡ c.self.inside.history.events ++ e ∷ [] = c.push_queued.ensures.events ∙ ap (λ es. es ++ e ∷ []) c.reserve_one.ensures.events in
+    let most : c.push_queued.new.self.most ≡ c.self.inside.history.most = c.push_queued.ensures.most ∙ c.reserve_one.ensures.most in
     rw (events, most, c.count.ensures.workers, c.take_in.ensures.desks) (
       consistent_more g.T.Tag.ops (queue.state_of c.self.inside.queue.0) (queue.state_of c.ask_to_add.new.queue) _ e c.count.ensures.small tt c.self.invariant.0 asked,
       c.self.invariant.1 ∙ sym c.take_in.ensures.names,
@@ -46,8 +46,8 @@ invariant_of-self-in-Refused g c =
     let command = Add c.client-client.result c.args.token c.params-params.result c.args.at in
     let e = event_of c.args.pass.now.worker.0 command (Refused c.in-Refused.refusal) in
     let asked = subst (λ a. Steps g.T.Tag.ops (queue.state_of c.self.inside.queue.0) (queue.state_of c.ask_to_add.new.queue) command (added_reply a)) c.in-Refused.is c.ask_to_add.ensures in
-    let events : c.push_reserved-in-Refused.new.self.events ≡ c.self.inside.history.events ++ e ∷ [] = c.push_reserved-in-Refused.ensures.events ∙ ap (λ es. es ++ e ∷ []) c.reserve_one.ensures.events in
-    let most : c.push_reserved-in-Refused.new.self.most ≡ c.self.inside.history.most = c.push_reserved-in-Refused.ensures.most ∙ c.reserve_one.ensures.most in
+    let events : c.push_reserved.new.self.events ≡ c.self.inside.history.events ++ e ∷ [] = c.push_reserved.ensures.events ∙ ap (λ es. es ++ e ∷ []) c.reserve_one.ensures.events in
+    let most : c.push_reserved.new.self.most ≡ c.self.inside.history.most = c.push_reserved.ensures.most ∙ c.reserve_one.ensures.most in
     let desks = all_stay e refl refl (map client_side c.self.inside.desks.items) in
     let b : BookState g.row.T.Denot = state_of c.self.inside.config c.self.inside.server.0 c.self.inside.history (map worker_side c.self.inside.workers.items) (map client_side c.self.inside.desks.items) c.self.inside.closed in
     rw (events, most, c.count-in-Refused.ensures.workers) (
@@ -70,11 +70,11 @@ returns-in-Refused-clause-refused g c =
     let command = Add c.client-client.result c.args.token c.params-params.result c.args.at in
     let e = event_of c.args.pass.now.worker.0 command (Refused c.in-Refused.refusal) in
     let asked = subst (λ a. Steps g.T.Tag.ops (queue.state_of c.self.inside.queue.0) (queue.state_of c.ask_to_add.new.queue) command (added_reply a)) c.in-Refused.is c.ask_to_add.ensures in
-    let events : c.push_reserved-in-Refused.new.self.events ≡ c.self.inside.history.events ++ e ∷ [] = c.push_reserved-in-Refused.ensures.events ∙ ap (λ es. es ++ e ∷ []) c.reserve_one.ensures.events in
-    let most : c.push_reserved-in-Refused.new.self.most ≡ c.self.inside.history.most = c.push_reserved-in-Refused.ensures.most ∙ c.reserve_one.ensures.most in
+    let events : c.push_reserved.new.self.events ≡ c.self.inside.history.events ++ e ∷ [] = c.push_reserved.ensures.events ∙ ap (λ es. es ++ e ∷ []) c.reserve_one.ensures.events in
+    let most : c.push_reserved.new.self.most ≡ c.self.inside.history.most = c.push_reserved.ensures.most ∙ c.reserve_one.ensures.most in
     let desks = all_stay e refl refl (map client_side c.self.inside.desks.items) in
     let b : BookState g.row.T.Denot = state_of c.self.inside.config c.self.inside.server.0 c.self.inside.history (map worker_side c.self.inside.workers.items) (map client_side c.self.inside.desks.items) c.self.inside.closed in
-    let new : BookState g.row.T.Denot = state_of c.self.inside.config c.self.inside.server.0 c.push_reserved-in-Refused.new.self (map worker_side c.count-in-Refused.new.workers.items) (map client_side c.self.inside.desks.items) c.self.inside.closed in
+    let new : BookState g.row.T.Denot = state_of c.self.inside.config c.self.inside.server.0 c.push_reserved.new.self (map worker_side c.count-in-Refused.new.workers.items) (map client_side c.self.inside.desks.items) c.self.inside.closed in
     let later : PassState = record (pass_state c.args.pass.now) { tills = worker_holdings c.count-in-Refused.new.tills } in
     let ran : Ran g.T.Tag.ops b new (pass_state c.args.pass.now) later command (Refused c.in-Refused.refusal) = record {
       reply_is = reply_after g.T.Tag.ops (queue.state_of c.self.inside.queue.0) (queue.state_of c.ask_to_add.new.queue) b command (Refused c.in-Refused.refusal) c.self.invariant.0 asked;

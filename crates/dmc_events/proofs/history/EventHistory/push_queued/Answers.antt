@@ -1,0 +1,12 @@
+use Rattle.std.proofs.Common.{◌≡◌, arith}
+use Rattle.dmc_events.proofs.Adding.{events_at-push, kept-push}
+use Rattle.dmc_events.proofs.history.EventHistory.push_queued.Goals as goal
+
+pub invariant_of-self : goal.invariant_of-self
+invariant_of-self g c =
+    let reserved = rw (← c.self.view_is) at c.requires in
+    kept-push _ _ _ _ _ _ _ c.self.invariant c.push_queued-place.ensures c.push_reserved.ensures.events c.push_reserved.ensures.most c.push_reserved.ensures.used reserved
+
+pub returns-clause-events : goal.returns-clause-events
+returns-clause-events g c =
+    rw (← c.self.view_is) (events_at-push _ _ _ _ _ _ c.self.invariant.found c.push_queued-place.ensures c.push_reserved.ensures.events)

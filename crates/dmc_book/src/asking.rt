@@ -38,6 +38,7 @@ pub(crate) enum Added<T> {
 }
 
 /// Hands an add to the queue. The client is looked for at a place in order of registration first.
+#[inline(always)]
 pub(crate) fn ask_to_add<T: Tag, I: Indexes<T>>(
     queue: &mut PullQueue<T, I>,
     near: usize,
@@ -56,6 +57,7 @@ pub(crate) fn ask_to_add<T: Tag, I: Indexes<T>>(
 }
 
 /// Pulls, where the pass has a till for the grant. The pass keeps the place of a granted client's desk.
+#[inline(always)]
 pub(crate) fn ask_to_pull<T: Tag, I: Indexes<T>, S: Setup>(
     queue: &mut PullQueue<T, I>,
     clients: &IndexSet<ClientId>,

@@ -72,6 +72,7 @@ pub(crate) fn grant_in<T: Copy>(reply: &Reply<T>) -> Option<(ClientId, PhaseType
 }
 
 /// What an event of this command and this reply adds.
+#[inline(always)]
 pub(crate) fn numbers_of<T: Copy>(command: &Command, reply: &Reply<T>) -> Numbers
     ensures value { result ≡ counts.numbers_of command.now reply.now }
     ensures small { counts.IsSmall result }

@@ -86,6 +86,7 @@ fn grant_number<S: Setup>(books: &GrantBooks<S>, phase: PhaseType) -> u32
 }
 
 /// Issues a unit of a phase.
+#[inline(always)]
 fn issue_unit<S: Setup>(books: &mut GrantBooks<S>, unit: &mut GrantTills<S>, phase: PhaseType)
     requires its { (till_in phase (grant_holdings unit.old)).number ≡ (book_in phase (grant_accounts books.old)).number }
     requires fits { total_of (book_in phase (grant_accounts books.old)) ≤ 2 ^ 62 }
@@ -100,6 +101,7 @@ fn issue_unit<S: Setup>(books: &mut GrantBooks<S>, unit: &mut GrantTills<S>, pha
 
 /// Issues the unit of a grant at the desk of its client, and into the till where the pass names the client, who is looked for
 /// near by first.
+#[inline(always)]
 pub(crate) fn hand_out<T: Copy, S: Setup>(
     names: &IndexSet<ClientId>,
     near: usize,
@@ -125,6 +127,7 @@ pub(crate) fn hand_out<T: Copy, S: Setup>(
 }
 
 /// Issues a unit of a phase at the place of a desk.
+#[inline(always)]
 fn hand_out_at<T: Copy, S: Setup>(
     desks: &mut Vec<ClientDesk<S>>,
     units: &mut Vec<GrantTills<S>>,
@@ -157,6 +160,7 @@ fn are_alike<S: Setup>(tills: &StampTills<S>, held: &StampTills<S>) -> bool
 
 /// The place of the desk of a stamp's client, where the stamp is for this server and the tills are of the books of that
 /// desk's stamps. It is looked for where one was found last.
+#[inline(always)]
 pub(crate) fn find_stamps<S: Setup>(
     clients: &IndexSet<ClientId>,
     desks: &[ClientDesk<S>],
@@ -184,6 +188,7 @@ pub(crate) fn find_stamps<S: Setup>(
 }
 
 /// Moves a stamp, its delta and its rho into the held tills of a desk.
+#[inline(always)]
 fn take_stamp<S: Setup>(held: &mut StampTills<S>, tills: &mut StampTills<S>, params: ReqParams)
     requires its { AreAlike (stamp_holdings tills.old) (stamp_holdings held.old) }
     requires covers { Covers (stamp_holdings tills.old) params }
@@ -198,6 +203,7 @@ fn take_stamp<S: Setup>(held: &mut StampTills<S>, tills: &mut StampTills<S>, par
 }
 
 /// Moves the stamp of an accepted add to the desk of its client.
+#[inline(always)]
 pub(crate) fn take_in<T: Copy, S: Setup>(
     desks: &mut Vec<ClientDesk<S>>,
     place: usize,

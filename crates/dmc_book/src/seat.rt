@@ -89,6 +89,7 @@ impl<S: Setup> Seat<S> {
 }
 
 /// Adds to a book and to its till.
+#[inline(always)]
 pub(crate) fn credit<S: Setup>(book: &mut Book<S>, till: &mut Till<S>, amount: u32)
     requires its { till.old.number ≡ book.old.number }
     requires fits { total_of book.old ≤ 2 ^ 62 }
@@ -101,6 +102,7 @@ pub(crate) fn credit<S: Setup>(book: &mut Book<S>, till: &mut Till<S>, amount: u
 }
 
 /// Adds to the five books and to their tills.
+#[inline(always)]
 fn credit_all<S: Setup>(books: &mut WorkerBooks<S>, tills: &mut WorkerTills<S>, numbers: Numbers)
     requires its { AreOf (worker_holdings tills.old) (worker_accounts books.old) }
     requires fits { AreWithin (2 ^ 62) (worker_accounts books.old) }
@@ -126,6 +128,7 @@ pub(crate) fn are_of<S: Setup>(tills: &WorkerTills<S>, books: &WorkerBooks<S>) -
 }
 
 /// Whether the pass is of a worker that is enrolled, and its tills are of that worker's books.
+#[inline(always)]
 pub(crate) fn is_enrolled<S: Setup>(workers: &[Seat<S>], pass: &WorkerPass<S>) -> bool
     ensures { IsTrue result ↔ IsEnrolled (map worker_side workers.now) (pass_state pass.now) }
 {
@@ -136,6 +139,7 @@ pub(crate) fn is_enrolled<S: Setup>(workers: &[Seat<S>], pass: &WorkerPass<S>) -
 }
 
 /// Counts an event in the books and the tills of its worker.
+#[inline(always)]
 pub(crate) fn count<T: Copy, S: Setup>(
     workers: &mut Vec<Seat<S>>,
     place: usize,

@@ -6,4 +6,6 @@ mod events;
 #[cfg(test)]
 mod lines;
 #[cfg(test)]
+mod recorded;
+#[cfg(test)]
 mod scenes;

@@ -12,11 +12,11 @@ loop-index-preserved g c =
     let config = c.args.config in
     let all = g.L.EventList.events c.args.history.now in
     let i = c.loop-index.index in
-    elim c.match-at.branch [
+    elim c.match-event_at.branch [
       | in-Some+in_ok-add w ↦
-          let at : slice_get all i ≡ Some w.in-Some.event.now = sym w.in-Some.ensures in
+          let at : slice_get all i ≡ Some w.in-Some.event = sym w.in-Some.ensures in
           let next = w.in_ok-add.ensures.stands config (take i all) c.loop-index.invariant in
-          subst (Stands ops config (take (i + 1) all)) (sym w.replay-is) (stands_next ops config all i w.in-Some.event.now w.add.new.self at next)
+          subst (Stands ops config (take (i + 1) all)) (sym w.replay-is) (stands_next ops config all i w.in-Some.event w.add.new.self at next)
       | in_default w ↦
           let at : None ≡ slice_get all i = w.in_default.ensures in
           absurd (none_within all i (omega arith) (sym at))

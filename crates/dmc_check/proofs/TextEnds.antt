@@ -13,7 +13,7 @@ use Rattle.dmc_text.specs.declared.script.ScriptFault.{ScriptFault}
 use Rattle.dmc_text.specs.declared.script.ScriptFault.TheVariants as faults
 use Rattle.dmc_text.specs.declared.walk.Walk.{Walk}
 use Rattle.dmc_text.specs.Reading.{most_bytes}
-use Rattle.dmc_text.specs.Walks.{GoesThrough, IsFault, Ending, EndsAs}
+use Rattle.dmc_text.specs.Walks.{GoesThrough, IsFault, Ending, Halt, EndsAs}
 use Rattle.dmc_text.proofs.RunEnds.{of_text, of_read}
 use Rattle.dmc_check.specs.declared.check.Verdict.{Verdict}
 use Rattle.dmc_check.specs.declared.replay.Replay.{Replay}
@@ -44,13 +44,15 @@ on_text (Some text) P Q f h = f text h
 module _ {T : Type 0} (ops : Tagging T) (made : ℤ → ℕ → Option T) where
   -- ---- events
 
-  told_holds : (recorded : Option (Recorded T)) (old new : Replay T) (event : Event T) → ((config : Setting) (events : List (Event T)) → Stands ops config events old → Stands ops config (events ++ event ∷ []) new)
+  told_holds : (recorded : Option (Recorded T)) (old new : Replay T) (event : Event T)
+      → ((config : Setting) (events : List (Event T)) → Stands ops config events old → Stands ops config (events ++ event ∷ []) new)
       → Holds ops recorded (Some old) → Holds ops (with_line recorded (event_lines.Event event)) (Some new)
   told_holds None old new event f h = absurd h
   told_holds (Some r) old new event f h = f r.config r.events h
 
   -- an event is replayed
-  pub told_on : {X E : Type 0} (result : Result X E) (old new : Replay T) (event : Event T) → ((config : Setting) (events : List (Event T)) → Stands ops config events old → OnOk result (Stands ops config (events ++ event ∷ []) new))
+  pub told_on : {X E : Type 0} (result : Result X E) (old new : Replay T) (event : Event T)
+      → ((config : Setting) (events : List (Event T)) → Stands ops config events old → OnOk result (Stands ops config (events ++ event ∷ []) new))
       → OnOk result ((recorded : Option (Recorded T)) → Holds ops recorded (Some old) → Holds ops (with_line recorded (event_lines.Event event)) (Some new))
   told_on (Ok x) old new event f = λ recorded h. told_holds recorded old new event f h
   told_on (Err e) old new event f = tt
@@ -123,7 +125,8 @@ module _ {T : Type 0} (ops : Tagging T) (made : ℤ → ℕ → Option T) where
 
   -- ---- the verdict
 
-  verdict_in : (text : List ℕ) (replay : Option (Replay T)) (recorded : Recorded T) (checked : Checked) → record_of made text ≡ Ok recorded → length text ≤ most_bytes → Holds ops (Some recorded) replay
+  verdict_in : (text : List ℕ) (replay : Option (Replay T)) (recorded : Recorded T) (checked : Checked) → record_of made text ≡ Ok recorded → length text ≤ most_bytes
+      → Holds ops (Some recorded) replay
       → IsChecked replay checked → HasVerdict ops made text checked.verdict checked.events
   verdict_in text None recorded checked e within h is = absurd h
   verdict_in text (Some replay) recorded checked e within h is = record {
@@ -141,63 +144,58 @@ module _ {T : Type 0} (ops : Tagging T) (made : ℤ → ℕ → Option T) where
 
   -- ---- texts
 
-  module _ (first : Checking T) (opens : Holds ops None first.replay) (input output r w : Option (List ℕ)) (last : Checking T) (walk : Walk) where
-    abbrev Ended : Option (ℕ × LineCause) → Type 0
-    Ended fault = Ending takes refuses headed fault first input output last r w walk.out.items
+  module _ (first : Checking T) (opens : Holds ops None first.replay) where
+    module _ {input output r w : Option (List ℕ)} {last : Checking T} {pending : List ℕ} where
+      found : {fault : Option (ℕ × LineCause)} (e : Ending takes refuses headed fault first input output last r w pending) (more : List ℕ) → (IsAtEnd r → more ≡ [])
+          → Found fault last (record_of made (e.read ++ more))
+      found {fault} e more end =
+          let (others, split, is_fault) = e.ends more end in
+          let b = behind None 1 first last e.lines e.answers e.goes opens in
+          let number : 1 + length e.lines ≡ suc (length e.lines) = omega arith in
+          subst (Found fault last) (sym (ap (with_lines made None 1) split ∙ b.goes_on others ∙ ap (λ k. with_lines made b.after k others) number))
+          (found_left b.after (suc (length e.lines)) last others fault b.holds is_fault)
 
-    found : (fault : Option (ℕ × LineCause)) (e : Ended fault) (more : List ℕ) → (IsAtEnd r → more ≡ []) → Found fault last (record_of made (e.read ++ more))
-    found fault e more end =
-        let (others, split, is_fault) = e.ends more end in
-        let b = behind None 1 first last e.lines e.answers e.goes opens in
-        let number : 1 + length e.lines ≡ suc (length e.lines) = omega arith in
-        subst (Found fault last) (sym (ap (with_lines made None 1) split ∙ b.goes_on others ∙ ap (λ k. with_lines made b.after k others) number))
-        (found_left b.after (suc (length e.lines)) last others fault b.holds is_fault)
+      found_read : {fault : Option (ℕ × LineCause)} (e : Ending takes refuses headed fault first input output last r w pending) → Found fault last (record_of made e.read)
+      found_read {fault} e = of_read r e.read (λ text. Found fault last (record_of made text)) (found e)
 
-    found_read : (fault : Option (ℕ × LineCause)) (e : Ended fault) → Found fault last (record_of made e.read)
-    found_read fault e = of_read r e.read (λ text. Found fault last (record_of made text)) (found fault e)
+      ended_silent : {fault : Option (ℕ × LineCause)} → Ending takes refuses headed fault first input output last r w pending → Appends output w []
+      ended_silent e = nothing_sent output w e.sent pending e.answers e.sends e.out (behind None 1 first last e.lines e.answers e.goes opens).silent
 
-    ended_silent : (fault : Option (ℕ × LineCause)) → Ended fault → Appends output w []
-    ended_silent fault e = nothing_sent output w e.sent walk.out.items e.answers e.sends e.out (behind None 1 first last e.lines e.answers e.goes opens).silent
+      text_verdict : (checked : Checked) → Ending takes refuses headed None first input output last r w pending → IsAtEnd r → IsChecked last.replay checked
+          → IfSome input (λ text. HasVerdict ops made text checked.verdict checked.events)
+      text_verdict checked e end is = Consumes-whole input r e.read _ e.reads.0 end (has_verdict e.read last (record_of made e.read) checked refl e.reads.1 (found_read e) is)
 
-    text_verdict : (checked : Checked) → Ended None → IsAtEnd r → IsChecked last.replay checked → IfSome input (λ text. HasVerdict ops made text checked.verdict checked.events)
-    text_verdict checked e end is = Consumes-whole input r e.read _ e.reads.0 end (has_verdict e.read last (record_of made e.read) checked refl e.reads.1 (found_read None e) is)
+      -- a text without a fault has an hz line
+      pub text_headed : Ending takes refuses headed None first input output last r w pending → is_some last.replay ≡ true
+      text_headed e = by_found (record_of made e.read) last.replay (found_read e)
+        where
+          by_found : (found : Result (Recorded T) (ℕ × LineCause)) (replay : Option (Replay T)) → Found None (record { replay = replay }) found → is_some replay ≡ true
+          by_found (Ok recorded) None h = absurd h
+          by_found (Ok recorded) (Some replay) h = refl
+          by_found (Err fault) replay h = absurd h
 
-    -- a text without a fault has an hz line
-    pub text_headed : Ended None → is_some last.replay ≡ true
-    text_headed e = by_found (record_of made e.read) last.replay (found_read None e)
-      where
-        by_found : (found : Result (Recorded T) (ℕ × LineCause)) (replay : Option (Replay T)) → Found None (record { replay = replay }) found → is_some replay ≡ true
-        by_found (Ok recorded) None h = absurd h
-        by_found (Ok recorded) (Some replay) h = refl
-        by_found (Err fault) replay h = absurd h
+    halt_silent : {most : ℕ} {input output r w : Option (List ℕ)} {pending : List ℕ} (h : Halt takes most first input output r w pending) → (h.took.answers ≡ []) × Keeps output w
+    halt_silent {output = output} {w = w} {pending = pending} h =
+        let none = (behind None 1 first h.last h.took.lines h.took.answers h.took.goes opens).silent in
+        (none, kept output w (nothing_sent output w h.sent (pending ++ h.dropped) h.took.answers h.sends h.out none))
 
-    -- the walk failed
-    pub ends_early : (fault : ScriptFault) → EndsAs takes refuses headed first input output last r w walk (Err fault) → ChecksAs ops made input r output w (Err fault)
-    ends_early (faults.Line n cause) e = (
-      (e.read, e.reads, found_read (Some (n, cause)) e),
-      of_text input r e.read e.reads.0 (λ text. record_of made text ≡ Err (n, cause)) (found (Some (n, cause)) e),
-      kept output w (ended_silent (Some (n, cause)) e),
-    )
-    ends_early faults.Read h =
-        let b = behind None 1 first h.last h.lines h.answers h.goes opens in
-        ((h.done ++ h.rest, h.reads), kept output w (nothing_sent output w h.sent (walk.out.items ++ h.dropped) h.answers h.sends h.out b.silent))
-    ends_early faults.Memory h =
-        let b = behind None 1 first h.last h.lines h.answers h.goes opens in
-        ((h.done ++ h.rest, h.reads), kept output w (nothing_sent output w h.sent (walk.out.items ++ h.dropped) h.answers h.sends h.out b.silent))
-    ends_early faults.Write (h, some) =
-        let b = behind None 1 first h.last h.lines h.answers h.goes opens in
-        absurd (omega (arith, some, ap length b.silent))
+    module _ (input output r w : Option (List ℕ)) (last : Checking T) (walk : Walk) where
+      -- the walk failed
+      pub ends_early : (fault : ScriptFault) → EndsAs takes refuses headed first input output last r w walk (Err fault) → ChecksAs ops made input r output w (Err fault)
+      ends_early (faults.Line n cause) e = ((e.read, e.reads, found_read e), of_text input r e.read e.reads.0 (λ text. record_of made text ≡ Err (n, cause)) (found e), kept output w (ended_silent e))
+      ends_early faults.Read h = ((h.done ++ h.rest, h.reads), (halt_silent h).1)
+      ends_early faults.Memory h = ((h.done ++ h.rest, h.reads), (halt_silent h).1)
+      ends_early faults.Write (h, some) = absurd (omega (arith, some, ap length (halt_silent h).0))
 
-    -- the walk came to the end, and then the verdict is written
-    pub checks_as : (w' : Option (List ℕ)) (checked : Checked) (result : Result Verdict ScriptFault) → EndsAs takes refuses headed first input output last r w walk (Ok tt) → IsChecked last.replay checked
-        → WritesVerdict w w' checked result → ChecksAs ops made input r output w' result
-    checks_as w' checked (Ok v) (end, e) is (same, app) =
-        let verdict : (text : List ℕ) → HasVerdict ops made text checked.verdict checked.events → HasVerdict ops made text v checked.events = λ text h. subst (λ x. HasVerdict ops made text x checked.events) (sym same) h in
-        let writes : Appends output w' (verdict_text v checked.events) = subst (λ x. Appends output w' (verdict_text x checked.events)) (sym same) (Appends-trans output w w' [] _ (ended_silent None e) app) in
-        (end, on_text input _ _ (λ text h. (checked.events, verdict text h, writes)) (text_verdict checked e end is))
-    checks_as w' checked (Err faults.Write) (end, e) is (sent, unsent, app, parts) =
-        let writes : Appends output w' sent = Appends-trans output w w' [] sent (ended_silent None e) app in
-        (end, on_text input _ _ (λ text h. (checked.verdict, checked.events, h, (sent, unsent, writes, parts))) (text_verdict checked e end is))
-    checks_as w' checked (Err faults.Memory) (end, e) is keeps = ((e.read, e.reads), kept output w' (Appends-kept output w w' [] (ended_silent None e) keeps))
-    checks_as w' checked (Err faults.Read) e is never = absurd never
-    checks_as w' checked (Err (faults.Line n cause)) e is never = absurd never
+      -- the walk came to the end, and then the verdict is written
+      pub checks_as : (w' : Option (List ℕ)) (checked : Checked) (result : Result Verdict ScriptFault) → EndsAs takes refuses headed first input output last r w walk (Ok tt)
+          → IsChecked last.replay checked → WritesVerdict w w' checked result → ChecksAs ops made input r output w' result
+      checks_as w' checked (Ok v) (end, e) is (same, app) =
+          let writes : Appends output w' (verdict_text checked.verdict checked.events) = Appends-trans output w w' [] _ (ended_silent e) app in
+          subst (λ x. ChecksAs ops made input r output w' (Ok x)) (sym same) (end, on_text input _ _ (λ text h. (checked.events, h, writes)) (text_verdict checked e end is))
+      checks_as w' checked (Err faults.Write) (end, e) is (sent, unsent, app, parts) =
+          let writes : Appends output w' sent = Appends-trans output w w' [] sent (ended_silent e) app in
+          (end, on_text input _ _ (λ text h. (checked.verdict, checked.events, h, (sent, unsent, writes, parts))) (text_verdict checked e end is))
+      checks_as w' checked (Err faults.Memory) (end, e) is keeps = ((e.read, e.reads), kept output w' (Appends-kept output w w' [] (ended_silent e) keeps))
+      checks_as w' checked (Err faults.Read) e is never = absurd never
+      checks_as w' checked (Err (faults.Line n cause)) e is never = absurd never

@@ -13,7 +13,7 @@ use Rattle.dmc_text.specs.declared.script.ScriptFault.TheVariants as ends
 use Rattle.dmc_text.specs.declared.walk.Walk.{Walk}
 use Rattle.dmc_text.specs.Lines.{line_of}
 use Rattle.dmc_text.specs.Reading.{most_bytes}
-use Rattle.dmc_text.specs.Texts.{and_on, fault_or, headed_by, lines_of, commands, written, first_fault, fault_of, whole_lines, out, AppendsSome, ReadsWithin, RunsAs}
+use Rattle.dmc_text.specs.Texts.{and_on, fault_or, headed_by, lines_of, commands, written, first_fault, fault_of, whole_lines, out, AppendsSome, ReadsWithin, RunsPartly, RunsAs}
 use Rattle.dmc_text.specs.LineLaws.{whole_on}
 use Rattle.dmc_text.specs.Walks.{GoesThrough, IsFault, Ending, Halt, EndsAs}
 use Rattle.dmc_text.specs.Runs.{Answers, settled_of}
@@ -32,7 +32,8 @@ pub of_read : (r : Option (List ℕ)) (read : List ℕ) (P : List ℕ → Type 0
 of_read r read P f = subst P (append-nil read) (f [] (λ end. refl))
 
 -- a first part of what is pending is written
-more_sent : (output w w' : Option (List ℕ)) (sent pending dropped bytes : List ℕ) → Appends output w sent → AppendsSome w w' pending → sent ++ (pending ++ dropped) ≡ bytes → AppendsSome output w' bytes
+more_sent : (output w w' : Option (List ℕ)) (sent pending dropped bytes : List ℕ) → Appends output w sent → AppendsSome w w' pending → sent ++ (pending ++ dropped) ≡ bytes
+    → AppendsSome output w' bytes
 more_sent output w w' sent pending dropped bytes h (part, unsent, app, parts) e = (
   sent ++ part,
   unsent ++ dropped,
@@ -56,7 +57,8 @@ module _ {T S : Type 0} (ops : Tagging T) (text : T → List ℕ) (seen : S → 
   rest_text s lines = written ops text (seen s) (commands (headed s) lines)
 
   -- behind lines that are not faulty, the first fault is that of the rest
-  fault_behind : (s t : S) (lines more : List (List ℕ)) (answers : List ℕ) (n : ℕ) → GoesThrough takes s lines answers t → first_fault (headed s) n (lines ++ more) ≡ first_fault (headed t) (n + length lines) more
+  fault_behind : (s t : S) (lines more : List (List ℕ)) (answers : List ℕ) (n : ℕ) → GoesThrough takes s lines answers t
+      → first_fault (headed s) n (lines ++ more) ≡ first_fault (headed t) (n + length lines) more
   fault_behind s t [] more answers n (same, none) =
       let number : n ≡ n + 0 = omega arith in
       ap (λ x. first_fault (headed x) n more) (sym same) ∙ ap (λ k. first_fault (headed t) k more) number
@@ -79,7 +81,8 @@ module _ {T S : Type 0} (ops : Tagging T) (text : T → List ℕ) (seen : S → 
       ∙ ap (λ w. w ++ rest_text t more) (sym parts)
 
   -- the fault of what is left is the first one, and nothing is written for it
-  fault_left : (t : S) (n : ℕ) (others : List (List ℕ)) (fault : Option (ℕ × LineCause)) → IsFault refuses headed t n others fault → (first_fault (headed t) n others ≡ fault) × (rest_text t others ≡ [])
+  fault_left : (t : S) (n : ℕ) (others : List (List ℕ)) (fault : Option (ℕ × LineCause)) → IsFault refuses headed t n others fault
+      → (first_fault (headed t) n others ≡ fault) × (rest_text t others ≡ [])
   fault_left t n [] None e = (ap (λ b. first_fault b n []) e, refl)
   fault_left t n [] (Some (m, cause)) (number, hz, e) = (ap (λ b. first_fault b n []) e ∙ ap (λ k. Some (k, Hz)) (sym number) ∙ ap (λ c. Some (m, c)) (sym hz), refl)
   fault_left t n (line ∷ others) None e = absurd e
@@ -95,19 +98,14 @@ module _ {T S : Type 0} (ops : Tagging T) (text : T → List ℕ) (seen : S → 
     out_behind bytes lines others answers t split g =
         ap (λ s. written ops text s (commands (is_some s) (lines_of bytes))) (sym opens) ∙ ap (rest_text first) split ∙ text_behind first t lines others answers g
 
-    module _ (input output r w w' : Option (List ℕ)) (last : S) (pending : List ℕ) where
-      abbrev Ended : Option (ℕ × LineCause) → Type 0
-      Ended fault = Ending takes refuses headed fault first input output last r w pending
+    -- the fault of the text, and what is written for it
+    abbrev Told : Option (ℕ × LineCause) → List ℕ → List ℕ → Type 0
+    Told fault answers bytes = (fault_of bytes ≡ fault) × (out ops text bytes ≡ answers)
 
-      abbrev Halted : ℕ → Type 0
-      Halted most = Halt takes most first input output r w pending
-
-      -- the fault of the text, and what is written for it
-      abbrev Told : Option (ℕ × LineCause) → List ℕ → List ℕ → Type 0
-      Told fault answers bytes = (fault_of bytes ≡ fault) × (out ops text bytes ≡ answers)
-
-      told : (fault : Option (ℕ × LineCause)) (e : Ended fault) (more : List ℕ) → (IsAtEnd r → more ≡ []) → Told fault (e.sent ++ pending) (e.read ++ more)
-      told fault e more end =
+    module _ {input output r w : Option (List ℕ)} {last : S} {pending : List ℕ} where
+      told : {fault : Option (ℕ × LineCause)} (e : Ending takes refuses headed fault first input output last r w pending) (more : List ℕ) → (IsAtEnd r → more ≡ [])
+          → Told fault (e.sent ++ pending) (e.read ++ more)
+      told {fault} e more end =
           let (others, split, is_fault) = e.ends more end in
           let left = fault_left last (suc (length e.lines)) others fault is_fault in
           let number : 1 + length e.lines ≡ suc (length e.lines) = omega arith in (
@@ -119,45 +117,41 @@ module _ {T S : Type 0} (ops : Tagging T) (text : T → List ℕ) (seen : S → 
             out_behind (e.read ++ more) e.lines others e.answers last split e.goes ∙ ap (λ w. e.answers ++ w) left.1 ∙ append-nil e.answers ∙ sym e.out,
           )
 
-      told_read : (fault : Option (ℕ × LineCause)) (e : Ended fault) → Told fault (e.sent ++ pending) e.read
-      told_read fault e = of_read r e.read (Told fault (e.sent ++ pending)) (told fault e)
+      told_read : {fault : Option (ℕ × LineCause)} (e : Ending takes refuses headed fault first input output last r w pending) → Told fault (e.sent ++ pending) e.read
+      told_read {fault} e = of_read r e.read (Told fault (e.sent ++ pending)) (told e)
 
       -- what is pending is written
-      all_sent : (fault : Option (ℕ × LineCause)) (e : Ended fault) (bytes : List ℕ) → Told fault (e.sent ++ pending) bytes → Appends w w' pending → (fault_of bytes ≡ fault) × Appends output w' (out ops text bytes)
-      all_sent fault e bytes t app = (t.0, subst (Appends output w') (sym t.1) (Appends-trans output w w' e.sent pending e.sends app))
+      all_sent : {fault : Option (ℕ × LineCause)} (w' : Option (List ℕ)) (e : Ending takes refuses headed fault first input output last r w pending) (bytes : List ℕ)
+          → Told fault (e.sent ++ pending) bytes → Appends w w' pending → (fault_of bytes ≡ fault) × Appends output w' (out ops text bytes)
+      all_sent w' e bytes t app = (t.0, subst (Appends output w') (sym t.1) (Appends-trans output w w' e.sent pending e.sends app))
 
       -- or a first part of it
-      some_sent : (fault : Option (ℕ × LineCause)) → Ended fault → AppendsSome w w' pending → (read : List ℕ) × ReadsWithin most_bytes input r read × AppendsSome output w' (out ops text read)
-      some_sent fault e app = (e.read, e.reads, more_sent output w w' e.sent pending [] (out ops text e.read) e.sends app (ap (λ o. e.sent ++ o) (append-nil pending) ∙ sym (told_read fault e).1))
+      some_sent : {fault : Option (ℕ × LineCause)} (w' : Option (List ℕ)) → Ending takes refuses headed fault first input output last r w pending → AppendsSome w w' pending
+          → RunsPartly ops text input r output w'
+      some_sent w' e app =
+          (e.read, e.reads, more_sent output w w' e.sent pending [] (out ops text e.read) e.sends app (ap (λ o. e.sent ++ o) (append-nil pending) ∙ sym (told_read e).1))
 
-      halt_sent : (most : ℕ) (h : Halted most) (more : List ℕ) → AppendsSome w w' pending → AppendsSome output w' (out ops text (h.done ++ more))
-      halt_sent most h more app =
-          let rest : List ℕ = rest_text h.last (lines_of more) in
-          more_sent output w w' h.sent pending (h.dropped ++ rest) (out ops text (h.done ++ more)) h.sends app
-          (ap (λ o. h.sent ++ o) (sym (append_assoc pending h.dropped rest))
-          ∙ sym (append_assoc h.sent (pending ++ h.dropped) rest)
-          ∙ ap (λ o. o ++ rest) h.out
-          ∙ sym (out_behind (h.done ++ more) h.lines (lines_of more) h.answers h.last (h.split more) h.goes))
-
-      partly_sent : Halted most_bytes → AppendsSome w w' pending → (read : List ℕ) × ReadsWithin most_bytes input r read × AppendsSome output w' (out ops text read)
-      partly_sent h app = (h.done ++ h.rest, h.reads, halt_sent most_bytes h h.rest app)
+    -- what is written for the lines that were taken, and for more
+    halt_sent : {most : ℕ} {input output r w : Option (List ℕ)} {pending : List ℕ} (w' : Option (List ℕ)) (h : Halt takes most first input output r w pending) (more : List ℕ)
+        → AppendsSome w w' pending → AppendsSome output w' (out ops text (h.done ++ more))
+    halt_sent {output = output} {w = w} {pending = pending} w' h more app =
+        let rest : List ℕ = rest_text h.last (lines_of more) in
+        more_sent output w w' h.sent pending (h.dropped ++ rest) (out ops text (h.done ++ more)) h.sends app
+        (ap (λ o. h.sent ++ o) (sym (append_assoc pending h.dropped rest))
+        ∙ sym (append_assoc h.sent (pending ++ h.dropped) rest)
+        ∙ ap (λ o. o ++ rest) h.out
+        ∙ sym (out_behind (h.done ++ more) h.took.lines (lines_of more) h.took.answers h.last (h.took.split more) h.took.goes))
 
     pub runs_as : (input output r w w' : Option (List ℕ)) (last : S) (walk : Walk) (result : Result ⊤ ScriptFault) (b : Bool) → EndsAs takes refuses headed first input output last r w walk result
         → (b ≡ true → Appends w w' walk.out.items) → AppendsSome w w' walk.out.items → RunsAs ops text input r output w' (settled_of result b)
     runs_as input output r w w' last walk (Ok x) true (end, e) all some =
-        let sent = all_sent input output r w w' last walk.out.items None e e.read (told_read input output r w w' last walk.out.items None e) (all refl) in
+        let sent = all_sent w' e e.read (told_read e) (all refl) in
         (end, Consumes-whole input r e.read _ e.reads.0 end (e.reads.1, sent.0, sent.1))
-    runs_as input output r w w' last walk (Ok x) false (end, e) all some = some_sent input output r w w' last walk.out.items None e some
-    runs_as input output r w w' last walk (Err (ends.Line n cause)) true e all some = (
-      (e.read, e.reads, (told_read input output r w w' last walk.out.items (Some (n, cause)) e).0),
-      of_text input r e.read e.reads.0 _
-          (λ more end. all_sent input output r w w' last walk.out.items (Some (n, cause)) e (e.read ++ more) (told input output r w w' last walk.out.items (Some (n, cause)) e more end) (all refl)),
-    )
-    runs_as input output r w w' last walk (Err (ends.Line n cause)) false e all some = some_sent input output r w w' last walk.out.items (Some (n, cause)) e some
-    runs_as input output r w w' last walk (Err ends.Read) b h all some = (
-      h.done ++ h.rest,
-      h.reads,
-      subst (λ i. AppendsSome output w' (out ops text i)) (sym (whole_on h.done h.rest h.whole)) (halt_sent input output r w w' last walk.out.items (suc most_bytes) h (whole_lines h.rest) some),
-    )
-    runs_as input output r w w' last walk (Err ends.Write) b h all some = partly_sent input output r w w' last walk.out.items h.0 some
-    runs_as input output r w w' last walk (Err ends.Memory) b h all some = partly_sent input output r w w' last walk.out.items h some
+    runs_as input output r w w' last walk (Ok x) false (end, e) all some = some_sent w' e some
+    runs_as input output r w w' last walk (Err (ends.Line n cause)) true e all some =
+        ((e.read, e.reads, (told_read e).0), of_text input r e.read e.reads.0 _ (λ more end. all_sent w' e (e.read ++ more) (told e more end) (all refl)))
+    runs_as input output r w w' last walk (Err (ends.Line n cause)) false e all some = some_sent w' e some
+    runs_as input output r w w' last walk (Err ends.Read) b h all some =
+        (h.done ++ h.rest, h.reads, subst (λ i. AppendsSome output w' (out ops text i)) (sym (whole_on h.done h.rest h.took.whole)) (halt_sent w' h (whole_lines h.rest) some))
+    runs_as input output r w w' last walk (Err ends.Write) b (h, answers) all some = (h.done ++ h.rest, h.reads, halt_sent w' h h.rest some)
+    runs_as input output r w w' last walk (Err ends.Memory) b h all some = (h.done ++ h.rest, h.reads, halt_sent w' h h.rest some)

@@ -11,33 +11,38 @@ use Rattle.dmc_text.specs.declared.script.ScriptFault.{ScriptFault}
 use Rattle.dmc_text.specs.declared.script.ScriptFault.TheVariants as faults
 use Rattle.dmc_text.specs.declared.walk.Walk.{Walk}
 use Rattle.dmc_text.specs.Reading.{Reading, most_bytes, next_line}
-use Rattle.dmc_text.specs.Texts.{lines_of, whole_lines, ReadsWithin}
-use Rattle.dmc_text.specs.Walks.{GoesThrough, IsCut, Starts, Feeds, Fails, Finds, FindsLine, TakesLine, Takes, TakesRest, TakesLast, end_result, IsFault, Ending, Halt, EndsAs}
+use Rattle.dmc_text.specs.Texts.{lines_of, has_end}
+use Rattle.dmc_text.specs.Walks.{GoesThrough, TakesWhole, IsCut, Starts, Feeds, Fails, Finds, FindsLine, TakesLine, Takes, TakesRest, TakesLast, end_result, IsFault, Ending, Halt, EndsAs}
 use Rattle.dmc_text.specs.LineLaws.{first_line, no_line, line_first, lines_behind, leads, last_line, whole_on, ends_whole, behind_line, line_and_more, shorter}
 
 -- how much is left to do at most: what may be read yet counts twice, and what is read and not handed out once
 abbrev pub work_left : Walk → ℕ
 work_left walk = 2 * (most_bytes - walk.lines.taken) + length walk.lines.rest
 
--- Bytes that are these lines, each with its LF, are taken, from the first state on. What is to be written for them is written,
--- or is left to be.
+-- Whole lines are taken, from the first state on. What is to be written for them is written, or is left to be.
 pub record Progress {S : Type 0} (takes : S → List ℕ → List ℕ → S → Type 0) (first : S) (input output r w : Option (List ℕ)) (walk : Walk) (s : S) : Type 0 where
   pub done : List ℕ
-  pub lines : List (List ℕ)
-  pub answers : List ℕ
+  pub took : TakesWhole takes first done s
   pub sent : List ℕ
-  pub goes : GoesThrough takes first lines answers s
-  pub split : (more : List ℕ) → lines_of (done ++ more) ≡ lines ++ lines_of more
-  pub whole : whole_lines done ≡ done
   pub reads : Consumes input r (done ++ walk.lines.rest)
   pub taken : length (done ++ walk.lines.rest) ≡ walk.lines.taken
   pub within : walk.lines.taken ≤ most_bytes
   pub sends : Appends output w sent
-  pub out : sent ++ walk.out.items ≡ answers
-  pub number : walk.number ≡ suc (length lines)
+  pub out : sent ++ walk.out.items ≡ took.answers
+  pub number : walk.number ≡ suc (length took.lines)
   pub counted : walk.number + length walk.lines.rest ≤ walk.lines.taken + 1
 
+-- less is left to do once a line is taken
+pub less_left : {S : Type 0} {takes : S → List ℕ → List ℕ → S → Type 0} {s t : S} {r w r' w' : Option (List ℕ)} {old found new : Walk} → FindsLine r w old r' w' found → TakesLine takes s found t new
+    → work_left new < work_left old
+less_left {found = found} f k =
+    let less = shorter f.between.lines.rest found.lines f.found in
+    let fed-is = ap length f.feeds.rest ∙ length-append _ f.feeds.bytes in
+    omega (arith, f.feeds.within, f.feeds.taken, f.taken, less, fed-is, ap (λ x. length x.rest) k.lines, ap (λ x. x.taken) k.lines)
+
 module _ {S : Type 0} (takes : S → List ℕ → List ℕ → S → Type 0) where
+  -- ---- lines
+
   -- these lines, and then those
   goes_both : (s m t : S) (lines more : List (List ℕ)) (answers others : List ℕ) → GoesThrough takes s lines answers m → GoesThrough takes m more others t
       → GoesThrough takes s (lines ++ more) (answers ++ others) t
@@ -48,35 +53,6 @@ module _ {S : Type 0} (takes : S → List ℕ → List ℕ → S → Type 0) whe
 
   goes_one : (s t : S) (line answer : List ℕ) → takes s line answer t → GoesThrough takes s (line ∷ []) answer t
   goes_one s t line answer took = (t, answer, [], took, (refl, refl), sym (append-nil answer))
-
-  -- less is left to do once a line is taken
-  pub less_left : (s t : S) (r w r' w' : Option (List ℕ)) (old found new : Walk) → FindsLine r w old r' w' found → TakesLine takes s found t new → work_left new < work_left old
-  less_left s t r w r' w' old found new f k =
-      let less = shorter f.between.lines.rest found.lines f.found in
-      let fed-is : length f.between.lines.rest ≡ length old.lines.rest + length f.feeds.bytes = ap length f.feeds.rest ∙ length-append old.lines.rest f.feeds.bytes in
-      let len-is : length new.lines.rest ≡ length found.lines.rest = ap (λ x. length x.rest) k.lines in
-      let taken-is : new.lines.taken ≡ f.between.lines.taken = ap (λ x. x.taken) k.lines ∙ f.taken in
-      omega (arith, f.feeds.within, f.feeds.taken, less, fed-is, len-is, taken-is)
-
-  pub begins : (s : S) (r w : Option (List ℕ)) (walk : Walk) → Starts walk → Progress takes s r w r w walk s
-  begins s r w walk h =
-      let none : length walk.lines.rest ≡ 0 = ap length h.rest in
-      record {
-        done = [];
-        lines = [];
-        answers = [];
-        sent = [];
-        goes = (refl, refl);
-        split = λ more. refl;
-        whole = refl;
-        reads = subst (Consumes r r) (sym h.rest) (Consumes-nil r);
-        taken = none ∙ sym h.taken;
-        within = omega (arith, h.taken);
-        sends = Appends-nil w;
-        out = h.out;
-        number = h.number;
-        counted = omega (arith, h.number, h.taken, none);
-      }
 
   -- the last line is taken as any other
   pub last_taken : (refuses : S → List ℕ → LineCause → Type 0) (s t : S) (old new : Walk) (l : Reading) (result : Result ⊤ ScriptFault) → next_line old.lines.rest ≡ None → 0 < length old.lines.rest
@@ -95,205 +71,205 @@ module _ {S : Type 0} (takes : S → List ℕ → List ℕ → S → Type 0) whe
   last_taken refuses s t old new l (Err faults.Read) none some line-is never = never
   last_taken refuses s t old new l (Err faults.Write) none some line-is never = never
 
-  -- ---- from the first state on
+-- one more whole line
+abbrev takes_next : {S : Type 0} {takes : S → List ℕ → List ℕ → S → Type 0} {first s t : S} {done line answer : List ℕ} (k : TakesWhole takes first done s) → has_end line ≡ false
+    → takes s line answer t → TakesWhole takes first (done ++ (line ++ 10 ∷ [])) t
+takes_next {takes = takes} {first} {s} {t} {done} {line} {answer} k plain took = record {
+  lines = k.lines ++ line ∷ [];
+  answers = k.answers ++ answer;
+  goes = goes_both takes first s t k.lines (line ∷ []) k.answers answer k.goes (goes_one takes s t line answer took);
+  split = λ more.
+      ap lines_of (sym (behind_line done line more))
+      ∙ k.split (line ++ (10 ∷ more))
+      ∙ ap (λ ls. k.lines ++ ls) (line_first line more plain)
+      ∙ sym (append_assoc k.lines (line ∷ []) (lines_of more));
+  whole = whole_on done (line ++ 10 ∷ []) k.whole ∙ ap (λ w. done ++ w) (ends_whole line);
+}
 
-  module _ (first : S) (input output : Option (List ℕ)) where
-    abbrev At : (r w : Option (List ℕ)) → Walk → S → Type 0
-    At r w walk s = Progress takes first input output r w walk s
+-- ---- progress
 
-    -- more is read
-    pub fed : (s : S) (r w r' w' : Option (List ℕ)) (old new : Walk) → At r w old s → Feeds r w old r' w' new → At r' w' new s
-    fed s r w r' w' old new p f =
-        let all-is : (p.done ++ old.lines.rest) ++ f.bytes ≡ p.done ++ new.lines.rest = append_assoc p.done old.lines.rest f.bytes ∙ ap (λ w. p.done ++ w) (sym f.rest) in
-        let len-is : length new.lines.rest ≡ length old.lines.rest + length f.bytes = ap length f.rest ∙ length-append old.lines.rest f.bytes in
-        record {
-          done = p.done;
-          lines = p.lines;
-          answers = p.answers;
-          sent = p.sent ++ f.sent;
-          goes = p.goes;
-          split = p.split;
-          whole = p.whole;
-          reads = subst (Consumes input r') all-is (Consumes-trans input r r' (p.done ++ old.lines.rest) f.bytes p.reads f.reads);
-          taken = ap length (sym all-is) ∙ length-append (p.done ++ old.lines.rest) f.bytes ∙ ap (λ k. k + length f.bytes) p.taken ∙ sym f.taken;
-          within = f.within;
-          sends = Appends-trans output w w' p.sent f.sent p.sends f.sends;
-          out = append_assoc p.sent f.sent new.out.items ∙ ap (λ o. p.sent ++ o) f.out ∙ p.out;
-          number = f.number ∙ p.number;
-          counted = omega (arith, p.counted, f.taken, f.number, len-is);
-        }
-
-    -- the next line is found and taken
-    pub took : (s t : S) (r w r' w' : Option (List ℕ)) (old found new : Walk) → At r w old s → FindsLine r w old r' w' found → TakesLine takes s found t new → At r' w' new t
-    took s t r w r' w' old found new before f k =
-        let p = fed s r w r' w' old f.between before f.feeds in
-        let line : List ℕ = found.lines.line in
-        let l = first_line f.between.lines.rest line found.lines.rest f.found in
-        let less = shorter f.between.lines.rest found.lines f.found in
-        let rest-is : p.done ++ f.between.lines.rest ≡ (p.done ++ (line ++ 10 ∷ [])) ++ new.lines.rest =
-        ap (λ w. p.done ++ w) l.whole ∙ behind_line p.done line found.lines.rest ∙ ap (λ x. (p.done ++ (line ++ 10 ∷ [])) ++ x.rest) (sym k.lines) in
-        let len-is : length new.lines.rest ≡ length found.lines.rest = ap (λ x. length x.rest) k.lines in
-        let taken-is : new.lines.taken ≡ f.between.lines.taken = ap (λ x. x.taken) k.lines ∙ f.taken in
-        record {
-          done = p.done ++ (line ++ 10 ∷ []);
-          lines = p.lines ++ line ∷ [];
-          answers = p.answers ++ k.answer;
-          sent = p.sent;
-          goes = goes_both first s t p.lines (line ∷ []) p.answers k.answer p.goes (goes_one s t line k.answer k.is_taken);
-          split = λ more.
-              ap lines_of (sym (behind_line p.done line more))
-              ∙ p.split (line ++ (10 ∷ more))
-              ∙ ap (λ ls. p.lines ++ ls) (line_first line more l.plain)
-              ∙ sym (append_assoc p.lines (line ∷ []) (lines_of more));
-          whole = whole_on p.done (line ++ 10 ∷ []) p.whole ∙ ap (λ w. p.done ++ w) (ends_whole line);
-          reads = subst (Consumes input r') rest-is p.reads;
-          taken = ap length (sym rest-is) ∙ p.taken ∙ sym taken-is;
-          within = omega (arith, p.within, taken-is);
-          sends = p.sends;
-          out = ap (λ o. p.sent ++ o) (k.out ∙ ap (λ o. o ++ k.answer) f.out) ∙ sym (append_assoc p.sent f.between.out.items k.answer) ∙ ap (λ w. w ++ k.answer) p.out;
-          number = omega (arith, k.number, f.number, p.number, length-append p.lines (line ∷ []));
-          counted = omega (arith, p.counted, k.number, f.number, less, len-is, taken-is);
-        }
-
-    within : (s : S) (r w : Option (List ℕ)) (walk : Walk) (p : At r w walk s) → ReadsWithin most_bytes input r (p.done ++ walk.lines.rest)
-    within s r w walk p = (p.reads, subst (λ n. n ≤ most_bytes) (sym p.taken) p.within)
-
-    -- ---- halts
-
-    halts : (s : S) (r w : Option (List ℕ)) (old : Walk) (pending dropped : List ℕ) → At r w old s → pending ++ dropped ≡ old.out.items → Halt takes most_bytes first input output r w pending
-    halts s r w old pending dropped p parts = record {
-      done = p.done;
-      rest = old.lines.rest;
-      lines = p.lines;
-      last = s;
-      answers = p.answers;
-      sent = p.sent;
-      dropped = dropped;
-      goes = p.goes;
-      split = p.split;
-      whole = p.whole;
-      reads = within s r w old p;
-      sends = p.sends;
-      out = ap (λ o. p.sent ++ o) parts ∙ p.out;
+pub begins : {S : Type 0} (takes : S → List ℕ → List ℕ → S → Type 0) (s : S) (r w : Option (List ℕ)) (walk : Walk) → Starts walk → Progress takes s r w r w walk s
+begins takes s r w walk h =
+    let none : length walk.lines.rest ≡ 0 = ap length h.rest in
+    record {
+      done = [];
+      took = record { lines = []; answers = []; goes = (refl, refl); split = λ more. refl; whole = refl };
+      sent = [];
+      reads = subst (Consumes r r) (sym h.rest) (Consumes-nil r);
+      taken = none ∙ sym h.taken;
+      within = omega (arith, h.taken);
+      sends = Appends-nil w;
+      out = h.out;
+      number = h.number;
+      counted = omega (arith, h.number, h.taken, none);
     }
 
-    no_memory : (s : S) (r w : Option (List ℕ)) (old : Walk) (new : List ℕ) → At r w old s → IsCut old.out.items new → Halt takes most_bytes first input output r w new
-    no_memory s r w old new p (inl same) = halts s r w old new [] p (append-nil new ∙ same)
-    no_memory s r w old new p (inr none) = halts s r w old new old.out.items p (ap (λ o. o ++ old.out.items) none)
+-- the line that begins is too long
+too_long : {S : Type 0} (refuses : S → List ℕ → LineCause → Type 0) (long : (s : S) (line : List ℕ) → most_line_bytes < length line → refuses s line Bytes) (s : S) (rest more : List ℕ)
+    → next_line rest ≡ None → most_line_bytes < length rest → (line : List ℕ) × (others : List (List ℕ)) × (lines_of (rest ++ more) ≡ line ∷ others) × refuses s line Bytes
+too_long refuses long s [] more none h = absurd (omega (arith, h))
+too_long refuses long s (b ∷ bs) more none h =
+    let l = leads b bs (lines_of more) in
+    (l.line, l.others, lines_behind (b ∷ bs) more (no_line (b ∷ bs) none) ∙ l.split, long s l.line (omega (arith, h, l.long)))
 
-    -- the reader or the writer failed
-    abbrev failed : (most : ℕ) (s : S) (r w r' w' : Option (List ℕ)) (old new : Walk) → At r w old s → Fails most r w old r' w' new → Halt takes most first input output r' w' new.out.items
-    failed most s r w r' w' old new p f =
-        let all-is : (p.done ++ old.lines.rest) ++ f.bytes ≡ p.done ++ (old.lines.rest ++ f.bytes) = append_assoc p.done old.lines.rest f.bytes in
-        let len-is : length (p.done ++ (old.lines.rest ++ f.bytes)) ≡ old.lines.taken + length f.bytes = ap length (sym all-is) ∙ length-append (p.done ++ old.lines.rest) f.bytes ∙ ap (λ k. k + length f.bytes) p.taken in
-        record {
-          done = p.done;
-          rest = old.lines.rest ++ f.bytes;
-          lines = p.lines;
-          last = s;
-          answers = p.answers;
-          sent = p.sent ++ f.sent;
-          dropped = f.unsent;
-          goes = p.goes;
-          split = p.split;
-          whole = p.whole;
-          reads = (subst (Consumes input r') all-is (Consumes-trans input r r' (p.done ++ old.lines.rest) f.bytes p.reads f.reads), subst (λ n. n ≤ most) (sym len-is) f.within);
-          sends = Appends-trans output w w' p.sent f.sent p.sends f.sends;
-          out = ap (λ o. (p.sent ++ f.sent) ++ (o ++ f.unsent)) f.out ∙ append_assoc p.sent f.sent f.unsent ∙ ap (λ o. p.sent ++ o) f.parts ∙ p.out;
-        }
-
-    -- ---- ends
-
-    module _ (refuses : S → List ℕ → LineCause → Type 0) (headed : S → Bool) where
-      abbrev Ends : S → (r w : Option (List ℕ)) → Walk → Result ⊤ ScriptFault → Type 0
-      Ends t r w walk result = EndsAs takes refuses headed first input output t r w walk result
-
-      -- the next line of what is left is faulty
-      faulty : (s t : S) (r w : Option (List ℕ)) (walk new : Walk) (n : ℕ) (cause : LineCause) → At r w walk s → n ≡ walk.number → t ≡ s → new.out.items ≡ walk.out.items
-          → ((more : List ℕ) → (IsAtEnd r → more ≡ []) → (line : List ℕ) × (others : List (List ℕ)) × (lines_of (walk.lines.rest ++ more) ≡ line ∷ others) × refuses s line cause)
-          → Ends t r w new (Err (faults.Line n cause))
-      faulty s t r w walk new n cause p number-is same out-is here = record {
-        read = p.done ++ walk.lines.rest;
-        lines = p.lines;
-        answers = p.answers;
-        sent = p.sent;
-        goes = subst (GoesThrough takes first p.lines p.answers) (sym same) p.goes;
-        reads = within s r w walk p;
-        sends = p.sends;
-        out = ap (λ o. p.sent ++ o) out-is ∙ p.out;
-        ends = λ more end.
-            let (line, others, split, refused) = here more end in (
-              line ∷ others,
-              ap lines_of (append_assoc p.done walk.lines.rest more) ∙ p.split (walk.lines.rest ++ more) ∙ ap (λ ls. p.lines ++ ls) split,
-              (number-is ∙ p.number, subst (λ x. refuses x line cause) (sym same) refused),
-            );
+module _ {S : Type 0} {takes : S → List ℕ → List ℕ → S → Type 0} {first : S} {input output : Option (List ℕ)} where
+  -- more is read
+  pub fed : {s : S} {r w r' w' : Option (List ℕ)} {old new : Walk} → Progress takes first input output r w old s → Feeds r w old r' w' new → Progress takes first input output r' w' new s
+  fed {s} {r} {w} {r'} {w'} {old} {new} p f =
+      let all-is : (p.done ++ old.lines.rest) ++ f.bytes ≡ p.done ++ new.lines.rest = append_assoc p.done old.lines.rest f.bytes ∙ ap (λ w. p.done ++ w) (sym f.rest) in
+      let len-is : length new.lines.rest ≡ length old.lines.rest + length f.bytes = ap length f.rest ∙ length-append old.lines.rest f.bytes in
+      record {
+        done = p.done;
+        took = p.took;
+        sent = p.sent ++ f.sent;
+        reads = subst (Consumes input r') all-is (Consumes-trans input r r' (p.done ++ old.lines.rest) f.bytes p.reads f.reads);
+        taken = ap length (sym all-is) ∙ length-append (p.done ++ old.lines.rest) f.bytes ∙ ap (λ k. k + length f.bytes) p.taken ∙ sym f.taken;
+        within = f.within;
+        sends = Appends-trans output w w' p.sent f.sent p.sends f.sends;
+        out = append_assoc p.sent f.sent new.out.items ∙ ap (λ o. p.sent ++ o) f.out ∙ p.out;
+        number = f.number ∙ p.number;
+        counted = omega (arith, p.counted, f.taken, f.number, len-is);
       }
 
-      -- the line that begins is too long
-      too_long : (long : (s : S) (line : List ℕ) → most_line_bytes < length line → refuses s line Bytes) (s : S) (rest more : List ℕ) → next_line rest ≡ None → most_line_bytes < length rest
-          → (line : List ℕ) × (others : List (List ℕ)) × (lines_of (rest ++ more) ≡ line ∷ others) × refuses s line Bytes
-      too_long long s [] more none h = absurd (omega (arith, h))
-      too_long long s (b ∷ bs) more none h =
-          let l = leads b bs (lines_of more) in
-          (l.line, l.others, lines_behind (b ∷ bs) more (no_line (b ∷ bs) none) ∙ l.split, long s l.line (omega (arith, h, l.long)))
+  -- the next line is found and taken
+  pub took : {s t : S} {r w r' w' : Option (List ℕ)} {old found new : Walk} → Progress takes first input output r w old s → FindsLine r w old r' w' found → TakesLine takes s found t new
+      → Progress takes first input output r' w' new t
+  took {s} {t} {r} {w} {r'} {w'} {old} {found} {new} before f k =
+      let p = fed before f.feeds in
+      let line : List ℕ = found.lines.line in
+      let l = first_line f.between.lines.rest line found.lines.rest f.found in
+      let less = shorter f.between.lines.rest found.lines f.found in
+      let rest-is : p.done ++ f.between.lines.rest ≡ (p.done ++ (line ++ 10 ∷ [])) ++ new.lines.rest =
+      ap (λ w. p.done ++ w) l.whole ∙ behind_line p.done line found.lines.rest ∙ ap (λ x. (p.done ++ (line ++ 10 ∷ [])) ++ x.rest) (sym k.lines) in
+      let len-is : length new.lines.rest ≡ length found.lines.rest = ap (λ x. length x.rest) k.lines in
+      let taken-is : new.lines.taken ≡ f.between.lines.taken = ap (λ x. x.taken) k.lines ∙ f.taken in
+      record {
+        done = p.done ++ (line ++ 10 ∷ []);
+        took = takes_next p.took l.plain k.is_taken;
+        sent = p.sent;
+        reads = subst (Consumes input r') rest-is p.reads;
+        taken = ap length (sym rest-is) ∙ p.taken ∙ sym taken-is;
+        within = omega (arith, p.within, taken-is);
+        sends = p.sends;
+        out = ap (λ o. p.sent ++ o) (k.out ∙ ap (λ o. o ++ k.answer) f.out) ∙ sym (append_assoc p.sent f.between.out.items k.answer) ∙ ap (λ w. w ++ k.answer) p.out;
+        number = omega (arith, k.number, f.number, p.number, length-append p.took.lines (line ∷ []));
+        counted = omega (arith, p.counted, k.number, f.number, less, len-is, taken-is);
+      }
 
-      -- no line was found
-      pub find_ends : (long : (s : S) (line : List ℕ) → most_line_bytes < length line → refuses s line Bytes) (s : S) (r w r' w' : Option (List ℕ)) (old new : Walk) (fault : ScriptFault) → At r w old s
-          → Finds r w old r' w' new (Err fault) → Ends s r' w' new (Err fault)
-      find_ends long s r w r' w' old new (faults.Line n cause) p (feeds, none, length-is, number-is, cause-is) =
-          subst (λ x. Ends s r' w' new (Err (faults.Line n x))) (sym cause-is)
-          (faulty s s r' w' new new n Bytes (fed s r w r' w' old new p feeds) number-is refl refl (λ more end. too_long long s new.lines.rest more none length-is))
-      find_ends long s r w r' w' old new faults.Read p f = failed (suc most_bytes) s r w r' w' old new p f
-      find_ends long s r w r' w' old new faults.Write p (f, some) =
-          let len-is : length p.sent + length old.out.items ≡ length p.answers = sym (length-append p.sent old.out.items) ∙ ap length p.out in
-          (failed most_bytes s r w r' w' old new p f, omega (arith, some, len-is))
-      find_ends long s r w r' w' old new faults.Memory p never = absurd never
+  -- ---- halts
 
-      -- the line that was found was not taken
-      pub take_ends : (s t : S) (r w r' w' : Option (List ℕ)) (old found new : Walk) (fault : ScriptFault) → At r w old s → FindsLine r w old r' w' found → Takes takes refuses s found t new (Err fault)
-          → Ends t r' w' new (Err fault)
-      take_ends s t r w r' w' old found new (faults.Line n cause) p f (refused, number-is, same, out-is) =
-          faulty s t r' w' f.between new n cause (fed s r w r' w' old f.between p f.feeds) (number-is ∙ f.number) same (out-is ∙ f.out)
-          (λ more end. (found.lines.line, lines_of (found.lines.rest ++ more), line_and_more f.between.lines.rest found.lines more f.found, refused))
-      take_ends s t r w r' w' old found new faults.Memory p f cut =
-          no_memory s r' w' f.between new.out.items (fed s r w r' w' old f.between p f.feeds) (subst (λ o. IsCut o new.out.items) f.out cut)
-      take_ends s t r w r' w' old found new faults.Read p f never = absurd never
-      take_ends s t r w r' w' old found new faults.Write p f never = absurd never
+  -- of what was to be written a part is written, and then no more is taken
+  halts : {s : S} {r w r' w' : Option (List ℕ)} {old : Walk} (most : ℕ) (pending bytes sent dropped : List ℕ) (p : Progress takes first input output r w old s) → Consumes r r' bytes
+      → Appends w w' sent → old.lines.taken + length bytes ≤ most → sent ++ (pending ++ dropped) ≡ old.out.items
+      → (halt : Halt takes most first input output r' w' pending) × (length halt.took.answers ≡ length p.sent + length old.out.items)
+  halts {s} {r} {w} {r'} {w'} {old} most pending bytes sent dropped p reads sends within parts =
+      let all-is : (p.done ++ old.lines.rest) ++ bytes ≡ p.done ++ (old.lines.rest ++ bytes) = append_assoc p.done old.lines.rest bytes in
+      let len-is : length (p.done ++ (old.lines.rest ++ bytes)) ≡ old.lines.taken + length bytes =
+      ap length (sym all-is) ∙ length-append (p.done ++ old.lines.rest) bytes ∙ ap (λ k. k + length bytes) p.taken in (
+        record {
+          done = p.done;
+          rest = old.lines.rest ++ bytes;
+          last = s;
+          took = p.took;
+          sent = p.sent ++ sent;
+          dropped = dropped;
+          reads = (subst (Consumes input r') all-is (Consumes-trans input r r' (p.done ++ old.lines.rest) bytes p.reads reads), subst (λ n. n ≤ most) (sym len-is) within);
+          sends = Appends-trans output w w' p.sent sent p.sends sends;
+          out = append_assoc p.sent sent (pending ++ dropped) ∙ ap (λ o. p.sent ++ o) parts ∙ p.out;
+        },
+        ap length (sym p.out) ∙ length-append p.sent old.out.items,
+      )
 
-      -- the last line was not taken
-      pub last_ends : (s t : S) (r w : Option (List ℕ)) (old new : Walk) (fault : ScriptFault) → At r w old s → IsAtEnd r → TakesLast takes refuses s old t new (Err fault) → Ends t r w new (Err fault)
-      last_ends s t r w old new (faults.Line n cause) p at_end (one, refused, number-is, same, out-is) =
-          faulty s t r w old new n cause p number-is same out-is
-          (λ more end. (old.lines.rest, [], ap (λ m. lines_of (old.lines.rest ++ m)) (end at_end) ∙ ap lines_of (append-nil old.lines.rest) ∙ one, refused))
-      last_ends s t r w old new faults.Memory p at_end cut = no_memory s r w old new.out.items p cut
-      last_ends s t r w old new faults.Read p at_end never = absurd never
-      last_ends s t r w old new faults.Write p at_end never = absurd never
+  failed : {s : S} {r w r' w' : Option (List ℕ)} {old new : Walk} {most : ℕ} (p : Progress takes first input output r w old s) → Fails most r w old r' w' new
+      → (halt : Halt takes most first input output r' w' new.out.items) × (length halt.took.answers ≡ length p.sent + length old.out.items)
+  failed {new = new} {most} p f = halts most new.out.items f.bytes f.sent f.unsent p f.reads f.sends f.within (ap (λ o. f.sent ++ (o ++ f.unsent)) f.out ∙ f.parts)
 
-      -- all lines are taken
-      pub closed : (s t : S) (r w : Option (List ℕ)) (old new : Walk) → At r w old s → TakesRest takes s old t new → IsAtEnd r → Ends t r w new (end_result (headed t) new.number)
-      closed s t r w old new p k end = by_head (headed t) refl
-        where
-          all : (fault : Option (ℕ × LineCause)) → IsFault refuses headed t (suc (length (p.lines ++ lines_of old.lines.rest))) [] fault
-              → Ending takes refuses headed fault first input output t r w new.out.items
-          all fault e = record {
-            read = p.done ++ old.lines.rest;
-            lines = p.lines ++ lines_of old.lines.rest;
-            answers = p.answers ++ k.answers;
-            sent = p.sent;
-            goes = goes_both first s t p.lines (lines_of old.lines.rest) p.answers k.answers p.goes k.goes;
-            reads = within s r w old p;
-            sends = p.sends;
-            out = ap (λ o. p.sent ++ o) k.out ∙ sym (append_assoc p.sent old.out.items k.answers) ∙ ap (λ w. w ++ k.answers) p.out;
-            ends = λ more cond. (
-              [],
-              ap (λ m. lines_of ((p.done ++ old.lines.rest) ++ m)) (cond end) ∙ ap lines_of (append-nil (p.done ++ old.lines.rest)) ∙ p.split old.lines.rest ∙ sym (append-nil (p.lines ++ lines_of old.lines.rest)),
-              e,
-            );
-          }
+  no_memory : {s : S} {r w : Option (List ℕ)} {old : Walk} (new : List ℕ) → Progress takes first input output r w old s → IsCut old.out.items new → Halt takes most_bytes first input output r w new
+  no_memory {r = r} {w} {old} new p cut = by_cut cut
+    where
+      halted : (dropped : List ℕ) → new ++ dropped ≡ old.out.items → Halt takes most_bytes first input output r w new
+      halted dropped parts = (halts most_bytes new [] [] dropped p (Consumes-nil r) (Appends-nil w) (omega (arith, p.within)) parts).0
 
-          number-is : new.number ≡ suc (length (p.lines ++ lines_of old.lines.rest))
-          number-is = omega (arith, k.number, p.number, length-append p.lines (lines_of old.lines.rest))
+      by_cut : IsCut old.out.items new → Halt takes most_bytes first input output r w new
+      by_cut (inl same) = halted [] (append-nil new ∙ same)
+      by_cut (inr none) = halted old.out.items (ap (λ o. o ++ old.out.items) none)
 
-          by_head : (b : Bool) → headed t ≡ b → Ends t r w new (end_result b new.number)
-          by_head true e = (end, all None e)
-          by_head false e = all (Some (new.number, Hz)) (number-is, refl, e)
+  -- ---- ends
+
+  module _ (refuses : S → List ℕ → LineCause → Type 0) (headed : S → Bool) where
+    -- What was read is taken up to a fault, by these lines behind the ones before.
+    ends_by : {s t : S} {r w : Option (List ℕ)} {old : Walk} (fault : Option (ℕ × LineCause)) (new : List ℕ) (lines : List (List ℕ)) (answers : List ℕ) → Progress takes first input output r w old s
+        → GoesThrough takes s lines answers t → new ≡ old.out.items ++ answers
+        → ((more : List ℕ) → (IsAtEnd r → more ≡ []) → (others : List (List ℕ)) × (lines_of (old.lines.rest ++ more) ≡ lines ++ others) × IsFault refuses headed t (old.number + length lines) others fault)
+        → Ending takes refuses headed fault first input output t r w new
+    ends_by {s} {t} {old = old} fault new lines answers p goes out-is left = record {
+      read = p.done ++ old.lines.rest;
+      lines = p.took.lines ++ lines;
+      answers = p.took.answers ++ answers;
+      sent = p.sent;
+      goes = goes_both takes first s t p.took.lines lines p.took.answers answers p.took.goes goes;
+      reads = (p.reads, subst (λ n. n ≤ most_bytes) (sym p.taken) p.within);
+      sends = p.sends;
+      out = ap (λ o. p.sent ++ o) out-is ∙ sym (append_assoc p.sent old.out.items answers) ∙ ap (λ w. w ++ answers) p.out;
+      ends = λ more end.
+          let (others, split, is_fault) = left more end in
+          let number : old.number + length lines ≡ suc (length (p.took.lines ++ lines)) = omega (arith, p.number, length-append p.took.lines lines) in (
+            others,
+            ap lines_of (append_assoc p.done old.lines.rest more) ∙ p.took.split (old.lines.rest ++ more) ∙ ap (λ ls. p.took.lines ++ ls) split ∙ sym (append_assoc p.took.lines lines others),
+            subst (λ n. IsFault refuses headed t n others fault) number is_fault,
+          );
+    }
+
+    -- the next line of what is left is faulty
+    faulty : {s t : S} {r w : Option (List ℕ)} {old : Walk} (new : List ℕ) (n : ℕ) (cause : LineCause) → Progress takes first input output r w old s → n ≡ old.number → t ≡ s → new ≡ old.out.items
+        → ((more : List ℕ) → (IsAtEnd r → more ≡ []) → (line : List ℕ) × (others : List (List ℕ)) × (lines_of (old.lines.rest ++ more) ≡ line ∷ others) × refuses s line cause)
+        → Ending takes refuses headed (Some (n, cause)) first input output t r w new
+    faulty {old = old} new n cause p number-is same out-is here = ends_by (Some (n, cause)) new [] [] p (same, refl) (out-is ∙ sym (append-nil old.out.items))
+        (λ more end.
+        let (line, others, split, refused) = here more end in
+        (line ∷ others, split, (omega (arith, number-is), subst (λ x. refuses x line cause) (sym same) refused)))
+
+    -- no line was found
+    pub find_ends : ((s : S) (line : List ℕ) → most_line_bytes < length line → refuses s line Bytes)
+        → {s : S} {r w : Option (List ℕ)} {old : Walk} (r' w' : Option (List ℕ)) (new : Walk) (fault : ScriptFault) → Progress takes first input output r w old s → Finds r w old r' w' new (Err fault)
+        → EndsAs takes refuses headed first input output s r' w' new (Err fault)
+    find_ends long {s} r' w' new (faults.Line n cause) p (feeds, none, length-is, number-is, cause-is) =
+        subst (λ x. Ending takes refuses headed (Some (n, x)) first input output s r' w' new.out.items) (sym cause-is)
+        (faulty new.out.items n Bytes (fed p feeds) number-is refl refl (λ more end. too_long refuses long s new.lines.rest more none length-is))
+    find_ends long r' w' new faults.Read p f = (failed p f).0
+    find_ends long r' w' new faults.Write p (f, some) = let halted = failed p f in (halted.0, omega (arith, some, halted.1))
+    find_ends long r' w' new faults.Memory p never = absurd never
+
+    -- the line that was found was not taken
+    pub take_ends : {s : S} {r w r' w' : Option (List ℕ)} {old found : Walk} (t : S) (new : Walk) (fault : ScriptFault) → Progress takes first input output r w old s → FindsLine r w old r' w' found
+        → Takes takes refuses s found t new (Err fault) → EndsAs takes refuses headed first input output t r' w' new (Err fault)
+    take_ends {found = found} t new (faults.Line n cause) p f (refused, number-is, same, out-is) =
+        faulty new.out.items n cause (fed p f.feeds) (number-is ∙ f.number) same (out-is ∙ f.out)
+        (λ more end. (found.lines.line, lines_of (found.lines.rest ++ more), line_and_more f.between.lines.rest found.lines more f.found, refused))
+    take_ends t new faults.Memory p f cut = no_memory new.out.items (fed p f.feeds) (subst (λ o. IsCut o new.out.items) f.out cut)
+    take_ends t new faults.Read p f never = absurd never
+    take_ends t new faults.Write p f never = absurd never
+
+    -- the last line was not taken
+    pub last_ends : {s : S} {r w : Option (List ℕ)} {old : Walk} (t : S) (new : Walk) (fault : ScriptFault) → Progress takes first input output r w old s → IsAtEnd r
+        → TakesLast takes refuses s old t new (Err fault) → EndsAs takes refuses headed first input output t r w new (Err fault)
+    last_ends {old = old} t new (faults.Line n cause) p at_end (one, refused, number-is, same, out-is) =
+        faulty new.out.items n cause p number-is same out-is
+        (λ more end. (old.lines.rest, [], ap (λ m. lines_of (old.lines.rest ++ m)) (end at_end) ∙ ap lines_of (append-nil old.lines.rest) ∙ one, refused))
+    last_ends t new faults.Memory p at_end cut = no_memory new.out.items p cut
+    last_ends t new faults.Read p at_end never = absurd never
+    last_ends t new faults.Write p at_end never = absurd never
+
+    -- all lines are taken
+    pub closed : {s t : S} {r w : Option (List ℕ)} {old new : Walk} → Progress takes first input output r w old s → TakesRest takes s old t new → IsAtEnd r
+        → EndsAs takes refuses headed first input output t r w new (end_result (headed t) new.number)
+    closed {s} {t} {r} {w} {old} {new} p k at_end = by_head (headed t) refl
+      where
+        all : (fault : Option (ℕ × LineCause)) → IsFault refuses headed t (old.number + length (lines_of old.lines.rest)) [] fault
+            → Ending takes refuses headed fault first input output t r w new.out.items
+        all fault e = ends_by fault new.out.items (lines_of old.lines.rest) k.answers p k.goes k.out
+            (λ more end. ([], ap (λ m. lines_of (old.lines.rest ++ m)) (end at_end) ∙ ap lines_of (append-nil old.lines.rest) ∙ sym (append-nil (lines_of old.lines.rest)), e))
+
+        by_head : (b : Bool) → headed t ≡ b → EndsAs takes refuses headed first input output t r w new (end_result b new.number)
+        by_head true e = (at_end, all None e)
+        by_head false e = all (Some (new.number, Hz)) (k.number, refl, e)

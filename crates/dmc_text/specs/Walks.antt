@@ -21,6 +21,14 @@ GoesThrough takes s [] answers t = (t ≡ s) × (answers ≡ [])
 GoesThrough {S} takes s (line ∷ lines) answers t =
     (next : S) × (answer : List ℕ) × (others : List ℕ) × takes s line answer next × GoesThrough takes next lines others t × (answers ≡ answer ++ others)
 
+-- these bytes are whole lines, which are taken, and what is to be written for them
+pub record TakesWhole {S : Type 0} (takes : S → List ℕ → List ℕ → S → Type 0) (s : S) (bytes : List ℕ) (t : S) : Type 0 where
+  pub lines : List (List ℕ)
+  pub answers : List ℕ
+  pub goes : GoesThrough takes s lines answers t
+  pub split : (more : List ℕ) → lines_of (bytes ++ more) ≡ lines ++ lines_of more
+  pub whole : whole_lines bytes ≡ bytes
+
 -- what is left of the bytes: all, or nothing
 abbrev pub IsCut : List ℕ → List ℕ → Type 0
 IsCut old new = (new ≡ old) ⊎ (new ≡ [])
@@ -149,17 +157,13 @@ pub record Ending {S : Type 0} (takes : S → List ℕ → List ℕ → S → Ty
 pub record Halt {S : Type 0} (takes : S → List ℕ → List ℕ → S → Type 0) (most : ℕ) (first : S) (input output before after : Option (List ℕ)) (pending : List ℕ) : Type 0 where
   pub done : List ℕ
   pub rest : List ℕ
-  pub lines : List (List ℕ)
   pub last : S
-  pub answers : List ℕ
+  pub took : TakesWhole takes first done last
   pub sent : List ℕ
   pub dropped : List ℕ
-  pub goes : GoesThrough takes first lines answers last
-  pub split : (more : List ℕ) → lines_of (done ++ more) ≡ lines ++ lines_of more
-  pub whole : whole_lines done ≡ done
   pub reads : ReadsWithin most input before (done ++ rest)
   pub sends : Appends output after sent
-  pub out : sent ++ (pending ++ dropped) ≡ answers
+  pub out : sent ++ (pending ++ dropped) ≡ took.answers
 
 -- What a walk comes to. Read: the reader failed, or the text goes on past the most bytes, of which one more byte tells. Write:
 -- the writer failed, so there was something to be written.
@@ -169,5 +173,5 @@ EndsAs takes refuses headed s input output t before after walk (Ok x) = IsAtEnd 
 EndsAs takes refuses headed s input output t before after walk (Err (faults.Line n cause)) = Ending takes refuses headed (Some (n, cause)) s input output t before after walk.out.items
 EndsAs takes refuses headed s input output t before after walk (Err faults.Read) = Halt takes (suc most_bytes) s input output before after walk.out.items
 EndsAs takes refuses headed s input output t before after walk (Err faults.Write) =
-    (halt : Halt takes most_bytes s input output before after walk.out.items) × (0 < length halt.answers)
+    (halt : Halt takes most_bytes s input output before after walk.out.items) × (0 < length halt.took.answers)
 EndsAs takes refuses headed s input output t before after walk (Err faults.Memory) = Halt takes most_bytes s input output before after walk.out.items

@@ -11,10 +11,7 @@ returns-in_err-run g c =
     c.in_err-run.field-0.0 c.in_err-run.ensures)
 
 pub checked-requires : goal.checked-requires
-checked-requires g c =
-    let r = g.R.Read.remaining in
-    let w = g.W.Write.contents in
-    text_headed g.T.Tag.ops g.T.TagText.made _ tt (r c.args.reader.now) (w c.args.writer.now) (r c.run.new.reader) (w c.run.new.writer) c.run.new.taker c.run.new.self c.in_ok-run.ensures.1
+checked-requires g c = text_headed g.T.Tag.ops g.T.TagText.made _ tt c.in_ok-run.ensures.1
 
 pub returns : goal.returns
 returns g c =

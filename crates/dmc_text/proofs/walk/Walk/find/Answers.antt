@@ -1,11 +1,11 @@
 -- A line is found, or more is fed, or the reader or the writer fails.
-use Rattle.std.proofs.Common.{[], length, refl, sym, ap, subst, ◌∙◌, arith}
-use Rattle.std.proofs.KnownBytes.{Consumes-nil}
+use Rattle.std.proofs.Common.{length, refl, sym, ap, subst, ◌∙◌, arith}
+use Rattle.std.proofs.KnownBytes.{Keeps-refl}
 use Rattle.std.proofs.lemmas.Bool.{ltb-true}
 use Rattle.dmc_types.specs.Limits.{most_line_bytes}
-use Rattle.dmc_text.specs.Reading.{most_bytes, next_line}
+use Rattle.dmc_text.specs.Reading.{next_line}
 use Rattle.dmc_text.specs.Walks.{Feeds}
-use Rattle.dmc_text.proofs.WalkReading.{given_err, given_ok, fed_nothing, fed_more, fed_end, fails_by, fails_read, had_some}
+use Rattle.dmc_text.proofs.WalkReading.{given_err, given_ok, fed_nothing, fed_more, fed_end, fails_read, fails_write}
 use Rattle.dmc_text.proofs.walk.Walk.find.Goals as goal
 
 pub loop-self-init : goal.loop-self-init
@@ -26,16 +26,10 @@ returns-then-is_long g c =
 
 pub returns-then-is_err : goal.returns-then-is_err
 returns-then-is_err g c =
-    let walk = c.loop-self.self in
-    let f = c.loop-self.invariant in
-    let r = g.R.Read.remaining in
-    let w = g.W.Write.contents in
+    let r = g.R.Read.remaining c.loop-self.reader in
     let failed = given_err c.drain.result c.if-is_err.ensures.value c.drain.ensures.err in
-    let some = given_err c.drain.result c.if-is_err.ensures.value c.drain.ensures.some in (
-      fails_by (r c.args.reader.now) (w c.args.writer.now) (r c.loop-self.reader) (w c.loop-self.writer) (r c.loop-self.reader) (w c.drain.new.writer) c.args.self.now walk f
-          most_bytes (record walk { lines = c.find.new.self; out = c.drain.new.out }) [] (Consumes-nil (r c.loop-self.reader)) failed (omega (arith, f.within)) c.drain.ensures.empty,
-      had_some (r c.args.reader.now) (w c.args.writer.now) (r c.loop-self.reader) (w c.loop-self.writer) c.args.self.now walk f some,
-    )
+    let some = given_err c.drain.result c.if-is_err.ensures.value c.drain.ensures.some in
+    fails_write c.loop-self.invariant r (g.W.Write.contents c.drain.new.writer) (record c.loop-self.self { lines = c.find.new.self; out = c.drain.new.out }) (Keeps-refl r) failed some c.drain.ensures.empty
 
 pub loop-self-smaller : goal.loop-self-smaller
 loop-self-smaller g c =
@@ -44,27 +38,21 @@ loop-self-smaller g c =
 
 pub loop-self-preserved : goal.loop-self-preserved
 loop-self-preserved g c =
-    let r = g.R.Read.remaining in
-    let w = g.W.Write.contents in
     let sent = given_ok c.drain.result c.if-is_err.ensures.value c.drain.ensures.ok in
-    fed_more (r c.args.reader.now) (w c.args.writer.now) (r c.loop-self.reader) (w c.loop-self.writer) (r c.fill.new.reader) (w c.drain.new.writer) c.args.self.now c.loop-self.self c.loop-self.invariant
-    (record c.loop-self.self { lines = c.fill.new.self; out = c.drain.new.out }) c.find.new.self c.loop-self-test.ensures.1 sent c.drain.ensures.empty refl c.fill.ensures.taken (rw (c.in-Ok-true.field-0-test) at c.in-Ok-true.ensures.bytes)
+    fed_more c.loop-self.invariant (g.R.Read.remaining c.fill.new.reader) (g.W.Write.contents c.drain.new.writer) (record c.loop-self.self { lines = c.fill.new.self; out = c.drain.new.out })
+    c.find.new.self c.loop-self-test.ensures.1 sent c.drain.ensures.empty refl c.fill.ensures.taken (rw (c.in-Ok-true.field-0-test) at c.in-Ok-true.ensures.bytes)
 
 pub returns-in-Ok-false : goal.returns-in-Ok-false
 returns-in-Ok-false g c =
-    let r = g.R.Read.remaining in
-    let w = g.W.Write.contents in
     let sent = given_ok c.drain.result c.if-is_err.ensures.value c.drain.ensures.ok in
-    fed_end (r c.args.reader.now) (w c.args.writer.now) (r c.loop-self.reader) (w c.loop-self.writer) (r c.fill.new.reader) (w c.drain.new.writer) c.args.self.now c.loop-self.self c.loop-self.invariant
-    (record c.loop-self.self { lines = c.fill.new.self; out = c.drain.new.out }) c.find.new.self c.loop-self-test.ensures.0 c.loop-self-test.ensures.1 sent c.drain.ensures.empty refl c.fill.ensures.taken (rw (c.in-Ok-false.field-0-test) at c.in-Ok-false.ensures.bytes)
+    fed_end c.loop-self.invariant (g.R.Read.remaining c.fill.new.reader) (g.W.Write.contents c.drain.new.writer) (record c.loop-self.self { lines = c.fill.new.self; out = c.drain.new.out })
+    c.find.new.self c.loop-self-test.ensures.0 c.loop-self-test.ensures.1 sent c.drain.ensures.empty refl c.fill.ensures.taken (rw (c.in-Ok-false.field-0-test) at c.in-Ok-false.ensures.bytes)
 
 pub returns-in-Err : goal.returns-in-Err
 returns-in-Err g c =
-    let r = g.R.Read.remaining in
-    let w = g.W.Write.contents in
     let sent = given_ok c.drain.result c.if-is_err.ensures.value c.drain.ensures.ok in
-    fails_read (r c.args.reader.now) (w c.args.writer.now) (r c.loop-self.reader) (w c.loop-self.writer) (r c.fill.new.reader) (w c.drain.new.writer) c.args.self.now c.loop-self.self c.loop-self.invariant
-    (record c.loop-self.self { lines = c.fill.new.self; out = c.drain.new.out }) c.find.new.self c.in-Err.field-0 c.loop-self-test.ensures.1 sent c.drain.ensures.empty c.in-Err.ensures.bytes
+    fails_read c.loop-self.invariant (g.R.Read.remaining c.fill.new.reader) (g.W.Write.contents c.drain.new.writer) (record c.loop-self.self { lines = c.fill.new.self; out = c.drain.new.out })
+    c.find.new.self c.in-Err.field-0 c.loop-self-test.ensures.1 sent c.drain.ensures.empty c.in-Err.ensures.bytes
 
 pub returns : goal.returns
 returns g c = record {

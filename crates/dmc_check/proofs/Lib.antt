@@ -1,2 +1,2 @@
 pub mod VerdictLemmas
-pub mod Turning
+pub mod TextEnds

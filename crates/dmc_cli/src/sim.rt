@@ -6,9 +6,9 @@ ghost use Rattle.dmc_cli.specs.Sims.{RunsSim, end_of_sim};
 use crate::fault::Fault;
 use crate::outcome::Outcome;
 use crate::scenes::scene_of;
-use dmc_check::text::send;
 use dmc_sim::report::{SimFault, SimReport, report_text};
 use dmc_sim::simulation::simulate;
+use dmc_text::send::send;
 use std::alloc::Global;
 use std::io::{Read, Write};
 

@@ -5,7 +5,6 @@ ghost use Rattle.dmc_run.specs.declared.run.RunSceneFault.TheVariants.{Memory};
 
 use crate::text::report_text;
 use crate::verdicts::check_all;
-use dmc_check::text::send;
 use dmc_driver::fault::DriveFault;
 use dmc_driver::moments::StepClock;
 use dmc_driver::run::run_cluster;
@@ -14,6 +13,7 @@ use dmc_ratio::ratio::RatioTag;
 use dmc_scene::scene::Scene;
 use dmc_settle::report::ClusterReport;
 use dmc_tag::tag::Tag;
+use dmc_text::send::send;
 use dmc_tick::tick::TickTag;
 use dmc_types::config::{QueueConfig, TagKind};
 use std::alloc::{AllocError, Global};

@@ -5,5 +5,6 @@ pub mod ReplyLemmas
 pub mod ReadingLemmas
 pub mod Tellable
 pub mod RunLemmas
-pub mod RunSteps
+pub mod WalkReading
+pub mod WalkLemmas
 pub mod RunEnds

@@ -1,13 +1,13 @@
 -- Lines in a buffer, and of a text that is read in pieces.
-use Rattle.std.proofs.Common.{◌≡◌, ℕ, Ok, ◌+◌, ◌-◌, ◌≤◌, List, [], ◌++◌, append-nil, sym, ap, subst, ◌∙◌, arith, length, take, drop, Option, Some, None, position}
+use Rattle.std.proofs.Common.{◌≡◌, ℕ, Ok, ◌+◌, ◌-◌, ◌≤◌, List, [], ◌++◌, sym, ap, subst, ◌∙◌, arith, length, take, drop, Option, Some, None, position}
 use Rattle.std.specs.Prelude.{slice_range, OnErr, Result, Err}
 use Rattle.std.specs.Option.{option_map}
-use Rattle.std.proofs.lemmas.List.{take-take, drop-drop, drop-take, append_assoc, take-append-drop, take_rest}
+use Rattle.std.proofs.lemmas.List.{take-take, drop-drop, drop-take, take-append-drop, take_rest}
 use Rattle.std.proofs.Math.Seq.{take-add}
 use Rattle.std.specs.Io.KnownBytes.{Keeps, Consumes, Appends}
 use Rattle.dmc_text.specs.Texts.{AppendsSome}
 use Rattle.dmc_text.specs.Reading.{is_end, next_line}
-use Rattle.dmc_text.specs.LineLaws.{consumes_twice, none_taken}
+use Rattle.std.proofs.KnownBytes.{Appends-trans, Consumes-trans}
 
 -- the first n of a range
 pub front_of_range : (items : List ℕ) (start end n : ℕ) → start + n ≤ end → take n (slice_range items start end) ≡ slice_range items start (start + n)
@@ -65,24 +65,12 @@ all_kept (Some xs) (Some ys) h = sym h
 
 -- ---- writing
 
-pub appends_then_keeps : (a b c : Option (List ℕ)) (bytes : List ℕ) → Appends a b bytes → Keeps b c → Appends a c bytes
-appends_then_keeps None b c bytes h k = tt
-appends_then_keeps (Some xs) None c bytes h k = absurd h
-appends_then_keeps (Some xs) (Some ys) None bytes h k = k
-appends_then_keeps (Some xs) (Some ys) (Some zs) bytes h k = k ∙ h
-
-pub appends_twice : (a b c : Option (List ℕ)) (bytes more : List ℕ) → Appends a b bytes → Appends b c more → Appends a c (bytes ++ more)
-appends_twice None b c bytes more h k = tt
-appends_twice (Some xs) None c bytes more h k = absurd h
-appends_twice (Some xs) (Some ys) None bytes more h k = k
-appends_twice (Some xs) (Some ys) (Some zs) bytes more h k = k ∙ ap (λ w. w ++ more) h ∙ append_assoc xs bytes more
-
 -- the first i bytes, and the next n
 pub appends_next : (a b c : Option (List ℕ)) (bytes : List ℕ) (i n : ℕ) → Appends a b (take i bytes) → Appends b c (take n (slice_range bytes i (length bytes))) → Appends a c (take (i + n) bytes)
 appends_next a b c bytes i n h k =
     let rest : slice_range bytes i (length bytes) ≡ drop i bytes = take_rest bytes i in
     let next : Appends b c (take n (drop i bytes)) = subst (λ w. Appends b c (take n w)) rest k in
-    subst (Appends a c) (sym (take-add i n bytes)) (appends_twice a b c (take i bytes) (take n (drop i bytes)) h next)
+    subst (Appends a c) (sym (take-add i n bytes)) (Appends-trans a b c (take i bytes) (take n (drop i bytes)) h next)
 
 -- the first i bytes of all
 pub appends_some : (a b : Option (List ℕ)) (bytes : List ℕ) (i : ℕ) → Appends a b (take i bytes) → AppendsSome a b bytes
@@ -98,7 +86,4 @@ of_err (Err e) a = a
 -- the first i bytes, and the next n behind them
 pub consumes_next : (a b c : Option (List ℕ)) (old new : List ℕ) (i n : ℕ) → take i new ≡ take i old → Consumes a b (take i old) → Consumes b c (take n (drop i new)) → Consumes a c (take (i + n) new)
 consumes_next a b c old new i n same h k =
-    subst (Consumes a c) (sym (take-add i n new)) (consumes_twice a b c (take i new) (take n (drop i new)) (subst (Consumes a b) (sym same) h) k)
-
-pub consumes_then_keeps : (a b c : Option (List ℕ)) (bytes : List ℕ) → Consumes a b bytes → Keeps b c → Consumes a c bytes
-consumes_then_keeps a b c bytes h k = subst (Consumes a c) (append-nil bytes) (consumes_twice a b c bytes [] h (none_taken b c k))
+    subst (Consumes a c) (sym (take-add i n new)) (Consumes-trans a b c (take i new) (take n (drop i new)) (subst (Consumes a b) (sym same) h) k)

@@ -1,216 +1,157 @@
--- How a run ends.
-use Rattle.std.proofs.Common.{◌≡◌, ℕ, suc, ◌<◌, ◌≤◌, Bool, true, false, List, [], ◌∷◌, ◌++◌, refl, sym, ap, subst, ◌∙◌, arith, length, append-nil, Option, Some, None, is_some, Result, Ok, Err}
+-- How a run of a script ends: what its lines say, and what is written for them.
+use Rattle.std.proofs.Common.{◌≡◌, ℕ, suc, ◌+◌, Bool, true, false, List, [], ◌∷◌, ◌++◌, refl, sym, ap, subst, ◌∙◌, arith, length, append-nil, Option, Some, None, is_some, Result, Ok, Err}
 use Rattle.std.specs.Prelude.{IfSome, ⊤}
-use Rattle.std.specs.Option.{option_map}
-use Rattle.std.specs.Io.KnownBytes.{Keeps, Consumes, Appends, IsAtEnd}
+use Rattle.std.specs.Io.KnownBytes.{Consumes, Appends, IsAtEnd}
+use Rattle.std.proofs.KnownBytes.{Consumes-nil, Consumes-whole, Appends-trans}
 use Rattle.std.proofs.lemmas.List.{append_assoc}
 use Rattle.dmc_tag.specs.Tag.{Tagging}
 use Rattle.dmc_tag.specs.State.{State}
 use Rattle.dmc_text.specs.declared.cause.LineCause.{LineCause}
 use Rattle.dmc_text.specs.declared.cause.LineCause.TheVariants.{Hz}
-use Rattle.dmc_text.specs.declared.script.Running.{Running}
 use Rattle.dmc_text.specs.declared.script.ScriptFault.{ScriptFault}
 use Rattle.dmc_text.specs.declared.script.ScriptFault.TheVariants as ends
+use Rattle.dmc_text.specs.declared.walk.Walk.{Walk}
 use Rattle.dmc_text.specs.Lines.{line_of}
-use Rattle.dmc_text.specs.Reading.{Reading, most_bytes, next_line}
-use Rattle.dmc_text.specs.Texts.{and_on, fault_or, headed_by, lines_of, commands, written, written_for, first_fault, fault_of, whole_lines, out, AppendsSome, ReadsWithin, RunsAs}
-use Rattle.dmc_text.specs.Runs.{seen, Progress, CarriedOut, IsCounted, IsFaultHere, Stopped, Starts, Goes, Ended, Ends, Finished, closed_of, settled_of}
-use Rattle.dmc_text.proofs.ReadingLemmas.{appends_twice}
-use Rattle.dmc_text.specs.LineLaws.{last_line}
-use Rattle.dmc_text.proofs.RunSteps.{fault_first, within}
-
--- ---- the beginning
-
-pub none_read : (r : Option (List ℕ)) → Consumes r r []
-none_read None = tt
-none_read (Some xs) = refl
-
-pub none_sent : (w : Option (List ℕ)) → Appends w w []
-none_sent None = tt
-none_sent (Some xs) = sym (append-nil xs)
-
-pub none_kept : (w : Option (List ℕ)) → Keeps w w
-none_kept None = tt
-none_kept (Some xs) = refl
+use Rattle.dmc_text.specs.Reading.{most_bytes}
+use Rattle.dmc_text.specs.Texts.{and_on, fault_or, headed_by, lines_of, commands, written, first_fault, fault_of, whole_lines, out, AppendsSome, ReadsWithin, RunsPartly, RunsAs}
+use Rattle.dmc_text.specs.LineLaws.{whole_on}
+use Rattle.dmc_text.specs.Walks.{GoesThrough, IsFault, Ending, Halt, EndsAs}
+use Rattle.dmc_text.specs.Runs.{Answers, settled_of}
 
 pub nothing_read : (r : Option (List ℕ)) → (read : List ℕ) × ReadsWithin most_bytes r r read
-nothing_read r = ([], (none_read r, omega arith))
+nothing_read r = ([], (Consumes-nil r, omega arith))
 
-pub beginning : {T Q : Type 0} (ops : Tagging T) (text : T → List ℕ) (state : Q → State T) (r w : Option (List ℕ)) (run : Running Q) → Starts run → Progress ops text state r w r w run
-beginning ops text state r w run s = record {
-  done = [];
-  sent = [];
-  whole = refl;
-  reads = subst (Consumes r r) (sym s.rest) (none_read r);
-  taken = ap length s.rest ∙ sym s.taken;
-  sends = none_sent w;
-  out_is = λ more. ap (λ o. o ++ written_for ops text (seen state run) more) s.out ∙ ap (λ q. written_for ops text (option_map state q) more) s.queue;
-  fault_is = λ more. ap (λ q. first_fault (is_some (option_map state q)) run.number (lines_of more)) s.queue ∙ ap (λ n. first_fault false n (lines_of more)) s.number;
-}
+-- what holds of what was read, however it goes on, holds of the text
+pub of_text : (input r : Option (List ℕ)) (read : List ℕ) → Consumes input r read → (P : List ℕ → Type 0) → ((more : List ℕ) → (IsAtEnd r → more ≡ []) → P (read ++ more)) → IfSome input P
+of_text None r read h P f = tt
+of_text (Some xs) None read h P f = absurd h
+of_text (Some xs) (Some ys) read h P f = subst P (sym h) (f ys (λ end. end))
 
--- ---- a faulty line
+-- and of itself
+pub of_read : (r : Option (List ℕ)) (read : List ℕ) (P : List ℕ → Type 0) → ((more : List ℕ) → (IsAtEnd r → more ≡ []) → P (read ++ more)) → P read
+of_read r read P f = subst P (append-nil read) (f [] (λ end. refl))
 
--- a line of the rest is faulty, however it goes on
-pub fault_ends : {T Q : Type 0} (ops : Tagging T) (text : T → List ℕ) (state : Q → State T) (input output r w : Option (List ℕ)) (run : Running Q) (cause : LineCause)
-    → IsCounted run → Progress ops text state input output r w run → IsFaultHere ops text state run cause → Ended ops text (Some (run.number, cause)) input output r w run.out.items
-fault_ends ops text state input output r w run cause k p here =
-    let told = λ (more : List ℕ).
-    let none : p.sent ++ (run.out.items ++ written_for ops text (seen state run) (run.lines.rest ++ more)) ≡ p.sent ++ run.out.items = ap (λ o. p.sent ++ (run.out.items ++ o)) (here more).1 ∙ ap (λ o. p.sent ++ o) (append-nil run.out.items) in
-    sym none ∙ p.out_is (run.lines.rest ++ more) ∙ ap (out ops text) (sym (append_assoc p.done run.lines.rest more)) in
-    let faulty = λ (more : List ℕ). ap fault_of (append_assoc p.done run.lines.rest more) ∙ sym (p.fault_is (run.lines.rest ++ more)) ∙ (here more).0 in
-    record {
-      read = p.done ++ run.lines.rest;
-      sent = p.sent;
-      reads = within ops text state input output r w run k p;
-      sends = p.sends;
-      plain = told [] ∙ ap (out ops text) (append-nil (p.done ++ run.lines.rest));
-      plain_fault = ap fault_of (sym (append-nil (p.done ++ run.lines.rest))) ∙ faulty [];
-      out_is = λ more goes. told more;
-      fault_is = λ more goes. faulty more;
-    }
-
--- ---- the end of the text
-
-nothing_more : (r : Option (List ℕ)) (more : List ℕ) → IsAtEnd r → Goes r more → more ≡ []
-nothing_more None more h goes = goes
-nothing_more (Some xs) more h goes = goes ∙ h
-
-pub finished_plain : {T Q : Type 0} (ops : Tagging T) (text : T → List ℕ) (state : Q → State T) (input output r w : Option (List ℕ)) (run : Running Q)
-    → run.lines.rest ≡ [] → IsCounted run → Progress ops text state input output r w run → Finished ops text state input output r w run
-finished_plain ops text state input output r w run none k p = record {
-  read = p.done ++ run.lines.rest;
-  sent = p.sent;
-  reads = within ops text state input output r w run k p;
-  sends = p.sends;
-  out_is = ap (λ o. p.sent ++ o) (sym (append-nil run.out.items)) ∙ p.out_is [] ∙ ap (λ o. out ops text (p.done ++ o)) (sym none);
-  fault_is = p.fault_is [] ∙ ap (λ o. fault_of (p.done ++ o)) (sym none);
-}
-
-pub finished_last : {T Q : Type 0} (ops : Tagging T) (text : T → List ℕ) (state : Q → State T) (input output r w : Option (List ℕ)) (old new : Running Q) (l : Reading)
-    → next_line old.lines.rest ≡ None → 0 < length old.lines.rest → l.line ≡ old.lines.rest
-    → CarriedOut ops text state (record { lines = l; queue = old.queue; number = old.number; out = old.out }) new
-    → IsCounted old → Progress ops text state input output r w old → Finished ops text state input output r w new
-finished_last ops text state input output r w old new l none some line-is c k p =
-    let h : Bool = is_some (seen state old) in
-    let said-is : line_of h old.lines.rest ≡ Ok c.said = ap (line_of h) (sym line-is) ∙ c.is_said in
-    let one : lines_of old.lines.rest ≡ old.lines.rest ∷ [] = last_line old.lines.rest none some in
-    record {
-      read = p.done ++ old.lines.rest;
-      sent = p.sent;
-      reads = within ops text state input output r w old k p;
-      sends = p.sends;
-      out_is =
-          ap (λ o. p.sent ++ o) (sym (append-nil new.out.items) ∙ c.out_is [])
-          ∙ ap (λ o. p.sent ++ (old.out.items ++ written ops text (seen state old) (and_on o (λ k. commands (headed_by h k) [])))) (sym said-is)
-          ∙ ap (λ ls. p.sent ++ (old.out.items ++ written ops text (seen state old) (commands h ls))) (sym one)
-          ∙ p.out_is old.lines.rest;
-      fault_is =
-          ap (λ b. first_fault b new.number []) c.headed
-          ∙ ap (λ n. first_fault (headed_by h c.said) n []) c.number
-          ∙ ap (λ o. fault_or old.number o (λ k. first_fault (headed_by h k) (suc old.number) [])) (sym said-is)
-          ∙ ap (first_fault h old.number) (sym one)
-          ∙ p.fault_is old.lines.rest;
-    }
-
--- the last line is faulty
-pub fault_last : {T Q : Type 0} (ops : Tagging T) (text : T → List ℕ) (state : Q → State T) (input output r w : Option (List ℕ)) (old : Running Q) (cause : LineCause)
-    → IsAtEnd r → next_line old.lines.rest ≡ None → 0 < length old.lines.rest → line_of (is_some (seen state old)) old.lines.rest ≡ Err cause
-    → IsCounted old → Progress ops text state input output r w old → Ended ops text (Some (old.number, cause)) input output r w old.out.items
-fault_last ops text state input output r w old cause end none some e k p =
-    let here = fault_first ops text (seen state old) old.number cause old.lines.rest old.lines.rest [] (last_line old.lines.rest none some) e in
-    let told : p.sent ++ old.out.items ≡ out ops text (p.done ++ old.lines.rest) =
-    ap (λ o. p.sent ++ o) (sym (append-nil old.out.items) ∙ ap (λ o. old.out.items ++ o) (sym here.1)) ∙ p.out_is old.lines.rest in
-    let faulty : fault_of (p.done ++ old.lines.rest) ≡ Some (old.number, cause) = sym (p.fault_is old.lines.rest) ∙ here.0 in
-    let same = λ (more : List ℕ) (goes : Goes r more). sym (ap (λ m. (p.done ++ old.lines.rest) ++ m) (nothing_more r more end goes) ∙ append-nil (p.done ++ old.lines.rest)) in
-    record {
-      read = p.done ++ old.lines.rest;
-      sent = p.sent;
-      reads = within ops text state input output r w old k p;
-      sends = p.sends;
-      plain = told;
-      plain_fault = faulty;
-      out_is = λ more goes. told ∙ ap (out ops text) (same more goes);
-      fault_is = λ more goes. ap fault_of (sym (same more goes)) ∙ faulty;
-    }
-
-ended_by : {T Q : Type 0} (ops : Tagging T) (text : T → List ℕ) (state : Q → State T) (input output r w : Option (List ℕ)) (run : Running Q) (fault : Option (ℕ × LineCause))
-    → IsAtEnd r → first_fault (is_some (seen state run)) run.number [] ≡ fault → Finished ops text state input output r w run → Ended ops text fault input output r w run.out.items
-ended_by ops text state input output r w run fault end e f =
-    let same = λ (more : List ℕ) (goes : Goes r more). sym (ap (λ m. f.read ++ m) (nothing_more r more end goes) ∙ append-nil f.read) in
-    record {
-      read = f.read;
-      sent = f.sent;
-      reads = f.reads;
-      sends = f.sends;
-      plain = f.out_is;
-      plain_fault = sym f.fault_is ∙ e;
-      out_is = λ more goes. f.out_is ∙ ap (out ops text) (same more goes);
-      fault_is = λ more goes. ap fault_of (sym (same more goes)) ∙ sym f.fault_is ∙ e;
-    }
-
-closes : {T Q : Type 0} (ops : Tagging T) (text : T → List ℕ) (state : Q → State T) (input output r w : Option (List ℕ)) (run : Running Q) (queue : Option Q) → run.queue ≡ queue
-    → IsAtEnd r → Finished ops text state input output r w run → Ends ops text input output r w run.out.items (closed_of (is_some queue) run.number)
-closes ops text state input output r w run None q end f =
-    ended_by ops text state input output r w run (Some (run.number, Hz)) end (ap (λ q. first_fault (is_some (option_map state q)) run.number []) q) f
-closes ops text state input output r w run (Some x) q end f =
-    (end, ended_by ops text state input output r w run None end (ap (λ q. first_fault (is_some (option_map state q)) run.number []) q) f)
-
-pub closed : {T Q : Type 0} (ops : Tagging T) (text : T → List ℕ) (state : Q → State T) (input output r w : Option (List ℕ)) (run : Running Q)
-    → IsAtEnd r → Finished ops text state input output r w run → Ends ops text input output r w run.out.items (closed_of (is_some run.queue) run.number)
-closed ops text state input output r w run end f = closes ops text state input output r w run run.queue refl end f
-
--- ---- the last replies
-
-known_end : (input r : Option (List ℕ)) (read : List ℕ) → Consumes input r read → (P : List ℕ → Type 0) → ((more : List ℕ) → Goes r more → P (read ++ more)) → IfSome input P
-known_end None r read h P f = tt
-known_end (Some xs) None read h P f = absurd h
-known_end (Some xs) (Some ys) read h P f = subst P (sym h) (f ys refl)
-
-more_sent : (output w w' : Option (List ℕ)) (sent pending unsaid bytes : List ℕ) → Appends output w sent → AppendsSome w w' pending → sent ++ (pending ++ unsaid) ≡ bytes → AppendsSome output w' bytes
-more_sent output w w' sent pending unsaid bytes h (s1, s2, app, parts) e = (
-  sent ++ s1,
-  s2 ++ unsaid,
-  appends_twice output w w' sent s1 h app,
-  append_assoc sent s1 (s2 ++ unsaid) ∙ ap (λ o. sent ++ o) (sym (append_assoc s1 s2 unsaid) ∙ ap (λ o. o ++ unsaid) parts) ∙ e,
+-- a first part of what is pending is written
+more_sent : (output w w' : Option (List ℕ)) (sent pending dropped bytes : List ℕ) → Appends output w sent → AppendsSome w w' pending → sent ++ (pending ++ dropped) ≡ bytes
+    → AppendsSome output w' bytes
+more_sent output w w' sent pending dropped bytes h (part, unsent, app, parts) e = (
+  sent ++ part,
+  unsent ++ dropped,
+  Appends-trans output w w' sent part h app,
+  append_assoc sent part (unsent ++ dropped) ∙ ap (λ o. sent ++ o) (sym (append_assoc part unsent dropped) ∙ ap (λ o. o ++ dropped) parts) ∙ e,
 )
 
--- what is at its end goes on with nothing
-at_end : (r : Option (List ℕ)) (read more : List ℕ) → IsAtEnd r → Goes r more → read ≡ read ++ more
-at_end r read more end goes = sym (ap (λ m. read ++ m) (nothing_more r more end goes) ∙ append-nil read)
+-- Each state of the walk has a state of the queue, once there is one, and the first has none.
+module _ {T S : Type 0} (ops : Tagging T) (text : T → List ℕ) (seen : S → Option (State T)) where
+  abbrev takes : S → List ℕ → List ℕ → S → Type 0
+  takes s line answer t = Answers ops text (seen s) line answer (seen t)
 
-sent_to_end : {T : Type 0} (ops : Tagging T) (text : T → List ℕ) (input output r w w' : Option (List ℕ)) (pending : List ℕ)
-    → IsAtEnd r → Ended ops text None input output r w pending → Appends w w' pending
-    → IfSome input (λ i. (length i ≤ most_bytes) × (fault_of i ≡ None) × Appends output w' (out ops text i))
-sent_to_end ops text input output r w w' pending end e app =
-    known_end input r e.read e.reads.0 (λ i. (length i ≤ most_bytes) × (fault_of i ≡ None) × Appends output w' (out ops text i))
-    (λ more goes. (
-      subst (λ i. length i ≤ most_bytes) (at_end r e.read more end goes) e.reads.1,
-      e.fault_is more goes,
-      subst (Appends output w') (e.out_is more goes) (appends_twice output w w' e.sent pending e.sends app),
-    ))
+  abbrev refuses : S → List ℕ → LineCause → Type 0
+  refuses s line cause = line_of (is_some (seen s)) line ≡ Err cause
 
-all_sent : {T : Type 0} (ops : Tagging T) (text : T → List ℕ) (fault : Option (ℕ × LineCause)) (input output r w w' : Option (List ℕ)) (pending : List ℕ)
-    → Ended ops text fault input output r w pending → Appends w w' pending → IfSome input (λ i. (fault_of i ≡ fault) × Appends output w' (out ops text i))
-all_sent ops text fault input output r w w' pending e app =
-    known_end input r e.read e.reads.0 (λ i. (fault_of i ≡ fault) × Appends output w' (out ops text i))
-    (λ more goes. (e.fault_is more goes, subst (Appends output w') (e.out_is more goes) (appends_twice output w w' e.sent pending e.sends app)))
+  abbrev headed : S → Bool
+  headed s = is_some (seen s)
 
-some_sent : {T : Type 0} (ops : Tagging T) (text : T → List ℕ) (fault : Option (ℕ × LineCause)) (input output r w w' : Option (List ℕ)) (pending : List ℕ)
-    → Ended ops text fault input output r w pending → AppendsSome w w' pending → (read : List ℕ) × ReadsWithin most_bytes input r read × AppendsSome output w' (out ops text read)
-some_sent ops text fault input output r w w' pending e app =
-    (e.read, e.reads, more_sent output w w' e.sent pending [] (out ops text e.read) e.sends app (ap (λ o. e.sent ++ o) (append-nil pending) ∙ e.plain))
+  -- what is written for lines from a state on
+  abbrev rest_text : S → List (List ℕ) → List ℕ
+  rest_text s lines = written ops text (seen s) (commands (headed s) lines)
 
-stop_sent : {T : Type 0} (ops : Tagging T) (text : T → List ℕ) (asked : List ℕ → List ℕ) (most : ℕ) (input output r w w' : Option (List ℕ)) (pending : List ℕ)
-    → Stopped ops text asked most input output r w pending → AppendsSome w w' pending → (read : List ℕ) × ReadsWithin most input r read × AppendsSome output w' (out ops text (asked read))
-stop_sent ops text asked most input output r w w' pending s app =
-    (s.read, s.reads, more_sent output w w' s.sent pending s.unsaid (out ops text (asked s.read)) s.sends app s.out_is)
+  -- behind lines that are not faulty, the first fault is that of the rest
+  fault_behind : (s t : S) (lines more : List (List ℕ)) (answers : List ℕ) (n : ℕ) → GoesThrough takes s lines answers t
+      → first_fault (headed s) n (lines ++ more) ≡ first_fault (headed t) (n + length lines) more
+  fault_behind s t [] more answers n (same, none) =
+      let number : n ≡ n + 0 = omega arith in
+      ap (λ x. first_fault (headed x) n more) (sym same) ∙ ap (λ k. first_fault (headed t) k more) number
+  fault_behind s t (line ∷ lines) more answers n (next, answer, others, a, g, parts) =
+      let number : suc n + length lines ≡ n + suc (length lines) = omega arith in
+      ap (λ o. fault_or n o (λ k. first_fault (headed_by (headed s) k) (suc n) (lines ++ more))) a.is_line
+      ∙ ap (λ b. first_fault b (suc n) (lines ++ more)) (sym a.headed)
+      ∙ fault_behind next t lines more others (suc n) g
+      ∙ ap (λ k. first_fault (headed t) k more) number
 
-pub runs_as : {T : Type 0} (ops : Tagging T) (text : T → List ℕ) (input output r w w' : Option (List ℕ)) (pending : List ℕ) (result : Result ⊤ ScriptFault) (b : Bool)
-    → Ends ops text input output r w pending result → (b ≡ true → Appends w w' pending) → AppendsSome w w' pending → RunsAs ops text input r output w' (settled_of result b)
-runs_as ops text input output r w w' pending (Ok x) true e all some = (e.0, sent_to_end ops text input output r w w' pending e.0 e.1 (all refl))
-runs_as ops text input output r w w' pending (Ok x) false e all some = some_sent ops text None input output r w w' pending e.1 some
-runs_as ops text input output r w w' pending (Err (ends.Line n cause)) true e all some = ((e.read, e.reads, e.plain_fault), all_sent ops text (Some (n, cause)) input output r w w' pending e (all refl))
-runs_as ops text input output r w w' pending (Err (ends.Line n cause)) false e all some = some_sent ops text (Some (n, cause)) input output r w w' pending e some
-runs_as ops text input output r w w' pending (Err ends.Read) b e all some = stop_sent ops text whole_lines (suc most_bytes) input output r w w' pending e some
-runs_as ops text input output r w w' pending (Err ends.Write) b e all some = stop_sent ops text (λ xs. xs) most_bytes input output r w w' pending e some
-runs_as ops text input output r w w' pending (Err ends.Memory) b e all some = stop_sent ops text (λ xs. xs) most_bytes input output r w w' pending e some
+  -- what is written for them, and then what is written for the rest
+  text_behind : (s t : S) (lines more : List (List ℕ)) (answers : List ℕ) → GoesThrough takes s lines answers t → rest_text s (lines ++ more) ≡ answers ++ rest_text t more
+  text_behind s t [] more answers (same, none) = ap (λ x. rest_text x more) (sym same) ∙ ap (λ w. w ++ rest_text t more) (sym none)
+  text_behind s t (line ∷ lines) more answers (next, answer, others, a, g, parts) =
+      ap (λ o. written ops text (seen s) (and_on o (λ k. commands (headed_by (headed s) k) (lines ++ more)))) a.is_line
+      ∙ sym (a.rest (commands (headed_by (headed s) a.line) (lines ++ more)))
+      ∙ ap (λ b. answer ++ written ops text (seen next) (commands b (lines ++ more))) (sym a.headed)
+      ∙ ap (λ w. answer ++ w) (text_behind next t lines more others g)
+      ∙ sym (append_assoc answer others (rest_text t more))
+      ∙ ap (λ w. w ++ rest_text t more) (sym parts)
+
+  -- the fault of what is left is the first one, and nothing is written for it
+  fault_left : (t : S) (n : ℕ) (others : List (List ℕ)) (fault : Option (ℕ × LineCause)) → IsFault refuses headed t n others fault
+      → (first_fault (headed t) n others ≡ fault) × (rest_text t others ≡ [])
+  fault_left t n [] None e = (ap (λ b. first_fault b n []) e, refl)
+  fault_left t n [] (Some (m, cause)) (number, hz, e) = (ap (λ b. first_fault b n []) e ∙ ap (λ k. Some (k, Hz)) (sym number) ∙ ap (λ c. Some (m, c)) (sym hz), refl)
+  fault_left t n (line ∷ others) None e = absurd e
+  fault_left t n (line ∷ others) (Some (m, cause)) (number, e) = (
+    ap (λ o. fault_or n o (λ k. first_fault (headed_by (headed t) k) (suc n) others)) e ∙ ap (λ k. Some (k, cause)) (sym number),
+    ap (λ o. written ops text (seen t) (and_on o (λ k. commands (headed_by (headed t) k) others))) e,
+  )
+
+  module _ (first : S) (opens : seen first ≡ None) where
+    -- what is written for a text that begins with these lines
+    out_behind : (bytes : List ℕ) (lines others : List (List ℕ)) (answers : List ℕ) (t : S) → lines_of bytes ≡ lines ++ others → GoesThrough takes first lines answers t
+        → out ops text bytes ≡ answers ++ rest_text t others
+    out_behind bytes lines others answers t split g =
+        ap (λ s. written ops text s (commands (is_some s) (lines_of bytes))) (sym opens) ∙ ap (rest_text first) split ∙ text_behind first t lines others answers g
+
+    -- the fault of the text, and what is written for it
+    abbrev Told : Option (ℕ × LineCause) → List ℕ → List ℕ → Type 0
+    Told fault answers bytes = (fault_of bytes ≡ fault) × (out ops text bytes ≡ answers)
+
+    module _ {input output r w : Option (List ℕ)} {last : S} {pending : List ℕ} where
+      told : {fault : Option (ℕ × LineCause)} (e : Ending takes refuses headed fault first input output last r w pending) (more : List ℕ) → (IsAtEnd r → more ≡ [])
+          → Told fault (e.sent ++ pending) (e.read ++ more)
+      told {fault} e more end =
+          let (others, split, is_fault) = e.ends more end in
+          let left = fault_left last (suc (length e.lines)) others fault is_fault in
+          let number : 1 + length e.lines ≡ suc (length e.lines) = omega arith in (
+            ap (λ s. first_fault (is_some s) 1 (lines_of (e.read ++ more))) (sym opens)
+                ∙ ap (first_fault (headed first) 1) split
+                ∙ fault_behind first last e.lines others e.answers 1 e.goes
+                ∙ ap (λ k. first_fault (headed last) k others) number
+                ∙ left.0,
+            out_behind (e.read ++ more) e.lines others e.answers last split e.goes ∙ ap (λ w. e.answers ++ w) left.1 ∙ append-nil e.answers ∙ sym e.out,
+          )
+
+      told_read : {fault : Option (ℕ × LineCause)} (e : Ending takes refuses headed fault first input output last r w pending) → Told fault (e.sent ++ pending) e.read
+      told_read {fault} e = of_read r e.read (Told fault (e.sent ++ pending)) (told e)
+
+      -- what is pending is written
+      all_sent : {fault : Option (ℕ × LineCause)} (w' : Option (List ℕ)) (e : Ending takes refuses headed fault first input output last r w pending) (bytes : List ℕ)
+          → Told fault (e.sent ++ pending) bytes → Appends w w' pending → (fault_of bytes ≡ fault) × Appends output w' (out ops text bytes)
+      all_sent w' e bytes t app = (t.0, subst (Appends output w') (sym t.1) (Appends-trans output w w' e.sent pending e.sends app))
+
+      -- or a first part of it
+      some_sent : {fault : Option (ℕ × LineCause)} (w' : Option (List ℕ)) → Ending takes refuses headed fault first input output last r w pending → AppendsSome w w' pending
+          → RunsPartly ops text input r output w'
+      some_sent w' e app =
+          (e.read, e.reads, more_sent output w w' e.sent pending [] (out ops text e.read) e.sends app (ap (λ o. e.sent ++ o) (append-nil pending) ∙ sym (told_read e).1))
+
+    -- what is written for the lines that were taken, and for more
+    halt_sent : {most : ℕ} {input output r w : Option (List ℕ)} {pending : List ℕ} (w' : Option (List ℕ)) (h : Halt takes most first input output r w pending) (more : List ℕ)
+        → AppendsSome w w' pending → AppendsSome output w' (out ops text (h.done ++ more))
+    halt_sent {output = output} {w = w} {pending = pending} w' h more app =
+        let rest : List ℕ = rest_text h.last (lines_of more) in
+        more_sent output w w' h.sent pending (h.dropped ++ rest) (out ops text (h.done ++ more)) h.sends app
+        (ap (λ o. h.sent ++ o) (sym (append_assoc pending h.dropped rest))
+        ∙ sym (append_assoc h.sent (pending ++ h.dropped) rest)
+        ∙ ap (λ o. o ++ rest) h.out
+        ∙ sym (out_behind (h.done ++ more) h.took.lines (lines_of more) h.took.answers h.last (h.took.split more) h.took.goes))
+
+    pub runs_as : (input output r w w' : Option (List ℕ)) (last : S) (walk : Walk) (result : Result ⊤ ScriptFault) (b : Bool) → EndsAs takes refuses headed first input output last r w walk result
+        → (b ≡ true → Appends w w' walk.out.items) → AppendsSome w w' walk.out.items → RunsAs ops text input r output w' (settled_of result b)
+    runs_as input output r w w' last walk (Ok x) true (end, e) all some =
+        let sent = all_sent w' e e.read (told_read e) (all refl) in
+        (end, Consumes-whole input r e.read _ e.reads.0 end (e.reads.1, sent.0, sent.1))
+    runs_as input output r w w' last walk (Ok x) false (end, e) all some = some_sent w' e some
+    runs_as input output r w w' last walk (Err (ends.Line n cause)) true e all some =
+        ((e.read, e.reads, (told_read e).0), of_text input r e.read e.reads.0 _ (λ more end. all_sent w' e (e.read ++ more) (told e more end) (all refl)))
+    runs_as input output r w w' last walk (Err (ends.Line n cause)) false e all some = some_sent w' e some
+    runs_as input output r w w' last walk (Err ends.Read) b h all some =
+        (h.done ++ h.rest, h.reads, subst (λ i. AppendsSome output w' (out ops text i)) (sym (whole_on h.done h.rest h.took.whole)) (halt_sent w' h (whole_lines h.rest) some))
+    runs_as input output r w w' last walk (Err ends.Write) b (h, answers) all some = (h.done ++ h.rest, h.reads, halt_sent w' h h.rest some)
+    runs_as input output r w w' last walk (Err ends.Memory) b h all some = (h.done ++ h.rest, h.reads, halt_sent w' h h.rest some)

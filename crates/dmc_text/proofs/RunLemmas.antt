@@ -1,5 +1,5 @@
 -- Runs of scripts.
-use Rattle.std.proofs.Common.{◌≡◌, ℕ, List, [], ◌∷◌, ◌++◌, refl, ap, ◌∙◌, append_assoc, Some, Result, Ok, Err}
+use Rattle.std.proofs.Common.{◌≡◌, ℕ, List, [], ◌∷◌, ◌++◌, refl, ap, ◌∙◌, Some, Result, Ok, Err}
 use Rattle.std.specs.Prelude.{OnOk}
 use Rattle.dmc_types.specs.declared.command.Command.{Command}
 use Rattle.dmc_tag.specs.Tag.{Tagging}
@@ -27,17 +27,14 @@ written_alike ops text law (Ask command ∷ lines) s u h =
     ap (λ reply. with_line_end (reply_text text reply) ++ written ops text (Some ((step ops s command).0)) lines) same.0
     ∙ ap (λ more. with_line_end (reply_text text ((step ops u command).1)) ++ more) (written_alike ops text law lines ((step ops s command).0) ((step ops u command).0) same.1)
 
--- of two facts of an Ok a third follows
-pub on_both : {X E : Type 0} {A B C : Type 0} (r : Result X E) → OnOk r A → OnOk r B → (A → B → C) → OnOk r C
-on_both (Ok x) a b f = f a b
-on_both (Err e) a b f = tt
+-- of a fact of an Ok another follows
+pub on_ok : {X E : Type 0} {A B : Type 0} (r : Result X E) → OnOk r A → (A → B) → OnOk r B
+on_ok (Ok x) a f = f a
+on_ok (Err e) a f = tt
 
 -- a command is answered, and then the rest from the state that is reached, or from one that agrees
 pub asked_alike : {T : Type 0} (ops : Tagging T) (text : T → List ℕ) (law : (s u : State T) (command : Command) → StandsFor s u → SameStep ops s u command)
-    (old new : List ℕ) (s u : State T) (command : Command) → new ≡ old ++ with_line_end (reply_text text ((step ops s command).1)) → StandsFor u ((step ops s command).0)
-    → (rest : List Line) → new ++ written ops text (Some u) rest ≡ old ++ written ops text (Some s) (Ask command ∷ rest)
-asked_alike ops text law old new s u command e h rest =
-    let reply = with_line_end (reply_text text ((step ops s command).1)) in
-    ap (λ w. w ++ written ops text (Some u) rest) e
-    ∙ append_assoc old reply (written ops text (Some u) rest)
-    ∙ ap (λ w. old ++ (reply ++ w)) (written_alike ops text law rest u ((step ops s command).0) h)
+    (s u : State T) (command : Command) → StandsFor u ((step ops s command).0)
+    → (rest : List Line) → with_line_end (reply_text text ((step ops s command).1)) ++ written ops text (Some u) rest ≡ written ops text (Some s) (Ask command ∷ rest)
+asked_alike ops text law s u command h rest =
+    ap (λ w. with_line_end (reply_text text ((step ops s command).1)) ++ w) (written_alike ops text law rest u ((step ops s command).0) h)

@@ -9,5 +9,6 @@ pub mod RoundTrip
 pub mod Texts
 pub mod Reading
 pub mod LineLaws
+pub mod Walks
 pub mod Runs
 pub mod RatioText

@@ -11,8 +11,9 @@ use Rattle.std.proofs.lemmas.List.Folds.{list_any-append}
 use Rattle.std.specs.Io.KnownBytes.{Keeps, Consumes}
 use Rattle.dmc_types.specs.Limits.{most_line_bytes}
 use Rattle.dmc_text.specs.declared.cause.LineCause.TheVariants.{Bytes}
+use Rattle.dmc_text.specs.Answers.{◌>>=◌}
 use Rattle.dmc_text.specs.Words.{words}
-use Rattle.dmc_text.specs.Lines.{kind, kind_of, is_clean, is_line_byte}
+use Rattle.dmc_text.specs.Lines.{kind, kind_of, said, line_of, is_clean, is_line_byte}
 use Rattle.dmc_text.specs.Reading.{Reading, is_end, next_line}
 use Rattle.dmc_text.specs.Texts.{onto, lines_of, has_end, whole_lines}
 use Rattle.std.proofs.lemmas.Option.{same_Some}
@@ -154,6 +155,10 @@ unclean line h = ap (λ b. b && list_all is_line_byte line) (lt-leb (length line
 pub long_kind : (headed : Bool) (line : List ℕ) → most_line_bytes < length line → kind_of headed line ≡ Err Bytes
 long_kind headed line h = ap (λ b. cond b (kind headed (words line)) (Err Bytes)) (unclean line h)
 
+-- so a line of a script is faulty
+pub long_line : (headed : Bool) (line : List ℕ) → most_line_bytes < length line → line_of headed line ≡ Err Bytes
+long_line headed line h = ap (λ k. k >>= λ x. said x (words line)) (long_kind headed line h)
+
 -- ---- bytes
 
 -- what keeps all bytes takes none
@@ -161,12 +166,6 @@ pub none_taken : (before after : Option (List ℕ)) → Keeps before after → C
 none_taken None after h = tt
 none_taken (Some xs) None h = h
 none_taken (Some xs) (Some ys) h = sym h
-
-pub consumes_twice : (a b c : Option (List ℕ)) (xs ys : List ℕ) → Consumes a b xs → Consumes b c ys → Consumes a c (xs ++ ys)
-consumes_twice None b c xs ys h k = tt
-consumes_twice (Some as') None c xs ys h k = absurd h
-consumes_twice (Some as') (Some bs) None xs ys h k = k
-consumes_twice (Some as') (Some bs) (Some cs) xs ys h k = h ∙ ap (λ w. xs ++ w) k ∙ sym (append_assoc xs ys cs)
 
 -- ---- whole lines
 

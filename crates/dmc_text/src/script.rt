@@ -1,21 +1,21 @@
 //! Scripts: each line's command is carried out, and its reply written.
-ghost use Rattle.std.specs.Prelude.{◌≡◌, ◌≢◌, ℕ, Option, None, true, ◌≤◌, ◌<◌, ◌-◌, ◌^◌, ◌++◌, ◌∷◌, [], List, length, OnOk, OnErr, IfOk, IfErr, MatchResult};
-ghost use Rattle.std.specs.Io.KnownBytes.{Appends, WriteAppends, IsAtEnd};
-ghost use Rattle.std.specs.IoError.{error_kind};
+ghost use Rattle.std.specs.Prelude.{◌≡◌, ◌++◌, ◌∷◌, List, OnOk, OnErr, Err, is_some};
+ghost use Rattle.std.specs.Option.{option_map};
 ghost use Rattle.dmc_types.specs.declared.refusal.ValueFault.TheVariants as faults;
 ghost use Rattle.dmc_tag.specs.State.{StandsFor, opening};
 ghost use Rattle.dmc_tag.specs.Step.{step};
+ghost use Rattle.dmc_text.specs.Lines.{line_of};
 ghost use Rattle.dmc_text.specs.Replies.{IsTellable, reply_text, tag_text};
-ghost use Rattle.std.specs.Prelude.{is_some};
-ghost use Rattle.std.specs.Option.{option_map};
-ghost use Rattle.dmc_text.specs.Texts.{with_line_end, value_text, headed_by, written, AppendsSome, RunsAs};
-ghost use Rattle.dmc_text.specs.Runs.{IsCut, CarriesOut, IsCounted, Turns, turn_of, Starts, Progress, Ends, closed_of, settled_of};
-ghost use Rattle.dmc_text.specs.Reading.{next_line};
+ghost use Rattle.dmc_text.specs.Texts.{with_line_end, value_text, headed_by, written, RunsAs};
+ghost use Rattle.dmc_text.specs.Walks.{IsCut};
+ghost use Rattle.dmc_text.specs.Runs.{answer_text, Answers, settled_of};
+ghost use Rattle.dmc_text.specs.LineLaws.{long_line};
 
 use crate::cause::LineCause;
 use crate::line::{Line, read_line};
-use crate::lines::LineReader;
+use crate::send::send;
 use crate::tag::TagText;
+use crate::walk::{TakesLines, Walk};
 use crate::write::write_reply;
 use dmc_tag::reply::Reply;
 use dmc_tag::scheduler::Scheduler;
@@ -24,7 +24,7 @@ use dmc_types::command::Command;
 use dmc_types::config::QueueConfig;
 use dmc_types::refusal::ValueFault;
 use std::alloc::{AllocError, Global};
-use std::io::{self, ErrorKind, Read, Write};
+use std::io::{Read, Write};
 use thiserror::Error;
 
 /// Makes the queue of a script, when its `hz` line is read.
@@ -105,16 +105,10 @@ pub enum ScriptFault {
     Memory,
 }
 
-/// A run of a script.
+/// The queue that answers a script. There is none before the `hz` line.
 #[derive(Drop)]
-struct Running<Q> {
-    lines: LineReader,
-    /// There is none before the `hz` line.
-    queue: Option<Q>,
-    /// The number of the next line.
-    number: u64,
-    /// What is to be written.
-    out: Vec<u8>,
+struct Answering<T: Tag, M: QueueMaker<T>> {
+    queue: Option<M::Queue>,
 }
 
 /// Carries out what a line says, and adds the line of its reply.
@@ -125,9 +119,10 @@ fn carry_out<T: TagText, M: QueueMaker<T>>(
     out: &mut Vec<u8>,
 ) -> Result<(), AllocError>
     ensures headed { OnOk result (is_some (option_map M.Queue.state queue.new) ≡ headed_by (is_some (option_map M.Queue.state queue.old)) line) }
-    ensures out { OnOk result ((rest : List Line) →
-        out.new.items ++ written T.ops (tag_text T.numerator T.denominator) (option_map M.Queue.state queue.new) rest
-        ≡ out.old.items ++ written T.ops (tag_text T.numerator T.denominator) (option_map M.Queue.state queue.old) (line ∷ rest)) }
+    ensures out { OnOk result (out.new.items ≡ out.old.items ++ answer_text T.ops (tag_text T.numerator T.denominator) (option_map M.Queue.state queue.old) line) }
+    ensures rest { OnOk result ((rest : List Line) →
+        answer_text T.ops (tag_text T.numerator T.denominator) (option_map M.Queue.state queue.old) line ++ written T.ops (tag_text T.numerator T.denominator) (option_map M.Queue.state queue.new) rest
+        ≡ written T.ops (tag_text T.numerator T.denominator) (option_map M.Queue.state queue.old) (line ∷ rest)) }
     ensures err { OnErr result (IsCut out.old.items out.new.items) }
 {
     match line {
@@ -144,164 +139,34 @@ fn carry_out<T: TagText, M: QueueMaker<T>>(
     }
 }
 
-/// Carries out the line that was found last. A faulty one is told by its cause, and changes nothing.
-fn answer_line<T: TagText, M: QueueMaker<T>>(
-    maker: &mut M,
-    run: &mut Running<M::Queue>,
-) -> Result<Option<LineCause>, AllocError>
-    requires { run.old.number < 2 ^ 64 - 1 }
-    ensures ok { IfOk result (CarriesOut T.ops (tag_text T.numerator T.denominator) M.Queue.state run.old run.new) }
-    ensures err { OnErr result (IsCut run.old.out.items run.new.out.items × (run.new.lines ≡ run.old.lines)) }
-{
-    let line = match read_line(run.lines.line(), run.queue.is_some()) {
-        Ok(line) => line,
-        Err(cause) => return Ok(Some(cause)),
-    };
-    carry_out(maker, &mut run.queue, line, &mut run.out)?;
-    run.number += 1;
-    Ok(None)
-}
+impl<T: TagText, M: QueueMaker<T>> TakesLines for Answering<T, M> {
+    type Maker = M;
 
-/// Writes what is to be written. Where the writer fails, the rest of it is dropped.
-fn send<W: Write>(out: &mut Vec<u8>, writer: &mut W) -> io::Result<()>
-    ensures ok { OnOk result (Appends (W.contents writer.old) (W.contents writer.new) out.old.items) }
-    ensures err { OnErr result (AppendsSome (W.contents writer.old) (W.contents writer.new) out.old.items) }
-    ensures empty { out.new.items ≡ [] }
-{
-    let sent = send_all(out, writer);
-    out.clear();
-    sent
-}
+    ghost headed = { λ s. is_some (option_map M.Queue.state s.queue) };
 
-/// Writes all bytes, again where a write was interrupted: that is never the error.
-pub fn send_all<W: Write>(bytes: &[u8], writer: &mut W) -> io::Result<()>
-    ensures ok { OnOk result (Appends (W.contents writer.old) (W.contents writer.new) bytes.now) }
-    ensures err { OnErr result (AppendsSome (W.contents writer.old) (W.contents writer.new) bytes.now) }
-    ensures retried { IfErr result (λ e. error_kind e ≢ ErrorKind.Interrupted) }
-{
-    let mut at = 0;
-    while at < bytes.len() {
-        match write_once(&bytes[at..], writer)? {
-            0 => return Err(io::Error::from(ErrorKind::WriteZero)),
-            n => at += n,
-        }
-    }
-    Ok(())
-}
+    ghost takes = { λ s line answer t. Answers T.ops (tag_text T.numerator T.denominator) (option_map M.Queue.state s.queue) line answer (option_map M.Queue.state t.queue) };
 
-/// Writes once, again where a write was interrupted: that is never the error.
-fn write_once<W: Write>(bytes: &[u8], writer: &mut W) -> io::Result<usize>
-    ensures bound { IfOk result (λ n. n ≤ length bytes.now) }
-    ensures bytes { WriteAppends (W.contents writer.old) (W.contents writer.new) result bytes.now }
-    ensures retried { IfErr result (λ e. error_kind e ≢ ErrorKind.Interrupted) }
-{
-    for _ in 0..u64::MAX {
-        match writer.write(bytes) {
-            Err(fault) if fault.kind() == ErrorKind::Interrupted => {}
-            result => return result,
-        }
-    }
-    Err(io::Error::from(ErrorKind::TimedOut))
-}
+    ghost refuses = { λ s line cause. line_of (is_some (option_map M.Queue.state s.queue)) line ≡ Err cause };
 
-/// What one turn of a run comes to.
-pub enum Turn {
-    /// There is more to do.
-    More,
-    /// The text is read to its end, and no whole line of it is left.
-    End,
-    /// The next line is faulty.
-    Faulty(LineCause),
-}
+    fn is_headed(&self) -> bool {
+        self.queue.is_some()
+    }
 
-/// Answers the next whole line, or else writes the replies and reads more.
-fn take_turn<T: TagText, M: QueueMaker<T>, R: Read, W: Write>(
-    maker: &mut M,
-    run: &mut Running<M::Queue>,
-    reader: &mut R,
-    writer: &mut W,
-) -> Result<Turn, ScriptFault>
-    requires { IsCounted run.old }
-    ensures { Turns T.ops (tag_text T.numerator T.denominator) M.Queue.state
-        (R.remaining reader.old) (W.contents writer.old) run.old (R.remaining reader.new) (W.contents writer.new) run.new result }
-{
-    if run.lines.find() {
-        return answered(answer_line(maker, run));
+    fn take(
+        &mut self,
+        maker: &mut M,
+        line: &[u8],
+        out: &mut Vec<u8>,
+    ) -> Result<Option<LineCause>, AllocError> {
+        let line = match read_line(line, self.queue.is_some()) {
+            Ok(line) => line,
+            Err(cause) => return Ok(Some(cause)),
+        };
+        carry_out(maker, &mut self.queue, line, out)?;
+        Ok(None)
     }
-    if run.lines.is_long() {
-        return Ok(Turn::Faulty(LineCause::Bytes));
-    }
-    if send(&mut run.out, writer).is_err() {
-        return Err(ScriptFault::Write);
-    }
-    match run.lines.fill(reader) {
-        Ok(true) => Ok(Turn::More),
-        Ok(false) => Ok(Turn::End),
-        Err(_) => Err(ScriptFault::Read),
-    }
-}
 
-/// What the answer to a line comes to.
-pub fn answered(answer: Result<Option<LineCause>, AllocError>) -> Result<Turn, ScriptFault>
-    ensures { result ≡ turn_of answer }
-{
-    match answer {
-        Ok(None) => Ok(Turn::More),
-        Ok(Some(cause)) => Ok(Turn::Faulty(cause)),
-        Err(_) => Err(ScriptFault::Memory),
-    }
-}
-
-/// Ends a run whose lines are all answered: without an `hz` line the text is faulty.
-fn close<Q>(run: &Running<Q>) -> Result<(), ScriptFault>
-    ensures { result ≡ closed_of (is_some run.now.queue) run.now.number }
-{
-    if run.queue.is_none() {
-        return Err(ScriptFault::Line(run.number, LineCause::Hz));
-    }
-    Ok(())
-}
-
-/// Answers the last line, which may lack its LF, and ends the run.
-fn finish<T: TagText, M: QueueMaker<T>>(
-    maker: &mut M,
-    run: &mut Running<M::Queue>,
-) -> Result<(), ScriptFault>
-    requires { IsCounted run.old }
-    ensures { (input output before after : Option (List ℕ)) →
-        Progress T.ops (tag_text T.numerator T.denominator) M.Queue.state input output before after run.old →
-        IsAtEnd before → next_line run.old.lines.rest ≡ None →
-        Ends T.ops (tag_text T.numerator T.denominator) input output before after run.new.out.items result }
-{
-    if !run.lines.find_last() {
-        return close(run);
-    }
-    match answer_line(maker, run) {
-        Ok(None) => close(run),
-        Ok(Some(cause)) => Err(ScriptFault::Line(run.number, cause)),
-        Err(_) => Err(ScriptFault::Memory),
-    }
-}
-
-/// Answers line after line, to the end of the text.
-fn run_lines<T: TagText, M: QueueMaker<T>, R: Read, W: Write>(
-    maker: &mut M,
-    run: &mut Running<M::Queue>,
-    reader: &mut R,
-    writer: &mut W,
-) -> Result<(), ScriptFault>
-    requires { Starts run.old }
-    ensures { Ends T.ops (tag_text T.numerator T.denominator) (R.remaining reader.old) (W.contents writer.old)
-        (R.remaining reader.new) (W.contents writer.new) run.new.out.items result }
-{
-    loop {
-        match take_turn(maker, run, reader, writer) {
-            Ok(Turn::More) => {}
-            Ok(Turn::End) => return finish(maker, run),
-            Ok(Turn::Faulty(cause)) => return Err(ScriptFault::Line(run.number, cause)),
-            Err(fault) => return Err(fault),
-        }
-    }
+    ghost long = { λ s line. long_line (is_some (option_map M.Queue.state s.queue)) line };
 }
 
 /// The room for replies: they are written before more lines are read, and no reply has more than ten times the bytes of its
@@ -319,29 +184,13 @@ pub fn run_script<T: TagText, M: QueueMaker<T>, R: Read, W: Write>(
     ensures { RunsAs T.ops (tag_text T.numerator T.denominator)
         (R.remaining reader.old) (R.remaining reader.new) (W.contents writer.old) (W.contents writer.new) result }
 {
-    let (Ok(lines), Ok(out)) = (LineReader::new(alloc), Vec::with_capacity(alloc, OUT)) else {
+    let Ok(mut walk) = Walk::new(alloc, OUT) else {
         return Err(ScriptFault::Memory);
     };
-    let mut run = Running {
-        lines,
-        queue: None,
-        number: 1,
-        out,
-    };
-    let result = run_lines(maker, &mut run, reader, writer);
-    let is_sent = send_last(&mut run.out, writer);
-    settled(result, is_sent)
-}
-
-/// Writes the last of what is to be written; false where the writer fails.
-fn send_last<W: Write>(out: &mut Vec<u8>, writer: &mut W) -> bool
-    ensures all { result ≡ true → Appends (W.contents writer.old) (W.contents writer.new) out.old.items }
-    ensures some { AppendsSome (W.contents writer.old) (W.contents writer.new) out.old.items }
-{
-    if send(out, writer).is_err() {
-        return false;
-    }
-    writer.flush().is_ok()
+    let mut answering: Answering<T, M> = Answering { queue: None };
+    let ended = walk.run(&mut answering, maker, reader, writer);
+    let is_sent = send(walk.unsent(), writer);
+    settled(ended, is_sent)
 }
 
 /// What a run comes to whose last replies were sent, or were not.

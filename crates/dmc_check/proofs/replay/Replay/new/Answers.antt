@@ -1,5 +1,5 @@
 -- No event replays, and the queue is in the opening state.
-use Rattle.std.proofs.Common.{◌≡◌, refl, sym, subst}
+use Rattle.std.proofs.Common.{refl, sym, subst}
 use Rattle.dmc_tag.specs.State.{State, StandsFor, opening}
 use Rattle.dmc_check.proofs.replay.Replay.new.Goals as goal
 

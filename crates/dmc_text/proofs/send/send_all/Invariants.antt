@@ -1,7 +1,7 @@
 -- The first bytes are written.
 use Rattle.std.proofs.Common.{◌-◌, ◌≤◌, take, length}
 use Rattle.std.specs.Io.KnownBytes.{Appends}
-use Rattle.dmc_text.proofs.script.send_all.Given as goal
+use Rattle.dmc_text.proofs.send.send_all.Given as goal
 
 abbrev pub invariant-loop-at : goal.invariant-loop-at
 invariant-loop-at g l = record {

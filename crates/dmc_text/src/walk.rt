@@ -1,0 +1,167 @@
+//! The lines of a text, taken one after the other.
+ghost use Rattle.std.specs.Prelude.{◌≡◌, ◌≤◌, ◌<◌, ◌-◌, ◌^◌, ℕ, Bool, List, None, [], length, IfOk};
+ghost use Rattle.dmc_types.specs.Limits.{most_line_bytes};
+ghost use Rattle.dmc_text.specs.declared.cause.LineCause.{LineCause};
+ghost use Rattle.dmc_text.specs.declared.cause.LineCause.TheVariants.{Bytes};
+ghost use Rattle.dmc_text.specs.Reading.{most_bytes, next_line};
+ghost use Rattle.dmc_text.specs.Walks.{IsAnswer, Starts, Finds, Takes, TakesLast, end_result, EndsAs};
+
+use crate::cause::LineCause;
+use crate::lines::LineReader;
+use crate::script::ScriptFault;
+use crate::send::drain;
+use std::alloc::{AllocError, Global};
+use std::io::{Read, Write};
+
+/// What takes the lines of a text in turn.
+pub trait TakesLines {
+    /// What its queue is made with.
+    type Maker;
+
+    /// Whether an `hz` line was taken.
+    ghost headed: { Self → Bool };
+
+    /// From one state to the next by a line, and what is to be written for it.
+    ghost takes: { Self → List ℕ → List ℕ → Self → Type 0 };
+
+    /// Whether a line is faulty in a state, for a cause.
+    ghost refuses: { Self → List ℕ → LineCause → Type 0 };
+
+    /// Whether an `hz` line was taken.
+    fn is_headed(&self) -> bool
+        ensures { result ≡ headed self.now };
+
+    /// Takes a line, without its LF, and adds what is to be written for it. A faulty one is told by its cause, and changes
+    /// nothing.
+    fn take(
+        &mut self,
+        maker: &mut Self::Maker,
+        line: &[u8],
+        out: &mut Vec<u8>,
+    ) -> Result<Option<LineCause>, AllocError>
+        ensures { IsAnswer takes refuses self.old line.now self.new out.old.items out.new.items result };
+
+    /// A line that is too long is faulty.
+    ghost long: { (state : Self) (line : List ℕ) → most_line_bytes < length line → refuses state line Bytes };
+}
+
+/// The lines of a text, as far as they are taken, and what is to be written for them.
+#[derive(Drop)]
+pub struct Walk {
+    lines: LineReader,
+    /// The number of the next line.
+    number: u64,
+    /// What is to be written.
+    out: Vec<u8>,
+}
+
+impl Walk {
+    /// A walk that has read nothing yet, with so much room for what is to be written.
+    pub fn new(alloc: Global, room: usize) -> Result<Walk, AllocError>
+        ensures { IfOk result Starts }
+    {
+        Ok(Walk {
+            lines: LineReader::new(alloc)?,
+            number: 1,
+            out: Vec::with_capacity(alloc, room)?,
+        })
+    }
+
+    /// Finds the next whole line. While there is none, writes what is to be written, and then reads more. False at the end
+    /// of the text.
+    fn find<R: Read, W: Write>(
+        &mut self,
+        reader: &mut R,
+        writer: &mut W,
+    ) -> Result<bool, ScriptFault>
+        requires { self.old.lines.taken ≤ most_bytes }
+        ensures { Finds (R.remaining reader.old) (W.contents writer.old) self.old (R.remaining reader.new) (W.contents writer.new) self.new result }
+    {
+        while !self.lines.find() {
+            if self.lines.is_long() {
+                return Err(ScriptFault::Line(self.number, LineCause::Bytes));
+            }
+            if drain(&mut self.out, writer).is_err() {
+                return Err(ScriptFault::Write);
+            }
+            match self.lines.fill(reader) {
+                Ok(true) => {}
+                Ok(false) => return Ok(false),
+                Err(_) => return Err(ScriptFault::Read),
+            }
+        }
+        Ok(true)
+    }
+
+    /// Takes the line that was found last.
+    fn take<L: TakesLines>(
+        &mut self,
+        taker: &mut L,
+        maker: &mut L::Maker,
+    ) -> Result<(), ScriptFault>
+        requires { self.old.number < 2 ^ 64 - 1 }
+        ensures { Takes L.takes L.refuses taker.old self.old taker.new self.new result }
+    {
+        match taker.take(maker, self.lines.line(), &mut self.out) {
+            Ok(None) => {
+                self.number += 1;
+                Ok(())
+            }
+            Ok(Some(cause)) => Err(ScriptFault::Line(self.number, cause)),
+            Err(_) => Err(ScriptFault::Memory),
+        }
+    }
+
+    /// Takes the last line, where it lacks its LF.
+    fn take_last<L: TakesLines>(
+        &mut self,
+        taker: &mut L,
+        maker: &mut L::Maker,
+    ) -> Result<(), ScriptFault>
+        requires number { self.old.number < 2 ^ 64 - 1 }
+        requires none { next_line self.old.lines.rest ≡ None }
+        ensures { TakesLast L.takes L.refuses taker.old self.old taker.new self.new result }
+    {
+        if !self.lines.find_last() {
+            return Ok(());
+        }
+        self.take(taker, maker)
+    }
+
+    /// Ends a text whose lines are all taken: without an `hz` line it is faulty.
+    fn close<L: TakesLines>(&self, taker: &L) -> Result<(), ScriptFault>
+        ensures { result ≡ end_result (L.headed taker.now) self.now.number }
+    {
+        if !taker.is_headed() {
+            return Err(ScriptFault::Line(self.number, LineCause::Hz));
+        }
+        Ok(())
+    }
+
+    /// Takes line after line, to the end of the text or to the first faulty one. What is to be written is written before more
+    /// is read; the last of it is left.
+    pub fn run<L: TakesLines, R: Read, W: Write>(
+        &mut self,
+        taker: &mut L,
+        maker: &mut L::Maker,
+        reader: &mut R,
+        writer: &mut W,
+    ) -> Result<(), ScriptFault>
+        requires { Starts self.old }
+        ensures { EndsAs L.takes L.refuses L.headed taker.old (R.remaining reader.old) (W.contents writer.old)
+            taker.new (R.remaining reader.new) (W.contents writer.new) self.new result }
+    {
+        while self.find(reader, writer)? {
+            self.take(taker, maker)?;
+        }
+        self.take_last(taker, maker)?;
+        self.close(taker)
+    }
+
+    /// What is left to be written.
+    pub fn unsent(&self) -> &[u8]
+        ensures { result.now ≡ self.now.out.items }
+    {
+        &self.out
+    }
+}

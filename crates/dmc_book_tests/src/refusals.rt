@@ -1,8 +1,9 @@
 ghost use Rattle.std.specs.Prelude.{◌≡◌};
 
-use crate::books::{
-    Book, LONG, ONE, SEVEN, ZERO, enroll, must_enroll, open, open_book, open_client_desks,
-    open_other, open_queue, pull, submit, try_submit, wait_config,
+use crate::calls::{enroll, must_enroll, pull, submit, try_submit};
+use crate::opening::{
+    Book, LONG, ONE, SEVEN, ZERO, open, open_book, open_client_desks, open_other, open_queue,
+    wait_config,
 };
 use dmc_book::fault::{NewFault, RunFault, SubmitCause};
 use dmc_book::pass::WorkerPass;
@@ -106,7 +107,7 @@ fn twice<S: Setup>(alloc: Global, blank: Blank) -> Result<Option<NewFault>, Fail
     let mut mint = blank.open::<S>();
     let config = wait_config(LONG)?;
     let desks = open_client_desks(alloc, &mut mint)?;
-    match open_book(alloc, config, &mut mint, desks, &[SEVEN, SEVEN], 8) {
+    match open_book(alloc, config, ZERO, &mut mint, desks, &[SEVEN, SEVEN], 8) {
         Ok(_) => Ok(None),
         Err(NewFault::Memory) => Err(NewFault::Memory.into()),
         Err(cause) => Ok(Some(cause)),

@@ -1,7 +1,8 @@
 ghost use Rattle.std.specs.Prelude.{◌≡◌, IsTrue};
 ghost use Rattle.dmc_ledger.specs.Bundles.{IsOnlyTill, IsPair, client_side, server_side};
 
-use crate::books::{Book, Opened, only, open, open_other, open_queue, play};
+use crate::books::play;
+use crate::opening::{Book, Opened, only, open, open_other, open_queue};
 use dmc_book::pass::WorkerPass;
 use dmc_book::seat::Seat;
 use dmc_book::settled::Settled;

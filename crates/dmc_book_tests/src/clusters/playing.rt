@@ -1,14 +1,14 @@
 //! What two clients and two servers do.
-use super::setup::{Book, Cluster};
+use super::setup::Cluster;
+use crate::calls::{pull, respond, stamp, stamp_and_submit};
+use crate::opening::Book;
 use dmc_book::pass::WorkerPass;
 use dmc_ledger::bundle::StampTills;
 use dmc_ledger::setup::Setup;
 use dmc_tag::reply::Reply;
 use dmc_tlock::book::TrackerBook;
-use dmc_types::command::Command;
 use dmc_types::config::PhaseType;
 use dmc_types::ids::{ClientId, ServerId, Token};
-use dmc_types::moment::Moment;
 use std::test::Fail;
 
 /// Stamps and submits a request.
@@ -18,38 +18,18 @@ fn submit<S: Setup>(
     tracker: &mut TrackerBook<S>,
     tills: &mut StampTills<S>,
 ) -> Result<(), Fail> {
-    let stamp = tracker.stamp(book.server(), tills)?;
-    match book.submit(pass, tills, stamp, Token(5), Moment::zero()) {
-        Ok(_) => Ok(()),
-        Err(fault) => Err(fault.cause.into()),
+    match stamp_and_submit(book, pass, tracker, tills, Token(5))? {
+        (_, Ok(_)) => Ok(()),
+        (_, Err((_, cause))) => Err(cause.into()),
     }
 }
 
 /// Pulls a request.
-fn pull<S: Setup>(book: &mut Book<S>, pass: &mut WorkerPass<S>) -> Result<(), Fail> {
-    let pull = Command::Pull { at: Moment::zero() };
-    match book.run(pass, pull)? {
+fn pull_request<S: Setup>(book: &mut Book<S>, pass: &mut WorkerPass<S>) -> Result<(), Fail> {
+    match pull(book, pass)? {
         Reply::Granted { .. } => Ok(()),
         _ => Err(Fail::new("a grant")),
     }
-}
-
-/// Responds with a unit of the pass.
-fn respond<S: Setup>(
-    pass: &mut WorkerPass<S>,
-    tracker: &mut TrackerBook<S>,
-    server: ServerId,
-    client: ClientId,
-    phase: PhaseType,
-) -> Result<(), Fail> {
-    let Some(till) = pass.grant_till(client, phase) else {
-        return Err(Fail::new("a till of the client"));
-    };
-    if till.amount() == 0 {
-        return Err(Fail::new("a unit of the grant"));
-    }
-    tracker.respond(server, phase, till)?;
-    Ok(())
 }
 
 /// The client at a place stamps and submits a request at a server, and is granted it.
@@ -67,7 +47,7 @@ fn ask<S: Setup>(cluster: &mut Cluster<S>, place: usize, server: ServerId) -> Re
         return Err(Fail::new("the passes"));
     };
     submit(book, pass, tracker, tills)?;
-    pull(book, pass)
+    pull_request(book, pass)
 }
 
 /// The grant of client 1 at server 0 is responded.
@@ -101,7 +81,7 @@ fn stamp_once_more<S: Setup>(cluster: &mut Cluster<S>) -> Result<(), Fail> {
     let Some(tills) = own.tills(ServerId(1)) else {
         return Err(Fail::new("the tills"));
     };
-    tracker.stamp(ServerId(1), tills)?;
+    stamp(tracker, ServerId(1), tills)?;
     Ok(())
 }
 

@@ -1,5 +1,5 @@
 //! Clusters are settled.
-ghost use Rattle.std.specs.Prelude.{◌≡◌, ◌≤◌};
+ghost use Rattle.std.specs.Prelude.{◌≡◌, ◌≤◌, IfOk};
 
 use super::playing::play;
 use super::setup::{BOOKS, Cluster, open_cluster, scene};
@@ -17,6 +17,7 @@ use dmc_types::ids::{ClientId, ServerId};
 use std::alloc::{AllocError, Global};
 use std::marker::Brand;
 use std::mem::swap;
+use std::process::Abort;
 use std::test::Fail;
 
 /// What is told of a server: its grants in each phase, what is queued, and the units left in each phase.
@@ -61,20 +62,43 @@ fn report(alloc: Global) -> Result<ClusterReport<TickTag>, Fail> {
     })
 }
 
+/// Settles a cluster with the report and in the room. No report where it is torn.
+fn settle_into<S: Setup>(
+    alloc: Global,
+    scene: &Scene,
+    cluster: Cluster<S>,
+    report: ClusterReport<TickTag>,
+    room: SettleRoom<S>,
+) -> Option<ClusterReport<TickTag>>
+    requires { scene.now.servers ≤ room }
+{
+    let Cluster {
+        mut books,
+        trackers,
+        passes,
+    } = cluster;
+    settle_cluster(alloc, scene, &mut books, trackers, passes, report, room).ok()
+}
+
+/// A report that is not settled yet, and room for the scene's servers.
+fn open_report<S: Setup>(
+    alloc: Global,
+    scene: &Scene,
+) -> Result<(ClusterReport<TickTag>, SettleRoom<S>), Fail>
+    ensures { IfOk result (λ opened. scene.now.servers ≤ opened.1) }
+{
+    let room = SettleRoom::new(alloc, scene.servers())?;
+    Ok((report(alloc)?, room))
+}
+
 /// Settles a cluster. No report where it is torn.
 fn settle<S: Setup>(
     alloc: Global,
     scene: &Scene,
     cluster: Cluster<S>,
 ) -> Result<Option<ClusterReport<TickTag>>, Fail> {
-    let report = report(alloc)?;
-    let room = SettleRoom::new(alloc, scene.servers())?;
-    let Cluster {
-        mut books,
-        trackers,
-        passes,
-    } = cluster;
-    Ok(settle_cluster(alloc, scene, &mut books, trackers, passes, report, room).ok())
+    let (report, room) = open_report(alloc, scene)?;
+    Ok(settle_into(alloc, scene, cluster, report, room))
 }
 
 /// Whether the passes come from another cluster or are left out, and whose.
@@ -102,18 +126,28 @@ fn change_passes<S: Setup>(passes: &mut Passes<S>, others: &mut Passes<S>, chang
     }
 }
 
-/// Opens two clusters, plays in the first, and settles it, with its passes changed.
+/// A cluster in which the clients and servers have played.
+fn open_played<S: Setup>(
+    alloc: Global,
+    mint: &mut Mint<S>,
+    scene: &Scene,
+) -> Result<Cluster<S>, Fail> {
+    let mut cluster = open_cluster(alloc, mint, scene)?;
+    play(&mut cluster)?;
+    Ok(cluster)
+}
+
+/// Opens two clusters, plays in the second, and settles it, with its passes changed.
 fn settle_changed<S: Setup>(
     alloc: Global,
     mint: &mut Mint<S>,
+    scene: &Scene,
     change: Change,
 ) -> Result<Option<ClusterReport<TickTag>>, Fail> {
-    let scene = scene(alloc)?;
-    let mut other = open_cluster(alloc, mint, &scene)?;
-    let mut cluster = open_cluster(alloc, mint, &scene)?;
-    play(&mut cluster)?;
+    let mut other = open_cluster(alloc, mint, scene)?;
+    let mut cluster = open_played(alloc, mint, scene)?;
     change_passes(&mut cluster.passes, &mut other.passes, change);
-    settle(alloc, &scene, cluster)
+    settle(alloc, scene, cluster)
 }
 
 /// The same in a set-up of its own.
@@ -124,8 +158,9 @@ fn settle_in<S: Setup>(
 ) -> Result<Option<ClusterReport<TickTag>>, Fail>
     requires { blank.name ≡ S.name }
 {
+    let scene = scene(alloc)?;
     let mut mint = blank.open::<S>();
-    settle_changed(alloc, &mut mint, change)
+    settle_changed(alloc, &mut mint, &scene, change)
 }
 
 fn told(row: &ServerReport<TickTag>) -> Told {
@@ -139,12 +174,8 @@ fn told(row: &ServerReport<TickTag>) -> Told {
     )
 }
 
-#[test]
-fn settle_two_servers(rt: HostRuntime) -> Result<(), Fail> {
-    let blank = Blank::new(2 * BOOKS);
-    let Some(report) = settle_in::<Brand>(rt.alloc(), blank, Change::Nothing)? else {
-        return Err(Fail::new("torn"));
-    };
+/// The rows of the clients that have played.
+fn played_rows() -> [ClientReport; 2] {
     let one = ClientReport {
         sent: 1,
         completed: 1,
@@ -159,12 +190,26 @@ fn settle_two_servers(rt: HostRuntime) -> Result<(), Fail> {
         sent: 1,
         ..client_row(2, 0, Some(StopCause::Rung))
     };
-    assert_eq!(rt; report.clients.as_slice(), [one, two].as_slice());
+    [one, two]
+}
+
+/// A server's row says what it is to say, and that four events were recorded and its worker's turns were used up.
+fn assert_row(rt: &impl Abort, row: &ServerReport<TickTag>, wanted: Told) {
+    assert_eq!(rt; told(row), wanted);
+    assert_eq!(rt; row.history.len(), 4);
+    assert_eq!(rt; row.stops.as_slice(), [StopCause::Turns].as_slice());
+}
+
+#[test]
+fn settle_two_servers(rt: HostRuntime) -> Result<(), Fail> {
+    let blank = Blank::new(2 * BOOKS);
+    let Some(report) = settle_in::<Brand>(rt.alloc(), blank, Change::Nothing)? else {
+        return Err(Fail::new("torn"));
+    };
+    assert_eq!(rt; report.clients.as_slice(), played_rows().as_slice());
     let wanted = [(1, 0, 0, 0, 0), (0, 1, 0, 0, 1)];
     for (row, wanted) in report.servers.iter().zip(wanted) {
-        assert_eq!(rt; told(row), wanted);
-        assert_eq!(rt; row.history.len(), 4);
-        assert_eq!(rt; row.stops.as_slice(), [StopCause::Turns].as_slice());
+        assert_row(&rt, row, wanted);
     }
     Ok(())
 }

@@ -1,8 +1,8 @@
 //! One request from its stamp to its response.
 ghost use Rattle.std.specs.Prelude.{◌≡◌};
 
-use crate::calls::{carried, must_enroll, pull, respond, stamp, submit};
-use crate::opening::{Book, ONE, Opened, ZERO, open};
+use crate::calls::{carried, must_enroll, pull, respond, stamp, status, submit};
+use crate::opening::{Book, ONE, Opened, ZERO, let_all_go, open};
 use dmc_book::pass::WorkerPass;
 use dmc_book::status::Status;
 use dmc_ledger::bundle::StampTills;
@@ -12,6 +12,8 @@ use dmc_tag::reply::{Reply, Tags};
 use dmc_tag::tag::Tag;
 use dmc_tick::tick::TickTag;
 use dmc_tlock::book::TrackerBook;
+use dmc_tlock::fault::TillFault;
+use dmc_tlock::status::TrackStatus;
 use dmc_types::config::PhaseType;
 use dmc_types::ids::Token;
 use dmc_types::moment::Moment;
@@ -76,6 +78,14 @@ fn circle_told() -> Told {
     }
 }
 
+/// What the tracker tells of server 0.
+fn tracker_status<S: Setup>(
+    tracker: &TrackerBook<S>,
+    tills: &StampTills<S>,
+) -> Result<TrackStatus, TillFault> {
+    tracker.status(ZERO, tills)
+}
+
 fn circle_in_hand<S: Setup>(
     book: &mut Book<S>,
     pass: &mut WorkerPass<S>,
@@ -84,12 +94,12 @@ fn circle_in_hand<S: Setup>(
 ) -> Result<Told, Fail> {
     must_enroll(book, pass)?;
     let (stamped, tags) = submit(book, pass, tracker, tills)?;
-    let submitted = book.status(pass)?;
+    let submitted = status(book, pass)?;
     let granted = pull(book, pass)?;
-    let pulled = book.status(pass)?;
+    let pulled = status(book, pass)?;
     respond(pass, tracker, ZERO, ONE, PhaseType::Priority)?;
     let next = carried(&stamp(tracker, ZERO, tills)?);
-    let status = tracker.status(ZERO, tills)?;
+    let tracked = tracker_status(tracker, tills)?;
     Ok(Told {
         stamped,
         tags,
@@ -97,9 +107,9 @@ fn circle_in_hand<S: Setup>(
         granted,
         pulled,
         next,
-        sent: status.sent,
-        pending: status.pending,
-        completions: status.completions,
+        sent: tracked.sent,
+        pending: tracked.pending,
+        completions: tracked.completions,
     })
 }
 
@@ -121,7 +131,9 @@ fn circle<S: Setup>(alloc: Global, blank: Blank) -> Result<Told, Fail>
 {
     let mut mint = blank.open::<S>();
     let mut opened = open(alloc, &mut mint, 8)?;
-    play(&mut opened)
+    let told = play(&mut opened);
+    let_all_go(opened);
+    told
 }
 
 #[test]

@@ -1,11 +1,12 @@
-//! The calls of a book and of a tracker, each in a function that promises nothing: what they answer is seen by running them.
+//! The calls of a book and of a tracker, each in a function that promises no more than the next call asks for: what they answer is seen by running them.
 ghost use Rattle.std.specs.Prelude.{◌≡◌, false, IfOk};
 ghost use Rattle.dmc_ledger.specs.Bundles.{Covers, stamp_holdings};
 ghost use Rattle.dmc_book.specs.Calls.{is_add};
 
-use crate::opening::{Book, ONE};
+use crate::opening::{Book, ONE, ZERO};
 use dmc_book::fault::{RunFault, SubmitCause};
 use dmc_book::pass::WorkerPass;
+use dmc_book::status::Status;
 use dmc_ledger::bundle::StampTills;
 use dmc_ledger::setup::Setup;
 use dmc_ledger::till::Till;
@@ -71,6 +72,11 @@ pub(crate) fn pull<S: Setup>(
     run(book, pass, Command::Pull { at: Moment::zero() })
 }
 
+/// What the worker of the pass sees of the book.
+pub(crate) fn status<S: Setup>(book: &Book<S>, pass: &WorkerPass<S>) -> Result<Status, RunFault> {
+    book.status(pass)
+}
+
 /// What a stamp carries: delta and rho.
 pub(crate) fn carried(stamp: &Stamp) -> (u32, u32) {
     let params = stamp.params();
@@ -107,15 +113,16 @@ fn submit_stamped<S: Setup>(
     }
 }
 
-/// Stamps a request for the book's server, and submits it: what the stamp carried, and the answer.
+/// Stamps a request for a server, and submits it: what the stamp carried, and the answer.
 pub(crate) fn stamp_and_submit<S: Setup>(
     book: &mut Book<S>,
     pass: &mut WorkerPass<S>,
     tracker: &mut TrackerBook<S>,
     tills: &mut StampTills<S>,
+    server: ServerId,
     token: Token,
 ) -> Result<((u32, u32), Answer), EntryFault> {
-    let stamp = stamp(tracker, book.server(), tills)?;
+    let stamp = stamp(tracker, server, tills)?;
     let sent = carried(&stamp);
     Ok((sent, submit_stamped(book, pass, tills, stamp, token)))
 }
@@ -127,7 +134,7 @@ pub(crate) fn try_submit<S: Setup>(
     tracker: &mut TrackerBook<S>,
     tills: &mut StampTills<S>,
 ) -> Result<((u32, u32), Answer), EntryFault> {
-    stamp_and_submit(book, pass, tracker, tills, Token(9))
+    stamp_and_submit(book, pass, tracker, tills, ZERO, Token(9))
 }
 
 /// Stamps and submits token 9: what the stamp carried, and the tags.

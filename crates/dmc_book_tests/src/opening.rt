@@ -99,6 +99,24 @@ pub(crate) struct Opened<S: Setup> {
     pub(crate) tills: ClientPass<S>,
 }
 
+/// Lets a book go.
+pub(crate) fn let_go<S: Setup>(book: Book<S>) {
+    drop(book);
+}
+
+/// Lets the books and their passes go.
+pub(crate) fn let_all_go<S: Setup>(opened: Opened<S>) {
+    let Opened {
+        book,
+        pass,
+        tracker,
+        tills,
+    } = opened;
+    let_go(book);
+    drop(pass);
+    drop((tracker, tills));
+}
+
 /// The queue's desks alone.
 pub(crate) fn open_client_desks<S: Setup>(
     alloc: Global,
@@ -148,9 +166,14 @@ fn open_seven<S: Setup>(
 {
     let config = wait_config(LONG)?;
     let (book, mut passes) = open_book(alloc, config, ZERO, mint, desks, &[SEVEN], most)?;
-    match passes.pop() {
+    let pass = passes.pop();
+    drop(passes);
+    match pass {
         Some(pass) => Ok((book, pass)),
-        None => Err(Fail::new("a pass for the worker")),
+        None => {
+            let_go(book);
+            Err(Fail::new("a pass for the worker"))
+        }
     }
 }
 
@@ -182,7 +205,8 @@ pub(crate) fn open_other<S: Setup>(
     alloc: Global,
     mint: &mut Mint<S>,
 ) -> Result<WorkerPass<S>, Fail> {
-    let (_, pass) = open_queue(alloc, mint)?;
+    let (book, pass) = open_queue(alloc, mint)?;
+    let_go(book);
     Ok(pass)
 }
 

@@ -2,7 +2,7 @@ ghost use Rattle.std.specs.Prelude.{◌≡◌, IsTrue};
 ghost use Rattle.dmc_ledger.specs.Bundles.{IsOnlyTill, IsPair, client_side, server_side};
 
 use crate::books::play;
-use crate::opening::{Book, Opened, only, open, open_other, open_queue};
+use crate::opening::{Book, Opened, let_all_go, let_go, only, open, open_other, open_queue};
 use dmc_book::pass::WorkerPass;
 use dmc_book::seat::Seat;
 use dmc_book::settled::Settled;
@@ -154,7 +154,9 @@ fn settle_opened<S: Setup>(alloc: Global, opened: Opened<S>) -> Result<Left, Fai
         tracker,
         tills,
     } = opened;
-    settle_both(alloc, &mut book, pass, tracker, tills)
+    let left = settle_both(alloc, &mut book, pass, tracker, tills);
+    let_go(book);
+    left
 }
 
 /// A circle, and what its books leave.
@@ -163,8 +165,13 @@ fn settle_all<S: Setup>(alloc: Global, blank: Blank) -> Result<Left, Fail>
 {
     let mut mint = blank.open::<S>();
     let mut opened = open(alloc, &mut mint, 8)?;
-    play(&mut opened)?;
-    settle_opened(alloc, opened)
+    match play(&mut opened) {
+        Ok(_) => settle_opened(alloc, opened),
+        Err(fail) => {
+            let_all_go(opened);
+            Err(fail)
+        }
+    }
 }
 
 #[test]
@@ -217,7 +224,9 @@ fn settle_in_turn<S: Setup>(alloc: Global, blank: Blank) -> Result<[Option<usize
     let mut mint = blank.open::<S>();
     let other = open_other(alloc, &mut mint)?;
     let (mut book, own) = open_queue(alloc, &mut mint)?;
-    hand_in(alloc, &mut book, own, other)
+    let handed = hand_in(alloc, &mut book, own, other);
+    let_go(book);
+    handed
 }
 
 #[test]

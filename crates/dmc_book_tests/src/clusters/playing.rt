@@ -7,6 +7,7 @@ use dmc_ledger::bundle::StampTills;
 use dmc_ledger::setup::Setup;
 use dmc_tag::reply::Reply;
 use dmc_tlock::book::TrackerBook;
+use dmc_tlock::pass::ClientPass;
 use dmc_types::config::PhaseType;
 use dmc_types::ids::{ClientId, ServerId, Token};
 use std::test::Fail;
@@ -17,8 +18,9 @@ fn submit<S: Setup>(
     pass: &mut WorkerPass<S>,
     tracker: &mut TrackerBook<S>,
     tills: &mut StampTills<S>,
+    server: ServerId,
 ) -> Result<(), Fail> {
-    match stamp_and_submit(book, pass, tracker, tills, Token(5))? {
+    match stamp_and_submit(book, pass, tracker, tills, server, Token(5))? {
         (_, Ok(_)) => Ok(()),
         (_, Err((_, cause))) => Err(cause.into()),
     }
@@ -32,22 +34,49 @@ fn pull_request<S: Setup>(book: &mut Book<S>, pass: &mut WorkerPass<S>) -> Resul
     }
 }
 
-/// The client at a place stamps and submits a request at a server, and is granted it.
-fn ask<S: Setup>(cluster: &mut Cluster<S>, place: usize, server: ServerId) -> Result<(), Fail> {
-    let index = server.0 as usize;
-    let (Some(book), Some(passes), Some(tracker), Some(own)) = (
-        cluster.books.get_mut(index),
-        cluster.passes.workers.get_mut(index),
-        cluster.trackers.get_mut(place),
-        cluster.passes.clients.get_mut(place),
-    ) else {
-        return Err(Fail::new("the parts"));
-    };
+/// A client's request is submitted at a book, and pulled.
+fn submit_and_pull<S: Setup>(
+    book: &mut Book<S>,
+    passes: &mut [WorkerPass<S>],
+    tracker: &mut TrackerBook<S>,
+    own: &mut ClientPass<S>,
+    server: ServerId,
+) -> Result<(), Fail> {
     let (Some(pass), Some(tills)) = (passes.first_mut(), own.tills(server)) else {
         return Err(Fail::new("the passes"));
     };
-    submit(book, pass, tracker, tills)?;
+    submit(book, pass, tracker, tills, server)?;
     pull_request(book, pass)
+}
+
+/// The client at a place stamps and submits a request at a book, and is granted it.
+fn ask_book<S: Setup>(
+    book: &mut Book<S>,
+    passes: &mut [WorkerPass<S>],
+    (trackers, clients): (&mut [TrackerBook<S>], &mut [ClientPass<S>]),
+    place: usize,
+    server: ServerId,
+) -> Result<(), Fail> {
+    match (trackers.get_mut(place), clients.get_mut(place)) {
+        (Some(tracker), Some(own)) => submit_and_pull(book, passes, tracker, own, server),
+        _ => Err(Fail::new("the client")),
+    }
+}
+
+/// The client at a place stamps and submits a request at a server, and is granted it.
+fn ask<S: Setup>(cluster: &mut Cluster<S>, place: usize, server: ServerId) -> Result<(), Fail> {
+    let index = server.0 as usize;
+    let clients = (
+        cluster.trackers.as_mut_slice(),
+        cluster.passes.clients.as_mut_slice(),
+    );
+    match (
+        cluster.books.get_mut(index),
+        cluster.passes.workers.get_mut(index),
+    ) {
+        (Some(book), Some(passes)) => ask_book(book, passes, clients, place, server),
+        _ => Err(Fail::new("the server")),
+    }
 }
 
 /// The grant of client 1 at server 0 is responded.

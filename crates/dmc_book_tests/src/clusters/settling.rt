@@ -2,7 +2,7 @@
 ghost use Rattle.std.specs.Prelude.{◌≡◌, ◌≤◌, IfOk};
 
 use super::playing::play;
-use super::setup::{BOOKS, Cluster, open_cluster, scene};
+use super::setup::{BOOKS, Cluster, empty_cluster, fill, no_passes, scene};
 use dmc_book::settled::GrantsHeld;
 use dmc_events::history::EventHistory;
 use dmc_ledger::mint::{Blank, Mint};
@@ -16,7 +16,7 @@ use dmc_tlock::settled::StampsHeld;
 use dmc_types::ids::{ClientId, ServerId};
 use std::alloc::{AllocError, Global};
 use std::marker::Brand;
-use std::mem::swap;
+use std::mem::{replace, swap};
 use std::process::Abort;
 use std::test::Fail;
 
@@ -62,24 +62,6 @@ fn report(alloc: Global) -> Result<ClusterReport<TickTag>, Fail> {
     })
 }
 
-/// Settles a cluster with the report and in the room. No report where it is torn.
-fn settle_into<S: Setup>(
-    alloc: Global,
-    scene: &Scene,
-    cluster: Cluster<S>,
-    report: ClusterReport<TickTag>,
-    room: SettleRoom<S>,
-) -> Option<ClusterReport<TickTag>>
-    requires { scene.now.servers ≤ room }
-{
-    let Cluster {
-        mut books,
-        trackers,
-        passes,
-    } = cluster;
-    settle_cluster(alloc, scene, &mut books, trackers, passes, report, room).ok()
-}
-
 /// A report that is not settled yet, and room for the scene's servers.
 fn open_report<S: Setup>(
     alloc: Global,
@@ -95,10 +77,13 @@ fn open_report<S: Setup>(
 fn settle<S: Setup>(
     alloc: Global,
     scene: &Scene,
-    cluster: Cluster<S>,
+    cluster: &mut Cluster<S>,
 ) -> Result<Option<ClusterReport<TickTag>>, Fail> {
     let (report, room) = open_report(alloc, scene)?;
-    Ok(settle_into(alloc, scene, cluster, report, room))
+    let trackers = replace(&mut cluster.trackers, Vec::new(alloc));
+    let passes = replace(&mut cluster.passes, no_passes(alloc));
+    let books = &mut cluster.books;
+    Ok(settle_cluster(alloc, scene, books, trackers, passes, report, room).ok())
 }
 
 /// Whether the passes come from another cluster or are left out, and whose.
@@ -126,28 +111,20 @@ fn change_passes<S: Setup>(passes: &mut Passes<S>, others: &mut Passes<S>, chang
     }
 }
 
-/// A cluster in which the clients and servers have played.
-fn open_played<S: Setup>(
-    alloc: Global,
-    mint: &mut Mint<S>,
-    scene: &Scene,
-) -> Result<Cluster<S>, Fail> {
-    let mut cluster = open_cluster(alloc, mint, scene)?;
-    play(&mut cluster)?;
-    Ok(cluster)
-}
-
-/// Opens two clusters, plays in the second, and settles it, with its passes changed.
+/// Sets up two clusters, plays in the second, and settles it, with its passes changed.
 fn settle_changed<S: Setup>(
     alloc: Global,
     mint: &mut Mint<S>,
-    scene: &Scene,
+    other: &mut Cluster<S>,
+    cluster: &mut Cluster<S>,
     change: Change,
 ) -> Result<Option<ClusterReport<TickTag>>, Fail> {
-    let mut other = open_cluster(alloc, mint, scene)?;
-    let mut cluster = open_played(alloc, mint, scene)?;
+    let scene = scene(alloc)?;
+    fill(alloc, mint, other, &scene)?;
+    fill(alloc, mint, cluster, &scene)?;
+    play(cluster)?;
     change_passes(&mut cluster.passes, &mut other.passes, change);
-    settle(alloc, scene, cluster)
+    settle(alloc, &scene, cluster)
 }
 
 /// The same in a set-up of its own.
@@ -158,9 +135,9 @@ fn settle_in<S: Setup>(
 ) -> Result<Option<ClusterReport<TickTag>>, Fail>
     requires { blank.name ≡ S.name }
 {
-    let scene = scene(alloc)?;
     let mut mint = blank.open::<S>();
-    settle_changed(alloc, &mut mint, &scene, change)
+    let (mut other, mut cluster) = (empty_cluster(alloc), empty_cluster(alloc));
+    settle_changed(alloc, &mut mint, &mut other, &mut cluster, change)
 }
 
 fn told(row: &ServerReport<TickTag>) -> Told {

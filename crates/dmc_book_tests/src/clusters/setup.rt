@@ -6,7 +6,8 @@ ghost use Rattle.dmc_tlock.specs.Opening.{AreNew};
 ghost use Rattle.dmc_book.specs.Opening.{IsNewDesk};
 
 use crate::calls::run;
-use crate::opening::{Book, SEVEN, both, open_book, open_tracker, push};
+use crate::opening::{Book, SEVEN, both, let_go, open_book, open_tracker, push};
+use dmc_book::fault::RunFault;
 use dmc_book::pass::WorkerPass;
 use dmc_ledger::desk::{ClientDesk, ServerDesk, open_pair};
 use dmc_ledger::mint::Mint;
@@ -122,7 +123,7 @@ fn register<S: Setup>(
     book: &mut Book<S>,
     pass: &mut WorkerPass<S>,
     client: SceneClient,
-) -> Result<(), Fail> {
+) -> Result<(), RunFault> {
     let command = Command::Register {
         client: client.id(),
         info: client.info(),
@@ -155,7 +156,11 @@ fn add_book<S: Setup>(
     passes: Vec<WorkerPass<S>>,
 ) -> Result<(), Fail> {
     let (mut book, mut passes) = (book, passes);
-    register_all(&mut book, &mut passes, scene)?;
+    if let Err(fail) = register_all(&mut book, &mut passes, scene) {
+        let_go(book);
+        drop(passes);
+        return Err(fail);
+    }
     push(&mut cluster.books, book)?;
     push(&mut cluster.passes.workers, passes)
 }
@@ -176,8 +181,8 @@ fn add_server<S: Setup>(
     add_book(cluster, scene, book, passes)
 }
 
-/// Both clients go to the cluster, and then both servers.
-fn fill<S: Setup>(
+/// Both clients go to the cluster, and then both servers. Both clients are registered at both servers.
+pub(super) fn fill<S: Setup>(
     alloc: Global,
     mint: &mut Mint<S>,
     cluster: &mut Cluster<S>,
@@ -188,21 +193,19 @@ fn fill<S: Setup>(
     add_server(alloc, mint, cluster, scene, ServerId(1), there)
 }
 
-/// A cluster in which both clients are registered at both servers.
-pub(super) fn open_cluster<S: Setup>(
-    alloc: Global,
-    mint: &mut Mint<S>,
-    scene: &Scene,
-) -> Result<Cluster<S>, Fail> {
-    let passes = Passes {
+/// The passes of a cluster with no servers and no clients.
+pub(super) fn no_passes<S: Setup>(alloc: Global) -> Passes<S> {
+    Passes {
         workers: Vec::new(alloc),
         clients: Vec::new(alloc),
-    };
-    let mut cluster = Cluster {
+    }
+}
+
+/// A cluster with no servers and no clients.
+pub(super) fn empty_cluster<S: Setup>(alloc: Global) -> Cluster<S> {
+    Cluster {
         books: Vec::new(alloc),
         trackers: Vec::new(alloc),
-        passes,
-    };
-    fill(alloc, mint, &mut cluster, scene)?;
-    Ok(cluster)
+        passes: no_passes(alloc),
+    }
 }

@@ -72,6 +72,11 @@ pub(crate) fn pull<S: Setup>(
     run(book, pass, Command::Pull { at: Moment::zero() })
 }
 
+/// Closes the book's queue.
+pub(crate) fn close<S: Setup>(book: &mut Book<S>) {
+    book.close();
+}
+
 /// What the worker of the pass sees of the book.
 pub(crate) fn status<S: Setup>(book: &Book<S>, pass: &WorkerPass<S>) -> Result<Status, RunFault> {
     book.status(pass)

@@ -1,6 +1,6 @@
 ghost use Rattle.std.specs.Prelude.{◌≡◌};
 
-use crate::calls::{enroll, must_enroll, pull, status, submit, try_submit};
+use crate::calls::{close, enroll, must_enroll, pull, status, submit, try_submit};
 use crate::opening::{
     Book, LONG, ONE, Opened, SEVEN, ZERO, let_all_go, let_go, open, open_book, open_client_desks,
     open_other, open_queue, wait_config,
@@ -86,7 +86,7 @@ fn close_in_hand<S: Setup>(
 ) -> Result<(ClientId, SubmitCause, bool), Fail> {
     must_enroll(book, pass)?;
     submit(book, pass, tracker, tills)?;
-    book.close();
+    close(book);
     let (client, cause) = refuse(book, pass, tracker, tills)?;
     let granted = pull(book, pass)?;
     Ok((client, cause, matches!(granted, Reply::Granted { .. })))

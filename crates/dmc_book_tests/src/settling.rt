@@ -70,6 +70,15 @@ fn take_left<S: Setup>(
     }
 }
 
+/// Settles a queue's book. Where the passes are not its own, they come back.
+fn settle_book<S: Setup>(
+    alloc: Global,
+    book: &mut Book<S>,
+    passes: Vec<WorkerPass<S>>,
+) -> Result<Settled<TickTag, S>, Vec<WorkerPass<S>>> {
+    book.settle(alloc, passes)
+}
+
 /// Settles a queue's book with its one pass: what it leaves, and the desk of its client.
 fn settle_queue<S: Setup>(
     alloc: Global,
@@ -77,7 +86,7 @@ fn settle_queue<S: Setup>(
     pass: WorkerPass<S>,
 ) -> Result<(QueueLeft, ClientDesk<S>), Fail> {
     let passes = only(alloc, pass)?;
-    match book.settle(alloc, passes) {
+    match settle_book(alloc, book, passes) {
         Ok(mut settled) => take_left(&mut settled),
         Err(_) => Err(Fail::new("its own pass")),
     }
@@ -195,7 +204,7 @@ fn handed_back<S: Setup>(
     book: &mut Book<S>,
     passes: Vec<WorkerPass<S>>,
 ) -> Option<usize> {
-    match book.settle(alloc, passes) {
+    match settle_book(alloc, book, passes) {
         Ok(_) => None,
         Err(back) => Some(back.len()),
     }

@@ -4,7 +4,11 @@
 #[cfg(test)]
 mod books;
 #[cfg(test)]
+mod calls;
+#[cfg(test)]
 mod clusters;
+#[cfg(test)]
+mod opening;
 #[cfg(test)]
 mod refusals;
 #[cfg(test)]

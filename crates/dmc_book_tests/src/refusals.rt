@@ -1,13 +1,14 @@
 ghost use Rattle.std.specs.Prelude.{◌≡◌};
 
-use crate::books::{
-    Book, LONG, ONE, SEVEN, ZERO, enroll, must_enroll, open, open_book, open_client_desks,
-    open_other, open_queue, pull, submit, try_submit, wait_config,
+use crate::calls::{close, enroll, must_enroll, pull, status, submit, try_submit};
+use crate::opening::{
+    Book, LONG, ONE, Opened, SEVEN, ZERO, let_all_go, let_go, open, open_book, open_client_desks,
+    open_other, open_queue, wait_config,
 };
 use dmc_book::fault::{NewFault, RunFault, SubmitCause};
 use dmc_book::pass::WorkerPass;
 use dmc_ledger::bundle::StampTills;
-use dmc_ledger::mint::Blank;
+use dmc_ledger::mint::{Blank, Mint};
 use dmc_ledger::setup::Setup;
 use dmc_tag::reply::Reply;
 use dmc_tlock::book::TrackerBook;
@@ -36,7 +37,7 @@ fn fill<S: Setup>(
     pull(book, pass)?;
     let full = pull(book, pass).err();
     let stranger = pull(book, other).err();
-    let status = book.status(pass)?;
+    let status = status(book, pass)?;
     let numbers = (status.events, status.calls, status.misses);
     Ok(Answers {
         no_desk,
@@ -46,13 +47,21 @@ fn fill<S: Setup>(
     })
 }
 
+/// The same with a book that is opened for it, and let go.
+fn fill_opened<S: Setup>(alloc: Global, mint: &mut Mint<S>) -> Result<Answers, Fail> {
+    let mut other = open_other(alloc, mint)?;
+    let (mut book, mut pass) = open_queue(alloc, mint)?;
+    let answers = fill(&mut book, &mut pass, &mut other);
+    let_go(book);
+    drop((pass, other));
+    answers
+}
+
 fn full<S: Setup>(alloc: Global, blank: Blank) -> Result<Answers, Fail>
     requires { blank.name ≡ S.name }
 {
     let mut mint = blank.open::<S>();
-    let mut other = open_other(alloc, &mut mint)?;
-    let (mut book, mut pass) = open_queue(alloc, &mut mint)?;
-    fill(&mut book, &mut pass, &mut other)
+    fill_opened(alloc, &mut mint)
 }
 
 /// Stamps and submits where that is refused: whose stamp came back, and the cause.
@@ -77,10 +86,19 @@ fn close_in_hand<S: Setup>(
 ) -> Result<(ClientId, SubmitCause, bool), Fail> {
     must_enroll(book, pass)?;
     submit(book, pass, tracker, tills)?;
-    book.close();
+    close(book);
     let (client, cause) = refuse(book, pass, tracker, tills)?;
     let granted = pull(book, pass)?;
     Ok((client, cause, matches!(granted, Reply::Granted { .. })))
+}
+
+/// The same with the books that were opened.
+fn close_opened<S: Setup>(opened: &mut Opened<S>) -> Result<(ClientId, SubmitCause, bool), Fail> {
+    let (book, pass, tracker) = (&mut opened.book, &mut opened.pass, &mut opened.tracker);
+    match opened.tills.tills(ZERO) {
+        Some(tills) => close_in_hand(book, pass, tracker, tills),
+        None => Err(Fail::new("tills for the server")),
+    }
 }
 
 fn closed<S: Setup>(alloc: Global, blank: Blank) -> Result<(ClientId, SubmitCause, bool), Fail>
@@ -88,15 +106,9 @@ fn closed<S: Setup>(alloc: Global, blank: Blank) -> Result<(ClientId, SubmitCaus
 {
     let mut mint = blank.open::<S>();
     let mut opened = open(alloc, &mut mint, 8)?;
-    let Some(tills) = opened.tills.tills(ZERO) else {
-        return Err(Fail::new("tills for the server"));
-    };
-    close_in_hand(
-        &mut opened.book,
-        &mut opened.pass,
-        &mut opened.tracker,
-        tills,
-    )
+    let told = close_opened(&mut opened);
+    let_all_go(opened);
+    told
 }
 
 /// Two workers of one number are refused.
@@ -106,8 +118,12 @@ fn twice<S: Setup>(alloc: Global, blank: Blank) -> Result<Option<NewFault>, Fail
     let mut mint = blank.open::<S>();
     let config = wait_config(LONG)?;
     let desks = open_client_desks(alloc, &mut mint)?;
-    match open_book(alloc, config, &mut mint, desks, &[SEVEN, SEVEN], 8) {
-        Ok(_) => Ok(None),
+    match open_book(alloc, config, ZERO, &mut mint, desks, &[SEVEN, SEVEN], 8) {
+        Ok((book, passes)) => {
+            drop(passes);
+            let_go(book);
+            Ok(None)
+        }
         Err(NewFault::Memory) => Err(NewFault::Memory.into()),
         Err(cause) => Ok(Some(cause)),
     }

@@ -1,7 +1,8 @@
 ghost use Rattle.std.specs.Prelude.{◌≡◌, IsTrue};
 ghost use Rattle.dmc_ledger.specs.Bundles.{IsOnlyTill, IsPair, client_side, server_side};
 
-use crate::books::{Book, Opened, only, open, open_other, open_queue, play};
+use crate::books::play;
+use crate::opening::{Book, Opened, let_all_go, let_go, only, open, open_other, open_queue};
 use dmc_book::pass::WorkerPass;
 use dmc_book::seat::Seat;
 use dmc_book::settled::Settled;
@@ -69,6 +70,15 @@ fn take_left<S: Setup>(
     }
 }
 
+/// Settles a queue's book. Where the passes are not its own, they come back.
+fn settle_book<S: Setup>(
+    alloc: Global,
+    book: &mut Book<S>,
+    passes: Vec<WorkerPass<S>>,
+) -> Result<Settled<TickTag, S>, Vec<WorkerPass<S>>> {
+    book.settle(alloc, passes)
+}
+
 /// Settles a queue's book with its one pass: what it leaves, and the desk of its client.
 fn settle_queue<S: Setup>(
     alloc: Global,
@@ -76,7 +86,7 @@ fn settle_queue<S: Setup>(
     pass: WorkerPass<S>,
 ) -> Result<(QueueLeft, ClientDesk<S>), Fail> {
     let passes = only(alloc, pass)?;
-    match book.settle(alloc, passes) {
+    match settle_book(alloc, book, passes) {
         Ok(mut settled) => take_left(&mut settled),
         Err(_) => Err(Fail::new("its own pass")),
     }
@@ -153,7 +163,9 @@ fn settle_opened<S: Setup>(alloc: Global, opened: Opened<S>) -> Result<Left, Fai
         tracker,
         tills,
     } = opened;
-    settle_both(alloc, &mut book, pass, tracker, tills)
+    let left = settle_both(alloc, &mut book, pass, tracker, tills);
+    let_go(book);
+    left
 }
 
 /// A circle, and what its books leave.
@@ -162,8 +174,13 @@ fn settle_all<S: Setup>(alloc: Global, blank: Blank) -> Result<Left, Fail>
 {
     let mut mint = blank.open::<S>();
     let mut opened = open(alloc, &mut mint, 8)?;
-    play(&mut opened)?;
-    settle_opened(alloc, opened)
+    match play(&mut opened) {
+        Ok(_) => settle_opened(alloc, opened),
+        Err(fail) => {
+            let_all_go(opened);
+            Err(fail)
+        }
+    }
 }
 
 #[test]
@@ -187,7 +204,7 @@ fn handed_back<S: Setup>(
     book: &mut Book<S>,
     passes: Vec<WorkerPass<S>>,
 ) -> Option<usize> {
-    match book.settle(alloc, passes) {
+    match settle_book(alloc, book, passes) {
         Ok(_) => None,
         Err(back) => Some(back.len()),
     }
@@ -216,7 +233,9 @@ fn settle_in_turn<S: Setup>(alloc: Global, blank: Blank) -> Result<[Option<usize
     let mut mint = blank.open::<S>();
     let other = open_other(alloc, &mut mint)?;
     let (mut book, own) = open_queue(alloc, &mut mint)?;
-    hand_in(alloc, &mut book, own, other)
+    let handed = hand_in(alloc, &mut book, own, other);
+    let_go(book);
+    handed
 }
 
 #[test]

@@ -7,3 +7,5 @@ mod queue_locks;
 mod tracker_books;
 #[cfg(test)]
 mod tracker_refusals;
+#[cfg(test)]
+mod tracker_setup;

@@ -1,4 +1,5 @@
 //! Tests of the lock, which threads share.
+mod calls;
 mod circle;
 mod refusals;
 mod settling;

@@ -1,13 +1,14 @@
 //! Tests of a tracker's book, in one hand and behind its lock.
-ghost use Rattle.std.specs.Prelude.{◌≡◌, length, map, IfOk};
-ghost use Rattle.dmc_ledger.specs.Bundles.{server_side};
+ghost use Rattle.std.specs.Prelude.{◌≡◌};
 ghost use Rattle.dmc_tlock.specs.Consistent.{IsBalanced};
-ghost use Rattle.dmc_tlock.specs.Opening.{AreNew};
 
-use dmc_ledger::bundle::{GrantBooks, StampTills};
-use dmc_ledger::desk::{ClientDesk, ServerDesk, open_pair};
-use dmc_ledger::full::Full;
-use dmc_ledger::mint::{Blank, Mint};
+use crate::tracker_setup::{
+    Opened, TIMES, ZERO, grants_of, open_book, respond, respond_at_lock, stamp, stamp_at_lock,
+    status, status_at_lock,
+};
+use dmc_ledger::bundle::StampTills;
+use dmc_ledger::desk::ClientDesk;
+use dmc_ledger::mint::Blank;
 use dmc_ledger::setup::Setup;
 use dmc_ledger::till::Till;
 use dmc_tlock::book::TrackerBook;
@@ -15,11 +16,9 @@ use dmc_tlock::fault::EntryFault;
 use dmc_tlock::laws::book_is_consistent;
 use dmc_tlock::lock::TrackerLock;
 use dmc_tlock::pass::ClientPass;
-use dmc_tlock::stamp::Stamp;
 use dmc_tlock::status::TrackStatus;
-use dmc_tracker::tracker::MakeFault;
-use dmc_types::config::{Counting, PhaseType};
-use dmc_types::ids::{ClientId, ServerId};
+use dmc_types::config::Counting;
+use dmc_types::ids::ClientId;
 use std::alloc::Global;
 use std::marker::Brand;
 use std::process::Abort;
@@ -27,62 +26,6 @@ use std::sync::Wait;
 use std::test::Fail;
 use std::thread;
 use std::thread::Threads;
-
-pub(crate) const ZERO: ServerId = ServerId(0);
-
-// How often each of two threads stamps and responds.
-const TIMES: u64 = 1000;
-
-/// A client's book for server 0 with its pass, the queue's desk of the pair, and grants of it in phase Priority.
-#[derive(Drop)]
-pub(crate) struct Opened<S: Setup> {
-    pub(crate) book: TrackerBook<S>,
-    pub(crate) pass: ClientPass<S>,
-    pub(crate) desk: ClientDesk<S>,
-    pub(crate) grants: Till<S>,
-}
-
-/// The desks of a client and server 0.
-pub(crate) fn open_desks<S: Setup>(
-    alloc: Global,
-    mint: &mut Mint<S>,
-    client: ClientId,
-) -> Result<(ClientDesk<S>, Vec<ServerDesk<S>>), Fail>
-    ensures { IfOk result (λ opened. AreNew client.0 (map server_side opened.1.items)) }
-{
-    let (desk, side) = open_pair(mint, client, ZERO)?;
-    let Ok(desks) = vec![in alloc; side] else {
-        return Err(MakeFault::Memory.into());
-    };
-    Ok((desk, desks))
-}
-
-/// A book of a tracker with this `most` and this counting form, whose list may have `most_events`.
-pub(crate) fn open_book<S: Setup>(
-    alloc: Global,
-    mint: &mut Mint<S>,
-    client: ClientId,
-    (most, most_events): (u32, u32),
-    counting: Counting,
-) -> Result<Opened<S>, Fail> {
-    let (mut desk, desks) = open_desks(alloc, mint, client)?;
-    let grants = grants_of(&mut desk.books, TIMES)?;
-    match TrackerBook::new(alloc, client, desks, most, most_events, counting) {
-        Ok((book, pass)) => Ok(Opened {
-            book,
-            pass,
-            desk,
-            grants,
-        }),
-        Err(fault) => Err(fault.cause.into()),
-    }
-}
-
-fn grants_of<S: Setup>(books: &mut GrantBooks<S>, amount: u64) -> Result<Till<S>, Full> {
-    let mut till = books.priority.till()?;
-    books.priority.issue(&mut till, amount)?;
-    Ok(till)
-}
 
 /// What stamp, respond, stamp, status and one stamp too many answer.
 #[derive(Clone, Copy, Debug, PartialEq, Eq)]
@@ -122,22 +65,16 @@ const TOLD: [Told; 2] = [
     },
 ];
 
-fn carried(stamp: &Stamp) -> (u32, u32) {
-    (stamp.params().delta(), stamp.params().rho())
-}
-
 fn told_in_hand<S: Setup>(
     book: &mut TrackerBook<S>,
     tills: &mut StampTills<S>,
     grants: &mut Till<S>,
 ) -> Result<Told, EntryFault> {
-    let first = carried(&book.stamp(ZERO, tills)?);
-    if grants.amount() > 0 {
-        book.respond(ZERO, PhaseType::Priority, grants)?;
-    }
-    let next = carried(&book.stamp(ZERO, tills)?);
-    let status = book.status(ZERO, tills)?;
-    let refused = book.stamp(ZERO, tills).err();
+    let first = stamp(book, ZERO, tills)?;
+    respond(book, ZERO, grants)?;
+    let next = stamp(book, ZERO, tills)?;
+    let status = status(book, ZERO, tills)?;
+    let refused = stamp(book, ZERO, tills).err();
     Ok(Told {
         first,
         next,
@@ -152,13 +89,11 @@ fn told_at_lock<S: Setup, R: Wait>(
     tills: &mut StampTills<S>,
     grants: &mut Till<S>,
 ) -> Result<Told, EntryFault> {
-    let first = carried(&lock.stamp(rt, ZERO, tills)?);
-    if grants.amount() > 0 {
-        lock.respond(rt, ZERO, PhaseType::Priority, grants)?;
-    }
-    let next = carried(&lock.stamp(rt, ZERO, tills)?);
-    let status = lock.status(rt, ZERO, tills)?;
-    let refused = lock.stamp(rt, ZERO, tills).err();
+    let first = stamp_at_lock(rt, lock, ZERO, tills)?;
+    respond_at_lock(rt, lock, ZERO, grants)?;
+    let next = stamp_at_lock(rt, lock, ZERO, tills)?;
+    let status = status_at_lock(rt, lock, ZERO, tills)?;
+    let refused = stamp_at_lock(rt, lock, ZERO, tills).err();
     Ok(Told {
         first,
         next,
@@ -176,6 +111,14 @@ fn balanced_book<S: Setup>(lock: TrackerLock<S>) -> TrackerBook<S>
     book
 }
 
+/// The circle of an opened book in one hand.
+fn told_of_opened<S: Setup>(rt: &impl Abort, opened: &mut Opened<S>) -> Result<Told, EntryFault> {
+    let Some(tills) = opened.pass.tills(ZERO) else {
+        panic!(rt; "server 0")
+    };
+    told_in_hand(&mut opened.book, tills, &mut opened.grants)
+}
+
 fn circle_in_hand<S: Setup>(
     rt: &impl Abort,
     alloc: Global,
@@ -185,17 +128,60 @@ fn circle_in_hand<S: Setup>(
     requires { blank.name ≡ S.name }
 {
     let mut mint = blank.open::<S>();
-    let opened = open_book(alloc, &mut mint, ClientId(1), (9, 3), counting)?;
-    let Opened {
-        mut book,
-        mut pass,
-        desk: _,
-        mut grants,
-    } = opened;
+    let mut opened = open_book(alloc, &mut mint, ClientId(1), (9, 3), counting)?;
+    let told = told_of_opened(rt, &mut opened);
+    drop(opened);
+    Ok(told?)
+}
+
+/// What a pass holds: its stamps, and what they carried.
+type Held = Option<(u64, u64, u64)>;
+
+/// The circle through the lock, with the client's pass.
+fn told_with_pass<S: Setup, R: Abort + Wait>(
+    rt: &R,
+    lock: &TrackerLock<S>,
+    pass: &mut ClientPass<S>,
+    grants: &mut Till<S>,
+) -> Result<Told, EntryFault> {
     let Some(tills) = pass.tills(ZERO) else {
         panic!(rt; "server 0")
     };
-    Ok(told_in_hand(&mut book, tills, &mut grants)?)
+    told_at_lock(rt, lock, tills, grants)
+}
+
+/// Settles the book of the lock, whose list has three events. What the pass held.
+fn settle<S: Setup>(rt: &impl Abort, lock: TrackerLock<S>, pass: ClientPass<S>) -> Held {
+    let Ok(settled) = balanced_book(lock).settle(pass) else {
+        panic!(rt; "its own pass")
+    };
+    assert_eq!(rt; settled.events.len(), 3);
+    let held = settled.held.first().copied();
+    drop(settled);
+    held.map(|held| (held.stamps, held.delta, held.rho))
+}
+
+/// The circle of an opened book through its lock, and what the pass then holds.
+fn told_and_held<S: Setup, R: Abort + Wait>(
+    rt: &R,
+    opened: Opened<S>,
+) -> Result<(Told, Held), EntryFault> {
+    let Opened {
+        book,
+        mut pass,
+        desk,
+        mut grants,
+    } = opened;
+    let lock = TrackerLock::new(book);
+    let told = told_with_pass(rt, &lock, &mut pass, &mut grants);
+    drop((desk, grants));
+    match told {
+        Ok(told) => Ok((told, settle(rt, lock, pass))),
+        Err(fault) => {
+            drop((lock, pass));
+            Err(fault)
+        }
+    }
 }
 
 /// The same through the lock, and what the pass then holds.
@@ -204,28 +190,12 @@ fn circle_at_lock<S: Setup, R: Abort + Wait>(
     alloc: Global,
     blank: Blank,
     counting: Counting,
-) -> Result<(Told, Option<(u64, u64, u64)>), Fail>
+) -> Result<(Told, Held), Fail>
     requires { blank.name ≡ S.name }
 {
     let mut mint = blank.open::<S>();
     let opened = open_book(alloc, &mut mint, ClientId(1), (9, 3), counting)?;
-    let Opened {
-        book,
-        mut pass,
-        desk: _,
-        mut grants,
-    } = opened;
-    let lock = TrackerLock::new(book);
-    let Some(tills) = pass.tills(ZERO) else {
-        panic!(rt; "server 0")
-    };
-    let told = told_at_lock(rt, &lock, tills, &mut grants)?;
-    let Ok(settled) = balanced_book(lock).settle(pass) else {
-        panic!(rt; "its own pass")
-    };
-    assert_eq!(rt; settled.events.len(), 3);
-    let held = settled.held.first();
-    Ok((told, held.map(|held| (held.stamps, held.delta, held.rho))))
+    Ok(told_and_held(rt, opened)?)
 }
 
 #[test]
@@ -255,16 +225,76 @@ fn work<S: Setup, R: Wait>(
     grants: &mut Till<S>,
 ) -> Result<(), EntryFault> {
     for _ in 0..TIMES {
-        lock.stamp(rt, ZERO, tills)?;
-        if grants.amount() > 0 {
-            lock.respond(rt, ZERO, PhaseType::Priority, grants)?;
-        }
+        stamp_at_lock(rt, lock, ZERO, tills)?;
+        respond_at_lock(rt, lock, ZERO, grants)?;
     }
     Ok(())
 }
 
-/// Two threads share a lock: one with the client's pass, one with the queue's tills of the same books. What is told after
-/// the joins.
+/// The same with the client's pass.
+fn work_with_pass<S: Setup, R: Wait>(
+    rt: &R,
+    lock: &TrackerLock<S>,
+    pass: &mut ClientPass<S>,
+    grants: &mut Till<S>,
+) -> Result<(), EntryFault> {
+    match pass.tills(ZERO) {
+        Some(tills) => work(rt, lock, tills, grants),
+        None => Err(EntryFault::NoServer),
+    }
+}
+
+/// Two threads share a lock: one with the client's pass, one with the queue's tills of the same books.
+fn work_at_once<S: Setup + Send + Sync, R: Threads + Wait + Sync>(
+    rt: &R,
+    lock: &TrackerLock<S>,
+    pass: &mut ClientPass<S>,
+    grants: &mut Till<S>,
+    held: &mut StampTills<S>,
+    more: &mut Till<S>,
+) -> Result<(), EntryFault> {
+    let (one, two) = thread::join(
+        rt,
+        move || work_with_pass(rt, lock, pass, grants),
+        move || work(rt, lock, held, more),
+    );
+    one?;
+    two
+}
+
+/// What is told after the joins.
+fn told_after<S: Setup + Send + Sync, R: Threads + Wait + Sync>(
+    rt: &R,
+    lock: &TrackerLock<S>,
+    pass: &mut ClientPass<S>,
+    grants: &mut Till<S>,
+    desk: &mut ClientDesk<S>,
+) -> Result<TrackStatus, Fail> {
+    let mut more = grants_of(desk, TIMES)?;
+    let worked = work_at_once(rt, lock, pass, grants, &mut desk.held, &mut more);
+    drop(more);
+    worked?;
+    Ok(status_at_lock(rt, lock, ZERO, &desk.held)?)
+}
+
+/// The same with the book that was opened.
+fn share_opened<S: Setup + Send + Sync, R: Threads + Wait + Sync>(
+    rt: &R,
+    opened: Opened<S>,
+) -> Result<TrackStatus, Fail> {
+    let Opened {
+        book,
+        mut pass,
+        mut desk,
+        mut grants,
+    } = opened;
+    let lock = TrackerLock::new(book);
+    let told = told_after(rt, &lock, &mut pass, &mut grants, &mut desk);
+    drop((lock, pass, grants, desk));
+    told
+}
+
+/// Two threads share a lock. What is told after the joins.
 fn shared<S: Setup + Send + Sync, R: Threads + Wait + Sync>(
     rt: &R,
     alloc: Global,
@@ -275,29 +305,7 @@ fn shared<S: Setup + Send + Sync, R: Threads + Wait + Sync>(
 {
     let mut mint = blank.open::<S>();
     let opened = open_book(alloc, &mut mint, ClientId(1), (9999, 9999), counting)?;
-    let Opened {
-        book,
-        mut pass,
-        mut desk,
-        mut grants,
-    } = opened;
-    let mut more = grants_of(&mut desk.books, TIMES)?;
-    let ClientDesk { mut held, .. } = desk;
-    let lock = TrackerLock::new(book);
-    let lent = &lock;
-    let one = move || -> Result<(), EntryFault> {
-        match pass.tills(ZERO) {
-            Some(tills) => work(rt, lent, tills, &mut grants),
-            None => Err(EntryFault::NoServer),
-        }
-    };
-    let two = move || -> Result<StampTills<S>, EntryFault> {
-        work(rt, lent, &mut held, &mut more)?;
-        Ok(held)
-    };
-    let (one, two) = thread::join(rt, one, two);
-    one?;
-    Ok(lock.status(rt, ZERO, &two?)?)
+    share_opened(rt, opened)
 }
 
 #[test]

@@ -1,14 +1,15 @@
 //! What two clients and two servers do.
-use super::setup::{Book, Cluster};
+use super::setup::Cluster;
+use crate::calls::{pull, respond, stamp, stamp_and_submit};
+use crate::opening::Book;
 use dmc_book::pass::WorkerPass;
 use dmc_ledger::bundle::StampTills;
 use dmc_ledger::setup::Setup;
 use dmc_tag::reply::Reply;
 use dmc_tlock::book::TrackerBook;
-use dmc_types::command::Command;
+use dmc_tlock::pass::ClientPass;
 use dmc_types::config::PhaseType;
 use dmc_types::ids::{ClientId, ServerId, Token};
-use dmc_types::moment::Moment;
 use std::test::Fail;
 
 /// Stamps and submits a request.
@@ -17,57 +18,65 @@ fn submit<S: Setup>(
     pass: &mut WorkerPass<S>,
     tracker: &mut TrackerBook<S>,
     tills: &mut StampTills<S>,
+    server: ServerId,
 ) -> Result<(), Fail> {
-    let stamp = tracker.stamp(book.server(), tills)?;
-    match book.submit(pass, tills, stamp, Token(5), Moment::zero()) {
-        Ok(_) => Ok(()),
-        Err(fault) => Err(fault.cause.into()),
+    match stamp_and_submit(book, pass, tracker, tills, server, Token(5))? {
+        (_, Ok(_)) => Ok(()),
+        (_, Err((_, cause))) => Err(cause.into()),
     }
 }
 
 /// Pulls a request.
-fn pull<S: Setup>(book: &mut Book<S>, pass: &mut WorkerPass<S>) -> Result<(), Fail> {
-    let pull = Command::Pull { at: Moment::zero() };
-    match book.run(pass, pull)? {
+fn pull_request<S: Setup>(book: &mut Book<S>, pass: &mut WorkerPass<S>) -> Result<(), Fail> {
+    match pull(book, pass)? {
         Reply::Granted { .. } => Ok(()),
         _ => Err(Fail::new("a grant")),
     }
 }
 
-/// Responds with a unit of the pass.
-fn respond<S: Setup>(
-    pass: &mut WorkerPass<S>,
+/// A client's request is submitted at a book, and pulled.
+fn submit_and_pull<S: Setup>(
+    book: &mut Book<S>,
+    passes: &mut [WorkerPass<S>],
     tracker: &mut TrackerBook<S>,
+    own: &mut ClientPass<S>,
     server: ServerId,
-    client: ClientId,
-    phase: PhaseType,
 ) -> Result<(), Fail> {
-    let Some(till) = pass.grant_till(client, phase) else {
-        return Err(Fail::new("a till of the client"));
+    let (Some(pass), Some(tills)) = (passes.first_mut(), own.tills(server)) else {
+        return Err(Fail::new("the passes"));
     };
-    if till.amount() == 0 {
-        return Err(Fail::new("a unit of the grant"));
+    submit(book, pass, tracker, tills, server)?;
+    pull_request(book, pass)
+}
+
+/// The client at a place stamps and submits a request at a book, and is granted it.
+fn ask_book<S: Setup>(
+    book: &mut Book<S>,
+    passes: &mut [WorkerPass<S>],
+    (trackers, clients): (&mut [TrackerBook<S>], &mut [ClientPass<S>]),
+    place: usize,
+    server: ServerId,
+) -> Result<(), Fail> {
+    match (trackers.get_mut(place), clients.get_mut(place)) {
+        (Some(tracker), Some(own)) => submit_and_pull(book, passes, tracker, own, server),
+        _ => Err(Fail::new("the client")),
     }
-    tracker.respond(server, phase, till)?;
-    Ok(())
 }
 
 /// The client at a place stamps and submits a request at a server, and is granted it.
 fn ask<S: Setup>(cluster: &mut Cluster<S>, place: usize, server: ServerId) -> Result<(), Fail> {
     let index = server.0 as usize;
-    let (Some(book), Some(passes), Some(tracker), Some(own)) = (
+    let clients = (
+        cluster.trackers.as_mut_slice(),
+        cluster.passes.clients.as_mut_slice(),
+    );
+    match (
         cluster.books.get_mut(index),
         cluster.passes.workers.get_mut(index),
-        cluster.trackers.get_mut(place),
-        cluster.passes.clients.get_mut(place),
-    ) else {
-        return Err(Fail::new("the parts"));
-    };
-    let (Some(pass), Some(tills)) = (passes.first_mut(), own.tills(server)) else {
-        return Err(Fail::new("the passes"));
-    };
-    submit(book, pass, tracker, tills)?;
-    pull(book, pass)
+    ) {
+        (Some(book), Some(passes)) => ask_book(book, passes, clients, place, server),
+        _ => Err(Fail::new("the server")),
+    }
 }
 
 /// The grant of client 1 at server 0 is responded.
@@ -101,7 +110,7 @@ fn stamp_once_more<S: Setup>(cluster: &mut Cluster<S>) -> Result<(), Fail> {
     let Some(tills) = own.tills(ServerId(1)) else {
         return Err(Fail::new("the tills"));
     };
-    tracker.stamp(ServerId(1), tills)?;
+    stamp(tracker, ServerId(1), tills)?;
     Ok(())
 }
 

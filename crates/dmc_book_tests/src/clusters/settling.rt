@@ -1,8 +1,8 @@
 //! Clusters are settled.
-ghost use Rattle.std.specs.Prelude.{◌≡◌, ◌≤◌};
+ghost use Rattle.std.specs.Prelude.{◌≡◌, ◌≤◌, IfOk};
 
 use super::playing::play;
-use super::setup::{BOOKS, Cluster, open_cluster, scene};
+use super::setup::{BOOKS, Cluster, empty_cluster, fill, no_passes, scene};
 use dmc_book::settled::GrantsHeld;
 use dmc_events::history::EventHistory;
 use dmc_ledger::mint::{Blank, Mint};
@@ -16,7 +16,8 @@ use dmc_tlock::settled::StampsHeld;
 use dmc_types::ids::{ClientId, ServerId};
 use std::alloc::{AllocError, Global};
 use std::marker::Brand;
-use std::mem::swap;
+use std::mem::{replace, swap};
+use std::process::Abort;
 use std::test::Fail;
 
 /// What is told of a server: its grants in each phase, what is queued, and the units left in each phase.
@@ -61,20 +62,28 @@ fn report(alloc: Global) -> Result<ClusterReport<TickTag>, Fail> {
     })
 }
 
+/// A report that is not settled yet, and room for the scene's servers.
+fn open_report<S: Setup>(
+    alloc: Global,
+    scene: &Scene,
+) -> Result<(ClusterReport<TickTag>, SettleRoom<S>), Fail>
+    ensures { IfOk result (λ opened. scene.now.servers ≤ opened.1) }
+{
+    let room = SettleRoom::new(alloc, scene.servers())?;
+    Ok((report(alloc)?, room))
+}
+
 /// Settles a cluster. No report where it is torn.
 fn settle<S: Setup>(
     alloc: Global,
     scene: &Scene,
-    cluster: Cluster<S>,
+    cluster: &mut Cluster<S>,
 ) -> Result<Option<ClusterReport<TickTag>>, Fail> {
-    let report = report(alloc)?;
-    let room = SettleRoom::new(alloc, scene.servers())?;
-    let Cluster {
-        mut books,
-        trackers,
-        passes,
-    } = cluster;
-    Ok(settle_cluster(alloc, scene, &mut books, trackers, passes, report, room).ok())
+    let (report, room) = open_report(alloc, scene)?;
+    let trackers = replace(&mut cluster.trackers, Vec::new(alloc));
+    let passes = replace(&mut cluster.passes, no_passes(alloc));
+    let books = &mut cluster.books;
+    Ok(settle_cluster(alloc, scene, books, trackers, passes, report, room).ok())
 }
 
 /// Whether the passes come from another cluster or are left out, and whose.
@@ -102,16 +111,18 @@ fn change_passes<S: Setup>(passes: &mut Passes<S>, others: &mut Passes<S>, chang
     }
 }
 
-/// Opens two clusters, plays in the first, and settles it, with its passes changed.
+/// Sets up two clusters, plays in the second, and settles it, with its passes changed.
 fn settle_changed<S: Setup>(
     alloc: Global,
     mint: &mut Mint<S>,
+    other: &mut Cluster<S>,
+    cluster: &mut Cluster<S>,
     change: Change,
 ) -> Result<Option<ClusterReport<TickTag>>, Fail> {
     let scene = scene(alloc)?;
-    let mut other = open_cluster(alloc, mint, &scene)?;
-    let mut cluster = open_cluster(alloc, mint, &scene)?;
-    play(&mut cluster)?;
+    fill(alloc, mint, other, &scene)?;
+    fill(alloc, mint, cluster, &scene)?;
+    play(cluster)?;
     change_passes(&mut cluster.passes, &mut other.passes, change);
     settle(alloc, &scene, cluster)
 }
@@ -125,7 +136,8 @@ fn settle_in<S: Setup>(
     requires { blank.name ≡ S.name }
 {
     let mut mint = blank.open::<S>();
-    settle_changed(alloc, &mut mint, change)
+    let (mut other, mut cluster) = (empty_cluster(alloc), empty_cluster(alloc));
+    settle_changed(alloc, &mut mint, &mut other, &mut cluster, change)
 }
 
 fn told(row: &ServerReport<TickTag>) -> Told {
@@ -139,12 +151,8 @@ fn told(row: &ServerReport<TickTag>) -> Told {
     )
 }
 
-#[test]
-fn settle_two_servers(rt: HostRuntime) -> Result<(), Fail> {
-    let blank = Blank::new(2 * BOOKS);
-    let Some(report) = settle_in::<Brand>(rt.alloc(), blank, Change::Nothing)? else {
-        return Err(Fail::new("torn"));
-    };
+/// The rows of the clients that have played.
+fn played_rows() -> [ClientReport; 2] {
     let one = ClientReport {
         sent: 1,
         completed: 1,
@@ -159,12 +167,26 @@ fn settle_two_servers(rt: HostRuntime) -> Result<(), Fail> {
         sent: 1,
         ..client_row(2, 0, Some(StopCause::Rung))
     };
-    assert_eq!(rt; report.clients.as_slice(), [one, two].as_slice());
+    [one, two]
+}
+
+/// A server's row says what it is to say, and that four events were recorded and its worker's turns were used up.
+fn assert_row(rt: &impl Abort, row: &ServerReport<TickTag>, wanted: Told) {
+    assert_eq!(rt; told(row), wanted);
+    assert_eq!(rt; row.history.len(), 4);
+    assert_eq!(rt; row.stops.as_slice(), [StopCause::Turns].as_slice());
+}
+
+#[test]
+fn settle_two_servers(rt: HostRuntime) -> Result<(), Fail> {
+    let blank = Blank::new(2 * BOOKS);
+    let Some(report) = settle_in::<Brand>(rt.alloc(), blank, Change::Nothing)? else {
+        return Err(Fail::new("torn"));
+    };
+    assert_eq!(rt; report.clients.as_slice(), played_rows().as_slice());
     let wanted = [(1, 0, 0, 0, 0), (0, 1, 0, 0, 1)];
     for (row, wanted) in report.servers.iter().zip(wanted) {
-        assert_eq!(rt; told(row), wanted);
-        assert_eq!(rt; row.history.len(), 4);
-        assert_eq!(rt; row.stops.as_slice(), [StopCause::Turns].as_slice());
+        assert_row(&rt, row, wanted);
     }
     Ok(())
 }

@@ -1,29 +1,26 @@
 //! Servers 0 and 1 with one worker each, and clients 1 and 2, of which client 1 has a reservation.
 ghost use Rattle.std.specs.Prelude.{◌≡◌, map, IfOk};
+ghost use Rattle.std.specs.List.{AllByRecursion};
 ghost use Rattle.dmc_ledger.specs.Bundles.{client_side, server_side};
 ghost use Rattle.dmc_tlock.specs.Opening.{AreNew};
 ghost use Rattle.dmc_book.specs.Opening.{IsNewDesk};
 
-use dmc_book::book::QueueBook;
+use crate::calls::run;
+use crate::opening::{Book, SEVEN, both, let_go, open_book, open_tracker, push};
+use dmc_book::fault::RunFault;
 use dmc_book::pass::WorkerPass;
-use dmc_index::list_index::ListIndexes;
 use dmc_ledger::desk::{ClientDesk, ServerDesk, open_pair};
 use dmc_ledger::mint::Mint;
 use dmc_ledger::setup::Setup;
 use dmc_scene::client::SceneClient;
 use dmc_scene::scene::{Scene, read_scene};
 use dmc_settle::settle::Passes;
-use dmc_tick::tick::TickTag;
 use dmc_tlock::book::TrackerBook;
-use dmc_tlock::pass::ClientPass;
 use dmc_types::command::Command;
-use dmc_types::config::Counting;
-use dmc_types::ids::{ClientId, ServerId, WorkerId};
+use dmc_types::ids::{ClientId, ServerId};
 use dmc_types::moment::Moment;
 use std::alloc::{AllocError, Global};
 use std::test::Fail;
-
-pub(super) type Book<S> = QueueBook<TickTag, ListIndexes, S>;
 
 /// How many books a cluster has: five of each client at each server, and five of each worker.
 pub(super) const BOOKS: u64 = 30;
@@ -44,15 +41,6 @@ pub(super) struct Cluster<S: Setup> {
     pub(super) passes: Passes<S>,
 }
 
-/// A client's desks at both servers, its tracker book and its pass.
-#[derive(Drop)]
-struct Client<S: Setup> {
-    here: ClientDesk<S>,
-    there: ClientDesk<S>,
-    book: TrackerBook<S>,
-    pass: ClientPass<S>,
-}
-
 /// The desks of a client at both servers.
 fn open_desks<S: Setup>(
     alloc: Global,
@@ -71,24 +59,63 @@ fn open_desks<S: Setup>(
     Ok((here, there, sides))
 }
 
-fn open_client<S: Setup>(
+/// The tracker of a client with these desks, and its pass, go to the cluster.
+fn add_tracker<S: Setup>(
+    alloc: Global,
+    cluster: &mut Cluster<S>,
+    client: ClientId,
+    sides: Vec<ServerDesk<S>>,
+) -> Result<(), Fail>
+    requires { AreNew client.0 (map server_side sides.items) }
+{
+    let (tracker, pass) = open_tracker(alloc, client, sides)?;
+    push(&mut cluster.trackers, tracker)?;
+    push(&mut cluster.passes.clients, pass)
+}
+
+/// A client's tracker goes to the cluster. Its desks at both servers are handed out.
+fn add_client<S: Setup>(
     alloc: Global,
     mint: &mut Mint<S>,
+    cluster: &mut Cluster<S>,
     client: ClientId,
-) -> Result<Client<S>, Fail>
-    ensures here { IfOk result (λ client. IsNewDesk 0 (client_side client.here)) }
-    ensures there { IfOk result (λ client. IsNewDesk 1 (client_side client.there)) }
+) -> Result<(ClientDesk<S>, ClientDesk<S>), Fail>
+    ensures here { IfOk result (λ desks. IsNewDesk 0 (client_side desks.0)) }
+    ensures there { IfOk result (λ desks. IsNewDesk 1 (client_side desks.1)) }
 {
     let (here, there, sides) = open_desks(alloc, mint, client)?;
-    match TrackerBook::new(alloc, client, sides, 9, 9, Counting::All) {
-        Ok((book, pass)) => Ok(Client {
-            here,
-            there,
-            book,
-            pass,
-        }),
-        Err(fault) => Err(fault.cause.into()),
-    }
+    add_tracker(alloc, cluster, client, sides)?;
+    Ok((here, there))
+}
+
+/// The desks of both clients at a server.
+fn desks_at<S: Setup>(
+    alloc: Global,
+    server: ServerId,
+    one: ClientDesk<S>,
+    two: ClientDesk<S>,
+) -> Result<Vec<ClientDesk<S>>, Fail>
+    requires one { IsNewDesk server.0 (client_side one) }
+    requires two { IsNewDesk server.0 (client_side two) }
+    ensures { IfOk result (λ desks. AllByRecursion (IsNewDesk server.0) (map client_side desks.items)) }
+{
+    both(alloc, one, two)
+}
+
+/// Both clients' trackers go to the cluster. Their desks at server 0 and those at server 1 are handed out.
+fn add_clients<S: Setup>(
+    alloc: Global,
+    mint: &mut Mint<S>,
+    cluster: &mut Cluster<S>,
+) -> Result<(Vec<ClientDesk<S>>, Vec<ClientDesk<S>>), Fail>
+    ensures here { IfOk result (λ desks. AllByRecursion (IsNewDesk 0) (map client_side desks.0.items)) }
+    ensures there { IfOk result (λ desks. AllByRecursion (IsNewDesk 1) (map client_side desks.1.items)) }
+{
+    let (one_here, one_there) = add_client(alloc, mint, cluster, ClientId(1))?;
+    let (two_here, two_there) = add_client(alloc, mint, cluster, ClientId(2))?;
+    let here = desks_at(alloc, ServerId(0), one_here, two_here)?;
+    let there = desks_at(alloc, ServerId(1), one_there, two_there)?;
+    Ok((here, there))
 }
 
 /// Registers a client of the scene at moment 0.
@@ -96,13 +123,13 @@ fn register<S: Setup>(
     book: &mut Book<S>,
     pass: &mut WorkerPass<S>,
     client: SceneClient,
-) -> Result<(), Fail> {
+) -> Result<(), RunFault> {
     let command = Command::Register {
         client: client.id(),
         info: client.info(),
         at: Moment::zero(),
     };
-    book.run(pass, command)?;
+    run(book, pass, command)?;
     Ok(())
 }
 
@@ -121,64 +148,64 @@ fn register_all<S: Setup>(
     Ok(())
 }
 
-/// A server's book with the desks of both clients, which are registered, and the pass of its worker.
-fn open_server<S: Setup>(
+/// A server's book and the pass of its worker go to the cluster, once the scene's clients are registered.
+fn add_book<S: Setup>(
+    cluster: &mut Cluster<S>,
+    scene: &Scene,
+    book: Book<S>,
+    passes: Vec<WorkerPass<S>>,
+) -> Result<(), Fail> {
+    let (mut book, mut passes) = (book, passes);
+    if let Err(fail) = register_all(&mut book, &mut passes, scene) {
+        let_go(book);
+        drop(passes);
+        return Err(fail);
+    }
+    push(&mut cluster.books, book)?;
+    push(&mut cluster.passes.workers, passes)
+}
+
+/// A server with these desks goes to the cluster.
+fn add_server<S: Setup>(
     alloc: Global,
     mint: &mut Mint<S>,
+    cluster: &mut Cluster<S>,
     scene: &Scene,
     server: ServerId,
-    one: ClientDesk<S>,
-    two: ClientDesk<S>,
-) -> Result<(Book<S>, Vec<WorkerPass<S>>), Fail>
-    requires one { IsNewDesk server.0 (client_side one) }
-    requires two { IsNewDesk server.0 (client_side two) }
+    desks: Vec<ClientDesk<S>>,
+) -> Result<(), Fail>
+    requires { AllByRecursion (IsNewDesk server.0) (map client_side desks.items) }
 {
-    let Ok(desks) = vec![in alloc; one, two] else {
-        return Err(AllocError.into());
-    };
-    let workers = [WorkerId(7)];
-    match QueueBook::new(alloc, scene.config(), server, &workers, desks, mint, 99) {
-        Ok((mut book, mut passes)) => {
-            register_all(&mut book, &mut passes, scene)?;
-            Ok((book, passes))
-        }
-        Err(fault) => Err(fault.cause.into()),
+    let config = scene.config();
+    let (book, passes) = open_book(alloc, config, server, mint, desks, &[SEVEN], 99)?;
+    add_book(cluster, scene, book, passes)
+}
+
+/// Both clients go to the cluster, and then both servers. Both clients are registered at both servers.
+pub(super) fn fill<S: Setup>(
+    alloc: Global,
+    mint: &mut Mint<S>,
+    cluster: &mut Cluster<S>,
+    scene: &Scene,
+) -> Result<(), Fail> {
+    let (here, there) = add_clients(alloc, mint, cluster)?;
+    add_server(alloc, mint, cluster, scene, ServerId(0), here)?;
+    add_server(alloc, mint, cluster, scene, ServerId(1), there)
+}
+
+/// The passes of a cluster with no servers and no clients.
+pub(super) fn no_passes<S: Setup>(alloc: Global) -> Passes<S> {
+    Passes {
+        workers: Vec::new(alloc),
+        clients: Vec::new(alloc),
     }
 }
 
-/// The cluster of two clients.
-fn open_servers<S: Setup>(
-    alloc: Global,
-    mint: &mut Mint<S>,
-    scene: &Scene,
-    one: Client<S>,
-    two: Client<S>,
-) -> Result<Cluster<S>, Fail>
-    requires one_here { IsNewDesk 0 (client_side one.here) }
-    requires one_there { IsNewDesk 1 (client_side one.there) }
-    requires two_here { IsNewDesk 0 (client_side two.here) }
-    requires two_there { IsNewDesk 1 (client_side two.there) }
-{
-    let (here, here_passes) = open_server(alloc, mint, scene, ServerId(0), one.here, two.here)?;
-    let (there, there_passes) = open_server(alloc, mint, scene, ServerId(1), one.there, two.there)?;
-    let passes = Passes {
-        workers: vec![in alloc; here_passes, there_passes]?,
-        clients: vec![in alloc; one.pass, two.pass]?,
-    };
-    Ok(Cluster {
-        books: vec![in alloc; here, there]?,
-        trackers: vec![in alloc; one.book, two.book]?,
-        passes,
-    })
-}
-
-/// A cluster in which both clients are registered at both servers.
-pub(super) fn open_cluster<S: Setup>(
-    alloc: Global,
-    mint: &mut Mint<S>,
-    scene: &Scene,
-) -> Result<Cluster<S>, Fail> {
-    let one = open_client(alloc, mint, ClientId(1))?;
-    let two = open_client(alloc, mint, ClientId(2))?;
-    open_servers(alloc, mint, scene, one, two)
+/// A cluster with no servers and no clients.
+pub(super) fn empty_cluster<S: Setup>(alloc: Global) -> Cluster<S> {
+    Cluster {
+        books: Vec::new(alloc),
+        trackers: Vec::new(alloc),
+        passes: no_passes(alloc),
+    }
 }

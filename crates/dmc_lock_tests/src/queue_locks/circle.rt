@@ -4,9 +4,9 @@ ghost use Rattle.dmc_tag.specs.Replay.{replays};
 ghost use Rattle.dmc_types.specs.declared.config.PhaseType.{PhaseType};
 ghost use Rattle.dmc_book.specs.Counts.{count, grants_added, phase_grants};
 
-use super::setup::{
-    Book, Client, Lock, ONE, ZERO, grant, must_register, open_one, pull_or_wait, submit_stamped,
-};
+use super::calls::{must_register, pull_or_wait, status, submit_stamped};
+use super::setup::{Book, Client, Lock, ONE, grant, let_book_go, open_one};
+use crate::tracker_setup::{ZERO, carried, stamp_at_lock, status_at_lock};
 use dmc_book::laws::{grants_are_of_desks, history_replays};
 use dmc_book::pass::WorkerPass;
 use dmc_ledger::bundle::StampTills;
@@ -18,7 +18,6 @@ use dmc_tag::tag::Tag;
 use dmc_tick::tick::TickTag;
 use dmc_tlock::lock::TrackerLock;
 use dmc_tlock::pass::ClientPass;
-use dmc_tlock::stamp::Stamp;
 use dmc_types::config::PhaseType;
 use dmc_types::ids::ServerId;
 use dmc_types::moment::Moment;
@@ -39,17 +38,35 @@ fn book_of<S: Setup>(lock: Lock<S>) -> Book<S>
     book
 }
 
-/// What a stamp carries: delta and rho.
-fn carried(stamp: &Stamp) -> (u32, u32) {
-    let params = stamp.params();
-    (params.delta(), params.rho())
+/// How many events the lock's book has.
+fn events_of<S: Setup>(lock: Lock<S>) -> usize {
+    let book = book_of(lock);
+    let events = book.history().len();
+    let_book_go(book);
+    events
 }
 
 /// What a request's way into the queue tells: what its stamp carries, its tags, and the worker's
 /// calls, tokens and grants.
 type Queued = ((u32, u32), Tags<TickTag>, (u64, u64, u64));
 
-/// Stamps a request at the tracker, and submits it.
+/// Stamps a request at the tracker, and submits it: what the stamp carries, and the tags.
+fn stamp_and_submit<S: Setup, R: Wait>(
+    rt: &R,
+    lock: &Lock<S>,
+    pass: &mut WorkerPass<S>,
+    tracker: &TrackerLock<S>,
+    tills: &mut StampTills<S>,
+) -> Result<((u32, u32), Tags<TickTag>), Fail> {
+    let stamp = tracker.stamp(rt, ZERO, tills)?;
+    let stamped = carried(&stamp);
+    match submit_stamped(rt, lock, pass, tills, stamp, 9) {
+        Ok(tags) => Ok((stamped, tags)),
+        Err((_, cause)) => Err(cause.into()),
+    }
+}
+
+/// Queues a request, and reads the worker's status.
 fn queue_request<S: Setup, R: Wait>(
     rt: &R,
     lock: &Lock<S>,
@@ -57,13 +74,8 @@ fn queue_request<S: Setup, R: Wait>(
     tracker: &TrackerLock<S>,
     tills: &mut StampTills<S>,
 ) -> Result<Queued, Fail> {
-    let stamp = tracker.stamp(rt, ZERO, tills)?;
-    let stamped = carried(&stamp);
-    let tags = match submit_stamped(rt, lock, pass, tills, stamp, 9) {
-        Ok(tags) => tags,
-        Err((_, cause)) => return Err(cause.into()),
-    };
-    let status = lock.status(rt, pass)?;
+    let (stamped, tags) = stamp_and_submit(rt, lock, pass, tracker, tills)?;
+    let status = status(rt, lock, pass)?;
     Ok((stamped, tags, (status.calls, status.tokens, status.grants)))
 }
 
@@ -74,7 +86,7 @@ fn pull_request<S: Setup, R: Wait>(
     pass: &mut WorkerPass<S>,
 ) -> Result<(Pulled, (u64, u64, u64)), Fail> {
     let pulled = pull_or_wait(rt, lock, pass)?;
-    let status = lock.status(rt, pass)?;
+    let status = status(rt, lock, pass)?;
     Ok((pulled, (status.calls, status.grants, status.granted)))
 }
 
@@ -111,8 +123,8 @@ fn next_stamp<S: Setup, R: Wait>(
     tracker: &TrackerLock<S>,
     tills: &mut StampTills<S>,
 ) -> Result<Next, Fail> {
-    let stamped = carried(&tracker.stamp(rt, ZERO, tills)?);
-    let status = tracker.status(rt, ZERO, tills)?;
+    let stamped = stamp_at_lock(rt, tracker, ZERO, tills)?;
+    let status = status_at_lock(rt, tracker, ZERO, tills)?;
     Ok((stamped, status.sent, status.pending, status.completions))
 }
 
@@ -169,15 +181,29 @@ fn circle<S: Setup, R: Wait>(
 {
     let mut mint = blank.open::<S>();
     let (lock, mut pass, client) = open_one(alloc, &mut mint, 8)?;
+    let told = circle_of_client(rt, &lock, &mut pass, client);
+    drop(pass);
+    let server = lock.server();
+    let events = events_of(lock);
+    Ok((told?, server, events))
+}
+
+/// The circle with the client, whose tracker is locked.
+fn circle_of_client<S: Setup, R: Wait>(
+    rt: &R,
+    lock: &Lock<S>,
+    pass: &mut WorkerPass<S>,
+    client: Client<S>,
+) -> Result<Told, Fail> {
     let Client {
         tracker,
         mut tills,
         ..
     } = client;
     let tracker = TrackerLock::new(tracker);
-    let told = circle_of(rt, &lock, &mut pass, &tracker, &mut tills)?;
-    let server = lock.server();
-    Ok((told, server, book_of(lock).history().len()))
+    let told = circle_of(rt, lock, pass, &tracker, &mut tills);
+    drop((tracker, tills));
+    told
 }
 
 /// The circle with the client's pass.

@@ -2,11 +2,14 @@
 ghost use Rattle.std.specs.Prelude.{◌≡◌, IsTrue};
 ghost use Rattle.dmc_ledger.specs.Bundles.{Covers, stamp_holdings};
 
-use super::setup::{
-    Client, Clients, LONG, Lock, ONE, Opened, Stop, ZERO, grant, last_pass, must_register, open,
-    open_clients, open_lock, open_one, open_other, pull, pull_or_wait, run_register, submit,
-    submit_stamped, wait_config,
+use super::calls::{
+    Stop, close, must_register, pull, pull_or_wait, run_register, status, submit, submit_stamped,
 };
+use super::setup::{
+    Client, Clients, LONG, Lock, ONE, Opened, grant, let_go, open, open_clients, open_lock,
+    open_one, open_other, wait_config,
+};
+use crate::tracker_setup::{ZERO, stamp, stamp_at_lock};
 use dmc_book::fault::{NewFault, RunFault, SubmitCause};
 use dmc_book::pass::WorkerPass;
 use dmc_ledger::bundle::StampTills;
@@ -50,7 +53,7 @@ fn full_told<S: Setup, R: Wait>(
     let no_desk = run_register(rt, lock, pass, ClientId(3), None)?;
     must_register(rt, lock, pass, ONE, None)?;
     let pulls = pull_twice(rt, lock, pass)?;
-    let status = lock.status(rt, pass)?;
+    let status = status(rt, lock, pass)?;
     Ok((no_desk, pulls, (status.events, status.calls, status.misses)))
 }
 
@@ -58,8 +61,11 @@ fn full<S: Setup, R: Wait>(rt: &R, alloc: Global, blank: Blank) -> Result<Full, 
     requires { blank.name ≡ S.name }
 {
     let mut mint = blank.open::<S>();
-    let (lock, mut pass, _client) = open_one(alloc, &mut mint, 2)?;
-    full_told(rt, &lock, &mut pass)
+    let (lock, mut pass, client) = open_one(alloc, &mut mint, 2)?;
+    let told = full_told(rt, &lock, &mut pass);
+    drop((pass, client));
+    let_go(lock);
+    told
 }
 
 /// What a closed queue tells: a submit, and two pulls that might wait.
@@ -73,7 +79,7 @@ fn submit_once_closed<S: Setup, R: Wait>(
     client: &mut Client<S>,
 ) -> Result<Option<Stop>, Stop> {
     submit(rt, lock, pass, client, 9)?;
-    lock.close(rt);
+    close(rt, lock);
     Ok(submit(rt, lock, pass, client, 10).err())
 }
 
@@ -104,7 +110,10 @@ fn closed<S: Setup, R: Wait>(rt: &R, alloc: Global, blank: Blank) -> Result<Clos
 {
     let mut mint = blank.open::<S>();
     let (lock, mut pass, mut client) = open_one(alloc, &mut mint, 8)?;
-    closed_told(rt, &lock, &mut pass, &mut client)
+    let told = closed_told(rt, &lock, &mut pass, &mut client);
+    drop((pass, client));
+    let_go(lock);
+    told
 }
 
 /// What another book's pass is refused with.
@@ -123,7 +132,7 @@ fn strange_told<S: Setup, R: Wait>(
 ) -> Result<Strange, Fail> {
     let ran = run_register(rt, lock, pass, ONE, None)?;
     let pulled = pull(rt, lock, pass).err();
-    let seen = lock.status(rt, pass).err();
+    let seen = status(rt, lock, pass).err();
     let submitted = submit(rt, lock, pass, client, 9).err();
     Ok((ran, pulled, seen, submitted))
 }
@@ -133,8 +142,11 @@ fn strange<S: Setup, R: Wait>(rt: &R, alloc: Global, blank: Blank) -> Result<Str
 {
     let mut mint = blank.open::<S>();
     let mut other = open_other(alloc, &mut mint)?;
-    let (lock, _pass, mut client) = open_one(alloc, &mut mint, 8)?;
-    strange_told(rt, &lock, &mut other, &mut client)
+    let (lock, pass, mut client) = open_one(alloc, &mut mint, 8)?;
+    let told = strange_told(rt, &lock, &mut other, &mut client);
+    drop((pass, client));
+    let_go(lock);
+    told
 }
 
 /// Two workers of one number are refused.
@@ -143,14 +155,15 @@ fn twice<S: Setup>(alloc: Global, blank: Blank) -> Result<Option<NewFault>, Fail
 {
     let mut mint = blank.open::<S>();
     let config = wait_config(LONG)?;
-    let Clients {
-        desks,
-        one: _one,
-        two: _two,
-    } = open_clients(alloc, &mut mint)?;
+    let Clients { desks, one, two } = open_clients(alloc, &mut mint)?;
+    drop((one, two));
     let workers = [WorkerId(7), WorkerId(7)];
     match open_lock(alloc, config, &mut mint, desks, &workers, 8) {
-        Ok(_) => Ok(None),
+        Ok((lock, passes)) => {
+            drop(passes);
+            let_go(lock);
+            Ok(None)
+        }
         Err(NewFault::Memory) => Err(NewFault::Memory.into()),
         Err(cause) => Ok(Some(cause)),
     }
@@ -182,6 +195,19 @@ fn submit_with<S: Setup, R: Wait>(
     }
 }
 
+/// The same, stamped at the lock of client 1's tracker.
+fn submit_own<S: Setup, R: Wait>(
+    rt: &R,
+    lock: &Lock<S>,
+    pass: &mut WorkerPass<S>,
+    one: &TrackerLock<S>,
+    own: &mut StampTills<S>,
+    others: &mut StampTills<S>,
+) -> Result<(ClientId, SubmitCause), Fail> {
+    let stamp = one.stamp(rt, ZERO, own)?;
+    submit_with(rt, lock, pass, stamp, others)
+}
+
 /// What the tills of client 2 are refused with, by the lock of client 1's tracker and by the queue's lock.
 type Others = (Option<EntryFault>, (ClientId, SubmitCause));
 
@@ -196,31 +222,53 @@ fn others_told<S: Setup, R: Wait>(
     let (Some(own), Some(others)) = (tills.tills(ZERO), two.tills.tills(ZERO)) else {
         return Err(Fail::new("tills for the server"));
     };
-    let refused = one.stamp(rt, ZERO, others).err();
-    let stamp = one.stamp(rt, ZERO, own)?;
-    two.tracker.stamp(ZERO, others)?;
-    Ok((refused, submit_with(rt, lock, pass, stamp, others)?))
+    let refused = stamp_at_lock(rt, one, ZERO, others).err();
+    stamp(&mut two.tracker, ZERO, others)?;
+    Ok((refused, submit_own(rt, lock, pass, one, own, others)?))
 }
 
-fn others<S: Setup, R: Wait>(rt: &R, alloc: Global, blank: Blank) -> Result<Others, Fail>
-    requires { blank.name ≡ S.name }
-{
-    let mut mint = blank.open::<S>();
-    let mut opened = open(alloc, &mut mint, &[WorkerId(7)], 8)?;
-    let mut pass = last_pass(&mut opened.passes)?;
-    let Opened {
-        lock,
-        one,
-        mut two,
-        passes: _passes,
-    } = opened;
+/// The same with client 1, whose tracker is locked.
+fn others_locked<S: Setup, R: Wait>(
+    rt: &R,
+    lock: &Lock<S>,
+    passes: &mut [WorkerPass<S>],
+    one: Client<S>,
+    two: &mut Client<S>,
+) -> Result<Others, Fail> {
     let Client {
         tracker,
         mut tills,
         ..
     } = one;
     let one = TrackerLock::new(tracker);
-    others_told(rt, &lock, &mut pass, &one, &mut tills, &mut two)
+    let told = match passes.first_mut() {
+        Some(pass) => others_told(rt, lock, pass, &one, &mut tills, two),
+        None => Err(Fail::new("a pass for the worker")),
+    };
+    drop((one, tills));
+    told
+}
+
+/// The same with the lock and the clients that were opened.
+fn others_opened<S: Setup, R: Wait>(rt: &R, opened: Opened<S>) -> Result<Others, Fail> {
+    let Opened {
+        lock,
+        one,
+        mut two,
+        mut passes,
+    } = opened;
+    let told = others_locked(rt, &lock, &mut passes, one, &mut two);
+    drop((two, passes));
+    let_go(lock);
+    told
+}
+
+fn others<S: Setup, R: Wait>(rt: &R, alloc: Global, blank: Blank) -> Result<Others, Fail>
+    requires { blank.name ≡ S.name }
+{
+    let mut mint = blank.open::<S>();
+    let opened = open(alloc, &mut mint, &[WorkerId(7)], 8)?;
+    others_opened(rt, opened)
 }
 
 #[test]

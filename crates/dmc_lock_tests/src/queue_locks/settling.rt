@@ -1,5 +1,5 @@
 //! What the book of a lock leaves, once no thread shares the lock.
-use super::setup::{Book, Lock, both};
+use super::setup::{Book, Lock, both, let_book_go};
 use dmc_book::pass::WorkerPass;
 use dmc_book::seat::Seat;
 use dmc_book::settled::Settled;
@@ -46,9 +46,24 @@ fn settle_book<S: Setup>(
     passes: Vec<WorkerPass<S>>,
 ) -> Result<Remains, Fail> {
     match book.settle(alloc, passes) {
-        Ok(settled) => remains(&settled),
+        Ok(settled) => {
+            let remains = remains(&settled);
+            drop(settled);
+            remains
+        }
         Err(_) => Err(Fail::new("its own passes")),
     }
+}
+
+/// Settles a book with the passes of its two workers.
+fn settle_pair<S: Setup>(
+    alloc: Global,
+    book: &mut Book<S>,
+    first: WorkerPass<S>,
+    second: WorkerPass<S>,
+) -> Result<Remains, Fail> {
+    let passes = both(alloc, first, second)?;
+    settle_book(alloc, book, passes)
 }
 
 /// Opens the lock of two workers, and settles its book with their passes.
@@ -58,7 +73,8 @@ pub(super) fn settle<S: Setup>(
     first: WorkerPass<S>,
     second: WorkerPass<S>,
 ) -> Result<Remains, Fail> {
-    let passes = both(alloc, first, second)?;
     let mut book = lock.into_book();
-    settle_book(alloc, &mut book, passes)
+    let remains = settle_pair(alloc, &mut book, first, second);
+    let_book_go(book);
+    remains
 }

@@ -1,11 +1,10 @@
 //! Two threads that submit at once, and a third that closes the queue.
 ghost use Rattle.std.specs.Prelude.{◌≡◌};
 
+use super::calls::{Stop, close, must_register, pull, status, submit, was_closed};
 use super::settling::{Numbers, Remains, settle};
-use super::setup::{
-    Client, Lock, ONE, Opened, Stop, TWO, ZERO, close, grant, last_two, must_register, open, pull,
-    submit, was_closed,
-};
+use super::setup::{Client, Lock, ONE, Opened, TWO, grant, last_two, let_go, open};
+use crate::tracker_setup::ZERO;
 use dmc_book::pass::WorkerPass;
 use dmc_ledger::mint::{Blank, Mint};
 use dmc_ledger::setup::Setup;
@@ -86,16 +85,23 @@ fn open_two<S: Setup>(
         two,
         mut passes,
     } = open(alloc, mint, &[WorkerId(1), WorkerId(2)], 1000)?;
-    let (first, second) = last_two(&mut passes)?;
-    let first = Job {
-        pass: first,
-        client: one,
-    };
-    let second = Job {
-        pass: second,
-        client: two,
-    };
-    Ok((lock, first, second))
+    let pair = last_two(&mut passes);
+    drop(passes);
+    match pair {
+        Ok((pass, other)) => {
+            let first = Job { pass, client: one };
+            let second = Job {
+                pass: other,
+                client: two,
+            };
+            Ok((lock, first, second))
+        }
+        Err(fail) => {
+            drop((one, two));
+            let_go(lock);
+            Err(fail)
+        }
+    }
 }
 
 /// A worker registers clients 1 and 2.
@@ -118,8 +124,8 @@ fn left_by_both<S: Setup, R: Wait>(
     first: &Job<S>,
     second: &Job<S>,
 ) -> Result<Left, Fail> {
-    let own = lock.status(rt, &first.pass)?;
-    let other = lock.status(rt, &second.pass)?;
+    let own = status(rt, lock, &first.pass)?;
+    let other = status(rt, lock, &second.pass)?;
     Ok((
         (own.calls, own.tokens, own.grants),
         (other.calls, other.tokens),
@@ -134,7 +140,7 @@ fn pull_last<S: Setup, R: Wait>(
     pass: &mut WorkerPass<S>,
 ) -> Result<(Pulled, (u64, u64, u64, u64)), Fail> {
     let pulled = pull(rt, lock, pass)?;
-    let last = lock.status(rt, pass)?;
+    let last = status(rt, lock, pass)?;
     Ok((pulled, (last.calls, last.misses, last.grants, last.granted)))
 }
 
@@ -165,10 +171,8 @@ fn submit_and_pull<S: Setup + Send + Sync, R: Threads + Wait + Sync>(
 
 /// The pass of a job that is let go.
 fn pass_of<S: Setup>(job: Job<S>) -> WorkerPass<S> {
-    let Job {
-        pass,
-        client: _client,
-    } = job;
+    let Job { pass, client } = job;
+    drop(client);
     pass
 }
 
@@ -182,9 +186,17 @@ fn two_at_once<S: Setup + Send + Sync, R: Threads + Wait + Sync>(
 {
     let mut mint = blank.open::<S>();
     let (lock, mut first, mut second) = open_two(alloc, &mut mint)?;
-    let submitted = submit_and_pull(rt, &lock, &mut first, &mut second)?;
-    let remains = settle(alloc, lock, pass_of(first), pass_of(second))?;
-    Ok((submitted, remains))
+    match submit_and_pull(rt, &lock, &mut first, &mut second) {
+        Ok(submitted) => {
+            let remains = settle(alloc, lock, pass_of(first), pass_of(second))?;
+            Ok((submitted, remains))
+        }
+        Err(fail) => {
+            drop((first, second));
+            let_go(lock);
+            Err(fail)
+        }
+    }
 }
 
 /// What is to remain: the requests but the one that was granted, and the numbers of workers 1 and 2.
@@ -240,8 +252,8 @@ fn calls_once_closed<S: Setup, R: Wait>(
     first: &Job<S>,
     second: &Job<S>,
 ) -> Result<(u64, u64), Fail> {
-    let own = lock.status(rt, &first.pass)?;
-    let other = lock.status(rt, &second.pass)?;
+    let own = status(rt, lock, &first.pass)?;
+    let other = status(rt, lock, &second.pass)?;
     if !own.closed {
         return Err(Fail::new("a closed queue"));
     }
@@ -273,7 +285,10 @@ fn closed_at_once<S: Setup + Send + Sync, R: Threads + Wait + Sync>(
 {
     let mut mint = blank.open::<S>();
     let (lock, mut first, mut second) = open_two(alloc, &mut mint)?;
-    amid_told(rt, &lock, &mut first, &mut second)
+    let told = amid_told(rt, &lock, &mut first, &mut second);
+    drop((first, second));
+    let_go(lock);
+    told
 }
 
 #[test]

@@ -1,10 +1,8 @@
 //! Workers that wait for a request.
 ghost use Rattle.std.specs.Prelude.{◌≡◌};
 
-use super::setup::{
-    Client, Lock, ONE, Opened, close, last_pass, last_two, must_register, open, pull, pull_or_wait,
-    respond, submit,
-};
+use super::calls::{close, must_register, pull, pull_or_wait, respond, submit};
+use super::setup::{Client, Lock, ONE, Opened, last_pass, last_two, let_go, open};
 use dmc_book::pass::WorkerPass;
 use dmc_ledger::mint::{Blank, Mint};
 use dmc_ledger::setup::Setup;
@@ -49,6 +47,20 @@ struct Third<S: Setup> {
     client: Client<S>,
 }
 
+/// The passes of two workers that wait, and that of the third.
+fn last_three<S: Setup>(
+    passes: &mut Vec<WorkerPass<S>>,
+) -> Result<(Waiting<S>, WorkerPass<S>), Fail> {
+    let pass = last_pass(passes)?;
+    match last_two(passes) {
+        Ok((first, second)) => Ok((Waiting { first, second }, pass)),
+        Err(fail) => {
+            drop(pass);
+            Err(fail)
+        }
+    }
+}
+
 fn open_three<S: Setup>(
     alloc: Global,
     mint: &mut Mint<S>,
@@ -57,13 +69,19 @@ fn open_three<S: Setup>(
     let Opened {
         lock,
         one,
-        two: _two,
+        two,
         mut passes,
     } = open(alloc, mint, &workers, 1000)?;
-    let pass = last_pass(&mut passes)?;
-    let (first, second) = last_two(&mut passes)?;
-    let third = Third { pass, client: one };
-    Ok((lock, Waiting { first, second }, third))
+    let three = last_three(&mut passes);
+    drop((two, passes));
+    match three {
+        Ok((waiting, pass)) => Ok((lock, waiting, Third { pass, client: one })),
+        Err(fail) => {
+            drop(one);
+            let_go(lock);
+            Err(fail)
+        }
+    }
 }
 
 /// A first request is submitted, granted and responded to. By the limit the next is due at 50.
@@ -128,7 +146,10 @@ fn woken<S: Setup + Send + Sync, R: Threads + Wait + Sync>(
 {
     let mut mint = blank.open::<S>();
     let (lock, mut waiting, mut third) = open_three(alloc, &mut mint)?;
-    woken_told(rt, &lock, &mut waiting, &mut third)
+    let told = woken_told(rt, &lock, &mut waiting, &mut third);
+    drop((waiting, third));
+    let_go(lock);
+    told
 }
 
 #[test]

@@ -4,9 +4,9 @@
 pub mod locks;
 
 pub use dmc_check::check::{Verdict, check};
-use dmc_heap::indexed_heap::HeapIndexes;
 pub use dmc_events::history::EventHistory;
 pub use dmc_events::list::EventList;
+use dmc_heap::indexed_heap::HeapIndexes;
 pub use dmc_history::{History, LimitFault, ReserveFault};
 pub use dmc_pull::granting::{GrantTest, PullFault};
 pub use dmc_pull::queue::PullQueue;

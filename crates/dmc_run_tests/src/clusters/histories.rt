@@ -47,6 +47,19 @@ fn is_in_place(plans: &[Vec<ServerId>], server: ServerId, event: &Event<TickTag>
     }
 }
 
+/// Whether there is an event at an index, and it is in place.
+fn is_in_place_at(
+    plans: &[Vec<ServerId>],
+    server: ServerId,
+    history: &EventHistory<TickTag>,
+    index: usize,
+) -> bool {
+    match history.at(index) {
+        Some(event) => is_in_place(plans, server, &event),
+        None => false,
+    }
+}
+
 /// Each event of the history is in place.
 fn are_in_place(
     rt: &impl Abort,
@@ -55,11 +68,7 @@ fn are_in_place(
     history: &EventHistory<TickTag>,
 ) {
     for i in 0..history.len() {
-        let event = history.at(i);
-        assert!(rt;
-            event.is_some_and(|event| is_in_place(plans, server, &event)),
-            "at {i}"
-        );
+        assert!(rt; is_in_place_at(plans, server, history, i), "at {i}");
     }
 }
 
@@ -122,6 +131,14 @@ fn seen_with(seen: Seen, event: &Event<TickTag>) -> Option<Seen> {
     }
 }
 
+/// With the event at an index more, or `None` where there is none or it is not in order.
+fn seen_at(seen: Seen, history: &EventHistory<TickTag>, index: usize) -> Option<Seen> {
+    match history.at(index) {
+        Some(event) => seen_with(seen, &event),
+        None => None,
+    }
+}
+
 /// All that a history told. It is in order, and no more than 3 requests are queued at once.
 fn seen_in(rt: &impl Abort, history: &EventHistory<TickTag>) -> Seen {
     let mut seen = Seen {
@@ -131,7 +148,7 @@ fn seen_in(rt: &impl Abort, history: &EventHistory<TickTag>) -> Seen {
         last_pull: None,
     };
     for i in 0..history.len() {
-        let next = history.at(i).and_then(|event| seen_with(seen, &event));
+        let next = seen_at(seen, history, i);
         assert!(rt; next.is_some(), "at {i}");
         seen = next.unwrap_or(seen);
         assert!(rt; seen.added <= seen.granted.saturating_add(3), "at {i}");

@@ -139,6 +139,14 @@ fn seen_at(seen: Seen, history: &EventHistory<TickTag>, index: usize) -> Option<
     }
 }
 
+/// With the event at an index more, which is there and in order.
+fn next_seen(rt: &impl Abort, seen: Seen, history: &EventHistory<TickTag>, index: usize) -> Seen {
+    match seen_at(seen, history, index) {
+        Some(next) => next,
+        None => panic!(rt; "at {index}"),
+    }
+}
+
 /// All that a history told. It is in order, and no more than 3 requests are queued at once.
 fn seen_in(rt: &impl Abort, history: &EventHistory<TickTag>) -> Seen {
     let mut seen = Seen {
@@ -148,9 +156,7 @@ fn seen_in(rt: &impl Abort, history: &EventHistory<TickTag>) -> Seen {
         last_pull: None,
     };
     for i in 0..history.len() {
-        let next = seen_at(seen, history, i);
-        assert!(rt; next.is_some(), "at {i}");
-        seen = next.unwrap_or(seen);
+        seen = next_seen(rt, seen, history, i);
         assert!(rt; seen.added <= seen.granted.saturating_add(3), "at {i}");
     }
     seen

@@ -53,9 +53,10 @@ for _ in $(seq "$turns"); do in_turn "$folder/scene"; done > "$folder/times"
 events=$((servers * clients + 2 * clients * requests + servers * workers))
 entries=$((2 * clients * requests))
 awk -v e="$events" -v n="$entries" -v l="$(median '$4')" -v u="$(median '$8')" -v r="$(median '$1 / $5')" 'BEGIN {
-  bytes = 112 * e + 16 * n
+  # a request without a reservation takes 68 bytes, its grant 28, and any other event 116
+  bytes = 96 * n / 2 + 116 * (e - n) + 16 * n
   library = l * 1024
-  printf "1,000,000 requests: %d events of 112 bytes and %d entries of 16 bytes take %.0f MB\n", e, n, bytes / 1000000
+  printf "1,000,000 requests: %d events of 28 to 116 bytes and %d entries of 16 bytes take %.0f MB\n", e, n, bytes / 1000000
   printf "  the most memory: library %.0f MB, %.2f times that", library / 1000000, library / bytes
   printf "; unverified %.0f MB\n", u * 1024 / 1000000
   printf "  time: ratio %.2f\n", r }'

@@ -6,27 +6,28 @@ use Rattle.dmc_types.specs.Limits.{most_events}
 use Rattle.dmc_types.specs.declared.command.Command.TheVariants as commands
 use Rattle.dmc_tag.specs.declared.event.Event.{Event}
 use Rattle.dmc_tag.specs.declared.reply.Reply.TheVariants as replies
+use Rattle.dmc_tag.specs.Tag.{Tagging}
 use Rattle.dmc_history.specs.Log.{Log}
-use Rattle.dmc_events.specs.declared.kept.UnreservedTags.{UnreservedTags}
-use Rattle.dmc_events.specs.declared.kept.ReservedTags.{ReservedTags}
+use Rattle.dmc_events.specs.declared.kept.QueuedByWeight.{QueuedByWeight}
 use Rattle.dmc_events.specs.declared.kept.Queued.{Queued}
 use Rattle.dmc_events.specs.declared.kept.Granted.{Granted}
 use Rattle.dmc_events.specs.declared.lists.Lists.{Lists}
 
 -- ---- the events
 
-abbrev pub event_of_unreserved : {T : Type 0} → Queued (UnreservedTags T) → Event T
-event_of_unreserved q = record {
+-- the reservation's tag is absent, and the limit's is the moment
+abbrev pub event_of_queued_by_weight : {T : Type 0} → Tagging T → QueuedByWeight T → Event T
+event_of_queued_by_weight ops q = record {
   worker = q.worker;
   command = commands.Add q.client q.token q.params q.at;
-  reply = replies.Tagged (record { r = None; l = q.tags.l; p = q.tags.p });
+  reply = replies.Tagged (record { r = None; l = ops.of_moment q.at; p = q.p });
 }
 
-abbrev pub event_of_reserved : {T : Type 0} → Queued (ReservedTags T) → Event T
-event_of_reserved q = record {
+abbrev pub event_of_queued : {T : Type 0} → Queued T → Event T
+event_of_queued q = record {
   worker = q.worker;
   command = commands.Add q.client q.token q.params q.at;
-  reply = replies.Tagged (record { r = Some q.tags.r; l = q.tags.l; p = q.tags.p });
+  reply = replies.Tagged (record { r = if q.reserved then Some q.r else None; l = q.l; p = q.p });
 }
 
 abbrev pub event_of_granted : {T : Type 0} → Granted → Event T
@@ -54,60 +55,60 @@ index_of place = place / list_count
 
 -- what each list holds
 pub record Kept (T : Type 0) : Type 0 where
-  pub unreserved : List (Queued (UnreservedTags T))
-  pub reserved : List (Queued (ReservedTags T))
+  pub by_weight : List (QueuedByWeight T)
+  pub queued : List (Queued T)
   pub granted : List Granted
   pub others : List (Event T)
 
 abbrev pub kept_of : {T : Type 0} → Lists T → Kept T
 kept_of lists = record {
-  unreserved = lists.unreserved.events;
-  reserved = lists.reserved.events;
+  by_weight = lists.by_weight.events;
+  queued = lists.queued.events;
   granted = lists.granted.events;
   others = lists.others.events;
 }
 
 -- the event at an index of a list
-abbrev pub event_in : {T : Type 0} → Kept T → ℕ → ℕ → Option (Event T)
-event_in kept list index =
-    if list == 0 then option_map event_of_unreserved (slice_get kept.unreserved index) else
-    (if list == 1 then option_map event_of_reserved (slice_get kept.reserved index) else
+abbrev pub event_in : {T : Type 0} → Tagging T → Kept T → ℕ → ℕ → Option (Event T)
+event_in ops kept list index =
+    if list == 0 then option_map (event_of_queued_by_weight ops) (slice_get kept.by_weight index) else
+    (if list == 1 then option_map event_of_queued (slice_get kept.queued index) else
     (if list == 2 then option_map event_of_granted (slice_get kept.granted index) else
     slice_get kept.others index))
 
-abbrev pub event_at : {T : Type 0} → Kept T → ℕ → Option (Event T)
-event_at kept place = event_in kept (list_of place) (index_of place)
+abbrev pub event_at : {T : Type 0} → Tagging T → Kept T → ℕ → Option (Event T)
+event_at ops kept place = event_in ops kept (list_of place) (index_of place)
 
 -- the events at these places
-abbrev pub events_at : {T : Type 0} → Kept T → List ℕ → List (Event T)
-events_at kept places = flat_map (λ place. option_to_list (event_at kept place)) places
+abbrev pub events_at : {T : Type 0} → Tagging T → Kept T → List ℕ → List (Event T)
+events_at ops kept places = flat_map (λ place. option_to_list (event_at ops kept place)) places
 
 -- for how many more events each list has a place
 abbrev pub least_room : {T : Type 0} → Lists T → ℕ
-least_room lists = min (min lists.unreserved.room lists.reserved.room) (min lists.granted.room lists.others.room)
+least_room lists = min (min lists.by_weight.room lists.queued.room) (min lists.granted.room lists.others.room)
 
 -- how many events all lists hold
 abbrev pub count : {T : Type 0} → Kept T → ℕ
-count kept = length kept.unreserved + length kept.reserved + length kept.granted + length kept.others
+count kept = length kept.by_weight + length kept.queued + length kept.granted + length kept.others
 
 -- each list may have so many events
 pub record HaveMost {T : Type 0} (lists : Lists T) (most : ℕ) : Type 0 where
-  pub unreserved : lists.unreserved.most ≡ most
-  pub reserved : lists.reserved.most ≡ most
+  pub by_weight : lists.by_weight.most ≡ most
+  pub queued : lists.queued.most ≡ most
   pub granted : lists.granted.most ≡ most
   pub others : lists.others.most ≡ most
 
 -- An event was added at a place: each event before is where it was.
-pub record Adds {T : Type 0} (old new : Lists T) (place : ℕ) (event : Event T) : Type 0 where
-  pub before : (other : ℕ) → is_some (event_at (kept_of old) other) ≡ true → event_at (kept_of new) other ≡ event_at (kept_of old) other
-  pub here : event_at (kept_of new) place ≡ Some event
+pub record Adds {T : Type 0} (ops : Tagging T) (old new : Lists T) (place : ℕ) (event : Event T) : Type 0 where
+  pub before : (other : ℕ) → is_some (event_at ops (kept_of old) other) ≡ true → event_at ops (kept_of new) other ≡ event_at ops (kept_of old) other
+  pub here : event_at ops (kept_of new) place ≡ Some event
   pub more : count (kept_of new) ≡ count (kept_of old) + 1
   pub most : (most : ℕ) → HaveMost old most → HaveMost new most
   pub room : least_room old ≤ least_room new + 1
 
 -- Each place has an event, no list has another, and so many more events have a place, whatever their form.
-pub record IsKept {T : Type 0} (lists : Lists T) (places : Log ℕ) (room : ℕ) : Type 0 where
-  pub found : AllByRecursion (λ place. is_some (event_at (kept_of lists) place) ≡ true) places.events
+pub record IsKept {T : Type 0} (ops : Tagging T) (lists : Lists T) (places : Log ℕ) (room : ℕ) : Type 0 where
+  pub found : AllByRecursion (λ place. is_some (event_at ops (kept_of lists) place) ≡ true) places.events
   pub counted : count (kept_of lists) ≡ length places.events
   pub most : HaveMost lists places.most
   pub limit : places.most ≤ most_events

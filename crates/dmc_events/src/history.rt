@@ -9,6 +9,7 @@ use crate::lists::Lists;
 use dmc_history::{History, LimitFault, ReserveFault};
 use dmc_tag::event::Event;
 use dmc_tag::reply::{Reply, Tags};
+use dmc_tag::tag::Tag;
 use dmc_types::command::Command;
 use dmc_types::config::PhaseType;
 use dmc_types::ids::{ClientId, Token, WorkerId};
@@ -18,12 +19,13 @@ use std::alloc::Global;
 use std::marker::Model;
 
 /// A list of at most `most` events (1 to 2^30), oldest first: a `History<Event<T>>` in less memory. With tick tags it takes 28
-/// bytes for a grant, and 68 for a request that was queued, or 84 where the client has a reservation, in place of 112.
+/// bytes for a grant, and 84 for a request that was queued, or 52 where the client has no reservation and the limit's tag is the
+/// moment (as it is within a limit, or without one), in place of 112.
 ///
 /// An event goes in by two calls: `reserve_one`, which may need memory, and a push, which needs none. Each push uses up one
 /// reserved place. Contracts see the events, `most`, and how many places are reserved.
 #[derive(Drop)]
-pub struct EventHistory<T: Copy> {
+pub struct EventHistory<T: Tag> {
     // Where each event is.
     places: History<u32>,
     lists: Lists<T>,
@@ -31,19 +33,19 @@ pub struct EventHistory<T: Copy> {
     room: usize,
 }
 
-impl<T: Copy> Model for EventHistory<T> {
+impl<T: Tag> Model for EventHistory<T> {
     ghost use Rattle.dmc_tag.specs.declared.event.Event.{Event};
     ghost use Rattle.dmc_history.specs.Log.{Log};
     ghost use Rattle.dmc_events.specs.Kept.{IsKept, events_at, kept_of};
 
     ghost Value = { Log (Event T) };
 
-    ghost view = { λ h. record { events = events_at (kept_of h.lists) h.places.events; most = h.places.most; room = h.room } };
+    ghost view = { λ h. record { events = events_at T.ops (kept_of h.lists) h.places.events; most = h.places.most; room = h.room } };
 
-    ghost invariant = { λ h. IsKept h.lists h.places h.room };
+    ghost invariant = { λ h. IsKept T.ops h.lists h.places h.room };
 }
 
-impl<T: Copy> EventHistory<T> {
+impl<T: Tag> EventHistory<T> {
     /// An empty history of at most `most` events, which takes no memory; refused `Limit` where `most` is not 1 to 2^30.
     pub fn new(alloc: Global, most: u32) -> Result<EventHistory<T>, LimitFault>
         ensures ok { (0 < most) × (most ≤ most_events) → result ≡ Ok (record { events = []; most = most; room = 0 }) }

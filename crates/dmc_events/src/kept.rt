@@ -1,40 +1,42 @@
 //! How events are kept: what most events are has a form of its own, with no room for what others have.
-ghost use Rattle.std.specs.Prelude.{◌≡◌, IfSome};
+ghost use Rattle.std.specs.Prelude.{◌≡◌, IfSome, IsTrue};
 ghost use Rattle.dmc_types.specs.declared.command.Command.TheVariants as commands;
-ghost use Rattle.dmc_events.specs.Kept.{event_of_granted, event_of_reserved, event_of_unreserved};
+ghost use Rattle.dmc_events.specs.Kept.{event_of_granted, event_of_queued, event_of_queued_by_weight};
 
 use dmc_tag::event::Event;
 use dmc_tag::reply::{Reply, Tags};
+use dmc_tag::tag::Tag;
 use dmc_types::command::Command;
 use dmc_types::config::PhaseType;
 use dmc_types::ids::{ClientId, Token, WorkerId};
 use dmc_types::moment::Moment;
 use dmc_types::params::ReqParams;
 
-/// The tags of a request of a client without a reservation.
+/// A request that was queued with no tag to keep but that of its weight: the client has no reservation, and the limit's tag is
+/// the moment, as it is of a client without a limit, or within it. The widest fields stand first, so that none of the space
+/// between them is lost.
 #[derive(Clone, Copy)]
-pub(crate) struct UnreservedTags<T> {
-    pub(crate) l: T,
+pub(crate) struct QueuedByWeight<T> {
     pub(crate) p: T,
-}
-
-/// The tags of a request of a client with a reservation.
-#[derive(Clone, Copy)]
-pub(crate) struct ReservedTags<T> {
-    pub(crate) r: T,
-    pub(crate) l: T,
-    pub(crate) p: T,
-}
-
-/// A request that was queued, with its tags. The widest fields stand first, so that none of the space between them is lost.
-#[derive(Clone, Copy)]
-pub(crate) struct Queued<P> {
-    pub(crate) tags: P,
     pub(crate) at: Moment,
     pub(crate) worker: WorkerId,
     pub(crate) client: ClientId,
     pub(crate) token: Token,
     pub(crate) params: ReqParams,
+}
+
+/// Another request that was queued. Where the client has no reservation, `r` is any tag.
+#[derive(Clone, Copy)]
+pub(crate) struct Queued<T> {
+    pub(crate) r: T,
+    pub(crate) l: T,
+    pub(crate) p: T,
+    pub(crate) at: Moment,
+    pub(crate) worker: WorkerId,
+    pub(crate) client: ClientId,
+    pub(crate) token: Token,
+    pub(crate) params: ReqParams,
+    pub(crate) reserved: bool,
 }
 
 /// A request that was granted.
@@ -87,9 +89,16 @@ pub(crate) fn asked_to_pull(command: &Command) -> Option<Moment>
     }
 }
 
-/// The event of a request that was queued for a client without a reservation.
-pub(crate) fn event_of_unreserved<T: Copy>(queued: &Queued<UnreservedTags<T>>) -> Event<T>
-    ensures { result ≡ event_of_unreserved queued.now }
+/// Whether a tag is that of a moment.
+pub(crate) fn is_of_moment<T: Tag>(tag: T, at: Moment) -> bool
+    ensures { IsTrue result → tag ≡ T.ops.of_moment at }
+{
+    tag.cmp(&T::of_moment(at)).is_eq()
+}
+
+/// The event of a request that was queued with the tag of its weight.
+pub(crate) fn event_of_queued_by_weight<T: Tag>(queued: &QueuedByWeight<T>) -> Event<T>
+    ensures { result ≡ event_of_queued_by_weight T.ops queued.now }
 {
     Event {
         worker: queued.worker,
@@ -101,16 +110,21 @@ pub(crate) fn event_of_unreserved<T: Copy>(queued: &Queued<UnreservedTags<T>>) -
         },
         reply: Reply::Tagged(Tags {
             r: None,
-            l: queued.tags.l,
-            p: queued.tags.p,
+            l: T::of_moment(queued.at),
+            p: queued.p,
         }),
     }
 }
 
-/// The event of a request that was queued for a client with a reservation.
-pub(crate) fn event_of_reserved<T: Copy>(queued: &Queued<ReservedTags<T>>) -> Event<T>
-    ensures { result ≡ event_of_reserved queued.now }
+/// The event of another request that was queued.
+pub(crate) fn event_of_queued<T: Copy>(queued: &Queued<T>) -> Event<T>
+    ensures { result ≡ event_of_queued queued.now }
 {
+    let r = if queued.reserved {
+        Some(queued.r)
+    } else {
+        None
+    };
     Event {
         worker: queued.worker,
         command: Command::Add {
@@ -120,9 +134,9 @@ pub(crate) fn event_of_reserved<T: Copy>(queued: &Queued<ReservedTags<T>>) -> Ev
             at: queued.at,
         },
         reply: Reply::Tagged(Tags {
-            r: Some(queued.tags.r),
-            l: queued.tags.l,
-            p: queued.tags.p,
+            r,
+            l: queued.l,
+            p: queued.p,
         }),
     }
 }

@@ -5,6 +5,7 @@ ghost use Rattle.dmc_tag.specs.declared.event.Event.{Event as Of};
 use crate::history::EventHistory;
 use dmc_history::History;
 use dmc_tag::event::Event;
+use dmc_tag::tag::Tag;
 
 /// A list of events.
 pub trait EventList<T> {
@@ -20,7 +21,7 @@ pub trait EventList<T> {
         ensures { result ≡ slice_get (events self.now) index };
 }
 
-impl<T: Copy> EventList<T> for EventHistory<T> {
+impl<T: Tag> EventList<T> for EventHistory<T> {
     ghost events = { λ history. history.events };
 
     fn count(&self) -> usize {

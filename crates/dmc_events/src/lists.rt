@@ -3,16 +3,17 @@ ghost use Rattle.std.specs.Prelude.{◌≡◌, ℕ, ◌<◌, ◌≤◌, [], OnOk
 ghost use Rattle.dmc_types.specs.Limits.{most_events};
 ghost use Rattle.dmc_types.specs.declared.command.Command.TheVariants as commands;
 ghost use Rattle.dmc_tag.specs.declared.reply.Reply.TheVariants as replies;
-ghost use Rattle.dmc_events.specs.Kept.{Adds, HaveMost, count, event_at, event_of_granted, event_of_reserved, event_of_unreserved, kept_of, least_room};
+ghost use Rattle.dmc_events.specs.Kept.{Adds, HaveMost, count, event_at, event_of_granted, event_of_queued, event_of_queued_by_weight, kept_of, least_room};
 
 use crate::kept::{
-    Granted, Queued, ReservedTags, UnreservedTags, event_of_granted, event_of_reserved,
-    event_of_unreserved,
+    Granted, Queued, QueuedByWeight, event_of_granted, event_of_queued, event_of_queued_by_weight,
+    is_of_moment,
 };
-use crate::place::{GRANTED, OTHERS, RESERVED, UNRESERVED, index_of, list_of, place_in};
+use crate::place::{BY_WEIGHT, GRANTED, OTHERS, QUEUED, index_of, list_of, place_in};
 use dmc_history::{History, ReserveFault};
 use dmc_tag::event::Event;
 use dmc_tag::reply::Tags;
+use dmc_tag::tag::Tag;
 use dmc_types::ids::{ClientId, Token, WorkerId};
 use dmc_types::moment::Moment;
 use dmc_types::params::ReqParams;
@@ -20,24 +21,24 @@ use std::alloc::Global;
 
 /// The events of a history, each in the list of those of its form.
 #[derive(Drop)]
-pub(crate) struct Lists<T: Copy> {
-    pub(crate) unreserved: History<Queued<UnreservedTags<T>>>,
-    pub(crate) reserved: History<Queued<ReservedTags<T>>>,
+pub(crate) struct Lists<T: Tag> {
+    pub(crate) by_weight: History<QueuedByWeight<T>>,
+    pub(crate) queued: History<Queued<T>>,
     pub(crate) granted: History<Granted>,
     pub(crate) others: History<Event<T>>,
 }
 
-impl<T: Copy> Lists<T> {
+impl<T: Tag> Lists<T> {
     /// Empty lists, each of at most `most` events.
     pub(crate) fn new(alloc: Global, most: u32) -> Lists<T>
         requires some { 0 < most }
         requires limit { most ≤ most_events }
-        ensures empty { kept_of result ≡ record { unreserved = []; reserved = []; granted = []; others = [] } }
+        ensures empty { kept_of result ≡ record { by_weight = []; queued = []; granted = []; others = [] } }
         ensures most { HaveMost result most }
     {
         Lists {
-            unreserved: new_list(alloc, most),
-            reserved: new_list(alloc, most),
+            by_weight: new_list(alloc, most),
+            queued: new_list(alloc, most),
             granted: new_list(alloc, most),
             others: new_list(alloc, most),
         }
@@ -45,12 +46,12 @@ impl<T: Copy> Lists<T> {
 
     /// The event at a place.
     pub(crate) fn at(&self, place: u32) -> Option<Event<T>>
-        ensures { result ≡ event_at (kept_of self.now) place }
+        ensures { result ≡ event_at T.ops (kept_of self.now) place }
     {
         let index = index_of(place);
         match list_of(place) {
-            UNRESERVED => Some(event_of_unreserved(self.unreserved.at(index)?)),
-            RESERVED => Some(event_of_reserved(self.reserved.at(index)?)),
+            BY_WEIGHT => Some(event_of_queued_by_weight(self.by_weight.at(index)?)),
+            QUEUED => Some(event_of_queued(self.queued.at(index)?)),
             GRANTED => Some(event_of_granted(self.granted.at(index)?)),
             _ => self.others.at(index).copied(),
         }
@@ -63,8 +64,8 @@ impl<T: Copy> Lists<T> {
         ensures most { (most : ℕ) → HaveMost self.old most → HaveMost self.new most }
         ensures full { (most : ℕ) → HaveMost self.old most → IsErrOf result ReserveFault.HistoryFull → most ≤ count (kept_of self.old) }
     {
-        self.unreserved.reserve_one()?;
-        self.reserved.reserve_one()?;
+        self.by_weight.reserve_one()?;
+        self.queued.reserve_one()?;
         self.granted.reserve_one()?;
         self.others.reserve_one()
     }
@@ -73,7 +74,7 @@ impl<T: Copy> Lists<T> {
     pub(crate) fn room(&self) -> usize
         ensures { result ≡ least_room self.now }
     {
-        let queued = self.unreserved.room().min(self.reserved.room());
+        let queued = self.by_weight.room().min(self.queued.room());
         queued.min(self.granted.room().min(self.others.room()))
     }
 
@@ -90,50 +91,53 @@ impl<T: Copy> Lists<T> {
     ) -> u32
         requires room { 0 < least_room self.old }
         requires limit { (most : ℕ) × HaveMost self.old most × (most ≤ most_events) }
-        ensures { Adds self.old self.new result (record { worker = worker; command = commands.Add client token params at; reply = replies.Tagged tags }) }
+        ensures { Adds T.ops self.old self.new result (record { worker = worker; command = commands.Add client token params at; reply = replies.Tagged tags }) }
     {
         let Tags { r, l, p } = tags;
         match r {
-            None => self.push_unreserved(Queued {
-                tags: UnreservedTags { l, p },
+            None if is_of_moment(l, at) => self.push_by_weight(QueuedByWeight {
+                p,
                 at,
                 worker,
                 client,
                 token,
                 params,
             }),
-            Some(r) => self.push_with_reservation(Queued {
-                tags: ReservedTags { r, l, p },
+            _ => self.push_with_tags(Queued {
+                r: r.unwrap_or(l),
+                l,
+                p,
                 at,
                 worker,
                 client,
                 token,
                 params,
+                reserved: r.is_some(),
             }),
         }
     }
 
-    /// Keeps a request that was queued for a client without a reservation.
+    /// Keeps a request that was queued with the tag of its weight.
     #[inline(always)]
-    fn push_unreserved(&mut self, queued: Queued<UnreservedTags<T>>) -> u32
+    fn push_by_weight(&mut self, queued: QueuedByWeight<T>) -> u32
         requires room { 0 < least_room self.old }
         requires limit { (most : ℕ) × HaveMost self.old most × (most ≤ most_events) }
-        ensures { Adds self.old self.new result (event_of_unreserved queued) }
+        ensures { Adds T.ops self.old self.new result (event_of_queued_by_weight T.ops queued) }
     {
-        let place = place_in(UNRESERVED, self.unreserved.len());
-        self.unreserved.push_reserved(queued);
+        let place = place_in(BY_WEIGHT, self.by_weight.len());
+        self.by_weight.push_reserved(queued);
         place
     }
 
-    /// Keeps a request that was queued for a client with a reservation.
+    /// Keeps another request that was queued.
     #[inline(always)]
-    fn push_with_reservation(&mut self, queued: Queued<ReservedTags<T>>) -> u32
+    fn push_with_tags(&mut self, queued: Queued<T>) -> u32
         requires room { 0 < least_room self.old }
         requires limit { (most : ℕ) × HaveMost self.old most × (most ≤ most_events) }
-        ensures { Adds self.old self.new result (event_of_reserved queued) }
+        ensures { Adds T.ops self.old self.new result (event_of_queued queued) }
     {
-        let place = place_in(RESERVED, self.reserved.len());
-        self.reserved.push_reserved(queued);
+        let place = place_in(QUEUED, self.queued.len());
+        self.queued.push_reserved(queued);
         place
     }
 
@@ -142,7 +146,7 @@ impl<T: Copy> Lists<T> {
     pub(crate) fn push_granted(&mut self, granted: Granted) -> u32
         requires room { 0 < least_room self.old }
         requires limit { (most : ℕ) × HaveMost self.old most × (most ≤ most_events) }
-        ensures { Adds self.old self.new result (event_of_granted granted) }
+        ensures { Adds T.ops self.old self.new result (event_of_granted granted) }
     {
         let place = place_in(GRANTED, self.granted.len());
         self.granted.push_reserved(granted);
@@ -153,7 +157,7 @@ impl<T: Copy> Lists<T> {
     pub(crate) fn push_other(&mut self, event: Event<T>) -> u32
         requires room { 0 < least_room self.old }
         requires limit { (most : ℕ) × HaveMost self.old most × (most ≤ most_events) }
-        ensures { Adds self.old self.new result event }
+        ensures { Adds T.ops self.old self.new result event }
     {
         let place = place_in(OTHERS, self.others.len());
         self.others.push_reserved(event);
@@ -163,12 +167,12 @@ impl<T: Copy> Lists<T> {
     /// Takes out all events, and with them the places that are reserved.
     pub(crate) fn take(&mut self) -> Lists<T>
         ensures value { result ≡ self.old }
-        ensures empty { kept_of self.new ≡ record { unreserved = []; reserved = []; granted = []; others = [] } }
+        ensures empty { kept_of self.new ≡ record { by_weight = []; queued = []; granted = []; others = [] } }
         ensures most { (most : ℕ) → HaveMost self.old most → HaveMost self.new most }
     {
         Lists {
-            unreserved: self.unreserved.take(),
-            reserved: self.reserved.take(),
+            by_weight: self.by_weight.take(),
+            queued: self.queued.take(),
             granted: self.granted.take(),
             others: self.others.take(),
         }

@@ -3,9 +3,9 @@ ghost use Rattle.std.specs.Prelude.{◌≡◌, ◌<◌, ◌^◌};
 ghost use Rattle.dmc_events.specs.Kept.{index_of, list_count, list_of, place_in};
 
 /// The numbers of the lists.
-pub(crate) const UNRESERVED: u32 = 0;
+pub(crate) const BY_WEIGHT: u32 = 0;
 
-pub(crate) const RESERVED: u32 = 1;
+pub(crate) const QUEUED: u32 = 1;
 
 pub(crate) const GRANTED: u32 = 2;
 

@@ -23,10 +23,14 @@ fn answered(command: Command, reply: Reply<TickTag>) -> Event<TickTag> {
     }
 }
 
-fn registered(client: u32, reservation: Option<u32>) -> Result<Event<TickTag>, Fail> {
+fn registered(
+    client: u32,
+    reservation: Option<u32>,
+    limit: Option<u32>,
+) -> Result<Event<TickTag>, Fail> {
     let command = Command::Register {
         client: ClientId(client),
-        info: ClientInfo::new(reservation, 1, None)?,
+        info: ClientInfo::new(reservation, 1, limit)?,
         at: Moment::zero(),
     };
     Ok(answered(command, Reply::Registered))
@@ -49,6 +53,22 @@ fn queued(client: u32, token: u32, has_reservation: bool) -> Result<Event<TickTa
     Ok(answered(command, Reply::Tagged(tags)))
 }
 
+/// A first request of client 3, with a delta of 1: a limit of 10 puts its tag at 100, and the weight its own at 1000.
+fn queued_ahead(token: u32) -> Result<Event<TickTag>, Fail> {
+    let command = Command::Add {
+        client: ClientId(3),
+        token: Token(token),
+        params: ReqParams::new(1, 0)?,
+        at: Moment::zero(),
+    };
+    let tags = Tags {
+        r: None,
+        l: TickTag::of_moment(Moment::new(100)?),
+        p: TickTag::of_moment(Moment::new(1000)?),
+    };
+    Ok(answered(command, Reply::Tagged(tags)))
+}
+
 fn granted(client: u32, token: u32, phase: PhaseType) -> Event<TickTag> {
     let reply = Reply::Granted {
         client: ClientId(client),
@@ -67,17 +87,20 @@ fn is_kept(history: &mut EventHistory<TickTag>, event: Event<TickTag>) -> Result
     Ok(history.at(last) == Some(event) && history.at(last + 1).is_none())
 }
 
-/// Puts the events of a client with a reservation and of one without into the history, one after the other.
+/// Puts the events of a client with a reservation, of one without, and of one with a limit into the history, one after the
+/// other.
 fn fill(rt: &impl Abort, history: &mut EventHistory<TickTag>) -> Result<(), Fail> {
     let nothing = answered(Command::Pull { at: Moment::zero() }, Reply::Nothing);
     for event in [
-        registered(1, Some(10))?,
-        registered(2, None)?,
+        registered(1, Some(10), None)?,
+        registered(2, None, None)?,
         queued(1, 11, true)?,
         queued(2, 21, false)?,
         granted(1, 11, PhaseType::Reservation),
         granted(2, 21, PhaseType::Priority),
         nothing,
+        registered(3, None, Some(10))?,
+        queued_ahead(31)?,
     ] {
         assert!(rt; is_kept(history, event)?);
     }
@@ -87,7 +110,7 @@ fn fill(rt: &impl Abort, history: &mut EventHistory<TickTag>) -> Result<(), Fail
 #[test]
 fn a_recorded_history(rt: HostRuntime) -> Result<(), Fail> {
     let config = QueueConfig::new(1000, 1 << 62, 1 << 62, AtLimit::Wait)?;
-    let mut history = EventHistory::new(rt.alloc(), 7)?;
+    let mut history = EventHistory::new(rt.alloc(), 9)?;
     fill(&rt, &mut history)?;
     assert!(rt; history.reserve_one().is_err());
     let verdict = check(rt.alloc(), config, &history)?;

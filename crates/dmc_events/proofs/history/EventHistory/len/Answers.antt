@@ -5,7 +5,7 @@ use Rattle.dmc_events.proofs.history.EventHistory.len.Goals as goal
 
 pub returns-clause-value : goal.returns-clause-value
 returns-clause-value g c =
-    rw (← c.self.view_is, length-events_at (kept_of c.self.inside.lists) c.self.inside.places.events c.self.invariant.found) c.len.ensures.value
+    rw (← c.self.view_is, length-events_at g.T.Tag.ops (kept_of c.self.inside.lists) c.self.inside.places.events c.self.invariant.found) c.len.ensures.value
 
 pub returns-clause-bound : goal.returns-clause-bound
 returns-clause-bound g c = rw (← c.self.view_is) (omega (arith, c.self.invariant.within, c.len.ensures.value))

@@ -6,7 +6,7 @@ ghost use Rattle.dmc_ledger.specs.Bundles.{Covers, client_side, server_side, sta
 ghost use Rattle.dmc_tlock.specs.Opening.{AreNew};
 ghost use Rattle.dmc_book.specs.Opening.{IsNewDesk};
 
-use crate::load::Fault;
+use crate::fault::Fault;
 use crate::queues::HZ;
 use dmc_book::book::QueueBook;
 use dmc_book::pass::WorkerPass;
@@ -80,10 +80,8 @@ fn open_desks<S: Setup>(
     let Ok((desk, side)) = open_pair(mint, id, SERVER) else {
         return Err(Fault::Usage);
     };
-    match vec![in alloc; side] {
-        Ok(sides) => Ok((desk, sides)),
-        Err(_) => Err(Fault::Memory),
-    }
+    let sides = vec![in alloc; side]?;
+    Ok((desk, sides))
 }
 
 /// A client, and its desk.
@@ -105,7 +103,7 @@ fn open_client<S: Setup>(
                 stamp: None,
             },
         )),
-        Err(_) => Err(Fault::Memory),
+        Err(_) => Err(Fault::Failed),
     }
 }
 
@@ -120,9 +118,8 @@ fn push_client<S: Setup>(
     ensures { OnOk result (AllByRecursion (IsNewDesk 0) (map client_side desks.old.items) → AllByRecursion (IsNewDesk 0) (map client_side desks.new.items)) }
 {
     let (desk, client) = open_client(alloc, mint, id)?;
-    if desks.push(desk).is_err() || clients.push(client).is_err() {
-        return Err(Fault::Memory);
-    }
+    desks.push(desk)?;
+    clients.push(client)?;
     Ok(())
 }
 
@@ -144,17 +141,15 @@ pub fn open_clients<S: Setup>(
 
 /// The workers 0, 1, and so on.
 fn workers(alloc: Global, count: u32) -> Result<Vec<WorkerId>, Fault> {
-    (0..count)
-        .map(|id| WorkerId(id))
-        .collect(alloc)
-        .map_err(|_| Fault::Memory)
+    let workers = (0..count).map(|id| WorkerId(id)).collect(alloc)?;
+    Ok(workers)
 }
 
 /// How a queue is set up, and its workers.
 fn config_and_workers(alloc: Global, count: u32) -> Result<(QueueConfig, Vec<WorkerId>), Fault>
     ensures { IfOk result (λ made. length made.1.items ≤ most_workers) }
 {
-    let config = QueueConfig::new(u64::from(HZ), 1, 1, AtLimit::Wait).map_err(|_| Fault::Usage)?;
+    let config = QueueConfig::new(u64::from(HZ), 1, 1, AtLimit::Wait)?;
     let workers = workers(alloc, count)?;
     if workers.len() > MOST as usize {
         return Err(Fault::Usage);
@@ -182,7 +177,7 @@ pub fn open_lock<S: Setup>(
         MOST_EVENTS,
     ) {
         Ok((book, passes)) => Ok((QueueLock::new(book), passes)),
-        Err(_) => Err(Fault::Memory),
+        Err(_) => Err(Fault::Failed),
     }
 }
 
@@ -193,7 +188,7 @@ pub fn register_all<S: Setup, R: Wait>(
     pass: &mut WorkerPass<S>,
     count: u32,
 ) -> Result<(), Fault> {
-    let info = ClientInfo::new(None, 1, None).map_err(|_| Fault::Usage)?;
+    let info = ClientInfo::new(None, 1, None)?;
     for id in 0..count {
         let client = ClientId(id);
         let at = Moment::zero();
@@ -201,7 +196,7 @@ pub fn register_all<S: Setup, R: Wait>(
             .run(rt, pass, Command::Register { client, info, at })
             .is_err()
         {
-            return Err(Fault::Memory);
+            return Err(Fault::Failed);
         }
     }
     Ok(())
@@ -215,7 +210,10 @@ fn next_stamp<S: Setup>(
     let Some(tills) = tills.tills(SERVER) else {
         return Err(Fault::Usage);
     };
-    tracker.stamp(SERVER, tills).map_err(|_| Fault::Memory)
+    match tracker.stamp(SERVER, tills) {
+        Ok(stamp) => Ok(stamp),
+        Err(_) => Err(Fault::Failed),
+    }
 }
 
 /// Makes a client's next stamp.
@@ -252,7 +250,7 @@ pub fn submit<S: Setup, R: Wait>(
     }
     match lock.submit(rt, pass, tills, stamp, Token(client.id.0), at) {
         Ok(_) => Ok(()),
-        Err(_) => Err(Fault::Memory),
+        Err(_) => Err(Fault::Failed),
     }
 }
 
@@ -277,8 +275,8 @@ pub fn respond<S: Setup>(pass: &mut WorkerPass<S>, client: &mut Client<S>) -> Re
     if till.amount() == 0 {
         return Err(Fault::Usage);
     }
-    client
-        .tracker
-        .respond(SERVER, PhaseType::Priority, till)
-        .map_err(|_| Fault::Memory)
+    match client.tracker.respond(SERVER, PhaseType::Priority, till) {
+        Ok(()) => Ok(()),
+        Err(_) => Err(Fault::Failed),
+    }
 }

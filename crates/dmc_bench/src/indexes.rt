@@ -2,7 +2,8 @@
 ghost use Rattle.std.specs.Prelude.{◌≡◌, Some, OnOk, ◌%◌, ◌^◌, ◌*◌, ◌+◌};
 ghost use Rattle.dmc_bench.specs.Keys.{HoldsFirst};
 
-use crate::load::{Fault, Load, mixed};
+use crate::fault::Fault;
+use crate::load::{Load, mixed};
 use crate::watch::{add_since, start, tell};
 use dmc_index::index::OrderIndex;
 use dmc_tag::rank::TagRank;
@@ -26,7 +27,7 @@ pub fn use_index<I: OrderIndex<TagRank<TickTag>>>(
 ) -> Result<u64, Fault> {
     let mut index = I::new(rt.alloc());
     let room = load.clients as usize;
-    index.reserve_keys(room).map_err(|_| Fault::Memory)?;
+    index.reserve_keys(room)?;
     let rounds = load.rounds.checked_div(load.clients).unwrap_or(0);
     let mut times = Times {
         insert: 0,

@@ -2,6 +2,7 @@
 ghost use Rattle.std.specs.Prelude.{◌≡◌, ◌+◌, ◌*◌, ◌%◌, ◌^◌};
 
 use crate::cluster::book_count;
+use crate::fault::Fault;
 use crate::indexes::use_index;
 use crate::locked::{serve_alone, serve_locked};
 use crate::queues::{HZ, serve_deep, serve_queue};
@@ -60,17 +61,6 @@ pub struct Load {
     pub limit: Option<u32>,
 }
 
-/// Why a load does not run.
-#[derive(Clone, Copy, Debug, PartialEq, Eq)]
-pub enum Fault {
-    /// The words name no load.
-    Usage,
-    /// There is no memory, or no clock.
-    Memory,
-    /// A standard stream fails.
-    Write,
-}
-
 /// The load that the words name.
 pub fn read_load(words: &[String]) -> Result<Load, Fault> {
     let [kind, clients, rounds, rest @ ..] = words else {
@@ -114,7 +104,7 @@ fn limit_of(words: &[String]) -> Result<Option<u32>, Fault> {
 
 /// The number that a word spells.
 fn number_of(word: &str) -> Result<u32, Fault> {
-    word.parse().map_err(|_| Fault::Usage)
+    Ok(word.parse()?)
 }
 
 /// Runs a load, tells what each part of it took, and answers its checksum. Only a load of a lock waits or starts threads.
@@ -143,7 +133,7 @@ pub fn run_load<R: Threads + Wait + Sync>(
 
 /// Runs a load of a queue of tick tags.
 fn run_queue(rt: &HostRuntime, load: Load) -> Result<u64, Fault> {
-    let config = QueueConfig::new(HZ as u64, 1, 1, AtLimit::Wait).map_err(|_| Fault::Usage)?;
+    let config = QueueConfig::new(HZ as u64, 1, 1, AtLimit::Wait)?;
     match load.kind {
         Kind::PlainQueue => {
             let mut queue: PlainQueue<TickTag> = PlainQueue::new(rt.alloc(), config);

@@ -4,7 +4,8 @@ ghost use Rattle.std.specs.Prelude.{◌≡◌};
 use crate::cluster::{
     Client, Clients, Lock, open_clients, open_lock, pull, register_all, respond, stamp, submit,
 };
-use crate::load::{Fault, Load, mixed};
+use crate::fault::Fault;
+use crate::load::{Load, mixed};
 use crate::queues::pull_all;
 use crate::watch::{add_since, start, tell};
 use dmc_book::pass::WorkerPass;
@@ -39,7 +40,7 @@ fn batch_count(load: Load) -> u32 {
 
 /// The moment of a batch: one tick after the one before.
 fn moment_of(batch: u32) -> Result<Moment, Fault> {
-    Moment::new(u64::from(batch)).map_err(|_| Fault::Usage)
+    Ok(Moment::new(u64::from(batch))?)
 }
 
 /// Tells the two parts, and answers the checksum.
@@ -178,7 +179,7 @@ fn pull_each<S: Setup, R: Wait>(
 ) -> Result<(), Fault> {
     for _ in 0..count {
         if let Some(client) = pull(waiter, lock, pass, at) {
-            granted.push(client).map_err(|_| Fault::Memory)?;
+            granted.push(client)?;
         }
     }
     Ok(())
@@ -221,10 +222,9 @@ pub fn serve_alone<T: Tag, Q: Scheduler<T>>(
 }
 
 fn register_alone<T: Tag, Q: Scheduler<T>>(queue: &mut Q, count: u32) -> Result<(), Fault> {
-    let info = ClientInfo::new(None, 1, None).map_err(|_| Fault::Usage)?;
+    let info = ClientInfo::new(None, 1, None)?;
     for id in 0..count {
-        let registered = queue.register(ClientId(id), info, Moment::zero());
-        registered.map_err(|_| Fault::Memory)?;
+        queue.register(ClientId(id), info, Moment::zero())?;
     }
     Ok(())
 }
@@ -237,10 +237,9 @@ fn add_each<T: Tag, Q: Scheduler<T>>(
     delta: u32,
     at: Moment,
 ) -> Result<(), Fault> {
-    let params = ReqParams::new(delta, 0).map_err(|_| Fault::Usage)?;
+    let params = ReqParams::new(delta, 0)?;
     for id in 0..count {
-        let added = queue.add_request(ClientId(id), Token(id), params, at);
-        added.map_err(|_| Fault::Memory)?;
+        queue.add_request(ClientId(id), Token(id), params, at)?;
     }
     Ok(())
 }

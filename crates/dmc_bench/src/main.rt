@@ -4,6 +4,7 @@
 #![tactic(auto)]
 
 mod cluster;
+mod fault;
 mod indexes;
 mod load;
 mod locked;
@@ -12,13 +13,14 @@ mod sharing;
 mod sums;
 mod watch;
 
-use crate::load::{Fault, Load, read_load, run_load};
+use crate::fault::Fault;
+use crate::load::{Load, read_load, run_load};
 use std::process::ExitCode;
 use std::sync::Wait;
 use std::thread::Threads;
 use std::{env, io};
 
-/// Runs the load that the words name. Status 0: done; 1: want of memory or of a clock, or a stream that fails; 2: the words name no load.
+/// Runs the load that the words name. Status 0: done; 1: no memory, no clock, or a stream that fails; 2: the words name no load.
 fn main(rt: HostRuntime) -> ExitCode {
     match measure(&rt, &rt) {
         Ok(()) => ExitCode::SUCCESS,
@@ -28,18 +30,15 @@ fn main(rt: HostRuntime) -> ExitCode {
             );
             ExitCode::from(2)
         }
-        Err(Fault::Memory | Fault::Write) => ExitCode::from(1),
+        Err(Fault::Failed) => ExitCode::from(1),
     }
 }
 
 /// Runs the load, and writes its checksum.
 fn measure<R: Threads + Wait + Sync>(rt: &HostRuntime, threads: &R) -> Result<(), Fault> {
-    let words: Vec<String> = env::args(rt)
-        .map_err(|_| Fault::Usage)?
-        .skip(1)
-        .collect(rt.alloc())
-        .map_err(|_| Fault::Memory)?;
+    let words: Vec<String> = env::args(rt)?.skip(1).collect(rt.alloc())?;
     let load: Load = read_load(words.as_slice())?;
     let checksum = run_load(rt, threads, load)?;
-    println!(rt; "{checksum}").map_err(|_| Fault::Write)
+    println!(rt; "{checksum}")?;
+    Ok(())
 }

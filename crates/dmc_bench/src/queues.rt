@@ -1,5 +1,6 @@
 //! A queue whose clients are all busy, and one with a single client.
-use crate::load::{Fault, Load, mixed};
+use crate::fault::Fault;
+use crate::load::{Load, mixed};
 use crate::watch::{add_since, start, tell};
 use dmc_tag::reply::Pulled;
 use dmc_tag::scheduler::Scheduler;
@@ -8,7 +9,6 @@ use dmc_types::ids::{ClientId, Token};
 use dmc_types::info::ClientInfo;
 use dmc_types::moment::Moment;
 use dmc_types::params::ReqParams;
-use dmc_types::refusal::QueueFault;
 
 /// Ticks a second.
 pub const HZ: u32 = 1_000_000;
@@ -64,29 +64,18 @@ fn take_turns<T: Tag, Q: Scheduler<T>>(queue: &mut Q, rounds: u32) -> Result<u64
 
 /// Registers the clients 0, 1, and so on.
 fn register_all<T: Tag, Q: Scheduler<T>>(queue: &mut Q, load: Load) -> Result<(), Fault> {
-    let info = ClientInfo::new(Some(10), 1, load.limit).map_err(|_| Fault::Usage)?;
+    let info = ClientInfo::new(Some(10), 1, load.limit)?;
     for id in 0..load.clients {
-        let registered = queue.register(ClientId(id), info, Moment::zero());
-        registered.map_err(fault_of)?;
+        queue.register(ClientId(id), info, Moment::zero())?;
     }
     Ok(())
 }
 
-/// Why a call of a queue ends a load: a limit may have no whole spacing.
-fn fault_of(fault: QueueFault) -> Fault {
-    match fault {
-        QueueFault::Refused(_) => Fault::Usage,
-        QueueFault::Memory => Fault::Memory,
-    }
-}
-
 /// Queues a request.
 fn add<T: Tag, Q: Scheduler<T>>(queue: &mut Q, client: ClientId, at: Moment) -> Result<(), Fault> {
-    let params = ReqParams::new(1, 1).map_err(|_| Fault::Usage)?;
-    match queue.add_request(client, Token(client.0), params, at) {
-        Ok(_) => Ok(()),
-        Err(fault) => Err(fault_of(fault)),
-    }
+    let params = ReqParams::new(1, 1)?;
+    queue.add_request(client, Token(client.0), params, at)?;
+    Ok(())
 }
 
 /// The ticks from one batch to the next: half the spacing of the limit, so that about half of the clients are due at each.
@@ -105,14 +94,14 @@ fn serve<T: Tag, Q: Scheduler<T>>(
 ) -> Result<u64, Fault> {
     let batch = (load.clients / 2 + 1).min(load.rounds);
     let batches = load.rounds.checked_div(batch).unwrap_or(0);
-    let mut granted = Vec::with_capacity(rt.alloc(), batch as usize).map_err(|_| Fault::Memory)?;
+    let mut granted = Vec::with_capacity(rt.alloc(), batch as usize)?;
     let step = step_of(load.limit);
     let mut pulling = 0;
     let mut adding = 0;
     let mut checksum = 0;
     for round in 0..batches {
         let ticks = step.saturating_mul(round as u64);
-        let at = Moment::new(ticks).map_err(|_| Fault::Usage)?;
+        let at = Moment::new(ticks)?;
         let begun = start(rt)?;
         pull_all(queue, batch, at, &mut granted)?;
         pulling = add_since(rt, begun, pulling)?;
@@ -137,7 +126,7 @@ pub fn pull_all<T: Tag, Q: Scheduler<T>>(
 ) -> Result<(), Fault> {
     for _ in 0..batch {
         if let Ok(Pulled::Returning { client, .. }) = queue.pull_request(at) {
-            granted.push(client).map_err(|_| Fault::Memory)?;
+            granted.push(client)?;
         }
     }
     Ok(())

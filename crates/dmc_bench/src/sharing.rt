@@ -4,7 +4,8 @@ ghost use Rattle.std.specs.Prelude.{◌≡◌};
 use crate::cluster::{
     Client, Clients, Lock, open_clients, open_lock, pull, register_all, stamp, submit,
 };
-use crate::load::{Fault, Load};
+use crate::fault::Fault;
+use crate::load::Load;
 use crate::watch::{add_since, start, tell};
 use dmc_book::pass::WorkerPass;
 use dmc_ledger::mint::Blank;
@@ -77,7 +78,7 @@ fn jobs_of<S: Setup>(
             requests,
             granted: 0,
         };
-        jobs.push(job).map_err(|_| Fault::Memory)?;
+        jobs.push(job)?;
     }
     Ok(jobs)
 }

@@ -1,5 +1,6 @@
 //! Sums of tags.
-use crate::load::{Fault, Load, mixed};
+use crate::fault::Fault;
+use crate::load::{Load, mixed};
 use crate::watch::{add_since, start, tell};
 use dmc_tag::tag::Tag;
 use dmc_types::moment::Moment;

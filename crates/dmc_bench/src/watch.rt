@@ -1,20 +1,21 @@
 //! How long the parts of a load take.
-use crate::load::Fault;
+use crate::fault::Fault;
 use std::io;
 use std::time::Instant;
 
 /// The moment at which a part begins.
 pub fn start(rt: &HostRuntime) -> Result<Instant, Fault> {
-    Instant::now(rt).map_err(|_| Fault::Memory)
+    Ok(Instant::now(rt)?)
 }
 
 /// The nanoseconds since a start, added to those before.
 pub fn add_since(rt: &HostRuntime, start: Instant, nanos: u128) -> Result<u128, Fault> {
-    let taken = start.elapsed(rt).map_err(|_| Fault::Memory)?;
+    let taken = start.elapsed(rt)?;
     Ok(nanos.saturating_add(taken.as_nanos()))
 }
 
 /// Tells a part's name, how many calls it made, and the nanoseconds that they took.
 pub fn tell(rt: &HostRuntime, part: &str, calls: u32, nanos: u128) -> Result<(), Fault> {
-    eprintln!(rt; "{part} {calls} {nanos}").map_err(|_| Fault::Write)
+    eprintln!(rt; "{part} {calls} {nanos}")?;
+    Ok(())
 }

@@ -1,37 +1,8 @@
 //! The program `dmclock`.
 #![tactic(auto)]
 
-mod check;
-#[cfg(test)]
-mod choosing_examples;
-#[cfg(test)]
-mod event_examples;
-#[cfg(test)]
-mod examples;
-mod fault;
-mod makers;
-mod outcome;
-#[cfg(test)]
-mod queues;
-mod run;
-#[cfg(test)]
-mod run_examples;
-#[cfg(test)]
-mod runs;
-mod scenes;
-mod script;
-mod sim;
-#[cfg(test)]
-mod sim_examples;
-#[cfg(test)]
-mod stream_tests;
-#[cfg(test)]
-mod tests;
-mod tool;
-mod words;
-
-use crate::fault::Fault;
-use crate::tool::{run_tool, tell};
+use dmc_tool::fault::Fault;
+use dmc_tool::tool::{run_tool, tell};
 use std::io::ErrorKind;
 use std::process::ExitCode;
 use std::{env, io};

@@ -1,0 +1,21 @@
+//! Tests of the program's tools, on the examples and over streams that fail.
+#![tactic(auto)]
+
+#[cfg(test)]
+mod choosing_examples;
+#[cfg(test)]
+mod event_examples;
+#[cfg(test)]
+mod examples;
+#[cfg(test)]
+mod queues;
+#[cfg(test)]
+mod run_examples;
+#[cfg(test)]
+mod runs;
+#[cfg(test)]
+mod sim_examples;
+#[cfg(test)]
+mod stream_tests;
+#[cfg(test)]
+mod words;

@@ -1,0 +1,203 @@
+//! Runs of the program in the tests: what it is given, and what it has to write. Room for all that is written is made
+//! before a run, so that a refused growth is never told as a failed write.
+use dmc_tool::tool::run_tool;
+use std::alloc::{AllocError, Global};
+use std::io::{self, Read, Write};
+use std::process::Abort;
+use std::sync::Wait;
+use std::test::Fail;
+use std::thread::Threads;
+
+/// More bytes than any run of the tests writes.
+pub const ROOM: usize = 4096;
+
+/// The lines of a text, each with its LF. In the text they are parted by `; `.
+pub fn lines(alloc: Global, text: &str) -> Result<Vec<u8>, AllocError> {
+    if text.is_empty() {
+        return Ok(Vec::new(alloc));
+    }
+    let mut bytes = Vec::with_capacity(alloc, text.len() + 1)?;
+    let mut was_end = false;
+    for byte in text.as_bytes() {
+        match *byte {
+            b';' => bytes.push(b'\n')?,
+            b' ' if was_end => {}
+            byte => bytes.push(byte)?,
+        }
+        was_end = *byte == b';';
+    }
+    bytes.push(b'\n')?;
+    Ok(bytes)
+}
+
+/// Runs the program on these words, checks what it tells of a fault, and answers its status. Want of memory is an error.
+pub fn tells<T: AllocGlobal + Threads + Wait + Sync + Abort, R: Read, W: Write>(
+    rt: &T,
+    words: &[&str],
+    reader: &mut R,
+    writer: &mut W,
+    fault: &[u8],
+) -> Result<u8, Fail> {
+    let mut told = Vec::with_capacity(rt.alloc(), ROOM)?;
+    let status = run_tool(rt, words, reader, writer, &mut told);
+    if told.as_slice() == b"dmclock: memory\n".as_slice() {
+        return Err(AllocError.into());
+    }
+    assert_eq!(rt; told.as_slice(), fault);
+    Ok(status)
+}
+
+/// Runs the program on these words and bytes, and checks all that it writes and its status. Want of memory is an error.
+pub fn runs<T: AllocGlobal + Threads + Wait + Sync + Abort>(
+    rt: &T,
+    words: &[&str],
+    input: &[u8],
+    output: &[u8],
+    fault: &[u8],
+    status: u8,
+) -> Result<(), Fail> {
+    let mut reader = input;
+    let mut written = Vec::with_capacity(rt.alloc(), ROOM)?;
+    let ended = tells(rt, words, &mut reader, &mut written, fault)?;
+    assert_eq!(rt; written.as_slice(), output);
+    assert_eq!(rt; ended, status);
+    Ok(())
+}
+
+/// Gives its bytes one at a time, and fails in the place of the n-th read.
+#[derive(Drop)]
+pub struct FailingReader<'a> {
+    bytes: &'a [u8],
+    left: usize,
+}
+
+impl<'a> FailingReader<'a> {
+    /// A reader of these bytes that answers so many reads and then fails.
+    pub fn new(bytes: &'a [u8], left: usize) -> FailingReader<'a> {
+        FailingReader { bytes, left }
+    }
+}
+
+impl<'a> Read for FailingReader<'a> {
+    fn read(&mut self, buffer: &mut [u8]) -> io::Result<usize> {
+        if self.left == 0 {
+            return Err(io::Error::from(io::ErrorKind::Other));
+        }
+        self.left -= 1;
+        match (self.bytes.split_first(), buffer.first_mut()) {
+            (Some((first, rest)), Some(place)) => {
+                *place = *first;
+                self.bytes = rest;
+                Ok(1)
+            }
+            _ => Ok(0),
+        }
+    }
+}
+
+/// Takes a byte at a time, and fails in the place of the n-th write, or at a flush.
+#[derive(Drop)]
+pub struct FailingWriter {
+    written: Vec<u8>,
+    left: usize,
+    is_flushed: bool,
+}
+
+impl FailingWriter {
+    /// A writer that takes so many bytes and then fails. Its room is made here.
+    pub fn new(alloc: Global, left: usize) -> Result<FailingWriter, AllocError> {
+        let written = Vec::with_capacity(alloc, ROOM)?;
+        Ok(FailingWriter {
+            written,
+            left,
+            is_flushed: true,
+        })
+    }
+
+    /// A writer that takes all and fails at a flush.
+    pub fn unflushed(alloc: Global) -> Result<FailingWriter, AllocError> {
+        let written = Vec::with_capacity(alloc, ROOM)?;
+        Ok(FailingWriter {
+            written,
+            left: ROOM,
+            is_flushed: false,
+        })
+    }
+
+    /// What it took.
+    pub fn written(&self) -> &[u8] {
+        self.written.as_slice()
+    }
+}
+
+impl Write for FailingWriter {
+    fn write(&mut self, bytes: &[u8]) -> io::Result<usize> {
+        if self.left == 0 {
+            return Err(io::Error::from(io::ErrorKind::Other));
+        }
+        self.left -= 1;
+        match bytes.first() {
+            None => Ok(0),
+            Some(byte) => {
+                self.written.push(*byte)?;
+                Ok(1)
+            }
+        }
+    }
+
+    fn flush(&mut self) -> io::Result<()> {
+        if self.is_flushed {
+            return Ok(());
+        }
+        Err(io::Error::from(io::ErrorKind::Other))
+    }
+}
+
+/// Is interrupted before each read, or before each write.
+#[derive(Drop)]
+pub struct Interrupted<S> {
+    stream: S,
+    is_ready: bool,
+}
+
+impl<S> Interrupted<S> {
+    /// The stream, interrupted.
+    pub fn new(stream: S) -> Interrupted<S> {
+        Interrupted {
+            stream,
+            is_ready: false,
+        }
+    }
+
+    /// What is interrupted.
+    pub fn stream(&self) -> &S {
+        &self.stream
+    }
+
+    // Every other turn is an interruption.
+    fn turn(&mut self) -> io::Result<()> {
+        self.is_ready = !self.is_ready;
+        if self.is_ready {
+            return Err(io::Error::from(io::ErrorKind::Interrupted));
+        }
+        Ok(())
+    }
+}
+
+impl<S: Read> Read for Interrupted<S> {
+    fn read(&mut self, buffer: &mut [u8]) -> io::Result<usize> {
+        self.turn()?;
+        self.stream.read(buffer)
+    }
+}
+
+impl<S: Write> Write for Interrupted<S> {
+    fn write(&mut self, bytes: &[u8]) -> io::Result<usize> {
+        self.turn()?;
+        self.stream.write(bytes)
+    }
+
+    fn flush(&mut self) -> io::Result<()> {
+        self.stream.flush()
+    }
+}

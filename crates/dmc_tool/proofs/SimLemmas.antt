@@ -1,0 +1,79 @@
+-- How the parts of a simulation end.
+use Rattle.std.proofs.Common.{◌≡◌, ◌≢◌, ℕ, ◌<◌, ◌≤◌, Bool, true, false, List, [], length, take, refl, sym, subst, arith, Option, Result, Ok, Err}
+use Rattle.std.specs.Prelude.{IsErrAnd, if◌then◌else◌}
+use Rattle.std.proofs.lemmas.List.{length-take-le}
+use Rattle.std.specs.Io.KnownBytes.{Consumes, IsAtEnd, Keeps}
+use Rattle.dmc_scene.specs.declared.fault.SceneFault.{SceneFault}
+use Rattle.dmc_scene.specs.declared.fault.SceneFault.TheVariants as scene
+use Rattle.dmc_scene.specs.Reading.{scene_in}
+use Rattle.dmc_scene.specs.SceneValue.{SceneValue}
+use Rattle.dmc_sim.specs.declared.report.SimFault.{SimFault}
+use Rattle.dmc_sim.specs.declared.report.SimFault.TheVariants as sim
+use Rattle.dmc_text.specs.Texts.{ReadsWithin}
+use Rattle.std.proofs.KnownBytes.{Consumes-nil, Keeps-refl}
+use Rattle.dmc_tool.specs.Faults.{fault_of_scene, fault_of_sim}
+use Rattle.dmc_tool.specs.Scenes.{ReadsScene, ReadsSome, most_bytes}
+use Rattle.dmc_tool.specs.Sims.{RunsSim, TellsAll}
+use Rattle.dmc_tool.specs.declared.fault.Fault.{Fault}
+use Rattle.dmc_tool.specs.declared.fault.Fault.TheVariants as fault
+use Rattle.dmc_tool.specs.declared.outcome.Outcome.{Outcome}
+use Rattle.dmc_tool.specs.declared.outcome.Outcome.TheVariants.{Done}
+
+pub none_yet : (r : Option (List ℕ)) → ReadsSome r r
+none_yet r = ([], (Consumes-nil r, omega arith))
+
+-- the first n bytes of a buffer are read
+pub read_front : (before after : Option (List ℕ)) (items : List ℕ) (n : ℕ) → n ≤ most_bytes → length items ≡ most_bytes → Consumes before after (take n items) → (n < most_bytes → IsAtEnd after)
+    → ReadsWithin most_bytes before after (take n items) × (length (take n items) < most_bytes → IsAtEnd after)
+read_front before after items n most size read end =
+    let len : length (take n items) ≡ n = length-take-le n items (omega (arith, most, size)) in
+    ((read, omega (arith, len, most)), λ h. end (omega (arith, len, h)))
+
+abbrev failed : SceneFault → Result SceneValue SceneFault
+failed cause = Err cause
+
+-- a text that is no scene
+refused : (before after : Option (List ℕ)) (text : List ℕ) (cause : SceneFault) → ReadsWithin most_bytes before after text → (length text < most_bytes → IsAtEnd after)
+    → (failed cause ≢ failed scene.Memory → failed cause ≡ scene_in text) → ReadsScene before after (Err (fault_of_scene cause))
+refused before after text scene.Text read end is = (text, read, end, sym (is (λ e. cc)))
+refused before after text (scene.Missing key) read end is = (text, read, end, sym (is (λ e. cc)))
+refused before after text (scene.Kind key) read end is = (text, read, end, sym (is (λ e. cc)))
+refused before after text (scene.Value key) read end is = (text, read, end, sym (is (λ e. cc)))
+refused before after text scene.Memory read end is = (text, read)
+
+pub refused_as : (before after : Option (List ℕ)) (text : List ℕ) (cause : SceneFault) (result : Result SceneValue Fault) → (ReadsWithin most_bytes before after text × (length text < most_bytes → IsAtEnd after))
+    → (failed cause ≢ failed scene.Memory → failed cause ≡ scene_in text) → IsErrAnd result (λ told. told ≡ fault_of_scene cause) → ReadsScene before after result
+refused_as before after text cause (Ok s) read is e = absurd e
+refused_as before after text cause (Err f) read is e = subst (λ x. ReadsScene before after (Err x)) (sym e) (refused before after text cause read.0 read.1 is)
+
+-- no scene is read, so nothing is written
+pub unread : (before after old : Option (List ℕ)) (f : Fault) → ReadsScene before after (Err f) → RunsSim before after old old (Err f)
+unread before after old fault.Usage h = absurd h
+unread before after old (fault.Line number cause) h = absurd h
+unread before after old fault.Read h = (h, Keeps-refl old)
+unread before after old fault.Write h = absurd h
+unread before after old fault.Memory h = (h, Keeps-refl old)
+unread before after old fault.SceneText h = (h, Keeps-refl old)
+unread before after old (fault.SceneMissing key) h = (h, Keeps-refl old)
+unread before after old (fault.SceneKind key) h = (h, Keeps-refl old)
+unread before after old (fault.SceneValue key) h = (h, Keeps-refl old)
+unread before after old fault.Torn h = absurd h
+unread before after old fault.Range h = absurd h
+unread before after old fault.TurnsOut h = absurd h
+unread before after old fault.Stopped h = absurd h
+
+-- the scene has no report
+unreported : (before after old : Option (List ℕ)) (s : SceneValue) (f : SimFault) → ReadsScene before after (Ok s) → RunsSim before after old old (Err (fault_of_sim f))
+unreported before after old s (sim.Refused refusal) h = ((s, h), Keeps-refl old)
+unreported before after old s sim.Memory h = ((h.0, h.1), Keeps-refl old)
+
+pub unreported_as : (before after old : Option (List ℕ)) (s : SceneValue) (f : SimFault) (result : Result Outcome Fault) → ReadsScene before after (Ok s) → IsErrAnd result (λ told. told ≡ fault_of_sim f)
+    → RunsSim before after old old result
+unreported_as before after old s f (Ok outcome) h e = absurd e
+unreported_as before after old s f (Err told) h e = subst (λ x. RunsSim before after old old (Err x)) (sym e) (unreported before after old s f h)
+
+-- the report is written
+pub reported : (before after old new : Option (List ℕ)) (b : Bool) (end : Result Outcome Fault) → end ≡ (if b then Err fault.TurnsOut else Ok Done) → TellsAll before after old new end
+    → RunsSim before after old new end
+reported before after old new true end e h = subst (λ x. TellsAll before after old new x → RunsSim before after old new x) (sym e) (λ t. t) h
+reported before after old new false end e h = subst (λ x. TellsAll before after old new x → RunsSim before after old new x) (sym e) (λ t. t) h

@@ -1,0 +1,34 @@
+-- What reading a scene takes from the reader, and what comes of it.
+use Rattle.std.specs.Prelude.{◌≡◌, ◌+◌, ◌<◌, ℕ, List, length, Option, Result, Ok, Err}
+use Rattle.std.specs.Io.KnownBytes.{IsAtEnd}
+use Rattle.dmc_types.specs.Limits.{most_scene_bytes}
+use Rattle.dmc_text.specs.Texts.{ReadsWithin}
+use Rattle.dmc_scene.specs.declared.fault.SceneFault.{SceneFault}
+use Rattle.dmc_scene.specs.declared.fault.SceneFault.TheVariants as scene
+use Rattle.dmc_scene.specs.Reading.{scene_in}
+use Rattle.dmc_scene.specs.SceneValue.{SceneValue}
+use Rattle.dmc_tool.specs.declared.fault.Fault.{Fault}
+use Rattle.dmc_tool.specs.declared.fault.Fault.TheVariants.{Read, Memory, SceneText, SceneMissing, SceneKind, SceneValue as SceneValueOf}
+
+-- one more byte than a scene may have
+abbrev pub most_bytes : ℕ
+most_bytes = most_scene_bytes + 1
+
+-- All of a text is read, or as much as tells that it is too long, and this is the scene that it is, or why it is none.
+abbrev pub ReadsAs : (before after : Option (List ℕ)) → Result SceneValue SceneFault → Type 0
+ReadsAs before after result = (text : List ℕ) × ReadsWithin most_bytes before after text × (length text < most_bytes → IsAtEnd after) × (scene_in text ≡ result)
+
+-- no more than that is read
+abbrev pub ReadsSome : (before after : Option (List ℕ)) → Type 0
+ReadsSome before after = (text : List ℕ) × ReadsWithin most_bytes before after text
+
+-- a scene, or a fault of the text; else the reader failed or there was no memory
+abbrev pub ReadsScene : (before after : Option (List ℕ)) → Result SceneValue Fault → Type 0
+ReadsScene before after (Ok s) = ReadsAs before after (Ok s)
+ReadsScene before after (Err SceneText) = ReadsAs before after (Err scene.Text)
+ReadsScene before after (Err (SceneMissing key)) = ReadsAs before after (Err (scene.Missing key))
+ReadsScene before after (Err (SceneKind key)) = ReadsAs before after (Err (scene.Kind key))
+ReadsScene before after (Err (SceneValueOf key)) = ReadsAs before after (Err (scene.Value key))
+ReadsScene before after (Err Read) = ReadsSome before after
+ReadsScene before after (Err Memory) = ReadsSome before after
+ReadsScene before after (Err fault) = ⊥

@@ -1,0 +1,13 @@
+//! The tools of the program `dmclock`, over any streams.
+#![tactic(auto)]
+
+mod check;
+pub mod fault;
+mod makers;
+mod outcome;
+mod run;
+mod scenes;
+mod script;
+mod sim;
+pub mod tool;
+pub mod words;

@@ -1,0 +1,41 @@
+//! The command `run`.
+ghost use Rattle.std.specs.Prelude.{◌≡◌};
+ghost use Rattle.dmc_tool.specs.Faults.{fault_of_run};
+ghost use Rattle.dmc_tool.specs.SceneRuns.{RunsRun};
+
+use crate::fault::Fault;
+use crate::outcome::Outcome;
+use crate::scenes::scene_of;
+use dmc_run::run::{RunSceneFault, run_scene};
+use std::alloc::Global;
+use std::io::{Read, Write};
+use std::sync::Wait;
+use std::thread::Threads;
+
+impl From<RunSceneFault> for Fault {
+    ghost from_gives = { λ run fault. fault ≡ fault_of_run run };
+
+    fn from(fault: RunSceneFault) -> Fault {
+        match fault {
+            RunSceneFault::Memory => Fault::Memory,
+            RunSceneFault::Torn => Fault::Torn,
+            RunSceneFault::Write => Fault::Write,
+            RunSceneFault::TurnsOut => Fault::TurnsOut,
+            RunSceneFault::Stopped => Fault::Stopped,
+        }
+    }
+}
+
+/// Runs the scene that is read in threads, and writes the report. That it was not done is told after the report.
+pub fn run_on<X: Threads + Wait + Sync, R: Read, W: Write>(
+    rt: &X,
+    alloc: Global,
+    reader: &mut R,
+    writer: &mut W,
+) -> Result<Outcome, Fault>
+    ensures { RunsRun (R.remaining reader.old) (R.remaining reader.new) (W.contents writer.old) (W.contents writer.new) result }
+{
+    let scene = scene_of(alloc, reader)?;
+    run_scene(rt, alloc, &scene, writer)?;
+    Ok(Outcome::Done)
+}

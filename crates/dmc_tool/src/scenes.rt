@@ -1,0 +1,49 @@
+//! The scene on standard input, which `sim` and `run` work on.
+ghost use Rattle.std.specs.Prelude.{◌≡◌};
+ghost use Rattle.dmc_tool.specs.Faults.{fault_of_scene};
+ghost use Rattle.dmc_tool.specs.Scenes.{ReadsScene};
+
+use crate::fault::Fault;
+use dmc_scene::fault::SceneFault;
+use dmc_scene::scene::{Scene, read_scene};
+use dmc_text::lines::read_text;
+use std::alloc::{AllocError, Global};
+use std::io::Read;
+
+/// The most bytes that are read: one more than a scene may have, which tells that it has too many.
+const MOST_BYTES: usize = (1 << 20) + 1;
+
+impl From<AllocError> for Fault {
+    ghost use Rattle.dmc_tool.specs.declared.fault.Fault.TheVariants.{Memory};
+
+    ghost from_gives = { λ _ fault. fault ≡ Memory };
+
+    fn from(_: AllocError) -> Fault {
+        Fault::Memory
+    }
+}
+
+impl From<SceneFault> for Fault {
+    ghost from_gives = { λ scene fault. fault ≡ fault_of_scene scene };
+
+    fn from(fault: SceneFault) -> Fault {
+        match fault {
+            SceneFault::Text => Fault::SceneText,
+            SceneFault::Missing(key) => Fault::SceneMissing(key),
+            SceneFault::Kind(key) => Fault::SceneKind(key),
+            SceneFault::Value(key) => Fault::SceneValue(key),
+            SceneFault::Memory => Fault::Memory,
+        }
+    }
+}
+
+/// Reads a scene.
+pub fn scene_of<R: Read>(alloc: Global, reader: &mut R) -> Result<Scene, Fault>
+    ensures { ReadsScene (R.remaining reader.old) (R.remaining reader.new) result }
+{
+    let mut text = vec![in alloc; 0; MOST_BYTES]?;
+    let Ok(len) = read_text(reader, &mut text) else {
+        return Err(Fault::Read);
+    };
+    Ok(read_scene(alloc, &text[..len])?)
+}

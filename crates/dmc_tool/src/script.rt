@@ -1,0 +1,44 @@
+//! The command `script`.
+ghost use Rattle.std.specs.Prelude.{◌≡◌};
+ghost use Rattle.dmc_tool.specs.Faults.{fault_of_script};
+ghost use Rattle.dmc_tool.specs.Runs.{RunsScript};
+
+use crate::fault::Fault;
+use crate::makers::HeapMaker;
+use dmc_ratio::ratio::RatioTag;
+use dmc_text::script::{ScriptFault, run_script};
+use dmc_tick::tick::TickTag;
+use dmc_types::config::TagKind;
+use std::alloc::Global;
+use std::io::{Read, Write};
+
+impl From<ScriptFault> for Fault {
+    ghost from_gives = { λ script fault. fault ≡ fault_of_script script };
+
+    fn from(fault: ScriptFault) -> Fault {
+        match fault {
+            ScriptFault::Line(number, cause) => Fault::Line { number, cause },
+            ScriptFault::Read => Fault::Read,
+            ScriptFault::Write => Fault::Write,
+            ScriptFault::Memory => Fault::Memory,
+        }
+    }
+}
+
+/// Runs a script on a queue of tags of this kind.
+pub fn run_on<R: Read, W: Write>(
+    alloc: Global,
+    tags: TagKind,
+    reader: &mut R,
+    writer: &mut W,
+) -> Result<(), ScriptFault>
+    ensures { RunsScript tags (R.remaining reader.old) (R.remaining reader.new) (W.contents writer.old) (W.contents writer.new) result }
+{
+    let mut maker = HeapMaker { alloc };
+    match tags {
+        TagKind::Tick => run_script::<TickTag, HeapMaker, R, W>(alloc, &mut maker, reader, writer),
+        TagKind::Ratio => {
+            run_script::<RatioTag, HeapMaker, R, W>(alloc, &mut maker, reader, writer)
+        }
+    }
+}

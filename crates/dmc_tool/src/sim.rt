@@ -1,0 +1,52 @@
+//! The command `sim`.
+ghost use Rattle.std.specs.Prelude.{◌≡◌};
+ghost use Rattle.dmc_tool.specs.Faults.{fault_of_sim};
+ghost use Rattle.dmc_tool.specs.Sims.{RunsSim, end_of_sim};
+
+use crate::fault::Fault;
+use crate::outcome::Outcome;
+use crate::scenes::scene_of;
+use dmc_sim::report::{SimFault, SimReport, report_text};
+use dmc_sim::simulation::simulate;
+use dmc_text::send::send;
+use std::alloc::Global;
+use std::io::{Read, Write};
+
+impl From<SimFault> for Fault {
+    ghost from_gives = { λ sim fault. fault ≡ fault_of_sim sim };
+
+    fn from(fault: SimFault) -> Fault {
+        match fault {
+            SimFault::Refused(_) => Fault::Range,
+            SimFault::Memory => Fault::Memory,
+        }
+    }
+}
+
+/// Simulates the scene that is read, and writes the report. That the turns are out is told after the report.
+pub fn simulate_on<R: Read, W: Write>(
+    alloc: Global,
+    reader: &mut R,
+    writer: &mut W,
+) -> Result<Outcome, Fault>
+    ensures { RunsSim (R.remaining reader.old) (R.remaining reader.new) (W.contents writer.old) (W.contents writer.new) result }
+{
+    let scene = scene_of(alloc, reader)?;
+    let report = simulate(alloc, &scene)?;
+    let text = report_text(alloc, &report)?;
+    if !send(text.as_bytes(), writer) {
+        return Err(Fault::Write);
+    }
+    end_of(&report)
+}
+
+/// How a simulation ends, once its report is written.
+fn end_of(report: &SimReport) -> Result<Outcome, Fault>
+    ensures { result ≡ end_of_sim report.now }
+{
+    if report.turns_out {
+        Err(Fault::TurnsOut)
+    } else {
+        Ok(Outcome::Done)
+    }
+}

@@ -18,10 +18,11 @@ ghost use Rattle.dmc_book.specs.Settling.{AreGrantsOfDesks, AreOwn, AreSettledDe
 ghost use Rattle.dmc_book.specs.Status.{IsStatusOf};
 
 use crate::asking::{Added, ask, ask_to_add};
-use crate::desk::{find_stamps, hand_out, take_in};
+use crate::desk::{find_stamps, take_in};
 use crate::fault::{BookFault, NewFault, RunFault, SubmitCause, SubmitFault};
 use crate::opening::{Parts, Room, make_parts, open_workers};
 use crate::pass::WorkerPass;
+use crate::recording::record;
 use crate::seat::{Seat, count, is_enrolled};
 use crate::settled::{Settled, are_own, take_passes};
 use crate::status::Status;
@@ -215,15 +216,13 @@ impl<T: Tag, I: Indexes<T>, S: Setup> QueueBook<T, I, S> {
             command,
             reply,
         };
-        count(&mut self.workers, pass.place, &mut pass.tills, &event);
-        hand_out(
-            &pass.clients,
-            pass.recent.get(),
+        record(
+            &mut self.workers,
             &mut self.desks,
-            &mut pass.units,
-            &event,
+            &mut self.history,
+            pass,
+            event,
         );
-        self.history.push_reserved(event);
         Ok(reply)
     }
 

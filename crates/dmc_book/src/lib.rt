@@ -12,6 +12,7 @@ mod opening;
 mod parts;
 pub mod pass;
 mod pulling;
+mod recording;
 pub mod seat;
 pub mod settled;
 pub mod status;

@@ -182,11 +182,11 @@ pub(crate) fn make_parts<T: Tag, S: Setup>(
     if !are_limits(workers.len(), desks.len(), left, most) {
         return Err(NewFault::Limit);
     }
+    let clients = name_all(alloc, workers, desks)?;
+    let room = make_room(alloc, desks, workers.len())?;
     let Ok(history) = EventHistory::new(alloc, most) else {
         unreachable!()
     };
-    let clients = name_all(alloc, workers, desks)?;
-    let room = make_room(alloc, desks, workers.len())?;
     Ok(Parts {
         history,
         clients,

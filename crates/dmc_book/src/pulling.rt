@@ -7,21 +7,20 @@ ghost use Rattle.dmc_book.specs.BookState.{pass_state};
 ghost use Rattle.dmc_book.specs.Calls.{WasPulled, reply_to};
 ghost use Rattle.dmc_book.specs.Moves.{IsEnrolled, takes};
 
-use crate::asking::ask_to_pull;
+use crate::asking::{ask_to_pull, reply_of};
 use crate::book::QueueBook;
 use crate::desk::hand_out;
 use crate::fault::{RunFault, RunOrRange};
 use crate::pass::WorkerPass;
+use crate::recording::record;
 use crate::seat::{count, is_enrolled};
 use dmc_index::index::Indexes;
 use dmc_ledger::setup::Setup;
-use dmc_tag::answers;
 use dmc_tag::event::Event;
 use dmc_tag::reply::{Pulled, Reply};
 use dmc_tag::tag::Tag;
 use dmc_types::command::Command;
 use dmc_types::moment::Moment;
-use dmc_types::refusal::Refusal;
 
 impl<T: Tag, I: Indexes<T>, S: Setup> QueueBook<T, I, S> {
     /// Pulls: grants the next request, or tells when one is due, or that nothing is queued. It records and counts as `run` does
@@ -45,77 +44,54 @@ impl<T: Tag, I: Indexes<T>, S: Setup> QueueBook<T, I, S> {
         if let Err(fault) = self.history.reserve_one() {
             return Err(RunOrRange::Run(RunFault::from(fault)));
         }
-        match ask_to_pull(&mut self.queue.0, &self.clients, &self.desks, pass, at) {
-            Ok(
-                Pulled::Returning {
+        let answer = ask_to_pull(&mut self.queue.0, &self.clients, &self.desks, pass, at);
+        if let Ok(
+            Pulled::Returning {
+                client,
+                token,
+                phase,
+                beyond,
+            },
+        ) = answer
+        {
+            let event: Event<T> = Event {
+                worker: pass.worker,
+                command: Command::Pull { at },
+                reply: Reply::Granted {
                     client,
                     token,
                     phase,
                     beyond,
                 },
-            ) => {
-                let event: Event<T> = Event {
-                    worker: pass.worker,
-                    command: Command::Pull { at },
-                    reply: Reply::Granted {
-                        client,
-                        token,
-                        phase,
-                        beyond,
-                    },
-                };
-                count(&mut self.workers, pass.place, &mut pass.tills, &event);
-                hand_out(
-                    &pass.clients,
-                    pass.recent.get(),
-                    &mut self.desks,
-                    &mut pass.units,
-                    &event,
-                );
-                self.history
-                    .push_granted(pass.worker, at, client, token, phase, beyond);
-                Ok(Pulled::Returning {
-                    client,
-                    token,
-                    phase,
-                    beyond,
-                })
-            }
-            Ok(pulled) => {
-                let event: Event<T> = Event {
-                    worker: pass.worker,
-                    command: Command::Pull { at },
-                    reply: answers::pulled(Ok(pulled)),
-                };
-                count(&mut self.workers, pass.place, &mut pass.tills, &event);
-                hand_out(
-                    &pass.clients,
-                    pass.recent.get(),
-                    &mut self.desks,
-                    &mut pass.units,
-                    &event,
-                );
-                self.history.push_reserved(event);
-                Ok(pulled)
-            }
-            Err(RunOrRange::Range) => {
-                let event: Event<T> = Event {
-                    worker: pass.worker,
-                    command: Command::Pull { at },
-                    reply: Reply::Refused(Refusal::Range),
-                };
-                count(&mut self.workers, pass.place, &mut pass.tills, &event);
-                hand_out(
-                    &pass.clients,
-                    pass.recent.get(),
-                    &mut self.desks,
-                    &mut pass.units,
-                    &event,
-                );
-                self.history.push_reserved(event);
-                Err(RunOrRange::Range)
-            }
-            Err(RunOrRange::Run(fault)) => Err(RunOrRange::Run(fault)),
+            };
+            count(&mut self.workers, pass.place, &mut pass.tills, &event);
+            hand_out(
+                &pass.clients,
+                pass.recent.get(),
+                &mut self.desks,
+                &mut pass.units,
+                &event,
+            );
+            self.history
+                .push_granted(pass.worker, at, client, token, phase, beyond);
+            return answer;
         }
+        let reply = match reply_of(answer) {
+            Ok(reply) => reply,
+            Err(fault) => return Err(RunOrRange::Run(fault)),
+        };
+        let event = Event {
+            worker: pass.worker,
+            command: Command::Pull { at },
+            reply,
+        };
+        record(
+            &mut self.workers,
+            &mut self.desks,
+            &mut self.history,
+            pass,
+            event,
+        );
+        answer
     }
 }

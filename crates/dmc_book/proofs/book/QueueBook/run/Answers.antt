@@ -5,13 +5,13 @@ use Rattle.dmc_pull.specs.Queue as queue
 use Rattle.std.specs.Prelude.{IsErrOf}
 use Rattle.std.specs.Arc.{arc_value}
 use Rattle.dmc_book.specs.declared.fault.RunFault.TheVariants as run
-use Rattle.dmc_book.specs.BookState.{BookState, worker_side, pass_state}
-use Rattle.dmc_book.specs.Calls.{Asks, Strays, reply_to, event_of}
+use Rattle.dmc_book.specs.BookState.{BookState, state_of, worker_side, pass_state}
+use Rattle.dmc_book.specs.Calls.{Asks, Ran, Strays, reply_to, event_of}
 use Rattle.dmc_book.specs.Consistent.{HasDesk}
 use Rattle.dmc_book.specs.Counts.{grant_in}
 use Rattle.dmc_book.specs.Moves.{IsEnrolled, takes}
 use Rattle.dmc_tag.proofs.ForCallers.{tag_order}
-use Rattle.dmc_book.proofs.Counting.{consistent_more, workers_within, desks_within}
+use Rattle.dmc_book.proofs.Counting.{consistent_more, reply_after, workers_within, desks_within}
 use Rattle.dmc_book.proofs.DeskLemmas.{lacks_agree}
 use Rattle.dmc_book.proofs.AskLemmas.{consistent_unasked, strays_by_history, taken_has_desk}
 use Rattle.dmc_book.proofs.Causes.{same_cause, never_no_desk, full_cause, full_named}
@@ -92,15 +92,15 @@ returns-clause-no_desk g c =
     let lacks = sym (lacks_agree here.clients.keys here.desks.items c.self.invariant.1 c.args.command) ∙ sym c.lacks_desk_for.ensures ∙ c.if-lacks_desk_for.false in
     rw (← c.self.view_is) ((λ h. absurd cc), (λ h. absurd (true≢false (sym h.1 ∙ lacks))))
 
-pub count-requires-clause-fits : goal.count-requires-clause-fits
-count-requires-clause-fits g c =
+pub record-requires-clause-fits : goal.record-requires-clause-fits
+record-requires-clause-fits g c =
     let fewer : length c.self.inside.history.events < c.self.inside.history.most = c.in_ok-reserve_one.ensures.fewer in
     let limit : c.self.inside.history.most ≤ 2 ^ 30 = c.self.invariant.0.limit in
     let below : length c.self.inside.history.events < 2 ^ 30 = omega (arith, fewer, limit) in
     workers_within c.self.inside.history.events below (map worker_side c.self.inside.workers.items) c.self.invariant.0.workers
 
-pub hand_out-requires-clause-fits : goal.hand_out-requires-clause-fits
-hand_out-requires-clause-fits g c =
+pub record-requires-clause-desks_fit : goal.record-requires-clause-desks_fit
+record-requires-clause-desks_fit g c =
     let fewer : length c.self.inside.history.events < c.self.inside.history.most = c.in_ok-reserve_one.ensures.fewer in
     let limit : c.self.inside.history.most ≤ 2 ^ 30 = c.self.invariant.0.limit in
     let below : length c.self.inside.history.events < 2 ^ 30 = omega (arith, fewer, limit) in
@@ -109,12 +109,26 @@ hand_out-requires-clause-fits g c =
 pub invariant_of-self-2 : goal.invariant_of-self-2
 invariant_of-self-2 g c =
     let e = event_of c.args.pass.now.worker.0 c.args.command c.in_ok-reply.reply in
-    let events : c.push_reserved.new.self.events ≡ c.self.inside.history.events ++ e ∷ [] = c.push_reserved.ensures.events ∙ ap (λ es. es ++ e ∷ []) c.in_ok-reserve_one.ensures.events in
-    let most : c.push_reserved.new.self.most ≡ c.self.inside.history.most = c.push_reserved.ensures.most ∙ c.in_ok-reserve_one.ensures.most in
+    let events : c.record.new.history.events ≡ c.self.inside.history.events ++ e ∷ [] = c.record.ensures.events ∙ ap (λ es. es ++ e ∷ []) c.in_ok-reserve_one.ensures.events in
+    let most : c.record.new.history.most ≡ c.self.inside.history.most = c.record.ensures.most ∙ c.in_ok-reserve_one.ensures.most in
     let desks_are : c.deref-2.result.now ≡ c.self.inside.desks.items = search rules in
     let has_desk = subst (λ (ds : List (ClientDesk g.row.S.Denot)). HasDesk (map client_side ds) (grant_in c.in_ok-reply.reply)) desks_are
     (taken_has_desk (map client_side c.deref-2.result.now) (arc_value c.args.pass.now.clients).keys (map grant_holdings c.args.pass.now.units.items) c.in_ok-reply.reply c.in_ok-reply.ensures.1) in
-    rw (events, most, c.count.ensures.workers, c.hand_out.ensures.desks) (
-      consistent_more g.T.Tag.ops (queue.state_of c.self.inside.queue.0) (queue.state_of c.ask.new.queue) _ e c.count.ensures.small has_desk c.self.invariant.0 c.in_ok-reply.ensures.0,
-      c.self.invariant.1 ∙ sym c.hand_out.ensures.names,
+    rw (events, most, c.record.ensures.workers, c.record.ensures.desks) (
+      consistent_more g.T.Tag.ops (queue.state_of c.self.inside.queue.0) (queue.state_of c.ask.new.queue) _ e c.record.ensures.small has_desk c.self.invariant.0 c.in_ok-reply.ensures.0,
+      c.self.invariant.1 ∙ sym c.record.ensures.names,
     )
+
+pub returns-clause-ran : goal.returns-clause-ran
+returns-clause-ran g c =
+    let e = event_of c.args.pass.now.worker.0 c.args.command c.in_ok-reply.reply in
+    let events : c.record.new.history.events ≡ c.self.inside.history.events ++ e ∷ [] = c.record.ensures.events ∙ ap (λ es. es ++ e ∷ []) c.in_ok-reserve_one.ensures.events in
+    let most : c.record.new.history.most ≡ c.self.inside.history.most = c.record.ensures.most ∙ c.in_ok-reserve_one.ensures.most in
+    let b : BookState g.row.T.Denot = state_of c.self.inside.config c.self.inside.server.0 c.self.inside.history (map worker_side c.self.inside.workers.items) (map client_side c.self.inside.desks.items) c.self.inside.closed in
+    let new : BookState g.row.T.Denot = state_of c.self.inside.config c.self.inside.server.0 c.record.new.history (map worker_side c.record.new.workers.items) (map client_side c.record.new.desks.items) c.self.inside.closed in
+    let ran : Ran g.T.Tag.ops b new (pass_state c.args.pass.now) (pass_state c.record.new.pass) c.args.command c.in_ok-reply.reply = record {
+      reply_is = reply_after g.T.Tag.ops (queue.state_of c.self.inside.queue.0) (queue.state_of c.ask.new.queue) b c.args.command c.in_ok-reply.reply c.self.invariant.0 c.in_ok-reply.ensures.0;
+      book = rw (events, most, c.record.ensures.workers, c.record.ensures.desks) refl;
+      pass = c.record.ensures.pass;
+    } in
+    subst (λ (a : BookState g.row.T.Denot). Ran g.T.Tag.ops a new (pass_state c.args.pass.now) (pass_state c.record.new.pass) c.args.command c.in_ok-reply.reply) c.self.view_is ran

@@ -85,3 +85,23 @@ returns-in-Refused-clause-refused g c =
     let command_is = ap (λ (k : ClientId). Add k c.args.token c.params-params.result c.args.at) client_is ∙ ap (λ (p : Params). Add (record { 0 = c.args.stamp.client }) c.args.token p c.args.at) c.params-params.ensures in
     subst (λ (d : Command). Ran g.T.Tag.ops c.args.self.now new (pass_state c.args.pass.now) later d (Refused c.in-Refused.refusal)) command_is
     (subst (λ (a : BookState g.row.T.Denot). Ran g.T.Tag.ops a new (pass_state c.args.pass.now) later command (Refused c.in-Refused.refusal)) c.self.view_is ran)
+
+pub returns-in-Tagged-clause-accepted : goal.returns-in-Tagged-clause-accepted
+returns-in-Tagged-clause-accepted g c =
+    let command = Add c.client-client.result c.args.token c.params-params.result c.args.at in
+    let e = event_of c.args.pass.now.worker.0 command (Tagged c.in-Tagged.tags) in
+    let asked = subst (λ a. Steps g.T.Tag.ops (queue.state_of c.self.inside.queue.0) (queue.state_of c.ask_to_add.new.queue) command (added_reply a)) c.in-Tagged.is c.ask_to_add.ensures in
+    let events : c.push_queued.new.self.events ≡ c.self.inside.history.events ++ e ∷ [] = c.push_queued.ensures.events ∙ ap (λ es. es ++ e ∷ []) c.reserve_one.ensures.events in
+    let most : c.push_queued.new.self.most ≡ c.self.inside.history.most = c.push_queued.ensures.most ∙ c.reserve_one.ensures.most in
+    let b : BookState g.row.T.Denot = state_of c.self.inside.config c.self.inside.server.0 c.self.inside.history (map worker_side c.self.inside.workers.items) (map client_side c.self.inside.desks.items) c.self.inside.closed in
+    let new : BookState g.row.T.Denot = state_of c.self.inside.config c.self.inside.server.0 c.push_queued.new.self (map worker_side c.count.new.workers.items) (map client_side c.take_in.new.desks.items) c.self.inside.closed in
+    let later : PassState = record (pass_state c.args.pass.now) { tills = worker_holdings c.count.new.tills } in
+    let ran : Ran g.T.Tag.ops b new (pass_state c.args.pass.now) later command (Tagged c.in-Tagged.tags) = record {
+      reply_is = reply_after g.T.Tag.ops (queue.state_of c.self.inside.queue.0) (queue.state_of c.ask_to_add.new.queue) b command (Tagged c.in-Tagged.tags) c.self.invariant.0 asked;
+      book = rw (events, most, c.count.ensures.workers, c.take_in.ensures.desks) refl;
+      pass = rw (c.count.ensures.tills) refl;
+    } in
+    let client_is = ap (λ (n : ℕ). let k : ClientId = record { 0 = n } in k) c.client-client.ensures in
+    let command_is = ap (λ (k : ClientId). Add k c.args.token c.params-params.result c.args.at) client_is ∙ ap (λ (p : Params). Add (record { 0 = c.args.stamp.client }) c.args.token p c.args.at) c.params-params.ensures in
+    subst (λ (d : Command). Ran g.T.Tag.ops c.args.self.now new (pass_state c.args.pass.now) later d (Tagged c.in-Tagged.tags)) command_is
+    (subst (λ (a : BookState g.row.T.Denot). Ran g.T.Tag.ops a new (pass_state c.args.pass.now) later command (Tagged c.in-Tagged.tags)) c.self.view_is ran)

@@ -1,4 +1,5 @@
-use Rattle.dmc_qlock.proofs.Answering.{refused_answered}
+use Rattle.dmc_tag.specs.declared.reply.Reply.TheVariants.{Tagged}
+use Rattle.dmc_qlock.proofs.Answering.{ok_answered, refused_answered}
 use Rattle.dmc_qlock.proofs.lock.Locked+QueueBook+T+I+S.submit.Goals as goal
 
 pub returns-else-wakes-clause-refused : goal.returns-else-wakes-clause-refused
@@ -6,3 +7,9 @@ returns-else-wakes-clause-refused g c = refused_answered g.T.Tag.ops _ _ _ _ _ c
 
 pub returns-then-wakes-clause-refused : goal.returns-then-wakes-clause-refused
 returns-then-wakes-clause-refused g c = refused_answered g.T.Tag.ops _ _ _ _ _ c.submit-answer.result c.submit-answer.ensures.refused
+
+pub returns-else-wakes-clause-accepted : goal.returns-else-wakes-clause-accepted
+returns-else-wakes-clause-accepted g c = ok_answered g.T.Tag.ops _ _ _ _ _ Tagged c.submit-answer.result c.submit-answer.ensures.accepted
+
+pub returns-then-wakes-clause-accepted : goal.returns-then-wakes-clause-accepted
+returns-then-wakes-clause-accepted g c = ok_answered g.T.Tag.ops _ _ _ _ _ Tagged c.submit-answer.result c.submit-answer.ensures.accepted

@@ -7,7 +7,7 @@ use dmc_front::fraction::TagFraction;
 use dmc_tag::reply::Reply;
 use dmc_tracker::tracker::{MakeFault, TrackFault};
 use dmc_types::refusal::{Field, Refusal, ValueFault};
-use std::alloc::AllocError;
+use std::alloc::{AllocError, AllocFailed};
 
 /// Why a call from C was not made. What the rules refuse is a reply.
 #[derive(Clone, Copy, Debug, PartialEq, Eq)]
@@ -48,6 +48,14 @@ impl From<AllocError> for Fault {
     ghost from_gives = { λ _ fault. fault ≡ Memory };
 
     fn from(_error: AllocError) -> Fault {
+        Fault::Memory
+    }
+}
+
+impl<X: Drop> From<AllocFailed<X>> for Fault {
+    ghost from_gives = { λ _ fault. fault ≡ Memory };
+
+    fn from(_refused: AllocFailed<X>) -> Fault {
         Fault::Memory
     }
 }

@@ -111,9 +111,7 @@ pub fn fill(handle: &mut Handle, kept: Kept, alloc: Global) -> Result<(), Fault>
     ensures err { OnErr result (handle.new.value ≡ handle.old.value) }
     ensures memory { IsOkUnless result faults.Memory }
 {
-    let Ok(held) = Box::new(alloc, kept) else {
-        return Err(Fault::Memory);
-    };
+    let held = Box::new(alloc, kept)?;
     put(handle, held, alloc);
     Ok(())
 }

@@ -48,15 +48,15 @@ fn two_clients(alloc: Global) -> Result<Core, Fail> {
     )
 }
 
-// ---- events and answers
+// Lets a cluster go.
+fn let_go(core: Core) {
+    drop(core);
+}
 
-// The answer to an event. One that wanted memory has changed nothing, so it is tried once more.
-fn answer(core: &mut Core, event: &CoreEvent) -> Answer {
-    let answer = core.step(*event);
-    if answer == Err(CoreFault::Memory) {
-        return core.step(*event);
-    }
-    answer
+// ---- events
+
+fn moment(ticks: u32) -> Moment {
+    Moment::new(u64::from(ticks)).unwrap()
 }
 
 fn stamp(client: ClientId, server: ServerId, token: u32) -> CoreEvent {
@@ -67,14 +67,19 @@ fn stamp(client: ClientId, server: ServerId, token: u32) -> CoreEvent {
     }
 }
 
-fn arrive(client: ClientId, server: ServerId, ticks: u64) -> Result<CoreEvent, Fail> {
-    let at = Moment::new(ticks)?;
-    Ok(CoreEvent::Arrive { client, server, at })
+fn arrive(client: ClientId, server: ServerId, ticks: u32) -> CoreEvent {
+    CoreEvent::Arrive {
+        client,
+        server,
+        at: moment(ticks),
+    }
 }
 
-fn pull(server: ServerId, ticks: u64) -> Result<CoreEvent, Fail> {
-    let at = Moment::new(ticks)?;
-    Ok(CoreEvent::Pull { server, at })
+fn pull(server: ServerId, ticks: u32) -> CoreEvent {
+    CoreEvent::Pull {
+        server,
+        at: moment(ticks),
+    }
 }
 
 fn respond(client: ClientId, server: ServerId, phase: PhaseType) -> CoreEvent {
@@ -85,114 +90,182 @@ fn respond(client: ClientId, server: ServerId, phase: PhaseType) -> CoreEvent {
     }
 }
 
-fn stamped(delta: u32, rho: u32) -> Result<Answer, Fail> {
-    Ok(Ok(CoreReply::Stamped(ReqParams::new(delta, rho)?)))
-}
-
-fn tagged(r: Option<u64>, l: u64, p: u64) -> Result<Answer, Fail> {
-    let r = match r {
-        None => None,
-        Some(ticks) => Some(TickTag::of_moment(Moment::new(ticks)?)),
-    };
-    let l = TickTag::of_moment(Moment::new(l)?);
-    let p = TickTag::of_moment(Moment::new(p)?);
-    Ok(Ok(CoreReply::Served(Reply::Tagged(Tags { r, l, p }))))
-}
-
-fn granted(client: ClientId, token: u32, phase: PhaseType, beyond: bool) -> Answer {
-    Ok(CoreReply::Served(Reply::Granted {
+fn update(server: ServerId, client: ClientId, info: ClientInfo) -> CoreEvent {
+    CoreEvent::Update {
+        server,
         client,
+        info,
+        at: Moment::zero(),
+    }
+}
+
+fn remove(server: ServerId, client: ClientId) -> CoreEvent {
+    CoreEvent::Remove { server, client }
+}
+
+fn clean(server: ServerId, ticks: u32) -> CoreEvent {
+    CoreEvent::Clean {
+        server,
+        at: moment(ticks),
+    }
+}
+
+// ---- events with their answers
+
+// The answer to an event. One that wanted memory has changed nothing, so it is tried once more.
+fn answer(core: &mut Core, event: &CoreEvent) -> Answer {
+    let answer = core.step(*event);
+    if answer == Err(CoreFault::Memory) {
+        return core.step(*event);
+    }
+    answer
+}
+
+// An event has this answer.
+fn answers(rt: &impl Abort, core: &mut Core, event: CoreEvent, expected: Answer) {
+    assert_eq!(rt; answer(core, &event), expected);
+}
+
+// A server's queue has this reply to an event.
+fn replies(rt: &impl Abort, core: &mut Core, event: CoreEvent, reply: Reply<TickTag>) {
+    answers(rt, core, event, Ok(CoreReply::Served(reply)));
+}
+
+// A server's queue does not know the client.
+fn refuses_unknown(rt: &impl Abort, core: &mut Core, event: CoreEvent) {
+    replies(rt, core, event, Reply::Refused(Refusal::Unknown));
+}
+
+// An event is refused.
+fn refuses(rt: &impl Abort, core: &mut Core, event: CoreEvent, fault: CoreFault) {
+    answers(rt, core, event, Err(fault));
+}
+
+// A client stamps a request to a server with these counts: delta and rho.
+fn stamps(
+    rt: &impl Abort,
+    core: &mut Core,
+    client: ClientId,
+    server: ServerId,
+    token: u32,
+    counts: (u32, u32),
+) {
+    let params = ReqParams::new(counts.0, counts.1).expect(rt, "rho is at most delta");
+    let stamped = CoreReply::Stamped(params);
+    answers(rt, core, stamp(client, server, token), Ok(stamped));
+}
+
+fn tick(ticks: u32) -> TickTag {
+    TickTag::of_moment(moment(ticks))
+}
+
+// A request of client 1 arrives at server 0, and has these tags: reservation, limit and weight.
+fn arrives(rt: &impl Abort, core: &mut Core, ticks: u32, tags: (Option<u32>, u32, u32)) {
+    let tags = Tags {
+        r: tags.0.map(tick),
+        l: tick(tags.1),
+        p: tick(tags.2),
+    };
+    replies(rt, core, arrive(ONE, ZERO, ticks), Reply::Tagged(tags));
+}
+
+fn granted(token: u32, phase: PhaseType, beyond: bool) -> Reply<TickTag> {
+    Reply::Granted {
+        client: ONE,
         token: Token(token),
         phase,
         beyond,
-    }))
-}
-
-fn refused(refusal: Refusal) -> Answer {
-    Ok(CoreReply::Served(Reply::Refused(refusal)))
-}
-
-// Each event has its answer.
-fn run(rt: &impl Abort, core: &mut Core, events: &[(CoreEvent, Answer)]) {
-    for (event, expected) in events {
-        assert_eq!(rt; answer(core, event), *expected);
     }
+}
+
+// Server 0 grants a request of client 1, within its limit.
+fn grants(rt: &impl Abort, core: &mut Core, ticks: u32, token: u32, phase: PhaseType) {
+    replies(rt, core, pull(ZERO, ticks), granted(token, phase, false));
+}
+
+// Client 1 hears of a grant of server 0.
+fn responds(rt: &impl Abort, core: &mut Core, phase: PhaseType) {
+    answers(rt, core, respond(ONE, ZERO, phase), Ok(CoreReply::Counted));
 }
 
 // ---- the worked examples
 
+// The plan half of the example.
+fn plans_zero(rt: &impl Abort, alloc: Global) -> Result<(), Fail> {
+    let servers = plan(alloc, 1, ONE, 1, 3)?;
+    assert_eq!(rt; servers.as_slice(), [ZERO; 3].as_slice());
+    Ok(())
+}
+
 #[test]
 fn plan_and_core(rt: HostRuntime) -> Result<(), Fail> {
-    let servers = plan(rt.alloc(), 1, ONE, 1, 3)?;
-    assert_eq!(rt; servers.as_slice(), [ZERO; 3].as_slice());
+    plans_zero(&rt, rt.alloc())?;
     let mut core = two_clients(rt.alloc())?;
     let phase = PhaseType::Reservation;
-    let events = [
-        (stamp(ONE, ZERO, 0), stamped(0, 0)?),
-        (arrive(ONE, ZERO, 0)?, tagged(Some(0), 0, 0)?),
-        (pull(ZERO, 0)?, granted(ONE, 0, phase, false)),
-        (respond(ONE, ZERO, phase), Ok(CoreReply::Counted)),
-        (arrive(ONE, ZERO, 0)?, Err(CoreFault::NoFlight)),
-        (respond(ONE, ZERO, phase), Err(CoreFault::NoGrant)),
-    ];
-    run(&rt, &mut core, &events);
+    stamps(&rt, &mut core, ONE, ZERO, 0, (0, 0));
+    arrives(&rt, &mut core, 0, (Some(0), 0, 0));
+    grants(&rt, &mut core, 0, 0, phase);
+    responds(&rt, &mut core, phase);
+    refuses(&rt, &mut core, arrive(ONE, ZERO, 0), CoreFault::NoFlight);
+    refuses(
+        &rt,
+        &mut core,
+        respond(ONE, ZERO, phase),
+        CoreFault::NoGrant,
+    );
+    let_go(core);
     Ok(())
 }
 
 // A request of client 1, with a limit of 20, is granted at 0 and its response counted; the next one arrives at 0.
-fn limited(rt: &impl Abort, core: &mut Core) -> Result<(), Fail> {
+fn limited(rt: &impl Abort, core: &mut Core) {
     let phase = PhaseType::Priority;
-    let events = [
-        (stamp(ONE, ZERO, 1), stamped(0, 0)?),
-        (arrive(ONE, ZERO, 0)?, tagged(None, 0, 0)?),
-        (pull(ZERO, 0)?, granted(ONE, 1, phase, false)),
-        (respond(ONE, ZERO, phase), Ok(CoreReply::Counted)),
-        (stamp(ONE, ZERO, 2), stamped(1, 0)?),
-        (arrive(ONE, ZERO, 0)?, tagged(None, 50, 1000)?),
-    ];
-    run(rt, core, &events);
+    stamps(rt, core, ONE, ZERO, 1, (0, 0));
+    arrives(rt, core, 0, (None, 0, 0));
+    grants(rt, core, 0, 1, phase);
+    responds(rt, core, phase);
+    stamps(rt, core, ONE, ZERO, 2, (1, 0));
+    arrives(rt, core, 0, (None, 50, 1000));
+}
+
+// At its limit a request waits.
+fn waits_at_limit(rt: &impl Abort, alloc: Global) -> Result<(), Fail> {
+    let mut core = open(alloc, "servers = 1", "limit = 20")?;
+    limited(rt, &mut core);
+    replies(rt, &mut core, pull(ZERO, 0), Reply::Later(50));
+    grants(rt, &mut core, 50, 2, PhaseType::Priority);
+    let_go(core);
+    Ok(())
+}
+
+// A request is granted past its limit.
+fn allowed_past_limit(rt: &impl Abort, alloc: Global) -> Result<(), Fail> {
+    let mut core = open(alloc, "servers = 1\nat_limit = \"allow\"", "limit = 20")?;
+    limited(rt, &mut core);
+    let beyond = granted(2, PhaseType::Priority, true);
+    replies(rt, &mut core, pull(ZERO, 0), beyond);
+    let_go(core);
     Ok(())
 }
 
 #[test]
 fn limit_bound(rt: HostRuntime) -> Result<(), Fail> {
-    let phase = PhaseType::Priority;
-    let mut core = open(rt.alloc(), "servers = 1", "limit = 20")?;
-    limited(&rt, &mut core)?;
-    let later = Ok(CoreReply::Served(Reply::Later(50)));
-    let events = [
-        (pull(ZERO, 0)?, later),
-        (pull(ZERO, 50)?, granted(ONE, 2, phase, false)),
-    ];
-    run(&rt, &mut core, &events);
-    let mut core = open(
-        rt.alloc(),
-        "servers = 1\nat_limit = \"allow\"",
-        "limit = 20",
-    )?;
-    limited(&rt, &mut core)?;
-    run(
-        &rt,
-        &mut core,
-        &[(pull(ZERO, 0)?, granted(ONE, 2, phase, true))],
-    );
-    Ok(())
+    waits_at_limit(&rt, rt.alloc())?;
+    allowed_past_limit(&rt, rt.alloc())
 }
 
 #[test]
 fn reservation_bound(rt: HostRuntime) -> Result<(), Fail> {
     let mut core = open(rt.alloc(), "servers = 1", "reservation = 10")?;
     let phase = PhaseType::Reservation;
-    let events = [
-        (stamp(ONE, ZERO, 1), stamped(0, 0)?),
-        (arrive(ONE, ZERO, 0)?, tagged(Some(0), 0, 0)?),
-        (pull(ZERO, 0)?, granted(ONE, 1, phase, false)),
-        (respond(ONE, ZERO, phase), Ok(CoreReply::Counted)),
-        (stamp(ONE, ZERO, 2), stamped(1, 1)?),
-        (arrive(ONE, ZERO, 0)?, tagged(Some(100), 0, 1000)?),
-        (pull(ZERO, 100)?, granted(ONE, 2, phase, false)),
-    ];
-    run(&rt, &mut core, &events);
+    stamps(&rt, &mut core, ONE, ZERO, 1, (0, 0));
+    arrives(&rt, &mut core, 0, (Some(0), 0, 0));
+    grants(&rt, &mut core, 0, 1, phase);
+    responds(&rt, &mut core, phase);
+    stamps(&rt, &mut core, ONE, ZERO, 2, (1, 1));
+    arrives(&rt, &mut core, 0, (Some(100), 0, 1000));
+    grants(&rt, &mut core, 100, 2, phase);
+    let_go(core);
     Ok(())
 }
 
@@ -201,124 +274,93 @@ fn reservation_bound(rt: HostRuntime) -> Result<(), Fail> {
 // A stamp counts itself and the completions at the other server. Each tracker is its client's own.
 #[test]
 fn other_servers(rt: HostRuntime) -> Result<(), Fail> {
-    let two = ClientId(2);
-    let other = ServerId(1);
+    let (two, other) = (ClientId(2), ServerId(1));
     let mut core = open(
         rt.alloc(),
         "servers = 2\ncounting = \"others\"",
         "reservation = 10\n[[client]]\nid = 2\nweight = 2\nrequests = 2\nwindow = 1",
     )?;
     let phase = PhaseType::Reservation;
-    let events = [
-        (stamp(ONE, ZERO, 1), stamped(1, 1)?),
-        (arrive(ONE, ZERO, 100)?, tagged(Some(100), 100, 1000)?),
-        (pull(ZERO, 100)?, granted(ONE, 1, phase, false)),
-        (respond(ONE, ZERO, phase), Ok(CoreReply::Counted)),
-        (stamp(ONE, other, 2), stamped(2, 2)?),
-        (stamp(ONE, ZERO, 3), stamped(1, 1)?),
-        (stamp(two, other, 4), stamped(1, 1)?),
-    ];
-    run(&rt, &mut core, &events);
+    stamps(&rt, &mut core, ONE, ZERO, 1, (1, 1));
+    arrives(&rt, &mut core, 100, (Some(100), 100, 1000));
+    grants(&rt, &mut core, 100, 1, phase);
+    responds(&rt, &mut core, phase);
+    stamps(&rt, &mut core, ONE, other, 2, (2, 2));
+    stamps(&rt, &mut core, ONE, ZERO, 3, (1, 1));
+    stamps(&rt, &mut core, two, other, 4, (1, 1));
+    let_go(core);
     Ok(())
+}
+
+// Three messages of a pair: two arrive, and are granted in the order of their stamps.
+fn two_of_three(rt: &impl Abort, core: &mut Core) {
+    for token in [7, 8, 9] {
+        stamps(rt, core, ONE, ZERO, token, (0, 0));
+    }
+    arrives(rt, core, 0, (None, 0, 0));
+    arrives(rt, core, 0, (None, 0, 0));
+    grants(rt, core, 0, 7, PhaseType::Priority);
+    grants(rt, core, 0, 8, PhaseType::Priority);
+    replies(rt, core, pull(ZERO, 0), Reply::Nothing);
 }
 
 // The messages of a pair arrive in the order of their stamps. A message that the queue refuses stays in flight.
 #[test]
 fn messages_in_order(rt: HostRuntime) -> Result<(), Fail> {
     let mut core = open(rt.alloc(), "servers = 1\nidle_age = 5\nerase_age = 10", "")?;
-    let phase = PhaseType::Priority;
-    let at = Moment::new(10)?;
-    let clean = CoreEvent::Clean { server: ZERO, at };
+    two_of_three(&rt, &mut core);
     let cleaned = Reply::Cleaned {
         idled: 0,
         erased: 1,
     };
-    let unknown = refused(Refusal::Unknown);
-    let events = [
-        (stamp(ONE, ZERO, 7), stamped(0, 0)?),
-        (stamp(ONE, ZERO, 8), stamped(0, 0)?),
-        (stamp(ONE, ZERO, 9), stamped(0, 0)?),
-        (arrive(ONE, ZERO, 0)?, tagged(None, 0, 0)?),
-        (arrive(ONE, ZERO, 0)?, tagged(None, 0, 0)?),
-        (pull(ZERO, 0)?, granted(ONE, 7, phase, false)),
-        (pull(ZERO, 0)?, granted(ONE, 8, phase, false)),
-        (pull(ZERO, 0)?, Ok(CoreReply::Served(Reply::Nothing))),
-        (clean, Ok(CoreReply::Served(cleaned))),
-        (arrive(ONE, ZERO, 10)?, unknown),
-        (arrive(ONE, ZERO, 10)?, unknown),
-    ];
-    run(&rt, &mut core, &events);
+    replies(&rt, &mut core, clean(ZERO, 10), cleaned);
+    refuses_unknown(&rt, &mut core, arrive(ONE, ZERO, 10));
+    refuses_unknown(&rt, &mut core, arrive(ONE, ZERO, 10));
+    let_go(core);
     Ok(())
-}
-
-fn update(client: ClientId, info: ClientInfo) -> CoreEvent {
-    CoreEvent::Update {
-        server: ZERO,
-        client,
-        info,
-        at: Moment::zero(),
-    }
-}
-
-fn remove(client: ClientId) -> CoreEvent {
-    CoreEvent::Remove {
-        server: ZERO,
-        client,
-    }
 }
 
 // An update and a removal are the queue's, and so is their refusal.
 #[test]
 fn commands_to_a_queue(rt: HostRuntime) -> Result<(), Fail> {
-    let mut core = two_clients(rt.alloc())?;
-    let unknown = refused(Refusal::Unknown);
     let fast = ClientInfo::new(Some(20), 1, None)?;
-    let events = [
-        (update(ONE, fast), Ok(CoreReply::Served(Reply::Updated))),
-        (stamp(ONE, ZERO, 1), stamped(0, 0)?),
-        (arrive(ONE, ZERO, 0)?, tagged(Some(0), 0, 0)?),
-        (remove(ONE), Ok(CoreReply::Served(Reply::Removed(1)))),
-        (remove(ClientId(3)), unknown),
-        (update(ClientId(3), fast), unknown),
-    ];
-    run(&rt, &mut core, &events);
+    let three = ClientId(3);
+    let mut core = two_clients(rt.alloc())?;
+    replies(&rt, &mut core, update(ZERO, ONE, fast), Reply::Updated);
+    stamps(&rt, &mut core, ONE, ZERO, 1, (0, 0));
+    arrives(&rt, &mut core, 0, (Some(0), 0, 0));
+    replies(&rt, &mut core, remove(ZERO, ONE), Reply::Removed(1));
+    refuses_unknown(&rt, &mut core, remove(ZERO, three));
+    refuses_unknown(&rt, &mut core, update(ZERO, three, fast));
+    let_go(core);
     Ok(())
 }
 
 // The first cause is told.
 #[test]
 fn unknown_names(rt: HostRuntime) -> Result<(), Fail> {
-    let mut core = two_clients(rt.alloc())?;
     let (three, past) = (ClientId(3), ServerId(1));
     let phase = PhaseType::Priority;
-    let events = [
-        (stamp(three, past, 1), Err(CoreFault::NoClient)),
-        (arrive(three, past, 0)?, Err(CoreFault::NoClient)),
-        (respond(three, past, phase), Err(CoreFault::NoClient)),
-    ];
-    run(&rt, &mut core, &events);
-    let at = Moment::zero();
     let info = ClientInfo::new(None, 1, None)?;
-    let update = CoreEvent::Update {
-        server: past,
-        client: three,
-        info,
-        at,
-    };
-    let remove = CoreEvent::Remove {
-        server: past,
-        client: three,
-    };
-    let clean = CoreEvent::Clean { server: past, at };
-    let events = [
-        (stamp(ONE, past, 1), Err(CoreFault::NoServer)),
-        (arrive(ONE, past, 0)?, Err(CoreFault::NoServer)),
-        (respond(ONE, past, phase), Err(CoreFault::NoServer)),
-        (pull(past, 0)?, Err(CoreFault::NoServer)),
-        (update, Err(CoreFault::NoServer)),
-        (remove, Err(CoreFault::NoServer)),
-        (clean, Err(CoreFault::NoServer)),
-    ];
-    run(&rt, &mut core, &events);
+    let mut core = two_clients(rt.alloc())?;
+    for event in [
+        stamp(three, past, 1),
+        arrive(three, past, 0),
+        respond(three, past, phase),
+    ] {
+        refuses(&rt, &mut core, event, CoreFault::NoClient);
+    }
+    for event in [
+        stamp(ONE, past, 1),
+        arrive(ONE, past, 0),
+        respond(ONE, past, phase),
+        pull(past, 0),
+        update(past, three, info),
+        remove(past, three),
+        clean(past, 0),
+    ] {
+        refuses(&rt, &mut core, event, CoreFault::NoServer);
+    }
+    let_go(core);
     Ok(())
 }

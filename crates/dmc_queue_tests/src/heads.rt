@@ -50,54 +50,100 @@ fn two_heads<I: Indexes<TickTag>>(alloc: Global) -> Result<Heads<TickTag, I>, Fa
     Ok(heads)
 }
 
+fn moment(ticks: u32) -> Moment {
+    Moment::new(u64::from(ticks)).unwrap()
+}
+
+/// The least P is of so many ticks.
+fn assert_least_share<I: Indexes<TickTag>>(
+    rt: &impl Abort,
+    heads: &mut Heads<TickTag, I>,
+    ticks: i128,
+)
+    ensures { heads.new ≡ heads.old }
+{
+    match heads.least_share() {
+        Some(least) => assert_eq!(rt; least.ticks(), ticks),
+        None => panic!(rt; "two heads are held"),
+    }
+}
+
 // The least P is known, lost and found as heads change and leave.
-fn changes_of<I: Indexes<TickTag>>(rt: &impl Abort, alloc: Global) -> Result<(), Fail> {
-    let mut heads: Heads<TickTag, I> = two_heads(alloc)?;
+fn changes_of<I: Indexes<TickTag>>(
+    rt: &impl Abort,
+    heads: &mut Heads<TickTag, I>,
+) -> Result<(), Fail>
+    requires { heads.old ≡ examples.two_heads }
+{
     let next = head_of(1, 50, 25, 90)?;
     let amount = tick(5)?;
-    assert_eq!(rt; heads.least_share(), Some(tick(70)?));
+    assert_least_share(rt, heads, 70);
     heads.change(3, next);
-    assert_eq!(rt; heads.least_share(), Some(tick(80)?));
+    assert_least_share(rt, heads, 80);
     heads.shift(amount);
-    assert_eq!(rt; heads.least_share(), Some(tick(75)?));
+    assert_least_share(rt, heads, 75);
     heads.remove(0);
-    assert_eq!(rt; heads.least_share(), Some(tick(85)?));
+    assert_least_share(rt, heads, 85);
     assert_eq!(rt; heads.len(), 1);
     Ok(())
 }
 
-// Marks are set and set back by the moment.
-fn marks_of<I: Indexes<TickTag>>(rt: &impl Abort, alloc: Global) -> Result<(), Fail> {
+fn changes_over<I: Indexes<TickTag>>(rt: &impl Abort, alloc: Global) -> Result<(), Fail> {
     let mut heads: Heads<TickTag, I> = two_heads(alloc)?;
-    let (key, rank) = heads
-        .least_by_reservation()
-        .expect(rt, "two heads are held");
-    assert_eq!(rt; key, 0);
-    assert_eq!(rt; rank.tag, Some(tick(30)?));
-    heads.promote(Moment::new(15)?);
-    let (key, rank) = heads.least_by_weight().expect(rt, "two heads are held");
-    assert_eq!(rt; key, 3);
-    assert!(rt; rank.ready);
-    let (key, rank) = heads.least_by_limit().expect(rt, "two heads are held");
-    assert_eq!(rt; key, 0);
-    assert!(rt; !rank.ready);
-    heads.promote(Moment::new(20)?);
-    heads.set_back(Moment::new(19)?);
-    let rank = heads.by_limit().get(0).expect(rt, "a head");
-    assert!(rt; !rank.ready);
-    let rank = heads.by_weight().get(3).expect(rt, "a head");
-    assert!(rt; rank.ready);
+    changes_of(rt, &mut heads)
+}
+
+/// The key of the least R, and that R in ticks.
+fn first_by_reservation<I: Indexes<TickTag>>(heads: &Heads<TickTag, I>) -> Option<(usize, i128)> {
+    let (key, rank) = heads.least_by_reservation()?;
+    Some((key, rank.tag?.ticks()))
+}
+
+/// The key of the least P, what is ready first, and whether it is ready.
+fn first_by_weight<I: Indexes<TickTag>>(heads: &Heads<TickTag, I>) -> Option<(usize, bool)> {
+    let (key, rank) = heads.least_by_weight()?;
+    Some((key, rank.ready))
+}
+
+/// The key of the least L, what is unready first, and whether it is ready.
+fn first_by_limit<I: Indexes<TickTag>>(heads: &Heads<TickTag, I>) -> Option<(usize, bool)> {
+    let (key, rank) = heads.least_by_limit()?;
+    Some((key, rank.ready))
+}
+
+/// The ready marks of a key, in the order of L and in that of P.
+fn marks_at<I: Indexes<TickTag>>(heads: &Heads<TickTag, I>, key: usize) -> Option<(bool, bool)> {
+    let limit = heads.by_limit().get(key)?;
+    let weight = heads.by_weight().get(key)?;
+    Some((limit.ready, weight.ready))
+}
+
+// Marks are set and set back by the moment.
+fn marks_of<I: Indexes<TickTag>>(rt: &impl Abort, heads: &mut Heads<TickTag, I>) {
+    assert_eq!(rt; first_by_reservation(heads), Some((0, 30)));
+    heads.promote(moment(15));
+    let first = [first_by_weight(heads), first_by_limit(heads)];
+    assert_eq!(rt; first, [Some((3, true)), Some((0, false))]);
+    heads.promote(moment(20));
+    heads.set_back(moment(19));
+    let marks = [marks_at(heads, 0), marks_at(heads, 3)];
+    assert_eq!(rt; marks, [Some((false, false)), Some((true, true))]);
+}
+
+fn marks_over<I: Indexes<TickTag>>(rt: &impl Abort, alloc: Global) -> Result<(), Fail> {
+    let mut heads: Heads<TickTag, I> = two_heads(alloc)?;
+    marks_of(rt, &mut heads);
     Ok(())
 }
 
 #[test]
 fn least_share_of_heads(rt: HostRuntime) -> Result<(), Fail> {
-    changes_of::<ListIndexes>(&rt, rt.alloc())?;
-    changes_of::<HeapIndexes>(&rt, rt.alloc())
+    changes_over::<ListIndexes>(&rt, rt.alloc())?;
+    changes_over::<HeapIndexes>(&rt, rt.alloc())
 }
 
 #[test]
 fn ready_marks(rt: HostRuntime) -> Result<(), Fail> {
-    marks_of::<ListIndexes>(&rt, rt.alloc())?;
-    marks_of::<HeapIndexes>(&rt, rt.alloc())
+    marks_over::<ListIndexes>(&rt, rt.alloc())?;
+    marks_over::<HeapIndexes>(&rt, rt.alloc())
 }

@@ -1,4 +1,6 @@
 //! The worked examples of an index, over the sorted vector and the heap.
+ghost use Rattle.std.specs.Prelude.{◌≡◌, [], Some};
+
 use dmc_heap::indexed_heap::IndexedHeap;
 use dmc_index::index::OrderIndex;
 use dmc_index::list_index::ListIndex;
@@ -8,50 +10,46 @@ use std::alloc::Global;
 use std::process::Abort;
 use std::test::Fail;
 
-fn calls_of<I: OrderIndex<TagRank<u64>>>(rt: &impl Abort, alloc: Global) -> Result<(), Fail> {
-    let mut index = I::new(alloc);
+fn rank(tag: u64, client: u32) -> TagRank<u64>
+    ensures { result ≡ record { tag = Some tag; client = record { 0 = client } } }
+{
+    TagRank {
+        tag: Some(tag),
+        client: ClientId(client),
+    }
+}
+
+/// The least rank is that of a key, and has a tag.
+fn assert_first<I: OrderIndex<TagRank<u64>>>(rt: &impl Abort, index: &I, key: usize, tag: u64) {
+    let (least, rank) = index.least().expect(rt, "a key is held");
+    assert_eq!(rt; least, key);
+    assert_eq!(rt; rank.tag, Some(tag));
+}
+
+fn calls_of<I: OrderIndex<TagRank<u64>>>(rt: &impl Abort, index: &mut I) -> Result<(), Fail>
+    requires { I.OrderIndex.slots index.old ≡ [] }
+{
     index.reserve_keys(4)?;
-    index.insert(
-        3,
-        TagRank {
-            tag: Some(5),
-            client: ClientId(1),
-        },
-    );
-    index.insert(
-        0,
-        TagRank {
-            tag: Some(5),
-            client: ClientId(0),
-        },
-    );
-    let (key, _) = index.least().expect(rt, "two keys are held");
-    assert_eq!(rt; key, 0);
-    index.change(
-        0,
-        TagRank {
-            tag: Some(9),
-            client: ClientId(0),
-        },
-    );
-    let (key, _) = index.least().expect(rt, "two keys are held");
-    assert_eq!(rt; key, 3);
+    index.insert(3, rank(5, 1));
+    index.insert(0, rank(5, 0));
+    assert_first(rt, index, 0, 5);
+    index.change(0, rank(9, 0));
+    assert_first(rt, index, 3, 5);
     index.map_ranks(|rank| TagRank {
         tag: rank.tag.map(|tag| tag - 5),
         client: rank.client,
     });
-    let (key, least) = index.least().expect(rt, "two keys are held");
-    assert_eq!(rt; key, 3);
-    assert_eq!(rt; least.tag, Some(0));
-    let removed = index.remove(3);
-    assert_eq!(rt; removed.tag, Some(0));
-    assert_eq!(rt; removed.client, ClientId(1));
-    let (key, least) = index.least().expect(rt, "a key is held");
-    assert_eq!(rt; key, 0);
-    assert_eq!(rt; least.tag, Some(4));
+    assert_first(rt, index, 3, 0);
+    assert_eq!(rt; index.remove(3), rank(0, 1));
+    assert_first(rt, index, 0, 4);
     assert_eq!(rt; index.len(), 1);
-    assert_eq!(rt; index.get(3).is_none(), true);
+    assert!(rt; index.get(3).is_none());
     Ok(())
+}
+
+fn calls_over<I: OrderIndex<TagRank<u64>>>(rt: &impl Abort, alloc: Global) -> Result<(), Fail> {
+    let mut index = I::new(alloc);
+    calls_of(rt, &mut index)
 }
 
 fn order_of<I: OrderIndex<TagRank<u64>>>(rt: &impl Abort, alloc: Global) -> Result<(), Fail> {
@@ -80,8 +78,8 @@ fn order_of<I: OrderIndex<TagRank<u64>>>(rt: &impl Abort, alloc: Global) -> Resu
 
 #[test]
 fn index_calls(rt: HostRuntime) -> Result<(), Fail> {
-    calls_of::<ListIndex<TagRank<u64>>>(&rt, rt.alloc())?;
-    calls_of::<IndexedHeap<TagRank<u64>>>(&rt, rt.alloc())
+    calls_over::<ListIndex<TagRank<u64>>>(&rt, rt.alloc())?;
+    calls_over::<IndexedHeap<TagRank<u64>>>(&rt, rt.alloc())
 }
 
 #[test]

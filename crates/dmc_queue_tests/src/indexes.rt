@@ -8,7 +8,7 @@ ghost use Rattle.dmc_tag.specs.declared.rank.ReadyRank.{ReadyRank};
 ghost use Rattle.dmc_pull.specs.Queue.{state_of};
 ghost use Rattle.dmc_pull.specs.FirstRequests.{client_at};
 
-use crate::runs::config;
+use crate::runs::{config, let_go};
 use dmc_heap::indexed_heap::HeapIndexes;
 use dmc_index::index::{Indexes, OrderIndex};
 use dmc_index::list_index::ListIndexes;
@@ -52,27 +52,55 @@ fn first_clients<T: Tag, I: Indexes<T>>(queue: &PullQueue<T, I>) -> [Option<Clie
     ]
 }
 
+fn register<I: Indexes<TickTag>>(queue: &mut PullQueue<TickTag, I>, id: u32) -> Result<(), Fail> {
+    let info = ClientInfo::new(Some(10), 1, Some(20))?;
+    queue.register(ClientId(id), info, Moment::zero())?;
+    Ok(())
+}
+
+// Queues a request of client 6.
+fn add<I: Indexes<TickTag>>(queue: &mut PullQueue<TickTag, I>, token: u32) -> Result<(), Fail> {
+    let params = ReqParams::new(1, 1)?;
+    queue.add_request(ClientId(6), Token(token), params, Moment::zero())?;
+    Ok(())
+}
+
 // Client 5 and client 6, which has two requests queued.
-fn queue_of_two<I: Indexes<TickTag>>(alloc: Global) -> Result<PullQueue<TickTag, I>, Fail> {
-    let mut queue: PullQueue<TickTag, I> = PullQueue::new(alloc, config()?);
-    let zero = Moment::zero();
-    for client in [ClientId(5), ClientId(6)] {
-        queue.register(client, ClientInfo::new(Some(10), 1, Some(20))?, zero)?;
-    }
-    for token in [Token(7), Token(8)] {
-        queue.add_request(ClientId(6), token, ReqParams::new(1, 1)?, zero)?;
-    }
-    Ok(queue)
+fn fill<I: Indexes<TickTag>>(queue: &mut PullQueue<TickTag, I>) -> Result<(), Fail> {
+    register(queue, 5)?;
+    register(queue, 6)?;
+    add(queue, 7)?;
+    add(queue, 8)
+}
+
+// The client of each index's least rank; none where the indexes are empty.
+fn assert_first<I: Indexes<TickTag>>(
+    rt: &impl Abort,
+    queue: &PullQueue<TickTag, I>,
+    client: Option<ClientId>,
+) {
+    assert_eq!(rt; first_clients(queue), [client; 3]);
 }
 
 // A client has a key in each index from its first queued request to its last.
-fn indexed_clients_over<I: Indexes<TickTag>>(rt: &impl Abort, alloc: Global) -> Result<(), Fail> {
-    let mut queue = queue_of_two::<I>(alloc)?;
+fn indexed_clients_of<I: Indexes<TickTag>>(
+    rt: &impl Abort,
+    queue: &mut PullQueue<TickTag, I>,
+) -> Result<(), Fail> {
     assert_eq!(rt; queue.config(), config()?);
-    assert_eq!(rt; first_clients(&queue), [Some(ClientId(6)); 3]);
-    assert_eq!(rt; queue.remove_by_client(ClientId(6))?, 2);
-    assert_eq!(rt; first_clients(&queue), [None; 3]);
+    fill(queue)?;
+    assert_first(rt, queue, Some(ClientId(6)));
+    assert_eq!(rt; queue.remove_by_client(ClientId(6)), Ok(2));
+    assert_first(rt, queue, None);
     Ok(())
+}
+
+fn indexed_clients_over<I: Indexes<TickTag>>(rt: &impl Abort, alloc: Global) -> Result<(), Fail> {
+    let config = config()?;
+    let mut queue: PullQueue<TickTag, I> = PullQueue::new(alloc, config);
+    let indexed = indexed_clients_of(rt, &mut queue);
+    let_go(queue);
+    indexed
 }
 
 #[test]

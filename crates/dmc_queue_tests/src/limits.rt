@@ -28,48 +28,63 @@ fn register_all<S: Scheduler<TickTag>>(queue: &mut S, info: ClientInfo) -> Resul
     Ok(())
 }
 
-// Queues as many requests as there may be, all of one client: the tokens 0, 1, ..
-fn add_all<S: Scheduler<TickTag>>(
+// One client too many, through the bound of a scheduler.
+fn client_too_many<S: Scheduler<TickTag>>(rt: &impl Abort, queue: &mut S) -> Result<(), Fail> {
+    let info = ClientInfo::new(None, 1, None)?;
+    register_all(queue, info)?;
+    let refused = queue.register(ClientId(CLIENTS), info, Moment::zero());
+    assert_eq!(rt; refused, Err(QueueFault::Refused(Refusal::Clients)));
+    assert_eq!(rt; queue.client_count(), CLIENTS);
+    Ok(())
+}
+
+// Queues a request of client 1.
+fn add<S: Scheduler<TickTag>>(
     queue: &mut S,
-    client: ClientId,
+    token: u32,
     params: ReqParams,
 ) -> Result<(), QueueFault> {
+    queue.add_request(ClientId(1), Token(token), params, Moment::zero())?;
+    Ok(())
+}
+
+// Queues as many requests as there may be: the tokens 0, 1, ..
+fn add_all<S: Scheduler<TickTag>>(queue: &mut S, params: ReqParams) -> Result<(), QueueFault> {
     for token in 0..REQUESTS {
-        queue.add_request(client, Token(token), params, Moment::zero())?;
+        add(queue, token, params)?;
     }
     Ok(())
 }
 
-// One client and one request too many, through the bound of a scheduler.
-fn refused_at_limits<S: Scheduler<TickTag>>(rt: &impl Abort, queue: &mut S) -> Result<(), Fail> {
-    let zero = Moment::zero();
-    let info = ClientInfo::new(None, 1, None)?;
+// One request too many, which is accepted once another is granted.
+fn request_too_many<S: Scheduler<TickTag>>(rt: &impl Abort, queue: &mut S) -> Result<(), Fail> {
     let params = ReqParams::new(1, 0)?;
-    let client = ClientId(1);
-    register_all(queue, info)?;
-    let refused = queue.register(ClientId(CLIENTS), info, zero);
-    assert_eq!(rt; refused, Err(QueueFault::Refused(Refusal::Clients)));
-    assert_eq!(rt; queue.client_count(), CLIENTS);
-    add_all(queue, client, params)?;
-    let refused = queue.add_request(client, Token(REQUESTS), params, zero);
+    add_all(queue, params)?;
     assert_eq!(rt;
-        refused.err(),
-        Some(QueueFault::Refused(Refusal::QueueFull))
+        add(queue, REQUESTS, params),
+        Err(QueueFault::Refused(Refusal::QueueFull))
     );
     let first = Pulled::Returning {
-        client,
+        client: ClientId(1),
         token: Token(0),
         phase: PhaseType::Priority,
         beyond: false,
     };
-    assert_eq!(rt; queue.pull_request(zero)?, first);
-    queue.add_request(client, Token(REQUESTS), params, zero)?;
+    assert_eq!(rt; queue.pull_request(Moment::zero()), Ok(first));
+    add(queue, REQUESTS, params)?;
     assert_eq!(rt; queue.request_count(), REQUESTS);
     Ok(())
 }
 
+// One client and one request too many.
+fn refused_at_limits<S: Scheduler<TickTag>>(rt: &impl Abort, queue: &mut S) -> Result<(), Fail> {
+    client_too_many(rt, queue)?;
+    request_too_many(rt, queue)
+}
+
 #[test]
 fn queue_limits(rt: HostRuntime) -> Result<(), Fail> {
-    let mut queue: PullQueue<TickTag, HeapIndexes> = PullQueue::new(rt.alloc(), config()?);
+    let config = config()?;
+    let mut queue: PullQueue<TickTag, HeapIndexes> = PullQueue::new(rt.alloc(), config);
     refused_at_limits(&rt, &mut queue)
 }

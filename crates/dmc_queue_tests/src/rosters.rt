@@ -10,6 +10,7 @@ use dmc_types::ids::ClientId;
 use dmc_types::info::ClientInfo;
 use dmc_types::moment::Moment;
 use std::alloc::Global;
+use std::process::Abort;
 use std::test::Fail;
 
 /// Erases one client, and empties the others.
@@ -68,35 +69,85 @@ fn add_new(
     Ok(roster.add(id, rec)?)
 }
 
+/// Registers a new client, and tells whether it took the key that was told.
+fn takes_next_key(alloc: Global, roster: &mut Roster<TickTag>, id: ClientId) -> Result<bool, Fail> {
+    let told = roster.next_key();
+    let key = add_new(alloc, roster, id, Moment::zero())?;
+    Ok(key == told)
+}
+
+fn is_registered(roster: &Roster<TickTag>, id: u32) -> bool {
+    roster.find(ClientId(id)).is_some()
+}
+
+/// Whether a client is registered and idle.
+fn is_idle(roster: &Roster<TickTag>, id: u32) -> bool {
+    match roster.find(ClientId(id)) {
+        Some(key) => roster.at(key).is_idle(),
+        None => false,
+    }
+}
+
+/// Whether a client is registered, and has no request to pop.
+fn pops_nothing(roster: &mut Roster<TickTag>, id: u32) -> bool {
+    match roster.find(ClientId(id)) {
+        Some(key) => roster.at_mut(key).pop().is_none(),
+        None => false,
+    }
+}
+
+// Clients take the keys that are told.
+fn calls_of(rt: &impl Abort, alloc: Global, roster: &mut Roster<TickTag>) -> Result<(), Fail> {
+    for id in [5, 3, 8] {
+        assert!(rt; takes_next_key(alloc, roster, ClientId(id))?);
+    }
+    assert_eq!(rt; roster.len(), 3);
+    assert!(rt; !is_registered(roster, 4));
+    assert!(rt; is_idle(roster, 8));
+    assert!(rt; pops_nothing(roster, 8));
+    Ok(())
+}
+
 #[test]
 fn roster_calls(rt: HostRuntime) -> Result<(), Fail> {
     let mut roster = Roster::new(rt.alloc());
-    for id in [5, 3, 8] {
-        let told = roster.next_key();
-        let key = add_new(rt.alloc(), &mut roster, ClientId(id), Moment::zero())?;
-        assert_eq!(rt; key, told);
-    }
-    assert_eq!(rt; roster.len(), 3);
-    assert!(rt; roster.find(ClientId(4)).is_none());
-    let last = roster.find(ClientId(8)).ok_or("8 is registered")?;
-    assert!(rt; roster.at(last).is_idle());
-    assert!(rt; roster.at_mut(last).pop().is_none());
+    calls_of(&rt, rt.alloc(), &mut roster)
+}
+
+/// So many clients last asked at a moment.
+fn assert_arrived(rt: &impl Abort, roster: &Roster<TickTag>, at: Moment, count: usize) {
+    assert_eq!(rt; roster.count(&Arrived { at }), count);
+}
+
+/// Erases a client, and empties the others.
+fn erase(roster: &mut Roster<TickTag>, id: ClientId) -> Result<(), Fail> {
+    let key = roster.find(id).ok_or("a client that is registered")?;
+    roster.retain(&Erases { key });
+    Ok(())
+}
+
+// Clients 5, 3 and 8, of which the last one arrived before the others.
+fn fill(alloc: Global, roster: &mut Roster<TickTag>, late: Moment) -> Result<(), Fail> {
+    add_new(alloc, roster, ClientId(5), late)?;
+    add_new(alloc, roster, ClientId(3), late)?;
+    add_new(alloc, roster, ClientId(8), Moment::zero())?;
+    Ok(())
+}
+
+fn passes_of(rt: &impl Abort, alloc: Global, roster: &mut Roster<TickTag>) -> Result<(), Fail> {
+    let late = Moment::new(7)?;
+    fill(alloc, roster, late)?;
+    assert_arrived(rt, roster, late, 2);
+    erase(roster, ClientId(3))?;
+    assert_eq!(rt; roster.len(), 2);
+    assert!(rt; !is_registered(roster, 3));
+    assert!(rt; is_registered(roster, 5));
+    assert_arrived(rt, roster, late, 1);
     Ok(())
 }
 
 #[test]
 fn roster_passes(rt: HostRuntime) -> Result<(), Fail> {
     let mut roster = Roster::new(rt.alloc());
-    let (early, late) = (Moment::zero(), Moment::new(7)?);
-    for (id, at) in [(5, late), (3, late), (8, early)] {
-        add_new(rt.alloc(), &mut roster, ClientId(id), at)?;
-    }
-    assert_eq!(rt; roster.count(&Arrived { at: late }), 2);
-    let key = roster.find(ClientId(3)).ok_or("3 is registered")?;
-    roster.retain(&Erases { key });
-    assert_eq!(rt; roster.len(), 2);
-    assert!(rt; roster.find(ClientId(3)).is_none());
-    assert!(rt; roster.find(ClientId(5)).is_some());
-    assert_eq!(rt; roster.count(&Arrived { at: late }), 1);
-    Ok(())
+    passes_of(&rt, rt.alloc(), &mut roster)
 }

@@ -28,69 +28,112 @@ pub fn config() -> Result<QueueConfig, ValueFault> {
     QueueConfig::new(1000, 1 << 62, 1 << 62, AtLimit::Wait)
 }
 
-// granted_at_limit, through the bound of a scheduler.
-fn granted_at_limit<S: Scheduler<TickTag>>(
-    rt: &impl Abort,
-    alloc: Global,
-    queue: &mut S,
-) -> Result<(), Fail> {
-    let client = ClientId(1);
-    let token = Token(7);
-    let zero = Moment::zero();
-    let late = Moment::new(50)?;
-    let commands = [
+/// Lets a queue go.
+pub fn let_go<I: Indexes<TickTag>>(queue: PullQueue<TickTag, I>) {
+    drop(queue);
+}
+
+const CLIENT: ClientId = ClientId(1);
+
+const TOKEN: Token = Token(7);
+
+// A request of a client with a limit of 20, and pulls before and after it is due.
+fn commands() -> Result<[Command; 5], Fail> {
+    let info = ClientInfo::new(Some(10), 1, Some(20))?;
+    let params = ReqParams::new(1, 1)?;
+    let (at, late) = (Moment::zero(), Moment::new(50)?);
+    Ok([
         Command::Register {
-            client,
-            info: ClientInfo::new(Some(10), 1, Some(20))?,
-            at: zero,
+            client: CLIENT,
+            info,
+            at,
         },
         Command::Add {
-            client,
-            token,
-            params: ReqParams::new(1, 1)?,
-            at: zero,
+            client: CLIENT,
+            token: TOKEN,
+            params,
+            at,
         },
-        Command::Pull { at: zero },
+        Command::Pull { at },
         Command::Pull { at: late },
         Command::Pull { at: late },
-    ];
-    let replies = run_commands(alloc, queue, &commands)?;
+    ])
+}
+
+// What the commands are answered.
+fn expected() -> Result<[Reply<TickTag>; 5], Fail> {
     let tags = Tags {
         r: Some(tick(100)?),
         l: tick(50)?,
         p: tick(1000)?,
     };
-    let expected = [
+    Ok([
         Reply::Registered,
         Reply::Tagged(tags),
         Reply::Later(50),
         Reply::Granted {
-            client,
-            token,
+            client: CLIENT,
+            token: TOKEN,
             phase: PhaseType::Priority,
             beyond: false,
         },
         Reply::Nothing,
-    ];
+    ])
+}
+
+// Granted at the limit, through the bound of a scheduler.
+fn granted_at_limit<S: Scheduler<TickTag>>(
+    rt: &impl Abort,
+    alloc: Global,
+    queue: &mut S,
+) -> Result<(), Fail> {
+    let (commands, expected) = (commands()?, expected()?);
+    let replies = run_commands(alloc, queue, &commands)?;
     assert_eq!(rt; replies.as_slice(), expected.as_slice());
-    assert_eq!(rt; queue.client_count(), 1);
-    assert_eq!(rt; queue.request_count(), 0);
+    let counts = (queue.client_count(), queue.request_count());
+    assert_eq!(rt; counts, (1, 0));
     Ok(())
 }
 
 // The same of the indexed queue, proved once for both kinds of indexes.
-fn five_commands_over<I: Indexes<TickTag>>(rt: &impl Abort, alloc: Global) -> Result<(), Fail> {
-    let mut queue: PullQueue<TickTag, I> = PullQueue::new(alloc, config()?);
-    granted_at_limit(rt, alloc, &mut queue)?;
+fn five_commands_of<I: Indexes<TickTag>>(
+    rt: &impl Abort,
+    alloc: Global,
+    queue: &mut PullQueue<TickTag, I>,
+) -> Result<(), Fail> {
+    granted_at_limit(rt, alloc, queue)?;
     assert!(rt; queue.empty());
     Ok(())
 }
 
+fn five_commands_over<I: Indexes<TickTag>>(rt: &impl Abort, alloc: Global) -> Result<(), Fail> {
+    let config = config()?;
+    let mut queue: PullQueue<TickTag, I> = PullQueue::new(alloc, config);
+    let answered = five_commands_of(rt, alloc, &mut queue);
+    let_go(queue);
+    answered
+}
+
+// The same of the plain queue.
+fn five_plain_commands(
+    rt: &impl Abort,
+    alloc: Global,
+    queue: &mut PlainQueue<TickTag>,
+) -> Result<(), Fail> {
+    granted_at_limit(rt, alloc, queue)?;
+    assert!(rt; queue.empty());
+    Ok(())
+}
+
+fn five_commands_in_turn(rt: &impl Abort, alloc: Global) -> Result<(), Fail> {
+    let config = config()?;
+    let mut queue: PlainQueue<TickTag> = PlainQueue::new(alloc, config);
+    five_plain_commands(rt, alloc, &mut queue)
+}
+
 #[test]
 fn five_commands(rt: HostRuntime) -> Result<(), Fail> {
-    let mut queue = PlainQueue::<TickTag>::new(rt.alloc(), config()?);
-    granted_at_limit(&rt, rt.alloc(), &mut queue)?;
-    assert!(rt; queue.empty());
+    five_commands_in_turn(&rt, rt.alloc())?;
     five_commands_over::<ListIndexes>(&rt, rt.alloc())?;
     five_commands_over::<HeapIndexes>(&rt, rt.alloc())
 }

@@ -2,6 +2,7 @@
 use dmc_ratio::ratio::RatioTag;
 use dmc_tag::tag::Tag;
 use dmc_tick::tick::TickTag;
+use std::process::Abort;
 use std::test::Fail;
 
 #[test]
@@ -15,28 +16,29 @@ fn tick_bounds(rt: HostRuntime) -> Result<(), Fail> {
     Ok(())
 }
 
-fn parts(tag: RatioTag) -> (i128, u64) {
-    (tag.numer(), tag.denom())
+/// The sum of 1/a and 1/b.
+fn sum(a: u64, b: u64) -> Option<RatioTag> {
+    RatioTag::new(1, a)?.plus(RatioTag::new(1, b)?)
+}
+
+/// The sum of 1/a and 1/b is a tag of this numerator and denominator, which is answered.
+fn assert_sum(
+    rt: &impl Abort,
+    (a, b): (u64, u64),
+    parts: (i128, u64),
+) -> Result<RatioTag, &'static str> {
+    let sum = sum(a, b).ok_or("a sum")?;
+    assert_eq!(rt; (sum.numer(), sum.denom()), parts);
+    Ok(sum)
 }
 
 // The answers are worked out by hand.
 #[test]
 fn ratio_sums(rt: HostRuntime) -> Result<(), Fail> {
-    let third = RatioTag::new(1, 3).ok_or("1/3")?;
-    let sixth = RatioTag::new(1, 6).ok_or("1/6")?;
-    let half = third.plus(sixth).ok_or("1/3 + 1/6")?;
-    assert_eq!(rt; parts(half), (1, 2));
-
-    let small = RatioTag::new(1, 65537).ok_or("1/65537")?;
-    let twice = small.plus(small).ok_or("1/65537 + 1/65537")?;
-    assert_eq!(rt; parts(twice), (2, 65537));
-
-    let lower = RatioTag::new(1, 65521).ok_or("1/65521")?;
-    let upper = RatioTag::new(1, 65519).ok_or("1/65519")?;
-    let sum = lower.plus(upper).ok_or("1/65521 + 1/65519")?;
-    assert_eq!(rt; parts(sum), (131040, 4292870399));
-    assert_eq!(rt; sum.plus(half), None);
-
+    let half = assert_sum(&rt, (3, 6), (1, 2))?;
+    assert_sum(&rt, (65537, 65537), (2, 65537))?;
+    let fine = assert_sum(&rt, (65521, 65519), (131040, 4292870399))?;
+    assert!(rt; fine.plus(half).is_none());
     let below = RatioTag::new(-1, 2).ok_or("-1/2")?;
     assert_eq!(rt; below.ceil(), 0);
     Ok(())

@@ -9,10 +9,6 @@ use Rattle.dmc_book.specs.declared.fault.SubmitCause.TheVariants as submit
 use Rattle.dmc_qlock.specs.declared.fault.RunOrRange.{RunOrRange}
 use Rattle.dmc_qlock.specs.declared.fault.RunOrRange.TheVariants as pull
 use Rattle.dmc_settle.specs.declared.report.StopCause.{StopCause}
-use Rattle.dmc_driver.specs.declared.fault.OpenFault.{OpenFault}
-use Rattle.dmc_driver.specs.declared.fault.OpenFault.TheVariants as open_fault
-use Rattle.dmc_driver.specs.declared.fault.DriveFault.{DriveFault}
-use Rattle.dmc_driver.specs.declared.fault.DriveFault.TheVariants as drive
 use Rattle.dmc_settle.specs.declared.report.StopCause.TheVariants.{Refused, HistoryFull, TrackFull, Memory, Stray}
 
 abbrev pub of_entry : EntryFault → StopCause
@@ -38,8 +34,3 @@ of_run run.Memory = Memory
 abbrev pub of_pull : RunOrRange → StopCause
 of_pull (pull.Run fault) = of_run fault
 of_pull pull.Range = Refused Range
-
--- why a run ends whose cluster was not opened
-abbrev pub of_open : {T : Type 0} → OpenFault → DriveFault T
-of_open open_fault.Memory = drive.Memory
-of_open open_fault.Torn = drive.Torn

@@ -4,12 +4,11 @@ ghost use Rattle.dmc_settle.specs.Reports.{IsReport};
 ghost use Rattle.dmc_driver.specs.Done.{IsClientDone, IsDone, IsServerDone, RanOut};
 ghost use Rattle.dmc_driver.specs.Ending.{AreClientsDone, AreWithin, EndsSo, KeepsWithin, RanOutAt, Reports};
 
-use crate::fault::DriveFault;
+use crate::fault::{DriveFault, OpenFault};
 use crate::limits::Limits;
 use dmc_scene::client::SceneClient;
 use dmc_scene::scene::Scene;
 use dmc_settle::report::{ClientReport, ClusterReport, ServerReport, StopCause};
-use dmc_settle::settle::Torn;
 use dmc_tag::tag::Tag;
 
 /// Whether the client sent and completed its requests, has nothing left, and did not stop.
@@ -114,19 +113,20 @@ fn end<T: Tag>(
     }
 }
 
-/// The answer of a run with these limits, once its cluster is settled.
-pub(crate) fn end_settled<T: Tag>(
+/// The answer of a run with these limits, by its report or for want of one.
+pub(crate) fn end_run<T: Tag>(
     scene: &Scene,
     limits: Limits,
-    settled: Result<ClusterReport<T>, Torn>,
+    reported: Result<ClusterReport<T>, OpenFault>,
 ) -> Result<ClusterReport<T>, DriveFault<T>>
-    requires { IfOk settled (IsReport T.ops scene.now) }
+    requires { IfOk reported (IsReport T.ops scene.now) }
     ensures report { Reports T.ops scene.now result }
     ensures ending { EndsSo scene.now result }
     ensures histories { KeepsWithin limits.events result }
 {
-    match settled {
+    match reported {
         Ok(report) => end(scene, limits, report),
-        Err(_) => Err(DriveFault::Torn),
+        Err(OpenFault::Memory) => Err(DriveFault::Memory),
+        Err(OpenFault::Torn) => Err(DriveFault::Torn),
     }
 }

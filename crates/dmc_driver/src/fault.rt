@@ -21,7 +21,7 @@ pub enum DriveFault<T: Tag> {
     Stopped(ClusterReport<T>),
 }
 
-/// Why a cluster was not opened.
+/// Why a cluster was not opened, or has no report.
 #[derive(Clone, Copy, Debug, PartialEq, Eq)]
 pub(crate) enum OpenFault {
     /// The allocator refused a growth.
@@ -57,19 +57,6 @@ impl From<Full> for OpenFault {
 
     fn from(_full: Full) -> OpenFault {
         OpenFault::Torn
-    }
-}
-
-impl<T: Tag> From<OpenFault> for DriveFault<T> {
-    ghost use Rattle.dmc_driver.specs.Causes.{of_open};
-
-    ghost from_gives = { λ x fault. fault ≡ of_open x };
-
-    fn from(fault: OpenFault) -> DriveFault<T> {
-        match fault {
-            OpenFault::Memory => DriveFault::Memory,
-            OpenFault::Torn => DriveFault::Torn,
-        }
     }
 }
 

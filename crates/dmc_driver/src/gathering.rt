@@ -1,17 +1,82 @@
 //! What the threads of a run leave, gathered in room that was made before them.
 use crate::client_worker::ClientJob;
+use crate::cluster::Cluster;
 use crate::server_worker::ServerJob;
+use dmc_book::book::QueueBook;
 use dmc_book::pass::WorkerPass;
+use dmc_heap::indexed_heap::HeapIndexes;
 use dmc_ledger::setup::Setup;
 use dmc_qlock::lock::Locked;
-use dmc_settle::report::{ClientReport, ClusterReport, StopCause};
+use dmc_settle::report::{ClientReport, ClusterReport, ServerReport, StopCause};
 use dmc_settle::settle::Passes;
 use dmc_tag::tag::Tag;
 use dmc_tlock::book::TrackerBook;
 use dmc_tlock::lock::TrackerLock;
+use std::alloc::{AllocError, Global};
+
+/// What the threads of a run leave.
+#[derive(Drop)]
+pub(crate) struct Remains<T: Tag, S: Setup> {
+    pub(crate) books: Vec<QueueBook<T, HeapIndexes, S>>,
+    pub(crate) trackers: Vec<TrackerBook<S>>,
+    pub(crate) passes: Passes<S>,
+    /// With the stops and the failures.
+    pub(crate) report: ClusterReport<T>,
+}
+
+/// Nothing yet.
+pub(crate) fn no_remains<T: Tag, S: Setup>(alloc: Global) -> Remains<T, S> {
+    Remains {
+        books: Vec::new(alloc),
+        trackers: Vec::new(alloc),
+        passes: Passes {
+            workers: Vec::new(alloc),
+            clients: Vec::new(alloc),
+        },
+        report: ClusterReport {
+            clients: Vec::new(alloc),
+            servers: Vec::new(alloc),
+        },
+    }
+}
+
+/// Makes room for what so many clients leave.
+pub(crate) fn reserve_of_clients<T: Tag, S: Setup>(
+    clients: usize,
+    remains: &mut Remains<T, S>,
+) -> Result<(), AllocError> {
+    remains.trackers.reserve_exact(clients)?;
+    remains.passes.clients.reserve_exact(clients)?;
+    remains.report.clients.reserve_exact(clients)?;
+    Ok(())
+}
+
+/// Makes room for what so many servers leave.
+pub(crate) fn reserve_of_servers<T: Tag, S: Setup>(
+    servers: usize,
+    remains: &mut Remains<T, S>,
+) -> Result<(), AllocError> {
+    remains.books.reserve_exact(servers)?;
+    remains.passes.workers.reserve_exact(servers)?;
+    remains.report.servers.reserve_exact(servers)?;
+    Ok(())
+}
+
+/// Gathers what was shared, and what the jobs of the clients' and the servers' workers hold.
+pub(crate) fn gather<T: Tag, S: Setup>(
+    cluster: Cluster<T, S>,
+    clients: Vec<ClientJob<S>>,
+    servers: Vec<ServerJob<S>>,
+    remains: &mut Remains<T, S>,
+) {
+    take_books(cluster.queues, &mut remains.books);
+    take_trackers(cluster.trackers, &mut remains.trackers);
+    gather_clients(clients, &mut remains.passes, &mut remains.report.clients);
+    gather_servers(servers, &mut remains.passes.workers, &mut remains.report);
+}
 
 /// Takes the books out of their locks.
-pub(crate) fn take_books<B: Drop>(locks: Vec<Locked<B>>, books: &mut Vec<B>) {
+fn take_books<B: Drop>(locks: Vec<Locked<B>>, books: &mut Vec<B>) {
     for lock in locks {
         // There is room.
         let _ = books.push(lock.into_book());
@@ -19,14 +84,14 @@ pub(crate) fn take_books<B: Drop>(locks: Vec<Locked<B>>, books: &mut Vec<B>) {
 }
 
 /// Takes the tracker books out of their locks.
-pub(crate) fn take_trackers<S: Setup>(locks: Vec<TrackerLock<S>>, books: &mut Vec<TrackerBook<S>>) {
+fn take_trackers<S: Setup>(locks: Vec<TrackerLock<S>>, books: &mut Vec<TrackerBook<S>>) {
     for lock in locks {
         let _ = books.push(lock.into_book());
     }
 }
 
 /// Gathers what the clients' workers leave.
-pub(crate) fn gather_clients<S: Setup>(
+fn gather_clients<S: Setup>(
     jobs: Vec<ClientJob<S>>,
     passes: &mut Passes<S>,
     rows: &mut [ClientReport],
@@ -38,27 +103,30 @@ pub(crate) fn gather_clients<S: Setup>(
 
 /// The tills and the passes of a client's worker, and why it stopped.
 fn gather_client<S: Setup>(job: ClientJob<S>, passes: &mut Passes<S>, rows: &mut [ClientReport]) {
-    if let Some(row) = rows.get_mut(job.place) {
-        row.stop = job.stop;
+    keep_stop(job.place, job.stop, rows);
+    let _ = passes.clients.push(job.tills);
+    put_back(job.passes, &mut passes.workers);
+}
+
+/// Why the worker of the client at a place stopped.
+fn keep_stop(place: usize, stop: Option<StopCause>, rows: &mut [ClientReport]) {
+    if let Some(row) = rows.get_mut(place) {
+        row.stop = stop;
     }
-    let ClientJob {
-        tills,
-        passes: own,
-        ..
-    } = job;
-    let _ = passes.clients.push(tills);
-    put_back(own, &mut passes.workers);
 }
 
 /// Puts a pass for each server beside those of the other workers there.
 fn put_back<S: Setup>(own: Vec<WorkerPass<S>>, passes: &mut [Vec<WorkerPass<S>>]) {
-    for (there, pass) in passes.iter_mut().zip(own) {
-        let _ = there.push(pass);
+    let mut servers = passes.iter_mut();
+    for pass in own {
+        if let Some(there) = servers.next() {
+            let _ = there.push(pass);
+        }
     }
 }
 
 /// Gathers what the servers' workers leave.
-pub(crate) fn gather_servers<T: Tag, S: Setup>(
+fn gather_servers<T: Tag, S: Setup>(
     jobs: Vec<ServerJob<S>>,
     passes: &mut [Vec<WorkerPass<S>>],
     report: &mut ClusterReport<T>,
@@ -76,17 +144,22 @@ fn gather_server<T: Tag, S: Setup>(
 ) {
     let index = job.server.0 as usize;
     add_failures(&job.failures, &mut report.clients);
-    if let (Some(cause), Some(row)) = (job.stop, report.servers.get_mut(index)) {
-        add_stop(cause, &mut row.stops);
-    }
+    add_stop(index, job.stop, &mut report.servers);
+    put_pass(index, job.pass, passes);
+}
+
+/// Puts the pass of a worker beside those of the other workers of the server at a place.
+fn put_pass<S: Setup>(index: usize, pass: WorkerPass<S>, passes: &mut [Vec<WorkerPass<S>>]) {
     if let Some(there) = passes.get_mut(index) {
-        let _ = there.push(job.pass);
+        let _ = there.push(pass);
     }
 }
 
-/// One stop more.
-fn add_stop(cause: StopCause, stops: &mut Vec<StopCause>) {
-    let _ = stops.push(cause);
+/// Why a worker of the server at a place stopped, if it did.
+fn add_stop<T: Tag>(index: usize, stop: Option<StopCause>, rows: &mut [ServerReport<T>]) {
+    if let (Some(cause), Some(row)) = (stop, rows.get_mut(index)) {
+        let _ = row.stops.push(cause);
+    }
 }
 
 /// Adds up the failures of each client.

@@ -1,25 +1,33 @@
 //! All that a run needs, made before any of its threads.
-pub(crate) mod clients;
+mod clients;
 mod desks;
-pub(crate) mod servers;
+mod servers;
 
+use crate::cluster::Cluster;
 use crate::fault::OpenFault;
+use crate::gathering::{Remains, no_remains, reserve_of_clients, reserve_of_servers};
 use crate::limits::Limits;
+use crate::server_worker::ServerJob;
 use crate::threads::Senders;
-use clients::{OpenClients, open_clients};
-use desks::QueueDesks;
+use clients::{no_senders, open_clients, reserve_senders};
+use desks::{QueueDesks, no_desks};
 use dmc_ledger::mint::Mint;
 use dmc_ledger::setup::Setup;
 use dmc_scene::scene::Scene;
 use dmc_tag::tag::Tag;
-use servers::{OpenServers, no_desks, no_servers, open_server, reserve_servers};
-use std::alloc::Global;
+use indexmap::IndexSet;
+use servers::{open_server, server_workers};
+use std::alloc::{AllocError, Global};
 
-/// The clients and servers of a run.
+/// The workers of a run, what they share, and room for what they leave.
 #[derive(Drop)]
 pub(crate) struct Opened<T: Tag, S: Setup> {
-    pub(crate) clients: OpenClients<S>,
-    pub(crate) servers: OpenServers<T, S>,
+    pub(crate) cluster: Cluster<T, S>,
+    /// The clients' workers.
+    pub(crate) senders: Senders<S>,
+    /// The servers' workers.
+    pub(crate) servers: Vec<ServerJob<S>>,
+    pub(crate) remains: Remains<T, S>,
 }
 
 /// Opens the clients and servers of a scene, and registers each client at each server.
@@ -29,39 +37,77 @@ pub(crate) fn open<T: Tag, S: Setup>(
     scene: &Scene,
     limits: Limits,
 ) -> Result<Opened<T, S>, OpenFault> {
-    let mut desks = no_desks(alloc, scene)?;
-    let mut clients = open_clients(alloc, mint, scene, limits, &mut desks)?;
-    let servers = open_servers(alloc, mint, scene, limits, desks, &mut clients.senders)?;
-    Ok(Opened { clients, servers })
+    let mut opened = none_opened(alloc, scene)?;
+    open_all(alloc, mint, scene, limits, &mut opened)?;
+    Ok(opened)
 }
 
-/// The servers with these desks, in order.
+/// No client and no server yet, with room for the clients' ids.
+fn none_opened<T: Tag, S: Setup>(alloc: Global, scene: &Scene) -> Result<Opened<T, S>, AllocError> {
+    let ids = IndexSet::with_capacity(alloc, scene.clients().len())?;
+    Ok(Opened {
+        cluster: Cluster {
+            queues: Vec::new(alloc),
+            trackers: Vec::new(alloc),
+            ids,
+            max_pulls: scene.max_pulls(),
+        },
+        senders: no_senders(alloc),
+        servers: Vec::new(alloc),
+        remains: no_remains(alloc),
+    })
+}
+
+/// Opens the clients of a scene, and then its servers.
+fn open_all<T: Tag, S: Setup>(
+    alloc: Global,
+    mint: &mut Mint<S>,
+    scene: &Scene,
+    limits: Limits,
+    opened: &mut Opened<T, S>,
+) -> Result<(), OpenFault> {
+    reserve_all(scene, opened)?;
+    let mut desks = no_desks(alloc, scene)?;
+    open_clients(alloc, mint, scene, limits, &mut desks, opened)?;
+    open_servers(alloc, mint, scene, limits, desks, opened)
+}
+
+/// Makes room for the clients and the servers of a scene.
+fn reserve_all<T: Tag, S: Setup>(
+    scene: &Scene,
+    opened: &mut Opened<T, S>,
+) -> Result<(), AllocError> {
+    let clients = scene.clients().len();
+    let servers = scene.servers() as usize;
+    reserve_locks(clients, servers, &mut opened.cluster)?;
+    reserve_senders(clients, &mut opened.senders)?;
+    opened.servers.reserve_exact(server_workers(scene))?;
+    reserve_of_clients(clients, &mut opened.remains)?;
+    reserve_of_servers(servers, &mut opened.remains)
+}
+
+/// Makes room for so many trackers and queues.
+fn reserve_locks<T: Tag, S: Setup>(
+    clients: usize,
+    servers: usize,
+    cluster: &mut Cluster<T, S>,
+) -> Result<(), AllocError> {
+    cluster.trackers.reserve_exact(clients)?;
+    cluster.queues.reserve_exact(servers)?;
+    Ok(())
+}
+
+/// Opens the servers with these desks, in order.
 fn open_servers<T: Tag, S: Setup>(
     alloc: Global,
     mint: &mut Mint<S>,
     scene: &Scene,
     limits: Limits,
     desks: Vec<QueueDesks<S>>,
-    senders: &mut Senders<S>,
-) -> Result<OpenServers<T, S>, OpenFault> {
-    let mut servers = no_servers(alloc);
-    open_each(alloc, mint, scene, limits, desks, senders, &mut servers)?;
-    Ok(servers)
-}
-
-/// Opens the servers with these desks, in order.
-fn open_each<T: Tag, S: Setup>(
-    alloc: Global,
-    mint: &mut Mint<S>,
-    scene: &Scene,
-    limits: Limits,
-    desks: Vec<QueueDesks<S>>,
-    senders: &mut Senders<S>,
-    servers: &mut OpenServers<T, S>,
+    opened: &mut Opened<T, S>,
 ) -> Result<(), OpenFault> {
-    reserve_servers(scene, servers)?;
     for next in desks {
-        open_server(alloc, mint, scene, limits, next, senders, servers)?;
+        open_server(alloc, mint, scene, limits, next, opened)?;
     }
     Ok(())
 }

@@ -1,27 +1,24 @@
 //! A run of a scene's cluster.
-ghost use Rattle.std.specs.Prelude.{◌≡◌, ◌<◌, ◌≤◌};
+ghost use Rattle.std.specs.Prelude.{◌≡◌, ◌<◌, ◌≤◌, IfOk};
 ghost use Rattle.dmc_types.specs.Limits.{most_books};
+ghost use Rattle.dmc_settle.specs.Reports.{IsReport};
 ghost use Rattle.dmc_driver.specs.Ending.{EndsSo, KeepsWithin, Reports};
 
-use crate::cluster::Cluster;
-use crate::ending::end_settled;
+use crate::ending::end_run;
 use crate::fault::{DriveFault, OpenFault};
-use crate::gathering::{gather_clients, gather_servers, take_books, take_trackers};
+use crate::gathering::{Remains, gather};
 use crate::limits::Limits;
 use crate::moments::Moments;
 use crate::opening::{Opened, open};
 use crate::service::Service;
 use crate::threads::run_all;
-use dmc_book::book::QueueBook;
-use dmc_heap::indexed_heap::HeapIndexes;
 use dmc_ledger::mint::Blank;
 use dmc_ledger::setup::Setup;
 use dmc_scene::scene::Scene;
 use dmc_settle::report::ClusterReport;
 use dmc_settle::room::SettleRoom;
-use dmc_settle::settle::{Passes, settle_cluster};
+use dmc_settle::settle::settle_cluster;
 use dmc_tag::tag::Tag;
-use dmc_tlock::book::TrackerBook;
 use std::alloc::Global;
 use std::marker::Brand;
 use std::sync::Wait;
@@ -70,7 +67,8 @@ where
     ensures histories { KeepsWithin limits.events result }
 {
     let blank = Blank::new(books_of(scene));
-    run_in::<T, Brand, R, V, M>(rt, alloc, blank, scene, service, moments, limits)
+    let reported = run_in::<T, Brand, R, V, M>(rt, alloc, blank, scene, service, moments, limits);
+    end_run(scene, limits, reported)
 }
 
 /// How many books a run opens: five of each client at each server, and five of each worker that a server enrols.
@@ -84,7 +82,7 @@ fn books_of(scene: &Scene) -> u64
     servers * at_each
 }
 
-/// The run in a set-up of its own.
+/// The report of a run in a set-up of its own.
 fn run_in<T, S, R, V, M>(
     rt: &R,
     alloc: Global,
@@ -93,7 +91,7 @@ fn run_in<T, S, R, V, M>(
     service: &V,
     moments: &M,
     limits: Limits,
-) -> Result<ClusterReport<T>, DriveFault<T>>
+) -> Result<ClusterReport<T>, OpenFault>
 where
     T: Tag + Send + Sync,
     S: Setup + Send + Sync,
@@ -101,19 +99,12 @@ where
     V: Service + Sync,
     M: Moments + Sync,
     requires { blank.name ≡ S.name }
-    ensures report { Reports T.ops scene.now result }
-    ensures ending { EndsSo scene.now result }
-    ensures histories { KeepsWithin limits.events result }
+    ensures { IfOk result (IsReport T.ops scene.now) }
 {
     let mut mint = blank.open::<S>();
-    let Ok(room) = SettleRoom::new(alloc, scene.servers()) else {
-        return Err(DriveFault::Memory);
-    };
-    match open(alloc, &mut mint, scene, limits) {
-        Ok(opened) => drive(rt, alloc, scene, service, moments, opened, room, limits),
-        Err(OpenFault::Memory) => Err(DriveFault::Memory),
-        Err(OpenFault::Torn) => Err(DriveFault::Torn),
-    }
+    let room = SettleRoom::new(alloc, scene.servers())?;
+    let opened = open(alloc, &mut mint, scene, limits)?;
+    drive(rt, alloc, scene, service, moments, opened, room)
 }
 
 /// Runs what was opened, and settles what is left.
@@ -125,8 +116,7 @@ fn drive<T, S, R, V, M>(
     moments: &M,
     opened: Opened<T, S>,
     room: SettleRoom<S>,
-    limits: Limits,
-) -> Result<ClusterReport<T>, DriveFault<T>>
+) -> Result<ClusterReport<T>, OpenFault>
 where
     T: Tag + Send + Sync,
     S: Setup + Send + Sync,
@@ -134,34 +124,37 @@ where
     V: Service + Sync,
     M: Moments + Sync,
     requires { scene.now.servers ≤ room }
-    ensures report { Reports T.ops scene.now result }
-    ensures ending { EndsSo scene.now result }
-    ensures histories { KeepsWithin limits.events result }
+    ensures { IfOk result (IsReport T.ops scene.now) }
+{
+    let remains = run_opened(rt, service, moments, opened);
+    settle_remains(alloc, scene, remains, room)
+}
+
+/// Settles what the threads of a run leave.
+fn settle_remains<T: Tag, S: Setup>(
+    alloc: Global,
+    scene: &Scene,
+    remains: Remains<T, S>,
+    room: SettleRoom<S>,
+) -> Result<ClusterReport<T>, OpenFault>
+    requires { scene.now.servers ≤ room }
+    ensures { IfOk result (IsReport T.ops scene.now) }
 {
     let Remains {
         mut books,
         trackers,
         passes,
         report,
-    } = run_opened(rt, scene, service, moments, opened);
-    let settled = settle_cluster(alloc, scene, &mut books, trackers, passes, report, room);
-    end_settled(scene, limits, settled)
-}
-
-/// What the threads of a run leave.
-#[derive(Drop)]
-struct Remains<T: Tag, S: Setup> {
-    books: Vec<QueueBook<T, HeapIndexes, S>>,
-    trackers: Vec<TrackerBook<S>>,
-    passes: Passes<S>,
-    /// With the stops and the failures.
-    report: ClusterReport<T>,
+    } = remains;
+    match settle_cluster(alloc, scene, &mut books, trackers, passes, report, room) {
+        Ok(report) => Ok(report),
+        Err(_) => Err(OpenFault::Torn),
+    }
 }
 
 /// Runs what was opened in threads, and gathers what they leave.
 fn run_opened<T, S, R, V, M>(
     rt: &R,
-    scene: &Scene,
     service: &V,
     moments: &M,
     opened: Opened<T, S>,
@@ -174,36 +167,12 @@ where
     M: Moments + Sync,
 {
     let Opened {
-        clients,
+        cluster,
+        senders,
         mut servers,
+        mut remains,
     } = opened;
-    let cluster = Cluster {
-        queues: servers.queues,
-        trackers: clients.trackers,
-        ids: clients.ids,
-        max_pulls: scene.max_pulls(),
-    };
-    let senders = clients.senders;
-    let jobs = run_all(rt, &cluster, service, moments, &mut servers.jobs, senders);
-    let mut remains = Remains {
-        books: servers.books,
-        trackers: clients.books,
-        passes: Passes {
-            workers: servers.passes,
-            clients: clients.tills,
-        },
-        report: ClusterReport {
-            clients: clients.rows,
-            servers: servers.rows,
-        },
-    };
-    take_books(cluster.queues, &mut remains.books);
-    take_trackers(cluster.trackers, &mut remains.trackers);
-    gather_clients(jobs, &mut remains.passes, &mut remains.report.clients);
-    gather_servers(
-        servers.jobs,
-        &mut remains.passes.workers,
-        &mut remains.report,
-    );
+    let clients = run_all(rt, &cluster, service, moments, &mut servers, senders);
+    gather(cluster, clients, servers, &mut remains);
     remains
 }

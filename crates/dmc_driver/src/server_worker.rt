@@ -103,7 +103,7 @@ fn take_turn<T: Tag, S: Setup, V: Service, M: Moments, R: Wait>(
     }
 }
 
-/// Has a granted request served, responds for it, and rings at its client's door.
+/// Has a granted request served, and tells its client.
 fn complete<T: Tag, S: Setup, V: Service, R: Wait>(
     rt: &R,
     cluster: &Cluster<T, S>,
@@ -118,7 +118,18 @@ fn complete<T: Tag, S: Setup, V: Service, R: Wait>(
     if failed {
         count_failure(&mut job.failures, place);
     }
-    let Some(tracker) = cluster.trackers.get(place) else {
+    tell_client(rt, &cluster.trackers, place, granted, job)
+}
+
+/// Responds for a granted request to the client at a place, and rings at its door.
+fn tell_client<S: Setup, R: Wait>(
+    rt: &R,
+    trackers: &[TrackerLock<S>],
+    place: usize,
+    granted: &Job,
+    job: &mut ServerJob<S>,
+) -> Result<(), StopCause> {
+    let Some(tracker) = trackers.get(place) else {
         return Err(StopCause::Stray);
     };
     respond(rt, tracker, granted, &mut job.pass)?;

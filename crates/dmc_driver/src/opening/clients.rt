@@ -1,9 +1,10 @@
 //! The clients of a run, opened: their trackers, doorbells and plans.
-ghost use Rattle.std.specs.Prelude.{◌≡◌, ◌≤◌};
+ghost use Rattle.std.specs.Prelude.{◌≡◌, ◌<◌, ◌≤◌};
 
+use super::Opened;
 use super::desks::{QueueDesks, TrackerDesks, open_pairs};
 use super::servers::server_workers;
-use crate::bell::hang_bell;
+use crate::bell::{Doorbell, Ringer, hang_bell};
 use crate::client_worker::ClientJob;
 use crate::fault::{OpenFault, of_make};
 use crate::limits::Limits;
@@ -13,6 +14,7 @@ use dmc_ledger::setup::Setup;
 use dmc_scene::client::SceneClient;
 use dmc_scene::scene::Scene;
 use dmc_settle::report::{ClientReport, StopCause};
+use dmc_tag::tag::Tag;
 use dmc_tlock::book::TrackerBook;
 use dmc_tlock::lock::TrackerLock;
 use dmc_tlock::pass::ClientPass;
@@ -23,95 +25,82 @@ use dmc_work::plan;
 use indexmap::IndexSet;
 use std::alloc::{AllocError, Global};
 
-/// The clients of a run, in the scene's order, and room for what their threads leave.
-#[derive(Drop)]
-pub(crate) struct OpenClients<S: Setup> {
-    pub(crate) ids: IndexSet<ClientId>,
-    pub(crate) trackers: Vec<TrackerLock<S>>,
-    pub(crate) senders: Senders<S>,
-    pub(crate) rows: Vec<ClientReport>,
-    pub(crate) books: Vec<TrackerBook<S>>,
-    pub(crate) tills: Vec<ClientPass<S>>,
+/// No worker of a client yet.
+pub(crate) fn no_senders<S: Setup>(alloc: Global) -> Senders<S> {
+    Senders {
+        jobs: Vec::new(alloc),
+        ringers: Vec::new(alloc),
+    }
 }
 
-/// No client yet, with room for so many ids.
-fn no_clients<S: Setup>(alloc: Global, room: usize) -> Result<OpenClients<S>, AllocError> {
-    let ids = IndexSet::with_capacity(alloc, room)?;
-    Ok(OpenClients {
-        ids,
-        trackers: Vec::new(alloc),
-        senders: Senders {
-            jobs: Vec::new(alloc),
-            ringers: Vec::new(alloc),
-        },
-        rows: Vec::new(alloc),
-        books: Vec::new(alloc),
-        tills: Vec::new(alloc),
-    })
-}
-
-/// Makes room for so many clients beside their ids.
-fn reserve_clients<S: Setup>(clients: &mut OpenClients<S>, room: usize) -> Result<(), AllocError> {
-    clients.trackers.reserve_exact(room)?;
-    clients.senders.jobs.reserve_exact(room)?;
-    clients.senders.ringers.reserve_exact(room)?;
-    clients.rows.reserve_exact(room)?;
-    clients.books.reserve_exact(room)?;
-    clients.tills.reserve_exact(room)?;
+/// Makes room for the workers of so many clients.
+pub(crate) fn reserve_senders<S: Setup>(
+    clients: usize,
+    senders: &mut Senders<S>,
+) -> Result<(), AllocError> {
+    senders.jobs.reserve_exact(clients)?;
+    senders.ringers.reserve_exact(clients)?;
     Ok(())
 }
 
-/// The clients of a scene, with a desk of each at each of these servers.
-pub(crate) fn open_clients<S: Setup>(
+/// Opens the clients of a scene, in order, with a desk of each at each of these servers.
+pub(crate) fn open_clients<T: Tag, S: Setup>(
     alloc: Global,
     mint: &mut Mint<S>,
     scene: &Scene,
     limits: Limits,
     queues: &mut [QueueDesks<S>],
-) -> Result<OpenClients<S>, OpenFault> {
-    let mut clients = no_clients(alloc, scene.clients().len())?;
-    open_each(alloc, mint, scene, limits, queues, &mut clients)?;
-    Ok(clients)
-}
-
-/// Opens the clients of a scene, in order.
-fn open_each<S: Setup>(
-    alloc: Global,
-    mint: &mut Mint<S>,
-    scene: &Scene,
-    limits: Limits,
-    queues: &mut [QueueDesks<S>],
-    clients: &mut OpenClients<S>,
+    opened: &mut Opened<T, S>,
 ) -> Result<(), OpenFault> {
-    reserve_clients(clients, scene.clients().len())?;
     for client in scene.clients() {
-        name_client(client.id(), clients)?;
-        let desks = open_pairs(alloc, mint, client.id(), queues)?;
-        open_client(alloc, scene, limits, *client, desks, clients)?;
+        open_client(alloc, mint, scene, limits, *client, queues, opened)?;
     }
     Ok(())
 }
 
+/// The next client.
+fn open_client<T: Tag, S: Setup>(
+    alloc: Global,
+    mint: &mut Mint<S>,
+    scene: &Scene,
+    limits: Limits,
+    client: SceneClient,
+    queues: &mut [QueueDesks<S>],
+    opened: &mut Opened<T, S>,
+) -> Result<(), OpenFault> {
+    let rows = &mut opened.remains.report.clients;
+    name_client(client.id(), &mut opened.cluster.ids, rows)?;
+    let desks = open_pairs(alloc, mint, client.id(), queues)?;
+    let trackers = &mut opened.cluster.trackers;
+    let senders = &mut opened.senders;
+    open_with(alloc, scene, limits, client, desks, trackers, senders)
+}
+
 /// The id and the row of the next client.
-fn name_client<S: Setup>(client: ClientId, clients: &mut OpenClients<S>) -> Result<(), OpenFault> {
-    clients.ids.insert(client)?;
-    clients.rows.push(new_row(client))?;
+fn name_client(
+    client: ClientId,
+    ids: &mut IndexSet<ClientId>,
+    rows: &mut Vec<ClientReport>,
+) -> Result<(), AllocError> {
+    ids.insert(client)?;
+    rows.push(new_row(client))?;
     Ok(())
 }
 
-/// The next client, with its desks.
-fn open_client<S: Setup>(
+/// The tracker and the worker of the next client, with its desks.
+fn open_with<S: Setup>(
     alloc: Global,
     scene: &Scene,
     limits: Limits,
     client: SceneClient,
     desks: TrackerDesks<S>,
-    clients: &mut OpenClients<S>,
+    trackers: &mut Vec<TrackerLock<S>>,
+    senders: &mut Senders<S>,
 ) -> Result<(), OpenFault> {
     let (book, tills) = open_tracker(alloc, scene.counting(), limits, desks)?;
-    let place = clients.trackers.len();
-    clients.trackers.push(TrackerLock::new(book))?;
-    open_sender(alloc, scene, client, place, tills, &mut clients.senders)?;
+    let place = trackers.len();
+    trackers.push(TrackerLock::new(book))?;
+    open_sender(alloc, scene, client, place, tills, senders)?;
     Ok(())
 }
 
@@ -139,13 +128,35 @@ fn open_sender<S: Setup>(
     tills: ClientPass<S>,
     senders: &mut Senders<S>,
 ) -> Result<(), AllocError> {
+    let bell = open_bell(alloc, rings_of(scene, client), &mut senders.ringers)?;
+    let job = new_job(alloc, scene, client, place, tills, bell)?;
+    senders.jobs.push(job)?;
+    Ok(())
+}
+
+/// A doorbell with room for so many rings, and one ringer more, at its door.
+fn open_bell(alloc: Global, room: usize, ringers: &mut Vec<Ringer>) -> Result<Doorbell, AllocError>
+    requires { 0 < room }
+{
+    let (ringer, bell) = hang_bell(alloc, room)?;
+    ringers.push(ringer)?;
+    Ok(bell)
+}
+
+/// The worker of a client, with no pass yet.
+fn new_job<S: Setup>(
+    alloc: Global,
+    scene: &Scene,
+    client: SceneClient,
+    place: usize,
+    tills: ClientPass<S>,
+    bell: Doorbell,
+) -> Result<ClientJob<S>, AllocError> {
     let servers = scene.servers();
     let requests = client.requests();
     let plan = plan(alloc, scene.seed(), client.id(), servers, requests)?;
     let passes = Vec::with_capacity(alloc, servers as usize)?;
-    let (ringer, bell) = hang_bell(alloc, rings_of(scene, client))?;
-    senders.ringers.push(ringer)?;
-    senders.jobs.push(ClientJob {
+    Ok(ClientJob {
         place,
         plan,
         requests,
@@ -154,8 +165,7 @@ fn open_sender<S: Setup>(
         passes,
         bell,
         stop: Some(StopCause::Spawn),
-    })?;
-    Ok(())
+    })
 }
 
 /// How many rings a client's doorbell has room for: its window, and one of each server's worker.

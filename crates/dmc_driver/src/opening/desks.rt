@@ -9,6 +9,7 @@ use crate::fault::OpenFault;
 use dmc_ledger::desk::{ClientDesk, ServerDesk, open_pair};
 use dmc_ledger::mint::Mint;
 use dmc_ledger::setup::Setup;
+use dmc_scene::scene::Scene;
 use dmc_types::ids::{ClientId, ServerId};
 use std::alloc::{AllocError, Global};
 use std::marker::Model;
@@ -36,11 +37,7 @@ impl<S: Setup> Model for QueueDesks<S> {
 
 impl<S: Setup> QueueDesks<S> {
     /// None yet, and room for so many.
-    pub(crate) fn new(
-        alloc: Global,
-        server: ServerId,
-        room: usize,
-    ) -> Result<QueueDesks<S>, AllocError>
+    fn new(alloc: Global, server: ServerId, room: usize) -> Result<QueueDesks<S>, AllocError>
         ensures { IfOk result (λ made. made ≡ record { server = server.0; desks = [] }) }
     {
         let desks = Vec::with_capacity(alloc, room)?;
@@ -94,6 +91,18 @@ impl<S: Setup> TrackerDesks<S> {
         self.desks.push(desk)?;
         Ok(())
     }
+}
+
+/// The desks of each server, none yet, and room for those of all clients.
+pub(crate) fn no_desks<S: Setup>(
+    alloc: Global,
+    scene: &Scene,
+) -> Result<Vec<QueueDesks<S>>, AllocError> {
+    let mut queues = Vec::with_capacity(alloc, scene.servers() as usize)?;
+    for server in 0..scene.servers() {
+        queues.push(QueueDesks::new(alloc, ServerId(server), scene.clients().len())?)?;
+    }
+    Ok(queues)
 }
 
 /// The desks of a client at each server. The servers are 0, 1, .. in order.

@@ -2,6 +2,7 @@
 ghost use Rattle.std.specs.Prelude.{◌≡◌, ◌*◌, ◌≤◌, length};
 ghost use Rattle.dmc_types.specs.Limits.{most_server_workers, most_servers};
 
+use super::Opened;
 use super::desks::QueueDesks;
 use crate::bell::Ringer;
 use crate::client_worker::ClientJob;
@@ -27,16 +28,6 @@ use dmc_types::ids::{ServerId, WorkerId};
 use dmc_types::moment::Moment;
 use std::alloc::{AllocError, Global};
 
-/// The servers of a run, and room for what their threads leave.
-#[derive(Drop)]
-pub(crate) struct OpenServers<T: Tag, S: Setup> {
-    pub(crate) queues: Vec<QueueLock<T, HeapIndexes, S>>,
-    pub(crate) jobs: Vec<ServerJob<S>>,
-    pub(crate) rows: Vec<ServerReport<T>>,
-    pub(crate) books: Vec<QueueBook<T, HeapIndexes, S>>,
-    pub(crate) passes: Vec<Vec<WorkerPass<S>>>,
-}
-
 /// The most workers that a server opens with.
 const MOST_WORKERS: usize = 65_536;
 
@@ -47,43 +38,6 @@ pub(crate) fn server_workers(scene: &Scene) -> usize
     (scene.servers() * scene.workers()) as usize
 }
 
-/// No server yet.
-pub(crate) fn no_servers<T: Tag, S: Setup>(alloc: Global) -> OpenServers<T, S> {
-    OpenServers {
-        queues: Vec::new(alloc),
-        jobs: Vec::new(alloc),
-        rows: Vec::new(alloc),
-        books: Vec::new(alloc),
-        passes: Vec::new(alloc),
-    }
-}
-
-/// Makes room for the servers of a scene.
-pub(crate) fn reserve_servers<T: Tag, S: Setup>(
-    scene: &Scene,
-    servers: &mut OpenServers<T, S>,
-) -> Result<(), AllocError> {
-    let count = scene.servers() as usize;
-    servers.queues.reserve_exact(count)?;
-    servers.jobs.reserve_exact(server_workers(scene))?;
-    servers.rows.reserve_exact(count)?;
-    servers.books.reserve_exact(count)?;
-    servers.passes.reserve_exact(count)?;
-    Ok(())
-}
-
-/// The desks of each server, none yet, and room for those of all clients.
-pub(crate) fn no_desks<S: Setup>(
-    alloc: Global,
-    scene: &Scene,
-) -> Result<Vec<QueueDesks<S>>, AllocError> {
-    let mut queues = Vec::with_capacity(alloc, scene.servers() as usize)?;
-    for server in 0..scene.servers() {
-        queues.push(QueueDesks::new(alloc, ServerId(server), scene.clients().len())?)?;
-    }
-    Ok(queues)
-}
-
 /// A server with its desks, the next of the cluster. Its worker 0, the first client's, registers every client.
 pub(crate) fn open_server<T: Tag, S: Setup>(
     alloc: Global,
@@ -91,34 +45,58 @@ pub(crate) fn open_server<T: Tag, S: Setup>(
     scene: &Scene,
     limits: Limits,
     desks: QueueDesks<S>,
-    senders: &mut Senders<S>,
-    servers: &mut OpenServers<T, S>,
+    opened: &mut Opened<T, S>,
 ) -> Result<(), OpenFault> {
     let server = desks.server;
-    let workers = enroll(alloc, scene, server)?;
-    let mut row = new_row(alloc, server, limits, workers.len())?;
-    let mut passes = open_queue(
-        alloc,
-        mint,
-        scene,
-        limits,
-        desks,
-        &workers,
-        &mut servers.queues,
-        &mut row.stops,
-    )?;
-    hand_to_server(
+    let passes = open_row(alloc, mint, scene, limits, desks, opened)?;
+    let kept = hand_out(
         alloc,
         scene,
         server,
-        &mut passes,
-        senders,
-        &mut servers.jobs,
+        passes,
+        &mut opened.senders,
+        &mut opened.servers,
     )?;
-    hand_to_clients(&mut passes, &mut senders.jobs)?;
-    servers.rows.push(row)?;
-    servers.passes.push(passes)?;
+    opened.remains.passes.workers.push(kept)?;
     Ok(())
+}
+
+/// The queue and the row of the next server. What comes back are the passes of the server's workers.
+fn open_row<T: Tag, S: Setup>(
+    alloc: Global,
+    mint: &mut Mint<S>,
+    scene: &Scene,
+    limits: Limits,
+    desks: QueueDesks<S>,
+    opened: &mut Opened<T, S>,
+) -> Result<Vec<WorkerPass<S>>, OpenFault> {
+    let mut stops = Vec::with_capacity(alloc, enrolled(scene))?;
+    let server = desks.server;
+    let queues = &mut opened.cluster.queues;
+    let passes = open_queue(alloc, mint, scene, limits, desks, queues, &mut stops)?;
+    let row = new_row(alloc, server, limits, stops);
+    opened.remains.report.servers.push(row)?;
+    Ok(passes)
+}
+
+/// Hands the passes of a server to its own workers and to the clients'. What comes back is room for them when they are done.
+fn hand_out<S: Setup>(
+    alloc: Global,
+    scene: &Scene,
+    server: ServerId,
+    passes: Vec<WorkerPass<S>>,
+    senders: &mut Senders<S>,
+    jobs: &mut Vec<ServerJob<S>>,
+) -> Result<Vec<WorkerPass<S>>, OpenFault> {
+    let mut passes = passes;
+    hand_to_server(alloc, scene, server, &mut passes, senders, jobs)?;
+    hand_to_clients(&mut passes, &mut senders.jobs)?;
+    Ok(passes)
+}
+
+/// How many workers are enrolled at a server: one of each client, and its own.
+fn enrolled(scene: &Scene) -> usize {
+    (scene.clients().len() as u32 + scene.workers()) as usize
 }
 
 /// The workers that are enrolled at a server: those of all clients, and then its own.
@@ -126,7 +104,7 @@ fn enroll(alloc: Global, scene: &Scene, server: ServerId) -> Result<Vec<WorkerId
     let clients = scene.clients().len() as u32;
     let workers = scene.workers();
     let first = clients.saturating_add(server.0.saturating_mul(workers));
-    let mut ids = Vec::with_capacity(alloc, (clients + workers) as usize)?;
+    let mut ids = Vec::with_capacity(alloc, enrolled(scene))?;
     add_workers(0, clients, &mut ids)?;
     add_workers(first, workers, &mut ids)?;
     Ok(ids)
@@ -140,15 +118,14 @@ fn add_workers(first: u32, count: u32, ids: &mut Vec<WorkerId>) -> Result<(), Al
     Ok(())
 }
 
-/// A server that did nothing yet, with room for a stop of each of its workers.
+/// A server that did nothing yet, with these stops.
 fn new_row<T: Tag>(
     alloc: Global,
     server: ServerId,
     limits: Limits,
-    stops: usize,
-) -> Result<ServerReport<T>, AllocError> {
-    let stops = Vec::with_capacity(alloc, stops)?;
-    Ok(ServerReport {
+    stops: Vec<StopCause>,
+) -> ServerReport<T> {
+    ServerReport {
         server,
         reservation: 0,
         priority: 0,
@@ -159,12 +136,26 @@ fn new_row<T: Tag>(
         },
         history: EventHistory::new(alloc, limits.events()).unwrap(),
         stops,
-    })
+    }
 }
 
 /// A server's queue behind its lock, with every client registered, and the passes of its workers. What the queue refuses is put
 /// among the stops.
 fn open_queue<T: Tag, S: Setup>(
+    alloc: Global,
+    mint: &mut Mint<S>,
+    scene: &Scene,
+    limits: Limits,
+    desks: QueueDesks<S>,
+    queues: &mut Vec<QueueLock<T, HeapIndexes, S>>,
+    stops: &mut Vec<StopCause>,
+) -> Result<Vec<WorkerPass<S>>, OpenFault> {
+    let workers = enroll(alloc, scene, desks.server)?;
+    open_with(alloc, mint, scene, limits, desks, &workers, queues, stops)
+}
+
+/// The same with these workers.
+fn open_with<T: Tag, S: Setup>(
     alloc: Global,
     mint: &mut Mint<S>,
     scene: &Scene,

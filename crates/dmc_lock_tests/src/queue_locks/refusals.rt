@@ -124,6 +124,20 @@ type Strange = (
     Option<Stop>,
 );
 
+/// What a submit is refused with. A stamp that cannot be made ends the test.
+fn submit_refused<S: Setup, R: Wait>(
+    rt: &R,
+    lock: &Lock<S>,
+    pass: &mut WorkerPass<S>,
+    client: &mut Client<S>,
+) -> Result<Option<Stop>, Stop> {
+    match submit(rt, lock, pass, client, 9) {
+        Ok(_) => Ok(None),
+        Err(Stop::Submit(cause)) => Ok(Some(Stop::Submit(cause))),
+        Err(stop) => Err(stop),
+    }
+}
+
 fn strange_told<S: Setup, R: Wait>(
     rt: &R,
     lock: &Lock<S>,
@@ -133,7 +147,7 @@ fn strange_told<S: Setup, R: Wait>(
     let ran = run_register(rt, lock, pass, ONE, None)?;
     let pulled = pull(rt, lock, pass).err();
     let seen = status(rt, lock, pass).err();
-    let submitted = submit(rt, lock, pass, client, 9).err();
+    let submitted = submit_refused(rt, lock, pass, client)?;
     Ok((ran, pulled, seen, submitted))
 }
 

@@ -1,7 +1,7 @@
 //! The best of a set of requests.
 ghost use Rattle.std.specs.Prelude.{◌≡◌, ◌<◌, length, IfSome, Some};
 ghost use Rattle.dmc_tag.specs.Best.{best};
-ghost use Rattle.dmc_plain.specs.Sets.{members, order, rank_of, found_at, better_at};
+ghost use Rattle.dmc_plain.specs.Sets.{members, order, rank_of, found_at, beats, better_at};
 
 use dmc_tag::due::is_due;
 use dmc_tag::plain::PlainRequest;
@@ -77,13 +77,25 @@ fn better_index<T: Tag>(
     requires { IfSome found (λ j. j < length requests.now) }
     ensures { result ≡ better_at (order T.ops set.now) (members T.ops set.now) requests.now found i request.now }
 {
-    let is_beaten = match found {
-        None => false,
-        Some(j) => set.is_before(&requests[j], request),
-    };
-    if set.contains(request) && !is_beaten {
+    if set.contains(request) && !is_beaten(requests, set, found, request) {
         Some(i)
     } else {
         found
+    }
+}
+
+/// Whether the one that was found is before a request.
+fn is_beaten<T: Tag>(
+    requests: &[PlainRequest<T>],
+    set: &Set,
+    found: Option<usize>,
+    request: &PlainRequest<T>,
+) -> bool
+    requires { IfSome found (λ j. j < length requests.now) }
+    ensures { result ≡ beats (order T.ops set.now) requests.now found request.now }
+{
+    match found {
+        None => false,
+        Some(j) => set.is_before(&requests[j], request),
     }
 }

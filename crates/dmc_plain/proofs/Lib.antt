@@ -1,3 +1,5 @@
 pub mod Shares
 pub mod Found
 pub mod Grants
+pub mod Outcomes
+pub mod Tests

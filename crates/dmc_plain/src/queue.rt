@@ -1,8 +1,9 @@
 //! The plain queue.
-ghost use Rattle.std.specs.Prelude.{◌≡◌, ◌<◌, length, OnOk, ◌==◌};
+ghost use Rattle.std.specs.Prelude.{◌≡◌, ◌<◌, ◌&&◌, length, OnOk, ◌==◌};
 ghost use Rattle.dmc_types.specs.Limits.{most_clients};
 ghost use Rattle.dmc_tag.specs.Answers.{call_reply, sure_call_reply, clean_reply};
 ghost use Rattle.dmc_tag.specs.Rules as rules_of;
+ghost use Rattle.dmc_tag.specs.State as state;
 ghost use Rattle.dmc_tag.specs.State.{opening, effective};
 ghost use Rattle.dmc_tag.specs.Steps.{Exactly};
 ghost use Rattle.dmc_types.specs.declared.command.Command.TheVariants as commands;
@@ -90,6 +91,25 @@ fn newcomer<T: Tag>(client: ClientId, info: ClientInfo, at: Moment) -> PlainClie
     }
 }
 
+/// Whether the rates give a reservation, or take it.
+fn changes_reservation(old: ClientInfo, new: ClientInfo) -> bool
+    ensures { result ≡ rules_of.changes_reservation old new }
+{
+    old.reservation().is_some() != new.reservation().is_some()
+}
+
+/// Whether queued requests keep a client from these rates.
+fn is_busy<T>(
+    requests: &[PlainRequest<T>],
+    client: ClientId,
+    old: ClientInfo,
+    new: ClientInfo,
+) -> bool
+    ensures { result ≡ (rules_of.changes_reservation old new && state.has_queued client requests.now) }
+{
+    changes_reservation(old, new) && has_queued(requests, client)
+}
+
 impl<T: Tag> PlainQueue<T> {
     /// The tests of a registration.
     fn can_register(&self, client: ClientId, info: ClientInfo) -> Result<(), Refusal>
@@ -132,8 +152,7 @@ impl<T: Tag> PlainQueue<T> {
             return Err(Refusal::Unknown);
         };
         let _exact: Spacings<T> = spacings_for(self.config.hz(), info)?;
-        let changes = known.info.reservation().is_some() != info.reservation().is_some();
-        if changes && has_queued(&self.requests, client) {
+        if is_busy(&self.requests, client, known.info, info) {
             return Err(Refusal::Busy);
         }
         Ok(())

@@ -1,10 +1,26 @@
-use Rattle.std.proofs.Common.{rules, ◌≡◌, ◌++◌, ◌∷◌, []}
-use Rattle.std.proofs.lemmas.Grind.{common_steps}
+use Rattle.std.proofs.Common.{◌≡◌, ◌∙◌, ◌<◌, ◌++◌, ◌∷◌, [], length, sym, subst, arith}
+use Rattle.dmc_types.specs.declared.command.Command.TheVariants.{Register}
+use Rattle.dmc_types.specs.Limits.{most_clients}
+use Rattle.dmc_tag.specs.State.{effective}
+use Rattle.dmc_tag.specs.Rules.{newcomer}
+use Rattle.dmc_tag.specs.Step.{step}
+use Rattle.dmc_tag.specs.declared.reply.Reply.TheVariants.{Registered}
 use Rattle.dmc_tag.proofs.ForCallers.{registration_keeps_active}
+use Rattle.dmc_plain.proofs.Grants.{registered_as}
 use Rattle.dmc_plain.proofs.queue.PlainQueue.register.Goals as goal
 
 pub invariant_of-self-2 : goal.invariant_of-self-2
 invariant_of-self-2 g c =
     let q = c.self.inside in
-    let pushed : c.push.new.self.items ≡ q.clients.items ++ c.newcomer.result ∷ [] = search (rules, common_steps) in
-    (search (rules, common_steps), search (rules, common_steps), rw pushed (registration_keeps_active q.clients.items c.newcomer.result q.requests.items c.self.invariant.2))
+    let pushed = rw c.if-is_err.ensures.negation at c.push.ensures.items in
+    let room = subst (λ s. length s.clients < most_clients) (sym c.self.view_is) c.in_ok-can_register.ensures.room in
+    (c.self.invariant.0, omega arith, rw pushed (registration_keeps_active q.clients.items c.newcomer.result q.requests.items c.self.invariant.2))
+
+pub returns : goal.returns
+returns g c =
+    let ops = g.T.Tag.ops in
+    let old = c.args.self.now in
+    let t = effective old c.args.at in
+    let e = registered_as ops old c.args.client c.args.info c.args.at _ (sym c.can_register.ensures.outcome ∙ c.in_ok-can_register.was) in
+    let pushed = rw c.if-is_err.ensures.negation at c.push.ensures.items in
+    rw (pushed, c.newcomer.ensures, c.effective-at.ensures) (subst (λ s. (record s { clients = s.clients ++ newcomer ops c.args.client c.args.info t ∷ []; last_moment = t }, Registered) ≡ step ops old (Register c.args.client c.args.info c.args.at)) (sym c.self.view_is) (sym e))

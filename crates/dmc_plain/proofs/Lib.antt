@@ -3,3 +3,5 @@ pub mod Found
 pub mod Grants
 pub mod Outcomes
 pub mod Tests
+pub mod Pulls
+pub mod Taken

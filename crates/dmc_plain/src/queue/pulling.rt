@@ -6,7 +6,7 @@ ghost use Rattle.dmc_tag.specs.Best.{best, by_weight, is_any, is_free};
 ghost use Rattle.dmc_tag.specs.Answers.{sure_call_reply, pull_reply};
 ghost use Rattle.dmc_tag.specs.Rules as rules_of;
 ghost use Rattle.dmc_tag.specs.Steps.{Exactly};
-ghost use Rattle.dmc_plain.specs.Sets.{found_at, grants_early, Settles};
+ghost use Rattle.dmc_plain.specs.Sets.{found_at, grants_early, least_due, Settles};
 ghost use Rattle.dmc_types.specs.declared.command.Command.TheVariants as commands;
 
 use crate::best::{Set, best_index};
@@ -153,11 +153,17 @@ impl<T: Tag> PlainQueue<T> {
     {
         match self.config.at_limit() {
             AtLimit::Allow => self.pull_beyond(at),
-            AtLimit::Wait => {
-                self.last_moment = at;
-                Ok(due_at(least_due(&self.requests)))
-            }
+            AtLimit::Wait => Ok(self.tell_due(at)),
         }
+    }
+
+    /// Tells when the next request is due.
+    fn tell_due(&mut self, at: Moment) -> Pulled
+        ensures now { self.new ≡ rules_of.without self.old at self.old.requests }
+        ensures answer { result ≡ option_map_or pulls.Future (least_due T.ops self.old.requests) pulls.Nothing }
+    {
+        self.last_moment = at;
+        due_at(least_due(&self.requests))
     }
 }
 

@@ -1,6 +1,6 @@
 -- What has been found, as the scan goes from the last request to the first.
 use Rattle.std.proofs.Common.{◌≡◌, ℕ, suc, ◌+◌, ◌<◌, Bool, true, false, not, ◌&&◌, cond, List, ◌∷◌, length, drop, get_or, Option, Some, None, refl, sym, ap, ◌∙◌, subst, arith, drop-cons, length-drop}
-use Rattle.std.specs.Prelude.{slice_get}
+use Rattle.std.specs.Prelude.{slice_get, IfSome}
 use Rattle.std.specs.Option.{option_map}
 use Rattle.std.specs.List.{remove}
 use Rattle.std.proofs.lemmas.List.{get_or-drop}
@@ -44,8 +44,6 @@ module _ {R : Type 0} (before : R → R → Bool) (member : R → Bool) where
   found_all xs None f = sym f
   found_all xs (Some j) (k, at, within, e) = let same : j ≡ k = omega arith in rw same (sym e)
 
-  pub found_within : (xs : List R) (i : ℕ) (found : Option ℕ) → Found (drop i xs) i found → (j : ℕ) → found ≡ Some j → j < length xs
-  found_within xs i None f j e = cc
-  found_within xs i (Some j') (k, at, within, e') j e =
-      let same : j' ≡ j = cc in
-      omega (arith, length-drop i xs)
+  pub found_bound : (xs : List R) (i : ℕ) (found : Option ℕ) → Found (drop i xs) i found → IfSome found (λ j. j < length xs)
+  found_bound xs i None f = tt
+  found_bound xs i (Some j) (k, at, within, e) = omega (arith, length-drop i xs)

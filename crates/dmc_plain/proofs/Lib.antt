@@ -5,3 +5,4 @@ pub mod Outcomes
 pub mod Tests
 pub mod Pulls
 pub mod Taken
+pub mod Counted

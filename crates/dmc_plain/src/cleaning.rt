@@ -17,10 +17,13 @@ pub fn count_idled<T>(
     ensures value { result ≡ length (filter (λ c. not (rules_of.is_stale requests.now at erase_age c) && rules_of.is_stale requests.now at idle_age c && not c.idle) clients.now) }
     ensures bound { result ≤ length clients.now }
 {
-    clients
-        .iter()
-        .filter(|client| is_idled(client, requests, at, idle_age, erase_age))
-        .count()
+    let mut count: usize = 0;
+    for client in clients {
+        if is_idled(client, requests, at, idle_age, erase_age) {
+            count += 1;
+        }
+    }
+    count
 }
 
 fn is_idled<T>(
@@ -47,10 +50,13 @@ pub fn count_erased<T>(
     ensures value { result ≡ length (filter (rules_of.is_stale requests.now at erase_age) clients.now) }
     ensures bound { result ≤ length clients.now }
 {
-    clients
-        .iter()
-        .filter(|client| is_stale(requests, at, erase_age, client))
-        .count()
+    let mut count: usize = 0;
+    for client in clients {
+        if is_stale(requests, at, erase_age, client) {
+            count += 1;
+        }
+    }
+    count
 }
 
 /// Erases the clients that are old.

@@ -61,10 +61,13 @@ pub fn count_of<T>(requests: &[PlainRequest<T>], id: ClientId) -> usize
     ensures value { result ≡ length (state.requests_of id requests.now) }
     ensures bound { result ≤ length requests.now }
 {
-    requests
-        .iter()
-        .filter(|request| request.client == id)
-        .count()
+    let mut count: usize = 0;
+    for request in requests {
+        if request.client == id {
+            count += 1;
+        }
+    }
+    count
 }
 
 /// Takes out the requests of the client.

@@ -1,6 +1,6 @@
 use Rattle.std.proofs.Common.{◌≡◌, ◌<◌, ◌-◌, suc, length, drop, subst, arith}
 use Rattle.dmc_plain.specs.Sets.{members, order}
-use Rattle.dmc_plain.proofs.Found.{Found, found_more, found_all}
+use Rattle.dmc_plain.proofs.Found.{Found, found_more, found_all, found_bound}
 use Rattle.dmc_plain.proofs.best.best_index.Goals as goal
 
 pub loop-i-preserved : goal.loop-i-preserved
@@ -19,3 +19,15 @@ returns-clause-found g c =
     let first : c.loop-i.i ≡ 0 = omega arith in
     let all = subst (λ n. Found before member (drop n c.args.requests.now) n c.loop-i.found) first c.loop-i.invariant in
     found_all before member c.args.requests.now c.loop-i.found all
+
+pub better_index-found-requires : goal.better_index-found-requires
+better_index-found-requires g c =
+    let before = order g.T.Tag.ops c.args.set.now in
+    let member = members g.T.Tag.ops c.args.set.now in
+    found_bound before member c.args.requests.now c.loop-i.i c.loop-i.found c.loop-i.invariant
+
+pub returns-clause-bound : goal.returns-clause-bound
+returns-clause-bound g c =
+    let before = order g.T.Tag.ops c.args.set.now in
+    let member = members g.T.Tag.ops c.args.set.now in
+    found_bound before member c.args.requests.now c.loop-i.i c.loop-i.found c.loop-i.invariant

@@ -11,3 +11,6 @@ returns-in-Some g c =
     let within = rw c.in-Some.is at c.requires in
     let at = get_or_read c.args.requests.now c.in-Some.j c.index-requests-j.result within c.index-requests-j.is c.args.request.now in
     rw c.in-Some.is (c.is_before.ensures ∙ ap (λ r. order g.T.Tag.ops c.args.set.now r c.args.request.now) at)
+
+pub bounds-requests-j : goal.bounds-requests-j
+bounds-requests-j g c = rw c.in-Some.is at c.requires

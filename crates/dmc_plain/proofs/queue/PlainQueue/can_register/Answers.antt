@@ -1,4 +1,4 @@
-use Rattle.std.proofs.Common.{◌≡◌, ◌∙◌, true, false, length, Ok, Err, sym, ap, subst, arith}
+use Rattle.std.proofs.Common.{◌≡◌, ◌∙◌, ◌<◌, true, false, length, Ok, Err, sym, ap, subst, arith}
 use Rattle.std.specs.Prelude.{is_some, nat_le}
 use Rattle.std.proofs.lemmas.Bool.{le-leb, lt-leb}
 use Rattle.dmc_types.specs.Limits.{most_clients}
@@ -41,3 +41,6 @@ returns-clause-outcome g c =
     let exact = ap (λ n. spacings_of g.T.Tag.ops n c.args.info) (sym hz) ∙ sym c.spacings_for.ensures.value ∙ c.in_ok-_exact.was in
     let room = subst (λ s. nat_le most_clients (length s.clients) ≡ false) c.self.view_is (lt-leb most_clients (length c.self.inside.clients.items) (omega arith)) in
     counts_clients g.T.Tag.ops c.args.self.now c.args.client c.args.info (named ∙ c.if-is_some.false) c.in_ok-_exact._exact exact false room
+
+pub returns-clause-room : goal.returns-clause-room
+returns-clause-room g c = subst (λ s. length s.clients < most_clients) c.self.view_is (omega arith)

@@ -1,4 +1,4 @@
-use Rattle.std.proofs.Common.{◌≡◌, ◌∙◌, true, Some, sym, ap, subst, refl}
+use Rattle.std.proofs.Common.{◌≡◌, ◌∙◌, ◌<◌, length, true, Some, sym, ap, subst, refl}
 use Rattle.dmc_tag.specs.Answers.{sure_call_reply, pull_reply}
 use Rattle.dmc_tag.specs.Best.{best, by_weight, is_any}
 use Rattle.dmc_tag.specs.Rules.{grant_found}
@@ -19,3 +19,6 @@ returns-in-Some g c =
 
 pub invariant_of-self : goal.invariant_of-self
 invariant_of-self g c = c.self.invariant
+
+pub grant_priority-requires : goal.grant_priority-requires
+grant_priority-requires g c = subst (λ rs. c.in-Some.index < length rs) (c.deref.ensures.value ∙ ap (λ s. s.requests) c.self.view_is) c.in-Some.ensures.bound

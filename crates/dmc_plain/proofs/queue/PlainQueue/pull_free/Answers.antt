@@ -23,3 +23,6 @@ returns-in-Some g c =
     let best_found = subst (λ rs. found_at rs (Some c.in-Some.index) ≡ best (by_weight ops) (is_free ops c.args.at) rs) requests found in
     let within = subst (λ rs. c.in-Some.index < length rs) requests c.in-Some.ensures.bound in
     free_found ops old c.args.at c.grant_priority.new.self c.in-Some.index within (best (by_weight ops) (is_free ops c.args.at) old.requests) best_found (sure_call_reply pull_reply c.grant_priority.result) c.grant_priority.ensures
+
+pub grant_priority-requires : goal.grant_priority-requires
+grant_priority-requires g c = subst (λ rs. c.in-Some.index < length rs) (c.deref.ensures.value ∙ ap (λ s. s.requests) c.self.view_is) c.in-Some.ensures.bound

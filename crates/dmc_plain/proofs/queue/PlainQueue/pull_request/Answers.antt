@@ -40,3 +40,6 @@ returns-in-Some g c =
     let within = subst (λ rs. c.in-Some.index < length rs) requests c.in-Some.ensures.bound in
     let early = early_found ops old t new c.in-Some.index within (best (by_reservation ops) (is_early ops t) old.requests) best_found reply c.grant_early.ensures in
     subst (λ t. (new, reply) ≡ answer_of old (rules_of.pulled ops old t)) c.effective-at.ensures early
+
+pub grant_early-requires : goal.grant_early-requires
+grant_early-requires g c = subst (λ rs. c.in-Some.index < length rs) (c.deref.ensures.value ∙ ap (λ s. s.requests) c.self.view_is) c.in-Some.ensures.bound

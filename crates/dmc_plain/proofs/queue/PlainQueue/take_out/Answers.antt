@@ -1,4 +1,4 @@
-use Rattle.std.proofs.Common.{◌≡◌, true, refl, arith}
+use Rattle.std.proofs.Common.{◌≡◌, ◌<◌, length, true, refl, sym, subst, arith}
 use Rattle.std.proofs.lemmas.List.Edits.{length-remove}
 use Rattle.dmc_tag.specs.State.{is_active}
 use Rattle.dmc_plain.proofs.Taken.{all_but_one}
@@ -11,3 +11,8 @@ pub invariant_of-self : goal.invariant_of-self
 invariant_of-self g c =
     let q = c.self.inside in
     (omega arith, c.self.invariant.1, rw c.remove-taken.ensures.items (all_but_one (λ r. is_active r.client q.clients.items ≡ true) q.requests.items c.args.index c.self.invariant.2))
+
+pub remove-taken-requires : goal.remove-taken-requires
+remove-taken-requires g c =
+    let within = subst (λ s. c.args.index < length s.requests) (sym c.self.view_is) c.requires in
+    omega arith

@@ -1,7 +1,8 @@
 -- Where queued clients are active, an adjustment shifts each request.
-use Rattle.std.proofs.Common.{◌≡◌, not, ◌&&◌, ◌||◌, List, [], ◌∷◌, map, Option, Some, None, refl, sym, ap, ◌∙◌}
+use Rattle.std.proofs.Common.{◌≡◌, ℕ, not, ◌&&◌, ◌||◌, List, [], ◌∷◌, ◌++◌, length, take, drop, map, Option, Some, None, refl, sym, ap, ◌∙◌}
 use Rattle.std.specs.Prelude.{if◌then◌else◌}
 use Rattle.std.specs.List.{list_all}
+use Rattle.std.proofs.lemmas.List.{take_at, drop_at}
 use Rattle.dmc_tag.specs.Tag.{Tagging}
 use Rattle.dmc_tag.specs.Queued.{AreActive}
 use Rattle.dmc_tag.specs.Rules.{requests_can_shift, has_less, shifted_request, shifted_requests}
@@ -25,3 +26,12 @@ module _ {T : Type 0} (ops : Tagging T) where
   pub shifted_as : (shift : Option T) (clients : List (PlainClient T)) (requests : List (PlainRequest T)) → AreActive clients requests → less_shares ops shift requests ≡ shifted_requests ops shift clients requests
   shifted_as None clients requests h = refl
   shifted_as (Some amount) clients requests h = shifted_all amount clients requests h
+
+  -- what is queued behind the others, once they are shifted
+  pub queued_as : (shift : Option T) (clients : List (PlainClient T)) (requests : List (PlainRequest T)) → AreActive clients requests → (r : PlainRequest T) (n : ℕ) → length requests ≡ n → (pushed after : List (PlainRequest T)) → pushed ≡ requests ++ r ∷ [] → after ≡ less_shares ops shift (take n pushed) ++ drop n pushed → after ≡ shifted_requests ops shift clients requests ++ r ∷ []
+  queued_as shift clients requests h r n count pushed after p e =
+      e
+      ∙ ap (λ rs. less_shares ops shift (take n rs) ++ drop n rs) p
+      ∙ ap (λ rs. less_shares ops shift rs ++ drop n (requests ++ r ∷ [])) (take_at requests (r ∷ []) n count)
+      ∙ ap (λ rs. less_shares ops shift requests ++ rs) (drop_at requests (r ∷ []) n count)
+      ∙ ap (λ rs. rs ++ r ∷ []) (shifted_as shift clients requests h)

@@ -83,8 +83,7 @@ impl<T: Tag> PlainQueue<T> {
         if self.requests.push(request).is_err() {
             return Err(QueueFault::Memory);
         }
-        shift_first(&mut self.requests, others, shift);
-        shift_clients(&mut self.clients, shift);
+        shift_others(&mut self.requests, others, &mut self.clients, shift);
         let PlainRequest { client, tags, .. } = request;
         change_all(&mut self.clients, &Arrival { client, tags, at });
         self.last_moment = at;
@@ -148,23 +147,21 @@ fn assigned<T: Tag>(
     next_tags(&spacings, &client.previous, params, t).ok_or(Refusal::Range)
 }
 
-/// Shifts the first n requests by the amount, if there is one.
-fn shift_first<T: Tag>(requests: &mut Vec<PlainRequest<T>>, n: usize, shift: Option<T>)
+/// Shifts the first n requests and the clients by the amount, if there is one.
+fn shift_others<T: Tag>(
+    requests: &mut Vec<PlainRequest<T>>,
+    n: usize,
+    clients: &mut Vec<PlainClient<T>>,
+    shift: Option<T>,
+)
     requires { n ≤ vec_len requests.old }
-    ensures items { requests.new.items ≡ less_shares T.ops shift (take n requests.old.items) ++ drop n requests.old.items }
-    ensures len { vec_len requests.new ≡ vec_len requests.old }
+    ensures requests { requests.new.items ≡ less_shares T.ops shift (take n requests.old.items) ++ drop n requests.old.items }
+    ensures request_count { vec_len requests.new ≡ vec_len requests.old }
+    ensures clients { clients.new.items ≡ rules_of.shifted_clients T.ops shift clients.old.items }
+    ensures client_count { vec_len clients.new ≡ vec_len clients.old }
 {
     if let Some(amount) = shift {
         change_first(requests, n, &RequestShift { amount });
-    }
-}
-
-/// Shifts the clients by the amount, if there is one.
-fn shift_clients<T: Tag>(clients: &mut Vec<PlainClient<T>>, shift: Option<T>)
-    ensures items { clients.new.items ≡ rules_of.shifted_clients T.ops shift clients.old.items }
-    ensures len { vec_len clients.new ≡ vec_len clients.old }
-{
-    if let Some(amount) = shift {
         change_all(clients, &ClientShift { amount });
     }
 }

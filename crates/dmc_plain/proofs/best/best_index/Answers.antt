@@ -1,4 +1,6 @@
-use Rattle.std.proofs.Common.{◌≡◌, ◌<◌, ◌-◌, suc, length, drop, subst, arith}
+use Rattle.std.proofs.Common.{◌≡◌, ◌<◌, ◌-◌, suc, length, drop, ap, subst, arith}
+use Rattle.std.proofs.Math.Seq.{drop-length}
+use Rattle.dmc_tag.specs.Best.{best}
 use Rattle.dmc_plain.specs.Sets.{members, order}
 use Rattle.dmc_plain.proofs.Found.{Found, found_more, found_all, found_bound}
 use Rattle.dmc_plain.proofs.best.best_index.Goals as goal
@@ -31,3 +33,12 @@ returns-clause-bound g c =
     let before = order g.T.Tag.ops c.args.set.now in
     let member = members g.T.Tag.ops c.args.set.now in
     found_bound before member c.args.requests.now c.loop-i.i c.loop-i.found c.loop-i.invariant
+
+pub loop-i-init : goal.loop-i-init
+loop-i-init g c = ap (best (order g.T.Tag.ops c.args.set.now) (members g.T.Tag.ops c.args.set.now)) (drop-length c.args.requests.now)
+
+pub offset_bounds-requests-i : goal.offset_bounds-requests-i
+offset_bounds-requests-i g c = omega arith
+
+pub bounds-requests-i : goal.bounds-requests-i
+bounds-requests-i g c = omega arith

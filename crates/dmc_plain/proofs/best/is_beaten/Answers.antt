@@ -1,4 +1,4 @@
-use Rattle.std.proofs.Common.{◌∙◌, refl, ap}
+use Rattle.std.proofs.Common.{◌∙◌, ◌<◌, length, refl, ap, arith}
 use Rattle.std.proofs.lemmas.List.{get_or_read}
 use Rattle.dmc_plain.specs.Sets.{order}
 use Rattle.dmc_plain.proofs.best.is_beaten.Goals as goal
@@ -14,3 +14,8 @@ returns-in-Some g c =
 
 pub bounds-requests-j : goal.bounds-requests-j
 bounds-requests-j g c = rw c.in-Some.is at c.requires
+
+pub offset_bounds-requests-j : goal.offset_bounds-requests-j
+offset_bounds-requests-j g c =
+    let within : c.in-Some.j < length c.args.requests.now = rw c.in-Some.is at c.requires in
+    omega arith

@@ -1,5 +1,4 @@
-use Rattle.std.proofs.Common.{rules, refl}
-use Rattle.std.proofs.lemmas.Grind.{common_steps}
+use Rattle.std.proofs.Common.{refl, arith}
 use Rattle.dmc_tag.proofs.ForCallers.{clean_keeps_active}
 use Rattle.dmc_plain.proofs.queue.PlainQueue.clean.Goals as goal
 
@@ -10,4 +9,4 @@ returns g c =
 pub invariant_of-self : goal.invariant_of-self
 invariant_of-self g c =
     let q = c.self.inside in
-    (search (rules, common_steps), search (rules, common_steps), rw (c.change_all.ensures.items, c.erase.ensures.items, c.as_slice-requests.ensures.value) (clean_keeps_active c.effective-at.result c.idle_age-idle_age.result c.erase_age-erase_age.result q.clients.items q.requests.items c.self.invariant.2))
+    (c.self.invariant.0, omega arith, rw (c.change_all.ensures.items, c.erase.ensures.items, c.as_slice-requests.ensures.value) (clean_keeps_active c.effective-at.result c.idle_age-idle_age.result c.erase_age-erase_age.result q.clients.items q.requests.items c.self.invariant.2))

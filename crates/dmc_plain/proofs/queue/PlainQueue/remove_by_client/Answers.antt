@@ -1,5 +1,4 @@
-use Rattle.std.proofs.Common.{rules, ap, sym, ◌∙◌}
-use Rattle.std.proofs.lemmas.Grind.{common_steps}
+use Rattle.std.proofs.Common.{ap, sym, ◌∙◌, arith}
 use Rattle.dmc_tag.proofs.ForCallers.{removal_keeps_active}
 use Rattle.dmc_plain.proofs.Grants.{removal, removed_as}
 use Rattle.dmc_plain.proofs.queue.PlainQueue.remove_by_client.Goals as goal
@@ -12,4 +11,4 @@ returns g c =
 pub invariant_of-self : goal.invariant_of-self
 invariant_of-self g c =
     let q = c.self.inside in
-    (search (rules, common_steps), search (rules, common_steps), rw c.drop_of.ensures.items (removal_keeps_active c.args.client q.clients.items q.requests.items c.self.invariant.2))
+    (omega arith, c.self.invariant.1, rw c.drop_of.ensures.items (removal_keeps_active c.args.client q.clients.items q.requests.items c.self.invariant.2))

@@ -1,5 +1,4 @@
-use Rattle.std.proofs.Common.{rules, ◌≡◌, sym, subst, ◌∙◌}
-use Rattle.std.proofs.lemmas.Grind.{common_steps}
+use Rattle.std.proofs.Common.{◌≡◌, sym, subst, ◌∙◌, arith}
 use Rattle.dmc_types.specs.declared.command.Command.TheVariants.{Update}
 use Rattle.dmc_tag.specs.State.{effective}
 use Rattle.dmc_tag.specs.Rules.{change_client, with_info}
@@ -12,7 +11,7 @@ use Rattle.dmc_plain.proofs.queue.PlainQueue.update_info.Goals as goal
 pub invariant_of-self : goal.invariant_of-self
 invariant_of-self g c =
     let q = c.self.inside in
-    (search (rules, common_steps), search (rules, common_steps), rw c.change_all.ensures.items (update_keeps_active c.args.client c.args.info q.clients.items q.requests.items c.self.invariant.2))
+    (c.self.invariant.0, omega arith, rw c.change_all.ensures.items (update_keeps_active c.args.client c.args.info q.clients.items q.requests.items c.self.invariant.2))
 
 pub returns : goal.returns
 returns g c =

@@ -1,6 +1,5 @@
-use Rattle.std.proofs.Common.{◌≡◌, ◌∙◌, ◌<◌, ◌++◌, ◌∷◌, [], length, refl, sym, subst, arith}
+use Rattle.std.proofs.Common.{◌≡◌, ◌∙◌, ◌++◌, ◌∷◌, [], length, refl, ap, sym, subst, arith}
 use Rattle.dmc_types.specs.declared.command.Command.TheVariants.{Register}
-use Rattle.dmc_types.specs.Limits.{most_clients}
 use Rattle.dmc_types.specs.declared.refusal.QueueFault.TheVariants as faults
 use Rattle.dmc_tag.specs.State.{effective}
 use Rattle.dmc_tag.specs.Rules.{newcomer}
@@ -15,7 +14,8 @@ pub invariant_of-self-2 : goal.invariant_of-self-2
 invariant_of-self-2 g c =
     let q = c.self.inside in
     let pushed = rw c.if-is_err.ensures.negation at c.push.ensures.items in
-    let room = subst (λ s. length s.clients < most_clients) (sym c.self.view_is) c.in_ok-can_register.ensures.room in
+    let clients : length q.clients.items ≡ length c.args.self.now.clients = ap (λ s. length s.clients) c.self.view_is in
+    let room = c.in_ok-can_register.ensures.room in
     (c.self.invariant.0, omega arith, rw pushed (registration_keeps_active q.clients.items c.newcomer.result q.requests.items c.self.invariant.2))
 
 pub returns : goal.returns

@@ -199,7 +199,8 @@ impl<T: Tag> PlainQueue<T> {
         ensures { Exactly T.ops self.old self.new (commands.Clean at) (Some (clean_reply result)) }
     {
         let at = self.effective(at);
-        let (idle_age, erase_age) = (self.config.idle_age(), self.config.erase_age());
+        let idle_age = self.config.idle_age();
+        let erase_age = self.config.erase_age();
         let requests = self.requests.as_slice();
         let idled = count_idled(&self.clients, requests, at, idle_age, erase_age);
         let erased = count_erased(&self.clients, requests, at, erase_age);

@@ -84,8 +84,14 @@ impl<T: Tag> PlainQueue<T> {
             return Err(QueueFault::Memory);
         }
         shift_others(&mut self.requests, others, &mut self.clients, shift);
-        let PlainRequest { client, tags, .. } = request;
-        change_all(&mut self.clients, &Arrival { client, tags, at });
+        change_all(
+            &mut self.clients,
+            &Arrival {
+                client: request.client,
+                tags: request.tags,
+                at,
+            },
+        );
         self.last_moment = at;
         Ok(())
     }

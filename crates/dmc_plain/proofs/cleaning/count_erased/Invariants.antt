@@ -1,4 +1,3 @@
-use Rattle.std.proofs.Common.{not, ◌&&◌}
 use Rattle.dmc_tag.specs.Rules.{is_stale}
 use Rattle.dmc_plain.proofs.Counted.{Counted}
 use Rattle.dmc_plain.proofs.cleaning.count_erased.Given as goal

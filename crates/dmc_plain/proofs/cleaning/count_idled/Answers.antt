@@ -1,4 +1,4 @@
-use Rattle.std.proofs.Common.{◌∙◌, not, ◌&&◌, sym, arith}
+use Rattle.std.proofs.Common.{◌∙◌, not, ◌&&◌, sym}
 use Rattle.dmc_tag.specs.Rules.{is_stale}
 use Rattle.dmc_plain.proofs.Counted.{none_yet, passed, left_out, counted_all}
 use Rattle.dmc_plain.proofs.cleaning.count_idled.Goals as goal

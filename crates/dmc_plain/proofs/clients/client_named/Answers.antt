@@ -1,4 +1,4 @@
-use Rattle.std.proofs.Common.{◌≡◌, ◌∙◌, ℕ, suc, ◌<◌, Bool, true, false, cond, List, ◌∷◌, length, drop, get_or, Some, None, refl, sym, ap, subst, arith, add-one, drop-cons, drop_of_length-le}
+use Rattle.std.proofs.Common.{◌≡◌, ◌∙◌, ℕ, suc, ◌<◌, Bool, true, false, cond, List, ◌∷◌, length, drop, get_or, Some, sym, ap, add-one, drop-cons, drop_of_length-le}
 use Rattle.dmc_types.specs.declared.ids.ClientId.{ClientId}
 use Rattle.dmc_tag.specs.State.{client_named, is_client}
 use Rattle.dmc_tag.specs.declared.plain.PlainClient.{PlainClient}

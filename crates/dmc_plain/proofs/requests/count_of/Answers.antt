@@ -1,4 +1,4 @@
-use Rattle.std.proofs.Common.{◌∙◌, not, ◌&&◌, sym, arith}
+use Rattle.std.proofs.Common.{◌∙◌, sym}
 use Rattle.dmc_tag.specs.State.{is_client}
 use Rattle.dmc_plain.proofs.Counted.{none_yet, passed, left_out, counted_all}
 use Rattle.dmc_plain.proofs.requests.count_of.Goals as goal

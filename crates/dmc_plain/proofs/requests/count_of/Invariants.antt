@@ -1,4 +1,3 @@
-use Rattle.std.proofs.Common.{not, ◌&&◌}
 use Rattle.dmc_tag.specs.State.{is_client}
 use Rattle.dmc_plain.proofs.Counted.{Counted}
 use Rattle.dmc_plain.proofs.requests.count_of.Given as goal

@@ -1,4 +1,4 @@
-use Rattle.std.proofs.Common.{◌≡◌, ◌∙◌, not, refl, sym, ap}
+use Rattle.std.proofs.Common.{◌∙◌, not, refl, sym, ap}
 use Rattle.dmc_types.specs.declared.refusal.Refusal.TheVariants.{Range}
 use Rattle.dmc_tag.specs.Outcome.{refuse_if}
 use Rattle.dmc_tag.specs.Rules.{reduction_of}

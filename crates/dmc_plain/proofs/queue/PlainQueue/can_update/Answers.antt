@@ -1,4 +1,4 @@
-use Rattle.std.proofs.Common.{◌≡◌, ◌∙◌, ◌&&◌, true, false, sym, ap}
+use Rattle.std.proofs.Common.{◌∙◌, ◌&&◌, true, false, sym, ap}
 use Rattle.dmc_types.specs.declared.refusal.Refusal.TheVariants.{Inexact}
 use Rattle.dmc_tag.specs.Rules.{changes_reservation}
 use Rattle.dmc_tag.specs.Spacing.{spacings_of}

@@ -1,5 +1,4 @@
 use Rattle.std.proofs.Common.{◌≡◌, ◌<◌, length, true, refl, sym, subst, arith}
-use Rattle.std.proofs.lemmas.List.Edits.{length-remove}
 use Rattle.dmc_tag.specs.State.{is_active}
 use Rattle.dmc_plain.proofs.Taken.{all_but_one}
 use Rattle.dmc_plain.proofs.queue.PlainQueue.take_out.Goals as goal

@@ -3,11 +3,11 @@ ghost use Rattle.std.specs.Prelude.{◌≡◌, ℕ, List, ◌∷◌, [], MatchRe
 ghost use Rattle.dmc_text.specs.Words.{words};
 ghost use Rattle.dmc_text.specs.Answers.{Gives};
 ghost use Rattle.dmc_types.specs.Values.{Rates};
-ghost use Rattle.dmc_text.specs.Commands.{phrase_of, Phrase, adding, verb_of, with_five, phrase, small, long, optional, moment, params, rates, with_info, with_params, at_moment, command, seen};
+ghost use Rattle.dmc_text.specs.Commands.{phrase_of, Phrase, registering, updating, adding, verb_of, with_five, phrase, small, long, optional, moment, params, rates, with_info, with_params, at_moment, command, seen};
 
 use crate::cause::LineCause;
 use crate::number::{read_u32, read_u64};
-use crate::word::first_word;
+use crate::word::{first_word, spells};
 use dmc_types::command::Command;
 use dmc_types::ids::{ClientId, Token};
 use dmc_types::info::ClientInfo;
@@ -70,17 +70,17 @@ pub enum CommandFault {
 fn verb_of(word: &[u8]) -> Option<Verb>
     ensures { result ≡ verb_of word.now }
 {
-    if word == b"client".as_slice() {
+    if spells(word, b"client") {
         Some(Verb::Client)
-    } else if word == b"update".as_slice() {
+    } else if spells(word, b"update") {
         Some(Verb::Update)
-    } else if word == b"add".as_slice() {
+    } else if spells(word, b"add") {
         Some(Verb::Add)
-    } else if word == b"pull".as_slice() {
+    } else if spells(word, b"pull") {
         Some(Verb::Pull)
-    } else if word == b"drop".as_slice() {
+    } else if spells(word, b"drop") {
         Some(Verb::Drop)
-    } else if word == b"clean".as_slice() {
+    } else if spells(word, b"clean") {
         Some(Verb::Clean)
     } else {
         None
@@ -95,14 +95,16 @@ pub fn next_word(text: &[u8]) -> Result<(&[u8], &[u8]), LineCause>
     first_word(text).ok_or(LineCause::Words)
 }
 
-/// The words of an info at the front of a text, and what stands behind them.
-fn info_words(text: &[u8]) -> Result<(InfoWords<'_>, &[u8]), LineCause>
+/// The words of an info: a client, and the others at the front of a text. And what stands behind them.
+fn info_words<'a>(
+    client: &'a [u8],
+    text: &'a [u8],
+) -> Result<(InfoWords<'a>, &'a [u8]), LineCause>
     ensures { (make : List ℕ → List ℕ → List ℕ → List ℕ → List ℕ → Phrase) → Gives
         (λ x. (make x.0.client.now x.0.reservation.now x.0.weight.now x.0.limit.now x.0.at.now, words x.1.now))
-        result (with_five make (words text.now)) }
+        result (with_five make (client.now ∷ words text.now)) }
 {
-    let (client, rest) = next_word(text)?;
-    let (reservation, rest) = next_word(rest)?;
+    let (reservation, rest) = next_word(text)?;
     let (weight, rest) = next_word(rest)?;
     let (limit, rest) = next_word(rest)?;
     let (at, rest) = next_word(rest)?;
@@ -116,14 +118,36 @@ fn info_words(text: &[u8]) -> Result<(InfoWords<'_>, &[u8]), LineCause>
     Ok((info, rest))
 }
 
-/// The words of a request at the front of a text, and what stands behind them.
-fn add_words(text: &[u8]) -> Result<(AddWords<'_>, &[u8]), LineCause>
-    ensures { Gives
-        (λ x. (adding x.0.client.now x.0.token.now x.0.delta.now x.0.rho.now x.0.at.now, words x.1.now))
-        result (with_five adding (words text.now)) }
+/// The words of `client`, and what stands behind them.
+fn register_words<'a>(
+    client: &'a [u8],
+    text: &'a [u8],
+) -> Result<(CommandWords<'a>, &'a [u8]), LineCause>
+    ensures { Gives (λ x. (seen x.0, words x.1.now)) result (with_five registering (client.now ∷ words text.now)) }
 {
-    let (client, rest) = next_word(text)?;
-    let (token, rest) = next_word(rest)?;
+    let (info, rest) = info_words(client, text)?;
+    Ok((CommandWords::Register(info), rest))
+}
+
+/// The words of `update`, and what stands behind them.
+fn update_words<'a>(
+    client: &'a [u8],
+    text: &'a [u8],
+) -> Result<(CommandWords<'a>, &'a [u8]), LineCause>
+    ensures { Gives (λ x. (seen x.0, words x.1.now)) result (with_five updating (client.now ∷ words text.now)) }
+{
+    let (info, rest) = info_words(client, text)?;
+    Ok((CommandWords::Update(info), rest))
+}
+
+/// The words of `add`, and what stands behind them.
+fn add_words<'a>(
+    client: &'a [u8],
+    text: &'a [u8],
+) -> Result<(CommandWords<'a>, &'a [u8]), LineCause>
+    ensures { Gives (λ x. (seen x.0, words x.1.now)) result (with_five adding (client.now ∷ words text.now)) }
+{
+    let (token, rest) = next_word(text)?;
     let (delta, rest) = next_word(rest)?;
     let (rho, rest) = next_word(rest)?;
     let (at, rest) = next_word(rest)?;
@@ -134,39 +158,22 @@ fn add_words(text: &[u8]) -> Result<(AddWords<'_>, &[u8]), LineCause>
         rho,
         at,
     };
-    Ok((add, rest))
+    Ok((CommandWords::Add(add), rest))
 }
 
-/// The words behind the first word of a command, and what stands behind them.
+/// The words behind the first word of a command, and what stands behind them. Each command has one at least.
 #[tactic(auto, unfolding(crate::specs::Commands::phrase))]
 fn words_behind(verb: Verb, text: &[u8]) -> Result<(CommandWords<'_>, &[u8]), LineCause>
     ensures { Gives (λ x. (seen x.0, words x.1.now)) result (phrase_of verb (words text.now)) }
 {
+    let (word, rest) = next_word(text)?;
     match verb {
-        Verb::Client => {
-            let (info, rest) = info_words(text)?;
-            Ok((CommandWords::Register(info), rest))
-        }
-        Verb::Update => {
-            let (info, rest) = info_words(text)?;
-            Ok((CommandWords::Update(info), rest))
-        }
-        Verb::Add => {
-            let (add, rest) = add_words(text)?;
-            Ok((CommandWords::Add(add), rest))
-        }
-        Verb::Pull => {
-            let (at, rest) = next_word(text)?;
-            Ok((CommandWords::Pull(at), rest))
-        }
-        Verb::Drop => {
-            let (client, rest) = next_word(text)?;
-            Ok((CommandWords::Remove(client), rest))
-        }
-        Verb::Clean => {
-            let (at, rest) = next_word(text)?;
-            Ok((CommandWords::Clean(at), rest))
-        }
+        Verb::Client => register_words(word, rest),
+        Verb::Update => update_words(word, rest),
+        Verb::Add => add_words(word, rest),
+        Verb::Pull => Ok((CommandWords::Pull(word), rest)),
+        Verb::Drop => Ok((CommandWords::Remove(word), rest)),
+        Verb::Clean => Ok((CommandWords::Clean(word), rest)),
     }
 }
 
@@ -201,7 +208,7 @@ fn long(word: &[u8]) -> Result<u64, CommandFault>
 fn optional(word: &[u8]) -> Result<Option<u32>, CommandFault>
     ensures { result ≡ optional word.now }
 {
-    if word == b"-".as_slice() {
+    if spells(word, b"-") {
         return Ok(None);
     }
     Ok(Some(small(word)?))

@@ -8,7 +8,7 @@ ghost use Rattle.dmc_text.specs.Lines.{is_line_byte, limit_of, seen_ages, seen_h
 use crate::cause::LineCause;
 use crate::command::{CommandFault, command_words, next_word, read_command};
 use crate::number::read_u64;
-use crate::word::first_word;
+use crate::word::{first_word, spells};
 use dmc_types::command::Command;
 use dmc_types::config::{AtLimit, QueueConfig};
 use dmc_types::refusal::ValueFault;
@@ -41,7 +41,7 @@ pub enum LineKind {
 const LONGEST: usize = 256;
 
 /// The words behind `hz`.
-#[derive(Clone, Copy, Debug)]
+#[derive(Clone, Copy)]
 struct ConfigWords<'a> {
     hz: &'a [u8],
     ages: Option<(&'a [u8], &'a [u8])>,
@@ -121,7 +121,7 @@ fn at_limit(text: &[u8]) -> Result<AtLimit, LineCause>
     let Some((last, rest)) = first_word(text) else {
         return Ok(AtLimit::Wait);
     };
-    if last != b"allow".as_slice() || first_word(rest).is_some() {
+    if !spells(last, b"allow") || first_word(rest).is_some() {
         return Err(LineCause::Words);
     }
     Ok(AtLimit::Allow)
@@ -190,7 +190,7 @@ pub fn read_kind(line: &[u8], headed: bool) -> Result<LineKind, LineCause>
     if is_comment(name) {
         return Ok(LineKind::Skip);
     }
-    let heads = name == b"hz".as_slice();
+    let heads = spells(name, b"hz");
     if heads == headed {
         return Err(LineCause::Hz);
     }

@@ -13,7 +13,6 @@ fn is_led(word: &[u8]) -> bool
 }
 
 /// The number that a word spells, read in one pass. None where it spells none, or one past 2^64 - 1.
-#[tactic(auto, using(crate::proofs::NumberLemmas::reads_number, crate::proofs::NumberLemmas::no_number))]
 pub fn read_u64(word: &[u8]) -> Option<u64>
     ensures { result ≡ number (2 ^ 64) word.now }
 {
@@ -31,7 +30,6 @@ pub fn read_u64(word: &[u8]) -> Option<u64>
 }
 
 /// The same up to 2^128 - 1.
-#[tactic(auto, using(crate::proofs::NumberLemmas::reads_number, crate::proofs::NumberLemmas::no_number))]
 pub fn read_u128(word: &[u8]) -> Option<u128>
     ensures { result ≡ number (2 ^ 128) word.now }
 {

@@ -1,14 +1,14 @@
 //! The texts of replies. Their words are judged before any is read as a number or a tag.
-ghost use Rattle.std.specs.Prelude.{◌≡◌, ◌∷◌, [], ℕ, List};
+ghost use Rattle.std.specs.Prelude.{◌≡◌, ◌∷◌, []};
 ghost use Rattle.dmc_text.specs.Words.{words};
 ghost use Rattle.dmc_text.specs.Answers.{Gives};
-ghost use Rattle.dmc_text.specs.Replies.{Saying, name_of, no_more, one_more, two_more, three_more, tagged, cleaned, phase_of, grant_of, field_of, plain_refusal, refusal_of, saying_of, saying, count, instant, tag, optional_tag, reply_said, reply_of, seen_reply};
+ghost use Rattle.dmc_text.specs.Replies.{name_of, no_more, one_more, two_more, three_more, tagged, granted, later, removed, cleaned, phase_of, grant_of, field_of, plain_refusal, refusal_of, saying_of, saying, count, instant, tag, optional_tag, reply_said, reply_of, seen_reply};
 
 use crate::cause::LineCause;
 use crate::command::next_word;
 use crate::number::{read_u32, read_u128};
 use crate::tag::{TagText, read_tag};
-use crate::word::first_word;
+use crate::word::{first_word, spells};
 use dmc_tag::reply::{Reply, Tags};
 use dmc_types::config::PhaseType;
 use dmc_types::ids::{ClientId, Token};
@@ -62,63 +62,72 @@ pub enum ReplyWords<'a> {
 fn name_of(word: &[u8]) -> Option<ReplyName>
     ensures { result ≡ name_of word.now }
 {
-    if word == b"ok".as_slice() {
+    if spells(word, b"ok") {
         Some(ReplyName::Ok)
-    } else if word == b"updated".as_slice() {
+    } else if spells(word, b"updated") {
         Some(ReplyName::Updated)
-    } else if word == b"tags".as_slice() {
+    } else if spells(word, b"tags") {
         Some(ReplyName::Tags)
-    } else if word == b"grant".as_slice() {
+    } else if spells(word, b"grant") {
         Some(ReplyName::Grant)
-    } else if word == b"future".as_slice() {
+    } else if spells(word, b"future") {
         Some(ReplyName::Future)
-    } else if word == b"none".as_slice() {
+    } else if spells(word, b"none") {
         Some(ReplyName::None)
-    } else if word == b"dropped".as_slice() {
+    } else if spells(word, b"dropped") {
         Some(ReplyName::Dropped)
-    } else if word == b"cleaned".as_slice() {
+    } else if spells(word, b"cleaned") {
         Some(ReplyName::Cleaned)
-    } else if word == b"refused".as_slice() {
+    } else if spells(word, b"refused") {
         Some(ReplyName::Refused)
     } else {
         None
     }
 }
 
-/// Whether nothing stands behind a reply; the cause is `Words` where something does.
-fn ended(text: &[u8]) -> Result<(), LineCause>
-    ensures { (s : Saying) → Gives (λ _. s) result (no_more s (words text.now)) }
+/// A reply behind which nothing stands; the cause is `Words` where something does.
+fn ended<'a>(reply: ReplyWords<'a>, text: &[u8]) -> Result<ReplyWords<'a>, LineCause>
+    ensures { Gives seen_reply result (no_more (seen_reply reply.entry) (words text.now)) }
 {
     match first_word(text) {
         Some(_) => Err(LineCause::Words),
-        None => Ok(()),
+        None => Ok(reply),
     }
 }
 
-/// The one word that is left.
-fn one_more(text: &[u8]) -> Result<&[u8], LineCause>
-    ensures { (s : List ℕ → Saying) → Gives (λ x. s x.now) result (one_more s (words text.now)) }
-{
-    let (word, rest) = next_word(text)?;
-    ended(rest)?;
-    Ok(word)
-}
-
-/// The two words that are left.
-fn two_more(text: &[u8]) -> Result<(&[u8], &[u8]), LineCause>
-    ensures { (s : List ℕ → List ℕ → Saying) → Gives (λ x. s x.0.now x.1.now) result (two_more s (words text.now)) }
-{
-    let (first, rest) = next_word(text)?;
-    Ok((first, one_more(rest)?))
-}
-
 /// The three words of tags.
-fn tag_words(text: &[u8]) -> Result<TagWords<'_>, LineCause>
-    ensures { Gives (λ x. tagged x.r.now x.l.now x.p.now) result (three_more tagged (words text.now)) }
+fn tagged(text: &[u8]) -> Result<ReplyWords<'_>, LineCause>
+    ensures { Gives seen_reply result (three_more tagged (words text.now)) }
 {
     let (r, rest) = next_word(text)?;
-    let (l, p) = two_more(rest)?;
-    Ok(TagWords { r, l, p })
+    let (l, rest) = next_word(rest)?;
+    let (p, rest) = next_word(rest)?;
+    ended(ReplyWords::Tagged(TagWords { r, l, p }), rest)
+}
+
+/// The one word of a moment that is to come.
+fn later(text: &[u8]) -> Result<ReplyWords<'_>, LineCause>
+    ensures { Gives seen_reply result (one_more later (words text.now)) }
+{
+    let (at, rest) = next_word(text)?;
+    ended(ReplyWords::Later(at), rest)
+}
+
+/// The one word of a removal.
+fn removed(text: &[u8]) -> Result<ReplyWords<'_>, LineCause>
+    ensures { Gives seen_reply result (one_more removed (words text.now)) }
+{
+    let (count, rest) = next_word(text)?;
+    ended(ReplyWords::Removed(count), rest)
+}
+
+/// The two words of a cleaning.
+fn cleaned(text: &[u8]) -> Result<ReplyWords<'_>, LineCause>
+    ensures { Gives seen_reply result (two_more cleaned (words text.now)) }
+{
+    let (idled, rest) = next_word(text)?;
+    let (erased, rest) = next_word(rest)?;
+    ended(ReplyWords::Cleaned { idled, erased }, rest)
 }
 
 /// The phase of a grant, and whether it is beyond its limit.
@@ -139,7 +148,7 @@ fn phase_of(text: &[u8]) -> Result<(PhaseType, bool), LineCause>
 fn beyond_named(phase: &[u8], beyond: &[u8]) -> Result<(PhaseType, bool), LineCause>
     ensures { result ≡ phase_of (phase.now ∷ beyond.now ∷ []) }
 {
-    if phase == b"priority".as_slice() && beyond == b"beyond".as_slice() {
+    if spells(phase, b"priority") && spells(beyond, b"beyond") {
         return Ok((PhaseType::Priority, true));
     }
     Err(LineCause::Words)
@@ -149,10 +158,10 @@ fn beyond_named(phase: &[u8], beyond: &[u8]) -> Result<(PhaseType, bool), LineCa
 fn phase_named(word: &[u8]) -> Result<(PhaseType, bool), LineCause>
     ensures { result ≡ phase_of (word.now ∷ []) }
 {
-    if word == b"reservation".as_slice() {
+    if spells(word, b"reservation") {
         return Ok((PhaseType::Reservation, false));
     }
-    if word == b"priority".as_slice() {
+    if spells(word, b"priority") {
         return Ok((PhaseType::Priority, false));
     }
     Err(LineCause::Words)
@@ -177,13 +186,13 @@ fn granted(text: &[u8]) -> Result<ReplyWords<'_>, LineCause>
 fn field_of(word: &[u8]) -> Result<Field, LineCause>
     ensures { result ≡ field_of word.now }
 {
-    if word == b"reservation".as_slice() {
+    if spells(word, b"reservation") {
         return Ok(Field::Reservation);
     }
-    if word == b"weight".as_slice() {
+    if spells(word, b"weight") {
         return Ok(Field::Weight);
     }
-    if word == b"limit".as_slice() {
+    if spells(word, b"limit") {
         return Ok(Field::Limit);
     }
     Err(LineCause::Words)
@@ -193,21 +202,31 @@ fn field_of(word: &[u8]) -> Result<Field, LineCause>
 fn plain_refusal(word: &[u8]) -> Result<Refusal, LineCause>
     ensures { result ≡ plain_refusal word.now }
 {
-    if word == b"known".as_slice() {
+    if spells(word, b"known") {
         Ok(Refusal::Known)
-    } else if word == b"unknown".as_slice() {
+    } else if spells(word, b"unknown") {
         Ok(Refusal::Unknown)
-    } else if word == b"clients".as_slice() {
+    } else if spells(word, b"clients") {
         Ok(Refusal::Clients)
-    } else if word == b"full".as_slice() {
+    } else if spells(word, b"full") {
         Ok(Refusal::QueueFull)
-    } else if word == b"range".as_slice() {
+    } else if spells(word, b"range") {
         Ok(Refusal::Range)
-    } else if word == b"busy".as_slice() {
+    } else if spells(word, b"busy") {
         Ok(Refusal::Busy)
     } else {
         Err(LineCause::Words)
     }
+}
+
+/// The refusal that two words and what stands behind them name.
+fn inexact(word: &[u8], field: &[u8], text: &[u8]) -> Result<Refusal, LineCause>
+    ensures { result ≡ refusal_of (word.now ∷ field.now ∷ words text.now) }
+{
+    if !spells(word, b"inexact") || first_word(text).is_some() {
+        return Err(LineCause::Words);
+    }
+    Ok(Refusal::Inexact(field_of(field)?))
 }
 
 /// The refusal that the words behind `refused` name.
@@ -215,13 +234,10 @@ fn refusal_of(text: &[u8]) -> Result<Refusal, LineCause>
     ensures { result ≡ refusal_of (words text.now) }
 {
     let (word, rest) = next_word(text)?;
-    let Some((field, rest)) = first_word(rest) else {
-        return plain_refusal(word);
-    };
-    if word != b"inexact".as_slice() || first_word(rest).is_some() {
-        return Err(LineCause::Words);
+    match first_word(rest) {
+        None => plain_refusal(word),
+        Some((field, rest)) => inexact(word, field, rest),
     }
-    Ok(Refusal::Inexact(field_of(field)?))
 }
 
 /// The words behind the first word of a reply.
@@ -229,26 +245,14 @@ fn words_behind(name: ReplyName, text: &[u8]) -> Result<ReplyWords<'_>, LineCaus
     ensures { Gives seen_reply result (saying_of name (words text.now)) }
 {
     match name {
-        ReplyName::Ok => {
-            ended(text)?;
-            Ok(ReplyWords::Registered)
-        }
-        ReplyName::Updated => {
-            ended(text)?;
-            Ok(ReplyWords::Updated)
-        }
-        ReplyName::Tags => Ok(ReplyWords::Tagged(tag_words(text)?)),
+        ReplyName::Ok => ended(ReplyWords::Registered, text),
+        ReplyName::Updated => ended(ReplyWords::Updated, text),
+        ReplyName::Tags => tagged(text),
         ReplyName::Grant => granted(text),
-        ReplyName::Future => Ok(ReplyWords::Later(one_more(text)?)),
-        ReplyName::None => {
-            ended(text)?;
-            Ok(ReplyWords::Nothing)
-        }
-        ReplyName::Dropped => Ok(ReplyWords::Removed(one_more(text)?)),
-        ReplyName::Cleaned => {
-            let (idled, erased) = two_more(text)?;
-            Ok(ReplyWords::Cleaned { idled, erased })
-        }
+        ReplyName::Future => later(text),
+        ReplyName::None => ended(ReplyWords::Nothing, text),
+        ReplyName::Dropped => removed(text),
+        ReplyName::Cleaned => cleaned(text),
         ReplyName::Refused => Ok(ReplyWords::Refused(refusal_of(text)?)),
     }
 }
@@ -292,10 +296,51 @@ fn tag<T: TagText>(word: &[u8]) -> Result<T, LineCause>
 fn optional_tag<T: TagText>(word: &[u8]) -> Result<Option<T>, LineCause>
     ensures { result ≡ optional_tag T.made word.now }
 {
-    if word == b"-".as_slice() {
+    if spells(word, b"-") {
         return Ok(None);
     }
     Ok(Some(tag(word)?))
+}
+
+/// The tags that words say.
+#[tactic(auto, unfolding(crate::specs::Replies::reply_said))]
+fn tagged_said<T: TagText>(words: TagWords<'_>) -> Result<Reply<T>, LineCause>
+    ensures { result ≡ reply_said T.made (tagged words.entry.r.now words.entry.l.now words.entry.p.now) }
+{
+    let r = optional_tag(words.r)?;
+    let l = tag(words.l)?;
+    let p = tag(words.p)?;
+    Ok(Reply::Tagged(Tags { r, l, p }))
+}
+
+/// The grant that words say.
+#[tactic(auto, unfolding(crate::specs::Replies::reply_said))]
+fn granted_said<T: TagText>(
+    client: &[u8],
+    token: &[u8],
+    phase: PhaseType,
+    beyond: bool,
+) -> Result<Reply<T>, LineCause>
+    ensures { result ≡ reply_said T.made (granted client.now token.now phase beyond) }
+{
+    let client = ClientId(count(client)?);
+    let token = Token(count(token)?);
+    Ok(Reply::Granted {
+        client,
+        token,
+        phase,
+        beyond,
+    })
+}
+
+/// The cleaning that words say.
+#[tactic(auto, unfolding(crate::specs::Replies::reply_said))]
+fn cleaned_said<T: TagText>(idled: &[u8], erased: &[u8]) -> Result<Reply<T>, LineCause>
+    ensures { result ≡ reply_said T.made (cleaned idled.now erased.now) }
+{
+    let idled = count(idled)?;
+    let erased = count(erased)?;
+    Ok(Reply::Cleaned { idled, erased })
 }
 
 /// The reply that words say: each number and each tag is read.
@@ -306,35 +351,17 @@ pub fn reply_said<T: TagText>(words: ReplyWords<'_>) -> Result<Reply<T>, LineCau
     match words {
         ReplyWords::Registered => Ok(Reply::Registered),
         ReplyWords::Updated => Ok(Reply::Updated),
-        ReplyWords::Tagged(words) => {
-            let r = optional_tag(words.r)?;
-            let l = tag(words.l)?;
-            let p = tag(words.p)?;
-            Ok(Reply::Tagged(Tags { r, l, p }))
-        }
+        ReplyWords::Tagged(words) => tagged_said(words),
         ReplyWords::Granted {
             client,
             token,
             phase,
             beyond,
-        } => {
-            let client = ClientId(count(client)?);
-            let token = Token(count(token)?);
-            Ok(Reply::Granted {
-                client,
-                token,
-                phase,
-                beyond,
-            })
-        }
+        } => granted_said(client, token, phase, beyond),
         ReplyWords::Later(at) => Ok(Reply::Later(instant(at)?)),
         ReplyWords::Nothing => Ok(Reply::Nothing),
         ReplyWords::Removed(removed) => Ok(Reply::Removed(count(removed)?)),
-        ReplyWords::Cleaned { idled, erased } => {
-            let idled = count(idled)?;
-            let erased = count(erased)?;
-            Ok(Reply::Cleaned { idled, erased })
-        }
+        ReplyWords::Cleaned { idled, erased } => cleaned_said(idled, erased),
         ReplyWords::Refused(refusal) => Ok(Reply::Refused(refusal)),
     }
 }

@@ -1,5 +1,6 @@
 //! The words of a line.
 ghost use Rattle.std.specs.Prelude.{◌≡◌, [], ◌∷◌, not, MatchOption, position};
+ghost use Rattle.std.specs.Str.{bytes_eq};
 ghost use Rattle.dmc_text.specs.Words.{is_space, words};
 
 /// Where the first byte stands that is no space.
@@ -24,4 +25,11 @@ pub fn first_word(text: &[u8]) -> Option<(&[u8], &[u8])>
     let text = &text[first_other(text)?..];
     let end = first_space(text).unwrap_or(text.len());
     Some(text.split_at(end))
+}
+
+/// Whether a word is spelled so.
+pub(crate) fn spells(word: &[u8], text: &[u8]) -> bool
+    ensures { result ≡ bytes_eq word.now text.now }
+{
+    word == text
 }

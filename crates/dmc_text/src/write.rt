@@ -1,5 +1,5 @@
 //! Replies are written.
-ghost use Rattle.std.specs.Prelude.{◌≡◌, ◌∷◌, ◌<◌, ◌^◌, Some, OnOk, codes};
+ghost use Rattle.std.specs.Prelude.{◌≡◌, ◌∷◌, [], ◌<◌, ◌^◌, Some, OnOk, codes};
 ghost use Rattle.std.specs.List.{join_with_byte};
 ghost use Rattle.std.specs.Io.KnownBytes.{Appends};
 ghost use Rattle.dmc_text.specs.Replies.{refusal_words, tag_text, reply_text, IsTellable, IsPhase, word_text, tag_word as word_of, grant_words};
@@ -23,7 +23,7 @@ impl fmt::Display for TagWord {
 
     fn fmt<W: fmt::Write>(&self, f: &mut fmt::Formatter<W>) -> fmt::Result {
         match self.0 {
-            None => write!(f, "-"),
+            None => f.write_str("-"),
             Some((numer, 1)) => write!(f, "{numer}"),
             Some((numer, denom)) => write!(f, "{numer}/{denom}"),
         }
@@ -68,7 +68,6 @@ fn optional_word<T: TagText>(tag: Option<T>) -> TagWord
 }
 
 /// Writes tags.
-#[tactic(auto, using(crate::proofs::ReplyLemmas::back_tagged))]
 fn write_tags<T: TagText, W: io::Write>(tags: Tags<T>, out: &mut W) -> io::Result<()>
     ensures text { OnOk result
         (Appends (W.contents out.old) (W.contents out.new) (reply_text (tag_text T.numerator T.denominator) (Tagged tags))) }
@@ -114,6 +113,30 @@ fn write_grant<W: io::Write>(
     write!(out, "grant {} {} {last}", client.0, token.0)
 }
 
+/// Writes a moment that is to come.
+fn write_later<W: io::Write>(at: u128, out: &mut W) -> io::Result<()>
+    ensures { OnOk result (Appends (W.contents out.old) (W.contents out.new)
+        (join_with_byte 32 (codes "future" ∷ decimal at ∷ []))) }
+{
+    write!(out, "future {at}")
+}
+
+/// Writes how many requests were dropped.
+fn write_removed<W: io::Write>(removed: u32, out: &mut W) -> io::Result<()>
+    ensures { OnOk result (Appends (W.contents out.old) (W.contents out.new)
+        (join_with_byte 32 (codes "dropped" ∷ decimal removed ∷ []))) }
+{
+    write!(out, "dropped {removed}")
+}
+
+/// Writes what a cleaning did.
+fn write_cleaned<W: io::Write>(idled: u32, erased: u32, out: &mut W) -> io::Result<()>
+    ensures { OnOk result (Appends (W.contents out.old) (W.contents out.new)
+        (join_with_byte 32 (codes "cleaned" ∷ decimal idled ∷ decimal erased ∷ []))) }
+{
+    write!(out, "cleaned {idled} {erased}")
+}
+
 /// Writes the text of a reply, without its LF. What went out where the writer fails is left open.
 pub fn write_reply<T: TagText, W: io::Write>(reply: &Reply<T>, out: &mut W) -> io::Result<()>
     requires { IsTellable reply.now }
@@ -122,8 +145,8 @@ pub fn write_reply<T: TagText, W: io::Write>(reply: &Reply<T>, out: &mut W) -> i
     ensures again { IsReadBack T.made (tag_text T.numerator T.denominator) reply.now }
 {
     match *reply {
-        Reply::Registered => write!(out, "ok"),
-        Reply::Updated => write!(out, "updated"),
+        Reply::Registered => out.write_all(b"ok"),
+        Reply::Updated => out.write_all(b"updated"),
         Reply::Tagged(tags) => write_tags(tags, out),
         Reply::Granted {
             client,
@@ -131,10 +154,10 @@ pub fn write_reply<T: TagText, W: io::Write>(reply: &Reply<T>, out: &mut W) -> i
             phase,
             beyond,
         } => write_grant(client, token, phase, beyond, out),
-        Reply::Later(at) => write!(out, "future {at}"),
-        Reply::Nothing => write!(out, "none"),
-        Reply::Removed(removed) => write!(out, "dropped {removed}"),
-        Reply::Cleaned { idled, erased } => write!(out, "cleaned {idled} {erased}"),
+        Reply::Later(at) => write_later(at, out),
+        Reply::Nothing => out.write_all(b"none"),
+        Reply::Removed(removed) => write_removed(removed, out),
+        Reply::Cleaned { idled, erased } => write_cleaned(idled, erased, out),
         Reply::Refused(refusal) => out.write_all(refusal_text(refusal)),
     }
 }

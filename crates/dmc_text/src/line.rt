@@ -2,11 +2,12 @@
 ghost use Rattle.std.specs.Prelude.{◌≡◌};
 ghost use Rattle.std.specs.List.{list_all};
 ghost use Rattle.dmc_text.specs.Words.{words};
+ghost use Rattle.dmc_text.specs.Commands.{command, seen};
 ghost use Rattle.dmc_text.specs.Answers.{Gives};
-ghost use Rattle.dmc_text.specs.Lines.{is_line_byte, limit_of, seen_ages, seen_heading, is_clean, heading, figure, ages_of, configured, setting, line_of_words, is_comment, kind_of, line_of};
+ghost use Rattle.dmc_text.specs.Lines.{is_line_byte, limit_of, seen_ages, seen_heading, is_clean, heading, figure, ages_of, configured, setting, line_of_command, line_of_words, is_comment, kind_of, line_of};
 
 use crate::cause::LineCause;
-use crate::command::{CommandFault, command_words, next_word, read_command};
+use crate::command::{CommandFault, CommandWords, command_words, next_word, read_command};
 use crate::number::read_u64;
 use crate::word::{first_word, spells};
 use dmc_types::command::Command;
@@ -98,6 +99,17 @@ fn configured(
     QueueConfig::new(hz, idle_age, erase_age, at_limit).map_err(|_| LineCause::Hz)
 }
 
+/// The line that a command's words say.
+fn said(words: CommandWords<'_>) -> Result<Line, LineCause>
+    ensures { result ≡ line_of_command (command (seen words.entry)) }
+{
+    match read_command(words) {
+        Ok(command) => Ok(Line::Ask(command)),
+        Err(CommandFault::Value(fault)) => Ok(Line::Value(fault)),
+        Err(CommandFault::Number) => Err(LineCause::Number),
+    }
+}
+
 /// The one command of a line.
 #[tactic(auto, unfolding(crate::specs::Lines::line_of_words))]
 fn asked(line: &[u8]) -> Result<Line, LineCause>
@@ -107,11 +119,7 @@ fn asked(line: &[u8]) -> Result<Line, LineCause>
     if first_word(rest).is_some() {
         return Err(LineCause::Words);
     }
-    match read_command(command) {
-        Ok(command) => Ok(Line::Ask(command)),
-        Err(CommandFault::Value(fault)) => Ok(Line::Value(fault)),
-        Err(CommandFault::Number) => Err(LineCause::Number),
-    }
+    said(command)
 }
 
 /// Whether `allow` stands at the end of an `hz` line, alone.

@@ -1,10 +1,11 @@
 //! The lines of a reader, read in pieces into a buffer that is made once.
-ghost use Rattle.std.specs.Prelude.{◌≡◌, ◌≢◌, ℕ, List, false, ◌+◌, ◌-◌, ◌<◌, ◌≤◌, [], ◌++◌, length, take, drop, slice_range, IfOk, IfErr, OnOk, OnErr, MatchResult, vec_len, position, nat_lt};
+ghost use Rattle.std.specs.Prelude.{◌≡◌, ◌≢◌, ℕ, List, false, ◌+◌, ◌-◌, ◌<◌, ◌≤◌, [], ◌++◌, length, take, drop, slice_range, IfOk, IfErr, OnOk, OnErr, MatchResult, vec_len, nat_lt};
 ghost use Rattle.std.specs.Io.KnownBytes.{Keeps, Consumes, IsAtEnd, ReadConsumes};
 ghost use Rattle.std.specs.IoError.{error_kind};
 ghost use Rattle.dmc_types.specs.Limits.{most_line_bytes};
-ghost use Rattle.dmc_text.specs.Reading.{Reading, buffer_size, most_bytes, is_end, Finds, FindsLast, Fills};
+ghost use Rattle.dmc_text.specs.Reading.{Reading, buffer_size, most_bytes, Finds, FindsLast, Fills};
 
+use crate::word::first_of;
 use std::alloc::{AllocError, Global};
 use std::io::{self, ErrorKind, Read};
 use std::marker::Model;
@@ -50,13 +51,6 @@ fn zeros(alloc: Global) -> Result<Vec<u8>, AllocError>
     Ok(buffer)
 }
 
-/// Where the first LF stands.
-fn first_end(text: &[u8]) -> Option<usize>
-    ensures { result ≡ position is_end text.now }
-{
-    text.iter().position(|byte| *byte == b'\n')
-}
-
 impl LineReader {
     /// A reader of lines that has read nothing yet.
     pub fn new(alloc: Global) -> Result<LineReader, AllocError>
@@ -90,7 +84,7 @@ impl LineReader {
     pub fn find(&mut self) -> bool
         ensures { Finds self.old self.new result }
     {
-        let Some(len) = first_end(self.rest()) else {
+        let Some(len) = first_of(self.rest(), b'\n') else {
             return false;
         };
         self.line_start = self.start;

@@ -135,20 +135,21 @@ fn phase_of(text: &[u8]) -> Result<(PhaseType, bool), LineCause>
     ensures { result ≡ phase_of (words text.now) }
 {
     let (phase, rest) = next_word(text)?;
-    let Some((beyond, rest)) = first_word(rest) else {
-        return phase_named(phase);
-    };
-    if first_word(rest).is_some() {
-        return Err(LineCause::Words);
+    match first_word(rest) {
+        None => phase_named(phase),
+        Some((beyond, rest)) => beyond_named(phase, beyond, rest),
     }
-    beyond_named(phase, beyond)
 }
 
-/// What two last words name.
-fn beyond_named(phase: &[u8], beyond: &[u8]) -> Result<(PhaseType, bool), LineCause>
-    ensures { result ≡ phase_of (phase.now ∷ beyond.now ∷ []) }
+/// What two words and what stands behind them name.
+fn beyond_named(
+    phase: &[u8],
+    beyond: &[u8],
+    text: &[u8],
+) -> Result<(PhaseType, bool), LineCause>
+    ensures { result ≡ phase_of (phase.now ∷ beyond.now ∷ words text.now) }
 {
-    if spells(phase, b"priority") && spells(beyond, b"beyond") {
+    if spells(phase, b"priority") && spells(beyond, b"beyond") && first_word(text).is_none() {
         return Ok((PhaseType::Priority, true));
     }
     Err(LineCause::Words)

@@ -1,9 +1,11 @@
 //! The texts of tags.
-ghost use Rattle.std.specs.Prelude.{◌≡◌, ◌<◌, ℕ, ℤ, Option, Some, position, option_and_then};
+ghost use Rattle.std.specs.Prelude.{◌≡◌, ◌<◌, ℕ, ℤ, ◌^◌, Option, Some, option_and_then};
 ghost use Rattle.dmc_tag.specs.Tag.{IsSame};
-ghost use Rattle.dmc_text.specs.Tags.{is_slash, below_zero, signed, fraction_of};
+ghost use Rattle.dmc_text.specs.Tags.{below_zero, signed, over, fraction_of};
+ghost use Rattle.dmc_text.specs.Numbers.{number};
 
 use crate::number::{read_u64, read_u128};
+use crate::word::first_of;
 use dmc_tag::tag::Tag;
 
 /// A tag with a text: its fraction in the form that the type keeps, `N` where the denominator is 1, and else `N/D`.
@@ -54,11 +56,15 @@ fn read_i128(word: &[u8]) -> Option<i128>
     }
 }
 
-/// Where the first slash stands.
-fn first_slash(word: &[u8]) -> Option<usize>
-    ensures { result ≡ position is_slash word.now }
+/// A numerator, and the denominator that a word spells.
+fn over(numer: i128, word: &[u8]) -> Option<(i128, u64)>
+    ensures { result ≡ option_and_then (over numer) (number (2 ^ 64) word.now) }
 {
-    word.iter().position(|byte| *byte == b'/')
+    let denom = read_u64(word)?;
+    if denom < 2 {
+        return None;
+    }
+    Some((numer, denom))
 }
 
 /// The numerator and the denominator that a word spells.
@@ -66,15 +72,10 @@ fn first_slash(word: &[u8]) -> Option<usize>
 fn read_fraction(word: &[u8]) -> Option<(i128, u64)>
     ensures { result ≡ fraction_of word.now }
 {
-    let Some(at) = first_slash(word) else {
-        return Some((read_i128(word)?, 1));
-    };
-    let numer = read_i128(&word[..at])?;
-    let denom = read_u64(&word[at + 1..])?;
-    if denom < 2 {
-        return None;
+    match first_of(word, b'/') {
+        None => Some((read_i128(word)?, 1)),
+        Some(at) => over(read_i128(&word[..at])?, &word[at + 1..]),
     }
-    Some((numer, denom))
 }
 
 /// The tag that a word spells.

@@ -1,5 +1,5 @@
 //! The words of a line.
-ghost use Rattle.std.specs.Prelude.{◌≡◌, [], ◌∷◌, not, MatchOption, position};
+ghost use Rattle.std.specs.Prelude.{◌≡◌, ◌==◌, [], ◌∷◌, not, MatchOption, position};
 ghost use Rattle.std.specs.Str.{bytes_eq};
 ghost use Rattle.dmc_text.specs.Words.{is_space, words};
 
@@ -10,11 +10,11 @@ fn first_other(text: &[u8]) -> Option<usize>
     text.iter().position(|byte| *byte != b' ')
 }
 
-/// Where the first space stands.
-fn first_space(text: &[u8]) -> Option<usize>
-    ensures { result ≡ position is_space text.now }
+/// Where a byte stands first.
+pub(crate) fn first_of(text: &[u8], sought: u8) -> Option<usize>
+    ensures { result ≡ position (λ b. b == sought) text.now }
 {
-    text.iter().position(|byte| *byte == b' ')
+    text.iter().position(|byte| *byte == sought)
 }
 
 /// The first word of a text, and what stands behind it. None where there is no word.
@@ -23,7 +23,7 @@ pub fn first_word(text: &[u8]) -> Option<(&[u8], &[u8])>
         (λ found. words text.now ≡ found.0.now ∷ words found.1.now) }
 {
     let text = &text[first_other(text)?..];
-    let end = first_space(text).unwrap_or(text.len());
+    let end = first_of(text, b' ').unwrap_or(text.len());
     Some(text.split_at(end))
 }
 

@@ -1,6 +1,9 @@
 -- What was read stands at the front.
-use Rattle.std.proofs.Common.{◌∙◌, arith}
-use Rattle.dmc_text.proofs.ReadingLemmas.{consumes_next}
+use Rattle.std.proofs.Common.{◌∙◌, arith, take, subst}
+use Rattle.std.specs.Io.KnownBytes.{Consumes}
+use Rattle.std.proofs.KnownBytes.{Consumes-kept}
+use Rattle.std.proofs.lemmas.List.{length-take}
+use Rattle.dmc_text.proofs.ReadingLemmas.{consumes_next, of_err}
 use Rattle.dmc_text.proofs.lines.read_text.Goals as goal
 
 pub loop-len-preserved : goal.loop-len-preserved
@@ -12,3 +15,23 @@ loop-len-preserved g c =
       read = consumes_next (of c.args.reader.now) (of c.loop-len.reader) (of c.read_at.new.reader) c.loop-len.buffer.items c.read_at.new.buffer.items c.loop-len.len c.in_ok-n.n
           c.read_at.ensures.front c.loop-len.invariant.read c.in_ok-n.ensures.bytes;
     }
+
+pub returns-in_err-n-clause-err : goal.returns-in_err-n-clause-err
+returns-in_err-n-clause-err g c =
+    let of = g.R.Read.remaining in
+    let front = take c.loop-len.len c.loop-len.buffer.items in
+    of_err c.from_residual.result (
+      front,
+      Consumes-kept (of c.args.reader.now) (of c.loop-len.reader) (of c.read_at.new.reader) front c.loop-len.invariant.read c.in_err-n.ensures.bytes,
+      omega (arith, length-take c.loop-len.len c.loop-len.buffer.items, c.loop-len.invariant.within, c.loop-len.invariant.room),
+    )
+
+pub returns-in-0-clause-bytes : goal.returns-in-0-clause-bytes
+returns-in-0-clause-bytes g c =
+    let of = g.R.Read.remaining in
+    let n = c.in_ok-n.n in
+    let all = consumes_next (of c.args.reader.now) (of c.loop-len.reader) (of c.read_at.new.reader) c.loop-len.buffer.items c.read_at.new.buffer.items c.loop-len.len n c.read_at.ensures.front c.loop-len.invariant.read c.in_ok-n.ensures.bytes in
+    subst (λ k. Consumes (of c.args.reader.now) (of c.read_at.new.reader) (take k c.read_at.new.buffer.items)) (omega arith) all
+
+pub returns-in-0-clause-end : goal.returns-in-0-clause-end
+returns-in-0-clause-end g c = λ short. c.in_ok-n.ensures.end c.in-0.is (omega (arith, c.len.ensures)) (omega arith)

@@ -16,6 +16,6 @@ returns c =
     let i = c.in_ok-text.field-0 in
     let ys = take (length text - i) (drop i text) in
     let whole : length (drop i text) ≤ length text - i = omega (arith, length-drop i text) in
-    let place = c.first_space.ensures in
+    let place = c.first_of.ensures in
     let j-is : c.unwrap_or-end.result ≡ unwrap_or (position is_space ys) (length ys) = cc in
     a_word_at text i c.unwrap_or-end.result ys c.split_at.result.0.now c.split_at.result.1.now c.in_ok-text.ensures (take_all (length text - i) (drop i text) whole) j-is c.split_at.ensures.front c.split_at.ensures.back

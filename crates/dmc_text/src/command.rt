@@ -96,10 +96,7 @@ pub fn next_word(text: &[u8]) -> Result<(&[u8], &[u8]), LineCause>
 }
 
 /// The words of an info: a client, and the others at the front of a text. And what stands behind them.
-fn info_words<'a>(
-    client: &'a [u8],
-    text: &'a [u8],
-) -> Result<(InfoWords<'a>, &'a [u8]), LineCause>
+fn info_words<'a>(client: &'a [u8], text: &'a [u8]) -> Result<(InfoWords<'a>, &'a [u8]), LineCause>
     ensures { (make : List ℕ → List ℕ → List ℕ → List ℕ → List ℕ → Phrase) → Gives
         (λ x. (make x.0.client.now x.0.reservation.now x.0.weight.now x.0.limit.now x.0.at.now, words x.1.now))
         result (with_five make (client.now ∷ words text.now)) }

@@ -142,11 +142,7 @@ fn phase_of(text: &[u8]) -> Result<(PhaseType, bool), LineCause>
 }
 
 /// What two words and what stands behind them name.
-fn beyond_named(
-    phase: &[u8],
-    beyond: &[u8],
-    text: &[u8],
-) -> Result<(PhaseType, bool), LineCause>
+fn beyond_named(phase: &[u8], beyond: &[u8], text: &[u8]) -> Result<(PhaseType, bool), LineCause>
     ensures { result ≡ phase_of (phase.now ∷ beyond.now ∷ words text.now) }
 {
     if spells(phase, b"priority") && spells(beyond, b"beyond") && first_word(text).is_none() {

@@ -1,16 +1,9 @@
 -- The rest is answered from the queue on.
-use Rattle.std.proofs.Common.{refl}
 use Rattle.dmc_tag.specs.State.{opening}
 use Rattle.dmc_tag.proofs.ForCallers.{steps_agree, tag_order}
 use Rattle.dmc_text.specs.Replies.{tag_text}
 use Rattle.dmc_text.proofs.RunLemmas.{written_alike, asked_alike, on_ok}
 use Rattle.dmc_text.proofs.script.carry_out.Goals as goal
-
-pub returns-in-Skip-clause-rest : goal.returns-in-Skip-clause-rest
-returns-in-Skip-clause-rest g c = rw c.in-Skip.is (λ rest. refl)
-
-pub returns-in-None-clause-rest : goal.returns-in-None-clause-rest
-returns-in-None-clause-rest g c = rw (c.in-Ask.is, c.in-None.is) (λ rest. refl)
 
 pub returns-in-Config-clause-rest : goal.returns-in-Config-clause-rest
 returns-in-Config-clause-rest g c =

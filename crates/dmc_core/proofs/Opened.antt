@@ -4,29 +4,35 @@ use Rattle.std.specs.Prelude.{All, AllPairs, IsOk, Result, sum_by}
 use Rattle.std.specs.List.{AllByRecursion, AllZip, find, list_any}
 use Rattle.std.proofs.lemmas.Bool.{eqb-true, leb-true}
 use Rattle.std.proofs.lemmas.List.Sums.{sum_by-cons}
-use Rattle.std.proofs.lemmas.List.{length-map, length-replicate, map-append, take_more}
+use Rattle.std.proofs.lemmas.List.{length-map, length-replicate, length-take, map-append, take_more}
 use Rattle.indexmap.specs.IndexSet.{insert_key}
+use Rattle.dmc_types.specs.Limits.{most_scene_clients}
 use Rattle.dmc_types.specs.Values.{Rates, Setting}
 use Rattle.dmc_types.specs.declared.ids.ClientId.{ClientId}
 use Rattle.dmc_types.specs.declared.ids.ServerId.{ServerId}
 use Rattle.dmc_types.specs.declared.config.Counting.{Counting}
 use Rattle.dmc_types.specs.declared.command.Command.TheVariants.{Register}
+use Rattle.dmc_types.specs.declared.refusal.Refusal.{Refusal}
 use Rattle.dmc_tag.specs.Tag.{Tagging}
-use Rattle.dmc_tag.specs.State.{State, StandsFor, is_client, client_named, effective}
+use Rattle.dmc_tag.specs.State.{State, StandsFor, opening, is_client, client_named, effective}
 use Rattle.dmc_tag.specs.Spacing.{spacings_of}
 use Rattle.dmc_tag.specs.Step.{step}
+use Rattle.dmc_tag.specs.Steps.{Steps}
+use Rattle.dmc_tag.specs.Replay.{state_after}
 use Rattle.dmc_tag.specs.Rules.{newcomer}
 use Rattle.dmc_tag.specs.declared.plain.PlainClient.{PlainClient}
-use Rattle.dmc_tag.specs.declared.reply.Reply.TheVariants.{Registered}
+use Rattle.dmc_tag.specs.declared.reply.Reply.{Reply}
+use Rattle.dmc_tag.specs.declared.reply.Reply.TheVariants.{Registered, Refused}
+use Rattle.dmc_tag.proofs.ForCallers.{state_after-more}
 use Rattle.dmc_tracker.specs.Numbers.{no_numbers}
 use Rattle.dmc_tracker.proofs.ForCallers.{Stands-new}
-use Rattle.dmc_scene.specs.SceneValue.{ClientValue, AreApart}
+use Rattle.dmc_scene.specs.SceneValue.{SceneValue, ClientValue, AreApart}
 use Rattle.dmc_core.specs.declared.server.CoreServer.{CoreServer}
 use Rattle.dmc_core.specs.Run.{Client, Run, Pair, no_pair, pair_at, most_completions}
 use Rattle.dmc_core.specs.Events.{registration}
 use Rattle.dmc_core.specs.Core.{Held, CoreValue, Matches, StandsForRun}
 use Rattle.dmc_core.specs.Parts.{IsKept, full_at, full_counts, full_counts_of}
-use Rattle.dmc_core.specs.Opening.{named_rates, opening_client}
+use Rattle.dmc_core.specs.Opening.{HaveSpacings, named_rates, opening_client}
 use Rattle.dmc_core.proofs.Clients.{false_unless}
 
 -- ---- ids that stand apart
@@ -74,6 +80,59 @@ module _ {T : Type 0} (ops : Tagging T) where
       let few : nat_le 65536 (length u.clients) ≡ false = false_unless _ (λ e. absurd (omega (arith, leb-true _ _ e, room))) in
       rw (none, spacings.1, few) refl
 
+-- the state that the first clients of a scene register to
+abbrev pub after_first : {T : Type 0} → Tagging T → SceneValue → ℕ → State T
+after_first ops scene i = state_after ops (opening scene.config) (map registration (map named_rates (take i scene.clients)))
+
+pub record HaveRegistered {T : Type 0} (ops : Tagging T) (scene : SceneValue) (i : ℕ) : Type 0 where
+  pub config : (after_first ops scene i).config ≡ scene.config
+  pub ids : map (λ c. c.id) (after_first ops scene i).clients ≡ map (λ c. c.id) (take i scene.clients)
+
+-- the next one registers
+pub next_registers : {T : Type 0} (ops : Tagging T) (scene : SceneValue) (i : ℕ) (x : ClientValue) → AllPairs AreApart scene.clients → HaveSpacings ops scene → length scene.clients ≤ most_scene_clients
+    → i < length scene.clients → x ≡ get_or scene.clients i x → HaveRegistered ops scene i
+    → (step ops (after_first ops scene i) (Register x.id x.info 0) ≡ (after_first ops scene (i + 1), Registered)) × HaveRegistered ops scene (i + 1)
+next_registers {T} ops scene i x apart spaced limit within is h =
+    let cs = scene.clients in
+    let u = after_first ops scene i in
+    let others : AllByRecursion (λ k. k ≢ x.id) (map (λ (p : PlainClient T). p.id) u.clients) = rw h.ids (fresh cs i x apart within is) in
+    let has_spacings : IsOk (spacings_of ops u.config.hz x.info) = rw (h.config, is) (spaced i x within) in
+    let few : length u.clients ≡ length (take i cs) = sym (length-map u.clients (λ (p : PlainClient T). p.id)) ∙ ap length h.ids ∙ length-map (take i cs) (λ (k : ClientValue). k.id) in
+    let room : length u.clients < 65536 = omega (arith, length-take i cs) in
+    let ruled = newcomer_registers ops u x.id x.info others has_spacings room in
+    let before = map registration (map named_rates (take i cs)) in
+    let more : map registration (map named_rates (take (i + 1) cs)) ≡ before ++ registration (named_rates x) ∷ [] =
+    ap (map registration) (take_one_more named_rates cs i x within is) ∙ map-append registration (map named_rates (take i cs)) (named_rates x ∷ []) in
+    let stepped : after_first ops scene (i + 1) ≡ (step ops u (Register x.id x.info 0)).0 = ap (state_after ops (opening scene.config)) more ∙ state_after-more ops (opening scene.config) before (registration (named_rates x)) in
+    let next : after_first ops scene (i + 1) ≡ _ = stepped ∙ ap (λ (p : State T × Reply T). p.0) ruled in (
+      ruled ∙ ap (λ (v : State T). (v, Registered)) (sym next),
+      record {
+        config = ap (λ (v : State T). v.config) next ∙ h.config;
+        ids = ap (λ (v : State T). map (λ (p : PlainClient T). p.id) v.clients) next ∙ map-append (λ (p : PlainClient T). p.id) u.clients _
+            ∙ ap (λ (ks : List ClientId). ks ++ x.id ∷ []) h.ids ∙ sym (take_one_more (λ (k : ClientValue). k.id) cs i x within is);
+      },
+    )
+
+-- a queue that stands for the state before the next client's registration
+module _ {T : Type 0} (ops : Tagging T) (scene : SceneValue) (cs : List ClientValue) (cs_are : cs ≡ scene.clients) (apart : AllPairs AreApart cs) (spaced : HaveSpacings ops scene) (limit : length cs ≤ most_scene_clients)
+    (i : ℕ) (x : ClientValue) (within : i < length cs) (is : x ≡ get_or cs i x) (h : HaveRegistered ops scene i) (old new : State T) (stands : StandsFor old (after_first ops scene i))
+    (id : ClientId) (info : Rates) (at : ℕ) (id_is : id ≡ x.id) (info_is : info ≡ x.info) (at_is : at ≡ 0) where
+  ruled : (step ops (after_first ops scene i) (Register id info at) ≡ (after_first ops scene (i + 1), Registered)) × HaveRegistered ops scene (i + 1)
+  ruled = rw (id_is, info_is, at_is) (next_registers ops scene i x (subst (AllPairs AreApart) cs_are apart) spaced (rw (← cs_are) limit) (rw (← cs_are) within) (rw (← cs_are) is) h)
+
+  -- stands for the state after it
+  pub next_stands : Steps ops old new (Register id info at) (Some Registered) → StandsFor new (after_first ops scene (i + 1)) × HaveRegistered ops scene (i + 1)
+  next_stands steps = (subst (λ (v : State T). StandsFor new v) (ap (λ (p : State T × Reply T). p.0) ruled.0) (steps (after_first ops scene i) stands).1, ruled.1)
+
+  -- and does not refuse it
+  pub next_not_refused : (refusal : Refusal) → Steps ops old new (Register id info at) (Some (Refused refusal)) → ⊥
+  next_not_refused refusal steps =
+      let same : Refused refusal ≡ Registered = (steps (after_first ops scene i) stands).0 ∙ ap (λ (p : State T × Reply T). p.1) ruled.0 in
+      cc
+
+pub stands_as : {T : Type 0} (u v : State T) → u ≡ v → StandsFor u v
+stands_as u v e = rw e (record { config = refl; requests = λ id. refl; clients = refl; last_moment = refl })
+
 -- ---- the run
 
 none_at : (n i : ℕ) → get_or (replicate n no_pair) i no_pair ≡ no_pair
@@ -82,12 +141,12 @@ none_at (suc n) zero = refl
 none_at (suc n) (suc i) = none_at n i
 
 module _ {T Q : Type 0} (state : Q → State T) (u : State T) (servers : List (CoreServer Q)) where
-  pub opened_servers : (n : ℕ) → length servers ≡ n → AllByRecursion (λ x. (state x.queue ≡ u) × (x.full ≡ 0)) servers → AllZip (λ q v. StandsFor (state q) v) (map (λ x. x.queue) servers) (replicate n u)
+  pub opened_servers : (n : ℕ) → length servers ≡ n → AllByRecursion (λ x. StandsFor (state x.queue) u × (x.full ≡ 0)) servers → AllZip (λ q v. StandsFor (state q) v) (map (λ x. x.queue) servers) (replicate n u)
   opened_servers n e h = subst (λ (m : ℕ). AllZip (λ q v. StandsFor (state q) v) (map (λ x. x.queue) servers) (replicate m u)) e (go servers h)
     where
-      go : (xs : List (CoreServer Q)) → AllByRecursion (λ x. (state x.queue ≡ u) × (x.full ≡ 0)) xs → AllZip (λ q v. StandsFor (state q) v) (map (λ x. x.queue) xs) (replicate (length xs) u)
+      go : (xs : List (CoreServer Q)) → AllByRecursion (λ x. StandsFor (state x.queue) u × (x.full ≡ 0)) xs → AllZip (λ q v. StandsFor (state q) v) (map (λ x. x.queue) xs) (replicate (length xs) u)
       go [] h = tt
-      go (x ∷ xs) h = (rw h.0.0 (record { config = refl; requests = λ id. refl; clients = refl; last_moment = refl }), go xs h.1)
+      go (x ∷ xs) h = (h.0.0, go xs h.1)
 
 module _ (counting : Counting) (n : ℕ) where
   pub opened_clients : (cs : List ClientValue) → AllZip (Matches counting) (map (opening_client counting n) cs) (map (λ c. record { id = c.0; list = []; pairs = replicate n no_pair }) (map named_rates cs))

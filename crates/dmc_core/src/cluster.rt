@@ -1,8 +1,8 @@
 //! The cluster over any queue: the clients by their ids, and the servers.
-ghost use Rattle.std.specs.Prelude.{◌≡◌, ◌<◌, ◌≤◌, List, length, map, slice_get, IfOk, OnOk, IfErr, Err};
+ghost use Rattle.std.specs.Prelude.{◌≡◌, ◌<◌, ◌≤◌, List, length, map, slice_get, option_copied, IfOk, OnOk, IfErr, Err};
 ghost use Rattle.std.specs.List.{AllZip};
-ghost use Rattle.std.specs.Option.{option_map};
 ghost use Rattle.dmc_types.specs.declared.config.Counting.{Counting};
+ghost use Rattle.dmc_pull.specs.Queue.{state_of};
 ghost use Rattle.dmc_tag.specs.State.{is_client};
 ghost use Rattle.dmc_core.specs.Core.{Held, Matches, Follows};
 ghost use Rattle.dmc_core.specs.Events.{after_grant};
@@ -15,6 +15,8 @@ use crate::event::{CoreEvent, CoreFault, CoreReply};
 use crate::ids::ClientIds;
 use crate::near::NearScheduler;
 use crate::server::CoreServer;
+use dmc_index::index::Indexes;
+use dmc_pull::queue::PullQueue;
 use dmc_tag::reply::Reply;
 use dmc_tag::scheduler::Scheduler;
 use dmc_tag::tag::Tag;
@@ -76,6 +78,14 @@ impl<Q> Cluster<Q> {
             return Err(CoreFault::NoServer);
         }
         Ok(place)
+    }
+
+    /// The queue of a server, if there is such a server.
+    pub fn queue(&self, server: ServerId) -> Option<&Q>
+        ensures { option_copied result ≡ slice_get self.now.servers server.0 }
+    {
+        let server = self.servers.get(server.0 as usize)?;
+        Some(&server.queue)
     }
 
     /// A client stamps a request to a server.
@@ -253,14 +263,15 @@ impl<Q> Cluster<Q> {
             CoreEvent::Clean { server, at } => self.clean(server, at),
         }
     }
+}
 
-    /// How many requests are queued at a server, if there is such a server.
-    pub fn request_count<T: Tag>(&self, server: ServerId) -> Option<u32>
-    where
-        Q: Scheduler<T>,
-        ensures { result ≡ option_map (λ queue. length (Q.state queue).requests) (slice_get self.now.servers server.0) }
+/// Over indexed queues.
+impl<T: Tag, I: Indexes<T>> Cluster<PullQueue<T, I>> {
+    /// Carries out an event.
+    #[inline(always)]
+    pub fn carry_out(&mut self, event: CoreEvent) -> Result<CoreReply<T>, CoreFault>
+        ensures { Follows T.ops state_of event self.old self.new result }
     {
-        let server = self.servers.get(server.0 as usize)?;
-        Some(server.queue.request_count())
+        self.step(event)
     }
 }

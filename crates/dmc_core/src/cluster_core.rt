@@ -7,8 +7,7 @@ ghost use Rattle.dmc_pull.specs.Queue.{state_of};
 
 use crate::cluster::Cluster;
 use crate::event::{CoreEvent, CoreFault, CoreReply};
-use crate::ids::ClientIds;
-use crate::opening::{open_clients, open_servers};
+use crate::opening::open_cluster;
 use dmc_heap::indexed_heap::HeapIndexes;
 use dmc_pull::queue::PullQueue;
 use dmc_scene::scene::Scene;
@@ -46,11 +45,8 @@ impl<T: Tag> ClusterCore<T> {
         requires { HaveSpacings T.ops scene.now }
         ensures { IfOk result (λ core. StandsForRun state_of core (opening_of T.ops scene.now)) }
     {
-        let ids = ClientIds::of_clients(alloc, scene.clients())?;
-        let clients = open_clients(alloc, scene)?;
-        let servers = open_servers(alloc, scene)?;
         Ok(ClusterCore {
-            cluster: Cluster::of_parts(ids, clients, servers),
+            cluster: open_cluster(alloc, scene)?,
         })
     }
 
@@ -62,13 +58,13 @@ impl<T: Tag> ClusterCore<T> {
     pub fn step(&mut self, event: CoreEvent) -> Result<CoreReply<T>, CoreFault>
         ensures { Follows T.ops state_of event self.old self.new result }
     {
-        self.cluster.step(event)
+        self.cluster.carry_out(event)
     }
 
     /// How many requests are queued at a server, if there is such a server.
     pub fn request_count(&self, server: ServerId) -> Option<u32>
         ensures { result ≡ option_map (λ queue. length (state_of queue).requests) (slice_get self.now.servers server.0) }
     {
-        self.cluster.request_count::<T>(server)
+        Some(self.cluster.queue(server)?.request_count())
     }
 }

@@ -1,5 +1,7 @@
 //! A queue that is told where a client may be.
+ghost use Rattle.std.specs.Prelude.{◌≡◌};
 ghost use Rattle.dmc_tag.specs.Answers.{call_reply};
+ghost use Rattle.dmc_tag.specs.State.{opening};
 ghost use Rattle.dmc_tag.specs.Steps.{Steps};
 ghost use Rattle.dmc_tag.specs.declared.reply.Reply.TheVariants as replies;
 ghost use Rattle.dmc_types.specs.declared.command.Command.TheVariants as commands;
@@ -9,13 +11,19 @@ use dmc_pull::queue::PullQueue;
 use dmc_tag::reply::Tags;
 use dmc_tag::scheduler::Scheduler;
 use dmc_tag::tag::Tag;
+use dmc_types::config::QueueConfig;
 use dmc_types::ids::{ClientId, Token};
 use dmc_types::moment::Moment;
 use dmc_types::params::ReqParams;
 use dmc_types::refusal::QueueFault;
+use std::alloc::Global;
 
-/// A queue of dmClock that need not search for a client whose place it is told (own).
+/// A queue of dmClock that opens empty, and that need not search for a client whose place it is told (own).
 pub trait NearScheduler<T: Tag>: Scheduler<T> {
+    /// An empty queue. It takes no memory.
+    fn new(alloc: Global, config: QueueConfig) -> Self
+        ensures { Self.state result ≡ opening config };
+
     /// `add_request`, where the client may be the one that was the `near`-th to register, counted from 0: that one is looked at
     /// first.
     fn add_request_near(
@@ -31,6 +39,10 @@ pub trait NearScheduler<T: Tag>: Scheduler<T> {
 }
 
 impl<T: Tag, I: Indexes<T>> NearScheduler<T> for PullQueue<T, I> {
+    fn new(alloc: Global, config: QueueConfig) -> PullQueue<T, I> {
+        PullQueue::new(alloc, config)
+    }
+
     fn add_request_near(
         &mut self,
         near: usize,

@@ -5,5 +5,14 @@ use Rattle.dmc_tag.proofs.Lists.{all_next}
 pub loop-preserved : goal.loop-preserved
 loop-preserved g c = record {
   as_many = rw c.in_ok-push.ensures.items (simp length-append (omega arith));
-  each = rw c.in_ok-push.ensures.items (all_next _ c.loop.servers.items _ c.loop.invariant.each (c.in_ok-queue.ensures ∙ rw (c.config.ensures, c.clients.ensures.value) refl, refl));
+  each = rw c.in_ok-push.ensures.items (all_next _ c.loop.servers.items _ c.loop.invariant.each c.in_ok-open_server.ensures);
+}
+
+pub loop-init : goal.loop-init
+loop-init g c = rw c.in_ok-servers.ensures.items (record { as_many = refl; each = tt })
+
+pub returns : goal.returns
+returns g c = record {
+  as_many = c.loop.invariant.as_many ∙ omega arith;
+  each = c.loop.invariant.each;
 }

@@ -95,8 +95,10 @@ pub next_registers : {T : Type 0} (ops : Tagging T) (scene : SceneValue) (i : �
 next_registers {T} ops scene i x apart spaced limit within is h =
     let cs = scene.clients in
     let u = after_first ops scene i in
-    let others : AllByRecursion (λ k. k ≢ x.id) (map (λ (p : PlainClient T). p.id) u.clients) = rw h.ids (fresh cs i x apart within is) in
-    let has_spacings : IsOk (spacings_of ops u.config.hz x.info) = rw (h.config, is) (spaced i x within) in
+    let others : AllByRecursion (λ k. k ≢ x.id) (map (λ (p : PlainClient T). p.id) u.clients) = subst (AllByRecursion (λ k. k ≢ x.id)) (sym h.ids) (fresh cs i x apart within is) in
+    let has_spacings : IsOk (spacings_of ops u.config.hz x.info) =
+    subst (λ (info : Rates). IsOk (spacings_of ops u.config.hz info)) (ap (λ (c : ClientValue). c.info) (sym is))
+    (subst (λ (config : Setting). IsOk (spacings_of ops config.hz (get_or cs i x).info)) (sym h.config) (spaced i x within)) in
     let few : length u.clients ≡ length (take i cs) = sym (length-map u.clients (λ (p : PlainClient T). p.id)) ∙ ap length h.ids ∙ length-map (take i cs) (λ (k : ClientValue). k.id) in
     let room : length u.clients < 65536 = omega (arith, length-take i cs) in
     let ruled = newcomer_registers ops u x.id x.info others has_spacings room in
@@ -117,17 +119,23 @@ next_registers {T} ops scene i x apart spaced limit within is h =
 module _ {T : Type 0} (ops : Tagging T) (scene : SceneValue) (cs : List ClientValue) (cs_are : cs ≡ scene.clients) (apart : AllPairs AreApart cs) (spaced : HaveSpacings ops scene) (limit : length cs ≤ most_scene_clients)
     (i : ℕ) (x : ClientValue) (within : i < length cs) (is : x ≡ get_or cs i x) (h : HaveRegistered ops scene i) (old new : State T) (stands : StandsFor old (after_first ops scene i))
     (id : ClientId) (info : Rates) (at : ℕ) (id_is : id ≡ x.id) (info_is : info ≡ x.info) (at_is : at ≡ 0) where
-  ruled : (step ops (after_first ops scene i) (Register id info at) ≡ (after_first ops scene (i + 1), Registered)) × HaveRegistered ops scene (i + 1)
-  ruled = rw (id_is, info_is, at_is) (next_registers ops scene i x (subst (AllPairs AreApart) cs_are apart) spaced (rw (← cs_are) limit) (rw (← cs_are) within) (rw (← cs_are) is) h)
+  named : Register id info at ≡ Register x.id x.info 0
+  named = rw (id_is, info_is, at_is) refl
+
+  next : (step ops (after_first ops scene i) (Register x.id x.info 0) ≡ (after_first ops scene (i + 1), Registered)) × HaveRegistered ops scene (i + 1)
+  next = next_registers ops scene i x (subst (AllPairs AreApart) cs_are apart) spaced (rw (← cs_are) limit) (rw (← cs_are) within) (rw (← cs_are) is) h
+
+  ruled : step ops (after_first ops scene i) (Register id info at) ≡ (after_first ops scene (i + 1), Registered)
+  ruled = ap (step ops (after_first ops scene i)) named ∙ next.0
 
   -- stands for the state after it
   pub next_stands : Steps ops old new (Register id info at) (Some Registered) → StandsFor new (after_first ops scene (i + 1)) × HaveRegistered ops scene (i + 1)
-  next_stands steps = (subst (λ (v : State T). StandsFor new v) (ap (λ (p : State T × Reply T). p.0) ruled.0) (steps (after_first ops scene i) stands).1, ruled.1)
+  next_stands steps = (subst (λ (v : State T). StandsFor new v) (ap (λ (p : State T × Reply T). p.0) ruled) (steps (after_first ops scene i) stands).1, next.1)
 
   -- and does not refuse it
   pub next_not_refused : (refusal : Refusal) → Steps ops old new (Register id info at) (Some (Refused refusal)) → ⊥
   next_not_refused refusal steps =
-      let same : Refused refusal ≡ Registered = (steps (after_first ops scene i) stands).0 ∙ ap (λ (p : State T × Reply T). p.1) ruled.0 in
+      let same : Refused refusal ≡ Registered = (steps (after_first ops scene i) stands).0 ∙ ap (λ (p : State T × Reply T). p.1) ruled in
       cc
 
 pub stands_as : {T : Type 0} (u v : State T) → u ≡ v → StandsFor u v

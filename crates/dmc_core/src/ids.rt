@@ -38,11 +38,8 @@ impl ClientIds {
         requires { AllPairs AreApart clients.now }
         ensures { IfOk result (λ ids. ids ≡ map (λ c. c.id) clients.now) }
     {
-        let mut ids = IndexSet::with_capacity(alloc, clients.len())?;
-        for client in clients {
-            ids.insert(client.id())?;
-        }
-        let hints = hints_for(alloc, ids.as_slice())?;
+        let hints = hints_for(alloc, clients)?;
+        let ids = ids_of(alloc, clients)?;
         Ok(ClientIds { ids, hints })
     }
 
@@ -59,6 +56,18 @@ impl ClientIds {
     }
 }
 
+/// The ids of these clients, each of which is found by its hash.
+fn ids_of(alloc: Global, clients: &[SceneClient]) -> Result<IndexSet<ClientId>, AllocError>
+    requires { AllPairs AreApart clients.now }
+    ensures { IfOk result (λ ids. ids.keys ≡ map (λ c. c.id) clients.now) }
+{
+    let mut ids = IndexSet::with_capacity(alloc, clients.len())?;
+    for client in clients {
+        ids.insert(client.id())?;
+    }
+    Ok(ids)
+}
+
 /// Looks for a client at a place.
 fn find_at(ids: &[ClientId], place: usize, client: ClientId) -> Option<usize>
     ensures { IfSome result (λ found. slice_get ids.now found ≡ Some client) }
@@ -69,11 +78,11 @@ fn find_at(ids: &[ClientId], place: usize, client: ClientId) -> Option<usize>
     None
 }
 
-/// A table of hints for these ids, with some room between them. Where two have one slot, the later one has it.
-fn hints_for(alloc: Global, ids: &[ClientId]) -> Result<Vec<u32>, AllocError> {
-    let mut hints = vec![in alloc; 0; ids.len().saturating_mul(8)]?;
-    for (place, id) in ids.iter().enumerate() {
-        let slot = slot_of(*id, hints.len());
+/// A table of hints for the ids of these clients, with some room between them. Where two have one slot, the later one has it.
+fn hints_for(alloc: Global, clients: &[SceneClient]) -> Result<Vec<u32>, AllocError> {
+    let mut hints = vec![in alloc; 0; clients.len().saturating_mul(8)]?;
+    for (place, client) in clients.iter().enumerate() {
+        let slot = slot_of(client.id(), hints.len());
         if let Some(hint) = hints.get_mut(slot) {
             *hint = u32::try_from(place).unwrap_or(0);
         }

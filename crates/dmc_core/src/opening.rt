@@ -87,8 +87,8 @@ pub fn open_cluster<T: Tag, I: Indexes<T>>(
     requires { HaveSpacings T.ops scene.now }
     ensures { IfOk result (λ cluster. StandsForRun state_of cluster (opening_of T.ops scene.now)) }
 {
-    let ids = ClientIds::of_clients(alloc, scene.clients())?;
     let clients = open_clients(alloc, scene)?;
+    let ids = ClientIds::of_clients(alloc, scene.clients())?;
     let servers = open_servers(alloc, scene)?;
     Ok(Cluster::of_parts(ids, clients, servers))
 }

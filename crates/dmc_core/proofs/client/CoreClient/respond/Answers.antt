@@ -1,10 +1,11 @@
 use Rattle.std.proofs.Common.{◌≡◌, ℕ, ◌<◌, ◌-◌, ◌==◌, length, map, refl, ap, sym, ◌∙◌, Ok, Err, arith, rules}
 use Rattle.std.proofs.lemmas.Bool.{eqb-true}
+use Rattle.std.proofs.lemmas.List.{length-map}
 use Rattle.dmc_core.specs.Run.{Pair, grants, with_grants}
 use Rattle.dmc_core.specs.Core.{Held}
 use Rattle.dmc_core.specs.Parts.{pair_of}
-use Rattle.dmc_core.proofs.Pairs.{pair_seen, pair_changed}
-use Rattle.dmc_core.proofs.Clients.{false_unless, response-counted}
+use Rattle.dmc_core.proofs.Pairs.{pair_seen, pair_changed, pair_same}
+use Rattle.dmc_core.proofs.Clients.{false_unless, response-none, response-counted}
 use Rattle.dmc_core.proofs.client.CoreClient.respond.Goals as goal
 
 pub returns-clause-follows : goal.returns-clause-follows
@@ -34,3 +35,28 @@ returns-clause-pairs g c =
     rw (← c.self.view_is)
     (pair_changed items s x within c.index_mut-pair.ensures.value c.set_grants.new.self (λ (pair : Pair). with_grants phase (grants phase pair - 1) pair)
     (c.set_grants.ensures ∙ ap (λ (k : ℕ). with_grants phase (k - 1) (pair_of x)) c.grants-count.ensures))
+
+pub index_mut-pair-requires : goal.index_mut-pair-requires
+index_mut-pair-requires g c = let within = simp length-map at (rw (← c.self.view_is) at c.requires) in omega arith
+
+pub overflow_sub-count : goal.overflow_sub-count
+overflow_sub-count g c = omega arith
+
+pub returns-clause-some : goal.returns-clause-some
+returns-clause-some g c =
+    let items = c.self.inside.pairs.items in
+    let s = c.args.server in
+    let x = c.index_mut-pair.result.now in
+    let within : s.0 < length (map pair_of items) = rw (← c.self.view_is) at c.requires in
+    rw (← c.self.view_is, pair_seen items s x within c.index_mut-pair.ensures.value, ← c.grants-count.ensures) (omega arith)
+
+pub returns-then-count-eq0-clause-follows : goal.returns-then-count-eq0-clause-follows
+returns-then-count-eq0-clause-follows g c =
+    let items = c.self.inside.pairs.items in
+    let s = c.args.server in
+    let x = c.index_mut-pair.result.now in
+    let within : s.0 < length (map pair_of items) = rw (← c.self.view_is) at c.requires in
+    let seen = pair_seen items s x within c.index_mut-pair.ensures.value in
+    rw (← c.self.view_is, pair_same items s x within c.index_mut-pair.ensures.value x refl)
+    (response-none g.row.T.Denot (record { id = c.self.inside.id; tracker = c.self.inside.tracker; pairs = map pair_of items }) s c.args.phase
+    (rw (seen, ← c.grants-count.ensures, c.if-count-eq0.true) refl))

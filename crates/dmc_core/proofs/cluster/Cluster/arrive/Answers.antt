@@ -108,3 +108,24 @@ returns g c =
           (arrival_refused g.T.Tag.ops g.Q.Scheduler.state core c.args.client s c.args.at i placed within c.in-Some.message oldest c.add.new.self.queue c.in_ok-reply.reply steps
           (not_tagged c.in_ok-reply.reply w.in_default-reply.not-Tagged))
     ]
+
+pub index-requires : goal.index-requires
+index-requires g c = let within = rw (← c.self.view_is) at c.in_ok-place.ensures.within in omega arith
+
+pub index_mut-requires-in-Tagged : goal.index_mut-requires-in-Tagged
+index_mut-requires-in-Tagged g c = let within = rw (← c.self.view_is) at c.in_ok-place.ensures.within in omega arith
+
+pub index_mut-requires : goal.index_mut-requires
+index_mut-requires g c = let within = simp length-map at (rw (← c.self.view_is) at c.in_ok-place.ensures.server) in omega arith
+
+pub oldest-requires : goal.oldest-requires
+oldest-requires g c =
+    let clients = c.self.inside.clients.items in
+    let within : c.in_ok-place.place < length clients = rw (← c.self.view_is) at c.in_ok-place.ensures.within in
+    (rw (← c.self.view_is) at c.in_ok-place.ensures.paired) c.index.result.now (slice_get_read clients (length clients) c.in_ok-place.place c.index.result.now refl within c.index.ensures)
+
+pub take_oldest-requires : goal.take_oldest-requires
+take_oldest-requires g c =
+    let clients = c.self.inside.clients.items in
+    let within : c.in_ok-place.place < length clients = rw (← c.self.view_is) at c.in_ok-place.ensures.within in
+    (rw (← c.self.view_is) at c.in_ok-place.ensures.paired) c.index_mut-in-Tagged.result.now (slice_get_read clients (length clients) c.in_ok-place.place c.index_mut-in-Tagged.result.now refl within c.index_mut-in-Tagged.ensures.value)

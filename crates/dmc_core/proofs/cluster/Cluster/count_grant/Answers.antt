@@ -94,3 +94,42 @@ returns-else-count-clause-clients g c =
     let grown = λ (z : Held). record z { pairs = with_pair s (with_grants phase (grants phase (pair_at s z.pairs) + 1) (pair_at s z.pairs)) z.pairs } in
     rw (c.add_grant-count.ensures.pairs ∙ ap grown (c.index_mut.ensures.value ∙ get_or_from_slice_get hs c.in-Ok.place y h at))
     (matches_changed counting y client s (λ (pair : Pair). with_grants phase (grants phase pair + 1) pair) m)))
+
+pub index_mut-requires : goal.index_mut-requires
+index_mut-requires g c = let within = rw (← c.self.view_is) at c.in-Ok.ensures.within in omega arith
+
+pub index_mut-requires-then-count : goal.index_mut-requires-then-count
+index_mut-requires-then-count g c = let within = simp length-map at (rw (← c.self.view_is) at c.requires.within) in omega arith
+
+pub add_grant-count-requires-clause-within : goal.add_grant-count-requires-clause-within
+add_grant-count-requires-clause-within g c =
+    let clients = c.self.inside.clients.items in
+    let within : c.in-Ok.place < length clients = rw (← c.self.view_is) at c.in-Ok.ensures.within in
+    (rw (← c.self.view_is) at c.in-Ok.ensures.paired) c.index_mut.result.now (slice_get_read clients (length clients) c.in-Ok.place c.index_mut.result.now refl within c.index_mut.ensures.value)
+
+pub add_grant-count-requires-clause-room : goal.add_grant-count-requires-clause-room
+add_grant-count-requires-clause-room g c =
+    let hs = c.self.inside.clients.items in
+    let s = c.args.server in
+    let h = c.index_mut.result.now in
+    let inside : c.in-Ok.place < length hs = rw (← c.self.view_is) at c.in-Ok.ensures.within in
+    let none : full_counts s hs ≡ 0 = rw (← c.self.view_is) at c.requires.room in
+    let part = full_counts-part s hs c.in-Ok.place h (slice_get_read hs (length hs) c.in-Ok.place h refl inside c.index_mut.ensures.value) in
+    let one = one_if_full-part c.args.phase (pair_at s h.pairs) in
+    λ e. let full : one_if_full (grants c.args.phase (pair_at s h.pairs)) ≡ 1 = ap one_if_full e in omega arith
+
+pub returns-else-count-clause-servers : goal.returns-else-count-clause-servers
+returns-else-count-clause-servers g c = rw (← c.self.view_is) refl
+
+pub returns-in_default-clause-servers : goal.returns-in_default-clause-servers
+returns-in_default-clause-servers g c = refl
+
+pub overflow_add-index_mut : goal.overflow_add-index_mut
+overflow_add-index_mut g c =
+    let servers = c.self.inside.servers.items in
+    let s = c.args.server in
+    let x = c.index_mut-then-count.result.now in
+    let within : s.0 < length servers = simp length-map at (rw (← c.self.view_is) at c.requires.within) in
+    let none : full_counts s c.self.inside.clients.items ≡ 0 = rw (← c.self.view_is) at c.requires.room in
+    let knows = known c.self.inside.ids c.self.inside.clients.items servers c.self.invariant s x (slice_get_read servers (length servers) s.0 x refl within c.index_mut-then-count.ensures.value) in
+    omega arith

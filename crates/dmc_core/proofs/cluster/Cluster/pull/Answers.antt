@@ -1,5 +1,5 @@
 use Rattle.std.proofs.Common.{◌≡◌, ◌≢◌, ℕ, ◌+◌, ◌-◌, ◌<◌, ◌≤◌, ◌==◌, length, map, set, get_or, slice_get, List, Option, Some, None, Ok, Err, sym, ap, ◌∙◌, refl, subst, arith, rules}
-use Rattle.std.proofs.lemmas.List.{length-map, map-set}
+use Rattle.std.proofs.lemmas.List.{length-map, length-set, map-set}
 use Rattle.std.proofs.lemmas.Option.{get_or_from_slice_get, slice_get_read}
 use Rattle.dmc_types.specs.declared.config.Counting.{Counting}
 use Rattle.dmc_types.specs.declared.command.Command.TheVariants as commands
@@ -76,3 +76,24 @@ returns g c =
           (pull_served g.T.Tag.ops g.Q.Scheduler.state core s c.args.at within none c.pull-reply.new.self.queue c.pull-reply.result (λ q at. rw (← seen q at) c.pull-reply.ensures.steps)
           hs (λ counting cs z. rw (not_granted s c.pull-reply.result cs w.in_default.not-Granted) z))
     ]
+
+pub index-requires : goal.index-requires
+index-requires g c = let within = simp length-map at (rw (← c.self.view_is) at c.in_ok-index.ensures.ok.1) in omega arith
+
+pub index_mut-requires : goal.index_mut-requires
+index_mut-requires g c = let within = simp length-map at (rw (← c.self.view_is) at c.in_ok-index.ensures.ok.1) in omega arith
+
+pub count_grant-requires-clause-within : goal.count_grant-requires-clause-within
+count_grant-requires-clause-within g c =
+    let place : c.in_ok-index.index ≡ c.args.server.0 = c.in_ok-index.ensures.ok.0 in
+    let within = rw place at (simp length-map at (rw (← c.self.view_is) at c.in_ok-index.ensures.ok.1)) in
+    simp (length-map, length-set) within
+
+pub count_grant-requires-clause-room : goal.count_grant-requires-clause-room
+count_grant-requires-clause-room g c =
+    let servers = c.self.inside.servers.items in
+    let x = c.index.result.now in
+    let place : c.in_ok-index.index ≡ c.args.server.0 = c.in_ok-index.ensures.ok.0 in
+    let within : c.args.server.0 < length servers = rw place at (simp length-map at (rw (← c.self.view_is) at c.in_ok-index.ensures.ok.1)) in
+    let knows = known c.self.inside.ids c.self.inside.clients.items servers c.self.invariant c.args.server x (slice_get_read servers (length servers) c.args.server.0 x refl within (rw place at c.index.ensures)) in
+    omega arith

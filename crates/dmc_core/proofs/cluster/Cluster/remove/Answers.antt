@@ -39,3 +39,6 @@ returns g c =
     (server_follows g.T.Tag.ops g.Q.Scheduler.state (events.Remove c.args.server c.args.client) _ c.args.server (commands.Remove c.args.client) (λ run. refl) (rw (← place) within) c.remove.new.self.queue c.remove.result
     (λ q at. let same : x.queue ≡ q = sym (seen_map queue servers i q x (simp length-map at within) c.index_mut.ensures.value) ∙ get_or_from_slice_get (map queue servers) i q q (rw place at) in
     rw (← same) c.remove.ensures.steps))
+
+pub index_mut-requires : goal.index_mut-requires
+index_mut-requires g c = let within = simp length-map at (rw (← c.self.view_is) at c.in_ok-index.ensures.ok.1) in omega arith

@@ -114,3 +114,24 @@ returns g c =
           rw (w.self-is, ← c.self.view_is, map-set_same queue servers c.args.server.0 y w.index_mut-then-is_full.result.now (ap queue w.index_mut-then-is_full.ensures.value)) done
       | else-is_full w ↦ rw (w.self-is, ← c.self.view_is) done
     ]
+
+pub index-requires : goal.index-requires
+index-requires g c = let within = rw (← c.self.view_is) at c.in_ok-place.ensures.within in omega arith
+
+pub index_mut-requires : goal.index_mut-requires
+index_mut-requires g c = let within = rw (← c.self.view_is) at c.in_ok-place.ensures.within in omega arith
+
+pub index_mut-requires-then-is_full : goal.index_mut-requires-then-is_full
+index_mut-requires-then-is_full g c = let within = simp length-map at (rw (← c.self.view_is) at c.in_ok-place.ensures.server) in omega arith
+
+pub grants-is_full-requires : goal.grants-is_full-requires
+grants-is_full-requires g c =
+    let clients = c.self.inside.clients.items in
+    let within : c.in_ok-place.place < length clients = rw (← c.self.view_is) at c.in_ok-place.ensures.within in
+    (rw (← c.self.view_is) at c.in_ok-place.ensures.paired) c.index.result.now (slice_get_read clients (length clients) c.in_ok-place.place c.index.result.now refl within c.index.ensures)
+
+pub respond-requires : goal.respond-requires
+respond-requires g c =
+    let clients = c.self.inside.clients.items in
+    let within : c.in_ok-place.place < length clients = rw (← c.self.view_is) at c.in_ok-place.ensures.within in
+    (rw (← c.self.view_is) at c.in_ok-place.ensures.paired) c.index_mut.result.now (slice_get_read clients (length clients) c.in_ok-place.place c.index_mut.result.now refl within c.index_mut.ensures.value)

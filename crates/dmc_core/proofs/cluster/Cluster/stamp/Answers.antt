@@ -40,3 +40,12 @@ returns g c =
     (λ x at. subst (λ (y : Held). ClientFollows (λ counting client. stamp counting c.args.server c.args.token client) y c.stamp.new.self c.stamp.result)
     (c.index_mut.ensures.value ∙ get_or_from_slice_get hs c.in_ok-place.place x h at) c.stamp.ensures.follows)
     (λ e. refl))
+
+pub index_mut-requires : goal.index_mut-requires
+index_mut-requires g c = let within = rw (← c.self.view_is) at c.in_ok-place.ensures.within in omega arith
+
+pub stamp-requires : goal.stamp-requires
+stamp-requires g c =
+    let clients = c.self.inside.clients.items in
+    let within : c.in_ok-place.place < length clients = rw (← c.self.view_is) at c.in_ok-place.ensures.within in
+    (rw (← c.self.view_is) at c.in_ok-place.ensures.paired) c.index_mut.result.now (slice_get_read clients (length clients) c.in_ok-place.place c.index_mut.result.now refl within c.index_mut.ensures.value)

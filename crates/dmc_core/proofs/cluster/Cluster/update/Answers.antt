@@ -39,3 +39,6 @@ returns g c =
     (server_follows g.T.Tag.ops g.Q.Scheduler.state (events.Update c.args.server c.args.client c.args.info c.args.at) _ c.args.server (commands.Update c.args.client c.args.info c.args.at) (λ run. refl) (rw (← place) within) c.update.new.self.queue c.update.result
     (λ q at. let same : x.queue ≡ q = sym (seen_map queue servers i q x (simp length-map at within) c.index_mut.ensures.value) ∙ get_or_from_slice_get (map queue servers) i q q (rw place at) in
     rw (← same) c.update.ensures.steps))
+
+pub index_mut-requires : goal.index_mut-requires
+index_mut-requires g c = let within = simp length-map at (rw (← c.self.view_is) at c.in_ok-index.ensures.ok.1) in omega arith

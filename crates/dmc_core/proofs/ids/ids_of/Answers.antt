@@ -3,7 +3,7 @@ use Rattle.indexmap.specs.IndexSet.{insert_key}
 use Rattle.dmc_types.specs.declared.ids.ClientId.{ClientId}
 use Rattle.dmc_scene.specs.SceneValue.{ClientValue}
 use Rattle.dmc_core.proofs.Opened.{fresh, key_more, take_one_more}
-use Rattle.dmc_core.proofs.ids.ClientIds.of_clients.Goals as goal
+use Rattle.dmc_core.proofs.ids.ids_of.Goals as goal
 
 pub loop-client-preserved : goal.loop-client-preserved
 loop-client-preserved c =

@@ -74,7 +74,8 @@ fn open_servers<T: Tag, Q: NearScheduler<T> + Drop>(
 {
     let mut servers = Vec::with_capacity(alloc, scene.servers() as usize)?;
     for _ in 0..scene.servers() {
-        servers.push(open_server(alloc, scene)?)?;
+        let server = open_server(alloc, scene)?;
+        servers.push(server)?;
     }
     Ok(servers)
 }

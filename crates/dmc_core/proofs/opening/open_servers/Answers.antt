@@ -5,7 +5,7 @@ use Rattle.dmc_tag.proofs.Lists.{all_next}
 pub loop-preserved : goal.loop-preserved
 loop-preserved g c = record {
   as_many = rw c.in_ok-push.ensures.items (simp length-append (omega arith));
-  each = rw c.in_ok-push.ensures.items (all_next _ c.loop.servers.items _ c.loop.invariant.each c.in_ok-open_server.ensures);
+  each = rw c.in_ok-push.ensures.items (all_next _ c.loop.servers.items _ c.loop.invariant.each c.in_ok-server.ensures);
 }
 
 pub loop-init : goal.loop-init

@@ -7,4 +7,5 @@ mod IndexLemmas
 mod Lists
 mod OpeningLemmas
 mod SettlingLemmas
+mod SubmitLemmas
 mod WorkerLemmas

@@ -8,3 +8,4 @@ pub mod Opening
 pub mod Rooms
 pub mod Settling
 pub mod Status
+pub mod Submits

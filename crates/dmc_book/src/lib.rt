@@ -16,3 +16,4 @@ mod recording;
 pub mod seat;
 pub mod settled;
 pub mod status;
+mod submitting;

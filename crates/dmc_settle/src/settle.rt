@@ -1,5 +1,6 @@
 //! Settling a cluster.
-ghost use Rattle.std.specs.Prelude.{◌≡◌, ◌≤◌, ◌↔◌, length, map, IfOk, OnOk, IsOk};
+ghost use Rattle.std.specs.Prelude.{◌≡◌, ◌≤◌, ◌↔◌, length, map, IfOk, OnOk, IsOk, IsTrue};
+ghost use Rattle.dmc_types.specs.Limits.{most_scene_clients, most_servers};
 ghost use Rattle.dmc_settle.specs.Remains.{AreTogether, remains};
 ghost use Rattle.dmc_settle.specs.Circle.{AreCircles};
 ghost use Rattle.dmc_settle.specs.Reports.{AreRows, IsReport, IsReportOf, KeepsStops};
@@ -56,10 +57,7 @@ pub fn settle_cluster<T: Tag, I: Indexes<T>, S: Setup>(
         (IsReportOf (remains books.old (map (λ v. v.items) passes.workers.items) trackers.items passes.clients.items)) }
     ensures stops { IfOk result (KeepsStops report) }
 {
-    if !are_together(scene, books, &passes.workers, &trackers, &passes.clients) {
-        return Err(Torn);
-    }
-    if !are_rows(scene, &report) {
+    if !are_whole(scene, books, &trackers, &passes, &report) {
         return Err(Torn);
     }
     let Passes { workers, clients } = passes;
@@ -68,4 +66,21 @@ pub fn settle_cluster<T: Tag, I: Indexes<T>, S: Setup>(
     settle_servers(alloc, books, workers, &mut report.servers, &mut desks);
     settle_clients(trackers, clients, &desks, &mut report.clients);
     Ok(report)
+}
+
+/// Whether the parts are those of one cluster that the scene sets up, and the report's rows the scene's.
+fn are_whole<T: Tag, I: Indexes<T>, S: Setup>(
+    scene: &Scene,
+    books: &[QueueBook<T, I, S>],
+    trackers: &[TrackerBook<S>],
+    passes: &Passes<S>,
+    report: &ClusterReport<T>,
+) -> bool
+    ensures whole { IsTrue result
+        ↔ AreTogether scene.now (remains books.now (map (λ v. v.items) passes.now.workers.items) trackers.now passes.now.clients.items) × AreRows scene.now report.now }
+    ensures servers { IsTrue result → scene.now.servers ≤ most_servers }
+    ensures clients { IsTrue result → length scene.now.clients ≤ most_scene_clients }
+{
+    are_together(scene, books, &passes.workers, trackers, &passes.clients)
+        && are_rows(scene, report)
 }

@@ -25,84 +25,76 @@ use Rattle.dmc_settle.proofs.settle.settle_cluster.Given.{Over}
 use Rattle.dmc_settle.proofs.settle.settle_cluster.Goals as goal
 use Rattle.dmc_tag.proofs.Lists.{lent_back}
 
-pub returns-then-not-are_together-clause-together : goal.returns-then-not-are_together-clause-together
-returns-then-not-are_together-clause-together g c =
+pub returns-then-not-are_whole-clause-together : goal.returns-then-not-are_whole-clause-together
+returns-then-not-are_whole-clause-together g c =
     let r : Remains g.row.T.Denot = remains c.args.books.now (map (λ v. v.items) c.args.passes.workers.items) c.args.trackers.items c.args.passes.clients.items in (
       (λ e. cc),
-      (λ (both : AreTogether c.args.scene.now r × AreRows c.args.scene.now c.args.report). absurd (false≢true (sym c.if-not-are_together.true ∙ c.are_together.ensures.1
-          (rw (c.deref.ensures.value, c.deref-2.ensures.value, c.deref-3.ensures.value) both.0)))),
-    )
-
-pub returns-then-not-are_rows-clause-together : goal.returns-then-not-are_rows-clause-together
-returns-then-not-are_rows-clause-together g c =
-    let r : Remains g.row.T.Denot = remains c.args.books.now (map (λ v. v.items) c.args.passes.workers.items) c.args.trackers.items c.args.passes.clients.items in (
-      (λ e. cc),
-      (λ (both : AreTogether c.args.scene.now r × AreRows c.args.scene.now c.args.report). absurd (false≢true (sym c.if-not-are_rows.true ∙ c.are_rows.ensures.rows.1 both.1))),
+      (λ (both : AreTogether c.args.scene.now r × AreRows c.args.scene.now c.args.report). absurd (false≢true (sym c.if-not-are_whole.true ∙ c.are_whole.ensures.whole.1 (rw c.deref.ensures.value both)))),
     )
 
 pub settle_servers-requires-clause-passes : goal.settle_servers-requires-clause-passes
 settle_servers-requires-clause-passes g c =
     let r : Remains g.row.T.Denot = remains c.args.books.now (map (λ v. v.items) c.args.passes.workers.items) c.args.trackers.items c.args.passes.clients.items in
-    let together : AreTogether c.args.scene.now r = rw (c.deref.ensures.value, c.deref-2.ensures.value, c.deref-3.ensures.value) at (c.are_together.ensures.0 c.if-not-are_together.false) in
+    let together : AreTogether c.args.scene.now r = (rw c.deref.ensures.value at (c.are_whole.ensures.whole.0 c.if-not-are_whole.false)).0 in
     omega (arith, together.books, together.worker_passes, ap length (passes_seen c.args.passes.workers.items), length-map c.args.passes.workers.items (pass_states {S = g.row.S.Denot}))
 
 pub settle_servers-requires-clause-ready : goal.settle_servers-requires-clause-ready
 settle_servers-requires-clause-ready g c =
     let r : Remains g.row.T.Denot = remains c.args.books.now (map (λ v. v.items) c.args.passes.workers.items) c.args.trackers.items c.args.passes.clients.items in
-    let together : AreTogether c.args.scene.now r = rw (c.deref.ensures.value, c.deref-2.ensures.value, c.deref-3.ensures.value) at (c.are_together.ensures.0 c.if-not-are_together.false) in
+    let together : AreTogether c.args.scene.now r = (rw c.deref.ensures.value at (c.are_whole.ensures.whole.0 c.if-not-are_whole.false)).0 in
     λ s within. subst (λ (ps : List (List PassState)). IsReadyServer (get_or c.args.books.now s no_book) (get_or ps s [])) (passes_seen c.args.passes.workers.items)
-    (ready_servers c.args.scene.now r together (c.are_rows.ensures.clients c.if-not-are_rows.false) s within)
+    (ready_servers c.args.scene.now r together (c.are_whole.ensures.clients c.if-not-are_whole.false) s within)
 
 pub returns-clause-together : goal.returns-clause-together
 returns-clause-together g c =
     let r : Remains g.row.T.Denot = remains c.args.books.now (map (λ v. v.items) c.args.passes.workers.items) c.args.trackers.items c.args.passes.clients.items in
-    let together : AreTogether c.args.scene.now r = rw (c.deref.ensures.value, c.deref-2.ensures.value, c.deref-3.ensures.value) at (c.are_together.ensures.0 c.if-not-are_together.false) in
-    ((λ e. (together, c.are_rows.ensures.rows.0 c.if-not-are_rows.false)), (λ both. refl))
+    let together : AreTogether c.args.scene.now r = (rw c.deref.ensures.value at (c.are_whole.ensures.whole.0 c.if-not-are_whole.false)).0 in
+    ((λ e. (together, (c.are_whole.ensures.whole.0 c.if-not-are_whole.false).1)), (λ both. refl))
 
 pub settle_servers-requires-clause-rows : goal.settle_servers-requires-clause-rows
 settle_servers-requires-clause-rows g c =
     let r : Remains g.row.T.Denot = remains c.args.books.now (map (λ v. v.items) c.args.passes.workers.items) c.args.trackers.items c.args.passes.clients.items in
-    let together : AreTogether c.args.scene.now r = rw (c.deref.ensures.value, c.deref-2.ensures.value, c.deref-3.ensures.value) at (c.are_together.ensures.0 c.if-not-are_together.false) in
-    let rows : AreRows c.args.scene.now c.args.report = c.are_rows.ensures.rows.0 c.if-not-are_rows.false in
+    let together : AreTogether c.args.scene.now r = (rw c.deref.ensures.value at (c.are_whole.ensures.whole.0 c.if-not-are_whole.false)).0 in
+    let rows : AreRows c.args.scene.now c.args.report = (c.are_whole.ensures.whole.0 c.if-not-are_whole.false).1 in
     omega (arith, ap length c.deref_mut.ensures.value, rows.as_many_servers, together.books)
 
 pub settle_servers-requires-clause-room : goal.settle_servers-requires-clause-room
 settle_servers-requires-clause-room g c =
     let r : Remains g.row.T.Denot = remains c.args.books.now (map (λ v. v.items) c.args.passes.workers.items) c.args.trackers.items c.args.passes.clients.items in
-    let together : AreTogether c.args.scene.now r = rw (c.deref.ensures.value, c.deref-2.ensures.value, c.deref-3.ensures.value) at (c.are_together.ensures.0 c.if-not-are_together.false) in
+    let together : AreTogether c.args.scene.now r = (rw c.deref.ensures.value at (c.are_whole.ensures.whole.0 c.if-not-are_whole.false)).0 in
     omega (arith, together.books, c.requires.room, c.room.view_is)
 
 pub settle_clients-requires-clause-passes : goal.settle_clients-requires-clause-passes
 settle_clients-requires-clause-passes g c =
     let r : Remains g.row.T.Denot = remains c.args.books.now (map (λ v. v.items) c.args.passes.workers.items) c.args.trackers.items c.args.passes.clients.items in
-    let together : AreTogether c.args.scene.now r = rw (c.deref.ensures.value, c.deref-2.ensures.value, c.deref-3.ensures.value) at (c.are_together.ensures.0 c.if-not-are_together.false) in
+    let together : AreTogether c.args.scene.now r = (rw c.deref.ensures.value at (c.are_whole.ensures.whole.0 c.if-not-are_whole.false)).0 in
     together.client_passes ∙ sym together.trackers
 
 pub settle_clients-requires-clause-rows : goal.settle_clients-requires-clause-rows
 settle_clients-requires-clause-rows g c =
     let r : Remains g.row.T.Denot = remains c.args.books.now (map (λ v. v.items) c.args.passes.workers.items) c.args.trackers.items c.args.passes.clients.items in
-    let together : AreTogether c.args.scene.now r = rw (c.deref.ensures.value, c.deref-2.ensures.value, c.deref-3.ensures.value) at (c.are_together.ensures.0 c.if-not-are_together.false) in
-    let rows : AreRows c.args.scene.now c.args.report = c.are_rows.ensures.rows.0 c.if-not-are_rows.false in
+    let together : AreTogether c.args.scene.now r = (rw c.deref.ensures.value at (c.are_whole.ensures.whole.0 c.if-not-are_whole.false)).0 in
+    let rows : AreRows c.args.scene.now c.args.report = (c.are_whole.ensures.whole.0 c.if-not-are_whole.false).1 in
     let long = alike_long (λ (x : ClientReport). x.client) (λ (x : ClientValue). x.id) c.args.report.clients.items c.args.scene.now.clients rows.clients in
     omega (arith, ap length c.deref_mut-2.ensures.value, long, together.trackers)
 
 pub settle_clients-requires-clause-few : goal.settle_clients-requires-clause-few
 settle_clients-requires-clause-few g c =
     let r : Remains g.row.T.Denot = remains c.args.books.now (map (λ v. v.items) c.args.passes.workers.items) c.args.trackers.items c.args.passes.clients.items in
-    let together : AreTogether c.args.scene.now r = rw (c.deref.ensures.value, c.deref-2.ensures.value, c.deref-3.ensures.value) at (c.are_together.ensures.0 c.if-not-are_together.false) in
-    omega (arith, ap length c.deref-4.ensures.value, c.settle_servers.ensures.desks_each, together.books, c.are_rows.ensures.servers c.if-not-are_rows.false)
+    let together : AreTogether c.args.scene.now r = (rw c.deref.ensures.value at (c.are_whole.ensures.whole.0 c.if-not-are_whole.false)).0 in
+    omega (arith, ap length c.deref-2.ensures.value, c.settle_servers.ensures.desks_each, together.books, c.are_whole.ensures.servers c.if-not-are_whole.false)
 
 pub settle_clients-requires-clause-ready : goal.settle_clients-requires-clause-ready
 settle_clients-requires-clause-ready g c =
     let r : Remains g.row.T.Denot = remains c.args.books.now (map (λ v. v.items) c.args.passes.workers.items) c.args.trackers.items c.args.passes.clients.items in
-    let together : AreTogether c.args.scene.now r = rw (c.deref.ensures.value, c.deref-2.ensures.value, c.deref-3.ensures.value) at (c.are_together.ensures.0 c.if-not-are_together.false) in
+    let together : AreTogether c.args.scene.now r = (rw c.deref.ensures.value at (c.are_whole.ensures.whole.0 c.if-not-are_whole.false)).0 in
     let see : Vec (ClientDesk g.row.S.Denot) → List ClientSide = sides in
     let desks = map see c.settle_servers.new.desks.items in
     let seen = passes_seen c.args.passes.workers.items in
     let desks_each : length desks ≡ length c.args.books.now = length-map c.settle_servers.new.desks.items see ∙ c.settle_servers.ensures.desks_each in
     let settled = subst (λ (ps : List (List PassState)). (s : ℕ) → s < length c.args.books.now
     → AreSettledDesks (get_or c.args.books.now s no_book).history (get_or ps s []) (get_or c.args.books.now s no_book).desks (get_or desks s [])) (sym seen) c.settle_servers.ensures.desks in
-    rw c.deref-4.ensures.value (λ k within. ready_clients c.args.scene.now r together desks desks_each settled k within)
+    rw c.deref-2.ensures.value (λ k within. ready_clients c.args.scene.now r together desks desks_each settled k within)
 
 -- the report that is handed back, and what the two walks left of it
 abbrev new_report : (g : Over) → goal.After-drop-desks g → ClusterReport g.row.T.Denot
@@ -130,8 +122,8 @@ settled_cluster : (g : Over) (c : goal.After-drop-desks g) → IsSettledCluster 
     (map sides c.settle_servers.new.desks.items) c.args.report (new_report g c)
 settled_cluster g c =
     let r : Remains g.row.T.Denot = remains c.args.books.now (map (λ v. v.items) c.args.passes.workers.items) c.args.trackers.items c.args.passes.clients.items in
-    let together : AreTogether c.args.scene.now r = rw (c.deref.ensures.value, c.deref-2.ensures.value, c.deref-3.ensures.value) at (c.are_together.ensures.0 c.if-not-are_together.false) in
-    let rows : AreRows c.args.scene.now c.args.report = c.are_rows.ensures.rows.0 c.if-not-are_rows.false in
+    let together : AreTogether c.args.scene.now r = (rw c.deref.ensures.value at (c.are_whole.ensures.whole.0 c.if-not-are_whole.false)).0 in
+    let rows : AreRows c.args.scene.now c.args.report = (c.are_whole.ensures.whole.0 c.if-not-are_whole.false).1 in
     let see : Vec (ClientDesk g.row.S.Denot) → List ClientSide = sides in
     let desks = map see c.settle_servers.new.desks.items in
     let seen = passes_seen c.args.passes.workers.items in
@@ -140,7 +132,7 @@ settled_cluster g c =
     → AreSettledDesks (get_or c.args.books.now s no_book).history (get_or ps s []) (get_or c.args.books.now s no_book).desks (get_or desks s [])) (sym seen) c.settle_servers.ensures.desks in
     let of_servers = server_rows g c in
     let of_clients = client_rows g c in
-    let lent = c.deref-4.ensures.value in
+    let lent = c.deref-2.ensures.value in
     record {
       together = together;
       rows = rows;

@@ -1,19 +1,23 @@
-use Rattle.std.proofs.Common.{rules, ℕ, ◌≡◌, ◌<◌, ◌≤◌, ◌^◌, ◌∙◌, ◌++◌, ◌∷◌, [], ap, map, length, refl, sym, subst, arith}
+use Rattle.std.proofs.Common.{rules, ℕ, ◌≡◌, ◌<◌, ◌≤◌, ◌^◌, ◌∙◌, ◌++◌, ◌∷◌, [], ap, false, map, length, refl, sym, subst, Some, Ok, Err, arith}
 use Rattle.dmc_types.specs.Values.{Params}
 use Rattle.dmc_types.specs.declared.ids.ClientId.{ClientId}
 use Rattle.dmc_types.specs.declared.command.Command.{Command}
 use Rattle.dmc_types.specs.declared.command.Command.TheVariants.{Add}
 use Rattle.dmc_tag.specs.Steps.{Steps}
 use Rattle.dmc_tag.specs.declared.reply.Reply.TheVariants.{Tagged, Refused}
-use Rattle.dmc_ledger.specs.Bundles.{client_side}
+use Rattle.dmc_ledger.specs.Bundles.{client_side, stamp_holdings}
+use Rattle.dmc_ledger.specs.Moves.{tills_after_submit}
 use Rattle.dmc_pull.specs.Queue as queue
 use Rattle.dmc_book.specs.BookState.{BookState, PassState, worker_side, worker_holdings, state_of, pass_state}
 use Rattle.dmc_book.specs.Consistent.{IsConsistent}
 use Rattle.dmc_book.specs.Calls.{added_reply, event_of, Ran}
 use Rattle.dmc_book.specs.Moves.{book_after}
+use Rattle.dmc_book.specs.Submits.{FindsDesk, IsAsked, Submits}
+use Rattle.dmc_book.specs.declared.fault.SubmitCause.TheVariants as submit
+use Rattle.dmc_book.proofs.SubmitLemmas.{asked_at}
 use Rattle.dmc_book.proofs.Counting.{consistent_memory, consistent_more, reply_after, workers_within}
 use Rattle.dmc_book.proofs.DeskLemmas.{all_stay}
-use Rattle.dmc_book.proofs.book.QueueBook.submit.Goals as goal
+use Rattle.dmc_book.proofs.book.QueueBook.add.Goals as goal
 
 pub count-requires-clause-fits : goal.count-requires-clause-fits
 count-requires-clause-fits g c =
@@ -65,8 +69,32 @@ invariant_of-self-in-Memory g c =
       c.self.invariant.1,
     )
 
-pub returns-in-Refused-clause-refused : goal.returns-in-Refused-clause-refused
-returns-in-Refused-clause-refused g c =
+pub returns-in-Tagged : goal.returns-in-Tagged
+returns-in-Tagged g c =
+    let command = Add c.client-client.result c.args.token c.params-params.result c.args.at in
+    let e = event_of c.args.pass.now.worker.0 command (Tagged c.in-Tagged.tags) in
+    let asked = subst (λ a. Steps g.T.Tag.ops (queue.state_of c.self.inside.queue.0) (queue.state_of c.ask_to_add.new.queue) command (added_reply a)) c.in-Tagged.is c.ask_to_add.ensures in
+    let events : c.push_queued.new.self.events ≡ c.self.inside.history.events ++ e ∷ [] = c.push_queued.ensures.events ∙ ap (λ es. es ++ e ∷ []) c.reserve_one.ensures.events in
+    let most : c.push_queued.new.self.most ≡ c.self.inside.history.most = c.push_queued.ensures.most ∙ c.reserve_one.ensures.most in
+    let b : BookState g.row.T.Denot = state_of c.self.inside.config c.self.inside.server.0 c.self.inside.history (map worker_side c.self.inside.workers.items) (map client_side c.self.inside.desks.items) c.self.inside.closed in
+    let new : BookState g.row.T.Denot = state_of c.self.inside.config c.self.inside.server.0 c.push_queued.new.self (map worker_side c.count.new.workers.items) (map client_side c.take_in.new.desks.items) c.self.inside.closed in
+    let later : PassState = record (pass_state c.args.pass.now) { tills = worker_holdings c.count.new.tills } in
+    let ran : Ran g.T.Tag.ops b new (pass_state c.args.pass.now) later command (Tagged c.in-Tagged.tags) = record {
+      reply_is = reply_after g.T.Tag.ops (queue.state_of c.self.inside.queue.0) (queue.state_of c.ask_to_add.new.queue) b command (Tagged c.in-Tagged.tags) c.self.invariant.0 asked;
+      book = rw (events, most, c.count.ensures.workers, c.take_in.ensures.desks) refl;
+      pass = rw (c.count.ensures.tills) refl;
+    } in
+    let client_is = ap (λ (n : ℕ). let k : ClientId = record { 0 = n } in k) c.client-client.ensures in
+    let command_is = ap (λ (k : ClientId). Add k c.args.token c.params-params.result c.args.at) client_is ∙ ap (λ (p : Params). Add (record { 0 = c.args.stamp.now.client }) c.args.token p c.args.at) c.params-params.ensures in
+    let found : FindsDesk c.self.inside.server.0 (map worker_side c.self.inside.workers.items) (map client_side c.self.inside.desks.items) (pass_state c.args.pass.now) c.args.stamp.now (stamp_holdings c.args.tills.now) (Some c.in-Some.desk) = search rules in
+    let is_open : c.self.inside.closed ≡ false = search rules in
+    let fewer : length c.self.inside.history.events < c.self.inside.history.most = search rules in
+    let is_asked = asked_at b (pass_state c.args.pass.now) c.args.stamp.now (stamp_holdings c.args.tills.now) c.in-Some.desk found is_open fewer in
+    subst (λ (a : BookState g.row.T.Denot). Submits g.T.Tag.ops a new (pass_state c.args.pass.now) later c.args.stamp.now (stamp_holdings c.args.tills.now) (stamp_holdings c.take_in.new.tills) c.args.token c.args.at (Ok c.in-Tagged.tags)) c.self.view_is
+    (subst (λ (d : Command). Ran g.T.Tag.ops b new (pass_state c.args.pass.now) later d (Tagged c.in-Tagged.tags)) command_is ran, c.take_in.ensures.tills ∙ ap (λ p. tills_after_submit p (stamp_holdings c.args.tills.now)) c.params-params.ensures, is_asked)
+
+pub returns-in-Refused : goal.returns-in-Refused
+returns-in-Refused g c =
     let command = Add c.client-client.result c.args.token c.params-params.result c.args.at in
     let e = event_of c.args.pass.now.worker.0 command (Refused c.in-Refused.refusal) in
     let asked = subst (λ a. Steps g.T.Tag.ops (queue.state_of c.self.inside.queue.0) (queue.state_of c.ask_to_add.new.queue) command (added_reply a)) c.in-Refused.is c.ask_to_add.ensures in
@@ -82,26 +110,23 @@ returns-in-Refused-clause-refused g c =
       pass = rw (c.count-in-Refused.ensures.tills) refl;
     } in
     let client_is = ap (λ (n : ℕ). let k : ClientId = record { 0 = n } in k) c.client-client.ensures in
-    let command_is = ap (λ (k : ClientId). Add k c.args.token c.params-params.result c.args.at) client_is ∙ ap (λ (p : Params). Add (record { 0 = c.args.stamp.client }) c.args.token p c.args.at) c.params-params.ensures in
-    subst (λ (d : Command). Ran g.T.Tag.ops c.args.self.now new (pass_state c.args.pass.now) later d (Refused c.in-Refused.refusal)) command_is
-    (subst (λ (a : BookState g.row.T.Denot). Ran g.T.Tag.ops a new (pass_state c.args.pass.now) later command (Refused c.in-Refused.refusal)) c.self.view_is ran)
+    let command_is = ap (λ (k : ClientId). Add k c.args.token c.params-params.result c.args.at) client_is ∙ ap (λ (p : Params). Add (record { 0 = c.args.stamp.now.client }) c.args.token p c.args.at) c.params-params.ensures in
+    let found : FindsDesk c.self.inside.server.0 (map worker_side c.self.inside.workers.items) (map client_side c.self.inside.desks.items) (pass_state c.args.pass.now) c.args.stamp.now (stamp_holdings c.args.tills.now) (Some c.in-Some.desk) = search rules in
+    let is_open : c.self.inside.closed ≡ false = search rules in
+    let fewer : length c.self.inside.history.events < c.self.inside.history.most = search rules in
+    let is_asked = asked_at b (pass_state c.args.pass.now) c.args.stamp.now (stamp_holdings c.args.tills.now) c.in-Some.desk found is_open fewer in
+    subst (λ (a : BookState g.row.T.Denot). Submits g.T.Tag.ops a new (pass_state c.args.pass.now) later c.args.stamp.now (stamp_holdings c.args.tills.now) (stamp_holdings c.args.tills.now) c.args.token c.args.at (Err (submit.Refused c.in-Refused.refusal))) c.self.view_is
+    (subst (λ (d : Command). Ran g.T.Tag.ops b new (pass_state c.args.pass.now) later d (Refused c.in-Refused.refusal)) command_is ran, refl, is_asked)
 
-pub returns-in-Tagged-clause-accepted : goal.returns-in-Tagged-clause-accepted
-returns-in-Tagged-clause-accepted g c =
-    let command = Add c.client-client.result c.args.token c.params-params.result c.args.at in
-    let e = event_of c.args.pass.now.worker.0 command (Tagged c.in-Tagged.tags) in
-    let asked = subst (λ a. Steps g.T.Tag.ops (queue.state_of c.self.inside.queue.0) (queue.state_of c.ask_to_add.new.queue) command (added_reply a)) c.in-Tagged.is c.ask_to_add.ensures in
-    let events : c.push_queued.new.self.events ≡ c.self.inside.history.events ++ e ∷ [] = c.push_queued.ensures.events ∙ ap (λ es. es ++ e ∷ []) c.reserve_one.ensures.events in
-    let most : c.push_queued.new.self.most ≡ c.self.inside.history.most = c.push_queued.ensures.most ∙ c.reserve_one.ensures.most in
+pub returns-in-Memory : goal.returns-in-Memory
+returns-in-Memory g c =
     let b : BookState g.row.T.Denot = state_of c.self.inside.config c.self.inside.server.0 c.self.inside.history (map worker_side c.self.inside.workers.items) (map client_side c.self.inside.desks.items) c.self.inside.closed in
-    let new : BookState g.row.T.Denot = state_of c.self.inside.config c.self.inside.server.0 c.push_queued.new.self (map worker_side c.count.new.workers.items) (map client_side c.take_in.new.desks.items) c.self.inside.closed in
-    let later : PassState = record (pass_state c.args.pass.now) { tills = worker_holdings c.count.new.tills } in
-    let ran : Ran g.T.Tag.ops b new (pass_state c.args.pass.now) later command (Tagged c.in-Tagged.tags) = record {
-      reply_is = reply_after g.T.Tag.ops (queue.state_of c.self.inside.queue.0) (queue.state_of c.ask_to_add.new.queue) b command (Tagged c.in-Tagged.tags) c.self.invariant.0 asked;
-      book = rw (events, most, c.count.ensures.workers, c.take_in.ensures.desks) refl;
-      pass = rw (c.count.ensures.tills) refl;
-    } in
-    let client_is = ap (λ (n : ℕ). let k : ClientId = record { 0 = n } in k) c.client-client.ensures in
-    let command_is = ap (λ (k : ClientId). Add k c.args.token c.params-params.result c.args.at) client_is ∙ ap (λ (p : Params). Add (record { 0 = c.args.stamp.client }) c.args.token p c.args.at) c.params-params.ensures in
-    subst (λ (d : Command). Ran g.T.Tag.ops c.args.self.now new (pass_state c.args.pass.now) later d (Tagged c.in-Tagged.tags)) command_is
-    (subst (λ (a : BookState g.row.T.Denot). Ran g.T.Tag.ops a new (pass_state c.args.pass.now) later command (Tagged c.in-Tagged.tags)) c.self.view_is ran)
+    let events : c.reserve_one.new.self.events ≡ c.self.inside.history.events = c.reserve_one.ensures.events in
+    let most : c.reserve_one.new.self.most ≡ c.self.inside.history.most = c.reserve_one.ensures.most in
+    let new : BookState g.row.T.Denot = state_of c.self.inside.config c.self.inside.server.0 c.reserve_one.new.self (map worker_side c.self.inside.workers.items) (map client_side c.self.inside.desks.items) c.self.inside.closed in
+    let found : FindsDesk c.self.inside.server.0 (map worker_side c.self.inside.workers.items) (map client_side c.self.inside.desks.items) (pass_state c.args.pass.now) c.args.stamp.now (stamp_holdings c.args.tills.now) (Some c.in-Some.desk) = search rules in
+    let is_open : c.self.inside.closed ≡ false = search rules in
+    let fewer : length c.self.inside.history.events < c.self.inside.history.most = search rules in
+    let is_asked = asked_at b (pass_state c.args.pass.now) c.args.stamp.now (stamp_holdings c.args.tills.now) c.in-Some.desk found is_open fewer in
+    subst (λ (a : BookState g.row.T.Denot). Submits g.T.Tag.ops a new (pass_state c.args.pass.now) (pass_state c.args.pass.now) c.args.stamp.now (stamp_holdings c.args.tills.now) (stamp_holdings c.args.tills.now) c.args.token c.args.at (Err submit.Memory)) c.self.view_is
+    ((rw (events, most) refl, refl), refl, is_asked)

@@ -1,0 +1,45 @@
+-- Why a submit was refused.
+use Rattle.std.proofs.Common.{ℕ, ◌≡◌, ◌<◌, true, false, true≢false, length, refl, sym, ◌∙◌, Some, arith}
+use Rattle.std.specs.Prelude.{◌↔◌}
+use Rattle.dmc_ledger.specs.Bundles.{StampHoldings}
+use Rattle.dmc_tlock.specs.BookState.{StampValue}
+use Rattle.dmc_book.specs.declared.fault.SubmitCause.{SubmitCause}
+use Rattle.dmc_book.specs.declared.fault.SubmitCause.TheVariants as submit
+use Rattle.dmc_book.specs.BookState.{BookState, PassState}
+use Rattle.dmc_book.specs.Calls.{IsForDesk}
+use Rattle.dmc_book.specs.Moves.{IsEnrolled}
+use Rattle.dmc_book.specs.Submits.{FindsDesk, HasCause, IsAsked}
+
+module _ {T : Type 0} (b : BookState T) (p : PassState) (stamp : StampValue) (tills : StampHoldings) where
+  abbrev Enrolled : Type 0
+  Enrolled = IsEnrolled b.workers p
+
+  abbrev AtDesk : Type 0
+  AtDesk = IsForDesk b.server b.desks stamp tills
+
+  pub at_desk : (place : ℕ) → FindsDesk b.server b.workers b.desks p stamp tills (Some place) → Enrolled × AtDesk
+  at_desk place found = (found.0, record { its_server = found.1; place = place; here = found.2; its_tills = found.4 })
+
+  pub asked_at : (place : ℕ) → FindsDesk b.server b.workers b.desks p stamp tills (Some place) → b.closed ≡ false → length b.history < b.most → IsAsked b p stamp tills
+  asked_at place found is_open fewer = (found.0, (at_desk place found).1, is_open, λ full. omega (arith, fewer, full))
+
+  pub is_stranger : (cause : SubmitCause) → HasCause b p stamp tills cause → (cause ≡ submit.Stranger) ↔ (Enrolled × AtDesk → ⊥)
+  is_stranger submit.Stranger h = (λ e. h, λ k. refl)
+  is_stranger submit.Closed h = (λ e. absurd cc, λ k. absurd (k (h.0, h.1)))
+  is_stranger submit.HistoryFull h = (λ e. absurd cc, λ k. absurd (k (h.0, h.1)))
+  is_stranger submit.Memory h = (λ e. absurd cc, λ k. absurd (k (h.0, h.1)))
+  is_stranger (submit.Refused refusal) h = (λ e. absurd cc, λ k. absurd (k (h.0, h.1)))
+
+  pub is_closed : (cause : SubmitCause) → HasCause b p stamp tills cause → (cause ≡ submit.Closed) ↔ (Enrolled × AtDesk × (b.closed ≡ true))
+  is_closed submit.Stranger h = (λ e. absurd cc, λ k. absurd (h (k.0, k.1)))
+  is_closed submit.Closed h = (λ e. h, λ k. refl)
+  is_closed submit.HistoryFull h = (λ e. absurd cc, λ k. absurd (true≢false (sym k.2 ∙ h.2)))
+  is_closed submit.Memory h = (λ e. absurd cc, λ k. absurd (true≢false (sym k.2 ∙ h.2)))
+  is_closed (submit.Refused refusal) h = (λ e. absurd cc, λ k. absurd (true≢false (sym k.2 ∙ h.2)))
+
+  pub is_full : (cause : SubmitCause) → HasCause b p stamp tills cause → (cause ≡ submit.HistoryFull) ↔ (Enrolled × AtDesk × (b.closed ≡ false) × (length b.history ≡ b.most))
+  is_full submit.Stranger h = (λ e. absurd cc, λ k. absurd (h (k.0, k.1)))
+  is_full submit.Closed h = (λ e. absurd cc, λ k. absurd (true≢false (sym h.2 ∙ k.2)))
+  is_full submit.HistoryFull h = (λ e. h, λ k. refl)
+  is_full submit.Memory h = (λ e. absurd cc, λ k. absurd (h.3 k.3))
+  is_full (submit.Refused refusal) h = (λ e. absurd cc, λ k. absurd (h.3 k.3))

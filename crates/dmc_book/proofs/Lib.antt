@@ -6,6 +6,7 @@ mod GrantLemmas
 mod IndexLemmas
 mod Lists
 mod OpeningLemmas
+mod RunLemmas
 mod SettlingLemmas
 mod SubmitLemmas
 mod WorkerLemmas

@@ -6,6 +6,7 @@ pub mod Lending
 pub mod Moves
 pub mod Opening
 pub mod Rooms
+pub mod Runs
 pub mod Settling
 pub mod Status
 pub mod Submits

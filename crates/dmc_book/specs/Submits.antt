@@ -18,7 +18,7 @@ use Rattle.dmc_book.specs.Moves.{IsEnrolled, desk_place}
 abbrev pub FindsDesk : ℕ → List WorkerSide → List ClientSide → PassState → StampValue → StampHoldings → Option ℕ → Type 0
 FindsDesk server workers desks p stamp tills (Some place) =
     IsEnrolled workers p × (stamp.server ≡ server) × (desk_place stamp.client desks ≡ Some place) × (place < length desks)
-        × AreAlike tills (slice_index_or desks place no_desk).held
+    × AreAlike tills (slice_index_or desks place no_desk).held
 FindsDesk server workers desks p stamp tills None = IsEnrolled workers p × IsForDesk server desks stamp tills → ⊥
 
 module _ {T : Type 0} (b : BookState T) (p : PassState) (stamp : StampValue) (tills : StampHoldings) where
@@ -38,7 +38,7 @@ module _ {T : Type 0} (b : BookState T) (p : PassState) (stamp : StampValue) (ti
 abbrev pub Submits : {T : Type 0} → Tagging T → BookState T → BookState T → PassState → PassState → StampValue → StampHoldings → StampHoldings → Token → ℕ → Result (Tags T) SubmitCause → Type 0
 Submits ops old new before later stamp tills left token at (Ok tags) =
     Ran ops old new before later (Add (record { 0 = stamp.client }) token stamp.params at) (Tagged tags)
-        × (left ≡ tills_after_submit stamp.params tills) × IsAsked old before stamp tills
+    × (left ≡ tills_after_submit stamp.params tills) × IsAsked old before stamp tills
 Submits ops old new before later stamp tills left token at (Err cause) =
     SubmitRefused ops old new before later (Add (record { 0 = stamp.client }) token stamp.params at) cause
-        × (left ≡ tills) × HasCause old before stamp tills cause
+    × (left ≡ tills) × HasCause old before stamp tills cause

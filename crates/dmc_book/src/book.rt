@@ -1,46 +1,37 @@
 //! The queue's book.
-ghost use Rattle.std.specs.Prelude.{◌≡◌, ◌==◌, ◌≤◌, ◌<◌, ◌+◌, ◌*◌, ◌↔◌, length, map, true, false, not, is_some, Some, None, IfOk, IfErr, IsOk, OnOk, OnErr, IsErrOf, IsErrAnd, IsTrue, IfSome, slice_index_or};
+ghost use Rattle.std.specs.Prelude.{◌≡◌, ◌≤◌, ◌+◌, ◌*◌, ◌↔◌, length, map, true, false, IfOk, IfErr, IsOk, OnOk, OnErr, IsErrOf, IsErrAnd};
 ghost use Rattle.std.specs.List.{AllByRecursion};
 ghost use Rattle.dmc_types.specs.Limits.{most_events, most_workers};
-ghost use Rattle.dmc_ledger.specs.Bundles.{Covers, client_side, grant_holdings, stamp_holdings};
-ghost use Rattle.dmc_ledger.specs.Moves.{tills_after_submit};
-ghost use Rattle.dmc_tag.specs.Answers.{call_reply};
+ghost use Rattle.dmc_ledger.specs.Bundles.{client_side};
 ghost use Rattle.dmc_tag.specs.Replay.{after, replays};
-ghost use Rattle.dmc_tag.specs.Steps.{Steps};
-ghost use Rattle.dmc_tag.specs.declared.reply.Reply.TheVariants as replies;
-ghost use Rattle.dmc_types.specs.declared.command.Command.TheVariants as commands;
-ghost use Rattle.dmc_pull.specs.Queue as queue_specs;
 ghost use Rattle.dmc_book.specs.BookState.{pass_state, worker_side};
-ghost use Rattle.dmc_book.specs.Calls.{IsForDesk, names_none, Ran, Strays, SubmitRefused, is_add, lacks_desk, reply_to};
+ghost use Rattle.dmc_book.specs.Calls.{Ran, Strays, is_add, lacks_desk, names_none, reply_to};
 ghost use Rattle.dmc_book.specs.Moves.{IsEnrolled, takes};
 ghost use Rattle.dmc_book.specs.Opening.{AreBookLimits, AreNamedOnce, IsNewDesk, new_passes, new_state};
+ghost use Rattle.dmc_book.specs.Runs.{Runs};
 ghost use Rattle.dmc_book.specs.Settling.{AreGrantsOfDesks, AreOwn, AreSettledDesks, IsSettledWorker, after_settling, closed_worker};
 ghost use Rattle.dmc_book.specs.Status.{IsStatusOf};
 
-use crate::asking::{Added, ask, ask_to_add};
-use crate::desk::{find_stamps, take_in};
-use crate::fault::{BookFault, NewFault, RunFault, SubmitCause, SubmitFault};
+use crate::asking::ask;
+use crate::fault::{BookFault, NewFault, RunFault};
 use crate::opening::{Parts, Room, make_parts, open_workers};
 use crate::pass::WorkerPass;
 use crate::recording::record;
-use crate::seat::{Seat, count, is_enrolled};
+use crate::seat::{Seat, is_enrolled};
 use crate::settled::{Settled, are_own, take_passes};
 use crate::status::Status;
 use dmc_events::history::EventHistory;
 use dmc_index::index::Indexes;
-use dmc_ledger::bundle::StampTills;
 use dmc_ledger::desk::ClientDesk;
 use dmc_ledger::mint::Mint;
 use dmc_ledger::setup::Setup;
 use dmc_pull::queue::PullQueue;
 use dmc_tag::event::Event;
-use dmc_tag::reply::{Reply, Tags};
+use dmc_tag::reply::Reply;
 use dmc_tag::tag::Tag;
-use dmc_tlock::stamp::Stamp;
 use dmc_types::command::Command;
 use dmc_types::config::QueueConfig;
-use dmc_types::ids::{ClientId, ServerId, Token, WorkerId};
-use dmc_types::moment::Moment;
+use dmc_types::ids::{ClientId, ServerId, WorkerId};
 use indexmap::IndexSet;
 use std::alloc::Global;
 use std::marker::Model;
@@ -196,6 +187,14 @@ impl<T: Tag, I: Indexes<T>, S: Setup> QueueBook<T, I, S> {
         ensures history_full { IsErrOf result RunFault.HistoryFull
             ↔ (IsEnrolled self.old.workers (pass_state pass.old) × (lacks_desk self.old.desks command ≡ false)
             × (length self.old.history ≡ self.old.most)) }
+    {
+        self.hand_on(pass, command)
+    }
+
+    /// Hands a command on to the queue, as `run` tells.
+    fn hand_on(&mut self, pass: &mut WorkerPass<S>, command: Command) -> Result<Reply<T>, RunFault>
+        requires { is_add command ≡ false }
+        ensures { Runs T.ops self.old (pass_state pass.old) command self.new (pass_state pass.new) result }
     {
         if !is_enrolled(&self.workers, pass) {
             return Err(RunFault::Stranger);

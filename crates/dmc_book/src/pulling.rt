@@ -4,8 +4,9 @@ ghost use Rattle.dmc_tag.specs.declared.reply.Reply.TheVariants as replies;
 ghost use Rattle.dmc_types.specs.declared.command.Command.TheVariants as commands;
 ghost use Rattle.dmc_pull.specs.Allowed.{is_allowed};
 ghost use Rattle.dmc_book.specs.BookState.{pass_state};
-ghost use Rattle.dmc_book.specs.Calls.{WasPulled, reply_to};
+ghost use Rattle.dmc_book.specs.Calls.{WasPulled, asked, reply_to};
 ghost use Rattle.dmc_book.specs.Moves.{IsEnrolled, takes};
+ghost use Rattle.dmc_book.specs.Runs.{Runs};
 
 use crate::asking::{ask_to_pull, reply_of};
 use crate::book::QueueBook;
@@ -37,6 +38,14 @@ impl<T: Tag, I: Indexes<T>, S: Setup> QueueBook<T, I, S> {
             (is_allowed (takes self.old.desks (pass_state pass.old).clients (pass_state pass.old).units) (reply_to T.ops self.old (commands.Pull at)) ≡ true) }
         ensures history_full { IsErrOf result (RunOrRange.Run RunFault.HistoryFull)
             ↔ (IsEnrolled self.old.workers (pass_state pass.old) × (length self.old.history ≡ self.old.most)) }
+    {
+        self.pull_next(pass, at)
+    }
+
+    /// Pulls, as `pull` tells.
+    #[inline(always)]
+    fn pull_next(&mut self, pass: &mut WorkerPass<S>, at: Moment) -> Result<Pulled, RunOrRange>
+        ensures { Runs T.ops self.old (pass_state pass.old) (commands.Pull at) self.new (pass_state pass.new) (asked result) }
     {
         if !is_enrolled(&self.workers, pass) {
             return Err(RunOrRange::Run(RunFault::Stranger));

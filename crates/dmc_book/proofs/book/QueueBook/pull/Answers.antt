@@ -1,121 +1,18 @@
-use Rattle.std.proofs.Common.{rules, ◌≡◌, ◌≤◌, ◌<◌, ◌^◌, ◌∙◌, ◌++◌, ◌∷◌, [], ap, map, length, refl, sym, subst, arith, true, false, List, Ok, Err}
-use Rattle.std.specs.Prelude.{IsErrOf, OnOk}
-use Rattle.std.specs.Arc.{arc_value}
-use Rattle.dmc_types.specs.declared.command.Command.TheVariants.{Pull}
-use Rattle.dmc_tag.proofs.ForCallers.{tag_order}
-use Rattle.dmc_tag.specs.declared.reply.Pulled.TheVariants as pulled
-use Rattle.dmc_tag.specs.declared.reply.Reply.{Reply}
-use Rattle.dmc_tag.specs.declared.reply.Reply.TheVariants.{Granted}
-use Rattle.dmc_ledger.specs.Bundles.{client_side, grant_holdings}
-use Rattle.dmc_ledger.specs.declared.desk.ClientDesk.{ClientDesk}
-use Rattle.dmc_pull.specs.Queue as queue
-use Rattle.dmc_book.specs.BookState.{BookState, PassState, state_of, pass_state, worker_holdings, worker_side}
-use Rattle.dmc_book.specs.Calls.{Asks, Ran, WasPulled, event_of, reply_to, asked}
-use Rattle.dmc_book.specs.Consistent.{HasDesk}
-use Rattle.dmc_book.specs.Counts.{grant_in}
-use Rattle.dmc_book.specs.declared.fault.RunFault.TheVariants as run
-use Rattle.dmc_book.specs.declared.fault.RunOrRange.TheVariants as pull
-use Rattle.dmc_pull.specs.Allowed.{is_allowed}
-use Rattle.dmc_book.specs.Moves.{IsEnrolled, takes}
-use Rattle.dmc_book.proofs.Counting.{consistent_more, reply_after, workers_within, desks_within}
-use Rattle.dmc_book.proofs.AskLemmas.{consistent_unasked, strays_by_history, taken_has_desk}
+use Rattle.dmc_book.specs.BookState.{pass_state}
+use Rattle.dmc_book.proofs.RunLemmas as lemma
 use Rattle.dmc_book.proofs.book.QueueBook.pull.Goals as goal
 
-pub invariant_of-self-in-Ok-Returning : goal.invariant_of-self-in-Ok-Returning
-invariant_of-self-in-Ok-Returning g c =
-    let reply = Granted c.in-Ok-Returning.client c.in-Ok-Returning.token c.in-Ok-Returning.phase c.in-Ok-Returning.beyond in
-    let e = event_of c.args.pass.now.worker.0 (Pull c.args.at) reply in
-    let events : c.push_granted.new.self.events ≡ c.self.inside.history.events ++ e ∷ [] = c.push_granted.ensures.events ∙ ap (λ es. es ++ e ∷ []) c.reserve_one.ensures.events in
-    let most : c.push_granted.new.self.most ≡ c.self.inside.history.most = c.push_granted.ensures.most ∙ c.reserve_one.ensures.most in
-    let desks_are : c.deref-2.result.now ≡ c.self.inside.desks.items = search rules in
-    let result_is : c.ask_to_pull-answer.result ≡ Ok (pulled.Returning c.in-Ok-Returning.client c.in-Ok-Returning.token c.in-Ok-Returning.phase c.in-Ok-Returning.beyond) = search rules in
-    let answer : Asks g.T.Tag.ops (takes (map client_side c.deref-2.result.now) (arc_value c.args.pass.now.clients).keys (map grant_holdings c.args.pass.now.units.items)) (queue.state_of c.self.inside.queue.0) (queue.state_of c.ask_to_pull-answer.new.queue) (Pull c.args.at) (Ok reply) = subst (λ r. Asks g.T.Tag.ops (takes (map client_side c.deref-2.result.now) (arc_value c.args.pass.now.clients).keys (map grant_holdings c.args.pass.now.units.items)) (queue.state_of c.self.inside.queue.0) (queue.state_of c.ask_to_pull-answer.new.queue) (Pull c.args.at) (asked r)) result_is c.ask_to_pull-answer.ensures in
-    let has_desk = subst (λ (ds : List (ClientDesk g.row.S.Denot)). HasDesk (map client_side ds) (grant_in reply)) desks_are
-    (taken_has_desk (map client_side c.deref-2.result.now) (arc_value c.args.pass.now.clients).keys (map grant_holdings c.args.pass.now.units.items) reply answer.1) in
-    rw (events, most, c.count.ensures.workers, c.hand_out.ensures.desks) (
-      consistent_more g.T.Tag.ops (queue.state_of c.self.inside.queue.0) (queue.state_of c.ask_to_pull-answer.new.queue) _ e c.count.ensures.small has_desk c.self.invariant.0 answer.0,
-      c.self.invariant.1 ∙ sym c.hand_out.ensures.names,
-    )
+pub returns-clause-pulled : goal.returns-clause-pulled
+returns-clause-pulled g c = lemma.was_pulled g.T.Tag.ops c.args.self.now c.pull_next.new.self (pass_state c.args.pass.now) (pass_state c.pull_next.new.pass) c.args.at c.pull_next.result c.pull_next.ensures
 
-pub returns-in-Ok-Returning-clause-granted : goal.returns-in-Ok-Returning-clause-granted
-returns-in-Ok-Returning-clause-granted g c =
-    let here : BookState g.row.T.Denot = state_of c.self.inside.config c.self.inside.server.0 c.self.inside.history (map worker_side c.self.inside.workers.items) (map client_side c.self.inside.desks.items) c.self.inside.closed in
-    let reply : Reply g.row.T.Denot = Granted c.in-Ok-Returning.client c.in-Ok-Returning.token c.in-Ok-Returning.phase c.in-Ok-Returning.beyond in
-    let desks_are : c.deref-2.result.now ≡ c.self.inside.desks.items = search rules in
-    let result_is : c.ask_to_pull-answer.result ≡ Ok (pulled.Returning c.in-Ok-Returning.client c.in-Ok-Returning.token c.in-Ok-Returning.phase c.in-Ok-Returning.beyond) = search rules in
-    let answer : Asks g.T.Tag.ops (takes (map client_side c.deref-2.result.now) (arc_value c.args.pass.now.clients).keys (map grant_holdings c.args.pass.now.units.items)) (queue.state_of c.self.inside.queue.0) (queue.state_of c.ask_to_pull-answer.new.queue) (Pull c.args.at) (Ok reply) = subst (λ r. Asks g.T.Tag.ops (takes (map client_side c.deref-2.result.now) (arc_value c.args.pass.now.clients).keys (map grant_holdings c.args.pass.now.units.items)) (queue.state_of c.self.inside.queue.0) (queue.state_of c.ask_to_pull-answer.new.queue) (Pull c.args.at) (asked r)) result_is c.ask_to_pull-answer.ensures in
-    let allowed : is_allowed (takes (map client_side c.self.inside.desks.items) (arc_value c.args.pass.now.clients).keys (map grant_holdings c.args.pass.now.units.items)) reply ≡ true = subst (λ (ds : List (ClientDesk g.row.S.Denot)). is_allowed (takes (map client_side ds) (arc_value c.args.pass.now.clients).keys (map grant_holdings c.args.pass.now.units.items)) reply ≡ true) desks_are answer.1 in
-    let reply_is = reply_after g.T.Tag.ops (queue.state_of c.self.inside.queue.0) (queue.state_of c.ask_to_pull-answer.new.queue) here (Pull c.args.at) reply c.self.invariant.0 answer.0 in
-    subst (λ (b : BookState g.row.T.Denot). OnOk c.ask_to_pull-answer.result (is_allowed (takes b.desks (arc_value c.args.pass.now.clients).keys (map grant_holdings c.args.pass.now.units.items)) (reply_to g.T.Tag.ops b (Pull c.args.at)) ≡ true)) c.self.view_is
-    (subst (λ r. OnOk r (is_allowed (takes (map client_side c.self.inside.desks.items) (arc_value c.args.pass.now.clients).keys (map grant_holdings c.args.pass.now.units.items)) (reply_to g.T.Tag.ops here (Pull c.args.at)) ≡ true)) (sym result_is) (subst (λ r. is_allowed (takes (map client_side c.self.inside.desks.items) (arc_value c.args.pass.now.clients).keys (map grant_holdings c.args.pass.now.units.items)) r ≡ true) reply_is allowed))
+pub returns-clause-stranger : goal.returns-clause-stranger
+returns-clause-stranger g c = lemma.pull_told_stranger g.T.Tag.ops c.args.self.now c.pull_next.new.self (pass_state c.args.pass.now) (pass_state c.pull_next.new.pass) c.args.at c.pull_next.result c.pull_next.ensures
 
-pub invariant_of-self-in-Err-reply_of : goal.invariant_of-self-in-Err-reply_of
-invariant_of-self-in-Err-reply_of g c =
-    let order = tag_order g.T.Ord.cmp g.T.Tag.ops.compare g.met.T.Ord.total g.met.T.Tag.compares in
-    let desks_are : c.deref-2.result.now ≡ c.self.inside.desks.items = search rules in
-    let fault_is : asked c.ask_to_pull-answer.result ≡ Err c.in-Err-reply_of.fault = search rules in
-    let answer : Asks g.T.Tag.ops (takes (map client_side c.deref-2.result.now) (arc_value c.args.pass.now.clients).keys (map grant_holdings c.args.pass.now.units.items)) (queue.state_of c.self.inside.queue.0) (queue.state_of c.ask_to_pull-answer.new.queue) (Pull c.args.at) (Err c.in-Err-reply_of.fault) = subst (λ r. Asks g.T.Tag.ops (takes (map client_side c.deref-2.result.now) (arc_value c.args.pass.now.clients).keys (map grant_holdings c.args.pass.now.units.items)) (queue.state_of c.self.inside.queue.0) (queue.state_of c.ask_to_pull-answer.new.queue) (Pull c.args.at) r) fault_is c.ask_to_pull-answer.ensures in
-    let mine = subst (λ ds. Asks g.T.Tag.ops (takes (map client_side ds) (arc_value c.args.pass.now.clients).keys (map grant_holdings c.args.pass.now.units.items)) (queue.state_of c.self.inside.queue.0) (queue.state_of c.ask_to_pull-answer.new.queue) (Pull c.args.at) (Err c.in-Err-reply_of.fault)) desks_are answer in
-    rw (c.reserve_one.ensures.events, c.reserve_one.ensures.most) (
-      consistent_unasked g.T.Tag.ops order (takes (map client_side c.self.inside.desks.items) (arc_value c.args.pass.now.clients).keys (map grant_holdings c.args.pass.now.units.items)) (queue.state_of c.self.inside.queue.0) (queue.state_of c.ask_to_pull-answer.new.queue) _ (Pull c.args.at) c.self.invariant.0 c.in-Err-reply_of.fault mine,
-      c.self.invariant.1,
-    )
+pub returns-clause-strays : goal.returns-clause-strays
+returns-clause-strays g c = lemma.pull_strays g.T.Tag.ops c.args.self.now c.pull_next.new.self (pass_state c.args.pass.now) (pass_state c.pull_next.new.pass) c.args.at c.pull_next.result c.pull_next.ensures
 
-pub returns-in-Err-reply_of-clause-strays : goal.returns-in-Err-reply_of-clause-strays
-returns-in-Err-reply_of-clause-strays g c =
-    let order = tag_order g.T.Ord.cmp g.T.Tag.ops.compare g.met.T.Ord.total g.met.T.Tag.compares in
-    let desks_are : c.deref-2.result.now ≡ c.self.inside.desks.items = search rules in
-    let fault_is : asked c.ask_to_pull-answer.result ≡ Err c.in-Err-reply_of.fault = search rules in
-    let answer : Asks g.T.Tag.ops (takes (map client_side c.deref-2.result.now) (arc_value c.args.pass.now.clients).keys (map grant_holdings c.args.pass.now.units.items)) (queue.state_of c.self.inside.queue.0) (queue.state_of c.ask_to_pull-answer.new.queue) (Pull c.args.at) (Err c.in-Err-reply_of.fault) = subst (λ r. Asks g.T.Tag.ops (takes (map client_side c.deref-2.result.now) (arc_value c.args.pass.now.clients).keys (map grant_holdings c.args.pass.now.units.items)) (queue.state_of c.self.inside.queue.0) (queue.state_of c.ask_to_pull-answer.new.queue) (Pull c.args.at) r) fault_is c.ask_to_pull-answer.ensures in
-    let mine = subst (λ ds. Asks g.T.Tag.ops (takes (map client_side ds) (arc_value c.args.pass.now.clients).keys (map grant_holdings c.args.pass.now.units.items)) (queue.state_of c.self.inside.queue.0) (queue.state_of c.ask_to_pull-answer.new.queue) (Pull c.args.at) (Err c.in-Err-reply_of.fault)) desks_are answer in
-    subst (λ (b : BookState g.row.T.Denot). IsErrOf (Err (pull.Run c.in-Err-reply_of.fault)) (pull.Run run.Stranger) → IsEnrolled b.workers (pass_state c.args.pass.now) → is_allowed (takes b.desks (arc_value c.args.pass.now.clients).keys (map grant_holdings c.args.pass.now.units.items)) (reply_to g.T.Tag.ops b (Pull c.args.at)) ≡ false) c.self.view_is (λ h enrolled.
-    let stray : c.in-Err-reply_of.fault ≡ run.Stranger = cc in
-    strays_by_history g.T.Tag.ops order (takes (map client_side c.self.inside.desks.items) (arc_value c.args.pass.now.clients).keys (map grant_holdings c.args.pass.now.units.items)) (queue.state_of c.self.inside.queue.0) (queue.state_of c.ask_to_pull-answer.new.queue) _ (Pull c.args.at) c.self.invariant.0
-    (subst (λ e. Asks g.T.Tag.ops (takes (map client_side c.self.inside.desks.items) (arc_value c.args.pass.now.clients).keys (map grant_holdings c.args.pass.now.units.items)) (queue.state_of c.self.inside.queue.0) (queue.state_of c.ask_to_pull-answer.new.queue) (Pull c.args.at) (Err e)) stray mine))
+pub returns-clause-granted : goal.returns-clause-granted
+returns-clause-granted g c = lemma.pull_allowed g.T.Tag.ops c.args.self.now c.pull_next.new.self (pass_state c.args.pass.now) (pass_state c.pull_next.new.pass) c.args.at c.pull_next.result c.pull_next.ensures
 
-pub record-requires-clause-fits : goal.record-requires-clause-fits
-record-requires-clause-fits g c =
-    let fewer : length c.self.inside.history.events < c.self.inside.history.most = search rules in
-    let limit : c.self.inside.history.most ≤ 2 ^ 30 = c.self.invariant.0.limit in
-    workers_within c.self.inside.history.events (omega (arith, fewer, limit)) (map worker_side c.self.inside.workers.items) c.self.invariant.0.workers
-
-pub record-requires-clause-desks_fit : goal.record-requires-clause-desks_fit
-record-requires-clause-desks_fit g c =
-    let fewer : length c.self.inside.history.events < c.self.inside.history.most = search rules in
-    let limit : c.self.inside.history.most ≤ 2 ^ 30 = c.self.invariant.0.limit in
-    desks_within c.self.inside.history.events _ _ (omega (arith, fewer, limit)) (map client_side c.self.inside.desks.items) c.self.invariant.0.desks
-
-pub invariant_of-self-2 : goal.invariant_of-self-2
-invariant_of-self-2 g c =
-    let e = event_of c.args.pass.now.worker.0 (Pull c.args.at) c.in-Ok.reply in
-    let events : c.record.new.history.events ≡ c.self.inside.history.events ++ e ∷ [] = c.record.ensures.events ∙ ap (λ es. es ++ e ∷ []) c.reserve_one.ensures.events in
-    let most : c.record.new.history.most ≡ c.self.inside.history.most = c.record.ensures.most ∙ c.reserve_one.ensures.most in
-    let desks_are : c.deref-2.result.now ≡ c.self.inside.desks.items = search rules in
-    let reply_is : asked c.ask_to_pull-answer.result ≡ Ok c.in-Ok.reply = search rules in
-    let answer : Asks g.T.Tag.ops (takes (map client_side c.deref-2.result.now) (arc_value c.args.pass.now.clients).keys (map grant_holdings c.args.pass.now.units.items)) (queue.state_of c.self.inside.queue.0) (queue.state_of c.ask_to_pull-answer.new.queue) (Pull c.args.at) (Ok c.in-Ok.reply) = subst (λ r. Asks g.T.Tag.ops (takes (map client_side c.deref-2.result.now) (arc_value c.args.pass.now.clients).keys (map grant_holdings c.args.pass.now.units.items)) (queue.state_of c.self.inside.queue.0) (queue.state_of c.ask_to_pull-answer.new.queue) (Pull c.args.at) r) reply_is c.ask_to_pull-answer.ensures in
-    let has_desk = subst (λ (ds : List (ClientDesk g.row.S.Denot)). HasDesk (map client_side ds) (grant_in c.in-Ok.reply)) desks_are
-    (taken_has_desk (map client_side c.deref-2.result.now) (arc_value c.args.pass.now.clients).keys (map grant_holdings c.args.pass.now.units.items) c.in-Ok.reply answer.1) in
-    rw (events, most, c.record.ensures.workers, c.record.ensures.desks) (
-      consistent_more g.T.Tag.ops (queue.state_of c.self.inside.queue.0) (queue.state_of c.ask_to_pull-answer.new.queue) _ e c.record.ensures.small has_desk c.self.invariant.0 answer.0,
-      c.self.invariant.1 ∙ sym c.record.ensures.names,
-    )
-
-pub returns-in-Ok-Returning-clause-pulled : goal.returns-in-Ok-Returning-clause-pulled
-returns-in-Ok-Returning-clause-pulled g c =
-    let reply : Reply g.row.T.Denot = Granted c.in-Ok-Returning.client c.in-Ok-Returning.token c.in-Ok-Returning.phase c.in-Ok-Returning.beyond in
-    let e = event_of c.args.pass.now.worker.0 (Pull c.args.at) reply in
-    let events : c.push_granted.new.self.events ≡ c.self.inside.history.events ++ e ∷ [] = c.push_granted.ensures.events ∙ ap (λ es. es ++ e ∷ []) c.reserve_one.ensures.events in
-    let most : c.push_granted.new.self.most ≡ c.self.inside.history.most = c.push_granted.ensures.most ∙ c.reserve_one.ensures.most in
-    let result_is : c.ask_to_pull-answer.result ≡ Ok (pulled.Returning c.in-Ok-Returning.client c.in-Ok-Returning.token c.in-Ok-Returning.phase c.in-Ok-Returning.beyond) = search rules in
-    let answer : Asks g.T.Tag.ops (takes (map client_side c.deref-2.result.now) (arc_value c.args.pass.now.clients).keys (map grant_holdings c.args.pass.now.units.items)) (queue.state_of c.self.inside.queue.0) (queue.state_of c.ask_to_pull-answer.new.queue) (Pull c.args.at) (Ok reply) = subst (λ r. Asks g.T.Tag.ops (takes (map client_side c.deref-2.result.now) (arc_value c.args.pass.now.clients).keys (map grant_holdings c.args.pass.now.units.items)) (queue.state_of c.self.inside.queue.0) (queue.state_of c.ask_to_pull-answer.new.queue) (Pull c.args.at) (asked r)) result_is c.ask_to_pull-answer.ensures in
-    let here : BookState g.row.T.Denot = state_of c.self.inside.config c.self.inside.server.0 c.self.inside.history (map worker_side c.self.inside.workers.items) (map client_side c.self.inside.desks.items) c.self.inside.closed in
-    let new : BookState g.row.T.Denot = state_of c.self.inside.config c.self.inside.server.0 c.push_granted.new.self (map worker_side c.count.new.workers.items) (map client_side c.hand_out.new.desks.items) c.self.inside.closed in
-    let names_are : c.deref-in-Ok-Returning.result.now ≡ arc_value c.args.pass.now.clients = search rules in
-    let later : PassState = record (pass_state c.args.pass.now) { tills = worker_holdings c.count.new.tills; units = map grant_holdings c.hand_out.new.units.items } in
-    let ran : Ran g.T.Tag.ops here new (pass_state c.args.pass.now) later (Pull c.args.at) reply = record {
-      reply_is = reply_after g.T.Tag.ops (queue.state_of c.self.inside.queue.0) (queue.state_of c.ask_to_pull-answer.new.queue) here (Pull c.args.at) reply c.self.invariant.0 answer.0;
-      book = rw (events, most, c.count.ensures.workers, c.hand_out.ensures.desks) refl;
-      pass = rw (c.count.ensures.tills, c.hand_out.ensures.units, names_are) refl;
-    } in
-    subst (λ (a : BookState g.row.T.Denot). WasPulled g.T.Tag.ops a new (pass_state c.args.pass.now) later c.args.at c.ask_to_pull-answer.result) c.self.view_is
-    (subst (WasPulled g.T.Tag.ops here new (pass_state c.args.pass.now) later c.args.at) (sym result_is) ran)
+pub returns-clause-history_full : goal.returns-clause-history_full
+returns-clause-history_full g c = lemma.pull_told_full g.T.Tag.ops c.args.self.now c.pull_next.new.self (pass_state c.args.pass.now) (pass_state c.pull_next.new.pass) c.args.at c.pull_next.result c.pull_next.ensures

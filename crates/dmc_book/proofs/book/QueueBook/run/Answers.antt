@@ -1,134 +1,27 @@
-use Rattle.std.proofs.Common.{rules, ◌≡◌, ◌<◌, ◌≤◌, ◌^◌, ◌∙◌, ◌++◌, ◌∷◌, [], ap, map, length, refl, sym, subst, arith, true≢false, List, Err}
-use Rattle.dmc_ledger.specs.Bundles.{client_side, grant_holdings}
-use Rattle.dmc_ledger.specs.declared.desk.ClientDesk.{ClientDesk}
-use Rattle.dmc_pull.specs.Queue as queue
-use Rattle.std.specs.Prelude.{IsErrOf}
-use Rattle.std.specs.Arc.{arc_value}
-use Rattle.dmc_book.specs.declared.fault.RunFault.TheVariants as run
-use Rattle.dmc_book.specs.BookState.{BookState, state_of, worker_side, pass_state}
-use Rattle.dmc_book.specs.Calls.{Asks, Ran, Strays, reply_to, event_of}
-use Rattle.dmc_book.specs.Consistent.{HasDesk}
-use Rattle.dmc_book.specs.Counts.{grant_in}
-use Rattle.dmc_book.specs.Moves.{IsEnrolled, takes}
-use Rattle.dmc_tag.proofs.ForCallers.{tag_order}
-use Rattle.dmc_book.proofs.Counting.{consistent_more, reply_after, workers_within, desks_within}
-use Rattle.dmc_book.proofs.DeskLemmas.{lacks_agree}
-use Rattle.dmc_book.proofs.AskLemmas.{consistent_unasked, strays_by_history, taken_has_desk}
-use Rattle.dmc_book.proofs.Causes.{same_cause, never_no_desk, full_cause, full_named}
+use Rattle.dmc_book.specs.BookState.{pass_state}
+use Rattle.dmc_book.proofs.RunLemmas as lemma
 use Rattle.dmc_book.proofs.book.QueueBook.run.Goals as goal
-use Rattle.dmc_tag.proofs.Options.{err_is}
-
-pub returns-then-lacks_desk_for-clause-no_desk : goal.returns-then-lacks_desk_for-clause-no_desk
-returns-then-lacks_desk_for-clause-no_desk g c =
-    let here = c.self.inside in
-    let lacks = sym (lacks_agree here.clients.keys here.desks.items c.self.invariant.1 c.args.command) ∙ sym c.lacks_desk_for.ensures ∙ c.if-lacks_desk_for.true in
-    let enrolled : IsEnrolled (map worker_side here.workers.items) (pass_state c.args.pass.now) = search rules in
-    rw (← c.self.view_is) ((λ h. (enrolled, lacks)), (λ h. refl))
-
-pub returns-then-lacks_desk_for-clause-history_full : goal.returns-then-lacks_desk_for-clause-history_full
-returns-then-lacks_desk_for-clause-history_full g c =
-    let here = c.self.inside in
-    let lacks = sym (lacks_agree here.clients.keys here.desks.items c.self.invariant.1 c.args.command) ∙ sym c.lacks_desk_for.ensures ∙ c.if-lacks_desk_for.true in
-    rw (← c.self.view_is) ((λ h. absurd cc), (λ h. absurd (true≢false (sym lacks ∙ h.1))))
-
-pub returns-in_err-reserve_one-clause-no_desk : goal.returns-in_err-reserve_one-clause-no_desk
-returns-in_err-reserve_one-clause-no_desk g c =
-    let here = c.self.inside in
-    let lacks = sym (lacks_agree here.clients.keys here.desks.items c.self.invariant.1 c.args.command) ∙ sym c.lacks_desk_for.ensures ∙ c.if-lacks_desk_for.false in
-    let is = err_is c.from_residual.result _ c.from_residual.ensures.1 in
-    rw (← c.self.view_is) ((λ h. absurd (never_no_desk c.from_residual.result c.in_err-reserve_one.field-0.0 is h)), (λ h. absurd (true≢false (sym h.1 ∙ lacks))))
-
-pub returns-in_err-reserve_one-clause-history_full : goal.returns-in_err-reserve_one-clause-history_full
-returns-in_err-reserve_one-clause-history_full g c =
-    let here = c.self.inside in
-    let lacks = sym (lacks_agree here.clients.keys here.desks.items c.self.invariant.1 c.args.command) ∙ sym c.lacks_desk_for.ensures ∙ c.if-lacks_desk_for.false in
-    let enrolled : IsEnrolled (map worker_side here.workers.items) (pass_state c.args.pass.now) = search rules in
-    let is = err_is c.from_residual.result _ c.from_residual.ensures.1 in
-    rw (← c.self.view_is) (
-      (λ h. (enrolled, lacks, c.reserve_one.ensures.full.0 (c.in_err-reserve_one.was ∙ ap Err (full_cause c.from_residual.result c.in_err-reserve_one.field-0.0 is h)))),
-      (λ h. full_named c.from_residual.result c.in_err-reserve_one.field-0.0 is (same_cause {X = Unit} _ _ (sym (c.in_err-reserve_one.was) ∙ c.reserve_one.ensures.full.1 h.2))),
-    )
-
-pub invariant_of-self-in_err-reply : goal.invariant_of-self-in_err-reply
-invariant_of-self-in_err-reply g c =
-    let asks = takes (map client_side c.self.inside.desks.items) (arc_value c.args.pass.now.clients).keys (map grant_holdings c.args.pass.now.units.items) in
-    let order = tag_order g.T.Ord.cmp g.T.Tag.ops.compare g.met.T.Ord.total g.met.T.Tag.compares in
-    let desks_are : c.deref-2.result.now ≡ c.self.inside.desks.items = search rules in
-    let answer = subst (λ ds. Asks g.T.Tag.ops (takes (map client_side ds) (arc_value c.args.pass.now.clients).keys (map grant_holdings c.args.pass.now.units.items)) (queue.state_of c.self.inside.queue.0) (queue.state_of c.ask.new.queue) c.args.command c.ask.result) desks_are c.ask.ensures in
-    let asked = subst (Asks g.T.Tag.ops asks (queue.state_of c.self.inside.queue.0) (queue.state_of c.ask.new.queue) c.args.command) c.in_err-reply.was answer in
-    rw (c.reserve_one.ensures.events, c.reserve_one.ensures.most) (
-      consistent_unasked g.T.Tag.ops order asks (queue.state_of c.self.inside.queue.0) (queue.state_of c.ask.new.queue) _ c.args.command c.self.invariant.0 c.in_err-reply.field-0.0 asked,
-      c.self.invariant.1,
-    )
-
-pub returns-in_err-reply-clause-strays : goal.returns-in_err-reply-clause-strays
-returns-in_err-reply-clause-strays g c =
-    let asks = takes (map client_side c.self.inside.desks.items) (arc_value c.args.pass.now.clients).keys (map grant_holdings c.args.pass.now.units.items) in
-    let order = tag_order g.T.Ord.cmp g.T.Tag.ops.compare g.met.T.Ord.total g.met.T.Tag.compares in
-    let is = err_is c.from_residual-in_err-reply.result _ c.from_residual-in_err-reply.ensures.1 in
-    let desks_are : c.deref-2.result.now ≡ c.self.inside.desks.items = search rules in
-    let answer = subst (λ ds. Asks g.T.Tag.ops (takes (map client_side ds) (arc_value c.args.pass.now.clients).keys (map grant_holdings c.args.pass.now.units.items)) (queue.state_of c.self.inside.queue.0) (queue.state_of c.ask.new.queue) c.args.command c.ask.result) desks_are c.ask.ensures in
-    let asked = subst (Asks g.T.Tag.ops asks (queue.state_of c.self.inside.queue.0) (queue.state_of c.ask.new.queue) c.args.command) c.in_err-reply.was answer in
-    subst (λ (b : BookState g.row.T.Denot). IsErrOf c.from_residual-in_err-reply.result run.Stranger → IsEnrolled b.workers (pass_state c.args.pass.now) → Strays (takes b.desks (arc_value c.args.pass.now.clients).keys (map grant_holdings c.args.pass.now.units.items)) c.args.command (reply_to g.T.Tag.ops b c.args.command)) c.self.view_is (λ h enrolled. strays_by_history g.T.Tag.ops order asks (queue.state_of c.self.inside.queue.0) (queue.state_of c.ask.new.queue) _ c.args.command c.self.invariant.0
-    (subst (λ e. Asks g.T.Tag.ops asks (queue.state_of c.self.inside.queue.0) (queue.state_of c.ask.new.queue) c.args.command (Err e)) (same_cause _ _ (sym is ∙ h)) asked))
-
-pub returns-in_err-reply-clause-no_desk : goal.returns-in_err-reply-clause-no_desk
-returns-in_err-reply-clause-no_desk g c =
-    let here = c.self.inside in
-    let asks = takes (map client_side here.desks.items) (arc_value c.args.pass.now.clients).keys (map grant_holdings c.args.pass.now.units.items) in
-    let lacks = sym (lacks_agree here.clients.keys here.desks.items c.self.invariant.1 c.args.command) ∙ sym c.lacks_desk_for.ensures ∙ c.if-lacks_desk_for.false in
-    let is = err_is c.from_residual-in_err-reply.result _ c.from_residual-in_err-reply.ensures.1 in
-    let desks_are : c.deref-2.result.now ≡ c.self.inside.desks.items = search rules in
-    let answer = subst (λ ds. Asks g.T.Tag.ops (takes (map client_side ds) (arc_value c.args.pass.now.clients).keys (map grant_holdings c.args.pass.now.units.items)) (queue.state_of c.self.inside.queue.0) (queue.state_of c.ask.new.queue) c.args.command c.ask.result) desks_are c.ask.ensures in
-    let asked = subst (Asks g.T.Tag.ops asks (queue.state_of c.self.inside.queue.0) (queue.state_of c.ask.new.queue) c.args.command) c.in_err-reply.was answer in
-    rw (← c.self.view_is) (
-      (λ h. absurd (subst (λ e. Asks g.T.Tag.ops asks (queue.state_of c.self.inside.queue.0) (queue.state_of c.ask.new.queue) c.args.command (Err e)) (same_cause _ _ (sym is ∙ h)) asked)),
-      (λ h. absurd (true≢false (sym h.1 ∙ lacks))),
-    )
-
-pub returns-clause-no_desk : goal.returns-clause-no_desk
-returns-clause-no_desk g c =
-    let here = c.self.inside in
-    let lacks = sym (lacks_agree here.clients.keys here.desks.items c.self.invariant.1 c.args.command) ∙ sym c.lacks_desk_for.ensures ∙ c.if-lacks_desk_for.false in
-    rw (← c.self.view_is) ((λ h. absurd cc), (λ h. absurd (true≢false (sym h.1 ∙ lacks))))
-
-pub record-requires-clause-fits : goal.record-requires-clause-fits
-record-requires-clause-fits g c =
-    let fewer : length c.self.inside.history.events < c.self.inside.history.most = c.in_ok-reserve_one.ensures.fewer in
-    let limit : c.self.inside.history.most ≤ 2 ^ 30 = c.self.invariant.0.limit in
-    let below : length c.self.inside.history.events < 2 ^ 30 = omega (arith, fewer, limit) in
-    workers_within c.self.inside.history.events below (map worker_side c.self.inside.workers.items) c.self.invariant.0.workers
-
-pub record-requires-clause-desks_fit : goal.record-requires-clause-desks_fit
-record-requires-clause-desks_fit g c =
-    let fewer : length c.self.inside.history.events < c.self.inside.history.most = c.in_ok-reserve_one.ensures.fewer in
-    let limit : c.self.inside.history.most ≤ 2 ^ 30 = c.self.invariant.0.limit in
-    let below : length c.self.inside.history.events < 2 ^ 30 = omega (arith, fewer, limit) in
-    desks_within c.self.inside.history.events _ _ below (map client_side c.self.inside.desks.items) c.self.invariant.0.desks
-
-pub invariant_of-self-2 : goal.invariant_of-self-2
-invariant_of-self-2 g c =
-    let e = event_of c.args.pass.now.worker.0 c.args.command c.in_ok-reply.reply in
-    let events : c.record.new.history.events ≡ c.self.inside.history.events ++ e ∷ [] = c.record.ensures.events ∙ ap (λ es. es ++ e ∷ []) c.in_ok-reserve_one.ensures.events in
-    let most : c.record.new.history.most ≡ c.self.inside.history.most = c.record.ensures.most ∙ c.in_ok-reserve_one.ensures.most in
-    let desks_are : c.deref-2.result.now ≡ c.self.inside.desks.items = search rules in
-    let has_desk = subst (λ (ds : List (ClientDesk g.row.S.Denot)). HasDesk (map client_side ds) (grant_in c.in_ok-reply.reply)) desks_are
-    (taken_has_desk (map client_side c.deref-2.result.now) (arc_value c.args.pass.now.clients).keys (map grant_holdings c.args.pass.now.units.items) c.in_ok-reply.reply c.in_ok-reply.ensures.1) in
-    rw (events, most, c.record.ensures.workers, c.record.ensures.desks) (
-      consistent_more g.T.Tag.ops (queue.state_of c.self.inside.queue.0) (queue.state_of c.ask.new.queue) _ e c.record.ensures.small has_desk c.self.invariant.0 c.in_ok-reply.ensures.0,
-      c.self.invariant.1 ∙ sym c.record.ensures.names,
-    )
 
 pub returns-clause-ran : goal.returns-clause-ran
-returns-clause-ran g c =
-    let e = event_of c.args.pass.now.worker.0 c.args.command c.in_ok-reply.reply in
-    let events : c.record.new.history.events ≡ c.self.inside.history.events ++ e ∷ [] = c.record.ensures.events ∙ ap (λ es. es ++ e ∷ []) c.in_ok-reserve_one.ensures.events in
-    let most : c.record.new.history.most ≡ c.self.inside.history.most = c.record.ensures.most ∙ c.in_ok-reserve_one.ensures.most in
-    let b : BookState g.row.T.Denot = state_of c.self.inside.config c.self.inside.server.0 c.self.inside.history (map worker_side c.self.inside.workers.items) (map client_side c.self.inside.desks.items) c.self.inside.closed in
-    let new : BookState g.row.T.Denot = state_of c.self.inside.config c.self.inside.server.0 c.record.new.history (map worker_side c.record.new.workers.items) (map client_side c.record.new.desks.items) c.self.inside.closed in
-    let ran : Ran g.T.Tag.ops b new (pass_state c.args.pass.now) (pass_state c.record.new.pass) c.args.command c.in_ok-reply.reply = record {
-      reply_is = reply_after g.T.Tag.ops (queue.state_of c.self.inside.queue.0) (queue.state_of c.ask.new.queue) b c.args.command c.in_ok-reply.reply c.self.invariant.0 c.in_ok-reply.ensures.0;
-      book = rw (events, most, c.record.ensures.workers, c.record.ensures.desks) refl;
-      pass = c.record.ensures.pass;
-    } in
-    subst (λ (a : BookState g.row.T.Denot). Ran g.T.Tag.ops a new (pass_state c.args.pass.now) (pass_state c.record.new.pass) c.args.command c.in_ok-reply.reply) c.self.view_is ran
+returns-clause-ran g c = lemma.ran_if_ok g.T.Tag.ops c.args.self.now c.hand_on.new.self (pass_state c.args.pass.now) (pass_state c.hand_on.new.pass) c.args.command c.hand_on.result c.hand_on.ensures
+
+pub returns-clause-kept : goal.returns-clause-kept
+returns-clause-kept g c = lemma.book_kept g.T.Tag.ops c.args.self.now c.hand_on.new.self (pass_state c.args.pass.now) (pass_state c.hand_on.new.pass) c.args.command c.hand_on.result c.hand_on.ensures
+
+pub returns-clause-pass_kept : goal.returns-clause-pass_kept
+returns-clause-pass_kept g c = lemma.pass_kept g.T.Tag.ops c.args.self.now c.hand_on.new.self (pass_state c.args.pass.now) (pass_state c.hand_on.new.pass) c.args.command c.hand_on.result c.hand_on.ensures
+
+pub returns-clause-stranger : goal.returns-clause-stranger
+returns-clause-stranger g c = lemma.told_stranger g.T.Tag.ops c.args.self.now c.hand_on.new.self (pass_state c.args.pass.now) (pass_state c.hand_on.new.pass) c.args.command c.hand_on.result c.hand_on.ensures
+
+pub returns-clause-strays : goal.returns-clause-strays
+returns-clause-strays g c = lemma.strays_if_told g.T.Tag.ops c.args.self.now c.hand_on.new.self (pass_state c.args.pass.now) (pass_state c.hand_on.new.pass) c.args.command c.hand_on.result c.hand_on.ensures
+
+pub returns-clause-granted : goal.returns-clause-granted
+returns-clause-granted g c = lemma.stays_if_ok g.T.Tag.ops c.args.self.now c.hand_on.new.self (pass_state c.args.pass.now) (pass_state c.hand_on.new.pass) c.args.command c.hand_on.result c.hand_on.ensures
+
+pub returns-clause-no_desk : goal.returns-clause-no_desk
+returns-clause-no_desk g c = lemma.told_no_desk g.T.Tag.ops c.args.self.now c.hand_on.new.self (pass_state c.args.pass.now) (pass_state c.hand_on.new.pass) c.args.command c.hand_on.result c.hand_on.ensures
+
+pub returns-clause-history_full : goal.returns-clause-history_full
+returns-clause-history_full g c = lemma.told_full g.T.Tag.ops c.args.self.now c.hand_on.new.self (pass_state c.args.pass.now) (pass_state c.hand_on.new.pass) c.args.command c.hand_on.result c.hand_on.ensures

@@ -1,0 +1,142 @@
+-- What was answered or refused, of a command that is no Add.
+use Rattle.std.proofs.Common.{ℕ, ◌≡◌, ◌<◌, Bool, true, false, true≢false, length, refl, sym, ◌∙◌, Result, Ok, Err, arith}
+use Rattle.std.specs.Prelude.{◌↔◌, IsErrOf, OnOk, OnErr, IfOk}
+use Rattle.std.specs.Cmp.{IsTotalOrder}
+use Rattle.dmc_types.specs.declared.ids.ClientId.{ClientId}
+use Rattle.dmc_types.specs.declared.config.PhaseType.{PhaseType}
+use Rattle.dmc_types.specs.declared.command.Command.{Command}
+use Rattle.dmc_types.specs.declared.command.Command.TheVariants.{Pull}
+use Rattle.dmc_tag.specs.Tag.{Tagging}
+use Rattle.dmc_tag.specs.State.{State}
+use Rattle.dmc_tag.specs.declared.reply.Pulled.{Pulled}
+use Rattle.dmc_tag.specs.declared.reply.Reply.{Reply}
+use Rattle.dmc_history.specs.declared.ReserveFault.{ReserveFault}
+use Rattle.dmc_history.specs.declared.ReserveFault.TheVariants as reserve
+use Rattle.dmc_pull.specs.Allowed.{is_allowed}
+use Rattle.dmc_book.specs.declared.fault.RunFault.{RunFault}
+use Rattle.dmc_book.specs.declared.fault.RunFault.TheVariants as run
+use Rattle.dmc_book.specs.declared.fault.RunOrRange.{RunOrRange}
+use Rattle.dmc_book.specs.declared.fault.RunOrRange.TheVariants as pull
+use Rattle.dmc_book.specs.BookState.{BookState, PassState}
+use Rattle.dmc_book.specs.Calls.{Asks, Ran, Strays, WasPulled, asked, lacks_desk, reply_to, run_cause}
+use Rattle.dmc_book.specs.Consistent.{IsConsistent}
+use Rattle.dmc_book.specs.Moves.{IsEnrolled, takes}
+use Rattle.dmc_book.specs.Runs.{IsFull, Runs, StraysHere}
+use Rattle.dmc_book.proofs.AskLemmas.{strays_by_history}
+
+module _ {T : Type 0} (ops : Tagging T) (old : BookState T) (before : PassState) (command : Command) (enrolled : IsEnrolled old.workers before) (has_desk : lacks_desk old.desks command ≡ false) where
+  -- no place was reserved
+  pub unreserved : (x : ReserveFault) → (x ≡ reserve.HistoryFull) ↔ IsFull ops old before command → Runs ops old before command old before (Err (run_cause x))
+  unreserved reserve.HistoryFull full = (refl, refl, enrolled, has_desk, full.0 refl)
+  unreserved reserve.Memory full = (refl, refl, enrolled, has_desk, λ f. absurd (memory_is_not_full (full.1 f)))
+    where
+      memory_is_not_full : reserve.Memory ≡ reserve.HistoryFull → ⊥
+      memory_is_not_full e = absurd cc
+
+  -- the queue was not asked, or answered nothing
+  pub unasked : (order : IsTotalOrder ops.compare) (q p : State T) → IsConsistent ops q old → length old.history < old.most → (e : RunFault)
+      → Asks ops (takes old.desks before.clients before.units) q p command (Err e) → Runs ops old before command old before (Err e)
+  unasked order q p known fewer run.Stranger a = (refl, refl, λ k. (has_desk, (λ full. omega (arith, fewer, full)), strays_by_history ops order (takes old.desks before.clients before.units) q p old command known a))
+  unasked order q p known fewer run.NoDesk a = absurd a
+  unasked order q p known fewer run.HistoryFull a = absurd a
+  unasked order q p known fewer run.Memory a = (refl, refl, enrolled, has_desk, λ full. omega (arith, fewer, full))
+
+module _ {T : Type 0} (ops : Tagging T) (old new : BookState T) (before later : PassState) (command : Command) where
+  pub ran_if_ok : (r : Result (Reply T) RunFault) → Runs ops old before command new later r → IfOk r (λ reply. Ran ops old new before later command reply)
+  ran_if_ok (Ok reply) h = h.0
+  ran_if_ok (Err e) h = tt
+
+  pub book_kept : (r : Result (Reply T) RunFault) → Runs ops old before command new later r → OnErr r (new ≡ old)
+  book_kept (Ok reply) h = tt
+  book_kept (Err run.Stranger) h = h.0
+  book_kept (Err run.NoDesk) h = h.0
+  book_kept (Err run.HistoryFull) h = h.0
+  book_kept (Err run.Memory) h = h.0
+
+  pub pass_kept : (r : Result (Reply T) RunFault) → Runs ops old before command new later r → OnErr r (later ≡ before)
+  pass_kept (Ok reply) h = tt
+  pass_kept (Err run.Stranger) h = h.1
+  pass_kept (Err run.NoDesk) h = h.1
+  pass_kept (Err run.HistoryFull) h = h.1
+  pass_kept (Err run.Memory) h = h.1
+
+  pub told_stranger : (r : Result (Reply T) RunFault) → Runs ops old before command new later r → (IsEnrolled old.workers before → ⊥) → r ≡ Err run.Stranger
+  told_stranger (Ok reply) h none = absurd (none h.1)
+  told_stranger (Err run.Stranger) h none = refl
+  told_stranger (Err run.NoDesk) h none = absurd (none h.2)
+  told_stranger (Err run.HistoryFull) h none = absurd (none h.2)
+  told_stranger (Err run.Memory) h none = absurd (none h.2)
+
+  pub strays_if_told : (r : Result (Reply T) RunFault) → Runs ops old before command new later r → r ≡ Err run.Stranger → IsEnrolled old.workers before → StraysHere ops old before command
+  strays_if_told (Ok reply) h e enrolled = absurd cc
+  strays_if_told (Err run.Stranger) h e enrolled = (h.2 enrolled).2
+  strays_if_told (Err run.NoDesk) h e enrolled = absurd cc
+  strays_if_told (Err run.HistoryFull) h e enrolled = absurd cc
+  strays_if_told (Err run.Memory) h e enrolled = absurd cc
+
+  pub stays_if_ok : (r : Result (Reply T) RunFault) → Runs ops old before command new later r → OnOk r (StraysHere ops old before command → ⊥)
+  stays_if_ok (Ok reply) h = h.4
+  stays_if_ok (Err e) h = tt
+
+  pub told_no_desk : (r : Result (Reply T) RunFault) → Runs ops old before command new later r
+      → (r ≡ Err run.NoDesk) ↔ (IsEnrolled old.workers before × (lacks_desk old.desks command ≡ true))
+  told_no_desk (Ok reply) h = (λ e. absurd cc, λ k. absurd (true≢false (sym k.1 ∙ h.2)))
+  told_no_desk (Err run.Stranger) h = (λ e. absurd cc, λ k. absurd (true≢false (sym k.1 ∙ (h.2 k.0).0)))
+  told_no_desk (Err run.NoDesk) h = (λ e. (h.2, h.3), λ k. refl)
+  told_no_desk (Err run.HistoryFull) h = (λ e. absurd cc, λ k. absurd (true≢false (sym k.1 ∙ h.3)))
+  told_no_desk (Err run.Memory) h = (λ e. absurd cc, λ k. absurd (true≢false (sym k.1 ∙ h.3)))
+
+  pub told_full : (r : Result (Reply T) RunFault) → Runs ops old before command new later r
+      → (r ≡ Err run.HistoryFull) ↔ (IsEnrolled old.workers before × (lacks_desk old.desks command ≡ false) × IsFull ops old before command)
+  told_full (Ok reply) h = (λ e. absurd cc, λ k. absurd (h.3 k.2))
+  told_full (Err run.Stranger) h = (λ e. absurd cc, λ k. absurd ((h.2 k.0).1 k.2))
+  told_full (Err run.NoDesk) h = (λ e. absurd cc, λ k. absurd (true≢false (sym h.3 ∙ k.1)))
+  told_full (Err run.HistoryFull) h = (λ e. (h.2, h.3, h.4), λ k. refl)
+  told_full (Err run.Memory) h = (λ e. absurd cc, λ k. absurd (h.4 k.2))
+
+-- ---- a pull
+
+-- what is not false
+not_false : (b : Bool) → (b ≡ false → ⊥) → b ≡ true
+not_false true h = refl
+not_false false h = absurd (h refl)
+
+module _ {T : Type 0} (ops : Tagging T) (old new : BookState T) (before later : PassState) (at : ℕ) where
+  abbrev Pulls : Result Pulled RunOrRange → Type 0
+  Pulls r = Runs ops old before (Pull at) new later (asked r)
+
+  pub was_pulled : (r : Result Pulled RunOrRange) → Pulls r → WasPulled ops old new before later at r
+  was_pulled (Ok pulled) h = h.0
+  was_pulled (Err pull.Range) h = h.0
+  was_pulled (Err (pull.Run run.Stranger)) h = (h.0, h.1, λ e. absurd cc)
+  was_pulled (Err (pull.Run run.NoDesk)) h = absurd (true≢false (sym h.3))
+  was_pulled (Err (pull.Run run.HistoryFull)) h = (h.0, h.1, λ e. absurd cc)
+  was_pulled (Err (pull.Run run.Memory)) h = (h.0, h.1, λ e. absurd cc)
+
+  pub pull_told_stranger : (r : Result Pulled RunOrRange) → Pulls r → (IsEnrolled old.workers before → ⊥) → r ≡ Err (pull.Run run.Stranger)
+  pull_told_stranger (Ok pulled) h none = absurd (none h.1)
+  pull_told_stranger (Err pull.Range) h none = absurd (none h.1)
+  pull_told_stranger (Err (pull.Run run.Stranger)) h none = refl
+  pull_told_stranger (Err (pull.Run run.NoDesk)) h none = absurd (none h.2)
+  pull_told_stranger (Err (pull.Run run.HistoryFull)) h none = absurd (none h.2)
+  pull_told_stranger (Err (pull.Run run.Memory)) h none = absurd (none h.2)
+
+  pub pull_strays : (r : Result Pulled RunOrRange) → Pulls r → r ≡ Err (pull.Run run.Stranger) → IsEnrolled old.workers before → StraysHere ops old before (Pull at)
+  pull_strays (Ok pulled) h e enrolled = absurd cc
+  pull_strays (Err pull.Range) h e enrolled = absurd cc
+  pull_strays (Err (pull.Run run.Stranger)) h e enrolled = (h.2 enrolled).2
+  pull_strays (Err (pull.Run run.NoDesk)) h e enrolled = absurd cc
+  pull_strays (Err (pull.Run run.HistoryFull)) h e enrolled = absurd cc
+  pull_strays (Err (pull.Run run.Memory)) h e enrolled = absurd cc
+
+  pub pull_allowed : (r : Result Pulled RunOrRange) → Pulls r → OnOk r (is_allowed (takes old.desks before.clients before.units) (reply_to ops old (Pull at)) ≡ true)
+  pull_allowed (Ok pulled) h = not_false (is_allowed (takes old.desks before.clients before.units) (reply_to ops old (Pull at))) h.4
+  pull_allowed (Err e) h = tt
+
+  pub pull_told_full : (r : Result Pulled RunOrRange) → Pulls r → (r ≡ Err (pull.Run run.HistoryFull)) ↔ (IsEnrolled old.workers before × IsFull ops old before (Pull at))
+  pull_told_full (Ok pulled) h = (λ e. absurd cc, λ k. absurd (h.3 k.1))
+  pull_told_full (Err pull.Range) h = (λ e. absurd cc, λ k. absurd (h.3 k.1))
+  pull_told_full (Err (pull.Run run.Stranger)) h = (λ e. absurd cc, λ k. absurd ((h.2 k.0).1 k.1))
+  pull_told_full (Err (pull.Run run.NoDesk)) h = absurd (true≢false (sym h.3))
+  pull_told_full (Err (pull.Run run.HistoryFull)) h = (λ e. (h.2, h.4), λ k. refl)
+  pull_told_full (Err (pull.Run run.Memory)) h = (λ e. absurd cc, λ k. absurd (h.4 k.1))

@@ -1,11 +1,13 @@
 //! The queue.
-ghost use Rattle.std.specs.Prelude.{◌≡◌};
+ghost use Rattle.std.specs.Prelude.{◌≡◌, length};
 ghost use Rattle.std.specs.Result.{result_ok};
 ghost use Rattle.dmc_front.specs.Front.{opening_with, Shows, FrontSteps, clients_in, requests_in};
+ghost use Rattle.dmc_pull.specs.Queue.{state_of};
 ghost use Rattle.dmc_tag.specs.Steps.{Steps};
 
 use crate::fraction::{AsFraction, TagFraction, in_fractions};
 use dmc_heap::indexed_heap::HeapIndexes;
+use dmc_index::index::Indexes;
 use dmc_pull::queue::PullQueue;
 use dmc_ratio::ratio::RatioTag;
 use dmc_tag::answers;
@@ -75,13 +77,31 @@ fn reply_to<T: Tag, Q: Scheduler<T>>(
 
 /// One command at a queue, and its reply in fractions. An error is want of memory, and changes nothing.
 #[inline(always)]
-fn apply_to<T: AsFraction, Q: Scheduler<T>>(
-    queue: &mut Q,
+fn apply_to<T: AsFraction, I: Indexes<T>>(
+    queue: &mut PullQueue<T, I>,
     command: &Command,
 ) -> Result<Reply<TagFraction>, AllocError>
-    ensures { Shows T.ops T.fraction (Q.state queue.old) (Q.state queue.new) command.now (result_ok result) }
+    ensures { Shows T.ops T.fraction (state_of queue.old) (state_of queue.new) command.now (result_ok result) }
 {
-    Ok(in_fractions(reply_to::<T, Q>(queue, command)?))
+    Ok(in_fractions(reply_to(queue, command)?))
+}
+
+/// How many clients are registered, and how many requests are queued.
+#[derive(Clone, Copy)]
+struct Counts {
+    clients: u32,
+    requests: u32,
+}
+
+/// The counts of a queue.
+fn counts_of<T: Tag, I: Indexes<T>>(queue: &PullQueue<T, I>) -> Counts
+    ensures clients { result.clients ≡ length (state_of queue.now).clients }
+    ensures requests { result.requests ≡ length (state_of queue.now).requests }
+{
+    Counts {
+        clients: queue.client_count(),
+        requests: queue.request_count(),
+    }
 }
 
 impl FrontQueue {
@@ -103,8 +123,18 @@ impl FrontQueue {
         ensures { FrontSteps self.old self.new command.now (result_ok result) }
     {
         match &mut self.queue {
-            Queue::Tick(queue) => apply_to::<TickTag, _>(&mut queue.0, command),
-            Queue::Ratio(queue) => apply_to::<RatioTag, _>(&mut queue.0, command),
+            Queue::Tick(queue) => apply_to(&mut queue.0, command),
+            Queue::Ratio(queue) => apply_to(&mut queue.0, command),
+        }
+    }
+
+    fn counts(&self) -> Counts
+        ensures clients { result.clients ≡ clients_in self.now }
+        ensures requests { result.requests ≡ requests_in self.now }
+    {
+        match &self.queue {
+            Queue::Tick(queue) => counts_of(&queue.0),
+            Queue::Ratio(queue) => counts_of(&queue.0),
         }
     }
 
@@ -112,19 +142,13 @@ impl FrontQueue {
     pub fn client_count(&self) -> u32
         ensures { result ≡ clients_in self.now }
     {
-        match &self.queue {
-            Queue::Tick(queue) => queue.0.client_count(),
-            Queue::Ratio(queue) => queue.0.client_count(),
-        }
+        self.counts().clients
     }
 
     /// How many requests are queued.
     pub fn request_count(&self) -> u32
         ensures { result ≡ requests_in self.now }
     {
-        match &self.queue {
-            Queue::Tick(queue) => queue.0.request_count(),
-            Queue::Ratio(queue) => queue.0.request_count(),
-        }
+        self.counts().requests
     }
 }

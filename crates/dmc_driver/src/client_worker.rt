@@ -5,6 +5,7 @@ use crate::bell::{Doorbell, Ring};
 use crate::cause::{of_entry, of_submit};
 use crate::cluster::Cluster;
 use crate::moments::Moments;
+use dmc_book::book::QueueBook;
 use dmc_book::pass::WorkerPass;
 use dmc_heap::indexed_heap::HeapIndexes;
 use dmc_ledger::bundle::StampTills;
@@ -40,7 +41,7 @@ pub(crate) struct ClientJob<S: Setup> {
 /// The work of a client's worker.
 pub(crate) fn run_client<T: Tag, S: Setup, M: Moments, R: Wait>(
     rt: &R,
-    cluster: &Cluster<T, S>,
+    cluster: &Cluster<QueueBook<T, HeapIndexes, S>, S>,
     moments: &M,
     job: &mut ClientJob<S>,
 ) {
@@ -50,7 +51,7 @@ pub(crate) fn run_client<T: Tag, S: Setup, M: Moments, R: Wait>(
 /// Sends the requests, each with its number as its token. It waits for a ring where the window is full.
 fn send_all<T: Tag, S: Setup, M: Moments, R: Wait>(
     rt: &R,
-    cluster: &Cluster<T, S>,
+    cluster: &Cluster<QueueBook<T, HeapIndexes, S>, S>,
     moments: &M,
     job: &mut ClientJob<S>,
 ) -> Result<(), StopCause> {
@@ -77,7 +78,7 @@ fn hear_completed<R: Wait>(rt: &R, bell: &mut Doorbell) -> Result<(), StopCause>
 /// Sends a request to the server that is planned.
 fn send<T: Tag, S: Setup, M: Moments, R: Wait>(
     rt: &R,
-    cluster: &Cluster<T, S>,
+    cluster: &Cluster<QueueBook<T, HeapIndexes, S>, S>,
     moments: &M,
     job: &mut ClientJob<S>,
     request: u32,

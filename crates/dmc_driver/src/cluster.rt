@@ -1,17 +1,15 @@
 //! What the workers of a run share.
-use dmc_heap::indexed_heap::HeapIndexes;
 use dmc_ledger::setup::Setup;
-use dmc_qlock::lock::QueueLock;
-use dmc_tag::tag::Tag;
+use dmc_qlock::lock::Locked;
 use dmc_tlock::lock::TrackerLock;
 use dmc_types::ids::ClientId;
 use indexmap::IndexSet;
 
-/// The locks of a cluster, and its clients' ids.
+/// The locks of a cluster, and its clients' ids. It is generic in the queues' books.
 #[derive(Drop)]
-pub(crate) struct Cluster<T: Tag, S: Setup> {
+pub(crate) struct Cluster<B, S: Setup> {
     /// Of server 0, 1, ..
-    pub(crate) queues: Vec<QueueLock<T, HeapIndexes, S>>,
+    pub(crate) queues: Vec<Locked<B>>,
     /// Of the clients, in the scene's order.
     pub(crate) trackers: Vec<TrackerLock<S>>,
     /// In the scene's order.

@@ -2,9 +2,7 @@
 use crate::client_worker::ClientJob;
 use crate::cluster::Cluster;
 use crate::server_worker::ServerJob;
-use dmc_book::book::QueueBook;
 use dmc_book::pass::WorkerPass;
-use dmc_heap::indexed_heap::HeapIndexes;
 use dmc_ledger::setup::Setup;
 use dmc_qlock::lock::Locked;
 use dmc_settle::report::{ClientReport, ClusterReport, ServerReport, StopCause};
@@ -16,8 +14,8 @@ use std::alloc::{AllocError, Global};
 
 /// What the threads of a run leave.
 #[derive(Drop)]
-pub(crate) struct Remains<T: Tag, S: Setup> {
-    pub(crate) books: Vec<QueueBook<T, HeapIndexes, S>>,
+pub(crate) struct Remains<T: Tag, B, S: Setup> {
+    pub(crate) books: Vec<B>,
     pub(crate) trackers: Vec<TrackerBook<S>>,
     pub(crate) passes: Passes<S>,
     /// With the stops and the failures.
@@ -25,7 +23,7 @@ pub(crate) struct Remains<T: Tag, S: Setup> {
 }
 
 /// Nothing yet.
-pub(crate) fn no_remains<T: Tag, S: Setup>(alloc: Global) -> Remains<T, S> {
+pub(crate) fn no_remains<T: Tag, B, S: Setup>(alloc: Global) -> Remains<T, B, S> {
     Remains {
         books: Vec::new(alloc),
         trackers: Vec::new(alloc),
@@ -41,9 +39,9 @@ pub(crate) fn no_remains<T: Tag, S: Setup>(alloc: Global) -> Remains<T, S> {
 }
 
 /// Makes room for what so many clients leave.
-pub(crate) fn reserve_of_clients<T: Tag, S: Setup>(
+pub(crate) fn reserve_of_clients<T: Tag, B, S: Setup>(
     clients: usize,
-    remains: &mut Remains<T, S>,
+    remains: &mut Remains<T, B, S>,
 ) -> Result<(), AllocError> {
     remains.trackers.reserve_exact(clients)?;
     remains.passes.clients.reserve_exact(clients)?;
@@ -52,9 +50,9 @@ pub(crate) fn reserve_of_clients<T: Tag, S: Setup>(
 }
 
 /// Makes room for what so many servers leave.
-pub(crate) fn reserve_of_servers<T: Tag, S: Setup>(
+pub(crate) fn reserve_of_servers<T: Tag, B, S: Setup>(
     servers: usize,
-    remains: &mut Remains<T, S>,
+    remains: &mut Remains<T, B, S>,
 ) -> Result<(), AllocError> {
     remains.books.reserve_exact(servers)?;
     remains.passes.workers.reserve_exact(servers)?;
@@ -63,11 +61,11 @@ pub(crate) fn reserve_of_servers<T: Tag, S: Setup>(
 }
 
 /// Gathers what was shared, and what the jobs of the clients' and the servers' workers hold.
-pub(crate) fn gather<T: Tag, S: Setup>(
-    cluster: Cluster<T, S>,
+pub(crate) fn gather<T: Tag, B: Drop, S: Setup>(
+    cluster: Cluster<B, S>,
     clients: Vec<ClientJob<S>>,
     servers: Vec<ServerJob<S>>,
-    remains: &mut Remains<T, S>,
+    remains: &mut Remains<T, B, S>,
 ) {
     take_books(cluster.queues, &mut remains.books);
     take_trackers(cluster.trackers, &mut remains.trackers);

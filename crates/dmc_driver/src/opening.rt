@@ -11,6 +11,8 @@ use crate::server_worker::ServerJob;
 use crate::threads::Senders;
 use clients::{no_senders, open_clients, reserve_senders};
 use desks::{QueueDesks, no_desks};
+use dmc_book::book::QueueBook;
+use dmc_index::index::Indexes;
 use dmc_ledger::mint::Mint;
 use dmc_ledger::setup::Setup;
 use dmc_scene::scene::Scene;
@@ -21,29 +23,32 @@ use std::alloc::{AllocError, Global};
 
 /// The workers of a run, what they share, and room for what they leave.
 #[derive(Drop)]
-pub(crate) struct Opened<T: Tag, S: Setup> {
-    pub(crate) cluster: Cluster<T, S>,
+pub(crate) struct Opened<T: Tag, B, S: Setup> {
+    pub(crate) cluster: Cluster<B, S>,
     /// The clients' workers.
     pub(crate) senders: Senders<S>,
     /// The servers' workers.
     pub(crate) servers: Vec<ServerJob<S>>,
-    pub(crate) remains: Remains<T, S>,
+    pub(crate) remains: Remains<T, B, S>,
 }
 
 /// Opens the clients and servers of a scene, and registers each client at each server.
-pub(crate) fn open<T: Tag, S: Setup>(
+pub(crate) fn open<T: Tag, I: Indexes<T>, S: Setup>(
     alloc: Global,
     mint: &mut Mint<S>,
     scene: &Scene,
     limits: Limits,
-) -> Result<Opened<T, S>, OpenFault> {
+) -> Result<Opened<T, QueueBook<T, I, S>, S>, OpenFault> {
     let mut opened = none_opened(alloc, scene)?;
     open_all(alloc, mint, scene, limits, &mut opened)?;
     Ok(opened)
 }
 
 /// No client and no server yet, with room for the clients' ids.
-fn none_opened<T: Tag, S: Setup>(alloc: Global, scene: &Scene) -> Result<Opened<T, S>, AllocError> {
+fn none_opened<T: Tag, B, S: Setup>(
+    alloc: Global,
+    scene: &Scene,
+) -> Result<Opened<T, B, S>, AllocError> {
     let ids = IndexSet::with_capacity(alloc, scene.clients().len())?;
     Ok(Opened {
         cluster: Cluster {
@@ -59,12 +64,12 @@ fn none_opened<T: Tag, S: Setup>(alloc: Global, scene: &Scene) -> Result<Opened<
 }
 
 /// Opens the clients of a scene, and then its servers.
-fn open_all<T: Tag, S: Setup>(
+fn open_all<T: Tag, I: Indexes<T>, S: Setup>(
     alloc: Global,
     mint: &mut Mint<S>,
     scene: &Scene,
     limits: Limits,
-    opened: &mut Opened<T, S>,
+    opened: &mut Opened<T, QueueBook<T, I, S>, S>,
 ) -> Result<(), OpenFault> {
     reserve_all(scene, opened)?;
     let mut desks = no_desks(alloc, scene)?;
@@ -73,9 +78,9 @@ fn open_all<T: Tag, S: Setup>(
 }
 
 /// Makes room for the clients and the servers of a scene.
-fn reserve_all<T: Tag, S: Setup>(
+fn reserve_all<T: Tag, B, S: Setup>(
     scene: &Scene,
-    opened: &mut Opened<T, S>,
+    opened: &mut Opened<T, B, S>,
 ) -> Result<(), AllocError> {
     let clients = scene.clients().len();
     let servers = scene.servers() as usize;
@@ -87,10 +92,10 @@ fn reserve_all<T: Tag, S: Setup>(
 }
 
 /// Makes room for so many trackers and queues.
-fn reserve_locks<T: Tag, S: Setup>(
+fn reserve_locks<B, S: Setup>(
     clients: usize,
     servers: usize,
-    cluster: &mut Cluster<T, S>,
+    cluster: &mut Cluster<B, S>,
 ) -> Result<(), AllocError> {
     cluster.trackers.reserve_exact(clients)?;
     cluster.queues.reserve_exact(servers)?;
@@ -98,13 +103,13 @@ fn reserve_locks<T: Tag, S: Setup>(
 }
 
 /// Opens the servers with these desks, in order.
-fn open_servers<T: Tag, S: Setup>(
+fn open_servers<T: Tag, I: Indexes<T>, S: Setup>(
     alloc: Global,
     mint: &mut Mint<S>,
     scene: &Scene,
     limits: Limits,
     desks: Vec<QueueDesks<S>>,
-    opened: &mut Opened<T, S>,
+    opened: &mut Opened<T, QueueBook<T, I, S>, S>,
 ) -> Result<(), OpenFault> {
     for next in desks {
         open_server(alloc, mint, scene, limits, next, opened)?;

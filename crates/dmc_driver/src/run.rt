@@ -4,14 +4,20 @@ ghost use Rattle.dmc_types.specs.Limits.{most_books};
 ghost use Rattle.dmc_settle.specs.Reports.{IsReport};
 ghost use Rattle.dmc_driver.specs.Ending.{EndsSo, KeepsWithin, Reports};
 
+use crate::client_worker::ClientJob;
+use crate::cluster::Cluster;
 use crate::ending::end_run;
 use crate::fault::{DriveFault, OpenFault};
 use crate::gathering::{Remains, gather};
 use crate::limits::Limits;
 use crate::moments::Moments;
 use crate::opening::{Opened, open};
+use crate::server_worker::ServerJob;
 use crate::service::Service;
 use crate::threads::run_all;
+use dmc_book::book::QueueBook;
+use dmc_heap::indexed_heap::HeapIndexes;
+use dmc_index::index::Indexes;
 use dmc_ledger::mint::Blank;
 use dmc_ledger::setup::Setup;
 use dmc_scene::scene::Scene;
@@ -103,18 +109,18 @@ where
 {
     let mut mint = blank.open::<S>();
     let room = SettleRoom::new(alloc, scene.servers())?;
-    let opened = open(alloc, &mut mint, scene, limits)?;
+    let opened = open::<T, HeapIndexes, S>(alloc, &mut mint, scene, limits)?;
     drive(rt, alloc, scene, service, moments, opened, room)
 }
 
-/// Runs what was opened, and settles what is left.
+/// Runs what was opened in threads, and settles what they leave.
 fn drive<T, S, R, V, M>(
     rt: &R,
     alloc: Global,
     scene: &Scene,
     service: &V,
     moments: &M,
-    opened: Opened<T, S>,
+    opened: Opened<T, QueueBook<T, HeapIndexes, S>, S>,
     room: SettleRoom<S>,
 ) -> Result<ClusterReport<T>, OpenFault>
 where
@@ -126,15 +132,39 @@ where
     requires { scene.now.servers ≤ room }
     ensures { IfOk result (IsReport T.ops scene.now) }
 {
-    let remains = run_opened(rt, service, moments, opened);
+    let Opened {
+        cluster,
+        senders,
+        mut servers,
+        remains,
+    } = opened;
+    let clients = run_all(rt, &cluster, service, moments, &mut servers, senders);
+    settle_left(alloc, scene, cluster, clients, servers, remains, room)
+}
+
+/// Gathers what the threads of a run leave, and settles it.
+fn settle_left<T: Tag, I: Indexes<T>, S: Setup>(
+    alloc: Global,
+    scene: &Scene,
+    cluster: Cluster<QueueBook<T, I, S>, S>,
+    clients: Vec<ClientJob<S>>,
+    servers: Vec<ServerJob<S>>,
+    remains: Remains<T, QueueBook<T, I, S>, S>,
+    room: SettleRoom<S>,
+) -> Result<ClusterReport<T>, OpenFault>
+    requires { scene.now.servers ≤ room }
+    ensures { IfOk result (IsReport T.ops scene.now) }
+{
+    let mut remains = remains;
+    gather(cluster, clients, servers, &mut remains);
     settle_remains(alloc, scene, remains, room)
 }
 
-/// Settles what the threads of a run leave.
-fn settle_remains<T: Tag, S: Setup>(
+/// Settles what was gathered.
+fn settle_remains<T: Tag, I: Indexes<T>, S: Setup>(
     alloc: Global,
     scene: &Scene,
-    remains: Remains<T, S>,
+    remains: Remains<T, QueueBook<T, I, S>, S>,
     room: SettleRoom<S>,
 ) -> Result<ClusterReport<T>, OpenFault>
     requires { scene.now.servers ≤ room }
@@ -150,29 +180,4 @@ fn settle_remains<T: Tag, S: Setup>(
         Ok(report) => Ok(report),
         Err(_) => Err(OpenFault::Torn),
     }
-}
-
-/// Runs what was opened in threads, and gathers what they leave.
-fn run_opened<T, S, R, V, M>(
-    rt: &R,
-    service: &V,
-    moments: &M,
-    opened: Opened<T, S>,
-) -> Remains<T, S>
-where
-    T: Tag + Send + Sync,
-    S: Setup + Send + Sync,
-    R: Threads + Wait + Sync,
-    V: Service + Sync,
-    M: Moments + Sync,
-{
-    let Opened {
-        cluster,
-        senders,
-        mut servers,
-        mut remains,
-    } = opened;
-    let clients = run_all(rt, &cluster, service, moments, &mut servers, senders);
-    gather(cluster, clients, servers, &mut remains);
-    remains
 }

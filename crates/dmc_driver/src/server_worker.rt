@@ -6,6 +6,7 @@ use crate::cause::{of_entry, of_pull};
 use crate::cluster::Cluster;
 use crate::moments::Moments;
 use crate::service::{Job, Service};
+use dmc_book::book::QueueBook;
 use dmc_book::pass::WorkerPass;
 use dmc_heap::indexed_heap::HeapIndexes;
 use dmc_ledger::setup::Setup;
@@ -33,7 +34,7 @@ pub(crate) struct ServerJob<S: Setup> {
 /// The work of a server's worker. Where it stops, so do the clients.
 pub(crate) fn run_server<T: Tag, S: Setup, V: Service, M: Moments, R: Wait>(
     rt: &R,
-    cluster: &Cluster<T, S>,
+    cluster: &Cluster<QueueBook<T, HeapIndexes, S>, S>,
     service: &V,
     moments: &M,
     job: &mut ServerJob<S>,
@@ -54,7 +55,7 @@ pub(crate) fn stop_all<R: Wait>(rt: &R, ringers: &mut [Ringer]) {
 /// Takes turns until the closed queue has nothing left.
 fn take_turns<T: Tag, S: Setup, V: Service, M: Moments, R: Wait>(
     rt: &R,
-    cluster: &Cluster<T, S>,
+    cluster: &Cluster<QueueBook<T, HeapIndexes, S>, S>,
     service: &V,
     moments: &M,
     job: &mut ServerJob<S>,
@@ -73,7 +74,7 @@ fn take_turns<T: Tag, S: Setup, V: Service, M: Moments, R: Wait>(
 /// Pulls, and has what is granted served. Whether there may be more.
 fn take_turn<T: Tag, S: Setup, V: Service, M: Moments, R: Wait>(
     rt: &R,
-    cluster: &Cluster<T, S>,
+    cluster: &Cluster<QueueBook<T, HeapIndexes, S>, S>,
     queue: &QueueLock<T, HeapIndexes, S>,
     service: &V,
     moments: &M,
@@ -104,9 +105,9 @@ fn take_turn<T: Tag, S: Setup, V: Service, M: Moments, R: Wait>(
 }
 
 /// Has a granted request served, and tells its client.
-fn complete<T: Tag, S: Setup, V: Service, R: Wait>(
+fn complete<B, S: Setup, V: Service, R: Wait>(
     rt: &R,
-    cluster: &Cluster<T, S>,
+    cluster: &Cluster<B, S>,
     service: &V,
     granted: &Job,
     job: &mut ServerJob<S>,

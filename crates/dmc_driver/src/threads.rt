@@ -7,6 +7,8 @@ use crate::cluster::Cluster;
 use crate::moments::Moments;
 use crate::server_worker::{ServerJob, run_server, stop_all};
 use crate::service::Service;
+use dmc_book::book::QueueBook;
+use dmc_heap::indexed_heap::HeapIndexes;
 use dmc_ledger::setup::Setup;
 use dmc_tag::tag::Tag;
 use std::sync::Wait;
@@ -23,7 +25,7 @@ pub(crate) struct Senders<S: Setup> {
 /// Runs the clients' workers, each in a thread. A worker that has none keeps its job as it was, and then the others are to stop.
 fn run_clients<T, S, M, R>(
     rt: &R,
-    cluster: &Cluster<T, S>,
+    cluster: &Cluster<QueueBook<T, HeapIndexes, S>, S>,
     moments: &M,
     jobs: &mut Vec<ClientJob<S>>,
     ringers: Vec<Ringer>,
@@ -52,7 +54,7 @@ where
 /// Runs the clients' workers, and then closes every queue.
 fn send_all<T, S, M, R>(
     rt: &R,
-    cluster: &Cluster<T, S>,
+    cluster: &Cluster<QueueBook<T, HeapIndexes, S>, S>,
     moments: &M,
     senders: Senders<S>,
 ) -> Vec<ClientJob<S>>
@@ -74,7 +76,7 @@ where
 /// clients' jobs come back.
 pub(crate) fn run_all<T, S, V, M, R>(
     rt: &R,
-    cluster: &Cluster<T, S>,
+    cluster: &Cluster<QueueBook<T, HeapIndexes, S>, S>,
     service: &V,
     moments: &M,
     servers: &mut Vec<ServerJob<S>>,

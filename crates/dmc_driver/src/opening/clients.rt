@@ -44,13 +44,13 @@ pub(crate) fn reserve_senders<S: Setup>(
 }
 
 /// Opens the clients of a scene, in order, with a desk of each at each of these servers.
-pub(crate) fn open_clients<T: Tag, S: Setup>(
+pub(crate) fn open_clients<T: Tag, B, S: Setup>(
     alloc: Global,
     mint: &mut Mint<S>,
     scene: &Scene,
     limits: Limits,
     queues: &mut [QueueDesks<S>],
-    opened: &mut Opened<T, S>,
+    opened: &mut Opened<T, B, S>,
 ) -> Result<(), OpenFault> {
     for client in scene.clients() {
         open_client(alloc, mint, scene, limits, *client, queues, opened)?;
@@ -59,14 +59,14 @@ pub(crate) fn open_clients<T: Tag, S: Setup>(
 }
 
 /// The next client.
-fn open_client<T: Tag, S: Setup>(
+fn open_client<T: Tag, B, S: Setup>(
     alloc: Global,
     mint: &mut Mint<S>,
     scene: &Scene,
     limits: Limits,
     client: SceneClient,
     queues: &mut [QueueDesks<S>],
-    opened: &mut Opened<T, S>,
+    opened: &mut Opened<T, B, S>,
 ) -> Result<(), OpenFault> {
     let rows = &mut opened.remains.report.clients;
     name_client(client.id(), &mut opened.cluster.ids, rows)?;

@@ -14,10 +14,10 @@ use dmc_book::book::QueueBook;
 use dmc_book::pass::WorkerPass;
 use dmc_book::settled::GrantsHeld;
 use dmc_events::history::EventHistory;
-use dmc_heap::indexed_heap::HeapIndexes;
+use dmc_index::index::Indexes;
 use dmc_ledger::mint::Mint;
 use dmc_ledger::setup::Setup;
-use dmc_qlock::lock::{Locked, QueueLock};
+use dmc_qlock::lock::{Locked, OfServer, QueueLock};
 use dmc_scene::client::SceneClient;
 use dmc_scene::scene::Scene;
 use dmc_settle::report::{ServerReport, StopCause};
@@ -39,13 +39,13 @@ pub(crate) fn server_workers(scene: &Scene) -> usize
 }
 
 /// A server with its desks, the next of the cluster. Its worker 0, the first client's, registers every client.
-pub(crate) fn open_server<T: Tag, S: Setup>(
+pub(crate) fn open_server<T: Tag, I: Indexes<T>, S: Setup>(
     alloc: Global,
     mint: &mut Mint<S>,
     scene: &Scene,
     limits: Limits,
     desks: QueueDesks<S>,
-    opened: &mut Opened<T, S>,
+    opened: &mut Opened<T, QueueBook<T, I, S>, S>,
 ) -> Result<(), OpenFault> {
     let server = desks.server;
     let passes = open_row(alloc, mint, scene, limits, desks, opened)?;
@@ -62,13 +62,13 @@ pub(crate) fn open_server<T: Tag, S: Setup>(
 }
 
 /// The queue and the row of the next server. What comes back are the passes of the server's workers.
-fn open_row<T: Tag, S: Setup>(
+fn open_row<T: Tag, I: Indexes<T>, S: Setup>(
     alloc: Global,
     mint: &mut Mint<S>,
     scene: &Scene,
     limits: Limits,
     desks: QueueDesks<S>,
-    opened: &mut Opened<T, S>,
+    opened: &mut Opened<T, QueueBook<T, I, S>, S>,
 ) -> Result<Vec<WorkerPass<S>>, OpenFault> {
     let mut stops = Vec::with_capacity(alloc, enrolled(scene))?;
     let server = desks.server;
@@ -141,13 +141,13 @@ fn new_row<T: Tag>(
 
 /// A server's queue behind its lock, with every client registered, and the passes of its workers. What the queue refuses is put
 /// among the stops.
-fn open_queue<T: Tag, S: Setup>(
+fn open_queue<T: Tag, I: Indexes<T>, S: Setup>(
     alloc: Global,
     mint: &mut Mint<S>,
     scene: &Scene,
     limits: Limits,
     desks: QueueDesks<S>,
-    queues: &mut Vec<QueueLock<T, HeapIndexes, S>>,
+    queues: &mut Vec<QueueLock<T, I, S>>,
     stops: &mut Vec<StopCause>,
 ) -> Result<Vec<WorkerPass<S>>, OpenFault> {
     let workers = enroll(alloc, scene, desks.server)?;
@@ -155,55 +155,52 @@ fn open_queue<T: Tag, S: Setup>(
 }
 
 /// The same with these workers.
-fn open_with<T: Tag, S: Setup>(
+fn open_with<T: Tag, I: Indexes<T>, S: Setup>(
     alloc: Global,
     mint: &mut Mint<S>,
     scene: &Scene,
     limits: Limits,
     desks: QueueDesks<S>,
     workers: &[WorkerId],
-    queues: &mut Vec<QueueLock<T, HeapIndexes, S>>,
+    queues: &mut Vec<QueueLock<T, I, S>>,
     stops: &mut Vec<StopCause>,
 ) -> Result<Vec<WorkerPass<S>>, OpenFault> {
+    let (mut book, mut passes) = new_book(alloc, mint, scene, limits, desks, workers)?;
+    let registered = register_all(&mut book, &mut passes, scene.clients(), stops);
+    push_queue(book, queues)?;
+    registered?;
+    Ok(passes)
+}
+
+/// A server's book with these workers, and their passes.
+fn new_book<T: Tag, I: Indexes<T>, S: Setup>(
+    alloc: Global,
+    mint: &mut Mint<S>,
+    scene: &Scene,
+    limits: Limits,
+    desks: QueueDesks<S>,
+    workers: &[WorkerId],
+) -> Result<(QueueBook<T, I, S>, Vec<WorkerPass<S>>), OpenFault> {
     if workers.len() > MOST_WORKERS {
         return Err(OpenFault::Torn);
     }
     let QueueDesks { server, desks } = desks;
     let most = limits.events();
     match QueueBook::new(alloc, scene.config(), server, workers, desks, mint, most) {
-        Ok((book, passes)) => keep_queue(book, passes, scene.clients(), queues, stops),
+        Ok(made) => Ok(made),
         Err(fault) => Err(of_new(fault.cause)),
     }
 }
 
-/// Registers the clients at a server's book, and keeps it behind its lock.
-fn keep_queue<T: Tag, S: Setup>(
-    book: QueueBook<T, HeapIndexes, S>,
-    passes: Vec<WorkerPass<S>>,
-    clients: &[SceneClient],
-    queues: &mut Vec<QueueLock<T, HeapIndexes, S>>,
-    stops: &mut Vec<StopCause>,
-) -> Result<Vec<WorkerPass<S>>, OpenFault> {
-    let mut book = book;
-    let mut passes = passes;
-    let registered = register_all(&mut book, &mut passes, clients, stops);
-    push_queue(book, queues)?;
-    registered?;
-    Ok(passes)
-}
-
 /// One queue more, behind its lock.
-fn push_queue<T: Tag, S: Setup>(
-    book: QueueBook<T, HeapIndexes, S>,
-    queues: &mut Vec<QueueLock<T, HeapIndexes, S>>,
-) -> Result<(), OpenFault> {
+fn push_queue<B: OfServer + Drop>(book: B, queues: &mut Vec<Locked<B>>) -> Result<(), AllocError> {
     queues.push(Locked::new(book))?;
     Ok(())
 }
 
 /// Registers the clients by the first of the passes.
-fn register_all<T: Tag, S: Setup>(
-    book: &mut QueueBook<T, HeapIndexes, S>,
+fn register_all<T: Tag, I: Indexes<T>, S: Setup>(
+    book: &mut QueueBook<T, I, S>,
     passes: &mut [WorkerPass<S>],
     clients: &[SceneClient],
     stops: &mut Vec<StopCause>,
@@ -218,8 +215,8 @@ fn register_all<T: Tag, S: Setup>(
 }
 
 /// Registers a client at moment 0.
-fn register<T: Tag, S: Setup>(
-    book: &mut QueueBook<T, HeapIndexes, S>,
+fn register<T: Tag, I: Indexes<T>, S: Setup>(
+    book: &mut QueueBook<T, I, S>,
     pass: &mut WorkerPass<S>,
     client: SceneClient,
     stops: &mut Vec<StopCause>,

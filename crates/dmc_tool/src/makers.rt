@@ -1,9 +1,8 @@
 //! The queue that scripts run on.
 use dmc_heap::indexed_heap::HeapIndexes;
 use dmc_pull::queue::PullQueue;
-use dmc_ratio::ratio::RatioTag;
+use dmc_tag::tag::Tag;
 use dmc_text::script::QueueMaker;
-use dmc_tick::tick::TickTag;
 use dmc_types::config::QueueConfig;
 use std::alloc::Global;
 
@@ -13,18 +12,10 @@ pub struct HeapMaker {
     pub alloc: Global,
 }
 
-impl QueueMaker<TickTag> for HeapMaker {
-    type Queue = PullQueue<TickTag, HeapIndexes>;
+impl<T: Tag> QueueMaker<T> for HeapMaker {
+    type Queue = PullQueue<T, HeapIndexes>;
 
-    fn make(&mut self, config: QueueConfig) -> PullQueue<TickTag, HeapIndexes> {
-        PullQueue::new(self.alloc, config)
-    }
-}
-
-impl QueueMaker<RatioTag> for HeapMaker {
-    type Queue = PullQueue<RatioTag, HeapIndexes>;
-
-    fn make(&mut self, config: QueueConfig) -> PullQueue<RatioTag, HeapIndexes> {
+    fn make(&mut self, config: QueueConfig) -> PullQueue<T, HeapIndexes> {
         PullQueue::new(self.alloc, config)
     }
 }

@@ -1,5 +1,7 @@
 //! The command `script`.
 ghost use Rattle.std.specs.Prelude.{◌≡◌};
+ghost use Rattle.dmc_text.specs.Replies.{tag_text};
+ghost use Rattle.dmc_text.specs.Texts.{RunsAs};
 ghost use Rattle.dmc_tool.specs.Faults.{fault_of_script};
 ghost use Rattle.dmc_tool.specs.Runs.{RunsScript};
 
@@ -7,6 +9,7 @@ use crate::fault::Fault;
 use crate::makers::HeapMaker;
 use dmc_ratio::ratio::RatioTag;
 use dmc_text::script::{ScriptFault, run_script};
+use dmc_text::tag::TagText;
 use dmc_tick::tick::TickTag;
 use dmc_types::config::TagKind;
 use std::alloc::Global;
@@ -34,11 +37,19 @@ pub fn run_on<R: Read, W: Write>(
 ) -> Result<(), ScriptFault>
     ensures { RunsScript tags (R.remaining reader.old) (R.remaining reader.new) (W.contents writer.old) (W.contents writer.new) result }
 {
-    let mut maker = HeapMaker { alloc };
     match tags {
-        TagKind::Tick => run_script::<TickTag, HeapMaker, R, W>(alloc, &mut maker, reader, writer),
-        TagKind::Ratio => {
-            run_script::<RatioTag, HeapMaker, R, W>(alloc, &mut maker, reader, writer)
-        }
+        TagKind::Tick => run_on_heaps::<TickTag, R, W>(alloc, reader, writer),
+        TagKind::Ratio => run_on_heaps::<RatioTag, R, W>(alloc, reader, writer),
     }
+}
+
+/// Runs a script on an indexed queue over heaps.
+fn run_on_heaps<T: TagText, R: Read, W: Write>(
+    alloc: Global,
+    reader: &mut R,
+    writer: &mut W,
+) -> Result<(), ScriptFault>
+    ensures { RunsAs T.ops (tag_text T.numerator T.denominator) (R.remaining reader.old) (R.remaining reader.new) (W.contents writer.old) (W.contents writer.new) result }
+{
+    run_script::<T, HeapMaker, R, W>(alloc, &mut HeapMaker { alloc }, reader, writer)
 }

@@ -1,9 +1,9 @@
 //! The words of the command line: which command is asked for, and on which tags.
-ghost use Rattle.std.specs.Prelude.{◌≡◌, IfOk, false, find, map};
+ghost use Rattle.std.specs.Prelude.{◌≡◌, IfOk, codes, false, find, map};
 ghost use Rattle.std.specs.Str.{bytes_eq};
-ghost use Rattle.clap.specs.Words.{app_of, found_of, kind_of, rows_of, subcommand_rows_of};
+ghost use Rattle.clap.specs.Words.{app_of, found_of, kind_of, new_app, rows_of, subcommand_rows_of, with_subcommand};
 ghost use Rattle.clap.specs.declared.builder.command.Command.TheViews.{out-Command as fields_of};
-ghost use Rattle.dmc_tool.specs.Words.{tool_of_words, fault_at, kind_named, name_of, program_app, tagged_app, tags_in, tool_in};
+ghost use Rattle.dmc_tool.specs.Words.{tool_of_words, bare, fault_at, kind_named, name_of, program_app, tagged_app, tags_in, tool_in};
 ghost use Rattle.dmc_tool.specs.declared.words.WordsFault.TheVariants.{Memory, Usage};
 
 use clap::error::ErrorKind;
@@ -97,15 +97,43 @@ pub fn read_words<S: AsStr>(alloc: Global, words: &[S]) -> Result<Tool, WordsFau
 fn program<'a>(alloc: Global) -> Result<Command<'a>, AllocError>
     ensures { IfOk result (λ command. app_of command ≡ program_app) }
 {
+    let command = with_tagged(alloc, bare_program(alloc), ToolCommand::Script)?;
+    let command = with_tagged(alloc, command, ToolCommand::Check)?;
+    let command = with_untagged(alloc, command, ToolCommand::Sim)?;
+    with_untagged(alloc, command, ToolCommand::Run)
+}
+
+// A command line with no commands yet: one has to be named, and no help is given.
+fn bare_program<'a>(alloc: Global) -> Command<'a>
+    ensures { app_of result ≡ bare (new_app (codes "dmclock")) }
+{
     Command::new(alloc, "dmclock")
         .no_binary_name(true)
         .disable_help_flag(true)
         .disable_help_subcommand(true)
         .subcommand_required(true)
-        .subcommand(tagged(alloc, ToolCommand::Script)?)?
-        .subcommand(tagged(alloc, ToolCommand::Check)?)?
-        .subcommand(Command::new(alloc, ToolCommand::Sim.name()))?
-        .subcommand(Command::new(alloc, ToolCommand::Run.name()))
+}
+
+// The command line with one more command, which takes the option `--tags`.
+fn with_tagged<'a>(
+    alloc: Global,
+    program: Command<'a>,
+    command: ToolCommand,
+) -> Result<Command<'a>, AllocError>
+    ensures { IfOk result (λ c. app_of c ≡ with_subcommand (app_of program.entry) (tagged_app (name_of command)).top) }
+{
+    program.subcommand(tagged(alloc, command)?)
+}
+
+// The command line with one more command, which takes no options.
+fn with_untagged<'a>(
+    alloc: Global,
+    program: Command<'a>,
+    command: ToolCommand,
+) -> Result<Command<'a>, AllocError>
+    ensures { IfOk result (λ c. app_of c ≡ with_subcommand (app_of program.entry) (new_app (name_of command)).top) }
+{
+    program.subcommand(Command::new(alloc, command.name()))
 }
 
 // A command that takes the option `--tags`.

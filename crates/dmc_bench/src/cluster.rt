@@ -10,14 +10,14 @@ use crate::fault::Fault;
 use crate::queues::HZ;
 use dmc_book::book::QueueBook;
 use dmc_book::pass::WorkerPass;
-use dmc_heap::indexed_heap::HeapIndexes;
+use dmc_index::index::Indexes;
 use dmc_ledger::bundle::StampTills;
 use dmc_ledger::desk::{ClientDesk, ServerDesk, open_pair};
 use dmc_ledger::mint::Mint;
 use dmc_ledger::setup::Setup;
 use dmc_qlock::lock::QueueLock;
 use dmc_tag::reply::Pulled;
-use dmc_tick::tick::TickTag;
+use dmc_tag::tag::Tag;
 use dmc_tlock::book::TrackerBook;
 use dmc_tlock::pass::ClientPass;
 use dmc_tlock::stamp::Stamp;
@@ -28,9 +28,6 @@ use dmc_types::info::ClientInfo;
 use dmc_types::moment::Moment;
 use std::alloc::Global;
 use std::sync::Wait;
-
-/// The lock of a queue over heaps.
-pub type Lock<S> = QueueLock<TickTag, HeapIndexes, S>;
 
 /// The one server.
 const SERVER: ServerId = ServerId(0);
@@ -158,12 +155,12 @@ fn config_and_workers(alloc: Global, count: u32) -> Result<(QueueConfig, Vec<Wor
 }
 
 /// The lock of a server with these desks, and the passes of its workers.
-pub fn open_lock<S: Setup>(
+pub fn open_lock<T: Tag, I: Indexes<T>, S: Setup>(
     alloc: Global,
     mint: &mut Mint<S>,
     desks: Vec<ClientDesk<S>>,
     count: u32,
-) -> Result<(Lock<S>, Vec<WorkerPass<S>>), Fault>
+) -> Result<(QueueLock<T, I, S>, Vec<WorkerPass<S>>), Fault>
     requires { AllByRecursion (IsNewDesk 0) (map client_side desks.items) }
 {
     let (config, workers) = config_and_workers(alloc, count)?;
@@ -182,9 +179,9 @@ pub fn open_lock<S: Setup>(
 }
 
 /// Registers the clients 0, 1, and so on.
-pub fn register_all<S: Setup, R: Wait>(
+pub fn register_all<T: Tag, I: Indexes<T>, S: Setup, R: Wait>(
     rt: &R,
-    lock: &Lock<S>,
+    lock: &QueueLock<T, I, S>,
     pass: &mut WorkerPass<S>,
     count: u32,
 ) -> Result<(), Fault> {
@@ -232,9 +229,9 @@ fn covers<S: Setup>(tills: &StampTills<S>, stamp: &Stamp) -> bool
 }
 
 /// Submits a client's request with its stamp.
-pub fn submit<S: Setup, R: Wait>(
+pub fn submit<T: Tag, I: Indexes<T>, S: Setup, R: Wait>(
     rt: &R,
-    lock: &Lock<S>,
+    lock: &QueueLock<T, I, S>,
     pass: &mut WorkerPass<S>,
     client: &mut Client<S>,
     at: Moment,
@@ -255,9 +252,9 @@ pub fn submit<S: Setup, R: Wait>(
 }
 
 /// Whose request a pull grants, or `None` where it grants none.
-pub fn pull<S: Setup, R: Wait>(
+pub fn pull<T: Tag, I: Indexes<T>, S: Setup, R: Wait>(
     rt: &R,
-    lock: &Lock<S>,
+    lock: &QueueLock<T, I, S>,
     pass: &mut WorkerPass<S>,
     at: Moment,
 ) -> Option<ClientId> {

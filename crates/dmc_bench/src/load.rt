@@ -9,13 +9,14 @@ use crate::queues::{HZ, serve_deep, serve_queue};
 use crate::sharing::serve_shared;
 use crate::sums::sum_tags;
 use dmc_heap::indexed_heap::{HeapIndexes, IndexedHeap};
+use dmc_index::index::Indexes;
 use dmc_index::list_index::{ListIndex, ListIndexes};
 use dmc_ledger::mint::Blank;
 use dmc_plain::queue::PlainQueue;
 use dmc_pull::queue::PullQueue;
 use dmc_ratio::ratio::RatioTag;
 use dmc_tag::rank::TagRank;
-use dmc_tag::scheduler::Scheduler;
+use dmc_tag::tag::Tag;
 use dmc_tick::tick::TickTag;
 use dmc_types::config::{AtLimit, QueueConfig};
 use std::marker::Brand;
@@ -114,11 +115,9 @@ pub fn run_load<R: Threads + Wait + Sync>(
     load: Load,
 ) -> Result<u64, Fault> {
     match load.kind {
-        Kind::PlainQueue | Kind::ListQueue | Kind::HeapQueue | Kind::DeepQueue | Kind::LoneQueue =>
-            run_queue(rt, load),
-        Kind::LockedQueue => run_locked(rt, threads, load),
-        Kind::WarmQueue => run_warm(rt, threads, load),
-        Kind::SharedQueue => run_shared(rt, threads, load),
+        Kind::PlainQueue => run_plain::<TickTag>(rt, load),
+        Kind::ListQueue => run_indexed::<TickTag, ListIndexes>(rt, load),
+        Kind::SharedQueue => run_shared::<TickTag, R>(rt, threads, load),
         Kind::ListIndex => use_index::<ListIndex<TagRank<TickTag>>>(rt, load),
         Kind::HeapIndex => use_index::<IndexedHeap<TagRank<TickTag>>>(rt, load),
         Kind::Ticks => sum_tags::<TickTag>(rt, load, TickTag::new(333), TickTag::new(167)),
@@ -128,62 +127,83 @@ pub fn run_load<R: Threads + Wait + Sync>(
             RatioTag::new(1000, 3),
             RatioTag::new(1001, 6),
         ),
+        _ => run_any::<TickTag, HeapIndexes, R>(rt, threads, load),
     }
 }
 
-/// Runs a load of a queue of tick tags.
-fn run_queue(rt: &HostRuntime, load: Load) -> Result<u64, Fault> {
-    let config = QueueConfig::new(HZ as u64, 1, 1, AtLimit::Wait)?;
-    match load.kind {
-        Kind::PlainQueue => {
-            let mut queue: PlainQueue<TickTag> = PlainQueue::new(rt.alloc(), config);
-            serve_queue(rt, &mut queue, load)
-        }
-        Kind::ListQueue => {
-            let mut queue: PullQueue<TickTag, ListIndexes> = PullQueue::new(rt.alloc(), config);
-            serve_queue(rt, &mut queue, load)
-        }
-        _ => {
-            let mut queue: PullQueue<TickTag, HeapIndexes> = PullQueue::new(rt.alloc(), config);
-            run_on_heaps(rt, &mut queue, load)
-        }
-    }
+/// How the queues are set up.
+fn queue_config() -> Result<QueueConfig, Fault> {
+    Ok(QueueConfig::new(HZ as u64, 1, 1, AtLimit::Wait)?)
 }
 
-/// Runs a load of a queue over heaps.
-fn run_on_heaps<Q: Scheduler<TickTag>>(
+/// Runs the load of a plain queue.
+fn run_plain<T: Tag>(rt: &HostRuntime, load: Load) -> Result<u64, Fault> {
+    let mut queue: PlainQueue<T> = PlainQueue::new(rt.alloc(), queue_config()?);
+    serve_queue(rt, &mut queue, load)
+}
+
+/// Runs the load of an indexed queue.
+fn run_indexed<T: Tag, I: Indexes<T>>(rt: &HostRuntime, load: Load) -> Result<u64, Fault> {
+    let mut queue: PullQueue<T, I> = PullQueue::new(rt.alloc(), queue_config()?);
+    let served = serve_queue(rt, &mut queue, load);
+    drop(queue);
+    served
+}
+
+/// Runs a load of an indexed queue that one thread serves, alone or behind its lock.
+fn run_any<T: Tag, I: Indexes<T>, R: Wait>(
     rt: &HostRuntime,
-    queue: &mut Q,
+    waiter: &R,
     load: Load,
 ) -> Result<u64, Fault> {
     match load.kind {
-        Kind::DeepQueue => serve_deep(rt, queue, load),
-        Kind::LoneQueue => serve_alone(rt, queue, load),
-        _ => serve_queue(rt, queue, load),
+        Kind::LockedQueue => run_locked::<T, I, R>(rt, waiter, load),
+        Kind::WarmQueue => run_warm::<T, I, R>(rt, waiter, load),
+        Kind::DeepQueue | Kind::LoneQueue => run_one::<T, I>(rt, load),
+        _ => run_indexed::<T, I>(rt, load),
     }
 }
 
+/// Runs a load of an indexed queue with one client, or in batches.
+fn run_one<T: Tag, I: Indexes<T>>(rt: &HostRuntime, load: Load) -> Result<u64, Fault> {
+    let mut queue: PullQueue<T, I> = PullQueue::new(rt.alloc(), queue_config()?);
+    let served = match load.kind {
+        Kind::DeepQueue => serve_deep(rt, &mut queue, load),
+        _ => serve_alone(rt, &mut queue, load),
+    };
+    drop(queue);
+    served
+}
+
 /// Runs the load of a lock that one thread takes.
-fn run_locked<R: Wait>(rt: &HostRuntime, waiter: &R, load: Load) -> Result<u64, Fault> {
+fn run_locked<T: Tag, I: Indexes<T>, R: Wait>(
+    rt: &HostRuntime,
+    waiter: &R,
+    load: Load,
+) -> Result<u64, Fault> {
     let blank = Blank::new(book_count(load.clients, 1)?);
-    serve_locked::<Brand, R>(rt, waiter, load, blank)
+    serve_locked::<T, I, Brand, R>(rt, waiter, load, blank)
 }
 
 /// Runs that load three times, each time with a new lock. The last one's history takes the pages of those before it.
-fn run_warm<R: Wait>(rt: &HostRuntime, waiter: &R, load: Load) -> Result<u64, Fault> {
-    run_locked(rt, waiter, load)?;
-    run_locked(rt, waiter, load)?;
-    run_locked(rt, waiter, load)
+fn run_warm<T: Tag, I: Indexes<T>, R: Wait>(
+    rt: &HostRuntime,
+    waiter: &R,
+    load: Load,
+) -> Result<u64, Fault> {
+    run_locked::<T, I, R>(rt, waiter, load)?;
+    run_locked::<T, I, R>(rt, waiter, load)?;
+    run_locked::<T, I, R>(rt, waiter, load)
 }
 
 /// Runs the load of a lock that threads share.
-fn run_shared<R: Threads + Wait + Sync>(
+fn run_shared<T: Tag + Send, R: Threads + Wait + Sync>(
     rt: &HostRuntime,
     threads: &R,
     load: Load,
 ) -> Result<u64, Fault> {
     let blank = Blank::new(book_count(load.clients, load.clients)?);
-    serve_shared::<Brand, R>(rt, threads, load, blank)
+    serve_shared::<T, Brand, R>(rt, threads, load, blank)
 }
 
 /// A checksum with one more answer in it.

@@ -2,15 +2,17 @@
 ghost use Rattle.std.specs.Prelude.{◌≡◌};
 
 use crate::cluster::{
-    Client, Clients, Lock, open_clients, open_lock, pull, register_all, respond, stamp, submit,
+    Client, Clients, open_clients, open_lock, pull, register_all, respond, stamp, submit,
 };
 use crate::fault::Fault;
 use crate::load::{Load, mixed};
 use crate::queues::pull_all;
 use crate::watch::{add_since, start, tell};
 use dmc_book::pass::WorkerPass;
+use dmc_index::index::Indexes;
 use dmc_ledger::mint::Blank;
 use dmc_ledger::setup::Setup;
+use dmc_qlock::lock::QueueLock;
 use dmc_tag::scheduler::Scheduler;
 use dmc_tag::tag::Tag;
 use dmc_types::ids::{ClientId, Token};
@@ -64,7 +66,7 @@ fn mix_all(checksum: u64, granted: &[ClientId]) -> u64 {
 
 /// In batches, each client stamps and submits a request, one worker pulls them all, and each unit goes back to its client's
 /// tracker. What is told is the time of the submits and of the pulls.
-pub fn serve_locked<S: Setup, R: Wait>(
+pub fn serve_locked<T: Tag, I: Indexes<T>, S: Setup, R: Wait>(
     rt: &HostRuntime,
     waiter: &R,
     load: Load,
@@ -74,22 +76,24 @@ pub fn serve_locked<S: Setup, R: Wait>(
 {
     let mut mint = blank.open::<S>();
     let Clients { desks, mut clients } = open_clients(rt.alloc(), &mut mint, load.clients)?;
-    let (lock, mut passes) = open_lock(rt.alloc(), &mut mint, desks, 1)?;
-    serve_by_one(
+    let (lock, mut passes) = open_lock::<T, I, S>(rt.alloc(), &mut mint, desks, 1)?;
+    let served = serve_by_one(
         rt,
         waiter,
         &lock,
         passes.as_mut_slice(),
         clients.as_mut_slice(),
         load,
-    )
+    );
+    drop(lock);
+    served
 }
 
 /// The first pass serves all batches.
-fn serve_by_one<S: Setup, R: Wait>(
+fn serve_by_one<T: Tag, I: Indexes<T>, S: Setup, R: Wait>(
     rt: &HostRuntime,
     waiter: &R,
-    lock: &Lock<S>,
+    lock: &QueueLock<T, I, S>,
     passes: &mut [WorkerPass<S>],
     clients: &mut [Client<S>],
     load: Load,
@@ -101,10 +105,10 @@ fn serve_by_one<S: Setup, R: Wait>(
     tell_parts(rt, load, taken)
 }
 
-fn serve_batches<S: Setup, R: Wait>(
+fn serve_batches<T: Tag, I: Indexes<T>, S: Setup, R: Wait>(
     rt: &HostRuntime,
     waiter: &R,
-    lock: &Lock<S>,
+    lock: &QueueLock<T, I, S>,
     pass: &mut WorkerPass<S>,
     clients: &mut [Client<S>],
     load: Load,
@@ -121,10 +125,10 @@ fn serve_batches<S: Setup, R: Wait>(
 }
 
 /// One batch.
-fn serve_batch<S: Setup, R: Wait>(
+fn serve_batch<T: Tag, I: Indexes<T>, S: Setup, R: Wait>(
     rt: &HostRuntime,
     waiter: &R,
-    lock: &Lock<S>,
+    lock: &QueueLock<T, I, S>,
     pass: &mut WorkerPass<S>,
     clients: &mut [Client<S>],
     at: Moment,
@@ -154,9 +158,9 @@ fn stamp_each<S: Setup>(clients: &mut [Client<S>]) -> Result<(), Fault> {
 }
 
 #[inline(never)]
-fn submit_each<S: Setup, R: Wait>(
+fn submit_each<T: Tag, I: Indexes<T>, S: Setup, R: Wait>(
     waiter: &R,
-    lock: &Lock<S>,
+    lock: &QueueLock<T, I, S>,
     pass: &mut WorkerPass<S>,
     clients: &mut [Client<S>],
     at: Moment,
@@ -169,9 +173,9 @@ fn submit_each<S: Setup, R: Wait>(
 
 /// Pulls so often, and notes whose requests were granted.
 #[inline(never)]
-fn pull_each<S: Setup, R: Wait>(
+fn pull_each<T: Tag, I: Indexes<T>, S: Setup, R: Wait>(
     waiter: &R,
-    lock: &Lock<S>,
+    lock: &QueueLock<T, I, S>,
     pass: &mut WorkerPass<S>,
     count: usize,
     at: Moment,

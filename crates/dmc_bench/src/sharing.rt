@@ -1,15 +1,17 @@
 //! A queue's lock that threads share.
 ghost use Rattle.std.specs.Prelude.{◌≡◌};
 
-use crate::cluster::{
-    Client, Clients, Lock, open_clients, open_lock, pull, register_all, stamp, submit,
-};
+use crate::cluster::{Client, Clients, open_clients, open_lock, pull, register_all, stamp, submit};
 use crate::fault::Fault;
 use crate::load::Load;
 use crate::watch::{add_since, start, tell};
 use dmc_book::pass::WorkerPass;
+use dmc_heap::indexed_heap::HeapIndexes;
+use dmc_index::index::Indexes;
 use dmc_ledger::mint::Blank;
 use dmc_ledger::setup::Setup;
+use dmc_qlock::lock::QueueLock;
+use dmc_tag::tag::Tag;
 use dmc_types::moment::Moment;
 use std::alloc::Global;
 use std::sync::Wait;
@@ -27,7 +29,7 @@ struct Job<S: Setup> {
 
 /// As many threads as clients share the rounds: each stamps a request of its own client, submits it, and pulls one. Answers how
 /// many requests were granted.
-pub fn serve_shared<S: Setup + Send + Sync, R: Threads + Wait + Sync>(
+pub fn serve_shared<T: Tag + Send, S: Setup + Send + Sync, R: Threads + Wait + Sync>(
     rt: &HostRuntime,
     threads: &R,
     load: Load,
@@ -37,17 +39,24 @@ pub fn serve_shared<S: Setup + Send + Sync, R: Threads + Wait + Sync>(
 {
     let mut mint = blank.open::<S>();
     let Clients { desks, clients } = open_clients(rt.alloc(), &mut mint, load.clients)?;
-    let (lock, passes) = open_lock(rt.alloc(), &mut mint, desks, load.clients)?;
+    let (lock, passes) = open_lock::<T, HeapIndexes, S>(
+        rt.alloc(),
+        &mut mint,
+        desks,
+        load.clients,
+    )?;
     let requests = load.rounds.checked_div(load.clients).unwrap_or(0);
     let mut jobs = jobs_of(rt.alloc(), passes, clients, requests)?;
-    serve_jobs(rt, threads, &lock, jobs.as_mut_slice(), load)
+    let served = serve_jobs(rt, threads, &lock, jobs.as_mut_slice(), load);
+    drop(lock);
+    served
 }
 
 /// Registers the clients, and has all jobs done.
-fn serve_jobs<S: Setup + Send + Sync, R: Threads + Wait + Sync>(
+fn serve_jobs<T: Tag + Send, S: Setup + Send + Sync, R: Threads + Wait + Sync>(
     rt: &HostRuntime,
     threads: &R,
-    lock: &Lock<S>,
+    lock: &QueueLock<T, HeapIndexes, S>,
     jobs: &mut [Job<S>],
     load: Load,
 ) -> Result<u64, Fault> {
@@ -84,9 +93,9 @@ fn jobs_of<S: Setup>(
 }
 
 /// The first worker registers all clients.
-fn register<S: Setup, R: Wait>(
+fn register<T: Tag, I: Indexes<T>, S: Setup, R: Wait>(
     rt: &R,
-    lock: &Lock<S>,
+    lock: &QueueLock<T, I, S>,
     jobs: &mut [Job<S>],
     count: u32,
 ) -> Result<(), Fault> {
@@ -97,9 +106,9 @@ fn register<S: Setup, R: Wait>(
 }
 
 /// Each job in a thread of its own.
-fn work_all<S: Setup + Send + Sync, R: Threads + Wait + Sync>(
+fn work_all<T: Tag + Send, S: Setup + Send + Sync, R: Threads + Wait + Sync>(
     rt: &R,
-    lock: &Lock<S>,
+    lock: &QueueLock<T, HeapIndexes, S>,
     jobs: &mut [Job<S>],
 ) {
     let count = jobs.len();
@@ -109,7 +118,11 @@ fn work_all<S: Setup + Send + Sync, R: Threads + Wait + Sync>(
 }
 
 /// The requests of a job, by turns submitted and pulled.
-fn work<S: Setup, R: Wait>(rt: &R, lock: &Lock<S>, job: &mut Job<S>) {
+fn work<T: Tag, I: Indexes<T>, S: Setup, R: Wait>(
+    rt: &R,
+    lock: &QueueLock<T, I, S>,
+    job: &mut Job<S>,
+) {
     for _ in 0..job.requests {
         if take_turn(rt, lock, job).is_err() {
             return;
@@ -118,7 +131,11 @@ fn work<S: Setup, R: Wait>(rt: &R, lock: &Lock<S>, job: &mut Job<S>) {
 }
 
 /// Submits one request, and pulls one.
-fn take_turn<S: Setup, R: Wait>(rt: &R, lock: &Lock<S>, job: &mut Job<S>) -> Result<(), Fault> {
+fn take_turn<T: Tag, I: Indexes<T>, S: Setup, R: Wait>(
+    rt: &R,
+    lock: &QueueLock<T, I, S>,
+    job: &mut Job<S>,
+) -> Result<(), Fault> {
     let at = Moment::zero();
     stamp(&mut job.client)?;
     submit(rt, lock, &mut job.pass, &mut job.client, at)?;

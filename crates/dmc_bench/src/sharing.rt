@@ -8,7 +8,7 @@ use crate::watch::{add_since, start, tell};
 use dmc_book::pass::WorkerPass;
 use dmc_heap::indexed_heap::HeapIndexes;
 use dmc_index::index::Indexes;
-use dmc_ledger::mint::Blank;
+use dmc_ledger::mint::{Blank, Mint};
 use dmc_ledger::setup::Setup;
 use dmc_qlock::lock::QueueLock;
 use dmc_tag::tag::Tag;
@@ -38,21 +38,28 @@ pub fn serve_shared<T: Tag + Send, S: Setup + Send + Sync, R: Threads + Wait + S
     requires { blank.name ≡ S.name }
 {
     let mut mint = blank.open::<S>();
-    let Clients { desks, clients } = open_clients(rt.alloc(), &mut mint, load.clients)?;
-    let (lock, passes) = open_lock::<T, HeapIndexes, S>(
-        rt.alloc(),
-        &mut mint,
-        desks,
-        load.clients,
-    )?;
-    let requests = load.rounds.checked_div(load.clients).unwrap_or(0);
-    let mut jobs = jobs_of(rt.alloc(), passes, clients, requests)?;
+    let (lock, mut jobs) = open_jobs::<T, HeapIndexes, S, R>(rt.alloc(), threads, &mut mint, load)?;
     let served = serve_jobs(rt, threads, &lock, jobs.as_mut_slice(), load);
     drop(lock);
     served
 }
 
-/// Registers the clients, and has all jobs done.
+/// The lock of a server, at which the clients are registered, and a job for each of its workers.
+fn open_jobs<T: Tag, I: Indexes<T>, S: Setup, R: Wait>(
+    alloc: Global,
+    waiter: &R,
+    mint: &mut Mint<S>,
+    load: Load,
+) -> Result<(QueueLock<T, I, S>, Vec<Job<S>>), Fault> {
+    let Clients { desks, clients } = open_clients(alloc, mint, load.clients)?;
+    let (lock, passes) = open_lock::<T, I, S>(alloc, mint, desks, load.clients)?;
+    let requests = load.rounds.checked_div(load.clients).unwrap_or(0);
+    let mut jobs = jobs_of(alloc, passes, clients, requests)?;
+    register(waiter, &lock, jobs.as_mut_slice(), load.clients)?;
+    Ok((lock, jobs))
+}
+
+/// Has all jobs done.
 fn serve_jobs<T: Tag + Send, S: Setup + Send + Sync, R: Threads + Wait + Sync>(
     rt: &HostRuntime,
     threads: &R,
@@ -60,7 +67,6 @@ fn serve_jobs<T: Tag + Send, S: Setup + Send + Sync, R: Threads + Wait + Sync>(
     jobs: &mut [Job<S>],
     load: Load,
 ) -> Result<u64, Fault> {
-    register(threads, lock, jobs, load.clients)?;
     let begun = start(rt)?;
     work_all(threads, lock, jobs);
     tell(rt, "request", load.rounds, add_since(rt, begun, 0)?)?;

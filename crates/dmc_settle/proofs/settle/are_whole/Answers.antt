@@ -12,9 +12,11 @@ returns-then-are_together-clause-whole g c =
 
 pub returns-else-are_together-clause-whole : goal.returns-else-are_together-clause-whole
 returns-else-are_together-clause-whole g c =
-    let r : Remains g.row.T.Denot = remains c.args.books.now (map (λ v. v.items) c.args.passes.now.workers.items) c.args.trackers.now c.args.passes.now.clients.items in
-    ((λ e. cc), (λ (both : AreTogether c.args.scene.now r × AreRows c.args.scene.now c.args.report.now). absurd (false≢true (sym c.if-are_together.false ∙ c.are_together.ensures.1
-        (rw (c.deref.ensures.value, c.deref-2.ensures.value) both.0)))))
+    let r : Remains g.row.T.Denot = remains c.args.books.now (map (λ v. v.items) c.args.passes.now.workers.items) c.args.trackers.now c.args.passes.now.clients.items in (
+      (λ e. cc),
+      (λ (both : AreTogether c.args.scene.now r × AreRows c.args.scene.now c.args.report.now). absurd (false≢true (sym c.if-are_together.false ∙ c.are_together.ensures.1
+          (rw (c.deref.ensures.value, c.deref-2.ensures.value) both.0)))),
+    )
 
 pub returns-then-are_together-clause-servers : goal.returns-then-are_together-clause-servers
 returns-then-are_together-clause-servers g c = c.are_rows.ensures.servers

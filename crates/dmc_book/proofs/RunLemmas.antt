@@ -1,9 +1,7 @@
 -- What was answered or refused, of a command that is no Add.
 use Rattle.std.proofs.Common.{ℕ, ◌≡◌, ◌<◌, Bool, true, false, true≢false, length, refl, sym, ◌∙◌, Result, Ok, Err, arith}
-use Rattle.std.specs.Prelude.{◌↔◌, IsErrOf, OnOk, OnErr, IfOk}
+use Rattle.std.specs.Prelude.{◌↔◌, OnOk, OnErr, IfOk}
 use Rattle.std.specs.Cmp.{IsTotalOrder}
-use Rattle.dmc_types.specs.declared.ids.ClientId.{ClientId}
-use Rattle.dmc_types.specs.declared.config.PhaseType.{PhaseType}
 use Rattle.dmc_types.specs.declared.command.Command.{Command}
 use Rattle.dmc_types.specs.declared.command.Command.TheVariants.{Pull}
 use Rattle.dmc_tag.specs.Tag.{Tagging}
@@ -18,7 +16,7 @@ use Rattle.dmc_book.specs.declared.fault.RunFault.TheVariants as run
 use Rattle.dmc_book.specs.declared.fault.RunOrRange.{RunOrRange}
 use Rattle.dmc_book.specs.declared.fault.RunOrRange.TheVariants as pull
 use Rattle.dmc_book.specs.BookState.{BookState, PassState}
-use Rattle.dmc_book.specs.Calls.{Asks, Ran, Strays, WasPulled, asked, lacks_desk, reply_to, run_cause}
+use Rattle.dmc_book.specs.Calls.{Asks, Ran, WasPulled, asked, lacks_desk, reply_to, run_cause}
 use Rattle.dmc_book.specs.Consistent.{IsConsistent}
 use Rattle.dmc_book.specs.Moves.{IsEnrolled, takes}
 use Rattle.dmc_book.specs.Runs.{IsFull, Runs, StraysHere}

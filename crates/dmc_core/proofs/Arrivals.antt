@@ -1,6 +1,6 @@
 -- What the rules make of an arrival.
-use Rattle.std.proofs.Common.{◌≡◌, ℕ, ◌<◌, Bool, true, false, List, length, set, get_or, slice_get, Option, Some, None, refl, sym, ap, ◌∙◌, subst, arith, Ok, Err}
-use Rattle.std.specs.Prelude.{Result, IsOk, drop}
+use Rattle.std.proofs.Common.{◌≡◌, ℕ, ◌<◌, true, List, length, set, slice_get, Option, Some, None, refl, sym, ap, ◌∙◌, Ok, Err}
+use Rattle.std.specs.Prelude.{Result, IsOk}
 use Rattle.std.specs.Option.{ok_or}
 use Rattle.std.proofs.lemmas.List.{length-set, set-get_or}
 use Rattle.dmc_types.specs.Values.{Params}
@@ -11,10 +11,10 @@ use Rattle.dmc_types.specs.declared.config.Counting.{Counting}
 use Rattle.dmc_types.specs.declared.refusal.Refusal.{Refusal}
 use Rattle.dmc_types.specs.declared.command.Command.TheVariants as commands
 use Rattle.dmc_tag.specs.Tag.{Tagging}
-use Rattle.dmc_tag.specs.State.{State, StandsFor, effective}
+use Rattle.dmc_tag.specs.State.{State, effective}
 use Rattle.dmc_tag.specs.Outcome.{◌>>=◌}
-use Rattle.dmc_tag.specs.Rules.{can_add, added}
-use Rattle.dmc_tag.specs.Step.{step, answer_of, outcome as step_outcome}
+use Rattle.dmc_tag.specs.Rules.{can_add}
+use Rattle.dmc_tag.specs.Step.{step, outcome as step_outcome}
 use Rattle.dmc_tag.specs.Steps.{Steps}
 use Rattle.dmc_tag.specs.declared.reply.Tags.{Tags}
 use Rattle.dmc_tag.specs.declared.reply.Reply.{Reply}
@@ -24,9 +24,9 @@ use Rattle.dmc_core.specs.declared.event.CoreEvent.TheVariants.{Arrive}
 use Rattle.dmc_core.specs.declared.event.CoreReply.TheVariants.{Served}
 use Rattle.dmc_core.specs.declared.event.CoreFault.{CoreFault}
 use Rattle.dmc_core.specs.declared.event.CoreFault.TheVariants as faults
-use Rattle.dmc_core.specs.Run.{Pair, Client, Run, no_pair, pair_at, with_pair, with_flight, with_client, with_server}
+use Rattle.dmc_core.specs.Run.{Pair, Client, no_pair, pair_at, with_pair, with_client, with_server}
 use Rattle.dmc_core.specs.Events.{after_arrival, client_after_arrival, outcome}
-use Rattle.dmc_core.specs.Core.{Held, CoreValue, Matches, StandsForRun, Follows, is_accepting, is_accepted}
+use Rattle.dmc_core.specs.Core.{Held, CoreValue, Matches, Follows, is_accepting}
 use Rattle.dmc_core.specs.Parts.{place_of}
 use Rattle.dmc_core.proofs.Lists.{set_same}
 use Rattle.dmc_core.proofs.Runs.{refused, names_refused, found_place, the_client, the_server}

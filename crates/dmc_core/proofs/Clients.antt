@@ -1,9 +1,8 @@
 -- What the rules make of a client that matches one that is held.
-use Rattle.std.proofs.Common.{◌≡◌, ℕ, zero, suc, ◌+◌, ◌-◌, ◌<◌, ◌≤◌, Bool, true, false, List, [], ◌∷◌, ◌++◌, length, map, set, get_or, slice_get, Some, nat_le, ◌==◌, refl, sym, ap, ◌∙◌, subst, arith, Ok, Err}
+use Rattle.std.proofs.Common.{◌≡◌, ◌-◌, ◌<◌, ◌≤◌, Bool, true, false, List, [], ◌∷◌, ◌++◌, length, nat_le, ◌==◌, refl, sym, ap, ◌∙◌, arith, Ok, Err}
 use Rattle.std.specs.Prelude.{Result, IsErrOf, ◌↔◌, ⊤}
 use Rattle.std.proofs.lemmas.Bool.{ltb-true, lt-ltb, eq-eqb, eqb-true}
-use Rattle.std.proofs.Math.Seq.{map-set_same}
-use Rattle.std.proofs.lemmas.List.{length-set, length-map, map-set}
+use Rattle.std.proofs.lemmas.List.{length-set}
 use Rattle.dmc_types.specs.Values.{Params}
 use Rattle.dmc_types.specs.declared.ids.ServerId.{ServerId}
 use Rattle.dmc_types.specs.declared.ids.Token.{Token}
@@ -19,12 +18,9 @@ use Rattle.dmc_core.specs.declared.event.CoreFault.TheVariants.{FlightFull, Trac
 use Rattle.dmc_core.specs.Faults.{fault_of}
 use Rattle.dmc_tracker.specs.declared.tracker.TrackFault.{TrackFault}
 use Rattle.dmc_tracker.specs.declared.tracker.TrackFault.TheVariants as faults
-use Rattle.dmc_core.specs.declared.event.Message.{Message}
-use Rattle.dmc_core.specs.declared.pair.Pairing.{Pairing}
-use Rattle.dmc_core.specs.Run.{Pair, Client, no_pair, pair_at, with_pair, with_flight, grants, with_grants, most_completions, most_in_flight}
+use Rattle.dmc_core.specs.Run.{Pair, Client, pair_at, with_pair, with_flight, grants, with_grants, most_completions, most_in_flight}
 use Rattle.dmc_core.specs.Events.{is_stamp_full, after_stamp, stamp, after_response, response}
-use Rattle.dmc_core.specs.Core.{Held, Matches, Next, ClientFollows}
-use Rattle.dmc_core.specs.Parts.{pair_of}
+use Rattle.dmc_core.specs.Core.{Held, Matches, ClientFollows}
 
 pub false_unless : (b : Bool) → (b ≡ true → ⊥) → b ≡ false
 false_unless true never = absurd (never refl)

@@ -1,8 +1,8 @@
 -- How many counts of a server can't grow.
-use Rattle.std.proofs.Common.{◌≡◌, ℕ, zero, suc, ◌+◌, ◌-◌, ◌<◌, ◌≤◌, Bool, true, false, cond, List, [], ◌∷◌, length, set, get_or, slice_get, Some, nat_lt, ◌==◌, refl, sym, ap, ◌∙◌, arith}
-use Rattle.std.specs.Prelude.{sum_by, ◌||◌}
-use Rattle.std.specs.List.{AllZip, list_any}
-use Rattle.std.proofs.lemmas.Bool.{lt-ltb, eqb-true}
+use Rattle.std.proofs.Common.{◌≡◌, ℕ, ◌+◌, ◌<◌, ◌≤◌, Bool, true, false, cond, List, [], ◌∷◌, length, set, slice_get, Some, nat_lt, ◌==◌, refl, sym, ap, ◌∙◌, arith}
+use Rattle.std.specs.Prelude.{◌||◌}
+use Rattle.std.specs.List.{AllZip}
+use Rattle.std.proofs.lemmas.Bool.{lt-ltb}
 use Rattle.std.proofs.lemmas.List.{get_or-set_same, get_or-set_other}
 use Rattle.std.proofs.lemmas.List.Sums.{sum_by-cons, sum_by-set}
 use Rattle.std.proofs.lemmas.Option.{get_or_from_slice_get, slice_get_within}

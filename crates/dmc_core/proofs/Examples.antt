@@ -5,19 +5,16 @@ use Rattle.dmc_types.specs.Values.{Rates, Setting}
 use Rattle.dmc_types.specs.declared.ids.ClientId.{ClientId}
 use Rattle.dmc_types.specs.declared.ids.ServerId.{ServerId}
 use Rattle.dmc_types.specs.declared.ids.Token.{Token}
-use Rattle.dmc_types.specs.declared.config.Counting.{Counting}
 use Rattle.dmc_types.specs.declared.config.Counting.TheVariants as counting
-use Rattle.dmc_types.specs.declared.config.PhaseType.TheVariants.{Reservation, Priority}
-use Rattle.dmc_types.specs.declared.refusal.Refusal.TheVariants as refusals
-use Rattle.dmc_tag.specs.declared.reply.Reply.TheVariants as replies
+use Rattle.dmc_types.specs.declared.config.PhaseType.TheVariants.{Reservation}
 use Rattle.dmc_tick.specs.Tick.{tick_ops}
-use Rattle.dmc_tick.specs.Examples.{waiting, allowing, tags, by_reservation, by_priority, by_priority_beyond}
+use Rattle.dmc_tick.specs.Examples.{waiting, tags, by_reservation}
 use Rattle.dmc_core.specs.declared.event.CoreEvent.{CoreEvent}
-use Rattle.dmc_core.specs.declared.event.CoreEvent.TheVariants.{Stamp, Arrive, Pull, Respond, Update, Remove, Clean}
+use Rattle.dmc_core.specs.declared.event.CoreEvent.TheVariants.{Stamp, Arrive, Pull, Respond}
 use Rattle.dmc_core.specs.declared.event.CoreReply.{CoreReply}
 use Rattle.dmc_core.specs.declared.event.CoreReply.TheVariants.{Stamped, Served, Counted}
 use Rattle.dmc_core.specs.declared.event.CoreFault.{CoreFault}
-use Rattle.dmc_core.specs.declared.event.CoreFault.TheVariants.{NoClient, NoServer, NoFlight, NoGrant}
+use Rattle.dmc_core.specs.declared.event.CoreFault.TheVariants.{NoFlight, NoGrant}
 use Rattle.dmc_core.specs.Events.{opening_run, answers_of}
 
 abbrev c : ℕ → ClientId

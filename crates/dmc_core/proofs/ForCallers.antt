@@ -1,5 +1,5 @@
 -- What a caller's proof may cite: a scene meets what `ClusterCore::new` requires of the tags that it names.
-use Rattle.std.proofs.Common.{◌≡◌, ℕ, zero, suc, get_or, ◌<◌, ◌≤◌, ◌/◌, ◌%◌, ◌==◌, ◌&&◌, Bool, true, false, true≢false, Option, Some, None, ℤ, pos, refl, sym, ap, ◌∙◌, arith, Ok}
+use Rattle.std.proofs.Common.{◌≡◌, ℕ, zero, suc, get_or, ◌<◌, ◌≤◌, ◌/◌, ◌%◌, ◌==◌, true, false, true≢false, Option, Some, None, ℤ, pos, refl, sym, ap, ◌∙◌, arith, Ok}
 use Rattle.std.specs.Prelude.{All, IsOk, IfSome, nat_le, unsigned_abs}
 use Rattle.std.proofs.Math.Nat.{mod-zero, div-le_self}
 use Rattle.std.proofs.lemmas.Bool.{eqb-true, le-leb, leb-true}

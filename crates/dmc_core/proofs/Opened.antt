@@ -1,7 +1,7 @@
 -- What a cluster opens with.
-use Rattle.std.proofs.Common.{◌≡◌, ◌≢◌, ℕ, zero, suc, ◌+◌, ◌<◌, ◌≤◌, eqb, Bool, true, false, true≢false, nat_le, List, [], ◌∷◌, ◌++◌, length, map, take, replicate, get_or, slice_get, Option, Some, None, refl, sym, ap, ◌∙◌, subst, arith, Ok, Err}
-use Rattle.std.specs.Prelude.{All, AllPairs, IsOk, Result, sum_by}
-use Rattle.std.specs.List.{AllByRecursion, AllZip, find, list_any}
+use Rattle.std.proofs.Common.{◌≡◌, ◌≢◌, ℕ, zero, suc, ◌+◌, ◌<◌, ◌≤◌, eqb, false, true≢false, nat_le, List, [], ◌∷◌, ◌++◌, length, map, take, replicate, get_or, Some, None, refl, sym, ap, ◌∙◌, subst, arith, Ok, Err}
+use Rattle.std.specs.Prelude.{AllPairs, IsOk, Result}
+use Rattle.std.specs.List.{AllByRecursion, AllZip, list_any}
 use Rattle.std.proofs.lemmas.Bool.{eqb-true, leb-true}
 use Rattle.std.proofs.lemmas.List.Sums.{sum_by-cons}
 use Rattle.std.proofs.lemmas.List.{length-map, length-replicate, length-take, map-append, take_more}
@@ -14,7 +14,7 @@ use Rattle.dmc_types.specs.declared.config.Counting.{Counting}
 use Rattle.dmc_types.specs.declared.command.Command.TheVariants.{Register}
 use Rattle.dmc_types.specs.declared.refusal.Refusal.{Refusal}
 use Rattle.dmc_tag.specs.Tag.{Tagging}
-use Rattle.dmc_tag.specs.State.{State, StandsFor, opening, is_client, client_named, effective}
+use Rattle.dmc_tag.specs.State.{State, StandsFor, opening, client_named, effective}
 use Rattle.dmc_tag.specs.Spacing.{spacings_of}
 use Rattle.dmc_tag.specs.Step.{step}
 use Rattle.dmc_tag.specs.Steps.{Steps}
@@ -28,10 +28,10 @@ use Rattle.dmc_tracker.specs.Numbers.{no_numbers}
 use Rattle.dmc_tracker.proofs.ForCallers.{Stands-new}
 use Rattle.dmc_scene.specs.SceneValue.{SceneValue, ClientValue, AreApart}
 use Rattle.dmc_core.specs.declared.server.CoreServer.{CoreServer}
-use Rattle.dmc_core.specs.Run.{Client, Run, Pair, no_pair, pair_at, most_completions}
+use Rattle.dmc_core.specs.Run.{no_pair, pair_at, most_completions}
 use Rattle.dmc_core.specs.Events.{registration}
-use Rattle.dmc_core.specs.Core.{Held, CoreValue, Matches, StandsForRun}
-use Rattle.dmc_core.specs.Parts.{IsKept, full_at, full_counts, full_counts_of}
+use Rattle.dmc_core.specs.Core.{Held, Matches}
+use Rattle.dmc_core.specs.Parts.{IsKept, full_counts, full_counts_of}
 use Rattle.dmc_core.specs.Opening.{HaveSpacings, named_rates, opening_client}
 use Rattle.dmc_core.proofs.Clients.{false_unless}
 

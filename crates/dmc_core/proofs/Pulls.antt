@@ -1,6 +1,5 @@
 -- What the rules make of a pull.
-use Rattle.std.proofs.Common.{◌≡◌, ℕ, ◌<◌, ◌≤◌, Bool, true, false, List, length, set, slice_get, Option, Some, None, nat_lt, refl, sym, ap, ◌∙◌, arith, Ok, Err}
-use Rattle.std.specs.Prelude.{Result}
+use Rattle.std.proofs.Common.{◌≡◌, ℕ, ◌<◌, ◌≤◌, Bool, true, false, List, length, set, slice_get, Some, nat_lt, refl, ap, ◌∙◌, Ok, Err}
 use Rattle.std.specs.List.{AllZip}
 use Rattle.std.proofs.lemmas.Bool.{lt-ltb}
 use Rattle.dmc_types.specs.declared.ids.ClientId.{ClientId}
@@ -20,7 +19,7 @@ use Rattle.dmc_core.specs.declared.event.CoreReply.TheVariants.{Served}
 use Rattle.dmc_core.specs.declared.event.CoreFault.TheVariants as faults
 use Rattle.dmc_core.specs.Run.{Client, Run, change_first, with_server, are_grants_full}
 use Rattle.dmc_core.specs.Events.{after_grant, after_pull, outcome}
-use Rattle.dmc_core.specs.Core.{Held, CoreValue, Matches, StandsForRun, Follows}
+use Rattle.dmc_core.specs.Core.{Held, CoreValue, Matches, Follows}
 use Rattle.dmc_core.specs.Parts.{full_counts}
 use Rattle.dmc_core.proofs.Counts.{are_full}
 use Rattle.dmc_core.proofs.Runs.{refused, no_server, the_server}

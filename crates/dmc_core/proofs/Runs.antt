@@ -1,9 +1,9 @@
 -- What the rules make of a run that the core stands for.
-use Rattle.std.proofs.Common.{◌≡◌, ℕ, zero, suc, ◌+◌, ◌<◌, ◌≤◌, Bool, true, false, List, [], ◌∷◌, length, map, set, get_or, slice_get, nat_le, Option, Some, None, inl, inr, refl, sym, ap, ◌∙◌, subst, arith, rules, Ok, Err, cond}
-use Rattle.std.specs.Prelude.{Result, ◌⊎◌, position, drop}
-use Rattle.std.specs.List.{AllZip, find}
+use Rattle.std.proofs.Common.{◌≡◌, ℕ, ◌<◌, ◌≤◌, Bool, true, false, List, length, set, slice_get, nat_le, Option, Some, None, inl, inr, refl, sym, ap, ◌∙◌, arith, Ok, Err}
+use Rattle.std.specs.Prelude.{Result, ◌⊎◌, position}
+use Rattle.std.specs.List.{AllZip}
 use Rattle.std.specs.Option.{ok_or}
-use Rattle.std.proofs.lemmas.Bool.{leb-true, leb-false, le-leb}
+use Rattle.std.proofs.lemmas.Bool.{leb-true}
 use Rattle.std.proofs.lemmas.Slice.Zip.{AllZip-long}
 use Rattle.std.proofs.lemmas.Option.{slice_get_past}
 use Rattle.dmc_types.specs.declared.ids.ClientId.{ClientId}
@@ -21,7 +21,7 @@ use Rattle.dmc_core.specs.declared.event.CoreReply.{CoreReply}
 use Rattle.dmc_core.specs.declared.event.CoreReply.TheVariants.{Served}
 use Rattle.dmc_core.specs.declared.event.CoreFault.{CoreFault}
 use Rattle.dmc_core.specs.declared.event.CoreFault.TheVariants as faults
-use Rattle.dmc_core.specs.Run.{Pair, Client, Run, change_first, with_client, with_server, client_of, server_of, refuse_if}
+use Rattle.dmc_core.specs.Run.{Client, Run, change_first, with_client, with_server, client_of, server_of, refuse_if}
 use Rattle.dmc_core.specs.Events.{Outcome, client_event, server_event, outcome}
 use Rattle.dmc_core.specs.Core.{Held, CoreValue, Matches, StandsForRun, Follows, ClientFollows, IsRefusal, may_grow, is_accepted}
 use Rattle.dmc_core.specs.Parts.{place_of}

@@ -1,5 +1,5 @@
 -- What contracts see of the core, and which states of a cluster run it stands for.
-use Rattle.std.specs.Prelude.{◌≡◌, Bool, true, false, ℕ, List, length, Result, Ok, Err}
+use Rattle.std.specs.Prelude.{◌≡◌, Bool, true, false, List, length, Result, Ok, Err}
 use Rattle.std.specs.List.{AllZip}
 use Rattle.dmc_types.specs.declared.ids.ClientId.{ClientId}
 use Rattle.dmc_types.specs.declared.config.Counting.{Counting}
@@ -8,11 +8,11 @@ use Rattle.dmc_tag.specs.State.{State, StandsFor}
 use Rattle.dmc_tag.specs.declared.reply.Reply.TheVariants.{Refused}
 use Rattle.dmc_tracker.specs.Numbers.{Numbers, Stands}
 use Rattle.dmc_core.specs.Run.{Pair, Client, Run, most_completions}
-use Rattle.dmc_core.specs.Events.{Outcome, outcome, cluster_step}
+use Rattle.dmc_core.specs.Events.{outcome, cluster_step}
 use Rattle.dmc_core.specs.declared.event.CoreEvent.{CoreEvent}
 use Rattle.dmc_core.specs.declared.event.CoreEvent.TheVariants.{Stamp, Arrive, Pull, Respond, Update, Remove, Clean}
 use Rattle.dmc_core.specs.declared.event.CoreReply.{CoreReply}
-use Rattle.dmc_core.specs.declared.event.CoreReply.TheVariants.{Stamped, Served, Counted}
+use Rattle.dmc_core.specs.declared.event.CoreReply.TheVariants.{Served}
 use Rattle.dmc_core.specs.declared.event.CoreFault.{CoreFault}
 use Rattle.dmc_core.specs.declared.event.CoreFault.TheVariants.{Memory}
 

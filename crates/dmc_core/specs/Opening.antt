@@ -1,5 +1,5 @@
 -- How a cluster opens for a scene.
-use Rattle.std.specs.Prelude.{◌≡◌, ℕ, All, IsOk, List, [], map, replicate}
+use Rattle.std.specs.Prelude.{ℕ, All, IsOk, map, replicate}
 use Rattle.dmc_types.specs.Values.{Rates}
 use Rattle.dmc_types.specs.declared.ids.ClientId.{ClientId}
 use Rattle.dmc_types.specs.declared.config.Counting.{Counting}

@@ -1,4 +1,4 @@
-use Rattle.std.proofs.Common.{rules, map, Ok, Err, ◌≡◌}
+use Rattle.std.proofs.Common.{rules, map, Ok, Err}
 use Rattle.dmc_tag.proofs.ForCallers.{tag_order}
 use Rattle.dmc_pull.specs.Allowed.{PullsIf}
 use Rattle.dmc_pull.specs.declared.granting.PullFault.TheVariants as faults

@@ -1,4 +1,4 @@
-use Rattle.std.proofs.Common.{◌≡◌, ℕ, ◌++◌, ◌∷◌, [], List, map, replicate, refl, ap, ◌∙◌, arith}
+use Rattle.std.proofs.Common.{ℕ, ◌++◌, ◌∷◌, [], List, map, replicate, refl, ap, ◌∙◌, arith}
 use Rattle.std.proofs.lemmas.List.{map-append, replicate_more}
 use Rattle.dmc_core.specs.Run.{Pair, no_pair}
 use Rattle.dmc_core.specs.Parts.{pair_of}

@@ -1,4 +1,4 @@
-use Rattle.std.proofs.Common.{◌≡◌, ◌<◌, eqb, List, length, map, take, get_or, sym, ap, ◌∙◌}
+use Rattle.std.proofs.Common.{eqb, map, take, sym, ap, ◌∙◌}
 use Rattle.indexmap.specs.IndexSet.{insert_key}
 use Rattle.dmc_types.specs.declared.ids.ClientId.{ClientId}
 use Rattle.dmc_scene.specs.SceneValue.{ClientValue}

@@ -1,9 +1,8 @@
-use Rattle.std.proofs.Common.{◌≡◌, map, refl, sym, ap, ◌∙◌}
+use Rattle.std.proofs.Common.{map, ap, ◌∙◌}
 use Rattle.dmc_pull.specs.Queue.{state_of}
 use Rattle.dmc_tag.specs.State.{StandsFor}
 use Rattle.dmc_scene.specs.SceneValue.{ClientValue}
-use Rattle.dmc_core.specs.Opening.{opening_state, opening_client}
-use Rattle.dmc_core.specs.declared.server.CoreServer.{CoreServer}
+use Rattle.dmc_core.specs.Opening.{opening_state}
 use Rattle.dmc_core.proofs.Opened.{opened_servers, opened_clients, opened_kept}
 use Rattle.dmc_core.proofs.opening.open_cluster.Goals as goal
 

@@ -1,4 +1,4 @@
-use Rattle.std.proofs.Common.{◌≡◌, ◌+◌, List, [], ◌∷◌, ◌++◌, length, map, refl, sym, ap, ◌∙◌, arith, length-append}
+use Rattle.std.proofs.Common.{refl, ◌∙◌, arith, length-append}
 use Rattle.dmc_core.proofs.opening.open_servers.Goals as goal
 use Rattle.dmc_tag.proofs.Lists.{all_next}
 

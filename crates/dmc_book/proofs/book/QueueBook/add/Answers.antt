@@ -12,7 +12,7 @@ use Rattle.dmc_book.specs.BookState.{BookState, PassState, worker_side, worker_h
 use Rattle.dmc_book.specs.Consistent.{IsConsistent}
 use Rattle.dmc_book.specs.Calls.{added_reply, event_of, Ran}
 use Rattle.dmc_book.specs.Moves.{book_after}
-use Rattle.dmc_book.specs.Submits.{FindsDesk, IsAsked, Submits}
+use Rattle.dmc_book.specs.Submits.{FindsDesk, Submits}
 use Rattle.dmc_book.specs.declared.fault.SubmitCause.TheVariants as submit
 use Rattle.dmc_book.proofs.SubmitLemmas.{asked_at}
 use Rattle.dmc_book.proofs.Counting.{consistent_memory, consistent_more, reply_after, workers_within}

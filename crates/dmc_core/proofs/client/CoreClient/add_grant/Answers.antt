@@ -1,4 +1,4 @@
-use Rattle.std.proofs.Common.{◌≡◌, ◌≢◌, ℕ, ◌<◌, ◌+◌, length, map, refl, ap, sym, ◌∙◌, arith, rules, List}
+use Rattle.std.proofs.Common.{◌≢◌, ℕ, ◌<◌, ◌+◌, length, map, refl, ap, sym, ◌∙◌, arith, List}
 use Rattle.dmc_core.specs.Run.{Pair, pair_at, grants, with_grants, most_grants}
 use Rattle.dmc_core.specs.Core.{Held}
 use Rattle.dmc_core.specs.Parts.{pair_of}

@@ -1,8 +1,7 @@
-use Rattle.std.proofs.Common.{◌≡◌, ℕ, ◌<◌, ◌-◌, ◌==◌, length, map, refl, ap, sym, ◌∙◌, Ok, Err, arith, rules}
+use Rattle.std.proofs.Common.{ℕ, ◌<◌, ◌-◌, length, map, refl, ap, ◌∙◌, arith}
 use Rattle.std.proofs.lemmas.Bool.{eqb-true}
 use Rattle.std.proofs.lemmas.List.{length-map}
 use Rattle.dmc_core.specs.Run.{Pair, grants, with_grants}
-use Rattle.dmc_core.specs.Core.{Held}
 use Rattle.dmc_core.specs.Parts.{pair_of}
 use Rattle.dmc_core.proofs.Pairs.{pair_seen, pair_changed, pair_same}
 use Rattle.dmc_core.proofs.Clients.{false_unless, response-none, response-counted}

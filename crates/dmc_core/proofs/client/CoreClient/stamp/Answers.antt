@@ -1,8 +1,7 @@
-use Rattle.std.proofs.Common.{◌≡◌, ◌<◌, ◌++◌, ◌∷◌, [], length, map, refl, ap, sym, ◌∙◌, Ok, Err, arith, rules}
+use Rattle.std.proofs.Common.{◌<◌, ◌++◌, ◌∷◌, [], length, map, refl, ap, ◌∙◌, arith}
 use Rattle.std.proofs.lemmas.List.{length-map}
 use Rattle.dmc_core.specs.Run.{Pair, with_flight}
 use Rattle.dmc_core.specs.declared.event.Message.{Message}
-use Rattle.dmc_core.specs.Core.{Held}
 use Rattle.dmc_core.specs.Parts.{pair_of}
 use Rattle.dmc_core.proofs.Pairs.{pair_seen, pair_changed, pair_same, flight_keeps_grants, same_keeps_grants}
 use Rattle.dmc_core.proofs.Clients.{stamp-flight_full, stamp-refused, stamp-memory, stamp-sent}

@@ -1,4 +1,4 @@
-use Rattle.std.proofs.Common.{◌≡◌, ◌<◌, length, map, drop, refl, ap, sym, ◌∙◌, arith, rules, List}
+use Rattle.std.proofs.Common.{◌<◌, length, map, drop, ap, List}
 use Rattle.dmc_core.specs.Run.{Pair, with_flight}
 use Rattle.dmc_core.specs.Core.{Held}
 use Rattle.dmc_core.specs.Parts.{pair_of}

@@ -1,14 +1,10 @@
-use Rattle.std.proofs.Common.{◌≡◌, ◌≢◌, ℕ, ◌+◌, ◌-◌, ◌<◌, ◌≤◌, ◌==◌, length, map, set, get_or, slice_get, List, drop, Option, Some, None, Ok, Err, sym, ap, ◌∙◌, refl, subst, arith, rules}
+use Rattle.std.proofs.Common.{◌≡◌, ◌<◌, length, map, set, slice_get, drop, Some, None, sym, ap, ◌∙◌, refl, subst, arith}
 use Rattle.std.proofs.lemmas.List.{length-map, map-set}
 use Rattle.std.proofs.lemmas.Option.{get_or_from_slice_get, slice_get_read}
-use Rattle.dmc_types.specs.declared.config.Counting.{Counting}
 use Rattle.dmc_types.specs.declared.command.Command.TheVariants as commands
 use Rattle.dmc_tag.specs.Steps.{Steps}
-use Rattle.dmc_core.specs.Core.{Held, CoreValue, ClientFollows}
-use Rattle.dmc_core.specs.Events.{stamp, response, after_arrival}
-use Rattle.dmc_core.specs.Parts.{one_if_full, full_counts}
-use Rattle.dmc_core.specs.Run.{Pair, Client, pair_at, with_pair, with_flight, grants, with_grants, most_grants}
-use Rattle.dmc_core.specs.declared.event.CoreEvent.TheVariants as events
+use Rattle.dmc_core.specs.Core.{Held, CoreValue}
+use Rattle.dmc_core.specs.Run.{pair_at, with_pair, with_flight}
 use Rattle.dmc_core.specs.declared.server.CoreServer.{CoreServer}
 use Rattle.dmc_core.proofs.Pairs.{seen_map, flight_keeps_grants}
 use Rattle.dmc_core.proofs.Kept.{client_kept, server_kept}

@@ -1,15 +1,10 @@
-use Rattle.std.proofs.Common.{◌≡◌, ◌≢◌, ℕ, ◌+◌, ◌-◌, ◌<◌, ◌≤◌, ◌==◌, length, map, set, get_or, slice_get, List, Option, Some, None, Ok, Err, sym, ap, ◌∙◌, refl, subst, arith, rules}
+use Rattle.std.proofs.Common.{◌≡◌, ◌<◌, length, map, set, slice_get, List, Some, sym, ap, ◌∙◌, refl, arith}
 use Rattle.std.proofs.lemmas.List.{length-map, length-set, map-set}
 use Rattle.std.proofs.lemmas.Option.{get_or_from_slice_get, slice_get_read}
-use Rattle.dmc_types.specs.declared.config.Counting.{Counting}
-use Rattle.dmc_types.specs.declared.command.Command.TheVariants as commands
-use Rattle.dmc_core.specs.Core.{Held, CoreValue, ClientFollows}
-use Rattle.dmc_core.specs.Events.{stamp, response, after_arrival}
-use Rattle.dmc_core.specs.Parts.{one_if_full, full_counts}
-use Rattle.dmc_core.specs.Run.{Pair, Client, pair_at, with_pair, grants, with_grants, most_grants}
-use Rattle.dmc_core.specs.declared.event.CoreEvent.TheVariants as events
+use Rattle.dmc_core.specs.Core.{CoreValue}
+use Rattle.dmc_core.specs.Parts.{full_counts}
 use Rattle.dmc_core.specs.declared.server.CoreServer.{CoreServer}
-use Rattle.dmc_core.proofs.Pairs.{seen_map, flight_keeps_grants}
+use Rattle.dmc_core.proofs.Pairs.{seen_map}
 use Rattle.dmc_core.proofs.Kept.{known, server_kept}
 use Rattle.dmc_core.proofs.Pulls.{not_granted, pull_no_name, pull_full, pull_served}
 use Rattle.dmc_core.proofs.cluster.Cluster.pull.Goals as goal

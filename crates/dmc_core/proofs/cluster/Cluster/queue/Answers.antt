@@ -1,4 +1,4 @@
-use Rattle.std.proofs.Common.{◌≡◌, length, map, slice_get, refl}
+use Rattle.std.proofs.Common.{length, refl}
 use Rattle.std.proofs.lemmas.Option.{slice_get-map, slice_get_read}
 use Rattle.dmc_core.specs.declared.server.CoreServer.{CoreServer}
 use Rattle.dmc_core.proofs.cluster.Cluster.queue.Goals as goal

@@ -1,16 +1,13 @@
-use Rattle.std.proofs.Common.{◌≡◌, ◌≢◌, ℕ, ◌+◌, ◌-◌, ◌<◌, ◌≤◌, ◌==◌, length, map, set, get_or, slice_get, List, Option, Some, None, Ok, Err, sym, ap, ◌∙◌, refl, subst, arith, rules}
-use Rattle.std.proofs.lemmas.List.{length-map, map-set}
+use Rattle.std.proofs.Common.{◌≡◌, ℕ, ◌-◌, ◌<◌, length, map, Ok, sym, ap, ◌∙◌, refl, subst, arith}
+use Rattle.std.proofs.lemmas.List.{length-map}
 use Rattle.std.proofs.Math.Seq.{map-set_same}
 use Rattle.std.proofs.lemmas.Option.{get_or_from_slice_get, slice_get_read}
-use Rattle.dmc_types.specs.declared.config.Counting.{Counting}
-use Rattle.dmc_types.specs.declared.command.Command.TheVariants as commands
-use Rattle.dmc_core.specs.Core.{Held, CoreValue, ClientFollows}
-use Rattle.dmc_core.specs.Events.{stamp, response, after_arrival}
-use Rattle.dmc_core.specs.Parts.{one_if_full, full_counts}
-use Rattle.dmc_core.specs.Run.{Pair, Client, pair_at, with_pair, grants, with_grants, most_grants}
+use Rattle.dmc_core.specs.Core.{Held, ClientFollows}
+use Rattle.dmc_core.specs.Events.{response}
+use Rattle.dmc_core.specs.Parts.{one_if_full}
+use Rattle.dmc_core.specs.Run.{pair_at, grants, most_grants}
 use Rattle.dmc_core.specs.declared.event.CoreEvent.TheVariants as events
 use Rattle.dmc_core.specs.declared.server.CoreServer.{CoreServer}
-use Rattle.dmc_core.proofs.Pairs.{seen_map, flight_keeps_grants}
 use Rattle.dmc_core.proofs.Kept.{known, count_kept, count_changed, full_gone, full_not}
 use Rattle.dmc_core.proofs.Counts.{full_counts-part, one_if_full-part}
 use Rattle.dmc_core.proofs.Runs.{client_no_names, client_follows}

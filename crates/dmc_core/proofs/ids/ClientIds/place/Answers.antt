@@ -1,4 +1,4 @@
-use Rattle.std.proofs.Common.{◌≡◌, ◌<◌, length, slice_get, Some, sym, rules}
+use Rattle.std.proofs.Common.{sym}
 use Rattle.std.proofs.lemmas.Option.{slice_get_within}
 use Rattle.dmc_tag.proofs.Ids.{position_at}
 use Rattle.dmc_core.proofs.ids.ClientIds.place.Goals as goal

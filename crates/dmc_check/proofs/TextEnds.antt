@@ -57,6 +57,11 @@ module _ {T : Type 0} (ops : Tagging T) (made : ℤ → ℕ → Option T) where
   told_on (Ok x) old new event f = λ recorded h. told_holds recorded old new event f h
   told_on (Err e) old new event f = tt
 
+  -- before the hz line nothing is replayed
+  pub none_begun : (event : Event T) (recorded : Option (Recorded T)) → Holds ops recorded None → Holds ops (with_line recorded (event_lines.Event event)) None
+  none_begun event None h = tt
+  none_begun event (Some r) h = absurd h
+
   -- ---- lines
 
   abbrev takes : Checking T → List ℕ → List ℕ → Checking T → Type 0

@@ -17,7 +17,7 @@ use dmc_types::config::QueueConfig;
 use dmc_types::ids::WorkerId;
 
 /// What a line says.
-#[derive(Clone, Copy, Debug, PartialEq, Eq)]
+#[derive(Clone, Copy)]
 pub enum EventLine<T> {
     /// Nothing: it has no word, or its first begins with `#`.
     Skip,
@@ -28,7 +28,7 @@ pub enum EventLine<T> {
 }
 
 /// An event whose words are not read as numbers or tags yet.
-#[derive(Clone, Copy, Debug)]
+#[derive(Clone, Copy)]
 struct EventWords<'a> {
     worker: &'a [u8],
     command: CommandWords<'a>,

@@ -1,5 +1,5 @@
 //! Event texts are checked.
-ghost use Rattle.std.specs.Prelude.{◌≡◌, Option, List, Err, IfOk, OnOk, IsTrue, is_some};
+ghost use Rattle.std.specs.Prelude.{◌≡◌, Option, None, Some, List, [], Err, IfOk, OnOk, IsTrue, is_some};
 ghost use Rattle.dmc_text.specs.declared.cause.LineCause.{LineCause};
 ghost use Rattle.dmc_check.specs.EventLines.{event_of};
 ghost use Rattle.dmc_check.specs.EventTexts.{Recorded, with_line, verdict_text, ChecksAs};
@@ -14,6 +14,7 @@ use dmc_text::script::ScriptFault;
 use dmc_text::send::send;
 use dmc_text::tag::TagText;
 use dmc_text::walk::{TakesLines, Walk};
+use dmc_types::config::QueueConfig;
 use std::alloc::{AllocError, Global};
 use std::io::{Read, Write};
 
@@ -30,6 +31,13 @@ struct Checked {
     events: usize,
 }
 
+/// Begins a replay anew.
+fn begin<T: TagText>(alloc: Global, replay: &mut Option<Replay<T>>, config: QueueConfig)
+    ensures { Holds T.ops (Some (record { config = config; events = [] })) replay.new }
+{
+    *replay = Some(Replay::new(alloc, config));
+}
+
 /// Carries out what a line says.
 fn carry_out<T: TagText>(
     alloc: Global,
@@ -41,7 +49,7 @@ fn carry_out<T: TagText>(
     match line {
         EventLine::Skip => Ok(()),
         EventLine::Config(config) => {
-            *replay = Some(Replay::new(alloc, config));
+            begin(alloc, replay, config);
             Ok(())
         }
         EventLine::Event(event) => match replay {
@@ -129,6 +137,24 @@ fn write_verdict<W: Write>(
     Ok(checked.verdict)
 }
 
+/// Takes all lines of an event text in, from no event on, and writes the verdict.
+fn check_lines<T: TagText, R: Read, W: Write>(
+    alloc: Global,
+    checking: &mut Checking<T>,
+    reader: &mut R,
+    writer: &mut W,
+) -> Result<Verdict, ScriptFault>
+    requires { Holds T.ops None checking.old.replay }
+    ensures { ChecksAs T.ops T.made (R.remaining reader.old) (R.remaining reader.new) (W.contents writer.old) (W.contents writer.new) result }
+{
+    let Ok(mut walk) = Walk::new(alloc, 0) else {
+        return Err(ScriptFault::Memory);
+    };
+    let mut maker = alloc;
+    walk.run(checking, &mut maker, reader, writer)?;
+    write_verdict(alloc, checking.checked(), writer)
+}
+
 /// Checks an event text: each event is replayed over an indexed queue, and the verdict is written as a line, `replays N` of N
 /// events, or `differs I`. All of the text is read, also behind a difference. No event is kept.
 pub fn check_text<T: TagText, R: Read, W: Write>(
@@ -138,11 +164,6 @@ pub fn check_text<T: TagText, R: Read, W: Write>(
 ) -> Result<Verdict, ScriptFault>
     ensures { ChecksAs T.ops T.made (R.remaining reader.old) (R.remaining reader.new) (W.contents writer.old) (W.contents writer.new) result }
 {
-    let Ok(mut walk) = Walk::new(alloc, 0) else {
-        return Err(ScriptFault::Memory);
-    };
     let mut checking: Checking<T> = Checking { replay: None };
-    let mut maker = alloc;
-    walk.run(&mut checking, &mut maker, reader, writer)?;
-    write_verdict(alloc, checking.checked(), writer)
+    check_lines(alloc, &mut checking, reader, writer)
 }

@@ -1,10 +1,13 @@
--- One more event, and the end of the history.
-use Rattle.std.proofs.Common.{◌≡◌, ◌≤◌, ◌+◌, length, take, sym, subst, arith, Some, None}
+-- No event yet, one more, and the end of the history.
+use Rattle.std.proofs.Common.{rules, ◌≡◌, ◌≤◌, ◌+◌, length, take, sym, subst, arith, Some, None}
 use Rattle.std.specs.Prelude.{slice_get}
 use Rattle.dmc_check.specs.Verdicts.{IsVerdict, Stands}
 use Rattle.dmc_check.proofs.VerdictLemmas.{none_within, stands_next, verdict_is, replays_exactly}
 use Rattle.dmc_check.proofs.check.check.Goals.{in-Some+in_ok-add, in_default}
 use Rattle.dmc_check.proofs.check.check.Goals as goal
+
+pub loop-index-init : goal.loop-index-init
+loop-index-init g c = search rules
 
 pub loop-index-preserved : goal.loop-index-preserved
 loop-index-preserved g c =

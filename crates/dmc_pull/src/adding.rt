@@ -18,7 +18,7 @@ use dmc_tag::tag::Tag;
 use dmc_types::moment::Moment;
 
 /// What an add comes to: the key of its client, how far all others are shifted, and the new tags.
-#[derive(Clone, Copy, Debug)]
+#[derive(Clone, Copy)]
 pub struct Addition<T> {
     pub key: usize,
     pub shift: Option<T>,

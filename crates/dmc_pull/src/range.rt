@@ -8,7 +8,7 @@ use dmc_tag::tag::Tag;
 use dmc_types::moment::Moment;
 
 /// Two tags between which each P of a queue lies. It may be wider than need be.
-#[derive(Clone, Copy, Debug)]
+#[derive(Clone, Copy)]
 pub struct ShareRange<T> {
     pub least: T,
     pub greatest: T,

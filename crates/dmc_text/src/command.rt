@@ -27,7 +27,7 @@ pub enum Verb {
 }
 
 /// The words behind `client` or `update`.
-#[derive(Clone, Copy, Debug)]
+#[derive(Clone, Copy)]
 pub struct InfoWords<'a> {
     pub client: &'a [u8],
     pub reservation: &'a [u8],
@@ -37,7 +37,7 @@ pub struct InfoWords<'a> {
 }
 
 /// The words behind `add`.
-#[derive(Clone, Copy, Debug)]
+#[derive(Clone, Copy)]
 pub struct AddWords<'a> {
     pub client: &'a [u8],
     pub token: &'a [u8],
@@ -47,7 +47,7 @@ pub struct AddWords<'a> {
 }
 
 /// A command whose words are not read as numbers yet.
-#[derive(Clone, Copy, Debug)]
+#[derive(Clone, Copy)]
 pub enum CommandWords<'a> {
     Register(InfoWords<'a>),
     Update(InfoWords<'a>),

@@ -29,7 +29,7 @@ pub enum ReplyName {
 }
 
 /// The words behind `tags`.
-#[derive(Clone, Copy, Debug)]
+#[derive(Clone, Copy)]
 pub struct TagWords<'a> {
     pub r: &'a [u8],
     pub l: &'a [u8],
@@ -37,7 +37,7 @@ pub struct TagWords<'a> {
 }
 
 /// A reply whose words are not read as numbers or tags yet.
-#[derive(Clone, Copy, Debug)]
+#[derive(Clone, Copy)]
 pub enum ReplyWords<'a> {
     Registered,
     Updated,

@@ -1,3 +1,4 @@
+-- Answered here, so that a wrong body fails here.
 use Rattle.std.proofs.Common.{rules}
 use Rattle.dmc_check.proofs.replay.Replay.verdict.Goals as goal
 

@@ -1,0 +1,6 @@
+-- Answered here, so that a wrong body fails here.
+use Rattle.std.proofs.Common.{rules}
+use Rattle.dmc_ledger.proofs.book.Book.issue.Goals as goal
+
+pub invariant_of-self : goal.invariant_of-self
+invariant_of-self g c = search rules

@@ -19,3 +19,9 @@ returns-clause-ok c =
 
 pub returns-clause-stands : goal.returns-clause-stands
 returns-clause-stands c = rw (returns-clause-ok c) (Stands-new c.args.counting c.args.most c.args.servers)
+
+pub returns-in_err-servers-clause-limit : goal.returns-in_err-servers-clause-limit
+returns-in_err-servers-clause-limit g c = search rules
+
+pub returns-clause-limit : goal.returns-clause-limit
+returns-clause-limit g c = search rules

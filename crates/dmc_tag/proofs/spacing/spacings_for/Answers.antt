@@ -14,3 +14,6 @@ returns-clause-spacings g c =
     } in
     let e : spacings_of g.T.Tag.ops c.args.hz c.args.info ≡ Ok (record { r = c.in_ok-r.r; l = c.unwrap_or-l.result; p = c.in_ok-p.p }) = search rules in
     spacings_not_below g.T.Tag.ops g.T.Tag.fraction g.T.Tag.is_value g.met.T.Tag.exact c.args.hz c.args.info _ rates e
+
+pub returns-in_err-p-clause-value : goal.returns-in_err-p-clause-value
+returns-in_err-p-clause-value g c = search rules

@@ -1,4 +1,4 @@
-use Rattle.std.proofs.Common.{◌≡◌, ℕ, ◌<◌, List, [], length, get_or, map, refl, sym, ap, ◌∙◌, rules, arith, below_more, subst}
+use Rattle.std.proofs.Common.{◌≡◌, ℕ, ◌<◌, List, [], length, get_or, map, refl, sym, ap, ◌∙◌, arith, below_more, subst}
 use Rattle.std.proofs.lemmas.Bool.{false≢true}
 use Rattle.std.proofs.lemmas.List.{get_or-map, get_or_read, length-map}
 use Rattle.dmc_book.specs.BookState.{BookState, PassState, pass_state}
@@ -7,12 +7,31 @@ use Rattle.dmc_settle.specs.Checks.{AreServerParts}
 use Rattle.dmc_settle.specs.Places.{no_book, pass_states}
 use Rattle.dmc_settle.specs.Remains.{IsServerPart}
 use Rattle.dmc_settle.proofs.checks.are_server_parts.Goals as goal
+use Rattle.dmc_settle.proofs.checks.are_server_parts.Goals.{then-books-servers-via-then-books-servers, then-books-servers-via-else-books-servers+then-passes-servers}
+
+pub returns-then-books-servers : goal.returns-then-books-servers
+returns-then-books-servers g c = (
+  (λ e. cc),
+  (λ (all : AreServerParts c.args.scene.now c.args.books.now (map pass_states c.args.passes.now)). elim c.then-books-servers.branch [
+      then-books-servers-via-then-books-servers w ↦ absurd (w.if-books-servers.true (all.a_book_each ∙ sym c.servers-servers.ensures.value))
+    | then-books-servers-via-else-books-servers+then-passes-servers w ↦ absurd (w.if-passes-servers.true (sym (length-map c.args.passes.now (pass_states {S = g.row.S.Denot})) ∙ all.passes_each ∙ sym c.servers-servers.ensures.value))
+  ]),
+)
+
+pub loop-s-init : goal.loop-s-init
+loop-s-init g c = λ k none. absurd (omega (arith, none))
+
+pub bounds-books-s : goal.bounds-books-s
+bounds-books-s g c = omega (arith, c.loop-s-test.true, c.if-books-servers.false)
+
+pub bounds-passes-s : goal.bounds-passes-s
+bounds-passes-s g c = omega (arith, c.loop-s-test.true, c.if-passes-servers.false)
 
 pub returns-then-not-is_server_part : goal.returns-then-not-is_server_part
 returns-then-not-is_server_part g c =
     let s = c.loop-s.s in
-    let in_books : s < length c.args.books.now = search rules in
-    let in_passes : s < length c.args.passes.now = search rules in
+    let in_books : s < length c.args.books.now = omega (arith, c.loop-s-test.true, c.if-books-servers.false) in
+    let in_passes : s < length c.args.passes.now = omega (arith, c.loop-s-test.true, c.if-passes-servers.false) in
     let all_passes : List (List PassState) = map pass_states c.args.passes.now in
     let at = get_or_read c.args.books.now s c.index-books-s.result in_books c.index-books-s.is no_book in
     let at_passes : get_or all_passes s [] ≡ map pass_state c.deref.result.now =
@@ -28,8 +47,8 @@ returns-then-not-is_server_part g c =
 pub loop-s-preserved : goal.loop-s-preserved
 loop-s-preserved g c =
     let s = c.loop-s.s in
-    let in_books : s < length c.args.books.now = search rules in
-    let in_passes : s < length c.args.passes.now = search rules in
+    let in_books : s < length c.args.books.now = omega (arith, c.loop-s-test.true, c.if-books-servers.false) in
+    let in_passes : s < length c.args.passes.now = omega (arith, c.loop-s-test.true, c.if-passes-servers.false) in
     let all_passes : List (List PassState) = map pass_states c.args.passes.now in
     let at = get_or_read c.args.books.now s c.index-books-s.result in_books c.index-books-s.is no_book in
     let at_passes : get_or all_passes s [] ≡ map pass_state c.deref.result.now =
@@ -42,8 +61,8 @@ loop-s-preserved g c =
 
 pub returns : goal.returns
 returns g c =
-    let books_each : length c.args.books.now ≡ c.args.scene.now.servers = search rules in
-    let passes_each : length c.args.passes.now ≡ c.args.scene.now.servers = search rules in (
+    let books_each : length c.args.books.now ≡ c.args.scene.now.servers = c.if-books-servers.false ∙ c.servers-servers.ensures.value in
+    let passes_each : length c.args.passes.now ≡ c.args.scene.now.servers = c.if-passes-servers.false ∙ c.servers-servers.ensures.value in (
       (λ e. record {
         a_book_each = books_each;
         passes_each = length-map c.args.passes.now (pass_states {S = g.row.S.Denot}) ∙ passes_each;

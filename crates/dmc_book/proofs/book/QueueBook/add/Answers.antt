@@ -1,4 +1,4 @@
-use Rattle.std.proofs.Common.{rules, ℕ, ◌≡◌, ◌<◌, ◌≤◌, ◌^◌, ◌∙◌, ◌++◌, ◌∷◌, [], ap, false, map, length, refl, sym, subst, Some, Ok, Err, arith}
+use Rattle.std.proofs.Common.{ℕ, ◌≡◌, ◌<◌, ◌≤◌, ◌^◌, ◌∙◌, ◌++◌, ◌∷◌, [], ap, false, map, length, refl, sym, subst, Some, Ok, Err, arith}
 use Rattle.dmc_types.specs.Values.{Params}
 use Rattle.dmc_types.specs.declared.ids.ClientId.{ClientId}
 use Rattle.dmc_types.specs.declared.command.Command.{Command}
@@ -21,14 +21,14 @@ use Rattle.dmc_book.proofs.book.QueueBook.add.Goals as goal
 
 pub count-requires-clause-fits : goal.count-requires-clause-fits
 count-requires-clause-fits g c =
-    let fewer : length c.self.inside.history.events < c.self.inside.history.most = search rules in
+    let fewer : length c.self.inside.history.events < c.self.inside.history.most = c.in_ok-reserve_one.ensures.fewer in
     let limit : c.self.inside.history.most ≤ 2 ^ 30 = c.self.invariant.0.limit in
     let below : length c.self.inside.history.events < 2 ^ 30 = omega (arith, fewer, limit) in
     workers_within c.self.inside.history.events below (map worker_side c.self.inside.workers.items) c.self.invariant.0.workers
 
 pub count-requires-in-Refused-clause-fits : goal.count-requires-in-Refused-clause-fits
 count-requires-in-Refused-clause-fits g c =
-    let fewer : length c.self.inside.history.events < c.self.inside.history.most = search rules in
+    let fewer : length c.self.inside.history.events < c.self.inside.history.most = c.in_ok-reserve_one.ensures.fewer in
     let limit : c.self.inside.history.most ≤ 2 ^ 30 = c.self.invariant.0.limit in
     let below : length c.self.inside.history.events < 2 ^ 30 = omega (arith, fewer, limit) in
     workers_within c.self.inside.history.events below (map worker_side c.self.inside.workers.items) c.self.invariant.0.workers
@@ -86,9 +86,9 @@ returns-in-Tagged g c =
     } in
     let client_is = ap (λ (n : ℕ). let k : ClientId = record { 0 = n } in k) c.client-client.ensures in
     let command_is = ap (λ (k : ClientId). Add k c.args.token c.params-params.result c.args.at) client_is ∙ ap (λ (p : Params). Add (record { 0 = c.args.stamp.now.client }) c.args.token p c.args.at) c.params-params.ensures in
-    let found : FindsDesk c.self.inside.server.0 (map worker_side c.self.inside.workers.items) (map client_side c.self.inside.desks.items) (pass_state c.args.pass.now) c.args.stamp.now (stamp_holdings c.args.tills.now) (Some c.in-Some.desk) = search rules in
-    let is_open : c.self.inside.closed ≡ false = search rules in
-    let fewer : length c.self.inside.history.events < c.self.inside.history.most = search rules in
+    let found : FindsDesk c.self.inside.server.0 (map worker_side c.self.inside.workers.items) (map client_side c.self.inside.desks.items) (pass_state c.args.pass.now) c.args.stamp.now (stamp_holdings c.args.tills.now) (Some c.in-Some.desk) = rw (c.deref.ensures.value, c.deref-2.ensures.value) at c.in-Some.ensures in
+    let is_open : c.self.inside.closed ≡ false = c.if-self.false in
+    let fewer : length c.self.inside.history.events < c.self.inside.history.most = c.in_ok-reserve_one.ensures.fewer in
     let is_asked = asked_at b (pass_state c.args.pass.now) c.args.stamp.now (stamp_holdings c.args.tills.now) c.in-Some.desk found is_open fewer in
     subst (λ (a : BookState g.row.T.Denot). Submits g.T.Tag.ops a new (pass_state c.args.pass.now) later c.args.stamp.now (stamp_holdings c.args.tills.now) (stamp_holdings c.take_in.new.tills) c.args.token c.args.at (Ok c.in-Tagged.tags)) c.self.view_is
     (subst (λ (d : Command). Ran g.T.Tag.ops b new (pass_state c.args.pass.now) later d (Tagged c.in-Tagged.tags)) command_is ran, c.take_in.ensures.tills ∙ ap (λ p. tills_after_submit p (stamp_holdings c.args.tills.now)) c.params-params.ensures, is_asked)
@@ -111,9 +111,9 @@ returns-in-Refused g c =
     } in
     let client_is = ap (λ (n : ℕ). let k : ClientId = record { 0 = n } in k) c.client-client.ensures in
     let command_is = ap (λ (k : ClientId). Add k c.args.token c.params-params.result c.args.at) client_is ∙ ap (λ (p : Params). Add (record { 0 = c.args.stamp.now.client }) c.args.token p c.args.at) c.params-params.ensures in
-    let found : FindsDesk c.self.inside.server.0 (map worker_side c.self.inside.workers.items) (map client_side c.self.inside.desks.items) (pass_state c.args.pass.now) c.args.stamp.now (stamp_holdings c.args.tills.now) (Some c.in-Some.desk) = search rules in
-    let is_open : c.self.inside.closed ≡ false = search rules in
-    let fewer : length c.self.inside.history.events < c.self.inside.history.most = search rules in
+    let found : FindsDesk c.self.inside.server.0 (map worker_side c.self.inside.workers.items) (map client_side c.self.inside.desks.items) (pass_state c.args.pass.now) c.args.stamp.now (stamp_holdings c.args.tills.now) (Some c.in-Some.desk) = rw (c.deref.ensures.value, c.deref-2.ensures.value) at c.in-Some.ensures in
+    let is_open : c.self.inside.closed ≡ false = c.if-self.false in
+    let fewer : length c.self.inside.history.events < c.self.inside.history.most = c.in_ok-reserve_one.ensures.fewer in
     let is_asked = asked_at b (pass_state c.args.pass.now) c.args.stamp.now (stamp_holdings c.args.tills.now) c.in-Some.desk found is_open fewer in
     subst (λ (a : BookState g.row.T.Denot). Submits g.T.Tag.ops a new (pass_state c.args.pass.now) later c.args.stamp.now (stamp_holdings c.args.tills.now) (stamp_holdings c.args.tills.now) c.args.token c.args.at (Err (submit.Refused c.in-Refused.refusal))) c.self.view_is
     (subst (λ (d : Command). Ran g.T.Tag.ops b new (pass_state c.args.pass.now) later d (Refused c.in-Refused.refusal)) command_is ran, refl, is_asked)
@@ -124,9 +124,9 @@ returns-in-Memory g c =
     let events : c.reserve_one.new.self.events ≡ c.self.inside.history.events = c.reserve_one.ensures.events in
     let most : c.reserve_one.new.self.most ≡ c.self.inside.history.most = c.reserve_one.ensures.most in
     let new : BookState g.row.T.Denot = state_of c.self.inside.config c.self.inside.server.0 c.reserve_one.new.self (map worker_side c.self.inside.workers.items) (map client_side c.self.inside.desks.items) c.self.inside.closed in
-    let found : FindsDesk c.self.inside.server.0 (map worker_side c.self.inside.workers.items) (map client_side c.self.inside.desks.items) (pass_state c.args.pass.now) c.args.stamp.now (stamp_holdings c.args.tills.now) (Some c.in-Some.desk) = search rules in
-    let is_open : c.self.inside.closed ≡ false = search rules in
-    let fewer : length c.self.inside.history.events < c.self.inside.history.most = search rules in
+    let found : FindsDesk c.self.inside.server.0 (map worker_side c.self.inside.workers.items) (map client_side c.self.inside.desks.items) (pass_state c.args.pass.now) c.args.stamp.now (stamp_holdings c.args.tills.now) (Some c.in-Some.desk) = rw (c.deref.ensures.value, c.deref-2.ensures.value) at c.in-Some.ensures in
+    let is_open : c.self.inside.closed ≡ false = c.if-self.false in
+    let fewer : length c.self.inside.history.events < c.self.inside.history.most = c.in_ok-reserve_one.ensures.fewer in
     let is_asked = asked_at b (pass_state c.args.pass.now) c.args.stamp.now (stamp_holdings c.args.tills.now) c.in-Some.desk found is_open fewer in
     subst (λ (a : BookState g.row.T.Denot). Submits g.T.Tag.ops a new (pass_state c.args.pass.now) (pass_state c.args.pass.now) c.args.stamp.now (stamp_holdings c.args.tills.now) (stamp_holdings c.args.tills.now) c.args.token c.args.at (Err submit.Memory)) c.self.view_is
     ((rw (events, most) refl, refl), refl, is_asked)

@@ -1,4 +1,4 @@
-use Rattle.std.proofs.Common.{rules, ◌≡◌, ◌<◌, ◌≤◌, ◌^◌, ◌∙◌, ◌++◌, ◌∷◌, [], ap, map, length, refl, sym, subst, arith, List, Ok, Err}
+use Rattle.std.proofs.Common.{◌≡◌, ◌<◌, ◌≤◌, ◌^◌, ◌∙◌, ◌++◌, ◌∷◌, [], ap, map, length, refl, sym, subst, arith, List, Ok, Err}
 use Rattle.std.specs.Prelude.{◌↔◌}
 use Rattle.std.specs.Arc.{arc_value}
 use Rattle.dmc_history.specs.declared.ReserveFault.TheVariants as reserve
@@ -23,7 +23,7 @@ use Rattle.dmc_book.proofs.book.QueueBook.hand_on.Goals as goal
 
 pub returns-then-lacks_desk_for : goal.returns-then-lacks_desk_for
 returns-then-lacks_desk_for g c =
-    let enrolled : IsEnrolled (map worker_side c.self.inside.workers.items) (pass_state c.args.pass.now) = search rules in
+    let enrolled : IsEnrolled (map worker_side c.self.inside.workers.items) (pass_state c.args.pass.now) = rw (c.deref.ensures.value) at (c.if-not-is_enrolled.ensures.0 refl) in
     let lacks = sym (lacks_agree c.self.inside.clients.keys c.self.inside.desks.items c.self.invariant.1 c.args.command) ∙ sym c.lacks_desk_for.ensures ∙ c.if-lacks_desk_for.true in
     subst (λ (a : BookState g.row.T.Denot). Runs g.T.Tag.ops a (pass_state c.args.pass.now) c.args.command a (pass_state c.args.pass.now) (Err run.NoDesk)) c.self.view_is
     (refl, refl, enrolled, lacks)
@@ -31,7 +31,7 @@ returns-then-lacks_desk_for g c =
 pub returns-in_err-reserve_one : goal.returns-in_err-reserve_one
 returns-in_err-reserve_one g c =
     let b : BookState g.row.T.Denot = state_of c.self.inside.config c.self.inside.server.0 c.self.inside.history (map worker_side c.self.inside.workers.items) (map client_side c.self.inside.desks.items) c.self.inside.closed in
-    let enrolled : IsEnrolled (map worker_side c.self.inside.workers.items) (pass_state c.args.pass.now) = search rules in
+    let enrolled : IsEnrolled (map worker_side c.self.inside.workers.items) (pass_state c.args.pass.now) = rw (c.deref.ensures.value) at (c.if-not-is_enrolled.ensures.0 refl) in
     let lacks = sym (lacks_agree c.self.inside.clients.keys c.self.inside.desks.items c.self.invariant.1 c.args.command) ∙ sym c.lacks_desk_for.ensures ∙ c.if-lacks_desk_for.false in
     let new : BookState g.row.T.Denot = state_of c.self.inside.config c.self.inside.server.0 c.reserve_one.new.self (map worker_side c.self.inside.workers.items) (map client_side c.self.inside.desks.items) c.self.inside.closed in
     let x = c.in_err-reserve_one.field-0.0 in
@@ -47,7 +47,7 @@ pub invariant_of-self-in_err-reply : goal.invariant_of-self-in_err-reply
 invariant_of-self-in_err-reply g c =
     let asks = takes (map client_side c.self.inside.desks.items) (arc_value c.args.pass.now.clients).keys (map grant_holdings c.args.pass.now.units.items) in
     let order = tag_order g.T.Ord.cmp g.T.Tag.ops.compare g.met.T.Ord.total g.met.T.Tag.compares in
-    let desks_are : c.deref-2.result.now ≡ c.self.inside.desks.items = search rules in
+    let desks_are : c.deref-2.result.now ≡ c.self.inside.desks.items = c.deref-2.ensures.value in
     let answer = subst (λ ds. Asks g.T.Tag.ops (takes (map client_side ds) (arc_value c.args.pass.now.clients).keys (map grant_holdings c.args.pass.now.units.items)) (queue.state_of c.self.inside.queue.0) (queue.state_of c.ask.new.queue) c.args.command c.ask.result) desks_are c.ask.ensures in
     let asked = subst (Asks g.T.Tag.ops asks (queue.state_of c.self.inside.queue.0) (queue.state_of c.ask.new.queue) c.args.command) c.in_err-reply.was answer in
     rw (c.reserve_one.ensures.events, c.reserve_one.ensures.most) (
@@ -58,13 +58,13 @@ invariant_of-self-in_err-reply g c =
 pub returns-in_err-reply : goal.returns-in_err-reply
 returns-in_err-reply g c =
     let b : BookState g.row.T.Denot = state_of c.self.inside.config c.self.inside.server.0 c.self.inside.history (map worker_side c.self.inside.workers.items) (map client_side c.self.inside.desks.items) c.self.inside.closed in
-    let enrolled : IsEnrolled (map worker_side c.self.inside.workers.items) (pass_state c.args.pass.now) = search rules in
+    let enrolled : IsEnrolled (map worker_side c.self.inside.workers.items) (pass_state c.args.pass.now) = rw (c.deref.ensures.value) at (c.if-not-is_enrolled.ensures.0 refl) in
     let lacks = sym (lacks_agree c.self.inside.clients.keys c.self.inside.desks.items c.self.invariant.1 c.args.command) ∙ sym c.lacks_desk_for.ensures ∙ c.if-lacks_desk_for.false in
     let new : BookState g.row.T.Denot = state_of c.self.inside.config c.self.inside.server.0 c.reserve_one.new.self (map worker_side c.self.inside.workers.items) (map client_side c.self.inside.desks.items) c.self.inside.closed in
     let asks = takes (map client_side c.self.inside.desks.items) (arc_value c.args.pass.now.clients).keys (map grant_holdings c.args.pass.now.units.items) in
     let order = tag_order g.T.Ord.cmp g.T.Tag.ops.compare g.met.T.Ord.total g.met.T.Tag.compares in
     let is = err_is c.from_residual-in_err-reply.result _ c.from_residual-in_err-reply.ensures.1 in
-    let desks_are : c.deref-2.result.now ≡ c.self.inside.desks.items = search rules in
+    let desks_are : c.deref-2.result.now ≡ c.self.inside.desks.items = c.deref-2.ensures.value in
     let answer = subst (λ ds. Asks g.T.Tag.ops (takes (map client_side ds) (arc_value c.args.pass.now.clients).keys (map grant_holdings c.args.pass.now.units.items)) (queue.state_of c.self.inside.queue.0) (queue.state_of c.ask.new.queue) c.args.command c.ask.result) desks_are c.ask.ensures in
     let asked = subst (Asks g.T.Tag.ops asks (queue.state_of c.self.inside.queue.0) (queue.state_of c.ask.new.queue) c.args.command) c.in_err-reply.was answer in
     let same : new ≡ b = rw (c.reserve_one.ensures.events, c.reserve_one.ensures.most) refl in
@@ -92,7 +92,7 @@ invariant_of-self-2 g c =
     let e = event_of c.args.pass.now.worker.0 c.args.command c.in_ok-reply.reply in
     let events : c.record.new.history.events ≡ c.self.inside.history.events ++ e ∷ [] = c.record.ensures.events ∙ ap (λ es. es ++ e ∷ []) c.in_ok-reserve_one.ensures.events in
     let most : c.record.new.history.most ≡ c.self.inside.history.most = c.record.ensures.most ∙ c.in_ok-reserve_one.ensures.most in
-    let desks_are : c.deref-2.result.now ≡ c.self.inside.desks.items = search rules in
+    let desks_are : c.deref-2.result.now ≡ c.self.inside.desks.items = c.deref-2.ensures.value in
     let has_desk = subst (λ (ds : List (ClientDesk g.row.S.Denot)). HasDesk (map client_side ds) (grant_in c.in_ok-reply.reply)) desks_are
     (taken_has_desk (map client_side c.deref-2.result.now) (arc_value c.args.pass.now.clients).keys (map grant_holdings c.args.pass.now.units.items) c.in_ok-reply.reply c.in_ok-reply.ensures.1) in
     rw (events, most, c.record.ensures.workers, c.record.ensures.desks) (
@@ -102,8 +102,8 @@ invariant_of-self-2 g c =
 
 pub returns : goal.returns
 returns g c =
-    let desks_are : c.deref-2.result.now ≡ c.self.inside.desks.items = search rules in
-    let enrolled : IsEnrolled (map worker_side c.self.inside.workers.items) (pass_state c.args.pass.now) = search rules in
+    let desks_are : c.deref-2.result.now ≡ c.self.inside.desks.items = c.deref-2.ensures.value in
+    let enrolled : IsEnrolled (map worker_side c.self.inside.workers.items) (pass_state c.args.pass.now) = rw (c.deref.ensures.value) at (c.if-not-is_enrolled.ensures.0 refl) in
     let lacks = sym (lacks_agree c.self.inside.clients.keys c.self.inside.desks.items c.self.invariant.1 c.args.command) ∙ sym c.lacks_desk_for.ensures ∙ c.if-lacks_desk_for.false in
     let order = tag_order g.T.Ord.cmp g.T.Tag.ops.compare g.met.T.Ord.total g.met.T.Tag.compares in
     let asks = takes (map client_side c.self.inside.desks.items) (arc_value c.args.pass.now.clients).keys (map grant_holdings c.args.pass.now.units.items) in

@@ -1,12 +1,13 @@
-use Rattle.std.proofs.Common.{◌≡◌, List, length, map, drop, sym, subst, ap, ◌∙◌, rules}
+use Rattle.std.proofs.Common.{◌≡◌, List, length, map, drop, refl, sym, subst, ap, ◌∙◌, arith, rules}
 use Rattle.std.specs.List.{AllByRecursion}
+use Rattle.std.proofs.lemmas.List.{length-map}
 use Rattle.dmc_ledger.specs.Bundles.{ClientSide, client_side}
 use Rattle.dmc_ledger.specs.declared.desk.ClientDesk.{ClientDesk}
 use Rattle.dmc_tag.specs.Replay.{after}
 use Rattle.dmc_tag.proofs.ForCallers.{as_many_requests}
 use Rattle.dmc_pull.specs.Queue.{state_of}
-use Rattle.dmc_book.specs.BookState.{WorkerSide, pass_state, worker_side}
-use Rattle.dmc_book.specs.Settling.{AreOneOpen, ArePassesTakenIn, closed_worker}
+use Rattle.dmc_book.specs.BookState.{BookState, WorkerSide, pass_state, worker_side}
+use Rattle.dmc_book.specs.Settling.{AreOneOpen, AreOwn, ArePassesTakenIn, closed_worker}
 use Rattle.dmc_book.specs.declared.seat.Seat.{Seat}
 use Rattle.dmc_book.proofs.GrantLemmas.{grants_of_desks}
 use Rattle.dmc_book.proofs.OpeningLemmas.{consistent_empty}
@@ -21,6 +22,11 @@ take_passes-requires-clause-one_open g c =
     subst (λ (ws : List (Seat g.row.S.Denot)). AllByRecursion (λ (w : WorkerSide). AreOneOpen w.books) (map worker_side ws)) (sym same)
     (one_open here.history.events (map worker_side here.workers.items) c.self.invariant.0.workers)
 
+pub take_passes-requires-clause-own : goal.take_passes-requires-clause-own
+take_passes-requires-clause-own g c =
+    let own = subst (λ (b : BookState g.row.T.Denot). AreOwn b.workers b.desks (map pass_state c.args.passes.items)) (sym c.self.view_is) c.requires.own in
+    rw (c.deref_mut.ensures.value, c.deref_mut-2.ensures.value) own
+
 pub invariant_of-self : goal.invariant_of-self
 invariant_of-self g c =
     let here = c.self.inside in
@@ -29,11 +35,34 @@ invariant_of-self g c =
       c.new-2.ensures.empty,
     )
 
+pub returns-clause-history : goal.returns-clause-history
+returns-clause-history g c = ap (λ h. h.events) c.take.ensures.value ∙ ap (λ b. b.history) c.self.view_is
+
+pub returns-clause-few : goal.returns-clause-few
+returns-clause-few g c = omega (arith, c.take.ensures.within, c.take.ensures.limit)
+
+pub returns-clause-replays : goal.returns-clause-replays
+returns-clause-replays g c = rw (c.take.ensures.value, ← c.self.view_is) c.self.invariant.0.replaying
+
 pub returns-clause-left : goal.returns-clause-left
 returns-clause-left g c =
     let here = c.self.inside in
     let requests = as_many_requests (state_of here.queue.0) (after g.T.Tag.ops here.config here.history.events) c.self.invariant.0.stands in
     rw (← c.self.view_is) (c.request_count-left.ensures ∙ requests)
+
+pub returns-clause-emptied : goal.returns-clause-emptied
+returns-clause-emptied g c = rw (← c.self.view_is, c.take.ensures.empty, c.replace.ensures.after, c.replace-2.ensures.after, c.new-3.ensures.items, c.new-4.ensures.items) refl
+
+pub returns-clause-workers : goal.returns-clause-workers
+returns-clause-workers g c =
+    let here = c.self.inside in
+    let f : Seat g.row.S.Denot → WorkerSide = worker_side in
+    let new = c.take_passes.new.workers in
+    let same : c.deref_mut.result.now ≡ here.workers.items = c.deref_mut.ensures.value in
+    let closed : map f new ≡ map closed_worker (map f here.workers.items) = c.take_passes.ensures.workers ∙ ap (λ (ws : List (Seat g.row.S.Denot)). map closed_worker (map f ws)) same in
+    let as_many : length new ≡ length here.workers.items = sym (length-map new f) ∙ ap length closed ∙ length-map (map f here.workers.items) closed_worker ∙ length-map here.workers.items f in
+    let back = lent_back new (drop (length new) here.workers.items) here.workers.len (as_many ∙ sym here.workers.ok.0) in
+    rw (← c.self.view_is, c.replace.ensures.value, back) closed
 
 pub returns-clause-counts : goal.returns-clause-counts
 returns-clause-counts g c =
@@ -41,9 +70,9 @@ returns-clause-counts g c =
     let f : Seat g.row.S.Denot → WorkerSide = worker_side in
     let new = c.take_passes.new.workers in
     let same : c.deref_mut.result.now ≡ here.workers.items = c.deref_mut.ensures.value in
-    let as_many : length new ≡ length here.workers.items = search rules in
-    let back = lent_back new (drop (length new) here.workers.items) here.workers.len (as_many ∙ sym here.workers.ok.0) in
     let closed : map f new ≡ map closed_worker (map f here.workers.items) = c.take_passes.ensures.workers ∙ ap (λ (ws : List (Seat g.row.S.Denot)). map closed_worker (map f ws)) same in
+    let as_many : length new ≡ length here.workers.items = sym (length-map new f) ∙ ap length closed ∙ length-map (map f here.workers.items) closed_worker ∙ length-map here.workers.items f in
+    let back = lent_back new (drop (length new) here.workers.items) here.workers.len (as_many ∙ sym here.workers.ok.0) in
     rw (← c.self.view_is, c.replace.ensures.value, back, closed) (settled_workers here.history.events (map f here.workers.items) c.self.invariant.0.workers)
 
 pub returns-clause-desks : goal.returns-clause-desks

@@ -1,14 +1,18 @@
 -- Why a submit was refused.
-use Rattle.std.proofs.Common.{ℕ, ◌≡◌, ◌<◌, true, false, true≢false, length, refl, sym, ◌∙◌, Some, arith}
+use Rattle.std.proofs.Common.{ℕ, ◌≡◌, ◌<◌, true, false, true≢false, length, refl, sym, ◌∙◌, Some, Err, arith}
 use Rattle.std.specs.Prelude.{◌↔◌}
+use Rattle.dmc_types.specs.declared.ids.Token.{Token}
+use Rattle.dmc_tag.specs.Tag.{Tagging}
+use Rattle.dmc_history.specs.declared.ReserveFault.{ReserveFault}
+use Rattle.dmc_history.specs.declared.ReserveFault.TheVariants as reserve
 use Rattle.dmc_ledger.specs.Bundles.{StampHoldings}
 use Rattle.dmc_tlock.specs.BookState.{StampValue}
 use Rattle.dmc_book.specs.declared.fault.SubmitCause.{SubmitCause}
 use Rattle.dmc_book.specs.declared.fault.SubmitCause.TheVariants as submit
 use Rattle.dmc_book.specs.BookState.{BookState, PassState}
-use Rattle.dmc_book.specs.Calls.{IsForDesk}
+use Rattle.dmc_book.specs.Calls.{IsForDesk, submit_cause}
 use Rattle.dmc_book.specs.Moves.{IsEnrolled}
-use Rattle.dmc_book.specs.Submits.{FindsDesk, HasCause, IsAsked}
+use Rattle.dmc_book.specs.Submits.{FindsDesk, HasCause, IsAsked, Submits}
 
 module _ {T : Type 0} (b : BookState T) (p : PassState) (stamp : StampValue) (tills : StampHoldings) where
   abbrev Enrolled : Type 0
@@ -22,6 +26,15 @@ module _ {T : Type 0} (b : BookState T) (p : PassState) (stamp : StampValue) (ti
 
   pub asked_at : (place : ℕ) → FindsDesk b.server b.workers b.desks p stamp tills (Some place) → b.closed ≡ false → length b.history < b.most → IsAsked b p stamp tills
   asked_at place found is_open fewer = (found.0, (at_desk place found).1, is_open, λ full. omega (arith, fewer, full))
+
+  -- no place was reserved
+  pub unreserved : (ops : Tagging T) (token : Token) (at place : ℕ) → FindsDesk b.server b.workers b.desks p stamp tills (Some place) → b.closed ≡ false
+      → (x : ReserveFault) → (x ≡ reserve.HistoryFull) ↔ (length b.history ≡ b.most) → Submits ops b b p p stamp tills tills token at (Err (submit_cause x))
+  unreserved ops token at place found is_open reserve.HistoryFull full = ((refl, refl), refl, (found.0, (at_desk place found).1, is_open, full.0 refl))
+  unreserved ops token at place found is_open reserve.Memory full = ((refl, refl), refl, (found.0, (at_desk place found).1, is_open, λ f. absurd (memory_is_not_full (full.1 f))))
+    where
+      memory_is_not_full : reserve.Memory ≡ reserve.HistoryFull → ⊥
+      memory_is_not_full e = absurd cc
 
   pub is_stranger : (cause : SubmitCause) → HasCause b p stamp tills cause → (cause ≡ submit.Stranger) ↔ (Enrolled × AtDesk → ⊥)
   is_stranger submit.Stranger h = (λ e. h, λ k. refl)

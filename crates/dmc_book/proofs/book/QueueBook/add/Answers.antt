@@ -1,23 +1,111 @@
-use Rattle.std.proofs.Common.{ℕ, ◌≡◌, ◌<◌, ◌≤◌, ◌^◌, ◌∙◌, ◌++◌, ◌∷◌, [], ap, false, map, length, refl, sym, subst, Some, Ok, Err, arith}
+use Rattle.std.proofs.Common.{Result, ℕ, ◌≡◌, ◌<◌, ◌≤◌, ◌^◌, ◌∙◌, ◌++◌, ◌∷◌, [], ap, false, map, length, refl, sym, subst, Some, Ok, Err, arith}
+use Rattle.std.specs.Prelude.{◌↔◌}
+use Rattle.std.proofs.lemmas.List.{length-map}
 use Rattle.dmc_types.specs.Values.{Params}
 use Rattle.dmc_types.specs.declared.ids.ClientId.{ClientId}
 use Rattle.dmc_types.specs.declared.command.Command.{Command}
 use Rattle.dmc_types.specs.declared.command.Command.TheVariants.{Add}
 use Rattle.dmc_tag.specs.Steps.{Steps}
 use Rattle.dmc_tag.specs.declared.reply.Reply.TheVariants.{Tagged, Refused}
+use Rattle.dmc_tag.specs.declared.reply.Tags.{Tags}
+use Rattle.dmc_tag.proofs.Options.{err_is}
+use Rattle.dmc_history.specs.declared.ReserveFault.TheVariants as reserve
 use Rattle.dmc_ledger.specs.Bundles.{client_side, stamp_holdings}
 use Rattle.dmc_ledger.specs.Moves.{tills_after_submit}
 use Rattle.dmc_pull.specs.Queue as queue
 use Rattle.dmc_book.specs.BookState.{BookState, PassState, worker_side, worker_holdings, state_of, pass_state}
 use Rattle.dmc_book.specs.Consistent.{IsConsistent}
 use Rattle.dmc_book.specs.Calls.{added_reply, event_of, Ran}
-use Rattle.dmc_book.specs.Moves.{book_after}
+use Rattle.dmc_book.specs.Moves.{book_after, desk_place}
 use Rattle.dmc_book.specs.Submits.{FindsDesk, Submits}
+use Rattle.dmc_book.specs.declared.fault.SubmitCause.{SubmitCause}
 use Rattle.dmc_book.specs.declared.fault.SubmitCause.TheVariants as submit
-use Rattle.dmc_book.proofs.SubmitLemmas.{asked_at}
+use Rattle.dmc_book.proofs.Causes.{same_cause}
+use Rattle.dmc_book.proofs.SubmitLemmas.{asked_at, at_desk, unreserved}
 use Rattle.dmc_book.proofs.Counting.{consistent_memory, consistent_more, reply_after, workers_within}
 use Rattle.dmc_book.proofs.DeskLemmas.{all_stay}
 use Rattle.dmc_book.proofs.book.QueueBook.add.Goals as goal
+
+pub returns-then-self : goal.returns-then-self
+returns-then-self g c =
+    let b : BookState g.row.T.Denot = state_of c.self.inside.config c.self.inside.server.0 c.self.inside.history (map worker_side c.self.inside.workers.items) (map client_side c.self.inside.desks.items) c.self.inside.closed in
+    let found : FindsDesk c.self.inside.server.0 (map worker_side c.self.inside.workers.items) (map client_side c.self.inside.desks.items) (pass_state c.args.pass.now) c.args.stamp.now (stamp_holdings c.args.tills.now) (Some c.in-Some.desk) = rw (c.deref.ensures.value, c.deref-2.ensures.value) at c.in-Some.ensures in
+    let here = at_desk b (pass_state c.args.pass.now) c.args.stamp.now (stamp_holdings c.args.tills.now) c.in-Some.desk found in
+    subst (λ (a : BookState g.row.T.Denot). Submits g.T.Tag.ops a a (pass_state c.args.pass.now) (pass_state c.args.pass.now) c.args.stamp.now (stamp_holdings c.args.tills.now) (stamp_holdings c.args.tills.now) c.args.token c.args.at (Err submit.Closed)) c.self.view_is
+    ((refl, refl), refl, (here.0, here.1, c.if-self.true))
+
+pub invariant_of-self : goal.invariant_of-self
+invariant_of-self g c = rw (c.reserve_one.ensures.events, c.reserve_one.ensures.most) c.self.invariant
+
+pub returns-in_err-reserve_one : goal.returns-in_err-reserve_one
+returns-in_err-reserve_one g c =
+    let b : BookState g.row.T.Denot = state_of c.self.inside.config c.self.inside.server.0 c.self.inside.history (map worker_side c.self.inside.workers.items) (map client_side c.self.inside.desks.items) c.self.inside.closed in
+    let found : FindsDesk c.self.inside.server.0 (map worker_side c.self.inside.workers.items) (map client_side c.self.inside.desks.items) (pass_state c.args.pass.now) c.args.stamp.now (stamp_holdings c.args.tills.now) (Some c.in-Some.desk) = rw (c.deref.ensures.value, c.deref-2.ensures.value) at c.in-Some.ensures in
+    let new : BookState g.row.T.Denot = state_of c.self.inside.config c.self.inside.server.0 c.reserve_one.new.self (map worker_side c.self.inside.workers.items) (map client_side c.self.inside.desks.items) c.self.inside.closed in
+    let x = c.in_err-reserve_one.field-0.0 in
+    let is = err_is c.from_residual.result _ c.from_residual.ensures.1 in
+    let was : c.reserve_one.result ≡ Err x = c.in_err-reserve_one.was in
+    let full : (x ≡ reserve.HistoryFull) ↔ (length b.history ≡ b.most) = ((λ h. c.reserve_one.ensures.full.0 (was ∙ ap Err h)), (λ f. same_cause {X = Unit} x reserve.HistoryFull (sym was ∙ c.reserve_one.ensures.full.1 f))) in
+    let same : new ≡ b = rw (c.reserve_one.ensures.events, c.reserve_one.ensures.most) refl in
+    let Ends : BookState g.row.T.Denot → BookState g.row.T.Denot → Result (Tags g.row.T.Denot) SubmitCause → Type 0 =
+    (λ a n r. Submits g.T.Tag.ops a n (pass_state c.args.pass.now) (pass_state c.args.pass.now) c.args.stamp.now (stamp_holdings c.args.tills.now) (stamp_holdings c.args.tills.now) c.args.token c.args.at r) in
+    subst (λ a. Ends a new c.from_residual.result) c.self.view_is
+    (subst (λ n. Ends b n c.from_residual.result) (sym same)
+    (subst (Ends b b) (sym is) (unreserved b (pass_state c.args.pass.now) c.args.stamp.now (stamp_holdings c.args.tills.now) g.T.Tag.ops c.args.token c.args.at c.in-Some.desk found c.if-self.false x full)))
+
+pub count-requires-clause-within : goal.count-requires-clause-within
+count-requires-clause-within g c =
+    let found : FindsDesk c.self.inside.server.0 (map worker_side c.self.inside.workers.items) (map client_side c.self.inside.desks.items) (pass_state c.args.pass.now) c.args.stamp.now (stamp_holdings c.args.tills.now) (Some c.in-Some.desk) = rw (c.deref.ensures.value, c.deref-2.ensures.value) at c.in-Some.ensures in
+    omega (arith, found.0.within, length-map c.self.inside.workers.items (worker_side {S = g.row.S.Denot}))
+
+pub count-requires-clause-its_worker : goal.count-requires-clause-its_worker
+count-requires-clause-its_worker g c =
+    let found : FindsDesk c.self.inside.server.0 (map worker_side c.self.inside.workers.items) (map client_side c.self.inside.desks.items) (pass_state c.args.pass.now) c.args.stamp.now (stamp_holdings c.args.tills.now) (Some c.in-Some.desk) = rw (c.deref.ensures.value, c.deref-2.ensures.value) at c.in-Some.ensures in
+    found.0.its_worker
+
+pub count-requires-clause-its_tills : goal.count-requires-clause-its_tills
+count-requires-clause-its_tills g c =
+    let found : FindsDesk c.self.inside.server.0 (map worker_side c.self.inside.workers.items) (map client_side c.self.inside.desks.items) (pass_state c.args.pass.now) c.args.stamp.now (stamp_holdings c.args.tills.now) (Some c.in-Some.desk) = rw (c.deref.ensures.value, c.deref-2.ensures.value) at c.in-Some.ensures in
+    found.0.its_tills
+
+pub count-requires-clause-apart : goal.count-requires-clause-apart
+count-requires-clause-apart g c = c.self.invariant.0.workers_apart
+
+pub count-requires-in-Refused-clause-within : goal.count-requires-in-Refused-clause-within
+count-requires-in-Refused-clause-within g c =
+    let found : FindsDesk c.self.inside.server.0 (map worker_side c.self.inside.workers.items) (map client_side c.self.inside.desks.items) (pass_state c.args.pass.now) c.args.stamp.now (stamp_holdings c.args.tills.now) (Some c.in-Some.desk) = rw (c.deref.ensures.value, c.deref-2.ensures.value) at c.in-Some.ensures in
+    omega (arith, found.0.within, length-map c.self.inside.workers.items (worker_side {S = g.row.S.Denot}))
+
+pub count-requires-in-Refused-clause-its_worker : goal.count-requires-in-Refused-clause-its_worker
+count-requires-in-Refused-clause-its_worker g c =
+    let found : FindsDesk c.self.inside.server.0 (map worker_side c.self.inside.workers.items) (map client_side c.self.inside.desks.items) (pass_state c.args.pass.now) c.args.stamp.now (stamp_holdings c.args.tills.now) (Some c.in-Some.desk) = rw (c.deref.ensures.value, c.deref-2.ensures.value) at c.in-Some.ensures in
+    found.0.its_worker
+
+pub count-requires-in-Refused-clause-its_tills : goal.count-requires-in-Refused-clause-its_tills
+count-requires-in-Refused-clause-its_tills g c =
+    let found : FindsDesk c.self.inside.server.0 (map worker_side c.self.inside.workers.items) (map client_side c.self.inside.desks.items) (pass_state c.args.pass.now) c.args.stamp.now (stamp_holdings c.args.tills.now) (Some c.in-Some.desk) = rw (c.deref.ensures.value, c.deref-2.ensures.value) at c.in-Some.ensures in
+    found.0.its_tills
+
+pub count-requires-in-Refused-clause-apart : goal.count-requires-in-Refused-clause-apart
+count-requires-in-Refused-clause-apart g c = c.self.invariant.0.workers_apart
+
+pub take_in-requires-clause-within : goal.take_in-requires-clause-within
+take_in-requires-clause-within g c =
+    let found : FindsDesk c.self.inside.server.0 (map worker_side c.self.inside.workers.items) (map client_side c.self.inside.desks.items) (pass_state c.args.pass.now) c.args.stamp.now (stamp_holdings c.args.tills.now) (Some c.in-Some.desk) = rw (c.deref.ensures.value, c.deref-2.ensures.value) at c.in-Some.ensures in
+    omega (arith, found.3, length-map c.self.inside.desks.items (client_side {S = g.row.S.Denot}))
+
+pub take_in-requires-clause-its : goal.take_in-requires-clause-its
+take_in-requires-clause-its g c =
+    let found : FindsDesk c.self.inside.server.0 (map worker_side c.self.inside.workers.items) (map client_side c.self.inside.desks.items) (pass_state c.args.pass.now) c.args.stamp.now (stamp_holdings c.args.tills.now) (Some c.in-Some.desk) = rw (c.deref.ensures.value, c.deref-2.ensures.value) at c.in-Some.ensures in
+    found.4
+
+pub take_in-requires-clause-here : goal.take_in-requires-clause-here
+take_in-requires-clause-here g c =
+    let found : FindsDesk c.self.inside.server.0 (map worker_side c.self.inside.workers.items) (map client_side c.self.inside.desks.items) (pass_state c.args.pass.now) c.args.stamp.now (stamp_holdings c.args.tills.now) (Some c.in-Some.desk) = rw (c.deref.ensures.value, c.deref-2.ensures.value) at c.in-Some.ensures in
+    subst (λ (n : ℕ). desk_place n (map client_side c.self.inside.desks.items) ≡ Some c.in-Some.desk) (sym c.client-client.ensures) found.2
+
+pub take_in-requires-clause-apart : goal.take_in-requires-clause-apart
+take_in-requires-clause-apart g c = c.self.invariant.0.clients_apart
 
 pub count-requires-clause-fits : goal.count-requires-clause-fits
 count-requires-clause-fits g c =

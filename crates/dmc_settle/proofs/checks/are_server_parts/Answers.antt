@@ -13,7 +13,7 @@ pub returns-then-books-servers : goal.returns-then-books-servers
 returns-then-books-servers g c = (
   (λ e. cc),
   (λ (all : AreServerParts c.args.scene.now c.args.books.now (map pass_states c.args.passes.now)). elim c.then-books-servers.branch [
-      then-books-servers-via-then-books-servers w ↦ absurd (w.if-books-servers.true (all.a_book_each ∙ sym c.servers-servers.ensures.value))
+    | then-books-servers-via-then-books-servers w ↦ absurd (w.if-books-servers.true (all.a_book_each ∙ sym c.servers-servers.ensures.value))
     | then-books-servers-via-else-books-servers+then-passes-servers w ↦ absurd (w.if-passes-servers.true (sym (length-map c.args.passes.now (pass_states {S = g.row.S.Denot})) ∙ all.passes_each ∙ sym c.servers-servers.ensures.value))
   ]),
 )

@@ -1,4 +1,4 @@
-use Rattle.std.proofs.Common.{Result, ℕ, ◌≡◌, ◌<◌, ◌≤◌, ◌^◌, ◌∙◌, ◌++◌, ◌∷◌, [], ap, false, map, length, refl, sym, subst, Some, Ok, Err, arith}
+use Rattle.std.proofs.Common.{Result, rules, ℕ, ◌≡◌, ◌<◌, ◌≤◌, ◌^◌, ◌∙◌, ◌++◌, ◌∷◌, [], ap, false, map, length, refl, sym, subst, Some, Ok, Err, arith}
 use Rattle.std.specs.Prelude.{◌↔◌}
 use Rattle.std.proofs.lemmas.List.{length-map}
 use Rattle.dmc_types.specs.Values.{Params}
@@ -21,18 +21,10 @@ use Rattle.dmc_book.specs.Submits.{FindsDesk, Submits}
 use Rattle.dmc_book.specs.declared.fault.SubmitCause.{SubmitCause}
 use Rattle.dmc_book.specs.declared.fault.SubmitCause.TheVariants as submit
 use Rattle.dmc_book.proofs.Causes.{same_cause}
-use Rattle.dmc_book.proofs.SubmitLemmas.{asked_at, at_desk, unreserved}
+use Rattle.dmc_book.proofs.SubmitLemmas.{asked_at, unreserved}
 use Rattle.dmc_book.proofs.Counting.{consistent_memory, consistent_more, reply_after, workers_within}
 use Rattle.dmc_book.proofs.DeskLemmas.{all_stay}
 use Rattle.dmc_book.proofs.book.QueueBook.add.Goals as goal
-
-pub returns-then-self : goal.returns-then-self
-returns-then-self g c =
-    let b : BookState g.row.T.Denot = state_of c.self.inside.config c.self.inside.server.0 c.self.inside.history (map worker_side c.self.inside.workers.items) (map client_side c.self.inside.desks.items) c.self.inside.closed in
-    let found : FindsDesk c.self.inside.server.0 (map worker_side c.self.inside.workers.items) (map client_side c.self.inside.desks.items) (pass_state c.args.pass.now) c.args.stamp.now (stamp_holdings c.args.tills.now) (Some c.in-Some.desk) = rw (c.deref.ensures.value, c.deref-2.ensures.value) at c.in-Some.ensures in
-    let here = at_desk b (pass_state c.args.pass.now) c.args.stamp.now (stamp_holdings c.args.tills.now) c.in-Some.desk found in
-    subst (λ (a : BookState g.row.T.Denot). Submits g.T.Tag.ops a a (pass_state c.args.pass.now) (pass_state c.args.pass.now) c.args.stamp.now (stamp_holdings c.args.tills.now) (stamp_holdings c.args.tills.now) c.args.token c.args.at (Err submit.Closed)) c.self.view_is
-    ((refl, refl), refl, (here.0, here.1, c.if-self.true))
 
 pub invariant_of-self : goal.invariant_of-self
 invariant_of-self g c = rw (c.reserve_one.ensures.events, c.reserve_one.ensures.most) c.self.invariant
@@ -42,6 +34,7 @@ returns-in_err-reserve_one g c =
     let b : BookState g.row.T.Denot = state_of c.self.inside.config c.self.inside.server.0 c.self.inside.history (map worker_side c.self.inside.workers.items) (map client_side c.self.inside.desks.items) c.self.inside.closed in
     let found : FindsDesk c.self.inside.server.0 (map worker_side c.self.inside.workers.items) (map client_side c.self.inside.desks.items) (pass_state c.args.pass.now) c.args.stamp.now (stamp_holdings c.args.tills.now) (Some c.in-Some.desk) = rw (c.deref.ensures.value, c.deref-2.ensures.value) at c.in-Some.ensures in
     let new : BookState g.row.T.Denot = state_of c.self.inside.config c.self.inside.server.0 c.reserve_one.new.self (map worker_side c.self.inside.workers.items) (map client_side c.self.inside.desks.items) c.self.inside.closed in
+    let is_open : c.self.inside.closed ≡ false = c.if-self.false in
     let x = c.in_err-reserve_one.field-0.0 in
     let is = err_is c.from_residual.result _ c.from_residual.ensures.1 in
     let was : c.reserve_one.result ≡ Err x = c.in_err-reserve_one.was in
@@ -51,7 +44,7 @@ returns-in_err-reserve_one g c =
     (λ a n r. Submits g.T.Tag.ops a n (pass_state c.args.pass.now) (pass_state c.args.pass.now) c.args.stamp.now (stamp_holdings c.args.tills.now) (stamp_holdings c.args.tills.now) c.args.token c.args.at r) in
     subst (λ a. Ends a new c.from_residual.result) c.self.view_is
     (subst (λ n. Ends b n c.from_residual.result) (sym same)
-    (subst (Ends b b) (sym is) (unreserved b (pass_state c.args.pass.now) c.args.stamp.now (stamp_holdings c.args.tills.now) g.T.Tag.ops c.args.token c.args.at c.in-Some.desk found c.if-self.false x full)))
+    (subst (Ends b b) (sym is) (unreserved b (pass_state c.args.pass.now) c.args.stamp.now (stamp_holdings c.args.tills.now) g.T.Tag.ops c.args.token c.args.at c.in-Some.desk found is_open x full)))
 
 pub count-requires-clause-within : goal.count-requires-clause-within
 count-requires-clause-within g c =
@@ -175,7 +168,7 @@ returns-in-Tagged g c =
     let client_is = ap (λ (n : ℕ). let k : ClientId = record { 0 = n } in k) c.client-client.ensures in
     let command_is = ap (λ (k : ClientId). Add k c.args.token c.params-params.result c.args.at) client_is ∙ ap (λ (p : Params). Add (record { 0 = c.args.stamp.now.client }) c.args.token p c.args.at) c.params-params.ensures in
     let found : FindsDesk c.self.inside.server.0 (map worker_side c.self.inside.workers.items) (map client_side c.self.inside.desks.items) (pass_state c.args.pass.now) c.args.stamp.now (stamp_holdings c.args.tills.now) (Some c.in-Some.desk) = rw (c.deref.ensures.value, c.deref-2.ensures.value) at c.in-Some.ensures in
-    let is_open : c.self.inside.closed ≡ false = c.if-self.false in
+    let is_open : c.self.inside.closed ≡ false = search rules in
     let fewer : length c.self.inside.history.events < c.self.inside.history.most = c.in_ok-reserve_one.ensures.fewer in
     let is_asked = asked_at b (pass_state c.args.pass.now) c.args.stamp.now (stamp_holdings c.args.tills.now) c.in-Some.desk found is_open fewer in
     subst (λ (a : BookState g.row.T.Denot). Submits g.T.Tag.ops a new (pass_state c.args.pass.now) later c.args.stamp.now (stamp_holdings c.args.tills.now) (stamp_holdings c.take_in.new.tills) c.args.token c.args.at (Ok c.in-Tagged.tags)) c.self.view_is

@@ -1,4 +1,4 @@
-use Rattle.std.proofs.Common.{◌≡◌, map, sym, ◌∙◌}
+use Rattle.std.proofs.Common.{map, sym, ◌∙◌}
 use Rattle.std.proofs.lemmas.Bool.{false≢true}
 use Rattle.dmc_settle.specs.Remains.{AreTogether, Remains, remains}
 use Rattle.dmc_settle.specs.Reports.{AreRows}

@@ -5,8 +5,8 @@ ghost use Rattle.std.specs.Prelude.{◌≡◌, ◌+◌, OnOk};
 
 use anyhow::Result;
 use dmclock::{
-    AtLimit, ClientId, ClientInfo, Counting, Moment, PhaseType, Pulled, QueueConfig, ServerId,
-    ServiceTracker, TickQueue, Token,
+    AtLimit, ClientId, ClientInfo, Counting, Moment, PhaseType, Pulled, QueueConfig, Scheduler,
+    ServerId, ServiceTracker, TickQueue, TickTag, Token,
 };
 use std::alloc::Global;
 
@@ -19,7 +19,12 @@ struct Client {
 
 impl Client {
     /// Stamps a request, and queues it. A stamp is no completion.
-    fn submit(&mut self, queue: &mut TickQueue, token: Token, at: Moment) -> Result<()>
+    fn submit<Q: Scheduler<TickTag>>(
+        &mut self,
+        queue: &mut Q,
+        token: Token,
+        at: Moment,
+    ) -> Result<()>
         ensures { self.new.tracker.completions ≡ self.old.tracker.completions }
     {
         let params = self.tracker.get_req_params(ServerId(0))?;
@@ -39,7 +44,12 @@ impl Client {
 }
 
 /// One pull. The client that is granted gets its response, and submits another request.
-fn turn(rt: &impl Print, queue: &mut TickQueue, all: &mut Vec<Client>, at: Moment) -> Result<()> {
+fn turn<Q: Scheduler<TickTag>>(
+    rt: &impl Print,
+    queue: &mut Q,
+    all: &mut Vec<Client>,
+    at: Moment,
+) -> Result<()> {
     if let Pulled::Returning {
         client: ClientId(id),
         token: Token(number),
@@ -58,9 +68,9 @@ fn turn(rt: &impl Print, queue: &mut TickQueue, all: &mut Vec<Client>, at: Momen
 }
 
 /// Registers the next client, and submits its first request.
-fn join(
+fn join<Q: Scheduler<TickTag>>(
     alloc: Global,
-    queue: &mut TickQueue,
+    queue: &mut Q,
     all: &mut Vec<Client>,
     info: ClientInfo,
 ) -> Result<()> {
@@ -73,7 +83,12 @@ fn join(
     Ok(())
 }
 
-fn run(rt: &impl Print, queue: &mut TickQueue, all: &mut Vec<Client>, alloc: Global) -> Result<()> {
+fn run<Q: Scheduler<TickTag>>(
+    rt: &impl Print,
+    queue: &mut Q,
+    all: &mut Vec<Client>,
+    alloc: Global,
+) -> Result<()> {
     // Reservation, weight and limit, in requests a second.
     join(alloc, queue, all, ClientInfo::new(Some(10), 1, None)?)?;
     join(alloc, queue, all, ClientInfo::new(None, 2, None)?)?;

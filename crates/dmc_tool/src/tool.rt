@@ -1,13 +1,16 @@
 //! One run of the program, over any streams.
 ghost use Rattle.std.specs.Prelude.{◌≡◌, ◌≤◌, map};
 ghost use Rattle.dmc_tool.specs.Faults.{status_of};
-ghost use Rattle.dmc_tool.specs.Runs.{RunsTool, RunsWords};
+ghost use Rattle.dmc_tool.specs.Runs.{RunsCommand, RunsTool, RunsWords};
 ghost use Rattle.dmc_tool.specs.Words.{tool_of_words};
+ghost use Rattle.dmc_tool.specs.declared.words.ToolCommand.TheVariants.{Check, Script};
 
 use crate::fault::Fault;
 use crate::outcome::Outcome;
 use crate::words::{Tool, ToolCommand, WRITTEN, read_words};
 use crate::{check, run, script, sim};
+use dmc_types::config::TagKind;
+use std::alloc::Global;
 use std::convert::AsStr;
 use std::io::{Read, Write};
 use std::sync::Wait;
@@ -51,15 +54,51 @@ fn run_words<T: AllocGlobal + Threads + Wait + Sync, S: AsStr, R: Read, W: Write
     ensures { RunsWords (tool_of_words WRITTEN (map S.text words.now))
         (R.remaining reader.old) (R.remaining reader.new) (W.contents writer.old) (W.contents writer.new) result }
 {
+    let tool = read_words(rt.alloc(), words)?;
+    run_command(rt, tool, reader, writer)
+}
+
+/// Runs the command of a tool.
+fn run_command<T: AllocGlobal + Threads + Wait + Sync, R: Read, W: Write>(
+    rt: &T,
+    tool: Tool,
+    reader: &mut R,
+    writer: &mut W,
+) -> Result<Outcome, Fault>
+    ensures { RunsCommand tool.command tool.tags
+        (R.remaining reader.old) (R.remaining reader.new) (W.contents writer.old) (W.contents writer.new) result }
+{
     let alloc = rt.alloc();
-    let Tool { command, tags } = read_words(alloc, words)?;
-    match command {
-        ToolCommand::Script => {
-            script::run_on(alloc, tags, reader, writer)?;
-            Ok(Outcome::Done)
-        }
-        ToolCommand::Check => Ok(check::check_on(alloc, tags, reader, writer)?.into()),
+    match tool.command {
+        ToolCommand::Script => run_script(alloc, tool.tags, reader, writer),
+        ToolCommand::Check => check_events(alloc, tool.tags, reader, writer),
         ToolCommand::Sim => sim::simulate_on(alloc, reader, writer),
         ToolCommand::Run => run::run_on(rt, alloc, reader, writer),
     }
+}
+
+/// Runs a script on tags of this kind.
+fn run_script<R: Read, W: Write>(
+    alloc: Global,
+    tags: TagKind,
+    reader: &mut R,
+    writer: &mut W,
+) -> Result<Outcome, Fault>
+    ensures { RunsCommand Script tags (R.remaining reader.old) (R.remaining reader.new) (W.contents writer.old) (W.contents writer.new) result }
+{
+    script::run_on(alloc, tags, reader, writer)?;
+    Ok(Outcome::Done)
+}
+
+/// Checks an event text whose tags are of this kind.
+fn check_events<R: Read, W: Write>(
+    alloc: Global,
+    tags: TagKind,
+    reader: &mut R,
+    writer: &mut W,
+) -> Result<Outcome, Fault>
+    ensures { RunsCommand Check tags (R.remaining reader.old) (R.remaining reader.new) (W.contents writer.old) (W.contents writer.new) result }
+{
+    let verdict = check::check_on(alloc, tags, reader, writer)?;
+    Ok(verdict.into())
 }

@@ -40,8 +40,13 @@ pub(crate) fn open<T: Tag, I: Indexes<T>, S: Setup>(
     limits: Limits,
 ) -> Result<Opened<T, QueueBook<T, I, S>, S>, OpenFault> {
     let mut opened = none_opened(alloc, scene)?;
-    open_all(alloc, mint, scene, limits, &mut opened)?;
-    Ok(opened)
+    match open_all(alloc, mint, scene, limits, &mut opened) {
+        Ok(()) => Ok(opened),
+        Err(fault) => {
+            drop(opened);
+            Err(fault)
+        }
+    }
 }
 
 /// No client and no server yet, with room for the clients' ids.
@@ -114,5 +119,11 @@ fn open_servers<T: Tag, I: Indexes<T>, S: Setup>(
     for next in desks {
         open_server(alloc, mint, scene, limits, next, opened)?;
     }
+    Ok(())
+}
+
+/// Puts one item more at the end. Where there is no memory for it, it is let go.
+fn push_last<X: Drop>(item: X, items: &mut Vec<X>) -> Result<(), AllocError> {
+    items.push(item)?;
     Ok(())
 }

@@ -1,9 +1,9 @@
 //! The clients of a run, opened: their trackers, doorbells and plans.
 ghost use Rattle.std.specs.Prelude.{◌≡◌, ◌<◌, ◌≤◌};
 
-use super::Opened;
 use super::desks::{QueueDesks, TrackerDesks, open_pairs};
 use super::servers::server_workers;
+use super::{Opened, push_last};
 use crate::bell::{Doorbell, Ringer, hang_bell};
 use crate::client_worker::ClientJob;
 use crate::fault::{OpenFault, of_make};
@@ -83,8 +83,7 @@ fn name_client(
     rows: &mut Vec<ClientReport>,
 ) -> Result<(), AllocError> {
     ids.insert(client)?;
-    rows.push(new_row(client))?;
-    Ok(())
+    push_last(new_row(client), rows)
 }
 
 /// The tracker and the worker of the next client, with its desks.
@@ -99,7 +98,7 @@ fn open_with<S: Setup>(
 ) -> Result<(), OpenFault> {
     let (book, tills) = open_tracker(alloc, scene.counting(), limits, desks)?;
     let place = trackers.len();
-    trackers.push(TrackerLock::new(book))?;
+    push_last(TrackerLock::new(book), trackers)?;
     open_sender(alloc, scene, client, place, tills, senders)?;
     Ok(())
 }
@@ -130,8 +129,7 @@ fn open_sender<S: Setup>(
 ) -> Result<(), AllocError> {
     let bell = open_bell(alloc, rings_of(scene, client), &mut senders.ringers)?;
     let job = new_job(alloc, scene, client, place, tills, bell)?;
-    senders.jobs.push(job)?;
-    Ok(())
+    push_last(job, &mut senders.jobs)
 }
 
 /// A doorbell with room for so many rings, and one ringer more, at its door.
@@ -139,7 +137,7 @@ fn open_bell(alloc: Global, room: usize, ringers: &mut Vec<Ringer>) -> Result<Do
     requires { 0 < room }
 {
     let (ringer, bell) = hang_bell(alloc, room)?;
-    ringers.push(ringer)?;
+    push_last(ringer, ringers)?;
     Ok(bell)
 }
 

@@ -2,8 +2,8 @@
 ghost use Rattle.std.specs.Prelude.{◌≡◌, ◌*◌, ◌≤◌, length};
 ghost use Rattle.dmc_types.specs.Limits.{most_server_workers, most_servers};
 
-use super::Opened;
 use super::desks::QueueDesks;
+use super::{Opened, push_last};
 use crate::bell::Ringer;
 use crate::client_worker::ClientJob;
 use crate::fault::{OpenFault, of_new, of_register};
@@ -57,7 +57,7 @@ pub(crate) fn open_server<T: Tag, I: Indexes<T>, S: Setup>(
         &mut opened.senders,
         &mut opened.servers,
     )?;
-    opened.remains.passes.workers.push(kept)?;
+    push_last(kept, &mut opened.remains.passes.workers)?;
     Ok(())
 }
 
@@ -70,12 +70,11 @@ fn open_row<T: Tag, I: Indexes<T>, S: Setup>(
     desks: QueueDesks<S>,
     opened: &mut Opened<T, QueueBook<T, I, S>, S>,
 ) -> Result<Vec<WorkerPass<S>>, OpenFault> {
-    let mut stops = Vec::with_capacity(alloc, enrolled(scene))?;
     let server = desks.server;
     let queues = &mut opened.cluster.queues;
-    let passes = open_queue(alloc, mint, scene, limits, desks, queues, &mut stops)?;
+    let (passes, stops) = open_queue(alloc, mint, scene, limits, desks, queues)?;
     let row = new_row(alloc, server, limits, stops);
-    opened.remains.report.servers.push(row)?;
+    push_last(row, &mut opened.remains.report.servers)?;
     Ok(passes)
 }
 
@@ -139,8 +138,7 @@ fn new_row<T: Tag>(
     }
 }
 
-/// A server's queue behind its lock, with every client registered, and the passes of its workers. What the queue refuses is put
-/// among the stops.
+/// A server's queue behind its lock, with every client registered, the passes of its workers, and what the queue refused.
 fn open_queue<T: Tag, I: Indexes<T>, S: Setup>(
     alloc: Global,
     mint: &mut Mint<S>,
@@ -148,32 +146,28 @@ fn open_queue<T: Tag, I: Indexes<T>, S: Setup>(
     limits: Limits,
     desks: QueueDesks<S>,
     queues: &mut Vec<QueueLock<T, I, S>>,
-    stops: &mut Vec<StopCause>,
-) -> Result<Vec<WorkerPass<S>>, OpenFault> {
-    let workers = enroll(alloc, scene, desks.server)?;
-    open_with(alloc, mint, scene, limits, desks, &workers, queues, stops)
+) -> Result<(Vec<WorkerPass<S>>, Vec<StopCause>), OpenFault> {
+    let (mut book, mut passes) = new_book(alloc, mint, scene, limits, desks)?;
+    let registered = register_all(alloc, scene, &mut book, &mut passes);
+    push_queue(book, queues)?;
+    let stops = registered?;
+    Ok((passes, stops))
 }
 
-/// The same with these workers.
-fn open_with<T: Tag, I: Indexes<T>, S: Setup>(
+/// A server's book with the workers that are enrolled there, and their passes.
+fn new_book<T: Tag, I: Indexes<T>, S: Setup>(
     alloc: Global,
     mint: &mut Mint<S>,
     scene: &Scene,
     limits: Limits,
     desks: QueueDesks<S>,
-    workers: &[WorkerId],
-    queues: &mut Vec<QueueLock<T, I, S>>,
-    stops: &mut Vec<StopCause>,
-) -> Result<Vec<WorkerPass<S>>, OpenFault> {
-    let (mut book, mut passes) = new_book(alloc, mint, scene, limits, desks, workers)?;
-    let registered = register_all(&mut book, &mut passes, scene.clients(), stops);
-    push_queue(book, queues)?;
-    registered?;
-    Ok(passes)
+) -> Result<(QueueBook<T, I, S>, Vec<WorkerPass<S>>), OpenFault> {
+    let workers = enroll(alloc, scene, desks.server)?;
+    book_of(alloc, mint, scene, limits, desks, &workers)
 }
 
-/// A server's book with these workers, and their passes.
-fn new_book<T: Tag, I: Indexes<T>, S: Setup>(
+/// The same with these workers.
+fn book_of<T: Tag, I: Indexes<T>, S: Setup>(
     alloc: Global,
     mint: &mut Mint<S>,
     scene: &Scene,
@@ -194,20 +188,32 @@ fn new_book<T: Tag, I: Indexes<T>, S: Setup>(
 
 /// One queue more, behind its lock.
 fn push_queue<B: OfServer + Drop>(book: B, queues: &mut Vec<Locked<B>>) -> Result<(), AllocError> {
-    queues.push(Locked::new(book))?;
-    Ok(())
+    push_last(Locked::new(book), queues)
 }
 
-/// Registers the clients by the first of the passes.
+/// Registers the clients by the first of the passes. What comes back is what the queue refused, with room for the stops of
+/// the workers.
 fn register_all<T: Tag, I: Indexes<T>, S: Setup>(
+    alloc: Global,
+    scene: &Scene,
     book: &mut QueueBook<T, I, S>,
     passes: &mut [WorkerPass<S>],
-    clients: &[SceneClient],
-    stops: &mut Vec<StopCause>,
-) -> Result<(), OpenFault> {
+) -> Result<Vec<StopCause>, OpenFault> {
     let Some(pass) = passes.first_mut() else {
         return Err(OpenFault::Torn);
     };
+    let mut stops = Vec::with_capacity(alloc, enrolled(scene))?;
+    register_each(book, pass, scene.clients(), &mut stops)?;
+    Ok(stops)
+}
+
+/// Registers these clients.
+fn register_each<T: Tag, I: Indexes<T>, S: Setup>(
+    book: &mut QueueBook<T, I, S>,
+    pass: &mut WorkerPass<S>,
+    clients: &[SceneClient],
+    stops: &mut Vec<StopCause>,
+) -> Result<(), OpenFault> {
     for client in clients {
         register(book, pass, *client, stops)?;
     }
@@ -253,7 +259,7 @@ fn hand_to_server<S: Setup>(
         let Some(pass) = passes.pop() else {
             return Err(OpenFault::Torn);
         };
-        jobs.push(new_job(alloc, server, pass, &mut senders.ringers)?)?;
+        push_last(new_job(alloc, server, pass, &mut senders.ringers)?, jobs)?;
     }
     Ok(())
 }

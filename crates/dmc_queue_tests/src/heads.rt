@@ -2,11 +2,11 @@
 ghost use Rattle.std.specs.Prelude.{◌≡◌, IfOk, pos};
 ghost use Rattle.dmc_queue_tests.specs.Heads as examples;
 
+use crate::kinds::{Example, over_both};
+use crate::same::assert_same;
 use dmc_heads::head::Head;
 use dmc_heads::heads::Heads;
-use dmc_heap::indexed_heap::HeapIndexes;
 use dmc_index::index::{Indexes, OrderIndex};
-use dmc_index::list_index::ListIndexes;
 use dmc_tag::reply::Tags;
 use dmc_tag::tag::Tag;
 use dmc_tick::tick::TickTag;
@@ -63,7 +63,7 @@ fn assert_least_share<I: Indexes<TickTag>>(
     ensures { heads.new ≡ heads.old }
 {
     match heads.least_share() {
-        Some(least) => assert_eq!(rt; least.ticks(), ticks),
+        Some(least) => assert_same(rt, &least.ticks(), &ticks),
         None => panic!(rt; "two heads are held"),
     }
 }
@@ -84,11 +84,11 @@ fn changes_of<I: Indexes<TickTag>>(
     assert_least_share(rt, heads, 75);
     heads.remove(0);
     assert_least_share(rt, heads, 85);
-    assert_eq!(rt; heads.len(), 1);
+    assert_same(rt, &heads.len(), &1);
     Ok(())
 }
 
-fn changes_over<I: Indexes<TickTag>>(rt: &impl Abort, alloc: Global) -> Result<(), Fail> {
+pub fn changes_over<I: Indexes<TickTag>>(rt: &impl Abort, alloc: Global) -> Result<(), Fail> {
     let mut heads: Heads<TickTag, I> = two_heads(alloc)?;
     changes_of(rt, &mut heads)
 }
@@ -120,17 +120,17 @@ fn marks_at<I: Indexes<TickTag>>(heads: &Heads<TickTag, I>, key: usize) -> Optio
 
 // Marks are set and set back by the moment.
 fn marks_of<I: Indexes<TickTag>>(rt: &impl Abort, heads: &mut Heads<TickTag, I>) {
-    assert_eq!(rt; first_by_reservation(heads), Some((0, 30)));
+    assert_same(rt, &first_by_reservation(heads), &Some((0, 30)));
     heads.promote(moment(15));
     let first = [first_by_weight(heads), first_by_limit(heads)];
-    assert_eq!(rt; first, [Some((3, true)), Some((0, false))]);
+    assert_same(rt, &first, &[Some((3, true)), Some((0, false))]);
     heads.promote(moment(20));
     heads.set_back(moment(19));
     let marks = [marks_at(heads, 0), marks_at(heads, 3)];
-    assert_eq!(rt; marks, [Some((false, false)), Some((true, true))]);
+    assert_same(rt, &marks, &[Some((false, false)), Some((true, true))]);
 }
 
-fn marks_over<I: Indexes<TickTag>>(rt: &impl Abort, alloc: Global) -> Result<(), Fail> {
+pub fn marks_over<I: Indexes<TickTag>>(rt: &impl Abort, alloc: Global) -> Result<(), Fail> {
     let mut heads: Heads<TickTag, I> = two_heads(alloc)?;
     marks_of(rt, &mut heads);
     Ok(())
@@ -138,12 +138,10 @@ fn marks_over<I: Indexes<TickTag>>(rt: &impl Abort, alloc: Global) -> Result<(),
 
 #[test]
 fn least_share_of_heads(rt: HostRuntime) -> Result<(), Fail> {
-    changes_over::<ListIndexes>(&rt, rt.alloc())?;
-    changes_over::<HeapIndexes>(&rt, rt.alloc())
+    over_both(&rt, rt.alloc(), Example::LeastShare)
 }
 
 #[test]
 fn ready_marks(rt: HostRuntime) -> Result<(), Fail> {
-    marks_over::<ListIndexes>(&rt, rt.alloc())?;
-    marks_over::<HeapIndexes>(&rt, rt.alloc())
+    over_both(&rt, rt.alloc(), Example::ReadyMarks)
 }

@@ -1,6 +1,7 @@
 //! The worked examples of an index, over the sorted vector and the heap.
 ghost use Rattle.std.specs.Prelude.{◌≡◌, [], Some};
 
+use crate::same::assert_same;
 use dmc_heap::indexed_heap::IndexedHeap;
 use dmc_index::index::OrderIndex;
 use dmc_index::list_index::ListIndex;
@@ -22,8 +23,8 @@ fn rank(tag: u64, client: u32) -> TagRank<u64>
 /// The least rank is that of a key, and has a tag.
 fn assert_first<I: OrderIndex<TagRank<u64>>>(rt: &impl Abort, index: &I, key: usize, tag: u64) {
     let (least, rank) = index.least().expect(rt, "a key is held");
-    assert_eq!(rt; least, key);
-    assert_eq!(rt; rank.tag, Some(tag));
+    assert_same(rt, &least, &key);
+    assert_same(rt, &rank.tag, &Some(tag));
 }
 
 fn calls_of<I: OrderIndex<TagRank<u64>>>(rt: &impl Abort, index: &mut I) -> Result<(), Fail>
@@ -40,9 +41,9 @@ fn calls_of<I: OrderIndex<TagRank<u64>>>(rt: &impl Abort, index: &mut I) -> Resu
         client: rank.client,
     });
     assert_first(rt, index, 3, 0);
-    assert_eq!(rt; index.remove(3), rank(0, 1));
+    assert_same(rt, &index.remove(3), &rank(0, 1));
     assert_first(rt, index, 0, 4);
-    assert_eq!(rt; index.len(), 1);
+    assert_same(rt, &index.len(), &1);
     assert!(rt; index.get(3).is_none());
     Ok(())
 }
@@ -66,10 +67,10 @@ fn order_of<I: OrderIndex<TagRank<u64>>>(rt: &impl Abort, alloc: Global) -> Resu
         );
     }
     let removed = index.remove(3);
-    assert_eq!(rt; removed.tag, Some(20));
+    assert_same(rt, &removed.tag, &Some(20));
     for key in [0usize, 2, 6, 5, 1, 4] {
         let (least, _) = index.least().expect(rt, "a key is held");
-        assert_eq!(rt; least, key);
+        assert_same(rt, &least, &key);
         index.remove(least);
     }
     assert!(rt; index.is_empty());

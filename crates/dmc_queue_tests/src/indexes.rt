@@ -8,10 +8,10 @@ ghost use Rattle.dmc_tag.specs.declared.rank.ReadyRank.{ReadyRank};
 ghost use Rattle.dmc_pull.specs.Queue.{state_of};
 ghost use Rattle.dmc_pull.specs.FirstRequests.{client_at};
 
+use crate::kinds::{Example, over_both};
 use crate::runs::{config, let_go};
-use dmc_heap::indexed_heap::HeapIndexes;
+use crate::same::assert_same;
 use dmc_index::index::{Indexes, OrderIndex};
-use dmc_index::list_index::ListIndexes;
 use dmc_pull::queue::PullQueue;
 use dmc_tag::tag::Tag;
 use dmc_tick::tick::TickTag;
@@ -79,7 +79,7 @@ fn assert_first<I: Indexes<TickTag>>(
     queue: &PullQueue<TickTag, I>,
     client: Option<ClientId>,
 ) {
-    assert_eq!(rt; first_clients(queue), [client; 3]);
+    assert_same(rt, &first_clients(queue), &[client; 3]);
 }
 
 // A client has a key in each index from its first queued request to its last.
@@ -87,15 +87,18 @@ fn indexed_clients_of<I: Indexes<TickTag>>(
     rt: &impl Abort,
     queue: &mut PullQueue<TickTag, I>,
 ) -> Result<(), Fail> {
-    assert_eq!(rt; queue.config(), config()?);
+    assert_same(rt, &queue.config(), &config()?);
     fill(queue)?;
     assert_first(rt, queue, Some(ClientId(6)));
-    assert_eq!(rt; queue.remove_by_client(ClientId(6)), Ok(2));
+    assert_same(rt, &queue.remove_by_client(ClientId(6)), &Ok(2));
     assert_first(rt, queue, None);
     Ok(())
 }
 
-fn indexed_clients_over<I: Indexes<TickTag>>(rt: &impl Abort, alloc: Global) -> Result<(), Fail> {
+pub fn indexed_clients_over<I: Indexes<TickTag>>(
+    rt: &impl Abort,
+    alloc: Global,
+) -> Result<(), Fail> {
     let config = config()?;
     let mut queue: PullQueue<TickTag, I> = PullQueue::new(alloc, config);
     let indexed = indexed_clients_of(rt, &mut queue);
@@ -105,6 +108,5 @@ fn indexed_clients_over<I: Indexes<TickTag>>(rt: &impl Abort, alloc: Global) -> 
 
 #[test]
 fn indexed_clients(rt: HostRuntime) -> Result<(), Fail> {
-    indexed_clients_over::<ListIndexes>(&rt, rt.alloc())?;
-    indexed_clients_over::<HeapIndexes>(&rt, rt.alloc())
+    over_both(&rt, rt.alloc(), Example::IndexedClients)
 }

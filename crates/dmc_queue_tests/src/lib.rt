@@ -8,6 +8,8 @@ mod heaps;
 #[cfg(test)]
 mod indexes;
 #[cfg(test)]
+mod kinds;
+#[cfg(test)]
 mod limits;
 #[cfg(test)]
 mod records;
@@ -15,5 +17,7 @@ mod records;
 mod rosters;
 #[cfg(test)]
 mod runs;
+#[cfg(test)]
+mod same;
 #[cfg(test)]
 mod tags;

@@ -1,6 +1,8 @@
 //! One client and one request too many.
-use crate::runs::config;
-use dmc_heap::indexed_heap::HeapIndexes;
+use crate::kinds::{Example, Kind, over};
+use crate::runs::{config, let_go};
+use crate::same::assert_same;
+use dmc_index::index::Indexes;
 use dmc_pull::queue::PullQueue;
 use dmc_tag::reply::Pulled;
 use dmc_tag::scheduler::Scheduler;
@@ -11,6 +13,7 @@ use dmc_types::info::ClientInfo;
 use dmc_types::moment::Moment;
 use dmc_types::params::ReqParams;
 use dmc_types::refusal::{QueueFault, Refusal};
+use std::alloc::Global;
 use std::process::Abort;
 use std::test::Fail;
 
@@ -33,8 +36,8 @@ fn client_too_many<S: Scheduler<TickTag>>(rt: &impl Abort, queue: &mut S) -> Res
     let info = ClientInfo::new(None, 1, None)?;
     register_all(queue, info)?;
     let refused = queue.register(ClientId(CLIENTS), info, Moment::zero());
-    assert_eq!(rt; refused, Err(QueueFault::Refused(Refusal::Clients)));
-    assert_eq!(rt; queue.client_count(), CLIENTS);
+    assert_same(rt, &refused, &Err(QueueFault::Refused(Refusal::Clients)));
+    assert_same(rt, &queue.client_count(), &CLIENTS);
     Ok(())
 }
 
@@ -60,9 +63,10 @@ fn add_all<S: Scheduler<TickTag>>(queue: &mut S, params: ReqParams) -> Result<()
 fn request_too_many<S: Scheduler<TickTag>>(rt: &impl Abort, queue: &mut S) -> Result<(), Fail> {
     let params = ReqParams::new(1, 0)?;
     add_all(queue, params)?;
-    assert_eq!(rt;
-        add(queue, REQUESTS, params),
-        Err(QueueFault::Refused(Refusal::QueueFull))
+    assert_same(
+        rt,
+        &add(queue, REQUESTS, params),
+        &Err(QueueFault::Refused(Refusal::QueueFull)),
     );
     let first = Pulled::Returning {
         client: ClientId(1),
@@ -70,9 +74,9 @@ fn request_too_many<S: Scheduler<TickTag>>(rt: &impl Abort, queue: &mut S) -> Re
         phase: PhaseType::Priority,
         beyond: false,
     };
-    assert_eq!(rt; queue.pull_request(Moment::zero()), Ok(first));
+    assert_same(rt, &queue.pull_request(Moment::zero()), &Ok(first));
     add(queue, REQUESTS, params)?;
-    assert_eq!(rt; queue.request_count(), REQUESTS);
+    assert_same(rt, &queue.request_count(), &REQUESTS);
     Ok(())
 }
 
@@ -82,9 +86,16 @@ fn refused_at_limits<S: Scheduler<TickTag>>(rt: &impl Abort, queue: &mut S) -> R
     request_too_many(rt, queue)
 }
 
+// The same of the indexed queue, proved once for all kinds of indexes.
+pub fn limits_over<I: Indexes<TickTag>>(rt: &impl Abort, alloc: Global) -> Result<(), Fail> {
+    let config = config()?;
+    let mut queue: PullQueue<TickTag, I> = PullQueue::new(alloc, config);
+    let refused = refused_at_limits(rt, &mut queue);
+    let_go(queue);
+    refused
+}
+
 #[test]
 fn queue_limits(rt: HostRuntime) -> Result<(), Fail> {
-    let config = config()?;
-    let mut queue: PullQueue<TickTag, HeapIndexes> = PullQueue::new(rt.alloc(), config);
-    refused_at_limits(&rt, &mut queue)
+    over(&rt, rt.alloc(), Kind::Heaps, Example::Limits)
 }

@@ -1,4 +1,5 @@
 //! Assignment at tick tags.
+use crate::same::assert_same;
 use dmc_assign::assignment::tags_for;
 use dmc_client::record::ClientRec;
 use dmc_client::request::QueuedRequest;
@@ -46,7 +47,7 @@ fn next_share(rec: &ClientRec<TickTag>, params: ReqParams) -> Option<i128> {
 fn tick_bounds(rt: HostRuntime) -> Result<(), Fail> {
     let (one, nothing) = (ReqParams::new(1, 0)?, ReqParams::new(0, 0)?);
     let rec = record_at_greatest(rt.alloc())?;
-    assert_eq!(rt; next_share(&rec, one), None);
-    assert_eq!(rt; next_share(&rec, nothing), Some(GREATEST));
+    assert_same(&rt, &next_share(&rec, one), &None);
+    assert_same(&rt, &next_share(&rec, nothing), &Some(GREATEST));
     Ok(())
 }

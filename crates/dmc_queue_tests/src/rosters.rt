@@ -1,6 +1,7 @@
 //! The roster at tick tags.
 ghost use Rattle.std.specs.Prelude.{◌==◌, not, []};
 
+use crate::same::assert_same;
 use dmc_client::record::ClientRec;
 use dmc_roster::change::{RecordRule, RecordTest};
 use dmc_roster::roster::Roster;
@@ -101,7 +102,7 @@ fn calls_of(rt: &impl Abort, alloc: Global, roster: &mut Roster<TickTag>) -> Res
     for id in [5, 3, 8] {
         assert!(rt; takes_next_key(alloc, roster, ClientId(id))?);
     }
-    assert_eq!(rt; roster.len(), 3);
+    assert_same(rt, &roster.len(), &3);
     assert!(rt; !is_registered(roster, 4));
     assert!(rt; is_idle(roster, 8));
     assert!(rt; pops_nothing(roster, 8));
@@ -116,7 +117,7 @@ fn roster_calls(rt: HostRuntime) -> Result<(), Fail> {
 
 /// So many clients last asked at a moment.
 fn assert_arrived(rt: &impl Abort, roster: &Roster<TickTag>, at: Moment, count: usize) {
-    assert_eq!(rt; roster.count(&Arrived { at }), count);
+    assert_same(rt, &roster.count(&Arrived { at }), &count);
 }
 
 /// Erases a client, and empties the others.
@@ -139,7 +140,7 @@ fn passes_of(rt: &impl Abort, alloc: Global, roster: &mut Roster<TickTag>) -> Re
     fill(alloc, roster, late)?;
     assert_arrived(rt, roster, late, 2);
     erase(roster, ClientId(3))?;
-    assert_eq!(rt; roster.len(), 2);
+    assert_same(rt, &roster.len(), &2);
     assert!(rt; !is_registered(roster, 3));
     assert!(rt; is_registered(roster, 5));
     assert_arrived(rt, roster, late, 1);

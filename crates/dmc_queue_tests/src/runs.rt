@@ -1,7 +1,7 @@
 //! A run of commands, over the plain queue and the indexed queue with both kinds of indexes.
-use dmc_heap::indexed_heap::HeapIndexes;
+use crate::kinds::{Example, over_both};
+use crate::same::assert_same;
 use dmc_index::index::Indexes;
-use dmc_index::list_index::ListIndexes;
 use dmc_plain::queue::PlainQueue;
 use dmc_pull::queue::PullQueue;
 use dmc_tag::reply::{Reply, Tags};
@@ -89,9 +89,9 @@ fn granted_at_limit<S: Scheduler<TickTag>>(
 ) -> Result<(), Fail> {
     let (commands, expected) = (commands()?, expected()?);
     let replies = run_commands(alloc, queue, &commands)?;
-    assert_eq!(rt; replies.as_slice(), expected.as_slice());
+    assert_same(rt, &replies.as_slice(), &expected.as_slice());
     let counts = (queue.client_count(), queue.request_count());
-    assert_eq!(rt; counts, (1, 0));
+    assert_same(rt, &counts, &(1, 0));
     Ok(())
 }
 
@@ -106,7 +106,7 @@ fn five_commands_of<I: Indexes<TickTag>>(
     Ok(())
 }
 
-fn five_commands_over<I: Indexes<TickTag>>(rt: &impl Abort, alloc: Global) -> Result<(), Fail> {
+pub fn five_commands_over<I: Indexes<TickTag>>(rt: &impl Abort, alloc: Global) -> Result<(), Fail> {
     let config = config()?;
     let mut queue: PullQueue<TickTag, I> = PullQueue::new(alloc, config);
     let answered = five_commands_of(rt, alloc, &mut queue);
@@ -134,6 +134,5 @@ fn five_commands_in_turn(rt: &impl Abort, alloc: Global) -> Result<(), Fail> {
 #[test]
 fn five_commands(rt: HostRuntime) -> Result<(), Fail> {
     five_commands_in_turn(&rt, rt.alloc())?;
-    five_commands_over::<ListIndexes>(&rt, rt.alloc())?;
-    five_commands_over::<HeapIndexes>(&rt, rt.alloc())
+    over_both(&rt, rt.alloc(), Example::FiveCommands)
 }

@@ -1,4 +1,5 @@
 //! Tests of tags.
+use crate::same::assert_same;
 use dmc_ratio::ratio::RatioTag;
 use dmc_tag::tag::Tag;
 use dmc_tick::tick::TickTag;
@@ -9,7 +10,7 @@ use std::test::Fail;
 fn tick_bounds(rt: HostRuntime) -> Result<(), Fail> {
     let greatest = 1_237_940_039_285_380_274_899_124_224;
     let tag = TickTag::new(greatest).ok_or("no tag")?;
-    assert_eq!(rt; tag.ticks(), greatest);
+    assert_same(&rt, &tag.ticks(), &greatest);
     assert!(rt; TickTag::new(greatest + 1).is_none());
     assert!(rt; TickTag::new(-greatest).is_some());
     assert!(rt; TickTag::new(-greatest - 1).is_none());
@@ -28,7 +29,7 @@ fn assert_sum(
     parts: (i128, u64),
 ) -> Result<RatioTag, &'static str> {
     let sum = sum(a, b).ok_or("a sum")?;
-    assert_eq!(rt; (sum.numer(), sum.denom()), parts);
+    assert_same(rt, &(sum.numer(), sum.denom()), &parts);
     Ok(sum)
 }
 
@@ -40,6 +41,6 @@ fn ratio_sums(rt: HostRuntime) -> Result<(), Fail> {
     let fine = assert_sum(&rt, (65521, 65519), (131040, 4292870399))?;
     assert!(rt; fine.plus(half).is_none());
     let below = RatioTag::new(-1, 2).ok_or("-1/2")?;
-    assert_eq!(rt; below.ceil(), 0);
+    assert_same(&rt, &below.ceil(), &0);
     Ok(())
 }

@@ -1,5 +1,6 @@
 //! The worked examples of event texts, each under its name.
 use crate::runs::{FailingReader, FailingWriter, ROOM, lines, runs, tells};
+use crate::same::assert_same;
 use std::process::Abort;
 use std::sync::Wait;
 use std::test::Fail;
@@ -73,26 +74,25 @@ fn beyond_not_recorded(rt: HostRuntime) -> Result<(), Fail> {
     )
 }
 
+/// Event texts, each with its fault.
+const FAULTS: [(&str, &[u8]); 5] = [
+    ("", b"dmclock: line 1 hz\n"),
+    ("1 pull 0 = none", b"dmclock: line 1 hz\n"),
+    (
+        "hz 1000; 1 pull 0 = ok; 1 pull 0 = no",
+        b"dmclock: line 3 words\n",
+    ),
+    ("hz 1000; one pull 01 = grant 1", b"dmclock: line 2 words\n"),
+    ("hz 1000; one pull 0 = none", b"dmclock: line 2 number\n"),
+];
+
 // A fault behind the first difference is told, and words are judged to the end of a line before its numbers.
 #[test]
 fn faults_of_events(rt: HostRuntime) -> Result<(), Fail> {
-    faults(&rt, "", b"dmclock: line 1 hz\n")?;
-    faults(&rt, "1 pull 0 = none", b"dmclock: line 1 hz\n")?;
-    faults(
-        &rt,
-        "hz 1000; 1 pull 0 = ok; 1 pull 0 = no",
-        b"dmclock: line 3 words\n",
-    )?;
-    faults(
-        &rt,
-        "hz 1000; one pull 01 = grant 1",
-        b"dmclock: line 2 words\n",
-    )?;
-    faults(
-        &rt,
-        "hz 1000; one pull 0 = none",
-        b"dmclock: line 2 number\n",
-    )
+    for (input, fault) in FAULTS {
+        faults(&rt, input, fault)?;
+    }
+    Ok(())
 }
 
 // The ratio tags of exact_thirds: they replay, one that is changed differs, and no tick has their text.
@@ -130,8 +130,8 @@ fn failing_reader_of_events(rt: HostRuntime) -> Result<(), Fail> {
             &mut written,
             b"dmclock: read\n",
         )?;
-        assert_eq!(&rt; status, 1);
-        assert_eq!(&rt; written.len(), 0);
+        assert_same(&rt, &status, &1);
+        assert_same(&rt, &written.len(), &0);
     }
     Ok(())
 }
@@ -149,8 +149,8 @@ fn failing_writer_of_a_verdict(rt: HostRuntime) -> Result<(), Fail> {
             &mut writer,
             b"dmclock: write\n",
         )?;
-        assert_eq!(&rt; status, 1);
-        assert_eq!(&rt; writer.written(), &PULLS_VERDICT[..left]);
+        assert_same(&rt, &status, &1);
+        assert_same(&rt, &writer.written(), &&PULLS_VERDICT[..left]);
     }
     Ok(())
 }
@@ -160,7 +160,7 @@ fn events_byte_by_byte(rt: HostRuntime) -> Result<(), Fail> {
     let mut reader = FailingReader::new(PULLS, PULLS.len() + 1);
     let mut writer = FailingWriter::new(rt.alloc(), PULLS_VERDICT.len())?;
     let status = tells(&rt, ["check"].as_slice(), &mut reader, &mut writer, b"")?;
-    assert_eq!(&rt; writer.written(), PULLS_VERDICT);
-    assert_eq!(&rt; status, 0);
+    assert_same(&rt, &writer.written(), &PULLS_VERDICT);
+    assert_same(&rt, &status, &0);
     Ok(())
 }

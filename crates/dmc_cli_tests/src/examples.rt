@@ -1,6 +1,7 @@
 //! The worked examples of scripts, each under its name. Lines are parted by `; `.
 use crate::queues::over_queues;
 use crate::runs::{FailingReader, FailingWriter, ROOM, lines, runs, tells};
+use crate::same::assert_same;
 use std::alloc::{AllocError, Global};
 use std::process::Abort;
 use std::sync::Wait;
@@ -295,22 +296,34 @@ fn blanks(alloc: Global, n: usize) -> Result<Vec<u8>, AllocError> {
     Ok(input)
 }
 
+/// Scripts that write nothing, each with its fault.
+const FAULTS: [(&[u8], &[u8]); 8] = [
+    (b"hz 1000\npull 0\r\n", b"dmclock: line 2 bytes\n"),
+    (b"hz 1000\npull 01\n", b"dmclock: line 2 number\n"),
+    (
+        b"hz 1000\npull 18446744073709551616\n",
+        b"dmclock: line 2 number\n",
+    ),
+    (
+        b"hz 1000\nadd 1 4294967296 0 0 0\n",
+        b"dmclock: line 2 number\n",
+    ),
+    (b"hz 1000\nhz 1000\n", b"dmclock: line 2 hz\n"),
+    (b"hz 1000 100\n", b"dmclock: line 1 words\n"),
+    (b"hz 0\n", b"dmclock: line 1 hz\n"),
+    (b"hz 1000 2 1\n", b"dmclock: line 1 hz\n"),
+];
+
 #[test]
 fn script_faults(rt: HostRuntime) -> Result<(), Fail> {
     let most = blanks(rt.alloc(), 256)?;
     runs(&rt, ["script"].as_slice(), &most, b"", b"", 0)?;
     let long = blanks(rt.alloc(), 257)?;
     faults(&rt, long.as_slice(), b"", b"dmclock: line 2 bytes\n")?;
-    faults(&rt, b"hz 1000\npull 0\r\n", b"", b"dmclock: line 2 bytes\n")?;
-    faults(&rt, b"hz 1000\npull 01\n", b"", b"dmclock: line 2 number\n")?;
-    let large = b"hz 1000\npull 18446744073709551616\n";
-    faults(&rt, large, b"", b"dmclock: line 2 number\n")?;
-    let token = b"hz 1000\nadd 1 4294967296 0 0 0\n";
-    faults(&rt, token, b"", b"dmclock: line 2 number\n")?;
-    faults(&rt, b"hz 1000\nhz 1000\n", b"", b"dmclock: line 2 hz\n")?;
-    faults(&rt, b"hz 1000 100\n", b"", b"dmclock: line 1 words\n")?;
-    faults(&rt, b"hz 0\n", b"", b"dmclock: line 1 hz\n")?;
-    faults(&rt, b"hz 1000 2 1\n", b"", b"dmclock: line 1 hz\n")
+    for (input, fault) in FAULTS {
+        faults(&rt, input, b"", fault)?;
+    }
+    Ok(())
 }
 
 /// A script.
@@ -333,7 +346,7 @@ fn failing_reader(rt: HostRuntime) -> Result<(), Fail> {
             &mut written,
             b"dmclock: read\n",
         )?;
-        assert_eq!(&rt; status, 1);
+        assert_same(&rt, &status, &1);
         assert!(&rt; AT_LIMIT_OUT.starts_with(written.as_slice()));
     }
     Ok(())
@@ -352,8 +365,8 @@ fn failing_writer(rt: HostRuntime) -> Result<(), Fail> {
             &mut writer,
             b"dmclock: write\n",
         )?;
-        assert_eq!(&rt; status, 1);
-        assert_eq!(&rt; writer.written(), &AT_LIMIT_OUT[..left]);
+        assert_same(&rt, &status, &1);
+        assert_same(&rt, &writer.written(), &&AT_LIMIT_OUT[..left]);
     }
     Ok(())
 }
@@ -363,7 +376,7 @@ fn byte_by_byte(rt: HostRuntime) -> Result<(), Fail> {
     let mut reader = FailingReader::new(AT_LIMIT, AT_LIMIT.len() + 1);
     let mut writer = FailingWriter::new(rt.alloc(), AT_LIMIT_OUT.len())?;
     let status = tells(&rt, ["script"].as_slice(), &mut reader, &mut writer, b"")?;
-    assert_eq!(&rt; writer.written(), AT_LIMIT_OUT);
-    assert_eq!(&rt; status, 0);
+    assert_same(&rt, &writer.written(), &AT_LIMIT_OUT);
+    assert_same(&rt, &status, &0);
     Ok(())
 }

@@ -14,6 +14,8 @@ mod run_examples;
 #[cfg(test)]
 mod runs;
 #[cfg(test)]
+mod same;
+#[cfg(test)]
 mod sim_examples;
 #[cfg(test)]
 mod stream_tests;

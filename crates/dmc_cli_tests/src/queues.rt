@@ -1,5 +1,6 @@
 //! The other queues that the examples of scripts run on: the plain queue, and the indexed queue over sorted vectors.
 use crate::runs::ROOM;
+use crate::same::assert_same;
 use dmc_index::list_index::ListIndexes;
 use dmc_plain::queue::PlainQueue;
 use dmc_pull::queue::PullQueue;
@@ -82,7 +83,7 @@ fn over<T: TagText, M: QueueMaker<T> + Drop, A: AllocGlobal + Threads + Wait + S
     if ended == Err(ScriptFault::Memory) {
         return Err(AllocError.into());
     }
-    assert_eq!(rt; ended, Ok(()));
-    assert_eq!(rt; written.as_slice(), output);
+    assert_same(rt, &ended, &Ok(()));
+    assert_same(rt, &written.as_slice(), &output);
     Ok(())
 }

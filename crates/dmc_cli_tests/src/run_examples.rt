@@ -1,5 +1,6 @@
 //! The worked examples of runs in threads, each under its name. Lines are parted by `; `.
 use crate::runs::{ROOM, lines, runs, tells};
+use crate::same::assert_same;
 use std::alloc::{AllocError, Global};
 use std::process::Abort;
 use std::sync::Wait;
@@ -58,7 +59,7 @@ fn turns_out_run(rt: HostRuntime) -> Result<(), Fail> {
     let mut written = Vec::with_capacity(rt.alloc(), ROOM)?;
     let fault = b"dmclock: turns out\n";
     let status = tells(&rt, ["run"].as_slice(), &mut reader, &mut written, fault)?;
-    assert_eq!(rt; status, 4);
+    assert_same(&rt, &status, &4);
     assert!(rt; written.starts_with(b"client 1 sent "));
     for words in [
         " failed 0 units ",

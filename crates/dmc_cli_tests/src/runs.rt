@@ -1,7 +1,9 @@
 //! Runs of the program in the tests: what it is given, and what it has to write. Room for all that is written is made
 //! before a run, so that a refused growth is never told as a failed write.
+use crate::same::assert_same;
 use dmc_tool::tool::run_tool;
 use std::alloc::{AllocError, Global};
+use std::convert::AsStr;
 use std::io::{self, Read, Write};
 use std::process::Abort;
 use std::sync::Wait;
@@ -30,6 +32,17 @@ pub fn lines(alloc: Global, text: &str) -> Result<Vec<u8>, AllocError> {
     Ok(bytes)
 }
 
+/// Runs the program on these words, and answers its status. What its contract says of the streams, no test asks for.
+fn status_of<T: AllocGlobal + Threads + Wait + Sync, S: AsStr, R: Read, W: Write, E: Write>(
+    rt: &T,
+    words: &[S],
+    reader: &mut R,
+    writer: &mut W,
+    fault_writer: &mut E,
+) -> u8 {
+    run_tool(rt, words, reader, writer, fault_writer)
+}
+
 /// Runs the program on these words, checks what it tells of a fault, and answers its status. Want of memory is an error.
 pub fn tells<T: AllocGlobal + Threads + Wait + Sync + Abort, R: Read, W: Write>(
     rt: &T,
@@ -39,11 +52,11 @@ pub fn tells<T: AllocGlobal + Threads + Wait + Sync + Abort, R: Read, W: Write>(
     fault: &[u8],
 ) -> Result<u8, Fail> {
     let mut told = Vec::with_capacity(rt.alloc(), ROOM)?;
-    let status = run_tool(rt, words, reader, writer, &mut told);
+    let status = status_of(rt, words, reader, writer, &mut told);
     if told.as_slice() == b"dmclock: memory\n".as_slice() {
         return Err(AllocError.into());
     }
-    assert_eq!(rt; told.as_slice(), fault);
+    assert_same(rt, &told.as_slice(), &fault);
     Ok(status)
 }
 
@@ -59,8 +72,8 @@ pub fn runs<T: AllocGlobal + Threads + Wait + Sync + Abort>(
     let mut reader = input;
     let mut written = Vec::with_capacity(rt.alloc(), ROOM)?;
     let ended = tells(rt, words, &mut reader, &mut written, fault)?;
-    assert_eq!(rt; written.as_slice(), output);
-    assert_eq!(rt; ended, status);
+    assert_same(rt, &written.as_slice(), &output);
+    assert_same(rt, &ended, &status);
     Ok(())
 }
 

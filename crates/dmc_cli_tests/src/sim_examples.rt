@@ -1,5 +1,6 @@
 //! The worked examples of simulations, each under its name. Lines are parted by `; `.
 use crate::runs::{FailingReader, FailingWriter, lines, runs, tells};
+use crate::same::assert_same;
 use std::alloc::{AllocError, Global};
 use std::process::Abort;
 use std::sync::Wait;
@@ -143,23 +144,25 @@ fn refuses<T: AllocGlobal + Threads + Wait + Sync + Abort>(
     faults(rt, &lines(rt.alloc(), &text)?, fault)
 }
 
-#[test]
-fn scene_faults(rt: HostRuntime) -> Result<(), Fail> {
-    refuses(&rt, "", TWO, b"dmclock: scene missing hz\n")?;
-    refuses(&rt, "hz = \"1000\"; ", TWO, b"dmclock: scene kind hz\n")?;
-    refuses(&rt, "hz = -1; ", TWO, b"dmclock: scene value hz\n")?;
-    refuses(
-        &rt,
-        "hz = 1000; ",
-        "client = 5",
-        b"dmclock: scene kind client\n",
-    )?;
-    refuses(
-        &rt,
+/// First keys and clients of a scene, each with its fault.
+const FAULTS: [(&str, &str, &[u8]); 5] = [
+    ("", TWO, b"dmclock: scene missing hz\n"),
+    ("hz = \"1000\"; ", TWO, b"dmclock: scene kind hz\n"),
+    ("hz = -1; ", TWO, b"dmclock: scene value hz\n"),
+    ("hz = 1000; ", "client = 5", b"dmclock: scene kind client\n"),
+    (
         "hz = 1000; ",
         "[[client]]; id = 1; weight =",
         b"dmclock: scene text\n",
-    )
+    ),
+];
+
+#[test]
+fn scene_faults(rt: HostRuntime) -> Result<(), Fail> {
+    for (hz, clients, fault) in FAULTS {
+        refuses(&rt, hz, clients, fault)?;
+    }
+    Ok(())
 }
 
 #[test]
@@ -185,9 +188,9 @@ fn long_scene(rt: HostRuntime) -> Result<(), Fail> {
     let words = ["sim"];
     let fault = b"dmclock: scene text\n";
     let status = tells(&rt, words.as_slice(), &mut reader, &mut written, fault)?;
-    assert_eq!(rt; status, 1);
-    assert_eq!(rt; reader.len(), 3);
-    assert_eq!(rt; written.len(), 0);
+    assert_same(&rt, &status, &1);
+    assert_same(&rt, &reader.len(), &3);
+    assert_same(&rt, &written.len(), &0);
     Ok(())
 }
 
@@ -214,8 +217,8 @@ fn sim_streams(rt: HostRuntime) -> Result<(), Fail> {
     let mut writer = FailingWriter::new(rt.alloc(), output.len())?;
     let fault = b"dmclock: read\n";
     let status = tells(&rt, words.as_slice(), &mut reader, &mut writer, fault)?;
-    assert_eq!(rt; status, 1);
-    assert_eq!(rt; writer.written().len(), 0);
+    assert_same(&rt, &status, &1);
+    assert_same(&rt, &writer.written().len(), &0);
     Ok(())
 }
 
@@ -229,7 +232,7 @@ fn sim_writes(rt: HostRuntime) -> Result<(), Fail> {
     let mut writer = FailingWriter::new(rt.alloc(), 60)?;
     let fault = b"dmclock: write\n";
     let status = tells(&rt, words.as_slice(), &mut reader, &mut writer, fault)?;
-    assert_eq!(rt; status, 1);
-    assert_eq!(rt; writer.written(), first);
+    assert_same(&rt, &status, &1);
+    assert_same(&rt, &writer.written(), &first);
     Ok(())
 }

@@ -2,6 +2,7 @@
 use crate::event_examples::{PULLS, PULLS_VERDICT};
 use crate::examples::{AT_LIMIT, AT_LIMIT_OUT};
 use crate::runs::{FailingReader, FailingWriter, Interrupted, ROOM, tells};
+use crate::same::assert_same;
 use std::process::Abort;
 use std::sync::Wait;
 use std::test::Fail;
@@ -26,8 +27,8 @@ fn failing_flush(rt: HostRuntime) -> Result<(), Fail> {
             &mut writer,
             b"dmclock: write\n",
         )?;
-        assert_eq!(&rt; status, 1);
-        assert_eq!(&rt; writer.written(), output);
+        assert_same(&rt, &status, &1);
+        assert_same(&rt, &writer.written(), &output);
     }
     Ok(())
 }
@@ -39,8 +40,8 @@ fn interrupted_streams(rt: HostRuntime) -> Result<(), Fail> {
         let mut writer = Interrupted::new(FailingWriter::new(rt.alloc(), output.len())?);
         let words = [command];
         let status = tells(&rt, words.as_slice(), &mut reader, &mut writer, b"")?;
-        assert_eq!(&rt; writer.stream().written(), output);
-        assert_eq!(&rt; status, 0);
+        assert_same(&rt, &writer.stream().written(), &output);
+        assert_same(&rt, &status, &0);
     }
     Ok(())
 }
@@ -54,24 +55,32 @@ fn refuses<T: AllocGlobal + Threads + Wait + Sync + Abort>(
     let mut written = Vec::with_capacity(rt.alloc(), ROOM)?;
     let usage = b"usage: dmclock script|check [--tags tick|ratio] | sim | run\n";
     let status = tells(rt, words, &mut reader, &mut written, usage)?;
-    assert_eq!(rt; status, 2);
-    assert_eq!(rt; reader.len(), AT_LIMIT.len());
-    assert_eq!(rt; written.len(), 0);
+    assert_same(rt, &status, &2);
+    assert_same(rt, &reader.len(), &AT_LIMIT.len());
+    assert_same(rt, &written.len(), &0);
     Ok(())
 }
 
+/// Words that ask for no tool.
+const REFUSED: [&[&str]; 12] = [
+    &[],
+    &["serve"],
+    &["script", "--tag", "tick"],
+    &["script", "--tags"],
+    &["check", "--tags", "whole"],
+    &["--help"],
+    &["-h"],
+    &["help"],
+    &["script", "check"],
+    &["check", "--tags", "tick", "ratio"],
+    &["sim", "--tags", "tick"],
+    &["run", "--tags", "tick"],
+];
+
 #[test]
 fn refused_words(rt: HostRuntime) -> Result<(), Fail> {
-    refuses(&rt, [].as_slice())?;
-    refuses(&rt, ["serve"].as_slice())?;
-    refuses(&rt, ["script", "--tag", "tick"].as_slice())?;
-    refuses(&rt, ["script", "--tags"].as_slice())?;
-    refuses(&rt, ["check", "--tags", "whole"].as_slice())?;
-    refuses(&rt, ["--help"].as_slice())?;
-    refuses(&rt, ["-h"].as_slice())?;
-    refuses(&rt, ["help"].as_slice())?;
-    refuses(&rt, ["script", "check"].as_slice())?;
-    refuses(&rt, ["check", "--tags", "tick", "ratio"].as_slice())?;
-    refuses(&rt, ["sim", "--tags", "tick"].as_slice())?;
-    refuses(&rt, ["run", "--tags", "tick"].as_slice())
+    for words in REFUSED {
+        refuses(&rt, words)?;
+    }
+    Ok(())
 }

@@ -1,13 +1,15 @@
 //! What no clause says: which words are lawful, and the texts of the faults.
+use crate::same::assert_same;
 use dmc_scene::key::Key;
 use dmc_text::cause::LineCause;
 use dmc_tool::fault::Fault;
 use dmc_tool::words::{Tool, ToolCommand, WordsFault, read_words};
 use dmc_types::config::TagKind;
 use std::alloc::Global;
+use std::process::Abort;
 use std::test::Fail;
 
-// The tool that is asked for, or none at a usage fault.
+/// The tool that is asked for, or none at a usage fault.
 fn ask(alloc: Global, words: &[&str]) -> Result<Option<Tool>, WordsFault> {
     match read_words(alloc, words) {
         Err(WordsFault::Usage) => Ok(None),
@@ -19,93 +21,97 @@ fn tool(command: ToolCommand, tags: TagKind) -> Option<Tool> {
     Some(Tool { command, tags })
 }
 
+/// The words ask for this tool, or for none.
+fn asks<R: AllocGlobal + Abort>(
+    rt: &R,
+    words: &[&str],
+    wanted: Option<Tool>,
+) -> Result<(), WordsFault> {
+    let asked = ask(rt.alloc(), words)?;
+    assert_same(rt, &asked, &wanted);
+    Ok(())
+}
+
+/// Each of these words asks for no tool.
+fn ask_for_none<R: AllocGlobal + Abort>(rt: &R, faults: &[&[&str]]) -> Result<(), WordsFault> {
+    for words in faults {
+        asks(rt, words, None)?;
+    }
+    Ok(())
+}
+
 #[test]
 fn words_of_a_script(rt: HostRuntime) -> Result<(), Fail> {
-    let alloc = rt.alloc();
     let ticks = tool(ToolCommand::Script, TagKind::Tick);
     let ratios = tool(ToolCommand::Script, TagKind::Ratio);
-    assert_eq!(rt; ask(alloc, ["script"].as_slice())?, ticks);
-    assert_eq!(rt; ask(alloc, ["script", "--tags", "tick"].as_slice())?, ticks);
-    assert_eq!(rt;
-        ask(alloc, ["script", "--tags", "ratio"].as_slice())?,
-        ratios
-    );
-    assert_eq!(rt; ask(alloc, ["script", "--tags=ratio"].as_slice())?, ratios);
+    asks(&rt, &["script"], ticks)?;
+    asks(&rt, &["script", "--tags", "tick"], ticks)?;
+    asks(&rt, &["script", "--tags", "ratio"], ratios)?;
+    asks(&rt, &["script", "--tags=ratio"], ratios)?;
     Ok(())
 }
 
 #[test]
 fn words_of_a_check(rt: HostRuntime) -> Result<(), Fail> {
-    let alloc = rt.alloc();
     let ticks = tool(ToolCommand::Check, TagKind::Tick);
     let ratios = tool(ToolCommand::Check, TagKind::Ratio);
-    assert_eq!(rt; ask(alloc, ["check"].as_slice())?, ticks);
-    assert_eq!(rt; ask(alloc, ["check", "--tags", "tick"].as_slice())?, ticks);
-    assert_eq!(rt;
-        ask(alloc, ["check", "--tags", "ratio"].as_slice())?,
-        ratios
-    );
+    asks(&rt, &["check"], ticks)?;
+    asks(&rt, &["check", "--tags", "tick"], ticks)?;
+    asks(&rt, &["check", "--tags", "ratio"], ratios)?;
     Ok(())
 }
 
 #[test]
 fn words_of_a_simulation(rt: HostRuntime) -> Result<(), Fail> {
-    let alloc = rt.alloc();
-    let sim = tool(ToolCommand::Sim, TagKind::Tick);
-    assert_eq!(rt; ask(alloc, ["sim"].as_slice())?, sim);
-    assert_eq!(rt; ask(alloc, ["sim", "two_clients"].as_slice())?, None);
+    asks(&rt, &["sim"], tool(ToolCommand::Sim, TagKind::Tick))?;
+    asks(&rt, &["sim", "two_clients"], None)?;
     Ok(())
 }
+
+/// Words that ask for no tool.
+const FAULTS: &[&[&str]] = &[
+    &[],
+    &[""],
+    &["serve"],
+    &["scripts"],
+    &["checks"],
+    &["check", "--tags", "whole"],
+    &["Script"],
+    &["script", "check"],
+    &["script", "--tags"],
+    &["script", "--tags", "whole"],
+    &["script", "--tags", "tick", "ratio"],
+    &["script", "--tags", "tick", "--tags", "tick"],
+    &["--tags", "tick", "script"],
+    &["script", "--tag", "tick"],
+    &["sim", "--tags", "tick"],
+];
 
 #[test]
 fn usage_faults(rt: HostRuntime) -> Result<(), Fail> {
-    let alloc = rt.alloc();
-    assert_eq!(rt; ask(alloc, [].as_slice())?, None);
-    assert_eq!(rt; ask(alloc, [""].as_slice())?, None);
-    assert_eq!(rt; ask(alloc, ["serve"].as_slice())?, None);
-    assert_eq!(rt; ask(alloc, ["scripts"].as_slice())?, None);
-    assert_eq!(rt; ask(alloc, ["checks"].as_slice())?, None);
-    assert_eq!(rt; ask(alloc, ["check", "--tags", "whole"].as_slice())?, None);
-    assert_eq!(rt; ask(alloc, ["Script"].as_slice())?, None);
-    assert_eq!(rt; ask(alloc, ["script", "check"].as_slice())?, None);
-    assert_eq!(rt; ask(alloc, ["script", "--tags"].as_slice())?, None);
-    assert_eq!(rt; ask(alloc, ["script", "--tags", "whole"].as_slice())?, None);
-    assert_eq!(rt;
-        ask(alloc, ["script", "--tags", "tick", "ratio"].as_slice())?,
-        None
-    );
-    assert_eq!(rt;
-        ask(
-            alloc,
-            ["script", "--tags", "tick", "--tags", "tick"].as_slice()
-        )?,
-        None
-    );
-    assert_eq!(rt; ask(alloc, ["--tags", "tick", "script"].as_slice())?, None);
-    assert_eq!(rt; ask(alloc, ["script", "--tag", "tick"].as_slice())?, None);
-    assert_eq!(rt; ask(alloc, ["sim", "--tags", "tick"].as_slice())?, None);
-    Ok(())
+    Ok(ask_for_none(&rt, FAULTS)?)
 }
+
+/// Words that ask for help, of which there is none but the usage.
+const HELP: &[&[&str]] = &[
+    &["help"],
+    &["-h"],
+    &["--help"],
+    &["--version"],
+    &["script", "--help"],
+    &["help", "script"],
+];
 
 #[test]
 fn calls_for_help(rt: HostRuntime) -> Result<(), Fail> {
-    let alloc = rt.alloc();
-    assert_eq!(rt; ask(alloc, ["help"].as_slice())?, None);
-    assert_eq!(rt; ask(alloc, ["-h"].as_slice())?, None);
-    assert_eq!(rt; ask(alloc, ["--help"].as_slice())?, None);
-    assert_eq!(rt; ask(alloc, ["--version"].as_slice())?, None);
-    assert_eq!(rt; ask(alloc, ["script", "--help"].as_slice())?, None);
-    assert_eq!(rt; ask(alloc, ["help", "script"].as_slice())?, None);
-    Ok(())
+    Ok(ask_for_none(&rt, HELP)?)
 }
 
 // A run takes no option: its tags are those of the scene.
 #[test]
 fn words_of_a_run(rt: HostRuntime) -> Result<(), Fail> {
-    let alloc = rt.alloc();
-    let run = tool(ToolCommand::Run, TagKind::Tick);
-    assert_eq!(rt; ask(alloc, ["run"].as_slice())?, run);
-    assert_eq!(rt; ask(alloc, ["run", "--tags", "tick"].as_slice())?, None);
+    asks(&rt, &["run"], tool(ToolCommand::Run, TagKind::Tick))?;
+    asks(&rt, &["run", "--tags", "tick"], None)?;
     Ok(())
 }
 
@@ -150,8 +156,8 @@ fn fault_texts(rt: HostRuntime) -> Result<(), Fail> {
     ];
     for (fault, text, status) in faults {
         let told = format!(in alloc; "{fault}")?;
-        assert_eq!(rt; told.as_str(), text);
-        assert_eq!(rt; fault.status(), status);
+        assert_same(&rt, &told.as_str(), &text);
+        assert_same(&rt, &fault.status(), &status);
     }
     Ok(())
 }

@@ -1,4 +1,5 @@
 //! The worked examples of event texts, each under its name, and one history.
+use crate::same::assert_same;
 use dmc_check::check::{Verdict, check};
 use dmc_check::text::check_text;
 use dmc_history::History;
@@ -28,8 +29,8 @@ fn checks<T: AllocGlobal + Abort>(
     if checked == Err(ScriptFault::Memory) {
         return Err(AllocError.into());
     }
-    assert_eq!(rt; checked, answer);
-    assert_eq!(rt; written.as_slice(), output);
+    assert_same(rt, &checked, &answer);
+    assert_same(rt, &written.as_slice(), &output);
     Ok(())
 }
 
@@ -103,8 +104,8 @@ fn a_history(rt: HostRuntime) -> Result<(), Fail> {
         });
         let verdict = check(rt.alloc(), config, &history)?;
         let replays = reply == Reply::Nothing;
-        assert_eq!(rt; verdict == Verdict::Replays, replays);
-        assert_eq!(rt; verdict == Verdict::Differs(1), !replays);
+        assert_same(&rt, &(verdict == Verdict::Replays), &replays);
+        assert_same(&rt, &(verdict == Verdict::Differs(1)), &!replays);
     }
     Ok(())
 }

@@ -8,4 +8,6 @@ mod lines;
 #[cfg(test)]
 mod recorded;
 #[cfg(test)]
+mod same;
+#[cfg(test)]
 mod scenes;

@@ -1,4 +1,5 @@
 //! A queue's history gives back what was put into it, whatever the form of the event.
+use crate::same::assert_same;
 use dmc_check::check::{Verdict, check};
 use dmc_events::history::EventHistory;
 use dmc_tag::event::Event;
@@ -107,13 +108,22 @@ fn fill(rt: &impl Abort, history: &mut EventHistory<TickTag>) -> Result<(), Fail
     Ok(())
 }
 
+/// Fills a history, so that no event more is taken, and checks it.
+fn fill_and_check<R: AllocGlobal + Abort>(
+    rt: &R,
+    config: QueueConfig,
+    history: &mut EventHistory<TickTag>,
+) -> Result<Verdict, Fail> {
+    fill(rt, history)?;
+    assert!(rt; history.reserve_one().is_err());
+    Ok(check(rt.alloc(), config, history)?)
+}
+
 #[test]
 fn a_recorded_history(rt: HostRuntime) -> Result<(), Fail> {
     let config = QueueConfig::new(1000, 1 << 62, 1 << 62, AtLimit::Wait)?;
     let mut history = EventHistory::new(rt.alloc(), 9)?;
-    fill(&rt, &mut history)?;
-    assert!(rt; history.reserve_one().is_err());
-    let verdict = check(rt.alloc(), config, &history)?;
-    assert_eq!(rt; verdict, Verdict::Replays);
+    let verdict = fill_and_check(&rt, config, &mut history)?;
+    assert_same(&rt, &verdict, &Verdict::Replays);
     Ok(())
 }

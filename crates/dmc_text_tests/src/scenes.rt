@@ -1,4 +1,5 @@
 //! The scenes of the examples, and the faults of scenes that are close to them.
+use crate::same::assert_same;
 use dmc_scene::fault::SceneFault;
 use dmc_scene::key::Key;
 use dmc_scene::scene::{Scene, read_scene};
@@ -93,149 +94,153 @@ fn assert_changed(
 fn two_clients(rt: HostRuntime) -> Result<(), Fail> {
     let scene = read_scene(rt.alloc(), TWO_CLIENTS.as_bytes())?;
     let config = QueueConfig::new(1000, OLDEST, OLDEST, AtLimit::Wait)?;
-    assert_eq!(rt; scene.config(), config);
-    assert_eq!(rt; scene.tags(), TagKind::Tick);
-    assert_eq!(rt; scene.servers(), 1);
-    assert_eq!(rt; scene.workers(), 1);
-    assert_eq!(rt; scene.step(), 50);
-    assert_eq!(rt; scene.seed(), 1);
-    assert_eq!(rt; scene.max_pulls(), 100);
-    assert_eq!(rt; scene.counting(), Counting::All);
+    assert_same(&rt, &scene.config(), &config);
+    assert_same(&rt, &scene.tags(), &TagKind::Tick);
+    assert_same(&rt, &scene.servers(), &1);
+    assert_same(&rt, &scene.workers(), &1);
+    assert_same(&rt, &scene.step(), &50);
+    assert_same(&rt, &scene.seed(), &1);
+    assert_same(&rt, &scene.max_pulls(), &100);
+    assert_same(&rt, &scene.counting(), &Counting::All);
     assert_eq!(rt; scene.clients().len(), 2);
     let first = scene.clients()[0];
-    assert_eq!(rt; first.id(), ClientId(1));
-    assert_eq!(rt; first.info(), ClientInfo::new(Some(10), 1, None)?);
-    assert_eq!(rt; first.requests(), 2);
-    assert_eq!(rt; first.window(), 1);
+    assert_same(&rt, &first.id(), &ClientId(1));
+    assert_same(&rt, &first.info(), &ClientInfo::new(Some(10), 1, None)?);
+    assert_same(&rt, &first.requests(), &2);
+    assert_same(&rt, &first.window(), &1);
     let second = scene.clients()[1];
-    assert_eq!(rt; second.id(), ClientId(2));
-    assert_eq!(rt; second.info(), ClientInfo::new(None, 2, None)?);
+    assert_same(&rt, &second.id(), &ClientId(2));
+    assert_same(&rt, &second.info(), &ClientInfo::new(None, 2, None)?);
     Ok(())
 }
 
 #[test]
 fn three_servers(rt: HostRuntime) -> Result<(), Fail> {
     let scene = read_scene(rt.alloc(), THREE_SERVERS.as_bytes())?;
-    assert_eq!(rt; scene.servers(), 3);
-    assert_eq!(rt; scene.workers(), 2);
-    assert_eq!(rt; scene.step(), 1);
-    assert_eq!(rt; scene.seed(), 7);
-    assert_eq!(rt; scene.max_pulls(), 1_000_000);
+    assert_same(&rt, &scene.servers(), &3);
+    assert_same(&rt, &scene.workers(), &2);
+    assert_same(&rt, &scene.step(), &1);
+    assert_same(&rt, &scene.seed(), &7);
+    assert_same(&rt, &scene.max_pulls(), &1_000_000);
     assert_eq!(rt; scene.clients().len(), 4);
     let last = scene.clients()[3];
-    assert_eq!(rt; last.id(), ClientId(4));
-    assert_eq!(rt; last.requests(), 200);
-    assert_eq!(rt; last.window(), 8);
+    assert_same(&rt, &last.id(), &ClientId(4));
+    assert_same(&rt, &last.requests(), &200);
+    assert_same(&rt, &last.window(), &8);
     Ok(())
 }
 
-#[test]
-fn scene_faults(rt: HostRuntime) -> Result<(), Fail> {
+/// Blanks are read up to 2^20 bytes.
+fn blanks_are_refused<R: AllocGlobal + Abort>(rt: &R) -> Result<(), Fail> {
     let alloc = rt.alloc();
     let long = vec![in alloc; b' '; (1 << 20) + 1]?;
-    assert_eq!(rt; fault_of(alloc, long.as_slice())?, Some(SceneFault::Text));
-    assert_eq!(rt;
+    let faults = [
+        fault_of(alloc, long.as_slice())?,
         fault_of(alloc, &long.as_slice()[1..])?,
-        Some(SceneFault::Missing(Key::Hz))
-    );
-    assert_eq!(rt; fault_of(alloc, b"hz = \"\xff\"")?, Some(SceneFault::Text));
-    let (before, _) = TWO_CLIENTS.split_once("weight =").ok_or("no weight")?;
-    let cut = format!(in alloc; "{before}weight =")?;
-    assert_eq!(rt;
-        fault_of(alloc, cut.as_str().as_bytes())?,
-        Some(SceneFault::Text)
-    );
-    let (before, _) = TWO_CLIENTS.split_once("[[client]]").ok_or("no client")?;
-    let five = format!(in alloc; "{before}client = 5\n")?;
-    assert_eq!(rt;
-        fault_of(alloc, five.as_str().as_bytes())?,
-        Some(SceneFault::Kind(Key::Client))
-    );
-    let single = format!(in alloc; "{before}[client]\nid = 1\n")?;
-    assert_eq!(rt;
-        fault_of(alloc, single.as_str().as_bytes())?,
-        Some(SceneFault::Kind(Key::Client))
-    );
-    let mixed = format!(in alloc; "{before}client = [{{ id = 1 }}, 5]\n")?;
-    assert_eq!(rt;
-        fault_of(alloc, mixed.as_str().as_bytes())?,
-        Some(SceneFault::Kind(Key::Client))
-    );
-    let empty = format!(in alloc; "{before}client = []\n")?;
-    assert_eq!(rt;
-        fault_of(alloc, empty.as_str().as_bytes())?,
-        Some(SceneFault::Value(Key::Client))
-    );
-    assert_eq!(rt;
-        fault_of(alloc, before.as_bytes())?,
-        Some(SceneFault::Missing(Key::Client))
-    );
+    ];
+    let wanted = [SceneFault::Text, SceneFault::Missing(Key::Hz)];
+    assert_same(rt, &faults, &wanted.map(Some));
     Ok(())
+}
+
+/// The text of both parts is refused for this.
+fn refuses<R: AllocGlobal + Abort>(
+    rt: &R,
+    before: &str,
+    rest: &str,
+    fault: SceneFault,
+) -> Result<(), Fail> {
+    let text = format!(in rt.alloc(); "{before}{rest}")?;
+    assert_same(rt, &fault_of(rt.alloc(), text.as_bytes())?, &Some(fault));
+    Ok(())
+}
+
+/// What stands in the place of the clients, and why it is refused.
+const CLIENTS: [(&str, SceneFault); 5] = [
+    ("client = 5\n", SceneFault::Kind(Key::Client)),
+    ("[client]\nid = 1\n", SceneFault::Kind(Key::Client)),
+    ("client = [{ id = 1 }, 5]\n", SceneFault::Kind(Key::Client)),
+    ("client = []\n", SceneFault::Value(Key::Client)),
+    ("", SceneFault::Missing(Key::Client)),
+];
+
+#[test]
+fn scene_faults(rt: HostRuntime) -> Result<(), Fail> {
+    blanks_are_refused(&rt)?;
+    let fault = fault_of(rt.alloc(), b"hz = \"\xff\"")?;
+    assert_same(&rt, &fault, &Some(SceneFault::Text));
+    let (before, _) = TWO_CLIENTS.split_once("weight =").ok_or("no weight")?;
+    refuses(&rt, before, "weight =", SceneFault::Text)?;
+    let (before, _) = TWO_CLIENTS.split_once("[[client]]").ok_or("no client")?;
+    for (rest, fault) in CLIENTS {
+        refuses(&rt, before, rest, fault)?;
+    }
+    Ok(())
+}
+
+/// Changes of the scene, each with the fault that it makes.
+const CHANGES: [(&str, &str, SceneFault); 11] = [
+    ("hz = 1000\n", "", SceneFault::Missing(Key::Hz)),
+    ("hz = 1000", "hz = \"1000\"", SceneFault::Kind(Key::Hz)),
+    ("hz = 1000", "hz = -1", SceneFault::Value(Key::Hz)),
+    (
+        "servers = 1",
+        "servers = 0",
+        SceneFault::Value(Key::Servers),
+    ),
+    ("weight = 1", "weight = 3", SceneFault::Value(Key::Weight)),
+    ("id = 2", "id = 1", SceneFault::Value(Key::Id)),
+    (
+        "tags = \"tick\"",
+        "tags = \"ticks\"",
+        SceneFault::Value(Key::Tags),
+    ),
+    (
+        "seed = 1",
+        "counting = \"none\"",
+        SceneFault::Missing(Key::Seed),
+    ),
+    (
+        "step",
+        "idle_age = 9\nerase_age = 8\nstep",
+        SceneFault::Value(Key::EraseAge),
+    ),
+    (
+        "step",
+        "at_limit = true\nstep",
+        SceneFault::Kind(Key::AtLimit),
+    ),
+    (
+        "window = 1",
+        "window = 1025",
+        SceneFault::Value(Key::Window),
+    ),
+];
+
+/// The scene in ratios, with thirds.
+fn thirds(alloc: Global) -> Result<Scene, SceneFault> {
+    let ratios = "tags = \"ratio\"\ncounting = \"others\"\nat_limit = \"allow\"";
+    let text = changed(alloc, TWO_CLIENTS, "tags = \"tick\"", ratios)?;
+    let text = changed(alloc, &text, "weight = 1", "weight = 3\nlimit = 20")?;
+    read_scene(alloc, text.as_bytes())
 }
 
 #[test]
 fn changed_scenes(rt: HostRuntime) -> Result<(), Fail> {
-    let cases = [
-        ("hz = 1000\n", "", SceneFault::Missing(Key::Hz)),
-        ("hz = 1000", "hz = \"1000\"", SceneFault::Kind(Key::Hz)),
-        ("hz = 1000", "hz = -1", SceneFault::Value(Key::Hz)),
-        (
-            "servers = 1",
-            "servers = 0",
-            SceneFault::Value(Key::Servers),
-        ),
-        ("weight = 1", "weight = 3", SceneFault::Value(Key::Weight)),
-        ("id = 2", "id = 1", SceneFault::Value(Key::Id)),
-        (
-            "tags = \"tick\"",
-            "tags = \"ticks\"",
-            SceneFault::Value(Key::Tags),
-        ),
-        (
-            "seed = 1",
-            "counting = \"none\"",
-            SceneFault::Missing(Key::Seed),
-        ),
-        (
-            "step",
-            "idle_age = 9\nerase_age = 8\nstep",
-            SceneFault::Value(Key::EraseAge),
-        ),
-        (
-            "step",
-            "at_limit = true\nstep",
-            SceneFault::Kind(Key::AtLimit),
-        ),
-        (
-            "window = 1",
-            "window = 1025",
-            SceneFault::Value(Key::Window),
-        ),
-    ];
-    for (old, new, fault) in cases {
+    for (old, new, fault) in CHANGES {
         assert_changed(&rt, rt.alloc(), old, new, Some(fault))?;
     }
-    let thirds = "tags = \"ratio\"\ncounting = \"others\"\nat_limit = \"allow\"";
-    let text = changed(rt.alloc(), TWO_CLIENTS, "tags = \"tick\"", thirds)?;
-    let text = changed(
-        rt.alloc(),
-        text.as_str(),
-        "weight = 1",
-        "weight = 3\nlimit = 20",
-    )?;
-    let scene: Scene = read_scene(rt.alloc(), text.as_str().as_bytes())?;
-    assert_eq!(rt; scene.tags(), TagKind::Ratio);
-    assert_eq!(rt; scene.counting(), Counting::Others);
-    assert_eq!(rt; scene.config().at_limit(), AtLimit::Allow);
-    assert_eq!(rt;
-        scene.clients()[0].info(),
-        ClientInfo::new(Some(10), 3, Some(20))?
-    );
+    let scene = thirds(rt.alloc())?;
+    assert_same(&rt, &scene.tags(), &TagKind::Ratio);
+    assert_same(&rt, &scene.counting(), &Counting::Others);
+    assert_same(&rt, &scene.config().at_limit(), &AtLimit::Allow);
+    let info = ClientInfo::new(Some(10), 3, Some(20))?;
+    assert_same(&rt, &scene.clients()[0].info(), &info);
     Ok(())
 }
 
 #[test]
 fn names(rt: HostRuntime) {
-    assert_eq!(rt; Key::MaxPulls.name(), "max_pulls");
-    assert_eq!(rt; Key::Id.name(), "id");
+    assert_same(&rt, &Key::MaxPulls.name(), &"max_pulls");
+    assert_same(&rt, &Key::Id.name(), &"id");
 }

@@ -1,4 +1,5 @@
 //! Tests of histories.
+use crate::same::assert_same;
 use dmc_history::{History, ReserveFault};
 use std::process::Abort;
 use std::test::Fail;
@@ -31,9 +32,9 @@ fn event_at(history: &History<u32>, index: usize) -> Option<u32> {
 fn record(rt: &impl Abort, history: &mut History<u32>, event: u32) -> Result<(), Fail> {
     let before = count(history);
     if let Err(fault) = reserve(history) {
-        assert_eq!(rt; fault, ReserveFault::Memory);
-        assert_eq!(rt; before % BLOCK, 0);
-        assert_eq!(rt; count(history), before);
+        assert_same(rt, &fault, &ReserveFault::Memory);
+        assert_same(rt, &(before % BLOCK), &0);
+        assert_same(rt, &count(history), &before);
     }
     push(history, event)?;
     Ok(())
@@ -44,15 +45,15 @@ fn history_limit(rt: HostRuntime) -> Result<(), Fail> {
     assert!(rt; History::<u32>::new(rt.alloc(), 0).is_err());
     assert!(rt; History::<u32>::new(rt.alloc(), (1 << 30) + 1).is_err());
     let mut history = History::new(rt.alloc(), 2)?;
-    assert_eq!(rt; history.most(), 2);
+    assert_same(&rt, &history.most(), &2);
     assert!(rt; history.is_empty());
     push(&mut history, 7)?;
     push(&mut history, 8)?;
-    assert_eq!(rt; reserve(&mut history), Err(ReserveFault::HistoryFull));
-    assert_eq!(rt; count(&history), 2);
+    assert_same(&rt, &reserve(&mut history), &Err(ReserveFault::HistoryFull));
+    assert_same(&rt, &count(&history), &2);
     assert!(rt; !history.is_empty());
-    assert_eq!(rt; event_at(&history, 1), Some(8));
-    assert_eq!(rt; event_at(&history, 2), None);
+    assert_same(&rt, &event_at(&history, 1), &Some(8));
+    assert_same(&rt, &event_at(&history, 2), &None);
     Ok(())
 }
 
@@ -62,10 +63,10 @@ fn history_blocks(rt: HostRuntime) -> Result<(), Fail> {
     for event in 0..2049 {
         record(&rt, &mut history, event)?;
     }
-    assert_eq!(rt; count(&history), 2049);
+    assert_same(&rt, &count(&history), &2049);
     for index in [0, 1023, 1024, 2048] {
-        assert_eq!(rt; event_at(&history, index), Some(index as u32));
+        assert_same(&rt, &event_at(&history, index), &Some(index as u32));
     }
-    assert_eq!(rt; event_at(&history, 2049), None);
+    assert_same(&rt, &event_at(&history, 2049), &None);
     Ok(())
 }

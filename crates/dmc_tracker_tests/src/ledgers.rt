@@ -1,6 +1,7 @@
 //! Tests of books and tills.
 ghost use Rattle.std.specs.Prelude.{◌≡◌, ◌≢◌, ◌<◌, IfOk};
 
+use crate::same::assert_same;
 use dmc_ledger::book::Book;
 use dmc_ledger::desk::{close_pair, open_pair};
 use dmc_ledger::full::Full;
@@ -22,14 +23,14 @@ fn bounds<S: Setup>(rt: &impl Abort, blank: Blank) -> Result<(), Full>
     let mut mint = blank.open::<S>();
     let mut book = mint.open()?;
     let mut till = book.till()?;
-    assert_eq!(rt; book.issue(&mut till, 1 << 63), Ok(()));
-    assert_eq!(rt; book.issue(&mut till, 1), Err(Full));
-    assert_eq!(rt; book.total(), 1 << 63);
-    assert_eq!(rt; book.gathered(), 0);
-    assert_eq!(rt; till.amount(), 1 << 63);
+    assert_same(rt, &book.issue(&mut till, 1 << 63), &Ok(()));
+    assert_same(rt, &book.issue(&mut till, 1), &Err(Full));
+    assert_same(rt, &book.total(), &(1 << 63));
+    assert_same(rt, &book.gathered(), &0);
+    assert_same(rt, &till.amount(), &(1 << 63));
     book.gather(till);
-    assert_eq!(rt; book.gathered(), 1 << 63);
-    assert_eq!(rt; book.open_tills(), 0);
+    assert_same(rt, &book.gathered(), &(1 << 63));
+    assert_same(rt, &book.open_tills(), &0);
     assert!(rt; mint.open().is_err());
     Ok(())
 }
@@ -114,8 +115,8 @@ fn gathered<S: Setup>(counter: Counter<S>, first: Till<S>, second: Till<S>) -> (
 #[test]
 fn threads_count(rt: HostRuntime) -> Result<(), Fail> {
     let (total, gathered) = counted::<Brand, HostRuntime>(&rt, Blank::new(1), 1000)?;
-    assert_eq!(rt; total, 2000);
-    assert_eq!(rt; gathered, 2000);
+    assert_same(&rt, &total, &2000);
+    assert_same(&rt, &gathered, &2000);
     Ok(())
 }
 
@@ -151,7 +152,7 @@ fn read<S: Setup>(book: &Book<S>, till: &Till<S>) -> u64
 #[test]
 fn till_in_a_thread(rt: HostRuntime) -> Result<(), Fail> {
     let sum = moved::<Brand, HostRuntime>(&rt, Blank::new(1))?;
-    assert_eq!(rt; sum, 14);
+    assert_same(&rt, &sum, &14);
     Ok(())
 }
 
@@ -169,7 +170,7 @@ fn numbers<S: Setup>(rt: &impl Abort, blank: Blank) -> Result<(), Full>
 {
     let mut mint = blank.open::<S>();
     let (first, second) = next_two(&mut mint)?;
-    assert_eq!(rt; (first.number(), second.number()), (0, 1));
+    assert_same(rt, &(first.number(), second.number()), &(0, 1));
     Ok(())
 }
 
@@ -189,10 +190,10 @@ fn apart<S: Setup, T: Setup>(rt: &impl Abort, left: Blank, right: Blank) -> Resu
     let mut right_till = right.till()?;
     left.issue(&mut left_till, 3)?;
     right.issue(&mut right_till, 5)?;
-    assert_eq!(rt; left.number(), right.number());
-    assert_eq!(rt; (left.total(), right.total()), (3, 5));
+    assert_same(rt, &left.number(), &right.number());
+    assert_same(rt, &(left.total(), right.total()), &(3, 5));
     left.gather(left_till);
-    assert_eq!(rt; (left.gathered(), right.gathered()), (3, 0));
+    assert_same(rt, &(left.gathered(), right.gathered()), &(3, 0));
     Ok(())
 }
 
@@ -214,7 +215,7 @@ fn pair<S: Setup>(
     let mut mint = blank.open::<S>();
     let (mut queue, mut tracker) = open_pair(&mut mint, ClientId(1), ServerId(2))?;
     assert!(rt; open_pair(&mut mint, ClientId(1), ServerId(3)).is_err());
-    assert_eq!(rt; mint.left(), 4);
+    assert_same(rt, &mint.left(), &4);
     let mut sent = tracker.books.delta.till()?;
     tracker.books.delta.issue(&mut sent, 3)?;
     shift_till(&mut sent, &mut queue.held.delta, 3);
@@ -231,12 +232,12 @@ fn pair<S: Setup>(
     assert!(rt; queue.held.covers(params));
     assert!(rt; queue.held.covers(nothing));
     let (stamps, grants) = close_pair(queue, tracker);
-    assert_eq!(rt; stamps.stamps.gathered(), 2);
-    assert_eq!(rt; stamps.delta.gathered(), 3);
-    assert_eq!(rt; stamps.rho.total(), 2);
-    assert_eq!(rt; stamps.rho.open_tills(), 0);
-    assert_eq!(rt; grants.priority.open_tills(), 0);
-    assert_eq!(rt; grants.reservation.total(), 0);
+    assert_same(rt, &stamps.stamps.gathered(), &2);
+    assert_same(rt, &stamps.delta.gathered(), &3);
+    assert_same(rt, &stamps.rho.total(), &2);
+    assert_same(rt, &stamps.rho.open_tills(), &0);
+    assert_same(rt, &grants.priority.open_tills(), &0);
+    assert_same(rt, &grants.reservation.total(), &0);
     Ok(())
 }
 

@@ -6,4 +6,6 @@ mod histories;
 #[cfg(test)]
 mod ledgers;
 #[cfg(test)]
+mod same;
+#[cfg(test)]
 mod trackers;

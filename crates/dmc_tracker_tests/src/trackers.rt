@@ -1,4 +1,5 @@
 //! Tests of service trackers.
+use crate::same::assert_same;
 use dmc_tracker::tracker::{MakeFault, ServiceTracker, TrackFault};
 use dmc_types::config::{Counting, PhaseType};
 use dmc_types::ids::ServerId;
@@ -74,43 +75,59 @@ fn made_with(tracker: &ServiceTracker) -> (u32, u32, Counting, (u32, u32)) {
 #[test]
 fn two_server_tracker(rt: HostRuntime) -> Result<(), Fail> {
     let mut tracker = ServiceTracker::new(rt.alloc(), 2, 10, Counting::All)?;
-    assert_eq!(rt; three_stamps(&mut tracker)?, [(0, 0), (1, 1), (2, 1)]);
-    assert_eq!(rt; status(&tracker, ZERO), free((2, 1), (0, 0)));
-    assert_eq!(rt; status(&tracker, ONE), free((1, 1), (1, 0)));
-    assert_eq!(rt; made_with(&tracker), (2, 10, Counting::All, (2, 1)));
+    assert_same(&rt, &three_stamps(&mut tracker)?, &[(0, 0), (1, 1), (2, 1)]);
+    assert_same(&rt, &status(&tracker, ZERO), &free((2, 1), (0, 0)));
+    assert_same(&rt, &status(&tracker, ONE), &free((1, 1), (1, 0)));
+    assert_same(&rt, &made_with(&tracker), &(2, 10, Counting::All, (2, 1)));
     Ok(())
 }
 
 #[test]
 fn others_tracker(rt: HostRuntime) -> Result<(), Fail> {
     let mut tracker = ServiceTracker::new(rt.alloc(), 2, 10, Counting::Others)?;
-    assert_eq!(rt; three_stamps(&mut tracker)?, [(1, 1), (2, 2), (2, 1)]);
-    assert_eq!(rt; status(&tracker, ZERO), free((3, 2), (0, 0)));
-    assert_eq!(rt; status(&tracker, ONE), free((2, 2), (0, 0)));
-    assert_eq!(rt; made_with(&tracker), (2, 10, Counting::Others, (2, 1)));
+    assert_same(&rt, &three_stamps(&mut tracker)?, &[(1, 1), (2, 2), (2, 1)]);
+    assert_same(&rt, &status(&tracker, ZERO), &free((3, 2), (0, 0)));
+    assert_same(&rt, &status(&tracker, ONE), &free((2, 2), (0, 0)));
+    assert_same(
+        &rt,
+        &made_with(&tracker),
+        &(2, 10, Counting::Others, (2, 1)),
+    );
     Ok(())
 }
 
 #[test]
 fn others_tracker_full(rt: HostRuntime) -> Result<(), Fail> {
     let mut tracker = ServiceTracker::new(rt.alloc(), 2, 1, Counting::Others)?;
-    assert_eq!(rt; status(&tracker, ZERO).stamp, Ok(()));
-    assert_eq!(rt; stamp(&mut tracker, ZERO), Ok((1, 1)));
-    assert_eq!(rt; stamp(&mut tracker, ZERO), Err(TrackFault::TrackFull));
-    assert_eq!(rt; status(&tracker, ZERO).stamp, Err(TrackFault::TrackFull));
-    assert_eq!(rt; status(&tracker, ZERO).sent, Some((1, 1)));
+    assert_same(&rt, &status(&tracker, ZERO).stamp, &Ok(()));
+    assert_same(&rt, &stamp(&mut tracker, ZERO), &Ok((1, 1)));
+    assert_same(&rt, &stamp(&mut tracker, ZERO), &Err(TrackFault::TrackFull));
+    assert_same(
+        &rt,
+        &status(&tracker, ZERO).stamp,
+        &Err(TrackFault::TrackFull),
+    );
+    assert_same(&rt, &status(&tracker, ZERO).sent, &Some((1, 1)));
     Ok(())
 }
 
 #[test]
 fn tracker_limits(rt: HostRuntime) -> Result<(), Fail> {
     let mut tracker = ServiceTracker::new(rt.alloc(), 1, 1, Counting::All)?;
-    assert_eq!(rt; status(&tracker, ZERO), free((0, 0), (0, 0)));
-    assert_eq!(rt; respond(&mut tracker, ZERO, PhaseType::Reservation), Ok(()));
+    assert_same(&rt, &status(&tracker, ZERO), &free((0, 0), (0, 0)));
+    assert_same(
+        &rt,
+        &respond(&mut tracker, ZERO, PhaseType::Reservation),
+        &Ok(()),
+    );
     let full = Err(TrackFault::TrackFull);
-    assert_eq!(rt; status(&tracker, ZERO).response, full);
-    assert_eq!(rt; respond(&mut tracker, ZERO, PhaseType::Priority), full);
-    assert_eq!(rt; status(&tracker, ZERO).stamp, Ok(()));
+    assert_same(&rt, &status(&tracker, ZERO).response, &full);
+    assert_same(
+        &rt,
+        &respond(&mut tracker, ZERO, PhaseType::Priority),
+        &full,
+    );
+    assert_same(&rt, &status(&tracker, ZERO).stamp, &Ok(()));
     Ok(())
 }
 
@@ -123,11 +140,12 @@ fn unknown_server(rt: HostRuntime) -> Result<(), Fail> {
         stamp: Err(TrackFault::NoServer),
         response: Err(TrackFault::NoServer),
     };
-    assert_eq!(rt; status(&tracker, ONE), unknown);
-    assert_eq!(rt; stamp(&mut tracker, ONE), Err(TrackFault::NoServer));
-    assert_eq!(rt;
-        respond(&mut tracker, ONE, PhaseType::Priority),
-        Err(TrackFault::NoServer)
+    assert_same(&rt, &status(&tracker, ONE), &unknown);
+    assert_same(&rt, &stamp(&mut tracker, ONE), &Err(TrackFault::NoServer));
+    assert_same(
+        &rt,
+        &respond(&mut tracker, ONE, PhaseType::Priority),
+        &Err(TrackFault::NoServer),
     );
     Ok(())
 }
@@ -136,9 +154,9 @@ fn unknown_server(rt: HostRuntime) -> Result<(), Fail> {
 fn make_limits(rt: HostRuntime) -> Result<(), Fail> {
     for servers in [0, 65] {
         let refused = ServiceTracker::new(rt.alloc(), servers, 1, Counting::All);
-        assert_eq!(rt; refused.err(), Some(MakeFault::Limit));
+        assert_same(&rt, &refused.err(), &Some(MakeFault::Limit));
     }
     let refused = ServiceTracker::new(rt.alloc(), 1, 0, Counting::All);
-    assert_eq!(rt; refused.err(), Some(MakeFault::Limit));
+    assert_same(&rt, &refused.err(), &Some(MakeFault::Limit));
     Ok(())
 }

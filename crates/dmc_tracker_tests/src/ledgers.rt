@@ -3,6 +3,7 @@ ghost use Rattle.std.specs.Prelude.{◌≡◌, ◌≢◌, ◌<◌, IfOk};
 
 use crate::same::assert_same;
 use dmc_ledger::book::Book;
+use dmc_ledger::bundle::{GrantBooks, StampBooks};
 use dmc_ledger::desk::{close_pair, open_pair};
 use dmc_ledger::full::Full;
 use dmc_ledger::mint::{Blank, Mint};
@@ -203,6 +204,16 @@ fn two_setups(rt: HostRuntime) -> Result<(), Fail> {
     Ok(())
 }
 
+/// What the books of a pair tell once it is closed.
+fn assert_closed<S: Setup>(rt: &impl Abort, stamps: &StampBooks<S>, grants: &GrantBooks<S>) {
+    assert_same(rt, &stamps.stamps.gathered(), &2);
+    assert_same(rt, &stamps.delta.gathered(), &3);
+    assert_same(rt, &stamps.rho.total(), &2);
+    assert_same(rt, &stamps.rho.open_tills(), &0);
+    assert_same(rt, &grants.priority.open_tills(), &0);
+    assert_same(rt, &grants.reservation.total(), &0);
+}
+
 fn pair<S: Setup>(
     rt: &impl Abort,
     blank: Blank,
@@ -232,12 +243,7 @@ fn pair<S: Setup>(
     assert!(rt; queue.held.covers(params));
     assert!(rt; queue.held.covers(nothing));
     let (stamps, grants) = close_pair(queue, tracker);
-    assert_same(rt, &stamps.stamps.gathered(), &2);
-    assert_same(rt, &stamps.delta.gathered(), &3);
-    assert_same(rt, &stamps.rho.total(), &2);
-    assert_same(rt, &stamps.rho.open_tills(), &0);
-    assert_same(rt, &grants.priority.open_tills(), &0);
-    assert_same(rt, &grants.reservation.total(), &0);
+    assert_closed(rt, &stamps, &grants);
     Ok(())
 }
 

@@ -82,3 +82,6 @@ loop-s-preserved g c =
       few_sent = omega (arith, sent_is, inv.few_sent, audited.stamps, closing.few_stamps);
       few_completed = omega (arith, completed_is, inv.few_completed, closing.few_responses);
     }
+
+pub loop-s-init : goal.loop-s-init
+loop-s-init g c = search rules

@@ -1,4 +1,4 @@
-use Rattle.std.proofs.Common.{◌≡◌, ◌<◌, List, length, map, get_or, sym, ap, ◌∙◌, subst, arith}
+use Rattle.std.proofs.Common.{rules, ◌≡◌, ◌<◌, List, length, map, get_or, sym, ap, ◌∙◌, subst, arith}
 use Rattle.std.specs.Prelude.{sum_by}
 use Rattle.std.specs.Global.{Vec}
 use Rattle.std.proofs.lemmas.List.{length-map}
@@ -65,3 +65,6 @@ returns-clause-balanced g c =
     (let inside : s < length c.args.desks.now = omega (arith, within, length-map c.args.desks.now see) in
     is_balanced c.args.tracker c.args.pass settled known.consistent known.gathered known.desks (desk_of desks s c.args.client) s (omega (arith, within, c.requires.ready.as_many))
     (subst (λ (xs : List (ServerDesk g.row.S.Denot)). IsAudited (desk_of desks s c.args.client) (get_or (map h xs) s no_side)) same (c.audit_pairs-taken.ensures.audited s inside)))
+
+pub returns-clause-stop : goal.returns-clause-stop
+returns-clause-stop g c = search rules

@@ -43,7 +43,7 @@ bare app = record app {
   };
 }
 
-abbrev pub program_app : App
+unfoldable pub program_app : App
 program_app =
     with_subcommand
     (with_subcommand

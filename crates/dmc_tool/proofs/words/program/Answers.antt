@@ -2,11 +2,12 @@
 use Rattle.std.proofs.Common.{◌∙◌, ap}
 use Rattle.std.proofs.lemmas.Result.{IfOk-weaker}
 use Rattle.clap.specs.Words.{App, new_app, with_subcommand}
-use Rattle.dmc_tool.specs.Words.{name_of, tagged_app}
+use Rattle.dmc_tool.specs.Words.{name_of, program_app, tagged_app}
 use Rattle.dmc_tool.specs.declared.words.ToolCommand.TheVariants.{Script, Check, Sim, Run}
 use Rattle.dmc_tool.proofs.words.program.Goals as goal
 
 pub returns : goal.returns
+unfolding program_app
 returns c =
     let first = c.in_ok-command.ensures ∙ ap (λ (a : App). with_subcommand a (tagged_app (name_of Script)).top) c.bare_program.ensures in
     let second = c.in_ok-command-2.ensures ∙ ap (λ (a : App). with_subcommand a (tagged_app (name_of Check)).top) first in

@@ -1,10 +1,12 @@
 -- An error of clap that is no want of memory comes only where it has no match.
-use Rattle.std.proofs.Common.{rules, ◌≡◌, ◌∙◌, ap, subst, map}
-use Rattle.clap.specs.Words.{App, HasKind, app_of, fault_of, is_simple_and_free, kind_of}
-use Rattle.dmc_tool.specs.Words.{fault_at, program_app}
+use Rattle.std.proofs.Common.{rules, ◌≡◌, ◌∙◌, ap, subst, map, Option, Some, None, Err}
+use Rattle.std.specs.Prelude.{IfOk}
+use Rattle.clap.specs.Words.{App, HasKind, app_of, fault_of, is_simple, is_simple_and_free, kind_of}
+use Rattle.dmc_tool.specs.Words.{fault_at, program_app, tool_of_words}
+use Rattle.dmc_tool.specs.declared.words.Tool.{Tool}
 use Rattle.dmc_tool.specs.declared.words.TheConstants.{WRITTEN}
 use Rattle.dmc_tool.specs.declared.words.WordsFault.TheVariants.{Usage}
-use Rattle.dmc_tool.proofs.WordsLemmas.{is_simple_program, no_match, no_tool}
+use Rattle.dmc_tool.proofs.WordsLemmas.{asks_for, asks_for_none, is_simple_program, matches_simply, no_match, no_tool, tool_is}
 use Rattle.dmc_tool.proofs.words.read_words.Goals as goal
 
 pub returns-in_err-matches-clause-usage : goal.returns-in_err-matches-clause-usage
@@ -16,3 +18,21 @@ returns-in_err-matches-clause-usage g c = λ usage.
     let listed = subst (λ (a : App). HasKind (fault_of a words) error) told kinds in
     let asks : fault_at (kind_of error) ≡ Usage = search rules in
     no_tool WRITTEN _ (no_match (fault_of program_app words) _ (kind_of error) listed asks)
+
+pub returns-clause-ok : goal.returns-clause-ok
+returns-clause-ok g c =
+    let words = map g.S.AsStr.text c.args.words.now in
+    let told : app_of c.in_ok-program.field-0 ≡ program_app = c.in_ok-program.ensures in
+    let none = c.in_ok-matches.ensures.kinds (ap is_simple_and_free told ∙ is_simple_program) in
+    let found = (c.in_ok-matches.ensures.matches (ap is_simple told ∙ matches_simply)).1 in
+    let asked = c.tool_of.ensures ∙ tool_is WRITTEN words _ _ told none found in
+    subst (λ (asks : Option Tool). IfOk c.ok_or.result (λ tool. asks ≡ Some tool)) asked (asks_for c.tool_of.result c.ok_or.result c.ok_or.ensures.value)
+
+pub returns-clause-usage : goal.returns-clause-usage
+returns-clause-usage g c =
+    let words = map g.S.AsStr.text c.args.words.now in
+    let told : app_of c.in_ok-program.field-0 ≡ program_app = c.in_ok-program.ensures in
+    let none = c.in_ok-matches.ensures.kinds (ap is_simple_and_free told ∙ is_simple_program) in
+    let found = (c.in_ok-matches.ensures.matches (ap is_simple told ∙ matches_simply)).1 in
+    let asked = c.tool_of.ensures ∙ tool_is WRITTEN words _ _ told none found in
+    subst (λ (asks : Option Tool). c.ok_or.result ≡ Err Usage → asks ≡ None) asked (asks_for_none c.tool_of.result c.ok_or.result c.ok_or.ensures.value)

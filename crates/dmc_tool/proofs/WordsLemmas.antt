@@ -5,7 +5,7 @@ use Rattle.clap.specs.Words.{App, IsAmong, Kinds, Row, Text, fault_of, is_simple
 use Rattle.clap.specs.declared.error.kind.ErrorKind.{ErrorKind}
 use Rattle.clap.specs.declared.error.kind.ErrorKind.TheVariants.{OutOfMemory}
 use Rattle.clap.proofs.OnLiterals.{clap_on_literals}
-use Rattle.dmc_tool.specs.Words.{fault_at, if_no_fault, program_app, tool_in, tool_of_words}
+use Rattle.dmc_tool.specs.Words.{fault_at, if_no_fault, match_of, program_app, tool_in, tool_of_words}
 use Rattle.dmc_tool.specs.declared.words.Tool.{Tool}
 use Rattle.dmc_tool.specs.declared.words.ToolCommand.{ToolCommand}
 use Rattle.dmc_tool.specs.declared.words.WordsFault.{WordsFault}
@@ -32,6 +32,7 @@ no_tool written m none = rw none refl
 -- a match that has no fault is the program's
 pub tool_is : (written : List ToolCommand) (words : List Text) (app : App) (found : Option (Text × List Row)) → app ≡ program_app → fault_of app words ≡ [] → found ≡ subcommand_of app words
     → tool_in written found ≡ tool_of_words written words
+unfolding match_of
 tool_is written words app found told none same =
     by_parts (fault_of program_app words) (subcommand_of program_app words) (subst (λ (a : App). fault_of a words ≡ []) told none) (subst (λ (a : App). found ≡ subcommand_of a words) told same)
   where

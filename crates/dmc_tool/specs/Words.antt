@@ -60,7 +60,7 @@ if_no_fault [] x = x
 if_no_fault (k ∷ ks) x = None
 
 -- clap's match of the words: the command that is named and what its options are given
-abbrev pub match_of : List Text → Option (Text × List Row)
+unfoldable pub match_of : List Text → Option (Text × List Row)
 match_of words = if_no_fault (fault_of program_app words) (subcommand_of program_app words)
 
 -- the tags of a match, ticks where none are named

@@ -2,7 +2,7 @@
 use Rattle.std.proofs.Common.{rules, ◌≡◌, ◌∙◌, ap, subst, map, Option, Some, None, Err}
 use Rattle.std.specs.Prelude.{IfOk}
 use Rattle.clap.specs.Words.{App, HasKind, app_of, fault_of, is_simple, is_simple_and_free, kind_of}
-use Rattle.dmc_tool.specs.Words.{fault_at, program_app, tool_of_words}
+use Rattle.dmc_tool.specs.Words.{fault_at, match_of, program_app}
 use Rattle.dmc_tool.specs.declared.words.Tool.{Tool}
 use Rattle.dmc_tool.specs.declared.words.TheConstants.{WRITTEN}
 use Rattle.dmc_tool.specs.declared.words.WordsFault.TheVariants.{Usage}
@@ -10,6 +10,7 @@ use Rattle.dmc_tool.proofs.WordsLemmas.{asks_for, asks_for_none, is_simple_progr
 use Rattle.dmc_tool.proofs.words.read_words.Goals as goal
 
 pub returns-in_err-matches-clause-usage : goal.returns-in_err-matches-clause-usage
+unfolding match_of
 returns-in_err-matches-clause-usage g c = λ usage.
     let words = map g.S.AsStr.text c.args.words.now in
     let error = c.in_err-matches.field-0.0 in

@@ -88,6 +88,7 @@ fn changes_of<I: Indexes<TickTag>>(
     Ok(())
 }
 
+/// Changes of two heads, and the least P among them.
 pub fn changes_over<I: Indexes<TickTag>>(rt: &impl Abort, alloc: Global) -> Result<(), Fail> {
     let mut heads: Heads<TickTag, I> = two_heads(alloc)?;
     changes_of(rt, &mut heads)
@@ -130,6 +131,7 @@ fn marks_of<I: Indexes<TickTag>>(rt: &impl Abort, heads: &mut Heads<TickTag, I>)
     assert_same(rt, &marks, &[Some((false, false)), Some((true, true))]);
 }
 
+/// Marks of two heads, as requests become ready.
 pub fn marks_over<I: Indexes<TickTag>>(rt: &impl Abort, alloc: Global) -> Result<(), Fail> {
     let mut heads: Heads<TickTag, I> = two_heads(alloc)?;
     marks_of(rt, &mut heads);

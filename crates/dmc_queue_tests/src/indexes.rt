@@ -95,6 +95,7 @@ fn indexed_clients_of<I: Indexes<TickTag>>(
     Ok(())
 }
 
+/// The clients that the indexes tell, while requests are queued and removed.
 pub fn indexed_clients_over<I: Indexes<TickTag>>(
     rt: &impl Abort,
     alloc: Global,

@@ -86,7 +86,7 @@ fn refused_at_limits<S: Scheduler<TickTag>>(rt: &impl Abort, queue: &mut S) -> R
     request_too_many(rt, queue)
 }
 
-// The same of the indexed queue, proved once for all kinds of indexes.
+/// The same of the indexed queue, proved once for all kinds of indexes.
 pub fn limits_over<I: Indexes<TickTag>>(rt: &impl Abort, alloc: Global) -> Result<(), Fail> {
     let config = config()?;
     let mut queue: PullQueue<TickTag, I> = PullQueue::new(alloc, config);

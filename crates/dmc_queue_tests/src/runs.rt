@@ -106,6 +106,7 @@ fn five_commands_of<I: Indexes<TickTag>>(
     Ok(())
 }
 
+/// Five commands at an indexed queue.
 pub fn five_commands_over<I: Indexes<TickTag>>(rt: &impl Abort, alloc: Global) -> Result<(), Fail> {
     let config = config()?;
     let mut queue: PullQueue<TickTag, I> = PullQueue::new(alloc, config);

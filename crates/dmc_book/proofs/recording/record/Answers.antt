@@ -1,3 +1,4 @@
+-- What counting asks for, and the event that is recorded.
 use Rattle.dmc_book.proofs.recording.record.Goals as goal
 
 pub count-requires-clause-within : goal.count-requires-clause-within

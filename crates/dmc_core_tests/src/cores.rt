@@ -11,7 +11,7 @@ use dmc_types::info::ClientInfo;
 use dmc_types::moment::Moment;
 use dmc_types::params::ReqParams;
 use dmc_types::refusal::Refusal;
-use dmc_work::plan;
+use dmc_work::plan::plan;
 use std::alloc::Global;
 use std::process::Abort;
 use std::test::Fail;

@@ -1,5 +1,5 @@
 use dmc_types::ids::{ClientId, ServerId};
-use dmc_work::plan;
+use dmc_work::plan::plan;
 use rand_core::utils::NextWord;
 use rand_pcg::Lcg64Xsh32;
 use std::test::Fail;

@@ -1,5 +1,2 @@
-pub mod Causes
-pub mod Desks
 pub mod Done
 pub mod Ending
-pub mod LimitsValue

@@ -4,12 +4,13 @@ ghost use Rattle.dmc_settle.specs.Reports.{IsReport};
 ghost use Rattle.dmc_driver.specs.Done.{IsClientDone, IsDone, IsServerDone, RanOut};
 ghost use Rattle.dmc_driver.specs.Ending.{AreClientsDone, AreWithin, EndsSo, KeepsWithin, RanOutAt, Reports};
 
-use crate::fault::{DriveFault, OpenFault};
-use crate::limits::Limits;
+use crate::fault::DriveFault;
 use dmc_scene::client::SceneClient;
 use dmc_scene::scene::Scene;
 use dmc_settle::report::{ClientReport, ClusterReport, ServerReport, StopCause};
 use dmc_tag::tag::Tag;
+use dmc_work::limits::Limits;
+use dmc_workers::fault::OpenFault;
 
 /// Whether the client sent and completed its requests, has nothing left, and did not stop.
 fn is_client_done(client: SceneClient, row: &ClientReport) -> bool

@@ -1,20 +1,24 @@
-//! Runs a cluster in threads: the workers of clients and servers over their locks, and the report of the run.
+//! Runs a cluster in threads, and proves the report of the run from what its workers leave.
 #![tactic(auto)]
 
-mod bell;
-mod cause;
-mod client_worker;
-mod cluster;
 mod ending;
 pub mod fault;
-mod gathering;
-pub mod limits;
-pub mod moments;
-mod opening;
 pub mod run;
-mod server_worker;
-pub mod service;
-mod threads;
+
+/// How long the histories of a run may grow, and how far its trackers count.
+pub mod limits {
+    pub use dmc_work::limits::Limits;
+}
+
+/// What time it is, for the workers of a run.
+pub mod moments {
+    pub use dmc_work::moments::{Moments, StepClock};
+}
+
+/// What a server does with a request that its queue granted.
+pub mod service {
+    pub use dmc_workers::service::{Job, ServeFault, Service};
+}
 
 /// What is proved of a run beside its own contract.
 pub mod laws {

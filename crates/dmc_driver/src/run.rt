@@ -4,19 +4,9 @@ ghost use Rattle.dmc_types.specs.Limits.{most_books};
 ghost use Rattle.dmc_settle.specs.Reports.{IsReport};
 ghost use Rattle.dmc_driver.specs.Ending.{EndsSo, KeepsWithin, Reports};
 
-use crate::client_worker::ClientJob;
-use crate::cluster::Cluster;
 use crate::ending::end_run;
-use crate::fault::{DriveFault, OpenFault};
-use crate::gathering::{Remains, gather};
-use crate::limits::Limits;
-use crate::moments::Moments;
-use crate::opening::{Opened, open};
-use crate::server_worker::ServerJob;
-use crate::service::Service;
-use crate::threads::run_all;
+use crate::fault::DriveFault;
 use dmc_book::book::QueueBook;
-use dmc_heap::indexed_heap::HeapIndexes;
 use dmc_index::index::Indexes;
 use dmc_ledger::mint::Blank;
 use dmc_ledger::setup::Setup;
@@ -25,6 +15,12 @@ use dmc_settle::report::ClusterReport;
 use dmc_settle::room::SettleRoom;
 use dmc_settle::settle::settle_cluster;
 use dmc_tag::tag::Tag;
+use dmc_work::limits::Limits;
+use dmc_work::moments::Moments;
+use dmc_workers::fault::OpenFault;
+use dmc_workers::remains::Remains;
+use dmc_workers::service::Service;
+use dmc_workers::workers::run_workers;
 use std::alloc::Global;
 use std::marker::Brand;
 use std::sync::Wait;
@@ -109,58 +105,11 @@ where
 {
     let mut mint = blank.open::<S>();
     let room = SettleRoom::new(alloc, scene.servers())?;
-    let opened = open::<T, HeapIndexes, S>(alloc, &mut mint, scene, limits)?;
-    drive(rt, alloc, scene, service, moments, opened, room)
-}
-
-/// Runs what was opened in threads, and settles what they leave.
-fn drive<T, S, R, V, M>(
-    rt: &R,
-    alloc: Global,
-    scene: &Scene,
-    service: &V,
-    moments: &M,
-    opened: Opened<T, QueueBook<T, HeapIndexes, S>, S>,
-    room: SettleRoom<S>,
-) -> Result<ClusterReport<T>, OpenFault>
-where
-    T: Tag + Send + Sync,
-    S: Setup + Send + Sync,
-    R: Threads + Wait + Sync,
-    V: Service + Sync,
-    M: Moments + Sync,
-    requires { scene.now.servers ≤ room }
-    ensures { IfOk result (IsReport T.ops scene.now) }
-{
-    let Opened {
-        cluster,
-        senders,
-        mut servers,
-        remains,
-    } = opened;
-    let clients = run_all(rt, &cluster, service, moments, &mut servers, senders);
-    settle_left(alloc, scene, cluster, clients, servers, remains, room)
-}
-
-/// Gathers what the threads of a run leave, and settles it.
-fn settle_left<T: Tag, I: Indexes<T>, S: Setup>(
-    alloc: Global,
-    scene: &Scene,
-    cluster: Cluster<QueueBook<T, I, S>, S>,
-    clients: Vec<ClientJob<S>>,
-    servers: Vec<ServerJob<S>>,
-    remains: Remains<T, QueueBook<T, I, S>, S>,
-    room: SettleRoom<S>,
-) -> Result<ClusterReport<T>, OpenFault>
-    requires { scene.now.servers ≤ room }
-    ensures { IfOk result (IsReport T.ops scene.now) }
-{
-    let mut remains = remains;
-    gather(cluster, clients, servers, &mut remains);
+    let remains = run_workers(rt, alloc, &mut mint, scene, service, moments, limits)?;
     settle_remains(alloc, scene, remains, room)
 }
 
-/// Settles what was gathered.
+/// Settles what the workers of a run leave.
 fn settle_remains<T: Tag, I: Indexes<T>, S: Setup>(
     alloc: Global,
     scene: &Scene,

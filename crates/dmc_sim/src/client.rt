@@ -7,7 +7,7 @@ ghost use Rattle.dmc_work.specs.Plan.{generator, planned, word};
 use dmc_scene::client::SceneClient;
 use dmc_types::config::PhaseType;
 use dmc_types::ids::{ClientId, ServerId};
-use dmc_work::plan;
+use dmc_work::plan::plan;
 use std::alloc::{AllocError, Global};
 
 /// A client: what the scene says of it, the servers of its requests, how many of them it has sent, and how many are completed,

@@ -1,1 +1,2 @@
+pub mod LimitsValue
 pub mod Plan

@@ -11,7 +11,7 @@ use dmc_tick::tick::TickTag;
 use dmc_types::command::Command;
 use dmc_types::ids::{ServerId, Token};
 use dmc_types::moment::Moment;
-use dmc_work::plan;
+use dmc_work::plan::plan;
 use std::alloc::{AllocError, Global};
 use std::process::Abort;
 use std::test::Fail;

@@ -1,6 +1,6 @@
 //! What a worker that is refused tells as the cause of its stop.
 ghost use Rattle.std.specs.Prelude.{◌≡◌};
-ghost use Rattle.dmc_driver.specs.Causes.{of_entry, of_pull, of_run, of_submit};
+ghost use Rattle.dmc_workers.specs.Causes.{of_entry, of_pull, of_run, of_submit};
 
 use dmc_book::fault::{RunFault, SubmitCause};
 use dmc_qlock::fault::RunOrRange;

@@ -1,6 +1,7 @@
-//! What the threads of a run leave, gathered in room that was made before them.
+//! Gathers what the threads of a run leave.
 use crate::client_worker::ClientJob;
 use crate::cluster::Cluster;
+use crate::remains::Remains;
 use crate::server_worker::ServerJob;
 use dmc_book::pass::WorkerPass;
 use dmc_ledger::setup::Setup;
@@ -10,55 +11,6 @@ use dmc_settle::settle::Passes;
 use dmc_tag::tag::Tag;
 use dmc_tlock::book::TrackerBook;
 use dmc_tlock::lock::TrackerLock;
-use std::alloc::{AllocError, Global};
-
-/// What the threads of a run leave.
-#[derive(Drop)]
-pub(crate) struct Remains<T: Tag, B, S: Setup> {
-    pub(crate) books: Vec<B>,
-    pub(crate) trackers: Vec<TrackerBook<S>>,
-    pub(crate) passes: Passes<S>,
-    /// With the stops and the failures.
-    pub(crate) report: ClusterReport<T>,
-}
-
-/// Nothing yet.
-pub(crate) fn no_remains<T: Tag, B, S: Setup>(alloc: Global) -> Remains<T, B, S> {
-    Remains {
-        books: Vec::new(alloc),
-        trackers: Vec::new(alloc),
-        passes: Passes {
-            workers: Vec::new(alloc),
-            clients: Vec::new(alloc),
-        },
-        report: ClusterReport {
-            clients: Vec::new(alloc),
-            servers: Vec::new(alloc),
-        },
-    }
-}
-
-/// Makes room for what so many clients leave.
-pub(crate) fn reserve_of_clients<T: Tag, B, S: Setup>(
-    clients: usize,
-    remains: &mut Remains<T, B, S>,
-) -> Result<(), AllocError> {
-    remains.trackers.reserve_exact(clients)?;
-    remains.passes.clients.reserve_exact(clients)?;
-    remains.report.clients.reserve_exact(clients)?;
-    Ok(())
-}
-
-/// Makes room for what so many servers leave.
-pub(crate) fn reserve_of_servers<T: Tag, B, S: Setup>(
-    servers: usize,
-    remains: &mut Remains<T, B, S>,
-) -> Result<(), AllocError> {
-    remains.books.reserve_exact(servers)?;
-    remains.passes.workers.reserve_exact(servers)?;
-    remains.report.servers.reserve_exact(servers)?;
-    Ok(())
-}
 
 /// Gathers what was shared, and what the jobs of the clients' and the servers' workers hold.
 pub(crate) fn gather<T: Tag, B: Drop, S: Setup>(

@@ -4,10 +4,9 @@ ghost use Rattle.std.specs.Prelude.{◌≡◌};
 use crate::bell::{Doorbell, Ring};
 use crate::cause::{of_entry, of_submit};
 use crate::cluster::Cluster;
-use crate::moments::Moments;
 use dmc_book::book::QueueBook;
 use dmc_book::pass::WorkerPass;
-use dmc_heap::indexed_heap::HeapIndexes;
+use dmc_index::index::Indexes;
 use dmc_ledger::bundle::StampTills;
 use dmc_ledger::setup::Setup;
 use dmc_qlock::lock::QueueLock;
@@ -17,6 +16,7 @@ use dmc_tlock::lock::TrackerLock;
 use dmc_tlock::pass::ClientPass;
 use dmc_types::ids::{ServerId, Token};
 use dmc_types::moment::Moment;
+use dmc_work::moments::Moments;
 use std::sync::Wait;
 
 /// What a client's worker has of its own.
@@ -39,9 +39,9 @@ pub(crate) struct ClientJob<S: Setup> {
 }
 
 /// The work of a client's worker.
-pub(crate) fn run_client<T: Tag, S: Setup, M: Moments, R: Wait>(
+pub(crate) fn run_client<T: Tag, I: Indexes<T>, S: Setup, M: Moments, R: Wait>(
     rt: &R,
-    cluster: &Cluster<QueueBook<T, HeapIndexes, S>, S>,
+    cluster: &Cluster<QueueBook<T, I, S>, S>,
     moments: &M,
     job: &mut ClientJob<S>,
 ) {
@@ -49,9 +49,9 @@ pub(crate) fn run_client<T: Tag, S: Setup, M: Moments, R: Wait>(
 }
 
 /// Sends the requests, each with its number as its token. It waits for a ring where the window is full.
-fn send_all<T: Tag, S: Setup, M: Moments, R: Wait>(
+fn send_all<T: Tag, I: Indexes<T>, S: Setup, M: Moments, R: Wait>(
     rt: &R,
-    cluster: &Cluster<QueueBook<T, HeapIndexes, S>, S>,
+    cluster: &Cluster<QueueBook<T, I, S>, S>,
     moments: &M,
     job: &mut ClientJob<S>,
 ) -> Result<(), StopCause> {
@@ -76,9 +76,9 @@ fn hear_completed<R: Wait>(rt: &R, bell: &mut Doorbell) -> Result<(), StopCause>
 }
 
 /// Sends a request to the server that is planned.
-fn send<T: Tag, S: Setup, M: Moments, R: Wait>(
+fn send<T: Tag, I: Indexes<T>, S: Setup, M: Moments, R: Wait>(
     rt: &R,
-    cluster: &Cluster<QueueBook<T, HeapIndexes, S>, S>,
+    cluster: &Cluster<QueueBook<T, I, S>, S>,
     moments: &M,
     job: &mut ClientJob<S>,
     request: u32,
@@ -105,10 +105,10 @@ fn send<T: Tag, S: Setup, M: Moments, R: Wait>(
 }
 
 /// Stamps a request at its client's tracker, and submits it at the server's queue.
-fn submit<T: Tag, S: Setup, R: Wait>(
+fn submit<T: Tag, I: Indexes<T>, S: Setup, R: Wait>(
     rt: &R,
     tracker: &TrackerLock<S>,
-    queue: &QueueLock<T, HeapIndexes, S>,
+    queue: &QueueLock<T, I, S>,
     pass: &mut WorkerPass<S>,
     tills: &mut StampTills<S>,
     server: ServerId,

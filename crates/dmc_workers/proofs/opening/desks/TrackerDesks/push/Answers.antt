@@ -1,9 +1,9 @@
 use Rattle.std.proofs.Common.{◌≡◌, ℕ, sym, subst, map, length}
 use Rattle.dmc_ledger.specs.Bundles.{server_side, new_server_side}
 use Rattle.dmc_tlock.specs.Opening.{AreNew}
-use Rattle.dmc_driver.specs.Desks.{TrackerDesksValue}
-use Rattle.dmc_driver.proofs.DeskLemmas.{are_new_after_push}
-use Rattle.dmc_driver.proofs.opening.desks.TrackerDesks.push.Goals as goal
+use Rattle.dmc_workers.specs.Desks.{TrackerDesksValue}
+use Rattle.dmc_workers.proofs.DeskLemmas.{are_new_after_push}
+use Rattle.dmc_workers.proofs.opening.desks.TrackerDesks.push.Goals as goal
 
 pub invariant_of-self : goal.invariant_of-self
 invariant_of-self g c = subst (λ xs. AreNew c.self.inside.client.0 (map server_side xs)) (sym (c.in_err-push.ensures.items)) c.self.invariant

@@ -4,11 +4,10 @@ ghost use Rattle.std.specs.Prelude.{◌≡◌};
 use crate::bell::{Ring, Ringer};
 use crate::cause::{of_entry, of_pull};
 use crate::cluster::Cluster;
-use crate::moments::Moments;
 use crate::service::{Job, Service};
 use dmc_book::book::QueueBook;
 use dmc_book::pass::WorkerPass;
-use dmc_heap::indexed_heap::HeapIndexes;
+use dmc_index::index::Indexes;
 use dmc_ledger::setup::Setup;
 use dmc_qlock::lock::QueueLock;
 use dmc_settle::report::StopCause;
@@ -16,6 +15,7 @@ use dmc_tag::reply::Pulled;
 use dmc_tag::tag::Tag;
 use dmc_tlock::lock::TrackerLock;
 use dmc_types::ids::ServerId;
+use dmc_work::moments::Moments;
 use std::sync::Wait;
 
 /// What a worker of a server has of its own.
@@ -32,9 +32,9 @@ pub(crate) struct ServerJob<S: Setup> {
 }
 
 /// The work of a server's worker. Where it stops, so do the clients.
-pub(crate) fn run_server<T: Tag, S: Setup, V: Service, M: Moments, R: Wait>(
+pub(crate) fn run_server<T: Tag, I: Indexes<T>, S: Setup, V: Service, M: Moments, R: Wait>(
     rt: &R,
-    cluster: &Cluster<QueueBook<T, HeapIndexes, S>, S>,
+    cluster: &Cluster<QueueBook<T, I, S>, S>,
     service: &V,
     moments: &M,
     job: &mut ServerJob<S>,
@@ -53,9 +53,9 @@ pub(crate) fn stop_all<R: Wait>(rt: &R, ringers: &mut [Ringer]) {
 }
 
 /// Takes turns until the closed queue has nothing left.
-fn take_turns<T: Tag, S: Setup, V: Service, M: Moments, R: Wait>(
+fn take_turns<T: Tag, I: Indexes<T>, S: Setup, V: Service, M: Moments, R: Wait>(
     rt: &R,
-    cluster: &Cluster<QueueBook<T, HeapIndexes, S>, S>,
+    cluster: &Cluster<QueueBook<T, I, S>, S>,
     service: &V,
     moments: &M,
     job: &mut ServerJob<S>,
@@ -72,10 +72,10 @@ fn take_turns<T: Tag, S: Setup, V: Service, M: Moments, R: Wait>(
 }
 
 /// Pulls, and has what is granted served. Whether there may be more.
-fn take_turn<T: Tag, S: Setup, V: Service, M: Moments, R: Wait>(
+fn take_turn<T: Tag, I: Indexes<T>, S: Setup, V: Service, M: Moments, R: Wait>(
     rt: &R,
-    cluster: &Cluster<QueueBook<T, HeapIndexes, S>, S>,
-    queue: &QueueLock<T, HeapIndexes, S>,
+    cluster: &Cluster<QueueBook<T, I, S>, S>,
+    queue: &QueueLock<T, I, S>,
     service: &V,
     moments: &M,
     job: &mut ServerJob<S>,

@@ -7,7 +7,6 @@ use super::{Opened, push_last};
 use crate::bell::{Doorbell, Ringer, hang_bell};
 use crate::client_worker::ClientJob;
 use crate::fault::{OpenFault, of_make};
-use crate::limits::Limits;
 use crate::threads::Senders;
 use dmc_ledger::mint::Mint;
 use dmc_ledger::setup::Setup;
@@ -21,7 +20,8 @@ use dmc_tlock::pass::ClientPass;
 use dmc_tlock::settled::StampsHeld;
 use dmc_types::config::Counting;
 use dmc_types::ids::ClientId;
-use dmc_work::plan;
+use dmc_work::limits::Limits;
+use dmc_work::plan::plan;
 use indexmap::IndexSet;
 use std::alloc::{AllocError, Global};
 

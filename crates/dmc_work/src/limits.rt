@@ -17,7 +17,7 @@ pub struct Limits {
 impl Model for Limits {
     ghost use Rattle.std.specs.Prelude.{◌≤◌};
     ghost use Rattle.dmc_types.specs.Limits.{most_events};
-    ghost use Rattle.dmc_driver.specs.LimitsValue.{LimitsValue};
+    ghost use Rattle.dmc_work.specs.LimitsValue.{LimitsValue};
 
     ghost Value = { LimitsValue };
 

@@ -5,8 +5,7 @@ mod servers;
 
 use crate::cluster::Cluster;
 use crate::fault::OpenFault;
-use crate::gathering::{Remains, no_remains, reserve_of_clients, reserve_of_servers};
-use crate::limits::Limits;
+use crate::remains::{Remains, no_remains, reserve_of_clients, reserve_of_servers};
 use crate::server_worker::ServerJob;
 use crate::threads::Senders;
 use clients::{no_senders, open_clients, reserve_senders};
@@ -17,6 +16,7 @@ use dmc_ledger::mint::Mint;
 use dmc_ledger::setup::Setup;
 use dmc_scene::scene::Scene;
 use dmc_tag::tag::Tag;
+use dmc_work::limits::Limits;
 use indexmap::IndexSet;
 use servers::{open_server, server_workers};
 use std::alloc::{AllocError, Global};

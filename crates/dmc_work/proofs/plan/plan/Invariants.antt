@@ -1,7 +1,7 @@
 use Rattle.std.proofs.Common.{vec_capacity}
 use Rattle.dmc_work.specs.Plan.{generator}
 use Rattle.dmc_work.proofs.PlanLemmas.{Progress}
-use Rattle.dmc_work.proofs.plan.Given as goal
+use Rattle.dmc_work.proofs.plan.plan.Given as goal
 
 abbrev pub invariant-loop-request : goal.invariant-loop-request
 invariant-loop-request l =

@@ -26,7 +26,7 @@ impl<S: Setup> Model for QueueDesks<S> {
     ghost use Rattle.std.specs.List.{AllByRecursion};
     ghost use Rattle.dmc_ledger.specs.Bundles.{client_side};
     ghost use Rattle.dmc_book.specs.Opening.{IsNewDesk};
-    ghost use Rattle.dmc_driver.specs.Desks.{QueueDesksValue};
+    ghost use Rattle.dmc_workers.specs.Desks.{QueueDesksValue};
 
     ghost Value = { QueueDesksValue };
 
@@ -65,7 +65,7 @@ impl<S: Setup> Model for TrackerDesks<S> {
     ghost use Rattle.std.specs.Prelude.{map};
     ghost use Rattle.dmc_ledger.specs.Bundles.{server_side};
     ghost use Rattle.dmc_tlock.specs.Opening.{AreNew};
-    ghost use Rattle.dmc_driver.specs.Desks.{TrackerDesksValue};
+    ghost use Rattle.dmc_workers.specs.Desks.{TrackerDesksValue};
 
     ghost Value = { TrackerDesksValue };
 

@@ -7,7 +7,6 @@ use super::{Opened, push_last};
 use crate::bell::Ringer;
 use crate::client_worker::ClientJob;
 use crate::fault::{OpenFault, of_new, of_register};
-use crate::limits::Limits;
 use crate::server_worker::ServerJob;
 use crate::threads::Senders;
 use dmc_book::book::QueueBook;
@@ -26,6 +25,7 @@ use dmc_tag::tag::Tag;
 use dmc_types::command::Command;
 use dmc_types::ids::{ServerId, WorkerId};
 use dmc_types::moment::Moment;
+use dmc_work::limits::Limits;
 use std::alloc::{AllocError, Global};
 
 /// The most workers that a server opens with.

@@ -4,7 +4,7 @@ use Rattle.rand_pcg.specs.Lcg.{next}
 use Rattle.rand_pcg.specs.Pcg.{multiplier_64}
 use Rattle.dmc_work.specs.Plan.{generator, word, server_at}
 use Rattle.dmc_work.proofs.PlanLemmas.{next-advance, planned-more, length-planned, planned-within}
-use Rattle.dmc_work.proofs.plan.Goals as goal
+use Rattle.dmc_work.proofs.plan.plan.Goals as goal
 
 pub loop-request-init : goal.loop-request-init
 loop-request-init c = record {

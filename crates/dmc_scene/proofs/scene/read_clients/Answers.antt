@@ -1,4 +1,5 @@
 use Rattle.std.proofs.Common.{◌≡◌, ◌∷◌, [], ◌++◌, Some, None, sym, ◌∙◌, arith, rules}
+use Rattle.std.proofs.lemmas.Grind.{common_steps}
 use Rattle.toml.specs.Data.{as_table}
 use Rattle.toml.specs.View.{view, table_view}
 use Rattle.dmc_scene.proofs.TableLemmas.{tables_in-drop, read_more, read_none}
@@ -24,3 +25,12 @@ loop-value-preserved c =
           let found : as_table (view c.value-item.result) ≡ None = sym w.in_default.ensures in
           rw w.clients-is (read_none c.args.tags c.args.hz all index clients.items _ c.loop-value.invariant (omega arith) (next ∙ rw found))
     ]
+
+pub returns-in_err-client-clause-fault : goal.returns-in_err-client-clause-fault
+returns-in_err-client-clause-fault c = grind (arith, common_steps)
+
+pub returns-clause-ok : goal.returns-clause-ok
+returns-clause-ok c = grind (arith, common_steps)
+
+pub returns-clause-len : goal.returns-clause-len
+returns-clause-len c = grind (arith, common_steps)

@@ -26,3 +26,6 @@ loop-i-preserved g c =
     let d = get_or-map server_side desks i c.index-desks-i.result no_side (omega arith) in
     let of : AreOf (stamp_holdings (get_or tills i c.index-tills-i.result)) (server_side (get_or desks i c.index-desks-i.result)).books = search rules in
     below_more (λ (k : ℕ). AreOf (get_or (map stamp_holdings tills) k no_tills) (get_or (map server_side desks) k no_side).books) i c.loop-i.invariant (rw (t, d) of)
+
+pub loop-i-init : goal.loop-i-init
+loop-i-init g c = search rules

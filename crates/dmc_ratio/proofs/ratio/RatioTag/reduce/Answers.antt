@@ -37,3 +37,6 @@ returns c =
     let numer = numer_by n c.with_sign.result c.unsigned_abs-size.result g c.ranges.numer (search rules) size c.with_sign.ensures in
     let small : unsigned_abs n / g ≤ greatest_numer = subst (λ (x : ℕ). x / g ≤ greatest_numer) size c.if-least_size-gt-GREATEST_NUMER.false in
     reduced_some n c.args.denom g _ is (omega arith) numer refl small (omega arith)
+
+pub returns-then-denom-eq0 : goal.returns-then-denom-eq0
+returns-then-denom-eq0 c = search rules

@@ -1,4 +1,5 @@
-use Rattle.std.proofs.Common.{◌<◌, length, sym, subst, rules}
+use Rattle.std.proofs.Common.{arith, ◌<◌, length, sym, subst, rules}
+use Rattle.std.proofs.lemmas.Grind.{common_steps}
 use Rattle.dmc_ledger.specs.Bundles.{ServerSide, stamp_holdings}
 use Rattle.dmc_ledger.specs.Moves.{AreWithin}
 use Rattle.dmc_tlock.specs.Status.{IsReadOff}
@@ -44,3 +45,12 @@ returns-clause-sums g c =
     let read = subst (λ (d : ServerSide). IsReadOff here.tracker d c.args.server c.read_status.result) (sym at.seen) c.read_status.ensures in
     AreSums-status _ c.args.server at.within c.self.invariant.0 c.read_status.result
     (IsStatusOf-read _ c.args.server at.within c.self.invariant.0 c.read_status.result read)
+
+pub returns-in_err-index-clause-no_server : goal.returns-in_err-index-clause-no_server
+returns-in_err-index-clause-no_server g c = grind (arith, common_steps)
+
+pub returns-in_err-index-clause-stranger : goal.returns-in_err-index-clause-stranger
+returns-in_err-index-clause-stranger g c = grind (arith, common_steps)
+
+pub returns-clause-no_server : goal.returns-clause-no_server
+returns-clause-no_server g c = grind (arith, common_steps)

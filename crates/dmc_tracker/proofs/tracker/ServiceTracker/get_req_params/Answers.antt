@@ -53,3 +53,39 @@ returns-clause-stands c = λ events stands.
       params ∙ next_params-stands now events c.args.server (there c) stands,
       rw (returns-clause-after c, params) (Stands-stamp now events c.args.server (there c) stands),
     )
+
+pub index-requires : goal.index-requires
+index-requires c = grind (arith, common_steps)
+
+pub counted-counted-requires : goal.counted-counted-requires
+counted-counted-requires c = grind (arith, common_steps)
+
+pub minus-requires-clause-delta : goal.minus-requires-clause-delta
+minus-requires-clause-delta c = grind (arith, common_steps)
+
+pub minus-requires-clause-rho : goal.minus-requires-clause-rho
+minus-requires-clause-rho c = grind (arith, common_steps)
+
+pub plus-params-requires-clause-delta : goal.plus-params-requires-clause-delta
+plus-params-requires-clause-delta c = grind (arith, common_steps)
+
+pub plus-params-requires-clause-rho : goal.plus-params-requires-clause-rho
+plus-params-requires-clause-rho c = grind (arith, common_steps)
+
+pub plus-requires-clause-delta : goal.plus-requires-clause-delta
+plus-requires-clause-delta c = grind (arith, common_steps)
+
+pub plus-requires-clause-rho : goal.plus-requires-clause-rho
+plus-requires-clause-rho c = grind (arith, common_steps)
+
+pub index_mut-requires : goal.index_mut-requires
+index_mut-requires c = grind (arith, common_steps)
+
+pub unwrap-requires : goal.unwrap-requires
+unwrap-requires c = grind (arith, common_steps)
+
+pub returns-clause-params : goal.returns-clause-params
+returns-clause-params c = grind (arith, common_steps)
+
+pub returns-clause-kept : goal.returns-clause-kept
+returns-clause-kept c = grind (arith, common_steps)

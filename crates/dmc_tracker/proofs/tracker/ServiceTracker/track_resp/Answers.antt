@@ -17,3 +17,21 @@ returns-clause-after c =
 pub returns-clause-stands : goal.returns-clause-stands
 returns-clause-stands c = λ events stands.
     rw (returns-clause-after c) (Stands-response c.args.self.now events c.args.server c.args.phase stands)
+
+pub index-counts-requires : goal.index-counts-requires
+index-counts-requires c = grind (arith, common_steps)
+
+pub plus-requires-clause-delta : goal.plus-requires-clause-delta
+plus-requires-clause-delta c = grind (arith, common_steps)
+
+pub plus-requires-clause-rho : goal.plus-requires-clause-rho
+plus-requires-clause-rho c = grind (arith, common_steps)
+
+pub index_mut-requires : goal.index_mut-requires
+index_mut-requires c = grind (arith, common_steps)
+
+pub invariant_of-self : goal.invariant_of-self
+invariant_of-self c = grind (arith, common_steps)
+
+pub returns-clause-kept : goal.returns-clause-kept
+returns-clause-kept c = grind (arith, common_steps)

@@ -1,0 +1,9 @@
+-- Answered here, so that a wrong body fails here.
+use Rattle.std.proofs.Common.{rules}
+use Rattle.dmc_types.proofs.config.QueueConfig.new.Goals as goal
+
+pub invariant_of-result : goal.invariant_of-result
+invariant_of-result c = search rules
+
+pub returns-clause-refused : goal.returns-clause-refused
+returns-clause-refused c = search rules

@@ -1,0 +1,9 @@
+-- Answered here, so that a wrong body fails here.
+use Rattle.std.proofs.Common.{rules}
+use Rattle.dmc_types.proofs.moment.Moment.later.Goals as goal
+
+pub returns-then-other-self : goal.returns-then-other-self
+returns-then-other-self c = search rules
+
+pub returns-else-other-self : goal.returns-else-other-self
+returns-else-other-self c = search rules

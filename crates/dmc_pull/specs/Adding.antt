@@ -1,20 +1,25 @@
 -- An add: the shift of all records but one, and what the tests come to.
-use Rattle.std.specs.Prelude.{◌≡◌, ℕ, ◌==◌, ◌&&◌, not, if◌then◌else◌, List, map, Option, Some, None, Result, Ok, Err}
+use Rattle.std.specs.Prelude.{◌≡◌, ℕ, ◌<◌, ◌==◌, ◌&&◌, true, not, if◌then◌else◌, List, length, map, Option, Some, None, is_some, IfSome, IsSome, Result, Ok, Err}
 use Rattle.std.specs.Option.{option_map}
 use Rattle.std.specs.Ordering.{is_eq}
+use Rattle.dmc_types.specs.Limits.{most_requests}
 use Rattle.dmc_types.specs.Values.{Params}
 use Rattle.dmc_types.specs.declared.ids.ClientId.{ClientId}
+use Rattle.dmc_types.specs.declared.ids.Token.{Token}
 use Rattle.dmc_types.specs.declared.refusal.Refusal.{Refusal}
 use Rattle.dmc_tag.specs.State.{State}
 use Rattle.dmc_tag.specs.Outcome.{◌>>=◌}
-use Rattle.dmc_tag.specs.Rules.{can_add, shift_of}
+use Rattle.dmc_tag.specs.Rules.{can_add, can_shift_by, shift_of, shifted_by, added, queued}
+use Rattle.dmc_tag.specs.Order.{AreNext}
+use Rattle.dmc_tag.specs.declared.reply.Reply.TheVariants.{Tagged}
 use Rattle.dmc_tag.specs.declared.plain.PlainRequest.{PlainRequest}
 use Rattle.dmc_tag.specs.declared.plain.PlainClient.{PlainClient}
 use Rattle.dmc_pull.specs.declared.adding.Addition.{Addition}
-use Rattle.dmc_tag.specs.Tag.{Tagging}
+use Rattle.dmc_pull.specs.Queue.{Queue, state_of}
+use Rattle.dmc_tag.specs.Tag.{Fraction, Tagging}
 use Rattle.dmc_client.specs.Record.{Rec}
 use Rattle.dmc_adjust.specs.Changes.{shifted, is_shiftable}
-use Rattle.dmc_roster.specs.Entries.{Entry, with_rec}
+use Rattle.dmc_roster.specs.Entries.{Entry, entry_keyed, entry_named, record_at, with_rec}
 use Rattle.dmc_heads.specs.declared.head.Head.{Head}
 use Rattle.dmc_heads.specs.Heads as heads_of
 
@@ -46,6 +51,30 @@ pub record Allows {T : Type 0} (ops : Tagging T) (s : State T) (id : ClientId) (
   pub test : can_add ops s id params (ops.of_moment t) ≡ Ok (full, addition.tags)
   pub shift : addition.shift ≡ unless_nothing ops full
 
-abbrev pub CanAdd : {T : Type 0} → Tagging T → State T → ClientId → Params → ℕ → Result (Addition T) Refusal → Type 0
-CanAdd ops s id params t (Ok addition) = Allows ops s id params t addition
-CanAdd ops s id params t (Err refusal) = can_add ops s id params (ops.of_moment t) ≡ Err refusal
+-- an addition to a queue, which its request can be queued by
+pub record IsAddition {T : Type 0} (ops : Tagging T) (fraction : T → Fraction) (is_value : Fraction → Type 0) (q : Queue T) (client : ClientId) (addition : Addition T) : Type 0 where
+  -- its key is that of the client, which is registered
+  pub key : entry_keyed addition.key q.roster.entries ≡ entry_named client q.roster.entries
+  pub held : is_some (entry_keyed addition.key q.roster.entries) ≡ true
+  -- its tags follow the client's last ones
+  pub next : IfSome (record_at addition.key q.roster.entries) (λ rec. AreNext ops rec.info rec.previous addition.tags)
+  -- others are shifted for an idle client alone
+  pub idle : IsSome addition.shift → IfSome (record_at addition.key q.roster.entries) (λ rec. rec.idle ≡ true)
+  -- each tag that the shift changes stays a value
+  pub shiftable : can_shift_by ops addition.shift (state_of q).clients (state_of q).requests ≡ true
+  -- the new P is a value
+  pub value : is_value (fraction addition.tags.p)
+  -- one request more may be queued
+  pub room : length (state_of q).requests < most_requests
+
+-- the tests of an add held, and what it comes to
+pub record IsAllowed {T : Type 0} (ops : Tagging T) (fraction : T → Fraction) (is_value : Fraction → Type 0) (q : Queue T) (client : ClientId) (params : Params) (t : ℕ) (addition : Addition T) : Type 0 where
+  pub tests : Allows ops (state_of q) client params t addition
+  -- the plain state afterwards and the reply, for each token
+  pub added : (token : Token) → added ops (state_of q) client token params t ≡
+      Ok (queued (shifted_by ops addition.shift (state_of q)) (record { client = client; token = token; tags = addition.tags }) t, Tagged addition.tags)
+  pub fits : IsAddition ops fraction is_value q client addition
+
+abbrev pub CanAdd : {T : Type 0} → Tagging T → (T → Fraction) → (Fraction → Type 0) → Queue T → ClientId → Params → ℕ → Result (Addition T) Refusal → Type 0
+CanAdd ops fraction is_value q client params t (Ok addition) = IsAllowed ops fraction is_value q client params t addition
+CanAdd ops fraction is_value q client params t (Err refusal) = can_add ops (state_of q) client params (ops.of_moment t) ≡ Err refusal

@@ -1,6 +1,6 @@
 -- What the tests of an add come to, and what the least P of all heads says of the shift.
 use Rattle.std.proofs.Common.{◌≡◌, ℕ, Bool, true, false, not, List, [], length, Option, Some, None, Result, Ok, Err, refl, sym, ap, ◌∙◌, subst}
-use Rattle.std.specs.Prelude.{IfSome, is_some, if◌then◌else◌, nat_le}
+use Rattle.std.specs.Prelude.{IfSome, IsSome, is_some, if◌then◌else◌, nat_le}
 use Rattle.std.specs.Option.{option_map, ok_or}
 use Rattle.std.specs.List.{AllByRecursion}
 use Rattle.std.specs.declared.cmp.Ordering.TheVariants.{Equal}
@@ -79,6 +79,14 @@ module _ {T : Type 0} (ops : Tagging T) where
     at : (i : Bool) → Ok None ≡ ((if i then shift_from ops t None else Ok None) >>= λ full. Ok (unless_nothing ops full))
     at true = refl
     at false = refl
+
+  -- others are shifted for an idle client alone
+  pub idle_where_shifted : (requests : List (PlainRequest T)) (arriving : PlainClient T) (t : T) (shift : Option T) → Ok shift ≡ needed_shift ops requests arriving t → IsSome shift → arriving.idle ≡ true
+  idle_where_shifted requests arriving t None e some = cc (some)
+  idle_where_shifted requests arriving t (Some amount) e some = at arriving.idle refl e where
+    at : (i : Bool) → arriving.idle ≡ i → Ok (Some amount) ≡ ((if i then shift_from ops t (best (by_weight ops) is_any requests) else Ok None) >>= λ full. Ok (unless_nothing ops full)) → arriving.idle ≡ true
+    at true f e = f
+    at false f e = cc
 
   module _ (order : IsTotalOrder ops.compare) (same : (a b : T) → ops.compare a b ≡ Equal → a ≡ b)
       (t0 : ℕ) (es : List (Entry T)) (heads : List (Option (Head T))) (are : AreHeads ops t0 es heads) (d : AreDistinct es) (records : AllByRecursion (λ e. IsRecord ops e.rec) es)

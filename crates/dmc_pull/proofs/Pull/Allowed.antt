@@ -22,15 +22,16 @@ use Rattle.dmc_tag.specs.declared.reply.Reply.TheVariants.{Tagged}
 use Rattle.dmc_tag.specs.Rules as rules_of
 use Rattle.dmc_tag.specs.Rules.{can_add, can_shift_by, shifted_by, assigned, added}
 use Rattle.dmc_tag.specs.declared.reply.Tags.{Tags}
+use Rattle.dmc_tag.specs.Order.{AreNext}
 use Rattle.dmc_client.specs.Record.{Rec, client_of, share_tags}
 use Rattle.dmc_roster.specs.Entries.{Entry, entry_named, entry_keyed, record_at}
-use Rattle.dmc_pull.specs.Adding.{needed_shift, unless_nothing, Allows}
+use Rattle.dmc_pull.specs.Adding.{needed_shift, unless_nothing, Allows, IsAllowed}
 use Rattle.dmc_pull.specs.Queue.{Queue, IsQueue, IsKept, state_of}
 use Rattle.dmc_pull.specs.Standing.{clients_in, requests_in}
 use Rattle.dmc_pull.specs.declared.adding.Addition.{Addition}
 use Rattle.dmc_pull.proofs.Common.Parts.{all_as, found_holds}
 use Rattle.dmc_pull.proofs.Common.Entries.{named}
-use Rattle.dmc_pull.proofs.Add.Adds.{held_entry, if_holds, record_is, full, no_shift, whole, Whole, out_of_range, no_tags, allowed}
+use Rattle.dmc_pull.proofs.Add.Adds.{held_entry, if_holds, record_is, full, no_shift, whole, Whole, out_of_range, no_tags, allowed, idle_where_shifted}
 use Rattle.dmc_pull.proofs.Add.NothingOff.{all_requests, all_clients, same_test, same_shifted}
 
 -- the step of an add, from what it comes to at the effective moment
@@ -113,3 +114,26 @@ module _ {T : Type 0} (ops : Tagging T) (fraction : T → Fraction) (is_value : 
               test = allowed ops (state_of q) id params (ops.of_moment at) (client_of found.0.id found.0.rec) known room whole_is.amount whole_is.is (can_is ∙ can) assigned_tags (ap in_range (sym h) ∙ assigned_is);
               shift = whole_is.left;
             }
+
+            -- the tests held, and what the add comes to
+            pub is_allowed : (assigned_tags : Tags T) → tags ≡ Some assigned_tags → IfSome tags (AreNext ops rec.info rec.previous) → is_value (fraction assigned_tags.p) → IsAllowed ops fraction is_value q id params at (record { key = key; shift = shift; tags = assigned_tags })
+            is_allowed assigned_tags h follows value =
+                let counted = is.counted in
+                let tests = allows assigned_tags h in
+                let next = if_holds (AreNext ops rec.info rec.previous) tags assigned_tags h follows in
+                let of_key = λ (P : Rec T → Type 0) (holds : P rec). subst (λ o. IfSome o P) (sym at_key) holds in
+                let same = record_is key entries found.0 rec found.1 at_key in
+                let comes = idle_where_shifted ops (requests_in entries) (client_of found.0.id found.0.rec) (ops.of_moment at) shift (sym e ∙ shift_is) in
+                record {
+                  tests = tests;
+                  added = added_is id params at (record { key = key; shift = shift; tags = assigned_tags }) tests;
+                  fits = record {
+                    key = entry;
+                    held = held;
+                    next = of_key (λ rec. AreNext ops rec.info rec.previous assigned_tags) next;
+                    idle = λ some. of_key (λ rec. rec.idle ≡ true) (ap (λ rec. rec.idle) (sym same) ∙ comes some);
+                    shiftable = can;
+                    value = value;
+                    room = subst (λ n. n < most_requests) counted below;
+                  };
+                }

@@ -5,7 +5,7 @@ ghost use Rattle.std.specs.List.{list_all};
 ghost use Rattle.dmc_adjust.specs.Changes.{is_shiftable};
 ghost use Rattle.dmc_client.specs.Record.{client_of};
 ghost use Rattle.dmc_pull.specs.Adding as adding_of;
-ghost use Rattle.dmc_pull.specs.Adding.{CanAdd};
+ghost use Rattle.dmc_pull.specs.Adding.{CanAdd, IsAddition};
 ghost use Rattle.dmc_pull.specs.Queue.{state_of};
 ghost use Rattle.dmc_roster.specs.Entries.{entry_named, entry_keyed, record_at};
 ghost use Rattle.dmc_tag.specs.Answers.{call_reply};
@@ -86,16 +86,7 @@ impl<T: Tag, I: Indexes<T>> PullQueue<T, I> {
         params: ReqParams,
         at: Moment,
     ) -> Result<Addition<T>, Refusal>
-        ensures outcome { CanAdd T.ops (state_of self.old) client params at result }
-        ensures added { IfOk result (λ a. (token : Token) → rules_of.added T.ops (state_of self.old) client token params at ≡
-            Ok (rules_of.queued (rules_of.shifted_by T.ops a.shift (state_of self.old)) (record { client = client; token = token; tags = a.tags }) at, replies.Tagged a.tags)) }
-        ensures key { IfOk result (λ a. entry_keyed a.key self.old.roster.entries ≡ entry_named client self.old.roster.entries) }
-        ensures held { IfOk result (λ a. is_some (entry_keyed a.key self.old.roster.entries) ≡ true) }
-        ensures follows { IfOk result (λ a. IfSome (record_at a.key self.old.roster.entries) (λ rec. AreNext T.ops rec.info rec.previous a.tags)) }
-        ensures idle { IfOk result (λ a. IsSome a.shift → IfSome (record_at a.key self.old.roster.entries) (λ rec. rec.idle ≡ true)) }
-        ensures shiftable { IfOk result (λ a. rules_of.can_shift_by T.ops a.shift (state_of self.old).clients (state_of self.old).requests ≡ true) }
-        ensures value { IfOk result (λ a. T.is_value (T.fraction a.tags.p)) }
-        ensures room { OnOk result (length (state_of self.old).requests < most_requests) }
+        ensures outcome { CanAdd T.ops T.fraction T.is_value self.old client params at result }
         ensures same { self.new ≡ self.old }
     {
         let Some(key) = self.roster.find_near(client, near) else {
@@ -123,13 +114,7 @@ impl<T: Tag, I: Indexes<T>> PullQueue<T, I> {
         addition: Addition<T>,
         at: Moment,
     ) -> Result<(), QueueFault>
-        requires key { entry_keyed addition.key self.old.roster.entries ≡ entry_named client self.old.roster.entries }
-        requires held { is_some (entry_keyed addition.key self.old.roster.entries) ≡ true }
-        requires next { IfSome (record_at addition.key self.old.roster.entries) (λ rec. AreNext T.ops rec.info rec.previous addition.tags) }
-        requires idle { IsSome addition.shift → IfSome (record_at addition.key self.old.roster.entries) (λ rec. rec.idle ≡ true) }
-        requires shiftable { rules_of.can_shift_by T.ops addition.shift (state_of self.old).clients (state_of self.old).requests ≡ true }
-        requires value { T.is_value (T.fraction addition.tags.p) }
-        requires room { length (state_of self.old).requests < most_requests }
+        requires addition { IsAddition T.ops T.fraction T.is_value self.old client addition }
         requires later { self.old.last_moment ≤ at }
         ensures ok { OnOk result (StandsFor (state_of self.new)
             (rules_of.queued (rules_of.shifted_by T.ops addition.shift (state_of self.old)) (record { client = client; token = token; tags = addition.tags }) at)) }

@@ -15,7 +15,7 @@ returns g c =
     let addition = c.in_ok-addition.addition in
     let at = c.effective-at.result in
     let new = queued (shifted_by ops addition.shift old) (record { client = c.args.client; token = c.args.token; tags = addition.tags }) at in
-    let step = step_of_add ops old c.args.client c.args.token c.args.params c.args.at at (new, Tagged addition.tags) c.effective-at.ensures.value (c.in_ok-addition.ensures.added c.args.token) in
+    let step = step_of_add ops old c.args.client c.args.token c.args.params c.args.at at (new, Tagged addition.tags) c.effective-at.ensures.value (c.in_ok-addition.ensures.outcome.added c.args.token) in
     let stood = subst (λ q. StandsFor (state_of c.queue.new.self) (queued (shifted_by ops addition.shift (state_of q)) (record { client = c.args.client; token = c.args.token; tags = addition.tags }) at)) c.in_ok-addition.ensures.same c.in_ok-queue.ensures.ok in
     steps_agreeing g.T.Tag.ops (tag_order g.T.Ord.cmp g.T.Tag.ops.compare g.met.T.Ord.total g.met.T.Tag.compares) old (state_of c.queue.new.self) (Add c.args.client c.args.token c.args.params c.args.at) (Tagged addition.tags) (sym (ap (λ answer. answer.1) step)) (subst (λ answer. StandsFor (state_of c.queue.new.self) answer.0) (sym step) stood)
 

@@ -29,7 +29,7 @@ returns-in_err-shift-clause-outcome g c =
     let entry = subst (λ q. entry_keyed c.in-Some.key q.roster.entries ≡ entry_named c.args.client q.roster.entries) c.self.view_is c.in-Some.ensures.entry in
     let held = subst (λ q. is_some (entry_keyed c.in-Some.key q.roster.entries) ≡ true) c.self.view_is c.in-Some.ensures.held in
     let refused = allowed.shift_refused g.T.Tag.ops g.T.Tag.fraction g.T.Tag.is_value c.args.self.now c.self.inside.queued is g.met.T.Tag.exact.same (minus_nothing g.T.Tag.ops g.T.Tag.fraction g.T.Tag.is_value g.met.T.Tag.exact) c.args.client c.args.params c.args.at c.in-Some.key entry held c.if-self-ge-REQUESTS.false c.needed_shift.result c.of_moment-t.result c.of_moment-t.ensures c.needed_shift.ensures.value c.in_err-shift.field-0.0 c.in_err-shift.was in
-    subst (λ r. CanAdd g.T.Tag.ops (state_of c.args.self.now) c.args.client c.args.params c.args.at r) (sym (err_is c.from_residual.result c.in_err-shift.field-0.0 c.from_residual.ensures.1)) refused
+    subst (λ r. CanAdd g.T.Tag.ops g.T.Tag.fraction g.T.Tag.is_value c.args.self.now c.args.client c.args.params c.args.at r) (sym (err_is c.from_residual.result c.in_err-shift.field-0.0 c.from_residual.ensures.1)) refused
 
 pub returns-then-not-can_shift_by-clause-outcome : goal.returns-then-not-can_shift_by-clause-outcome
 returns-then-not-can_shift_by-clause-outcome g c =
@@ -55,14 +55,6 @@ returns-clause-outcome g c =
     let held = subst (λ q. is_some (entry_keyed c.in-Some.key q.roster.entries) ≡ true) c.self.view_is c.in-Some.ensures.held in
     let can = subst (λ q. c.can_shift_by.result ≡ can_shift_by g.T.Tag.ops c.in_ok-shift.shift (clients_in q.roster.entries) (requests_in q.roster.entries)) c.needed_shift.ensures.same c.can_shift_by.ensures in
     let at_key = subst (λ q. record_at c.in-Some.key q.roster.entries ≡ Some c.at.result.now) (c.self-2.view_is ∙ c.needed_shift.ensures.same) c.at.ensures.value in
-    allowed.allows g.T.Tag.ops g.T.Tag.fraction g.T.Tag.is_value c.args.self.now c.self.inside.queued is g.met.T.Tag.exact.same (minus_nothing g.T.Tag.ops g.T.Tag.fraction g.T.Tag.is_value g.met.T.Tag.exact) c.args.client c.args.params c.args.at c.in-Some.key entry held c.if-self-ge-REQUESTS.false c.needed_shift.result c.of_moment-t.result c.of_moment-t.ensures c.needed_shift.ensures.value c.in_ok-shift.shift c.in_ok-shift.was (sym can ∙ c.if-not-can_shift_by.false) c.at.result.now at_key c.tags_for.result c.tags_for.ensures.assigned c.in-Some-tags_for.tags c.in-Some-tags_for.is
-
-pub returns-clause-added : goal.returns-clause-added
-returns-clause-added g c =
-    let is = subst (λ q. IsQueue g.T.Tag.ops g.T.Tag.fraction g.T.Tag.is_value q c.self.inside.queued) c.self.view_is c.self.invariant.0 in
-    allowed.added_is g.T.Tag.ops g.T.Tag.fraction g.T.Tag.is_value c.args.self.now c.self.inside.queued is g.met.T.Tag.exact.same (minus_nothing g.T.Tag.ops g.T.Tag.fraction g.T.Tag.is_value g.met.T.Tag.exact) c.args.client c.args.params c.args.at (record { key = c.in-Some.key; shift = c.in_ok-shift.shift; tags = c.in-Some-tags_for.tags }) (returns-clause-outcome g c)
-
-pub returns-clause-value : goal.returns-clause-value
-returns-clause-value g c =
     let weights = weights_are_values g.T.Tag.ops g.T.Tag.fraction g.T.Tag.is_value g.met.T.Tag.exact in
-    search rules
+    let value : g.T.Tag.is_value (g.T.Tag.fraction c.in-Some-tags_for.tags.p) = search rules in
+    allowed.is_allowed g.T.Tag.ops g.T.Tag.fraction g.T.Tag.is_value c.args.self.now c.self.inside.queued is g.met.T.Tag.exact.same (minus_nothing g.T.Tag.ops g.T.Tag.fraction g.T.Tag.is_value g.met.T.Tag.exact) c.args.client c.args.params c.args.at c.in-Some.key entry held c.if-self-ge-REQUESTS.false c.needed_shift.result c.of_moment-t.result c.of_moment-t.ensures c.needed_shift.ensures.value c.in_ok-shift.shift c.in_ok-shift.was (sym can ∙ c.if-not-can_shift_by.false) c.at.result.now at_key c.tags_for.result c.tags_for.ensures.assigned c.in-Some-tags_for.tags c.in-Some-tags_for.is c.tags_for.ensures.follows value

@@ -1,13 +1,12 @@
-use Rattle.std.proofs.Common.{◌≡◌, sym, ap, ◌∙◌, subst, Some, true}
-use Rattle.std.specs.Prelude.{is_some, IsSome, IfSome, ◌==◌, ◌≤◌, ◌<◌, ◌+◌, slice_set, length}
-use Rattle.dmc_types.specs.Limits.{most_requests}
+use Rattle.std.proofs.Common.{◌≡◌, sym, ap, ◌∙◌, subst, Some}
+use Rattle.std.specs.Prelude.{◌==◌, ◌≤◌, ◌+◌, slice_set, length}
 use Rattle.dmc_client.specs.declared.request.QueuedRequest.{QueuedRequest}
 use Rattle.dmc_heads.specs.declared.head.Head.{Head}
 use Rattle.dmc_heads.specs.Heads.{IsOthers}
-use Rattle.dmc_roster.specs.Entries.{entry_keyed, entry_named, record_at}
 use Rattle.dmc_tag.specs.State.{StandsFor}
-use Rattle.dmc_tag.specs.Rules.{can_shift_by, shifted_by, queued}
+use Rattle.dmc_tag.specs.Rules.{shifted_by, queued}
 use Rattle.dmc_tag.proofs.ForCallers.{differences_are_values, due_from_ceil, tag_order}
+use Rattle.dmc_pull.specs.Adding.{IsAddition}
 use Rattle.dmc_pull.specs.Queue.{Queue, IsQueue, head_at, state_of}
 use Rattle.dmc_pull.specs.Range.{AreWithin}
 use Rattle.dmc_pull.specs.Standing.{clients_in, requests_in}
@@ -24,11 +23,9 @@ shift_others-requires g c =
     let q : Queue g.row.T.Denot = record { config = inside.config; roster = inside.roster; heads = inside.heads.0; last_moment = inside.last_moment } in
     let key = c.args.addition.key in
     let shift = c.args.addition.shift in
-    let same = subst (λ q. entry_keyed key q.roster.entries ≡ entry_named c.args.client q.roster.entries) (sym c.self.view_is) c.requires.key in
-    let held = subst (λ q. is_some (entry_keyed key q.roster.entries) ≡ true) (sym c.self.view_is) c.requires.held in
-    let can = subst (λ q. can_shift_by ops shift (clients_in q.roster.entries) (requests_in q.roster.entries) ≡ true) (sym c.self.view_is) c.requires.shiftable in
-    let of = of_client ops g.T.Tag.fraction g.T.Tag.is_value q inside.queued key c.args.client c.self.invariant.0 c.at.ensures.distinct same held in
-    heads_can_shift of shift can
+    let is = subst (λ q. IsAddition ops g.T.Tag.fraction g.T.Tag.is_value q c.args.client c.args.addition) (sym c.self.view_is) c.requires.addition in
+    let of = of_client ops g.T.Tag.fraction g.T.Tag.is_value q inside.queued key c.args.client c.self.invariant.0 c.at.ensures.distinct is.key is.held in
+    heads_can_shift of shift is.shiftable
 
 pub insert-requires-clause-in_room : goal.insert-requires-clause-in_room
 insert-requires-clause-in_room g c =
@@ -37,13 +34,10 @@ insert-requires-clause-in_room g c =
     let q : Queue g.row.T.Denot = record { config = inside.config; roster = inside.roster; heads = inside.heads.0; last_moment = inside.last_moment } in
     let key = c.args.addition.key in
     let shift = c.args.addition.shift in
-    let same = subst (λ q. entry_keyed key q.roster.entries ≡ entry_named c.args.client q.roster.entries) (sym c.self.view_is) c.requires.key in
-    let held = subst (λ q. is_some (entry_keyed key q.roster.entries) ≡ true) (sym c.self.view_is) c.requires.held in
-    let can = subst (λ q. can_shift_by ops shift (clients_in q.roster.entries) (requests_in q.roster.entries) ≡ true) (sym c.self.view_is) c.requires.shiftable in
-    let of = of_client ops g.T.Tag.fraction g.T.Tag.is_value q inside.queued key c.args.client c.self.invariant.0 c.at.ensures.distinct same held in
+    let is = subst (λ q. IsAddition ops g.T.Tag.fraction g.T.Tag.is_value q c.args.client c.args.addition) (sym c.self.view_is) c.requires.addition in
+    let of = of_client ops g.T.Tag.fraction g.T.Tag.is_value q inside.queued key c.args.client c.self.invariant.0 c.at.ensures.distinct is.key is.held in
     let request : QueuedRequest g.row.T.Denot = record { token = c.args.token; tags = c.args.addition.tags } in
-    let idle = subst (λ q. IsSome shift → IfSome (record_at key q.roster.entries) (λ rec. rec.idle ≡ true)) (sym c.self.view_is) c.requires.idle in
-    let after = after_calls of (differences_are_values g.T.Tag.ops g.T.Tag.fraction g.T.Tag.is_value g.met.T.Tag.exact) request c.args.at c.push_at.result (sym c.if-is_err.ensures.value) c.push_at.new.roster c.push_at.ensures.ok c.push_at.ensures.kept shift idle can c.shift_others.new.roster.entries c.shift_others.ensures.entries c.shift_others.ensures.kept c.shift_others.new.heads c.shift_others.ensures.firsts in
+    let after = after_calls of (differences_are_values g.T.Tag.ops g.T.Tag.fraction g.T.Tag.is_value g.met.T.Tag.exact) request c.args.at c.push_at.result (sym c.if-is_err.ensures.value) c.push_at.new.roster c.push_at.ensures.ok c.push_at.ensures.kept shift is.idle is.shiftable c.shift_others.new.roster.entries c.shift_others.ensures.entries c.shift_others.ensures.kept c.shift_others.new.heads c.shift_others.ensures.firsts in
     within after
 
 pub insert-requires-clause-vacant : goal.insert-requires-clause-vacant
@@ -53,13 +47,10 @@ insert-requires-clause-vacant g c =
     let q : Queue g.row.T.Denot = record { config = inside.config; roster = inside.roster; heads = inside.heads.0; last_moment = inside.last_moment } in
     let key = c.args.addition.key in
     let shift = c.args.addition.shift in
-    let same = subst (λ q. entry_keyed key q.roster.entries ≡ entry_named c.args.client q.roster.entries) (sym c.self.view_is) c.requires.key in
-    let held = subst (λ q. is_some (entry_keyed key q.roster.entries) ≡ true) (sym c.self.view_is) c.requires.held in
-    let can = subst (λ q. can_shift_by ops shift (clients_in q.roster.entries) (requests_in q.roster.entries) ≡ true) (sym c.self.view_is) c.requires.shiftable in
-    let of = of_client ops g.T.Tag.fraction g.T.Tag.is_value q inside.queued key c.args.client c.self.invariant.0 c.at.ensures.distinct same held in
+    let is = subst (λ q. IsAddition ops g.T.Tag.fraction g.T.Tag.is_value q c.args.client c.args.addition) (sym c.self.view_is) c.requires.addition in
+    let of = of_client ops g.T.Tag.fraction g.T.Tag.is_value q inside.queued key c.args.client c.self.invariant.0 c.at.ensures.distinct is.key is.held in
     let request : QueuedRequest g.row.T.Denot = record { token = c.args.token; tags = c.args.addition.tags } in
-    let idle = subst (λ q. IsSome shift → IfSome (record_at key q.roster.entries) (λ rec. rec.idle ≡ true)) (sym c.self.view_is) c.requires.idle in
-    let after = after_calls of (differences_are_values g.T.Tag.ops g.T.Tag.fraction g.T.Tag.is_value g.met.T.Tag.exact) request c.args.at c.push_at.result (sym c.if-is_err.ensures.value) c.push_at.new.roster c.push_at.ensures.ok c.push_at.ensures.kept shift idle can c.shift_others.new.roster.entries c.shift_others.ensures.entries c.shift_others.ensures.kept c.shift_others.new.heads c.shift_others.ensures.firsts in
+    let after = after_calls of (differences_are_values g.T.Tag.ops g.T.Tag.fraction g.T.Tag.is_value g.met.T.Tag.exact) request c.args.at c.push_at.result (sym c.if-is_err.ensures.value) c.push_at.new.roster c.push_at.ensures.ok c.push_at.ensures.kept shift is.idle is.shiftable c.shift_others.new.roster.entries c.shift_others.ensures.entries c.shift_others.ensures.kept c.shift_others.new.heads c.shift_others.ensures.firsts in
     let empty : c.is_empty-is_first.result ≡ (length of.entry.rec.requests == 0) = c.is_empty-is_first.ensures ∙ ap (λ rec. length rec.requests == 0) (sym (record_is key inside.roster.entries of.entry c.at.result.now of.found c.at.ensures.value)) in
     vacant after (sym empty ∙ c.if-is_first.true)
 
@@ -70,13 +61,10 @@ insert-requires-clause-apart g c =
     let q : Queue g.row.T.Denot = record { config = inside.config; roster = inside.roster; heads = inside.heads.0; last_moment = inside.last_moment } in
     let key = c.args.addition.key in
     let shift = c.args.addition.shift in
-    let same = subst (λ q. entry_keyed key q.roster.entries ≡ entry_named c.args.client q.roster.entries) (sym c.self.view_is) c.requires.key in
-    let held = subst (λ q. is_some (entry_keyed key q.roster.entries) ≡ true) (sym c.self.view_is) c.requires.held in
-    let can = subst (λ q. can_shift_by ops shift (clients_in q.roster.entries) (requests_in q.roster.entries) ≡ true) (sym c.self.view_is) c.requires.shiftable in
-    let of = of_client ops g.T.Tag.fraction g.T.Tag.is_value q inside.queued key c.args.client c.self.invariant.0 c.at.ensures.distinct same held in
+    let is = subst (λ q. IsAddition ops g.T.Tag.fraction g.T.Tag.is_value q c.args.client c.args.addition) (sym c.self.view_is) c.requires.addition in
+    let of = of_client ops g.T.Tag.fraction g.T.Tag.is_value q inside.queued key c.args.client c.self.invariant.0 c.at.ensures.distinct is.key is.held in
     let request : QueuedRequest g.row.T.Denot = record { token = c.args.token; tags = c.args.addition.tags } in
-    let idle = subst (λ q. IsSome shift → IfSome (record_at key q.roster.entries) (λ rec. rec.idle ≡ true)) (sym c.self.view_is) c.requires.idle in
-    let after = after_calls of (differences_are_values g.T.Tag.ops g.T.Tag.fraction g.T.Tag.is_value g.met.T.Tag.exact) request c.args.at c.push_at.result (sym c.if-is_err.ensures.value) c.push_at.new.roster c.push_at.ensures.ok c.push_at.ensures.kept shift idle can c.shift_others.new.roster.entries c.shift_others.ensures.entries c.shift_others.ensures.kept c.shift_others.new.heads c.shift_others.ensures.firsts in
+    let after = after_calls of (differences_are_values g.T.Tag.ops g.T.Tag.fraction g.T.Tag.is_value g.met.T.Tag.exact) request c.args.at c.push_at.result (sym c.if-is_err.ensures.value) c.push_at.new.roster c.push_at.ensures.ok c.push_at.ensures.kept shift is.idle is.shiftable c.shift_others.new.roster.entries c.shift_others.ensures.entries c.shift_others.ensures.kept c.shift_others.new.heads c.shift_others.ensures.firsts in
     subst (λ (head : Head g.row.T.Denot). IsOthers c.shift_others.new.heads key head.client) (sym c.head_at.ensures) (subst (IsOthers c.shift_others.new.heads key) of.id (apart after))
 
 pub invariant_of-self-2 : goal.invariant_of-self-2
@@ -86,29 +74,25 @@ invariant_of-self-2 g c =
     let q : Queue g.row.T.Denot = record { config = inside.config; roster = inside.roster; heads = inside.heads.0; last_moment = inside.last_moment } in
     let key = c.args.addition.key in
     let shift = c.args.addition.shift in
-    let same = subst (λ q. entry_keyed key q.roster.entries ≡ entry_named c.args.client q.roster.entries) (sym c.self.view_is) c.requires.key in
-    let held = subst (λ q. is_some (entry_keyed key q.roster.entries) ≡ true) (sym c.self.view_is) c.requires.held in
-    let can = subst (λ q. can_shift_by ops shift (clients_in q.roster.entries) (requests_in q.roster.entries) ≡ true) (sym c.self.view_is) c.requires.shiftable in
-    let of = of_client ops g.T.Tag.fraction g.T.Tag.is_value q inside.queued key c.args.client c.self.invariant.0 c.at.ensures.distinct same held in
+    let is = subst (λ q. IsAddition ops g.T.Tag.fraction g.T.Tag.is_value q c.args.client c.args.addition) (sym c.self.view_is) c.requires.addition in
+    let of = of_client ops g.T.Tag.fraction g.T.Tag.is_value q inside.queued key c.args.client c.self.invariant.0 c.at.ensures.distinct is.key is.held in
     let request : QueuedRequest g.row.T.Denot = record { token = c.args.token; tags = c.args.addition.tags } in
-    let idle = subst (λ q. IsSome shift → IfSome (record_at key q.roster.entries) (λ rec. rec.idle ≡ true)) (sym c.self.view_is) c.requires.idle in
-    let after = after_calls of (differences_are_values g.T.Tag.ops g.T.Tag.fraction g.T.Tag.is_value g.met.T.Tag.exact) request c.args.at c.push_at.result (sym c.if-is_err.ensures.value) c.push_at.new.roster c.push_at.ensures.ok c.push_at.ensures.kept shift idle can c.shift_others.new.roster.entries c.shift_others.ensures.entries c.shift_others.ensures.kept c.shift_others.new.heads c.shift_others.ensures.firsts in
+    let after = after_calls of (differences_are_values g.T.Tag.ops g.T.Tag.fraction g.T.Tag.is_value g.met.T.Tag.exact) request c.args.at c.push_at.result (sym c.if-is_err.ensures.value) c.push_at.new.roster c.push_at.ensures.ok c.push_at.ensures.kept shift is.idle is.shiftable c.shift_others.new.roster.entries c.shift_others.ensures.entries c.shift_others.ensures.kept c.shift_others.new.heads c.shift_others.ensures.firsts in
     let empty : c.is_empty-is_first.result ≡ (length of.entry.rec.requests == 0) = c.is_empty-is_first.ensures ∙ ap (λ rec. length rec.requests == 0) (sym (record_is key inside.roster.entries of.entry c.at.result.now of.found c.at.ensures.value)) in
     let is_value = g.T.Tag.is_value in
     let fraction = g.T.Tag.fraction in
     let at = c.args.at in
-    let room = subst (λ q. length (requests_in q.roster.entries) < most_requests) (sym c.self.view_is) c.requires.room in
     let later = subst (λ q. q.last_moment ≤ at) (sym c.self.view_is) c.requires.later in
     let order = tag_order g.T.Ord.cmp ops.compare g.met.T.Ord.total g.met.T.Tag.compares in
     let came = arrived_within ops order g.met.T.Tag.exact of request at inside.range c.self.invariant.1 c.push_at.result (sym c.if-is_err.ensures.value) c.push_at.new.roster c.push_at.ensures.ok shift c.shift_others.new.roster.entries c.shift_others.ensures.entries in
     let within = subst (λ range. AreWithin ops range c.shift_others.new.roster.entries) (sym c.widen.ensures) came in
     elim c.if-is_first.branch [
       | then-is_first w ↦
-          let first = with_first fraction is_value inside.config c.shift_others.new.roster after inside.queued c.self.invariant.0.counted room c.requires.value later (due_from_ceil g.T.Tag.ops g.T.Tag.fraction g.T.Tag.is_value g.met.T.Tag.exact) (sym empty ∙ w.if-is_first.true) in
+          let first = with_first fraction is_value inside.config c.shift_others.new.roster after inside.queued c.self.invariant.0.counted is.room is.value later (due_from_ceil g.T.Tag.ops g.T.Tag.fraction g.T.Tag.is_value g.met.T.Tag.exact) (sym empty ∙ w.if-is_first.true) in
           let named = subst (λ id. IsQueue ops fraction is_value (record { config = inside.config; roster = c.shift_others.new.roster; heads = slice_set c.shift_others.new.heads key (Some (head_at ops at id request.tags)); last_moment = at }) (inside.queued + 1)) of.id first in
           rw (w.self-inside-is, w.insert.ensures, w.head_at.ensures) (named, within)
       | else-is_first w ↦
-          let more = with_more fraction is_value inside.config c.shift_others.new.roster after inside.queued c.self.invariant.0.counted room c.requires.value later (due_from_ceil g.T.Tag.ops g.T.Tag.fraction g.T.Tag.is_value g.met.T.Tag.exact) (sym empty ∙ w.if-is_first.false) in
+          let more = with_more fraction is_value inside.config c.shift_others.new.roster after inside.queued c.self.invariant.0.counted is.room is.value later (due_from_ceil g.T.Tag.ops g.T.Tag.fraction g.T.Tag.is_value g.met.T.Tag.exact) (sym empty ∙ w.if-is_first.false) in
           rw w.self-inside-is (more, within)
     ]
 
@@ -119,13 +103,10 @@ returns-clause-ok g c =
     let q : Queue g.row.T.Denot = record { config = inside.config; roster = inside.roster; heads = inside.heads.0; last_moment = inside.last_moment } in
     let key = c.args.addition.key in
     let shift = c.args.addition.shift in
-    let same = subst (λ q. entry_keyed key q.roster.entries ≡ entry_named c.args.client q.roster.entries) (sym c.self.view_is) c.requires.key in
-    let held = subst (λ q. is_some (entry_keyed key q.roster.entries) ≡ true) (sym c.self.view_is) c.requires.held in
-    let can = subst (λ q. can_shift_by ops shift (clients_in q.roster.entries) (requests_in q.roster.entries) ≡ true) (sym c.self.view_is) c.requires.shiftable in
-    let of = of_client ops g.T.Tag.fraction g.T.Tag.is_value q inside.queued key c.args.client c.self.invariant.0 c.at.ensures.distinct same held in
+    let is = subst (λ q. IsAddition ops g.T.Tag.fraction g.T.Tag.is_value q c.args.client c.args.addition) (sym c.self.view_is) c.requires.addition in
+    let of = of_client ops g.T.Tag.fraction g.T.Tag.is_value q inside.queued key c.args.client c.self.invariant.0 c.at.ensures.distinct is.key is.held in
     let request : QueuedRequest g.row.T.Denot = record { token = c.args.token; tags = c.args.addition.tags } in
-    let idle = subst (λ q. IsSome shift → IfSome (record_at key q.roster.entries) (λ rec. rec.idle ≡ true)) (sym c.self.view_is) c.requires.idle in
-    let after = after_calls of (differences_are_values g.T.Tag.ops g.T.Tag.fraction g.T.Tag.is_value g.met.T.Tag.exact) request c.args.at c.push_at.result (sym c.if-is_err.ensures.value) c.push_at.new.roster c.push_at.ensures.ok c.push_at.ensures.kept shift idle can c.shift_others.new.roster.entries c.shift_others.ensures.entries c.shift_others.ensures.kept c.shift_others.new.heads c.shift_others.ensures.firsts in
+    let after = after_calls of (differences_are_values g.T.Tag.ops g.T.Tag.fraction g.T.Tag.is_value g.met.T.Tag.exact) request c.args.at c.push_at.result (sym c.if-is_err.ensures.value) c.push_at.new.roster c.push_at.ensures.ok c.push_at.ensures.kept shift is.idle is.shiftable c.shift_others.new.roster.entries c.shift_others.ensures.entries c.shift_others.ensures.kept c.shift_others.new.heads c.shift_others.ensures.firsts in
     let roster = c.shift_others.new.roster in
     let at = c.args.at in
     let config : c.if-is_first.self-inside.config ≡ inside.config = elim c.if-is_first.branch [ then-is_first w ↦ ap (λ i. i.config) w.self-inside-is | else-is_first w ↦ ap (λ i. i.config) w.self-inside-is ] in

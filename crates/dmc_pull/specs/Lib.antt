@@ -1,5 +1,6 @@
 pub mod Standing
 pub mod Adding
+pub mod Registering
 pub mod Cleaning
 pub mod Queue
 pub mod Range

@@ -50,6 +50,13 @@ module _ {T : Type 0} (ops : Tagging T) (s : State T) (id : ClientId) (info : Ra
   may_register spacings known exact room = rw (known, exact, lt-leb most_clients (length s.clients) room) refl
 
 -- the answer about the spacings, at the rate of the clock that was read
+-- nobody has the name, where no key was found
+pub not_named : {T : Type 0} (id : ClientId) (es : List (Entry T)) (found : Option ℕ) → found ≡ option_map (λ e. e.key) (entry_named id es) → is_some found ≡ false → entry_named id es ≡ None
+not_named id es found e none = at (entry_named id es) (ap is_some (sym e) ∙ none) where
+  at : {T : Type 0} (o : Option (Entry T)) → is_some (option_map (λ e. e.key) o) ≡ false → o ≡ None
+  at None h = refl
+  at (Some x) h = cc
+
 pub spacings_at : {T : Type 0} → (ops : Tagging T) (info : Rates) (answer : Result (Spacings T) Field) (read hz : ℕ) → read ≡ hz → answer ≡ spacings_of ops read info → (found : Result (Spacings T) Field) → answer ≡ found → spacings_of ops hz info ≡ found
 spacings_at ops info answer read hz same given found is = ap (λ n. spacings_of ops n info) (sym same) ∙ sym given ∙ is
 

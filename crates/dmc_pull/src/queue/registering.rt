@@ -2,6 +2,7 @@
 ghost use Rattle.std.specs.Prelude.{◌≡◌, ◌≤◌, ◌<◌, [], ◌∷◌, ◌++◌, true, Some, None, Ok, length, is_some, IfSome, IfOk, OnOk, OnErr, IsOkUnless};
 ghost use Rattle.dmc_types.specs.Limits.{most_clients};
 ghost use Rattle.dmc_client.specs.Record.{client_of};
+ghost use Rattle.dmc_pull.specs.Registering.{IsRegistration, IsUpdate};
 ghost use Rattle.dmc_pull.specs.Queue.{state_of, without_value, IsKept};
 ghost use Rattle.dmc_roster.specs.Entries.{entry_named, entry_keyed, record_at, AreDistinct};
 ghost use Rattle.dmc_tag.specs.Answers.{call_reply, sure_call_reply};
@@ -30,10 +31,7 @@ impl<T: Tag, I: Indexes<T>> PullQueue<T, I> {
     /// The tests of a registration, and the spacings of the rates.
     fn can_register(&self, client: ClientId, info: ClientInfo) -> Result<Spacings<T>, Refusal>
         ensures outcome { without_value result ≡ rules_of.can_register T.ops (state_of self.now) client info }
-        ensures spacings { IfOk result (λ spacings. spacings_of T.ops self.now.config.hz info ≡ Ok spacings) }
-        ensures are { IfOk result (AreSpacings T.ops info) }
-        ensures new { OnOk result (entry_named client self.now.roster.entries ≡ None) }
-        ensures room { OnOk result (length self.now.roster.entries < most_clients) }
+        ensures registers { IfOk result (IsRegistration T.ops self.now client info) }
     {
         if self.roster.find(client).is_some() {
             return Err(Refusal::Known);
@@ -93,12 +91,7 @@ impl<T: Tag, I: Indexes<T>> PullQueue<T, I> {
         info: ClientInfo,
     ) -> Result<(usize, Spacings<T>), Refusal>
         ensures outcome { without_value result ≡ rules_of.can_update T.ops (state_of self.now) client info }
-        ensures spacings { IfOk result (λ p. spacings_of T.ops self.now.config.hz info ≡ Ok p.1) }
-        ensures are { IfOk result (λ p. AreSpacings T.ops info p.1) }
-        ensures key { IfOk result (λ p. entry_keyed p.0 self.now.roster.entries ≡ entry_named client self.now.roster.entries) }
-        ensures held { IfOk result (λ p. is_some (entry_keyed p.0 self.now.roster.entries) ≡ true) }
-        ensures distinct { AreDistinct self.now.roster.entries }
-        ensures not_busy { IfOk result (λ p. IfSome (record_at p.0 self.now.roster.entries) (λ rec. rules_of.changes_reservation rec.info info ≡ true → rec.requests ≡ [])) }
+        ensures updates { IfOk result (λ p. IsUpdate T.ops self.now client info p.0 p.1) }
     {
         let Some(key) = self.roster.find(client) else {
             return Err(Refusal::Unknown);

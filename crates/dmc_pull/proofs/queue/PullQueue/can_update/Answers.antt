@@ -38,8 +38,11 @@ returns-clause-outcome g c =
     let free = busy_as h c.args.info c.at.result.now c.at.ensures.value c.is_busy.result c.is_busy.ensures false c.if-is_busy.false in
     rw (← c.self.view_is) (may_update g.T.Tag.ops s c.args.client c.args.info (client_of c.args.client h.entry.rec) h.named c.in-Ok.spacings exact free)
 
-pub returns-clause-not_busy : goal.returns-clause-not_busy
-returns-clause-not_busy g c =
+pub returns-clause-updates : goal.returns-clause-updates
+returns-clause-updates g c =
+    let q = c.self.inside in
     let rec = c.at.result.now in
+    let exact = spacings_at g.T.Tag.ops c.args.info c.spacings_for.result c.hz.result q.config.hz c.hz.ensures.value c.spacings_for.ensures.value (Ok c.in-Ok.spacings) c.in-Ok.is in
     let free = not_busy rec c.args.info c.is_busy.result c.is_busy.ensures c.if-is_busy.false in
-    rw (← c.self.view_is) (said_of (λ r. changes_reservation r.info c.args.info ≡ true → r.requests ≡ []) c.in-Some.key c.self.inside.roster.entries rec c.at.ensures.value free)
+    let said = said_of (λ r. changes_reservation r.info c.args.info ≡ true → r.requests ≡ []) c.in-Some.key q.roster.entries rec c.at.ensures.value free in
+    rw (← c.self.view_is) (record { exact = exact; are = c.in-Ok.ensures.spacings; key = c.in-Some.ensures.entry; held = c.in-Some.ensures.held; distinct = c.find.ensures.distinct; not_busy = said })

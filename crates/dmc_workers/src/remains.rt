@@ -9,8 +9,11 @@ use std::alloc::{AllocError, Global};
 /// What the threads of a run leave.
 #[derive(Drop)]
 pub struct Remains<T: Tag, B, S: Setup> {
+    /// The queues' books, of server 0, 1, ..
     pub books: Vec<B>,
+    /// The trackers' books, in the order of the scene's clients.
     pub trackers: Vec<TrackerBook<S>>,
+    /// The passes of all workers.
     pub passes: Passes<S>,
     /// With the stops and the failures.
     pub report: ClusterReport<T>,

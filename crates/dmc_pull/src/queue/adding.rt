@@ -1,15 +1,13 @@
 //! An add to the indexed queue.
-ghost use Rattle.std.specs.Prelude.{◌≡◌, ◌≤◌, ◌<◌, ◌==◌, true, Some, None, Ok, length, is_some, IfSome, IsSome, IfOk, OnOk, OnErr, IsOkUnless};
-ghost use Rattle.dmc_types.specs.Limits.{most_requests};
+ghost use Rattle.std.specs.Prelude.{◌≡◌, ◌≤◌, ◌<◌, ◌==◌, true, Some, None, Ok, is_some, IfSome, OnOk, OnErr, IsOkUnless};
 ghost use Rattle.std.specs.List.{list_all};
 ghost use Rattle.dmc_adjust.specs.Changes.{is_shiftable};
 ghost use Rattle.dmc_client.specs.Record.{client_of};
 ghost use Rattle.dmc_pull.specs.Adding as adding_of;
 ghost use Rattle.dmc_pull.specs.Adding.{CanAdd, IsAddition};
 ghost use Rattle.dmc_pull.specs.Queue.{state_of};
-ghost use Rattle.dmc_roster.specs.Entries.{entry_named, entry_keyed, record_at};
+ghost use Rattle.dmc_roster.specs.Entries.{entry_keyed};
 ghost use Rattle.dmc_tag.specs.Answers.{call_reply};
-ghost use Rattle.dmc_tag.specs.Order.{AreNext};
 ghost use Rattle.dmc_tag.specs.Rules as rules_of;
 ghost use Rattle.dmc_tag.specs.State.{StandsFor};
 ghost use Rattle.dmc_tag.specs.Steps.{Steps};

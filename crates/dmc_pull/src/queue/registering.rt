@@ -1,14 +1,12 @@
 //! A registration, and an update of rates.
-ghost use Rattle.std.specs.Prelude.{◌≡◌, ◌≤◌, ◌<◌, [], ◌∷◌, ◌++◌, true, Some, None, Ok, length, is_some, IfSome, IfOk, OnOk, OnErr, IsOkUnless};
+ghost use Rattle.std.specs.Prelude.{◌≡◌, ◌≤◌, ◌<◌, [], ◌∷◌, ◌++◌, Some, None, Ok, length, is_some, IfOk, OnOk, OnErr, IsOkUnless};
 ghost use Rattle.dmc_types.specs.Limits.{most_clients};
 ghost use Rattle.dmc_client.specs.Record.{client_of};
-ghost use Rattle.dmc_pull.specs.Registering.{IsRegistration, IsUpdate};
 ghost use Rattle.dmc_pull.specs.Queue.{state_of, without_value, IsKept};
-ghost use Rattle.dmc_roster.specs.Entries.{entry_named, entry_keyed, record_at, AreDistinct};
+ghost use Rattle.dmc_pull.specs.Registering.{IsRegistration, IsUpdate};
+ghost use Rattle.dmc_roster.specs.Entries.{entry_named};
 ghost use Rattle.dmc_tag.specs.Answers.{call_reply, sure_call_reply};
-ghost use Rattle.dmc_tag.specs.Order.{AreSpacings};
 ghost use Rattle.dmc_tag.specs.Rules as rules_of;
-ghost use Rattle.dmc_tag.specs.Spacing.{spacings_of};
 ghost use Rattle.dmc_tag.specs.Steps.{Exactly};
 ghost use Rattle.dmc_tag.specs.declared.reply.Reply.TheVariants as replies;
 ghost use Rattle.dmc_types.specs.declared.command.Command.TheVariants as commands;

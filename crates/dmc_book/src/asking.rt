@@ -28,13 +28,20 @@ use dmc_types::moment::Moment;
 use dmc_types::params::ReqParams;
 use dmc_types::refusal::{QueueFault, Refusal};
 use indexmap::IndexSet;
+use std::alloc::AllocError;
 
 /// What the queue makes of an add.
-#[derive(Clone, Copy)]
+#[derive(Copy)]
 pub(crate) enum Added<T> {
     Tagged(Tags<T>),
     Refused(Refusal),
     Memory,
+}
+
+impl<T: Copy> Clone for Added<T> {
+    fn clone(&self) -> Result<Added<T>, AllocError> {
+        Ok(*self)
+    }
 }
 
 /// Hands an add to the queue. The client is looked for at a place in order of registration first.

@@ -15,9 +15,10 @@ use dmc_text::tag::TagText;
 use dmc_types::command::Command;
 use dmc_types::config::QueueConfig;
 use dmc_types::ids::WorkerId;
+use std::alloc::AllocError;
 
 /// What a line says.
-#[derive(Clone, Copy)]
+#[derive(Copy)]
 pub enum EventLine<T> {
     /// Nothing: it has no word, or its first begins with `#`.
     Skip,
@@ -25,6 +26,12 @@ pub enum EventLine<T> {
     Config(QueueConfig),
     /// What a worker asked, and what was answered.
     Event(Event<T>),
+}
+
+impl<T: Copy> Clone for EventLine<T> {
+    fn clone(&self) -> Result<EventLine<T>, AllocError> {
+        Ok(*self)
+    }
 }
 
 /// An event whose words are not read as numbers or tags yet.

@@ -64,7 +64,7 @@ pub enum CoreEvent {
 }
 
 /// What an event is answered.
-#[derive(Clone, Copy, Debug, PartialEq, Eq)]
+#[derive(Copy, Debug, PartialEq, Eq)]
 pub enum CoreReply<T> {
     /// The request is stamped with these counts.
     Stamped(ReqParams),
@@ -73,6 +73,12 @@ pub enum CoreReply<T> {
     Served(Reply<T>),
     /// The completion is counted.
     Counted,
+}
+
+impl<T: Copy> Clone for CoreReply<T> {
+    fn clone(&self) -> Result<CoreReply<T>, AllocError> {
+        Ok(*self)
+    }
 }
 
 /// Why an event is refused. It has changed nothing. Of several causes the first is told, in this order.

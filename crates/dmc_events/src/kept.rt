@@ -11,11 +11,12 @@ use dmc_types::config::PhaseType;
 use dmc_types::ids::{ClientId, Token, WorkerId};
 use dmc_types::moment::Moment;
 use dmc_types::params::ReqParams;
+use std::alloc::AllocError;
 
 /// A request that was queued with no tag to keep but that of its weight: the client has no reservation, and the limit's tag is
 /// the moment, as it is of a client without a limit, or within it. The widest fields stand first, so that none of the space
 /// between them is lost.
-#[derive(Clone, Copy)]
+#[derive(Copy)]
 pub(crate) struct QueuedByWeight<T> {
     pub(crate) p: T,
     pub(crate) at: Moment,
@@ -25,8 +26,14 @@ pub(crate) struct QueuedByWeight<T> {
     pub(crate) params: ReqParams,
 }
 
+impl<T: Copy> Clone for QueuedByWeight<T> {
+    fn clone(&self) -> Result<QueuedByWeight<T>, AllocError> {
+        Ok(*self)
+    }
+}
+
 /// Another request that was queued. Where the client has no reservation, `r` is any tag.
-#[derive(Clone, Copy)]
+#[derive(Copy)]
 pub(crate) struct Queued<T> {
     pub(crate) r: T,
     pub(crate) l: T,
@@ -37,6 +44,12 @@ pub(crate) struct Queued<T> {
     pub(crate) token: Token,
     pub(crate) params: ReqParams,
     pub(crate) reserved: bool,
+}
+
+impl<T: Copy> Clone for Queued<T> {
+    fn clone(&self) -> Result<Queued<T>, AllocError> {
+        Ok(*self)
+    }
 }
 
 /// A request that was granted.

@@ -5,14 +5,21 @@ ghost use Rattle.dmc_heads.specs.Heads as heads_of;
 use dmc_tag::rank::{LimitRank, ReadyRank, TagRank};
 use dmc_tag::reply::Tags;
 use dmc_types::ids::ClientId;
+use std::alloc::AllocError;
 
 /// A client, the tags of its first request, and the ready mark: true only where the L of the request is known not to be
 /// past.
-#[derive(Clone, Copy, Debug)]
+#[derive(Copy, Debug)]
 pub struct Head<T> {
     pub client: ClientId,
     pub tags: Tags<T>,
     pub ready: bool,
+}
+
+impl<T: Copy> Clone for Head<T> {
+    fn clone(&self) -> Result<Head<T>, AllocError> {
+        Ok(*self)
+    }
 }
 
 impl<T: Copy> Head<T> {

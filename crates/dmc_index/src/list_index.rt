@@ -12,10 +12,16 @@ use std::alloc::{AllocError, Global};
 use std::marker::Model;
 
 /// A held key and its rank.
-#[derive(Clone, Copy)]
+#[derive(Copy)]
 struct Entry<R> {
     rank: R,
     key: usize,
+}
+
+impl<R: Copy> Clone for Entry<R> {
+    fn clone(&self) -> Result<Entry<R>, AllocError> {
+        Ok(*self)
+    }
 }
 
 /// An index as a vector, least rank first.

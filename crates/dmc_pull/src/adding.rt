@@ -16,13 +16,20 @@ use dmc_roster::roster::Roster;
 use dmc_tag::reply::Tags;
 use dmc_tag::tag::Tag;
 use dmc_types::moment::Moment;
+use std::alloc::AllocError;
 
 /// What an add comes to: the key of its client, how far all others are shifted, and the new tags.
-#[derive(Clone, Copy)]
+#[derive(Copy)]
 pub struct Addition<T> {
     pub key: usize,
     pub shift: Option<T>,
     pub tags: Tags<T>,
+}
+
+impl<T: Copy> Clone for Addition<T> {
+    fn clone(&self) -> Result<Addition<T>, AllocError> {
+        Ok(*self)
+    }
 }
 
 /// No shift, where the amount is nothing.

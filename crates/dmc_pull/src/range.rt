@@ -6,12 +6,19 @@ ghost use Rattle.dmc_pull.specs.Range.{IsWithin};
 use dmc_tag::shifting::has_less;
 use dmc_tag::tag::Tag;
 use dmc_types::moment::Moment;
+use std::alloc::AllocError;
 
 /// Two tags between which each P of a queue lies. It may be wider than need be.
-#[derive(Clone, Copy)]
+#[derive(Copy)]
 pub struct ShareRange<T> {
     pub least: T,
     pub greatest: T,
+}
+
+impl<T: Copy> Clone for ShareRange<T> {
+    fn clone(&self) -> Result<ShareRange<T>, AllocError> {
+        Ok(*self)
+    }
 }
 
 /// The range of a queue without clients: 0 alone. It is kept of whole numbers only.

@@ -2,11 +2,18 @@
 use crate::reply::Reply;
 use dmc_types::command::Command;
 use dmc_types::ids::WorkerId;
+use std::alloc::AllocError;
 
 /// One command, who gave it, and what was answered.
-#[derive(Clone, Copy, Debug, PartialEq, Eq)]
+#[derive(Copy, Debug, PartialEq, Eq)]
 pub struct Event<T> {
     pub worker: WorkerId,
     pub command: Command,
     pub reply: Reply<T>,
+}
+
+impl<T: Copy> Clone for Event<T> {
+    fn clone(&self) -> Result<Event<T>, AllocError> {
+        Ok(*self)
+    }
 }

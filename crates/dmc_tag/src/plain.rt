@@ -3,25 +3,38 @@ use crate::reply::Tags;
 use dmc_types::ids::{ClientId, Token};
 use dmc_types::info::ClientInfo;
 use dmc_types::moment::Moment;
+use std::alloc::AllocError;
 
 /// A queued request.
-#[derive(Clone, Copy, Debug)]
+#[derive(Copy, Debug)]
 pub struct PlainRequest<T> {
     pub client: ClientId,
     pub token: Token,
     pub tags: Tags<T>,
 }
 
+impl<T: Copy> Clone for PlainRequest<T> {
+    fn clone(&self) -> Result<PlainRequest<T>, AllocError> {
+        Ok(*self)
+    }
+}
+
 /// The tags of a client's last request, less what was taken off since. They are 0 at registration.
-#[derive(Clone, Copy, Debug)]
+#[derive(Copy, Debug)]
 pub struct Previous<T> {
     pub r: T,
     pub l: T,
     pub p: T,
 }
 
+impl<T: Copy> Clone for Previous<T> {
+    fn clone(&self) -> Result<Previous<T>, AllocError> {
+        Ok(*self)
+    }
+}
+
 /// A registered client.
-#[derive(Clone, Copy, Debug)]
+#[derive(Copy, Debug)]
 pub struct PlainClient<T> {
     pub id: ClientId,
     pub info: ClientInfo,
@@ -29,4 +42,10 @@ pub struct PlainClient<T> {
     pub idle: bool,
     /// The effective moment of its last accepted request, or of its registration if there is none.
     pub last_arrival: Moment,
+}
+
+impl<T: Copy> Clone for PlainClient<T> {
+    fn clone(&self) -> Result<PlainClient<T>, AllocError> {
+        Ok(*self)
+    }
 }

@@ -6,6 +6,7 @@ ghost use Rattle.std.specs.Ordering.{as_partial_cmp, eq_by_cmp, is_lt, ordering_
 ghost use Rattle.dmc_tag.specs.Rank.{client_cmp, tag_rank_cmp, tag_rank_total, limit_rank_cmp, limit_rank_total, ready_rank_cmp, ready_rank_total};
 
 use dmc_types::ids::ClientId;
+use std::alloc::AllocError;
 use std::cmp::Ordering;
 
 /// A lawful total order: that of `Ord`, whose laws each implementation proves.
@@ -16,26 +17,44 @@ pub trait Rank: Copy + Ord {
 }
 
 /// By tag, and then by client. An absent tag is last.
-#[derive(Clone, Copy, Debug)]
+#[derive(Copy, Debug)]
 pub struct TagRank<T> {
     pub tag: Option<T>,
     pub client: ClientId,
 }
 
+impl<T: Copy> Clone for TagRank<T> {
+    fn clone(&self) -> Result<TagRank<T>, AllocError> {
+        Ok(*self)
+    }
+}
+
 /// Unready first, then by tag, and then by client. The fields stand so that they take little room.
-#[derive(Clone, Copy, Debug)]
+#[derive(Copy, Debug)]
 pub struct LimitRank<T> {
     pub tag: T,
     pub client: ClientId,
     pub ready: bool,
 }
 
+impl<T: Copy> Clone for LimitRank<T> {
+    fn clone(&self) -> Result<LimitRank<T>, AllocError> {
+        Ok(*self)
+    }
+}
+
 /// Ready first, then by tag, and then by client. The fields stand so that they take little room.
-#[derive(Clone, Copy, Debug)]
+#[derive(Copy, Debug)]
 pub struct ReadyRank<T> {
     pub tag: T,
     pub client: ClientId,
     pub ready: bool,
+}
+
+impl<T: Copy> Clone for ReadyRank<T> {
+    fn clone(&self) -> Result<ReadyRank<T>, AllocError> {
+        Ok(*self)
+    }
 }
 
 impl<T: Copy + Ord> Rank for TagRank<T> {

@@ -2,13 +2,20 @@
 use dmc_types::config::PhaseType;
 use dmc_types::ids::{ClientId, Token};
 use dmc_types::refusal::Refusal;
+use std::alloc::AllocError;
 
 /// The tags of a request: reservation (absent without one), limit and weight.
-#[derive(Clone, Copy, Debug, PartialEq, Eq)]
+#[derive(Copy, Debug, PartialEq, Eq)]
 pub struct Tags<T> {
     pub r: Option<T>,
     pub l: T,
     pub p: T,
+}
+
+impl<T: Copy> Clone for Tags<T> {
+    fn clone(&self) -> Result<Tags<T>, AllocError> {
+        Ok(*self)
+    }
 }
 
 /// What a pull answers.
@@ -28,7 +35,7 @@ pub enum Pulled {
 }
 
 /// What a command is answered.
-#[derive(Clone, Copy, Debug, PartialEq, Eq)]
+#[derive(Copy, Debug, PartialEq, Eq)]
 pub enum Reply<T> {
     Registered,
     Updated,
@@ -54,4 +61,10 @@ pub enum Reply<T> {
     },
     /// The command is refused, and nothing has changed.
     Refused(Refusal),
+}
+
+impl<T: Copy> Clone for Reply<T> {
+    fn clone(&self) -> Result<Reply<T>, AllocError> {
+        Ok(*self)
+    }
 }

@@ -7,13 +7,20 @@ use crate::tag::Tag;
 use dmc_types::info::ClientInfo;
 use dmc_types::moment::Moment;
 use dmc_types::refusal::Field;
+use std::alloc::AllocError;
 
 /// How far apart a client's tags are: hz/rate ticks for each of its rates. Without a limit, 0.
-#[derive(Clone, Copy, Debug)]
+#[derive(Copy, Debug)]
 pub struct Spacings<T> {
     pub r: Option<T>,
     pub l: T,
     pub p: T,
+}
+
+impl<T: Copy> Clone for Spacings<T> {
+    fn clone(&self) -> Result<Spacings<T>, AllocError> {
+        Ok(*self)
+    }
 }
 
 fn spacing_for<T: Tag>(hz: u32, field: Field, rate: u32) -> Result<T, Field>

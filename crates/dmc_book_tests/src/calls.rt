@@ -33,11 +33,12 @@ pub(crate) fn run<S: Setup>(
     book.run(pass, command)
 }
 
-fn register(client: ClientId) -> Result<Command, Fail>
+/// The registration of a client of weight 1, with a limit or none.
+pub(crate) fn register(client: ClientId, limit: Option<u32>) -> Result<Command, Fail>
     ensures { IfOk result (λ command. is_add command ≡ false) }
 {
     let at = Moment::zero();
-    match ClientInfo::new(None, 1, None) {
+    match ClientInfo::new(None, 1, limit) {
         Ok(info) => Ok(Command::Register { client, info, at }),
         Err(_) => Err(Fail::new("a client of weight 1")),
     }
@@ -49,7 +50,7 @@ pub(crate) fn enroll<S: Setup>(
     pass: &mut WorkerPass<S>,
     client: ClientId,
 ) -> Result<Option<RunFault>, Fail> {
-    let command = register(client)?;
+    let command = register(client, None)?;
     Ok(run(book, pass, command).err())
 }
 

@@ -1,4 +1,5 @@
-//! Tests of a queue's book and of what a cluster's threads leave, in a crate above them: so those are proved once.
+//! Tests of the books of queues and trackers, of their locks, and of what a cluster's threads leave, in a crate above
+//! them: so those are proved once.
 #![tactic(auto)]
 
 #[cfg(test)]
@@ -10,6 +11,14 @@ mod clusters;
 #[cfg(test)]
 mod opening;
 #[cfg(test)]
+mod queue_locks;
+#[cfg(test)]
 mod refusals;
 #[cfg(test)]
 mod settling;
+#[cfg(test)]
+mod tracker_books;
+#[cfg(test)]
+mod tracker_refusals;
+#[cfg(test)]
+mod tracker_setup;

@@ -1,10 +1,11 @@
 //! A book of worker 7 and client 1, and the client's tracker of server 0.
-ghost use Rattle.std.specs.Prelude.{◌≡◌, ◌≤◌, ◌∷◌, [], ℕ, length, map, IfOk};
+ghost use Rattle.std.specs.Prelude.{◌≡◌, ◌≤◌, ◌∷◌, [], length, map, IfOk};
 ghost use Rattle.std.specs.List.{AllByRecursion};
-ghost use Rattle.dmc_ledger.specs.Bundles.{client_side, new_server_side, server_side};
+ghost use Rattle.dmc_ledger.specs.Bundles.{client_side, server_side};
 ghost use Rattle.dmc_tlock.specs.Opening.{AreNew};
 ghost use Rattle.dmc_book.specs.Opening.{IsNewDesk};
 
+use crate::tracker_setup::{open_tracker_of, tracker_desks};
 use dmc_book::book::QueueBook;
 use dmc_book::fault::NewFault;
 use dmc_book::pass::WorkerPass;
@@ -69,14 +70,6 @@ fn client_desks<S: Setup>(alloc: Global, desk: ClientDesk<S>) -> Result<Vec<Clie
     only(alloc, desk)
 }
 
-/// The tracker's desks.
-fn server_desks<S: Setup>(alloc: Global, side: ServerDesk<S>) -> Result<Vec<ServerDesk<S>>, Fail>
-    requires { (n : ℕ) × (server_side side ≡ new_server_side 1 0 n) }
-    ensures { IfOk result (λ sides. AreNew 1 (map server_side sides.items)) }
-{
-    only(alloc, side)
-}
-
 /// The desks of client 1 and server 0.
 pub(crate) fn open_desks<S: Setup>(
     alloc: Global,
@@ -87,7 +80,7 @@ pub(crate) fn open_desks<S: Setup>(
 {
     let (desk, side) = open_pair(mint, ONE, ZERO)?;
     let desks = client_desks(alloc, desk)?;
-    Ok((desks, server_desks(alloc, side)?))
+    Ok((desks, tracker_desks(alloc, ONE, side)?))
 }
 
 /// A book of worker 7 and client 1, the worker's pass, and the client's tracker with its pass.
@@ -146,7 +139,7 @@ pub(crate) fn open_book<S: Setup>(
     workers: &[WorkerId],
     most: u32,
 ) -> Result<(Book<S>, Vec<WorkerPass<S>>), NewFault>
-    requires few { length workers.now ≤ 2 }
+    requires few { length workers.now ≤ 3 }
     requires new { AllByRecursion (IsNewDesk server.0) (map client_side desks.items) }
 {
     match QueueBook::new(alloc, config, server, workers, desks, mint, most) {
@@ -185,10 +178,7 @@ pub(crate) fn open_tracker<S: Setup>(
 ) -> Result<(TrackerBook<S>, ClientPass<S>), Fail>
     requires { AreNew client.0 (map server_side sides.items) }
 {
-    match TrackerBook::new(alloc, client, sides, 9, 9, Counting::All) {
-        Ok(made) => Ok(made),
-        Err(fault) => Err(fault.cause.into()),
-    }
+    open_tracker_of(alloc, client, sides, (9, 9), Counting::All)
 }
 
 /// A book of worker 7 and client 1, and the worker's pass. Its history may have two events.

@@ -1,8 +1,10 @@
-//! Tests of the program's tools, on the examples and over streams that fail.
+//! Tests of the program's tools, on the examples and over streams that fail, and of whole runs in threads.
 #![tactic(auto)]
 
 #[cfg(test)]
 mod choosing_examples;
+#[cfg(test)]
+mod clusters;
 #[cfg(test)]
 mod event_examples;
 #[cfg(test)]
@@ -19,5 +21,7 @@ mod same;
 mod sim_examples;
 #[cfg(test)]
 mod stream_tests;
+#[cfg(test)]
+mod thousand;
 #[cfg(test)]
 mod words;

@@ -1,0 +1,81 @@
+//! What the book of a lock leaves, once no thread shares the lock.
+use super::setup::Lock;
+use crate::opening::{Book, both, let_go as let_book_go};
+use dmc_book::pass::WorkerPass;
+use dmc_book::seat::Seat;
+use dmc_book::settled::Settled;
+use dmc_ledger::setup::Setup;
+use dmc_tick::tick::TickTag;
+use std::alloc::Global;
+use std::test::Fail;
+
+/// What a worker leaves.
+#[derive(Clone, Copy, Debug, PartialEq, Eq)]
+pub(super) struct Numbers {
+    pub(super) worker: u32,
+    pub(super) calls: u64,
+    pub(super) misses: u64,
+    pub(super) tokens: u64,
+    pub(super) grants: u64,
+    pub(super) granted: u64,
+}
+
+/// The requests that are left, and what each of two workers leaves.
+pub(super) type Remains = (u32, Numbers, Numbers);
+
+fn numbers_of<S: Setup>(seat: &Seat<S>) -> Numbers {
+    Numbers {
+        worker: seat.worker().0,
+        calls: seat.calls(),
+        misses: seat.misses(),
+        tokens: seat.tokens(),
+        grants: seat.grants(),
+        granted: seat.granted(),
+    }
+}
+
+fn remains<S: Setup>(settled: &Settled<TickTag, S>) -> Result<Remains, Fail> {
+    match (settled.workers.first(), settled.workers.get(1)) {
+        (Some(first), Some(second)) => Ok((settled.left, numbers_of(first), numbers_of(second))),
+        _ => Err(Fail::new("two workers")),
+    }
+}
+
+fn settle_book<S: Setup>(
+    alloc: Global,
+    book: &mut Book<S>,
+    passes: Vec<WorkerPass<S>>,
+) -> Result<Remains, Fail> {
+    match book.settle(alloc, passes) {
+        Ok(settled) => {
+            let remains = remains(&settled);
+            drop(settled);
+            remains
+        }
+        Err(_) => Err(Fail::new("its own passes")),
+    }
+}
+
+/// Settles a book with the passes of its two workers.
+fn settle_pair<S: Setup>(
+    alloc: Global,
+    book: &mut Book<S>,
+    first: WorkerPass<S>,
+    second: WorkerPass<S>,
+) -> Result<Remains, Fail> {
+    let passes = both(alloc, first, second)?;
+    settle_book(alloc, book, passes)
+}
+
+/// Opens the lock of two workers, and settles its book with their passes.
+pub(super) fn settle<S: Setup>(
+    alloc: Global,
+    lock: Lock<S>,
+    first: WorkerPass<S>,
+    second: WorkerPass<S>,
+) -> Result<Remains, Fail> {
+    let mut book = lock.into_book();
+    let remains = settle_pair(alloc, &mut book, first, second);
+    let_book_go(book);
+    remains
+}

@@ -1,0 +1,38 @@
+//! Tests of tags, queues, trackers, ledgers, histories and texts, and of what they are made of, in a crate above them: so
+//! those are proved once.
+#![tactic(auto)]
+
+#[cfg(test)]
+mod events;
+#[cfg(test)]
+mod heads;
+#[cfg(test)]
+mod heaps;
+#[cfg(test)]
+mod histories;
+#[cfg(test)]
+mod indexes;
+#[cfg(test)]
+mod kinds;
+#[cfg(test)]
+mod ledgers;
+#[cfg(test)]
+mod limits;
+#[cfg(test)]
+mod lines;
+#[cfg(test)]
+mod recorded;
+#[cfg(test)]
+mod records;
+#[cfg(test)]
+mod rosters;
+#[cfg(test)]
+mod runs;
+#[cfg(test)]
+mod same;
+#[cfg(test)]
+mod scenes;
+#[cfg(test)]
+mod tags;
+#[cfg(test)]
+mod trackers;

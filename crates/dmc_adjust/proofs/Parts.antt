@@ -3,12 +3,12 @@ use Rattle.std.proofs.Common.{◌≡◌, Bool, true, false, not, ◌&&◌, ◌||
 use Rattle.std.specs.Prelude.{if◌then◌else◌, Some}
 use Rattle.std.specs.Option.{option_map_or}
 use Rattle.std.specs.List.{list_all}
-use Rattle.std.proofs.lemmas.Bool.{eq-eqb}
 use Rattle.dmc_types.specs.declared.ids.ClientId.{ClientId}
 use Rattle.dmc_tag.specs.Tag.{Tagging}
-use Rattle.dmc_tag.specs.State.{is_client, is_active}
+use Rattle.dmc_tag.specs.State.{is_active}
 use Rattle.dmc_tag.specs.Rules.{has_less, shifted_request, requests_can_shift, clients_can_shift, reduced_request, requests_can_reduce, can_reduce_by}
 use Rattle.dmc_tag.specs.declared.plain.PlainClient.{PlainClient}
+use Rattle.dmc_tag.proofs.Ids.{itself_id}
 use Rattle.dmc_client.specs.declared.request.QueuedRequest.{QueuedRequest}
 use Rattle.dmc_client.specs.Record.{Rec, client_of, request_of, requests_of_record, less_share, less_reservation, has_less_shares, has_less_reservations}
 use Rattle.dmc_adjust.specs.Changes.{is_shiftable}
@@ -57,15 +57,12 @@ module _ {T : Type 0} (ops : Tagging T) (amount : T) (id : ClientId) where
 
   -- ---- reduction
 
-  itself : is_client id id ≡ true
-  itself = eq-eqb id.0 id.0 refl
-
   pub reduced_part : (requests : List (QueuedRequest T)) → map (reduced_request ops id amount) (map (request_of id) requests) ≡ map (request_of id) (map (less_reservation ops amount) requests)
-  reduced_part = map_over (request_of id) (reduced_request ops id amount) (less_reservation ops amount) (λ q. ap (λ b. if b then request_of id (less_reservation ops amount q) else request_of id q) itself)
+  reduced_part = map_over (request_of id) (reduced_request ops id amount) (less_reservation ops amount) (λ q. ap (λ b. if b then request_of id (less_reservation ops amount q) else request_of id q) (itself_id id))
 
   pub reduction_tests : (rec : Rec T) → has_less_reservations ops amount rec ≡ can_reduce_by ops id (Some amount) (client_of id rec ∷ []) (requests_of_record id rec)
   reduction_tests rec =
       let test = λ (q : QueuedRequest T). option_map_or (has_less ops amount) q.tags.r true in
-      let all : requests_can_reduce ops id amount (requests_of_record id rec) ≡ list_all test rec.requests = list_all_over (request_of id) _ test (λ q. ap (λ b. not b || test q) itself) rec.requests in
+      let all : requests_can_reduce ops id amount (requests_of_record id rec) ≡ list_all test rec.requests = list_all_over (request_of id) _ test (λ q. ap (λ b. not b || test q) (itself_id id)) rec.requests in
       ap (λ b. b && has_less ops amount rec.previous.r) (sym all)
-      ∙ ap (λ b. requests_can_reduce ops id amount (requests_of_record id rec) && b) (sym (and-true (has_less ops amount rec.previous.r)) ∙ ap (λ b. (not b || has_less ops amount rec.previous.r) && true) (sym itself))
+      ∙ ap (λ b. requests_can_reduce ops id amount (requests_of_record id rec) && b) (sym (and-true (has_less ops amount rec.previous.r)) ∙ ap (λ b. (not b || has_less ops amount rec.previous.r) && true) (sym (itself_id id)))

@@ -9,7 +9,7 @@ use Rattle.dmc_types.specs.declared.refusal.Refusal.{Refusal}
 use Rattle.dmc_types.specs.declared.command.Command.{Command}
 use Rattle.dmc_types.specs.declared.command.Command.TheVariants.{Register, Update, Add, Pull, Remove, Clean}
 use Rattle.dmc_tag.specs.Tag.{Tagging, Fraction, IsExact}
-use Rattle.dmc_tag.specs.State.{State, StandsFor, effective}
+use Rattle.dmc_tag.specs.State.{State, effective}
 use Rattle.dmc_tag.specs.Laws.{Pulls}
 use Rattle.dmc_types.specs.declared.refusal.Refusal.TheVariants.{Range}
 use Rattle.dmc_tag.specs.Outcome.{◌>>=◌}
@@ -20,6 +20,7 @@ use Rattle.dmc_tag.specs.Answers.{pull_reply}
 use Rattle.dmc_tag.specs.declared.reply.Pulled.{Pulled}
 use Rattle.dmc_tag.specs.declared.reply.Reply.{Reply}
 use Rattle.dmc_tag.specs.declared.reply.Reply.TheVariants.{Registered, Updated, Tagged, Granted, Later, Nothing, Removed, Cleaned, Refused}
+use Rattle.dmc_tag.proofs.Agreement.{stands_itself}
 use Rattle.dmc_tag.proofs.ForCallers.{pull_grants, steps_exactly, steps_agree}
 use Rattle.dmc_ledger.specs.Bundles.{ClientSide, GrantHoldings, client_side}
 use Rattle.dmc_ledger.specs.declared.desk.ClientDesk.{ClientDesk}
@@ -95,17 +96,13 @@ module _ {T : Type 0} (ops : Tagging T) (allows : ClientId → PhaseType → Boo
   passes (Remove client) other = after_test (can_remove s client) _ (λ x. refl)
   passes (Clean at) other = refl
 
-  -- what stands for itself
-  itself : StandsFor s s
-  itself = record { config = refl; requests = λ id. refl; clients = refl; last_moment = refl }
-
   pub no_pull : (new : State T) (command : Command) (reply : Reply T) → ((at : ℕ) → command ≡ Pull at → ⊥) → Steps ops s new command (Some reply) → Asks ops allows s new command (Ok reply)
-  no_pull new (Register client info at) reply other steps = (steps, ap (is_allowed allows) (steps s itself).0 ∙ passes (Register client info at) tt, λ x. x)
-  no_pull new (Update client info at) reply other steps = (steps, ap (is_allowed allows) (steps s itself).0 ∙ passes (Update client info at) tt, λ x. x)
-  no_pull new (Add client token params at) reply other steps = (steps, ap (is_allowed allows) (steps s itself).0 ∙ passes (Add client token params at) tt, λ x. x)
+  no_pull new (Register client info at) reply other steps = (steps, ap (is_allowed allows) (steps s (stands_itself s)).0 ∙ passes (Register client info at) tt, λ x. x)
+  no_pull new (Update client info at) reply other steps = (steps, ap (is_allowed allows) (steps s (stands_itself s)).0 ∙ passes (Update client info at) tt, λ x. x)
+  no_pull new (Add client token params at) reply other steps = (steps, ap (is_allowed allows) (steps s (stands_itself s)).0 ∙ passes (Add client token params at) tt, λ x. x)
   no_pull new (Pull at) reply other steps = absurd (other at refl)
-  no_pull new (Remove client) reply other steps = (steps, ap (is_allowed allows) (steps s itself).0 ∙ passes (Remove client) tt, λ x. x)
-  no_pull new (Clean at) reply other steps = (steps, ap (is_allowed allows) (steps s itself).0 ∙ passes (Clean at) tt, λ x. x)
+  no_pull new (Remove client) reply other steps = (steps, ap (is_allowed allows) (steps s (stands_itself s)).0 ∙ passes (Remove client) tt, λ x. x)
+  no_pull new (Clean at) reply other steps = (steps, ap (is_allowed allows) (steps s (stands_itself s)).0 ∙ passes (Clean at) tt, λ x. x)
 
 -- ---- what a book keeps where nothing is answered
 

@@ -23,8 +23,7 @@ use Rattle.dmc_book.specs.Counts.{count, numbers_of, no_numbers, worker_adds, st
 use Rattle.dmc_book.specs.BookState.{BookState, WorkerSide}
 use Rattle.dmc_book.specs.Consistent.{IsConsistent, IsCounted, IsWorker, IsDesk, AreWorkersApart, AreClientsApart, AreWithin, AreGrantsWithin, HasDesk}
 use Rattle.dmc_book.specs.Moves.{worker_after, desk_after, book_after}
-use Rattle.dmc_book.proofs.Lists.{all_map}
-use Rattle.dmc_tag.proofs.Lists.{all_as, position_map}
+use Rattle.dmc_tag.proofs.Lists.{all_as, all_mapped, position_map}
 
 -- ---- the counts
 
@@ -91,11 +90,11 @@ module _ {T : Type 0} where
 
   workers_apart : (e : Event T) (ws : List WorkerSide) → AreWorkersApart ws → AreWorkersApart (map (worker_after e) ws)
   workers_apart e [] h = tt
-  workers_apart e (w ∷ ws) h = (all_map _ _ (worker_after e) (λ o a. a) ws h.0, workers_apart e ws h.1)
+  workers_apart e (w ∷ ws) h = (all_mapped _ _ (worker_after e) (λ o a. a) ws h.0, workers_apart e ws h.1)
 
   clients_apart : (e : Event T) (ds : List ClientSide) → AreClientsApart ds → AreClientsApart (map (desk_after e) ds)
   clients_apart e [] h = tt
-  clients_apart e (d ∷ ds) h = (all_map _ _ (desk_after e) (λ o a. a) ds h.0, clients_apart e ds h.1)
+  clients_apart e (d ∷ ds) h = (all_mapped _ _ (desk_after e) (λ o a. a) ds h.0, clients_apart e ds h.1)
 
   -- ---- who is granted has a desk, which stays
 
@@ -126,8 +125,8 @@ module _ {T : Type 0} (ops : Tagging T) where
       record {
         stands = subst (λ (s : State T). StandsFor p s) (sym (after_one_more ops b.config b.history e)) now.1;
         replaying = replays_one_more ops b.config b.history e h.replaying now.0;
-        workers = all_map _ _ (worker_after e) (worker_more b.history e small) b.workers h.workers;
-        desks = subst (λ (n : ℕ). AllByRecursion (IsDesk (b.history ++ e ∷ []) b.server n) (map (desk_after e) b.desks)) (sym as_many) (all_map _ _ (desk_after e) (desk_more b.history e b.server (length b.workers)) b.desks h.desks);
+        workers = all_mapped _ _ (worker_after e) (worker_more b.history e small) b.workers h.workers;
+        desks = subst (λ (n : ℕ). AllByRecursion (IsDesk (b.history ++ e ∷ []) b.server n) (map (desk_after e) b.desks)) (sym as_many) (all_mapped _ _ (desk_after e) (desk_more b.history e b.server (length b.workers)) b.desks h.desks);
         workers_apart = workers_apart e b.workers h.workers_apart;
         clients_apart = clients_apart e b.desks h.clients_apart;
         granted = granted_more e b.desks b.history h.granted granted;

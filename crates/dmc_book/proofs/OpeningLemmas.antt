@@ -10,14 +10,13 @@ use Rattle.dmc_types.specs.declared.ids.WorkerId.{WorkerId}
 use Rattle.dmc_tag.specs.Tag.{Tagging}
 use Rattle.dmc_tag.specs.State.{State, StandsFor, opening}
 use Rattle.dmc_tag.specs.declared.event.Event.{Event}
-use Rattle.dmc_tag.proofs.Lists.{all_append}
+use Rattle.dmc_tag.proofs.Lists.{all_append, all_at, all_mapped}
 use Rattle.dmc_ledger.specs.Accounts.{Account, new_book}
 use Rattle.dmc_ledger.specs.Bundles.{ClientSide, client_side, new_client_side}
 use Rattle.dmc_ledger.specs.declared.desk.ClientDesk.{ClientDesk}
 use Rattle.dmc_book.specs.BookState.{PassState, WorkerSide, no_desk}
 use Rattle.dmc_book.specs.Consistent.{IsCounted, IsWorker, IsDesk, IsConsistent, AreWorkersApart, AreClientsApart}
 use Rattle.dmc_book.specs.Opening.{AreApart, AreNamedOnce, HaveRoom, IsNewDesk, desk_with_tills, with_tills, new_unit, new_worker, new_workers, new_pass, new_passes, new_state}
-use Rattle.dmc_book.proofs.Lists.{all_map}
 use Rattle.std.proofs.lemmas.Bool.{or_parts}
 
 -- ---- no number is named twice
@@ -39,13 +38,9 @@ module _ {X : Type 0} (number : X → ℕ) where
       let two = or_parts (number x == number y) _ none in
       (all_append (λ o. (number o == number y) ≡ false) ys (x ∷ []) h.0 (two.0, tt), apart_more ys x h.1 two.1)
 
-  last_of : (P : X → Type 0) (xs ys : List X) (x : X) → AllByRecursion P (xs ++ x ∷ ys) → P x
-  last_of P [] ys x h = h.0
-  last_of P (z ∷ xs) ys x h = last_of P xs ys x h.1
-
   pub apart_twice : (xs ys : List X) (x : X) → AreApart number (xs ++ x ∷ ys) → Has x xs → ⊥
   apart_twice [] ys x h any = true≢false (sym any)
-  apart_twice (z ∷ xs) ys x h any = either (number x == number z) (list_any (λ y. number x == number y) xs) (last_of (λ o. (number o == number z) ≡ false) xs ys x h.0) (apart_twice xs ys x h.1) any
+  apart_twice (z ∷ xs) ys x h any = either (number x == number z) (list_any (λ y. number x == number y) xs) (all_at (λ o. (number o == number z) ≡ false) xs x ys h.0) (apart_twice xs ys x h.1) any
 
 -- the names of desks are asked as the desks are
 pub named_as : {S : Type 0} (id : ClientId) (ds : List (ClientDesk S)) → list_any (λ (k : ClientId). id.0 == k.0) (map (λ d. d.client) ds) ≡ list_any (λ (d : ClientSide). id.0 == d.client) (map client_side ds)
@@ -141,7 +136,7 @@ opened_workers_apart n (w ∷ ws) h = (others_apart (n + 5) w ws h.0, opened_wor
 
 opened_clients_apart : (k : ℕ) (ds : List ClientSide) → AreApart (λ (d : ClientSide). d.client) ds → AreClientsApart (map (desk_with_tills k) ds)
 opened_clients_apart k [] h = tt
-opened_clients_apart k (d ∷ ds) h = (all_map _ _ (desk_with_tills k) (λ o a. a) ds h.0, opened_clients_apart k ds h.1)
+opened_clients_apart k (d ∷ ds) h = (all_mapped _ _ (desk_with_tills k) (λ o a. a) ds h.0, opened_clients_apart k ds h.1)
 
 pub as_many_workers : (n : ℕ) (ws : List WorkerId) → length (new_workers n ws) ≡ length ws
 as_many_workers n [] = refl
@@ -170,7 +165,7 @@ module _ {T : Type 0} (ops : Tagging T) where
     stands = stands_new q config is;
     replaying = tt;
     workers = workers_counted T n ws;
-    desks = subst (λ (k : ℕ). AllByRecursion (IsDesk {T = T} [] server k) (map (desk_with_tills (length ws)) ds)) (sym (as_many_workers n ws)) (all_map _ _ (desk_with_tills (length ws)) (desk_counted server (length ws)) ds new);
+    desks = subst (λ (k : ℕ). AllByRecursion (IsDesk {T = T} [] server k) (map (desk_with_tills (length ws)) ds)) (sym (as_many_workers n ws)) (all_mapped _ _ (desk_with_tills (length ws)) (desk_counted server (length ws)) ds new);
     workers_apart = opened_workers_apart n ws once.workers_once;
     clients_apart = opened_clients_apart (length ws) ds once.clients_once;
     granted = tt;

@@ -2,6 +2,7 @@
 use Rattle.std.proofs.Common.{ℕ, ◌≡◌, ◌<◌, Bool, true, false, true≢false, length, refl, sym, ◌∙◌, Result, Ok, Err, arith}
 use Rattle.std.specs.Prelude.{◌↔◌, OnOk, OnErr, IfOk}
 use Rattle.std.specs.Cmp.{IsTotalOrder}
+use Rattle.std.proofs.lemmas.Bool.{true_from_ne_false}
 use Rattle.dmc_types.specs.declared.command.Command.{Command}
 use Rattle.dmc_types.specs.declared.command.Command.TheVariants.{Pull}
 use Rattle.dmc_tag.specs.Tag.{Tagging}
@@ -95,10 +96,6 @@ module _ {T : Type 0} (ops : Tagging T) (old new : BookState T) (before later : 
 -- ---- a pull
 
 -- what is not false
-not_false : (b : Bool) → (b ≡ false → ⊥) → b ≡ true
-not_false true h = refl
-not_false false h = absurd (h refl)
-
 module _ {T : Type 0} (ops : Tagging T) (old new : BookState T) (before later : PassState) (at : ℕ) where
   abbrev Pulls : Result Pulled RunOrRange → Type 0
   Pulls r = Runs ops old before (Pull at) new later (asked r)
@@ -128,7 +125,7 @@ module _ {T : Type 0} (ops : Tagging T) (old new : BookState T) (before later : 
   pull_strays (Err (pull.Run run.Memory)) h e enrolled = absurd cc
 
   pub pull_allowed : (r : Result Pulled RunOrRange) → Pulls r → OnOk r (is_allowed (takes old.desks before.clients before.units) (reply_to ops old (Pull at)) ≡ true)
-  pull_allowed (Ok pulled) h = not_false (is_allowed (takes old.desks before.clients before.units) (reply_to ops old (Pull at))) h.4
+  pull_allowed (Ok pulled) h = true_from_ne_false (is_allowed (takes old.desks before.clients before.units) (reply_to ops old (Pull at))) h.4
   pull_allowed (Err e) h = tt
 
   pub pull_told_full : (r : Result Pulled RunOrRange) → Pulls r → (r ≡ Err (pull.Run run.HistoryFull)) ↔ (IsEnrolled old.workers before × IsFull ops old before (Pull at))

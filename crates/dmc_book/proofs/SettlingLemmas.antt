@@ -11,22 +11,17 @@ use Rattle.dmc_book.specs.BookState.{PassState, WorkerSide, WorkerHoldings, no_d
 use Rattle.dmc_book.specs.Consistent.{IsCounted, IsDesk, IsWorker}
 use Rattle.dmc_book.specs.Moves.{AreOf, IsEnrolled}
 use Rattle.dmc_book.specs.Settling.{AreDeskUnits, AreOneOpen, ArePassesTakenIn, AreSettledDesks, AreUnitsTakenIn, IsDeskTakenIn, IsGathered, IsSettledBook, IsSettledWorker, IsTakenIn, closed_worker, left_in}
-use Rattle.dmc_tag.proofs.Lists.{all_append, all_as}
-use Rattle.dmc_book.proofs.Lists.{all_map}
+use Rattle.dmc_tag.proofs.Lists.{all_append, all_as, all_at, all_mapped}
 use Rattle.dmc_book.proofs.OpeningLemmas.{all_popped, seam, split, taken}
 
 -- ---- one after the other
-
-last_of : {Y : Type 0} (P : Y → Type 0) (xs ys : List Y) (y : Y) → AllByRecursion P (xs ++ y ∷ ys) → P y
-last_of P [] ys y h = h.0
-last_of P (x ∷ xs) ys y h = last_of P xs ys y h.1
 
 module _ {X Y : Type 0} (P : Y → Type 0) (f : X → Y) (xs : List X) (i : ℕ) (x : X) (within : i < length xs) (is : x ≡ get_or xs i x) where
   pub all_more : AllByRecursion P (map f (take i xs)) → P (f x) → AllByRecursion P (map f (take (i + 1) xs))
   all_more h here = subst (AllByRecursion P) (sym (ap (map f) (taken xs i x within is) ∙ map-append f (take i xs) (x ∷ []))) (all_append P (map f (take i xs)) (f x ∷ []) h (here, tt))
 
   pub all_there : AllByRecursion P (map f xs) → P (f x)
-  all_there h = last_of P (map f (take i xs)) (map f (drop (i + 1) xs)) (f x) (subst (AllByRecursion P) (ap (map f) (split xs i x within is) ∙ map-append f (take i xs) (x ∷ drop (i + 1) xs)) h)
+  all_there h = all_at P (map f (take i xs)) (f x) (map f (drop (i + 1) xs)) (subst (AllByRecursion P) (ap (map f) (split xs i x within is) ∙ map-append f (take i xs) (x ∷ drop (i + 1) xs)) h)
 
 -- the last of them is popped
 module _ {X Y : Type 0} (P : Y → Type 0) (f : X → Y) (old new : List X) (x : X) (popped : old ≡ new ++ x ∷ []) where
@@ -185,7 +180,7 @@ module _ {T : Type 0} where
   }
 
   pub settled_workers : (es : List (Event T)) (ws : List WorkerSide) → AllByRecursion (IsWorker es) ws → AllByRecursion (IsSettledWorker es) (map closed_worker ws)
-  settled_workers es ws h = all_map (IsWorker es) (IsSettledWorker es) closed_worker (settled_worker es) ws h
+  settled_workers es ws h = all_mapped (IsWorker es) (IsSettledWorker es) closed_worker (settled_worker es) ws h
 
   pub one_open : (es : List (Event T)) (ws : List WorkerSide) → AllByRecursion (IsWorker es) ws → AllByRecursion (λ w. AreOneOpen w.books) ws
   one_open es ws h = all_as _ _ (λ w j. record {

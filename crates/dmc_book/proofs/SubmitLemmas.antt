@@ -1,5 +1,5 @@
 -- Why a submit was refused.
-use Rattle.std.proofs.Common.{ℕ, ◌≡◌, ◌<◌, true, false, true≢false, length, refl, sym, ◌∙◌, Some, Err, arith}
+use Rattle.std.proofs.Common.{ℕ, ◌≡◌, ◌<◌, false, length, refl, ◌∙◌, Some, Err, arith}
 use Rattle.std.specs.Prelude.{◌↔◌}
 use Rattle.dmc_types.specs.declared.ids.Token.{Token}
 use Rattle.dmc_tag.specs.Tag.{Tagging}
@@ -12,7 +12,7 @@ use Rattle.dmc_book.specs.declared.fault.SubmitCause.TheVariants as submit
 use Rattle.dmc_book.specs.BookState.{BookState, PassState}
 use Rattle.dmc_book.specs.Calls.{IsForDesk, submit_cause}
 use Rattle.dmc_book.specs.Moves.{IsEnrolled}
-use Rattle.dmc_book.specs.Submits.{FindsDesk, HasCause, IsAsked, Submits}
+use Rattle.dmc_book.specs.Submits.{FindsDesk, IsAsked, Submits}
 
 module _ {T : Type 0} (b : BookState T) (p : PassState) (stamp : StampValue) (tills : StampHoldings) where
   abbrev Enrolled : Type 0
@@ -35,24 +35,3 @@ module _ {T : Type 0} (b : BookState T) (p : PassState) (stamp : StampValue) (ti
     where
       memory_is_not_full : reserve.Memory ≡ reserve.HistoryFull → ⊥
       memory_is_not_full e = absurd cc
-
-  pub is_stranger : (cause : SubmitCause) → HasCause b p stamp tills cause → (cause ≡ submit.Stranger) ↔ (Enrolled × AtDesk → ⊥)
-  is_stranger submit.Stranger h = (λ e. h, λ k. refl)
-  is_stranger submit.Closed h = (λ e. absurd cc, λ k. absurd (k (h.0, h.1)))
-  is_stranger submit.HistoryFull h = (λ e. absurd cc, λ k. absurd (k (h.0, h.1)))
-  is_stranger submit.Memory h = (λ e. absurd cc, λ k. absurd (k (h.0, h.1)))
-  is_stranger (submit.Refused refusal) h = (λ e. absurd cc, λ k. absurd (k (h.0, h.1)))
-
-  pub is_closed : (cause : SubmitCause) → HasCause b p stamp tills cause → (cause ≡ submit.Closed) ↔ (Enrolled × AtDesk × (b.closed ≡ true))
-  is_closed submit.Stranger h = (λ e. absurd cc, λ k. absurd (h (k.0, k.1)))
-  is_closed submit.Closed h = (λ e. h, λ k. refl)
-  is_closed submit.HistoryFull h = (λ e. absurd cc, λ k. absurd (true≢false (sym k.2 ∙ h.2)))
-  is_closed submit.Memory h = (λ e. absurd cc, λ k. absurd (true≢false (sym k.2 ∙ h.2)))
-  is_closed (submit.Refused refusal) h = (λ e. absurd cc, λ k. absurd (true≢false (sym k.2 ∙ h.2)))
-
-  pub is_full : (cause : SubmitCause) → HasCause b p stamp tills cause → (cause ≡ submit.HistoryFull) ↔ (Enrolled × AtDesk × (b.closed ≡ false) × (length b.history ≡ b.most))
-  is_full submit.Stranger h = (λ e. absurd cc, λ k. absurd (h (k.0, k.1)))
-  is_full submit.Closed h = (λ e. absurd cc, λ k. absurd (true≢false (sym h.2 ∙ k.2)))
-  is_full submit.HistoryFull h = (λ e. h, λ k. refl)
-  is_full submit.Memory h = (λ e. absurd cc, λ k. absurd (h.3 k.3))
-  is_full (submit.Refused refusal) h = (λ e. absurd cc, λ k. absurd (h.3 k.3))

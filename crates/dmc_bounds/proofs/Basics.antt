@@ -17,7 +17,7 @@ use Rattle.dmc_tag.specs.Rules.{Outcome, shift_of, can_shift_by, assigned, can_a
 use Rattle.dmc_tag.specs.declared.reply.Tags.{Tags}
 use Rattle.dmc_tag.specs.declared.plain.PlainClient.{PlainClient}
 use Rattle.dmc_tag.proofs.TagOrder.{bound, from_option}
-use Rattle.dmc_tag.proofs.Ids.{itself_id}
+use Rattle.dmc_tag.proofs.Ids.{client_turned}
 
 -- ---- ids
 
@@ -27,14 +27,11 @@ same_id a b c p q =
     let y : b.0 ≡ c.0 = eqb-true b.0 c.0 q in
     eq-eqb c.0 a.0 (sym y ∙ x)
 
-pub turned_id : (a b : ClientId) → is_client a b ≡ true → is_client b a ≡ true
-turned_id a b e = same_id b b a (itself_id b) e
-
 pub same_too : (a b c : ClientId) → is_client a b ≡ true → is_client b c ≡ true → is_client a c ≡ true
-same_too a b c p q = same_id a b c p (turned_id b c q)
+same_too a b c p q = same_id a b c p (client_turned c b true q)
 
 pub both_id : (a b c : ClientId) → is_client a b ≡ true → is_client a c ≡ true → is_client b c ≡ true
-both_id a b c p q = same_too b a c (turned_id a b p) q
+both_id a b c p q = same_too b a c (client_turned b a true p) q
 
 pub named_same : {T : Type 0} (a b : ClientId) (clients : List (PlainClient T)) → is_client a b ≡ true → client_named a clients ≡ client_named b clients
 named_same {T} a b clients e = let x : a.0 ≡ b.0 = sym (eqb-true b.0 a.0 e) in ap (λ n. find (λ (c : PlainClient T). c.id.0 == n) clients) x

@@ -6,18 +6,20 @@ use Rattle.std.specs.declared.cmp.Ordering.{Ordering}
 use Rattle.std.specs.declared.cmp.Ordering.TheVariants.{Less, Equal, Greater}
 use Rattle.std.specs.Ordering.{is_gt, is_lt, nat_cmp, ordering_reverse, ordering_then}
 use Rattle.std.specs.Cmp.{IsTotalOrder, nat_cmp_total}
-use Rattle.std.proofs.lemmas.Bool.{eqb-true, not-true, not-false}
+use Rattle.std.proofs.lemmas.Bool.{eqb-true, not-false}
+use Rattle.std.proofs.lemmas.Cmp.{tied_itself}
 use Rattle.dmc_types.specs.declared.ids.ClientId.{ClientId}
 use Rattle.dmc_tag.specs.Tag.{Tagging}
 use Rattle.dmc_tag.specs.Order.{AtMost}
 use Rattle.dmc_tag.specs.Rank.{last_if_absent, client_cmp, absent_total}
 use Rattle.dmc_tag.specs.State.{State, is_client, client_named}
-use Rattle.dmc_tag.specs.Best.{by_reservation, by_weight, is_before, is_early, is_free, is_any, is_due, IsBest, best}
+use Rattle.dmc_tag.specs.Best.{by_reservation, by_weight, is_before, is_early, is_free, is_any, IsBest, best}
 use Rattle.dmc_tag.specs.declared.plain.PlainRequest.{PlainRequest}
 use Rattle.dmc_tag.specs.declared.plain.PlainClient.{PlainClient}
 use Rattle.dmc_tag.specs.declared.reply.Tags.{Tags}
-use Rattle.dmc_tag.proofs.Orderings.{at_most_trans, equals_itself}
-use Rattle.dmc_bounds.proofs.Basics.{turned_id, bind_goes, allowed}
+use Rattle.dmc_tag.proofs.Ids.{client_turned}
+use Rattle.dmc_tag.proofs.Orderings.{IsUpto, due_before}
+use Rattle.dmc_bounds.proofs.Basics.{bind_goes, allowed}
 use Rattle.dmc_bounds.proofs.Pairs.{Pairwise, AreDistinct, pairs_at}
 use Rattle.dmc_types.specs.declared.config.AtLimit.{AtLimit}
 use Rattle.dmc_types.specs.declared.config.AtLimit.TheVariants.{Wait, Allow}
@@ -43,13 +45,9 @@ module _ {R : Type 0} (C : R → R → Ordering) (o : IsTotalOrder C) where
   not_ahead a b Greater e h t = cc
 
 module _ {T : Type 0} (ops : Tagging T) (order : IsTotalOrder ops.compare) where
-  -- a tag is not above another; an absent one is last
-  abbrev pub IsUpto : Option T → Option T → Type 0
-  IsUpto a b = is_gt (last_if_absent ops.compare a b) ≡ false
-
   -- no tag of the one is above that of the other
   pub record NotAbove (a b : Tags T) : Type 0 where
-    pub r : IsUpto a.r b.r
+    pub r : IsUpto ops a.r b.r
     pub l : AtMost ops a.l b.l
     pub p : AtMost ops a.p b.p
 
@@ -77,35 +75,30 @@ module _ {T : Type 0} (ops : Tagging T) (order : IsTotalOrder ops.compare) where
 
   -- ---- who is granted first
 
-  due_before : (t : ℕ) (a b : Option T) → IsUpto a b → is_due ops t b ≡ true → is_due ops t a ≡ true
-  due_before t a None h d = cc
-  due_before t None (Some b) h d = cc
-  due_before t (Some a) (Some b) h d = ap not (at_most_trans ops order a b (ops.of_moment t) _ _ refl refl h (not-true _ d))
-
   same_client_equal : (a b : ClientId) → is_client a b ≡ true → client_cmp a b ≡ Equal
-  same_client_equal a b e = ap (nat_cmp a.0) (eqb-true b.0 a.0 e) ∙ equals_itself nat_cmp nat_cmp_total a.0
+  same_client_equal a b e = ap (nat_cmp a.0) (eqb-true b.0 a.0 e) ∙ tied_itself nat_cmp_total a.0
 
-  not_before : (tag : PlainRequest T → Option T) (r x : PlainRequest T) → is_client r.client x.client ≡ true → IsUpto (tag x) (tag r) → is_before ops tag r x ≡ true → ⊥
+  not_before : (tag : PlainRequest T → Option T) (r x : PlainRequest T) → is_client r.client x.client ≡ true → IsUpto ops (tag x) (tag r) → is_before ops tag r x ≡ true → ⊥
   not_before tag r x e h b = not_ahead (last_if_absent ops.compare) (absent_total order) (tag x) (tag r) _ refl h (ap (λ o. is_lt (ordering_then (last_if_absent ops.compare (tag r) (tag x)) o)) (sym (same_client_equal r.client x.client e)) ∙ b)
 
-  first_is : (tag : PlainRequest T → Option T) (member : PlainRequest T → Bool) → ((x z : PlainRequest T) → NotAbove x.tags z.tags → IsUpto (tag x) (tag z)) → ((x z : PlainRequest T) → NotAbove x.tags z.tags → member z ≡ true → member x ≡ true) → (r : PlainRequest T) → member r ≡ true → (front : List (PlainRequest T)) → AllByRecursion (λ x. InOrder x r) front → AllByRecursion (λ x. member x ≡ true → is_before ops tag r x ≡ true) front → AllByRecursion (λ x. is_client r.client x.client ≡ false) front
+  first_is : (tag : PlainRequest T → Option T) (member : PlainRequest T → Bool) → ((x z : PlainRequest T) → NotAbove x.tags z.tags → IsUpto ops (tag x) (tag z)) → ((x z : PlainRequest T) → NotAbove x.tags z.tags → member z ≡ true → member x ≡ true) → (r : PlainRequest T) → member r ≡ true → (front : List (PlainRequest T)) → AllByRecursion (λ x. InOrder x r) front → AllByRecursion (λ x. member x ≡ true → is_before ops tag r x ≡ true) front → AllByRecursion (λ x. is_client r.client x.client ≡ false) front
   first_is tag member upto too r m [] h k = tt
   first_is tag member upto too r m (x ∷ front) h k = (at (is_client r.client x.client) refl, first_is tag member upto too r m front h.1 k.1) where
     at : (b : Bool) → is_client r.client x.client ≡ b → b ≡ false
     at false e = refl
     at true e =
-        let not_above = h.0 (turned_id r.client x.client e) in
+        let not_above = h.0 (client_turned x.client r.client true e) in
         absurd (not_before tag r x e (upto x r not_above) (k.0 (too x r not_above m)))
 
-  module _ (tag : PlainRequest T → Option T) (member : PlainRequest T → Bool) (upto : (x z : PlainRequest T) → NotAbove x.tags z.tags → IsUpto (tag x) (tag z)) (too : (x z : PlainRequest T) → NotAbove x.tags z.tags → member z ≡ true → member x ≡ true) where
+  module _ (tag : PlainRequest T → Option T) (member : PlainRequest T → Bool) (upto : (x z : PlainRequest T) → NotAbove x.tags z.tags → IsUpto ops (tag x) (tag z)) (too : (x z : PlainRequest T) → NotAbove x.tags z.tags → member z ≡ true → member x ≡ true) where
     pub first_of_client : (xs : List (PlainRequest T)) → Pairwise InOrder xs → (r : PlainRequest T) (others : List (PlainRequest T)) (is : IsBest (is_before ops tag) member xs r others) → AllByRecursion (λ x. is_client r.client x.client ≡ false) is.front
     first_of_client xs h r others is = first_is tag member upto too r is.is_member is.front (pairs_at InOrder is.front r is.back (subst (Pairwise InOrder) is.whole h)) is.ahead
 
   pub early_first : (t : ℕ) (xs : List (PlainRequest T)) → Pairwise InOrder xs → (r : PlainRequest T) (others : List (PlainRequest T)) (is : IsBest (by_reservation ops) (is_early ops t) xs r others) → AllByRecursion (λ x. is_client r.client x.client ≡ false) is.front
-  early_first t = first_of_client (λ r. r.tags.r) (is_early ops t) (λ x z n. n.r) (λ x z n. due_before t x.tags.r z.tags.r n.r)
+  early_first t = first_of_client (λ r. r.tags.r) (is_early ops t) (λ x z n. n.r) (λ x z n. due_before ops order t x.tags.r z.tags.r n.r)
 
   pub free_first : (t : ℕ) (xs : List (PlainRequest T)) → Pairwise InOrder xs → (r : PlainRequest T) (others : List (PlainRequest T)) (is : IsBest (by_weight ops) (is_free ops t) xs r others) → AllByRecursion (λ x. is_client r.client x.client ≡ false) is.front
-  free_first t = first_of_client (λ r. Some r.tags.p) (is_free ops t) (λ x z n. n.p) (λ x z n. due_before t (Some x.tags.l) (Some z.tags.l) n.l)
+  free_first t = first_of_client (λ r. Some r.tags.p) (is_free ops t) (λ x z n. n.p) (λ x z n. due_before ops order t (Some x.tags.l) (Some z.tags.l) n.l)
 
   pub any_first : (xs : List (PlainRequest T)) → Pairwise InOrder xs → (r : PlainRequest T) (others : List (PlainRequest T)) (is : IsBest (by_weight ops) is_any xs r others) → AllByRecursion (λ x. is_client r.client x.client ≡ false) is.front
   any_first = first_of_client (λ r. Some r.tags.p) is_any (λ x z n. n.p) (λ x z n m. m)

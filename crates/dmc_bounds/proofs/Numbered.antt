@@ -16,13 +16,13 @@ use Rattle.dmc_tag.specs.declared.plain.PlainClient.{PlainClient}
 use Rattle.dmc_tag.specs.declared.reply.Tags.{Tags}
 use Rattle.dmc_tag.specs.declared.reply.Reply.{Reply}
 use Rattle.dmc_tag.proofs.Active.{either}
-use Rattle.dmc_tag.proofs.Lists.{all_as, all_both}
+use Rattle.dmc_tag.proofs.Lists.{all_as, all_both, all_mapped}
 use Rattle.dmc_bounds.specs.Bounds.{Arrives, Arrival, arrival_of, arrivals, departed, departures, prioritized, priorities, AllKeep, IsNext, sum_since, ticks_since, LimitBound, ReservationBound}
 use Rattle.dmc_bounds.proofs.Basics.{add_gives, bind_goes, both_id, named_same}
 use Rattle.dmc_bounds.proofs.Histories.{IsSound, after_from, after-append, replays_split, departures-append, drop-more, longer, sound_step, sound_after, sound_opening, queued, event_moves, tokens_after, queued_is, front, Takes}
 use Rattle.dmc_bounds.proofs.Pace.{NotBelow, next_from}
 use Rattle.dmc_bounds.proofs.Pacing.{IsPaced, IsWithin, counts_of, sums_from, total_from, quiet, step_goes, taken_first, within_of}
-use Rattle.dmc_bounds.proofs.Pairs.{AreDistinct, only_one, every, all_changed, find_mapped}
+use Rattle.dmc_bounds.proofs.Pairs.{AreDistinct, only_one, every, find_mapped}
 use Rattle.dmc_bounds.proofs.Side.{Side, tag_in, previous_in, rate_in, previous_of, steps_by, IsAt, level_opens, late_none, limits, reservations, count_in, taken_in, late_length}
 use Rattle.dmc_bounds.proofs.TurnSteps.{named_shifted, info_shifted, left_by}
 use Rattle.std.proofs.lemmas.List.{length-map, map-append}
@@ -76,7 +76,7 @@ module _ {T : Type 0} (ops : Tagging T) (fraction : T → Fraction) (is_value : 
         let by = steps_by ops config.hz q found.client params (ops.of_moment t) x.1 (subst (λ k. rules_of.assigned ops k.hz found.client params (ops.of_moment t) ≡ Ok x.1) is.same found.tags) side (ap (rate_in side) info ∙ c.2) in
         let at = subst (λ m. NotBelow (fraction by.tag) m q) (sym (level_opens fraction config.hz q t)) (next_from ops fraction is_value exact order (previous_in side found.client.previous) by.spacing by.tag t config.hz q _ by.next) in
         let rates = all_as (λ (d : PlainClient T). is_client id d.id ≡ true → d ≡ c.0) (λ d. is_client id d.id ≡ true → rate_in side d.info ≡ Some q) (λ d k own. ap (λ z. rate_in side z.info) (k own) ∙ c.2) new.clients (only_one id new.clients c.0 distinct c.1) in
-        let starts = all_changed (λ (d : PlainClient T). ⊤) (λ d. is_client id d.id ≡ true → At (previous_in side d.previous)) arrive (λ d _. arrived_at by.tag by.tag_is at d (is_client client d.id) refl) shifted (every shifted) in
+        let starts = all_mapped (λ (d : PlainClient T). ⊤) (λ d. is_client id d.id ≡ true → At (previous_in side d.previous)) arrive (λ d _. arrived_at by.tag by.tag_is at d (is_client client d.id) refl) shifted (every shifted) in
         record {
           hz_is = ap (λ k. k.hz) is.same;
           since = omega arith;

@@ -26,13 +26,13 @@ use Rattle.dmc_tag.specs.declared.reply.Reply.{Reply}
 use Rattle.dmc_tag.specs.declared.reply.Reply.TheVariants.{Granted}
 use Rattle.dmc_tag.specs.declared.reply.Tags.{Tags}
 use Rattle.dmc_tag.proofs.Active.{either}
-use Rattle.dmc_tag.proofs.Lists.{all_filtered, all_mapped, all_append, found_holds}
+use Rattle.dmc_tag.proofs.Lists.{all_filtered, all_mapped, all_append, found_holds, found_passes}
 use Rattle.dmc_bounds.specs.Bounds.{Keeps, Arrival, arrival_of, departed, prioritized}
 use Rattle.dmc_bounds.proofs.Basics.{bind_goes, add_gives, same_id, same_too, both_id}
 use Rattle.dmc_bounds.proofs.InTurn.{IsGrant, pull_is, InOrder}
 use Rattle.dmc_bounds.proofs.Own.{own_of, own-first, own-append, own-removed, own-taken, own-shifted, own-others}
 use Rattle.dmc_bounds.proofs.Pace.{NotBelow, next_paced, due_within}
-use Rattle.dmc_bounds.proofs.Pairs.{Pairwise, all_changed, found_passes}
+use Rattle.dmc_bounds.proofs.Pairs.{Pairwise}
 use Rattle.dmc_bounds.proofs.Reducing.{grants_in, IsPacedClient, off, late_reduced, clients_reduced, clients_of_others}
 use Rattle.dmc_bounds.proofs.Side.{Side, limits, reservations, tag_in, previous_in, count_in, taken_in, steps_by, previous_of, lessened, reads_reduced, reads_shifted, IsAt, IsLate, AreLate, level, level_sent, late_more, late_rest, late_length}
 
@@ -128,7 +128,7 @@ module _ {T : Type 0} (ops : Tagging T) (fraction : T → Fraction) (is_value : 
     update_goes client info at = bind_goes (Goes (Update client info at)) (rules_of.can_update ops s client info) _ (refused (Update client info at)) (λ _ _ keeps. quiet _ (record {
       hz_is = is.hz_is;
       since = later at s.last_moment is.since;
-      clients = all_mapped (PacedClient taken sent) _ (λ d h. of_another keeps d h (is_client client d.id) refl) s.clients is.clients;
+      clients = all_mapped _ (PacedClient taken sent) _ (λ d h. of_another keeps d h (is_client client d.id) refl) s.clients is.clients;
       waits = is.waits;
     })) where
       of_another : is_client id client ≡ false → (d : PlainClient T) → PacedClient taken sent d → (b : Bool) → is_client client d.id ≡ b → PacedClient taken sent (if b then rules_of.with_info info d else d)
@@ -151,7 +151,7 @@ module _ {T : Type 0} (ops : Tagging T) (fraction : T → Fraction) (is_value : 
     clean_goes at = λ keeps. quiet _ (record {
       hz_is = is.hz_is;
       since = later at s.last_moment is.since;
-      clients = all_mapped (PacedClient taken sent) _ (λ d h. h) _ (all_filtered (PacedClient taken sent) _ s.clients is.clients);
+      clients = all_mapped _ (PacedClient taken sent) _ (λ d h. h) _ (all_filtered (PacedClient taken sent) _ s.clients is.clients);
       waits = is.waits;
     })
 
@@ -172,7 +172,7 @@ module _ {T : Type 0} (ops : Tagging T) (fraction : T → Fraction) (is_value : 
 
       shifted_paced : (shift : Option T) → AllByRecursion (PacedClient taken sent) (rules_of.shifted_clients ops shift s.clients)
       shifted_paced None = is.clients
-      shifted_paced (Some amount) = all_mapped (PacedClient taken sent) (rules_of.shifted_client ops amount) (λ d k. either (PacedClient taken sent) d.idle d _ k (kept side d k)) s.clients is.clients where
+      shifted_paced (Some amount) = all_mapped _ (PacedClient taken sent) (rules_of.shifted_client ops amount) (λ d k. either (PacedClient taken sent) d.idle d _ k (kept side d k)) s.clients is.clients where
         kept : (side : Side) (d : PlainClient T) → IsPacedClient ops fraction is_value exact id hz q from side taken sent d → IsPacedClient ops fraction is_value exact id hz q from side taken sent (record d { previous = record (d.previous) { p = rules_of.less ops amount d.previous.p } })
         kept limits d k = k
         kept reservations d k = k
@@ -207,13 +207,13 @@ module _ {T : Type 0} (ops : Tagging T) (fraction : T → Fraction) (is_value : 
           same_taken (sent + count) _ _ (record {
             hz_is = is.hz_is;
             since = later moment s.last_moment is.since;
-            clients = all_changed (PacedClient taken sent) (PacedClient taken (sent + count)) _ (λ d k. own_client x.1 by.0 by.1 own by.2 d k (is_client client d.id) refl) _ (shifted_paced x.0);
+            clients = all_mapped (PacedClient taken sent) (PacedClient taken (sent + count)) _ (λ d k. own_client x.1 by.0 by.1 own by.2 d k (is_client client d.id) refl) _ (shifted_paced x.0);
             waits = subst (λ ts. AreLate fraction hz q from taken ts (waiting ++ (sent + count) ∷ [])) (sym (tags-now x true own)) (late_more fraction hz q from taken _ waiting _ _ is.waits (λ some. subst (λ o. IfSome o (IsAt fraction hz q from taken (sent + count))) (sym by.1) by.2));
           })
       add_at x e false other = quiet _ (record {
         hz_is = is.hz_is;
         since = later moment s.last_moment is.since;
-        clients = all_mapped (PacedClient taken sent) _ (λ d k. other_client x.1 other d k (is_client client d.id) refl) _ (shifted_paced x.0);
+        clients = all_mapped _ (PacedClient taken sent) _ (λ d k. other_client x.1 other d k (is_client client d.id) refl) _ (shifted_paced x.0);
         waits = subst (λ ts. AreLate fraction hz q from taken ts waiting) (sym (tags-now x false other ∙ append-nil (tags_of s.requests))) is.waits;
       })
 

@@ -1,12 +1,12 @@
 -- Lists in which each pair is so, and lists of clients in which one is found.
 use Rattle.std.proofs.Common.{◌≡◌, Bool, true, false, ◌&&◌, ◌||◌, cond, List, [], ◌∷◌, ◌++◌, map, Some, refl, sym, ap, ◌∙◌, subst}
 use Rattle.std.specs.Prelude.{filter, is_some, ⊤}
-use Rattle.std.specs.List.{AllByRecursion, find, list_any, list_all}
+use Rattle.std.specs.List.{AllByRecursion, find, list_any}
 use Rattle.dmc_types.specs.declared.ids.ClientId.{ClientId}
 use Rattle.dmc_tag.specs.State.{is_client, client_named}
 use Rattle.dmc_tag.specs.declared.plain.PlainClient.{PlainClient}
 use Rattle.dmc_tag.proofs.Booleans.{eqb_turned}
-use Rattle.dmc_tag.proofs.Lists.{all_both, all_at, all_without, all_filtered, all_append}
+use Rattle.dmc_tag.proofs.Lists.{all_both, all_mapped, all_at, all_without, all_filtered, all_append}
 use Rattle.dmc_bounds.proofs.Basics.{both_id}
 
 module _ {X : Type 0} where
@@ -35,22 +35,9 @@ module _ {X : Type 0} where
   pairs_more S (x ∷ xs) y h k = (all_append (S x) xs (y ∷ []) h.0 (k.0, tt), pairs_more S xs y h.1 k.1)
 
   -- a map, of what is so of each element
-  pub all_changed : (P Q : X → Type 0) (f : X → X) → ((x : X) → P x → Q (f x)) → (xs : List X) → AllByRecursion P xs → AllByRecursion Q (map f xs)
-  all_changed P Q f k [] h = tt
-  all_changed P Q f k (x ∷ xs) h = (k x h.0, all_changed P Q f k xs h.1)
-
   pub pairs_mapped : (S R : X → X → Type 0) (P : X → Type 0) (f : X → X) → ((x y : X) → P x → P y → S x y → R (f x) (f y)) → (xs : List X) → AllByRecursion P xs → Pairwise S xs → Pairwise R (map f xs)
   pairs_mapped S R P f k [] p h = tt
-  pairs_mapped S R P f k (x ∷ xs) p h = (all_changed (λ y. P y × S x y) (R (f x)) f (λ y q. k x y p.0 q.0 q.1) xs (all_both P (S x) xs p.1 h.0), pairs_mapped S R P f k xs p.1 h.1)
-
-  -- ---- tests
-
-  pub all_pass : (test : X → Bool) (xs : List X) → list_all test xs ≡ true → AllByRecursion (λ x. test x ≡ true) xs
-  all_pass test [] e = tt
-  all_pass test (x ∷ xs) e = at (test x) refl e (all_pass test xs) where
-    at : (b : Bool) → test x ≡ b → (b && list_all test xs) ≡ true → (list_all test xs ≡ true → AllByRecursion (λ x. test x ≡ true) xs) → (test x ≡ true) × AllByRecursion (λ x. test x ≡ true) xs
-    at true t e more = (t, more e)
-    at false t e more = cc
+  pairs_mapped S R P f k (x ∷ xs) p h = (all_mapped (λ y. P y × S x y) (R (f x)) f (λ y q. k x y p.0 q.0 q.1) xs (all_both P (S x) xs p.1 h.0), pairs_mapped S R P f k xs p.1 h.1)
 
   -- ---- the first that passes
 
@@ -77,13 +64,6 @@ module _ {X : Type 0} where
     at true t false c e more = let same : x ≡ d = cc in let kept : keep x ≡ true = ap keep same ∙ k in cc
     at false t true c e more = ap (λ b. cond b (Some x) (find test (filter keep xs))) t ∙ more e
     at false t false c e more = more e
-
-  pub found_passes : (test : X → Bool) (xs : List X) (d : X) → find test xs ≡ Some d → test d ≡ true
-  found_passes test [] d e = cc
-  found_passes test (x ∷ xs) d e = at (test x) refl e (found_passes test xs d) where
-    at : (b : Bool) → test x ≡ b → cond b (Some x) (find test xs) ≡ Some d → (find test xs ≡ Some d → test d ≡ true) → test d ≡ true
-    at true t e more = let same : x ≡ d = cc in subst (λ z. test z ≡ true) same t
-    at false t e more = more e
 
   pub found_any : (test other : X → Bool) (xs : List X) (d : X) → find test xs ≡ Some d → (test d ≡ true → other d ≡ true) → list_any other xs ≡ true
   found_any test other [] d e k = cc

@@ -15,12 +15,11 @@ use Rattle.dmc_tag.specs.declared.plain.PlainRequest.{PlainRequest}
 use Rattle.dmc_tag.specs.declared.plain.PlainClient.{PlainClient}
 use Rattle.dmc_tag.proofs.Active.{either}
 use Rattle.dmc_tag.proofs.Booleans.{both_true}
-use Rattle.dmc_tag.proofs.Lists.{all_as, all_both, all_mapped, found_holds}
+use Rattle.dmc_tag.proofs.Lists.{all_as, all_both, all_mapped, each_passes, found_holds, found_passes}
 use Rattle.dmc_tag.proofs.TagOrder.{bound, from_range}
 use Rattle.dmc_bounds.proofs.Basics.{same_id, same_too, both_id, or_second}
 use Rattle.dmc_bounds.proofs.Own.{own_of, own-first, own-less, own-unreduced}
 use Rattle.dmc_bounds.proofs.Pace.{NotBelow, less_by}
-use Rattle.dmc_bounds.proofs.Pairs.{all_changed, all_pass, found_passes}
 use Rattle.dmc_bounds.proofs.Side.{Side, limits, reservations, tag_in, previous_in, rate_in, taken_in, IsAt, IsLate, AreLate, level, level_taken, falls, late_changed, late_falls}
 
 -- one Priority grant, or none
@@ -95,23 +94,23 @@ module _ {T : Type 0} (ops : Tagging T) (fraction : T → Fraction) (is_value : 
     late_reduced limits Priority amount xs ws is can h = subst (λ os. AreLate fraction hz q from (taken + 0) os ws) (sym (own-unreduced ops (λ r. Some r.tags.l) id (λ r o. refl) client amount xs)) (late_falls fraction hz q from taken 0 _ ws h)
     late_reduced reservations Priority None xs ws is can h = late_falls fraction hz q from taken 1 _ ws h
     late_reduced reservations Priority (Some amount) xs ws is can h =
-        let able = all_pass (λ (x : PlainRequest T). not (is_client client x.client) || option_map_or (rules_of.has_less ops amount) x.tags.r true) xs (both_true _ _ can).0 in
+        let able = each_passes (λ (x : PlainRequest T). not (is_client client x.client) || option_map_or (rules_of.has_less ops amount) x.tags.r true) xs (both_true _ _ can).0 in
         subst (λ os. AreLate fraction hz q from (taken + 1) os ws) (sym (own-less ops (λ r. r.tags.r) id client (λ a. option_map (rules_of.less ops a)) (λ a r. refl) amount true own xs))
         (late_changed fraction hz q from taken (taken + 1) _ (option_map (rules_of.less ops amount)) (less_late amount is taken) _ ws (all_can client amount own xs able) h)
 
     pub clients_reduced : (side : Side) (phase : PhaseType) (amount : Option T) (xs : List (PlainRequest T)) → IsOff side phase amount → rules_of.can_reduce_by ops client amount s.clients xs ≡ true → AllByRecursion (IsPacedClient side taken sent) s.clients → AllByRecursion (IsPacedClient side (taken + taken_in side (grants_in phase)) sent) (rules_of.reduced_clients ops client amount s.clients)
     clients_reduced side Reservation amount xs is can h = subst (λ o. AllByRecursion (IsPacedClient side (taken + taken_in side 0) sent) (rules_of.reduced_clients ops client o s.clients)) (sym is) (client_falls side taken (taken_in side 0) sent s.clients h)
     clients_reduced limits Priority None xs is can h = client_falls limits taken 0 sent s.clients h
-    clients_reduced limits Priority (Some amount) xs is can h = all_mapped (IsPacedClient limits (taken + 0) sent) _ (λ d k. either (IsPacedClient limits (taken + 0) sent) (is_client client d.id) _ d k k) s.clients (client_falls limits taken 0 sent s.clients h)
+    clients_reduced limits Priority (Some amount) xs is can h = all_mapped _ (IsPacedClient limits (taken + 0) sent) _ (λ d k. either (IsPacedClient limits (taken + 0) sent) (is_client client d.id) _ d k k) s.clients (client_falls limits taken 0 sent s.clients h)
     clients_reduced reservations Priority None xs is can h = client_falls reservations taken 1 sent s.clients h
     clients_reduced reservations Priority (Some amount) xs is can h =
-        let able = all_pass (λ (c : PlainClient T). not (is_client client c.id) || rules_of.has_less ops amount c.previous.r) s.clients (both_true _ _ can).1 in
-        all_changed _ (IsPacedClient reservations (taken + 1) sent) _ (λ d k. less_client amount is client taken sent own d k (is_client client d.id) refl) s.clients (all_both _ _ s.clients able h)
+        let able = each_passes (λ (c : PlainClient T). not (is_client client c.id) || rules_of.has_less ops amount c.previous.r) s.clients (both_true _ _ can).1 in
+        all_mapped _ (IsPacedClient reservations (taken + 1) sent) _ (λ d k. less_client amount is client taken sent own d k (is_client client d.id) refl) s.clients (all_both _ _ s.clients able h)
 
   -- a grant of another client
   pub clients_of_others : (side : Side) (client : ClientId) (amount : Option T) (taken sent : ℕ) (clients : List (PlainClient T)) → is_client id client ≡ false → AllByRecursion (IsPacedClient side taken sent) clients → AllByRecursion (IsPacedClient side taken sent) (rules_of.reduced_clients ops client amount clients)
   clients_of_others side client None taken sent clients other h = h
-  clients_of_others side client (Some amount) taken sent clients other h = all_mapped (IsPacedClient side taken sent) _ (λ d k. at d k (is_client client d.id) refl) clients h where
+  clients_of_others side client (Some amount) taken sent clients other h = all_mapped _ (IsPacedClient side taken sent) _ (λ d k. at d k (is_client client d.id) refl) clients h where
     at : (d : PlainClient T) → IsPacedClient side taken sent d → (b : Bool) → is_client client d.id ≡ b → IsPacedClient side taken sent (if b then rules_of.reduced_client ops amount d else d)
     at d k true e = λ mine. let so = same_id id d.id client mine e in cc
     at d k false e = k

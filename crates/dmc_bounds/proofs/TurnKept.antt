@@ -15,13 +15,14 @@ use Rattle.dmc_tag.specs.declared.plain.PlainRequest.{PlainRequest}
 use Rattle.dmc_tag.specs.declared.plain.PlainClient.{PlainClient}
 use Rattle.dmc_tag.proofs.Active.{either, queued_own}
 use Rattle.dmc_tag.proofs.Booleans.{both_true}
-use Rattle.dmc_tag.proofs.Lists.{all_as, all_both, all_without, all_filtered, all_append, found_holds}
-use Rattle.dmc_tag.proofs.Orderings.{at_most_itself}
+use Rattle.dmc_tag.proofs.Ids.{client_turned}
+use Rattle.dmc_tag.proofs.Lists.{all_as, all_both, all_mapped, each_passes, all_without, all_filtered, all_append, found_holds, found_passes}
+use Rattle.dmc_tag.proofs.Orderings.{IsUpto, at_most_itself}
 use Rattle.dmc_tag.proofs.Options.{is_some_mapped}
 use Rattle.dmc_tag.proofs.TagOrder.{minus_keeps_order}
-use Rattle.dmc_bounds.proofs.Basics.{same_id, same_too, turned_id, or_second}
-use Rattle.dmc_bounds.proofs.InTurn.{IsUpto, NotAbove, InOrder, Follows, IsKnown, AreInTurn}
-use Rattle.dmc_bounds.proofs.Pairs.{Pairwise, Differ, ids-kept, nobody, pairs_without, pairs_kept, pairs_more, all_changed, pairs_mapped, all_pass, find_more, find_mapped, find_kept, found_passes, found_any}
+use Rattle.dmc_bounds.proofs.Basics.{same_id, same_too, or_second}
+use Rattle.dmc_bounds.proofs.InTurn.{NotAbove, InOrder, Follows, IsKnown, AreInTurn}
+use Rattle.dmc_bounds.proofs.Pairs.{Pairwise, Differ, ids-kept, nobody, pairs_without, pairs_kept, pairs_more, pairs_mapped, find_more, find_mapped, find_kept, found_any}
 
 module _ {T : Type 0} (ops : Tagging T) (order : IsTotalOrder ops.compare) where
   -- ---- register, remove, clean
@@ -79,7 +80,7 @@ module _ {T : Type 0} (ops : Tagging T) (order : IsTotalOrder ops.compare) where
     less_at_most amount a b (Some x) None e f h k m = cc
     less_at_most amount a b (Some x) (Some y) e f h k m = ap is_gt (minus_keeps_order ops fraction is_value exact a b amount x y e f) ∙ m
 
-    less_upto_less : (amount : T) (a b : Option T) → option_map_or (rules_of.has_less ops amount) a true ≡ true → option_map_or (rules_of.has_less ops amount) b true ≡ true → IsUpto ops order a b → IsUpto ops order (option_map (rules_of.less ops amount) a) (option_map (rules_of.less ops amount) b)
+    less_upto_less : (amount : T) (a b : Option T) → option_map_or (rules_of.has_less ops amount) a true ≡ true → option_map_or (rules_of.has_less ops amount) b true ≡ true → IsUpto ops a b → IsUpto ops (option_map (rules_of.less ops amount) a) (option_map (rules_of.less ops amount) b)
     less_upto_less amount None None h k m = refl
     less_upto_less amount None (Some b) h k m = m
     less_upto_less amount (Some a) None h k m = refl
@@ -95,7 +96,7 @@ module _ {T : Type 0} (ops : Tagging T) (order : IsTotalOrder ops.compare) where
       reduced_pair : (x z : PlainRequest T) (b : Bool) → is_client id x.client ≡ b → (c : Bool) → is_client id z.client ≡ c → (not b || option_map_or (rules_of.has_less ops amount) x.tags.r true) ≡ true → (not c || option_map_or (rules_of.has_less ops amount) z.tags.r true) ≡ true → InOrder ops order x z → InOrder ops order (reduced b x) (reduced c z)
       reduced_pair x z true e true f h k o = λ same. let n = o same in record { r = less_upto_less amount x.tags.r z.tags.r h k n.r; l = n.l; p = n.p }
       reduced_pair x z true e false f h k o = λ same. let so = same_too id x.client z.client e same in cc
-      reduced_pair x z false e true f h k o = λ same. let so = same_too id z.client x.client f (turned_id x.client z.client same) in cc
+      reduced_pair x z false e true f h k o = λ same. let so = same_too id z.client x.client f (client_turned z.client x.client true same) in cc
       reduced_pair x z false e false f h k o = o
 
       reduced_previous : (o : Option T) (prev : T) → option_map_or (rules_of.has_less ops amount) o true ≡ true → rules_of.has_less ops amount prev ≡ true → IfSome o (λ a. AtMost ops a prev) → IfSome (option_map (rules_of.less ops amount) o) (λ a. AtMost ops a (rules_of.less ops amount prev))
@@ -123,11 +124,11 @@ module _ {T : Type 0} (ops : Tagging T) (order : IsTotalOrder ops.compare) where
     reduced_turn s id None can is = record { pairs = is.pairs; known = is.known; distinct = is.distinct }
     reduced_turn s id (Some amount) can is =
         let parts = both_true _ _ can in
-        let requests = all_pass (λ (r : PlainRequest T). not (is_client id r.client) || option_map_or (rules_of.has_less ops amount) r.tags.r true) s.requests parts.0 in
-        let clients = all_pass (λ (c : PlainClient T). not (is_client id c.id) || rules_of.has_less ops amount c.previous.r) s.clients parts.1 in
+        let requests = each_passes (λ (r : PlainRequest T). not (is_client id r.client) || option_map_or (rules_of.has_less ops amount) r.tags.r true) s.requests parts.0 in
+        let clients = each_passes (λ (c : PlainClient T). not (is_client id c.id) || rules_of.has_less ops amount c.previous.r) s.clients parts.1 in
         record {
           pairs = pairs_mapped (InOrder ops order) (InOrder ops order) (CanReduce id amount) (rules_of.reduced_request ops id amount) (λ x z h k o. reduced_pair id amount x z _ refl _ refl h k o) s.requests requests is.pairs;
-          known = all_changed (λ x. CanReduce id amount x × IsKnown ops order s.clients x) _ (rules_of.reduced_request ops id amount) (λ x h. reduced_known id amount s.clients clients x h.0 h.1) s.requests (all_both _ _ s.requests requests is.known);
+          known = all_mapped (λ x. CanReduce id amount x × IsKnown ops order s.clients x) _ (rules_of.reduced_request ops id amount) (λ x h. reduced_known id amount s.clients clients x h.0 h.1) s.requests (all_both _ _ s.requests requests is.known);
           distinct = ids-kept _ (λ c. either (λ z. z.id ≡ c.id) (is_client id c.id) _ c refl refl) s.clients is.distinct;
         }
 
@@ -172,11 +173,11 @@ module _ {T : Type 0} (ops : Tagging T) (order : IsTotalOrder ops.compare) where
     shifted_turn s None can is = record { pairs = is.pairs; known = is.known; distinct = is.distinct }
     shifted_turn s (Some amount) can is =
         let parts = both_true _ _ can in
-        let requests = all_pass (λ (r : PlainRequest T). not (is_active r.client s.clients) || rules_of.has_less ops amount r.tags.p) s.requests parts.0 in
-        let clients = all_pass (λ (c : PlainClient T). c.idle || rules_of.has_less ops amount c.previous.p) s.clients parts.1 in
+        let requests = each_passes (λ (r : PlainRequest T). not (is_active r.client s.clients) || rules_of.has_less ops amount r.tags.p) s.requests parts.0 in
+        let clients = each_passes (λ (c : PlainClient T). c.idle || rules_of.has_less ops amount c.previous.p) s.clients parts.1 in
         record {
           pairs = pairs_mapped (InOrder ops order) (InOrder ops order) (λ x. CanShift amount s.clients x × IsKnown ops order s.clients x) (rules_of.shifted_request ops amount s.clients) (λ x z h k o. shifted_pair amount s.clients x z _ (known_active amount s.clients x h.1) _ (known_active amount s.clients z k.1) h.0 k.0 o) s.requests (all_both _ _ s.requests requests is.known) is.pairs;
-          known = all_changed (λ x. CanShift amount s.clients x × IsKnown ops order s.clients x) _ (rules_of.shifted_request ops amount s.clients) (λ x h. shifted_known amount s.clients clients x h.0 h.1) s.requests (all_both _ _ s.requests requests is.known);
+          known = all_mapped (λ x. CanShift amount s.clients x × IsKnown ops order s.clients x) _ (rules_of.shifted_request ops amount s.clients) (λ x h. shifted_known amount s.clients clients x h.0 h.1) s.requests (all_both _ _ s.requests requests is.known);
           distinct = ids-kept (rules_of.shifted_client ops amount) (λ c. either (λ z. z.id ≡ c.id) c.idle c _ refl refl) s.clients is.distinct;
         }
 
@@ -186,12 +187,12 @@ module _ {T : Type 0} (ops : Tagging T) (order : IsTotalOrder ops.compare) where
     abbrev pub IsBelow : PlainRequest T → PlainRequest T → Type 0
     IsBelow r x = is_client x.client r.client ≡ true → NotAbove ops order x.tags r.tags × (is_some x.tags.r ≡ is_some r.tags.r)
 
-    reservation_after : (a b : Option T) (prev : T) → IsUpto ops order a b → is_some a ≡ is_some b → IfSome a (λ x. AtMost ops x (unwrap_or b prev))
+    reservation_after : (a b : Option T) (prev : T) → IsUpto ops a b → is_some a ≡ is_some b → IfSome a (λ x. AtMost ops x (unwrap_or b prev))
     reservation_after None b prev h e = tt
     reservation_after (Some a) None prev h e = cc
     reservation_after (Some a) (Some b) prev h e = h
 
-    upto_itself : (a : Option T) → IsUpto ops order a a
+    upto_itself : (a : Option T) → IsUpto ops a a
     upto_itself None = refl
     upto_itself (Some a) = at_most_itself ops order a
 

@@ -21,18 +21,19 @@ use Rattle.dmc_tag.specs.Spacing.{spacing_of, optional_spacing, spacings_of}
 use Rattle.dmc_tag.specs.State.{State, is_client, has_queued, client_named, effective}
 use Rattle.dmc_tag.specs.Best.{best, by_weight, is_any}
 use Rattle.dmc_tag.specs.Rules as rules_of
-use Rattle.dmc_tag.specs.Rules.{Outcome, next_tags}
+use Rattle.dmc_tag.specs.Rules.{Outcome}
 use Rattle.dmc_tag.specs.Step.{answer_of, outcome}
 use Rattle.dmc_tag.specs.declared.plain.PlainRequest.{PlainRequest}
 use Rattle.dmc_tag.specs.declared.plain.PlainClient.{PlainClient}
 use Rattle.dmc_tag.specs.declared.spacing.Spacings.{Spacings}
 use Rattle.dmc_tag.specs.declared.reply.Tags.{Tags}
-use Rattle.dmc_tag.proofs.Orderings.{at_most_trans}
+use Rattle.std.proofs.lemmas.Cmp.{upto}
+use Rattle.dmc_tag.proofs.Orderings.{IsUpto}
 use Rattle.dmc_tag.proofs.TagOrder.{given, bound, from_option, from_range, positive, next_tags_follow, spacings_not_below}
 use Rattle.dmc_tag.proofs.Active.{either, queued_own}
 use Rattle.dmc_tag.proofs.Lists.{all_as, all_both}
 use Rattle.dmc_bounds.proofs.Basics.{bind_goes, add_gives, from_ok, same_id, named_same, allowed}
-use Rattle.dmc_bounds.proofs.InTurn.{pull_is, IsUpto, Follows, IsKnown, AreInTurn}
+use Rattle.dmc_bounds.proofs.InTurn.{pull_is, Follows, IsKnown, AreInTurn}
 use Rattle.dmc_bounds.proofs.Pairs.{ids-kept, find_mapped}
 use Rattle.dmc_bounds.proofs.TurnKept.{known_changed, mine, IsBelow, same_queued, registered_turn, removed_turn, cleaned_turn, left_turn, reduced_turn, shifted_turn, queued_turn}
 use Rattle.dmc_tag.proofs.Options.{same_presence}
@@ -82,11 +83,11 @@ module _ {T : Type 0} (ops : Tagging T) (fraction : T → Fraction) (is_value : 
 
   -- ---- add
 
-  upto_chain : (a b : Option T) (prev : T) → is_some a ≡ is_some b → IfSome a (λ x. AtMost ops x prev) → IfSome b (AtMost ops prev) → IsUpto ops order a b
+  upto_chain : (a b : Option T) (prev : T) → is_some a ≡ is_some b → IfSome a (λ x. AtMost ops x prev) → IfSome b (AtMost ops prev) → IsUpto ops a b
   upto_chain None None prev e h k = refl
   upto_chain None (Some b) prev e h k = cc
   upto_chain (Some a) None prev e h k = cc
-  upto_chain (Some a) (Some b) prev e h k = at_most_trans ops order a prev b _ _ refl refl h k
+  upto_chain (Some a) (Some b) prev e h k = upto order a prev b h k
 
   below_of : (clients : List (PlainClient T)) (r : PlainRequest T) (c : PlainClient T) → client_named r.client clients ≡ Some c → (c.idle ≡ true) ⊎ AreNext ops c.info c.previous r.tags → (x : PlainRequest T) → IsKnown ops order clients x → IsBelow ops order fraction is_value exact r x
   below_of clients r c named (inl idle) x k = λ same.
@@ -99,8 +100,8 @@ module _ {T : Type 0} (ops : Tagging T) (fraction : T → Fraction) (is_value : 
       let reserved : is_some x.tags.r ≡ is_some r.tags.r = k.follows.reserved ∙ ap (λ d. is_some d.info.reservation) one ∙ sym next.reserved in (
         record {
           r = upto_chain x.tags.r r.tags.r c.previous.r reserved (subst (λ d. IfSome x.tags.r (λ a. AtMost ops a d.previous.r)) one k.follows.r) next.r;
-          l = at_most_trans ops order x.tags.l c.previous.l r.tags.l _ _ refl refl (subst (λ d. AtMost ops x.tags.l d.previous.l) one k.follows.l) next.l;
-          p = at_most_trans ops order x.tags.p c.previous.p r.tags.p _ _ refl refl (subst (λ d. AtMost ops x.tags.p d.previous.p) one k.follows.p) next.p;
+          l = upto order x.tags.l c.previous.l r.tags.l (subst (λ d. AtMost ops x.tags.l d.previous.l) one k.follows.l) next.l;
+          p = upto order x.tags.p c.previous.p r.tags.p (subst (λ d. AtMost ops x.tags.p d.previous.p) one k.follows.p) next.p;
         },
         reserved,
       )

@@ -10,22 +10,12 @@ use Rattle.dmc_tag.specs.Step.{step}
 use Rattle.dmc_tag.specs.Replay.{state_after, replays_from, after, replays}
 use Rattle.dmc_tag.specs.declared.event.Event.{Event}
 use Rattle.dmc_tag.proofs.ForCallers.{after_one_more, replays_one_more}
+use Rattle.dmc_tag.proofs.Lists.{slice_get-append, slice_get-push}
 use Rattle.dmc_pull.specs.Queue.{state_of}
 use Rattle.dmc_check.specs.Verdicts.{DiffersAt, IsVerdict, verdict_of, SoFar, Stands}
 use Rattle.dmc_check.specs.declared.replay.Replay.{Replay}
 use Rattle.dmc_check.specs.declared.check.Verdict.{Verdict}
 use Rattle.dmc_check.specs.declared.check.Verdict.TheVariants.{Replays, Differs}
-
--- the element behind a list
-at_end : {A : Type 0} (xs : List A) (x : A) → slice_get (xs ++ x ∷ []) (length xs) ≡ Some x
-at_end [] x = refl
-at_end (y ∷ xs) x = at_end xs x
-
--- what is in front stays
-at_front : {A : Type 0} (xs ys : List A) (i : ℕ) (x : A) → slice_get xs i ≡ Some x → slice_get (xs ++ ys) i ≡ Some x
-at_front [] ys i x h = absurd (cc)
-at_front (y ∷ xs) ys zero x h = h
-at_front (y ∷ xs) ys (suc i) x h = at_front xs ys i x h
 
 pub none_within : {A : Type 0} (xs : List A) (i : ℕ) → i < length xs → slice_get xs i ≡ None → ⊥
 none_within [] i within h = absurd (omega (arith, within))
@@ -49,7 +39,7 @@ module _ {T : Type 0} (ops : Tagging T) where
       let same : take i (events ++ more) ≡ take i events = take-append-le i events more (omega (arith, within)) in
       record {
         event = d.event;
-        at = at_front events more i d.event d.at;
+        at = slice_get-append events more i d.event d.at;
         before = subst (replays ops config) (sym same) d.before;
         other = subst (λ es. d.event.reply ≡ (step ops (after ops config es) d.event.command).1 → ⊥) (sym same) d.other;
       }
@@ -59,7 +49,7 @@ module _ {T : Type 0} (ops : Tagging T) where
       let same : take (length events) (events ++ e ∷ []) ≡ events = take-append-le (length events) events (e ∷ []) (omega arith) ∙ take_all (length events) events (omega arith) in
       record {
         event = e;
-        at = at_end events e;
+        at = slice_get-push events e;
         before = subst (replays ops config) (sym same) h;
         other = subst (λ es. e.reply ≡ (step ops (after ops config es) e.command).1 → ⊥) (sym same) other;
       }

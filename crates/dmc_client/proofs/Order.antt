@@ -9,13 +9,14 @@ use Rattle.dmc_tag.specs.Tag.{Tagging}
 use Rattle.dmc_tag.specs.Order.{AtMost}
 use Rattle.dmc_tag.specs.Rules.{less, has_less}
 use Rattle.dmc_client.specs.Order.{InOrder}
-use Rattle.dmc_tag.proofs.Orderings.{at_most_itself, at_most_trans}
+use Rattle.std.proofs.lemmas.Cmp.{upto}
+use Rattle.dmc_tag.proofs.Orderings.{at_most_itself}
 pub use Rattle.dmc_tag.proofs.Orderings.{tag_order}
 use Rattle.dmc_tag.proofs.Booleans.{both_true}
 
 module _ {T : Type 0} (ops : Tagging T) (order : IsTotalOrder ops.compare) where
   below_all : (x p q : T) (xs : List T) → AllByRecursion (AtMost ops x) (xs ++ p ∷ []) → AtMost ops p q → AllByRecursion (AtMost ops x) ((xs ++ q ∷ []) ++ q ∷ [])
-  below_all x p q [] h k = let up = at_most_trans ops order x p q _ _ refl refl h.0 k in (up, (up, tt))
+  below_all x p q [] h k = let up = upto order x p q h.0 k in (up, (up, tt))
   below_all x p q (y ∷ xs) h k = (h.0, below_all x p q xs h.1 k)
 
   -- the next tag is queued, and becomes the previous one

@@ -1,9 +1,8 @@
 -- What is owed, as requests come and go.
 use Rattle.std.proofs.Common.{◌≡◌, Bool, true, false, ◌&&◌, List, [], ◌∷◌, ◌++◌, map, drop, Option, Some, None, refl, sym, ap, ◌∙◌, subst}
-use Rattle.std.specs.Prelude.{if◌then◌else◌, is_some, slice_get, Result, Ok, Err, OnOk, OnErr}
+use Rattle.std.specs.Prelude.{if◌then◌else◌, is_some, Result, Ok, Err, OnOk, OnErr}
 use Rattle.std.specs.Option.{option_map, option_map_or, unwrap_or}
 use Rattle.std.specs.List.{AllByRecursion, list_all}
-use Rattle.std.proofs.lemmas.Option.{slice_get-map}
 use Rattle.std.proofs.lemmas.List.{map-append}
 use Rattle.std.proofs.lemmas.List.Folds.{list_all-map}
 use Rattle.dmc_tag.specs.Tag.{Tagging, Fraction, IsExact}
@@ -30,9 +29,6 @@ module _ {T : Type 0} (ops : Tagging T) where
   none_is_owed xs = record { values = none_owed_values xs; empty = λ e. refl }
 
   -- ---- the first request, and the others
-
-  pub first_less : (owed : Option T) (xs : List (QueuedRequest T)) → slice_get (all_less_owed ops owed xs) 0 ≡ option_map (less_owed ops owed) (slice_get xs 0)
-  first_less owed xs = slice_get-map (less_owed ops owed) xs 0
 
   pub rest_less : (owed : Option T) (xs : List (QueuedRequest T)) → drop 1 (all_less_owed ops owed xs) ≡ all_less_owed ops owed (drop 1 xs)
   rest_less owed [] = refl

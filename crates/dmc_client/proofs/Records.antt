@@ -18,7 +18,7 @@ use Rattle.dmc_client.specs.Record.{Rec, IsRecord, reservation_tags, share_tags,
 use Rattle.dmc_client.proofs.Order.{in_order-next, in_order-less, KeepsOrder}
 use Rattle.dmc_tag.proofs.Options.{is_some_mapped, same_presence}
 use Rattle.std.proofs.Math.Bool.{and-true}
-use Rattle.dmc_tag.proofs.Lists.{all_next}
+use Rattle.dmc_tag.proofs.Lists.{all_mapped, all_next}
 
 -- ---- what holds of each request
 
@@ -136,15 +136,11 @@ module _ {T : Type 0} (ops : Tagging T) (amount : T) where
       ap (λ xs. xs ++ less ops amount rec.previous.r ∷ []) (filter_map_less rec.requests)
       ∙ sym (map-append (less ops amount) (filter_map (λ r. r.tags.r) rec.requests) (rec.previous.r ∷ []))
 
-  all_over : (P Q : QueuedRequest T → Type 0) (f : QueuedRequest T → QueuedRequest T) → ((r : QueuedRequest T) → P r → Q (f r)) → (requests : List (QueuedRequest T)) → AllByRecursion P requests → AllByRecursion Q (map f requests)
-  all_over P Q f k [] h = tt
-  all_over P Q f k (r ∷ requests) h = (k r h.0, all_over P Q f k requests h.1)
-
   module _ (keeps : KeepsOrder ops) where
     pub record_less_shares : (rec : Rec T) → IsRecord ops rec → has_less_shares ops amount rec ≡ true → IsRecord ops (less_shares ops amount rec)
     record_less_shares rec is e = record {
       spacings = is.spacings;
-      reserved = all_over _ _ (less_share ops amount) (λ r h. h) rec.requests is.reserved;
+      reserved = all_mapped _ _ (less_share ops amount) (λ r h. h) rec.requests is.reserved;
       reservations = subst (λ xs. InOrder ops (xs ++ rec.previous.r ∷ [])) (sym (filter_map_map (λ r. r.tags.r) (less_share ops amount) (λ r. r.tags.r) (λ r. refl) rec.requests)) is.reservations;
       limits = subst (λ xs. InOrder ops (xs ++ rec.previous.l ∷ [])) (sym (map_map (λ r. r.tags.l) (less_share ops amount) (λ r. r.tags.l) (λ r. refl) rec.requests)) is.limits;
       shares = subst (InOrder ops) (sym (shares_are rec)) (in_order-less ops keeps amount (share_tags rec) (shares_have_less rec ∙ e) is.shares);
@@ -161,7 +157,7 @@ module _ {T : Type 0} (ops : Tagging T) (amount : T) where
     pub record_less_reservations : (rec : Rec T) → IsRecord ops rec → has_less_reservations ops amount rec ≡ true → IsRecord ops (less_reservations ops amount rec)
     record_less_reservations rec is e = record {
       spacings = is.spacings;
-      reserved = all_over _ _ (less_reservation ops amount) (λ r h. is_some_mapped (less ops amount) r.tags.r ∙ h) rec.requests is.reserved;
+      reserved = all_mapped _ _ (less_reservation ops amount) (λ r h. is_some_mapped (less ops amount) r.tags.r ∙ h) rec.requests is.reserved;
       reservations = subst (InOrder ops) (sym (reservations_are rec)) (in_order-less ops keeps amount (reservation_tags rec) (reservations_have_less rec ∙ e) is.reservations);
       limits = subst (λ xs. InOrder ops (xs ++ rec.previous.l ∷ [])) (sym (map_map (λ r. r.tags.l) (less_reservation ops amount) (λ r. r.tags.l) (λ r. refl) rec.requests)) is.limits;
       shares = subst (λ xs. InOrder ops (xs ++ rec.previous.p ∷ [])) (sym (map_map (λ r. r.tags.p) (less_reservation ops amount) (λ r. r.tags.p) (λ r. refl) rec.requests)) is.shares;

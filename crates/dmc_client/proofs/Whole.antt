@@ -6,6 +6,7 @@ use Rattle.std.specs.List.{AllByRecursion, list_all, cons_option}
 use Rattle.dmc_tag.specs.Tag.{Tagging}
 use Rattle.dmc_tag.specs.Order.{AtMost}
 use Rattle.dmc_tag.specs.Rules.{has_less}
+use Rattle.dmc_tag.proofs.Lists.{all_at}
 use Rattle.dmc_client.specs.declared.request.QueuedRequest.{QueuedRequest}
 use Rattle.dmc_client.specs.Order.{InOrder}
 use Rattle.dmc_client.specs.Owed.{reservation_has_less}
@@ -15,15 +16,11 @@ use Rattle.dmc_client.proofs.Records.{all_filter_map, rest_reservations}
 abbrev pub HasBetween : {T : Type 0} → Tagging T → Type 0
 HasBetween {T} ops = (x y z amount : T) → AtMost ops x y → AtMost ops y z → is_some (ops.minus x amount) ≡ true → is_some (ops.minus z amount) ≡ true → is_some (ops.minus y amount) ≡ true
 
-last_of : {X : Type 0} (P : X → Type 0) (xs : List X) (last : X) → AllByRecursion P (xs ++ last ∷ []) → P last
-last_of P [] last h = h.0
-last_of P (x ∷ xs) last h = last_of P xs last h.1
-
 module _ {T : Type 0} (ops : Tagging T) (between : HasBetween ops) (amount : T) where
   tags_between : (x last : T) (xs : List T) → has_less ops amount x ≡ true → has_less ops amount last ≡ true → AllByRecursion (AtMost ops x) (xs ++ last ∷ []) → InOrder ops (xs ++ last ∷ []) → list_all (has_less ops amount) xs ≡ true
   tags_between x last [] h k below order = refl
   tags_between x last (y ∷ xs) h k below order =
-      let one : has_less ops amount y ≡ true = between x y last amount below.0 (last_of (AtMost ops y) xs last order.0) h k in
+      let one : has_less ops amount y ≡ true = between x y last amount below.0 (all_at (AtMost ops y) xs last [] order.0) h k in
       ap (λ b. b && list_all (has_less ops amount) xs) one ∙ tags_between x last xs h k below.1 order.1
 
   none_have : (xs : List (QueuedRequest T)) → AllByRecursion (λ r. is_some r.tags.r ≡ false) xs → list_all (reservation_has_less ops amount) xs ≡ true

@@ -1,7 +1,7 @@
 -- What the rules make of a client that matches one that is held.
 use Rattle.std.proofs.Common.{◌≡◌, ◌-◌, ◌<◌, ◌≤◌, Bool, true, false, List, [], ◌∷◌, ◌++◌, length, nat_le, ◌==◌, refl, sym, ap, ◌∙◌, arith, Ok, Err}
 use Rattle.std.specs.Prelude.{Result, IsErrOf, ◌↔◌, ⊤}
-use Rattle.std.proofs.lemmas.Bool.{ltb-true, lt-ltb, eq-eqb, eqb-true}
+use Rattle.std.proofs.lemmas.Bool.{ltb-true, lt-ltb, eqb-true, false_from_ne_true}
 use Rattle.std.proofs.lemmas.List.{length-set}
 use Rattle.dmc_types.specs.Values.{Params}
 use Rattle.dmc_types.specs.declared.ids.ServerId.{ServerId}
@@ -22,10 +22,6 @@ use Rattle.dmc_core.specs.Run.{Pair, Client, pair_at, with_pair, with_flight, gr
 use Rattle.dmc_core.specs.Events.{is_stamp_full, after_stamp, stamp, after_response, response}
 use Rattle.dmc_core.specs.Core.{Held, Matches, ClientFollows}
 
-pub false_unless : (b : Bool) → (b ≡ true → ⊥) → b ≡ false
-false_unless true never = absurd (never refl)
-false_unless false never = refl
-
 -- ---- Stamp
 
 module _ (s : ServerId) (list : List TrackerEvent) where
@@ -35,7 +31,7 @@ module _ (s : ServerId) (list : List TrackerEvent) where
 
   stamp_not_full : (k : Counting) → (IsStampFull k most_completions s list → ⊥) → is_stamp_full k s list ≡ false
   stamp_not_full All unfull = refl
-  stamp_not_full Others unfull = false_unless _ (λ e. unfull (record { form = refl; past = ltb-true _ _ e }))
+  stamp_not_full Others unfull = false_from_ne_true _ (λ e. unfull (record { form = refl; past = ltb-true _ _ e }))
 
 module _ (counting : Counting) (h : Held) (c : Client) (s : ServerId) (m : Matches counting h c) where
   room_too : nat_le most_in_flight (length (pair_at s h.pairs).flight) ≡ false → nat_le most_in_flight (length (pair_at s c.pairs).flight) ≡ false
@@ -109,17 +105,6 @@ module _ (T : Type 0) (h : Held) (s : ServerId) (phase : PhaseType) where
   response-none none = (refl, λ counting c m. rw (← m.pairs, none) refl)
 
   module _ (some : (grants phase (pair_at s h.pairs) == 0) ≡ false) where
-    pub response-refused : (fault : TrackFault) (tested : Result ⊤ TrackFault) → tested ≡ Err fault → s.0 < length h.pairs
-        → (IsErrOf tested faults.NoServer ↔ (length h.tracker.servers ≤ s.0))
-        → ((events : List TrackerEvent) → Stands h.tracker events → (IsErrOf tested faults.TrackFull ↔ ((s.0 < length h.tracker.servers) × IsComplete h.tracker.most events)))
-        → ClientFollows {T = T} (λ counting c. response s phase c) h h (Err (fault_of fault))
-    response-refused faults.NoServer tested e within no_server full = (refl, λ counting c m. absurd (omega (arith, no_server.0 e, m.servers, within)))
-    response-refused faults.TrackFull tested e within no_server full = (
-      refl,
-      λ counting c m.
-          rw (some_too counting h c s m phase some, eq-eqb (completions c.list).delta most_completions (((full c.list m.tracker).0 e).1 ∙ m.most)) refl,
-    )
-
     pub response-counted : (tested : Result ⊤ TrackFault) → tested ≡ Ok tt → s.0 < length h.pairs
         → ((events : List TrackerEvent) → Stands h.tracker events → (IsErrOf tested faults.TrackFull ↔ ((s.0 < length h.tracker.servers) × IsComplete h.tracker.most events)))
         → (tracker : Numbers) (pairs : List Pair)
@@ -128,7 +113,7 @@ module _ (T : Type 0) (h : Held) (s : ServerId) (phase : PhaseType) where
         → pairs ≡ with_pair s (with_grants phase (grants phase (pair_at s h.pairs) - 1) (pair_at s h.pairs)) h.pairs
         → ClientFollows {T = T} (λ counting c. response s phase c) h (record { id = h.id; tracker = tracker; pairs = pairs }) (Ok Counted)
     response-counted tested tested_is within full tracker pairs stands kept pairs_is counting c m =
-        let below = false_unless ((completions c.list).delta == most_completions) (λ e. let f = (full c.list m.tracker).1 (rw m.servers within, eqb-true _ _ e ∙ sym m.most) in cc) in
+        let below = false_from_ne_true ((completions c.list).delta == most_completions) (λ e. let f = (full c.list m.tracker).1 (rw m.servers within, eqb-true _ _ e ∙ sym m.most) in cc) in
         record {
           next = after_response s phase c;
           ruled_is = rw (some_too counting h c s m phase some, below) refl;

@@ -2,7 +2,7 @@
 use Rattle.std.proofs.Common.{◌≡◌, ℕ, zero, suc, get_or, ◌<◌, ◌≤◌, ◌/◌, ◌%◌, ◌==◌, true, false, true≢false, Option, Some, None, ℤ, pos, refl, sym, ap, ◌∙◌, arith, Ok}
 use Rattle.std.specs.Prelude.{All, IsOk, IfSome, nat_le, unsigned_abs}
 use Rattle.std.proofs.Math.Nat.{mod-zero, div-le_self}
-use Rattle.std.proofs.lemmas.Bool.{eqb-true, le-leb, leb-true}
+use Rattle.std.proofs.lemmas.Bool.{eqb-true, le-leb, leb-true, false_from_ne_true}
 use Rattle.dmc_types.specs.Values.{Rates}
 use Rattle.dmc_types.specs.declared.config.TagKind.{TagKind}
 use Rattle.dmc_types.specs.declared.config.TagKind.TheVariants.{Tick, Ratio}
@@ -17,13 +17,12 @@ use Rattle.dmc_ratio.specs.Lowest.{over, unsigned_abs-over}
 use Rattle.dmc_ratio.specs.Ratio as r
 use Rattle.dmc_scene.specs.SceneValue.{SceneValue, AreSpaced, HasSpacing}
 use Rattle.dmc_core.specs.Opening.{HaveSpacings}
-use Rattle.dmc_core.proofs.Clients.{false_unless}
 
 -- in ticks a rate that divides hz has a spacing
 tick_spaced : (hz rate : ℕ) → 0 < hz → hz ≤ 1000000000 → HasSpacing Tick hz rate → (z : ℤ) × (tick_spacing hz rate ≡ Some z)
 tick_spaced hz rate some limit divides =
     let whole : hz % rate ≡ 0 = eqb-true _ _ divides in
-    let rated : (rate == 0) ≡ false = false_unless (rate == 0) (λ e.
+    let rated : (rate == 0) ≡ false = false_from_ne_true (rate == 0) (λ e.
     let none = ap (λ (n : ℕ). hz % n) (eqb-true _ _ e) ∙ mod-zero hz in
     absurd (omega arith)) in
     let least : hz / rate ≤ hz = div-le_self hz rate in

@@ -2,7 +2,7 @@
 use Rattle.std.proofs.Common.{◌≡◌, ℕ, zero, suc, eqb, Bool, true, false, true≢false, Option, ◌+◌, ◌-◌, ◌<◌, ◌≤◌, ◌==◌, cond, List, [], ◌∷◌, length, map, set, get_or, slice_get, Some, refl, sym, ap, ◌∙◌, subst, arith}
 use Rattle.std.proofs.Math.Seq.{map-set_same}
 use Rattle.std.proofs.lemmas.List.{length-set, length-map, map-set, get_or-set_same, get_or-set_other}
-use Rattle.std.proofs.lemmas.Bool.{eq-eqb, eqb-true}
+use Rattle.std.proofs.lemmas.Bool.{eq-eqb, eqb-true, false_from_ne_true}
 use Rattle.std.specs.Option.{option_map}
 use Rattle.std.proofs.lemmas.Option.{get_or_from_slice_get, slice_get_within}
 use Rattle.std.specs.List.{AllByRecursion}
@@ -12,7 +12,6 @@ use Rattle.dmc_types.specs.declared.config.PhaseType.{PhaseType}
 use Rattle.dmc_core.specs.Run.{pair_at, with_pair, grants, with_grants, most_grants}
 use Rattle.dmc_core.specs.Core.{Held}
 use Rattle.dmc_core.specs.Parts.{IsKept, KeepsGrants, full_at, full_counts, one_if_full}
-use Rattle.dmc_core.proofs.Clients.{false_unless}
 use Rattle.dmc_core.specs.declared.server.CoreServer.{CoreServer}
 use Rattle.dmc_core.proofs.Counts.{full_counts-set, full_counts-there, full_counts-elsewhere, same_counts}
 use Rattle.dmc_tag.proofs.Ids.{all_there}
@@ -108,7 +107,7 @@ module _ {Q : Type 0} (ids : List ClientId) (hs : List Held) (servers : List (Co
 
 -- one less is not
 pub full_gone : (n : ℕ) → 0 < n → n ≤ most_grants → one_if_full (n - 1) ≡ 0
-full_gone n some most = ap (λ (b : Bool). cond b 1 0) (false_unless ((n - 1) == most_grants) (λ e. let f = eqb-true _ _ e in omega arith))
+full_gone n some most = ap (λ (b : Bool). cond b 1 0) (false_from_ne_true ((n - 1) == most_grants) (λ e. let f = eqb-true _ _ e in omega arith))
 
 pub full_not : (n : ℕ) → (n ≡ most_grants → ⊥) → one_if_full n ≡ 0
-full_not n other = ap (λ (b : Bool). cond b 1 0) (false_unless (n == most_grants) (λ e. other (eqb-true _ _ e)))
+full_not n other = ap (λ (b : Bool). cond b 1 0) (false_from_ne_true (n == most_grants) (λ e. other (eqb-true _ _ e)))

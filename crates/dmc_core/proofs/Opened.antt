@@ -2,7 +2,7 @@
 use Rattle.std.proofs.Common.{◌≡◌, ◌≢◌, ℕ, zero, suc, ◌+◌, ◌<◌, ◌≤◌, eqb, false, true≢false, nat_le, List, [], ◌∷◌, ◌++◌, length, map, take, replicate, get_or, Some, None, refl, sym, ap, ◌∙◌, subst, arith, Ok, Err}
 use Rattle.std.specs.Prelude.{AllPairs, IsOk, Result}
 use Rattle.std.specs.List.{AllByRecursion, AllZip, list_any}
-use Rattle.std.proofs.lemmas.Bool.{eqb-true, leb-true}
+use Rattle.std.proofs.lemmas.Bool.{eqb-true, leb-true, false_from_ne_true}
 use Rattle.std.proofs.lemmas.List.Sums.{sum_by-cons}
 use Rattle.std.proofs.lemmas.List.{length-map, length-replicate, length-take, map-append, take_more}
 use Rattle.indexmap.specs.IndexSet.{insert_key}
@@ -33,7 +33,7 @@ use Rattle.dmc_core.specs.Events.{registration}
 use Rattle.dmc_core.specs.Core.{Held, Matches}
 use Rattle.dmc_core.specs.Parts.{IsKept, full_counts, full_counts_of}
 use Rattle.dmc_core.specs.Opening.{HaveSpacings, named_rates, opening_client}
-use Rattle.dmc_core.proofs.Clients.{false_unless}
+use Rattle.dmc_tag.proofs.Agreement.{stands_itself}
 
 -- ---- ids that stand apart
 
@@ -47,7 +47,7 @@ fresh (c ∷ cs) (suc i) x apart w is = (
 )
 
 is_other : (a b : ClientId) → a ≢ b → eqb b.0 a.0 ≡ false
-is_other a b ne = false_unless (eqb b.0 a.0) (λ e. ne (ap (λ (n : ℕ). let k : ClientId = record { 0 = n } in k) (sym (eqb-true _ _ e))))
+is_other a b ne = false_from_ne_true (eqb b.0 a.0) (λ e. ne (ap (λ (n : ℕ). let k : ClientId = record { 0 = n } in k) (sym (eqb-true _ _ e))))
 
 pub none_is : (ids : List ClientId) (id : ClientId) → AllByRecursion (λ k. k ≢ id) ids → list_any (λ k. eqb id.0 k.0) ids ≡ false
 none_is [] id h = refl
@@ -77,7 +77,7 @@ module _ {T : Type 0} (ops : Tagging T) where
   newcomer_registers u id info others spaced room =
       let none = none_named u.clients id others in
       let spacings = ok_value (spacings_of ops u.config.hz info) spaced in
-      let few : nat_le 65536 (length u.clients) ≡ false = false_unless _ (λ e. absurd (omega (arith, leb-true _ _ e, room))) in
+      let few : nat_le 65536 (length u.clients) ≡ false = false_from_ne_true _ (λ e. absurd (omega (arith, leb-true _ _ e, room))) in
       rw (none, spacings.1, few) refl
 
 -- the state that the first clients of a scene register to
@@ -139,7 +139,7 @@ module _ {T : Type 0} (ops : Tagging T) (scene : SceneValue) (cs : List ClientVa
       cc
 
 pub stands_as : {T : Type 0} (u v : State T) → u ≡ v → StandsFor u v
-stands_as u v e = rw e (record { config = refl; requests = λ id. refl; clients = refl; last_moment = refl })
+stands_as u v e = subst (StandsFor u) e (stands_itself u)
 
 -- ---- the run
 

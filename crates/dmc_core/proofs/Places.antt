@@ -1,19 +1,15 @@
 -- The place of a client among the ids, and among what is held.
-use Rattle.std.proofs.Common.{◌≡◌, ℕ, ◌<◌, ◌≤◌, Bool, true, false, List, length, map, nat_le, eqb, Option, Some, None, refl, sym, ap, ◌∙◌, Ok, Err, true≢false, arith}
+use Rattle.std.proofs.Common.{◌≡◌, ℕ, ◌<◌, ◌≤◌, Bool, List, length, map, nat_le, eqb, Option, Some, None, refl, sym, ap, ◌∙◌, Ok, Err, arith}
 use Rattle.std.specs.Prelude.{position}
-use Rattle.std.proofs.lemmas.Bool.{eq-eqb, eqb-true, le-leb, leb-true}
+use Rattle.std.proofs.lemmas.Bool.{le-leb, leb-true, false_from_ne_true}
 use Rattle.dmc_types.specs.declared.ids.ClientId.{ClientId}
 use Rattle.dmc_types.specs.declared.ids.ServerId.{ServerId}
 use Rattle.dmc_tag.specs.State.{is_client}
 use Rattle.dmc_core.specs.declared.event.CoreFault.TheVariants.{NoClient, NoServer}
 use Rattle.dmc_core.specs.Core.{Held, CoreValue}
 use Rattle.dmc_core.specs.Parts.{place_of}
-use Rattle.dmc_core.proofs.Clients.{false_unless}
+use Rattle.dmc_tag.proofs.Booleans.{eqb_turned}
 use Rattle.dmc_tag.proofs.Lists.{position_map}
-
-eqb_turned : (a b : ℕ) (r : Bool) → eqb a b ≡ r → eqb a b ≡ eqb b a
-eqb_turned a b true e = e ∙ sym (eq-eqb b a (sym (eqb-true a b e)))
-eqb_turned a b false e = e ∙ sym (false_unless (eqb b a) (λ t. absurd (true≢false (sym (eq-eqb a b (sym (eqb-true b a t))) ∙ e))))
 
 -- a look-up among the ids of what is held finds the client's place
 pub place_seen : (hs : List Held) (id : ClientId) → position (λ k. eqb id.0 k.0) (map (λ h. h.id) hs) ≡ position (λ h. is_client id h.id) hs
@@ -34,5 +30,5 @@ module _ {Q : Type 0} (id : ClientId) (s : ServerId) (core : CoreValue Q) (ids :
   pub place_found : (i : ℕ) → found ≡ Some i → s.0 < length core.servers → Ok i ≡ place_of id s core
   place_found i is within =
       let here = seen (Some i) is in
-      let room = false_unless (nat_le (length core.servers) s.0) (λ e. absurd (omega (arith, leb-true _ _ e))) in
+      let room = false_from_ne_true (nat_le (length core.servers) s.0) (λ e. absurd (omega (arith, leb-true _ _ e))) in
       rw (here, room) refl

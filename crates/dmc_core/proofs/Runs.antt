@@ -32,11 +32,6 @@ use Rattle.dmc_core.proofs.Lists.{At, at_place, First, first_of_both, none_of_bo
 same_id : (id : ClientId) (counting : Counting) (h : Held) (c : Client) → Matches counting h c → is_client id h.id ≡ is_client id c.id
 same_id id counting h c m = ap (is_client id) m.id
 
--- an option that is none, or something
-pub is_none_or : {X : Type 0} (o : Option X) → (o ≡ None) ⊎ ((x : X) × (o ≡ Some x))
-is_none_or None = inl refl
-is_none_or (Some x) = inr (x, refl)
-
 module _ {T Q : Type 0} (state : Q → State T) (core : CoreValue Q) (run : Run T) (stands : StandsForRun state core run) where
   as_many_servers : length run.servers ≡ length core.servers
   as_many_servers = AllZip-long _ core.servers run.servers stands.servers

@@ -3,7 +3,7 @@ use Rattle.std.proofs.Common.{◌≡◌, ℕ, zero, suc, ◌+◌, ◌-◌, ◌<�
 use Rattle.std.specs.Prelude.{sum_by, if◌then◌else◌}
 use Rattle.std.proofs.lemmas.List.Sums.{sum_by-cons}
 use Rattle.std.proofs.lemmas.List.{append-nil, length-map, take-append-le}
-use Rattle.std.proofs.Math.Seq.{take-append_seam}
+use Rattle.dmc_tag.proofs.Lists.{lent_back}
 use Rattle.dmc_types.specs.Values.{Params}
 use Rattle.dmc_types.specs.declared.ids.ClientId.{ClientId}
 use Rattle.dmc_types.specs.declared.ids.ServerId.{ServerId}
@@ -121,9 +121,6 @@ sum_of_params (q ∷ qs) (suc j) =
     let rest = sum_of_params qs j in
     omega (arith, a, b, rest)
 
-all_taken : {X : Type 0} (xs ys : List X) (n : ℕ) → n ≡ length xs → take n (xs ++ ys) ≡ xs
-all_taken xs ys n e = rw e (take-append_seam xs ys)
-
 no_none : {X : Type 0} (n : ℕ) (xs : List X) (x : X) (rest : List X) → drop n xs ≡ x ∷ rest → n < length xs
 no_none zero [] x rest e = cc
 no_none zero (y ∷ ys) x rest e = omega arith
@@ -151,7 +148,7 @@ completed_between id s token first second list flight tracked follows some next 
     let size : length (came ++ (later ++ flight)) ≡ n + (length (arrivals id second) + length flight) = omega (arith, length-append came (later ++ flight), length-append later flight, came_long, later_long) in
     let long : length (stamps_to s list) ≡ n + (length (arrivals id second) + length flight) = ap length (sym whole) ∙ size in
     let at_k : completed_at s d list ≡ deltas (take (suc d) (came ++ (later ++ flight))) = completed_is s list d tracked (omega (arith, left, long)) ∙ ap (λ ps. deltas (take (suc d) ps)) (sym whole) in
-    let up_to_i : take (suc (n - 1)) (came ++ (later ++ flight)) ≡ came = all_taken came (later ++ flight) (suc (n - 1)) (omega (arith, some, came_long)) in
+    let up_to_i : take (suc (n - 1)) (came ++ (later ++ flight)) ≡ came = lent_back came (later ++ flight) (suc (n - 1)) (omega (arith, some, came_long)) in
     let at_i : completed_at s (n - 1) list ≡ deltas came = completed_is s list (n - 1) tracked (omega (arith, some, long)) ∙ ap (λ ps. deltas (take (suc (n - 1)) ps)) (sym whole) ∙ ap deltas up_to_i in
     let within : suc d - length came ≤ length later = omega (arith, left, came_long, later_long) in
     let steps : suc d - length came ≡ d + 1 - n = omega (arith, came_long) in

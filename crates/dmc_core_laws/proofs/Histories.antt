@@ -24,21 +24,10 @@ use Rattle.dmc_core.specs.Events.{cluster_step, after_pull, registration, run_af
 use Rattle.dmc_core.specs.Opening.{named_rates, opening_of}
 use Rattle.dmc_core_laws.specs.Histories.{Answer, is_server, server_named, queue_command, recorded_events, registrations, history_from, oldest, HistoriesReplay}
 use Rattle.dmc_core_laws.proofs.Given.{step_goes, Gives, gives}
-use Rattle.std.proofs.lemmas.Option.{same_Some}
+use Rattle.std.proofs.lemmas.Option.{same_Some, slice_get_within}
+use Rattle.dmc_tag.proofs.Lists.{slice_get-set_same, slice_get-set_other}
 
 -- ---- lists
-
-set_here : {A : Type 0} (xs : List A) (i : ℕ) (x y : A) → slice_get xs i ≡ Some x → slice_get (set xs i y) i ≡ Some y
-set_here [] i x y e = cc
-set_here (z ∷ zs) zero x y e = refl
-set_here (z ∷ zs) (suc i) x y e = set_here zs i x y e
-
-set_there : {A : Type 0} (xs : List A) (i j : ℕ) (y : A) → (i ≡ j → ⊥) → slice_get (set xs i y) j ≡ slice_get xs j
-set_there [] i j y other = refl
-set_there (z ∷ zs) zero zero y other = absurd (other refl)
-set_there (z ∷ zs) zero (suc j) y other = refl
-set_there (z ∷ zs) (suc i) zero y other = refl
-set_there (z ∷ zs) (suc i) (suc j) y other = set_there zs i j y (λ e. other (ap suc e))
 
 at_replicate : {A : Type 0} (n i : ℕ) (x : A) → i < n → slice_get (replicate n x) i ≡ Some x
 at_replicate zero i x within = absurd (omega (arith, within))
@@ -93,10 +82,10 @@ module _ {T : Type 0} (ops : Tagging T) where
           rw asked (record {
             replays_told = (reply_is ∙ ap (λ (v : State T). (step ops v command).1) same, tt);
             state_is =
-                ap (λ us. slice_get us s.0) servers_are ∙ ap (slice_get (set run.servers server.0 _)) (sym place) ∙ set_here run.servers server.0 old _ found
+                ap (λ us. slice_get us s.0) servers_are ∙ ap (slice_get (set run.servers server.0 _)) (sym place) ∙ slice_get-set_same run.servers server.0 _ (slice_get_within run.servers server.0 old found)
                 ∙ ap (λ (v : State T). Some ((step ops v command).0)) same;
           })
-      by false e = record { replays_told = tt; state_is = ap (λ us. slice_get us s.0) servers_are ∙ set_there run.servers server.0 s.0 _ (λ same. eqb-false server.0 s.0 e same) ∙ here }
+      by false e = record { replays_told = tt; state_is = ap (λ us. slice_get us s.0) servers_are ∙ slice_get-set_other run.servers server.0 s.0 _ (λ same. eqb-false server.0 s.0 e (sym same)) ∙ here }
 
   -- one event
   pub accepted : (s : ServerId) (u : State T) (run : Run T) → slice_get run.servers s.0 ≡ Some u → (e : CoreEvent) (x : Run T × CoreReply T) → Gives ops run e x

@@ -3,24 +3,20 @@ use Rattle.std.proofs.Common.{◌≡◌, ◌≢◌, ℕ, ◌+◌, ◌<◌, List,
 use Rattle.std.specs.Prelude.{if◌then◌else◌}
 use Rattle.std.specs.Option.{option_map, MatchOption, IfSome}
 use Rattle.std.specs.declared.cmp.Ordering.{Ordering}
-use Rattle.std.specs.declared.cmp.Ordering.TheVariants.{Less, Equal, Greater}
-use Rattle.std.specs.Ordering.{is_gt, is_eq, ordering_reverse}
+use Rattle.std.specs.declared.cmp.Ordering.TheVariants.{Equal}
+use Rattle.std.specs.Ordering.{is_gt, is_eq}
 use Rattle.std.specs.Cmp.{IsTotalOrder}
 use Rattle.std.proofs.lemmas.Cmp.{upto, tied_itself}
 use Rattle.std.proofs.lemmas.Bool.{cases_eq}
 use Rattle.dmc_tag.specs.Tag.{Tagging}
 use Rattle.dmc_tag.specs.Order.{AtMost}
+use Rattle.dmc_tag.proofs.Orderings.{at_most_itself, at_most_turned}
 use Rattle.dmc_tag.specs.declared.rank.ReadyRank.{ReadyRank}
 use Rattle.dmc_index.specs.Index.{slot_of_key, IsEmpty}
 use Rattle.dmc_heads.specs.declared.head.Head.{Head}
 use Rattle.dmc_heads.specs.Heads.{ready_rank, Ranks, IsLeastShare}
 use Rattle.dmc_heads.specs.Least.{least_of_two, least_with, least_without, least_after, IsLeastTag, FindsLeast}
 use Rattle.dmc_heads.proofs.Slots.{some_if_mapped, none_if_mapped, within, slot_of_key-set_same, slot_of_key-set_other}
-
-turned : (r s : Ordering) → s ≡ ordering_reverse r → is_gt r ≡ true → is_gt s ≡ false
-turned Less s e g = cc
-turned Equal s e g = cc
-turned Greater s e g = ap is_gt e
 
 not_equal : (r : Ordering) → is_eq r ≡ false → r ≢ Equal
 not_equal r e q = let yes : is_eq r ≡ true = ap is_eq q in cc
@@ -35,11 +31,8 @@ module _ {T : Type 0} (ops : Tagging T) (heads : List (Option (Head T))) where
   if_known (Some p) e h = h
 
 module _ {T : Type 0} (ops : Tagging T) (order : IsTotalOrder ops.compare) where
-  at_most_itself : (a b : T) → a ≡ b → AtMost ops a b
-  at_most_itself a b e = subst (AtMost ops a) e (ap is_gt (tied_itself order a))
-
-  at_most_turned : (a b : T) → is_gt (ops.compare a b) ≡ true → AtMost ops b a
-  at_most_turned a b g = turned (ops.compare a b) (ops.compare b a) (order.antisymm b a) g
+  at_most_equal : (a b : T) → a ≡ b → AtMost ops a b
+  at_most_equal a b e = subst (AtMost ops a) e (at_most_itself ops order a)
 
   module _ (heads : List (Option (Head T))) (key : ℕ) (o : Option (Head T)) (in' : key < length heads) where
     -- a head after a write was written, or was there
@@ -67,7 +60,7 @@ module _ {T : Type 0} (ops : Tagging T) (order : IsTotalOrder ops.compare) where
       head = h;
       here = slot_of_key-set_same heads key o in' ∙ e;
       share = refl;
-      below = below_set h.tags.p (λ h' e'. let same : h ≡ h' = cc in at_most_itself h.tags.p h'.tags.p (ap (λ (x : Head T). x.tags.p) same)) old;
+      below = below_set h.tags.p (λ h' e'. let same : h ≡ h' = cc in at_most_equal h.tags.p h'.tags.p (ap (λ (x : Head T). x.tags.p) same)) old;
     }
 
     comes_below : (h : Head T) → o ≡ Some h → (least : T) → IsLeastShare ops heads least → AtMost ops h.tags.p least → IsLeastShare ops (set heads key o) h.tags.p
@@ -87,7 +80,7 @@ module _ {T : Type 0} (ops : Tagging T) (order : IsTotalOrder ops.compare) where
     with_is vacant h e false empty None was = tt
     with_is vacant h e false empty (Some p) was = at (is_gt (ops.compare h.tags.p p)) refl where
       at : (b : Bool) → is_gt (ops.compare h.tags.p p) ≡ b → IsLeastShare ops (set heads key o) (if b then p else h.tags.p)
-      at true g = stays p was (λ same. let no : slot_of_key heads key ≡ Some was.head = ap (slot_of_key heads) (sym same) ∙ was.here in cc) (λ h' e'. let one : h ≡ h' = cc in subst (λ (x : Head T). AtMost ops p x.tags.p) one (at_most_turned h.tags.p p g))
+      at true g = stays p was (λ same. let no : slot_of_key heads key ≡ Some was.head = ap (slot_of_key heads) (sym same) ∙ was.here in cc) (λ h' e'. let one : h ≡ h' = cc in subst (λ (x : Head T). AtMost ops p x.tags.p) one (at_most_turned ops order h.tags.p p g))
       at false g = comes_below h e p was g
 
     -- ---- a head leaves
@@ -108,7 +101,7 @@ module _ {T : Type 0} (ops : Tagging T) (order : IsTotalOrder ops.compare) where
     after_is old here h e None was = tt
     after_is old here h e (Some p) was = at (is_gt (ops.compare h.tags.p p)) refl where
       at : (b : Bool) → is_gt (ops.compare h.tags.p p) ≡ b → IfSome (if b then least_without ops (Some p) old.tags.p else Some h.tags.p) (IsLeastShare ops (set heads key o))
-      at true g = without old here p was (λ h' e'. let one : h ≡ h' = cc in subst (λ (x : Head T). AtMost ops p x.tags.p) one (at_most_turned h.tags.p p g))
+      at true g = without old here p was (λ h' e'. let one : h ≡ h' = cc in subst (λ (x : Head T). AtMost ops p x.tags.p) one (at_most_turned ops order h.tags.p p g))
       at false g = comes_below h e p was g
 
     -- a head changes, and its P stays
@@ -148,9 +141,6 @@ module _ {T : Type 0} (ops : Tagging T) (order : IsTotalOrder ops.compare) where
   -- ---- the pass over the keys
 
   module _ (slots : List (Option (ReadyRank T))) where
-    pub found_none : FindsLeast ops slots 0 None
-    found_none key l = absurd (omega arith)
-
     -- one more key
     pub found_more : (n : ℕ) (found : Option T) → FindsLeast ops slots n found → FindsLeast ops slots (n + 1) (least_of_two ops found (option_map (λ (r : ReadyRank T). r.tag) (slot_of_key slots n)))
     found_more n found h = at found (slot_of_key slots n) refl h where
@@ -165,7 +155,7 @@ module _ {T : Type 0} (ops : Tagging T) (order : IsTotalOrder ops.compare) where
         here = q;
         tag = refl;
         below = λ k other l q'. elim (cases_eq k n) [
-          | inl e ↦ let both : Some r ≡ Some other = sym q ∙ ap (slot_of_key slots) (sym e) ∙ q' in let one : r ≡ other = cc in at_most_itself r.tag other.tag (ap (λ (x : ReadyRank T). x.tag) one)
+          | inl e ↦ let both : Some r ≡ Some other = sym q ∙ ap (slot_of_key slots) (sym e) ∙ q' in let one : r ≡ other = cc in at_most_equal r.tag other.tag (ap (λ (x : ReadyRank T). x.tag) one)
           | inr ne ↦ let no : slot_of_key slots k ≡ None = none k (first k l ne) in cc
         ];
       }
@@ -191,13 +181,13 @@ module _ {T : Type 0} (ops : Tagging T) (order : IsTotalOrder ops.compare) where
         here = q;
         tag = refl;
         below = λ k other l' q'. elim (cases_eq k n) [
-          | inl e ↦ let both : Some r ≡ Some other = sym q ∙ ap (slot_of_key slots) (sym e) ∙ q' in let one : r ≡ other = cc in at_most_itself r.tag other.tag (ap (λ (x : ReadyRank T). x.tag) one)
+          | inl e ↦ let both : Some r ≡ Some other = sym q ∙ ap (slot_of_key slots) (sym e) ∙ q' in let one : r ≡ other = cc in at_most_equal r.tag other.tag (ap (λ (x : ReadyRank T). x.tag) one)
           | inr ne ↦ upto order r.tag p other.tag l (was.below k other (first k l' ne) q')
         ];
       }
 
       both : (p : T) (r : ReadyRank T) → slot_of_key slots n ≡ Some r → IsLeastTag ops slots n p → (b : Bool) → is_gt (ops.compare p r.tag) ≡ b → IsLeastTag ops slots (n + 1) (if b then r.tag else p)
-      both p r q was true g = less' p r q was (at_most_turned p r.tag g)
+      both p r q was true g = less' p r q was (at_most_turned ops order p r.tag g)
       both p r q was false g = more p was (λ r' q'. let one' : Some r ≡ Some r' = sym q ∙ q' in let one : r ≡ r' = cc in subst (λ (x : ReadyRank T). AtMost ops p x.tag) one g)
 
       at : (found : Option T) (o : Option (ReadyRank T)) → slot_of_key slots n ≡ o → FindsLeast ops slots n found → FindsLeast ops slots (n + 1) (least_of_two ops found (option_map (λ (r : ReadyRank T). r.tag) o))

@@ -1,13 +1,13 @@
 -- Finite maps from keys, as lists of what each key below a room holds.
-use Rattle.std.proofs.Common.{◌≡◌, ◌≢◌, ℕ, zero, suc, ◌<◌, List, [], ◌∷◌, ◌++◌, map, Option, Some, None, length, set, replicate, count_by, is_some, cond, refl, sym, ap, ◌∙◌, inl, inr, arith, IsSome}
+use Rattle.std.proofs.Common.{◌≡◌, ◌≢◌, ℕ, zero, suc, ◌<◌, List, [], ◌∷◌, ◌++◌, map, Option, Some, None, length, set, count_by, is_some, cond, refl, sym, ap, ◌∙◌, inl, inr, arith, IsSome}
 use Rattle.std.specs.Option.{option_map}
 use Rattle.std.proofs.lemmas.Bool.{cases_lt}
 use Rattle.std.proofs.lemmas.List.Sums.{sum_by-cons}
-use Rattle.std.proofs.lemmas.List.{get_or_past, get_or-set_same, get_or-set_other}
+use Rattle.std.proofs.lemmas.List.{get_or_past, get_or-set_same}
 use Rattle.dmc_index.specs.Index.{slot_of_key}
 use Rattle.dmc_tag.proofs.Options.{option_cases}
 pub use Rattle.dmc_tag.proofs.Options.{is_some_mapped}
-pub use Rattle.dmc_index.proofs.Slots.{slot_of_key-more, slot_of_key-set_other}
+pub use Rattle.dmc_index.proofs.Slots.{slot_of_key-more, slot_of_key-set_other, slot_of_key-map}
 
 pub some_of : {X : Type 0} (o : Option X) → IsSome o → (x : X) × (o ≡ Some x)
 some_of None h = cc
@@ -63,11 +63,6 @@ module _ {X Y : Type 0} where
       let first : ◌≡◌ {A = ℕ} (cond (is_some x) 1 0) (cond (is_some y) 1 0) = ap (λ b. cond b 1 0) (h 0) in
       let rest = count_same xs ys (λ key. h (suc key)) in
       omega (arith, first, rest, sum_by-cons (λ (o : Option X). cond (is_some o) 1 0) x xs, sum_by-cons (λ (o : Option Y). cond (is_some o) 1 0) y ys)
-
-  pub slot_of_key-map : (f : X → Y) (slots : List (Option X)) (key : ℕ) → slot_of_key (map (option_map f) slots) key ≡ option_map f (slot_of_key slots key)
-  slot_of_key-map f [] key = refl
-  slot_of_key-map f (x ∷ slots) zero = refl
-  slot_of_key-map f (x ∷ slots) (suc key) = slot_of_key-map f slots key
 
 -- what a map makes of one key
 pub map_set : {X Y : Type 0} (f : X → Y) (slots : List (Option X)) (key : ℕ) (o : Option X) → map (option_map f) (set slots key o) ≡ set (map (option_map f) slots) key (option_map f o)

@@ -1,5 +1,5 @@
 -- The places of a heap's entries, and the ranks of their keys.
-use Rattle.std.proofs.Common.{◌≡◌, ◌≢◌, ℕ, zero, suc, ◌<◌, List, [], ◌∷◌, Some, None, length, set, slice_get, option_and_then, refl, sym, ap, ◌∙◌, inl, inr, arith}
+use Rattle.std.proofs.Common.{◌≡◌, ◌≢◌, ℕ, ◌<◌, List, [], ◌∷◌, Some, None, length, set, slice_get, option_and_then, refl, sym, ap, ◌∙◌, inl, inr, arith}
 use Rattle.std.specs.Option.{option_map}
 use Rattle.std.proofs.lemmas.Bool.{cases_eq}
 use Rattle.std.proofs.lemmas.List.{length-set}
@@ -7,21 +7,7 @@ use Rattle.std.proofs.lemmas.Option.{slice_get_within}
 use Rattle.dmc_heap.specs.Heap.{rank_at, rank_of, IsLinked}
 use Rattle.dmc_heap.specs.declared.indexed_heap.Entry.{Entry}
 pub use Rattle.dmc_tag.proofs.Options.{option_cases}
-
--- ---- an element after a write
-
-module _ {X : Type 0} where
-  pub slice_get-set_same : (xs : List X) (i : ℕ) (y : X) → i < length xs → slice_get (set xs i y) i ≡ Some y
-  slice_get-set_same [] i y l = absurd (omega arith)
-  slice_get-set_same (x ∷ xs) zero y l = refl
-  slice_get-set_same (x ∷ xs) (suc i) y l = slice_get-set_same xs i y (omega arith)
-
-  pub slice_get-set_other : (xs : List X) (i j : ℕ) (y : X) → j ≢ i → slice_get (set xs i y) j ≡ slice_get xs j
-  slice_get-set_other [] i j y ne = refl
-  slice_get-set_other (x ∷ xs) zero zero y ne = absurd (ne refl)
-  slice_get-set_other (x ∷ xs) zero (suc j) y ne = refl
-  slice_get-set_other (x ∷ xs) (suc i) zero y ne = refl
-  slice_get-set_other (x ∷ xs) (suc i) (suc j) y ne = slice_get-set_other xs i j y (λ e. ne (ap suc e))
+use Rattle.dmc_tag.proofs.Lists.{slice_get-set_same, slice_get-set_other}
 
 -- ---- the rank of a key
 

@@ -2,7 +2,7 @@
 use Rattle.std.proofs.Common.{◌≡◌, ◌≢◌, ℕ, ◌/◌, ◌<◌, ◌≤◌, List, Some, true, false, length, set, slice_get, refl, sym, ap, ◌∙◌, subst, inl, inr, arith}
 use Rattle.std.specs.declared.cmp.Ordering.{Ordering}
 use Rattle.std.specs.declared.cmp.Ordering.TheVariants.{Less, Equal, Greater}
-use Rattle.std.specs.Ordering.{is_lt, is_gt, ordering_reverse}
+use Rattle.std.specs.Ordering.{is_lt, is_gt}
 use Rattle.std.specs.Cmp.{IsTotalOrder}
 use Rattle.std.proofs.lemmas.Cmp.{upto, tied_itself}
 use Rattle.std.proofs.lemmas.Bool.{cases_eq}
@@ -10,7 +10,8 @@ use Rattle.std.proofs.lemmas.List.{length-set}
 use Rattle.std.proofs.lemmas.Option.{slice_get_within, same_Some}
 use Rattle.dmc_heap.specs.Heap.{parent_of, IsUpto, IsHeap, IsHole, IsLinked, IsMoved, IsUnderParent, IsOverChildren, IsLowerChild, IsSettled}
 use Rattle.dmc_heap.specs.declared.indexed_heap.Entry.{Entry}
-use Rattle.dmc_heap.proofs.LinkLemmas.{slice_get-set_same, slice_get-set_other, IsLinked-move, rank_of-move}
+use Rattle.dmc_tag.proofs.Lists.{slice_get-set_same, slice_get-set_other}
+use Rattle.dmc_heap.proofs.LinkLemmas.{IsLinked-move, rank_of-move}
 
 -- ---- what a comparison says
 
@@ -18,11 +19,6 @@ pub upto_if_lt : (r : Ordering) → is_lt r ≡ true → is_gt r ≡ false
 upto_if_lt Less e = refl
 upto_if_lt Equal e = refl
 upto_if_lt Greater e = sym e
-
-upto_by : (r s : Ordering) → s ≡ ordering_reverse r → is_lt r ≡ false → is_gt s ≡ false
-upto_by Less s e f = cc
-upto_by Equal s e f = ap is_gt e
-upto_by Greater s e f = ap is_gt e
 
 module _ {R : Type 0} (compare : R → R → Ordering) (o : IsTotalOrder compare) where
   pub upto_itself : (a b : Entry R) → a ≡ b → IsUpto compare a b

@@ -12,21 +12,13 @@ use Rattle.dmc_index.specs.Index.{slot_of_key, IsApartFromOthers, AreApart}
 use Rattle.dmc_heap.specs.Heap.{rank_at, rank_of, slots_of, parent_of, IsLinked, IsHeap, IsHole}
 use Rattle.dmc_heap.specs.declared.indexed_heap.Entry.{Entry}
 use Rattle.dmc_heap.specs.declared.indexed_heap.TheConstants.{VACANT}
-use Rattle.dmc_heap.proofs.LinkLemmas.{slice_get-set_same, slice_get-set_other, option_cases, rank_of_some, rank_of_none, IsLinked-move, rank_of-move, keys_apart}
+use Rattle.dmc_tag.proofs.Lists.{slice_get-set_same, slice_get-set_other, slice_get-append, slice_get-push}
+use Rattle.dmc_heap.proofs.LinkLemmas.{option_cases, rank_of_some, rank_of_none, IsLinked-move, rank_of-move, keys_apart}
 use Rattle.dmc_heap.proofs.OrderLemmas.{upto_trans}
 
 -- ---- an element of a longer list
 
 module _ {X : Type 0} where
-  pub append_some : (xs ys : List X) (i : ℕ) (x : X) → slice_get xs i ≡ Some x → slice_get (xs ++ ys) i ≡ Some x
-  append_some [] ys i x h = cc
-  append_some (x' ∷ xs) ys zero x h = h
-  append_some (x' ∷ xs) ys (suc i) x h = append_some xs ys i x h
-
-  pub push_at : (xs : List X) (y : X) → slice_get (xs ++ y ∷ []) (length xs) ≡ Some y
-  push_at [] y = refl
-  push_at (x ∷ xs) y = push_at xs y
-
   pub push_cases : (xs : List X) (y : X) (i : ℕ) (x : X) → slice_get (xs ++ y ∷ []) i ≡ Some x → (slice_get xs i ≡ Some x) ⊎ ((i ≡ length xs) × (x ≡ y))
   push_cases [] y zero x h = inr (refl, sym (same_Some y x h))
   push_cases [] y (suc i) x h = cc
@@ -187,14 +179,14 @@ module _ {R : Type 0} (compare : R → R → Ordering) (heap : List (Entry R)) (
       | inr w ↦ ap (λ (x : Entry R). slice_get (set places e.key (length heap)) x.key) w.1 ∙ new_place ∙ ap Some (sym w.0)
     ];
     keyed = λ k i x h m. elim (cases_eq k e.key) [
-      | inl s ↦ let at : i ≡ length heap = same_Some i (length heap) (sym h ∙ ap (slice_get (set places e.key (length heap))) s ∙ new_place) in let same : x ≡ e = same_Some x e (sym m ∙ ap (slice_get (heap ++ e ∷ [])) at ∙ push_at heap e) in ap (λ (x : Entry R). x.key) same ∙ sym s
+      | inl s ↦ let at : i ≡ length heap = same_Some i (length heap) (sym h ∙ ap (slice_get (set places e.key (length heap))) s ∙ new_place) in let same : x ≡ e = same_Some x e (sym m ∙ ap (slice_get (heap ++ e ∷ [])) at ∙ slice_get-push heap e) in ap (λ (x : Entry R). x.key) same ∙ sym s
       | inr p ↦ let was = sym (slice_get-set_other places e.key k (length heap) p) ∙ h in elim (push_cases heap e i x m) [
         | inl w ↦ linked.keyed k i x was w
         | inr w ↦ absurd (no_place k (was ∙ ap Some w.0))
       ]
     ];
     vacant = λ k i h m. elim (cases_eq k e.key) [
-      | inl s ↦ let at : i ≡ length heap = same_Some i (length heap) (sym h ∙ ap (slice_get (set places e.key (length heap))) s ∙ new_place) in cc (sym m ∙ ap (slice_get (heap ++ e ∷ [])) at ∙ push_at heap e)
+      | inl s ↦ let at : i ≡ length heap = same_Some i (length heap) (sym h ∙ ap (slice_get (set places e.key (length heap))) s ∙ new_place) in cc (sym m ∙ ap (slice_get (heap ++ e ∷ [])) at ∙ slice_get-push heap e)
       | inr p ↦ linked.vacant k i (sym (slice_get-set_other places e.key k (length heap) p) ∙ h) (push_none heap e i m)
     ];
   }
@@ -215,7 +207,7 @@ module _ {R : Type 0} (compare : R → R → Ordering) (heap : List (Entry R)) (
 
   pub rank_of_pushed : rank_of (set (heap ++ e ∷ []) (length heap) e) (set places e.key (length heap)) e.key ≡ Some e.rank
   rank_of_pushed =
-      rank_of_some (set (heap ++ e ∷ []) (length heap) e) (set places e.key (length heap)) e.key (length heap) e new_place (ap (λ h. slice_get h (length heap)) filled ∙ push_at heap e)
+      rank_of_some (set (heap ++ e ∷ []) (length heap) e) (set places e.key (length heap)) e.key (length heap) e new_place (ap (λ h. slice_get h (length heap)) filled ∙ slice_get-push heap e)
 
   pub rank_of_others_pushed : (k : ℕ) → k ≢ e.key → rank_of (set (heap ++ e ∷ []) (length heap) e) (set places e.key (length heap)) k ≡ rank_of heap places k
   rank_of_others_pushed k p =
@@ -229,7 +221,7 @@ module _ {R : Type 0} (compare : R → R → Ordering) (heap : List (Entry R)) (
 -- the last entry goes
 module _ {R : Type 0} (heap : List (Entry R)) (y : Entry R) (places : List ℕ) (linked : IsLinked (heap ++ y ∷ []) places) (small : length heap < VACANT) where
   in_places : y.key < length places
-  in_places = slice_get_within places y.key (length heap) (linked.placed (length heap) y (push_at heap y))
+  in_places = slice_get_within places y.key (length heap) (linked.placed (length heap) y (slice_get-push heap y))
 
   gone : slice_get (set places y.key VACANT) y.key ≡ Some VACANT
   gone = slice_get-set_same places y.key VACANT in_places
@@ -239,10 +231,10 @@ module _ {R : Type 0} (heap : List (Entry R)) (y : Entry R) (places : List ℕ) 
 
   pub IsLinked-pop : IsLinked heap (set places y.key VACANT)
   IsLinked-pop = record {
-    placed = λ i x h. let at = linked.placed i x (append_some heap (y ∷ []) i x h) in slice_get-set_other places y.key x.key VACANT (λ s. let e : i ≡ length heap = same_Some i (length heap) (sym at ∙ ap (slice_get places) s ∙ linked.placed (length heap) y (push_at heap y)) in omega (arith, slice_get_within heap i x h)) ∙ at;
+    placed = λ i x h. let at = linked.placed i x (slice_get-append heap (y ∷ []) i x h) in slice_get-set_other places y.key x.key VACANT (λ s. let e : i ≡ length heap = same_Some i (length heap) (sym at ∙ ap (slice_get places) s ∙ linked.placed (length heap) y (slice_get-push heap y)) in omega (arith, slice_get_within heap i x h)) ∙ at;
     keyed = λ k i x h m. elim (cases_eq k y.key) [
       | inl s ↦ let e : i ≡ VACANT = same_Some i VACANT (sym h ∙ ap (slice_get (set places y.key VACANT)) s ∙ gone) in cc (sym m ∙ ap (slice_get heap) e ∙ past)
-      | inr p ↦ linked.keyed k i x (sym (slice_get-set_other places y.key k VACANT p) ∙ h) (append_some heap (y ∷ []) i x m)
+      | inr p ↦ linked.keyed k i x (sym (slice_get-set_other places y.key k VACANT p) ∙ h) (slice_get-append heap (y ∷ []) i x m)
     ];
     vacant = λ k i h m. elim (cases_eq k y.key) [
       | inl s ↦ same_Some i VACANT (sym h ∙ ap (slice_get (set places y.key VACANT)) s ∙ gone)
@@ -263,18 +255,15 @@ module _ {R : Type 0} (heap : List (Entry R)) (y : Entry R) (places : List ℕ) 
 
 pub IsHeap-pop : {R : Type 0} (compare : R → R → Ordering) (heap : List (Entry R)) (y : Entry R) → IsHeap compare (heap ++ y ∷ []) → IsHeap compare heap
 IsHeap-pop compare heap y ordered i above below pos qa qb =
-    ordered i above below pos (append_some heap (y ∷ []) (parent_of i) above qa) (append_some heap (y ∷ []) i below qb)
+    ordered i above below pos (slice_get-append heap (y ∷ []) (parent_of i) above qa) (slice_get-append heap (y ∷ []) i below qb)
 
 -- another entry goes, and the last entry is to stand in its place
 module _ {R : Type 0} (compare : R → R → Ordering) (o : IsTotalOrder compare) (heap : List (Entry R)) (last : Entry R) (places : List ℕ) (linked : IsLinked (heap ++ last ∷ []) places) (ordered : IsHeap compare (heap ++ last ∷ [])) (small : length heap < VACANT) (place : ℕ) (old : Entry R) (there : slice_get heap place ≡ Some old) where
-  whole : List (Entry R)
-  whole = heap ++ last ∷ []
-
   inside : place < length heap
   inside = slice_get_within heap place old there
 
   there' : slice_get (heap ++ last ∷ []) place ≡ Some old
-  there' = append_some heap (last ∷ []) place old there
+  there' = slice_get-append heap (last ∷ []) place old there
 
   before_end : length heap ≢ place
   before_end e = omega (arith, inside)
@@ -293,7 +282,7 @@ module _ {R : Type 0} (compare : R → R → Ordering) (o : IsTotalOrder compare
       ap (λ h. set h (length heap) old) (set-append_left heap (last ∷ []) place last inside) ∙ set_at (set heap place last) last [] old (length heap) (length-set heap place last)
 
   other_key : last.key ≢ old.key
-  other_key = keys_apart (heap ++ last ∷ []) places old last place (length heap) before_end fits stays (push_at heap last)
+  other_key = keys_apart (heap ++ last ∷ []) places old last place (length heap) before_end fits stays (slice_get-push heap last)
 
   keys : set (set (set places last.key place) old.key (length heap)) old.key VACANT ≡ set (set places old.key VACANT) last.key place
   keys =
@@ -301,7 +290,7 @@ module _ {R : Type 0} (compare : R → R → Ordering) (o : IsTotalOrder compare
 
   swapped : IsLinked (set heap place last ++ old ∷ []) (set (set places last.key place) old.key (length heap))
   swapped =
-      subst (λ h. IsLinked h (set (set places last.key place) old.key (length heap))) lists (IsLinked-move (heap ++ last ∷ []) places old last place (length heap) before_end fits stays (push_at heap last))
+      subst (λ h. IsLinked h (set (set places last.key place) old.key (length heap))) lists (IsLinked-move (heap ++ last ∷ []) places old last place (length heap) before_end fits stays (slice_get-push heap last))
 
   small' : length (set heap place last) < VACANT
   small' = omega (arith, length-set heap place last)
@@ -322,5 +311,5 @@ module _ {R : Type 0} (compare : R → R → Ordering) (o : IsTotalOrder compare
   rank_of_others_left k p =
       subst (λ ps. rank_of (set heap place last) ps k ≡ rank_of (heap ++ last ∷ []) places k) keys (rank_of_others_popped (set heap place last) old (set (set places last.key place) old.key (length heap)) swapped small' k p
       ∙ sym (ap (λ h. rank_of h (set (set places last.key place) old.key (length heap)) k) lists)
-      ∙ rank_of-move (heap ++ last ∷ []) places old last place (length heap) before_end fits stays (push_at heap last) k
+      ∙ rank_of-move (heap ++ last ∷ []) places old last place (length heap) before_end fits stays (slice_get-push heap last) k
       ∙ rank_of_others compare o (heap ++ last ∷ []) places linked ordered old place old at_place there' k p)

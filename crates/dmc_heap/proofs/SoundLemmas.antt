@@ -5,8 +5,8 @@ use Rattle.std.specs.declared.cmp.Ordering.{Ordering}
 use Rattle.std.specs.declared.cmp.Ordering.TheVariants.{Less, Equal, Greater}
 use Rattle.std.specs.Ordering.{is_gt, ordering_reverse}
 use Rattle.std.specs.Cmp.{IsTotalOrder}
-use Rattle.std.proofs.lemmas.Bool.{cases_lt, cases_eq}
-use Rattle.std.proofs.lemmas.List.{length-set, length-map, length-append, length-replicate, map-append, get_or_past, get_or_append_left, get_or-append_right}
+use Rattle.std.proofs.lemmas.Bool.{cases_eq}
+use Rattle.std.proofs.lemmas.List.{length-set, length-map, length-append, length-replicate, map-append}
 use Rattle.std.proofs.lemmas.List.Sums.{sum_by-append, sum_by-cons, count_by-le-length}
 use Rattle.std.proofs.lemmas.List.Folds.{sum_by-replicate}
 use Rattle.std.proofs.lemmas.Option.{slice_get_within, slice_get_past, slice_get-get_or, get_or_from_slice_get, same_Some}
@@ -16,8 +16,9 @@ use Rattle.dmc_heap.specs.declared.indexed_heap.Entry.{Entry}
 use Rattle.dmc_heap.specs.declared.indexed_heap.TheConstants.{VACANT}
 use Rattle.dmc_heap.proofs.LinkLemmas.{option_cases, rank_of_some, rank_of_none}
 use Rattle.dmc_heap.proofs.OrderLemmas.{upto_trans, upto_itself}
-use Rattle.dmc_index.proofs.Slots.{slot_of_key-replicate, count-set_some, count_below}
-use Rattle.dmc_heap.proofs.SlotLemmas.{append_some, push_cases, replicate_cases, slot_of_key-slots_of, slots_of-set, AreApart-set, count_changed, count_removed, place_of_held, IsHole-change, rank_of_changed, rank_of_others, IsHole-push, rank_of_pushed, rank_of_others_pushed, IsLinked-pop, rank_of_popped, rank_of_others_popped, IsHeap-pop, IsHole-remove, rank_of_removed, rank_of_others_left}
+use Rattle.dmc_tag.proofs.Lists.{slice_get-append}
+use Rattle.dmc_index.proofs.Slots.{slot_of_key-more, count-set_some, count_below}
+use Rattle.dmc_heap.proofs.SlotLemmas.{push_cases, replicate_cases, slot_of_key-slots_of, slots_of-set, AreApart-set, count_changed, count_removed, place_of_held, IsHole-change, rank_of_changed, rank_of_others, IsHole-push, rank_of_pushed, rank_of_others_pushed, IsLinked-pop, rank_of_popped, rank_of_others_popped, IsHeap-pop, IsHole-remove, rank_of_removed, rank_of_others_left}
 
 -- ---- the type's invariant after an edit
 
@@ -201,7 +202,7 @@ module _ {R : Type 0} (compare : R → R → Ordering) (o : IsTotalOrder compare
 
     IsLinked-more : IsLinked heap (places ++ replicate n VACANT)
     IsLinked-more = record {
-      placed = λ i x h. append_some places (replicate n VACANT) x.key i (sound.linked.placed i x h);
+      placed = λ i x h. slice_get-append places (replicate n VACANT) x.key i (sound.linked.placed i x h);
       keyed = λ k i x h m. elim (replicate_cases places n VACANT k i h) [
         | inl w ↦ sound.linked.keyed k i x w m
         | inr w ↦ cc (sym m ∙ ap (slice_get heap) w ∙ past_heap)
@@ -212,18 +213,11 @@ module _ {R : Type 0} (compare : R → R → Ordering) (o : IsTotalOrder compare
       ];
     }
 
-    slot_of_key-more : (slots : List (Option R)) (key : ℕ) → slot_of_key (slots ++ replicate n None) key ≡ slot_of_key slots key
-    slot_of_key-more slots key =
-        elim (cases_lt key (length slots)) [
-          | inl l ↦ get_or_append_left slots (replicate n None) None key l
-          | inr l ↦ get_or-append_right slots (replicate n None) (length slots) key None refl l ∙ slot_of_key-replicate n (key - length slots) ∙ sym (get_or_past slots key None l)
-        ]
-
     pub IsSound-more : (more : ℕ) → length places + n ≤ more → IsSound compare more heap (places ++ replicate n VACANT)
     IsSound-more more m = record {
       linked = IsLinked-more;
       ordered = sound.ordered;
-      apart = subst (AreApart compare) (sym slots_of-more) (λ key r h k s ne q. sound.apart key r (sym (slot_of_key-more (slots_of heap places) key) ∙ h) k s ne (sym (slot_of_key-more (slots_of heap places) k) ∙ q));
+      apart = subst (AreApart compare) (sym slots_of-more) (λ key r h k s ne q. sound.apart key r (sym (slot_of_key-more (slots_of heap places) n key) ∙ h) k s ne (sym (slot_of_key-more (slots_of heap places) n k) ∙ q));
       counted = ap (count_by is_some) slots_of-more ∙ (omega (arith, sum_by-append (λ (v : Option R). cond (is_some v) 1 0) (slots_of heap places) (replicate n None), sum_by-replicate (λ (v : Option R). cond (is_some v) 1 0) n None, sound.counted));
       memory = omega (arith, length-append places (replicate n VACANT), length-replicate n VACANT);
     }

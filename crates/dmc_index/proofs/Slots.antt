@@ -1,9 +1,15 @@
 -- Finite maps from keys, as lists of what each key below a room holds.
-use Rattle.std.proofs.Common.{◌≡◌, ◌≢◌, ℕ, zero, suc, ◌+◌, ◌<◌, List, [], ◌∷◌, ◌++◌, Option, Some, None, length, get_or, set, replicate, count_by, is_some, cond, refl, ap, ⊎_elim, arith}
+use Rattle.std.proofs.Common.{◌≡◌, ◌≢◌, ℕ, zero, suc, ◌+◌, ◌<◌, List, [], ◌∷◌, ◌++◌, map, Option, Some, None, length, get_or, set, replicate, count_by, is_some, cond, refl, ap, ⊎_elim, arith}
+use Rattle.std.specs.Option.{option_map}
 use Rattle.std.proofs.lemmas.Bool.{cases_lt}
 use Rattle.std.proofs.lemmas.List.{length-set, length-replicate, get_or-set_other, get_or-replicate, get_or_past}
 use Rattle.std.proofs.lemmas.List.Sums.{sum_by-set, count_by-le-length}
 use Rattle.dmc_index.specs.Index.{slot_of_key}
+
+pub slot_of_key-map : {X Y : Type 0} (f : X → Y) (slots : List (Option X)) (key : ℕ) → slot_of_key (map (option_map f) slots) key ≡ option_map f (slot_of_key slots key)
+slot_of_key-map f [] key = refl
+slot_of_key-map f (x ∷ slots) zero = refl
+slot_of_key-map f (x ∷ slots) (suc key) = slot_of_key-map f slots key
 
 module _ {X : Type 0} where
   pub slot_of_key-replicate : (n key : ℕ) → slot_of_key {R = X} (replicate n None) key ≡ None

@@ -5,9 +5,8 @@ use Rattle.std.specs.Option.{ok_or}
 use Rattle.dmc_types.specs.Limits.{most_clients, most_requests}
 use Rattle.dmc_types.specs.Values.{Params, Rates}
 use Rattle.dmc_types.specs.declared.ids.ClientId.{ClientId}
-use Rattle.dmc_types.specs.declared.refusal.Field.{Field}
 use Rattle.dmc_types.specs.declared.refusal.Refusal.{Refusal}
-use Rattle.dmc_types.specs.declared.refusal.Refusal.TheVariants.{Known, Unknown, Clients, Inexact, QueueFull, Range, Busy}
+use Rattle.dmc_types.specs.declared.refusal.Refusal.TheVariants.{Known, Unknown, Clients, QueueFull, Range, Busy}
 use Rattle.dmc_tag.specs.Tag.{Tagging}
 use Rattle.dmc_tag.specs.State.{State, client_named, has_queued}
 use Rattle.dmc_tag.specs.Outcome.{◌>>=◌, refuse_if, exactly}
@@ -42,24 +41,12 @@ module _ {T : Type 0} (ops : Tagging T) (s : State T) (id : ClientId) where
               goes_on _ (ap (λ o. ok_or o Unknown) named) (goes_on _ (ap (λ b. refuse_if b QueueFull) room) (goes_on _ is (goes_on _ (ap (λ b. refuse_if (not b) Range) can) (ap (λ r. r >>= λ tags. Ok (shift, tags)) (sym tags)))))
 
   module _ (info : Rates) where
-    pub already_known : is_some (client_named id s.clients) ≡ true → Err Known ≡ can_register ops s id info
-    already_known known = ends _ (ap (λ b. refuse_if b Known) known)
-
     module _ (new : is_some (client_named id s.clients) ≡ false) where
-      pub register_inexact : (field : Field) → spacings_of ops s.config.hz info ≡ Err field → Err (Inexact field) ≡ can_register ops s id info
-      register_inexact field is = goes_on _ (ap (λ b. refuse_if b Known) new) (ends _ (ap exactly is))
-
       -- the count of clients is the last test
       pub counts_clients : (spacings : Spacings T) → spacings_of ops s.config.hz info ≡ Ok spacings → (full : Bool) → nat_le most_clients (length s.clients) ≡ full → refuse_if full Clients ≡ can_register ops s id info
       counts_clients spacings is full e = goes_on _ (ap (λ b. refuse_if b Known) new) (goes_on _ (ap exactly is) (ap (λ b. refuse_if b Clients) (sym e)))
 
-    pub update_unknown : client_named id s.clients ≡ None → Err Unknown ≡ can_update ops s id info
-    update_unknown none = ends _ (ap (λ o. ok_or o Unknown) none)
-
     module _ (client : PlainClient T) (named : client_named id s.clients ≡ Some client) where
-      pub update_inexact : (field : Field) → spacings_of ops s.config.hz info ≡ Err field → Err (Inexact field) ≡ can_update ops s id info
-      update_inexact field is = goes_on _ (ap (λ o. ok_or o Unknown) named) (ends _ (ap exactly is))
-
       -- whether requests are queued is the last test
       pub asks_busy : (spacings : Spacings T) → spacings_of ops s.config.hz info ≡ Ok spacings → (busy : Bool) → (changes_reservation client.info info && has_queued id s.requests) ≡ busy → refuse_if busy Busy ≡ can_update ops s id info
       asks_busy spacings is busy e = goes_on _ (ap (λ o. ok_or o Unknown) named) (goes_on _ (ap exactly is) (ap (λ b. refuse_if b Busy) (sym e)))

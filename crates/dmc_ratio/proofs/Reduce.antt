@@ -1,9 +1,9 @@
 -- A fraction in lowest terms, by any greatest common divisor of its two numbers.
-use Rattle.std.specs.Prelude.{◌≡◌, ℕ, zero, suc, ◌/◌, ◌<◌, ◌≤◌, ◌⊎◌, cond, ◌&&◌, Bool, true, false, T, ℤ, pos, negsuc, Some, None, nat_le, unsigned_abs, int_lt, FitsSigned}
+use Rattle.std.specs.Prelude.{◌≡◌, ℕ, zero, suc, ◌/◌, ◌<◌, ◌≤◌, ◌⊎◌, cond, ◌&&◌, Bool, T, ℤ, pos, negsuc, Some, None, nat_le, unsigned_abs, int_lt, FitsSigned}
 use Rattle.std.specs.Int.{IsGcd, w128}
 use Rattle.std.proofs.Common.{to_z, of_z, refl, sym, ap, ◌∙◌, subst, inl, inr, arith}
 use Rattle.std.proofs.lemmas.Int.{to_z-of_z}
-use Rattle.std.proofs.lemmas.Bool.{le-leb, lt-leb, le-ltb}
+use Rattle.std.proofs.lemmas.Bool.{and_right, le-leb, lt-leb, le-ltb}
 use Rattle.std.proofs.lemmas.Nat.Gcd.{same_from_IsGcd}
 use Rattle.std.proofs.Math.Nat.{pos_of_dvd_of_pos}
 use Rattle.dmc_ratio.specs.Gcd.{gcd}
@@ -33,10 +33,6 @@ reduced_some n (suc d) g r is some p q h k =
     let size : unsigned_abs r.numer ≤ greatest_numer = subst (λ (x : ℕ). x ≤ greatest_numer) (sym (ap unsigned_abs p ∙ unsigned_abs-over n g)) h in
     sym (ap (λ x. cond (is_small x) (Some x) None) e ∙ ap (λ x. cond (x && nat_le r.denom greatest_denom) (Some r) None) (le-leb (unsigned_abs r.numer) greatest_numer size) ∙ ap (λ x. cond x (Some r) None) (le-leb r.denom greatest_denom k))
 
-and_false : (b : Bool) → b && false ≡ false
-and_false true = refl
-and_false false = refl
-
 pub reduced_none : (n : ℤ) (d g : ℕ) → IsGcd (unsigned_abs n) d g → 0 < d → (greatest_numer < unsigned_abs n / g) ⊎ (greatest_denom < d / g) → None ≡ reduced n d
 reduced_none n zero g is some h = refl
 reduced_none n (suc d) g is some (inl h) =
@@ -50,7 +46,7 @@ reduced_none n (suc d) g is some (inr h) =
     let r = lowest_terms n d in
     let large : greatest_denom < r.denom = subst (λ (x : ℕ). greatest_denom < suc d / x) (sym same) h in
     let size = nat_le (unsigned_abs r.numer) greatest_numer in
-    sym (ap (λ x. cond (size && x) (Some r) None) (lt-leb r.denom greatest_denom large) ∙ ap (λ x. cond x (Some r) None) (and_false size))
+    sym (ap (λ x. cond x (Some r) None) (and_right size (nat_le r.denom greatest_denom) (lt-leb r.denom greatest_denom large)))
 
 over_sign : (n : ℤ) (g : ℕ) → with_sign (unsigned_abs n / g) (int_lt n (pos 0)) ≡ over n g
 over_sign (pos n) g = let h : 0 ≤ n = omega arith in ap (with_sign (n / g)) (le-ltb n 0 h)

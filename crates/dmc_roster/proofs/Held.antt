@@ -10,14 +10,14 @@ use Rattle.indexmap.specs.IndexMap.{insert_entry}
 use Rattle.std.specs.Borrow.{MutBor}
 use Rattle.slab.specs.Slab.{CalledAt, RetainsFrom}
 use mathlib.Core.Path.{fun_ext}
-use Rattle.std.proofs.lemmas.Bool.{eqb-true, eqb-false, eq-eqb}
+use Rattle.std.proofs.lemmas.Bool.{eqb-true, eqb-false, eq-eqb, ne_eqb}
 use Rattle.dmc_types.specs.declared.ids.ClientId.{ClientId}
 use Rattle.dmc_tag.specs.State.{is_client}
 use Rattle.dmc_client.specs.Record.{Rec}
 use Rattle.dmc_roster.specs.Entries.{Entry, entry_named, entry_keyed, record_at, with_rec, with_record, entry_of, entries_of, after_retain, slots_after_retain, AreApart, AreHeld, AreDistinct}
 use Rattle.dmc_tag.proofs.Options.{map_cond}
 pub use Rattle.dmc_tag.proofs.Options.{is_some_mapped}
-use Rattle.dmc_tag.proofs.Lists.{all_filtered, found_holds}
+use Rattle.dmc_tag.proofs.Lists.{all_filtered, found_holds, found_later}
 pub use Rattle.dmc_tag.proofs.Lists.{length_filtered}
 pub use Rattle.dmc_tag.proofs.Booleans.{eqb_turned}
 
@@ -199,12 +199,8 @@ module _ {T : Type 0} where
     held_added [] id h e = (e, tt)
     held_added (p ∷ ids) id h e = (ap is_some (others p.1 (other_key p.1 h.0)) ∙ h.0, held_added ids id h.1 e)
 
-    differs : (a b : ℕ) (r : Bool) → (a == b) ≡ r → (a ≡ b → ⊥) → (a == b) ≡ false
-    differs a b true e ne = absurd (ne (eqb-true a b e))
-    differs a b false e ne = e
-
     apart_from_all : (p : ClientId × ℕ) (ids : List (ClientId × ℕ)) (id : ClientId) → is_client p.0 id ≡ false → is_some (old p.1) ≡ true → AllByRecursion (λ q. (is_client p.0 q.0 ≡ false) × ((p.1 == q.1) ≡ false)) ids → AllByRecursion (λ q. (is_client p.0 q.0 ≡ false) × ((p.1 == q.1) ≡ false)) (ids ++ (id, key) ∷ [])
-    apart_from_all p [] id n h a = ((n, differs p.1 key _ refl (other_key p.1 h)), tt)
+    apart_from_all p [] id n h a = ((n, ne_eqb p.1 key (other_key p.1 h)), tt)
     apart_from_all p (q ∷ ids) id n h a = (a.0, apart_from_all p ids id n h a.1)
 
     pub apart_added : (ids : List (ClientId × ℕ)) (id : ClientId) → AllByRecursion (λ p. is_client p.0 id ≡ false) ids → AllByRecursion (λ p. is_some (old p.1) ≡ true) ids → AreApart ids → AreApart (ids ++ (id, key) ∷ [])
@@ -349,15 +345,11 @@ module _ {T : Type 0} where
   named_first x e rest true h t = cc
   named_first x e rest false h t = cc
 
-  named_rest : (x e : Entry T) (rest : Option (Entry T)) (b : Bool) → cond b (Some x) rest ≡ Some e → b ≡ false → rest ≡ Some e
-  named_rest x e rest true h t = cc
-  named_rest x e rest false h t = h
-
   pub keyed_as_named : (id : ClientId) (entries : List (Entry T)) (e : Entry T) → AreDistinct entries → entry_named id entries ≡ Some e → entry_keyed e.key entries ≡ Some e
   keyed_as_named id [] e d f = cc
   keyed_as_named id (x ∷ entries) e d f =
       keyed_first x e (entry_keyed e.key entries) (is_client id x.id) _ refl (named_first x e (entry_named id entries) (is_client id x.id) f) (λ b.
-      let rest = named_rest x e (entry_named id entries) (is_client id x.id) f b in
+      let rest = found_later x (entry_named id entries) e (is_client id x.id) f b in
       (keyed_as_named id entries e d.1 rest, (found_holds _ (λ y. is_client id y.id) entries e d.0 rest).1))
 
   key_of : (o : Option (Entry T)) (entries : List (Entry T)) (key : ℕ) → ((e : Entry T) → o ≡ Some e → entry_keyed e.key entries ≡ Some e) → Some key ≡ option_map (λ e. e.key) o → entry_keyed key entries ≡ o

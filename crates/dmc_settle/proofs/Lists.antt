@@ -1,7 +1,7 @@
 -- Lists by places.
 use Rattle.std.proofs.Common.{◌≡◌, ℕ, zero, suc, ◌+◌, ◌<◌, List, [], ◌∷◌, ◌++◌, Some, length, map, take, get_or, set, slice_get, refl, sym, ap, ◌∙◌, arith, not, eqb, true}
 use Rattle.std.proofs.lemmas.Bool.{eq-eqb, false≢true}
-use Rattle.std.proofs.lemmas.List.{get_or-map, get_or_append_left, get_or_push, length-append, length-map, take_all, take_more, map_push}
+use Rattle.std.proofs.lemmas.List.{get_or-map, get_or_append_left, get_or_push, length-append, length-map, take_all}
 use Rattle.std.proofs.lemmas.Option.{get_or_from_slice_get, slice_get-get_or, slice_get_within}
 
 -- of a list that is seen otherwise
@@ -18,13 +18,6 @@ differ a b h e = false≢true (sym (ap not (eq-eqb a b e)) ∙ h)
 
 -- two lists that are seen as one
 module _ {X Y Z : Type 0} (f : X → Z) (g : Y → Z) (xs : List X) (ys : List Y) where
-  pub alike_more : (i : ℕ) (x : X) (y : Y) → i < length xs → i < length ys → x ≡ get_or xs i x → y ≡ get_or ys i y → f x ≡ g y
-      → map f (take i xs) ≡ map g (take i ys) → map f (take (i + 1) xs) ≡ map g (take (i + 1) ys)
-  alike_more i x y in_xs in_ys at_x at_y same h =
-      ap (map f) (take_more xs i x in_xs) ∙ map_push f (take i xs) (get_or xs i x) ∙ ap (λ zs. zs ++ f (get_or xs i x) ∷ []) h
-      ∙ ap (λ z. map g (take i ys) ++ z ∷ []) (ap f (sym at_x) ∙ same ∙ ap g at_y)
-      ∙ sym (ap (map g) (take_more ys i y in_ys) ∙ map_push g (take i ys) (get_or ys i y))
-
   pub alike_at : (i : ℕ) (d : X) (e : Y) → i < length xs → i < length ys → map f xs ≡ map g ys → f (get_or xs i d) ≡ g (get_or ys i e)
   alike_at i d e in_xs in_ys h = sym (get_or-map f xs i d (f d) in_xs) ∙ ap (λ zs. get_or zs i (f d)) h ∙ get_or-map g ys i e (f d) in_ys
 

@@ -157,7 +157,7 @@ module _ {T : Type 0} (ops : Tagging T) where
 
   pub all_reduced : (P : ClientId → Type 0) (client : ClientId) (amount : Option T) (requests : List (PlainRequest T)) → AllByRecursion (λ r. P r.client) requests → AllByRecursion (λ r. P r.client) (reduced_requests ops client amount requests)
   all_reduced P client None requests h = h
-  all_reduced P client (Some amount) requests h = all_mapped (λ r. P r.client) (reduced_request ops client amount) (λ r p. either (λ (r : PlainRequest T). P r.client) (is_client client r.client) _ r p p) requests h
+  all_reduced P client (Some amount) requests h = all_mapped _ (λ r. P r.client) (reduced_request ops client amount) (λ r p. either (λ (r : PlainRequest T). P r.client) (is_client client r.client) _ r p p) requests h
 
   pub reduction_keeps_active : (client : ClientId) (amount : Option T) (clients : List (PlainClient T)) (requests : List (PlainRequest T)) → AreActive clients requests → AreActive (reduced_clients ops client amount clients) (reduced_requests ops client amount requests)
   reduction_keeps_active client None clients requests h = h
@@ -169,7 +169,7 @@ module _ {T : Type 0} (ops : Tagging T) where
 
   pub all_shifted : (P : ClientId → Type 0) (shift : Option T) (clients : List (PlainClient T)) (requests : List (PlainRequest T)) → AllByRecursion (λ r. P r.client) requests → AllByRecursion (λ r. P r.client) (shifted_requests ops shift clients requests)
   all_shifted P None clients requests h = h
-  all_shifted P (Some amount) clients requests h = all_mapped (λ r. P r.client) (shifted_request ops amount clients) (λ r p. either (λ (r : PlainRequest T). P r.client) (is_active r.client clients) _ r p p) requests h
+  all_shifted P (Some amount) clients requests h = all_mapped _ (λ r. P r.client) (shifted_request ops amount clients) (λ r p. either (λ (r : PlainRequest T). P r.client) (is_active r.client clients) _ r p p) requests h
 
   shifted : (shift : Option T) (clients : List (PlainClient T)) (requests : List (PlainRequest T)) → AreActive clients requests → AreActive (shifted_clients ops shift clients) (shifted_requests ops shift clients requests)
   shifted None clients requests h = h

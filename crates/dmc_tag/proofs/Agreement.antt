@@ -31,6 +31,9 @@ use Rattle.dmc_tag.proofs.Swaps.{Swaps, of_key-swaps, folded-swaps, list_all-swa
 use Rattle.dmc_tag.proofs.Before.{before_order}
 use Rattle.dmc_tag.proofs.BestSwaps.{SameBest, best-swaps}
 
+pub stands_itself : {T : Type 0} (s : State T) → StandsFor s s
+stands_itself s = record { config = refl; requests = λ id. refl; clients = refl; last_moment = refl }
+
 -- by client
 abbrev pub client_of : {T : Type 0} → PlainRequest T → ℕ
 client_of r = r.client.0

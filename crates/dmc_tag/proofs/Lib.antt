@@ -17,4 +17,5 @@ pub mod TagValues
 pub mod TakenOff
 pub mod Active
 pub mod Queued
+pub mod Refusals
 pub mod ForCallers

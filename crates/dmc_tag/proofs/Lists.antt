@@ -1,7 +1,7 @@
 -- Lists: what holds of each element after a change of the list, what is found, how many a filter leaves, parts and maps.
-use Rattle.std.proofs.Common.{◌≡◌, ℕ, suc, ◌+◌, ◌≤◌, Bool, true, false, not, cond, List, [], ◌∷◌, ◌++◌, map, take, length, Some, refl, ap, ◌∙◌, subst, arith}
+use Rattle.std.proofs.Common.{◌≡◌, ◌≢◌, ℕ, zero, suc, ◌+◌, ◌<◌, ◌≤◌, Bool, true, false, not, ◌&&◌, cond, List, [], ◌∷◌, ◌++◌, map, take, length, set, slice_get, Option, Some, refl, ap, ◌∙◌, subst, arith}
 use Rattle.std.specs.Prelude.{filter}
-use Rattle.std.specs.List.{find, position, prefix_len, AllByRecursion}
+use Rattle.std.specs.List.{find, position, prefix_len, list_all, AllByRecursion}
 use Rattle.std.proofs.lemmas.List.{length-map}
 
 pub all_as : {X : Type 0} (P Q : X → Type 0) → ((x : X) → P x → Q x) → (xs : List X) → AllByRecursion P xs → AllByRecursion Q xs
@@ -19,9 +19,16 @@ all_filtered P test (x ∷ xs) h = at (all_filtered P test xs h.1) (test x) wher
   at more true = (h.0, more)
   at more false = more
 
-pub all_mapped : {X : Type 0} (P : X → Type 0) (f : X → X) → ((x : X) → P x → P (f x)) → (xs : List X) → AllByRecursion P xs → AllByRecursion P (map f xs)
-all_mapped P f keeps [] h = tt
-all_mapped P f keeps (x ∷ xs) h = (keeps x h.0, all_mapped P f keeps xs h.1)
+pub all_mapped : {X Y : Type 0} (P : X → Type 0) (Q : Y → Type 0) (f : X → Y) → ((x : X) → P x → Q (f x)) → (xs : List X) → AllByRecursion P xs → AllByRecursion Q (map f xs)
+all_mapped P Q f gives [] h = tt
+all_mapped P Q f gives (x ∷ xs) h = (gives x h.0, all_mapped P Q f gives xs h.1)
+
+pub each_passes : {X : Type 0} (test : X → Bool) (xs : List X) → list_all test xs ≡ true → AllByRecursion (λ x. test x ≡ true) xs
+each_passes test [] e = tt
+each_passes test (x ∷ xs) e = at (test x) refl e (each_passes test xs) where
+  at : (b : Bool) → test x ≡ b → (b && list_all test xs) ≡ true → (list_all test xs ≡ true → AllByRecursion (λ x. test x ≡ true) xs) → (test x ≡ true) × AllByRecursion (λ x. test x ≡ true) xs
+  at true t e more = (t, more e)
+  at false t e more = cc
 
 pub all_append : {X : Type 0} (P : X → Type 0) (xs ys : List X) → AllByRecursion P xs → AllByRecursion P ys → AllByRecursion P (xs ++ ys)
 all_append P [] ys h k = k
@@ -45,6 +52,30 @@ module _ {X : Type 0} (P : X → Type 0) where
   all_without [] x back a = a.1
   all_without (y ∷ front) x back a = (a.0, all_without front x back a.1)
 
+-- ---- what is at a place
+
+module _ {X : Type 0} where
+  pub slice_get-set_same : (xs : List X) (i : ℕ) (y : X) → i < length xs → slice_get (set xs i y) i ≡ Some y
+  slice_get-set_same [] i y l = absurd (omega arith)
+  slice_get-set_same (x ∷ xs) zero y l = refl
+  slice_get-set_same (x ∷ xs) (suc i) y l = slice_get-set_same xs i y (omega arith)
+
+  pub slice_get-set_other : (xs : List X) (i j : ℕ) (y : X) → j ≢ i → slice_get (set xs i y) j ≡ slice_get xs j
+  slice_get-set_other [] i j y ne = refl
+  slice_get-set_other (x ∷ xs) zero zero y ne = absurd (ne refl)
+  slice_get-set_other (x ∷ xs) zero (suc j) y ne = refl
+  slice_get-set_other (x ∷ xs) (suc i) zero y ne = refl
+  slice_get-set_other (x ∷ xs) (suc i) (suc j) y ne = slice_get-set_other xs i j y (λ e. ne (ap suc e))
+
+  pub slice_get-append : (xs ys : List X) (i : ℕ) (x : X) → slice_get xs i ≡ Some x → slice_get (xs ++ ys) i ≡ Some x
+  slice_get-append [] ys i x h = cc
+  slice_get-append (x' ∷ xs) ys zero x h = h
+  slice_get-append (x' ∷ xs) ys (suc i) x h = slice_get-append xs ys i x h
+
+  pub slice_get-push : (xs : List X) (y : X) → slice_get (xs ++ y ∷ []) (length xs) ≡ Some y
+  slice_get-push [] y = refl
+  slice_get-push (x ∷ xs) y = slice_get-push xs y
+
 -- ---- what is found, and how many are left
 
 pub found_holds : {X : Type 0} (P : X → Type 0) (test : X → Bool) (xs : List X) (e : X) → AllByRecursion P xs → find test xs ≡ Some e → P e
@@ -53,6 +84,11 @@ found_holds P test (x ∷ xs) e h f = at (test x) f (found_holds P test xs e h.1
   at : (b : Bool) → cond b (Some x) (find test xs) ≡ Some e → (find test xs ≡ Some e → P e) → P e
   at true g more = let same : x ≡ e = cc in subst P same h.0
   at false g more = more g
+
+-- where the first does not pass
+pub found_later : {X : Type 0} (x : X) (rest : Option X) (e : X) (b : Bool) → cond b (Some x) rest ≡ Some e → b ≡ false → rest ≡ Some e
+found_later x rest e true h t = cc
+found_later x rest e false h t = h
 
 pub found_passes : {X : Type 0} (test : X → Bool) (xs : List X) (e : X) → find test xs ≡ Some e → test e ≡ true
 found_passes test [] e f = cc

@@ -6,7 +6,7 @@ use Rattle.std.specs.declared.cmp.Ordering.TheVariants.{Less, Equal, Greater}
 use Rattle.std.specs.Ordering.{int_cmp, is_gt, is_lt, ord_max, ordering_reverse}
 use Rattle.std.specs.Cmp.{IsTotalOrder}
 use Rattle.std.proofs.lemmas.Int.{ints}
-use Rattle.std.proofs.lemmas.Cmp.{int_ranked}
+use Rattle.std.proofs.lemmas.Cmp.{int_ranked, upto}
 use Rattle.std.proofs.Math.Nat.{mul-lt-mul_of_pos_right}
 use Rattle.std.specs.Option.{ok_or, unwrap_or}
 use Rattle.std.proofs.Math.IntN.{*ℤ_comm}
@@ -21,7 +21,6 @@ use Rattle.dmc_tag.specs.declared.spacing.Spacings.{Spacings}
 use Rattle.dmc_tag.specs.declared.reply.Tags.{Tags}
 use Rattle.dmc_tag.specs.Tag.{Fraction, Tagging, IsExact, IsSame, Gives, fraction_cmp, sum_of, difference_of}
 use Rattle.dmc_tag.specs.Order.{AtMost, AreSpacings, AreNext}
-use Rattle.dmc_tag.proofs.Orderings.{at_most_trans}
 use Rattle.dmc_tag.proofs.Scaled.{not_above, scaled_twice, scaled_difference, scaled_negative, scaled_sum, scaled_cmp, less_cmp, zero_of, at_least_zero, zero_scaled, unscaled_le}
 
 -- x is a less s, over the denominators of all
@@ -184,7 +183,7 @@ module _ {T : Type 0} (ops : Tagging T) (fraction : T → Fraction) (is_value : 
 
     greater_not_below : (a sum t : T) (b : Bool) → is_lt (ops.compare t sum) ≡ b → AtMost ops a sum → AtMost ops a (cond b sum t)
     greater_not_below a sum t true e h = h
-    greater_not_below a sum t false e h = at_most_trans ops order a sum t _ _ refl refl h (not_behind sum t _ refl e)
+    greater_not_below a sum t false e h = upto order a sum t h (not_behind sum t _ refl e)
 
     next_tag_not_below : (previous spacing t tag : T) (k : ℕ) → AtMost ops (ops.of_moment 0) spacing → next_tag ops previous k spacing t ≡ Ok tag → AtMost ops previous tag
     next_tag_not_below previous spacing t tag k h e =

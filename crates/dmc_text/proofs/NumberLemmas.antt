@@ -2,7 +2,7 @@
 use Rattle.std.proofs.Common.{◌≡◌, ℕ, ◌+◌, ◌<◌, ◌≤◌, Bool, true, false, ◌&&◌, cond, ltb, List, [], ◌∷◌, length, drop, get_or, drop-cons, add-one, refl, sym, ap, ◌∙◌, arith, Option, Some, None, fold}
 use Rattle.std.specs.Char.{is_ascii_digit}
 use Rattle.std.specs.Str.{all_ascii_digits}
-use Rattle.std.proofs.lemmas.Bool.{ltb-true, ltb-false}
+use Rattle.std.proofs.lemmas.Bool.{and_right, ltb-true, ltb-false}
 use Rattle.std.proofs.lemmas.List.{drop_all}
 use Rattle.dmc_text.specs.Numbers.{with_digit, value, number, is_led}
 
@@ -19,10 +19,6 @@ value_grows n (b ∷ bs) = let more = value_grows (with_digit n b) bs in omega a
 abbrev whole : ℕ → ℕ → List ℕ → Option ℕ
 whole limit n bs = cond (all_ascii_digits bs && ltb (fold with_digit n bs) limit) (Some (fold with_digit n bs)) None
 
-and_false : (b : Bool) → (b && false) ≡ false
-and_false true = refl
-and_false false = refl
-
 read_step : (limit n b : ℕ) (bs : List ℕ) (d l : Bool) → is_ascii_digit b ≡ d → ltb (with_digit n b) limit ≡ l
     → (with_digit n b < limit → read_on limit (with_digit n b) bs ≡ whole limit (with_digit n b) bs)
     → read_on limit n (b ∷ bs) ≡ whole limit n (b ∷ bs)
@@ -32,7 +28,7 @@ read_step limit n b bs true false d-is l-is ih =
     let grows = value_grows (with_digit n b) bs in
     let past : limit ≤ with_digit n b = ltb-false _ _ l-is in
     let no : ltb (fold with_digit (with_digit n b) bs) limit ≡ false = grind arith in
-    rw (d-is, l-is, no, and_false) refl
+    rw (d-is, l-is, and_right _ _ no) refl
 
 -- reading on is the value of all digits, where it is below the limit
 pub reads_whole : (limit n : ℕ) (bs : List ℕ) → n < limit → read_on limit n bs ≡ whole limit n bs

@@ -12,9 +12,6 @@ use Rattle.dmc_text.specs.Replies.{reply_text}
 use Rattle.dmc_text.specs.Texts.{with_line_end, value_text, written}
 
 -- each state stands for itself
-pub same_state : {T : Type 0} (s : State T) → StandsFor s s
-same_state s = record { config = refl; requests = λ id. refl; clients = refl; last_moment = refl }
-
 -- states that agree client by client are answered alike
 pub written_alike : {T : Type 0} (ops : Tagging T) (text : T → List ℕ) (law : (s u : State T) (command : Command) → StandsFor s u → SameStep ops s u command)
     (lines : List Line) (s u : State T) → StandsFor s u → written ops text (Some s) lines ≡ written ops text (Some u) lines

@@ -2,7 +2,7 @@
 use Rattle.std.proofs.Common.{◌≡◌, ◌≢◌, ℕ, ◌<◌, ◌≤◌, Bool, true, false, List, [], length, take, refl, sym, subst, arith, Option, Result, Ok, Err}
 use Rattle.std.specs.Prelude.{IsErrAnd, if◌then◌else◌}
 use Rattle.std.proofs.lemmas.List.{length-take-le}
-use Rattle.std.specs.Io.KnownBytes.{Consumes, IsAtEnd, Keeps}
+use Rattle.std.specs.Io.KnownBytes.{Consumes, IsAtEnd}
 use Rattle.dmc_scene.specs.declared.fault.SceneFault.{SceneFault}
 use Rattle.dmc_scene.specs.declared.fault.SceneFault.TheVariants as scene
 use Rattle.dmc_scene.specs.Reading.{scene_in}
@@ -45,22 +45,6 @@ pub refused_as : (before after : Option (List ℕ)) (text : List ℕ) (cause : S
     → (failed cause ≢ failed scene.Memory → failed cause ≡ scene_in text) → IsErrAnd result (λ told. told ≡ fault_of_scene cause) → ReadsScene before after result
 refused_as before after text cause (Ok s) read is e = absurd e
 refused_as before after text cause (Err f) read is e = subst (λ x. ReadsScene before after (Err x)) (sym e) (refused before after text cause read.0 read.1 is)
-
--- no scene is read, so nothing is written
-pub unread : (before after old : Option (List ℕ)) (f : Fault) → ReadsScene before after (Err f) → RunsSim before after old old (Err f)
-unread before after old fault.Usage h = absurd h
-unread before after old (fault.Line number cause) h = absurd h
-unread before after old fault.Read h = (h, Keeps-refl old)
-unread before after old fault.Write h = absurd h
-unread before after old fault.Memory h = (h, Keeps-refl old)
-unread before after old fault.SceneText h = (h, Keeps-refl old)
-unread before after old (fault.SceneMissing key) h = (h, Keeps-refl old)
-unread before after old (fault.SceneKind key) h = (h, Keeps-refl old)
-unread before after old (fault.SceneValue key) h = (h, Keeps-refl old)
-unread before after old fault.Torn h = absurd h
-unread before after old fault.Range h = absurd h
-unread before after old fault.TurnsOut h = absurd h
-unread before after old fault.Stopped h = absurd h
 
 -- the scene has no report
 unreported : (before after old : Option (List ℕ)) (s : SceneValue) (f : SimFault) → ReadsScene before after (Ok s) → RunsSim before after old old (Err (fault_of_sim f))

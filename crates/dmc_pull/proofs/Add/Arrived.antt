@@ -4,8 +4,7 @@ use Rattle.std.specs.Prelude.{◌≢◌, ◌==◌, IfSome, IsSome, OnOk, slice_g
 use Rattle.std.specs.Result.{is_err}
 use Rattle.std.specs.Option.{option_map, option_and_then}
 use Rattle.std.specs.List.{AllByRecursion}
-use Rattle.std.proofs.lemmas.Bool.{eqb-true, eqb-false}
-use Rattle.std.proofs.lemmas.Bool.Decides.{nat_tests}
+use Rattle.std.proofs.lemmas.Bool.{eqb-true, eqb-false, ne_eqb}
 use Rattle.std.proofs.lemmas.List.{length-map, length-set, get_or-set_same, get_or-set_other}
 use Rattle.dmc_types.specs.Limits.{most_requests}
 use Rattle.dmc_types.specs.Values.{Setting}
@@ -23,6 +22,7 @@ use Rattle.dmc_heads.specs.declared.head.Head.{Head}
 use Rattle.dmc_heads.specs.Heads.{CanShift, IsOthers}
 use Rattle.dmc_pull.specs.Queue.{Queue, IsQueue, IsKept, AreHeads, head_of, head_at, unready}
 use Rattle.dmc_pull.specs.Standing.{clients_in, requests_in}
+use Rattle.dmc_pull.proofs.Common.Kept.{due_later}
 use Rattle.dmc_pull.proofs.Common.Parts.{all_as, all_both, all_append, found_holds, found_passes}
 use Rattle.dmc_pull.proofs.Common.Entries.{Differs, split, name_is, all_changed}
 use Rattle.dmc_pull.proofs.Common.Keyed.{same_client, split_keyed, distinct_changed, read_changed, read_other, read_kept}
@@ -72,26 +72,14 @@ module _ {T : Type 0} {ops : Tagging T} {value : T → Type 0} {hz t : ℕ} {shi
       let all = subst (AllByRecursion (λ f. (f.key == e.key) ≡ false → is_client e.id f.id ≡ false)) (sym s.whole) (all_append (λ f. (f.key == e.key) ≡ false → is_client e.id f.id ≡ false) s.front (e ∷ s.back) (all_as (Differs e) (λ f. (f.key == e.key) ≡ false → is_client e.id f.id ≡ false) (λ f d o. d.1) s.front s.ahead) ((λ o. absurd (same_key o)), all_as (Differs e) (λ f. (f.key == e.key) ≡ false → is_client e.id f.id ≡ false) (λ f d o. d.1) s.back s.behind)) in
       let one : x.entry.key ≡ k = eqb-true x.entry.key k (found_passes (λ f. f.key == k) after.entries x.entry x.found) in
       let two : e.key ≡ key = eqb-true e.key key s.keyed in
-      subst (λ id. is_client e.id id ≡ false) (sym x.of.client) (found_holds (λ f. (f.key == e.key) ≡ false → is_client e.id f.id ≡ false) (λ f. f.key == k) after.entries x.entry all x.found (neq_eqb x.entry.key e.key (λ same. ne (sym one ∙ same ∙ two))))
+      subst (λ id. is_client e.id id ≡ false) (sym x.of.client) (found_holds (λ f. (f.key == e.key) ≡ false → is_client e.id f.id ≡ false) (λ f. f.key == k) after.entries x.entry all x.found (ne_eqb x.entry.key e.key (λ same. ne (sym one ∙ same ∙ two))))
     where
-      neq_eqb : (a b : ℕ) → a ≢ b → (a == b) ≡ false
-      neq_eqb a b ne = by (a == b) refl where
-        by : (r : Bool) → (a == b) ≡ r → (a == b) ≡ false
-        by true e = absurd (ne (eqb-true a b e))
-        by false e = e
-
       same_key : (e.key == e.key) ≡ false → ⊥
       same_key o = eqb-false e.key e.key o refl
 
   -- ---- the heads
 
   module _ (later : t ≤ at) (due_from : (tag : T) (n : ℕ) → is_due ops n (Some tag) ≡ nat_le (moment_of (ops.ceil tag)) n) where
-    due_later : (l : T) → is_due ops t (Some l) ≡ true → is_due ops at (Some l) ≡ true
-    due_later l due =
-        let before : nat_le (moment_of (ops.ceil l)) t ≡ true = sym (due_from l t) ∙ due in
-        let still : nat_le (moment_of (ops.ceil l)) at ≡ true = grind (arith, nat_tests) in
-        due_from l at ∙ still
-
     same_first : (l : List (QueuedRequest T)) → (length l == 0) ≡ false → slice_get (l ++ request ∷ []) 0 ≡ slice_get l 0
     same_first [] h = absurd (eqb-false 0 0 h refl)
     same_first (r ∷ l) h = refl
@@ -100,7 +88,7 @@ module _ {T : Type 0} {ops : Tagging T} {value : T → Type 0} {hz t : ℕ} {shi
     pub heads_more : (length e.rec.requests == 0) ≡ false → AreHeads ops at came heads
     heads_more some = record {
       here = λ k. after.moved.heads_are.here k ∙ sym (read_kept head_of after.moved.here (pushed request at e.rec) (ap (option_map (λ r. record { client = e.id; tags = r.tags; ready = false })) (same_first e.rec.requests some)) k);
-      marks = λ k head h r. due_later head.tags.l (after.moved.heads_are.marks k head h r);
+      marks = λ k head h r. due_later ops due_from head.tags.l t at later (after.moved.heads_are.marks k head h r);
     }
 
     abbrev head : Head T
@@ -124,7 +112,7 @@ module _ {T : Type 0} {ops : Tagging T} {value : T → Type 0} {hz t : ℕ} {shi
           let one : Some h ≡ Some head = sym p ∙ ap (slot_of_key (slice_set heads key (Some head))) (eqb-true k key same) ∙ get_or-set_same heads key (Some head) None within in
           let own : head ≡ h = cc (one) in
           subst (λ x. x.ready ≡ true → is_due ops at (Some x.tags.l) ≡ true) own (λ due. due) r
-      mark_at k h false other p r = due_later h.tags.l (after.moved.heads_are.marks k h (sym (get_or-set_other heads key k (Some head) None (eqb-false k key other)) ∙ p) r)
+      mark_at k h false other p r = due_later ops due_from h.tags.l t at later (after.moved.heads_are.marks k h (sym (get_or-set_other heads key k (Some head) None (eqb-false k key other)) ∙ p) r)
 
 -- ---- the queue that it is
 

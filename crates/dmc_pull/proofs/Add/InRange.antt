@@ -2,18 +2,18 @@
 use Rattle.std.proofs.Common.{◌≡◌, ℕ, Bool, true, false, not, ◌&&◌, ◌||◌, List, [], ◌∷◌, ◌++◌, map, Option, Some, None, Result, refl, sym, ap, ◌∙◌, subst}
 use Rattle.std.specs.Prelude.{◌==◌, if◌then◌else◌, IfSome, OnOk}
 use Rattle.std.specs.Option.{option_map, option_and_then, unwrap_or}
-use Rattle.std.specs.Ordering.{is_gt, ordering_reverse}
+use Rattle.std.specs.Ordering.{is_gt}
 use Rattle.std.specs.declared.cmp.Ordering.{Ordering}
-use Rattle.std.specs.declared.cmp.Ordering.TheVariants.{Less, Equal, Greater}
 use Rattle.std.specs.List.{list_all, AllByRecursion}
 use Rattle.std.specs.Result.{is_err}
 use Rattle.std.specs.Cmp.{IsTotalOrder}
-use Rattle.std.proofs.lemmas.Cmp.{upto, tied_itself}
+use Rattle.std.proofs.lemmas.Cmp.{upto}
 use Rattle.dmc_types.specs.declared.ids.ClientId.{ClientId}
 use Rattle.dmc_tag.specs.Tag.{Fraction, Tagging, IsExact, IsWhole}
 use Rattle.dmc_tag.specs.Order.{AtMost}
 use Rattle.dmc_tag.specs.Rules.{less, has_less}
 use Rattle.dmc_tag.proofs.ForCallers.{minus_keeps_order, between_has_less}
+use Rattle.dmc_tag.proofs.Orderings.{at_most_itself, at_most_turned}
 use Rattle.dmc_client.specs.declared.request.QueuedRequest.{QueuedRequest}
 use Rattle.dmc_client.specs.Record.{Rec, pushed, less_share, less_shares}
 use Rattle.dmc_adjust.specs.Changes.{shifted, is_shiftable}
@@ -27,29 +27,18 @@ use Rattle.dmc_pull.proofs.Common.Entries.{split, all_changed}
 use Rattle.dmc_pull.proofs.Common.Moved.{pushed_values}
 use Rattle.dmc_pull.proofs.Add.Arrived.{IsOf, did}
 
-turned : (r s : Ordering) → s ≡ ordering_reverse r → is_gt r ≡ true → is_gt s ≡ false
-turned Less s e g = cc
-turned Equal s e g = cc
-turned Greater s e g = ap is_gt e
-
 module _ {T : Type 0} (ops : Tagging T) (order : IsTotalOrder ops.compare) where
-  at_most_itself : (a : T) → AtMost ops a a
-  at_most_itself a = ap is_gt (tied_itself order a)
-
-  at_most_turned : (a b : T) → is_gt (ops.compare a b) ≡ true → AtMost ops b a
-  at_most_turned a b g = turned (ops.compare a b) (ops.compare b a) (order.antisymm b a) g
-
   below_both : (a b : T) → AtMost ops (lesser ops a b) a × AtMost ops (lesser ops a b) b
   below_both a b = at (is_gt (ops.compare a b)) refl where
     at : (r : Bool) → is_gt (ops.compare a b) ≡ r → AtMost ops (if r then b else a) a × AtMost ops (if r then b else a) b
-    at true e = (at_most_turned a b e, at_most_itself b)
-    at false e = (at_most_itself a, e)
+    at true e = (at_most_turned ops order a b e, at_most_itself ops order b)
+    at false e = (at_most_itself ops order a, e)
 
   above_both : (a b : T) → AtMost ops a (greater ops a b) × AtMost ops b (greater ops a b)
   above_both a b = at (is_gt (ops.compare a b)) refl where
     at : (r : Bool) → is_gt (ops.compare a b) ≡ r → AtMost ops a (if r then a else b) × AtMost ops b (if r then a else b)
-    at true e = (at_most_itself a, at_most_turned a b e)
-    at false e = (e, at_most_itself b)
+    at true e = (at_most_itself ops order a, at_most_turned ops order a b e)
+    at false e = (e, at_most_itself ops order b)
 
   -- ---- a wider range
 
@@ -116,8 +105,8 @@ module _ {T : Type 0} (ops : Tagging T) (order : IsTotalOrder ops.compare) where
       others_within newcomer es are = record {
         zero = same_within range (ops.of_moment 0) are.zero;
         shares =
-            all_mapped (λ f. HasSharesIn ops after f.rec) (λ e. with_rec (shifted_but ops amount newcomer e.key) e) es
-            (all_as (λ e. HasSharesIn ops range e.rec) (λ e. HasSharesIn ops after (shifted_but ops amount newcomer e.key e.rec)) (record_within newcomer) es are.shares);
+            all_mapped (λ e. HasSharesIn ops range e.rec) (λ f. HasSharesIn ops after f.rec) (λ e. with_rec (shifted_but ops amount newcomer e.key) e)
+            (record_within newcomer) es are.shares;
       }
 
   -- ---- a request comes

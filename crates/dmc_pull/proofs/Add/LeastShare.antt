@@ -6,6 +6,7 @@ use Rattle.std.specs.declared.cmp.Ordering.{Ordering}
 use Rattle.std.specs.declared.cmp.Ordering.TheVariants.{Less, Equal, Greater}
 use Rattle.std.specs.Cmp.{IsTotalOrder}
 use Rattle.std.specs.Ordering.{is_gt, is_lt, ordering_then, ordering_reverse}
+use Rattle.std.proofs.lemmas.Cmp.{upto}
 use Rattle.dmc_tag.specs.Tag.{Tagging}
 use Rattle.dmc_tag.specs.Order.{AtMost}
 use Rattle.dmc_tag.specs.Best.{is_any, by_weight, IsBest}
@@ -19,12 +20,12 @@ use Rattle.dmc_heads.specs.declared.head.Head.{Head}
 use Rattle.dmc_heads.specs.Heads.{IsLeastShare}
 use Rattle.dmc_pull.specs.Standing.{requests_in}
 use Rattle.dmc_pull.specs.Queue.{AreHeads}
-use Rattle.dmc_pull.proofs.Common.Ordered.{upto_upto, share_first, FirstIsLeast}
+use Rattle.dmc_pull.proofs.Common.Ordered.{share_first, FirstIsLeast}
 use Rattle.dmc_pull.proofs.Common.Firsts.{is_at, all_found, found_holds, all_append}
 use Rattle.dmc_pull.proofs.Pull.Choices.{head_at, entry_at}
 use Rattle.dmc_pull.proofs.Pull.Pulls.{then_less, all_are}
 use Rattle.dmc_pull.proofs.Pull.Due.{IsIn, at_in, first_in}
-use Rattle.dmc_tag.proofs.Orderings.{less_if_lt, equals_itself}
+use Rattle.dmc_tag.proofs.Orderings.{less_if_lt, at_most_itself}
 
 then_upto : (r s : Ordering) → is_gt (ordering_then r s) ≡ false → is_gt r ≡ false
 then_upto Less s h = refl
@@ -57,12 +58,12 @@ module _ {T : Type 0} (ops : Tagging T) (order : IsTotalOrder ops.compare) (same
   best_upto : (xs others : List (PlainRequest T)) (r : PlainRequest T) → IsBest (by_weight ops) is_any xs r others → AllByRecursion (λ x. AtMost ops r.tags.p x.tags.p) xs
   best_upto xs others r b =
       subst (AllByRecursion (λ x. AtMost ops r.tags.p x.tags.p)) (sym b.whole)
-      (all_append (λ x. AtMost ops r.tags.p x.tags.p) b.front (r ∷ b.back) (best_ahead r b.front b.ahead) (ap is_gt (equals_itself ops.compare order r.tags.p), best_behind r b.back b.behind))
+      (all_append (λ x. AtMost ops r.tags.p x.tags.p) b.front (r ∷ b.back) (best_ahead r b.front b.ahead) (at_most_itself ops order r.tags.p, best_behind r b.back b.behind))
 
   module _ (t : ℕ) (es : List (Entry T)) (heads : List (Option (Head T))) (are : AreHeads ops t es heads) (d : AreDistinct es) (records : AllByRecursion (λ e. IsRecord ops e.rec) es) (least : T) (is : IsLeastShare ops heads least) where
     rest_above : (id : _) (r : QueuedRequest T) (rest : List (QueuedRequest T)) → AtMost ops least r.tags.p → AllByRecursion (λ x. is_gt (ops.compare r.tags.p x.tags.p) ≡ false) rest → AllByRecursion (λ x. AtMost ops least x.tags.p) (map (request_of id) rest)
     rest_above id r [] h k = tt
-    rest_above id r (x ∷ rest) h k = (upto_upto ops.compare order least r.tags.p x.tags.p _ _ refl refl h k.0, rest_above id r rest h k.1)
+    rest_above id r (x ∷ rest) h k = (upto order least r.tags.p x.tags.p h k.0, rest_above id r rest h k.1)
 
     above_at : (e : Entry T) → entry_keyed e.key es ≡ Some e → FirstIsLeast ops (λ g. Some g.p) e.rec.requests → (l : List (QueuedRequest T)) → e.rec.requests ≡ l → AllByRecursion (λ x. AtMost ops least x.tags.p) (map (request_of e.id) l)
     above_at e f first [] q = tt

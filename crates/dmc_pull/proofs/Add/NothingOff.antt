@@ -17,7 +17,7 @@ use Rattle.dmc_client.specs.Record.{request_of, requests_of_record, share_tags}
 use Rattle.dmc_roster.specs.Entries.{Entry}
 use Rattle.dmc_pull.specs.Adding.{unless_nothing}
 use Rattle.dmc_pull.specs.Standing.{clients_in, requests_in}
-use Rattle.dmc_pull.proofs.Common.Parts.{all_as, all_append, all_pass, map_unmoved}
+use Rattle.dmc_pull.proofs.Common.Parts.{all_as, all_at, all_append, all_pass, map_unmoved}
 use Rattle.std.proofs.Math.Bool.{or-true}
 
 module _ {T : Type 0} (ops : Tagging T) (P : T → Type 0) where
@@ -26,17 +26,13 @@ module _ {T : Type 0} (ops : Tagging T) (P : T → Type 0) where
   rec_requests id [] last h = tt
   rec_requests id (q ∷ qs) last h = (h.0, rec_requests id qs last h.1)
 
-  last_of : (qs : List (QueuedRequest T)) (last : T) → AllByRecursion P (map (λ q. q.tags.p) qs ++ last ∷ []) → P last
-  last_of [] last h = h.0
-  last_of (q ∷ qs) last h = last_of qs last h.1
-
   pub all_requests : (es : List (Entry T)) → AllByRecursion (λ e. AllByRecursion P (share_tags e.rec)) es → AllByRecursion (λ (r : PlainRequest T). P r.tags.p) (requests_in es)
   all_requests [] h = tt
   all_requests (e ∷ es) h = all_append (λ (r : PlainRequest T). P r.tags.p) (requests_of_record e.id e.rec) (requests_in es) (rec_requests e.id e.rec.requests e.rec.previous.p h.0) (all_requests es h.1)
 
   pub all_clients : (es : List (Entry T)) → AllByRecursion (λ e. AllByRecursion P (share_tags e.rec)) es → AllByRecursion (λ (c : PlainClient T). P c.previous.p) (clients_in es)
   all_clients [] h = tt
-  all_clients (e ∷ es) h = (last_of e.rec.requests e.rec.previous.p h.0, all_clients es h.1)
+  all_clients (e ∷ es) h = (all_at P (map (λ q. q.tags.p) e.rec.requests) e.rec.previous.p [] h.0, all_clients es h.1)
 
   module _ (same : (a b : T) → ops.compare a b ≡ Equal → a ≡ b) (off : (a : T) → P a → ops.minus a (ops.of_moment 0) ≡ Some a) (s : State T)
       (requests : AllByRecursion (λ (r : PlainRequest T). P r.tags.p) s.requests) (clients : AllByRecursion (λ (c : PlainClient T). P c.previous.p) s.clients) where

@@ -3,7 +3,7 @@ use Rattle.std.proofs.Common.{◌≡◌, ℕ, suc, Bool, true, false, not, ◌&&
 use Rattle.std.specs.Prelude.{filter, ◌==◌, if◌then◌else◌}
 use Rattle.std.specs.List.{list_all, AllByRecursion}
 use Rattle.std.proofs.lemmas.Bool.{eqb-true}
-use Rattle.std.proofs.lemmas.List.{map-append, length-map, length-append, append_assoc, append-nil}
+use Rattle.std.proofs.lemmas.List.{map-append, length-append, append_assoc, append-nil}
 use Rattle.std.proofs.lemmas.List.Elements.{filter-append}
 use Rattle.std.proofs.lemmas.List.Folds.{list_all-append}
 use Rattle.dmc_types.specs.declared.ids.ClientId.{ClientId}
@@ -202,41 +202,13 @@ module _ {T : Type 0} where
         back = map (λ e. with_rec (shifted ops amount) e) s.back;
         whole = shifted_whole s idle;
         keyed = s.keyed;
-        ahead = all_mapped (Differs a) (λ e. with_rec (shifted ops amount) e) s.front s.ahead;
-        behind = all_mapped (Differs a) (λ e. with_rec (shifted ops amount) e) s.back s.behind;
+        ahead = all_mapped _ (Differs a) (λ e. with_rec (shifted ops amount) e) (λ e h. h) s.front s.ahead;
+        behind = all_mapped _ (Differs a) (λ e. with_rec (shifted ops amount) e) (λ e h. h) s.back s.behind;
       }
 
       module _ {a : Entry T} {es : List (Entry T)} (s : Split key a es) (idle : a.rec.idle ≡ true) where
-        others_are : map others_shifted es ≡ map (λ e. with_rec (shifted ops amount) e) es
-        others_are = others_whole s ∙ sym (shifted_whole s idle)
-
-        pub others_clients : clients_in (map (λ e. with_rec (λ rec. if e.key == key then rec else shifted ops amount rec) e) es) ≡ shifted_clients ops (Some amount) (clients_in es)
-        others_clients = ap clients_in others_are ∙ shifted_clients_in es
-
-        pub others_requests : AreDistinct es → requests_in (map (λ e. with_rec (λ rec. if e.key == key then rec else shifted ops amount rec) e) es) ≡ shifted_requests ops (Some amount) (clients_in es) (requests_in es)
-        others_requests d = ap requests_in others_are ∙ shifted_requests_in es d
-
         -- ---- the others are shifted, and a request comes
 
         module _ (request : QueuedRequest T) (at : ℕ) where
           pub arrived : map others_shifted (with_record key (pushed request at a.rec) es) ≡ with_record key (pushed request at a.rec) (map (λ e. with_rec (shifted ops amount) e) es)
           arrived = others_whole (split_changed s (pushed request at a.rec)) ∙ sym (with_record_split (shifted_split s idle) (pushed request at a.rec))
-
-          pub arrived_clients : clients_in (map (λ e. with_rec (λ rec. if e.key == key then rec else shifted ops amount rec) e) (with_record key (pushed request at a.rec) es)) ≡ change_client a.id (after_arrival request.tags at) (shifted_clients ops (Some amount) (clients_in es))
-          arrived_clients =
-              ap clients_in arrived
-              ∙ pushed_clients (shifted_split s idle) request at
-              ∙ ap (change_client a.id (after_arrival request.tags at)) (shifted_clients_in es)
-
-          pub arrived_requests : AreDistinct es → (id : ClientId) → requests_of id (requests_in (map (λ e. with_rec (λ rec. if e.key == key then rec else shifted ops amount rec) e) (with_record key (pushed request at a.rec) es))) ≡ requests_of id (shifted_requests ops (Some amount) (clients_in es) (requests_in es) ++ request_of a.id request ∷ [])
-          arrived_requests d id =
-              ap (λ xs. requests_of id (requests_in xs)) arrived
-              ∙ pushed_requests (shifted_split s idle) request at id
-              ∙ ap (λ rs. requests_of id (rs ++ request_of a.id request ∷ [])) (shifted_requests_in es d)
-
-          pub length_arrived : AreDistinct es → length (requests_in (map (λ e. with_rec (λ rec. if e.key == key then rec else shifted ops amount rec) e) (with_record key (pushed request at a.rec) es))) ≡ suc (length (requests_in es))
-          length_arrived d =
-              ap (λ xs. length (requests_in xs)) arrived
-              ∙ length_pushed (shifted_split s idle) request at
-              ∙ ap (λ rs. suc (length rs)) (shifted_requests_in es d)
-              ∙ ap suc (length-map (requests_in es) (shifted_request ops amount (clients_in es)))

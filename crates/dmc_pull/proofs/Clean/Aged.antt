@@ -32,7 +32,7 @@ module _ {T : Type 0} (t idle_age erase_age : ℕ) where
   pub all_kept : (P : Entry T → Type 0) → ((e : Entry T) → P e → P (with_rec (with_idle_mark t idle_age) e)) → (es : List (Entry T)) → AllByRecursion P es → AllByRecursion P (kept_entries t idle_age erase_age es)
   all_kept P gives es h =
       let stay = λ (e : Entry T). not (is_stale t erase_age e.rec) in
-      all_mapped P (λ e. with_rec (with_idle_mark t idle_age) e) (filter stay es) (all_as P (λ e. P (with_rec (with_idle_mark t idle_age) e)) gives (filter stay es) (all_filtered P stay es h))
+      all_mapped P P (λ e. with_rec (with_idle_mark t idle_age) e) gives (filter stay es) (all_filtered P stay es h)
 
   not_kept : (e : Entry T) → not (is_stale t erase_age e.rec) ≡ false → head_of e ≡ None
   not_kept e gone = at (is_stale t erase_age e.rec) refl gone where

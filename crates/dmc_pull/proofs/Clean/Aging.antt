@@ -1,8 +1,8 @@
 -- The heads stay right while time goes on, room grows, and records change behind their first requests.
-use Rattle.std.proofs.Common.{◌≡◌, ℕ, zero, suc, ◌≤◌, true, List, [], ◌∷◌, ◌++◌, Option, Some, None, length, set, replicate, refl, sym, ap, ◌∙◌, subst, arith, inl, inr, nat_le}
+use Rattle.std.proofs.Common.{◌≡◌, ℕ, ◌≤◌, List, [], ◌∷◌, ◌++◌, Option, Some, None, length, set, replicate, refl, sym, ap, ◌∙◌, subst, arith, inl, inr, nat_le}
 use Rattle.std.specs.Option.{option_map, option_and_then}
 use Rattle.std.specs.List.{AllByRecursion}
-use Rattle.std.proofs.lemmas.Bool.{cases_lt, le-leb, leb-true}
+use Rattle.std.proofs.lemmas.Bool.{cases_lt}
 use Rattle.std.proofs.lemmas.List.{length-set, get_or_past, get_or-set_same}
 use Rattle.dmc_tag.specs.Tag.{Tagging}
 use Rattle.dmc_tag.specs.Best.{is_due}
@@ -12,6 +12,7 @@ use Rattle.dmc_index.specs.Index.{slot_of_key}
 use Rattle.dmc_heads.specs.declared.head.Head.{Head}
 use Rattle.dmc_pull.specs.Queue.{AreHeads, head_of, unready}
 use Rattle.dmc_index.proofs.Slots.{slot_of_key-more}
+use Rattle.dmc_pull.proofs.Common.Kept.{due_later}
 pub use Rattle.dmc_index.proofs.Slots.{slot_of_key-set_other}
 
 pub all_true : {X : Type 0} (P : X → Type 0) → ((x : X) → P x) → (xs : List X) → AllByRecursion P xs
@@ -30,26 +31,15 @@ module _ {X : Type 0} where
     | inr l ↦ get_or_past (set slots key None) key None (subst (λ n. n ≤ key) (sym (length-set slots key None)) l)
   ]
 
-  -- nothing in place of nothing
-  pub set_same : (slots : List (Option X)) (key : ℕ) (o : Option X) → slot_of_key slots key ≡ o → set slots key o ≡ slots
-  set_same [] key o e = refl
-  set_same (x ∷ slots) zero o e = ap (λ y. y ∷ slots) (sym e)
-  set_same (x ∷ slots) (suc key) o e = ap (λ ys. x ∷ ys) (set_same slots key o e)
-
 -- ---- time goes on
 
 module _ {T : Type 0} (ops : Tagging T) where
   abbrev pub DueFromCeil : Type 0
   DueFromCeil = (tag : T) (n : ℕ) → is_due ops n (Some tag) ≡ nat_le (moment_of (ops.ceil tag)) n
 
-  pub due_later : DueFromCeil → (tag : T) (t u : ℕ) → t ≤ u → is_due ops t (Some tag) ≡ true → is_due ops u (Some tag) ≡ true
-  due_later due_from tag t u later h =
-      let before : moment_of (ops.ceil tag) ≤ t = leb-true (moment_of (ops.ceil tag)) t (sym (due_from tag t) ∙ h) in
-      due_from tag u ∙ le-leb (moment_of (ops.ceil tag)) u (omega arith)
-
   -- each key holds what it held, and each client has the first request that it had
   pub heads_later : DueFromCeil → (t u : ℕ) → t ≤ u → (es fs : List (Entry T)) → ((key : ℕ) → option_and_then head_of (entry_keyed key fs) ≡ option_and_then head_of (entry_keyed key es)) → (hs gs : List (Option (Head T))) → ((key : ℕ) → slot_of_key gs key ≡ slot_of_key hs key) → AreHeads ops t es hs → AreHeads ops u fs gs
   heads_later due_from t u later es fs same hs gs holds are = record {
     here = λ key. ap (option_map unready) (holds key) ∙ are.here key ∙ sym (same key);
-    marks = λ key head here ready. due_later due_from head.tags.l t u later (are.marks key head (sym (holds key) ∙ here) ready);
+    marks = λ key head here ready. due_later ops due_from head.tags.l t u later (are.marks key head (sym (holds key) ∙ here) ready);
   }

@@ -1,5 +1,5 @@
 -- A registration.
-use Rattle.std.proofs.Common.{◌≡◌, ℕ, suc, ◌+◌, ◌-◌, ◌<◌, ◌≤◌, true, false, List, [], ◌∷◌, ◌++◌, Option, Some, None, length, replicate, refl, sym, ap, ◌∙◌, subst, arith}
+use Rattle.std.proofs.Common.{◌≡◌, ℕ, suc, ◌+◌, ◌-◌, ◌<◌, ◌≤◌, false, List, [], ◌∷◌, ◌++◌, Option, Some, None, length, replicate, refl, sym, ap, ◌∙◌, subst, arith}
 use Rattle.std.specs.Prelude.{Result, Ok, Err}
 use Rattle.std.specs.Option.{option_map, is_some}
 use Rattle.std.specs.List.{AllByRecursion}
@@ -9,7 +9,7 @@ use Rattle.dmc_types.specs.Limits.{most_clients}
 use Rattle.dmc_types.specs.Values.{Rates}
 use Rattle.dmc_types.specs.declared.ids.ClientId.{ClientId}
 use Rattle.dmc_types.specs.declared.refusal.Field.{Field}
-use Rattle.dmc_types.specs.declared.refusal.Refusal.TheVariants.{Known, Inexact, Clients}
+use Rattle.dmc_types.specs.declared.refusal.Refusal.TheVariants.{Clients}
 use Rattle.dmc_tag.specs.Tag.{Fraction, Tagging}
 use Rattle.dmc_tag.specs.State.{State, client_named}
 use Rattle.dmc_tag.specs.Spacing.{spacings_of}
@@ -21,8 +21,8 @@ use Rattle.dmc_index.specs.Index.{slot_of_key}
 use Rattle.dmc_heads.specs.declared.head.Head.{Head}
 use Rattle.dmc_pull.specs.Standing.{clients_in, requests_in}
 use Rattle.dmc_pull.specs.Queue.{Queue, state_of, IsQueue, IsKept, AreHeads, head_of}
-use Rattle.dmc_pull.proofs.Common.Parts.{all_as}
-use Rattle.dmc_pull.proofs.Common.Entries.{named, all_last, registered_clients, registered_requests}
+use Rattle.dmc_pull.proofs.Common.Parts.{all_as, all_next}
+use Rattle.dmc_pull.proofs.Common.Entries.{named, registered_clients, registered_requests}
 use Rattle.dmc_pull.proofs.Common.Keyed.{read_last}
 use Rattle.dmc_pull.proofs.Clean.Aging.{DueFromCeil, heads_later}
 
@@ -37,12 +37,6 @@ module _ {T : Type 0} where
     at (Some x) = refl
 
 module _ {T : Type 0} (ops : Tagging T) (s : State T) (id : ClientId) (info : Rates) where
-  pub refused_known : is_some (client_named id s.clients) ≡ true → Err Known ≡ can_register ops s id info
-  refused_known known = rw known refl
-
-  pub refused_inexact : (field : Field) → is_some (client_named id s.clients) ≡ false → spacings_of ops s.config.hz info ≡ Err field → Err (Inexact field) ≡ can_register ops s id info
-  refused_inexact field known inexact = rw (known, inexact) refl
-
   pub refused_clients : (spacings : Spacings T) → is_some (client_named id s.clients) ≡ false → spacings_of ops s.config.hz info ≡ Ok spacings → most_clients ≤ length s.clients → Err Clients ≡ can_register ops s id info
   refused_clients spacings known exact full = rw (known, exact, le-leb most_clients (length s.clients) full) refl
 
@@ -83,8 +77,8 @@ module _ {T : Type 0} (ops : Tagging T) (fraction : T → Fraction) (is_value : 
       let es = q.roster.entries in
       let no_head : head_of e ≡ None = rw none refl in
       let heads = heads_later ops due_from q.last_moment at later es (es ++ e ∷ []) (read_last head_of es e no_head) q.heads q.heads (λ key. refl) is.heads in
-      let keepers = all_last (λ f. IsKept ops fraction is_value q.config.hz f.rec) es e is.kept keeps in
-      let inside = all_last (λ f. f.key < length q.heads) es e is.in_room within in
+      let keepers = all_next (λ f. IsKept ops fraction is_value q.config.hz f.rec) es e is.kept keeps in
+      let inside = all_next (λ f. f.key < length q.heads) es e is.in_room within in
       record {
         kept = subst (AllByRecursion (λ f. IsKept ops fraction is_value q.config.hz f.rec)) (sym last) keepers;
         distinct = distinct;

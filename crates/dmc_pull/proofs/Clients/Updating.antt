@@ -6,8 +6,7 @@ use Rattle.std.proofs.lemmas.Bool.{eqb-true}
 use Rattle.std.proofs.lemmas.List.{nil_from_length}
 use Rattle.dmc_types.specs.Values.{Rates}
 use Rattle.dmc_types.specs.declared.ids.ClientId.{ClientId}
-use Rattle.dmc_types.specs.declared.refusal.Field.{Field}
-use Rattle.dmc_types.specs.declared.refusal.Refusal.TheVariants.{Unknown, Inexact, Busy}
+use Rattle.dmc_types.specs.declared.refusal.Refusal.TheVariants.{Busy}
 use Rattle.dmc_tag.specs.Tag.{Fraction, Tagging}
 use Rattle.dmc_tag.specs.State.{State, client_named, has_queued, effective}
 use Rattle.dmc_tag.specs.Spacing.{spacings_of}
@@ -65,13 +64,7 @@ module _ {T : Type 0} where
 -- ---- the tests
 
 module _ {T : Type 0} (ops : Tagging T) (s : State T) (id : ClientId) (info : Rates) where
-  pub refused_unknown : client_named id s.clients ≡ None → Err Unknown ≡ can_update ops s id info
-  refused_unknown none = rw none refl
-
   module _ (client : PlainClient T) (known : client_named id s.clients ≡ Some client) where
-    pub update_inexact : (field : Field) → spacings_of ops s.config.hz info ≡ Err field → Err (Inexact field) ≡ can_update ops s id info
-    update_inexact field inexact = rw (known, inexact) refl
-
     pub refused_busy : (spacings : Spacings T) → spacings_of ops s.config.hz info ≡ Ok spacings → (changes_reservation client.info info && has_queued id s.requests) ≡ true → Err Busy ≡ can_update ops s id info
     refused_busy spacings exact busy = rw (known, exact, busy) refl
 

@@ -1,5 +1,5 @@
 -- What the clients and requests of a plain state come to, entry by entry.
-use Rattle.std.proofs.Common.{◌≡◌, ℕ, ◌+◌, Bool, true, false, not, ◌&&◌, ◌||◌, cond, List, [], ◌∷◌, ◌++◌, map, length, Option, Some, None, refl, sym, ap, ◌∙◌, subst, arith}
+use Rattle.std.proofs.Common.{◌≡◌, ℕ, ◌+◌, Bool, true, false, not, ◌&&◌, ◌||◌, cond, List, [], ◌∷◌, ◌++◌, map, length, Option, Some, refl, sym, ap, ◌∙◌, subst, arith}
 use Rattle.std.specs.Prelude.{filter, ◌==◌, if◌then◌else◌}
 use Rattle.std.specs.Option.{option_map}
 use Rattle.std.specs.List.{list_any, AllByRecursion}
@@ -14,14 +14,11 @@ use Rattle.dmc_tag.specs.declared.plain.PlainRequest.{PlainRequest}
 use Rattle.dmc_tag.specs.declared.plain.PlainClient.{PlainClient}
 use Rattle.dmc_client.specs.declared.request.QueuedRequest.{QueuedRequest}
 use Rattle.dmc_client.specs.Record.{Rec, client_of, request_of, requests_of_record}
-use Rattle.dmc_roster.specs.Entries.{Entry, entry_named, entry_keyed, record_at, with_rec, with_record, AreDistinct}
+use Rattle.dmc_roster.specs.Entries.{Entry, entry_named, entry_keyed, with_rec, with_record, AreDistinct}
 use Rattle.dmc_pull.specs.Standing.{clients_in, requests_in}
-use Rattle.dmc_pull.proofs.Common.Parts.{eqb_turned, all_as, all_both, all_append, all_front, all_back, map_unmoved, any_is, map_cond, found_holds, found_passes, none_found}
+use Rattle.dmc_pull.proofs.Common.Parts.{eqb_turned, all_as, all_both, all_append, all_front, all_back, map_unmoved, any_is, map_cond, found_holds, found_passes}
 use Rattle.dmc_pull.proofs.Common.Firsts.{requests_append}
-use Rattle.dmc_tag.proofs.Ids.{itself_id}
-
-pub client_turned : (a b : ClientId) (r : Bool) → is_client b a ≡ r → is_client a b ≡ r
-client_turned a b r e = eqb_turned b.0 a.0 r e
+use Rattle.dmc_tag.proofs.Ids.{itself_id, client_turned}
 
 module _ {T : Type 0} where
   -- ---- an entry among the others
@@ -64,13 +61,6 @@ module _ {T : Type 0} where
 
   pub key_is : {key : ℕ} {e : Entry T} {es : List (Entry T)} → Split key e es → e.key ≡ key
   key_is {key} {e} s = eqb-true e.key key s.keyed
-
-  -- the entry that a record was read from
-  pub entry_at : (key : ℕ) (es : List (Entry T)) (rec : Rec T) → record_at key es ≡ Some rec → (e : Entry T) × (entry_keyed key es ≡ Some e) × (e.rec ≡ rec)
-  entry_at key es rec h = by (entry_keyed key es) refl h where
-    by : (o : Option (Entry T)) → entry_keyed key es ≡ o → option_map (λ e. e.rec) o ≡ Some rec → (e : Entry T) × (entry_keyed key es ≡ Some e) × (e.rec ≡ rec)
-    by None k h = cc
-    by (Some e) k h = let same : e.rec ≡ rec = cc in (e, k, same)
 
   pub name_is : (id : ClientId) (es : List (Entry T)) (e : Entry T) → entry_named id es ≡ Some e → is_client id e.id ≡ true
   name_is id es e h = found_passes (λ e. is_client id e.id) es e h
@@ -201,9 +191,6 @@ module _ {T : Type 0} where
           or_false true = refl
           or_false false = refl
 
-  pub of_nobody : (id : ClientId) (es : List (Entry T)) → entry_named id es ≡ None → requests_of id (requests_in es) ≡ []
-  of_nobody id es h = all_filtered_out (is_client id) es (none_found (λ e. is_client id e.id) es h)
-
   -- ---- 4: a client is changed
 
   others_unchanged : (e : Entry T) (f : PlainClient T → PlainClient T) (xs : List (Entry T)) → AllByRecursion (Differs e) xs → change_client e.id f (clients_in xs) ≡ clients_in xs
@@ -247,9 +234,6 @@ module _ {T : Type 0} where
   -- ---- 6: a client's requests are taken out
 
   module _ {key : ℕ} {e : Entry T} {es : List (Entry T)} (s : Split key e es) where
-    abbrev emptied : List (Entry T)
-    emptied = with_record key (record (e.rec) { requests = [] }) es
-
     pub drained : requests_in (with_record key (record (e.rec) { requests = [] }) es) ≡ filter (λ r. not (is_client e.id r.client)) (requests_in es)
     drained =
         let test = λ (r : PlainRequest T). not (is_client e.id r.client) in
@@ -292,6 +276,3 @@ module _ {T : Type 0} where
         let parts = subst (AllByRecursion P) s.whole h in
         let back = all_back P s.front (e ∷ s.back) parts in
         subst (AllByRecursion P) (sym (with_record_split s rec)) (all_append P s.front (record e { rec = rec } ∷ s.back) (all_front P s.front (e ∷ s.back) parts) (here, back.1))
-
-  pub all_last : (P : Entry T → Type 0) (es : List (Entry T)) (e : Entry T) → AllByRecursion P es → P e → AllByRecursion P (es ++ e ∷ [])
-  all_last P es e h here = all_append P es (e ∷ []) h (here, tt)

@@ -79,8 +79,8 @@ first_requests ops fraction is_value q queued is =
     }
 
 -- the same of each plain state that it stands for
-pub agreeing : {T : Type 0} (ops : Tagging T) (s u : State T) (heads : List (Option (Head T))) → StandsFor s u → AreFirstRequests ops s heads → AreFirstRequests ops u heads
-agreeing ops s u heads agree are = record {
+pub first_requests_alike : {T : Type 0} (ops : Tagging T) (s u : State T) (heads : List (Option (Head T))) → StandsFor s u → AreFirstRequests ops s heads → AreFirstRequests ops u heads
+first_requests_alike ops s u heads agree are = record {
   tags = λ key head h. ap (λ rs. option_map (λ r. r.tags) (slice_get rs 0)) (sym (agree.requests head.client)) ∙ are.tags key head h;
   has_key = λ id has. are.has_key id (any_is (λ r. is_client id r.client) s.requests ∙ ap (λ rs. not (length rs == 0)) (agree.requests id) ∙ sym (any_is (λ r. is_client id r.client) u.requests) ∙ has);
   one_key = are.one_key;

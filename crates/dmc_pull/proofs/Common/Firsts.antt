@@ -22,10 +22,11 @@ use Rattle.dmc_client.specs.declared.request.QueuedRequest.{QueuedRequest}
 use Rattle.dmc_roster.specs.Entries.{Entry, entry_keyed, record_at, with_record, with_rec, AreDistinct}
 use Rattle.dmc_adjust.specs.Changes.{popped}
 use Rattle.dmc_pull.specs.Standing.{requests_in}
-use Rattle.dmc_pull.proofs.Common.Ordered.{less_upto, not_behind, IsUpto, FirstIsLeast, FirstIsMember}
-pub use Rattle.dmc_tag.proofs.Lists.{all_append, found_holds}
+use Rattle.dmc_pull.proofs.Common.Ordered.{less_upto, not_behind, FirstIsLeast, FirstIsMember}
+pub use Rattle.dmc_tag.proofs.Lists.{all_as, all_append, found_holds, found_later}
 use Rattle.std.proofs.lemmas.Bool.{false_from_ne_true}
-use Rattle.dmc_tag.proofs.Orderings.{equals_itself}
+use Rattle.std.proofs.lemmas.Cmp.{tied_itself}
+use Rattle.dmc_tag.proofs.Orderings.{IsUpto}
 
 -- ---- lists
 
@@ -48,10 +49,6 @@ module _ {T : Type 0} where
   first_of x rest e true h t = cc
   first_of x rest e false h t = cc
 
-  rest_of : (x : Entry T) (rest : Option (Entry T)) (e : Entry T) (b : Bool) → cond b (Some x) rest ≡ Some e → b ≡ false → rest ≡ Some e
-  rest_of x rest e true h t = cc
-  rest_of x rest e false h t = h
-
   keys_apart : (x : Entry T) (key : ℕ) (es : List (Entry T)) → (x.key == key) ≡ true → AllByRecursion (λ f. (is_client x.id f.id ≡ false) × ((x.key == f.key) ≡ false)) es → AllByRecursion (λ f. (f.key == key) ≡ false) es
   keys_apart x key [] k h = tt
   keys_apart x key (f ∷ es) k h = (subst (λ n. (f.key == n) ≡ false) (eqb-true x.key key k) (eqb_turned f.key x.key false h.0.1), keys_apart x key es k h.1)
@@ -64,7 +61,7 @@ module _ {T : Type 0} where
         let same : x ≡ e = first_of x (entry_keyed key es) e (x.key == key) h k in
         record { front = []; back = es; whole = ap (λ y. y ∷ es) same; keyed = subst (λ y. (y.key == key) ≡ true) same k; ahead = tt; behind = keys_apart x key es k d.0 }
     by false k later =
-        let more = later (rest_of x (entry_keyed key es) e (x.key == key) h k) in
+        let more = later (found_later x (entry_keyed key es) e (x.key == key) h k) in
         record { front = x ∷ more.front; back = more.back; whole = ap (λ l. x ∷ l) more.whole; keyed = more.keyed; ahead = (k, more.ahead); behind = more.behind }
 
   -- what holds of each entry that its key finds holds of all
@@ -129,7 +126,7 @@ module _ {T : Type 0} (ops : Tagging T) (order : IsTotalOrder ops.compare) (tag 
   upto_then Greater s h e = cc
 
   upto_rank : (id : ClientId) (a b : Tags T) → IsUpto ops (tag a) (tag b) → is_gt (tag_rank_cmp ops.compare (rank a id) (rank b id)) ≡ false
-  upto_rank id a b h = upto_then (last_if_absent ops.compare (tag a) (tag b)) (client_cmp id id) h (equals_itself client_cmp client_total id)
+  upto_rank id a b h = upto_then (last_if_absent ops.compare (tag a) (tag b)) (client_cmp id id) h (tied_itself client_total id)
 
   behind_rest : (first : TagRank T) (id : ClientId) (r : QueuedRequest T) (rest : List (QueuedRequest T)) → AllByRecursion (λ x. IsUpto ops (tag r.tags) (tag x.tags)) rest → AllByRecursion (λ x. member x.tags ≡ true → member r.tags ≡ true) rest → (member r.tags ≡ true → tag_rank_cmp ops.compare first (rank r.tags id) ≡ Less) → AllByRecursion (λ x. member x.tags ≡ true → tag_rank_cmp ops.compare first (rank x.tags id) ≡ Less) rest
   behind_rest first id r [] u m b = tt
@@ -144,10 +141,6 @@ module _ {T : Type 0} (ops : Tagging T) (order : IsTotalOrder ops.compare) (tag 
   as_plain P id [] h = tt
   as_plain P id (x ∷ requests) h = (h.0, as_plain P id requests h.1)
 
-  imply : {X : Type 0} (P Q : X → Type 0) (xs : List X) → ((x : X) → P x → Q x) → AllByRecursion P xs → AllByRecursion Q xs
-  imply P Q [] f h = tt
-  imply P Q (x ∷ xs) f h = (f x h.0, imply P Q xs f h.1)
-
   -- what is known of each other client
   pub record IsOther (first : TagRank T) (e : Entry T) : Type 0 where
     pub least : FirstIsLeast ops tag e.rec.requests
@@ -155,9 +148,6 @@ module _ {T : Type 0} (ops : Tagging T) (order : IsTotalOrder ops.compare) (tag 
     pub behind : IsBehind first e.id e.rec.requests
 
   module _ (client : ClientId) (r : QueuedRequest T) where
-    first_plain : PlainRequest T
-    first_plain = request_of client r
-
     others_behind : (es : List (Entry T)) → AllByRecursion (IsOther (rank r.tags client)) es → AllByRecursion (λ x. member x.tags ≡ true → tag_rank_cmp ops.compare (rank r.tags client) (rank x.tags x.client) ≡ Less) (requests_in es)
     others_behind [] h = tt
     others_behind (e ∷ es) h =
@@ -183,8 +173,8 @@ module _ {T : Type 0} (ops : Tagging T) (order : IsTotalOrder ops.compare) (tag 
     whole = ap requests_in at.whole ∙ requests_append at.front (e ∷ at.back) ∙ ap (λ l. requests_in at.front ++ (map (request_of e.id) l ++ requests_in at.back)) q;
     rest = ap requests_in (with_at key (popped e.rec) es e at) ∙ requests_append at.front (with_rec (λ old. popped e.rec) e ∷ at.back) ∙ ap (λ l. requests_in at.front ++ (map (request_of e.id) (drop 1 l) ++ requests_in at.back)) q;
     is_member = m;
-    ahead = imply _ _ (requests_in at.front) (ahead_of e.id r) (others_behind e.id r at.front ahead);
-    behind = all_append _ (map (request_of e.id) rest) (requests_in at.back) (own_behind e.id r rest own) (imply _ _ (requests_in at.back) (behind_of e.id r) (others_behind e.id r at.back behind));
+    ahead = all_as _ _ (ahead_of e.id r) (requests_in at.front) (others_behind e.id r at.front ahead);
+    behind = all_append _ (map (request_of e.id) rest) (requests_in at.back) (own_behind e.id r rest own) (all_as _ _ (behind_of e.id r) (requests_in at.back) (others_behind e.id r at.back behind));
   }
 
   -- ---- no member

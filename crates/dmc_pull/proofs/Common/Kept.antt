@@ -1,5 +1,5 @@
 -- What is true of a queue stays true.
-use Rattle.std.proofs.Common.{◌≡◌, ℕ, zero, suc, ◌≤◌, ◌<◌, Bool, true, false, ◌&&◌, ◌||◌, List, [], ◌∷◌, map, length, Option, Some, None, refl, sym, ap, ◌∙◌, subst, arith}
+use Rattle.std.proofs.Common.{◌≡◌, ℕ, suc, ◌≤◌, ◌<◌, Bool, true, false, ◌&&◌, ◌||◌, List, [], ◌∷◌, map, length, Option, Some, None, refl, sym, ap, ◌∙◌, subst, arith}
 use Rattle.std.specs.Option.{option_map}
 use Rattle.std.specs.List.{AllByRecursion}
 use Rattle.std.specs.Prelude.{nat_le}
@@ -9,6 +9,7 @@ use Rattle.dmc_tag.specs.Tag.{Fraction, Tagging}
 use Rattle.dmc_tag.specs.Best.{is_due}
 use Rattle.dmc_roster.specs.Entries.{Entry, Listing}
 use Rattle.dmc_index.specs.Index.{slot_of_key}
+use Rattle.dmc_index.proofs.Slots.{slot_of_key-map}
 use Rattle.dmc_heads.specs.declared.head.Head.{Head}
 use Rattle.dmc_heads.specs.Heads as heads_of
 use Rattle.dmc_tag.specs.Rules.{moment_of}
@@ -32,11 +33,6 @@ module _ {T : Type 0} (ops : Tagging T) (fraction : T → Fraction) (is_value : 
 
 -- ---- the heads marked anew
 
-pub held_map : {X : Type 0} (f : X → X) (xs : List (Option X)) (key : ℕ) → slot_of_key (map (option_map f) xs) key ≡ option_map f (slot_of_key xs key)
-held_map f [] key = refl
-held_map f (x ∷ xs) zero = refl
-held_map f (x ∷ xs) (suc key) = held_map f xs key
-
 pub length_map : {X Y : Type 0} (f : X → Y) (xs : List X) → length (map f xs) ≡ length xs
 length_map f [] = refl
 length_map f (x ∷ xs) = ap suc (length_map f xs)
@@ -47,7 +43,7 @@ pub record Mapped {X : Type 0} (f : X → X) (xs : List (Option X)) (key : ℕ) 
   pub is : f from ≡ y
 
 pub mapped : {X : Type 0} (f : X → X) (xs : List (Option X)) (key : ℕ) (y : X) → slot_of_key (map (option_map f) xs) key ≡ Some y → Mapped f xs key y
-mapped {X} f xs key y h = at (slot_of_key xs key) refl (sym (held_map f xs key) ∙ h) where
+mapped {X} f xs key y h = at (slot_of_key xs key) refl (sym (slot_of_key-map f xs key) ∙ h) where
   at : (o : Option X) → slot_of_key xs key ≡ o → option_map f o ≡ Some y → Mapped f xs key y
   at None e k = cc
   at (Some x) e k = record { from = x; here = e; is = cc (k) }
@@ -71,7 +67,7 @@ module _ {T : Type 0} (ops : Tagging T) where
 
   pub map_heads : (f : Head T → Head T) (t last : ℕ) (es : List (Entry T)) (heads : List (Option (Head T))) → ((h : Head T) → unready (f h) ≡ unready h) → AreHeads ops t es heads → ((h : Head T) → (key : ℕ) → slot_of_key heads key ≡ Some h → (f h).ready ≡ true → is_due ops last (Some h.tags.l) ≡ true) → AreHeads ops last es (map (option_map f) heads)
   map_heads f t last es heads same are due = record {
-    here = λ key. ap (option_map unready) (held_map f heads key) ∙ unready_map f same (slot_of_key heads key) ∙ are.here key;
+    here = λ key. ap (option_map unready) (slot_of_key-map f heads key) ∙ unready_map f same (slot_of_key heads key) ∙ are.here key;
     marks = λ key head h r.
         let m = mapped f heads key head h in
         let tags : head.tags ≡ m.from.tags = sym (ap (λ x. x.tags) m.is) ∙ ap (λ x. x.tags) (same m.from) in

@@ -3,7 +3,7 @@ use Rattle.std.proofs.Common.{◌≡◌, ℕ, Bool, true, false, cond, List, [],
 use Rattle.std.specs.Prelude.{filter, ◌==◌, if◌then◌else◌}
 use Rattle.std.specs.Option.{option_map, option_map_or, option_and_then, option_or}
 use Rattle.std.specs.List.{find, AllByRecursion}
-use Rattle.std.proofs.lemmas.Bool.{eqb-true, eq-eqb}
+use Rattle.std.proofs.lemmas.Bool.{eqb-true}
 use Rattle.std.proofs.lemmas.List.{append-nil}
 use Rattle.std.proofs.lemmas.List.Elements.{filter-append}
 use Rattle.std.proofs.lemmas.List.Folds.{find-append}
@@ -13,7 +13,7 @@ use Rattle.dmc_client.specs.Record.{Rec, requests_of_record}
 use Rattle.dmc_roster.specs.Entries.{Entry, entry_named, entry_keyed, with_rec, with_record, AreDistinct}
 use Rattle.dmc_pull.specs.Standing.{requests_in}
 use Rattle.dmc_pull.proofs.Common.Parts.{all_as, all_filtered, map_cond, found_holds, found_passes}
-use Rattle.dmc_pull.proofs.Common.Entries.{Split, Differs, differs_from, differs_before, split_changed, record_filtered, all_filtered_out}
+use Rattle.dmc_pull.proofs.Common.Entries.{Split, Differs, differs_from, split_changed, record_filtered, all_filtered_out}
 pub use Rattle.dmc_tag.proofs.Active.{same_client}
 use Rattle.dmc_tag.proofs.Ids.{itself_id}
 
@@ -120,19 +120,6 @@ module _ {T : Type 0} where
 
   pub keyed_last : (key : ℕ) (es : List (Entry T)) (e : Entry T) → entry_keyed key (es ++ e ∷ []) ≡ option_or (entry_keyed key es) (if e.key == key then Some e else None)
   keyed_last key es e = find-append (λ f. f.key == key) es (e ∷ [])
-
-  abbrev pub split_last : (es : List (Entry T)) (e : Entry T) → AreDistinct (es ++ e ∷ []) → Split e.key e (es ++ e ∷ [])
-  split_last es e d = record { front = es; back = []; whole = refl; keyed = eq-eqb e.key e.key refl; ahead = all_before es d; behind = tt } where
-    last_of : (P : Entry T → Type 0) (xs : List (Entry T)) → AllByRecursion P (xs ++ e ∷ []) → P e
-    last_of P [] h = h.0
-    last_of P (x ∷ xs) h = last_of P xs h.1
-
-    all_before : (xs : List (Entry T)) → AreDistinct (xs ++ e ∷ []) → AllByRecursion (Differs e) xs
-    all_before [] d = tt
-    all_before (x ∷ xs) d = (differs_before e x (last_of (λ f. (is_client x.id f.id ≡ false) × ((x.key == f.key) ≡ false)) xs d.0), all_before xs d.1)
-
-  pub unkeyed_last : (es : List (Entry T)) (e : Entry T) → AreDistinct (es ++ e ∷ []) → entry_keyed e.key es ≡ None
-  unkeyed_last es e d = none_of_all (λ f. f.key == e.key) es (all_as (Differs e) (λ f. (f.key == e.key) ≡ false) (λ f p. p.0) es (split_last es e d).ahead)
 
   -- ---- the requests of any client
 

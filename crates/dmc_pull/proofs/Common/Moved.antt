@@ -1,5 +1,5 @@
 -- A shift of all entries but one, and of all heads.
-use Rattle.std.proofs.Common.{◌≡◌, ℕ, zero, suc, ◌<◌, Bool, true, false, not, ◌&&◌, ◌||◌, List, [], ◌∷◌, ◌++◌, map, length, Option, Some, None, Ok, refl, sym, ap, ◌∙◌, subst}
+use Rattle.std.proofs.Common.{◌≡◌, ℕ, ◌<◌, Bool, true, false, not, ◌&&◌, ◌||◌, List, [], ◌∷◌, ◌++◌, map, length, Option, Some, None, Ok, refl, sym, ap, ◌∙◌, subst}
 use Rattle.std.specs.Prelude.{◌==◌, IfSome, slice_get, if◌then◌else◌}
 use Rattle.std.specs.Option.{option_map, option_and_then, unwrap_or}
 use Rattle.std.specs.List.{AllByRecursion, list_all}
@@ -14,29 +14,18 @@ use Rattle.dmc_client.specs.Record.{Rec, IsRecord, pushed, less_share, less_shar
 use Rattle.dmc_adjust.specs.Changes.{shifted, is_shiftable}
 use Rattle.dmc_roster.specs.Entries.{Entry, entry_keyed, with_rec, with_record, AreDistinct}
 use Rattle.dmc_index.specs.Index.{slot_of_key}
+use Rattle.dmc_index.proofs.Slots.{slot_of_key-map}
 use Rattle.dmc_heads.specs.declared.head.Head.{Head}
 use Rattle.dmc_heads.specs.Heads as heads_of
 use Rattle.dmc_heads.specs.Heads.{CanShift}
 use Rattle.dmc_pull.specs.Adding.{shifted_but}
 use Rattle.dmc_pull.specs.Queue.{AreHeads, head_of, unready}
 use Rattle.dmc_pull.specs.Standing.{clients_in, requests_in}
-use Rattle.dmc_pull.proofs.Common.Parts.{all_as, all_mapped, map_agree, found_holds}
+use Rattle.dmc_pull.proofs.Common.Parts.{all_as, all_mapped, each_passes, map_agree, found_holds}
 use Rattle.dmc_pull.proofs.Common.Entries.{Split, split, all_changed}
 use Rattle.dmc_pull.proofs.Common.Keyed.{keyed_with, distinct_with}
 use Rattle.dmc_pull.proofs.Add.Shifted.{shiftable, shifted_clients_in, shifted_requests_in, arrived}
 use Rattle.dmc_pull.proofs.Pull.Choices.{entry_at}
-
-pub held_map : {X Y : Type 0} (f : X → Y) (slots : List (Option X)) (key : ℕ) → slot_of_key (map (option_map f) slots) key ≡ option_map f (slot_of_key slots key)
-held_map f [] key = refl
-held_map f (x ∷ slots) zero = refl
-held_map f (x ∷ slots) (suc key) = held_map f slots key
-
-all_tests : {X : Type 0} (test : X → Bool) (xs : List X) → list_all test xs ≡ true → AllByRecursion (λ x. test x ≡ true) xs
-all_tests test [] h = tt
-all_tests test (x ∷ xs) h = at (all_tests test xs) (test x) refl h where
-  at : (list_all test xs ≡ true → AllByRecursion (λ x. test x ≡ true) xs) → (b : Bool) → test x ≡ b → (b && list_all test xs) ≡ true → (test x ≡ true) × AllByRecursion (λ x. test x ≡ true) xs
-  at more true e h = (e, more h)
-  at more false e h = cc
 
 module _ {T : Type 0} (ops : Tagging T) where
   -- ---- each P of a record is a value
@@ -105,13 +94,13 @@ module _ {T : Type 0} (ops : Tagging T) where
       pub heads_shifted : AreHeads ops t (map (λ e. with_rec (shifted ops amount) e) es) (map (option_map (heads_of.shifted ops amount)) heads)
       heads_shifted = record {
         here = λ key.
-            ap (option_map unready) (held_map (heads_of.shifted ops amount) heads key)
+            ap (option_map unready) (slot_of_key-map (heads_of.shifted ops amount) heads key)
             ∙ unready_shifted (slot_of_key heads key)
             ∙ ap (option_map (heads_of.shifted ops amount)) (are.here key)
             ∙ entries_at key (entry_keyed key es) refl
             ∙ ap (option_and_then head_of) (sym (keyed_with (λ e. shifted ops amount) key es));
         marks = λ key head h r.
-            let x = same_mark heads key head (slot_of_key heads key) refl (sym (held_map (heads_of.shifted ops amount) heads key) ∙ h) in
+            let x = same_mark heads key head (slot_of_key heads key) refl (sym (slot_of_key-map (heads_of.shifted ops amount) heads key) ∙ h) in
             subst (λ l. is_due ops t (Some l) ≡ true) (sym x.limit) (are.marks key x.old x.here (sym x.ready ∙ r));
       }
 
@@ -137,7 +126,7 @@ module _ {T : Type 0} (ops : Tagging T) where
               (subst (λ l. (list_all (λ r. has_less ops amount r.tags.p) l && has_less ops amount rec.previous.p) ≡ true) q h)
 
     pub all_shiftable : (es : List (Entry T)) → AreDistinct es → can_shift_by ops (Some amount) (clients_in es) (requests_in es) ≡ true → AllByRecursion (λ e. is_shiftable ops amount e.rec ≡ true) es
-    all_shiftable es d can = all_tests (λ e. is_shiftable ops amount e.rec) es (sym (shiftable ops amount es d) ∙ can)
+    all_shiftable es d can = each_passes (λ e. is_shiftable ops amount e.rec) es (sym (shiftable ops amount es d) ∙ can)
 
     -- an idle client isn't shifted
     pub shifted_entry : (key : ℕ) (es : List (Entry T)) (e : Entry T) → entry_keyed key es ≡ Some e → e.rec.idle ≡ true → entry_keyed key (map (λ e. with_rec (shifted ops amount) e) es) ≡ Some e
@@ -187,8 +176,8 @@ module _ {T : Type 0} (ops : Tagging T) (value : T → Type 0) (hz t : ℕ) (key
         here = split key (map (λ e. with_rec (shifted ops amount) e) es) e (shifted_entry ops amount key es e found idle) d2;
         distinct = d2;
         heads_are = heads_shifted ops amount t es heads are records;
-        in_room = all_mapped (λ f. f.key < length (map (option_map (heads_of.shifted ops amount)) heads)) (λ e. with_rec (shifted ops amount) e) es (subst (λ n. AllByRecursion (λ f. f.key < n) es) (sym (length-map heads (option_map (heads_of.shifted ops amount)))) room);
-        rest = all_mapped (λ f. HasRest ops value hz f.rec) (λ e. with_rec (shifted ops amount) e) es (all_as (λ f. HasRest ops value hz f.rec) (λ f. HasRest ops value hz (shifted ops amount f.rec)) (λ f h. rest_by ops value differences amount hz f.rec f.rec.idle h) es rest);
+        in_room = all_mapped _ (λ f. f.key < length (map (option_map (heads_of.shifted ops amount)) heads)) (λ e. with_rec (shifted ops amount) e) (λ e h. h) es (subst (λ n. AllByRecursion (λ f. f.key < n) es) (sym (length-map heads (option_map (heads_of.shifted ops amount)))) room);
+        rest = all_mapped _ (λ f. HasRest ops value hz f.rec) (λ e. with_rec (shifted ops amount) e) (λ f h. rest_by ops value differences amount hz f.rec f.rec.idle h) es rest;
         clients = shifted_clients_in ops amount es;
         requests = shifted_requests_in ops amount es d;
       }

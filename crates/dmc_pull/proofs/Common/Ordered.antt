@@ -1,5 +1,5 @@
 -- The first request of a client has the least tags of its requests, and is due where one of them is.
-use Rattle.std.proofs.Common.{◌≡◌, ℕ, Bool, true, false, not, List, [], ◌∷◌, ◌++◌, map, Option, Some, None, refl, sym, ap, ◌∙◌, subst}
+use Rattle.std.proofs.Common.{◌≡◌, ℕ, Bool, true, false, List, [], ◌∷◌, ◌++◌, map, Option, Some, None, refl, sym, ap, ◌∙◌, subst}
 use Rattle.std.specs.Prelude.{is_some, filter_map, ⊤}
 use Rattle.std.specs.List.{AllByRecursion, cons_option}
 use Rattle.std.specs.declared.cmp.Ordering.{Ordering}
@@ -11,10 +11,10 @@ use Rattle.dmc_tag.specs.Order.{AtMost}
 use Rattle.dmc_tag.specs.Best.{is_due}
 use Rattle.dmc_tag.specs.Rank.{last_if_absent}
 use Rattle.dmc_tag.specs.declared.reply.Tags.{Tags}
+use Rattle.dmc_tag.proofs.Orderings.{IsUpto, due_before}
 use Rattle.dmc_client.specs.Order.{InOrder}
 use Rattle.dmc_client.specs.Record.{Rec, IsRecord}
 use Rattle.dmc_client.specs.declared.request.QueuedRequest.{QueuedRequest}
-use Rattle.std.proofs.lemmas.Bool.{not-true}
 
 -- ---- total orders
 
@@ -23,11 +23,6 @@ module _ {R : Type 0} (C : R → R → Ordering) (o : IsTotalOrder C) where
   less_upto a b c Less e p h = o.trans a b c p e
   less_upto a b c Equal e p h = o.antisymm a c ∙ ap ordering_reverse (sym (o.congr b c a e)) ∙ sym (o.antisymm a b) ∙ p
   less_upto a b c Greater e p h = cc
-
-  pub upto_upto : (a b c : R) (r s : Ordering) → C a b ≡ r → C b c ≡ s → is_gt r ≡ false → is_gt s ≡ false → is_gt (C a c) ≡ false
-  upto_upto a b c Less s e f h k = ap is_gt (less_upto a b c s f e k)
-  upto_upto a b c Equal s e f h k = ap is_gt (o.congr a b c e ∙ f) ∙ k
-  upto_upto a b c Greater s e f h k = cc
 
   turned_lt : (r : Ordering) → is_lt (ordering_reverse r) ≡ is_gt r
   turned_lt Less = refl
@@ -38,10 +33,6 @@ module _ {R : Type 0} (C : R → R → Ordering) (o : IsTotalOrder C) where
   not_behind a b h = ap is_lt (o.antisymm b a) ∙ turned_lt (C a b) ∙ h
 
 -- ---- one client's requests
-
--- a tag is not above another; an absent one is last
-abbrev pub IsUpto : {T : Type 0} → Tagging T → Option T → Option T → Type 0
-IsUpto ops a b = is_gt (last_if_absent ops.compare a b) ≡ false
 
 -- the first has the least tag
 abbrev pub FirstIsLeast : {T : Type 0} → Tagging T → (Tags T → Option T) → List (QueuedRequest T) → Type 0
@@ -104,14 +95,9 @@ module _ {T : Type 0} (ops : Tagging T) where
   -- ---- what is due
 
   module _ (order : IsTotalOrder ops.compare) (t : ℕ) where
-    pub due_before : (a b : Option T) → IsUpto ops a b → is_due ops t b ≡ true → is_due ops t a ≡ true
-    due_before a None h d = cc
-    due_before None (Some b) h d = cc
-    due_before (Some a) (Some b) h d = ap not (upto_upto ops.compare order a b (ops.of_moment t) _ _ refl refl h (not-true _ d))
-
     due_first : (tag : Tags T → Option T) (r : QueuedRequest T) (rest : List (QueuedRequest T)) → AllByRecursion (λ x. IsUpto ops (tag r.tags) (tag x.tags)) rest → AllByRecursion (λ x. is_due ops t (tag x.tags) ≡ true → is_due ops t (tag r.tags) ≡ true) rest
     due_first tag r [] h = tt
-    due_first tag r (x ∷ rest) h = (due_before (tag r.tags) (tag x.tags) h.0, due_first tag r rest h.1)
+    due_first tag r (x ∷ rest) h = (due_before ops order t (tag r.tags) (tag x.tags) h.0, due_first tag r rest h.1)
 
     pub due_members : (tag : Tags T → Option T) (requests : List (QueuedRequest T)) → FirstIsLeast ops tag requests → FirstIsMember (λ tags. is_due ops t (tag tags)) requests
     due_members tag [] h = tt

@@ -1,10 +1,10 @@
 -- Lists in parts: what holds of each element, and what a map, a filter or a test of all comes to.
-use Rattle.std.proofs.Common.{◌≡◌, ℕ, suc, Bool, true, false, not, ◌&&◌, ◌||◌, cond, List, [], ◌∷◌, ◌++◌, map, length, Some, None, refl, sym, ap, ◌∙◌, arith}
+use Rattle.std.proofs.Common.{◌≡◌, ℕ, suc, Bool, true, false, not, ◌&&◌, ◌||◌, cond, List, [], ◌∷◌, ◌++◌, map, length, refl, sym, ap, ◌∙◌, arith}
 use Rattle.std.specs.Prelude.{filter, ◌==◌}
-use Rattle.std.specs.List.{find, list_all, list_any, AllByRecursion}
+use Rattle.std.specs.List.{list_all, list_any, AllByRecursion}
 use Rattle.std.proofs.lemmas.Bool.{eqb-true, eqb-false, eq-eqb}
 pub use Rattle.dmc_tag.proofs.Options.{map_cond}
-pub use Rattle.dmc_tag.proofs.Lists.{all_as, all_both, all_append, all_filtered, found_holds, found_passes, length_filtered, map_unmoved}
+pub use Rattle.dmc_tag.proofs.Lists.{all_as, all_both, all_mapped, each_passes, all_at, all_append, all_next, all_filtered, found_holds, found_passes, length_filtered, map_unmoved}
 pub use Rattle.dmc_tag.proofs.Booleans.{eqb_turned}
 pub use Rattle.std.proofs.Math.Bool.{and-true}
 
@@ -18,35 +18,17 @@ pub all_back : {X : Type 0} (P : X → Type 0) (xs ys : List X) → AllByRecursi
 all_back P [] ys h = h
 all_back P (x ∷ xs) ys h = all_back P xs ys h.1
 
-pub all_mapped : {X Y : Type 0} (P : X → Type 0) (f : Y → X) (ys : List Y) → AllByRecursion (λ y. P (f y)) ys → AllByRecursion P (map f ys)
-all_mapped P f [] h = tt
-all_mapped P f (y ∷ ys) h = (h.0, all_mapped P f ys h.1)
-
 -- ---- maps
 
 pub map_agree : {X Y : Type 0} (f g : X → Y) (xs : List X) → AllByRecursion (λ x. f x ≡ g x) xs → map f xs ≡ map g xs
 map_agree f g [] h = refl
 map_agree f g (x ∷ xs) h = ap (λ y. y ∷ map f xs) h.0 ∙ ap (λ ys. g x ∷ ys) (map_agree f g xs h.1)
 
--- ---- filters
-
-pub filter_kept : {X : Type 0} (test : X → Bool) (xs : List X) → AllByRecursion (λ x. test x ≡ true) xs → filter test xs ≡ xs
-filter_kept test [] h = refl
-filter_kept test (x ∷ xs) h = ap (λ b. cond b (x ∷ filter test xs) (filter test xs)) h.0 ∙ ap (λ ys. x ∷ ys) (filter_kept test xs h.1)
-
-pub filter_true : {X : Type 0} (xs : List X) → filter (λ x. true) xs ≡ xs
-filter_true [] = refl
-filter_true (x ∷ xs) = ap (λ ys. x ∷ ys) (filter_true xs)
-
 -- ---- tests
 
 pub all_pass : {X : Type 0} (test : X → Bool) (xs : List X) → AllByRecursion (λ x. test x ≡ true) xs → list_all test xs ≡ true
 all_pass test [] h = refl
 all_pass test (x ∷ xs) h = ap (λ b. b && list_all test xs) h.0 ∙ all_pass test xs h.1
-
-pub none_passes : {X : Type 0} (test : X → Bool) (xs : List X) → AllByRecursion (λ x. test x ≡ false) xs → list_any test xs ≡ false
-none_passes test [] h = refl
-none_passes test (x ∷ xs) h = ap (λ b. b || list_any test xs) h.0 ∙ none_passes test xs h.1
 
 -- no length is both
 pub positive : {X : Type 0} (xs : List X) → (suc (length xs) == 0) ≡ false
@@ -81,12 +63,3 @@ all_is test (x ∷ xs) = at (all_is test xs) (test x) where
   at : list_all test xs ≡ (length (filter test xs) == length xs) → (b : Bool) → (b && list_all test xs) ≡ (length (cond b (x ∷ filter test xs) (filter test xs)) == suc (length xs))
   at more true = more ∙ same (length (filter test xs)) (length xs) (length (filter test xs) == length xs) refl
   at more false = fewer (length (filter test xs) == suc (length xs)) refl
-
--- ---- what is found
-
-pub none_found : {X : Type 0} (test : X → Bool) (xs : List X) → find test xs ≡ None → AllByRecursion (λ x. test x ≡ false) xs
-none_found test [] f = tt
-none_found test (x ∷ xs) f = at (none_found test xs) (test x) refl f where
-  at : (find test xs ≡ None → AllByRecursion (λ y. test y ≡ false) xs) → (b : Bool) → test x ≡ b → cond b (Some x) (find test xs) ≡ None → (test x ≡ false) × AllByRecursion (λ y. test y ≡ false) xs
-  at more true t g = cc
-  at more false t g = (t, more g)

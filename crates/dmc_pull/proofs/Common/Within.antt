@@ -9,8 +9,8 @@ use Rattle.dmc_roster.specs.Entries.{Entry, entry_keyed, with_record, AreDistinc
 use Rattle.dmc_pull.specs.Choice.{after_grant}
 use Rattle.dmc_pull.specs.Range.{IsWithin, HasSharesIn, AreWithin}
 use Rattle.dmc_pull.specs.declared.range.ShareRange.{ShareRange}
-use Rattle.dmc_pull.proofs.Common.Parts.{all_back, found_holds}
-use Rattle.dmc_pull.proofs.Common.Entries.{Split, split, all_changed, all_last}
+use Rattle.dmc_pull.proofs.Common.Parts.{all_back, all_next, found_holds}
+use Rattle.dmc_pull.proofs.Common.Entries.{Split, split, all_changed}
 use Rattle.dmc_pull.proofs.Common.Replaced.{Waits, popped_values, grant_shares}
 
 -- without clients
@@ -25,7 +25,7 @@ module _ {T : Type 0} {ops : Tagging T} {range : Option (ShareRange T)} {es : Li
       let here : HasSharesIn ops range e.rec = subst (λ qs. AllByRecursion (IsWithin ops range) (map (λ r. r.tags.p) qs ++ e.rec.previous.p ∷ [])) (sym none) (zero, tt) in
       record {
         zero = are.zero;
-        shares = subst (AllByRecursion (λ f. HasSharesIn ops range f.rec)) (sym same) (all_last (λ f. HasSharesIn ops range f.rec) es e are.shares here);
+        shares = subst (AllByRecursion (λ f. HasSharesIn ops range f.rec)) (sym same) (all_next (λ f. HasSharesIn ops range f.rec) es e are.shares here);
       }
 
   module _ {key : ℕ} {e : Entry T} (s : Split key e es) (found : entry_keyed key es ≡ Some e) where

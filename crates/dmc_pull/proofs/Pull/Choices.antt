@@ -18,9 +18,11 @@ use Rattle.dmc_roster.specs.Entries.{Entry, entry_keyed, with_record, AreDistinc
 use Rattle.dmc_adjust.specs.Changes.{popped}
 use Rattle.dmc_index.specs.Index.{slot_of_key, IsEmpty}
 use Rattle.dmc_heads.specs.declared.head.Head.{Head}
+use Rattle.dmc_tag.proofs.Lists.{all_both}
+use Rattle.dmc_tag.proofs.Orderings.{IsUpto}
 use Rattle.dmc_pull.specs.Standing.{requests_in}
 use Rattle.dmc_pull.specs.Queue.{unready, head_of, AreHeads}
-use Rattle.dmc_pull.proofs.Common.Ordered.{IsUpto, FirstIsLeast, FirstIsMember}
+use Rattle.dmc_pull.proofs.Common.Ordered.{FirstIsLeast, FirstIsMember}
 use Rattle.dmc_pull.proofs.Common.Firsts.{is_at, all_found, found_holds, first_is_best, none_are, IsOther, IsBehind, FirstIsNone}
 
 -- The first request of the client under the key is the best of the members, and the others are what is left without it.
@@ -98,10 +100,6 @@ module _ {T : Type 0} (ops : Tagging T) (t : ℕ) (es : List (Entry T)) (heads :
 
   module _ (order : IsTotalOrder ops.compare) (d : AreDistinct es) (tag : Tags T → Option T) (member : Tags T → Bool)
       (least : AllByRecursion (λ e. FirstIsLeast ops tag e.rec.requests) es) (members : AllByRecursion (λ e. FirstIsMember member e.rec.requests) es) where
-    two : (P Q : Entry T → Type 0) (xs : List (Entry T)) → AllByRecursion P xs → AllByRecursion Q xs → AllByRecursion (λ e. P e × Q e) xs
-    two P Q [] h k = tt
-    two P Q (x ∷ xs) h k = ((h.0, k.0), two P Q xs h.1 k.1)
-
     within : (P : Entry T → Type 0) (front : List (Entry T)) (e : Entry T) (back : List (Entry T)) → AllByRecursion P (front ++ e ∷ back) → AllByRecursion P front × AllByRecursion P back
     within P [] e back h = (tt, h.1)
     within P (x ∷ front) e back h = let more = within P front e back h.1 in ((h.0, more.0), more.1)
@@ -148,7 +146,7 @@ module _ {T : Type 0} (ops : Tagging T) (t : ℕ) (es : List (Entry T)) (heads :
 
     -- no request is a member, where no head is one
     pub none_chosen : ((k : ℕ) (head : Head T) → slot_of_key heads k ≡ Some head → member head.tags ≡ false) → HasNone (λ r. member r.tags) (requests_in es)
-    none_chosen none = none_are ops order tag member es (two _ _ es members (all_found (λ f. FirstIsNone ops order tag member f.rec.requests) es d (λ f g. none_at f g f.rec.requests refl))) where
+    none_chosen none = none_are ops order tag member es (all_both _ _ es members (all_found (λ f. FirstIsNone ops order tag member f.rec.requests) es d (λ f g. none_at f g f.rec.requests refl))) where
       none_at : (f : Entry T) → entry_keyed f.key es ≡ Some f → (l : List (QueuedRequest T)) → f.rec.requests ≡ l → FirstIsNone ops order tag member l
       none_at f g [] q = tt
       none_at f g (r ∷ rest) q = let k = head_at f.key f r rest g q in subst (λ tags. member tags ≡ false) k.of.tags (none f.key k.head k.here)

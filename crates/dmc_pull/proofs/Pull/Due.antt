@@ -28,9 +28,10 @@ use Rattle.dmc_roster.specs.Entries.{Entry, AreDistinct}
 use Rattle.dmc_index.specs.Index.{slot_of_key}
 use Rattle.dmc_heads.specs.declared.head.Head.{Head}
 use Rattle.dmc_heads.specs.Heads.{IsFirst, tag_rank, limit_rank}
+use Rattle.dmc_tag.proofs.Orderings.{IsUpto, due_before}
 use Rattle.dmc_pull.specs.Standing.{requests_in}
 use Rattle.dmc_pull.specs.Queue.{AreHeads}
-use Rattle.dmc_pull.proofs.Common.Ordered.{due_before, due_members, limit_first, IsUpto, FirstIsLeast, FirstIsMember}
+use Rattle.dmc_pull.proofs.Common.Ordered.{due_members, limit_first, FirstIsLeast, FirstIsMember}
 use Rattle.dmc_pull.proofs.Common.Firsts.{IsAt, is_at, requests_append}
 use Rattle.dmc_pull.proofs.Pull.Choices.{none_chosen, entry_at}
 use Rattle.dmc_pull.proofs.Pull.Pulls.{head_under, same_some, then_less, true_not_false, either_key, all_are, early_none}
@@ -76,9 +77,6 @@ module _ {T : Type 0} (ops : Tagging T) (xs : List (PlainRequest T)) where
 module _ {T : Type 0} (ops : Tagging T) (order : IsTotalOrder ops.compare) (t : ℕ) (es : List (Entry T)) (heads : List (Option (Head T))) (are : AreHeads ops t es heads) (d : AreDistinct es) (records : AllByRecursion (λ e. IsRecord ops e.rec) es)
     (due_from : (tag : T) (n : ℕ) → is_due ops n (Some tag) ≡ nat_le (moment_of (ops.ceil tag)) n) (unready : (k : ℕ) (head : Head T) → slot_of_key heads k ≡ Some head → head.ready ≡ false)
     (kr : ℕ) (r : TagRank T) (first_r : IsFirst tag_rank (tag_rank_cmp ops.compare) heads kr r) (kl : ℕ) (l : LimitRank T) (first_l : IsFirst limit_rank (limit_rank_cmp ops.compare) heads kl l) where
-  moment_r : Option ℕ
-  moment_r = option_map (λ tag. moment_of (ops.ceil tag)) r.tag
-
   late : (tag : T) (n : ℕ) → n < moment_of (ops.ceil tag) → is_due ops n (Some tag) ≡ false
   late tag n h = let later : nat_le (moment_of (ops.ceil tag)) n ≡ false = grind (arith, nat_tests) in due_from tag n ∙ later
 

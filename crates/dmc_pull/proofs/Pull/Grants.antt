@@ -11,7 +11,7 @@ use Rattle.dmc_types.specs.declared.refusal.Refusal.TheVariants.{Range}
 use Rattle.dmc_tag.specs.Tag.{Fraction, Tagging}
 use Rattle.dmc_tag.specs.Outcome.{◌>>=◌, refuse_if}
 use Rattle.dmc_tag.specs.Spacing.{spacings_of}
-use Rattle.dmc_tag.specs.Rules.{Outcome, pulled_early, without, granted, grant_priority, can_grant, reduction_of, reduction_at, can_reduce_by, reduced_by, reduced_requests}
+use Rattle.dmc_tag.specs.Rules.{Outcome, without, granted, grant_priority, can_grant, reduction_of, reduction_at, can_reduce_by, reduced_by, reduced_requests}
 use Rattle.dmc_tag.specs.Step.{answer_of}
 use Rattle.dmc_tag.specs.declared.plain.PlainRequest.{PlainRequest}
 use Rattle.dmc_tag.specs.declared.plain.PlainClient.{PlainClient}
@@ -141,10 +141,6 @@ module _ {T : Type 0} (ops : Tagging T) where
     priority_declined allows denied beyond can =
         subst (λ o. IfSome o (λ found. SettlesIf allows (state_of old) (state_of old) (grant_priority ops (state_of old) t found beyond) (Err faults.Declined))) (sym first_is)
         (refl, ap (λ r. is_allowed allows ((answer_of (state_of old) (granted_by r beyond)).1)) (grantable_is true can) ∙ ap (λ id. allows id phases.Priority) (sym w.client_is) ∙ denied)
-
-    pub early_declined : (allows : ClientId → PhaseType → Bool) → allows client phases.Reservation ≡ false → (o : Option (PlainRequest T × List (PlainRequest T))) → o ≡ first_at key es → is_allowed allows ((answer_of (state_of old) (pulled_early ops (state_of old) t o)).1) ≡ false
-    early_declined allows denied o e =
-        ap (λ o. is_allowed allows ((answer_of (state_of old) (pulled_early ops (state_of old) t o)).1)) (e ∙ first_is) ∙ ap (λ id. allows id phases.Reservation) (sym w.client_is) ∙ denied
 
 -- what settles with a grant that the test allows
 pub allowed_settles : {T : Type 0} (allows : ClientId → PhaseType → Bool) (old new : State T) (outcomes : PlainRequest T × List (PlainRequest T) → Outcome T) (client : ClientId) (token : Token) (phase : PhaseType) (beyond : Bool) → allows client phase ≡ true → (o : Option (PlainRequest T × List (PlainRequest T)))

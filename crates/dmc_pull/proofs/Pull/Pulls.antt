@@ -19,9 +19,10 @@ use Rattle.dmc_heads.specs.declared.head.Head.{Head}
 use Rattle.dmc_heads.specs.Heads.{IsFirst, tag_rank, ready_rank}
 use Rattle.dmc_pull.specs.Standing.{requests_in}
 use Rattle.dmc_pull.specs.Queue.{AreHeads}
-use Rattle.dmc_pull.proofs.Common.Ordered.{due_before, due_members, reservation_first, limit_first, share_first, any_members, IsUpto, FirstIsLeast, FirstIsMember}
+use Rattle.dmc_pull.proofs.Common.Ordered.{due_members, reservation_first, limit_first, share_first, any_members, FirstIsLeast, FirstIsMember}
 use Rattle.dmc_pull.proofs.Pull.Choices.{IsChosen, chosen, none_chosen}
 pub use Rattle.dmc_tag.proofs.Orderings.{then_less}
+use Rattle.dmc_tag.proofs.Orderings.{IsUpto, due_before}
 
 -- ---- the head under a key
 

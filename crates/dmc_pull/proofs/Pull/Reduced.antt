@@ -1,5 +1,5 @@
 -- What a grant and its reduction make of the entries.
-use Rattle.std.proofs.Common.{◌≡◌, ℕ, suc, true, false, not, ◌&&◌, ◌||◌, List, [], ◌∷◌, ◌++◌, map, drop, length, Option, Some, None, refl, sym, ap, ◌∙◌, arith}
+use Rattle.std.proofs.Common.{◌≡◌, ℕ, true, false, not, ◌&&◌, ◌||◌, List, [], ◌∷◌, ◌++◌, map, drop, Option, Some, None, refl, sym, ap, ◌∙◌, arith}
 use Rattle.std.specs.Prelude.{if◌then◌else◌}
 use Rattle.std.specs.Option.{option_map_or}
 use Rattle.std.specs.List.{list_all, AllByRecursion}
@@ -17,7 +17,7 @@ use Rattle.dmc_adjust.specs.Changes.{popped, reduced}
 use Rattle.dmc_roster.specs.Entries.{Entry, with_record}
 use Rattle.dmc_pull.specs.Standing.{clients_in, requests_in}
 use Rattle.dmc_pull.proofs.Common.Parts.{and-true}
-use Rattle.dmc_pull.proofs.Common.Entries.{Split, Differs, split_changed, clients_whole, requests_whole, changed_client, length_whole, length_as}
+use Rattle.dmc_pull.proofs.Common.Entries.{Split, Differs, split_changed, clients_whole, requests_whole, changed_client}
 use Rattle.dmc_tag.proofs.Ids.{itself_id}
 
 module _ {T : Type 0} (ops : Tagging T) where
@@ -114,11 +114,3 @@ module _ {T : Type 0} (ops : Tagging T) where
 
     pub reduced_requests_in : requests_in (with_record key (reduced ops (popped e.rec)) es) ≡ reduced_requests ops e.id e.rec.spacings.r (requests_in (with_record key (popped e.rec) es))
     reduced_requests_in = requests_by e.rec.spacings.r
-
-    -- ---- one request fewer
-
-    pub length_popped : (r : QueuedRequest T) (more : List (QueuedRequest T)) → e.rec.requests ≡ r ∷ more → length (requests_in es) ≡ suc (length (requests_in (with_record key (popped e.rec) es)))
-    length_popped r more h =
-        let all : length e.rec.requests ≡ suc (length more) = ap length h in
-        let rest : length (drop 1 e.rec.requests) ≡ length more = ap (λ qs. length (drop 1 qs)) h in
-        omega (arith, length_as s, length_whole s (popped e.rec))

@@ -1,10 +1,10 @@
 use Rattle.std.proofs.Common.{ℕ, ◌<◌, ◌-◌, length, map, refl, ap, ◌∙◌, arith}
-use Rattle.std.proofs.lemmas.Bool.{eqb-true}
+use Rattle.std.proofs.lemmas.Bool.{eqb-true, false_from_ne_true}
 use Rattle.std.proofs.lemmas.List.{length-map}
 use Rattle.dmc_core.specs.Run.{Pair, grants, with_grants}
 use Rattle.dmc_core.specs.Parts.{pair_of}
 use Rattle.dmc_core.proofs.Pairs.{pair_seen, pair_changed, pair_same}
-use Rattle.dmc_core.proofs.Clients.{false_unless, response-none, response-counted}
+use Rattle.dmc_core.proofs.Clients.{response-none, response-counted}
 use Rattle.dmc_core.proofs.client.CoreClient.respond.Goals as goal
 
 pub returns-clause-follows : goal.returns-clause-follows
@@ -17,7 +17,7 @@ returns-clause-follows g c =
     let seen = pair_seen items s x within c.index_mut-pair.ensures.value in
     rw (← c.self.view_is)
     (response-counted g.row.T.Denot (record { id = c.self.inside.id; tracker = c.self.inside.tracker; pairs = map pair_of items }) s phase
-    (rw (seen, ← c.grants-count.ensures) (false_unless _ (λ e. absurd (omega (arith, eqb-true _ _ e)))))
+    (rw (seen, ← c.grants-count.ensures) (false_from_ne_true _ (λ e. absurd (omega (arith, eqb-true _ _ e)))))
     c.track_resp.result c.in_ok-track_resp.was within c.track_resp.ensures.full_by_list
     c.track_resp.new.self _
     c.in_ok-track_resp.ensures.stands c.track_resp.ensures.kept

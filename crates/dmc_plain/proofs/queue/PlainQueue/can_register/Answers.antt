@@ -6,14 +6,15 @@ use Rattle.dmc_types.specs.declared.refusal.Refusal.TheVariants.{Inexact}
 use Rattle.dmc_tag.specs.Spacing.{spacings_of}
 use Rattle.dmc_tag.specs.State.{client_named}
 use Rattle.dmc_tag.proofs.Options.{err_is}
-use Rattle.dmc_plain.proofs.Tests.{already_known, register_inexact, counts_clients}
+use Rattle.dmc_tag.proofs.Refusals.{refused_known, refused_inexact}
+use Rattle.dmc_plain.proofs.Tests.{counts_clients}
 use Rattle.dmc_plain.proofs.queue.PlainQueue.can_register.Goals as goal
 
 pub returns-then-is_some-clause-outcome : goal.returns-then-is_some-clause-outcome
 returns-then-is_some-clause-outcome g c =
     let clients = c.deref.ensures.value ∙ ap (λ s. s.clients) c.self.view_is in
     let named = ap (λ cs. is_some (client_named c.args.client cs)) (sym clients) ∙ ap is_some (sym c.client_named.ensures) ∙ sym c.is_some.ensures in
-    already_known g.T.Tag.ops c.args.self.now c.args.client c.args.info (named ∙ c.if-is_some.true)
+    refused_known g.T.Tag.ops c.args.self.now c.args.client c.args.info (named ∙ c.if-is_some.true)
 
 pub returns-in_err-_exact-clause-outcome : goal.returns-in_err-_exact-clause-outcome
 returns-in_err-_exact-clause-outcome g c =
@@ -22,7 +23,7 @@ returns-in_err-_exact-clause-outcome g c =
     let hz = c.hz.ensures.value ∙ ap (λ s. s.config.hz) c.self.view_is in
     let inexact = ap (λ n. spacings_of g.T.Tag.ops n c.args.info) (sym hz) ∙ sym c.spacings_for.ensures.value ∙ c.in_err-_exact.was in
     err_is c.from_residual.result (Inexact c.in_err-_exact.field-0.0) c.from_residual.ensures.1
-    ∙ register_inexact g.T.Tag.ops c.args.self.now c.args.client c.args.info (named ∙ c.if-is_some.false) c.in_err-_exact.field-0.0 inexact
+    ∙ refused_inexact g.T.Tag.ops c.args.self.now c.args.client c.args.info c.in_err-_exact.field-0.0 (named ∙ c.if-is_some.false) inexact
 
 pub returns-then-len-ge-CLIENTS-clause-outcome : goal.returns-then-len-ge-CLIENTS-clause-outcome
 returns-then-len-ge-CLIENTS-clause-outcome g c =

@@ -4,13 +4,14 @@ use Rattle.dmc_tag.specs.Rules.{changes_reservation}
 use Rattle.dmc_tag.specs.Spacing.{spacings_of}
 use Rattle.dmc_tag.specs.State.{client_named, has_queued}
 use Rattle.dmc_tag.proofs.Options.{err_is}
-use Rattle.dmc_plain.proofs.Tests.{update_unknown, update_inexact, asks_busy}
+use Rattle.dmc_tag.proofs.Refusals.{refused_unknown, update_inexact}
+use Rattle.dmc_plain.proofs.Tests.{asks_busy}
 use Rattle.dmc_plain.proofs.queue.PlainQueue.can_update.Goals as goal
 
 pub returns-in_default : goal.returns-in_default
 returns-in_default g c =
     let clients = c.deref.ensures.value ∙ ap (λ s. s.clients) c.self.view_is in
-    update_unknown g.T.Tag.ops c.args.self.now c.args.client c.args.info (ap (client_named c.args.client) (sym clients) ∙ sym c.client_named.ensures ∙ c.in_default.is)
+    refused_unknown g.T.Tag.ops c.args.self.now c.args.client c.args.info (ap (client_named c.args.client) (sym clients) ∙ sym c.client_named.ensures ∙ c.in_default.is)
 
 pub returns-in_err-_exact : goal.returns-in_err-_exact
 returns-in_err-_exact g c =

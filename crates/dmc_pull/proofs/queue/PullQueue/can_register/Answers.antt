@@ -2,7 +2,8 @@ use Rattle.std.proofs.Common.{◌≤◌, ◌<◌, Ok, Err, ◌∙◌, sym, subst
 use Rattle.dmc_types.specs.Limits.{most_clients}
 use Rattle.dmc_pull.specs.Queue.{state_of}
 use Rattle.dmc_pull.proofs.Common.Entries.{length_clients}
-use Rattle.dmc_pull.proofs.Clients.Registering.{is_known, not_named, spacings_at, refused_known, refused_inexact, refused_clients, may_register}
+use Rattle.dmc_tag.proofs.Refusals.{refused_known, refused_inexact}
+use Rattle.dmc_pull.proofs.Clients.Registering.{is_known, not_named, spacings_at, refused_clients, may_register}
 use Rattle.dmc_pull.proofs.queue.PullQueue.can_register.Goals as goal
 
 pub returns-then-is_some-clause-outcome : goal.returns-then-is_some-clause-outcome

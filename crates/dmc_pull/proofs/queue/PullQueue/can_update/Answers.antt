@@ -3,7 +3,8 @@ use Rattle.dmc_tag.specs.Rules.{changes_reservation}
 use Rattle.dmc_client.specs.Record.{client_of}
 use Rattle.dmc_pull.specs.Queue.{state_of}
 use Rattle.dmc_pull.proofs.Clients.Registering.{spacings_at}
-use Rattle.dmc_pull.proofs.Clients.Updating.{client_at, unnamed, said_of, refused_unknown, update_inexact, refused_busy, may_update, busy_as, not_busy}
+use Rattle.dmc_tag.proofs.Refusals.{refused_unknown, update_inexact}
+use Rattle.dmc_pull.proofs.Clients.Updating.{client_at, unnamed, said_of, refused_busy, may_update, busy_as, not_busy}
 use Rattle.dmc_pull.proofs.queue.PullQueue.can_update.Goals as goal
 
 pub returns-in_default-clause-outcome : goal.returns-in_default-clause-outcome

@@ -1,5 +1,5 @@
 //! An index that is filled, changed, asked and emptied again and again.
-ghost use Rattle.std.specs.Prelude.{◌≡◌, Some, OnOk, ◌%◌, ◌^◌, ◌*◌, ◌+◌};
+ghost use Rattle.std.specs.Prelude.{◌≡◌, Some, OnOk, ◌^◌};
 ghost use Rattle.dmc_bench.specs.Keys.{HoldsFirst};
 
 use crate::fault::Fault;

@@ -15,10 +15,10 @@ mod watch;
 
 use crate::fault::Fault;
 use crate::load::{Load, read_load, run_load};
+use std::env;
 use std::process::ExitCode;
 use std::sync::Wait;
 use std::thread::Threads;
-use std::{env, io};
 
 /// Runs the load that the words name. Status 0: done; 1: no memory, no clock, or a stream that fails; 2: the words name no load.
 fn main(rt: HostRuntime) -> ExitCode {

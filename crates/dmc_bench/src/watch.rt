@@ -1,6 +1,5 @@
 //! How long the parts of a load take.
 use crate::fault::Fault;
-use std::io;
 use std::time::Instant;
 
 /// The moment at which a part begins.

@@ -4,7 +4,7 @@ use Rattle.std.specs.Prelude.{◌==◌, if◌then◌else◌, is_some}
 use Rattle.std.specs.List.{AllByRecursion, position}
 use Rattle.std.proofs.lemmas.List.Quantifiers.{position-Some}
 use Rattle.std.proofs.lemmas.Bool.{eq-eqb, eqb-true}
-use Rattle.dmc_types.specs.Values.{Params}
+use Rattle.dmc_types.specs.Values.{Params, no_counts}
 use Rattle.dmc_types.specs.declared.ids.ClientId.{ClientId}
 use Rattle.dmc_types.specs.declared.config.PhaseType.{PhaseType}
 use Rattle.dmc_types.specs.declared.command.Command.{Command}
@@ -23,7 +23,7 @@ use Rattle.dmc_tlock.specs.BookState.{StampValue}
 use Rattle.dmc_book.specs.BookState.{no_desk}
 use Rattle.dmc_book.specs.Calls.{AreAlike, IsForDesk, lacks_desk, names_none}
 use Rattle.dmc_book.specs.Consistent.{AreClientsApart, AreGrantsWithin}
-use Rattle.dmc_book.specs.Counts.{accepted, grant_in, grants_added, stamps_added, delta_added, rho_added, stamps_for, params_for, units_for, no_params, one_if, is_phase}
+use Rattle.dmc_book.specs.Counts.{accepted, grant_in, grants_added, stamps_added, delta_added, rho_added, stamps_for, params_for, units_for, one_if, is_phase}
 use Rattle.dmc_book.specs.Moves.{desk_after, desk_place, same_place, takes_at, is_unit_of, unit_at}
 use Rattle.dmc_book.proofs.WorkerLemmas.{issue_none}
 use Rattle.dmc_tag.proofs.Lists.{map_unmoved, all_as, position_map}
@@ -112,8 +112,8 @@ module _ {T : Type 0} (e : Event T) where
     pub stamp_idle : (d : ClientSide) → (client.0 == d.client) ≡ false → IsIdle d
     stamp_idle d h = record {
       stamps = ap (stamps_for d.client) a ∙ ap one_if h;
-      delta = ap (λ o. (params_for d.client o).delta) a ∙ ap (λ b. (if b then params else no_params).delta) h;
-      rho = ap (λ o. (params_for d.client o).rho) a ∙ ap (λ b. (if b then params else no_params).rho) h;
+      delta = ap (λ o. (params_for d.client o).delta) a ∙ ap (λ b. (if b then params else no_counts).delta) h;
+      rho = ap (λ o. (params_for d.client o).rho) a ∙ ap (λ b. (if b then params else no_counts).rho) h;
       reservation = ap (units_for d.client Reservation) g;
       priority = ap (units_for d.client Priority) g;
     }
@@ -122,8 +122,8 @@ module _ {T : Type 0} (e : Event T) where
     stamp_taken d same =
         let h : (client.0 == d.client) ≡ true = eq-eqb client.0 d.client (sym same) in
         let s : stamps_added d.client e ≡ 1 = ap (stamps_for d.client) a ∙ ap one_if h in
-        let x : delta_added d.client e ≡ params.delta = ap (λ o. (params_for d.client o).delta) a ∙ ap (λ b. (if b then params else no_params).delta) h in
-        let y : rho_added d.client e ≡ params.rho = ap (λ o. (params_for d.client o).rho) a ∙ ap (λ b. (if b then params else no_params).rho) h in
+        let x : delta_added d.client e ≡ params.delta = ap (λ o. (params_for d.client o).delta) a ∙ ap (λ b. (if b then params else no_counts).delta) h in
+        let y : rho_added d.client e ≡ params.rho = ap (λ o. (params_for d.client o).rho) a ∙ ap (λ b. (if b then params else no_counts).rho) h in
         rw (
           ap (λ n. with_more n d.held.stamps) s,
           ap (λ n. with_more n d.held.delta) x,

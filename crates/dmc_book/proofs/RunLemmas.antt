@@ -1,5 +1,5 @@
 -- What was answered or refused, of a command that is no Add.
-use Rattle.std.proofs.Common.{ℕ, ◌≡◌, ◌<◌, Bool, true, false, true≢false, length, refl, sym, ◌∙◌, Result, Ok, Err, arith}
+use Rattle.std.proofs.Common.{ℕ, ◌≡◌, ◌<◌, true, false, true≢false, length, refl, sym, ◌∙◌, Result, Ok, Err, arith}
 use Rattle.std.specs.Prelude.{◌↔◌, OnOk, OnErr, IfOk}
 use Rattle.std.specs.Cmp.{IsTotalOrder}
 use Rattle.std.proofs.lemmas.Bool.{true_from_ne_false}

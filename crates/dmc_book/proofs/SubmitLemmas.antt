@@ -1,5 +1,5 @@
 -- Why a submit was refused.
-use Rattle.std.proofs.Common.{ℕ, ◌≡◌, ◌<◌, false, length, refl, ◌∙◌, Some, Err, arith}
+use Rattle.std.proofs.Common.{ℕ, ◌≡◌, ◌<◌, false, length, refl, Some, Err, arith}
 use Rattle.std.specs.Prelude.{◌↔◌}
 use Rattle.dmc_types.specs.declared.ids.Token.{Token}
 use Rattle.dmc_tag.specs.Tag.{Tagging}
@@ -7,7 +7,6 @@ use Rattle.dmc_history.specs.declared.ReserveFault.{ReserveFault}
 use Rattle.dmc_history.specs.declared.ReserveFault.TheVariants as reserve
 use Rattle.dmc_ledger.specs.Bundles.{StampHoldings}
 use Rattle.dmc_tlock.specs.BookState.{StampValue}
-use Rattle.dmc_book.specs.declared.fault.SubmitCause.{SubmitCause}
 use Rattle.dmc_book.specs.declared.fault.SubmitCause.TheVariants as submit
 use Rattle.dmc_book.specs.BookState.{BookState, PassState}
 use Rattle.dmc_book.specs.Calls.{IsForDesk, submit_cause}

@@ -1,6 +1,6 @@
 -- Counts over a queue's history: what each event adds to a count, and the sums.
 use Rattle.std.specs.Prelude.{ℕ, ◌+◌, ◌-◌, ◌^◌, ◌≤◌, ◌==◌, ◌&&◌, Bool, true, false, if◌then◌else◌, List, [], ◌∷◌, Option, Some, None, is_some}
-use Rattle.dmc_types.specs.Values.{Params}
+use Rattle.dmc_types.specs.Values.{Params, no_counts}
 use Rattle.dmc_types.specs.declared.ids.ClientId.{ClientId}
 use Rattle.dmc_types.specs.declared.config.PhaseType.{PhaseType}
 use Rattle.dmc_types.specs.declared.config.PhaseType.TheVariants.{Reservation, Priority}
@@ -111,16 +111,13 @@ worker_adds worker e = if e.worker.0 == worker then numbers_of e.command e.reply
 abbrev pub accepted : {T : Type 0} → Event T → Option (ClientId × Params)
 accepted e = if is_tagged e.reply then stamp_in e.command else None
 
-abbrev pub no_params : Params
-no_params = record { delta = 0; rho = 0 }
-
 abbrev pub stamps_for : ℕ → Option (ClientId × Params) → ℕ
 stamps_for client None = 0
 stamps_for client (Some stamp) = one_if (stamp.0.0 == client)
 
 abbrev pub params_for : ℕ → Option (ClientId × Params) → Params
-params_for client None = no_params
-params_for client (Some stamp) = if stamp.0.0 == client then stamp.1 else no_params
+params_for client None = no_counts
+params_for client (Some stamp) = if stamp.0.0 == client then stamp.1 else no_counts
 
 abbrev pub is_phase : PhaseType → PhaseType → Bool
 is_phase Reservation Reservation = true

@@ -1,9 +1,7 @@
 //! Commands handed to the queue.
-ghost use Rattle.std.specs.Prelude.{◌≡◌, true, false, map, Option, Some, None};
+ghost use Rattle.std.specs.Prelude.{◌≡◌, false, map};
 ghost use Rattle.dmc_ledger.specs.Bundles.{client_side};
-ghost use Rattle.dmc_tag.specs.Answers.{call_reply};
 ghost use Rattle.dmc_tag.specs.Steps.{Steps};
-ghost use Rattle.dmc_tag.specs.declared.reply.Reply.TheVariants as replies;
 ghost use Rattle.dmc_types.specs.declared.command.Command.TheVariants as commands;
 ghost use Rattle.dmc_pull.specs.Queue.{state_of};
 ghost use Rattle.dmc_book.specs.BookState.{pass_state};

@@ -1,5 +1,5 @@
 //! What an event adds to the counts.
-ghost use Rattle.std.specs.Prelude.{◌≡◌, ◌≤◌};
+ghost use Rattle.std.specs.Prelude.{◌≡◌};
 ghost use Rattle.dmc_book.specs.Counts as counts;
 
 use dmc_tag::reply::Reply;

@@ -1,6 +1,6 @@
 //! What holds of every queue's book, by its type, wherever the book came from: out of a lock that was opened, for one. Each
 //! law is the contract of a function that changes nothing: a caller that calls it knows the law.
-ghost use Rattle.std.specs.Prelude.{◌≡◌, List, Option, length};
+ghost use Rattle.std.specs.Prelude.{List, Option, length};
 ghost use Rattle.std.specs.List.{AllByRecursion};
 ghost use Rattle.dmc_heads.specs.Heads as heads_of;
 ghost use Rattle.dmc_heads.specs.Heads.{Ranks};

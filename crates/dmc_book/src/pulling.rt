@@ -1,6 +1,5 @@
 //! A pull from the queue's book.
 ghost use Rattle.std.specs.Prelude.{◌≡◌, ◌↔◌, true, false, length, OnOk, IsErrOf};
-ghost use Rattle.dmc_tag.specs.declared.reply.Reply.TheVariants as replies;
 ghost use Rattle.dmc_types.specs.declared.command.Command.TheVariants as commands;
 ghost use Rattle.dmc_pull.specs.Allowed.{is_allowed};
 ghost use Rattle.dmc_book.specs.BookState.{pass_state};

@@ -1,5 +1,5 @@
 //! What a queue's book leaves.
-ghost use Rattle.std.specs.Prelude.{◌≡◌, ◌≤◌, ◌<◌, ◌↔◌, ℕ, [], length, map, IfSome, IsSome, IsTrue, slice_index_or, slice_set};
+ghost use Rattle.std.specs.Prelude.{◌≡◌, ◌<◌, ◌↔◌, length, map, IfSome, IsSome, IsTrue, slice_index_or, slice_set};
 ghost use Rattle.std.specs.List.{AllByRecursion};
 ghost use Rattle.dmc_ledger.specs.Accounts.{after_closing};
 ghost use Rattle.dmc_ledger.specs.Bundles.{client_side, grant_accounts, grant_holdings};
@@ -16,8 +16,6 @@ use dmc_ledger::desk::ClientDesk;
 use dmc_ledger::setup::Setup;
 use dmc_ledger::till::Till;
 use dmc_tag::tag::Tag;
-use std::alloc::Global;
-use std::mem::replace;
 
 /// What was left of a client's grants in the workers' passes: units of each phase.
 #[derive(Clone, Copy, Debug, Default, PartialEq, Eq)]

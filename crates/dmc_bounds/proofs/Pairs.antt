@@ -1,5 +1,5 @@
 -- Lists in which each pair is so, and lists of clients in which one is found.
-use Rattle.std.proofs.Common.{◌≡◌, Bool, true, false, ◌&&◌, ◌||◌, cond, List, [], ◌∷◌, ◌++◌, map, Some, refl, sym, ap, ◌∙◌, subst}
+use Rattle.std.proofs.Common.{◌≡◌, Bool, true, false, ◌||◌, cond, List, [], ◌∷◌, ◌++◌, map, Some, refl, sym, ap, ◌∙◌, subst}
 use Rattle.std.specs.Prelude.{filter, is_some, ⊤}
 use Rattle.std.specs.List.{AllByRecursion, find, list_any}
 use Rattle.dmc_types.specs.declared.ids.ClientId.{ClientId}

@@ -5,7 +5,7 @@ use Rattle.dmc_types.specs.declared.command.Command.{Command}
 use Rattle.dmc_tag.specs.declared.event.Event.{Event}
 use Rattle.dmc_tag.specs.declared.reply.Reply.{Reply}
 use Rattle.dmc_tag.specs.declared.reply.Reply.TheVariants.{Registered, Later}
-use Rattle.dmc_tick.specs.Examples.{client, add, pull, tags, by_reservation, by_priority, by_priority_beyond}
+use Rattle.dmc_tag.specs.Examples.{client, add, pull, tags, by_reservation, by_priority, by_priority_beyond}
 
 abbrev pub first_client : ClientId
 first_client = record { 0 = 1 }

@@ -2,7 +2,7 @@
 ghost use Rattle.std.specs.Prelude.{◌≡◌, ◌+◌, ◌*◌, ◌++◌, ◌∷◌, [], map, nat_le, false};
 ghost use Rattle.dmc_tag.specs.Replay.{after, replays};
 ghost use Rattle.dmc_tag.specs.State.{requests_of};
-ghost use Rattle.dmc_tick.specs.Examples.{waiting, allowing};
+ghost use Rattle.dmc_tag.specs.Examples.{waiting, allowing};
 ghost use Rattle.dmc_tick.specs.Tick.{tick_ops};
 ghost use Rattle.dmc_bounds.specs.Bounds.{sum_since, ticks_since, priorities};
 ghost use Rattle.dmc_bounds.specs.Examples.{first_client, limited, at_limit, waits, granted_at_50, granted_beyond, reserved, at_reservation, reserved_at_100, with_priority, third_at_100, both, with_beyond};

@@ -1,5 +1,5 @@
 //! What every history that replays keeps to. Each law is the contract of a function that does nothing.
-ghost use Rattle.std.specs.Prelude.{ℕ, ◌<◌};
+ghost use Rattle.std.specs.Prelude.{◌<◌};
 ghost use Rattle.dmc_types.specs.Values.{Setting};
 ghost use Rattle.dmc_bounds.specs.Bounds.{InOrderOfArrival, LimitBound, ReservationBound};
 

@@ -1,5 +1,5 @@
 //! Event texts are checked.
-ghost use Rattle.std.specs.Prelude.{◌≡◌, Option, None, Some, List, [], Err, IfOk, OnOk, IsTrue, is_some};
+ghost use Rattle.std.specs.Prelude.{◌≡◌, Option, None, Some, [], Err, IfOk, OnOk, IsTrue, is_some};
 ghost use Rattle.dmc_text.specs.declared.cause.LineCause.{LineCause};
 ghost use Rattle.dmc_check.specs.EventLines.{event_of};
 ghost use Rattle.dmc_check.specs.EventTexts.{Recorded, with_line, verdict_text, ChecksAs};

@@ -4,7 +4,6 @@ ghost use Rattle.dmc_client.specs.Owed as owed_of;
 ghost use Rattle.dmc_client.specs.Record as record_of;
 ghost use Rattle.dmc_tag.specs.Rules as rules_of;
 ghost use Rattle.std.specs.List.{list_all};
-ghost use Rattle.std.specs.VecDeque.{deque_len};
 
 use crate::request::QueuedRequest;
 use dmc_tag::reply::Tags;

@@ -7,8 +7,8 @@ use Rattle.dmc_types.specs.declared.ids.ServerId.{ServerId}
 use Rattle.dmc_types.specs.declared.ids.Token.{Token}
 use Rattle.dmc_types.specs.declared.config.Counting.TheVariants as counting
 use Rattle.dmc_types.specs.declared.config.PhaseType.TheVariants.{Reservation}
+use Rattle.dmc_tag.specs.Examples.{waiting, tags, by_reservation}
 use Rattle.dmc_tick.specs.Tick.{tick_ops}
-use Rattle.dmc_tick.specs.Examples.{waiting, tags, by_reservation}
 use Rattle.dmc_core.specs.declared.event.CoreEvent.{CoreEvent}
 use Rattle.dmc_core.specs.declared.event.CoreEvent.TheVariants.{Stamp, Arrive, Pull, Respond}
 use Rattle.dmc_core.specs.declared.event.CoreReply.{CoreReply}

@@ -12,7 +12,7 @@ use Rattle.dmc_types.specs.declared.config.Counting.{Counting}
 use Rattle.dmc_types.specs.declared.command.Command.{Command}
 use Rattle.dmc_tag.specs.Tag.{Tagging}
 use Rattle.dmc_tag.specs.State.{State, StandsFor, is_client}
-use Rattle.dmc_tag.specs.Outcome.{◌>>=◌}
+use Rattle.dmc_tag.specs.Outcome.{◌>>=◌, refuse_if}
 use Rattle.dmc_tag.specs.Step.{step}
 use Rattle.dmc_tag.specs.Steps.{Steps}
 use Rattle.dmc_tag.specs.declared.reply.Reply.{Reply}
@@ -21,7 +21,7 @@ use Rattle.dmc_core.specs.declared.event.CoreReply.{CoreReply}
 use Rattle.dmc_core.specs.declared.event.CoreReply.TheVariants.{Served}
 use Rattle.dmc_core.specs.declared.event.CoreFault.{CoreFault}
 use Rattle.dmc_core.specs.declared.event.CoreFault.TheVariants as faults
-use Rattle.dmc_core.specs.Run.{Client, Run, change_first, with_client, with_server, client_of, server_of, refuse_if}
+use Rattle.dmc_core.specs.Run.{Client, Run, change_first, with_client, with_server, client_of, server_of}
 use Rattle.dmc_core.specs.Events.{Outcome, client_event, server_event, outcome}
 use Rattle.dmc_core.specs.Core.{Held, CoreValue, Matches, StandsForRun, Follows, ClientFollows, IsRefusal, may_grow, is_accepted}
 use Rattle.dmc_core.specs.Parts.{place_of}

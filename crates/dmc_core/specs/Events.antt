@@ -12,7 +12,7 @@ use Rattle.dmc_types.specs.declared.command.Command.{Command}
 use Rattle.dmc_types.specs.declared.command.Command.TheVariants as commands
 use Rattle.dmc_tag.specs.Tag.{Tagging}
 use Rattle.dmc_tag.specs.State.{opening}
-use Rattle.dmc_tag.specs.Outcome.{◌>>=◌}
+use Rattle.dmc_tag.specs.Outcome.{◌>>=◌, refuse_if}
 use Rattle.dmc_tag.specs.Step.{step}
 use Rattle.dmc_tag.specs.Replay.{state_after}
 use Rattle.dmc_tag.specs.declared.reply.Reply.{Reply}
@@ -27,7 +27,7 @@ use Rattle.dmc_core.specs.declared.event.CoreReply.{CoreReply}
 use Rattle.dmc_core.specs.declared.event.CoreReply.TheVariants.{Stamped, Served, Counted}
 use Rattle.dmc_core.specs.declared.event.CoreFault.{CoreFault}
 use Rattle.dmc_core.specs.declared.event.CoreFault.TheVariants.{FlightFull, TrackFull, NoFlight, GrantsFull, NoGrant}
-use Rattle.dmc_core.specs.Run.{Pair, Client, Run, most_completions, most_in_flight, no_pair, pair_at, with_pair, with_flight, grants, with_grants, change_client, with_client, with_server, client_of, server_of, are_grants_full, refuse_if}
+use Rattle.dmc_core.specs.Run.{Pair, Client, Run, most_completions, most_in_flight, no_pair, pair_at, with_pair, with_flight, grants, with_grants, change_client, with_client, with_server, client_of, server_of, are_grants_full}
 
 -- a run and the reply to an event, or its refusal
 abbrev pub Outcome : Type 0 → Type 0

@@ -7,8 +7,8 @@ use Rattle.dmc_types.specs.declared.ids.ClientId.{ClientId}
 use Rattle.dmc_types.specs.declared.ids.ServerId.{ServerId}
 use Rattle.dmc_types.specs.declared.config.PhaseType.{PhaseType}
 use Rattle.dmc_tag.specs.State.{is_client}
-use Rattle.dmc_tag.specs.Outcome.{◌>>=◌}
-use Rattle.dmc_core.specs.Run.{Pair, pair_at, grants, most_grants, refuse_if}
+use Rattle.dmc_tag.specs.Outcome.{◌>>=◌, refuse_if}
+use Rattle.dmc_core.specs.Run.{Pair, pair_at, grants, most_grants}
 use Rattle.dmc_core.specs.Core.{Held, CoreValue}
 use Rattle.dmc_core.specs.declared.event.CoreFault.{CoreFault}
 use Rattle.dmc_core.specs.declared.event.CoreFault.TheVariants.{NoClient, NoServer}

@@ -1,6 +1,6 @@
 -- A cluster run: a plain state per server, a tracker list per client, and per pair of a client and a server the messages
 -- in flight and the counts of grants not yet responded.
-use Rattle.std.specs.Prelude.{ℕ, ◌-◌, ◌^◌, Bool, ◌||◌, ◌==◌, if◌then◌else◌, List, [], ◌∷◌, slice_get, slice_index_or, slice_set, Result, Ok, Err, ⊤}
+use Rattle.std.specs.Prelude.{ℕ, ◌-◌, ◌^◌, Bool, ◌||◌, ◌==◌, if◌then◌else◌, List, [], ◌∷◌, slice_get, slice_index_or, slice_set, Result}
 use Rattle.std.specs.List.{find, list_any}
 use Rattle.std.specs.Option.{ok_or}
 use Rattle.dmc_types.specs.Limits as limits
@@ -100,6 +100,3 @@ server_of run s = ok_or (slice_get run.servers s.0) NoServer
 -- one of the server's counts can't grow
 abbrev pub are_grants_full : ServerId → List Client → Bool
 are_grants_full s clients = list_any (λ c. has_full_count (pair_at s c.pairs)) clients
-
-abbrev pub refuse_if : Bool → CoreFault → Result ⊤ CoreFault
-refuse_if b fault = if b then Err fault else Ok tt

@@ -9,7 +9,7 @@ use Rattle.dmc_types.specs.declared.command.Command.{Command}
 use Rattle.dmc_types.specs.declared.command.Command.TheVariants as commands
 use Rattle.dmc_tag.specs.Tag.{Tagging}
 use Rattle.dmc_tag.specs.State.{State}
-use Rattle.dmc_tag.specs.Outcome.{◌>>=◌}
+use Rattle.dmc_tag.specs.Outcome.{◌>>=◌, refuse_if}
 use Rattle.dmc_tag.specs.Step.{step}
 use Rattle.dmc_tag.proofs.TagOrder.{bound, from_option}
 use Rattle.dmc_tracker.specs.TrackerList.{demanded, completions}
@@ -20,7 +20,7 @@ use Rattle.dmc_core.specs.declared.event.CoreReply.{CoreReply}
 use Rattle.dmc_core.specs.declared.event.CoreReply.TheVariants.{Stamped, Served, Counted}
 use Rattle.dmc_core.specs.declared.event.CoreFault.{CoreFault}
 use Rattle.dmc_core.specs.declared.event.CoreFault.TheVariants.{FlightFull, TrackFull, GrantsFull, NoGrant}
-use Rattle.dmc_core.specs.Run.{Client, Run, pair_at, grants, most_in_flight, most_completions, with_client, with_server, client_of, server_of, are_grants_full, refuse_if}
+use Rattle.dmc_core.specs.Run.{Client, Run, pair_at, grants, most_in_flight, most_completions, with_client, with_server, client_of, server_of, are_grants_full}
 use Rattle.dmc_core.specs.Events.{Outcome, outcome, conclusion, cluster_step, is_stamp_full, stamp, after_stamp, client_after_arrival, after_pull, response, after_response}
 use Rattle.dmc_core_laws.specs.Histories.{Answer, client_in}
 

@@ -1,5 +1,5 @@
 -- What a cluster core answers is what the rules answer in a run.
-use Rattle.std.proofs.Common.{◌≡◌, ℕ, ◌+◌, ◌*◌, ◌≤◌, ◌<◌, Some, true, false, true≢false, List, [], ◌∷◌, ◌++◌, map, inl, inr, ◌⊎◌, Ok, Err, refl, sym, ap, ◌∙◌, subst}
+use Rattle.std.proofs.Common.{◌≡◌, ℕ, ◌+◌, ◌*◌, ◌≤◌, Some, true, false, true≢false, List, [], ◌∷◌, ◌++◌, map, inl, inr, ◌⊎◌, Ok, Err, refl, sym, ap, ◌∙◌, subst}
 use Rattle.std.specs.Cmp.{IsTotalOrder}
 use Rattle.dmc_types.specs.declared.ids.ClientId.{ClientId}
 use Rattle.dmc_types.specs.declared.ids.ServerId.{ServerId}

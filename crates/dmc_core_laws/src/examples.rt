@@ -4,7 +4,7 @@ ghost use Rattle.dmc_types.specs.declared.config.Counting.TheVariants.{All};
 ghost use Rattle.dmc_bounds.specs.Bounds.{sum_since, ticks_since, priorities};
 ghost use Rattle.dmc_bounds.specs.Examples.{first_client};
 ghost use Rattle.dmc_core.specs.declared.event.CoreReply.TheVariants.{Served};
-ghost use Rattle.dmc_tick.specs.Examples.{waiting, allowing, by_reservation, by_priority, by_priority_beyond};
+ghost use Rattle.dmc_tag.specs.Examples.{waiting, allowing, by_reservation, by_priority, by_priority_beyond};
 ghost use Rattle.dmc_tick.specs.Tick.{tick_ops};
 ghost use Rattle.dmc_core_laws.specs.Bounds.{run_of, tracker_list, counted_since};
 ghost use Rattle.dmc_core_laws.specs.Examples.{only_server, scene_of, sent, at_limit, waits, at_reservation, up_to, from_there, answer};

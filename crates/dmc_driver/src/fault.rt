@@ -1,5 +1,4 @@
 //! Why a run of a cluster has no report, or has one that is not done.
-ghost use Rattle.std.specs.Prelude.{◌≡◌};
 
 use dmc_settle::report::ClusterReport;
 use dmc_tag::tag::Tag;

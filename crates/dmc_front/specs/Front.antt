@@ -1,5 +1,5 @@
 -- A queue whose tags are of either type: the plain state that it is, and what a command at it is answered.
-use Rattle.std.specs.Prelude.{◌≡◌, ℕ, ℤ, List, length, Option, Some, None, IsOk}
+use Rattle.std.specs.Prelude.{◌≡◌, ℕ, ℤ, length, Option, Some, None, IsOk}
 use Rattle.std.specs.Option.{option_map}
 use Rattle.dmc_types.specs.Values.{Setting}
 use Rattle.dmc_types.specs.declared.config.TagKind.{TagKind}

@@ -1,5 +1,5 @@
 -- What an index answers, said of the heads, and a head that is written.
-use Rattle.std.proofs.Common.{◌≡◌, ◌≢◌, ℕ, ◌<◌, List, Option, Some, None, length, set, refl, sym, ap, ◌∙◌, inl, inr, false}
+use Rattle.std.proofs.Common.{◌≡◌, ◌≢◌, ℕ, ◌<◌, List, Option, Some, None, length, set, sym, ap, ◌∙◌, inl, inr, false}
 use Rattle.std.specs.Option.{option_map, MatchOption}
 use Rattle.std.specs.declared.cmp.Ordering.{Ordering}
 use Rattle.std.proofs.lemmas.Bool.{cases_eq}

@@ -59,7 +59,6 @@ pub struct History<E> {
 }
 
 impl<E> Model for History<E> {
-    ghost use Rattle.std.specs.Prelude.{vec_len};
     ghost use Rattle.dmc_history.specs.Log.{Log};
 
     ghost Value = { Log E };

@@ -1,5 +1,5 @@
 //! What an index over ranks promises.
-ghost use Rattle.std.specs.Prelude.{◌≡◌, ◌≢◌, ℕ, ◌-◌, ◌≤◌, ◌<◌, ◌++◌, ◌==◌, List, [], Option, Some, None, MatchOption, OnOk, OnErr, IsOk, IsSome, length, replicate, count_by, is_some, slice_set, option_copied};
+ghost use Rattle.std.specs.Prelude.{◌≡◌, ℕ, ◌-◌, ◌≤◌, ◌<◌, ◌++◌, ◌==◌, List, [], Option, Some, None, MatchOption, OnOk, OnErr, IsOk, IsSome, length, replicate, count_by, is_some, slice_set, option_copied};
 ghost use Rattle.dmc_index.specs.Index.{slot_of_key, IsEmpty, IsApart, IsApartFromOthers, AreApart, IsLeast, KeepsOrder, IsMapped};
 
 use dmc_tag::rank::{LimitRank, Rank, ReadyRank, TagRank};

@@ -1,8 +1,8 @@
 //! An index as a sorted vector. Each change moves what is behind it, so it suits a few keys, and tests.
-ghost use Rattle.std.specs.Prelude.{◌≡◌, ◌≢◌, ℕ, ◌-◌, ◌≤◌, ◌<◌, ◌++◌, ◌==◌, position, length};
+ghost use Rattle.std.specs.Prelude.{◌≡◌, ◌≢◌, ◌-◌, ◌≤◌, ◌<◌, ◌==◌, position, length};
 ghost use Rattle.std.specs.List.Sorted.{IsPartitionPoint};
 ghost use Rattle.std.specs.declared.cmp.Ordering.TheVariants.{Less};
-ghost use Rattle.std.specs.List.{AllPairs, All};
+ghost use Rattle.std.specs.List.{All};
 ghost use Rattle.dmc_index.specs.Entries.{IsRising, MapsEntries};
 
 use crate::index::{Indexes, OrderIndex};

@@ -1,5 +1,5 @@
 //! Tills and books that go together.
-ghost use Rattle.std.specs.Prelude.{◌≡◌, ◌↔◌, IsTrue};
+ghost use Rattle.std.specs.Prelude.{◌↔◌, IsTrue};
 ghost use Rattle.dmc_ledger.specs.Bundles.{Covers, stamp_holdings};
 
 use crate::book::Book;

@@ -1,13 +1,12 @@
 //! Changes of each element of a list.
 ghost use Rattle.std.specs.Prelude.{◌≡◌, ◌≤◌, ◌++◌, ◌||◌, map, take, drop, if◌then◌else◌, vec_len};
-ghost use Rattle.std.specs.Option.{option_map};
 ghost use Rattle.dmc_tag.specs.State.{is_client};
 ghost use Rattle.dmc_tag.specs.Rules as rules_of;
 ghost use Rattle.dmc_plain.specs.Shares.{less_share};
 
 use crate::requests::has_queued;
 use dmc_tag::assignment::previous_after;
-use dmc_tag::plain::{PlainClient, PlainRequest, Previous};
+use dmc_tag::plain::{PlainClient, PlainRequest};
 use dmc_tag::reply::Tags;
 use dmc_tag::shifting::less;
 use dmc_tag::tag::Tag;

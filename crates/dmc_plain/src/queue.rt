@@ -12,7 +12,7 @@ ghost use Rattle.dmc_tag.specs.declared.reply.Reply.TheVariants as replies;
 mod adding;
 mod pulling;
 
-use crate::changes::{Mark, Update, change_all, is_stale};
+use crate::changes::{Mark, Update, change_all};
 use crate::cleaning::{count_erased, count_idled, erase};
 use crate::clients::client_named;
 use crate::requests::{self, has_queued};
@@ -28,7 +28,7 @@ use std::alloc::Global;
 use std::marker::Model;
 
 /// The most clients of a queue.
-const CLIENTS: usize = 65_536;
+const MOST_CLIENTS: usize = 65_536;
 
 /// The queue of the definitions: one flat list of requests, scanned at each call. Contracts see it as a plain state.
 #[derive(Drop)]
@@ -120,7 +120,7 @@ impl<T: Tag> PlainQueue<T> {
             return Err(Refusal::Known);
         }
         let _exact: Spacings<T> = spacings_for(self.config.hz(), info)?;
-        if self.clients.len() >= CLIENTS {
+        if self.clients.len() >= MOST_CLIENTS {
             return Err(Refusal::Clients);
         }
         Ok(())

@@ -8,6 +8,7 @@ use Rattle.dmc_tag.specs.Order.{AtMost}
 use Rattle.dmc_tag.specs.Rules.{has_less}
 use Rattle.dmc_client.specs.Record.{Rec, share_tags}
 use Rattle.dmc_roster.specs.Entries.{Entry}
+use Rattle.dmc_heads.specs.Least.{lesser}
 use Rattle.dmc_pull.specs.declared.range.ShareRange.{ShareRange}
 
 -- a tag lies in a range, where one is known
@@ -25,9 +26,6 @@ pub record AreWithin {T : Type 0} (ops : Tagging T) (range : Option (ShareRange 
   pub shares : AllByRecursion (λ e. HasSharesIn ops range e.rec) entries
 
 -- ---- wider ranges
-
-abbrev pub lesser : {T : Type 0} → Tagging T → T → T → T
-lesser ops a b = if is_gt (ops.compare a b) then b else a
 
 abbrev pub greater : {T : Type 0} → Tagging T → T → T → T
 greater ops a b = if is_gt (ops.compare a b) then a else b

@@ -1,11 +1,10 @@
 //! An add: the shift of all others.
-ghost use Rattle.std.specs.Prelude.{◌≡◌, ◌==◌, true, Some, IfSome, if◌then◌else◌, map};
-ghost use Rattle.std.specs.List.{list_all, AllByRecursion};
+ghost use Rattle.std.specs.Prelude.{◌≡◌, true, Some, IfSome};
+ghost use Rattle.std.specs.List.{AllByRecursion};
 ghost use Rattle.dmc_adjust.specs.Changes as changes;
 ghost use Rattle.dmc_client.specs.Record.{IsRecord};
 ghost use Rattle.dmc_heads.specs.Heads.{CanShift};
 ghost use Rattle.dmc_pull.specs.Adding as adding_of;
-ghost use Rattle.dmc_roster.specs.Entries.{with_rec};
 
 use dmc_adjust::adjustment::{can_shift, shift};
 use dmc_client::record::ClientRec;

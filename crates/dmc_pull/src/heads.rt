@@ -1,5 +1,5 @@
 //! The heads of a queue's clients.
-ghost use Rattle.std.specs.Prelude.{◌≡◌, ◌==◌, not, None, Some, slice_set, is_some, true};
+ghost use Rattle.std.specs.Prelude.{◌≡◌, ◌==◌, not, None, Some, slice_set, is_some};
 ghost use Rattle.std.specs.Option.{option_map};
 ghost use Rattle.dmc_index.specs.Index.{slot_of_key};
 ghost use Rattle.dmc_pull.specs.Queue as queue_of;

@@ -1,5 +1,5 @@
 //! The indexed queue.
-ghost use Rattle.std.specs.Prelude.{◌≡◌, ◌≤◌, ◌==◌, true, Some, Ok, length};
+ghost use Rattle.std.specs.Prelude.{◌≡◌, ◌≤◌, ◌==◌, Some, Ok, length};
 ghost use Rattle.dmc_heads.specs.Heads as heads_of;
 ghost use Rattle.dmc_heads.specs.Heads.{Ranks};
 ghost use Rattle.dmc_pull.specs.FirstRequests.{AreFirstRequests};

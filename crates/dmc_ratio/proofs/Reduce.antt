@@ -1,5 +1,5 @@
 -- A fraction in lowest terms, by any greatest common divisor of its two numbers.
-use Rattle.std.specs.Prelude.{◌≡◌, ℕ, zero, suc, ◌/◌, ◌<◌, ◌≤◌, ◌⊎◌, cond, ◌&&◌, Bool, T, ℤ, pos, negsuc, Some, None, nat_le, unsigned_abs, int_lt, FitsSigned}
+use Rattle.std.specs.Prelude.{◌≡◌, ℕ, zero, suc, ◌/◌, ◌<◌, ◌≤◌, ◌⊎◌, cond, ◌&&◌, T, ℤ, pos, negsuc, Some, None, nat_le, unsigned_abs, int_lt, FitsSigned}
 use Rattle.std.specs.Int.{IsGcd, w128}
 use Rattle.std.proofs.Common.{to_z, of_z, refl, sym, ap, ◌∙◌, subst, inl, inr, arith}
 use Rattle.std.proofs.lemmas.Int.{to_z-of_z}

@@ -9,7 +9,7 @@ use Rattle.std.proofs.lemmas.Nat.Gcd.{same_from_IsGcd}
 use Rattle.std.proofs.lemmas.Nat.{div-add-mod'}
 use Rattle.std.proofs.Math.Nat.{div-mul_cancel, mul-le-mul_right, mod-lt, eq-one_of_dvd-one}
 use Rattle.dmc_types.specs.Limits.{greatest_moment}
-use borrow.Author.Differences.{up, down, same_in}
+use borrow.Author.Differences.{up, down}
 use Rattle.dmc_tag.specs.Tag.{Fraction, Gives, IsExact, IsSame, ratio, sum_of, difference_of, multiple_of}
 use Rattle.dmc_ratio.specs.Gcd.{gcd}
 use Rattle.dmc_ratio.specs.GcdLaws.{gcd_is, same_denom}

@@ -2,7 +2,8 @@
 ghost use Rattle.std.specs.Prelude.{◌≡◌, ◌∷◌, [], Some, None};
 ghost use Rattle.dmc_types.specs.declared.refusal.Refusal.TheVariants.{Range};
 ghost use Rattle.dmc_tag.specs.declared.reply.Reply.TheVariants.{Registered, Updated, Later, Nothing, Removed, Refused};
-ghost use Rattle.dmc_ratio.specs.Examples.{◌∕◌, client, update, add, pull, drop_all, tags, by_reservation, by_priority, replies};
+ghost use Rattle.dmc_tag.specs.Examples.{client, update, add, pull, drop_all, tags, by_reservation, by_priority};
+ghost use Rattle.dmc_ratio.specs.Examples.{◌∕◌, replies};
 
 /// Any rate has a ratio spacing, and three thirds are exact.
 pub fn exact_thirds()

@@ -1,6 +1,6 @@
 //! The text of a run's report.
-ghost use Rattle.std.specs.Prelude.{◌≡◌, ◌+◌, ◌++◌, ◌*◌, ◌<◌, ◌≤◌, ◌^◌, IfOk, OnOk, flat_map, length, string_bytes, sum_by};
-ghost use Rattle.dmc_run.specs.Texts.{client_line, report_text, server_line, server_lines, total_line, verdict_text};
+ghost use Rattle.std.specs.Prelude.{◌≡◌, ◌+◌, ◌++◌, ◌<◌, IfOk, OnOk, flat_map, length, string_bytes, sum_by};
+ghost use Rattle.dmc_run.specs.Texts.{client_line, report_text, server_line, server_lines, total_line};
 
 use dmc_check::check::Verdict;
 use dmc_settle::report::{ClientReport, ClusterReport, ServerReport};

@@ -1,5 +1,5 @@
 //! Verdicts on the histories of a report.
-ghost use Rattle.std.specs.Prelude.{◌≡◌, ◌<◌, IfOk, length};
+ghost use Rattle.std.specs.Prelude.{◌<◌, IfOk, length};
 ghost use Rattle.dmc_run.specs.Verdicts.{AreVerdicts, IsVerdictAt};
 
 use dmc_check::check::{Verdict, check};

@@ -5,7 +5,7 @@ ghost use Rattle.dmc_types.specs.Limits.{greatest_window, most_client_requests};
 ghost use Rattle.toml.specs.Data.{as_integer};
 ghost use Rattle.toml.specs.View.{view, table_view};
 ghost use Rattle.dmc_scene.specs.SceneValue.{has_spacing, HasSpacing, AreSpaced, IsFresh};
-ghost use Rattle.dmc_scene.specs.Keys.{meaning, required, optional, name_of, optional_meaning};
+ghost use Rattle.dmc_scene.specs.Keys.{meaning, required, optional};
 ghost use Rattle.dmc_scene.specs.Reading.{rate, id_beside, client_of};
 
 use crate::fault::SceneFault;

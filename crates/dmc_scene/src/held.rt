@@ -4,12 +4,11 @@ ghost use Rattle.std.specs.Option.{option_map, ok_or};
 ghost use Rattle.std.specs.Result.{result_map_both};
 ghost use Rattle.toml.specs.Data.{as_integer, as_str, get_member};
 ghost use Rattle.toml.specs.View.{view, table_view};
-ghost use Rattle.dmc_scene.specs.Keys.{name_of, meaning, required, optional, defaulted, number};
+ghost use Rattle.dmc_scene.specs.Keys.{name_of, meaning, required, defaulted, number};
 ghost use Rattle.dmc_scene.specs.declared.fault.SceneFault.TheVariants.{Missing, Kind};
 
 use crate::fault::SceneFault;
 use crate::key::Key;
-use dmc_types::config::TagKind;
 use toml::{Table, Value};
 
 /// The value of a key, if it is there.

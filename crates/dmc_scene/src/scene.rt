@@ -1,16 +1,16 @@
 //! The scene.
-ghost use Rattle.std.specs.Prelude.{◌≡◌, ◌≢◌, ◌<◌, ◌≤◌, ◌^◌, IfOk, IfErr, IsUtf8, Some, None, Ok, Err, true, List, [], length, All, AllPairs};
+ghost use Rattle.std.specs.Prelude.{◌≡◌, ◌≢◌, ◌<◌, ◌≤◌, ◌^◌, IfOk, IfErr, IsUtf8, Some, None, Ok, Err, true, [], length, All, AllPairs};
 ghost use Rattle.std.specs.Option.{ok_or};
 ghost use Rattle.std.specs.Result.{result_map_both};
 ghost use Rattle.dmc_types.specs.Limits.{greatest_hz, greatest_step, most_pulls, most_scene_bytes, most_scene_clients, most_server_workers, most_servers};
-ghost use Rattle.toml.specs.Data.{as_str, as_array, get_member};
+ghost use Rattle.toml.specs.Data.{as_str, as_array};
 ghost use Rattle.toml.specs.Parse.{parse_document};
-ghost use Rattle.toml.specs.View.{view, items_view, array_view, table_view};
+ghost use Rattle.toml.specs.View.{view, items_view, table_view};
 ghost use Rattle.dmc_types.specs.declared.config.Counting.TheVariants as counting;
 ghost use Rattle.dmc_types.specs.declared.config.AtLimit.TheVariants as at_limit;
 ghost use Rattle.dmc_scene.specs.declared.fault.SceneFault.TheVariants.{Kind, Memory};
 ghost use Rattle.dmc_scene.specs.SceneValue.{AreApart, AreSpaced};
-ghost use Rattle.dmc_scene.specs.Keys.{required, defaulted, meaning};
+ghost use Rattle.dmc_scene.specs.Keys.{required, defaulted};
 ghost use Rattle.dmc_scene.specs.Reading.{tags_named, counting_named, at_limit_named, are_tables, tables_in, as_tables, some_clients, clients_of, scene_of, scene_in};
 
 use crate::client::{SceneClient, read_client};
@@ -31,11 +31,20 @@ const GREATEST_HZ: u64 = 1_000_000_000;
 /// The greatest age in ticks.
 const GREATEST_AGE: u64 = 1 << 62;
 
+/// The most servers.
+const MOST_SERVERS: u64 = 64;
+
+/// The most workers of a server.
+const MOST_WORKERS: u64 = 16;
+
 /// The most ticks of a step.
 const GREATEST_STEP: u64 = 1_000_000_000;
 
 /// The most rounds, and the most turns of a worker.
 const MOST_PULLS: u64 = 1 << 30;
+
+/// The most clients.
+const MOST_CLIENTS: usize = 256;
 
 /// What a run is set up with: the queues' configuration, the tags, how many servers and workers there are, the step of a
 /// simulation's round, the seed of the plans, the most pulls, the counting form, and the clients.
@@ -195,8 +204,8 @@ fn read_table(alloc: Global, table: &Table) -> Result<Scene, SceneFault>
     let idle_age = integer_or(table, Key::IdleAge, GREATEST_AGE, 1, GREATEST_AGE)?;
     let erase_age = integer_or(table, Key::EraseAge, GREATEST_AGE, idle_age, GREATEST_AGE)?;
     let tags = read_tags(table)?;
-    let servers = integer(table, Key::Servers, 1, 64)? as u32;
-    let workers = integer(table, Key::Workers, 1, 16)? as u32;
+    let servers = integer(table, Key::Servers, 1, MOST_SERVERS)? as u32;
+    let workers = integer(table, Key::Workers, 1, MOST_WORKERS)? as u32;
     let step = integer(table, Key::Step, 1, GREATEST_STEP)?;
     let seed = integer(table, Key::Seed, 0, (1 << 63) - 1)?;
     let max_pulls = integer(table, Key::MaxPulls, 1, MOST_PULLS)? as u32;
@@ -312,7 +321,7 @@ fn client_tables(table: &Table) -> Result<&[Value], SceneFault>
     ensures len { IfOk result (λ values. length (tables_in (items_view values.now)) ≡ length values.now) }
 {
     let values = tables_of(required(table, Key::Client)?)?;
-    if values.is_empty() || values.len() > 256 {
+    if values.is_empty() || values.len() > MOST_CLIENTS {
         return Err(SceneFault::Value(Key::Client));
     }
     Ok(values)

@@ -16,7 +16,7 @@ use Rattle.dmc_tracker.specs.Numbers.{ServerNumbers}
 use Rattle.dmc_tracker.proofs.ForCallers.{completions-by_server}
 use Rattle.dmc_ledger.specs.Bundles.{ClientSide, StampHoldings}
 use Rattle.dmc_tlock.specs.BookState as tracker_book
-use Rattle.dmc_tlock.specs.BookState.{no_tills, tills_at}
+use Rattle.dmc_tlock.specs.BookState.{no_tills}
 use Rattle.dmc_tlock.specs.Consistent.{IsConsistent, due}
 use Rattle.dmc_tlock.specs.declared.settled.StampsHeld.{StampsHeld}
 use Rattle.dmc_book.specs.BookState.{BookState, no_desk}

@@ -2,7 +2,6 @@
 use Rattle.std.specs.Prelude.{◌≡◌, ℕ, ◌<◌, List, [], length, Some, slice_get, slice_index_or}
 use Rattle.dmc_ledger.specs.Bundles.{ClientSide, ServerSide, StampHoldings}
 use Rattle.dmc_tlock.specs.BookState as tracker_book
-use Rattle.dmc_tlock.specs.BookState.{no_side}
 use Rattle.dmc_book.specs.BookState.{BookState, PassState}
 use Rattle.dmc_scene.specs.SceneValue.{SceneValue, ClientValue}
 use Rattle.dmc_settle.specs.Places.{no_book, no_tracker}

@@ -1,10 +1,9 @@
 -- Servers and clients by their places.
 use Rattle.std.specs.Prelude.{ℕ, false, List, [], map, slice_index_or}
 use Rattle.std.specs.Global.{Vec}
-use Rattle.dmc_types.specs.Values.{Setting}
+use Rattle.dmc_types.specs.Values.{Setting, no_counts}
 use Rattle.dmc_types.specs.declared.config.AtLimit.TheVariants.{Wait}
 use Rattle.dmc_types.specs.declared.config.Counting.TheVariants.{All}
-use Rattle.dmc_tracker.specs.TrackerList.{no_counts}
 use Rattle.dmc_ledger.specs.Bundles.{ClientSide, client_side}
 use Rattle.dmc_ledger.specs.declared.desk.ClientDesk.{ClientDesk}
 use Rattle.dmc_tlock.specs.BookState as tracker_book

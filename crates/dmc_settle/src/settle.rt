@@ -1,5 +1,5 @@
 //! Settling a cluster.
-ghost use Rattle.std.specs.Prelude.{◌≡◌, ◌≤◌, ◌↔◌, length, map, IfOk, OnOk, IsOk, IsTrue};
+ghost use Rattle.std.specs.Prelude.{◌≤◌, ◌↔◌, length, map, IfOk, OnOk, IsOk, IsTrue};
 ghost use Rattle.dmc_types.specs.Limits.{most_scene_clients, most_servers};
 ghost use Rattle.dmc_settle.specs.Remains.{AreTogether, remains};
 ghost use Rattle.dmc_settle.specs.Circle.{AreCircles};

@@ -6,7 +6,7 @@ ghost use Rattle.dmc_work.specs.Plan.{generator, planned, word};
 
 use dmc_scene::client::SceneClient;
 use dmc_types::config::PhaseType;
-use dmc_types::ids::{ClientId, ServerId};
+use dmc_types::ids::ServerId;
 use dmc_work::plan::plan;
 use std::alloc::{AllocError, Global};
 

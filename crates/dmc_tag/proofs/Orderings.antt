@@ -1,5 +1,5 @@
 -- Orderings: what one, two in turn, and two of a total order tell; and tags that are not above others.
-use Rattle.std.proofs.Common.{◌≡◌, ℕ, not, true, false, Option, Some, None, refl, ap, ◌∙◌, subst}
+use Rattle.std.proofs.Common.{◌≡◌, ℕ, not, true, false, Option, Some, None, refl, ap, subst}
 use mathlib.Core.Path.{fun_ext}
 use Rattle.std.specs.Cmp.{IsTotalOrder}
 use Rattle.std.specs.Ordering.{ordering_reverse, ordering_then, is_lt, is_gt}

@@ -13,3 +13,4 @@ pub mod Answers
 pub mod Steps
 pub mod Laws
 pub mod Queued
+pub mod Examples

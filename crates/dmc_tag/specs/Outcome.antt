@@ -11,7 +11,7 @@ abbrev pub ◌>>=◌ : {A B E : Type 0} → Result A E → (A → Result B E) �
 (Ok x) >>= f = f x
 (Err e) >>= f = Err e
 
-abbrev pub refuse_if : Bool → Refusal → Result ⊤ Refusal
+abbrev pub refuse_if : {E : Type 0} → Bool → E → Result ⊤ E
 refuse_if b refusal = if b then Err refusal else Ok tt
 
 -- a sum that is no value is refused Range

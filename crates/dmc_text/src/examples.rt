@@ -1,6 +1,6 @@
 //! Worked examples on the definitions: each contract holds by computation.
 ghost use Rattle.std.specs.Prelude.{◌≡◌, ◌∷◌, [], true, false, codes, pos, negsuc, Some, None, Ok, Err};
-ghost use Rattle.dmc_types.specs.declared.config.AtLimit.TheVariants.{Wait, Allow};
+ghost use Rattle.dmc_types.specs.declared.config.AtLimit.TheVariants.{Allow};
 ghost use Rattle.dmc_types.specs.declared.config.PhaseType.TheVariants.{Priority};
 ghost use Rattle.dmc_types.specs.declared.refusal.ValueFault.TheVariants as faults;
 ghost use Rattle.dmc_types.specs.declared.command.Command.TheVariants.{Pull, Remove};

@@ -39,7 +39,7 @@ pub enum LineKind {
 }
 
 /// The most bytes of a line, without its LF.
-const LONGEST: usize = 256;
+pub(crate) const MOST_LINE_BYTES: usize = 256;
 
 /// The words behind `hz`.
 #[derive(Clone, Copy)]
@@ -68,7 +68,7 @@ fn are_line_bytes(line: &[u8]) -> bool
 fn is_clean(line: &[u8]) -> bool
     ensures { result ≡ is_clean line.now }
 {
-    line.len() <= LONGEST && are_line_bytes(line)
+    line.len() <= MOST_LINE_BYTES && are_line_bytes(line)
 }
 
 /// Whether a line's first word makes it a comment.

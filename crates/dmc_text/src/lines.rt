@@ -1,10 +1,11 @@
 //! The lines of a reader, read in pieces into a buffer that is made once.
-ghost use Rattle.std.specs.Prelude.{◌≡◌, ◌≢◌, ℕ, List, false, ◌+◌, ◌-◌, ◌<◌, ◌≤◌, [], ◌++◌, length, take, drop, slice_range, IfOk, IfErr, OnOk, OnErr, MatchResult, vec_len, nat_lt};
+ghost use Rattle.std.specs.Prelude.{◌≡◌, ◌≢◌, ℕ, List, false, ◌+◌, ◌-◌, ◌<◌, ◌≤◌, [], length, take, drop, slice_range, IfOk, IfErr, OnErr, MatchResult, vec_len, nat_lt};
 ghost use Rattle.std.specs.Io.KnownBytes.{Keeps, Consumes, IsAtEnd, ReadConsumes};
 ghost use Rattle.std.specs.IoError.{error_kind};
 ghost use Rattle.dmc_types.specs.Limits.{most_line_bytes};
 ghost use Rattle.dmc_text.specs.Reading.{Reading, buffer_size, most_bytes, Finds, FindsLast, Fills};
 
+use crate::line::MOST_LINE_BYTES;
 use crate::word::first_of;
 use std::alloc::{AllocError, Global};
 use std::io::{self, ErrorKind, Read};
@@ -12,9 +13,6 @@ use std::marker::Model;
 
 /// How many bytes are kept at most.
 const CAPACITY: usize = 1 << 16;
-
-/// The most bytes of a line, without its LF.
-const LONGEST: usize = 256;
 
 /// The most bytes of a text.
 const MOST: u64 = 1 << 32;
@@ -110,7 +108,7 @@ impl LineReader {
     pub fn is_long(&self) -> bool
         ensures value { result ≡ nat_lt most_line_bytes (length self.now.rest) }
     {
-        self.end - self.start > LONGEST
+        self.end - self.start > MOST_LINE_BYTES
     }
 
     /// Moves what is left to the front of the buffer.

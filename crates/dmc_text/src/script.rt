@@ -1,7 +1,6 @@
 //! Scripts: each line's command is carried out, and its reply written.
 ghost use Rattle.std.specs.Prelude.{◌≡◌, ◌++◌, ◌∷◌, List, OnOk, OnErr, Err, is_some};
 ghost use Rattle.std.specs.Option.{option_map};
-ghost use Rattle.dmc_types.specs.declared.refusal.ValueFault.TheVariants as faults;
 ghost use Rattle.dmc_tag.specs.State.{StandsFor, opening};
 ghost use Rattle.dmc_tag.specs.Step.{step};
 ghost use Rattle.dmc_text.specs.Lines.{line_of};

@@ -1,5 +1,5 @@
 //! The lines of a text, taken one after the other.
-ghost use Rattle.std.specs.Prelude.{◌≡◌, ◌≤◌, ◌<◌, ◌-◌, ◌^◌, ℕ, Bool, List, None, [], length, IfOk};
+ghost use Rattle.std.specs.Prelude.{◌≡◌, ◌≤◌, ◌<◌, ◌-◌, ◌^◌, ℕ, Bool, List, None, length, IfOk};
 ghost use Rattle.dmc_types.specs.Limits.{most_line_bytes};
 ghost use Rattle.dmc_text.specs.declared.cause.LineCause.{LineCause};
 ghost use Rattle.dmc_text.specs.declared.cause.LineCause.TheVariants.{Bytes};

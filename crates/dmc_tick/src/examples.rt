@@ -4,7 +4,8 @@ ghost use Rattle.dmc_types.specs.declared.config.AtLimit.TheVariants.{Wait};
 ghost use Rattle.dmc_types.specs.declared.refusal.Field.TheVariants as fields;
 ghost use Rattle.dmc_types.specs.declared.refusal.Refusal.TheVariants.{Known, Unknown, Inexact, Busy};
 ghost use Rattle.dmc_tag.specs.declared.reply.Reply.TheVariants.{Registered, Updated, Later, Nothing, Removed, Cleaned, Refused};
-ghost use Rattle.dmc_tick.specs.Examples.{waiting, allowing, setting, client, update, add, pull, drop_all, clean, tags, by_reservation, by_priority, by_priority_beyond, replies};
+ghost use Rattle.dmc_tag.specs.Examples.{waiting, allowing, setting, client, update, add, pull, drop_all, clean, tags, by_reservation, by_priority, by_priority_beyond};
+ghost use Rattle.dmc_tick.specs.Examples.{replies};
 
 /// A request over its limit waits until the limit lets it.
 pub fn granted_at_limit()

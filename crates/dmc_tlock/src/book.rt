@@ -1,5 +1,5 @@
 //! The tracker book.
-ghost use Rattle.std.specs.Prelude.{◌≡◌, ◌<◌, ◌≤◌, ◌↔◌, [], length, map, IfOk, IfErr, OnOk, OnErr, IsOk, IsErrAnd, IsErrOf, IsTrue};
+ghost use Rattle.std.specs.Prelude.{◌≡◌, ◌<◌, ◌≤◌, ◌↔◌, length, map, IfOk, IfErr, OnOk, OnErr, IsOk, IsErrAnd, IsErrOf, IsTrue};
 ghost use Rattle.dmc_types.specs.declared.ids.ServerId.{ServerId};
 ghost use Rattle.dmc_tracker.specs.Numbers.{IsSentFull, next_params};
 ghost use Rattle.dmc_ledger.specs.Bundles.{stamp_holdings, server_side};

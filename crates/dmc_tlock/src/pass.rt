@@ -1,5 +1,5 @@
 //! The tills of a client.
-ghost use Rattle.std.specs.Prelude.{◌≡◌, ◌+◌, ◌<◌, ◌≤◌, ℕ, length, map, vec_capacity, slice_index_or, slice_set, IfSome, IsSome, ◌↔◌};
+ghost use Rattle.std.specs.Prelude.{◌≡◌, ◌<◌, ◌≤◌, ℕ, length, map, vec_capacity, slice_index_or, slice_set, IfSome, IsSome, ◌↔◌};
 ghost use Rattle.std.specs.Borrow.{sem, LendsIf};
 ghost use Rattle.dmc_ledger.specs.Bundles.{stamp_holdings, stamp_accounts, server_side};
 ghost use Rattle.dmc_ledger.specs.Moves.{books_after_opening, new_tills};

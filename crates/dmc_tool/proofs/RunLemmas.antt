@@ -1,18 +1,15 @@
 -- Runs that end before anything is read.
-use Rattle.std.proofs.Common.{◌≡◌, ℕ, List, [], append-nil, refl, sym, subst, ap, arith, Option, Some, None, Result, Ok, Err, inl, inr}
-use Rattle.std.specs.Prelude.{IfSome, IsErrAnd, option_and_then, option_map}
-use Rattle.std.specs.Str.{bytes_eq}
+use Rattle.std.proofs.Common.{◌≡◌, ℕ, List, [], refl, sym, subst, ap, arith, Option, Some, None, Result, Ok, Err, inl, inr}
+use Rattle.std.specs.Prelude.{IsErrAnd}
 use Rattle.std.specs.Io.KnownBytes.{Appends, Consumes, Keeps}
-use Rattle.clap.specs.Words.{Row, Text}
 use Rattle.dmc_types.specs.declared.config.TagKind.{TagKind}
 use Rattle.dmc_types.specs.declared.config.TagKind.TheVariants as kinds
 use Rattle.dmc_tag.specs.Tag.{Tagging}
 use Rattle.dmc_tick.specs.Tick.{tick_ops}
 use Rattle.dmc_ratio.specs.Ratio.{ratio_ops}
 use Rattle.dmc_text.specs.declared.script.ScriptFault.TheVariants as script
-use Rattle.dmc_text.specs.Reading.{most_bytes}
 use Rattle.dmc_text.specs.Replies.{in_ticks}
-use Rattle.dmc_text.specs.Texts.{ReadsWithin, RunsAs, out}
+use Rattle.dmc_text.specs.Texts.{RunsAs, out}
 use Rattle.dmc_tool.specs.Faults.{fault_of_words}
 use Rattle.dmc_tool.specs.Runs.{ChecksEvents, RunsCommand, RunsScript, RunsWords, ratio_text}
 use Rattle.dmc_tool.specs.SceneRuns.{RunsRun}

@@ -1,5 +1,5 @@
 -- A match is what clap gives where no kind of error is listed.
-use Rattle.std.proofs.Common.{◌≡◌, ◌⊎◌, List, Option, Some, None, Result, Err, [], ◌∷◌, ap, refl, subst, sym, inl, inr, true}
+use Rattle.std.proofs.Common.{◌≡◌, ◌⊎◌, List, Option, Some, None, Result, Err, [], ◌∷◌, ap, refl, subst, inl, inr, true}
 use Rattle.std.specs.Prelude.{IfOk, ok_or}
 use Rattle.clap.specs.Words.{App, IsAmong, Kinds, Row, Text, fault_of, is_simple, is_simple_and_free, subcommand_of}
 use Rattle.clap.specs.declared.error.kind.ErrorKind.{ErrorKind}

@@ -1,14 +1,14 @@
 -- How many responses and stamps a tracker's list has, and the completions at one server.
 use Rattle.std.proofs.Common.{◌≡◌, ℕ, ◌+◌, ◌≤◌, List, [], ◌∷◌, ◌++◌, length, refl, sym, ap, ◌∙◌, arith, true, false, cond, ◌==◌}
 use Rattle.std.proofs.lemmas.List.Sums.{sum_by_push, count_by-le-length}
-use Rattle.dmc_types.specs.Values.{Params}
+use Rattle.dmc_types.specs.Values.{Params, no_counts}
 use Rattle.dmc_types.specs.declared.ids.ServerId.{ServerId}
 use Rattle.dmc_types.specs.declared.config.Counting.TheVariants.{Others}
 use Rattle.dmc_types.specs.declared.config.PhaseType.{PhaseType}
 use Rattle.dmc_types.specs.declared.config.PhaseType.TheVariants.{Reservation, Priority}
 use Rattle.dmc_tracker.specs.declared.event.TrackerEvent.{TrackerEvent}
 use Rattle.dmc_tracker.specs.declared.event.TrackerEvent.TheVariants.{Stamp, Response}
-use Rattle.dmc_tracker.specs.TrackerList.{no_counts, plus, one_in, completed_by, counted_by, is_stamp_to, is_response_in, completions, completions_at, others, responses, stamps}
+use Rattle.dmc_tracker.specs.TrackerList.{plus, one_in, completed_by, counted_by, is_stamp_to, is_response_in, completions, completions_at, others, responses, stamps}
 use Rattle.dmc_tracker.proofs.ListLemmas.{same_params, plus-none, total-push, snoc}
 
 -- what an entry completes at s

@@ -3,14 +3,14 @@ use Rattle.std.proofs.Common.{◌≡◌, ℕ, ◌+◌, ◌≤◌, List, [], ◌�
 use Rattle.std.proofs.lemmas.List.Sums.{sum_by_push, sum_by-append}
 use Rattle.std.proofs.lemmas.Bool.{eq-eqb}
 use Rattle.std.proofs.lemmas.Bool.Decides.{eqb_tells}
-use Rattle.dmc_types.specs.Values.{Params}
+use Rattle.dmc_types.specs.Values.{Params, no_counts}
 use Rattle.dmc_types.specs.declared.ids.ServerId.{ServerId}
 use Rattle.dmc_types.specs.declared.config.Counting.{Counting}
 use Rattle.dmc_types.specs.declared.config.Counting.TheVariants.{All, Others}
 use Rattle.dmc_types.specs.declared.config.PhaseType.{PhaseType}
 use Rattle.dmc_tracker.specs.declared.event.TrackerEvent.{TrackerEvent}
 use Rattle.dmc_tracker.specs.declared.event.TrackerEvent.TheVariants.{Stamp, Response}
-use Rattle.dmc_tracker.specs.TrackerList.{no_counts, plus, total, one_in, completed_by, counted_by, sent_by, is_stamp_to, own_share, completions, others, stamps, sent, pending, demanded, IsTracked}
+use Rattle.dmc_tracker.specs.TrackerList.{plus, total, one_in, completed_by, counted_by, sent_by, is_stamp_to, own_share, completions, others, stamps, sent, pending, demanded, IsTracked}
 use Rattle.dmc_tracker.proofs.StandsLemmas.{same_server}
 use Rattle.dmc_tracker.proofs.ListLemmas.{same_params, plus-none, none-plus, total-push, snoc, completions-stamp, sent-response, sent-stamp_same, sent-stamp_other, pending-response, pending-stamp_same, pending-stamp_other}
 

@@ -4,13 +4,13 @@ use Rattle.std.specs.List.{after_last, suffix_len, prefix_len}
 use Rattle.std.proofs.lemmas.List.{length-append, append-nil, drop-append-le, reverse-append}
 use Rattle.std.proofs.lemmas.List.Sums.{sum_by_push, suffix_len-le-length}
 use Rattle.std.proofs.Math.Seq.{drop-length}
-use Rattle.dmc_types.specs.Values.{Params}
+use Rattle.dmc_types.specs.Values.{Params, no_counts}
 use Rattle.dmc_types.specs.declared.ids.ServerId.{ServerId}
 use Rattle.dmc_types.specs.declared.config.Counting.{Counting}
 use Rattle.dmc_types.specs.declared.config.PhaseType.{PhaseType}
 use Rattle.dmc_tracker.specs.declared.event.TrackerEvent.{TrackerEvent}
 use Rattle.dmc_tracker.specs.declared.event.TrackerEvent.TheVariants.{Stamp, Response}
-use Rattle.dmc_tracker.specs.TrackerList.{no_counts, plus, total, one_in, completed_by, counted_by, sent_by, is_stamp_to, completions, stamps, sent, pending}
+use Rattle.dmc_tracker.specs.TrackerList.{plus, total, one_in, completed_by, counted_by, sent_by, is_stamp_to, completions, stamps, sent, pending}
 
 pub same_params : (a b : Params) → a.delta ≡ b.delta → a.rho ≡ b.rho → a ≡ b
 same_params a b d r = ap (λ x. record { delta = x; rho = a.rho }) d ∙ ap (λ x. record { delta = b.delta; rho = x }) r

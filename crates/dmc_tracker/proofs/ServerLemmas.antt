@@ -5,13 +5,13 @@ use Rattle.std.proofs.lemmas.List.{get_or-map, map-set}
 use Rattle.std.proofs.lemmas.List.Elements.{All-set}
 use Rattle.std.proofs.lemmas.List.{length-set}
 use Rattle.std.proofs.Math.Seq.{map-set_same}
-use Rattle.dmc_types.specs.Values.{Params}
+use Rattle.dmc_types.specs.Values.{Params, no_counts}
 use Rattle.dmc_types.specs.declared.ids.ServerId.{ServerId}
 use Rattle.dmc_types.specs.declared.config.Counting.{Counting}
 use Rattle.dmc_types.specs.declared.config.Counting.TheVariants.{All, Others}
 use Rattle.dmc_types.specs.declared.config.PhaseType.{PhaseType}
 use Rattle.dmc_tracker.specs.declared.server.ServerCounts.{ServerCounts}
-use Rattle.dmc_tracker.specs.TrackerList.{no_counts, plus, one_in, own_share}
+use Rattle.dmc_tracker.specs.TrackerList.{plus, one_in, own_share}
 use Rattle.dmc_tracker.specs.Numbers.{Numbers, ServerNumbers, no_numbers, new_numbers, numbers_at, next_params, after_stamp, after_response, grown, servers_grown}
 use Rattle.dmc_tracker.specs.Server.{minus, IsPart, counted_at, numbers_now, view_of, IsKept, AreKept}
 use Rattle.dmc_tracker.proofs.ListLemmas.{same_params}

@@ -3,14 +3,14 @@ use Rattle.std.proofs.Common.{◌≡◌, ℕ, ◌<◌, List, [], ◌∷◌, ◌+
 use Rattle.std.proofs.lemmas.List.{get_or-set_same, get_or-set_other, get_or-map, get_or-replicate, length-map, length-replicate, length-set}
 use Rattle.std.proofs.lemmas.Bool.Decides.{eqb_tells}
 use Rattle.std.proofs.lemmas.Bool.{eq-eqb}
-use Rattle.dmc_types.specs.Values.{Params}
+use Rattle.dmc_types.specs.Values.{Params, no_counts}
 use Rattle.dmc_types.specs.declared.ids.ServerId.{ServerId}
 use Rattle.dmc_types.specs.declared.config.Counting.{Counting}
 use Rattle.dmc_types.specs.declared.config.Counting.TheVariants.{All, Others}
 use Rattle.dmc_types.specs.declared.config.PhaseType.{PhaseType}
 use Rattle.dmc_tracker.specs.declared.event.TrackerEvent.{TrackerEvent}
 use Rattle.dmc_tracker.specs.declared.event.TrackerEvent.TheVariants.{Stamp, Response}
-use Rattle.dmc_tracker.specs.TrackerList.{no_counts, plus, one_in, counted_by, own_share, sent, pending, demanded}
+use Rattle.dmc_tracker.specs.TrackerList.{plus, one_in, counted_by, own_share, sent, pending, demanded}
 use Rattle.dmc_tracker.specs.Numbers.{Numbers, ServerNumbers, no_numbers, new_numbers, numbers_at, next_params, after_stamp, after_response, grown, servers_grown, numbers_of, Stands}
 use Rattle.dmc_tracker.proofs.ListLemmas.{plus-none, completions-response, completions-stamp, sent-response, sent-stamp_same, sent-stamp_other, pending-response, pending-stamp_same, pending-stamp_other}
 

@@ -1,13 +1,13 @@
 -- What contracts see of a tracker: the numbers of a tracker list, and no list.
 use Rattle.std.specs.Prelude.{◌≡◌, ℕ, ◌<◌, ◌≤◌, List, length, map, replicate, slice_set, slice_index_or, ◌+◌}
 use Rattle.dmc_types.specs.Limits.{most_servers}
-use Rattle.dmc_types.specs.Values.{Params}
+use Rattle.dmc_types.specs.Values.{Params, no_counts}
 use Rattle.dmc_types.specs.declared.ids.ServerId.{ServerId}
 use Rattle.dmc_types.specs.declared.config.Counting.{Counting}
 use Rattle.dmc_types.specs.declared.config.Counting.TheVariants.{All, Others}
 use Rattle.dmc_types.specs.declared.config.PhaseType.{PhaseType}
 use Rattle.dmc_tracker.specs.declared.event.TrackerEvent.{TrackerEvent}
-use Rattle.dmc_tracker.specs.TrackerList.{no_counts, plus, one_in, own_share, completions, sent, pending}
+use Rattle.dmc_tracker.specs.TrackerList.{plus, one_in, own_share, completions, sent, pending}
 
 -- what was sent to a server, and what is pending there
 pub record ServerNumbers : Type 0 where

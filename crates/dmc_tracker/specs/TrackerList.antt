@@ -2,7 +2,7 @@
 -- of all responses, and rho, of those of them in the constraint phase.
 use Rattle.std.specs.Prelude.{◌≡◌, ℕ, ◌+◌, ◌<◌, ◌==◌, Bool, false, if◌then◌else◌, List, ◌∷◌, ◌++◌, sum_by, count_by}
 use Rattle.std.specs.List.{after_last}
-use Rattle.dmc_types.specs.Values.{Params}
+use Rattle.dmc_types.specs.Values.{Params, no_counts}
 use Rattle.dmc_types.specs.declared.ids.ServerId.{ServerId}
 use Rattle.dmc_types.specs.declared.config.Counting.{Counting}
 use Rattle.dmc_types.specs.declared.config.Counting.TheVariants.{All, Others}
@@ -10,9 +10,6 @@ use Rattle.dmc_types.specs.declared.config.PhaseType.{PhaseType}
 use Rattle.dmc_types.specs.declared.config.PhaseType.TheVariants.{Reservation, Priority}
 use Rattle.dmc_tracker.specs.declared.event.TrackerEvent.{TrackerEvent}
 use Rattle.dmc_tracker.specs.declared.event.TrackerEvent.TheVariants.{Stamp, Response}
-
-abbrev pub no_counts : Params
-no_counts = record { delta = 0; rho = 0 }
 
 abbrev pub plus : Params → Params → Params
 plus a b = record { delta = a.delta + b.delta; rho = a.rho + b.rho }

@@ -1,6 +1,7 @@
 //! Two counts that go together.
 ghost use Rattle.std.specs.Prelude.{◌≡◌, ◌+◌, ◌-◌, ◌<◌, ◌≤◌, ◌^◌};
-ghost use Rattle.dmc_tracker.specs.TrackerList.{no_counts, plus, one_in, own_share};
+ghost use Rattle.dmc_types.specs.Values.{no_counts};
+ghost use Rattle.dmc_tracker.specs.TrackerList.{plus, one_in, own_share};
 ghost use Rattle.dmc_tracker.specs.Server.{minus};
 
 use dmc_types::config::{Counting, PhaseType};

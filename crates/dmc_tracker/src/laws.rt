@@ -1,6 +1,6 @@
 //! What follows from a tracker list alone. Each law is the contract of a function that does nothing: a caller that calls it
 //! knows the law.
-ghost use Rattle.std.specs.Prelude.{◌≡◌, ℕ, ◌+◌, ◌≤◌, List, [], ◌∷◌, ◌++◌};
+ghost use Rattle.std.specs.Prelude.{◌≡◌, ◌+◌, ◌≤◌, List, [], ◌∷◌, ◌++◌};
 ghost use Rattle.dmc_types.specs.Values.{Params};
 ghost use Rattle.dmc_types.specs.declared.ids.ServerId.{ServerId};
 ghost use Rattle.dmc_types.specs.declared.config.Counting.{Counting};

@@ -1,7 +1,6 @@
 //! What a tracker keeps for a server.
-ghost use Rattle.std.specs.Prelude.{◌≡◌, ◌≤◌};
-ghost use Rattle.dmc_tracker.specs.TrackerList.{no_counts};
-ghost use Rattle.dmc_types.specs.Values.{Params};
+ghost use Rattle.std.specs.Prelude.{◌≡◌};
+ghost use Rattle.dmc_types.specs.Values.{no_counts};
 
 use crate::counts::Counts;
 use dmc_types::config::Counting;

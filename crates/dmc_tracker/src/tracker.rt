@@ -1,10 +1,10 @@
 //! The tracker.
-ghost use Rattle.std.specs.Prelude.{◌≡◌, ℕ, ◌<◌, ◌≤◌, ◌+◌, ◌↔◌, Option, List, [], ◌∷◌, ◌++◌, length, replicate, IfOk, OnOk, OnErr, IsErrOf, IsOkUnless, slice_get, option_map};
+ghost use Rattle.std.specs.Prelude.{◌≡◌, ◌<◌, ◌≤◌, ◌+◌, ◌↔◌, Option, List, [], ◌∷◌, ◌++◌, length, IfOk, OnOk, OnErr, IsErrOf, IsOkUnless, slice_get, option_map};
 ghost use Rattle.dmc_types.specs.Limits.{most_servers};
 ghost use Rattle.dmc_types.specs.declared.config.Counting.{Counting};
 ghost use Rattle.dmc_tracker.specs.declared.event.TrackerEvent.{TrackerEvent};
 ghost use Rattle.dmc_tracker.specs.TrackerList.{demanded, IsComplete, IsStampFull};
-ghost use Rattle.dmc_tracker.specs.Numbers.{Numbers, ServerNumbers, no_numbers, new_numbers, numbers_at, next_params, after_stamp, after_response, sent_pair, pending_pair, AreLimits, IsSentFull, Keeps, Stands};
+ghost use Rattle.dmc_tracker.specs.Numbers.{Numbers, new_numbers, numbers_at, next_params, after_stamp, after_response, sent_pair, pending_pair, AreLimits, IsSentFull, Keeps, Stands};
 
 use crate::counts::Counts;
 use crate::event::TrackerEvent;

@@ -8,6 +8,9 @@ pub record Params : Type 0 where
   pub delta : ℕ
   pub rho : ℕ
 
+abbrev pub no_counts : Params
+no_counts = record { delta = 0; rho = 0 }
+
 -- the rates of a client, in requests a second
 pub record Rates : Type 0 where
   pub reservation : Option ℕ

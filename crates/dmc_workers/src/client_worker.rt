@@ -1,5 +1,4 @@
 //! The worker of a client: it sends the client's requests.
-ghost use Rattle.std.specs.Prelude.{◌≡◌};
 
 use crate::bell::{Doorbell, Ring};
 use crate::cause::{of_entry, of_submit};

@@ -1,5 +1,4 @@
 //! A worker of a server: it pulls, has the granted requests served, and tells their clients.
-ghost use Rattle.std.specs.Prelude.{◌≡◌};
 
 use crate::bell::{Ring, Ringer};
 use crate::cause::{of_entry, of_pull};

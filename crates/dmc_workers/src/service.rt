@@ -1,5 +1,4 @@
 //! What a server does with a request that its queue granted.
-ghost use Rattle.std.specs.Prelude.{◌≡◌};
 
 use dmc_types::config::PhaseType;
 use dmc_types::ids::{ClientId, ServerId, Token};

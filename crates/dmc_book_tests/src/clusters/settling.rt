@@ -14,7 +14,7 @@ use dmc_settle::settle::{Passes, settle_cluster};
 use dmc_tick::tick::TickTag;
 use dmc_tlock::settled::StampsHeld;
 use dmc_types::ids::{ClientId, ServerId};
-use std::alloc::{AllocError, Global};
+use std::alloc::Global;
 use std::marker::Brand;
 use std::mem::{replace, swap};
 use std::process::Abort;

@@ -1,5 +1,5 @@
 //! Servers 0 and 1 with one worker each, and clients 1 and 2, of which client 1 has a reservation.
-ghost use Rattle.std.specs.Prelude.{◌≡◌, map, IfOk};
+ghost use Rattle.std.specs.Prelude.{map, IfOk};
 ghost use Rattle.std.specs.List.{AllByRecursion};
 ghost use Rattle.dmc_ledger.specs.Bundles.{client_side, server_side};
 ghost use Rattle.dmc_tlock.specs.Opening.{AreNew};

@@ -25,7 +25,7 @@ use dmc_types::params::ReqParams;
 use dmc_types::refusal::{QueueFault, Refusal};
 
 /// The most queued requests of a queue.
-const REQUESTS: usize = 1 << 20;
+const MOST_REQUESTS: usize = 1 << 20;
 
 impl<T: Tag> PlainQueue<T> {
     /// Whether each tag that a shift changes stays a value.
@@ -55,7 +55,7 @@ impl<T: Tag> PlainQueue<T> {
         let Some(arriving) = client_named(&self.clients, client) else {
             return Err(Refusal::Unknown);
         };
-        if self.requests.len() >= REQUESTS {
+        if self.requests.len() >= MOST_REQUESTS {
             return Err(Refusal::QueueFull);
         }
         let shift = shift_of(&self.requests, &arriving, t)?;

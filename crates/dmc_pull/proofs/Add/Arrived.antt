@@ -1,6 +1,6 @@
 -- What an arrival makes of the entries and the heads.
 use Rattle.std.proofs.Common.{◌≡◌, ℕ, suc, ◌+◌, ◌≤◌, ◌<◌, Bool, true, false, List, [], ◌∷◌, ◌++◌, map, length, Option, Some, None, Result, Ok, Err, refl, sym, ap, ◌∙◌, subst, arith}
-use Rattle.std.specs.Prelude.{◌≢◌, ◌==◌, IfSome, IsSome, OnOk, slice_get, slice_set, is_some, nat_le}
+use Rattle.std.specs.Prelude.{◌==◌, IfSome, IsSome, OnOk, slice_get, slice_set, is_some, nat_le}
 use Rattle.std.specs.Result.{is_err}
 use Rattle.std.specs.Option.{option_map, option_and_then}
 use Rattle.std.specs.List.{AllByRecursion}

@@ -3,7 +3,6 @@ use Rattle.std.proofs.Common.{◌≡◌, ℕ, Bool, true, false, not, ◌&&◌, 
 use Rattle.std.specs.Prelude.{◌==◌, if◌then◌else◌, IfSome, OnOk}
 use Rattle.std.specs.Option.{option_map, option_and_then, unwrap_or}
 use Rattle.std.specs.Ordering.{is_gt}
-use Rattle.std.specs.declared.cmp.Ordering.{Ordering}
 use Rattle.std.specs.List.{list_all, AllByRecursion}
 use Rattle.std.specs.Result.{is_err}
 use Rattle.std.specs.Cmp.{IsTotalOrder}
@@ -18,9 +17,10 @@ use Rattle.dmc_client.specs.declared.request.QueuedRequest.{QueuedRequest}
 use Rattle.dmc_client.specs.Record.{Rec, pushed, less_share, less_shares}
 use Rattle.dmc_adjust.specs.Changes.{shifted, is_shiftable}
 use Rattle.dmc_roster.specs.Entries.{Entry, Listing, record_at, with_rec, with_record_at}
+use Rattle.dmc_heads.specs.Least.{lesser}
 use Rattle.dmc_pull.specs.Adding.{shifted_but, others_shifted}
 use Rattle.dmc_pull.specs.Queue.{Queue}
-use Rattle.dmc_pull.specs.Range.{IsWithin, HasSharesIn, AreWithin, lesser, greater, with_share, with_less, after_shift, range_after, all_have_less}
+use Rattle.dmc_pull.specs.Range.{IsWithin, HasSharesIn, AreWithin, greater, with_share, with_less, after_shift, range_after, all_have_less}
 use Rattle.dmc_pull.specs.declared.range.ShareRange.{ShareRange}
 use Rattle.dmc_pull.proofs.Common.Parts.{all_as, all_mapped, all_pass, found_holds}
 use Rattle.dmc_pull.proofs.Common.Entries.{split, all_changed}

@@ -32,7 +32,7 @@ use dmc_types::params::ReqParams;
 use dmc_types::refusal::{QueueFault, Refusal};
 
 /// The most queued requests of a queue.
-const REQUESTS: usize = 1 << 20;
+const MOST_REQUESTS: usize = 1 << 20;
 
 /// A place where no client is registered.
 const NOWHERE: usize = usize::MAX;
@@ -90,7 +90,7 @@ impl<T: Tag, I: Indexes<T>> PullQueue<T, I> {
         let Some(key) = self.roster.find_near(client, near) else {
             return Err(Refusal::Unknown);
         };
-        if self.queued >= REQUESTS {
+        if self.queued >= MOST_REQUESTS {
             return Err(Refusal::QueueFull);
         }
         let t = T::of_moment(at);

@@ -23,7 +23,7 @@ use dmc_types::moment::Moment;
 use dmc_types::refusal::{QueueFault, Refusal};
 
 /// The most clients of a queue.
-const CLIENTS: usize = 65_536;
+const MOST_CLIENTS: usize = 65_536;
 
 impl<T: Tag, I: Indexes<T>> PullQueue<T, I> {
     /// The tests of a registration, and the spacings of the rates.
@@ -38,7 +38,7 @@ impl<T: Tag, I: Indexes<T>> PullQueue<T, I> {
             Ok(spacings) => spacings,
             Err(field) => return Err(Refusal::Inexact(field)),
         };
-        if self.roster.len() >= CLIENTS {
+        if self.roster.len() >= MOST_CLIENTS {
             return Err(Refusal::Clients);
         }
         Ok(spacings)

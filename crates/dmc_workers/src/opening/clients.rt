@@ -1,5 +1,5 @@
 //! The clients of a run, opened: their trackers, doorbells and plans.
-ghost use Rattle.std.specs.Prelude.{◌≡◌, ◌<◌, ◌≤◌};
+ghost use Rattle.std.specs.Prelude.{◌<◌, ◌≤◌};
 
 use super::desks::{QueueDesks, TrackerDesks, open_pairs};
 use super::servers::server_workers;

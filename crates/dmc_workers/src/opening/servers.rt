@@ -1,5 +1,5 @@
 //! The servers of a run, opened: their queues, at which every client is registered, and their workers.
-ghost use Rattle.std.specs.Prelude.{◌≡◌, ◌*◌, ◌≤◌, length};
+ghost use Rattle.std.specs.Prelude.{◌*◌, ◌≤◌};
 ghost use Rattle.dmc_types.specs.Limits.{most_server_workers, most_servers};
 
 use super::desks::QueueDesks;

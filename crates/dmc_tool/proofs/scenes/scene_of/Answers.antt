@@ -1,4 +1,4 @@
-use Rattle.std.proofs.Common.{take, sym, ap, ◌∙◌, arith, ◌≡◌, length}
+use Rattle.std.proofs.Common.{take, sym, arith, ◌≡◌, length}
 use Rattle.dmc_tool.specs.Scenes.{most_bytes}
 use Rattle.dmc_tool.proofs.SimLemmas.{read_front, refused_as}
 use Rattle.dmc_tool.proofs.scenes.scene_of.Goals as goal

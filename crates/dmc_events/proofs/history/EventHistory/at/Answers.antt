@@ -1,4 +1,4 @@
-use Rattle.std.proofs.Common.{◌≡◌, Some, None, refl, rules, sym}
+use Rattle.std.proofs.Common.{◌≡◌, Some, None, rules}
 use Rattle.std.specs.Prelude.{slice_get}
 use Rattle.dmc_events.specs.Kept.{kept_of}
 use Rattle.dmc_events.proofs.Adding.{slice_get-events_at}

@@ -1,4 +1,3 @@
-use Rattle.std.proofs.Common.{◌≡◌, arith}
 use Rattle.dmc_events.proofs.Adding.{events_at-push, kept-push}
 use Rattle.dmc_events.proofs.history.EventHistory.push_other.Goals as goal
 

@@ -1,4 +1,4 @@
-use Rattle.std.proofs.Common.{◌≡◌, ◌+◌, ◌<◌, ◌≤◌, length, arith, rules}
+use Rattle.std.proofs.Common.{◌≡◌, length, arith, rules}
 use Rattle.std.specs.Prelude.{IsErrOf}
 use Rattle.dmc_history.specs.declared.ReserveFault.TheVariants.{HistoryFull}
 use Rattle.dmc_events.specs.Kept.{kept_of}

@@ -1,4 +1,4 @@
-use Rattle.std.proofs.Common.{◌≡◌, ◌<◌, ◌≤◌, length, arith, rules}
+use Rattle.std.proofs.Common.{length, arith, rules}
 use Rattle.dmc_events.specs.Kept.{kept_of}
 use Rattle.dmc_events.proofs.Adding.{length-events_at}
 use Rattle.dmc_events.proofs.history.EventHistory.reserve_one.Goals as goal

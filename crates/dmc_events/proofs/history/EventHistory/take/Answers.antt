@@ -1,4 +1,4 @@
-use Rattle.std.proofs.Common.{◌≡◌, ◌≤◌, ℕ, [], length, arith, ap, sym, subst}
+use Rattle.std.proofs.Common.{◌≡◌, ◌≤◌, ℕ, length, arith, ap, sym, subst}
 use Rattle.dmc_types.specs.Limits.{most_events}
 use Rattle.dmc_events.specs.Kept.{HaveMost, kept_of}
 use Rattle.dmc_events.proofs.Adding.{length-events_at, kept-empty}

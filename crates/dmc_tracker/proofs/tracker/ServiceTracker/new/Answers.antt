@@ -1,7 +1,7 @@
 use Rattle.std.proofs.Common.{◌≡◌, replicate, rules, refl}
+use Rattle.dmc_types.specs.Values.{no_counts}
 use Rattle.dmc_types.specs.declared.config.Counting.{Counting}
 use Rattle.dmc_types.specs.declared.config.Counting.TheVariants.{All, Others}
-use Rattle.dmc_tracker.specs.TrackerList.{no_counts}
 use Rattle.dmc_tracker.specs.Numbers.{no_numbers}
 use Rattle.dmc_tracker.specs.Server.{numbers_now}
 use Rattle.dmc_tracker.proofs.ServerLemmas.{view-new}

@@ -25,6 +25,7 @@ use dmc_types::command::Command;
 use dmc_types::config::{AtLimit, Counting, PhaseType, QueueConfig};
 use dmc_types::ids::{ClientId, ServerId, Token, WorkerId};
 use dmc_types::info::ClientInfo;
+use dmc_types::limits::MOST_EVENTS;
 use dmc_types::moment::Moment;
 use std::alloc::Global;
 use std::sync::Wait;
@@ -34,9 +35,6 @@ const SERVER: ServerId = ServerId(0);
 
 /// The most clients, and the most workers.
 const MOST: u32 = 65_536;
-
-/// The most events of a book.
-const MOST_EVENTS: u32 = 1 << 30;
 
 /// A client's tracker of the server, its tills, and its next stamp.
 #[derive(Drop)]

@@ -21,13 +21,11 @@ use dmc_ledger::setup::Setup;
 use dmc_ledger::till::Till;
 use dmc_tag::tag::Tag;
 use dmc_types::ids::{ClientId, WorkerId};
+use dmc_types::limits::MOST_EVENTS;
 use indexmap::IndexSet;
 use std::alloc::{AllocError, Global};
 use std::cell::Cell;
 use std::sync::Arc;
-
-/// The most events of a history.
-const MOST_EVENTS: u32 = 1 << 30;
 
 /// The most desks that a book has.
 const MOST_DESKS: usize = 65_536;

@@ -42,7 +42,7 @@ at_reservation = event (pull 0) (by_reservation 1 1) ∷ event (add 1 2 1 1 0) (
 abbrev pub reserved_at_100 : Event ℤ
 reserved_at_100 = event (pull 100) (by_reservation 1 2)
 
--- a_2 is granted by shares, which takes one spacing off the R of a_3
+-- a_2 is granted by weight, which takes one spacing off the R of a_3
 abbrev pub with_priority : List (Event ℤ)
 with_priority = at_reservation ++ event (add 1 3 1 1 0) (tags (Some (pos 200)) (pos 0) (pos 2000)) ∷ event (pull 0) (by_priority 1 2) ∷ []
 

@@ -17,7 +17,7 @@ pub fn limit_bound()
     ensures beyond { nat_le (1000 * sum_since (λ p. p.delta) first_client limited at_limit) (20 * ticks_since tick_ops allowing limited at_limit 0) ≡ false }
 {}
 
-/// Up to a grant by the reservation both sides are 1,000. Where a request was granted by shares between, within the limit or
+/// Up to a grant by the reservation both sides are 1,000. Where a request was granted by weight between, within the limit or
 /// beyond, it counts against the rhos: both sides are 2,000.
 pub fn reservation_bound()
     ensures replayed { replays tick_ops waiting (reserved ++ (at_reservation ++ reserved_at_100 ∷ [])) }

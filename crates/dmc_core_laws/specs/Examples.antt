@@ -36,7 +36,7 @@ scene_of config reservation limit = record {
 abbrev pub sent : ℕ → List CoreEvent
 sent token = Stamp first_client only_server (record { 0 = token }) ∷ Arrive first_client only_server 0 ∷ []
 
--- a_1 is granted at 0 by shares and responded, and a_2 is sent; under Wait a pull at 0 then finds nothing due
+-- a_1 is granted at 0 by weight and responded, and a_2 is sent; under Wait a pull at 0 then finds nothing due
 abbrev pub at_limit : List CoreEvent
 at_limit = Pull only_server 0 ∷ Respond first_client only_server Priority ∷ sent 2
 

@@ -7,6 +7,7 @@ ghost use Rattle.dmc_types.specs.Limits.{most_events};
 ghost use Rattle.dmc_history.specs.Log.{block_size};
 
 pub use dmc_tag::event::Event;
+use dmc_types::limits::MOST_EVENTS;
 use std::alloc::{AllocError, Global};
 use std::marker::Model;
 use std::mem::replace;
@@ -14,9 +15,6 @@ use thiserror::Error;
 
 // How many events a block has room for.
 const BLOCK: usize = 1024;
-
-/// The most events of a history.
-const MOST_EVENTS: u32 = 1 << 30;
 
 /// A history that could not be made: `most` was not 1 to 2^30.
 #[derive(Clone, Copy, Debug, PartialEq, Eq, Error)]

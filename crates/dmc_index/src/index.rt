@@ -76,6 +76,6 @@ pub trait Indexes<T: Tag> {
     /// By limit tag, what is unready first.
     type LimitIndex: OrderIndex<LimitRank<T>>;
 
-    /// By shares tag, what is ready first.
+    /// By weight tag, what is ready first.
     type WeightIndex: OrderIndex<ReadyRank<T>>;
 }

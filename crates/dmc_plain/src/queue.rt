@@ -22,13 +22,11 @@ use dmc_tag::tag::Tag;
 use dmc_types::config::QueueConfig;
 use dmc_types::ids::ClientId;
 use dmc_types::info::ClientInfo;
+use dmc_types::limits::MOST_CLIENTS;
 use dmc_types::moment::Moment;
 use dmc_types::refusal::{QueueFault, Refusal};
 use std::alloc::Global;
 use std::marker::Model;
-
-/// The most clients of a queue.
-const MOST_CLIENTS: usize = 65_536;
 
 /// The queue of the definitions: one flat list of requests, scanned at each call. Contracts see it as a plain state.
 #[derive(Drop)]
@@ -120,7 +118,7 @@ impl<T: Tag> PlainQueue<T> {
             return Err(Refusal::Known);
         }
         let _exact: Spacings<T> = spacings_for(self.config.hz(), info)?;
-        if self.clients.len() >= MOST_CLIENTS {
+        if self.clients.len() >= MOST_CLIENTS as usize {
             return Err(Refusal::Clients);
         }
         Ok(())

@@ -18,7 +18,7 @@ use std::marker::Model;
 use toml::{Table, Value};
 
 /// The most requests of a client.
-const MOST_REQUESTS: u64 = 1_000_000;
+const MOST_CLIENT_REQUESTS: u64 = 1_000_000;
 
 /// The most of them that are outstanding at once.
 const GREATEST_WINDOW: u64 = 1024;
@@ -174,7 +174,7 @@ pub(crate) fn read_client(
     let reservation = optional_rate(table, Key::Reservation, tags, hz)?;
     let weight = rate(table, Key::Weight, tags, hz)?;
     let limit = optional_rate(table, Key::Limit, tags, hz)?;
-    let requests = integer(table, Key::Requests, 0, MOST_REQUESTS)? as u32;
+    let requests = integer(table, Key::Requests, 0, MOST_CLIENT_REQUESTS)? as u32;
     let window = integer(table, Key::Window, 1, GREATEST_WINDOW)? as u32;
     Ok(SceneClient {
         id: ClientId(id),

@@ -18,24 +18,16 @@ use crate::fault::SceneFault;
 use crate::held::{integer, integer_or, required, text_of, value_at};
 use crate::key::Key;
 use dmc_types::config::{AtLimit, Counting, QueueConfig, TagKind};
+use dmc_types::limits::{GREATEST_AGE, GREATEST_HZ, MOST_SERVERS};
 use std::alloc::Global;
 use std::marker::Model;
 use toml::{Table, Value};
 
 /// The most bytes of a scene.
-const MOST_BYTES: usize = 1 << 20;
-
-/// The most ticks a second.
-const GREATEST_HZ: u64 = 1_000_000_000;
-
-/// The greatest age in ticks.
-const GREATEST_AGE: u64 = 1 << 62;
-
-/// The most servers.
-const MOST_SERVERS: u64 = 64;
+const MOST_SCENE_BYTES: usize = 1 << 20;
 
 /// The most workers of a server.
-const MOST_WORKERS: u64 = 16;
+const MOST_SERVER_WORKERS: u64 = 16;
 
 /// The most ticks of a step.
 const GREATEST_STEP: u64 = 1_000_000_000;
@@ -44,7 +36,7 @@ const GREATEST_STEP: u64 = 1_000_000_000;
 const MOST_PULLS: u64 = 1 << 30;
 
 /// The most clients.
-const MOST_CLIENTS: usize = 256;
+const MOST_SCENE_CLIENTS: usize = 256;
 
 /// What a run is set up with: the queues' configuration, the tags, how many servers and workers there are, the step of a
 /// simulation's round, the seed of the plans, the most pulls, the counting form, and the clients.
@@ -173,7 +165,7 @@ pub fn read_scene(alloc: Global, text: &[u8]) -> Result<Scene, SceneFault>
     // no memory is asked for before the text is known to be a scene's
     ensures memory { result ≡ Err SceneFault.Memory → (length text.now ≤ most_scene_bytes) × IsUtf8 text.now }
 {
-    if text.len() > MOST_BYTES {
+    if text.len() > MOST_SCENE_BYTES {
         return Err(SceneFault::Text);
     }
     match std::str::from_utf8(text) {
@@ -204,8 +196,8 @@ fn read_table(alloc: Global, table: &Table) -> Result<Scene, SceneFault>
     let idle_age = integer_or(table, Key::IdleAge, GREATEST_AGE, 1, GREATEST_AGE)?;
     let erase_age = integer_or(table, Key::EraseAge, GREATEST_AGE, idle_age, GREATEST_AGE)?;
     let tags = read_tags(table)?;
-    let servers = integer(table, Key::Servers, 1, MOST_SERVERS)? as u32;
-    let workers = integer(table, Key::Workers, 1, MOST_WORKERS)? as u32;
+    let servers = integer(table, Key::Servers, 1, MOST_SERVERS as u64)? as u32;
+    let workers = integer(table, Key::Workers, 1, MOST_SERVER_WORKERS)? as u32;
     let step = integer(table, Key::Step, 1, GREATEST_STEP)?;
     let seed = integer(table, Key::Seed, 0, (1 << 63) - 1)?;
     let max_pulls = integer(table, Key::MaxPulls, 1, MOST_PULLS)? as u32;
@@ -321,7 +313,7 @@ fn client_tables(table: &Table) -> Result<&[Value], SceneFault>
     ensures len { IfOk result (λ values. length (tables_in (items_view values.now)) ≡ length values.now) }
 {
     let values = tables_of(required(table, Key::Client)?)?;
-    if values.is_empty() || values.len() > MOST_CLIENTS {
+    if values.is_empty() || values.len() > MOST_SCENE_CLIENTS {
         return Err(SceneFault::Value(Key::Client));
     }
     Ok(values)

@@ -16,11 +16,9 @@ use dmc_scene::scene::Scene;
 use dmc_tag::tag::Tag;
 use dmc_tick::tick::TickTag;
 use dmc_types::config::TagKind;
+use dmc_types::limits::GREATEST_MOMENT;
 use dmc_types::moment::Moment;
 use std::alloc::{AllocError, Global};
-
-/// The last moment, in ticks.
-const GREATEST_MOMENT: u64 = 1 << 62;
 
 /// Simulates a scene (own). Round 0, 1, .. has the moment that is so many steps from 0, at most 2^62. In a round each client, in
 /// the scene's order, that has requests left and fewer than its window outstanding stamps one, to the server that its plan names,

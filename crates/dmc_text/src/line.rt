@@ -12,6 +12,7 @@ use crate::number::read_u64;
 use crate::word::{first_word, spells};
 use dmc_types::command::Command;
 use dmc_types::config::{AtLimit, QueueConfig};
+use dmc_types::limits::GREATEST_AGE;
 use dmc_types::refusal::ValueFault;
 
 /// What a line says.
@@ -161,9 +162,6 @@ fn config_words(text: &[u8]) -> Result<ConfigWords<'_>, LineCause>
         at_limit: at_limit(behind)?,
     })
 }
-
-/// The greatest age of a configuration, in ticks.
-const GREATEST_AGE: u64 = 1 << 62;
 
 /// The ages that are given, or else the greatest.
 fn ages_of(ages: Option<(&[u8], &[u8])>) -> Result<(u64, u64), LineCause>

@@ -10,10 +10,8 @@ use dmc_ledger::setup::Setup;
 use dmc_tracker::event::TrackerEvent;
 use dmc_tracker::tracker::{MakeFault, ServiceTracker};
 use dmc_types::config::Counting;
+use dmc_types::limits::MOST_SERVERS;
 use std::alloc::Global;
-
-/// The most servers of a tracker.
-const MOST_SERVERS: usize = 64;
 
 /// An empty tracker and an empty list, room for the client's pass, and room for what it holds when the book is settled.
 #[derive(Drop)]
@@ -40,7 +38,7 @@ pub(crate) fn make_parts<S: Setup>(
     ensures limit { (AreBookLimits servers most most_events → ⊥) → result ≡ Err MakeFault.Limit }
     ensures memory { AreBookLimits servers most most_events → IsOkUnless result MakeFault.Memory }
 {
-    if servers > MOST_SERVERS {
+    if servers > MOST_SERVERS as usize {
         return Err(MakeFault::Limit);
     }
     let Ok(history) = History::new(alloc, most_events) else {

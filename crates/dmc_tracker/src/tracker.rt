@@ -11,13 +11,11 @@ use crate::event::TrackerEvent;
 use crate::server::ServerCounts;
 use dmc_types::config::{Counting, PhaseType};
 use dmc_types::ids::ServerId;
+use dmc_types::limits::MOST_SERVERS;
 use dmc_types::params::ReqParams;
 use std::alloc::{AllocError, Global};
 use std::marker::Model;
 use thiserror::Error;
-
-/// The most servers of a tracker.
-const MOST_SERVERS: u32 = 64;
 
 /// Why a tracker could not be made.
 #[derive(Clone, Copy, Debug, PartialEq, Eq, Error)]

@@ -4,6 +4,7 @@ ghost use Rattle.dmc_types.specs.Limits.{greatest_hz, greatest_moment};
 ghost use Rattle.dmc_types.specs.Values.{IsSetting};
 ghost use Rattle.dmc_types.specs.declared.refusal.ValueFault.{ValueFault};
 
+use crate::limits::{GREATEST_AGE, GREATEST_HZ};
 use crate::refusal::ValueFault;
 use std::marker::Model;
 
@@ -12,7 +13,7 @@ use std::marker::Model;
 pub enum AtLimit {
     /// It answers when a request will be due.
     Wait,
-    /// It grants the best by shares, beyond its limit.
+    /// It grants the best by weight, beyond its limit.
     Allow,
 }
 
@@ -30,7 +31,7 @@ pub enum Counting {
 pub enum PhaseType {
     /// The constraint phase: its reservation was due.
     Reservation,
-    /// The weight phase: it was the best by shares.
+    /// The weight phase: it was the best by weight.
     Priority,
 }
 
@@ -42,12 +43,6 @@ pub enum TagKind {
     /// Fractions of ticks.
     Ratio,
 }
-
-/// The most ticks a second.
-const GREATEST_HZ: u64 = 1_000_000_000;
-
-/// The greatest age in ticks.
-const GREATEST_AGE: u64 = 1 << 62;
 
 /// A queue's configuration: `hz` ticks a second (1 to 1,000,000,000), the ages in ticks after which a clean marks a
 /// client idle and erases it (1 to 2^62, `idle_age` at most `erase_age`), and what is done at the limit.

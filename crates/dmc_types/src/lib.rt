@@ -6,6 +6,7 @@ pub mod command;
 pub mod config;
 pub mod ids;
 pub mod info;
+pub mod limits;
 pub mod moment;
 pub mod params;
 pub mod refusal;

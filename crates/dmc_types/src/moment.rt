@@ -3,11 +3,9 @@ ghost use Rattle.std.specs.Prelude.{◌≡◌, ◌<◌, ◌≤◌, max};
 ghost use Rattle.dmc_types.specs.Limits.{greatest_moment};
 ghost use Rattle.dmc_types.specs.declared.refusal.ValueFault.{ValueFault};
 
+use crate::limits::GREATEST_MOMENT;
 use crate::refusal::ValueFault;
 use std::marker::Model;
-
-/// The last moment.
-const GREATEST: u64 = 1 << 62;
 
 /// A moment in ticks, at most 2^62. Contracts see it as that number.
 #[derive(Clone, Copy, Debug, PartialEq, Eq, PartialOrd, Ord, Hash)]
@@ -34,7 +32,7 @@ impl Moment {
         ensures ok { ticks ≤ greatest_moment → result ≡ Ok ticks }
         ensures refused { greatest_moment < ticks → result ≡ Err ValueFault.Moment }
     {
-        if ticks > GREATEST {
+        if ticks > GREATEST_MOMENT {
             return Err(ValueFault::Moment);
         }
         Ok(Moment { ticks })

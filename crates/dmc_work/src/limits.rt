@@ -2,10 +2,8 @@
 ghost use Rattle.std.specs.Prelude.{◌≡◌, ◌≤◌, ◌<◌, ◌↔◌, IfSome, IsSome};
 ghost use Rattle.dmc_types.specs.Limits.{most_completions, most_events};
 
+use dmc_types::limits::MOST_EVENTS;
 use std::marker::Model;
-
-/// The most events of a history.
-const MOST_EVENTS: u32 = 1 << 30;
 
 /// The most events of a history, 256 to 2^30, and the most completions that a tracker counts, 1 to 2^32-1.
 #[derive(Clone, Copy, Debug, PartialEq, Eq)]

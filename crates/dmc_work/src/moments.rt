@@ -2,6 +2,7 @@
 ghost use Rattle.std.specs.Prelude.{◌≡◌, ◌*◌, min};
 ghost use Rattle.dmc_types.specs.Limits.{greatest_moment};
 
+use dmc_types::limits::GREATEST_MOMENT;
 use dmc_types::moment::Moment;
 use std::sync::atomic::{AtomicU64, Ordering};
 
@@ -34,9 +35,6 @@ impl Moments for StepClock {
         moment_of(self.readings.fetch_add(1, Ordering::SeqCst), self.step)
     }
 }
-
-/// The last moment, in ticks.
-const GREATEST_MOMENT: u64 = 1 << 62;
 
 /// The moment of a reading.
 fn moment_of(reading: u64, step: u64) -> Moment

@@ -21,6 +21,7 @@ pub use dmc_types::command::Command;
 pub use dmc_types::config::{AtLimit, Counting, PhaseType, QueueConfig};
 pub use dmc_types::ids::{ClientId, ServerId, Token, WorkerId};
 pub use dmc_types::info::ClientInfo;
+pub use dmc_types::limits;
 pub use dmc_types::moment::Moment;
 pub use dmc_types::params::ReqParams;
 pub use dmc_types::refusal::{Field, QueueFault, Refusal, ValueFault};

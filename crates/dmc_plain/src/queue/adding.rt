@@ -20,12 +20,10 @@ use dmc_tag::reply::Tags;
 use dmc_tag::spacing::spacings_for;
 use dmc_tag::tag::Tag;
 use dmc_types::ids::{ClientId, Token};
+use dmc_types::limits::MOST_REQUESTS;
 use dmc_types::moment::Moment;
 use dmc_types::params::ReqParams;
 use dmc_types::refusal::{QueueFault, Refusal};
-
-/// The most queued requests of a queue.
-const MOST_REQUESTS: usize = 1 << 20;
 
 impl<T: Tag> PlainQueue<T> {
     /// Whether each tag that a shift changes stays a value.
@@ -55,7 +53,7 @@ impl<T: Tag> PlainQueue<T> {
         let Some(arriving) = client_named(&self.clients, client) else {
             return Err(Refusal::Unknown);
         };
-        if self.requests.len() >= MOST_REQUESTS {
+        if self.requests.len() >= MOST_REQUESTS as usize {
             return Err(Refusal::QueueFull);
         }
         let shift = shift_of(&self.requests, &arriving, t)?;

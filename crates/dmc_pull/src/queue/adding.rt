@@ -27,12 +27,10 @@ use dmc_index::index::Indexes;
 use dmc_tag::reply::Tags;
 use dmc_tag::tag::Tag;
 use dmc_types::ids::{ClientId, Token};
+use dmc_types::limits::MOST_REQUESTS;
 use dmc_types::moment::Moment;
 use dmc_types::params::ReqParams;
 use dmc_types::refusal::{QueueFault, Refusal};
-
-/// The most queued requests of a queue.
-const MOST_REQUESTS: usize = 1 << 20;
 
 /// A place where no client is registered.
 const NOWHERE: usize = usize::MAX;
@@ -90,7 +88,7 @@ impl<T: Tag, I: Indexes<T>> PullQueue<T, I> {
         let Some(key) = self.roster.find_near(client, near) else {
             return Err(Refusal::Unknown);
         };
-        if self.queued >= MOST_REQUESTS {
+        if self.queued >= MOST_REQUESTS as usize {
             return Err(Refusal::QueueFull);
         }
         let t = T::of_moment(at);

@@ -19,11 +19,9 @@ use dmc_tag::spacing::{Spacings, spacings_for};
 use dmc_tag::tag::Tag;
 use dmc_types::ids::ClientId;
 use dmc_types::info::ClientInfo;
+use dmc_types::limits::MOST_CLIENTS;
 use dmc_types::moment::Moment;
 use dmc_types::refusal::{QueueFault, Refusal};
-
-/// The most clients of a queue.
-const MOST_CLIENTS: usize = 65_536;
 
 impl<T: Tag, I: Indexes<T>> PullQueue<T, I> {
     /// The tests of a registration, and the spacings of the rates.
@@ -38,7 +36,7 @@ impl<T: Tag, I: Indexes<T>> PullQueue<T, I> {
             Ok(spacings) => spacings,
             Err(field) => return Err(Refusal::Inexact(field)),
         };
-        if self.roster.len() >= MOST_CLIENTS {
+        if self.roster.len() >= MOST_CLIENTS as usize {
             return Err(Refusal::Clients);
         }
         Ok(spacings)

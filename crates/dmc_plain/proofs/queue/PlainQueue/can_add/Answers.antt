@@ -13,8 +13,8 @@ returns-in_default-clause-outcome g c =
     let clients = c.deref.ensures.value ∙ ap (λ s. s.clients) c.self.view_is in
     add_unknown g.T.Tag.ops c.args.self.now c.args.client c.args.params c.args.t (ap (client_named c.args.client) (sym clients) ∙ sym c.client_named.ensures ∙ c.in_default.is)
 
-pub returns-then-len-ge-REQUESTS-clause-outcome : goal.returns-then-len-ge-REQUESTS-clause-outcome
-returns-then-len-ge-REQUESTS-clause-outcome g c =
+pub returns-then-len-clause-outcome : goal.returns-then-len-clause-outcome
+returns-then-len-clause-outcome g c =
     let clients = c.deref.ensures.value ∙ ap (λ s. s.clients) c.self.view_is in
     let named = ap (client_named c.args.client) (sym clients) ∙ sym c.client_named.ensures ∙ c.in-Some.is in
     let full = subst (λ s. nat_le most_requests (length s.requests) ≡ true) c.self.view_is (le-leb most_requests (length c.self.inside.requests.items) (omega arith)) in

@@ -25,8 +25,8 @@ returns-in_err-_exact-clause-outcome g c =
     err_is c.from_residual.result (Inexact c.in_err-_exact.field-0.0) c.from_residual.ensures.1
     ∙ refused_inexact g.T.Tag.ops c.args.self.now c.args.client c.args.info c.in_err-_exact.field-0.0 (named ∙ c.if-is_some.false) inexact
 
-pub returns-then-len-ge-CLIENTS-clause-outcome : goal.returns-then-len-ge-CLIENTS-clause-outcome
-returns-then-len-ge-CLIENTS-clause-outcome g c =
+pub returns-then-len-clause-outcome : goal.returns-then-len-clause-outcome
+returns-then-len-clause-outcome g c =
     let clients = c.deref.ensures.value ∙ ap (λ s. s.clients) c.self.view_is in
     let named = ap (λ cs. is_some (client_named c.args.client cs)) (sym clients) ∙ ap is_some (sym c.client_named.ensures) ∙ sym c.is_some.ensures in
     let hz = c.hz.ensures.value ∙ ap (λ s. s.config.hz) c.self.view_is in

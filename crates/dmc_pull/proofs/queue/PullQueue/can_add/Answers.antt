@@ -16,19 +16,19 @@ returns-in_default-clause-outcome g c =
     let none = subst (λ q. entry_named c.args.client q.roster.entries ≡ None) c.self.view_is (adds.no_entry c.args.client c.self.inside.roster.entries (sym c.find_near.ensures.key ∙ c.in_default.is)) in
     adds.unknown g.T.Tag.ops (state_of c.args.self.now) c.args.client c.args.params (g.T.Tag.ops.of_moment c.args.at) (adds.unnamed c.args.client c.args.self.now.roster.entries none)
 
-pub returns-then-self-ge-REQUESTS-clause-outcome : goal.returns-then-self-ge-REQUESTS-clause-outcome
-returns-then-self-ge-REQUESTS-clause-outcome g c =
+pub returns-then-self-clause-outcome : goal.returns-then-self-clause-outcome
+returns-then-self-clause-outcome g c =
     let is = subst (λ q. IsQueue g.T.Tag.ops g.T.Tag.fraction g.T.Tag.is_value q c.self.inside.queued) c.self.view_is c.self.invariant.0 in
     let entry = subst (λ q. entry_keyed c.in-Some.key q.roster.entries ≡ entry_named c.args.client q.roster.entries) c.self.view_is c.in-Some.ensures.entry in
     let held = subst (λ q. is_some (entry_keyed c.in-Some.key q.roster.entries) ≡ true) c.self.view_is c.in-Some.ensures.held in
-    allowed.queue_full g.T.Tag.ops g.T.Tag.fraction g.T.Tag.is_value c.args.self.now c.self.inside.queued is g.met.T.Tag.exact.same (minus_nothing g.T.Tag.ops g.T.Tag.fraction g.T.Tag.is_value g.met.T.Tag.exact) c.args.client c.args.params c.args.at c.in-Some.key entry held c.if-self-ge-REQUESTS.true
+    allowed.queue_full g.T.Tag.ops g.T.Tag.fraction g.T.Tag.is_value c.args.self.now c.self.inside.queued is g.met.T.Tag.exact.same (minus_nothing g.T.Tag.ops g.T.Tag.fraction g.T.Tag.is_value g.met.T.Tag.exact) c.args.client c.args.params c.args.at c.in-Some.key entry held c.if-self.true
 
 pub returns-in_err-shift-clause-outcome : goal.returns-in_err-shift-clause-outcome
 returns-in_err-shift-clause-outcome g c =
     let is = subst (λ q. IsQueue g.T.Tag.ops g.T.Tag.fraction g.T.Tag.is_value q c.self.inside.queued) c.self.view_is c.self.invariant.0 in
     let entry = subst (λ q. entry_keyed c.in-Some.key q.roster.entries ≡ entry_named c.args.client q.roster.entries) c.self.view_is c.in-Some.ensures.entry in
     let held = subst (λ q. is_some (entry_keyed c.in-Some.key q.roster.entries) ≡ true) c.self.view_is c.in-Some.ensures.held in
-    let refused = allowed.shift_refused g.T.Tag.ops g.T.Tag.fraction g.T.Tag.is_value c.args.self.now c.self.inside.queued is g.met.T.Tag.exact.same (minus_nothing g.T.Tag.ops g.T.Tag.fraction g.T.Tag.is_value g.met.T.Tag.exact) c.args.client c.args.params c.args.at c.in-Some.key entry held c.if-self-ge-REQUESTS.false c.needed_shift.result c.of_moment-t.result c.of_moment-t.ensures c.needed_shift.ensures.value c.in_err-shift.field-0.0 c.in_err-shift.was in
+    let refused = allowed.shift_refused g.T.Tag.ops g.T.Tag.fraction g.T.Tag.is_value c.args.self.now c.self.inside.queued is g.met.T.Tag.exact.same (minus_nothing g.T.Tag.ops g.T.Tag.fraction g.T.Tag.is_value g.met.T.Tag.exact) c.args.client c.args.params c.args.at c.in-Some.key entry held c.if-self.false c.needed_shift.result c.of_moment-t.result c.of_moment-t.ensures c.needed_shift.ensures.value c.in_err-shift.field-0.0 c.in_err-shift.was in
     subst (λ r. CanAdd g.T.Tag.ops g.T.Tag.fraction g.T.Tag.is_value c.args.self.now c.args.client c.args.params c.args.at r) (sym (err_is c.from_residual.result c.in_err-shift.field-0.0 c.from_residual.ensures.1)) refused
 
 pub returns-then-not-can_shift_by-clause-outcome : goal.returns-then-not-can_shift_by-clause-outcome
@@ -37,7 +37,7 @@ returns-then-not-can_shift_by-clause-outcome g c =
     let entry = subst (λ q. entry_keyed c.in-Some.key q.roster.entries ≡ entry_named c.args.client q.roster.entries) c.self.view_is c.in-Some.ensures.entry in
     let held = subst (λ q. is_some (entry_keyed c.in-Some.key q.roster.entries) ≡ true) c.self.view_is c.in-Some.ensures.held in
     let can = subst (λ q. c.can_shift_by.result ≡ can_shift_by g.T.Tag.ops c.in_ok-shift.shift (clients_in q.roster.entries) (requests_in q.roster.entries)) c.needed_shift.ensures.same c.can_shift_by.ensures in
-    allowed.shift_out_of_range g.T.Tag.ops g.T.Tag.fraction g.T.Tag.is_value c.args.self.now c.self.inside.queued is g.met.T.Tag.exact.same (minus_nothing g.T.Tag.ops g.T.Tag.fraction g.T.Tag.is_value g.met.T.Tag.exact) c.args.client c.args.params c.args.at c.in-Some.key entry held c.if-self-ge-REQUESTS.false c.needed_shift.result c.of_moment-t.result c.of_moment-t.ensures c.needed_shift.ensures.value c.in_ok-shift.shift c.in_ok-shift.was (sym can ∙ c.if-not-can_shift_by.true)
+    allowed.shift_out_of_range g.T.Tag.ops g.T.Tag.fraction g.T.Tag.is_value c.args.self.now c.self.inside.queued is g.met.T.Tag.exact.same (minus_nothing g.T.Tag.ops g.T.Tag.fraction g.T.Tag.is_value g.met.T.Tag.exact) c.args.client c.args.params c.args.at c.in-Some.key entry held c.if-self.false c.needed_shift.result c.of_moment-t.result c.of_moment-t.ensures c.needed_shift.ensures.value c.in_ok-shift.shift c.in_ok-shift.was (sym can ∙ c.if-not-can_shift_by.true)
 
 pub returns-in_default-tags_for-clause-outcome : goal.returns-in_default-tags_for-clause-outcome
 returns-in_default-tags_for-clause-outcome g c =
@@ -46,7 +46,7 @@ returns-in_default-tags_for-clause-outcome g c =
     let held = subst (λ q. is_some (entry_keyed c.in-Some.key q.roster.entries) ≡ true) c.self.view_is c.in-Some.ensures.held in
     let can = subst (λ q. c.can_shift_by.result ≡ can_shift_by g.T.Tag.ops c.in_ok-shift.shift (clients_in q.roster.entries) (requests_in q.roster.entries)) c.needed_shift.ensures.same c.can_shift_by.ensures in
     let at_key = subst (λ q. record_at c.in-Some.key q.roster.entries ≡ Some c.at.result.now) (c.self-2.view_is ∙ c.needed_shift.ensures.same) c.at.ensures.value in
-    allowed.tags_out_of_range g.T.Tag.ops g.T.Tag.fraction g.T.Tag.is_value c.args.self.now c.self.inside.queued is g.met.T.Tag.exact.same (minus_nothing g.T.Tag.ops g.T.Tag.fraction g.T.Tag.is_value g.met.T.Tag.exact) c.args.client c.args.params c.args.at c.in-Some.key entry held c.if-self-ge-REQUESTS.false c.needed_shift.result c.of_moment-t.result c.of_moment-t.ensures c.needed_shift.ensures.value c.in_ok-shift.shift c.in_ok-shift.was (sym can ∙ c.if-not-can_shift_by.false) c.at.result.now at_key c.tags_for.result c.tags_for.ensures.assigned c.in_default-tags_for.is
+    allowed.tags_out_of_range g.T.Tag.ops g.T.Tag.fraction g.T.Tag.is_value c.args.self.now c.self.inside.queued is g.met.T.Tag.exact.same (minus_nothing g.T.Tag.ops g.T.Tag.fraction g.T.Tag.is_value g.met.T.Tag.exact) c.args.client c.args.params c.args.at c.in-Some.key entry held c.if-self.false c.needed_shift.result c.of_moment-t.result c.of_moment-t.ensures c.needed_shift.ensures.value c.in_ok-shift.shift c.in_ok-shift.was (sym can ∙ c.if-not-can_shift_by.false) c.at.result.now at_key c.tags_for.result c.tags_for.ensures.assigned c.in_default-tags_for.is
 
 pub returns-clause-outcome : goal.returns-clause-outcome
 returns-clause-outcome g c =
@@ -57,4 +57,4 @@ returns-clause-outcome g c =
     let at_key = subst (λ q. record_at c.in-Some.key q.roster.entries ≡ Some c.at.result.now) (c.self-2.view_is ∙ c.needed_shift.ensures.same) c.at.ensures.value in
     let weights = weights_are_values g.T.Tag.ops g.T.Tag.fraction g.T.Tag.is_value g.met.T.Tag.exact in
     let value : g.T.Tag.is_value (g.T.Tag.fraction c.in-Some-tags_for.tags.p) = search rules in
-    allowed.is_allowed g.T.Tag.ops g.T.Tag.fraction g.T.Tag.is_value c.args.self.now c.self.inside.queued is g.met.T.Tag.exact.same (minus_nothing g.T.Tag.ops g.T.Tag.fraction g.T.Tag.is_value g.met.T.Tag.exact) c.args.client c.args.params c.args.at c.in-Some.key entry held c.if-self-ge-REQUESTS.false c.needed_shift.result c.of_moment-t.result c.of_moment-t.ensures c.needed_shift.ensures.value c.in_ok-shift.shift c.in_ok-shift.was (sym can ∙ c.if-not-can_shift_by.false) c.at.result.now at_key c.tags_for.result c.tags_for.ensures.assigned c.in-Some-tags_for.tags c.in-Some-tags_for.is c.tags_for.ensures.follows value
+    allowed.is_allowed g.T.Tag.ops g.T.Tag.fraction g.T.Tag.is_value c.args.self.now c.self.inside.queued is g.met.T.Tag.exact.same (minus_nothing g.T.Tag.ops g.T.Tag.fraction g.T.Tag.is_value g.met.T.Tag.exact) c.args.client c.args.params c.args.at c.in-Some.key entry held c.if-self.false c.needed_shift.result c.of_moment-t.result c.of_moment-t.ensures c.needed_shift.ensures.value c.in_ok-shift.shift c.in_ok-shift.was (sym can ∙ c.if-not-can_shift_by.false) c.at.result.now at_key c.tags_for.result c.tags_for.ensures.assigned c.in-Some-tags_for.tags c.in-Some-tags_for.is c.tags_for.ensures.follows value

@@ -22,7 +22,7 @@ use std::marker::Brand;
 use std::test::Fail;
 
 /// What a circle tells, from the registration to the second stamp.
-#[derive(Clone, Copy, Debug, PartialEq, Eq)]
+#[derive(Clone, Copy, PartialEq, Eq)]
 pub(crate) struct Told {
     stamped: (u32, u32),
     tags: Tags<TickTag>,
@@ -140,6 +140,6 @@ fn circle<S: Setup>(alloc: Global, blank: Blank) -> Result<Told, Fail>
 fn one_circle(rt: HostRuntime) -> Result<(), Fail> {
     let told = circle::<Brand>(rt.alloc(), Blank::new(10))?;
     assert_eq!(rt; told.tags.r, None);
-    assert_eq!(rt; told, circle_told());
+    assert!(rt; told == circle_told());
     Ok(())
 }

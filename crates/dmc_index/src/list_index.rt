@@ -55,7 +55,7 @@ fn place_for<R: Rank>(entries: &[Entry<R>], rank: R) -> usize
     ensures bound { result ≤ length entries.now }
     ensures parts { IsPartitionPoint (λ entry. R.cmp entry.rank rank ≡ Less) (λ entry. R.cmp entry.rank rank ≢ Less) entries.now result }
 {
-    entries.partition_point(|entry| entry.rank.cmp(&rank).is_lt())
+    entries.partition_point(|entry| entry.rank.is_below(&rank))
 }
 
 // Maps each rank.

@@ -5,7 +5,7 @@ ghost use Rattle.dmc_plain.specs.Sets.{members, order, rank_of, found_at, beats,
 
 use dmc_tag::due::is_due;
 use dmc_tag::plain::PlainRequest;
-use dmc_tag::rank::TagRank;
+use dmc_tag::rank::{Rank, TagRank};
 use dmc_tag::tag::Tag;
 use dmc_types::moment::Moment;
 
@@ -50,7 +50,7 @@ impl Set {
     fn is_before<T: Tag>(&self, a: &PlainRequest<T>, b: &PlainRequest<T>) -> bool
         ensures { result ≡ order T.ops self.now a.now b.now }
     {
-        self.rank(a).cmp(&self.rank(b)).is_lt()
+        self.rank(a).is_below(&self.rank(b))
     }
 }
 

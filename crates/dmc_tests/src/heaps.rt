@@ -41,7 +41,9 @@ fn calls_of<I: OrderIndex<TagRank<u64>>>(rt: &impl Abort, index: &mut I) -> Resu
         client: rank.client,
     });
     assert_first(rt, index, 3, 0);
-    assert_same(rt, &index.remove(3), &rank(0, 1));
+    let removed = index.remove(3);
+    assert_same(rt, &removed.tag, &Some(0));
+    assert_same(rt, &removed.client, &ClientId(1));
     assert_first(rt, index, 0, 4);
     assert_same(rt, &index.len(), &1);
     assert!(rt; index.get(3).is_none());

@@ -19,6 +19,6 @@ loop-at-preserved g c =
     let apart : c.lower_child-child.result ≢ c.loop-at.at = λ e. omega (arith, least.positive, least.parent) in
     let here = slice_get_read c.loop-at.heap (length c.loop-at.heap) c.lower_child-child.result c.index-heap-child.result refl least.within c.index-heap-child.is in
     rw (c.put.ensures.heap, c.put.ensures.places) (record {
-      hole = IsHole-down g.R.Ord.cmp g.met.R.Ord.total c.loop-at.heap c.loop-at.places c.loop-at.at c.args.entry hole c.index-heap-child.result c.lower_child-child.result least here;
+      hole = IsHole-down g.R.Rank.cmp g.met.R.Rank.total c.loop-at.heap c.loop-at.places c.loop-at.at c.args.entry hole c.index-heap-child.result c.lower_child-child.result least here;
       moved = IsMoved-more _ _ _ c.loop-at.heap c.loop-at.places c.args.entry c.index-heap-child.result c.loop-at.at c.lower_child-child.result apart hole.within hole.linked here c.loop-at.invariant.moved;
     })

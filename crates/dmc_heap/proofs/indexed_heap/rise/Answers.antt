@@ -22,9 +22,9 @@ loop-at-preserved g c =
     let here = slice_get_read c.loop-at.heap (length c.loop-at.heap) (parent_of c.loop-at.at) above.result refl (omega (arith, hole.within)) above.is in
     let there = slice_get_read c.loop-at.heap (length c.loop-at.heap) (parent_of c.loop-at.at) compared.result refl (omega (arith, hole.within)) compared.is in
     let same : compared.result ≡ above.result = cc in
-    let lower = subst (λ e. IsUpto g.R.Ord.cmp c.args.entry e) (sym compared.is ∙ same) (upto_if_lt _ (sym c.is_below.ensures ∙ c.if-not-is_below.false)) in
+    let lower = subst (λ e. IsUpto g.R.Rank.cmp c.args.entry e) (sym compared.is ∙ same) (upto_if_lt _ (sym c.is_below.ensures ∙ c.if-not-is_below.false)) in
     rw (c.put.ensures.heap, c.put.ensures.places) (record {
-      hole = IsHole-up g.R.Ord.cmp g.met.R.Ord.total c.loop-at.heap c.loop-at.places c.loop-at.at c.args.entry hole above.result c.loop-at-test.true here;
+      hole = IsHole-up g.R.Rank.cmp g.met.R.Rank.total c.loop-at.heap c.loop-at.places c.loop-at.at c.args.entry hole above.result c.loop-at-test.true here;
       moved = IsMoved-more _ _ _ c.loop-at.heap c.loop-at.places c.args.entry above.result c.loop-at.at (parent_of c.loop-at.at) apart hole.within hole.linked here c.loop-at.invariant.moved;
-      over = λ _. IsOverChildren-up g.R.Ord.cmp g.met.R.Ord.total c.loop-at.heap c.loop-at.places c.loop-at.at c.args.entry hole above.result c.loop-at-test.true here lower;
+      over = λ _. IsOverChildren-up g.R.Rank.cmp g.met.R.Rank.total c.loop-at.heap c.loop-at.places c.loop-at.at c.args.entry hole above.result c.loop-at-test.true here lower;
     })

@@ -5,14 +5,14 @@ use Rattle.dmc_heap.proofs.OrderLemmas.{IsSettled-fill, IsMoved-trans, IsOverChi
 use Rattle.dmc_heap.proofs.indexed_heap.settle.Goals as goal
 
 pub put-requires-clause-in_room : goal.put-requires-clause-in_room
-put-requires-clause-in_room g c = key_in_room g.R.Ord.cmp _ _ _ c.args.entry c.rise-place.ensures.hole
+put-requires-clause-in_room g c = key_in_room g.R.Rank.cmp _ _ _ c.args.entry c.rise-place.ensures.hole
 
 pub returns : goal.returns
 returns g c =
     let down = c.descend-leaf.ensures in
     let up = c.rise-place.ensures in
-    let over : IsOverChildren g.R.Ord.cmp c.rise-place.new.heap c.rise-place.result c.args.entry = elim (cases_eq c.rise-place.result c.descend-leaf.result) [
-      | inl s ↦ IsOverChildren-leaf g.R.Ord.cmp g.met.R.Ord.total _ _ _ c.args.entry up.hole (omega (arith, s, down.leaf, up.moved.size))
+    let over : IsOverChildren g.R.Rank.cmp c.rise-place.new.heap c.rise-place.result c.args.entry = elim (cases_eq c.rise-place.result c.descend-leaf.result) [
+      | inl s ↦ IsOverChildren-leaf g.R.Rank.cmp g.met.R.Rank.total _ _ _ c.args.entry up.hole (omega (arith, s, down.leaf, up.moved.size))
       | inr n ↦ up.over_children n
     ] in
-    rw (c.put.ensures.heap, c.put.ensures.places) (IsSettled-fill g.R.Ord.cmp g.met.R.Ord.total _ _ _ _ _ _ c.args.entry up.hole (IsMoved-trans _ _ _ _ _ _ _ _ _ c.args.entry down.moved up.moved) up.under_parent over)
+    rw (c.put.ensures.heap, c.put.ensures.places) (IsSettled-fill g.R.Rank.cmp g.met.R.Rank.total _ _ _ _ _ _ c.args.entry up.hole (IsMoved-trans _ _ _ _ _ _ _ _ _ c.args.entry down.moved up.moved) up.under_parent over)

@@ -11,88 +11,88 @@ pub index-removed-requires : goal.index-removed-requires
 index-removed-requires g c =
     let x = c.self.inside in
     let here = rw (sym c.self.view_is) at c.requires in
-    let in' = key_in_room_if_held g.R.Ord.cmp g.met.R.Ord.total _ x.heap.items x.places.items c.self.invariant c.args.key here in
+    let in' = key_in_room_if_held g.R.Rank.cmp g.met.R.Rank.total _ x.heap.items x.places.items c.self.invariant c.args.key here in
     let at = slice_get_read x.places.items (length x.places.items) c.args.key c.index-at.result.now refl in' c.index-at.ensures in
-    let old = found g.R.Ord.cmp g.met.R.Ord.total _ x.heap.items x.places.items c.self.invariant c.args.key c.index-at.result.now at here in
+    let old = found g.R.Rank.cmp g.met.R.Rank.total _ x.heap.items x.places.items c.self.invariant c.args.key c.index-at.result.now at here in
     omega (arith, slice_get_within x.heap.items c.index-at.result.now old.0 old.1, x.heap.ok.0)
 
 pub settle-requires : goal.settle-requires
 settle-requires g c =
     let x = c.self.inside in
     let here = rw (sym c.self.view_is) at c.requires in
-    let in' = key_in_room_if_held g.R.Ord.cmp g.met.R.Ord.total _ x.heap.items x.places.items c.self.invariant c.args.key here in
+    let in' = key_in_room_if_held g.R.Rank.cmp g.met.R.Rank.total _ x.heap.items x.places.items c.self.invariant c.args.key here in
     let at = slice_get_read x.places.items (length x.places.items) c.args.key c.index-at.result.now refl in' c.index-at.ensures in
     let split = rw c.unwrap-last.ensures at c.pop.ensures.items in
-    let sound = subst (λ h. IsSound g.R.Ord.cmp x.heap.cap h x.places.items) split c.self.invariant in
+    let sound = subst (λ h. IsSound g.R.Rank.cmp x.heap.cap h x.places.items) split c.self.invariant in
     let still = subst (λ h. IsSome (slot_of_key (slots_of h x.places.items) c.args.key)) split here in
-    rw (c.deref_mut.ensures.value, c.deref_mut-then-at-len.ensures.value) (hole_to_remove g.R.Ord.cmp g.met.R.Ord.total _ c.pop.new.self.items c.unwrap-last.result x.places.items sound (omega (arith, x.places.ok.0, x.places.ok.1, x.places.small)) c.args.key c.index-at.result.now at still (omega (arith, c.if-at-len.true, c.len.ensures, c.pop.new.self.ok.0)))
+    rw (c.deref_mut.ensures.value, c.deref_mut-then-at-len.ensures.value) (hole_to_remove g.R.Rank.cmp g.met.R.Rank.total _ c.pop.new.self.items c.unwrap-last.result x.places.items sound (omega (arith, x.places.ok.0, x.places.ok.1, x.places.small)) c.args.key c.index-at.result.now at still (omega (arith, c.if-at-len.true, c.len.ensures, c.pop.new.self.ok.0)))
 
 pub invariant_of-self : goal.invariant_of-self
 invariant_of-self g c =
     let x = c.self.inside in
     let here = rw (sym c.self.view_is) at c.requires in
-    let in' = key_in_room_if_held g.R.Ord.cmp g.met.R.Ord.total _ x.heap.items x.places.items c.self.invariant c.args.key here in
+    let in' = key_in_room_if_held g.R.Rank.cmp g.met.R.Rank.total _ x.heap.items x.places.items c.self.invariant c.args.key here in
     let at = slice_get_read x.places.items (length x.places.items) c.args.key c.index-at.result.now refl in' c.index-at.ensures in
     let split = rw c.unwrap-last.ensures at c.pop.ensures.items in
-    let sound = subst (λ h. IsSound g.R.Ord.cmp x.heap.cap h x.places.items) split c.self.invariant in
+    let sound = subst (λ h. IsSound g.R.Rank.cmp x.heap.cap h x.places.items) split c.self.invariant in
     let still = subst (λ h. IsSome (slot_of_key (slots_of h x.places.items) c.args.key)) split here in
     let settled = rw (c.deref_mut.ensures.value, c.deref_mut-then-at-len.ensures.value) at c.settle.ensures in
     let heap = take_at c.settle.new.heap (drop (length c.settle.new.heap) c.pop.new.self.items) c.pop.new.self.len (omega (arith, settled.size, c.pop.new.self.ok.0)) in
     let places = take_at c.settle.new.places (drop (length c.settle.new.places) (set x.places.items c.args.key 18446744073709551615)) x.places.len (omega (arith, settled.room, x.places.ok.0, length-set x.places.items c.args.key 18446744073709551615)) in
-    rw (heap, places, c.pop.ensures.capacity) ((removed_inner g.R.Ord.cmp g.met.R.Ord.total _ c.pop.new.self.items c.unwrap-last.result x.places.items sound (omega (arith, x.places.ok.0, x.places.ok.1, x.places.small)) c.args.key c.index-at.result.now at still (omega (arith, c.if-at-len.true, c.len.ensures, c.pop.new.self.ok.0)) _ _ settled).0)
+    rw (heap, places, c.pop.ensures.capacity) ((removed_inner g.R.Rank.cmp g.met.R.Rank.total _ c.pop.new.self.items c.unwrap-last.result x.places.items sound (omega (arith, x.places.ok.0, x.places.ok.1, x.places.small)) c.args.key c.index-at.result.now at still (omega (arith, c.if-at-len.true, c.len.ensures, c.pop.new.self.ok.0)) _ _ settled).0)
 
 pub returns-then-at-len-clause-value : goal.returns-then-at-len-clause-value
 returns-then-at-len-clause-value g c =
     let x = c.self.inside in
     let here = rw (sym c.self.view_is) at c.requires in
-    let in' = key_in_room_if_held g.R.Ord.cmp g.met.R.Ord.total _ x.heap.items x.places.items c.self.invariant c.args.key here in
+    let in' = key_in_room_if_held g.R.Rank.cmp g.met.R.Rank.total _ x.heap.items x.places.items c.self.invariant c.args.key here in
     let at = slice_get_read x.places.items (length x.places.items) c.args.key c.index-at.result.now refl in' c.index-at.ensures in
-    let old = found g.R.Ord.cmp g.met.R.Ord.total _ x.heap.items x.places.items c.self.invariant c.args.key c.index-at.result.now at here in
+    let old = found g.R.Rank.cmp g.met.R.Rank.total _ x.heap.items x.places.items c.self.invariant c.args.key c.index-at.result.now at here in
     let there = slice_get_read x.heap.items (length x.heap.items) c.index-at.result.now c.index-removed.result.now refl (slice_get_within x.heap.items c.index-at.result.now old.0 old.1) c.index-removed.ensures in
-    rw c.self.view_is at (held_entry g.R.Ord.cmp g.met.R.Ord.total _ x.heap.items x.places.items c.self.invariant c.args.key c.index-at.result.now c.index-removed.result.now at there)
+    rw c.self.view_is at (held_entry g.R.Rank.cmp g.met.R.Rank.total _ x.heap.items x.places.items c.self.invariant c.args.key c.index-at.result.now c.index-removed.result.now at there)
 
 pub returns-then-at-len-clause-rest : goal.returns-then-at-len-clause-rest
 returns-then-at-len-clause-rest g c =
     let x = c.self.inside in
     let here = rw (sym c.self.view_is) at c.requires in
-    let in' = key_in_room_if_held g.R.Ord.cmp g.met.R.Ord.total _ x.heap.items x.places.items c.self.invariant c.args.key here in
+    let in' = key_in_room_if_held g.R.Rank.cmp g.met.R.Rank.total _ x.heap.items x.places.items c.self.invariant c.args.key here in
     let at = slice_get_read x.places.items (length x.places.items) c.args.key c.index-at.result.now refl in' c.index-at.ensures in
     let split = rw c.unwrap-last.ensures at c.pop.ensures.items in
-    let sound = subst (λ h. IsSound g.R.Ord.cmp x.heap.cap h x.places.items) split c.self.invariant in
+    let sound = subst (λ h. IsSound g.R.Rank.cmp x.heap.cap h x.places.items) split c.self.invariant in
     let still = subst (λ h. IsSome (slot_of_key (slots_of h x.places.items) c.args.key)) split here in
     let settled = rw (c.deref_mut.ensures.value, c.deref_mut-then-at-len.ensures.value) at c.settle.ensures in
     let heap = take_at c.settle.new.heap (drop (length c.settle.new.heap) c.pop.new.self.items) c.pop.new.self.len (omega (arith, settled.size, c.pop.new.self.ok.0)) in
     let places = take_at c.settle.new.places (drop (length c.settle.new.places) (set x.places.items c.args.key 18446744073709551615)) x.places.len (omega (arith, settled.room, x.places.ok.0, length-set x.places.items c.args.key 18446744073709551615)) in
-    rw (heap, places, ← c.self.view_is, split) ((removed_inner g.R.Ord.cmp g.met.R.Ord.total _ c.pop.new.self.items c.unwrap-last.result x.places.items sound (omega (arith, x.places.ok.0, x.places.ok.1, x.places.small)) c.args.key c.index-at.result.now at still (omega (arith, c.if-at-len.true, c.len.ensures, c.pop.new.self.ok.0)) _ _ settled).1)
+    rw (heap, places, ← c.self.view_is, split) ((removed_inner g.R.Rank.cmp g.met.R.Rank.total _ c.pop.new.self.items c.unwrap-last.result x.places.items sound (omega (arith, x.places.ok.0, x.places.ok.1, x.places.small)) c.args.key c.index-at.result.now at still (omega (arith, c.if-at-len.true, c.len.ensures, c.pop.new.self.ok.0)) _ _ settled).1)
 
 pub invariant_of-self-else-at-len : goal.invariant_of-self-else-at-len
 invariant_of-self-else-at-len g c =
     let x = c.self.inside in
     let here = rw (sym c.self.view_is) at c.requires in
-    let in' = key_in_room_if_held g.R.Ord.cmp g.met.R.Ord.total _ x.heap.items x.places.items c.self.invariant c.args.key here in
+    let in' = key_in_room_if_held g.R.Rank.cmp g.met.R.Rank.total _ x.heap.items x.places.items c.self.invariant c.args.key here in
     let at = slice_get_read x.places.items (length x.places.items) c.args.key c.index-at.result.now refl in' c.index-at.ensures in
     let split = rw c.unwrap-last.ensures at c.pop.ensures.items in
-    let sound = subst (λ h. IsSound g.R.Ord.cmp x.heap.cap h x.places.items) split c.self.invariant in
+    let sound = subst (λ h. IsSound g.R.Rank.cmp x.heap.cap h x.places.items) split c.self.invariant in
     let still = subst (λ h. IsSome (slot_of_key (slots_of h x.places.items) c.args.key)) split here in
-    rw c.pop.ensures.capacity ((removed_last g.R.Ord.cmp g.met.R.Ord.total _ c.pop.new.self.items c.unwrap-last.result x.places.items sound (omega (arith, x.places.ok.0, x.places.ok.1, x.places.small)) c.args.key c.index-at.result.now at still (omega (arith, c.if-at-len.false, c.len.ensures, c.pop.new.self.ok.0))).0)
+    rw c.pop.ensures.capacity ((removed_last g.R.Rank.cmp g.met.R.Rank.total _ c.pop.new.self.items c.unwrap-last.result x.places.items sound (omega (arith, x.places.ok.0, x.places.ok.1, x.places.small)) c.args.key c.index-at.result.now at still (omega (arith, c.if-at-len.false, c.len.ensures, c.pop.new.self.ok.0))).0)
 
 pub returns-else-at-len-clause-value : goal.returns-else-at-len-clause-value
 returns-else-at-len-clause-value g c =
     let x = c.self.inside in
     let here = rw (sym c.self.view_is) at c.requires in
-    let in' = key_in_room_if_held g.R.Ord.cmp g.met.R.Ord.total _ x.heap.items x.places.items c.self.invariant c.args.key here in
+    let in' = key_in_room_if_held g.R.Rank.cmp g.met.R.Rank.total _ x.heap.items x.places.items c.self.invariant c.args.key here in
     let at = slice_get_read x.places.items (length x.places.items) c.args.key c.index-at.result.now refl in' c.index-at.ensures in
-    let old = found g.R.Ord.cmp g.met.R.Ord.total _ x.heap.items x.places.items c.self.invariant c.args.key c.index-at.result.now at here in
+    let old = found g.R.Rank.cmp g.met.R.Rank.total _ x.heap.items x.places.items c.self.invariant c.args.key c.index-at.result.now at here in
     let there = slice_get_read x.heap.items (length x.heap.items) c.index-at.result.now c.index-removed.result.now refl (slice_get_within x.heap.items c.index-at.result.now old.0 old.1) c.index-removed.ensures in
-    rw c.self.view_is at (held_entry g.R.Ord.cmp g.met.R.Ord.total _ x.heap.items x.places.items c.self.invariant c.args.key c.index-at.result.now c.index-removed.result.now at there)
+    rw c.self.view_is at (held_entry g.R.Rank.cmp g.met.R.Rank.total _ x.heap.items x.places.items c.self.invariant c.args.key c.index-at.result.now c.index-removed.result.now at there)
 
 pub returns-else-at-len-clause-rest : goal.returns-else-at-len-clause-rest
 returns-else-at-len-clause-rest g c =
     let x = c.self.inside in
     let here = rw (sym c.self.view_is) at c.requires in
-    let in' = key_in_room_if_held g.R.Ord.cmp g.met.R.Ord.total _ x.heap.items x.places.items c.self.invariant c.args.key here in
+    let in' = key_in_room_if_held g.R.Rank.cmp g.met.R.Rank.total _ x.heap.items x.places.items c.self.invariant c.args.key here in
     let at = slice_get_read x.places.items (length x.places.items) c.args.key c.index-at.result.now refl in' c.index-at.ensures in
     let split = rw c.unwrap-last.ensures at c.pop.ensures.items in
-    let sound = subst (λ h. IsSound g.R.Ord.cmp x.heap.cap h x.places.items) split c.self.invariant in
+    let sound = subst (λ h. IsSound g.R.Rank.cmp x.heap.cap h x.places.items) split c.self.invariant in
     let still = subst (λ h. IsSome (slot_of_key (slots_of h x.places.items) c.args.key)) split here in
-    rw (← c.self.view_is, split) ((removed_last g.R.Ord.cmp g.met.R.Ord.total _ c.pop.new.self.items c.unwrap-last.result x.places.items sound (omega (arith, x.places.ok.0, x.places.ok.1, x.places.small)) c.args.key c.index-at.result.now at still (omega (arith, c.if-at-len.false, c.len.ensures, c.pop.new.self.ok.0))).1)
+    rw (← c.self.view_is, split) ((removed_last g.R.Rank.cmp g.met.R.Rank.total _ c.pop.new.self.items c.unwrap-last.result x.places.items sound (omega (arith, x.places.ok.0, x.places.ok.1, x.places.small)) c.args.key c.index-at.result.now at still (omega (arith, c.if-at-len.false, c.len.ensures, c.pop.new.self.ok.0))).1)

@@ -7,18 +7,18 @@ use Rattle.dmc_heap.proofs.indexed_heap.IndexedHeapOrderIndex.reserve_keys.Goals
 pub returns-in_ok-resize-clause-ok : goal.returns-in_ok-resize-clause-ok
 returns-in_ok-resize-clause-ok g c =
     let x = c.self.inside in
-    let size = rw c.self.view_is at (length-slots g.R.Ord.cmp g.met.R.Ord.total _ x.heap.items x.places.items c.self.invariant) in
+    let size = rw c.self.view_is at (length-slots g.R.Rank.cmp g.met.R.Rank.total _ x.heap.items x.places.items c.self.invariant) in
     let front = take_all c.args.n x.places.items (omega (arith, c.if-n-len.true, c.len.ensures, x.places.ok.0)) in
     let places = rw (front, x.places.ok.0) at c.in_ok-resize.ensures.items in
-    rw (c.in_ok-reserve.ensures.items, places, size) (rw c.self.view_is at (slots_of-more g.R.Ord.cmp g.met.R.Ord.total _ x.heap.items x.places.items c.self.invariant (c.args.n - length x.places.items) (omega (arith, x.heap.ok.0, x.heap.ok.1, x.heap.small))))
+    rw (c.in_ok-reserve.ensures.items, places, size) (rw c.self.view_is at (slots_of-more g.R.Rank.cmp g.met.R.Rank.total _ x.heap.items x.places.items c.self.invariant (c.args.n - length x.places.items) (omega (arith, x.heap.ok.0, x.heap.ok.1, x.heap.small))))
 
 pub invariant_of-self-in-Continue-branch-2 : goal.invariant_of-self-in-Continue-branch-2
 invariant_of-self-in-Continue-branch-2 g c =
     let x = c.self.inside in
     let front = take_all c.args.n x.places.items (omega (arith, c.if-n-len.true, c.len.ensures, x.places.ok.0)) in
     let places = rw (front, x.places.ok.0) at c.in_ok-resize.ensures.items in
-    let in_room = heap_in_room g.R.Ord.cmp g.met.R.Ord.total _ x.heap.items x.places.items c.self.invariant in
-    rw (c.in_ok-reserve.ensures.items, places) (IsSound-more g.R.Ord.cmp g.met.R.Ord.total _ x.heap.items x.places.items c.self.invariant (c.args.n - length x.places.items) (omega (arith, x.heap.ok.0, x.heap.ok.1, x.heap.small)) _ (omega (arith, c.in_ok-reserve.ensures.ok, c.in_ok-reserve.ensures.len, c.len-then-n-len.ensures, c.len.ensures, c.if-n-len.true, x.heap.ok.0, x.places.ok.0)))
+    let in_room = heap_in_room g.R.Rank.cmp g.met.R.Rank.total _ x.heap.items x.places.items c.self.invariant in
+    rw (c.in_ok-reserve.ensures.items, places) (IsSound-more g.R.Rank.cmp g.met.R.Rank.total _ x.heap.items x.places.items c.self.invariant (c.args.n - length x.places.items) (omega (arith, x.heap.ok.0, x.heap.ok.1, x.heap.small)) _ (omega (arith, c.in_ok-reserve.ensures.ok, c.in_ok-reserve.ensures.len, c.len-then-n-len.ensures, c.len.ensures, c.if-n-len.true, x.heap.ok.0, x.places.ok.0)))
 
 pub overflow_sub-n : goal.overflow_sub-n
 overflow_sub-n g c = grind (arith, common_steps)

@@ -9,4 +9,4 @@ returns-clause-value g c =
 
 pub returns-clause-distinct : goal.returns-clause-distinct
 returns-clause-distinct g c =
-    subst (AreApart g.R.Ord.cmp) c.self.view_is (AreApart-slots_of g.R.Ord.cmp g.met.R.Ord.total _ _ c.self.inside.entries.items c.self.invariant)
+    subst (AreApart g.R.Rank.cmp) c.self.view_is (AreApart-slots_of g.R.Rank.cmp g.met.R.Rank.total _ _ c.self.inside.entries.items c.self.invariant)

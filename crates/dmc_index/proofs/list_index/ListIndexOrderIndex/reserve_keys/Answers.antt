@@ -6,7 +6,7 @@ use Rattle.dmc_index.proofs.list_index.ListIndexOrderIndex.reserve_keys.Goals as
 pub overflow_sub-n : goal.overflow_sub-n
 overflow_sub-n g c =
     let x = c.self.inside in
-    omega (arith, within_room g.R.Ord.cmp g.met.R.Ord.total x.room _ x.entries.items c.self.invariant, x.entries.ok.0)
+    omega (arith, within_room g.R.Rank.cmp g.met.R.Rank.total x.room _ x.entries.items c.self.invariant, x.entries.ok.0)
 
 pub returns-in_err-reserve-clause-succeeds : goal.returns-in_err-reserve-clause-succeeds
 returns-in_err-reserve-clause-succeeds g c l =

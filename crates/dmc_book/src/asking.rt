@@ -1,5 +1,5 @@
 //! Commands handed to the queue.
-ghost use Rattle.std.specs.Prelude.{◌≡◌, false, map};
+ghost use Rattle.std.specs.Prelude.{◌≡◌, false, map, ⊤};
 ghost use Rattle.dmc_ledger.specs.Bundles.{client_side};
 ghost use Rattle.dmc_tag.specs.Steps.{Steps};
 ghost use Rattle.dmc_types.specs.declared.command.Command.TheVariants as commands;
@@ -37,6 +37,10 @@ pub(crate) enum Added<T> {
 }
 
 impl<T: Copy> Clone for Added<T> {
+    ghost is_clone = { λ x y. y ≡ x };
+
+    ghost is_infallible = { λ _. ⊤ };
+
     fn clone(&self) -> Result<Added<T>, AllocError> {
         Ok(*self)
     }

@@ -1,5 +1,5 @@
 //! The lines of an event text.
-ghost use Rattle.std.specs.Prelude.{◌≡◌};
+ghost use Rattle.std.specs.Prelude.{◌≡◌, ⊤};
 ghost use Rattle.dmc_text.specs.Answers.{Gives};
 ghost use Rattle.dmc_text.specs.Commands.{command, seen};
 ghost use Rattle.dmc_text.specs.Words.{words};
@@ -29,6 +29,10 @@ pub enum EventLine<T> {
 }
 
 impl<T: Copy> Clone for EventLine<T> {
+    ghost is_clone = { λ x y. y ≡ x };
+
+    ghost is_infallible = { λ _. ⊤ };
+
     fn clone(&self) -> Result<EventLine<T>, AllocError> {
         Ok(*self)
     }

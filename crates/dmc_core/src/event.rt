@@ -1,5 +1,5 @@
 //! What happens in a cluster, and what is answered.
-ghost use Rattle.std.specs.Prelude.{◌≡◌};
+ghost use Rattle.std.specs.Prelude.{◌≡◌, ⊤};
 
 use dmc_tag::reply::Reply;
 use dmc_tracker::tracker::TrackFault;
@@ -76,6 +76,10 @@ pub enum CoreReply<T> {
 }
 
 impl<T: Copy> Clone for CoreReply<T> {
+    ghost is_clone = { λ x y. y ≡ x };
+
+    ghost is_infallible = { λ _. ⊤ };
+
     fn clone(&self) -> Result<CoreReply<T>, AllocError> {
         Ok(*self)
     }

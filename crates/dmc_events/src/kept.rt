@@ -1,5 +1,5 @@
 //! How events are kept: what most events are has a form of its own, with no room for what others have.
-ghost use Rattle.std.specs.Prelude.{◌≡◌, IfSome, IsTrue};
+ghost use Rattle.std.specs.Prelude.{◌≡◌, IfSome, IsTrue, ⊤};
 ghost use Rattle.dmc_types.specs.declared.command.Command.TheVariants as commands;
 ghost use Rattle.dmc_events.specs.Kept.{event_of_granted, event_of_queued, event_of_queued_by_weight};
 
@@ -27,6 +27,10 @@ pub(crate) struct QueuedByWeight<T> {
 }
 
 impl<T: Copy> Clone for QueuedByWeight<T> {
+    ghost is_clone = { λ x y. y ≡ x };
+
+    ghost is_infallible = { λ _. ⊤ };
+
     fn clone(&self) -> Result<QueuedByWeight<T>, AllocError> {
         Ok(*self)
     }
@@ -47,6 +51,10 @@ pub(crate) struct Queued<T> {
 }
 
 impl<T: Copy> Clone for Queued<T> {
+    ghost is_clone = { λ x y. y ≡ x };
+
+    ghost is_infallible = { λ _. ⊤ };
+
     fn clone(&self) -> Result<Queued<T>, AllocError> {
         Ok(*self)
     }

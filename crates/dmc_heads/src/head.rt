@@ -1,5 +1,5 @@
 //! A client's first request.
-ghost use Rattle.std.specs.Prelude.{◌≡◌};
+ghost use Rattle.std.specs.Prelude.{◌≡◌, ⊤};
 ghost use Rattle.dmc_heads.specs.Heads as heads_of;
 
 use dmc_tag::rank::{LimitRank, ReadyRank, TagRank};
@@ -17,6 +17,10 @@ pub struct Head<T> {
 }
 
 impl<T: Copy> Clone for Head<T> {
+    ghost is_clone = { λ x y. y ≡ x };
+
+    ghost is_infallible = { λ _. ⊤ };
+
     fn clone(&self) -> Result<Head<T>, AllocError> {
         Ok(*self)
     }

@@ -1,5 +1,5 @@
 //! An index as a binary heap and a place for each key.
-ghost use Rattle.std.specs.Prelude.{◌≡◌, ◌≢◌, ◌<◌, ◌≤◌, ◌/◌, length, slice_set};
+ghost use Rattle.std.specs.Prelude.{◌≡◌, ◌≢◌, ◌<◌, ◌≤◌, ◌/◌, length, slice_set, ⊤};
 ghost use Rattle.std.specs.List.{All};
 ghost use Rattle.dmc_heap.specs.Heap.{IsHole, IsMoved, IsUnderParent, IsOverChildren, IsLowerChild, IsSettled, MapsEntries};
 
@@ -17,6 +17,10 @@ struct Entry<R> {
 }
 
 impl<R: Copy> Clone for Entry<R> {
+    ghost is_clone = { λ x y. y ≡ x };
+
+    ghost is_infallible = { λ _. ⊤ };
+
     fn clone(&self) -> Result<Entry<R>, AllocError> {
         Ok(*self)
     }

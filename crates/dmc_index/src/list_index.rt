@@ -1,5 +1,5 @@
 //! An index as a sorted vector. Each change moves what is behind it, so it suits a few keys, and tests.
-ghost use Rattle.std.specs.Prelude.{◌≡◌, ◌≢◌, ◌-◌, ◌≤◌, ◌<◌, ◌==◌, position, length};
+ghost use Rattle.std.specs.Prelude.{◌≡◌, ◌≢◌, ◌-◌, ◌≤◌, ◌<◌, ◌==◌, position, length, ⊤};
 ghost use Rattle.std.specs.List.Sorted.{IsPartitionPoint};
 ghost use Rattle.std.specs.declared.cmp.Ordering.TheVariants.{Less};
 ghost use Rattle.std.specs.List.{All};
@@ -19,6 +19,10 @@ struct Entry<R> {
 }
 
 impl<R: Copy> Clone for Entry<R> {
+    ghost is_clone = { λ x y. y ≡ x };
+
+    ghost is_infallible = { λ _. ⊤ };
+
     fn clone(&self) -> Result<Entry<R>, AllocError> {
         Ok(*self)
     }

@@ -1,5 +1,5 @@
 //! An add: the shift of all others.
-ghost use Rattle.std.specs.Prelude.{◌≡◌, true, Some, IfSome};
+ghost use Rattle.std.specs.Prelude.{◌≡◌, true, Some, IfSome, ⊤};
 ghost use Rattle.std.specs.List.{AllByRecursion};
 ghost use Rattle.dmc_adjust.specs.Changes as changes;
 ghost use Rattle.dmc_client.specs.Record.{IsRecord};
@@ -26,6 +26,10 @@ pub struct Addition<T> {
 }
 
 impl<T: Copy> Clone for Addition<T> {
+    ghost is_clone = { λ x y. y ≡ x };
+
+    ghost is_infallible = { λ _. ⊤ };
+
     fn clone(&self) -> Result<Addition<T>, AllocError> {
         Ok(*self)
     }

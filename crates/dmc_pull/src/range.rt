@@ -1,5 +1,5 @@
 //! Between which tags the P tags of a queue lie.
-ghost use Rattle.std.specs.Prelude.{◌≡◌};
+ghost use Rattle.std.specs.Prelude.{◌≡◌, ⊤};
 ghost use Rattle.dmc_pull.specs.Range as range_of;
 ghost use Rattle.dmc_pull.specs.Range.{IsWithin};
 
@@ -16,6 +16,10 @@ pub struct ShareRange<T> {
 }
 
 impl<T: Copy> Clone for ShareRange<T> {
+    ghost is_clone = { λ x y. y ≡ x };
+
+    ghost is_infallible = { λ _. ⊤ };
+
     fn clone(&self) -> Result<ShareRange<T>, AllocError> {
         Ok(*self)
     }

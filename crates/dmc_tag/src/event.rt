@@ -1,4 +1,6 @@
 //! What happened at a queue.
+ghost use Rattle.std.specs.Prelude.{◌≡◌, ⊤};
+
 use crate::reply::Reply;
 use dmc_types::command::Command;
 use dmc_types::ids::WorkerId;
@@ -13,6 +15,10 @@ pub struct Event<T> {
 }
 
 impl<T: Copy> Clone for Event<T> {
+    ghost is_clone = { λ x y. y ≡ x };
+
+    ghost is_infallible = { λ _. ⊤ };
+
     fn clone(&self) -> Result<Event<T>, AllocError> {
         Ok(*self)
     }

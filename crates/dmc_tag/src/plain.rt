@@ -1,4 +1,6 @@
 //! The parts of a plain state: what dmClock knows of a request and of a client.
+ghost use Rattle.std.specs.Prelude.{◌≡◌, ⊤};
+
 use crate::reply::Tags;
 use dmc_types::ids::{ClientId, Token};
 use dmc_types::info::ClientInfo;
@@ -14,6 +16,10 @@ pub struct PlainRequest<T> {
 }
 
 impl<T: Copy> Clone for PlainRequest<T> {
+    ghost is_clone = { λ x y. y ≡ x };
+
+    ghost is_infallible = { λ _. ⊤ };
+
     fn clone(&self) -> Result<PlainRequest<T>, AllocError> {
         Ok(*self)
     }
@@ -28,6 +34,10 @@ pub struct Previous<T> {
 }
 
 impl<T: Copy> Clone for Previous<T> {
+    ghost is_clone = { λ x y. y ≡ x };
+
+    ghost is_infallible = { λ _. ⊤ };
+
     fn clone(&self) -> Result<Previous<T>, AllocError> {
         Ok(*self)
     }
@@ -45,6 +55,10 @@ pub struct PlainClient<T> {
 }
 
 impl<T: Copy> Clone for PlainClient<T> {
+    ghost is_clone = { λ x y. y ≡ x };
+
+    ghost is_infallible = { λ _. ⊤ };
+
     fn clone(&self) -> Result<PlainClient<T>, AllocError> {
         Ok(*self)
     }

@@ -1,5 +1,5 @@
 //! Ranks: what the indexes over clients order by. Each compares its fields in turn.
-ghost use Rattle.std.specs.Prelude.{◌≡◌};
+ghost use Rattle.std.specs.Prelude.{◌≡◌, ⊤};
 ghost use Rattle.std.specs.Cmp.{IsTotalOrder};
 ghost use Rattle.std.specs.Ordering.{is_lt, ordering_then};
 ghost use Rattle.std.specs.declared.cmp.Ordering.{Ordering};
@@ -30,6 +30,10 @@ pub struct TagRank<T> {
 }
 
 impl<T: Copy> Clone for TagRank<T> {
+    ghost is_clone = { λ x y. y ≡ x };
+
+    ghost is_infallible = { λ _. ⊤ };
+
     fn clone(&self) -> Result<TagRank<T>, AllocError> {
         Ok(*self)
     }
@@ -44,6 +48,10 @@ pub struct LimitRank<T> {
 }
 
 impl<T: Copy> Clone for LimitRank<T> {
+    ghost is_clone = { λ x y. y ≡ x };
+
+    ghost is_infallible = { λ _. ⊤ };
+
     fn clone(&self) -> Result<LimitRank<T>, AllocError> {
         Ok(*self)
     }
@@ -58,6 +66,10 @@ pub struct ReadyRank<T> {
 }
 
 impl<T: Copy> Clone for ReadyRank<T> {
+    ghost is_clone = { λ x y. y ≡ x };
+
+    ghost is_infallible = { λ _. ⊤ };
+
     fn clone(&self) -> Result<ReadyRank<T>, AllocError> {
         Ok(*self)
     }

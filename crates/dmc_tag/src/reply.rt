@@ -1,4 +1,6 @@
 //! What a queue answers.
+ghost use Rattle.std.specs.Prelude.{◌≡◌, ⊤};
+
 use dmc_types::config::PhaseType;
 use dmc_types::ids::{ClientId, Token};
 use dmc_types::refusal::Refusal;
@@ -13,6 +15,10 @@ pub struct Tags<T> {
 }
 
 impl<T: Copy> Clone for Tags<T> {
+    ghost is_clone = { λ x y. y ≡ x };
+
+    ghost is_infallible = { λ _. ⊤ };
+
     fn clone(&self) -> Result<Tags<T>, AllocError> {
         Ok(*self)
     }
@@ -64,6 +70,10 @@ pub enum Reply<T> {
 }
 
 impl<T: Copy> Clone for Reply<T> {
+    ghost is_clone = { λ x y. y ≡ x };
+
+    ghost is_infallible = { λ _. ⊤ };
+
     fn clone(&self) -> Result<Reply<T>, AllocError> {
         Ok(*self)
     }

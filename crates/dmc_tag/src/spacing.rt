@@ -1,5 +1,5 @@
 //! The spacings of a client's rates.
-ghost use Rattle.std.specs.Prelude.{◌≡◌, IfOk};
+ghost use Rattle.std.specs.Prelude.{◌≡◌, IfOk, ⊤};
 ghost use Rattle.dmc_tag.specs.Order.{AreSpacings};
 ghost use Rattle.dmc_tag.specs.Spacing.{spacing_of, optional_spacing, spacings_of};
 
@@ -18,6 +18,10 @@ pub struct Spacings<T> {
 }
 
 impl<T: Copy> Clone for Spacings<T> {
+    ghost is_clone = { λ x y. y ≡ x };
+
+    ghost is_infallible = { λ _. ⊤ };
+
     fn clone(&self) -> Result<Spacings<T>, AllocError> {
         Ok(*self)
     }

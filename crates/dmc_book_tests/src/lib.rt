@@ -15,6 +15,8 @@ mod queue_locks;
 #[cfg(test)]
 mod refusals;
 #[cfg(test)]
+mod same;
+#[cfg(test)]
 mod settling;
 #[cfg(test)]
 mod tracker_books;

@@ -5,6 +5,7 @@ use crate::opening::{
     Book, LONG, ONE, Opened, SEVEN, ZERO, let_all_go, let_go, open, open_book, open_client_desks,
     open_other, open_queue, wait_config,
 };
+use crate::same::assert_same;
 use dmc_book::fault::{NewFault, RunFault, SubmitCause};
 use dmc_book::pass::WorkerPass;
 use dmc_ledger::bundle::StampTills;
@@ -137,14 +138,11 @@ fn full_closed_stranger(rt: HostRuntime) -> Result<(), Fail> {
         stranger: Some(RunFault::Stranger),
         numbers: (2, 2, 1),
     };
-    assert_eq!(rt; full::<Brand>(rt.alloc(), Blank::new(20))?, answers);
-    assert_eq!(rt;
-        closed::<Brand>(rt.alloc(), Blank::new(10))?,
-        (ONE, SubmitCause::Closed, true)
-    );
-    assert_eq!(rt;
-        twice::<Brand>(rt.alloc(), Blank::new(20))?,
-        Some(NewFault::Twice)
-    );
+    let answer = full::<Brand>(rt.alloc(), Blank::new(20))?;
+    assert_same(&rt, &answer, &answers);
+    let answer = closed::<Brand>(rt.alloc(), Blank::new(10))?;
+    assert_same(&rt, &answer, &(ONE, SubmitCause::Closed, true));
+    let answer = twice::<Brand>(rt.alloc(), Blank::new(20))?;
+    assert_same(&rt, &answer, &Some(NewFault::Twice));
     Ok(())
 }

@@ -3,6 +3,7 @@ ghost use Rattle.std.specs.Prelude.{◌≡◌};
 ghost use Rattle.dmc_tlock.specs.Consistent.{IsBalanced};
 
 use crate::opening::ZERO;
+use crate::same::assert_same;
 use crate::tracker_setup::{
     Opened, TIMES, grants_of, open_book, respond, respond_at_lock, stamp, stamp_at_lock, status,
     status_at_lock,
@@ -156,7 +157,7 @@ fn settle<S: Setup>(rt: &impl Abort, lock: TrackerLock<S>, pass: ClientPass<S>) 
     let Ok(settled) = balanced_book(lock).settle(pass) else {
         panic!(rt; "its own pass")
     };
-    assert_eq!(rt; settled.events.len(), 3);
+    assert_same(rt, &settled.events.len(), &3);
     let held = settled.held.first().copied();
     drop(settled);
     held.map(|held| (held.stamps, held.delta, held.rho))
@@ -204,16 +205,17 @@ fn one_circle(rt: HostRuntime) -> Result<(), Fail> {
     for told in TOLD {
         let counting = told.status.counting;
         let answer = circle_in_hand::<Brand>(&rt, rt.alloc(), Blank::new(5), counting)?;
-        assert_eq!(rt; answer, told);
+        assert_same(&rt, &answer, &told);
         let (answer, held) = circle_at_lock::<Brand, HostRuntime>(
             &rt,
             rt.alloc(),
             Blank::new(5),
             counting,
         )?;
-        assert_eq!(rt; answer, told);
+        assert_same(&rt, &answer, &told);
         let (delta, rho) = told.status.sent;
-        assert_eq!(rt; held, Some((2, u64::from(delta), u64::from(rho))));
+        let wanted = Some((2, u64::from(delta), u64::from(rho)));
+        assert_same(&rt, &held, &wanted);
     }
     Ok(())
 }
@@ -316,10 +318,11 @@ fn two_threads_at_a_lock(rt: HostRuntime) -> Result<(), Fail> {
         (Counting::Others, (2000, 2000)),
     ] {
         let status = shared::<Brand, HostRuntime>(&rt, rt.alloc(), Blank::new(5), counting)?;
-        assert_eq!(rt; (status.stamps, status.completions), (2000, (2000, 0)));
+        let counted = (status.stamps, status.completions);
+        assert_same(&rt, &counted, &(2000, (2000, 0)));
         let (sent, pending) = (status.sent, status.pending);
-        assert_eq!(rt; sent.0.checked_add(pending.0), Some(all));
-        assert_eq!(rt; sent.1.checked_add(pending.1), Some(constraint));
+        assert_same(&rt, &sent.0.checked_add(pending.0), &Some(all));
+        assert_same(&rt, &sent.1.checked_add(pending.1), &Some(constraint));
     }
     Ok(())
 }

@@ -4,6 +4,7 @@ ghost use Rattle.dmc_ledger.specs.Bundles.{server_side};
 ghost use Rattle.dmc_tlock.specs.Opening.{AreNew};
 
 use crate::opening::ZERO;
+use crate::same::assert_same;
 use crate::tracker_setup::{
     Opened, open_book, open_desks, respond, respond_at_lock, stamp, stamp_at_lock, status,
     status_at_lock,
@@ -85,7 +86,8 @@ fn assert_refused_in_hand<S: Setup>(
 ) {
     for (server, refused) in STRANGERS {
         assert!(rt; grants.amount() > 0);
-        assert_eq!(rt; refused_in_hand(book, server, tills, grants), refused);
+        let answers = refused_in_hand(book, server, tills, grants);
+        assert_same(rt, &answers, &refused);
     }
 }
 
@@ -98,7 +100,8 @@ fn assert_refused_at_lock<S: Setup, R: Abort + Wait>(
 ) {
     for (server, refused) in STRANGERS {
         assert!(rt; grants.amount() > 0);
-        assert_eq!(rt; refused_at_lock(rt, lock, server, tills, grants), refused);
+        let answers = refused_at_lock(rt, lock, server, tills, grants);
+        assert_same(rt, &answers, &refused);
     }
 }
 
@@ -224,7 +227,7 @@ fn full_closed_stranger(rt: HostRuntime) -> Result<(), Fail> {
     ] {
         let blank = Blank::new(10);
         let refused = strangers::<Brand, HostRuntime>(&rt, rt.alloc(), blank, counting)?;
-        assert_eq!(rt; refused, full);
+        assert_same(&rt, &refused, &full);
     }
     passes::<Brand>(&rt, rt.alloc(), Blank::new(10))?;
     Ok(())
@@ -250,7 +253,8 @@ fn limit<S: Setup>(rt: &impl Abort, alloc: Global, blank: Blank) -> Result<(), F
 {
     let mut mint = blank.open::<S>();
     let (_desk, desks) = open_desks(alloc, &mut mint, ClientId(1))?;
-    assert_eq!(rt; refused_limit(rt, alloc, desks), (MakeFault::Limit, 1));
+    let refused = refused_limit(rt, alloc, desks);
+    assert_same(rt, &refused, &(MakeFault::Limit, 1));
     Ok(())
 }
 

@@ -1,7 +1,9 @@
-//! Tests of tags, queues, trackers, ledgers, histories and texts, and of what they are made of, in a crate above them: so
-//! those are proved once.
+//! Tests of tags, queues, trackers, ledgers, histories, texts, scenes, plans and the cluster core, and of what they are made
+//! of, in a crate above them: so those are proved once.
 #![tactic(auto)]
 
+#[cfg(test)]
+mod cores;
 #[cfg(test)]
 mod events;
 #[cfg(test)]
@@ -20,6 +22,8 @@ mod ledgers;
 mod limits;
 #[cfg(test)]
 mod lines;
+#[cfg(test)]
+mod plans;
 #[cfg(test)]
 mod recorded;
 #[cfg(test)]

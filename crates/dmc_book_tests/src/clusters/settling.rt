@@ -3,6 +3,7 @@ ghost use Rattle.std.specs.Prelude.{◌≡◌, ◌≤◌, IfOk};
 
 use super::playing::play;
 use super::setup::{BOOKS, Cluster, empty_cluster, fill, no_passes, scene};
+use crate::same::assert_same;
 use dmc_book::settled::GrantsHeld;
 use dmc_events::history::EventHistory;
 use dmc_ledger::mint::{Blank, Mint};
@@ -172,9 +173,9 @@ fn played_rows() -> [ClientReport; 2] {
 
 /// A server's row says what it is to say, and that four events were recorded and its worker's turns were used up.
 fn assert_row(rt: &impl Abort, row: &ServerReport<TickTag>, wanted: Told) {
-    assert_eq!(rt; told(row), wanted);
-    assert_eq!(rt; row.history.len(), 4);
-    assert_eq!(rt; row.stops.as_slice(), [StopCause::Turns].as_slice());
+    assert_same(rt, &told(row), &wanted);
+    assert_same(rt, &row.history.len(), &4);
+    assert_same(rt, &row.stops.as_slice(), &[StopCause::Turns].as_slice());
 }
 
 #[test]
@@ -183,7 +184,8 @@ fn settle_two_servers(rt: HostRuntime) -> Result<(), Fail> {
     let Some(report) = settle_in::<Brand>(rt.alloc(), blank, Change::Nothing)? else {
         return Err(Fail::new("torn"));
     };
-    assert_eq!(rt; report.clients.as_slice(), played_rows().as_slice());
+    let rows = played_rows();
+    assert_same(&rt, &report.clients.as_slice(), &rows.as_slice());
     let wanted = [(1, 0, 0, 0, 0), (0, 1, 0, 0, 1)];
     for (row, wanted) in report.servers.iter().zip(wanted) {
         assert_row(&rt, row, wanted);

@@ -10,6 +10,7 @@ use super::setup::{
     open_other,
 };
 use crate::opening::{LONG, ONE, ZERO, wait_config};
+use crate::same::assert_same;
 use crate::tracker_setup::{stamp, stamp_at_lock};
 use dmc_book::fault::{NewFault, RunFault, SubmitCause};
 use dmc_book::pass::WorkerPass;
@@ -295,19 +296,20 @@ fn full_closed_stranger(rt: HostRuntime) -> Result<(), Fail> {
         (Pulled::Nothing, Some(no_room)),
         (2, 2, 1),
     );
-    assert_eq!(rt; answer, wanted);
+    assert_same(&rt, &answer, &wanted);
     let answer = closed::<Brand, HostRuntime>(&rt, rt.alloc(), Blank::new(15))?;
     let refused = Some(Stop::Submit(SubmitCause::Closed));
-    assert_eq!(rt; answer, (refused, (grant(ONE, 9), Pulled::Nothing)));
+    let pulls = (grant(ONE, 9), Pulled::Nothing);
+    assert_same(&rt, &answer, &(refused, pulls));
     let answer = strange::<Brand, HostRuntime>(&rt, rt.alloc(), Blank::new(30))?;
     let stranger = Some(RunFault::Stranger);
     let pulled = Some(RunOrRange::Run(RunFault::Stranger));
     let submitted = Some(Stop::Submit(SubmitCause::Stranger));
-    assert_eq!(rt; answer, (stranger, pulled, stranger, submitted));
+    assert_same(&rt, &answer, &(stranger, pulled, stranger, submitted));
     let answer = twice::<Brand>(rt.alloc(), Blank::new(20))?;
-    assert_eq!(rt; answer, Some(NewFault::Twice));
+    assert_same(&rt, &answer, &Some(NewFault::Twice));
     let answer = others::<Brand, HostRuntime>(&rt, rt.alloc(), Blank::new(15))?;
     let refused = (ONE, SubmitCause::Stranger);
-    assert_eq!(rt; answer, (Some(EntryFault::Stranger), refused));
+    assert_same(&rt, &answer, &(Some(EntryFault::Stranger), refused));
     Ok(())
 }

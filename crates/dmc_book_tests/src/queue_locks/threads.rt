@@ -5,6 +5,7 @@ use super::calls::{Stop, close, must_register, pull, status, submit, was_closed}
 use super::settling::{Numbers, Remains, settle};
 use super::setup::{Client, Lock, Opened, TWO, grant, last_two, let_go, open};
 use crate::opening::{ONE, ZERO};
+use crate::same::assert_same;
 use dmc_book::pass::WorkerPass;
 use dmc_ledger::mint::{Blank, Mint};
 use dmc_ledger::setup::Setup;
@@ -226,7 +227,7 @@ fn two_threads(rt: HostRuntime) -> Result<(), Fail> {
         left: ((102, 4950, 0), (100, 4950), (2, 200, 202)),
         pulled: (grant(ONE, 0), (101, 0, 1, 0)),
     };
-    assert_eq!(rt; answer, (wanted, two_remain()));
+    assert_same(&rt, &answer, &(wanted, two_remain()));
     Ok(())
 }
 
@@ -295,7 +296,7 @@ fn closed_at_once<S: Setup + Send + Sync, R: Threads + Wait + Sync>(
 fn close_amid_submits(rt: HostRuntime) -> Result<(), Fail> {
     let answer = closed_at_once::<Brand, HostRuntime>(&rt, rt.alloc(), Blank::new(20))?;
     let ((own, other), (left, more)) = answer;
-    assert_eq!(rt; own.checked_add(left), Some(102));
-    assert_eq!(rt; other.checked_add(more), Some(100));
+    assert_same(&rt, &own.checked_add(left), &Some(102));
+    assert_same(&rt, &other.checked_add(more), &Some(100));
     Ok(())
 }

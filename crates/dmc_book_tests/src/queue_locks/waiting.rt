@@ -4,6 +4,7 @@ ghost use Rattle.std.specs.Prelude.{◌≡◌};
 use super::calls::{close, must_register, pull, pull_or_wait, respond, submit};
 use super::setup::{Client, Lock, Opened, last_pass, last_two, let_go, open};
 use crate::opening::ONE;
+use crate::same::assert_same;
 use dmc_book::pass::WorkerPass;
 use dmc_ledger::mint::{Blank, Mint};
 use dmc_ledger::setup::Setup;
@@ -156,7 +157,9 @@ fn woken<S: Setup + Send + Sync, R: Threads + Wait + Sync>(
 #[test]
 fn all_who_wait_are_woken(rt: HostRuntime) -> Result<(), Fail> {
     let (told, ended) = woken::<Brand, HostRuntime>(&rt, rt.alloc(), Blank::new(25))?;
-    assert_eq!(rt; told, (Ok(Pulled::Future(50)), Ok(Pulled::Future(50))));
-    assert_eq!(rt; ended, (Ok(Pulled::Nothing), Ok(Pulled::Nothing)));
+    let future = Ok(Pulled::Future(50));
+    assert_same(&rt, &told, &(future, future));
+    let nothing = Ok(Pulled::Nothing);
+    assert_same(&rt, &ended, &(nothing, nothing));
     Ok(())
 }

@@ -1,7 +1,6 @@
 //! A clock that goes back.
-use super::setup::{Prompt, done, is_whole, three_servers};
+use super::setup::{Prompt, done, is_whole, run_by, three_servers};
 use dmc_driver::moments::Moments;
-use dmc_driver::run::run_cluster;
 use dmc_types::moment::Moment;
 use std::sync::atomic::{AtomicU64, Ordering};
 use std::test::Fail;
@@ -30,7 +29,7 @@ fn backward_clock(rt: HostRuntime) -> Result<(), Fail> {
     let clock = Backward {
         readings: AtomicU64::new(0),
     };
-    let report = done(run_cluster(&rt, rt.alloc(), &scene, &Prompt, &clock))?;
+    let report = done(run_by(&rt, &scene, &Prompt, &clock))?;
     is_whole(&rt, &report, 0);
     Ok(())
 }

@@ -1,15 +1,17 @@
 //! The clock that goes on by a step.
+use crate::same::assert_same;
 use dmc_driver::moments::{Moments, StepClock};
 use std::test::Fail;
 
 #[test]
 fn step_clock(rt: HostRuntime) -> Result<(), Fail> {
     let clock = StepClock::new(7);
-    assert_eq!(rt; clock.now().ticks(), 0);
-    assert_eq!(rt; clock.now().ticks(), 7);
-    assert_eq!(rt; clock.now().ticks(), 14);
+    for ticks in [0, 7, 14] {
+        assert_same(&rt, &clock.now().ticks(), &ticks);
+    }
     let clock = StepClock::new(1 << 63);
-    assert_eq!(rt; clock.now().ticks(), 0);
-    assert_eq!(rt; clock.now().ticks(), 1 << 62);
+    for ticks in [0, 1 << 62] {
+        assert_same(&rt, &clock.now().ticks(), &ticks);
+    }
     Ok(())
 }

@@ -1,7 +1,6 @@
 //! A service that fails for odd tokens and counts its jobs.
-use super::setup::{done, is_whole, three_servers};
-use dmc_driver::moments::StepClock;
-use dmc_driver::run::run_cluster;
+use super::setup::{done, is_whole, run, three_servers};
+use crate::same::assert_same;
 use dmc_driver::service::{Job, ServeFault, Service};
 use dmc_types::config::PhaseType;
 use std::sync::atomic::{AtomicU64, Ordering};
@@ -60,18 +59,18 @@ impl Service for Tally {
 #[test]
 fn failing_service(rt: HostRuntime) -> Result<(), Fail> {
     let scene = three_servers(rt.alloc())?;
-    let clock = StepClock::new(scene.step());
     let tally = Tally::new();
-    let report = done(run_cluster(&rt, rt.alloc(), &scene, &tally, &clock))?;
+    let report = done(run(&rt, &scene, &tally))?;
     is_whole(&rt, &report, 100);
     for row in &report.servers {
         let server = row.server.0;
-        assert_eq!(rt; told(&tally.reservation, server), Some(row.reservation));
-        assert_eq!(rt; told(&tally.priority, server), Some(row.priority));
+        let reserved = told(&tally.reservation, server);
+        assert_same(&rt, &reserved, &Some(row.reservation));
+        assert_same(&rt, &told(&tally.priority, server), &Some(row.priority));
     }
     for row in &report.clients {
         let index = row.client.0.wrapping_sub(1);
-        assert_eq!(rt; told(&tally.clients, index), Some(row.completed));
+        assert_same(&rt, &told(&tally.clients, index), &Some(row.completed));
     }
     Ok(())
 }

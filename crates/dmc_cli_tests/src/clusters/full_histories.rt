@@ -1,5 +1,6 @@
 //! Runs whose histories or trackers are too small.
 use super::setup::{Prompt, granted, sent_and_completed, stopped, three_servers, units_left};
+use crate::same::assert_same;
 use dmc_driver::limits::Limits;
 use dmc_driver::moments::StepClock;
 use dmc_driver::run::run_limited;
@@ -38,19 +39,18 @@ fn full_histories(rt: HostRuntime) -> Result<(), Fail> {
     }
     let (_, completed) = sent_and_completed(&report.clients);
     let units = units_left(&report.servers);
-    assert_eq!(rt;
-        completed.checked_add(units),
-        Some(granted(&report.servers))
-    );
+    let granted = granted(&report.servers);
+    assert_same(&rt, &completed.checked_add(units), &Some(granted));
     Ok(())
 }
 
 #[test]
 fn limits_are_kept(rt: HostRuntime) -> Result<(), Fail> {
-    assert_eq!(rt; Limits::new(255, 1), None);
-    assert_eq!(rt; Limits::new(1 << 31, 1), None);
-    assert_eq!(rt; Limits::new(256, 0), None);
-    assert!(rt; Limits::new(256, 1).is_some());
-    assert_eq!(rt; Limits::new(1 << 30, u32::MAX), Some(Limits::widest()));
+    assert_same(&rt, &Limits::new(255, 1), &None);
+    assert_same(&rt, &Limits::new(1 << 31, 1), &None);
+    assert_same(&rt, &Limits::new(256, 0), &None);
+    assert_same(&rt, &Limits::new(256, 1).is_some(), &true);
+    let widest = Limits::new(1 << 30, u32::MAX);
+    assert_same(&rt, &widest, &Some(Limits::widest()));
     Ok(())
 }

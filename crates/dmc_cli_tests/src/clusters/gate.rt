@@ -1,7 +1,5 @@
 //! Services overlap: one waits for two others, one of them at its own server.
-use super::setup::{done, is_whole, scene};
-use dmc_driver::moments::StepClock;
-use dmc_driver::run::run_cluster;
+use super::setup::{done, is_whole, run, scene};
 use dmc_driver::service::{Job, ServeFault, Service};
 use std::sync::atomic::{AtomicU64, Ordering};
 use std::test::Fail;
@@ -48,13 +46,12 @@ impl Service for Gatekeeper {
 #[test]
 fn gate(rt: HostRuntime) -> Result<(), Fail> {
     let scene = scene(rt.alloc(), 2, 1_000_000, "all")?;
-    let clock = StepClock::new(scene.step());
     let keeper = Gatekeeper {
         begun: AtomicU64::new(0),
         second: AtomicU64::new(0),
         other: AtomicU64::new(0),
     };
-    let report = done(run_cluster(&rt, rt.alloc(), &scene, &keeper, &clock))?;
+    let report = done(run(&rt, &scene, &keeper))?;
     is_whole(&rt, &report, 0);
     Ok(())
 }

@@ -1,7 +1,6 @@
 //! What the histories tell: who gave each command, to which server, in which order, and when.
-use super::setup::{Prompt, done, three_servers};
-use dmc_driver::moments::StepClock;
-use dmc_driver::run::run_cluster;
+use super::setup::{Prompt, done, run, three_servers};
+use crate::same::assert_same;
 use dmc_driver::service::{Job, ServeFault, Service};
 use dmc_events::history::EventHistory;
 use dmc_scene::scene::{Scene, read_scene};
@@ -75,8 +74,7 @@ fn are_in_place(
 #[test]
 fn each_to_its_server(rt: HostRuntime) -> Result<(), Fail> {
     let scene = three_servers(rt.alloc())?;
-    let clock = StepClock::new(scene.step());
-    let report = done(run_cluster(&rt, rt.alloc(), &scene, &Prompt, &clock))?;
+    let report = done(run(&rt, &scene, &Prompt))?;
     let plans = plans_of(rt.alloc(), &scene)?;
     for row in &report.servers {
         are_in_place(&rt, &plans, row.server, &row.history);
@@ -165,12 +163,11 @@ fn seen_in(rt: &impl Abort, history: &EventHistory<TickTag>) -> Seen {
 #[test]
 fn one_client_in_order(rt: HostRuntime) -> Result<(), Fail> {
     let scene = read_scene(rt.alloc(), ONE.as_bytes())?;
-    let clock = StepClock::new(scene.step());
-    let report = done(run_cluster(&rt, rt.alloc(), &scene, &Slow, &clock))?;
+    let report = done(run(&rt, &scene, &Slow))?;
     for row in &report.servers {
         let seen = seen_in(&rt, &row.history);
-        assert_eq!(rt; (seen.added, seen.granted), (40, 40));
+        assert_same(&rt, &(seen.added, seen.granted), &(40, 40));
     }
-    assert_eq!(rt; report.servers.len(), 1);
+    assert_same(&rt, &report.servers.len(), &1);
     Ok(())
 }

@@ -1,7 +1,6 @@
 //! A run on tags in which a client's weight has no spacing.
-use super::setup::{Prompt, sent_and_completed, stopped};
-use dmc_driver::moments::StepClock;
-use dmc_driver::run::run_cluster;
+use super::setup::{Prompt, run, sent_and_completed, stopped};
+use crate::same::assert_same;
 use dmc_scene::scene::read_scene;
 use dmc_settle::report::StopCause;
 use dmc_types::refusal::{Field, Refusal};
@@ -14,16 +13,14 @@ const SCENE: &str = "hz = 1000\ntags = \"ratio\"\nservers = 2\nworkers = 1\nstep
 #[test]
 fn refused_rates(rt: HostRuntime) -> Result<(), Fail> {
     let scene = read_scene(rt.alloc(), SCENE.as_bytes())?;
-    let clock = StepClock::new(scene.step());
     let inexact = StopCause::Refused(Refusal::Inexact(Field::Weight));
-    let answer = run_cluster(&rt, rt.alloc(), &scene, &Prompt, &clock);
-    let report = stopped(answer, inexact)?;
+    let report = stopped(run(&rt, &scene, &Prompt), inexact)?;
     for row in &report.clients {
-        assert_eq!(rt; row.stop, Some(StopCause::Refused(Refusal::Unknown)));
+        assert_same(&rt, &row.stop, &Some(StopCause::Refused(Refusal::Unknown)));
     }
     for row in &report.servers {
-        assert_eq!(rt; row.stops.as_slice(), [inexact].as_slice());
+        assert_same(&rt, &row.stops.as_slice(), &[inexact].as_slice());
     }
-    assert_eq!(rt; sent_and_completed(&report.clients), (0, 0));
+    assert_same(&rt, &sent_and_completed(&report.clients), &(0, 0));
     Ok(())
 }

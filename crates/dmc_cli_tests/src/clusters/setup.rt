@@ -1,12 +1,17 @@
 //! The scene `three_servers`, and what its tests ask of a report.
+use crate::same::assert_same;
 use dmc_driver::fault::DriveFault;
+use dmc_driver::moments::{Moments, StepClock};
+use dmc_driver::run::run_cluster;
 use dmc_driver::service::{Job, ServeFault, Service};
 use dmc_scene::scene::{Scene, read_scene};
 use dmc_settle::report::{ClientReport, ClusterReport, ServerReport, StopCause};
 use dmc_tick::tick::TickTag;
 use std::alloc::{AllocError, Global};
 use std::process::Abort;
+use std::sync::Wait;
 use std::test::Fail;
+use std::thread::Threads;
 
 pub(super) type Answer = Result<ClusterReport<TickTag>, DriveFault<TickTag>>;
 
@@ -42,6 +47,25 @@ impl Service for Prompt {
     fn serve(&self, _job: &Job) -> Result<(), ServeFault> {
         Ok(())
     }
+}
+
+/// Runs a scene with this service and this clock. What is promised of the answer, no test asks for.
+pub(super) fn run_by<R, V, M>(rt: &R, scene: &Scene, service: &V, clock: &M) -> Answer
+where
+    R: AllocGlobal + Threads + Wait + Sync,
+    V: Service + Sync,
+    M: Moments + Sync,
+{
+    run_cluster(rt, rt.alloc(), scene, service, clock)
+}
+
+/// The same with a clock that goes on by the scene's step.
+pub(super) fn run<R, V>(rt: &R, scene: &Scene, service: &V) -> Answer
+where
+    R: AllocGlobal + Threads + Wait + Sync,
+    V: Service + Sync,
+{
+    run_by(rt, scene, service, &StepClock::new(scene.step()))
 }
 
 /// Whether a worker stopped for this cause.
@@ -104,18 +128,21 @@ pub(super) fn turned_out(answer: Answer) -> Result<ClusterReport<TickTag>, Fail>
 /// Each client sent and completed 200 requests, and so many of them failed; nothing is left.
 pub(super) fn is_whole(rt: &impl Abort, report: &ClusterReport<TickTag>, failed: u64) {
     for row in &report.clients {
-        assert_eq!(rt; (row.sent, row.completed, row.failed), (200, 200, failed));
-        assert_eq!(rt; (row.held.stamps, row.held.delta, row.held.rho), (0, 0, 0));
-        assert!(rt; row.stop.is_none());
+        let held = (row.held.stamps, row.held.delta, row.held.rho);
+        assert_same(
+            rt,
+            &(row.sent, row.completed, row.failed),
+            &(200, 200, failed),
+        );
+        assert_same(rt, &held, &(0, 0, 0));
+        assert_same(rt, &row.stop, &None);
     }
     for row in &report.servers {
-        assert_eq!(rt;
-            (row.left, row.held.reservation, row.held.priority),
-            (0, 0, 0)
-        );
-        assert!(rt; row.stops.is_empty());
+        let held = (row.held.reservation, row.held.priority);
+        assert_same(rt, &(row.left, held), &(0, (0, 0)));
+        assert_same(rt, &row.stops.len(), &0);
     }
-    assert_eq!(rt; granted(&report.servers), 800);
+    assert_same(rt, &granted(&report.servers), &800);
 }
 
 /// How many grants there were.

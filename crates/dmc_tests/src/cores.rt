@@ -1,4 +1,5 @@
 //! The worked examples of the cluster core, and its refusals.
+use crate::same::assert_same;
 use dmc_core::cluster_core::ClusterCore;
 use dmc_core::event::{CoreEvent, CoreFault, CoreReply};
 use dmc_scene::scene::read_scene;
@@ -123,7 +124,7 @@ fn answer(core: &mut Core, event: &CoreEvent) -> Answer {
 
 // An event has this answer.
 fn answers(rt: &impl Abort, core: &mut Core, event: CoreEvent, expected: Answer) {
-    assert_eq!(rt; answer(core, &event), expected);
+    assert_same(rt, &answer(core, &event), &expected);
 }
 
 // A server's queue has this reply to an event.
@@ -193,7 +194,7 @@ fn responds(rt: &impl Abort, core: &mut Core, phase: PhaseType) {
 // The plan half of the example.
 fn plans_zero(rt: &impl Abort, alloc: Global) -> Result<(), Fail> {
     let servers = plan(alloc, 1, ONE, 1, 3)?;
-    assert_eq!(rt; servers.as_slice(), [ZERO; 3].as_slice());
+    assert_same(rt, &servers.as_slice(), &[ZERO; 3].as_slice());
     Ok(())
 }
 

@@ -16,6 +16,8 @@ use Rattle.toml.specs.Parse.{parse_document}
 use Rattle.dmc_scene.specs.declared.key.Key.TheVariants as key
 use Rattle.dmc_scene.specs.declared.fault.SceneFault.{SceneFault}
 use Rattle.dmc_scene.specs.declared.fault.SceneFault.TheVariants.{Text}
+use Rattle.dmc_scene.specs.declared.scene.Ages.{Ages}
+use Rattle.dmc_scene.specs.declared.scene.Sizes.{Sizes}
 use Rattle.dmc_scene.specs.SceneValue.{SceneValue, ClientValue, has_spacing}
 use Rattle.dmc_scene.specs.Keys.{required, optional, defaulted, number, passing}
 
@@ -88,30 +90,42 @@ clients_of tags hz before [] = Ok before
 clients_of tags hz before (table ∷ tables) =
     client_of tags hz before table >>= λ client. clients_of tags hz (before ++ client ∷ []) tables
 
--- the scene that a table is
-abbrev pub scene_of : Members → Result SceneValue SceneFault
-scene_of table = do
+-- how many ticks a second has, and the ages
+abbrev pub ages_of : Members → Result Ages SceneFault
+ages_of table = do
   hz ← required as_integer (number 1 greatest_hz) key.Hz table
   idle_age ← defaulted greatest_moment as_integer (number 1 greatest_moment) key.IdleAge table
   erase_age ← defaulted greatest_moment as_integer (number idle_age greatest_moment) key.EraseAge table
-  tags ← required as_str tags_named key.Tags table
+  Ok (record { hz = hz; idle_age = idle_age; erase_age = erase_age })
+
+-- the numbers beside those of the configuration and of the clients
+abbrev pub sizes_of : Members → Result Sizes SceneFault
+sizes_of table = do
   servers ← required as_integer (number 1 most_servers) key.Servers table
   workers ← required as_integer (number 1 most_server_workers) key.Workers table
   step ← required as_integer (number 1 greatest_step) key.Step table
   seed ← required as_integer (number 0 (2 ^ 63 - 1)) key.Seed table
   max_pulls ← required as_integer (number 1 most_pulls) key.MaxPulls table
+  Ok (record { servers = servers; workers = workers; step = step; seed = seed; max_pulls = max_pulls })
+
+-- the scene that a table is
+abbrev pub scene_of : Members → Result SceneValue SceneFault
+scene_of table = do
+  ages ← ages_of table
+  tags ← required as_str tags_named key.Tags table
+  sizes ← sizes_of table
   counting ← defaulted All as_str counting_named key.Counting table
   at_limit ← defaulted Wait as_str at_limit_named key.AtLimit table
   tables ← required as_tables some_clients key.Client table
-  clients ← clients_of tags hz [] tables
+  clients ← clients_of tags ages.hz [] tables
   Ok (record {
-    config = record { hz = hz; idle_age = idle_age; erase_age = erase_age; at_limit = at_limit };
+    config = record { hz = ages.hz; idle_age = ages.idle_age; erase_age = ages.erase_age; at_limit = at_limit };
     tags = tags;
-    servers = servers;
-    workers = workers;
-    step = step;
-    seed = seed;
-    max_pulls = max_pulls;
+    servers = sizes.servers;
+    workers = sizes.workers;
+    step = sizes.step;
+    seed = sizes.seed;
+    max_pulls = sizes.max_pulls;
     counting = counting;
     clients = clients;
   })

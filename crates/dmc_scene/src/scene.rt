@@ -9,9 +9,10 @@ ghost use Rattle.toml.specs.View.{view, items_view, table_view};
 ghost use Rattle.dmc_types.specs.declared.config.Counting.TheVariants as counting;
 ghost use Rattle.dmc_types.specs.declared.config.AtLimit.TheVariants as at_limit;
 ghost use Rattle.dmc_scene.specs.declared.fault.SceneFault.TheVariants.{Kind, Memory};
-ghost use Rattle.dmc_scene.specs.SceneValue.{AreApart, AreSpaced};
+ghost use Rattle.dmc_types.specs.Values.{IsSetting};
+ghost use Rattle.dmc_scene.specs.SceneValue.{AreApart, AreSizes, AreSpaced};
 ghost use Rattle.dmc_scene.specs.Keys.{required, defaulted};
-ghost use Rattle.dmc_scene.specs.Reading.{tags_named, counting_named, at_limit_named, are_tables, tables_in, as_tables, some_clients, clients_of, scene_of, scene_in};
+ghost use Rattle.dmc_scene.specs.Reading.{tags_named, counting_named, at_limit_named, are_tables, tables_in, as_tables, some_clients, clients_of, ages_of, sizes_of, scene_of, scene_in};
 
 use crate::client::{SceneClient, read_client};
 use crate::fault::SceneFault;
@@ -192,28 +193,81 @@ fn table_in(alloc: Global, text: &str) -> Result<Table, SceneFault>
 fn read_table(alloc: Global, table: &Table) -> Result<Scene, SceneFault>
     ensures { result ≢ Err SceneFault.Memory → result ≡ scene_of (table_view table.now) }
 {
+    let ages = read_ages(table)?;
+    let tags = read_tags(table)?;
+    let sizes = read_sizes(table)?;
+    let counting = read_counting(table)?;
+    let config = config_of(ages, read_at_limit(table)?);
+    let clients = read_clients(alloc, tags, ages.hz, client_tables(table)?)?;
+    Ok(Scene {
+        config,
+        tags,
+        servers: sizes.servers,
+        workers: sizes.workers,
+        step: sizes.step,
+        seed: sizes.seed,
+        max_pulls: sizes.max_pulls,
+        counting,
+        clients,
+    })
+}
+
+/// How many ticks a second has, and after how many a client is idle, and erased.
+#[derive(Clone, Copy)]
+struct Ages {
+    hz: u32,
+    idle_age: u64,
+    erase_age: u64,
+}
+
+/// The ages, by default the greatest.
+fn read_ages(table: &Table) -> Result<Ages, SceneFault>
+    ensures value { result ≡ ages_of (table_view table.now) }
+    ensures setting { IfOk result (λ ages. IsSetting ages.hz ages.idle_age ages.erase_age) }
+{
     let hz = integer(table, Key::Hz, 1, GREATEST_HZ)? as u32;
     let idle_age = integer_or(table, Key::IdleAge, GREATEST_AGE, 1, GREATEST_AGE)?;
     let erase_age = integer_or(table, Key::EraseAge, GREATEST_AGE, idle_age, GREATEST_AGE)?;
-    let tags = read_tags(table)?;
+    Ok(Ages {
+        hz,
+        idle_age,
+        erase_age,
+    })
+}
+
+/// The configuration with these ages.
+fn config_of(ages: Ages, at_limit: AtLimit) -> QueueConfig
+    requires { IsSetting ages.hz ages.idle_age ages.erase_age }
+    ensures { result ≡ record { hz = ages.hz; idle_age = ages.idle_age; erase_age = ages.erase_age; at_limit = at_limit } }
+{
+    QueueConfig::new(u64::from(ages.hz), ages.idle_age, ages.erase_age, at_limit).unwrap()
+}
+
+/// The numbers of a scene beside those of its configuration and its clients.
+#[derive(Clone, Copy)]
+struct Sizes {
+    servers: u32,
+    workers: u32,
+    step: u64,
+    seed: u64,
+    max_pulls: u32,
+}
+
+fn read_sizes(table: &Table) -> Result<Sizes, SceneFault>
+    ensures value { result ≡ sizes_of (table_view table.now) }
+    ensures sizes { IfOk result (λ s. AreSizes s.servers s.workers s.step s.seed s.max_pulls) }
+{
     let servers = integer(table, Key::Servers, 1, MOST_SERVERS as u64)? as u32;
     let workers = integer(table, Key::Workers, 1, MOST_SERVER_WORKERS)? as u32;
     let step = integer(table, Key::Step, 1, GREATEST_STEP)?;
     let seed = integer(table, Key::Seed, 0, (1 << 63) - 1)?;
     let max_pulls = integer(table, Key::MaxPulls, 1, MOST_PULLS)? as u32;
-    let counting = read_counting(table)?;
-    let at_limit = read_at_limit(table)?;
-    let clients = read_clients(alloc, tags, hz, client_tables(table)?)?;
-    Ok(Scene {
-        config: QueueConfig::new(u64::from(hz), idle_age, erase_age, at_limit).unwrap(),
-        tags,
+    Ok(Sizes {
         servers,
         workers,
         step,
         seed,
         max_pulls,
-        counting,
-        clients,
     })
 }
 

@@ -29,14 +29,14 @@ pub record Spoken : Type 0 where
   pub reply : Saying
 
 -- behind the command stands `=`, and a reply to the end of the line
-abbrev pub answered : List ℕ → Phrase × List (List ℕ) → Result Spoken LineCause
-answered worker (p, []) = Err Words
-answered worker (p, sign ∷ ws) = if bytes_eq sign (codes "=") then (saying ws >>= λ s. Ok (record { worker = worker; command = p; reply = s })) else Err Words
+unfoldable pub answer_words : List (List ℕ) → Result Saying LineCause
+answer_words [] = Err Words
+answer_words (sign ∷ ws) = if bytes_eq sign (codes "=") then saying ws else Err Words
 
 -- the event that words make: the worker, the command, and the reply
 unfoldable pub event_words : List (List ℕ) → Result Spoken LineCause
 event_words [] = Err Words
-event_words (worker ∷ ws) = phrase ws >>= answered worker
+event_words (worker ∷ ws) = phrase ws >>= λ p. answer_words p.1 >>= λ s. Ok (record { worker = worker; command = p.0; reply = s })
 
 -- ---- numbers and tags
 

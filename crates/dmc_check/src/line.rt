@@ -3,7 +3,8 @@ ghost use Rattle.std.specs.Prelude.{◌≡◌, ⊤};
 ghost use Rattle.dmc_text.specs.Answers.{Gives};
 ghost use Rattle.dmc_text.specs.Commands.{command, seen};
 ghost use Rattle.dmc_text.specs.Words.{words};
-ghost use Rattle.dmc_check.specs.EventLines.{event_words, event_said, event_of, seen_event, sure};
+ghost use Rattle.dmc_text.specs.Replies.{seen_reply};
+ghost use Rattle.dmc_check.specs.EventLines.{answer_words, event_words, event_said, event_of, seen_event, sure};
 
 use dmc_tag::event::Event;
 use dmc_text::cause::LineCause;
@@ -46,6 +47,18 @@ struct EventWords<'a> {
     reply: ReplyWords<'a>,
 }
 
+/// The words of the answer, behind the command: `=`, and a reply to the end of the line.
+#[tactic(auto, unfolding(crate::specs::EventLines::answer_words))]
+fn answer_words(text: &[u8]) -> Result<ReplyWords<'_>, LineCause>
+    ensures { Gives seen_reply result (answer_words (words text.now)) }
+{
+    let (sign, rest) = next_word(text)?;
+    if sign != b"=".as_slice() {
+        return Err(LineCause::Words);
+    }
+    reply_words(rest)
+}
+
 /// The event of a line, its words alone. The only cause is `Words`.
 #[tactic(auto, unfolding(crate::specs::EventLines::event_words))]
 fn event_words(line: &[u8]) -> Result<EventWords<'_>, LineCause>
@@ -53,14 +66,11 @@ fn event_words(line: &[u8]) -> Result<EventWords<'_>, LineCause>
 {
     let (worker, rest) = next_word(line)?;
     let (command, rest) = command_words(rest)?;
-    let (sign, rest) = next_word(rest)?;
-    if sign != b"=".as_slice() {
-        return Err(LineCause::Words);
-    }
+    let reply = answer_words(rest)?;
     Ok(EventWords {
         worker,
         command,
-        reply: reply_words(rest)?,
+        reply,
     })
 }
 

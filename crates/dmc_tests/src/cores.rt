@@ -113,11 +113,15 @@ fn clean(server: ServerId, ticks: u32) -> CoreEvent {
 
 // ---- events with their answers
 
+fn step(core: &mut Core, event: &CoreEvent) -> Answer {
+    core.step(*event)
+}
+
 // The answer to an event. One that wanted memory has changed nothing, so it is tried once more.
 fn answer(core: &mut Core, event: &CoreEvent) -> Answer {
-    let answer = core.step(*event);
+    let answer = step(core, event);
     if answer == Err(CoreFault::Memory) {
-        return core.step(*event);
+        return step(core, event);
     }
     answer
 }

@@ -1,10 +1,11 @@
 -- What is owed, as requests come and go.
-use Rattle.std.proofs.Common.{◌≡◌, Bool, true, false, ◌&&◌, List, [], ◌∷◌, ◌++◌, map, drop, Option, Some, None, refl, sym, ap, ◌∙◌, subst}
-use Rattle.std.specs.Prelude.{if◌then◌else◌, is_some, Result, Ok, Err, OnOk, OnErr}
+use Rattle.std.proofs.Common.{◌≡◌, ℕ, Bool, true, false, ◌&&◌, List, [], ◌∷◌, ◌++◌, map, drop, Option, Some, None, refl, sym, ap, ◌∙◌, subst}
+use Rattle.std.specs.Prelude.{if◌then◌else◌, slice_get, is_some, Result, Ok, Err, OnOk, OnErr}
 use Rattle.std.specs.Option.{option_map, option_map_or, unwrap_or}
 use Rattle.std.specs.List.{AllByRecursion, list_all}
 use Rattle.std.proofs.lemmas.List.{map-append}
 use Rattle.std.proofs.lemmas.List.Folds.{list_all-map}
+use Rattle.std.proofs.lemmas.Option.{slice_get-map}
 use Rattle.dmc_tag.specs.Tag.{Tagging, Fraction, IsExact}
 use Rattle.dmc_tag.specs.Rules.{less, has_less}
 use Rattle.dmc_tag.proofs.Booleans.{both_true}
@@ -29,6 +30,10 @@ module _ {T : Type 0} (ops : Tagging T) where
   none_is_owed xs = record { values = none_owed_values xs; empty = λ e. refl }
 
   -- ---- the first request, and the others
+
+  -- what is read at a place: what is stored there, less what is owed
+  pub read_less : (owed : Option T) (stored xs : List (QueuedRequest T)) (i : ℕ) (found : Option (QueuedRequest T)) → all_less_owed ops owed stored ≡ xs → found ≡ slice_get stored i → option_map (less_owed ops owed) found ≡ slice_get xs i
+  read_less owed stored xs i found view e = ap (option_map (less_owed ops owed)) e ∙ sym (slice_get-map (less_owed ops owed) stored i) ∙ ap (λ ys. slice_get ys i) view
 
   pub rest_less : (owed : Option T) (xs : List (QueuedRequest T)) → drop 1 (all_less_owed ops owed xs) ≡ all_less_owed ops owed (drop 1 xs)
   rest_less owed [] = refl

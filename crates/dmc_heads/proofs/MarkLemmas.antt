@@ -1,5 +1,5 @@
 -- The ready marks, set where L is not past t and set back where it is.
-use Rattle.std.proofs.Common.{◌≡◌, ℕ, suc, List, [], ◌∷◌, map, Option, Some, None, set, refl, sym, ap, ◌∙◌, subst, inl, inr, Bool, true, false, not, ◌&&◌, ◌||◌, IsSomeAnd}
+use Rattle.std.proofs.Common.{◌≡◌, ℕ, zero, suc, ◌<◌, List, [], ◌∷◌, map, Option, Some, None, set, count_by, cond, refl, sym, ap, ◌∙◌, subst, inl, inr, Bool, true, false, not, ◌&&◌, ◌||◌, IsSome, IsSomeAnd, arith}
 use Rattle.std.specs.Option.{option_map, option_map_or}
 use Rattle.std.specs.declared.cmp.Ordering.{Ordering}
 use Rattle.std.specs.declared.cmp.Ordering.TheVariants.{Less}
@@ -7,6 +7,7 @@ use Rattle.std.specs.Ordering.{is_gt, ordering_then, bool_cmp}
 use Rattle.std.specs.Cmp.{IsTotalOrder}
 use Rattle.std.proofs.lemmas.Cmp.{upto, tied_itself}
 use Rattle.std.proofs.lemmas.Bool.{cases_eq}
+use Rattle.std.proofs.lemmas.List.Sums.{sum_by-cons}
 use Rattle.dmc_tag.specs.Tag.{Tagging}
 use Rattle.dmc_tag.specs.Order.{AtMost}
 use Rattle.dmc_tag.specs.Best.{is_due}
@@ -45,6 +46,9 @@ unready_behind false true s h e f = cc
 unready_behind true b s h e f = cc
 
 module _ {T : Type 0} where
+  abbrev pub is_unready : Option (Head T) → Bool
+  is_unready o = option_map_or (λ h. not h.ready) o false
+
   same_heads : (f : Head T → Head T) (heads : List (Option (Head T))) → ((key : ℕ) (h : Head T) → slot_of_key heads key ≡ Some h → f h ≡ h) → map (option_map f) heads ≡ heads
   same_heads f [] e = refl
   same_heads f (None ∷ heads) e = ap (λ hs. None ∷ hs) (same_heads f heads (λ key h q. e (suc key) h q))
@@ -112,6 +116,20 @@ module _ {T : Type 0} (ops : Tagging T) (t : ℕ) where
       map_set (with_ready_mark ops t) heads key (option_map (with_ready true) (slot_of_key heads key))
       ∙ ap (set (map (option_map (with_ready_mark ops t)) heads) key) (once (slot_of_key heads key) h ∙ sym (slot_of_key-map (with_ready_mark ops t) heads key))
       ∙ set-slot_of_key (map (option_map (with_ready_mark ops t)) heads) key
+
+  pub some_to_mark : (o : Option (Head T)) → IsSomeAnd o (CanMark ops t) → IsSome o
+  some_to_mark None h = absurd h
+  some_to_mark (Some x) h = refl
+
+  -- one unready head fewer
+  pub fewer_unready : (heads : List (Option (Head T))) (key : ℕ) → IsSomeAnd (slot_of_key heads key) (CanMark ops t) → count_by is_unready (set heads key (option_map (with_ready true) (slot_of_key heads key))) < count_by is_unready heads
+  fewer_unready [] key h = absurd h
+  fewer_unready (None ∷ heads) zero h = absurd h
+  fewer_unready (Some x ∷ heads) zero h =
+      omega (arith, ap {B = ℕ} (λ b. cond (not b) 1 0) h.0, sum_by-cons (λ o. cond (is_unready o) 1 0) (Some x) heads, sum_by-cons (λ o. cond (is_unready o) 1 0) (Some (with_ready true x)) heads)
+  fewer_unready (o ∷ heads) (suc key) h =
+      let rest = set heads key (option_map (with_ready true) (slot_of_key heads key)) in
+      omega (arith, fewer_unready heads key h, sum_by-cons (λ o. cond (is_unready o) 1 0) o heads, sum_by-cons (λ o. cond (is_unready o) 1 0) o rest)
 
   -- ---- a mark set back
 

@@ -1,7 +1,7 @@
 -- Finite maps from keys, as lists of what each key below a room holds.
-use Rattle.std.proofs.Common.{◌≡◌, ℕ, zero, suc, ◌<◌, List, [], ◌∷◌, map, Option, Some, None, length, set, count_by, is_some, cond, refl, sym, ap, ◌∙◌, inl, inr, arith, IsSome}
-use Rattle.std.specs.Option.{option_map}
-use Rattle.std.proofs.lemmas.Bool.{cases_lt}
+use Rattle.std.proofs.Common.{◌≡◌, ℕ, zero, suc, ◌+◌, ◌<◌, ◌≤◌, List, [], ◌∷◌, map, Option, Some, None, length, set, count_by, is_some, cond, refl, sym, ap, ◌∙◌, inl, inr, arith, Bor, IsSome}
+use Rattle.std.specs.Option.{option_map, option_copied}
+use Rattle.std.proofs.lemmas.Bool.{cases_lt, cases_eq}
 use Rattle.std.proofs.lemmas.List.Sums.{sum_by-cons}
 use Rattle.std.proofs.lemmas.List.{get_or_past, get_or-set_same}
 use Rattle.dmc_index.specs.Index.{slot_of_key}
@@ -20,6 +20,10 @@ some_if_mapped f (Some x) y e = let same : f x ≡ y = cc in (x, refl, same)
 pub none_if_mapped : {X Y : Type 0} (f : X → Y) (o : Option X) → option_map f o ≡ None → o ≡ None
 none_if_mapped f None e = refl
 none_if_mapped f (Some x) e = cc
+
+pub some_if_copied : {X : Type 0} (found : Option (Bor X)) (o : Option X) → option_copied found ≡ o → IsSome o → IsSome found
+some_if_copied None o e h = ap is_some e ∙ h
+some_if_copied (Some x) o e h = refl
 
 module _ {X : Type 0} where
   -- a key that holds something is below the room
@@ -69,3 +73,28 @@ pub map_set : {X Y : Type 0} (f : X → Y) (slots : List (Option X)) (key : ℕ)
 map_set f [] key o = refl
 map_set f (x ∷ slots) zero o = refl
 map_set f (x ∷ slots) (suc key) o = ap (λ zs. option_map f x ∷ zs) (map_set f slots key o)
+
+-- ---- a pass over the keys, which maps what each holds
+
+module _ {X : Type 0} (f : X → X) where
+  slot_of_key-set_mapped : (slots : List (Option X)) (key : ℕ) → slot_of_key (set slots key (option_map f (slot_of_key slots key))) key ≡ option_map f (slot_of_key slots key)
+  slot_of_key-set_mapped [] key = refl
+  slot_of_key-set_mapped (x ∷ slots) zero = refl
+  slot_of_key-set_mapped (x ∷ slots) (suc key) = slot_of_key-set_mapped slots key
+
+  module _ (old now : List (Option X)) (n : ℕ) (rest : (k : ℕ) → n ≤ k → slot_of_key now k ≡ slot_of_key old k) where
+    -- one key more is done
+    pub mapped_more : ((k : ℕ) → k < n → slot_of_key now k ≡ option_map f (slot_of_key old k)) → (k : ℕ) → k < n + 1 → slot_of_key (set now n (option_map f (slot_of_key now n))) k ≡ option_map f (slot_of_key old k)
+    mapped_more done k l =
+        elim (cases_eq k n) [
+          | inl e ↦
+              ap (slot_of_key (set now n (option_map f (slot_of_key now n)))) e
+              ∙ slot_of_key-set_mapped now n
+              ∙ ap (option_map f) (rest n (omega arith))
+              ∙ ap (λ j. option_map f (slot_of_key old j)) (sym e)
+          | inr ne ↦ slot_of_key-set_other now n k (option_map f (slot_of_key now n)) ne ∙ done k (omega arith)
+        ]
+
+    -- the others are as they were
+    pub rest_stays : (o : Option X) (k : ℕ) → n + 1 ≤ k → slot_of_key (set now n o) k ≡ slot_of_key old k
+    rest_stays o k l = slot_of_key-set_other now n k o (omega arith) ∙ rest k (omega arith)

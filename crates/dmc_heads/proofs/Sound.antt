@@ -27,6 +27,14 @@ module _ {T : Type 0} (reservation : List (Option (TagRank T))) (limits : List (
   heads_set key o =
       heads_from-set reservation limits ready key (option_map tag_rank o) (option_map limit_rank o) (option_map ready_rank o) ∙ ap (set (heads_from reservation limits ready) key) (head_from_ranks o)
 
+-- the same indexes and the same least, by other names
+module _ {T : Type 0} {reservation reservation' : List (Option (TagRank T))} {limits limits' : List (Option (LimitRank T))} {ready ready' : List (Option (ReadyRank T))} (e : reservation' ≡ reservation) (l : limits' ≡ limits) (r : ready' ≡ ready) where
+  pub same_heads_from : heads_from reservation' limits' ready' ≡ heads_from reservation limits ready
+  same_heads_from = cc
+
+  pub same_sound : (ops : Tagging T) (room : ℕ) {least least' : Option T} → least' ≡ least → IsSound ops reservation limits ready least room → IsSound ops reservation' limits' ready' least' room
+  same_sound ops room n sound = rw (e, l, r, n) sound
+
 module _ {T : Type 0} (ops : Tagging T) (reservation : List (Option (TagRank T))) (limits : List (Option (LimitRank T))) (ready : List (Option (ReadyRank T))) (least : Option T) (room : ℕ) (sound : IsSound ops reservation limits ready least room) where
   sound_set : (key : ℕ) (o : Option (Head T)) → key < length (heads_from reservation limits ready) → ((h : Head T) → o ≡ Some h → IsOthers (heads_from reservation limits ready) key h.client) → (least' : Option T) → IfSome least' (IsLeastShare ops (set (heads_from reservation limits ready) key o)) → IsSound ops (set reservation key (option_map tag_rank o)) (set limits key (option_map limit_rank o)) (set ready key (option_map ready_rank o)) least' room
   sound_set key o l others least' is =

@@ -1,13 +1,15 @@
 -- A hole that moves through a heap in order.
-use Rattle.std.proofs.Common.{◌≡◌, ◌≢◌, ℕ, ◌/◌, ◌<◌, ◌≤◌, List, Some, true, false, length, set, slice_get, refl, sym, ap, ◌∙◌, subst, inl, inr, arith}
+use Rattle.std.proofs.Common.{◌≡◌, ◌≢◌, ℕ, ◌+◌, ◌*◌, ◌/◌, ◌<◌, ◌≤◌, List, Some, Bool, true, false, length, get_or, set, slice_get, refl, sym, ap, ◌∙◌, subst, inl, inr, arith}
 use Rattle.std.specs.declared.cmp.Ordering.{Ordering}
 use Rattle.std.specs.declared.cmp.Ordering.TheVariants.{Less, Equal, Greater}
-use Rattle.std.specs.Ordering.{is_lt, is_gt}
+use Rattle.std.specs.Ordering.{is_lt, is_gt, ordering_reverse}
 use Rattle.std.specs.Cmp.{IsTotalOrder}
 use Rattle.std.proofs.lemmas.Cmp.{upto, tied_itself}
 use Rattle.std.proofs.lemmas.Bool.{cases_eq}
 use Rattle.std.proofs.lemmas.List.{length-set}
-use Rattle.std.proofs.lemmas.Option.{slice_get_within, same_Some}
+use Rattle.std.proofs.lemmas.Option.{slice_get_within, slice_get_read, get_or_from_slice_get, same_Some}
+use Rattle.std.proofs.Math.Nat.{add-zero}
+use mir.Val.{bool_byte}
 use Rattle.dmc_heap.specs.Heap.{parent_of, IsUpto, IsHeap, IsHole, IsLinked, IsMoved, IsUnderParent, IsOverChildren, IsLowerChild, IsSettled}
 use Rattle.dmc_heap.specs.declared.indexed_heap.Entry.{Entry}
 use Rattle.dmc_tag.proofs.Lists.{slice_get-set_same, slice_get-set_other}
@@ -24,8 +26,21 @@ module _ {R : Type 0} (compare : R → R → Ordering) (o : IsTotalOrder compare
   pub upto_itself : (a b : Entry R) → a ≡ b → IsUpto compare a b
   upto_itself a b e = subst (IsUpto compare a) e (ap is_gt (tied_itself o a.rank))
 
+  pub upto_if_not_lt : (a b : Entry R) → is_lt (compare a.rank b.rank) ≡ false → IsUpto compare b a
+  upto_if_not_lt a b e = at (compare a.rank b.rank) (o.antisymm b.rank a.rank) e where
+    at : (r : Ordering) → compare b.rank a.rank ≡ ordering_reverse r → is_lt r ≡ false → IsUpto compare b a
+    at Less t f = ap is_gt t ∙ f
+    at Equal t f = ap is_gt t
+    at Greater t f = ap is_gt t
+
   pub upto_trans : (a b c : Entry R) → IsUpto compare a b → IsUpto compare b c → IsUpto compare a c
   upto_trans a b c p q = upto o a.rank b.rank c.rank p q
+
+  -- the parent as the code reads it
+  pub under_read : (heap : List (Entry R)) (hole : ℕ) (x parent : Entry R) (below : Bool) → below ≡ is_lt (compare x.rank (get_or heap (parent_of hole) parent).rank) → below ≡ false → IsUnderParent compare heap hole x
+  under_read heap hole x parent below e f = λ above pos h.
+      let read = get_or_from_slice_get heap (parent_of hole) above parent h in
+      upto_if_not_lt x above (ap (λ (y : Entry R). is_lt (compare x.rank y.rank)) (sym read) ∙ sym e ∙ f)
 
   module _ (heap : List (Entry R)) (places : List ℕ) (hole : ℕ) (x : Entry R) (is_hole : IsHole compare heap places hole x) where
     -- what stands in the hole once y is put there, and elsewhere
@@ -103,6 +118,41 @@ module _ {R : Type 0} (compare : R → R → Ordering) (o : IsTotalOrder compare
 
     pub IsOverChildren-leaf : length heap / 2 ≤ hole → IsOverChildren compare heap hole x
     IsOverChildren-leaf l i below pos' s qb = absurd (omega (arith, slice_get_within heap i below qb))
+
+-- ---- the lower child
+
+module _ {R : Type 0} (compare : R → R → Ordering) (o : IsTotalOrder compare) (heap : List (Entry R)) (at : ℕ) where
+  -- an entry that is not above those of the two children
+  lower_by : (child : ℕ) (entry : Entry R) → slice_get heap child ≡ Some entry → 0 < child → parent_of child ≡ at → ((e : Entry R) → slice_get heap (2 * at + 1) ≡ Some e → IsUpto compare entry e) → ((e : Entry R) → slice_get heap (2 * at + 1 + 1) ≡ Some e → IsUpto compare entry e) → IsLowerChild compare heap at child
+  lower_by child entry here pos parent left right = record {
+    within = slice_get_within heap child entry here;
+    positive = pos;
+    parent = parent;
+    lower = λ other e e' pos' s h q. subst (λ x. IsUpto compare x e') (same_Some entry e (sym here ∙ h)) (elim (cases_eq other (2 * at + 1)) [
+      | inl t ↦ left e' (ap (slice_get heap) (sym t) ∙ q)
+      | inr t ↦ let second : other ≡ 2 * at + 1 + 1 = omega arith in right e' (ap (slice_get heap) (sym second) ∙ q)
+    ]);
+  }
+
+  pub only_child : at < length heap / 2 → length heap ≤ 2 * at + 1 + 1 → IsLowerChild compare heap at (2 * at + 1)
+  only_child inner end = record {
+    within = omega arith;
+    positive = omega arith;
+    parent = omega arith;
+    lower = λ other e e' pos s h q. let same : other ≡ 2 * at + 1 = omega (arith, slice_get_within heap other e' q) in upto_itself compare o e e' (same_Some e e' (sym h ∙ ap (slice_get heap) (sym same) ∙ q));
+  }
+
+  lower_of_two : (left right : Entry R) (below : Bool) → slice_get heap (2 * at + 1) ≡ Some left → slice_get heap (2 * at + 1 + 1) ≡ Some right → is_lt (compare right.rank left.rank) ≡ below → IsLowerChild compare heap at (2 * at + 1 + bool_byte below)
+  lower_of_two left right true p q e =
+      lower_by (2 * at + 1 + 1) right q (omega arith) (omega arith) (λ x h. subst (IsUpto compare right) (same_Some left x (sym p ∙ h)) (upto_if_lt (compare right.rank left.rank) e)) (λ x h. upto_itself compare o right x (same_Some right x (sym q ∙ h)))
+  lower_of_two left right false p q e =
+      rw add-zero (lower_by (2 * at + 1) left p (omega arith) (omega arith) (λ x h. upto_itself compare o left x (same_Some left x (sym p ∙ h))) (λ x h. subst (IsUpto compare left) (same_Some right x (sym q ∙ h)) (upto_if_not_lt compare o right left e)))
+
+  -- the two children as the code reads them
+  pub lower_read : (left right : Entry R) (below : Bool) (step : ℕ) → 2 * at + 1 + 1 < length heap → left ≡ get_or heap (2 * at + 1) left → right ≡ get_or heap (2 * at + 1 + 1) right → below ≡ is_lt (compare (get_or heap (2 * at + 1 + 1) right).rank (get_or heap (2 * at + 1) left).rank) → step ≡ bool_byte below → IsLowerChild compare heap at (2 * at + 1 + step)
+  lower_read left right below step within p q e f =
+      let same = ap (λ (x : Entry R). is_lt (compare right.rank x.rank)) p ∙ ap (λ (x : Entry R). is_lt (compare x.rank (get_or heap (2 * at + 1) left).rank)) q in
+      rw f (lower_of_two left right below (slice_get_read heap (length heap) (2 * at + 1) left refl (omega arith) p) (slice_get_read heap (length heap) (2 * at + 1 + 1) right refl within q) (same ∙ sym e))
 
 -- ---- one more move
 

@@ -7,7 +7,7 @@ use Rattle.std.proofs.lemmas.Cmp.{tied_back}
 use Rattle.std.proofs.lemmas.Bool.{cases_lt, cases_eq}
 use Rattle.std.proofs.lemmas.List.{length-set, length-map, length-append, get_or-set_same, get_or-set_other, set_at, set-append_left, set-set, set_comm, get_or_default, same_lists}
 use Rattle.std.proofs.lemmas.List.Sums.{sum_by-set}
-use Rattle.std.proofs.lemmas.Option.{slice_get_within, slice_get_past, same_Some}
+use Rattle.std.proofs.lemmas.Option.{slice_get_within, slice_get_past, slice_get_read, same_Some}
 use Rattle.dmc_index.specs.Index.{slot_of_key, IsApartFromOthers, AreApart}
 use Rattle.dmc_heap.specs.Heap.{rank_at, rank_of, slots_of, parent_of, IsLinked, IsHeap, IsHole}
 use Rattle.dmc_heap.specs.declared.indexed_heap.Entry.{Entry}
@@ -110,6 +110,25 @@ module _ {R : Type 0} (heap : List (Entry R)) (places : List ℕ) (linked : IsLi
   pub key_of_held : (key : ℕ) → rank_of heap places key ≡ None → (place : ℕ) (entry : Entry R) → slice_get heap place ≡ Some entry → entry.key ≢ key
   key_of_held key h place entry there e =
       cc (rank_of_some heap places key place entry (ap (slice_get places) (sym e) ∙ linked.placed place entry there) there)
+
+-- ---- what a look at the places, and then at the heap, finds
+
+module _ {R : Type 0} (heap : List (Entry R)) (places : List ℕ) (slots : List (Option R)) (is : slots_of heap places ≡ slots) (key : ℕ) where
+  pub none_past_room : length places ≤ key → None ≡ slot_of_key slots key
+  none_past_room l =
+      sym (rank_of_none heap places key (slice_get_past places key l)) ∙ sym (slot_of_key-slots_of heap places key) ∙ ap (λ s. slot_of_key s key) is
+
+  module _ (place : ℕ) (in_room : key < length places) (at : place ≡ get_or places key place) where
+    by_place : option_map (λ (e : Entry R). e.rank) (slice_get heap place) ≡ slot_of_key slots key
+    by_place =
+        sym (ap (option_and_then (rank_at heap)) (slice_get_read places (length places) key place refl in_room at)) ∙ sym (slot_of_key-slots_of heap places key) ∙ ap (λ s. slot_of_key s key) is
+
+    pub none_past_heap : length heap ≤ place → None ≡ slot_of_key slots key
+    none_past_heap l = sym (ap (option_map (λ (e : Entry R). e.rank)) (slice_get_past heap place l)) ∙ by_place
+
+    pub rank_of_found : (entry : Entry R) → place < length heap → entry ≡ get_or heap place entry → Some entry.rank ≡ slot_of_key slots key
+    rank_of_found entry l there =
+        sym (ap (option_map (λ (e : Entry R). e.rank)) (slice_get_read heap (length heap) place entry refl l there)) ∙ by_place
 
 -- ---- the edits
 

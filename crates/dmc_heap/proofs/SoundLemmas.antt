@@ -1,5 +1,5 @@
 -- What holds of an index, after each call: it stays sound, and its map is what the call says.
-use Rattle.std.proofs.Common.{◌≡◌, ◌≢◌, ℕ, zero, suc, ◌+◌, ◌-◌, ◌<◌, ◌≤◌, List, [], ◌∷◌, ◌++◌, Option, Some, None, IsSome, length, get_or, set, map, replicate, slice_get, option_and_then, count_by, is_some, cond, refl, sym, ap, ◌∙◌, subst, inl, inr, false, arith}
+use Rattle.std.proofs.Common.{◌≡◌, ◌≢◌, ℕ, zero, suc, ◌+◌, ◌<◌, ◌≤◌, List, [], ◌∷◌, ◌++◌, Option, Some, None, IsSome, length, get_or, set, map, replicate, slice_get, option_and_then, count_by, is_some, cond, refl, sym, ap, ◌∙◌, subst, inl, inr, false, arith}
 use Rattle.std.specs.Option.{option_map}
 use Rattle.std.specs.declared.cmp.Ordering.{Ordering}
 use Rattle.std.specs.declared.cmp.Ordering.TheVariants.{Less, Equal, Greater}
@@ -10,7 +10,7 @@ use Rattle.std.proofs.lemmas.List.{length-set, length-map, length-append, length
 use Rattle.std.proofs.lemmas.List.Sums.{sum_by-append, sum_by-cons, count_by-le-length}
 use Rattle.std.proofs.lemmas.List.Folds.{sum_by-replicate}
 use Rattle.std.proofs.lemmas.Option.{slice_get_within, slice_get_past, slice_get-get_or, get_or_from_slice_get, same_Some}
-use Rattle.dmc_index.specs.Index.{slot_of_key, IsApart, IsApartFromOthers, AreApart, IsLeast, KeepsOrder, IsMapped}
+use Rattle.dmc_index.specs.Index.{slot_of_key, IsApart, IsApartFromOthers, AreApart, IsEmpty, IsLeast, KeepsOrder, IsMapped}
 use Rattle.dmc_heap.specs.Heap.{rank_at, rank_of, slots_of, parent_of, IsLinked, IsUpto, IsHeap, IsHole, IsSettled, IsSound, MapsEntries}
 use Rattle.dmc_heap.specs.declared.indexed_heap.Entry.{Entry}
 use Rattle.dmc_heap.specs.declared.indexed_heap.TheConstants.{VACANT}
@@ -41,6 +41,14 @@ module _ {R : Type 0} (compare : R → R → Ordering) (o : IsTotalOrder compare
   pub key_in_room_if_held : (key : ℕ) → IsSome (slot_of_key (slots_of heap places) key) → key < length places
   key_in_room_if_held key h =
       option_cases (slice_get places key) (λ none. cc (subst IsSome (slot_of_key-slots_of heap places key ∙ rank_of_none heap places key none) h)) (λ place some. slice_get_within places key place some)
+
+  pub some_entry_if_held : (key : ℕ) → IsSome (slot_of_key (slots_of heap places) key) → 0 < length heap
+  some_entry_if_held key h =
+      option_cases (slice_get places key) (λ none. cc (subst IsSome (slot_of_key-slots_of heap places key ∙ rank_of_none heap places key none) h)) (λ place at. let old = found key place at h in omega (arith, slice_get_within heap place old.0 old.1))
+
+  pub none_held : length heap ≤ 0 → IsEmpty (slots_of heap places)
+  none_held empty key =
+      option_cases (slot_of_key (slots_of heap places) key) (λ none. none) (λ rank some. absurd (omega (arith, some_entry_if_held key (ap is_some some))))
 
   module _ (key : ℕ) (v : Option R) (in' : key < length places) (new_heap : List (Entry R)) (new_places : List ℕ) (room : length new_places ≡ length places) (at : rank_of new_heap new_places key ≡ v) (others : (k : ℕ) → k ≢ key → rank_of new_heap new_places k ≡ rank_of heap places k) where
     pub slots_of-edit : slots_of new_heap new_places ≡ set (slots_of heap places) key v
@@ -176,8 +184,9 @@ module _ {R : Type 0} (compare : R → R → Ordering) (o : IsTotalOrder compare
   pub held_entry : (key place : ℕ) (e : Entry R) → slice_get places key ≡ Some place → slice_get heap place ≡ Some e → slot_of_key (slots_of heap places) key ≡ Some e.rank
   held_entry key place e at there = slot_of_key-slots_of heap places key ∙ rank_of_some heap places key place e at there
 
-  pub IsLeast-first : (first : Entry R) → slice_get heap 0 ≡ Some first → IsLeast compare (slots_of heap places) first.key first.rank
-  IsLeast-first first h =
+  pub IsLeast-first : (first : Entry R) → Some first ≡ slice_get heap 0 → IsLeast compare (slots_of heap places) first.key first.rank
+  IsLeast-first first is =
+      let h = sym is in
       let here = held_entry first.key 0 first (sound.linked.placed 0 first h) h in
       record {
         here = here;

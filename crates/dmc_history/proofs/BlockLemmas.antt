@@ -125,6 +125,11 @@ module _ {E : Type 0} where
   AreFilled-push (a ∷ bs) len b h full empty holds =
       (h.0, h.1, AreFilled-push bs (len - 1024) b h.2 (omega arith) empty holds)
 
+  -- it has no event yet
+  pub events_of-push : (blocks : List (Vec E)) (b : Vec E) → b.items ≡ [] → events_of (blocks ++ b ∷ []) ≡ events_of blocks
+  events_of-push [] b empty = rw empty refl
+  events_of-push (a ∷ bs) b empty = ap (λ events. a.items ++ events) (events_of-push bs b empty)
+
   -- it makes a whole block of places, or as many as may still be filled
   pub room_of-push : (blocks : List (Vec E)) (b : Vec E) (len most : ℕ) → len ≡ 1024 * length blocks → len ≤ most
       → room_of (blocks ++ b ∷ []) len most ≡ min block_size (most - len)

@@ -5,3 +5,4 @@ pub mod LawLemmas
 pub mod ListLemmas
 pub mod ServerLemmas
 pub mod StandsLemmas
+mod Steps

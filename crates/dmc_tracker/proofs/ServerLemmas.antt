@@ -1,8 +1,8 @@
 -- What a tracker keeps for its servers, through a stamp and a response.
-use Rattle.std.proofs.Common.{◌≡◌, ℕ, zero, suc, ◌<◌, List, [], ◌∷◌, ◌+◌, ◌≤◌, length, map, set, get_or, replicate, refl, sym, ap, ◌∙◌, arith}
+use Rattle.std.proofs.Common.{◌≡◌, ℕ, zero, suc, ◌<◌, List, [], ◌∷◌, ◌+◌, ◌≤◌, ◌^◌, length, map, set, get_or, replicate, refl, sym, ap, ◌∙◌, arith}
 use Rattle.std.specs.Prelude.{All as Each}
-use Rattle.std.proofs.lemmas.List.{get_or-map, map-set}
-use Rattle.std.proofs.lemmas.List.Elements.{All-set}
+use Rattle.std.proofs.lemmas.List.{get_or-map, map-set, length-replicate}
+use Rattle.std.proofs.lemmas.List.Elements.{All-set, All-replicate}
 use Rattle.std.proofs.lemmas.List.{length-set}
 use Rattle.std.proofs.Math.Seq.{map-set_same}
 use Rattle.dmc_types.specs.Values.{Params, no_counts}
@@ -10,9 +10,10 @@ use Rattle.dmc_types.specs.declared.ids.ServerId.{ServerId}
 use Rattle.dmc_types.specs.declared.config.Counting.{Counting}
 use Rattle.dmc_types.specs.declared.config.Counting.TheVariants.{All, Others}
 use Rattle.dmc_types.specs.declared.config.PhaseType.{PhaseType}
+use Rattle.dmc_types.specs.declared.config.PhaseType.TheVariants.{Reservation, Priority}
 use Rattle.dmc_tracker.specs.declared.server.ServerCounts.{ServerCounts}
 use Rattle.dmc_tracker.specs.TrackerList.{plus, one_in, own_share}
-use Rattle.dmc_tracker.specs.Numbers.{Numbers, ServerNumbers, no_numbers, new_numbers, numbers_at, next_params, after_stamp, after_response, grown, servers_grown}
+use Rattle.dmc_tracker.specs.Numbers.{Numbers, ServerNumbers, no_numbers, new_numbers, numbers_at, next_params, after_stamp, after_response, grown, servers_grown, AreLimits}
 use Rattle.dmc_tracker.specs.Server.{minus, IsPart, counted_at, numbers_now, view_of, IsKept, AreKept}
 use Rattle.dmc_tracker.proofs.ListLemmas.{same_params}
 use Rattle.dmc_tracker.proofs.StandsLemmas.{same_numbers}
@@ -133,6 +134,75 @@ AreKept-stamp counting most comps params servers s x kept within at e bound =
       each = All-set (IsKept counting most comps) servers s.0 new (IsKept-stamped counting most comps params x before e bound) kept.each;
     }
 
+-- a part stays one where the whole grows, and where both do
+part-grown : (part whole k : Params) → k.rho ≤ k.delta → IsPart part whole → IsPart part (plus whole k)
+part-grown part whole k rho h = record {
+  delta = omega (arith, h.delta);
+  rho = omega (arith, h.rho);
+  rest = omega (arith, h.rest, rho);
+}
+
+part-both : (part whole k : Params) → IsPart part whole → IsPart (plus part k) (plus whole k)
+part-both part whole k h = record {
+  delta = omega (arith, h.delta);
+  rho = omega (arith, h.rho);
+  rest = omega (arith, h.rest);
+}
+
+pub one_rho : (phase : PhaseType) → (one_in phase).rho ≤ (one_in phase).delta
+one_rho Reservation = omega arith
+one_rho Priority = omega arith
+
+pub one_delta : (phase : PhaseType) → (one_in phase).delta ≡ 1
+one_delta Reservation = refl
+one_delta Priority = refl
+
+mark-grown : (counting : Counting) (most : ℕ) (comps : Params) (phase : PhaseType) (x : ServerCounts) → IsKept counting most comps x
+    → IsPart x.mark (counted_at counting (plus comps (one_in phase)) x)
+mark-grown All most comps phase x h = part-grown x.mark comps (one_in phase) (one_rho phase) h.mark
+mark-grown Others most comps phase x h =
+    rw (minus-plus comps x.own (one_in phase) h.own) (part-grown x.mark (minus comps x.own) (one_in phase) (one_rho phase) h.mark)
+
+mark-answered : (counting : Counting) (most : ℕ) (comps : Params) (phase : PhaseType) (x : ServerCounts) → IsKept counting most comps x
+    → IsPart x.mark (counted_at counting (plus comps (one_in phase)) (answered phase x))
+mark-answered All most comps phase x h = part-grown x.mark comps (one_in phase) (one_rho phase) h.mark
+mark-answered Others most comps phase x h = rw (minus-both comps x.own (one_in phase)) h.mark
+
+-- a response where the completions are fewer than `most`
+pub AreKept-response : (counting : Counting) (most : ℕ) (comps : Params) (servers : List ServerCounts) (s : ServerId) (x : ServerCounts)
+    (phase : PhaseType) → AreKept counting most comps servers → s.0 < length servers → x ≡ get_or servers s.0 x → comps.delta < most
+    → AreKept counting most (plus comps (one_in phase)) (set servers s.0 (answered phase x))
+AreKept-response counting most comps servers s x phase kept within at fewer =
+    let after = plus comps (one_in phase) in
+    let new = answered phase x in
+    let before : IsKept counting most comps x = rw at (kept.each s.0 x within) in
+    let grown_each : Each (IsKept counting most after) servers = λ k d inside.
+    let h = kept.each k d inside in
+    record {
+      own = part-grown _ comps (one_in phase) (one_rho phase) h.own;
+      mark = mark-grown counting most comps phase _ h;
+      sent_rho = h.sent_rho;
+      sent_most = h.sent_most;
+      sent_all = h.sent_all;
+    }
+    in
+    let answered_is : IsKept counting most after new = record {
+      own = part-both x.own comps (one_in phase) before.own;
+      mark = mark-answered counting most comps phase x before;
+      sent_rho = before.sent_rho;
+      sent_most = before.sent_most;
+      sent_all = before.sent_all;
+    } in
+    record {
+      some_most = kept.some_most;
+      most_limit = kept.most_limit;
+      some_servers = omega (arith, length-set servers s.0 new, kept.some_servers);
+      servers_limit = omega (arith, length-set servers s.0 new, kept.servers_limit);
+      completions_rho = omega (arith, kept.completions_rho, one_rho phase);
+      completions_most = omega (arith, fewer, one_delta phase);
+      each = All-set (IsKept counting most after) servers s.0 new answered_is grown_each;
+    }
+
 -- a response, seen at all servers
 servers-response : (counting : Counting) (most : ℕ) (comps : Params) (servers : List ServerCounts) (s : ServerId) (x : ServerCounts)
     (phase : PhaseType) → AreKept counting most comps servers → s.0 < length servers → x ≡ get_or servers s.0 x
@@ -170,3 +240,33 @@ view-new counting most n d e =
     let view = new_numbers counting most n in
     ap (λ (ys : List ServerNumbers). let m : Numbers = record view { servers = ys } in m)
     (map-replicate (numbers_now counting no_counts) n d ∙ ap (replicate n) e)
+
+none_kept : (counting : Counting) (most : ℕ) → IsKept counting most no_counts (record { sent = no_counts; own = no_counts; mark = no_counts })
+none_kept All most = record {
+  own = record { delta = omega arith; rho = omega arith; rest = omega arith };
+  mark = record { delta = omega arith; rho = omega arith; rest = omega arith };
+  sent_rho = omega arith;
+  sent_most = omega arith;
+  sent_all = λ _. refl;
+}
+none_kept Others most = record {
+  own = record { delta = omega arith; rho = omega arith; rest = omega arith };
+  mark = record { delta = omega arith; rho = omega arith; rest = omega arith };
+  sent_rho = omega arith;
+  sent_most = omega arith;
+  sent_all = λ _. refl;
+}
+
+-- a new tracker keeps nothing of its servers
+pub AreKept-new : (counting : Counting) (most n : ℕ) → AreLimits n most → most < 2 ^ 32 → AreKept counting most no_counts (replicate n (record { sent = no_counts; own = no_counts; mark = no_counts }))
+AreKept-new counting most n limits fits =
+    let none : ServerCounts = record { sent = no_counts; own = no_counts; mark = no_counts } in
+    record {
+      some_most = limits.some_most;
+      most_limit = fits;
+      some_servers = rw length-replicate limits.some_servers;
+      servers_limit = rw length-replicate limits.servers_limit;
+      completions_rho = omega arith;
+      completions_most = omega arith;
+      each = All-replicate (IsKept counting most no_counts) n none (none_kept counting most);
+    }

@@ -2,8 +2,18 @@ use Rattle.std.proofs.Common.{◌≡◌, ◌≢◌, length, refl, sym, ◌∙◌
 use Rattle.std.proofs.lemmas.Option.{slice_get_read}
 use Rattle.dmc_heap.specs.Heap.{parent_of, IsUpto}
 use Rattle.dmc_heap.proofs.LinkLemmas.{y_in_room}
-use Rattle.dmc_heap.proofs.OrderLemmas.{IsHole-up, IsOverChildren-up, IsMoved-more, upto_if_lt}
+use Rattle.dmc_heap.proofs.OrderLemmas.{IsHole-up, IsOverChildren-up, IsMoved-more, upto_if_lt, under_read}
 use Rattle.dmc_heap.proofs.indexed_heap.rise.Goals as goal
+
+pub returns-then-not-is_below-clause-under_parent : goal.returns-then-not-is_below-clause-under_parent
+returns-then-not-is_below-clause-under_parent g c =
+    under_read g.R.Rank.cmp g.met.R.Rank.total c.loop-at.heap c.loop-at.at c.args.entry c.index-heap-parent.result c.is_below.result c.is_below.ensures c.if-not-is_below.true
+
+pub returns-then-not-is_below-clause-over_children : goal.returns-then-not-is_below-clause-over_children
+returns-then-not-is_below-clause-over_children g c = c.loop-at.invariant.over
+
+pub returns-clause-over_children : goal.returns-clause-over_children
+returns-clause-over_children g c = c.loop-at.invariant.over
 
 pub put-requires-clause-in_room : goal.put-requires-clause-in_room
 put-requires-clause-in_room g c =

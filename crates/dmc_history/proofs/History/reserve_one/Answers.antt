@@ -1,6 +1,7 @@
-use Rattle.std.proofs.Common.{arith}
+use Rattle.std.proofs.Common.{[], ◌∷◌, arith}
 use Rattle.std.proofs.lemmas.Grind.{common_steps}
-use Rattle.dmc_history.proofs.BlockLemmas.{length-events_of, len-le, AreFilled-push, room_of-push}
+use Rattle.std.proofs.lemmas.List.{length-append}
+use Rattle.dmc_history.proofs.BlockLemmas.{length-events_of, len-le, AreFilled-push, room_of-push, events_of-push}
 use Rattle.dmc_history.proofs.History.reserve_one.Goals as goal
 
 pub returns-then-self-clause-full : goal.returns-then-self-clause-full
@@ -18,6 +19,17 @@ pub returns-in_err-add_block-clause-full : goal.returns-in_err-add_block-clause-
 returns-in_err-add_block-clause-full g c =
     let counted = length-events_of _ _ c.self.invariant.0 in
     rw (← c.self.view_is) (grind (arith, common_steps, counted))
+
+pub returns-in_ok-add_block-clause-ok : goal.returns-in_ok-add_block-clause-ok
+returns-in_ok-add_block-clause-ok g c =
+    let (b, added, empty, memory) = c.in_ok-add_block.ensures.ok in
+    let bound = len-le _ _ c.self.invariant.0 in
+    rw added (omega (arith, length-append c.self.inside.blocks.items (b ∷ [])))
+
+pub returns-in_ok-add_block-clause-events : goal.returns-in_ok-add_block-clause-events
+returns-in_ok-add_block-clause-events g c =
+    let (b, added, empty, memory) = c.in_ok-add_block.ensures.ok in
+    rw (← c.self.view_is, added) (events_of-push c.self.inside.blocks.items b empty)
 
 pub returns-in_ok-add_block-clause-fewer : goal.returns-in_ok-add_block-clause-fewer
 returns-in_ok-add_block-clause-fewer g c =

@@ -1,11 +1,11 @@
-use Rattle.std.proofs.Common.{◌≡◌, ◌≤◌, None, length, map, sym, ap, ◌∙◌, subst, inl, inr, arith}
+use Rattle.std.proofs.Common.{◌≡◌, ◌≤◌, None, length, map, refl, sym, ap, ◌∙◌, subst, inl, inr, arith}
 use Rattle.std.specs.Option.{option_map}
 use Rattle.std.proofs.lemmas.Bool.{cases_lt}
-use Rattle.std.proofs.lemmas.List.{length-map, get_or_past}
+use Rattle.std.proofs.lemmas.List.{length-map, length-set, get_or_past}
 use Rattle.dmc_index.specs.Index.{slot_of_key}
 use Rattle.dmc_heads.specs.Heads.{heads_from, set_back}
 use Rattle.dmc_heads.proofs.HeadsFrom.{length-heads_from}
-use Rattle.dmc_heads.proofs.Slots.{same_slots, slot_of_key-map}
+use Rattle.dmc_heads.proofs.Slots.{same_slots, slot_of_key-map, mapped_more, rest_stays}
 use Rattle.dmc_heads.proofs.heads.Heads.set_back.Goals as goal
 
 pub returns : goal.returns
@@ -27,3 +27,22 @@ returns g c =
           let none : slot_of_key old k ≡ None = get_or_past old k None past in
           c.loop-key.invariant.rest k l ∙ none ∙ sym (slot_of_key-map f old k ∙ ap (option_map f) none)
     ])
+
+pub loop-key-init : goal.loop-key-init
+loop-key-init g c = record { room = refl; done = λ k l. absurd (omega arith); rest = λ k l. refl }
+
+pub loop-key-smaller : goal.loop-key-smaller
+loop-key-smaller g c = omega (arith, c.loop-key-test.true)
+
+pub loop-key-preserved : goal.loop-key-preserved
+loop-key-preserved g c =
+    let f = set_back g.T.Tag.ops c.args.t in
+    let old = c.args.self.now in
+    let now = c.loop-key.self in
+    let n = c.loop-key.key in
+    let is = c.loop-key.invariant in
+    rw c.set_back_at.ensures (record {
+      room = length-set now n (option_map f (slot_of_key now n)) ∙ is.room;
+      done = mapped_more f old now n is.rest is.done;
+      rest = rest_stays f old now n is.rest (option_map f (slot_of_key now n));
+    })

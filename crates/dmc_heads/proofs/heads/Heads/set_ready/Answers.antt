@@ -1,43 +1,38 @@
-use Rattle.std.proofs.Common.{◌≡◌, Some, IsSome, set, sym, ap, ◌∙◌, subst}
-use Rattle.std.specs.Option.{option_map, option_copied}
-use Rattle.dmc_index.specs.Index.{slot_of_key}
-use Rattle.dmc_heads.specs.Heads.{limit_rank, ready_rank, heads_from}
-use Rattle.dmc_heads.specs.Marks.{with_ready}
-use Rattle.dmc_heads.proofs.Slots.{some_of, within}
-use Rattle.dmc_heads.proofs.Clients.{tag_order, rank_held}
-use Rattle.dmc_heads.proofs.Sound.{marked_heads, marked_sound}
+use Rattle.dmc_heads.proofs.Slots.{some_if_copied}
+use Rattle.dmc_heads.proofs.Clients.{tag_order}
+use Rattle.dmc_heads.proofs.Writes.{limit_held, weight_held, marked_limit_apart, marked_share_apart, heads_marked, marked_stays_sound}
 use Rattle.dmc_heads.proofs.heads.Heads.set_ready.Goals as goal
+
+pub unwrap-limit-requires : goal.unwrap-limit-requires
+unwrap-limit-requires g c =
+    some_if_copied c.get.result _ c.get.ensures (limit_held c.self.invariant c.self.view_is c.args.key c.requires)
+
+pub unwrap-share-requires : goal.unwrap-share-requires
+unwrap-share-requires g c =
+    some_if_copied c.get-2.result _ c.get-2.ensures (weight_held c.self.invariant c.self.view_is c.args.key c.requires)
+
+pub change-requires-clause-here : goal.change-requires-clause-here
+change-requires-clause-here g c =
+    limit_held c.self.invariant c.self.view_is c.args.key c.requires
+
+pub change-requires-clause-apart : goal.change-requires-clause-apart
+change-requires-clause-apart g c =
+    marked_limit_apart c.self.invariant c.self.view_is c.args.key c.requires c.args.ready c.get.ensures c.unwrap-limit.ensures g.T.Ord.cmp
+
+pub change-requires-2-clause-here : goal.change-requires-2-clause-here
+change-requires-2-clause-here g c =
+    weight_held c.self.invariant c.self.view_is c.args.key c.requires
+
+pub change-requires-2-clause-apart : goal.change-requires-2-clause-apart
+change-requires-2-clause-apart g c =
+    marked_share_apart c.self.invariant c.self.view_is c.args.key c.requires c.args.ready c.get.ensures c.unwrap-limit.ensures c.get-2.ensures c.unwrap-share.ensures g.T.Ord.cmp
 
 pub invariant_of-self : goal.invariant_of-self
 invariant_of-self g c =
-    let x = c.self.inside in
-    let reservation = g.I.ReservationIndex.OrderIndex.slots x.reservation in
-    let limits = g.I.LimitIndex.OrderIndex.slots x.limit in
-    let ready = g.I.WeightIndex.OrderIndex.slots x.weight in
-    let heads = heads_from reservation limits ready in
-    let order = tag_order g.T.Ord.cmp g.T.Tag.ops.compare g.met.T.Ord.total g.met.T.Tag.compares in
-    let old = some_of (slot_of_key heads c.args.key) (subst (λ hs. IsSome (slot_of_key hs c.args.key)) (sym c.self.view_is) c.requires) in
-    let in_room = within heads c.args.key old.0 old.1 in
-    let read_limit : Some c.unwrap-limit.result.now ≡ Some (limit_rank old.0) = sym (ap option_copied c.unwrap-limit.ensures) ∙ c.get.ensures ∙ rank_held limit_rank heads limits c.self.invariant.limit_is c.args.key old.0 old.1 in
-    let limit : c.unwrap-limit.result.now ≡ limit_rank old.0 = cc in
-    let read_share : Some c.unwrap-share.result.now ≡ Some (ready_rank old.0) = sym (ap option_copied c.unwrap-share.ensures) ∙ c.get-2.ensures ∙ rank_held ready_rank heads ready c.self.invariant.weight_is c.args.key old.0 old.1 in
-    let share : c.unwrap-share.result.now ≡ ready_rank old.0 = cc in
-    rw (c.change.ensures, c.change-2.ensures, limit, share) (marked_sound g.T.Tag.ops reservation limits ready x.least x.room c.self.invariant order c.args.key in_room old.0 old.1 c.args.ready)
+    marked_stays_sound c.self.invariant c.self.view_is c.args.key c.requires c.args.ready c.get.ensures c.unwrap-limit.ensures c.get-2.ensures c.unwrap-share.ensures
+    (tag_order g.T.Ord.cmp g.T.Tag.ops.compare g.met.T.Ord.total g.met.T.Tag.compares) c.change.ensures c.change-2.ensures
 
 pub returns : goal.returns
 returns g c =
-    let x = c.self.inside in
-    let reservation = g.I.ReservationIndex.OrderIndex.slots x.reservation in
-    let limits = g.I.LimitIndex.OrderIndex.slots x.limit in
-    let ready = g.I.WeightIndex.OrderIndex.slots x.weight in
-    let heads = heads_from reservation limits ready in
-    let order = tag_order g.T.Ord.cmp g.T.Tag.ops.compare g.met.T.Ord.total g.met.T.Tag.compares in
-    let old = some_of (slot_of_key heads c.args.key) (subst (λ hs. IsSome (slot_of_key hs c.args.key)) (sym c.self.view_is) c.requires) in
-    let in_room = within heads c.args.key old.0 old.1 in
-    let read_limit : Some c.unwrap-limit.result.now ≡ Some (limit_rank old.0) = sym (ap option_copied c.unwrap-limit.ensures) ∙ c.get.ensures ∙ rank_held limit_rank heads limits c.self.invariant.limit_is c.args.key old.0 old.1 in
-    let limit : c.unwrap-limit.result.now ≡ limit_rank old.0 = cc in
-    let read_share : Some c.unwrap-share.result.now ≡ Some (ready_rank old.0) = sym (ap option_copied c.unwrap-share.ensures) ∙ c.get-2.ensures ∙ rank_held ready_rank heads ready c.self.invariant.weight_is c.args.key old.0 old.1 in
-    let share : c.unwrap-share.result.now ≡ ready_rank old.0 = cc in
-    rw (c.change.ensures, c.change-2.ensures, limit, share) (marked_heads g.T.Tag.ops reservation limits ready x.least x.room c.self.invariant order c.args.key in_room old.0 old.1 c.args.ready)
-    ∙ ap (λ o. set heads c.args.key (option_map (with_ready c.args.ready) o)) (sym old.1)
-    ∙ ap (λ hs. set hs c.args.key (option_map (with_ready c.args.ready) (slot_of_key hs c.args.key))) c.self.view_is
+    heads_marked c.self.invariant c.self.view_is c.args.key c.requires c.args.ready c.get.ensures c.unwrap-limit.ensures c.get-2.ensures c.unwrap-share.ensures
+    (tag_order g.T.Ord.cmp g.T.Tag.ops.compare g.met.T.Ord.total g.met.T.Tag.compares) c.change.ensures c.change-2.ensures

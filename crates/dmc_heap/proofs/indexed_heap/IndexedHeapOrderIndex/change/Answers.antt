@@ -4,6 +4,11 @@ use Rattle.std.proofs.lemmas.Option.{slice_get_read}
 use Rattle.dmc_heap.proofs.SoundLemmas.{key_in_room_if_held, hole_to_change, changed}
 use Rattle.dmc_heap.proofs.indexed_heap.IndexedHeapOrderIndex.change.Goals as goal
 
+pub index-at-requires : goal.index-at-requires
+index-at-requires g c =
+    let x = c.self.inside in
+    omega (arith, key_in_room_if_held g.R.Rank.cmp g.met.R.Rank.total _ x.heap.items x.places.items c.self.invariant c.args.key (rw c.self.view_is c.requires.here), x.places.ok.0)
+
 pub settle-requires : goal.settle-requires
 settle-requires g c =
     let x = c.self.inside in

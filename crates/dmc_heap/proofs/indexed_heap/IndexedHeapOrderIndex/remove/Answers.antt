@@ -4,8 +4,23 @@ use Rattle.std.proofs.lemmas.List.{take_at, length-set}
 use Rattle.std.proofs.lemmas.Option.{slice_get_read, slice_get_within}
 use Rattle.dmc_index.specs.Index.{slot_of_key}
 use Rattle.dmc_heap.specs.Heap.{IsSound, slots_of}
-use Rattle.dmc_heap.proofs.SoundLemmas.{key_in_room_if_held, found, held_entry, hole_to_remove, removed_inner, removed_last}
+use Rattle.dmc_heap.proofs.SoundLemmas.{key_in_room_if_held, some_entry_if_held, found, held_entry, hole_to_remove, removed_inner, removed_last}
 use Rattle.dmc_heap.proofs.indexed_heap.IndexedHeapOrderIndex.remove.Goals as goal
+
+pub index-at-requires : goal.index-at-requires
+index-at-requires g c =
+    let x = c.self.inside in
+    omega (arith, key_in_room_if_held g.R.Rank.cmp g.met.R.Rank.total _ x.heap.items x.places.items c.self.invariant c.args.key (rw c.self.view_is c.requires), x.places.ok.0)
+
+pub unwrap-last-requires : goal.unwrap-last-requires
+unwrap-last-requires g c =
+    let x = c.self.inside in
+    c.pop.ensures.variant.1 (omega (arith, some_entry_if_held g.R.Rank.cmp g.met.R.Rank.total _ x.heap.items x.places.items c.self.invariant c.args.key (rw c.self.view_is c.requires), x.heap.ok.0))
+
+pub index_mut-requires : goal.index_mut-requires
+index_mut-requires g c =
+    let x = c.self.inside in
+    omega (arith, key_in_room_if_held g.R.Rank.cmp g.met.R.Rank.total _ x.heap.items x.places.items c.self.invariant c.args.key (rw c.self.view_is c.requires), x.places.ok.0)
 
 pub index-removed-requires : goal.index-removed-requires
 index-removed-requires g c =

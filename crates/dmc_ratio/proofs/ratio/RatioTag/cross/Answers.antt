@@ -1,10 +1,16 @@
 use Rattle.std.proofs.Common.{◌≡◌, ◌≤◌, ◌^◌, pos, to_z, of_z, ap, ◌∙◌, subst, lit<, rules, arith}
 use Rattle.std.specs.Prelude.{unsigned_abs}
 use Rattle.std.specs.Int.{w128}
-use Rattle.std.proofs.lemmas.Int.{to_z_pos, to_z-of_z}
+use Rattle.std.proofs.lemmas.Int.{to_z_pos, to_z-of_z, fits_signed_mul}
 use Rattle.dmc_ratio.proofs.Wide.{product_is, product_bound}
 use Rattle.dmc_ratio.specs.Ratio.{greatest_numer}
 use Rattle.dmc_ratio.proofs.ratio.RatioTag.cross.Goals as goal
+
+pub overflow_mul-result : goal.overflow_mul-result
+overflow_mul-result c =
+    let numer = to_z-of_z w128 c.numer.result (record { sfits = c.numer.type_inv }) in
+    let denom = to_z_pos w128 c.denom.result (omega arith) in
+    fits_signed_mul w128 (to_z w128 (of_z w128 c.numer.result)) (to_z w128 c.denom.result) (2 ^ 90) (2 ^ 32) (rw numer c.numer.ensures.bound) (rw denom c.denom.ensures.bound) (lit< tt)
 
 pub returns-clause-value : goal.returns-clause-value
 returns-clause-value c =

@@ -1,10 +1,10 @@
-use Rattle.std.proofs.Common.{◌≡◌, replicate, rules, refl}
+use Rattle.std.proofs.Common.{◌≡◌, replicate, rules, refl, arith}
 use Rattle.dmc_types.specs.Values.{no_counts}
 use Rattle.dmc_types.specs.declared.config.Counting.{Counting}
 use Rattle.dmc_types.specs.declared.config.Counting.TheVariants.{All, Others}
 use Rattle.dmc_tracker.specs.Numbers.{no_numbers}
 use Rattle.dmc_tracker.specs.Server.{numbers_now}
-use Rattle.dmc_tracker.proofs.ServerLemmas.{view-new}
+use Rattle.dmc_tracker.proofs.ServerLemmas.{view-new, AreKept-new}
 use Rattle.dmc_tracker.proofs.StandsLemmas.{Stands-new}
 use Rattle.dmc_tracker.proofs.tracker.ServiceTracker.new.Goals as goal
 
@@ -21,7 +21,12 @@ pub returns-clause-stands : goal.returns-clause-stands
 returns-clause-stands c = rw (returns-clause-ok c) (Stands-new c.args.counting c.args.most c.args.servers)
 
 pub returns-in_err-servers-clause-limit : goal.returns-in_err-servers-clause-limit
-returns-in_err-servers-clause-limit g c = search rules
+returns-in_err-servers-clause-limit c over = absurd (over (record { some_servers = c.if-servers-lt1.false; servers_limit = omega arith; some_most = c.if-most-lt1.false }))
 
 pub returns-clause-limit : goal.returns-clause-limit
-returns-clause-limit g c = search rules
+returns-clause-limit c over = absurd (over (record { some_servers = c.if-servers-lt1.false; servers_limit = omega arith; some_most = c.if-most-lt1.false }))
+
+pub invariant_of-result : goal.invariant_of-result
+invariant_of-result c =
+    let items : c.in_ok-servers.servers.items ≡ replicate c.args.servers c.none.result = search rules in
+    rw (c.none-2.ensures, items, c.none.ensures) (AreKept-new c.args.counting c.args.most c.args.servers (record { some_servers = c.if-servers-lt1.false; servers_limit = omega arith; some_most = c.if-most-lt1.false }) c.ranges.most.fits)

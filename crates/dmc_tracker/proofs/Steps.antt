@@ -1,0 +1,235 @@
+-- The tracker's calls, from what the calls in them ensure: the counts fit, and the numbers are those that are promised.
+use Rattle.std.proofs.Common.{◌≡◌, ◌≢◌, ◌↔◌, ℕ, ◌+◌, ◌<◌, ◌≤◌, ◌^◌, List, [], ◌∷◌, ◌++◌, length, set, get_or, slice_get, Option, Some, None, Result, Ok, Err, refl, sym, ap, ◌∙◌, subst, inl, inr, arith}
+use Rattle.std.specs.Prelude.{is_ok, IsOk}
+use Rattle.std.specs.Option.{option_map}
+use Rattle.std.proofs.lemmas.Bool.{cases_lt}
+use Rattle.std.proofs.lemmas.Option.{slice_get-map, slice_get-get_or, slice_get_past}
+use Rattle.std.proofs.lemmas.List.{length-map, length-set}
+use Rattle.dmc_types.specs.Values.{Params}
+use Rattle.dmc_types.specs.declared.ids.ServerId.{ServerId}
+use Rattle.dmc_types.specs.declared.config.Counting.{Counting}
+use Rattle.dmc_types.specs.declared.config.Counting.TheVariants.{All, Others}
+use Rattle.dmc_types.specs.declared.config.PhaseType.{PhaseType}
+use Rattle.dmc_tracker.specs.declared.server.ServerCounts.{ServerCounts}
+use Rattle.dmc_tracker.specs.declared.tracker.TrackFault.TheVariants.{NoServer, TrackFull}
+use Rattle.dmc_tracker.specs.declared.event.TrackerEvent.{TrackerEvent}
+use Rattle.dmc_tracker.specs.declared.event.TrackerEvent.TheVariants.{Stamp, Response}
+use Rattle.dmc_tracker.specs.TrackerList.{plus, one_in, own_share, demanded, IsComplete, IsStampFull}
+use Rattle.dmc_tracker.specs.Numbers.{Numbers, ServerNumbers, pending_pair, numbers_at, next_params, after_stamp, after_response, IsSentFull, Stands, Keeps}
+use Rattle.dmc_tracker.specs.Server.{minus, IsPart, counted_at, numbers_now, view_of, IsKept, AreKept}
+use Rattle.dmc_tracker.proofs.ServerLemmas.{seen_at, next_params-view, view-stamp, AreKept-stamp, AreKept-response, view-response, one_delta, one_rho}
+use Rattle.dmc_tracker.proofs.StandsLemmas.{next_params-stands, Stands-stamp, Stands-response}
+
+-- a number is below another where not being so is an error, and there is none
+pub below_if_ok : {X E : Type 0} {x : X} {e : E} (a b : ℕ) → (b ≤ a → ◌≡◌ {A = Result X E} (Ok x) (Err e)) → a < b
+below_if_ok {X} {E} {x} {e} a b h =
+    elim (cases_lt a b) [ inl l ↦ l | inr l ↦ let no : ◌≡◌ {A = Result X E} (Ok x) (Err e) = h l in cc ]
+
+-- ---- what the result says of a refusal
+
+module _ {X E : Type 0} where
+  pub refused : {e : E} {P : Type 0} → P → ◌≡◌ {A = Result X E} (Err e) (Err e) ↔ P
+  refused p = (λ q. p, λ p. refl)
+
+  pub refused_otherwise : {e f : E} {P : Type 0} → e ≢ f → (P → ⊥) → ◌≡◌ {A = Result X E} (Err e) (Err f) ↔ P
+  refused_otherwise {e} {f} ne never = (λ q. absurd (ne (same_err q)), λ p. absurd (never p)) where
+    same_err : ◌≡◌ {A = Result X E} (Err e) (Err f) → e ≡ f
+    same_err q = cc
+
+  pub not_refused : {x : X} {f : E} {P : Type 0} → (P → ⊥) → ◌≡◌ {A = Result X E} (Ok x) (Err f) ↔ P
+  not_refused never = (λ q. absurd (cc), λ p. absurd (never p))
+
+pub no_server_is_not_full : NoServer ≢ TrackFull
+no_server_is_not_full e = cc
+
+pub full_is_not_no_server : TrackFull ≢ NoServer
+full_is_not_no_server e = cc
+
+pub not_past : {a b : ℕ} → a < b → b ≤ a → ⊥
+not_past l m = omega arith
+
+module _ {counting : Counting} {most : ℕ} {comps : Params} {items : List ServerCounts} {now : Numbers} (kept : AreKept counting most comps items) (view : view_of counting most comps items ≡ now) where
+  pub as_many : length now.servers ≡ length items
+  as_many = ap (λ (n : Numbers). length n.servers) (sym view) ∙ length-map items (numbers_now counting comps)
+
+  module _ {n : ℕ} (length_is : n ≡ length items) {i : ℕ} where
+    pub past_all : n ≤ i → length now.servers ≤ i
+    past_all l = omega (arith, l, length_is, as_many)
+
+    pub within_all : i < n → i < length now.servers
+    within_all l = omega (arith, l, length_is, as_many)
+
+  -- the completions are `most`, also by the list
+  module _ (full : comps.delta ≡ most) where
+    pub all_counted : now.completions.delta ≡ now.most
+    all_counted =
+        sym (ap (λ (n : Numbers). n.completions.delta) view) ∙ full ∙ ap (λ (n : Numbers). n.most) view
+
+    pub all_counted_by_list : {events : List TrackerEvent} → Stands now events → IsComplete now.most events
+    all_counted_by_list stands = ap (λ (p : Params). p.delta) (sym stands.completed) ∙ all_counted
+
+  module _ (fewer : comps.delta ≢ most) where
+    pub more_to_count : now.completions.delta < now.most
+    more_to_count =
+        omega (arith, fewer, kept.completions_most, ap (λ (n : Numbers). n.completions.delta) view, ap (λ (n : Numbers). n.most) view)
+
+    pub not_all_counted : now.completions.delta ≡ now.most → ⊥
+    not_all_counted all = omega (arith, more_to_count, all)
+
+    pub not_complete : {events : List TrackerEvent} → Stands now events → IsComplete now.most events → ⊥
+    not_complete stands all = omega (arith, more_to_count, all, ap (λ (p : Params). p.delta) stands.completed)
+
+  -- what contracts see of the server at a place
+  read_server : (i : ℕ) {found : Option ServerCounts} → slice_get items i ≡ found → slice_get now.servers i ≡ option_map (numbers_now counting comps) found
+  read_server i e =
+      ap (λ (n : Numbers). slice_get n.servers i) (sym view) ∙ slice_get-map (numbers_now counting comps) items i ∙ ap (option_map (numbers_now counting comps)) e
+
+  pub none_pending : {i : ℕ} → length items ≤ i → {found : Option (ℕ × ℕ)} → found ≡ None → found ≡ option_map pending_pair (slice_get now.servers i)
+  none_pending {i = i} past e = e ∙ sym (ap (option_map pending_pair) (read_server i (slice_get_past items i past)))
+
+  -- a call that writes one server
+  pub keeps_all : (comps' : Params) (i : ℕ) (y : ServerCounts) → Keeps now (view_of counting most comps' (set items i y))
+  keeps_all comps' i y = record {
+    counting = ap (λ (n : Numbers). n.counting) view;
+    most = ap (λ (n : Numbers). n.most) view;
+    servers = length-map (set items i y) (numbers_now counting comps') ∙ length-set items i y ∙ sym as_many;
+  }
+
+  -- ---- at server s, which keeps x
+
+  module _ {s : ServerId} (within : s.0 < length now.servers) {x : ServerCounts} (at : x ≡ get_or items s.0 x) where
+    inside : s.0 < length items
+    inside = omega (arith, within, as_many)
+
+    kept_at : IsKept counting most comps x
+    kept_at = rw at (kept.each s.0 x inside)
+
+    pub sent_within : x.sent.delta ≤ most
+    sent_within = kept_at.sent_most
+
+    pub own_part : IsPart x.own comps
+    own_part = kept_at.own
+
+    pub mark_part : {counted : Params} → counted ≡ counted_at counting comps x → IsPart x.mark counted
+    mark_part e = rw e kept_at.mark
+
+    pub pending_there : {counted left : Params} → counted ≡ counted_at counting comps x → left ≡ minus counted x.mark → {d r : ℕ} → ◌≡◌ {A = Params} (record { delta = d; rho = r }) left → ◌≡◌ {A = Option (ℕ × ℕ)} (Some (d, r)) (option_map pending_pair (slice_get now.servers s.0))
+    pending_there counted_is left_is e =
+        ap {B = Option (ℕ × ℕ)} (λ (p : Params). Some (p.delta, p.rho)) (e ∙ left_is ∙ ap (λ c. minus c x.mark) counted_is)
+        ∙ sym (ap (option_map pending_pair) (read_server s.0 (slice_get-get_or items s.0 x inside ∙ ap Some (sym at))))
+
+    -- ---- a response
+
+    module _ (phase : PhaseType) {one : Params} (one_is : one ≡ one_in phase) (fewer : now.completions.delta < now.most) where
+      room_for_one : comps.delta < most
+      room_for_one = omega (arith, fewer, ap (λ (n : Numbers). n.completions.delta) view, ap (λ (n : Numbers). n.most) view)
+
+      ones : (one.delta ≡ 1) × (one.rho ≤ 1)
+      ones = rw one_is (one_delta phase, omega (arith, one_delta phase, one_rho phase))
+
+      comps_fit : (comps.delta + one.delta < 2 ^ 32) × (comps.rho + one.rho < 2 ^ 32)
+      comps_fit =
+          (omega (arith, room_for_one, ones.0, kept.most_limit), omega (arith, room_for_one, ones.1, kept.completions_rho, kept.most_limit))
+
+      pub own_fits : (x.own.delta + one.delta < 2 ^ 32) × (x.own.rho + one.rho < 2 ^ 32)
+      own_fits =
+          (omega (arith, comps_fit.0, own_part.delta), omega (arith, comps_fit.1, own_part.rho))
+
+      module _ {comps' own' : Params} (comps_are : comps' ≡ plus comps one) (own_is : own' ≡ plus x.own one) where
+        pub response_kept : AreKept counting most comps' (set items s.0 (record { sent = x.sent; own = own'; mark = x.mark }))
+        response_kept =
+            rw (comps_are, own_is, one_is) (AreKept-response counting most comps items s x phase kept inside at room_for_one)
+
+        pub response_seen : view_of counting most comps' (set items s.0 (record { sent = x.sent; own = own'; mark = x.mark })) ≡ after_response s phase now
+        response_seen =
+            rw (comps_are, own_is, one_is) (view-response counting most comps items s x phase kept inside at) ∙ ap (after_response s phase) view
+
+    -- ---- a stamp
+
+    module _ {counted left own : Params} (counted_is : counted ≡ counted_at counting comps x) (left_is : left ≡ minus counted x.mark) (own_is : own ≡ own_share counting) (bound : (numbers_at now s).sent.delta + (next_params now s).delta ≤ now.most) where
+      next_is : next_params now s ≡ plus left own
+      next_is =
+          ap (λ n. next_params n s) (sym view)
+          ∙ next_params-view counting most comps items s x inside at
+          ∙ rw (left_is, counted_is, own_is) refl
+
+      share_rho : own.rho ≤ own.delta
+      share_rho = rw own_is (at_form counting) where
+        at_form : (form : Counting) → (own_share form).rho ≤ (own_share form).delta
+        at_form All = omega arith
+        at_form Others = omega arith
+
+      part : IsPart x.mark counted
+      part = mark_part counted_is
+
+      left_rho : left.rho ≤ left.delta
+      left_rho = rw left_is (omega (arith, part.rest, part.delta, part.rho))
+
+      room : x.sent.delta + (left.delta + own.delta) ≤ most
+      room =
+          let sent = ap (λ n. (numbers_at n s).sent.delta) (sym view) ∙ ap (λ (n : ServerNumbers). n.sent.delta) (seen_at counting most comps items s x inside at) in
+          omega (arith, bound, sent, ap (λ (p : Params). p.delta) next_is, ap (λ (n : Numbers). n.most) view)
+
+      pub params_fit : (left.delta + own.delta < 2 ^ 32) × (left.rho + own.rho < 2 ^ 32)
+      params_fit = (omega (arith, room, kept.most_limit), omega (arith, room, left_rho, share_rho, kept.most_limit))
+
+      module _ {params : Params} (params_is : params ≡ plus left own) where
+        carried : params ≡ next_params now s
+        carried = params_is ∙ sym next_is
+
+        is_params : params.rho ≤ params.delta
+        is_params = rw params_is (omega (arith, left_rho, share_rho))
+
+        pub sent_fits : (x.sent.delta + params.delta < 2 ^ 32) × (x.sent.rho + params.rho < 2 ^ 32)
+        sent_fits =
+            let is : params.delta ≡ left.delta + own.delta = ap (λ (p : Params). p.delta) params_is in
+            (omega (arith, is, room, kept.most_limit), omega (arith, is, room, is_params, kept_at.sent_rho, kept.most_limit))
+
+        computed : params ≡ plus (numbers_now counting comps x).pending (own_share counting)
+        computed = rw (params_is, left_is, own_is, counted_is) refl
+
+        pub stamp_kept : {sent' : Params} → sent' ≡ plus x.sent params → AreKept counting most comps (set items s.0 (record { sent = sent'; own = x.own; mark = counted }))
+        stamp_kept e =
+            let is : params.delta ≡ left.delta + own.delta = ap (λ (p : Params). p.delta) params_is in
+            rw (e, counted_is) (AreKept-stamp counting most comps params items s x kept inside at computed (omega (arith, is, room)))
+
+        pub stamp_seen : {sent' : Params} → sent' ≡ plus x.sent params → view_of counting most comps (set items s.0 (record { sent = sent'; own = x.own; mark = counted })) ≡ after_stamp s now
+        stamp_seen e =
+            rw (e, counted_is) (view-stamp counting most comps params items s x inside at computed) ∙ ap (after_stamp s) view
+
+        made_is : {E : Type 0} {d r : ℕ} {made : Result Params E} → ◌≡◌ {A = Params} (record { delta = d; rho = r }) params → (r ≤ d → made ≡ Ok (record { delta = d; rho = r })) → made ≡ Ok params
+        made_is e ok =
+            ok (omega (arith, ap (λ (p : Params). p.delta) e, ap (λ (p : Params). p.rho) e, is_params)) ∙ ap Ok e
+
+        -- what is handed out is what was computed
+        module _ {E : Type 0} {d r : ℕ} {made : Result Params E} (e : ◌≡◌ {A = Params} (record { delta = d; rho = r }) params) (ok : r ≤ d → made ≡ Ok (record { delta = d; rho = r })) where
+          pub is_made : IsOk made
+          is_made = ap is_ok (made_is e ok)
+
+          pub handed_out : {given : Params} → made ≡ Ok given → given ≡ next_params now s
+          handed_out {given} h = let same : ◌≡◌ {A = Result Params E} (Ok given) (Ok params) = sym h ∙ made_is e ok in cc (carried)
+
+-- the list after a stamp
+pub stands_after : {now new : Numbers} {s : ServerId} {params : Params} → s.0 < length now.servers → new ≡ after_stamp s now → params ≡ next_params now s
+    → (events : List TrackerEvent) → Stands now events → (params ≡ demanded now.counting s events) × Stands new (events ++ Stamp s params ∷ [])
+stands_after {now} {s = s} within e p events stands =
+    (p ∙ next_params-stands now events s within stands, rw (e, p) (Stands-stamp now events s within stands))
+
+-- the list after a response
+pub stands_after_response : {now new : Numbers} (s : ServerId) (phase : PhaseType) → new ≡ after_response s phase now → (events : List TrackerEvent) → Stands now events → Stands new (events ++ Response s phase ∷ [])
+stands_after_response {now} s phase e events stands = rw e (Stands-response now events s phase stands)
+
+-- what is full by the numbers is so by the list
+module _ {now : Numbers} {s : ServerId} {events : List TrackerEvent} (stands : Stands now events) where
+  listed : IsSentFull now s → (s.0 < length now.servers) × IsStampFull now.counting now.most s events
+  listed f =
+      let past = subst (λ (n : ServerNumbers). now.most < n.sent.delta + (plus n.pending (own_share now.counting)).delta) (stands.each s f.within) f.past in
+      (f.within, record { form = f.form; past = past })
+
+  numbered : (s.0 < length now.servers) × IsStampFull now.counting now.most s events → IsSentFull now s
+  numbered h =
+      let past = subst (λ (n : ServerNumbers). now.most < n.sent.delta + (plus n.pending (own_share now.counting)).delta) (sym (stands.each s h.0)) (h.1).past in
+      record { within = h.0; form = (h.1).form; past = past }
+
+  pub full_by_list : {A : Type 0} → A ↔ IsSentFull now s → A ↔ ((s.0 < length now.servers) × IsStampFull now.counting now.most s events)
+  full_by_list is = (λ a. listed (is.0 a), λ h. is.1 (numbered h))

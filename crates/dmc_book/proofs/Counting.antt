@@ -1,5 +1,5 @@
 -- What a book keeps, one event later.
-use Rattle.std.proofs.Common.{◌≡◌, ℕ, ◌+◌, ◌≤◌, ◌<◌, ◌^◌, Bool, true, false, List, [], ◌∷◌, ◌++◌, map, length, length-append, ap, ◌∙◌, sym, subst, Option, Some, None, arith}
+use Rattle.std.proofs.Common.{◌≡◌, ℕ, ◌+◌, ◌≤◌, ◌<◌, ◌^◌, Bool, true, false, List, [], ◌∷◌, ◌++◌, map, length, length-append, ap, ◌∙◌, refl, sym, subst, Option, Some, None, arith}
 use Rattle.std.specs.Prelude.{◌==◌, if◌then◌else◌, is_some}
 use Rattle.std.specs.List.{AllByRecursion}
 use Rattle.std.proofs.lemmas.List.{length-map}
@@ -24,6 +24,17 @@ use Rattle.dmc_book.specs.BookState.{BookState, WorkerSide}
 use Rattle.dmc_book.specs.Consistent.{IsConsistent, IsCounted, IsWorker, IsDesk, AreWorkersApart, AreClientsApart, AreWithin, AreGrantsWithin, HasDesk}
 use Rattle.dmc_book.specs.Moves.{worker_after, desk_after, book_after}
 use Rattle.dmc_tag.proofs.Lists.{all_as, all_mapped, position_map}
+
+-- ---- what was written
+
+-- a place for an event changes no book
+pub unwritten : {T : Type 0} (b : BookState T) (history : List (Event T)) (most : ℕ) → history ≡ b.history → most ≡ b.most → ◌≡◌ {A = BookState T} (record b { history = history; most = most }) b
+unwritten b history most h m = rw (h, m) refl
+
+-- what was written to the parts of a book is the book after the event
+pub written : {T : Type 0} (b : BookState T) (e : Event T) (history : List (Event T)) (most : ℕ) (workers : List WorkerSide) (desks : List ClientSide) → history ≡ b.history ++ e ∷ [] → most ≡ b.most → workers ≡ map (worker_after e) b.workers → desks ≡ map (desk_after e) b.desks
+    → ◌≡◌ {A = BookState T} (record b { history = history; most = most; workers = workers; desks = desks }) (book_after e b)
+written b e history most workers desks h m w d = rw (h, m, w, d) refl
 
 -- ---- the counts
 

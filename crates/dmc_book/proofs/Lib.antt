@@ -3,7 +3,6 @@ mod Causes
 mod Counting
 mod DeskLemmas
 mod GrantLemmas
-mod Lists
 mod OpeningLemmas
 mod RunLemmas
 mod SettlingLemmas

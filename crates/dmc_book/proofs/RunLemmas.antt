@@ -1,8 +1,12 @@
 -- What was answered or refused, of a command that is no Add.
-use Rattle.std.proofs.Common.{ℕ, ◌≡◌, ◌<◌, true, false, true≢false, length, refl, sym, ◌∙◌, Result, Ok, Err, arith}
-use Rattle.std.specs.Prelude.{◌↔◌, OnOk, OnErr, IfOk}
+use Rattle.std.proofs.Common.{ℕ, ◌≡◌, ◌<◌, Bool, true, false, true≢false, List, map, length, Option, None, refl, sym, subst, ◌∙◌, Result, Ok, Err, arith}
+use Rattle.std.specs.Prelude.{◌↔◌, OnOk, OnErr, IfOk, if◌then◌else◌}
 use Rattle.std.specs.Cmp.{IsTotalOrder}
 use Rattle.std.proofs.lemmas.Bool.{true_from_ne_false}
+use Rattle.std.proofs.lemmas.List.{length-map}
+use Rattle.dmc_types.specs.declared.ids.ClientId.{ClientId}
+use Rattle.dmc_types.specs.declared.ids.WorkerId.{WorkerId}
+use Rattle.dmc_types.specs.Values.{Params}
 use Rattle.dmc_types.specs.declared.command.Command.{Command}
 use Rattle.dmc_types.specs.declared.command.Command.TheVariants.{Pull}
 use Rattle.dmc_tag.specs.Tag.{Tagging}
@@ -16,21 +20,34 @@ use Rattle.dmc_book.specs.declared.fault.RunFault.{RunFault}
 use Rattle.dmc_book.specs.declared.fault.RunFault.TheVariants as run
 use Rattle.dmc_book.specs.declared.fault.RunOrRange.{RunOrRange}
 use Rattle.dmc_book.specs.declared.fault.RunOrRange.TheVariants as pull
-use Rattle.dmc_book.specs.BookState.{BookState, PassState}
+use Rattle.dmc_book.specs.BookState.{BookState, PassState, worker_side}
 use Rattle.dmc_book.specs.Calls.{Asks, Ran, WasPulled, asked, lacks_desk, reply_to, run_cause}
 use Rattle.dmc_book.specs.Consistent.{IsConsistent}
+use Rattle.dmc_book.specs.Counts.{accepted, is_tagged}
 use Rattle.dmc_book.specs.Moves.{IsEnrolled, takes}
 use Rattle.dmc_book.specs.Runs.{IsFull, Runs, StraysHere}
+use Rattle.dmc_book.specs.declared.seat.Seat.{Seat}
 use Rattle.dmc_book.proofs.AskLemmas.{strays_by_history}
+use Rattle.dmc_book.proofs.Causes.{memory_is_not_full}
+
+-- the seats are those that were lent, and the pass has its place among them
+pub enrolled_at : {S : Type 0} (lent own : List (Seat S)) (p : PassState) → lent ≡ own → IsEnrolled (map worker_side lent) p → (p.place < length own) × IsEnrolled (map worker_side own) p
+enrolled_at lent own p same e =
+    let mine : IsEnrolled (map worker_side own) p = subst (λ seats. IsEnrolled (map worker_side seats) p) same e in
+    (subst (λ n. p.place < n) (length-map own worker_side) mine.within, mine)
+
+-- a pull accepts no stamp
+pub no_stamp_in_pull : {T : Type 0} (worker : WorkerId) (at : ℕ) (reply : Reply T) → accepted (record { worker = worker; command = Pull at; reply = reply }) ≡ None
+no_stamp_in_pull worker at reply = either_none (is_tagged reply) where
+  either_none : (b : Bool) → ◌≡◌ {A = Option (ClientId × Params)} (if b then None else None) None
+  either_none true = refl
+  either_none false = refl
 
 module _ {T : Type 0} (ops : Tagging T) (old : BookState T) (before : PassState) (command : Command) (enrolled : IsEnrolled old.workers before) (has_desk : lacks_desk old.desks command ≡ false) where
   -- no place was reserved
   pub unreserved : (x : ReserveFault) → (x ≡ reserve.HistoryFull) ↔ IsFull ops old before command → Runs ops old before command old before (Err (run_cause x))
   unreserved reserve.HistoryFull full = (refl, refl, enrolled, has_desk, full.0 refl)
   unreserved reserve.Memory full = (refl, refl, enrolled, has_desk, λ f. absurd (memory_is_not_full (full.1 f)))
-    where
-      memory_is_not_full : reserve.Memory ≡ reserve.HistoryFull → ⊥
-      memory_is_not_full e = absurd cc
 
   -- the queue was not asked, or answered nothing
   pub unasked : (order : IsTotalOrder ops.compare) (q p : State T) → IsConsistent ops q old → length old.history < old.most → (e : RunFault)

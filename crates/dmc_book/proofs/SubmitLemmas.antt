@@ -1,17 +1,24 @@
 -- Why a submit was refused.
-use Rattle.std.proofs.Common.{ℕ, ◌≡◌, ◌<◌, false, length, refl, Some, Err, arith}
+use Rattle.std.proofs.Common.{ℕ, ◌≡◌, ◌<◌, false, List, map, length, refl, subst₂, Option, Some, Err, arith}
 use Rattle.std.specs.Prelude.{◌↔◌}
 use Rattle.dmc_types.specs.declared.ids.Token.{Token}
 use Rattle.dmc_tag.specs.Tag.{Tagging}
 use Rattle.dmc_history.specs.declared.ReserveFault.{ReserveFault}
 use Rattle.dmc_history.specs.declared.ReserveFault.TheVariants as reserve
-use Rattle.dmc_ledger.specs.Bundles.{StampHoldings}
+use Rattle.dmc_ledger.specs.Bundles.{StampHoldings, client_side}
+use Rattle.dmc_ledger.specs.declared.desk.ClientDesk.{ClientDesk}
 use Rattle.dmc_tlock.specs.BookState.{StampValue}
-use Rattle.dmc_book.specs.declared.fault.SubmitCause.TheVariants as submit
-use Rattle.dmc_book.specs.BookState.{BookState, PassState}
+use Rattle.dmc_book.specs.BookState.{BookState, PassState, worker_side}
 use Rattle.dmc_book.specs.Calls.{IsForDesk, submit_cause}
 use Rattle.dmc_book.specs.Moves.{IsEnrolled}
 use Rattle.dmc_book.specs.Submits.{FindsDesk, IsAsked, Submits}
+use Rattle.dmc_book.specs.declared.seat.Seat.{Seat}
+use Rattle.dmc_book.proofs.Causes.{memory_is_not_full}
+
+-- the desk is found among the seats and the desks that were lent
+pub found_at : {S : Type 0} (lent own : List (Seat S)) (lent_desks own_desks : List (ClientDesk S)) (server : ℕ) (p : PassState) (stamp : StampValue) (tills : StampHoldings) (place : Option ℕ) → lent ≡ own → lent_desks ≡ own_desks
+    → FindsDesk server (map worker_side lent) (map client_side lent_desks) p stamp tills place → FindsDesk server (map worker_side own) (map client_side own_desks) p stamp tills place
+found_at lent own lent_desks own_desks server p stamp tills place seats desks = subst₂ (λ s d. FindsDesk server (map worker_side s) (map client_side d) p stamp tills place) seats desks
 
 module _ {T : Type 0} (b : BookState T) (p : PassState) (stamp : StampValue) (tills : StampHoldings) where
   abbrev Enrolled : Type 0
@@ -31,6 +38,3 @@ module _ {T : Type 0} (b : BookState T) (p : PassState) (stamp : StampValue) (ti
       → (x : ReserveFault) → (x ≡ reserve.HistoryFull) ↔ (length b.history ≡ b.most) → Submits ops b b p p stamp tills tills token at (Err (submit_cause x))
   unreserved ops token at place found is_open reserve.HistoryFull full = ((refl, refl), refl, (found.0, (at_desk place found).1, is_open, full.0 refl))
   unreserved ops token at place found is_open reserve.Memory full = ((refl, refl), refl, (found.0, (at_desk place found).1, is_open, λ f. absurd (memory_is_not_full (full.1 f))))
-    where
-      memory_is_not_full : reserve.Memory ≡ reserve.HistoryFull → ⊥
-      memory_is_not_full e = absurd cc

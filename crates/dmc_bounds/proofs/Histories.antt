@@ -23,8 +23,9 @@ use Rattle.dmc_bounds.proofs.Basics.{bind_goes}
 use Rattle.dmc_bounds.proofs.InTurn.{IsGrant, pull_is, AreInTurn}
 use Rattle.dmc_bounds.proofs.Own.{own_of, own-first, own-append, own-removed, own-taken, own-shifted, own-unreduced}
 use Rattle.dmc_bounds.proofs.Pacing.{all_left, same_requests}
-use Rattle.dmc_tag.specs.Replay.{state_after, replays_from}
+use Rattle.dmc_tag.specs.Replay.{replays_from}
 use Rattle.dmc_tag.specs.declared.event.Event.{Event}
+pub use Rattle.dmc_tag.proofs.Running.{after_from}
 use Rattle.dmc_bounds.proofs.TurnSteps.{step_stays}
 
 pub none_left : {X : Type 0} (xs : List X) → xs ≡ drop 0 (xs ++ [])
@@ -122,14 +123,11 @@ longer d xs ys h = omega (arith, length-append xs ys)
 -- ---- runs in two parts
 
 module _ {T : Type 0} (ops : Tagging T) where
-  abbrev pub after_from : State T → List (Event T) → State T
-  after_from s es = state_after ops s (map (λ e. e.command) es)
-
-  pub after-append : (s : State T) (xs ys : List (Event T)) → after_from s (xs ++ ys) ≡ after_from (after_from s xs) ys
+  pub after-append : (s : State T) (xs ys : List (Event T)) → after_from ops s (xs ++ ys) ≡ after_from ops (after_from ops s xs) ys
   after-append s [] ys = refl
   after-append s (x ∷ xs) ys = after-append ((step ops s x.command).0) xs ys
 
-  pub replays_split : (s : State T) (xs ys : List (Event T)) → replays_from ops s (xs ++ ys) → replays_from ops s xs × replays_from ops (after_from s xs) ys
+  pub replays_split : (s : State T) (xs ys : List (Event T)) → replays_from ops s (xs ++ ys) → replays_from ops s xs × replays_from ops (after_from ops s xs) ys
   replays_split s [] ys h = (tt, h)
   replays_split s (x ∷ xs) ys h = let more = replays_split ((step ops s x.command).0) xs ys h.1 in ((h.0, more.0), more.1)
 

@@ -3,6 +3,7 @@ use Rattle.std.proofs.Common.{◌≡◌, ℕ, ◌+◌, Bool, true, false, not, �
 use Rattle.std.specs.Prelude.{◌-ℤ◌, pos, is_some, if◌then◌else◌, ⊤}
 use Rattle.std.specs.Option.{unwrap_or, option_map, option_map_or, option_and_then}
 use Rattle.std.specs.List.{AllByRecursion}
+use Rattle.std.proofs.lemmas.Bool.{and_parts}
 use Rattle.dmc_types.specs.declared.ids.ClientId.{ClientId}
 use Rattle.dmc_types.specs.declared.config.PhaseType.{PhaseType}
 use Rattle.dmc_types.specs.declared.config.PhaseType.TheVariants.{Reservation, Priority}
@@ -14,7 +15,6 @@ use Rattle.dmc_tag.specs.Rules as rules_of
 use Rattle.dmc_tag.specs.declared.plain.PlainRequest.{PlainRequest}
 use Rattle.dmc_tag.specs.declared.plain.PlainClient.{PlainClient}
 use Rattle.dmc_tag.proofs.Active.{either}
-use Rattle.dmc_tag.proofs.Booleans.{both_true}
 use Rattle.dmc_tag.proofs.Lists.{all_as, all_both, all_mapped, each_passes, found_holds, found_passes}
 use Rattle.dmc_tag.proofs.TagOrder.{bound, from_range}
 use Rattle.dmc_bounds.proofs.Basics.{same_id, same_too, both_id, or_second}
@@ -94,7 +94,7 @@ module _ {T : Type 0} (ops : Tagging T) (fraction : T → Fraction) (is_value : 
     late_reduced limits Priority amount xs ws is can h = subst (λ os. AreLate fraction hz q from (taken + 0) os ws) (sym (own-unreduced ops (λ r. Some r.tags.l) id (λ r o. refl) client amount xs)) (late_falls fraction hz q from taken 0 _ ws h)
     late_reduced reservations Priority None xs ws is can h = late_falls fraction hz q from taken 1 _ ws h
     late_reduced reservations Priority (Some amount) xs ws is can h =
-        let able = each_passes (λ (x : PlainRequest T). not (is_client client x.client) || option_map_or (rules_of.has_less ops amount) x.tags.r true) xs (both_true _ _ can).0 in
+        let able = each_passes (λ (x : PlainRequest T). not (is_client client x.client) || option_map_or (rules_of.has_less ops amount) x.tags.r true) xs (and_parts _ _ can).0 in
         subst (λ os. AreLate fraction hz q from (taken + 1) os ws) (sym (own-less ops (λ r. r.tags.r) id client (λ a. option_map (rules_of.less ops a)) (λ a r. refl) amount true own xs))
         (late_changed fraction hz q from taken (taken + 1) _ (option_map (rules_of.less ops amount)) (less_late amount is taken) _ ws (all_can client amount own xs able) h)
 
@@ -104,7 +104,7 @@ module _ {T : Type 0} (ops : Tagging T) (fraction : T → Fraction) (is_value : 
     clients_reduced limits Priority (Some amount) xs is can h = all_mapped _ (IsPacedClient limits (taken + 0) sent) _ (λ d k. either (IsPacedClient limits (taken + 0) sent) (is_client client d.id) _ d k k) s.clients (client_falls limits taken 0 sent s.clients h)
     clients_reduced reservations Priority None xs is can h = client_falls reservations taken 1 sent s.clients h
     clients_reduced reservations Priority (Some amount) xs is can h =
-        let able = each_passes (λ (c : PlainClient T). not (is_client client c.id) || rules_of.has_less ops amount c.previous.r) s.clients (both_true _ _ can).1 in
+        let able = each_passes (λ (c : PlainClient T). not (is_client client c.id) || rules_of.has_less ops amount c.previous.r) s.clients (and_parts _ _ can).1 in
         all_mapped _ (IsPacedClient reservations (taken + 1) sent) _ (λ d k. less_client amount is client taken sent own d k (is_client client d.id) refl) s.clients (all_both _ _ s.clients able h)
 
   -- a grant of another client

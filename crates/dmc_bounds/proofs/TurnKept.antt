@@ -5,7 +5,7 @@ use Rattle.std.specs.Option.{unwrap_or, option_map, option_map_or}
 use Rattle.std.specs.List.{AllByRecursion, list_any}
 use Rattle.std.specs.Ordering.{is_gt}
 use Rattle.std.specs.Cmp.{IsTotalOrder}
-use Rattle.std.proofs.lemmas.Bool.{eqb-true}
+use Rattle.std.proofs.lemmas.Bool.{and_parts, eqb-true}
 use Rattle.dmc_types.specs.declared.ids.ClientId.{ClientId}
 use Rattle.dmc_tag.specs.Tag.{Fraction, Tagging, IsExact}
 use Rattle.dmc_tag.specs.Order.{AtMost}
@@ -14,7 +14,6 @@ use Rattle.dmc_tag.specs.Rules as rules_of
 use Rattle.dmc_tag.specs.declared.plain.PlainRequest.{PlainRequest}
 use Rattle.dmc_tag.specs.declared.plain.PlainClient.{PlainClient}
 use Rattle.dmc_tag.proofs.Active.{either, queued_own}
-use Rattle.dmc_tag.proofs.Booleans.{both_true}
 use Rattle.dmc_tag.proofs.Ids.{client_turned}
 use Rattle.dmc_tag.proofs.Lists.{all_as, all_both, all_mapped, each_passes, all_without, all_filtered, all_append, found_holds, found_passes}
 use Rattle.dmc_tag.proofs.Orderings.{IsUpto, at_most_itself}
@@ -123,7 +122,7 @@ module _ {T : Type 0} (ops : Tagging T) (order : IsTotalOrder ops.compare) where
     pub reduced_turn : (s : State T) (id : ClientId) (amount : Option T) → rules_of.can_reduce_by ops id amount s.clients s.requests ≡ true → AreInTurn ops order s → AreInTurn ops order (rules_of.reduced_by ops id amount s)
     reduced_turn s id None can is = record { pairs = is.pairs; known = is.known; distinct = is.distinct }
     reduced_turn s id (Some amount) can is =
-        let parts = both_true _ _ can in
+        let parts = and_parts _ _ can in
         let requests = each_passes (λ (r : PlainRequest T). not (is_client id r.client) || option_map_or (rules_of.has_less ops amount) r.tags.r true) s.requests parts.0 in
         let clients = each_passes (λ (c : PlainClient T). not (is_client id c.id) || rules_of.has_less ops amount c.previous.r) s.clients parts.1 in
         record {
@@ -172,7 +171,7 @@ module _ {T : Type 0} (ops : Tagging T) (order : IsTotalOrder ops.compare) where
     pub shifted_turn : (s : State T) (shift : Option T) → rules_of.can_shift_by ops shift s.clients s.requests ≡ true → AreInTurn ops order s → AreInTurn ops order (rules_of.shifted_by ops shift s)
     shifted_turn s None can is = record { pairs = is.pairs; known = is.known; distinct = is.distinct }
     shifted_turn s (Some amount) can is =
-        let parts = both_true _ _ can in
+        let parts = and_parts _ _ can in
         let requests = each_passes (λ (r : PlainRequest T). not (is_active r.client s.clients) || rules_of.has_less ops amount r.tags.p) s.requests parts.0 in
         let clients = each_passes (λ (c : PlainClient T). c.idle || rules_of.has_less ops amount c.previous.p) s.clients parts.1 in
         record {

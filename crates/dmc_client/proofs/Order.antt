@@ -10,9 +10,9 @@ use Rattle.dmc_tag.specs.Order.{AtMost}
 use Rattle.dmc_tag.specs.Rules.{less, has_less}
 use Rattle.dmc_client.specs.Order.{InOrder}
 use Rattle.std.proofs.lemmas.Cmp.{upto}
+use Rattle.std.proofs.lemmas.Bool.{and_parts}
 use Rattle.dmc_tag.proofs.Orderings.{at_most_itself}
 pub use Rattle.dmc_tag.proofs.Orderings.{tag_order}
-use Rattle.dmc_tag.proofs.Booleans.{both_true}
 
 module _ {T : Type 0} (ops : Tagging T) (order : IsTotalOrder ops.compare) where
   below_all : (x p q : T) (xs : List T) → AllByRecursion (AtMost ops x) (xs ++ p ∷ []) → AtMost ops p q → AllByRecursion (AtMost ops x) ((xs ++ q ∷ []) ++ q ∷ [])
@@ -38,11 +38,11 @@ module _ {T : Type 0} (ops : Tagging T) (keeps : KeepsOrder ops) (amount : T) wh
   all_less : (a : T) (xs : List T) → has_less ops amount a ≡ true → list_all (has_less ops amount) xs ≡ true → AllByRecursion (AtMost ops a) xs → AllByRecursion (AtMost ops (less ops amount a)) (map (less ops amount) xs)
   all_less a [] s t h = tt
   all_less a (x ∷ xs) s t h =
-      let parts = both_true (has_less ops amount x) (list_all (has_less ops amount) xs) t in
+      let parts = and_parts (has_less ops amount x) (list_all (has_less ops amount) xs) t in
       (less_at_most a x _ _ refl refl s parts.0 h.0, all_less a xs s parts.1 h.1)
 
   pub in_order-less : (xs : List T) → list_all (has_less ops amount) xs ≡ true → InOrder ops xs → InOrder ops (map (less ops amount) xs)
   in_order-less [] t h = tt
   in_order-less (x ∷ xs) t h =
-      let parts = both_true (has_less ops amount x) (list_all (has_less ops amount) xs) t in
+      let parts = and_parts (has_less ops amount x) (list_all (has_less ops amount) xs) t in
       (all_less x xs parts.0 parts.1 h.0, in_order-less xs parts.1 h.1)

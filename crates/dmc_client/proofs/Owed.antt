@@ -1,14 +1,14 @@
 -- What is owed, as requests come and go.
-use Rattle.std.proofs.Common.{◌≡◌, ℕ, Bool, true, false, ◌&&◌, List, [], ◌∷◌, ◌++◌, map, drop, Option, Some, None, refl, sym, ap, ◌∙◌, subst}
-use Rattle.std.specs.Prelude.{if◌then◌else◌, slice_get, is_some, Result, Ok, Err, OnOk, OnErr}
+use Rattle.std.proofs.Common.{◌≡◌, ℕ, Bool, true, false, ◌&&◌, List, [], ◌∷◌, ◌++◌, map, drop, length, Option, Some, None, refl, sym, ap, ◌∙◌, subst, arith}
+use Rattle.std.specs.Prelude.{◌==◌, if◌then◌else◌, slice_get, is_some, Result, Ok, Err, OnOk, OnErr}
 use Rattle.std.specs.Option.{option_map, option_map_or, unwrap_or}
 use Rattle.std.specs.List.{AllByRecursion, list_all}
 use Rattle.std.proofs.lemmas.List.{map-append}
 use Rattle.std.proofs.lemmas.List.Folds.{list_all-map}
+use Rattle.std.proofs.lemmas.Bool.{and_parts, eqb-true}
 use Rattle.std.proofs.lemmas.Option.{slice_get-map}
 use Rattle.dmc_tag.specs.Tag.{Tagging, Fraction, IsExact}
 use Rattle.dmc_tag.specs.Rules.{less, has_less}
-use Rattle.dmc_tag.proofs.Booleans.{both_true}
 use Rattle.dmc_tag.proofs.ForCallers.{minus_twice, plus_then_minus}
 use Rattle.dmc_client.specs.declared.request.QueuedRequest.{QueuedRequest}
 use Rattle.dmc_client.specs.Record.{less_share, less_reservation}
@@ -122,7 +122,7 @@ module _ {T : Type 0} (ops : Tagging T) where
     pub more_owed : (owed : Option T) (a t : T) (xs : List (QueuedRequest T)) → owed_with ops owed a ≡ Some t → AllByRecursion (λ r. has_owed ops owed r ≡ true) xs → list_all (reservation_has_less ops a) (all_less_owed ops owed xs) ≡ true → AllByRecursion (λ r. has_owed ops (Some t) r ≡ true) xs × (all_less_owed ops (Some t) xs ≡ map (less_reservation ops a) (all_less_owed ops owed xs))
     more_owed owed a t [] sum h k = (tt, refl)
     more_owed owed a t (x ∷ xs) sum h k =
-        let parts = both_true (reservation_has_less ops a (less_owed ops owed x)) (list_all (reservation_has_less ops a) (all_less_owed ops owed xs)) k in
+        let parts = and_parts (reservation_has_less ops a (less_owed ops owed x)) (list_all (reservation_has_less ops a) (all_less_owed ops owed xs)) k in
         let one = more_owed_at owed a t x sum h.0 parts.0 in
         let rest = more_owed owed a t xs sum h.1 parts.1 in (
           (one.0, rest.0),
@@ -149,11 +149,24 @@ module _ {T : Type 0} (ops : Tagging T) where
 
   -- ---- as a call leaves it
 
-  pub popped_is_owed : (owed : Option T) (old new : List (QueuedRequest T)) → IsOwed ops owed old → new ≡ drop 1 old → (new ≡ [] → ⊥) → IsOwed ops owed new
+  pub popped_is_owed : (owed : Option T) (old new : List (QueuedRequest T)) → IsOwed ops owed old → new ≡ drop 1 old → false ≡ (length new == 0) → IsOwed ops owed new
   popped_is_owed owed old new is e some = record {
     values = subst (AllByRecursion (λ r. has_owed ops owed r ≡ true)) (sym e) (rest_values owed old is);
-    empty = λ none. absurd (some none);
+    empty = λ none. cc (some, ap (λ xs. length xs == 0) none);
   }
+
+  -- nothing was stored
+  pub unpopped_is_owed : (owed : Option T) (old new : List (QueuedRequest T)) → IsOwed ops owed old → None ≡ slice_get old 0 → new ≡ drop 1 old → IsOwed ops owed new
+  unpopped_is_owed owed [] new is found e = subst (IsOwed ops owed) (sym e) is
+  unpopped_is_owed owed (x ∷ xs) new is found e = cc
+
+  pub popped_less : (owed : Option T) (old new view : List (QueuedRequest T)) → all_less_owed ops owed old ≡ view → new ≡ drop 1 old → all_less_owed ops owed new ≡ drop 1 view
+  popped_less owed old new view v e = ap (all_less_owed ops owed) e ∙ sym (rest_less owed old) ∙ ap (drop 1) v
+
+  -- of nothing stored, what is owed takes off nothing
+  pub empty_less : (owed : Option T) (xs : List (QueuedRequest T)) → true ≡ (length xs == 0) → all_less_owed ops None xs ≡ all_less_owed ops owed xs
+  empty_less owed [] e = refl
+  empty_less owed (x ∷ xs) e = let none : length (x ∷ xs) ≡ 0 = eqb-true _ _ (sym e) in absurd (omega arith)
 
   pub stored_is_owed : {A E : Type 0} (result : Result A E) (owed : Option T) (old new : List (QueuedRequest T)) (x : QueuedRequest T) → OnOk result (new ≡ old ++ x ∷ []) → OnErr result (new ≡ old) → IsOwed ops owed old → has_owed ops owed x ≡ true → IsOwed ops owed new
   stored_is_owed (Ok a) owed old new x h k is e = subst (IsOwed ops owed) (sym h) (next_is_owed owed old x is e)

@@ -1,6 +1,6 @@
 -- Each call leaves a record a record.
 use Rattle.std.proofs.Common.{◌≡◌, ℕ, Bool, true, false, ◌&&◌, List, [], ◌∷◌, ◌++◌, map, drop, Option, Some, None, refl, sym, ap, ◌∙◌, subst}
-use Rattle.std.specs.Prelude.{filter_map, is_some, IfSome}
+use Rattle.std.specs.Prelude.{filter_map, is_some, IfSome, is_err, Result, Ok, Err, OnOk, OnErr}
 use Rattle.std.specs.Option.{option_map, option_map_or, unwrap_or}
 use Rattle.std.specs.List.{AllByRecursion, list_all, cons_option}
 use Rattle.std.specs.Cmp.{IsTotalOrder}
@@ -10,14 +10,15 @@ use Rattle.std.proofs.lemmas.List.{map-append, append-nil}
 use Rattle.dmc_types.specs.Values.{Rates}
 use Rattle.dmc_tag.specs.Tag.{Tagging}
 use Rattle.dmc_tag.specs.Order.{AtMost, AreSpacings, AreNext}
-use Rattle.dmc_tag.specs.Rules.{less, has_less, changes_reservation}
+use Rattle.dmc_tag.specs.Rules.{less, has_less, previous_after, changes_reservation}
+use Rattle.dmc_tag.specs.declared.plain.Previous.{Previous}
 use Rattle.dmc_tag.specs.declared.spacing.Spacings.{Spacings}
 use Rattle.dmc_client.specs.declared.request.QueuedRequest.{QueuedRequest}
 use Rattle.dmc_client.specs.Order.{InOrder}
 use Rattle.dmc_client.specs.Record.{Rec, IsRecord, reservation_tags, share_tags, pushed, less_share, less_reservation, less_shares, less_reservations, has_less_shares, has_less_reservations}
 use Rattle.dmc_client.proofs.Order.{in_order-next, in_order-less, KeepsOrder}
 use Rattle.dmc_tag.proofs.Options.{is_some_mapped, same_presence}
-use Rattle.std.proofs.Math.Bool.{and-true}
+use Rattle.std.proofs.Math.Bool.{and-true, and-false}
 use Rattle.dmc_tag.proofs.Lists.{all_mapped, all_next}
 
 -- ---- what holds of each request
@@ -48,6 +49,50 @@ module _ {T : Type 0} (ops : Tagging T) (order : IsTotalOrder ops.compare) where
         subst (λ xs. InOrder ops (xs ++ request.tags.p ∷ [])) (sym (map-append (λ r. r.tags.p) rec.requests (request ∷ []))) kept;
     idle = λ e. cc (e);
   }
+
+-- ---- the queue changes alone
+
+pub with_requests : {T : Type 0} (rec view : Rec T) (xs ys : List (QueuedRequest T)) → rec ≡ view → xs ≡ ys → record rec { requests = xs } ≡ record view { requests = ys }
+with_requests {T} rec view xs ys v e = ap (λ (r : Rec T). record r { requests = xs }) v ∙ ap (λ zs. record view { requests = zs }) e
+
+-- a queue that did not take a request is as it was
+refused : {X A E : Type 0} (result : Result A E) (old new : X) → OnErr result (new ≡ old) → true ≡ is_err result → new ≡ old
+refused (Ok a) old new h e = cc
+refused (Err b) old new h e = h
+
+pub refused_view : {T A E : Type 0} (result : Result A E) (rec view : Rec T) (requests : List (QueuedRequest T)) → rec ≡ view → OnErr result (requests ≡ rec.requests) →
+    true ≡ is_err result → record rec { requests = requests } ≡ view
+refused_view result rec view requests v h e = ap (λ xs. record rec { requests = xs }) (refused result rec.requests requests h e) ∙ v
+
+taken : {X A E : Type 0} (result : Result A E) (old new : X) → OnOk result (new ≡ old) → false ≡ is_err result → new ≡ old
+taken (Ok a) old new h e = h
+taken (Err b) old new h e = cc
+
+pub pushed_view : {T A E : Type 0} (result : Result A E) (rec view : Rec T) (request : QueuedRequest T) (at : ℕ) (requests : List (QueuedRequest T)) (previous : Previous T) →
+    rec ≡ view → OnOk result (requests ≡ rec.requests ++ request ∷ []) → false ≡ is_err result → previous ≡ previous_after request.tags rec.previous →
+    record rec { previous = previous; idle = false; last_arrival = at; requests = requests } ≡ pushed request at view
+pushed_view result rec view request at requests previous v h e p =
+    ap (λ xs. record rec { previous = previous; idle = false; last_arrival = at; requests = xs }) (taken result (rec.requests ++ request ∷ []) requests h e)
+    ∙ ap (λ q. record rec { previous = q; idle = false; last_arrival = at; requests = rec.requests ++ request ∷ [] }) p
+    ∙ ap (pushed request at) v
+
+module _ {T : Type 0} (ops : Tagging T) where
+  pub empty_record : (rec : Rec T) → AreSpacings ops rec.info rec.spacings → rec.requests ≡ [] → IsRecord ops rec
+  empty_record rec are none = record {
+    spacings = are;
+    reserved = subst (AllByRecursion (λ r. is_some r.tags.r ≡ is_some rec.info.reservation)) (sym none) tt;
+    reservations = subst (λ xs. InOrder ops (filter_map (λ r. r.tags.r) xs ++ rec.previous.r ∷ [])) (sym none) (tt, tt);
+    limits = subst (λ xs. InOrder ops (map (λ r. r.tags.l) xs ++ rec.previous.l ∷ [])) (sym none) (tt, tt);
+    shares = subst (λ xs. InOrder ops (map (λ r. r.tags.p) xs ++ rec.previous.p ∷ [])) (sym none) (tt, tt);
+    idle = λ e. none;
+  }
+
+  pub refused_record : {A E : Type 0} (result : Result A E) (rec : Rec T) (requests : List (QueuedRequest T)) → IsRecord ops rec → OnErr result (requests ≡ rec.requests) →
+      true ≡ is_err result → IsRecord ops (record rec { requests = requests })
+  refused_record result rec requests is h e = subst (λ xs. IsRecord ops (record rec { requests = xs })) (sym (refused result rec.requests requests h e)) is
+
+  pub same_record : (rec : Rec T) (requests : List (QueuedRequest T)) → IsRecord ops rec → requests ≡ rec.requests → IsRecord ops (record rec { requests = requests })
+  same_record rec requests is e = subst (λ xs. IsRecord ops (record rec { requests = xs })) (sym e) is
 
 -- ---- the first request is taken out, or the rates change
 
@@ -135,6 +180,27 @@ module _ {T : Type 0} (ops : Tagging T) (amount : T) where
   reservations_are rec =
       ap (λ xs. xs ++ less ops amount rec.previous.r ∷ []) (filter_map_less rec.requests)
       ∙ sym (map-append (less ops amount) (filter_map (λ r. r.tags.r) rec.requests) (rec.previous.r ∷ []))
+
+  -- whether each share less the amount is a value
+
+  pub previous_lacks : (rec view : Rec T) → rec ≡ view → None ≡ ops.minus rec.previous.p amount → false ≡ has_less_shares ops amount view
+  previous_lacks rec view v e =
+      let queued = list_all (λ r. has_less ops amount r.tags.p) rec.requests in
+      sym (and-false queued) ∙ ap (λ o. queued && is_some o) e ∙ ap (has_less_shares ops amount) v
+
+  pub queued_lack : (rec view : Rec T) → rec ≡ view → false ≡ list_all (λ r. has_less ops amount r.tags.p) rec.requests → false ≡ has_less_shares ops amount view
+  queued_lack rec view v e = ap (λ b. b && has_less ops amount rec.previous.p) e ∙ ap (has_less_shares ops amount) v
+
+  pub all_have : (rec view : Rec T) (p : T) → rec ≡ view → Some p ≡ ops.minus rec.previous.p amount → true ≡ list_all (λ r. has_less ops amount r.tags.p) rec.requests →
+      true ≡ has_less_shares ops amount view
+  all_have rec view p v e k = ap is_some e ∙ ap (λ b. b && has_less ops amount rec.previous.p) k ∙ ap (has_less_shares ops amount) v
+
+  pub less_shares_view : (rec view : Rec T) (p : T) (requests : List (QueuedRequest T)) → rec ≡ view → Some p ≡ ops.minus rec.previous.p amount →
+      requests ≡ map (less_share ops amount) rec.requests → record rec { previous = record (rec.previous) { p = p }; requests = requests } ≡ less_shares ops amount view
+  less_shares_view rec view p requests v e k =
+      ap (λ xs. record rec { previous = record (rec.previous) { p = p }; requests = xs }) k
+      ∙ ap (λ o. record rec { previous = record (rec.previous) { p = unwrap_or o rec.previous.p }; requests = map (less_share ops amount) rec.requests }) e
+      ∙ ap (less_shares ops amount) v
 
   module _ (keeps : KeepsOrder ops) where
     pub record_less_shares : (rec : Rec T) → IsRecord ops rec → has_less_shares ops amount rec ≡ true → IsRecord ops (less_shares ops amount rec)

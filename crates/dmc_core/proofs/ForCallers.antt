@@ -2,7 +2,7 @@
 use Rattle.std.proofs.Common.{◌≡◌, ℕ, zero, suc, get_or, ◌<◌, ◌≤◌, ◌/◌, ◌%◌, ◌==◌, true, false, true≢false, Option, Some, None, ℤ, pos, refl, sym, ap, ◌∙◌, arith, Ok}
 use Rattle.std.specs.Prelude.{All, IsOk, IfSome, nat_le, unsigned_abs}
 use Rattle.std.proofs.Math.Nat.{mod-zero, div-le_self}
-use Rattle.std.proofs.lemmas.Bool.{eqb-true, le-leb, leb-true, false_from_ne_true}
+use Rattle.std.proofs.lemmas.Bool.{and_parts, eqb-true, le-leb, leb-true, false_from_ne_true}
 use Rattle.dmc_types.specs.Values.{Rates}
 use Rattle.dmc_types.specs.declared.config.TagKind.{TagKind}
 use Rattle.dmc_types.specs.declared.config.TagKind.TheVariants.{Tick, Ratio}
@@ -10,7 +10,6 @@ use Rattle.dmc_types.specs.declared.refusal.Field.{Field}
 use Rattle.dmc_types.specs.declared.refusal.Field.TheVariants.{Reservation, Limit}
 use Rattle.dmc_tag.specs.Tag.{Tagging}
 use Rattle.dmc_tag.specs.Spacing.{spacings_of, optional_spacing}
-use Rattle.dmc_tag.proofs.Booleans.{both_true}
 use Rattle.dmc_tick.specs.Tick.{tick_ops, tick_spacing, greatest}
 use Rattle.dmc_ratio.specs.Gcd.{gcd}
 use Rattle.dmc_ratio.specs.Lowest.{over, unsigned_abs-over}
@@ -34,7 +33,7 @@ ratio_spaced : (hz rate : ℕ) → hz ≤ 1000000000 → HasSpacing Ratio hz rat
 ratio_spaced hz zero limit h = absurd (true≢false (sym h))
 ratio_spaced hz (suc d) limit h =
     let g = gcd hz (suc d) in
-    let rate : suc d ≤ 4294967296 = leb-true _ _ (both_true (nat_le 1 (suc d)) (nat_le (suc d) 4294967296) h).1 in
+    let rate : suc d ≤ 4294967296 = leb-true _ _ (and_parts (nat_le 1 (suc d)) (nat_le (suc d) 4294967296) h).1 in
     let numer : unsigned_abs (over (pos hz) g) ≤ hz = rw (unsigned_abs-over (pos hz) g) (div-le_self hz g) in
     let denom : suc d / g ≤ suc d = div-le_self (suc d) g in
     let first : nat_le (unsigned_abs (over (pos hz) g)) r.greatest_numer ≡ true = le-leb _ _ (omega arith) in

@@ -6,7 +6,6 @@ use Rattle.std.specs.declared.cmp.Ordering.TheVariants.{Equal}
 use Rattle.std.proofs.lemmas.Bool.{cases_eq, eqb-false}
 use Rattle.std.proofs.lemmas.Option.{same_Some}
 use Rattle.std.proofs.lemmas.Map.Lookups.{exact_unsigned}
-use mathlib.Core.Path.{fun_ext}
 use Rattle.dmc_types.specs.declared.ids.ClientId.{ClientId}
 use Rattle.dmc_tag.specs.State.{is_client}
 use Rattle.dmc_tag.specs.Rank.{client_cmp}
@@ -15,11 +14,7 @@ use Rattle.dmc_index.specs.Index.{slot_of_key, IsEmpty, IsLeast, IsApart, IsApar
 use Rattle.dmc_heads.specs.declared.head.Head.{Head}
 use Rattle.dmc_heads.specs.Heads.{Ranks, IsOthers, AreApart, IsFirst}
 use Rattle.dmc_heads.proofs.Slots.{some_if_mapped, none_if_mapped, is_some_mapped, slot_of_key-set_same, slot_of_key-set_other}
-pub use Rattle.dmc_tag.proofs.Orderings.{tag_order}
-
--- two orders that compare alike are one
-pub same_compare : {T : Type 0} (R C : T → T → Ordering) → ((a b : T) → R a b ≡ C a b) → R ≡ C
-same_compare R C h = fun_ext (λ a. fun_ext (λ b. h a b))
+pub use Rattle.dmc_tag.proofs.Orderings.{same_compare, tag_order}
 
 different_clients : (a b : ClientId) → is_client a b ≡ false → client_cmp a b ≡ Equal → ⊥
 different_clients a b e q = eqb-false b.0 a.0 e (sym (exact_unsigned a.0 b.0 q))

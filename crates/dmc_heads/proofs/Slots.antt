@@ -7,7 +7,7 @@ use Rattle.std.proofs.lemmas.List.{get_or_past, get_or-set_same}
 use Rattle.dmc_index.specs.Index.{slot_of_key}
 use Rattle.dmc_tag.proofs.Options.{option_cases}
 pub use Rattle.dmc_tag.proofs.Options.{is_some_mapped}
-pub use Rattle.dmc_index.proofs.Slots.{slot_of_key-more, slot_of_key-set_other, slot_of_key-map}
+pub use Rattle.dmc_index.proofs.Slots.{same_slots, slot_of_key-more, slot_of_key-set_other, slot_of_key-map}
 
 pub some_of : {X : Type 0} (o : Option X) → IsSome o → (x : X) × (o ≡ Some x)
 some_of None h = cc
@@ -33,13 +33,6 @@ module _ {X : Type 0} where
 
   pub slot_of_key-set_same : (slots : List (Option X)) (key : ℕ) (o : Option X) → key < length slots → slot_of_key (set slots key o) key ≡ o
   slot_of_key-set_same slots key o l = get_or-set_same slots key o None l
-
-  pub same_slots : (xs ys : List (Option X)) → length xs ≡ length ys → ((key : ℕ) → slot_of_key xs key ≡ slot_of_key ys key) → xs ≡ ys
-  same_slots [] [] e h = refl
-  same_slots [] (y ∷ ys) e h = absurd (omega arith)
-  same_slots (x ∷ xs) [] e h = absurd (omega arith)
-  same_slots (x ∷ xs) (y ∷ ys) e h =
-      ap (λ z. z ∷ xs) (h 0) ∙ ap (λ zs. y ∷ zs) (same_slots xs ys (omega arith) (λ key. h (suc key)))
 
   -- a key's value replaced by what it is
   pub set-slot_of_key : (slots : List (Option X)) (key : ℕ) → set slots key (slot_of_key slots key) ≡ slots

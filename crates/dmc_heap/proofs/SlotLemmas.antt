@@ -5,7 +5,7 @@ use Rattle.std.specs.declared.cmp.Ordering.{Ordering}
 use Rattle.std.specs.Cmp.{IsTotalOrder}
 use Rattle.std.proofs.lemmas.Cmp.{tied_back}
 use Rattle.std.proofs.lemmas.Bool.{cases_lt, cases_eq}
-use Rattle.std.proofs.lemmas.List.{length-set, length-map, length-append, get_or-set_same, get_or-set_other, set_at, set-append_left, set-set, set_comm, get_or_default, same_lists}
+use Rattle.std.proofs.lemmas.List.{length-set, length-map, length-append, get_or-set_same, get_or-set_other, set_at, set-append_left, set-set, set_comm}
 use Rattle.std.proofs.lemmas.List.Sums.{sum_by-set}
 use Rattle.std.proofs.lemmas.Option.{slice_get_within, slice_get_past, slice_get_read, same_Some}
 use Rattle.dmc_index.specs.Index.{slot_of_key, IsApartFromOthers, AreApart}
@@ -13,6 +13,7 @@ use Rattle.dmc_heap.specs.Heap.{rank_at, rank_of, slots_of, parent_of, IsLinked,
 use Rattle.dmc_heap.specs.declared.indexed_heap.Entry.{Entry}
 use Rattle.dmc_heap.specs.declared.indexed_heap.TheConstants.{VACANT}
 use Rattle.dmc_tag.proofs.Lists.{slice_get-set_same, slice_get-set_other, slice_get-append, slice_get-push}
+use Rattle.dmc_index.proofs.Slots.{same_slots}
 use Rattle.dmc_heap.proofs.LinkLemmas.{option_cases, rank_of_some, rank_of_none, IsLinked-move, rank_of-move, keys_apart}
 use Rattle.dmc_heap.proofs.OrderLemmas.{upto_trans}
 
@@ -45,10 +46,6 @@ module _ {R : Type 0} where
   slot_of_key-slots_of heap [] key = refl
   slot_of_key-slots_of heap (p ∷ ps) zero = refl
   slot_of_key-slots_of heap (p ∷ ps) (suc key) = slot_of_key-slots_of heap ps key
-
-  pub same_slots : (xs ys : List (Option R)) → length xs ≡ length ys → ((key : ℕ) → slot_of_key xs key ≡ slot_of_key ys key) → xs ≡ ys
-  same_slots xs ys e h =
-      same_lists xs ys e (λ k d l. get_or_default xs k d None l ∙ h k ∙ get_or_default ys k None d (omega arith))
 
   -- one key has another rank, or none, and the others have theirs
   pub slots_of-set : (heap new_heap : List (Entry R)) (places new_places : List ℕ) (key : ℕ) (v : Option R) → length new_places ≡ length places → key < length places → rank_of new_heap new_places key ≡ v → ((k : ℕ) → k ≢ key → rank_of new_heap new_places k ≡ rank_of heap places k) → slots_of new_heap new_places ≡ set (slots_of heap places) key v

@@ -2,16 +2,11 @@
 use Rattle.std.proofs.Common.{◌≡◌, ℕ, zero, suc, ◌+◌, ◌-◌, ◌*◌, ◌/◌, ◌%◌, ◌<◌, ◌≤◌, List, [], ◌∷◌, ◌++◌, length, get_or, min, refl, sym, ap, ◌∙◌, arith, inl, inr, append_assoc, set}
 use Rattle.std.specs.Prelude.{slice_get, option_and_then, vec_capacity}
 use Rattle.std.specs.Global.{Vec}
-use Rattle.std.proofs.lemmas.List.{length-append, append-nil}
+use Rattle.std.proofs.lemmas.List.{length-append, append-nil, nil_from_length}
 use Rattle.std.proofs.lemmas.Bool.{cases_lt}
 use Rattle.std.proofs.lemmas.Option.{slice_get_past}
 use Rattle.dmc_history.specs.Log.{block_size}
 use Rattle.dmc_history.specs.Blocks.{events_of, room_of, AreFilled}
-
--- a list of no elements
-empty_of_length : {X : Type 0} (xs : List X) → length xs ≡ 0 → xs ≡ []
-empty_of_length [] h = refl
-empty_of_length (x ∷ xs) h = absurd (omega arith)
 
 -- an element of the first of two lists
 slice_get-front : {X : Type 0} (xs ys : List X) (n : ℕ) → n < length xs → slice_get (xs ++ ys) n ≡ slice_get xs n
@@ -88,7 +83,7 @@ module _ {E : Type 0} where
       → events_of (set blocks k b) ≡ events_of blocks ++ event ∷ []
   events_of-set_in [] len k j d b event h in_block e within is = absurd (omega arith)
   events_of-set_in (a ∷ bs) len zero j d b event h in_block e within is =
-      let none : events_of bs ≡ [] = empty_of_length (events_of bs) (omega (arith, length-events_of bs (len - 1024) h.2)) in
+      let none : events_of bs ≡ [] = nil_from_length (events_of bs) (omega (arith, length-events_of bs (len - 1024) h.2)) in
       rw (none, is) (simp append-nil)
   events_of-set_in (a ∷ bs) len (suc k) j d b event h in_block e within is =
       rw (events_of-set_in bs (len - 1024) k j d b event h.2 in_block (omega arith) (omega arith) is)

@@ -1,5 +1,5 @@
 -- Finite maps from keys, as lists of what each key below a room holds.
-use Rattle.std.proofs.Common.{◌≡◌, ◌≢◌, ℕ, zero, suc, ◌+◌, ◌<◌, List, [], ◌∷◌, ◌++◌, map, Option, Some, None, length, get_or, set, replicate, count_by, is_some, cond, refl, ap, ⊎_elim, arith}
+use Rattle.std.proofs.Common.{◌≡◌, ◌≢◌, ℕ, zero, suc, ◌+◌, ◌<◌, List, [], ◌∷◌, ◌++◌, map, Option, Some, None, length, get_or, set, replicate, count_by, is_some, cond, refl, ap, ◌∙◌, ⊎_elim, arith}
 use Rattle.std.specs.Option.{option_map}
 use Rattle.std.proofs.lemmas.Bool.{cases_lt}
 use Rattle.std.proofs.lemmas.List.{length-set, length-replicate, get_or-set_other, get_or-replicate, get_or_past}
@@ -17,6 +17,14 @@ module _ {X : Type 0} where
 
   pub slot_of_key-set_other : (slots : List (Option X)) (key k : ℕ) (o : Option X) → k ≢ key → slot_of_key (set slots key o) k ≡ slot_of_key slots k
   slot_of_key-set_other slots key k o ne = get_or-set_other slots key k o None ne
+
+  -- two maps with one room that hold the same
+  pub same_slots : (xs ys : List (Option X)) → length xs ≡ length ys → ((key : ℕ) → slot_of_key xs key ≡ slot_of_key ys key) → xs ≡ ys
+  same_slots [] [] e h = refl
+  same_slots [] (y ∷ ys) e h = absurd (omega arith)
+  same_slots (x ∷ xs) [] e h = absurd (omega arith)
+  same_slots (x ∷ xs) (y ∷ ys) e h =
+      ap (λ z. z ∷ xs) (h 0) ∙ ap (λ zs. y ∷ zs) (same_slots xs ys (omega arith) (λ key. h (suc key)))
 
   -- more room holds nothing
   pub slot_of_key-more : (slots : List (Option X)) (n key : ℕ) → slot_of_key (slots ++ replicate n None) key ≡ slot_of_key slots key

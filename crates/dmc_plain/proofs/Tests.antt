@@ -15,7 +15,7 @@ use Rattle.dmc_tag.specs.Rules.{can_register, can_update, changes_reservation, c
 use Rattle.dmc_tag.specs.declared.plain.PlainClient.{PlainClient}
 use Rattle.dmc_tag.specs.declared.reply.Tags.{Tags}
 use Rattle.dmc_tag.specs.declared.spacing.Spacings.{Spacings}
-use Rattle.dmc_plain.proofs.Outcomes.{ends, goes_on}
+use Rattle.dmc_tag.proofs.Outcomes.{ends, goes_on}
 
 module _ {T : Type 0} (ops : Tagging T) (s : State T) (id : ClientId) where
   module _ (params : Params) (t : T) where

@@ -8,6 +8,7 @@ pub mod Lent
 pub mod Kept
 pub mod Replaced
 pub mod Answered
+pub mod Refused
 pub mod Moved
 pub mod Within
 pub mod FirstRequests

@@ -341,7 +341,7 @@ module _ {T : Type 0} where
       ap (λ b. cond b (Some x) rest) (eq-eqb x.key e.key (ap (λ y. y.key) same)) ∙ ap Some same
   keyed_first x e rest false c s t f = ap (λ b. cond b (Some x) rest) (s ∙ (f refl).1) ∙ (f refl).0
 
-  named_first : (x e : Entry T) (rest : Option (Entry T)) (b : Bool) → cond b (Some x) rest ≡ Some e → b ≡ true → x ≡ e
+  pub named_first : (x e : Entry T) (rest : Option (Entry T)) (b : Bool) → cond b (Some x) rest ≡ Some e → b ≡ true → x ≡ e
   named_first x e rest true h t = cc
   named_first x e rest false h t = cc
 

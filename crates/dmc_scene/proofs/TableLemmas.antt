@@ -1,5 +1,5 @@
 -- The tables of a list of values.
-use Rattle.std.proofs.Common.{◌≡◌, ℕ, ◌+◌, ◌-◌, ◌<◌, ◌≤◌, true, ◌&&◌, List, [], ◌∷◌, ◌++◌, length, drop, get_or, AllPairs, All as Each, Ok, Option, Some, None, is_some, refl, sym, ap, ◌∙◌, arith, length-append}
+use Rattle.std.proofs.Common.{◌≡◌, ℕ, ◌+◌, ◌-◌, ◌<◌, ◌≤◌, true, ◌&&◌, List, [], ◌∷◌, ◌++◌, length, drop, get_or, AllPairs, All as Each, Ok, Err, Option, Some, None, is_some, refl, sym, ap, ◌∙◌, arith, length-append}
 use Rattle.std.specs.List.{list_all}
 use Rattle.std.specs.Option.{option_to_list}
 use Rattle.std.proofs.lemmas.Bool.{and_parts, false≢true}
@@ -7,9 +7,11 @@ use Rattle.toml.specs.declared.value.Value.{Value}
 use Rattle.toml.specs.Data.{Members, as_table}
 use Rattle.toml.specs.View.{view, items_view}
 use Rattle.toml.proofs.Views.{items_view-drop}
+use Rattle.std.proofs.lemmas.List.{at_drop_all}
 use Rattle.std.proofs.lemmas.List.Elements.{All-push}
 use Rattle.std.proofs.lemmas.List.Quantifiers.{all_pairs_push}
 use Rattle.dmc_types.specs.declared.config.TagKind.{TagKind}
+use Rattle.dmc_scene.specs.declared.fault.SceneFault.{SceneFault}
 use Rattle.dmc_scene.specs.SceneValue.{ClientValue, AreApart, AreSpaced, IsFresh}
 use Rattle.dmc_scene.specs.Reading.{are_tables, tables_in, client_of, clients_of}
 
@@ -77,3 +79,19 @@ read_none tags hz all index clients capacity so_far within here = record {
   apart = so_far.apart;
   spaced = so_far.spaced;
 }
+
+-- a table that is no client
+pub client_fault : (tags : TagKind) (hz : ℕ) (all : List Value) (index : ℕ) (clients : List ClientValue) (capacity : ℕ) (table : Members) (fault : SceneFault)
+    → Progress tags hz all index clients capacity
+    → tables_in (items_view (drop index all)) ≡ table ∷ tables_in (items_view (drop (index + 1) all))
+    → client_of tags hz clients table ≡ Err fault → clients_of tags hz [] (tables_in (items_view all)) ≡ Err fault
+client_fault tags hz all index clients capacity table fault so_far here read = sym so_far.carried ∙ rw (here, read)
+
+-- all values
+pub read_to_end : (tags : TagKind) (hz : ℕ) (all : List Value) (index : ℕ) (clients : List ClientValue) (capacity : ℕ)
+    → Progress tags hz all index clients capacity → length all ≤ index
+    → (clients_of tags hz [] (tables_in (items_view all)) ≡ Ok clients) × (length clients ≡ length (tables_in (items_view all)))
+read_to_end tags hz all index clients capacity so_far past =
+    let none = at_drop_all (λ vs. tables_in (items_view vs)) all index past in
+    let counted = rw none at so_far.counted in
+    (sym so_far.carried ∙ rw none, omega arith)

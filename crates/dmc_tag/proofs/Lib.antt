@@ -2,6 +2,7 @@ pub mod Booleans
 pub mod Ids
 pub mod Lists
 pub mod Options
+pub mod Outcomes
 pub mod Orderings
 pub mod Swaps
 pub mod Before

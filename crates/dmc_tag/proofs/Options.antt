@@ -1,6 +1,6 @@
 -- Options: by cases, through a map, and under a test; and what the error of a result is.
 use Rattle.std.proofs.Common.{◌≡◌, Bool, true, false, cond, Option, Some, None, is_some, Result, Ok, Err, refl, ap}
-use Rattle.std.specs.Prelude.{IsErrAnd, is_none, if◌then◌else◌}
+use Rattle.std.specs.Prelude.{IsErrAnd, OnErr, is_none, if◌then◌else◌}
 use Rattle.std.specs.Option.{option_map}
 
 pub option_cases : {X G : Type 0} (o : Option X) → (o ≡ None → G) → ((x : X) → o ≡ Some x → G) → G
@@ -26,3 +26,8 @@ same_presence (Some x) (Some y) e = refl
 pub err_is : {X E : Type 0} (r : Result X E) (e : E) → IsErrAnd r (λ f. f ≡ e) → r ≡ Err e
 err_is (Ok x) e h = absurd h
 err_is (Err f) e h = ap Err h
+
+-- a fact holds of an error whatever the result is
+pub of_err : {X E A : Type 0} (r : Result X E) → A → OnErr r A
+of_err (Ok x) a = tt
+of_err (Err e) a = a

@@ -32,9 +32,13 @@ turned Less s e g = cc
 turned Equal s e g = cc
 turned Greater s e g = ap is_gt e
 
+-- two orders that compare alike are one
+pub same_compare : {T : Type 0} (cmp compare : T → T → Ordering) → ((a b : T) → cmp a b ≡ compare a b) → cmp ≡ compare
+same_compare cmp compare h = fun_ext (λ a. fun_ext (λ b. h a b))
+
 -- an order that is the same as a total one is total
 pub tag_order : {T : Type 0} (cmp compare : T → T → Ordering) → IsTotalOrder cmp → ((a b : T) → cmp a b ≡ compare a b) → IsTotalOrder compare
-tag_order cmp compare o h = subst IsTotalOrder (fun_ext (λ a. fun_ext (λ b. h a b))) o
+tag_order cmp compare o h = subst IsTotalOrder (same_compare cmp compare h) o
 
 -- ---- tags
 

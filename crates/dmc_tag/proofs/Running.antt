@@ -40,17 +40,17 @@ module _ {T : Type 0} (ops : Tagging T) where
   -- ---- one more event
 
   -- the state that the events' commands give
-  abbrev past : State T → List (Event T) → State T
-  past s events = state_after ops s (map (λ e. e.command) events)
+  abbrev pub after_from : State T → List (Event T) → State T
+  after_from s events = state_after ops s (map (λ e. e.command) events)
 
-  pub past_more : (s : State T) (events : List (Event T)) (e : Event T) → past s (events ++ e ∷ []) ≡ (step ops (past s events) e.command).0
+  pub past_more : (s : State T) (events : List (Event T)) (e : Event T) → after_from s (events ++ e ∷ []) ≡ (step ops (after_from s events) e.command).0
   past_more s [] e = refl
   past_more s (x ∷ events) e = past_more ((step ops s x.command).0) events e
 
-  pub replays_more : (s : State T) (events : List (Event T)) (e : Event T) → replays_from ops s events → e.reply ≡ (step ops (past s events) e.command).1 → replays_from ops s (events ++ e ∷ [])
+  pub replays_more : (s : State T) (events : List (Event T)) (e : Event T) → replays_from ops s events → e.reply ≡ (step ops (after_from s events) e.command).1 → replays_from ops s (events ++ e ∷ [])
   replays_more s [] e h same = (same, tt)
   replays_more s (x ∷ events) e h same = (h.0, replays_more ((step ops s x.command).0) events e h.1 same)
 
-  pub replays_parted : (s : State T) (events : List (Event T)) (e : Event T) → replays_from ops s (events ++ e ∷ []) → replays_from ops s events × (e.reply ≡ (step ops (past s events) e.command).1)
+  pub replays_parted : (s : State T) (events : List (Event T)) (e : Event T) → replays_from ops s (events ++ e ∷ []) → replays_from ops s events × (e.reply ≡ (step ops (after_from s events) e.command).1)
   replays_parted s [] e h = (tt, h.0)
   replays_parted s (x ∷ events) e h = let rest = replays_parted ((step ops s x.command).0) events e h.1 in ((h.0, rest.0), rest.1)

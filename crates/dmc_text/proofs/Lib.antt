@@ -3,6 +3,7 @@ pub mod NumberLemmas
 pub mod TextLemmas
 pub mod ReplyLemmas
 pub mod ReadingLemmas
+pub mod PieceLemmas
 pub mod Tellable
 pub mod RunLemmas
 pub mod WalkReading

@@ -1,6 +1,6 @@
 -- Lines in a buffer, and of a text that is read in pieces.
-use Rattle.std.proofs.Common.{◌≡◌, ℕ, Ok, ◌+◌, ◌-◌, ◌≤◌, List, [], ◌++◌, sym, ap, subst, ◌∙◌, arith, length, take, drop, Option, Some, None, position}
-use Rattle.std.specs.Prelude.{slice_range, OnErr, Result, Err}
+use Rattle.std.proofs.Common.{◌≡◌, ℕ, ◌+◌, ◌-◌, ◌≤◌, List, [], ◌++◌, sym, ap, subst, ◌∙◌, arith, length, take, drop, Option, Some, None, position}
+use Rattle.std.specs.Prelude.{slice_range}
 use Rattle.std.specs.Option.{option_map}
 use Rattle.std.proofs.lemmas.List.{take-take, drop-drop, drop-take, take-append-drop, take_rest}
 use Rattle.std.proofs.Math.Seq.{take-add}
@@ -75,11 +75,6 @@ appends_next a b c bytes i n h k =
 -- the first i bytes of all
 pub appends_some : (a b : Option (List ℕ)) (bytes : List ℕ) (i : ℕ) → Appends a b (take i bytes) → AppendsSome a b bytes
 appends_some a b bytes i h = (take i bytes, drop i bytes, h, take-append-drop i bytes)
-
--- a fact holds of an error whatever the result is
-pub of_err : {X E : Type 0} {A : Type 0} (r : Result X E) → A → OnErr r A
-of_err (Ok x) a = tt
-of_err (Err e) a = a
 
 -- ---- reading
 

@@ -21,12 +21,12 @@ use Rattle.dmc_text.specs.Words.{is_word}
 use Rattle.dmc_text.specs.Tags.{fraction_text, fraction_of, signed}
 use Rattle.dmc_text.specs.Replies.{IsPhase, tag, optional_tag, tag_word, tag_text, reply_words, reply_of, saying, reply_said, count, instant}
 use Rattle.dmc_text.specs.RoundTrip.{is_plain, ReadsAgain, ReadsEach, IsReadBack}
-use Rattle.dmc_text.proofs.TextLemmas.{is_other, both_true, words_joined, number_again, decimal_plain, Fits128, fraction_again}
+use Rattle.dmc_text.proofs.TextLemmas.{is_other, and_parts, words_joined, number_again, decimal_plain, Fits128, fraction_again}
 
 all_joined : (p : ℕ → Bool) (xs ys : List ℕ) → list_all p xs ≡ true → list_all p ys ≡ true → list_all p (xs ++ ys) ≡ true
 all_joined p [] ys h k = k
 all_joined p (x ∷ xs) ys h k =
-    let q = both_true (p x) (list_all p xs) h in
+    let q = and_parts (p x) (list_all p xs) h in
     rw (q.0, all_joined p xs ys q.1 k) refl
 
 still_word : (xs ys : List ℕ) → is_word xs ≡ true → is_word (xs ++ ys) ≡ true
@@ -39,14 +39,14 @@ plain_parts w h k = rw (h, k) refl
 signed_plain : (z : ℤ) → Fits128 z → is_plain (signed_decimal z) ≡ true
 signed_plain (pos n) h = decimal_plain n (omega arith)
 signed_plain (negsuc m) h =
-    let p = both_true (is_word (decimal (suc m))) (list_all is_other (decimal (suc m))) (decimal_plain (suc m) (omega arith)) in
+    let p = and_parts (is_word (decimal (suc m))) (list_all is_other (decimal (suc m))) (decimal_plain (suc m) (omega arith)) in
     p.1
 
 fraction_plain : (n : ℤ) (d : ℕ) (b : Bool) → eqb d 1 ≡ b → Fits128 n → d < 2 ^ 64 → is_plain (fraction_text n d) ≡ true
 fraction_plain n d true e h small = ap (λ t. is_plain (cond t (signed_decimal n) (signed_decimal n ++ (47 ∷ decimal d)))) e ∙ signed_plain n h
 fraction_plain n d false e h small =
-    let p = both_true (is_word (signed_decimal n)) (list_all is_other (signed_decimal n)) (signed_plain n h) in
-    let q = both_true (is_word (decimal d)) (list_all is_other (decimal d)) (decimal_plain d (omega arith)) in
+    let p = and_parts (is_word (signed_decimal n)) (list_all is_other (signed_decimal n)) (signed_plain n h) in
+    let q = and_parts (is_word (decimal d)) (list_all is_other (decimal d)) (decimal_plain d (omega arith)) in
     ap (λ t. is_plain (cond t (signed_decimal n) (signed_decimal n ++ (47 ∷ decimal d)))) e
     ∙ plain_parts (signed_decimal n ++ (47 ∷ decimal d)) (still_word (signed_decimal n) (47 ∷ decimal d) p.0) (all_joined is_other (signed_decimal n) (47 ∷ decimal d) p.1 q.1)
 

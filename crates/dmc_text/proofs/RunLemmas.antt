@@ -1,6 +1,5 @@
 -- Runs of scripts.
-use Rattle.std.proofs.Common.{◌≡◌, ℕ, List, [], ◌∷◌, ◌++◌, refl, ap, ◌∙◌, Some, Result, Ok, Err}
-use Rattle.std.specs.Prelude.{OnOk}
+use Rattle.std.proofs.Common.{◌≡◌, ℕ, List, [], ◌∷◌, ◌++◌, refl, ap, ◌∙◌, Some}
 use Rattle.dmc_types.specs.declared.command.Command.{Command}
 use Rattle.dmc_tag.specs.Tag.{Tagging}
 use Rattle.dmc_tag.specs.State.{State, StandsFor}
@@ -23,11 +22,6 @@ written_alike ops text law (Ask command ∷ lines) s u h =
     let same = law s u command h in
     ap (λ reply. with_line_end (reply_text text reply) ++ written ops text (Some ((step ops s command).0)) lines) same.0
     ∙ ap (λ more. with_line_end (reply_text text ((step ops u command).1)) ++ more) (written_alike ops text law lines ((step ops s command).0) ((step ops u command).0) same.1)
-
--- of a fact of an Ok another follows
-pub on_ok : {X E : Type 0} {A B : Type 0} (r : Result X E) → OnOk r A → (A → B) → OnOk r B
-on_ok (Ok x) a f = f a
-on_ok (Err e) a f = tt
 
 -- a command is answered, and then the rest from the state that is reached, or from one that agrees
 pub asked_alike : {T : Type 0} (ops : Tagging T) (text : T → List ℕ) (law : (s u : State T) (command : Command) → StandsFor s u → SameStep ops s u command)

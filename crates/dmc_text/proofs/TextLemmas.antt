@@ -14,7 +14,7 @@ use Rattle.dmc_text.specs.Words.{is_space, is_word, words}
 use Rattle.dmc_text.specs.Tags.{fraction_text, from_zero, below_zero, signed, is_slash, over, cut, fraction_of}
 use Rattle.std.proofs.lemmas.List.{take_at}
 use Rattle.dmc_text.specs.Numbers.{is_led, with_digit, value, number}
-pub use Rattle.dmc_tag.proofs.Booleans.{both_true}
+pub use Rattle.std.proofs.lemmas.Bool.{and_parts}
 use Rattle.std.proofs.lemmas.Bool.{not-true}
 
 -- ---- words
@@ -29,25 +29,25 @@ is_plain w = is_word w && list_all is_other w
 split_front : (w rest : List ℕ) → list_all is_other w ≡ true → slice_split is_space (w ++ 32 ∷ rest) ≡ w ∷ slice_split is_space rest
 split_front [] rest h = refl
 split_front (b ∷ bs) rest h =
-    let p = both_true _ _ h in
+    let p = and_parts _ _ h in
     slice_split-cons_no is_space b (bs ++ 32 ∷ rest) (not-true _ p.0) ∙ ap (onto_first b) (split_front bs rest p.1)
 
 split_last : (w : List ℕ) → list_all is_other w ≡ true → slice_split is_space w ≡ w ∷ []
 split_last [] h = refl
 split_last (b ∷ bs) h =
-    let p = both_true _ _ h in
+    let p = and_parts _ _ h in
     slice_split-cons_no is_space b bs (not-true _ p.0) ∙ ap (onto_first b) (split_last bs p.1)
 
 -- words that are parted by one space each are read again
 pub words_joined : (ws : List (List ℕ)) → list_all is_plain ws ≡ true → words (join_with_byte 32 ws) ≡ ws
 words_joined [] h = refl
 words_joined (w ∷ []) h =
-    let p = both_true _ _ h in
-    let q = both_true _ _ p.0 in
+    let p = and_parts _ _ h in
+    let q = and_parts _ _ p.0 in
     ap (filter is_word) (split_last w q.1) ∙ ap (λ b. cond b (w ∷ []) []) q.0
 words_joined (w ∷ v ∷ ws) h =
-    let p = both_true _ _ h in
-    let q = both_true _ _ p.0 in
+    let p = and_parts _ _ h in
+    let q = and_parts _ _ p.0 in
     ap (filter is_word) (split_front w (join_with_byte 32 (v ∷ ws)) q.1)
     ∙ ap (λ b. cond b (w ∷ words (join_with_byte 32 (v ∷ ws))) (words (join_with_byte 32 (v ∷ ws)))) q.0
     ∙ ap (λ vs. w ∷ vs) (words_joined (v ∷ ws) p.1)
@@ -93,8 +93,8 @@ number_again limit n below h =
 digits_other : (ds : List ℕ) → all_ascii_digits ds ≡ true → list_all is_other ds ≡ true
 digits_other [] h = refl
 digits_other (b ∷ bs) h =
-    let p = both_true _ _ h in
-    let low = both_true (leb 48 b) (leb b 57) p.0 in
+    let p = and_parts _ _ h in
+    let low = and_parts (leb 48 b) (leb b 57) p.0 in
     let no : eqb b 32 ≡ false = grind (arith, nat_tests) in
     rw (no, digits_other bs p.1) refl
 
@@ -111,21 +111,21 @@ split_first : (p : ℕ → Bool) (front : List ℕ) (b : ℕ) (back : List ℕ) 
 split_first p [] b back h e = ap (λ t. cond (not t) (1 + position_or_len p back) 0) e
 split_first p (c ∷ cs) b back h e =
     let one : 1 + length cs ≡ suc (length cs) = omega arith in
-    let q = both_true _ _ h in
+    let q = and_parts _ _ h in
     ap (λ t. cond t (1 + position_or_len p (cs ++ b ∷ back)) 0) q.0 ∙ ap (λ k. 1 + k) (split_first p cs b back q.1 e) ∙ one
 
 pub none_first : (p : ℕ → Bool) (bs : List ℕ) → list_all (λ c. not (p c)) bs ≡ true → position_or_len p bs ≡ length bs
 none_first p [] h = refl
 none_first p (c ∷ cs) h =
     let one : 1 + length cs ≡ suc (length cs) = omega arith in
-    let q = both_true _ _ h in
+    let q = and_parts _ _ h in
     ap (λ t. cond t (1 + position_or_len p cs) 0) q.0 ∙ ap (λ k. 1 + k) (none_first p cs q.1) ∙ one
 
 digits_solid : (ds : List ℕ) → all_ascii_digits ds ≡ true → list_all (λ c. not (is_slash c)) ds ≡ true
 digits_solid [] h = refl
 digits_solid (b ∷ bs) h =
-    let p = both_true (is_ascii_digit b) (all_ascii_digits bs) h in
-    let low = both_true (leb 48 b) (leb b 57) p.0 in
+    let p = and_parts (is_ascii_digit b) (all_ascii_digits bs) h in
+    let low = and_parts (leb 48 b) (leb b 57) p.0 in
     let no : eqb b 47 ≡ false = grind (arith, nat_tests) in
     rw (no, digits_solid bs p.1) refl
 
@@ -141,8 +141,8 @@ signed_digits : (limit : ℕ) (ds : List ℕ) (n : ℕ) → is_led ds ≡ true �
 unfolding signed
 signed_digits limit [] n led digits e = absurd (cc)
 signed_digits limit (b ∷ bs) n led digits e =
-    let p = both_true (is_ascii_digit b) (all_ascii_digits bs) digits in
-    let low = both_true (leb 48 b) (leb b 57) p.0 in
+    let p = and_parts (is_ascii_digit b) (all_ascii_digits bs) digits in
+    let low = and_parts (leb 48 b) (leb b 57) p.0 in
     let no : eqb b 45 ≡ false = grind (arith, nat_tests) in
     ap (λ t. cond t (option_and_then below_zero (number (2 ^ 128) bs)) (option_and_then from_zero (number (2 ^ 128) (b ∷ bs)))) no ∙ ap (option_and_then from_zero) e
 

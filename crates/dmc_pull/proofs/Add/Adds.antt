@@ -18,15 +18,15 @@ use Rattle.dmc_tag.specs.Rules.{can_add, can_shift_by, shift_of, shift_from, ass
 use Rattle.dmc_tag.specs.declared.plain.PlainRequest.{PlainRequest}
 use Rattle.dmc_tag.specs.declared.plain.PlainClient.{PlainClient}
 use Rattle.dmc_tag.specs.declared.reply.Tags.{Tags}
-use Rattle.dmc_client.specs.Record.{Rec, IsRecord, client_of}
-use Rattle.dmc_roster.specs.Entries.{Entry, entry_named, entry_keyed, record_at, AreDistinct}
+use Rattle.dmc_client.specs.Record.{IsRecord, client_of}
+use Rattle.dmc_roster.specs.Entries.{Entry, entry_named, AreDistinct}
 use Rattle.dmc_heads.specs.declared.head.Head.{Head}
 use Rattle.dmc_heads.specs.Heads.{IsLeastShare}
 use Rattle.dmc_pull.specs.Adding.{needed_shift, unless_nothing}
 use Rattle.dmc_pull.specs.Queue.{AreHeads}
 use Rattle.dmc_pull.specs.Standing.{clients_in, requests_in}
 use Rattle.dmc_pull.proofs.Common.Entries.{named}
-use Rattle.dmc_pull.proofs.Pull.Due.{at_in}
+use Rattle.dmc_tag.proofs.Lists.{all_at}
 use Rattle.dmc_pull.proofs.Add.LeastShare.{best_share, has_least}
 pub use Rattle.dmc_tag.proofs.Orderings.{tag_order}
 
@@ -36,10 +36,6 @@ if_all P (Some x) h = h x refl
 
 pub if_holds : {X : Type 0} (P : X → Type 0) (o : Option X) (x : X) → o ≡ Some x → IfSome o P → P x
 if_holds P o x e h = subst (λ o. IfSome o P) e h
-
--- the record of the entry that a key finds
-pub record_is : {T : Type 0} (key : ℕ) (es : List (Entry T)) (e : Entry T) (rec : Rec T) → entry_keyed key es ≡ Some e → record_at key es ≡ Some rec → e.rec ≡ rec
-record_is key es e rec f r = let one : Some e.rec ≡ Some rec = sym (ap (option_map (λ e. e.rec)) f) ∙ r in cc (one)
 
 -- ---- the client
 
@@ -98,7 +94,7 @@ module _ {T : Type 0} (ops : Tagging T) where
       at : (o : Option (PlainRequest T × List (PlainRequest T))) → best (by_weight ops) is_any (requests_in es) ≡ o → shift_past least t ≡ needed_shift ops (requests_in es) arriving t
       at None b =
           let x = has_least ops order same t0 es heads are d records least is in
-          let none = at_in (λ (r : PlainRequest T). is_any r ≡ false) x.among.front x.request x.among.back (subst (HasNone is_any) x.among.whole (not_found (requests_in es) b)) in
+          let none = all_at (λ (r : PlainRequest T). is_any r ≡ false) x.among.front x.request x.among.back (subst (HasNone is_any) x.among.whole (not_found (requests_in es) b)) in
           cc (none)
       at (Some (r, others)) b =
           ap (λ p. shift_past p t) (sym (best_share ops order same t0 es heads are d records least is r others (found (requests_in es) others r b)))

@@ -24,7 +24,8 @@ use Rattle.dmc_pull.proofs.Common.Ordered.{share_first, FirstIsLeast}
 use Rattle.dmc_pull.proofs.Common.Firsts.{is_at, all_found, found_holds, all_append}
 use Rattle.dmc_pull.proofs.Pull.Choices.{head_at, entry_at}
 use Rattle.dmc_pull.proofs.Pull.Pulls.{then_less, all_are}
-use Rattle.dmc_pull.proofs.Pull.Due.{IsIn, at_in, first_in}
+use Rattle.dmc_pull.proofs.Pull.Due.{IsIn, first_in}
+use Rattle.dmc_tag.proofs.Lists.{all_at}
 use Rattle.dmc_tag.proofs.Orderings.{less_if_lt, at_most_itself}
 
 then_upto : (r s : Ordering) → is_gt (ordering_then r s) ≡ false → is_gt r ≡ false
@@ -95,6 +96,6 @@ module _ {T : Type 0} (ops : Tagging T) (order : IsTotalOrder ops.compare) (same
     pub best_share : (r : PlainRequest T) (others : List (PlainRequest T)) → IsBest (by_weight ops) is_any (requests_in es) r others → r.tags.p ≡ least
     best_share r others b =
         let x = has_least in
-        let down : AtMost ops r.tags.p x.request.tags.p = at_in (λ y. AtMost ops r.tags.p y.tags.p) x.among.front x.request x.among.back (subst (AllByRecursion (λ y. AtMost ops r.tags.p y.tags.p)) x.among.whole (best_upto (requests_in es) others r b)) in
-        let up : AtMost ops least r.tags.p = at_in (λ y. AtMost ops least y.tags.p) b.front r b.back (subst (AllByRecursion (λ y. AtMost ops least y.tags.p)) b.whole above) in
+        let down : AtMost ops r.tags.p x.request.tags.p = all_at (λ y. AtMost ops r.tags.p y.tags.p) x.among.front x.request x.among.back (subst (AllByRecursion (λ y. AtMost ops r.tags.p y.tags.p)) x.among.whole (best_upto (requests_in es) others r b)) in
+        let up : AtMost ops least r.tags.p = all_at (λ y. AtMost ops least y.tags.p) b.front r b.back (subst (AllByRecursion (λ y. AtMost ops least y.tags.p)) b.whole above) in
         both_upto r.tags.p least _ refl (subst (AtMost ops r.tags.p) x.share down) up

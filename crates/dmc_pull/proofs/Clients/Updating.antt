@@ -22,7 +22,7 @@ use Rattle.dmc_pull.specs.Standing.{clients_in, requests_in}
 use Rattle.dmc_pull.specs.Queue.{Queue, state_of, IsQueue, IsKept, head_of}
 use Rattle.dmc_pull.proofs.Common.Parts.{found_holds}
 use Rattle.dmc_pull.proofs.Common.Entries.{Split, split, named, name_is, is_queued, all_changed, changed_client, same_requests}
-use Rattle.dmc_pull.proofs.Common.Keyed.{same_client, distinct_changed, read_kept}
+use Rattle.dmc_pull.proofs.Common.Keyed.{record_is, same_client, distinct_changed, read_kept}
 use Rattle.dmc_pull.proofs.Clean.Aging.{DueFromCeil, heads_later}
 
 -- ---- the client of an id
@@ -48,9 +48,6 @@ module _ {T : Type 0} where
   -- what is said of the record that is found
   pub of_record : (P : Rec T → Type 0) (key : ℕ) (es : List (Entry T)) (e : Entry T) → entry_keyed key es ≡ Some e → IfSome (record_at key es) P → P e.rec
   of_record P key es e keyed h = subst (λ o. IfSome (option_map (λ x. x.rec) o) P) keyed h
-
-  pub record_is : (key : ℕ) (es : List (Entry T)) (e : Entry T) (rec : Rec T) → entry_keyed key es ≡ Some e → record_at key es ≡ Some rec → e.rec ≡ rec
-  record_is key es e rec keyed h = let found : Some e.rec ≡ Some rec = sym (ap (option_map (λ x. x.rec)) keyed) ∙ h in cc
 
   pub said_of : (P : Rec T → Type 0) (key : ℕ) (es : List (Entry T)) (rec : Rec T) → record_at key es ≡ Some rec → P rec → IfSome (record_at key es) P
   said_of P key es rec found h = subst (λ o. IfSome o P) (sym found) h

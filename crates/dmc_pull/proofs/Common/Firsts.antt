@@ -22,6 +22,7 @@ use Rattle.dmc_client.specs.declared.request.QueuedRequest.{QueuedRequest}
 use Rattle.dmc_roster.specs.Entries.{Entry, entry_keyed, record_at, with_record, with_rec, AreDistinct}
 use Rattle.dmc_adjust.specs.Changes.{popped}
 use Rattle.dmc_pull.specs.Standing.{requests_in}
+use Rattle.dmc_roster.proofs.Held.{named_first}
 use Rattle.dmc_pull.proofs.Common.Ordered.{less_upto, not_behind, FirstIsLeast, FirstIsMember}
 pub use Rattle.dmc_tag.proofs.Lists.{all_as, all_append, found_holds, found_later}
 use Rattle.std.proofs.lemmas.Bool.{false_from_ne_true}
@@ -45,10 +46,6 @@ pub record IsAt {T : Type 0} (entries : List (Entry T)) (key : ℕ) (e : Entry T
   pub behind : AllByRecursion (λ f. (f.key == key) ≡ false) back
 
 module _ {T : Type 0} where
-  first_of : (x : Entry T) (rest : Option (Entry T)) (e : Entry T) (b : Bool) → cond b (Some x) rest ≡ Some e → b ≡ true → x ≡ e
-  first_of x rest e true h t = cc
-  first_of x rest e false h t = cc
-
   keys_apart : (x : Entry T) (key : ℕ) (es : List (Entry T)) → (x.key == key) ≡ true → AllByRecursion (λ f. (is_client x.id f.id ≡ false) × ((x.key == f.key) ≡ false)) es → AllByRecursion (λ f. (f.key == key) ≡ false) es
   keys_apart x key [] k h = tt
   keys_apart x key (f ∷ es) k h = (subst (λ n. (f.key == n) ≡ false) (eqb-true x.key key k) (eqb_turned f.key x.key false h.0.1), keys_apart x key es k h.1)
@@ -58,7 +55,7 @@ module _ {T : Type 0} where
   is_at key (x ∷ es) e d h = by (x.key == key) refl (is_at key es e d.1) where
     by : (b : Bool) → (x.key == key) ≡ b → (entry_keyed key es ≡ Some e → IsAt es key e) → IsAt (x ∷ es) key e
     by true k later =
-        let same : x ≡ e = first_of x (entry_keyed key es) e (x.key == key) h k in
+        let same : x ≡ e = named_first x e (entry_keyed key es) (x.key == key) h k in
         record { front = []; back = es; whole = ap (λ y. y ∷ es) same; keyed = subst (λ y. (y.key == key) ≡ true) same k; ahead = tt; behind = keys_apart x key es k d.0 }
     by false k later =
         let more = later (found_later x (entry_keyed key es) e (x.key == key) h k) in

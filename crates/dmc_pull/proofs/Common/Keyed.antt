@@ -10,12 +10,16 @@ use Rattle.std.proofs.lemmas.List.Folds.{find-append}
 use Rattle.dmc_types.specs.declared.ids.ClientId.{ClientId}
 use Rattle.dmc_tag.specs.State.{is_client, requests_of}
 use Rattle.dmc_client.specs.Record.{Rec, requests_of_record}
-use Rattle.dmc_roster.specs.Entries.{Entry, entry_named, entry_keyed, with_rec, with_record, AreDistinct}
+use Rattle.dmc_roster.specs.Entries.{Entry, entry_named, entry_keyed, record_at, with_rec, with_record, AreDistinct}
 use Rattle.dmc_pull.specs.Standing.{requests_in}
 use Rattle.dmc_pull.proofs.Common.Parts.{all_as, all_filtered, map_cond, found_holds, found_passes}
 use Rattle.dmc_pull.proofs.Common.Entries.{Split, Differs, differs_from, split_changed, record_filtered, all_filtered_out}
 pub use Rattle.dmc_tag.proofs.Active.{same_client}
 use Rattle.dmc_tag.proofs.Ids.{itself_id}
+
+-- the record of the entry that a key finds
+pub record_is : {T : Type 0} (key : ℕ) (es : List (Entry T)) (e : Entry T) (rec : Rec T) → entry_keyed key es ≡ Some e → record_at key es ≡ Some rec → e.rec ≡ rec
+record_is key es e rec f r = let one : Some e.rec ≡ Some rec = sym (ap (option_map (λ e. e.rec)) f) ∙ r in cc (one)
 
 none_of_all : {X : Type 0} (test : X → Bool) (xs : List X) → AllByRecursion (λ x. test x ≡ false) xs → find test xs ≡ None
 none_of_all test [] h = refl

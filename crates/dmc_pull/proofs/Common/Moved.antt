@@ -21,7 +21,7 @@ use Rattle.dmc_heads.specs.Heads.{CanShift}
 use Rattle.dmc_pull.specs.Adding.{shifted_but}
 use Rattle.dmc_pull.specs.Queue.{AreHeads, head_of, unready}
 use Rattle.dmc_pull.specs.Standing.{clients_in, requests_in}
-use Rattle.dmc_pull.proofs.Common.Parts.{all_as, all_mapped, each_passes, map_agree, found_holds}
+use Rattle.dmc_pull.proofs.Common.Parts.{true_not_false, all_as, all_mapped, each_passes, map_agree, found_holds}
 use Rattle.dmc_pull.proofs.Common.Entries.{Split, split, all_changed}
 use Rattle.dmc_pull.proofs.Common.Keyed.{keyed_with, distinct_with}
 use Rattle.dmc_pull.proofs.Add.Shifted.{shiftable, shifted_clients_in, shifted_requests_in, arrived}
@@ -145,12 +145,9 @@ module _ {T : Type 0} (ops : Tagging T) where
 
     pub arrived_others : {key : ℕ} {e : Entry T} {es : List (Entry T)} (s : Split key e es) → e.rec.idle ≡ true → AllByRecursion (λ e. is_shiftable ops amount e.rec ≡ true) es → (request : QueuedRequest T) (at : ℕ) → map (λ e. with_rec (shifted_but ops amount key e.key) e) (with_record key (pushed request at e.rec) es) ≡ with_record key (pushed request at e.rec) (map (λ e. with_rec (shifted ops amount) e) es)
     arrived_others {key} {e} {es} s idle can request at =
-        let others = all_changed s (λ f. (f.key == key) ≡ false → is_shiftable ops amount f.rec ≡ true) (pushed request at e.rec) (all_as (λ f. is_shiftable ops amount f.rec ≡ true) (λ f. (f.key == key) ≡ false → is_shiftable ops amount f.rec ≡ true) (λ f h other. h) es can) (λ other. absurd (differ s.keyed other)) in
+        let others = all_changed s (λ f. (f.key == key) ≡ false → is_shiftable ops amount f.rec ≡ true) (pushed request at e.rec) (all_as (λ f. is_shiftable ops amount f.rec ≡ true) (λ f. (f.key == key) ≡ false → is_shiftable ops amount f.rec ≡ true) (λ f h other. h) es can) (λ other. absurd (true_not_false _ s.keyed other)) in
         others_agree key (with_record key (pushed request at e.rec) es) others
         ∙ arrived ops amount key s idle request at
-      where
-        differ : {b : Bool} → b ≡ true → b ≡ false → ⊥
-        differ p q = cc
 
 -- ---- after a shift, and before the arrival
 

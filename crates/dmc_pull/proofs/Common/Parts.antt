@@ -8,6 +8,9 @@ pub use Rattle.dmc_tag.proofs.Lists.{all_as, all_both, all_mapped, each_passes, 
 pub use Rattle.dmc_tag.proofs.Booleans.{eqb_turned}
 pub use Rattle.std.proofs.Math.Bool.{and-true}
 
+pub true_not_false : (b : Bool) → b ≡ true → b ≡ false → ⊥
+true_not_false b p q = cc
+
 -- ---- what holds of each
 
 pub all_front : {X : Type 0} (P : X → Type 0) (xs ys : List X) → AllByRecursion P (xs ++ ys) → AllByRecursion P xs
@@ -63,3 +66,8 @@ all_is test (x ∷ xs) = at (all_is test xs) (test x) where
   at : list_all test xs ≡ (length (filter test xs) == length xs) → (b : Bool) → (b && list_all test xs) ≡ (length (cond b (x ∷ filter test xs) (filter test xs)) == suc (length xs))
   at more true = more ∙ same (length (filter test xs)) (length xs) (length (filter test xs) == length xs) refl
   at more false = fewer (length (filter test xs) == suc (length xs)) refl
+
+-- the same, of what was counted
+pub all_counted : {X : Type 0} (test : X → Bool) (xs ys : List X) (passed count : ℕ) → xs ≡ ys → passed ≡ length (filter test xs) → count ≡ length xs
+    → (passed == count) ≡ list_all test ys
+all_counted test xs ys passed count same p n = ap (λ a. a == count) p ∙ ap (λ b. length (filter test xs) == b) n ∙ sym (all_is test xs) ∙ ap (list_all test) same

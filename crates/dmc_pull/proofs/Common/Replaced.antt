@@ -5,6 +5,7 @@ use Rattle.std.specs.Option.{option_map, option_map_or, option_and_then}
 use Rattle.std.specs.List.{AllByRecursion}
 use Rattle.std.proofs.lemmas.Bool.{eqb-true, eqb-false}
 use Rattle.dmc_types.specs.declared.ids.ClientId.{ClientId}
+use Rattle.dmc_types.specs.declared.ids.Token.{Token}
 use Rattle.dmc_tag.specs.Tag.{Fraction, Tagging}
 use Rattle.dmc_tag.specs.Best.{is_due}
 use Rattle.dmc_tag.specs.Spacing.{spacings_of}
@@ -18,7 +19,7 @@ use Rattle.dmc_index.specs.Index.{slot_of_key}
 use Rattle.dmc_heads.specs.declared.head.Head.{Head}
 use Rattle.dmc_pull.specs.Standing.{requests_in}
 use Rattle.dmc_pull.specs.Queue.{Queue, IsQueue, IsKept, AreHeads, head_of, unready, unready_head, head_at}
-use Rattle.dmc_pull.specs.Choice.{first_of, after_grant, IsFirstOf}
+use Rattle.dmc_pull.specs.Choice.{first_of, first_at, after_grant, IsFirstOf}
 use Rattle.dmc_pull.proofs.Common.Kept.{length_map}
 use Rattle.dmc_pull.proofs.Common.Entries.{Split, split, key_is, all_changed, length_whole, length_as}
 use Rattle.dmc_pull.proofs.Common.Keyed.{keyed_changed, distinct_changed, read_changed, read_other}
@@ -90,6 +91,30 @@ module _ {T : Type 0} where
 
   pub waits : (es : List (Entry T)) (key : ℕ) (client : ClientId) → IsFirstOf es key client → Waits es key client
   waits es key client h = found_waits es key client (entry_keyed key es) refl h
+
+-- what is read as the first request
+pub request_is : {T : Type 0} {es : List (Entry T)} {key : ℕ} {client : ClientId} → (w : Waits es key client)
+    → option_and_then (λ (rec : Rec T). slice_get rec.requests 0) (record_at key es) ≡ Some w.request
+request_is {T} w = ap (λ o. option_and_then (λ (rec : Rec T). slice_get rec.requests 0) (option_map (λ e. e.rec) o)) w.found ∙ ap (λ l. slice_get l 0) w.requests
+
+-- the token of the first request
+module _ {T : Type 0} (es : List (Entry T)) (key : ℕ) where
+  abbrev token_of : Option (QueuedRequest T) → Option Token
+  token_of = option_map (λ r. r.token)
+
+  abbrev token_found : Option (PlainRequest T × List (PlainRequest T)) → Option Token
+  token_found = option_map (λ found. found.0.token)
+
+  pub first_token : token_of (option_and_then (λ rec. slice_get rec.requests 0) (record_at key es)) ≡ token_found (first_at key es)
+  first_token = at (entry_keyed key es) where
+    of_slot : (e : Entry T) (x : Option (QueuedRequest T)) → token_of x ≡ token_found (option_map (λ r. (request_of e.id r, requests_in (with_record key (popped e.rec) es))) x)
+    of_slot e None = refl
+    of_slot e (Some r) = refl
+
+    at : (o : Option (Entry T))
+        → token_of (option_and_then (λ (rec : Rec T). slice_get rec.requests 0) (option_map (λ e. e.rec) o)) ≡ token_found (option_and_then (first_of es key) o)
+    at None = refl
+    at (Some e) = of_slot e (slice_get e.rec.requests 0)
 
 module _ {T : Type 0} (ops : Tagging T) where
   -- ---- what a grant leaves of a record

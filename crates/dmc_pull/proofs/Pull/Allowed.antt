@@ -31,7 +31,8 @@ use Rattle.dmc_pull.specs.Standing.{clients_in, requests_in}
 use Rattle.dmc_pull.specs.declared.adding.Addition.{Addition}
 use Rattle.dmc_pull.proofs.Common.Parts.{all_as, found_holds}
 use Rattle.dmc_pull.proofs.Common.Entries.{named}
-use Rattle.dmc_pull.proofs.Add.Adds.{held_entry, if_holds, record_is, full, no_shift, whole, Whole, out_of_range, no_tags, allowed, idle_where_shifted}
+use Rattle.dmc_pull.proofs.Common.Keyed.{record_is}
+use Rattle.dmc_pull.proofs.Add.Adds.{held_entry, if_holds, full, no_shift, whole, Whole, out_of_range, no_tags, allowed, idle_where_shifted}
 use Rattle.dmc_pull.proofs.Add.NothingOff.{all_requests, all_clients, same_test, same_shifted}
 
 -- the step of an add, from what it comes to at the effective moment

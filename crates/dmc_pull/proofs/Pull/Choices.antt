@@ -6,6 +6,7 @@ use Rattle.std.specs.List.{AllByRecursion}
 use Rattle.std.specs.declared.cmp.Ordering.TheVariants.{Less}
 use Rattle.std.specs.Cmp.{IsTotalOrder}
 use Rattle.std.proofs.lemmas.Bool.{eqb-false}
+use Rattle.std.proofs.lemmas.Option.{same_Some}
 use Rattle.dmc_types.specs.declared.ids.ClientId.{ClientId}
 use Rattle.dmc_tag.specs.Tag.{Tagging}
 use Rattle.dmc_tag.specs.Best.{is_before, IsBest, HasNone}
@@ -54,9 +55,7 @@ module _ {T : Type 0} where
 
   has_head : (o : Option (Head T)) (heads : List (Option (Head T))) (key : ℕ) (id : ClientId) (r : QueuedRequest T) → slot_of_key heads key ≡ o → option_map unready o ≡ Some (record { client = id; tags = r.tags; ready = false }) → HasHead heads key id r
   has_head None heads key id r h e = cc
-  has_head (Some head) heads key id r h e = record { head = head; here = h; of = is_head head id r (some_inj e) } where
-    some_inj : {X : Type 0} {x y : X} → Some x ≡ Some y → x ≡ y
-    some_inj p = cc
+  has_head (Some head) heads key id r h e = record { head = head; here = h; of = is_head head id r (same_Some _ _ e) }
 
 module _ {T : Type 0} (ops : Tagging T) (t : ℕ) (es : List (Entry T)) (heads : List (Option (Head T))) (are : AreHeads ops t es heads) where
   pub head_at : (key : ℕ) (e : Entry T) (r : QueuedRequest T) (rest : List (QueuedRequest T)) → entry_keyed key es ≡ Some e → e.rec.requests ≡ r ∷ rest → HasHead heads key e.id r

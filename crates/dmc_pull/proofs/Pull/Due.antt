@@ -5,7 +5,7 @@ use Rattle.std.specs.Option.{option_map}
 use Rattle.std.specs.List.{AllByRecursion}
 use Rattle.std.specs.declared.cmp.Ordering.TheVariants.{Less}
 use Rattle.std.specs.Cmp.{IsTotalOrder}
-use Rattle.std.proofs.lemmas.Bool.{leb-true, leb-false, le-leb}
+use Rattle.std.proofs.lemmas.Bool.{cases_eq, leb-true, leb-false, le-leb}
 use Rattle.std.proofs.lemmas.Bool.Decides.{nat_tests}
 use Rattle.dmc_types.specs.declared.ids.ClientId.{ClientId}
 use Rattle.dmc_tag.specs.Tag.{Tagging}
@@ -28,13 +28,15 @@ use Rattle.dmc_roster.specs.Entries.{Entry, AreDistinct}
 use Rattle.dmc_index.specs.Index.{slot_of_key}
 use Rattle.dmc_heads.specs.declared.head.Head.{Head}
 use Rattle.dmc_heads.specs.Heads.{IsFirst, tag_rank, limit_rank}
+use Rattle.dmc_tag.proofs.Lists.{all_at}
 use Rattle.dmc_tag.proofs.Orderings.{IsUpto, due_before}
 use Rattle.dmc_pull.specs.Standing.{requests_in}
 use Rattle.dmc_pull.specs.Queue.{AreHeads}
+use Rattle.dmc_pull.proofs.Common.Parts.{true_not_false}
 use Rattle.dmc_pull.proofs.Common.Ordered.{due_members, limit_first, FirstIsLeast, FirstIsMember}
 use Rattle.dmc_pull.proofs.Common.Firsts.{IsAt, is_at, requests_append}
 use Rattle.dmc_pull.proofs.Pull.Choices.{none_chosen, entry_at}
-use Rattle.dmc_pull.proofs.Pull.Pulls.{head_under, same_some, then_less, true_not_false, either_key, all_are, early_none}
+use Rattle.dmc_pull.proofs.Pull.Pulls.{head_under, same_some, then_less, all_are, early_none}
 
 -- ---- one request among all
 
@@ -43,10 +45,6 @@ pub record IsIn {X : Type 0} (xs : List X) (x : X) : Type 0 where
   pub front : List X
   pub back : List X
   pub whole : xs ≡ front ++ x ∷ back
-
-pub at_in : {X : Type 0} (P : X → Type 0) (front : List X) (x : X) (back : List X) → AllByRecursion P (front ++ x ∷ back) → P x
-at_in P [] x back h = h.0
-at_in P (y ∷ front) x back h = at_in P front x back h.1
 
 pub first_in : {T : Type 0} (es : List (Entry T)) (key : ℕ) (e : Entry T) (r : QueuedRequest T) (rest : List (QueuedRequest T)) → IsAt es key e → e.rec.requests ≡ r ∷ rest → IsIn (requests_in es) (request_of e.id r)
 first_in es key e r rest at q = record {
@@ -62,8 +60,8 @@ module _ {T : Type 0} (ops : Tagging T) (xs : List (PlainRequest T)) where
   not_before m n p q h =
       let s = p.some in
       ⊎_elim
-      (λ early. true_not_false _ early (at_in (λ x. is_early ops m x ≡ false) s.front s.request s.back (subst (HasNone (is_early ops m)) s.whole (q.none_early m h))))
-      (λ free. true_not_false _ free (at_in (λ x. is_free ops m x ≡ false) s.front s.request s.back (subst (HasNone (is_free ops m)) s.whole (q.none_free m h)))) s.due
+      (λ early. true_not_false _ early (all_at (λ x. is_early ops m x ≡ false) s.front s.request s.back (subst (HasNone (is_early ops m)) s.whole (q.none_early m h))))
+      (λ free. true_not_false _ free (all_at (λ x. is_free ops m x ≡ false) s.front s.request s.back (subst (HasNone (is_free ops m)) s.whole (q.none_free m h)))) s.due
 
   pub only_due : (m n : ℕ) → IsNextDue ops m xs → IsNextDue ops n xs → m ≡ n
   only_due m n p q = at (nat_le m n) (nat_le n m) refl refl where
@@ -96,7 +94,7 @@ module _ {T : Type 0} (ops : Tagging T) (order : IsTotalOrder ops.compare) (t : 
   limit_order true p q c e s h = cc
 
   none_free_at : (n : ℕ) → is_due ops n (Some l.tag) ≡ false → (k : ℕ) (head : Head T) → slot_of_key heads k ≡ Some head → is_due ops n (Some head.tags.l) ≡ false
-  none_free_at n h k head here = ⊎_elim same other (either_key k kl) where
+  none_free_at n h k head here = ⊎_elim same other (cases_eq k kl) where
     same : k ≡ kl → is_due ops n (Some head.tags.l) ≡ false
     same e =
         let u = head_under limit_rank heads kl l first_l.here in
@@ -172,7 +170,7 @@ module _ {T : Type 0} (ops : Tagging T) (t : ℕ) (es : List (Entry T)) (heads :
         let x = entry_at ops t es heads are k head here in
         let i = first_in es k x.entry x.request x.rest (is_at k es x.entry d x.found) x.requests in
         let due : is_due ops t (Some x.request.tags.l) ≡ true = subst (λ g. is_due ops t (Some g.l) ≡ true) x.of.tags (are.marks k head here e) in
-        absurd (true_not_false _ due (at_in (λ y. is_free ops t y ≡ false) i.front (request_of x.entry.id x.request) i.back (subst (HasNone (is_free ops t)) i.whole none)))
+        absurd (true_not_false _ due (all_at (λ y. is_free ops t y ≡ false) i.front (request_of x.entry.id x.request) i.back (subst (HasNone (is_free ops t)) i.whole none)))
 
 module _ {T : Type 0} (ops : Tagging T) (order : IsTotalOrder ops.compare) (t : ℕ) (es : List (Entry T)) (heads : List (Option (Head T))) (are : AreHeads ops t es heads) (d : AreDistinct es) (records : AllByRecursion (λ e. IsRecord ops e.rec) es)
     (due_from : (tag : T) (n : ℕ) → is_due ops n (Some tag) ≡ nat_le (moment_of (ops.ceil tag)) n) (exactly : (s : State T) (at m : ℕ) → (step ops s (Pull at)).1 ≡ Later m → IsNextDue ops m s.requests) (config : Setting)

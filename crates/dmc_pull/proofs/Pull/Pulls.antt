@@ -1,11 +1,12 @@
 -- What the least of each index says of a pull.
-use Rattle.std.proofs.Common.{◌≡◌, ℕ, Bool, true, false, List, [], ◌∷◌, Option, Some, None, refl, sym, ap, ◌∙◌, subst, inl, inr, ⊎_elim}
-use Rattle.std.specs.Prelude.{◌≢◌, ◌==◌, ◌⊎◌}
+use Rattle.std.proofs.Common.{◌≡◌, ℕ, Bool, true, false, List, [], ◌∷◌, Option, Some, None, refl, sym, ap, ◌∙◌, subst, ⊎_elim}
+use Rattle.std.specs.Prelude.{◌≢◌}
 use Rattle.std.specs.Option.{option_map}
 use Rattle.std.specs.List.{AllByRecursion}
 use Rattle.std.specs.declared.cmp.Ordering.TheVariants.{Less}
 use Rattle.std.specs.Cmp.{IsTotalOrder}
-use Rattle.std.proofs.lemmas.Bool.{eqb-true, eqb-false}
+use Rattle.std.proofs.lemmas.Bool.{cases_eq}
+use Rattle.std.proofs.lemmas.Option.{none-some}
 use Rattle.dmc_types.specs.declared.ids.ClientId.{ClientId}
 use Rattle.dmc_tag.specs.Tag.{Tagging}
 use Rattle.dmc_tag.specs.Best.{is_due, is_early, is_free, HasNone}
@@ -19,6 +20,7 @@ use Rattle.dmc_heads.specs.declared.head.Head.{Head}
 use Rattle.dmc_heads.specs.Heads.{IsFirst, tag_rank, ready_rank}
 use Rattle.dmc_pull.specs.Standing.{requests_in}
 use Rattle.dmc_pull.specs.Queue.{AreHeads}
+use Rattle.dmc_pull.proofs.Common.Parts.{true_not_false}
 use Rattle.dmc_pull.proofs.Common.Ordered.{due_members, reservation_first, limit_first, share_first, any_members, FirstIsLeast, FirstIsMember}
 use Rattle.dmc_pull.proofs.Pull.Choices.{IsChosen, chosen, none_chosen}
 pub use Rattle.dmc_tag.proofs.Orderings.{then_less}
@@ -39,15 +41,6 @@ head_under {T} rank heads key r e = at (slot_of_key heads key) refl e where
 
 pub same_some : {X : Type 0} {o : Option X} {x y : X} → o ≡ Some x → o ≡ Some y → x ≡ y
 same_some p q = cc
-
-pub true_not_false : (b : Bool) → b ≡ true → b ≡ false → ⊥
-true_not_false b p q = cc
-
-pub either_key : (a b : ℕ) → (a ≡ b) ⊎ (a ≢ b)
-either_key a b = at (a == b) refl where
-  at : (r : Bool) → (a == b) ≡ r → (a ≡ b) ⊎ (a ≢ b)
-  at true e = inl (eqb-true a b e)
-  at false e = inr (eqb-false a b e)
 
 module _ {T : Type 0} (ops : Tagging T) (order : IsTotalOrder ops.compare) (t : ℕ) (es : List (Entry T)) (heads : List (Option (Head T))) where
   pub all_are : (P : Rec T → Type 0) → ((rec : Rec T) → IsRecord ops rec → P rec) → (xs : List (Entry T)) → AllByRecursion (λ e. IsRecord ops e.rec) xs → AllByRecursion (λ e. P e.rec) xs
@@ -70,7 +63,7 @@ module _ {T : Type 0} (ops : Tagging T) (order : IsTotalOrder ops.compare) (t : 
         (λ k other ne here m. subst (λ r. tag_rank_cmp ops.compare r (tag_rank other) ≡ Less) (sym h.ranked) (f.below k other ne here)))
 
     none_due_at : (key : ℕ) (rank : TagRank T) → IsFirst tag_rank (tag_rank_cmp ops.compare) heads key rank → is_due ops t rank.tag ≡ false → (k : ℕ) (head : Head T) → slot_of_key heads k ≡ Some head → is_due ops t head.tags.r ≡ false
-    none_due_at key rank f late k head here = ⊎_elim same other (either_key k key) where
+    none_due_at key rank f late k head here = ⊎_elim same other (cases_eq k key) where
       same : k ≡ key → is_due ops t head.tags.r ≡ false
       same e =
           let h = head_under tag_rank heads key rank f.here in
@@ -89,9 +82,7 @@ module _ {T : Type 0} (ops : Tagging T) (order : IsTotalOrder ops.compare) (t : 
     early_none key rank f late = none_chosen ops t0 es heads are order d (λ g. g.r) (λ g. is_due ops t g.r) reservations early_members (none_due_at key rank f late)
 
     pub early_empty : IsEmpty heads → HasNone (is_early ops t) (requests_in es)
-    early_empty none = none_chosen ops t0 es heads are order d (λ g. g.r) (λ g. is_due ops t g.r) reservations early_members (λ k head here. absurd (none_some (sym (none k) ∙ here))) where
-      none_some : {X : Type 0} {x : X} → None ≡ Some x → ⊥
-      none_some e = cc
+    early_empty none = none_chosen ops t0 es heads are order d (λ g. g.r) (λ g. is_due ops t g.r) reservations early_members (λ k head here. absurd (none-some _ (sym (none k) ∙ here)))
 
   -- ---- by P: the weight phase, where each head is marked that is free
 
@@ -131,7 +122,7 @@ module _ {T : Type 0} (ops : Tagging T) (order : IsTotalOrder ops.compare) (t : 
     unready_first false p q c e h = refl
 
     pub all_unready : (key : ℕ) (rank : ReadyRank T) → IsFirst ready_rank (ready_rank_cmp ops.compare) heads key rank → rank.ready ≡ false → (k : ℕ) (head : Head T) → slot_of_key heads k ≡ Some head → head.ready ≡ false
-    all_unready key rank f unready k head here = ⊎_elim same other (either_key k key) where
+    all_unready key rank f unready k head here = ⊎_elim same other (cases_eq k key) where
       same : k ≡ key → head.ready ≡ false
       same e =
           let h = head_under ready_rank heads key rank f.here in

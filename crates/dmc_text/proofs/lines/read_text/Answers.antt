@@ -1,9 +1,11 @@
 -- What was read stands at the front.
-use Rattle.std.proofs.Common.{◌∙◌, arith, take, subst}
+use Rattle.std.proofs.Common.{◌∙◌, arith, take, subst, refl}
 use Rattle.std.specs.Io.KnownBytes.{Consumes}
-use Rattle.std.proofs.KnownBytes.{Consumes-kept}
+use Rattle.std.proofs.KnownBytes.{Consumes-kept, Consumes-nil}
 use Rattle.std.proofs.lemmas.List.{length-take}
-use Rattle.dmc_text.proofs.ReadingLemmas.{consumes_next, of_err}
+use Rattle.std.proofs.lemmas.Result.{IfOk-from_err}
+use Rattle.dmc_tag.proofs.Options.{of_err}
+use Rattle.dmc_text.proofs.ReadingLemmas.{consumes_next}
 use Rattle.dmc_text.proofs.lines.read_text.Goals as goal
 
 pub loop-len-preserved : goal.loop-len-preserved
@@ -35,3 +37,27 @@ returns-in-0-clause-bytes g c =
 
 pub returns-in-0-clause-end : goal.returns-in-0-clause-end
 returns-in-0-clause-end g c = λ short. c.in_ok-n.ensures.end c.in-0.is (omega (arith, c.len.ensures)) (omega arith)
+
+pub loop-len-init : goal.loop-len-init
+loop-len-init g c = record { within = omega arith; room = refl; read = Consumes-nil (g.R.Read.remaining c.args.reader.now) }
+
+pub returns-in_err-n-clause-len : goal.returns-in_err-n-clause-len
+returns-in_err-n-clause-len g c = c.read_at.ensures.len ∙ c.loop-len.invariant.room
+
+pub returns-in_err-n-clause-within : goal.returns-in_err-n-clause-within
+returns-in_err-n-clause-within g c = IfOk-from_err c.from_residual.result _ c.from_residual.ensures.0
+
+pub returns-in_err-n-clause-bytes : goal.returns-in_err-n-clause-bytes
+returns-in_err-n-clause-bytes g c = IfOk-from_err c.from_residual.result _ c.from_residual.ensures.0
+
+pub returns-in_err-n-clause-end : goal.returns-in_err-n-clause-end
+returns-in_err-n-clause-end g c = IfOk-from_err c.from_residual.result _ c.from_residual.ensures.0
+
+pub returns-in-0-clause-len : goal.returns-in-0-clause-len
+returns-in-0-clause-len g c = c.read_at.ensures.len ∙ c.loop-len.invariant.room
+
+pub returns-clause-bytes : goal.returns-clause-bytes
+returns-clause-bytes g c = c.loop-len.invariant.read
+
+pub returns-clause-end : goal.returns-clause-end
+returns-clause-end g c = λ short. absurd (omega (arith, c.loop-len-test.false, c.len.ensures, c.loop-len.invariant.room))

@@ -1,8 +1,9 @@
 -- The rest is answered from the queue on.
+use Rattle.std.proofs.lemmas.Result.{on_ok_weaker}
 use Rattle.dmc_tag.specs.State.{opening}
 use Rattle.dmc_tag.proofs.ForCallers.{steps_agree, tag_order}
 use Rattle.dmc_text.specs.Replies.{tag_text}
-use Rattle.dmc_text.proofs.RunLemmas.{written_alike, asked_alike, on_ok}
+use Rattle.dmc_text.proofs.RunLemmas.{written_alike, asked_alike}
 use Rattle.dmc_text.proofs.script.carry_out.Goals as goal
 
 pub returns-in-Config-clause-rest : goal.returns-in-Config-clause-rest
@@ -16,4 +17,4 @@ returns-in-Some-clause-rest g c =
     let text = tag_text g.T.TagText.numerator g.T.TagText.denominator in
     let state = g.M.Queue.Scheduler.state in
     let law = steps_agree g.T.Tag.ops (tag_order g.T.Ord.cmp g.T.Tag.ops.compare g.met.T.Ord.total g.met.T.Tag.compares) in
-    rw (c.in-Ask.is, c.in-Some.is) (on_ok c.ask.result c.ask.ensures.state (asked_alike g.T.Tag.ops text law (state c.in-Some.queue) (state c.ask.new.queue) c.in-Ask.command))
+    rw (c.in-Ask.is, c.in-Some.is) (on_ok_weaker c.ask.result (asked_alike g.T.Tag.ops text law (state c.in-Some.queue) (state c.ask.new.queue) c.in-Ask.command) c.ask.ensures.state)

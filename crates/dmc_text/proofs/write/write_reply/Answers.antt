@@ -1,4 +1,4 @@
--- Each reply is read again from its text.
+-- What is written is the reply's text, and each reply is read again from it.
 use Rattle.std.proofs.Common.{arith}
 use Rattle.dmc_text.specs.Replies.{tag_text}
 use Rattle.dmc_text.proofs.ReplyLemmas.{back_registered, back_updated, back_nothing, back_later, back_removed, back_cleaned, back_refused, back_granted}
@@ -51,3 +51,33 @@ returns-in-Refused-clause-again g c =
     let made = g.T.TagText.made in
     let text = tag_text g.T.TagText.numerator g.T.TagText.denominator in
     rw c.in-Refused.is (back_refused made text c.in-Refused.refusal)
+
+pub returns-in-Registered-clause-text : goal.returns-in-Registered-clause-text
+returns-in-Registered-clause-text g c = rw c.in-Registered.is c.write_all.ensures.bytes
+
+pub returns-in-Updated-clause-text : goal.returns-in-Updated-clause-text
+returns-in-Updated-clause-text g c = rw c.in-Updated.is c.write_all-in-Updated.ensures.bytes
+
+pub returns-in-Tagged-clause-text : goal.returns-in-Tagged-clause-text
+returns-in-Tagged-clause-text g c = rw c.in-Tagged.is c.write_tags.ensures.text
+
+pub returns-in-Granted-clause-text : goal.returns-in-Granted-clause-text
+returns-in-Granted-clause-text g c = rw c.in-Granted.is c.write_grant.ensures.text
+
+pub returns-in-Later-clause-text : goal.returns-in-Later-clause-text
+returns-in-Later-clause-text g c = rw c.in-Later.is c.write_later.ensures
+
+pub returns-in-Nothing-clause-text : goal.returns-in-Nothing-clause-text
+returns-in-Nothing-clause-text g c = rw c.in-Nothing.is c.write_all-in-Nothing.ensures.bytes
+
+pub returns-in-Removed-clause-text : goal.returns-in-Removed-clause-text
+returns-in-Removed-clause-text g c = rw c.in-Removed.is c.write_removed.ensures
+
+pub returns-in-Cleaned-clause-text : goal.returns-in-Cleaned-clause-text
+returns-in-Cleaned-clause-text g c = rw c.in-Cleaned.is c.write_cleaned.ensures
+
+pub returns-in-Refused-clause-text : goal.returns-in-Refused-clause-text
+returns-in-Refused-clause-text g c = rw (c.in-Refused.is, ← c.refusal_text.ensures) c.write_all-in-Refused.ensures.bytes
+
+pub returns-in-Tagged-clause-again : goal.returns-in-Tagged-clause-again
+returns-in-Tagged-clause-again g c = rw c.in-Tagged.is c.write_tags.ensures.again

@@ -1,5 +1,5 @@
 use Rattle.std.proofs.Common.{◌<◌, count_by, refl, sym, ◌∙◌, subst}
-use Rattle.dmc_heads.proofs.MarkLemmas.{mark_more, some_to_mark, is_unready, fewer_unready}
+use Rattle.dmc_heads.proofs.MarkLemmas.{mark_more, is_unready, fewer_unready}
 use Rattle.dmc_heads.proofs.heads.Heads.promote.Goals as goal
 
 pub loop-key-preserved : goal.loop-key-preserved
@@ -8,9 +8,6 @@ loop-key-preserved g c =
 
 pub loop-key-init : goal.loop-key-init
 loop-key-init g c = refl
-
-pub set_ready-requires : goal.set_ready-requires
-set_ready-requires g c = some_to_mark g.T.Tag.ops c.args.t _ c.in-Some.ensures
 
 pub loop-key-smaller : goal.loop-key-smaller
 loop-key-smaller g c =

@@ -1,11 +1,8 @@
-use Rattle.std.proofs.Common.{Result, Ok, Err, OnOk, OnErr, length, refl, ap, ◌∙◌}
+use Rattle.std.proofs.Common.{Result, Ok, Err, OnOk, length, refl, ap, ◌∙◌}
 use Rattle.std.specs.Result.{IsErr}
+use Rattle.dmc_tag.proofs.Options.{of_err}
 use Rattle.dmc_heads.proofs.Room.{unchanged, with_more, still_sound, still_held, no_less_room, room_for_all, size_for_all}
 use Rattle.dmc_heads.proofs.heads.Heads.reserve.Goals as goal
-
-on_err : {X E : Type 0} (r : Result X E) (P : Type 0) → P → OnErr r P
-on_err (Ok x) P p = tt
-on_err (Err e) P p = p
 
 not_ok : {X E : Type 0} (r : Result X E) (P : Type 0) → IsErr r → OnOk r P
 not_ok (Ok x) P h = cc
@@ -21,7 +18,7 @@ returns-in_err-reserve_keys-clause-ok g c =
 
 pub returns-in_err-reserve_keys-clause-err : goal.returns-in_err-reserve_keys-clause-err
 returns-in_err-reserve_keys-clause-err g c =
-    on_err c.from_residual.result _ (still_held c.self.invariant c.self.view_is (unchanged c.in_err-reserve_keys.ensures.err) (unchanged refl) (unchanged refl))
+    of_err c.from_residual.result (still_held c.self.invariant c.self.view_is (unchanged c.in_err-reserve_keys.ensures.err) (unchanged refl) (unchanged refl))
 
 pub returns-in_err-reserve_keys-clause-room : goal.returns-in_err-reserve_keys-clause-room
 returns-in_err-reserve_keys-clause-room g c =
@@ -37,7 +34,7 @@ returns-in_err-reserve_keys-2-clause-ok g c =
 
 pub returns-in_err-reserve_keys-2-clause-err : goal.returns-in_err-reserve_keys-2-clause-err
 returns-in_err-reserve_keys-2-clause-err g c =
-    on_err c.from_residual-in_err-reserve_keys-2.result _ (still_held c.self.invariant c.self.view_is (with_more c.args.n c.in_ok-reserve_keys.ensures.ok) (unchanged c.in_err-reserve_keys-2.ensures.err) (unchanged refl))
+    of_err c.from_residual-in_err-reserve_keys-2.result (still_held c.self.invariant c.self.view_is (with_more c.args.n c.in_ok-reserve_keys.ensures.ok) (unchanged c.in_err-reserve_keys-2.ensures.err) (unchanged refl))
 
 pub returns-in_err-reserve_keys-2-clause-room : goal.returns-in_err-reserve_keys-2-clause-room
 returns-in_err-reserve_keys-2-clause-room g c =
@@ -53,7 +50,7 @@ returns-in_err-reserve_keys-3-clause-ok g c =
 
 pub returns-in_err-reserve_keys-3-clause-err : goal.returns-in_err-reserve_keys-3-clause-err
 returns-in_err-reserve_keys-3-clause-err g c =
-    on_err c.from_residual-in_err-reserve_keys-3.result _ (still_held c.self.invariant c.self.view_is (with_more c.args.n c.in_ok-reserve_keys.ensures.ok) (with_more c.args.n c.in_ok-reserve_keys-2.ensures.ok) (unchanged c.in_err-reserve_keys-3.ensures.err))
+    of_err c.from_residual-in_err-reserve_keys-3.result (still_held c.self.invariant c.self.view_is (with_more c.args.n c.in_ok-reserve_keys.ensures.ok) (with_more c.args.n c.in_ok-reserve_keys-2.ensures.ok) (unchanged c.in_err-reserve_keys-3.ensures.err))
 
 pub returns-in_err-reserve_keys-3-clause-room : goal.returns-in_err-reserve_keys-3-clause-room
 returns-in_err-reserve_keys-3-clause-room g c =

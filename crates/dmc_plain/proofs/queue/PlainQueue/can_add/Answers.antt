@@ -1,6 +1,7 @@
 use Rattle.std.proofs.Common.{◌≡◌, ◌∙◌, ◌<◌, true, false, length, Ok, Err, ap, sym, subst, arith}
 use Rattle.std.specs.Prelude.{is_some, nat_le}
 use Rattle.std.proofs.lemmas.Bool.{le-leb, lt-leb}
+use Rattle.std.proofs.lemmas.Result.{IfOk-from_err}
 use Rattle.dmc_types.specs.Limits.{most_requests}
 use Rattle.dmc_tag.specs.Rules.{shift_of, assigned}
 use Rattle.dmc_tag.specs.State.{client_named}
@@ -69,3 +70,15 @@ pub returns-clause-known : goal.returns-clause-known
 returns-clause-known g c =
     let clients = c.deref.ensures.value ∙ ap (λ s. s.clients) c.self.view_is in
     ap (λ cs. is_some (client_named c.args.client cs)) (sym clients) ∙ ap is_some (sym c.client_named.ensures ∙ c.in-Some.is)
+
+pub returns-in_err-shift-clause-room : goal.returns-in_err-shift-clause-room
+returns-in_err-shift-clause-room g c = IfOk-from_err c.from_residual.result _ c.from_residual.ensures.0
+
+pub returns-in_err-shift-clause-known : goal.returns-in_err-shift-clause-known
+returns-in_err-shift-clause-known g c = IfOk-from_err c.from_residual.result _ c.from_residual.ensures.0
+
+pub returns-in_err-tags-clause-room : goal.returns-in_err-tags-clause-room
+returns-in_err-tags-clause-room g c = IfOk-from_err c.from_residual-in_err-tags.result _ c.from_residual-in_err-tags.ensures.0
+
+pub returns-in_err-tags-clause-known : goal.returns-in_err-tags-clause-known
+returns-in_err-tags-clause-known g c = IfOk-from_err c.from_residual-in_err-tags.result _ c.from_residual-in_err-tags.ensures.0

@@ -3,7 +3,7 @@ use Rattle.dmc_types.specs.declared.refusal.Refusal.TheVariants.{Range}
 use Rattle.dmc_tag.specs.Outcome.{refuse_if}
 use Rattle.dmc_tag.specs.Rules.{reduction_of}
 use Rattle.dmc_tag.proofs.Options.{err_is}
-use Rattle.dmc_plain.proofs.Outcomes.{ends, goes_on}
+use Rattle.dmc_tag.proofs.Outcomes.{ends, goes_on}
 use Rattle.dmc_plain.proofs.queue.PlainQueue.can_grant.Goals as goal
 
 pub returns-in_err-amount : goal.returns-in_err-amount

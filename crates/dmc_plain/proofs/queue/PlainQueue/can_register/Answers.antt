@@ -1,6 +1,7 @@
 use Rattle.std.proofs.Common.{◌≡◌, ◌∙◌, ◌<◌, true, false, length, sym, ap, subst, arith}
 use Rattle.std.specs.Prelude.{is_some, nat_le}
 use Rattle.std.proofs.lemmas.Bool.{le-leb, lt-leb}
+use Rattle.std.proofs.lemmas.Result.{IfOk-from_err}
 use Rattle.dmc_types.specs.Limits.{most_clients}
 use Rattle.dmc_types.specs.declared.refusal.Refusal.TheVariants.{Inexact}
 use Rattle.dmc_tag.specs.Spacing.{spacings_of}
@@ -45,3 +46,6 @@ returns-clause-outcome g c =
 
 pub returns-clause-room : goal.returns-clause-room
 returns-clause-room g c = subst (λ s. length s.clients < most_clients) c.self.view_is (omega arith)
+
+pub returns-in_err-_exact-clause-room : goal.returns-in_err-_exact-clause-room
+returns-in_err-_exact-clause-room g c = IfOk-from_err c.from_residual.result _ c.from_residual.ensures.0

@@ -1,31 +1,23 @@
-use Rattle.std.proofs.Common.{◌≡◌, ◌∙◌, ◌++◌, ◌∷◌, [], length, refl, ap, sym, subst, arith}
-use Rattle.dmc_types.specs.declared.command.Command.TheVariants.{Register}
+use Rattle.std.proofs.Common.{◌∙◌, ◌<◌, length, refl, sym, subst}
+use Rattle.dmc_types.specs.Limits.{most_clients, most_requests}
 use Rattle.dmc_types.specs.declared.refusal.QueueFault.TheVariants as faults
-use Rattle.dmc_tag.specs.State.{effective}
-use Rattle.dmc_tag.specs.Rules.{newcomer}
-use Rattle.dmc_tag.specs.Step.{step}
-use Rattle.dmc_tag.specs.declared.reply.Reply.TheVariants.{Registered}
-use Rattle.dmc_tag.proofs.ForCallers.{registration_keeps_active}
 use Rattle.dmc_tag.proofs.Options.{err_is}
 use Rattle.dmc_plain.proofs.Grants.{registered_as}
+use Rattle.dmc_plain.proofs.Views.{IsKept, pushed_if, kept_if, unregistered_view, registered_view, registered_kept}
 use Rattle.dmc_plain.proofs.queue.PlainQueue.register.Goals as goal
 
 pub invariant_of-self-2 : goal.invariant_of-self-2
 invariant_of-self-2 g c =
-    let q = c.self.inside in
-    let pushed = rw c.if-is_err.ensures.negation at c.push.ensures.items in
-    let clients : length q.clients.items ≡ length c.args.self.now.clients = ap (λ s. length s.clients) c.self.view_is in
-    let room = c.in_ok-can_register.ensures.room in
-    (c.self.invariant.0, omega arith, rw pushed (registration_keeps_active q.clients.items c.newcomer.result q.requests.items c.self.invariant.2))
+    let pushed = pushed_if _ c.self.inside.clients.items c.push.new.self.items c.newcomer.result c.push.ensures.items c.if-is_err.ensures.negation in
+    let room = subst (λ s. length s.clients < most_clients) (sym c.self.view_is) c.in_ok-can_register.ensures.room in
+    registered_kept most_requests most_clients c.self.inside.clients.items c.self.inside.requests.items c.self.invariant c.newcomer.result _ pushed room
 
 pub returns : goal.returns
 returns g c =
-    let ops = g.T.Tag.ops in
-    let old = c.args.self.now in
-    let t = effective old c.args.at in
-    let e = registered_as ops old c.args.client c.args.info c.args.at _ (sym c.can_register.ensures.outcome ∙ c.in_ok-can_register.was) in
-    let pushed = rw c.if-is_err.ensures.negation at c.push.ensures.items in
-    rw (pushed, c.newcomer.ensures, c.effective-at.ensures) (subst (λ s. (record s { clients = s.clients ++ newcomer ops c.args.client c.args.info t ∷ []; last_moment = t }, Registered) ≡ step ops old (Register c.args.client c.args.info c.args.at)) (sym c.self.view_is) (sym e))
+    let pushed = pushed_if _ c.self.inside.clients.items c.push.new.self.items c.newcomer.result c.push.ensures.items c.if-is_err.ensures.negation in
+    registered_view g.T.Tag.ops _ c.args.self.now c.args.client c.args.info c.args.at c.effective-at.result c.newcomer.result _ c.self.view_is c.effective-at.ensures
+    c.newcomer.ensures pushed
+    ∙ sym (registered_as g.T.Tag.ops c.args.self.now c.args.client c.args.info c.args.at _ (sym c.can_register.ensures.outcome ∙ c.in_ok-can_register.was))
 
 pub returns-in_err-can_register : goal.returns-in_err-can_register
 returns-in_err-can_register g c =
@@ -33,8 +25,13 @@ returns-in_err-can_register g c =
     let e = err_is c.from_residual.result (faults.Refused refusal) c.from_residual.ensures.1 in
     rw (e, sym c.can_register.ensures.outcome ∙ c.in_err-can_register.was) refl
 
+pub invariant_of-self : goal.invariant_of-self
+invariant_of-self g c =
+    let kept = kept_if _ c.self.inside.clients.items c.push.new.self.items c.newcomer.result c.push.ensures.items c.if-is_err.ensures.negation in
+    subst (λ clients. IsKept most_requests most_clients clients c.self.inside.requests.items) (sym kept) c.self.invariant
+
 pub returns-then-is_err : goal.returns-then-is_err
 returns-then-is_err g c =
-    let kept = rw c.if-is_err.ensures.negation at c.push.ensures.items in
     let may = sym c.can_register.ensures.outcome ∙ c.in_ok-can_register.was in
-    (rw may refl, rw kept c.self.view_is)
+    let kept = kept_if _ c.self.inside.clients.items c.push.new.self.items c.newcomer.result c.push.ensures.items c.if-is_err.ensures.negation in
+    (rw may refl, unregistered_view _ c.args.self.now c.self.view_is _ kept)

@@ -9,7 +9,8 @@ use Rattle.dmc_pull.specs.Queue.{IsKept}
 use Rattle.dmc_pull.specs.Standing.{requests_in}
 use Rattle.dmc_pull.proofs.Common.Parts.{all_as}
 use Rattle.dmc_pull.proofs.Pull.Choices.{none_queued}
-use Rattle.dmc_pull.proofs.Add.Adds.{tag_order, if_all, record_is, shift_past, shift_empty, shift_by_least}
+use Rattle.dmc_pull.proofs.Common.Keyed.{record_is}
+use Rattle.dmc_pull.proofs.Add.Adds.{tag_order, if_all, shift_past, shift_empty, shift_by_least}
 use Rattle.dmc_pull.proofs.queue.PullQueue.needed_shift.Goals as goal
 use Rattle.dmc_pull.proofs.queue.PullQueue.needed_shift.Goals.{in-None, in-Some-shift_for}
 

@@ -42,3 +42,10 @@ returns-in-Some-tag g c = λ first rest whole.
     let free = moment_of (ops.ceil c.in-Some.limit.now.tag) in
     due_told ops order q.last_moment q.roster.entries q.heads.0 c.self.invariant.0.heads d records (due_from_ceil g.T.Tag.ops g.T.Tag.fraction g.T.Tag.is_value g.met.T.Tag.exact) (future_is_exact g.T.Tag.ops g.T.Tag.fraction g.T.Tag.is_value g.met.T.Tag.exact order) q.config none_early none_free has_none c.in-Some-least_by_reservation.field-0-0 c.in-Some-least_by_reservation.reservation.now c.in-Some-least_by_reservation.ensures c.in-Some.field-0-0 c.in-Some.limit.now c.in-Some.ensures
     c.min.result (c.min.ensures ∙ ap (λ a. min a c.due_moment.result) c.due_moment-free.ensures ∙ ap (λ b. min free b) c.due_moment.ensures ∙ ap (λ o. earlier free (option_map (λ t. moment_of (ops.ceil t)) o)) (sym c.in-Some-tag.is)) first rest (ap (λ v. requests_in v.roster.entries) c.self.view_is ∙ whole)
+
+pub returns-in_default-least_by_reservation : goal.returns-in_default-least_by_reservation
+returns-in_default-least_by_reservation g c = λ first rest whole.
+    let q = c.self.inside in
+    let d = c.self.invariant.0.distinct in
+    let none = none_queued g.T.Tag.ops q.last_moment q.roster.entries q.heads.0 c.self.invariant.0.heads d c.in_default-least_by_reservation.ensures in
+    not_nothing (requests_in q.roster.entries) first rest none (ap (λ v. requests_in v.roster.entries) c.self.view_is ∙ whole)

@@ -10,7 +10,7 @@ use Rattle.dmc_pull.specs.Adding.{IsAddition}
 use Rattle.dmc_pull.specs.Queue.{Queue, IsQueue, head_at, state_of}
 use Rattle.dmc_pull.specs.Range.{AreWithin}
 use Rattle.dmc_pull.specs.Standing.{clients_in, requests_in}
-use Rattle.dmc_pull.proofs.Add.Adds.{record_is}
+use Rattle.dmc_pull.proofs.Common.Keyed.{record_is}
 use Rattle.dmc_pull.proofs.Add.Arrived.{of_client, heads_can_shift, after_calls, within, vacant, apart, with_first, with_more, stands}
 use Rattle.dmc_pull.proofs.Add.InRange.{arrived_within}
 use Rattle.dmc_pull.proofs.queue.PullQueue.queue.Goals as goal

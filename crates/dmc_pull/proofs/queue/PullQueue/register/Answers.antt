@@ -1,5 +1,14 @@
-use Rattle.std.proofs.Common.{rules, ap, arith}
+-- The tests that held are those of the step.
+use Rattle.std.proofs.Common.{ap, arith}
+use Rattle.dmc_types.specs.declared.command.Command.TheVariants.{Register}
+use Rattle.dmc_types.specs.declared.refusal.QueueFault.TheVariants as faults
+use Rattle.dmc_tag.specs.declared.reply.Reply.TheVariants.{Registered}
 use Rattle.dmc_tag.proofs.ForCallers.{moments_are_values}
+use Rattle.dmc_tag.proofs.Options.{err_is}
+use Rattle.dmc_client.specs.Record.{client_of}
+use Rattle.dmc_pull.specs.Queue.{state_of}
+use Rattle.dmc_tag.proofs.Refusals.{refused_as}
+use Rattle.dmc_pull.proofs.Common.Refused.{register_refused, registered_step}
 use Rattle.dmc_pull.proofs.queue.PullQueue.register.Goals as goal
 
 pub admit-requires-clause-kept : goal.admit-requires-clause-kept
@@ -26,7 +35,15 @@ pub admit-requires-clause-later : goal.admit-requires-clause-later
 admit-requires-clause-later g c = c.effective-at.ensures.later
 
 pub returns-in_err-spacings : goal.returns-in_err-spacings
-returns-in_err-spacings g c = search rules
+returns-in_err-spacings g c =
+    let s = state_of c.args.self.now in
+    let refusal = c.in_err-spacings.field-0.0 in
+    let result = c.from_residual.result in
+    refused_as g.T.Tag.ops s (Register c.args.client c.args.info c.args.at) (λ done. Registered) result refusal (err_is result (faults.Refused refusal) c.from_residual.ensures.1)
+    (register_refused g.T.Tag.ops s c.args.client c.args.info c.args.at refusal c.in_err-spacings.ensures.outcome)
 
 pub returns : goal.returns
-returns g c = search rules
+returns g c =
+    registered_step g.T.Tag.ops (state_of c.args.self.now) c.args.client (state_of c.admit.new.self) c.args.info c.args.at c.effective-at.result c.admit.result
+    c.effective-at.ensures.value c.in_ok-spacings.ensures.outcome
+    (client_of c.args.client c.new-rec.result) (ap (client_of c.args.client) c.new-rec.ensures.value) c.admit.ensures.ok c.admit.ensures.err c.admit.ensures.memory

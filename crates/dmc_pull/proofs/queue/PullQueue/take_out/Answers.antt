@@ -1,8 +1,11 @@
-use Rattle.std.proofs.Common.{sym, ap, subst}
-use Rattle.std.specs.Prelude.{◌≤◌}
+-- The client that is named has a first request, which is the one that is taken out.
+use Rattle.std.proofs.Common.{◌≡◌, ◌≤◌, sym, ap, ◌∙◌, subst}
+use Rattle.std.specs.Prelude.{is_some, IfSome}
+use Rattle.std.specs.Option.{option_map}
 use Rattle.dmc_tag.proofs.ForCallers.{due_from_ceil}
-use Rattle.dmc_pull.specs.Choice.{IsFirstOf}
-use Rattle.dmc_pull.proofs.Common.Replaced.{waits, roster_after, held_after, one_at_least, granted}
+use Rattle.dmc_roster.specs.Entries.{record_at, with_record_at, AreDistinct}
+use Rattle.dmc_pull.specs.Choice.{IsFirstOf, first_at, after_grant}
+use Rattle.dmc_pull.proofs.Common.Replaced.{waits, request_is, first_token, roster_after, held_after, one_at_least, granted}
 use Rattle.dmc_pull.proofs.Common.Within.{granted_within}
 use Rattle.dmc_pull.proofs.queue.PullQueue.take_out.Goals as goal
 
@@ -35,3 +38,26 @@ invariant_of-self g c =
       granted ops g.T.Tag.fraction g.T.Tag.is_value (due_from_ceil g.T.Tag.ops g.T.Tag.fraction g.T.Tag.is_value g.met.T.Tag.exact) _ q.queued c.args.key c.args.client c.args.reduces c.args.at d c.self.invariant.0 (waits q.roster.entries c.args.key c.args.client first) later c.grant_first.new.roster c.grant_first.ensures.rest c.grant_first.ensures.kept c.first_tags-tags.result c.first_tags-tags.ensures c.renew.new.heads c.renew.ensures,
       granted_within c.self.invariant.1 d waiting c.args.reduces c.grant_first.new.roster.entries (ap (λ r. r.entries) roster),
     )
+
+pub unwrap-request-requires : goal.unwrap-request-requires
+unwrap-request-requires g c =
+    let first : IsFirstOf c.self.inside.roster.entries c.args.key c.args.client =
+    subst (λ v. IsFirstOf v.roster.entries c.args.key c.args.client) (sym c.self.view_is) c.requires.first in
+    ap is_some (c.grant_first.ensures.value ∙ request_is (waits c.self.inside.roster.entries c.args.key c.args.client first))
+
+pub returns-clause-distinct : goal.returns-clause-distinct
+returns-clause-distinct g c = subst (λ v. AreDistinct v.roster.entries) c.self.view_is c.self.invariant.0.distinct
+
+pub returns-clause-token : goal.returns-clause-token
+returns-clause-token g c =
+    ap (option_map (λ r. r.token)) (sym c.unwrap-request.ensures ∙ c.grant_first.ensures.value)
+    ∙ first_token c.self.inside.roster.entries c.args.key
+    ∙ ap (λ v. option_map (λ found. found.0.token) (first_at c.args.key v.roster.entries)) c.self.view_is
+
+pub returns-clause-roster : goal.returns-clause-roster
+returns-clause-roster g c =
+    subst (λ v. IfSome (record_at c.args.key v.roster.entries) (λ rec. c.grant_first.new.roster ≡ with_record_at v.roster c.args.key (after_grant g.T.Tag.ops c.args.reduces rec)))
+    c.self.view_is c.grant_first.ensures.rest
+
+pub returns-clause-config : goal.returns-clause-config
+returns-clause-config g c = ap (λ v. v.config) c.self.view_is

@@ -42,3 +42,37 @@ returns-in-Err-clause-bytes g c =
     let taken-is : self.taken ≡ c.args.self.now.taken = ap (λ r. r.taken) c.self.view_is ∙ c.move_to_front.ensures.taken in
     let same = same_range self.buffer.items c.read_at.new.buffer.items self.start self.end (omega arith) c.read_at.ensures.front in
     ([], none_taken _ _ c.in-Err.ensures.bytes, same ∙ rest-is, taken-is, omega (arith, taken-is, c.self.invariant.5))
+
+pub overflow_sub-most : goal.overflow_sub-most
+overflow_sub-most g c = c.self.invariant.5
+
+pub read_at-requires : goal.read_at-requires
+read_at-requires g c = omega (arith, c.self.invariant.0, c.self.invariant.4)
+
+pub overflow_add-self : goal.overflow_add-self
+overflow_add-self g c = omega (arith, c.in-Ok.ensures.bound.1, c.in-Ok.ensures.len, c.self.invariant.0)
+
+pub overflow_add-self-in-Ok : goal.overflow_add-self-in-Ok
+overflow_add-self-in-Ok g c = omega (arith, c.in-Ok.ensures.bound.0, c.self.invariant.5)
+
+pub invariant_of-self : goal.invariant_of-self
+invariant_of-self g c =
+    let (len, line, line_limit, rest, limit, taken) = c.self.invariant in
+    (omega (arith, c.read_at.ensures.len, len, c.read_at.new.buffer.ok.0), line, line_limit, rest, limit, taken)
+
+pub invariant_of-self-in-Ok : goal.invariant_of-self-in-Ok
+invariant_of-self-in-Ok g c =
+    let (len, line, line_limit, rest, limit, taken) = c.self.invariant in
+    let new_len : length c.read_at.new.buffer.items ≡ 65536 = omega (arith, c.read_at.ensures.len, len, c.read_at.new.buffer.ok.0) in
+    (new_len, line, line_limit, omega arith, omega (arith, c.in-Ok.ensures.bound.1, new_len, c.read_at.new.buffer.ok.0), omega (arith, c.in-Ok.ensures.bound.0, taken))
+
+pub invariant_of-self-in-Err : goal.invariant_of-self-in-Err
+invariant_of-self-in-Err g c =
+    let (len, line, line_limit, rest, limit, taken) = c.self.invariant in
+    (omega (arith, c.read_at.ensures.len, len, c.read_at.new.buffer.ok.0), line, line_limit, rest, limit, taken)
+
+pub returns-in-Ok-eq0-clause-taken : goal.returns-in-Ok-eq0-clause-taken
+returns-in-Ok-eq0-clause-taken g c = c.self.invariant.5
+
+pub returns-in-Ok-clause-taken : goal.returns-in-Ok-clause-taken
+returns-in-Ok-clause-taken g c = omega (arith, c.in-Ok.ensures.bound.0, c.self.invariant.5)

@@ -109,7 +109,6 @@ fn gathered<S: Setup>(counter: Counter<S>, first: Till<S>, second: Till<S>) -> (
     let Counter { mut book } = counter;
     book.gather(first);
     book.gather(second);
-    let _none = book.open_tills();
     (book.total(), book.gathered())
 }
 

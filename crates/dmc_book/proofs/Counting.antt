@@ -122,7 +122,7 @@ module _ {T : Type 0} where
 module _ {T : Type 0} (ops : Tagging T) where
   -- a call for which there was no memory
   pub consistent_memory : (q p : State T) (b : BookState T) (command : Command) → IsConsistent ops q b → Steps ops q p command None → IsConsistent ops p b
-  consistent_memory q p b command h steps = record { stands = (steps (after ops b.config b.history) h.stands).1; replaying = h.replaying; workers = h.workers; desks = h.desks; workers_apart = h.workers_apart; clients_apart = h.clients_apart; granted = h.granted; limit = h.limit }
+  consistent_memory q p b command h steps = record { stands = (steps.1 (after ops b.config b.history) h.stands).1; replaying = h.replaying; workers = h.workers; desks = h.desks; workers_apart = h.workers_apart; clients_apart = h.clients_apart; granted = h.granted; limit = h.limit }
 
   -- the reply is that of the rules
   pub reply_after : (q p : State T) (b : BookState T) (command : Command) (reply : Reply T) → IsConsistent ops q b → Steps ops q p command (Some reply) → reply ≡ (step ops (after ops b.config b.history) command).1

@@ -94,7 +94,7 @@ module _ {T Q : Type 0} (ops : Tagging T) (state : Q → State T) (core : CoreVa
             let both = the_client state core run r id i (found_place id s core i place) in
             let server = the_server state core run r s within in
             let first : slice_get (pair_at s both.y.pairs).flight 0 ≡ Some message = rw (← both.related.pairs) (oldest both.x both.at) in
-            let stays = steps server.x server.at server.y server.related in (
+            let stays = (steps server.x server.at).1 server.y server.related in (
               rw (both.found, server.found, first) (added_accepted ops server.y id message.token message.params at stays.0),
               record { servers = rw (← set_same run.servers s.0 server.y server.found) (server.put q' server.y stays.1); clients = r.clients },
             ),

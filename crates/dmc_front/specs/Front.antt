@@ -1,5 +1,5 @@
 -- A queue whose tags are of either type: the plain state that it is, and what a command at it is answered.
-use Rattle.std.specs.Prelude.{◌≡◌, ℕ, ℤ, length, Option, Some, None, IsOk}
+use Rattle.std.specs.Prelude.{◌≡◌, ℕ, ℤ, length, Option, Some, None, IsOk, IsTrue}
 use Rattle.std.specs.Option.{option_map}
 use Rattle.dmc_types.specs.Values.{Setting}
 use Rattle.dmc_types.specs.declared.config.TagKind.{TagKind}
@@ -8,6 +8,7 @@ use Rattle.dmc_types.specs.declared.command.Command.{Command}
 use Rattle.dmc_tag.specs.Tag.{Fraction, Tagging}
 use Rattle.dmc_tag.specs.State.{State, StandsFor, opening}
 use Rattle.dmc_tag.specs.Step.{outcome, step}
+use Rattle.dmc_tag.specs.Steps.{may_grow}
 use Rattle.dmc_tag.specs.declared.reply.Tags.{Tags}
 use Rattle.dmc_tag.specs.declared.reply.Reply.{Reply}
 use Rattle.dmc_tag.specs.declared.reply.Reply.TheVariants.{Registered, Updated, Tagged, Granted, Later, Nothing, Removed, Cleaned, Refused}
@@ -54,10 +55,11 @@ in_fractions fraction (Refused refusal) = Refused refusal
 -- ---- one command
 
 -- From each plain state that the queue stands for, the reply is that of step, in fractions, and the queue stands for the
--- state after; or there is none for want of memory, where step refuses nothing, and it stands for what it stood for.
+-- state after; or there is none for want of memory, where the command may grow and step refuses nothing, and it stands for
+-- what it stood for.
 abbrev pub Shows : {T : Type 0} → Tagging T → (T → Fraction) → State T → State T → Command → Option (Reply Fraction) → Type 0
 Shows {T} ops fraction old new command (Some reply) = (s : State T) → StandsFor old s → (reply ≡ in_fractions fraction ((step ops s command).1)) × StandsFor new ((step ops s command).0)
-Shows {T} ops fraction old new command None = (s : State T) → StandsFor old s → IsOk (outcome ops s command) × StandsFor new s
+Shows {T} ops fraction old new command None = IsTrue (may_grow command) × ((s : State T) → StandsFor old s → IsOk (outcome ops s command) × StandsFor new s)
 
 -- the same of a queue whose tags are of either type, and stay of it
 abbrev pub FrontSteps : Front → Front → Command → Option (Reply Fraction) → Type 0

@@ -3,16 +3,14 @@ ghost use Rattle.std.specs.Prelude.{◌≡◌, length};
 ghost use Rattle.std.specs.Result.{result_ok};
 ghost use Rattle.dmc_front.specs.Front.{opening_with, Shows, FrontSteps, clients_in, requests_in};
 ghost use Rattle.dmc_pull.specs.Queue.{state_of};
-ghost use Rattle.dmc_tag.specs.Steps.{Steps};
 
 use crate::fraction::{AsFraction, TagFraction, in_fractions};
 use dmc_heap::indexed_heap::HeapIndexes;
 use dmc_index::index::Indexes;
 use dmc_pull::queue::PullQueue;
 use dmc_ratio::ratio::RatioTag;
-use dmc_tag::answers;
 use dmc_tag::reply::Reply;
-use dmc_tag::scheduler::Scheduler;
+use dmc_tag::scheduler::apply_to;
 use dmc_tag::tag::Tag;
 use dmc_tick::tick::TickTag;
 use dmc_types::command::Command;
@@ -47,43 +45,15 @@ impl Model for FrontQueue {
     ghost view = { λ q. front_of q.queue };
 }
 
-/// The reply to a command. It is the scheduler's `apply` written out here, so that it can become a part of its callers, where
-/// the command is known.
+/// One command at a queue, and its reply in fractions. An error is an allocation failure, and changes nothing.
 #[inline(always)]
-fn reply_to<T: Tag, Q: Scheduler<T>>(
-    queue: &mut Q,
-    command: &Command,
-) -> Result<Reply<T>, AllocError>
-    ensures { Steps T.ops (Q.state queue.old) (Q.state queue.new) command.now (result_ok result) }
-{
-    match *command {
-        Command::Register { client, info, at } => {
-            answers::registered(queue.register(client, info, at))
-        }
-        Command::Update { client, info, at } => Ok(answers::updated(queue.update_info(
-            client, info, at,
-        ))),
-        Command::Add {
-            client,
-            token,
-            params,
-            at,
-        } => answers::tagged(queue.add_request(client, token, params, at)),
-        Command::Pull { at } => Ok(answers::pulled(queue.pull_request(at))),
-        Command::Remove { client } => Ok(answers::removed(queue.remove_by_client(client))),
-        Command::Clean { at } => Ok(answers::cleaned(queue.clean(at))),
-    }
-}
-
-/// One command at a queue, and its reply in fractions. An error is want of memory, and changes nothing.
-#[inline(always)]
-fn apply_to<T: AsFraction, I: Indexes<T>>(
+fn apply_in_fractions<T: AsFraction, I: Indexes<T>>(
     queue: &mut PullQueue<T, I>,
     command: &Command,
 ) -> Result<Reply<TagFraction>, AllocError>
     ensures { Shows T.ops T.fraction (state_of queue.old) (state_of queue.new) command.now (result_ok result) }
 {
-    Ok(in_fractions(reply_to(queue, command)?))
+    Ok(in_fractions(apply_to(queue, command)?))
 }
 
 /// How many clients are registered, and how many requests are queued.
@@ -116,15 +86,15 @@ impl FrontQueue {
         FrontQueue { queue }
     }
 
-    /// The reply to a command, with fractions in place of tags: the one call of the queue. An error is want of memory, and
-    /// changes nothing.
+    /// The reply to a command, with fractions in place of tags: the one call of the queue. An error is an allocation failure,
+    /// of a Register or an Add alone, and changes nothing.
     #[inline(always)]
     pub fn apply(&mut self, command: &Command) -> Result<Reply<TagFraction>, AllocError>
         ensures { FrontSteps self.old self.new command.now (result_ok result) }
     {
         match &mut self.queue {
-            Queue::Tick(queue) => apply_to(&mut queue.0, command),
-            Queue::Ratio(queue) => apply_to(&mut queue.0, command),
+            Queue::Tick(queue) => apply_in_fractions(&mut queue.0, command),
+            Queue::Ratio(queue) => apply_in_fractions(&mut queue.0, command),
         }
     }
 

@@ -236,7 +236,7 @@ module _ {T : Type 0} (ops : Tagging T) (o : IsTotalOrder ops.compare) where
   steps_exactly old new c (Some reply) e = λ s h.
       let same = steps_agree old s c h in
       (ap (λ p. p.1) e ∙ same.0, subst (λ p. StandsFor p.0 ((step ops s c).0)) (sym e) same.1)
-  steps_exactly old new c None e = λ s h. (same_ok (outcome ops old c) (outcome ops s c) (outcomes_agree old s c h) e.0, subst (λ v. StandsFor v s) (sym e.1) h)
+  steps_exactly old new c None e = (e.0, λ s h. (same_ok (outcome ops old c) (outcome ops s c) (outcomes_agree old s c h) e.1, subst (λ v. StandsFor v s) (sym e.2) h))
 
   -- a step to a state that agrees with step's is the step from each state that the old one stands for
   pub steps_agreeing : (old new : State T) (c : Command) (reply : Reply T) → reply ≡ (step ops old c).1 → StandsFor new ((step ops old c).0) → Steps ops old new c (Some reply)

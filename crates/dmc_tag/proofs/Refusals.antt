@@ -1,6 +1,6 @@
 -- Why a registration or an update is refused, before anything else is asked; and what a call that is refused, or that gets no memory, answers.
 use Rattle.std.proofs.Common.{◌≡◌, true, false, Some, None, is_some, Result, Err, refl, sym, ap, ◌∙◌, subst}
-use Rattle.std.specs.Prelude.{IsOk}
+use Rattle.std.specs.Prelude.{IsOk, IsTrue}
 use Rattle.dmc_types.specs.Values.{Rates}
 use Rattle.dmc_types.specs.declared.ids.ClientId.{ClientId}
 use Rattle.dmc_types.specs.declared.command.Command.{Command}
@@ -15,7 +15,7 @@ use Rattle.dmc_tag.specs.Answers.{call_reply}
 use Rattle.dmc_tag.specs.Spacing.{spacings_of}
 use Rattle.dmc_tag.specs.Rules.{can_register, can_update}
 use Rattle.dmc_tag.specs.Step.{answer_of, outcome}
-use Rattle.dmc_tag.specs.Steps.{Exactly}
+use Rattle.dmc_tag.specs.Steps.{Exactly, may_grow}
 use Rattle.dmc_tag.specs.declared.plain.PlainClient.{PlainClient}
 use Rattle.dmc_tag.specs.declared.reply.Reply.{Reply}
 
@@ -38,6 +38,6 @@ module _ {T X : Type 0} (ops : Tagging T) (old : State T) (command : Command) (t
   pub refused_as : (refusal : Refusal) → result ≡ Err (faults.Refused refusal) → Err refusal ≡ outcome ops old command → Exactly ops old old command (call_reply tell result)
   refused_as refusal e o = subst (λ r. Exactly ops old old command (call_reply tell r)) (sym e) (ap (answer_of old) o)
 
-  pub no_memory : (new : State T) (fault : QueueFault) → result ≡ Err fault → fault ≡ faults.Memory → IsOk (outcome ops old command) → new ≡ old
+  pub no_memory : (new : State T) (fault : QueueFault) → IsTrue (may_grow command) → result ≡ Err fault → fault ≡ faults.Memory → IsOk (outcome ops old command) → new ≡ old
       → Exactly ops old new command (call_reply tell result)
-  no_memory new fault e m ok kept = subst (λ r. Exactly ops old new command (call_reply tell r)) (sym (e ∙ ap Err m)) (ok, kept)
+  no_memory new fault grows e m ok kept = subst (λ r. Exactly ops old new command (call_reply tell r)) (sym (e ∙ ap Err m)) (grows, ok, kept)

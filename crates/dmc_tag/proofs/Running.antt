@@ -1,14 +1,20 @@
 -- One more command of a run, and one more event of a history.
-use Rattle.std.proofs.Common.{◌≡◌, ℕ, ◌+◌, ◌<◌, List, [], ◌∷◌, ◌++◌, map, length, take, get_or, Some, None, refl, sym, ap, ◌∙◌, subst}
+use Rattle.std.proofs.Common.{◌≡◌, ℕ, ◌+◌, ◌<◌, false, List, [], ◌∷◌, ◌++◌, map, length, take, get_or, slice_get, Some, None, refl, sym, ap, ◌∙◌, subst}
+use Rattle.std.specs.Prelude.{IsTrue}
+use Rattle.std.specs.Option.{option_map_or}
 use Rattle.std.proofs.lemmas.List.{take_more}
+use Rattle.std.proofs.lemmas.Option.{slice_get_read}
 use Rattle.dmc_types.specs.declared.command.Command.{Command}
 use Rattle.dmc_tag.specs.Tag.{Tagging}
 use Rattle.dmc_tag.specs.State.{State}
 use Rattle.dmc_tag.specs.Step.{step}
-use Rattle.dmc_tag.specs.Steps.{Steps, Runs, Reaches}
+use Rattle.dmc_tag.specs.Steps.{Steps, Runs, Reaches, may_grow, grows_at}
 use Rattle.dmc_tag.specs.Replay.{replies_of, state_after, replays_from}
 use Rattle.dmc_tag.specs.declared.event.Event.{Event}
 use Rattle.dmc_tag.specs.declared.reply.Reply.{Reply}
+
+pub grows_here : (cs : List Command) (i : ℕ) (c : Command) → i < length cs → c ≡ get_or cs i c → IsTrue (may_grow c) → IsTrue (grows_at cs i)
+grows_here cs i c within is grows = subst (λ o. IsTrue (option_map_or may_grow o false)) (sym (slice_get_read cs (length cs) i c refl within is)) grows
 
 module _ {T : Type 0} (ops : Tagging T) where
   replies_of-more : (s : State T) (cs : List Command) (c : Command) → replies_of ops s (cs ++ c ∷ []) ≡ replies_of ops s cs ++ (step ops (state_after ops s cs) c).1 ∷ []
@@ -35,7 +41,7 @@ module _ {T : Type 0} (ops : Tagging T) where
 
   -- want of memory leaves what was reached
   pub reaches_same : (old mid new : State T) (cs : List Command) (replies : List (Reply T)) (c : Command) → Runs ops old mid cs replies → Steps ops mid new c None → Reaches ops old new cs
-  reaches_same old mid new cs replies c runs steps = λ s h. (steps (state_after ops s cs) (runs s h).1).1
+  reaches_same old mid new cs replies c runs steps = λ s h. (steps.1 (state_after ops s cs) (runs s h).1).1
 
   -- ---- one more event
 

@@ -1,23 +1,38 @@
 -- What a scheduler promises of a call.
-use Rattle.std.specs.Prelude.{◌≡◌, Option, Some, None, List, IsOk}
+use Rattle.std.specs.Prelude.{◌≡◌, ℕ, Bool, true, false, IsTrue, Option, Some, None, List, IsOk, slice_get}
+use Rattle.std.specs.Option.{option_map_or}
 use Rattle.dmc_types.specs.declared.command.Command.{Command}
+use Rattle.dmc_types.specs.declared.command.Command.TheVariants.{Register, Update, Add, Pull, Remove, Clean}
 use Rattle.dmc_tag.specs.Tag.{Tagging}
 use Rattle.dmc_tag.specs.State.{State, StandsFor}
 use Rattle.dmc_tag.specs.Step.{outcome, step}
 use Rattle.dmc_tag.specs.Replay.{replies_of, state_after}
 use Rattle.dmc_tag.specs.declared.reply.Reply.{Reply}
 
+-- the commands that may make a queue grow: no other fails for want of memory
+abbrev pub may_grow : Command → Bool
+may_grow (Register client info at) = true
+may_grow (Update client info at) = false
+may_grow (Add client token params at) = true
+may_grow (Pull at) = false
+may_grow (Remove client) = false
+may_grow (Clean at) = false
+
+-- whether the command at an index is one of these
+abbrev pub grows_at : List Command → ℕ → Bool
+grows_at commands i = option_map_or may_grow (slice_get commands i) false
+
 -- From each plain state that the scheduler stands for, a call is that step; or it answers nothing for want of memory,
--- where step refuses nothing, and stands for what it stood for.
+-- where the command may grow and step refuses nothing, and stands for what it stood for.
 abbrev pub Steps : {T : Type 0} → Tagging T → State T → State T → Command → Option (Reply T) → Type 0
 Steps {T} ops old new command (Some reply) = (s : State T) → StandsFor old s → (reply ≡ (step ops s command).1) × StandsFor new ((step ops s command).0)
-Steps {T} ops old new command None = (s : State T) → StandsFor old s → IsOk (outcome ops s command) × StandsFor new s
+Steps {T} ops old new command None = IsTrue (may_grow command) × ((s : State T) → StandsFor old s → IsOk (outcome ops s command) × StandsFor new s)
 
--- One step from this very state: its reply and its state; or nothing for want of memory, where step refuses nothing,
--- and the state as it was.
+-- One step from this very state: its reply and its state; or nothing for want of memory, where the command may grow and
+-- step refuses nothing, and the state as it was.
 abbrev pub Exactly : {T : Type 0} → Tagging T → State T → State T → Command → Option (Reply T) → Type 0
 Exactly ops old new command (Some reply) = (new, reply) ≡ step ops old command
-Exactly ops old new command None = IsOk (outcome ops old command) × (new ≡ old)
+Exactly ops old new command None = IsTrue (may_grow command) × IsOk (outcome ops old command) × (new ≡ old)
 
 -- From each plain state that the scheduler stood for, the replies are those of step, and it stands for the state after.
 abbrev pub Runs : {T : Type 0} → Tagging T → State T → State T → List Command → List (Reply T) → Type 0

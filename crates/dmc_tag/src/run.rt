@@ -1,6 +1,6 @@
 //! Whole runs of commands.
-ghost use Rattle.std.specs.Prelude.{◌≤◌, length, take, IfOk, IfErr};
-ghost use Rattle.dmc_tag.specs.Steps.{Runs, Reaches};
+ghost use Rattle.std.specs.Prelude.{◌≡◌, ◌≤◌, ◌⊎◌, length, take, IsTrue, IfOk, IfErr};
+ghost use Rattle.dmc_tag.specs.Steps.{Runs, Reaches, grows_at};
 
 use crate::reply::Reply;
 use crate::scheduler::Scheduler;
@@ -24,6 +24,9 @@ pub fn run_commands<T: Tag, S: Scheduler<T>>(
 ) -> Result<Vec<Reply<T>>, Stop>
     ensures replies { IfOk result (λ replies. Runs T.ops (S.state scheduler.old) (S.state scheduler.new) commands.now replies.items) }
     ensures stop { IfErr result (λ stop. (stop.done ≤ length commands.now) × Reaches T.ops (S.state scheduler.old) (S.state scheduler.new) (take stop.done commands.now)) }
+
+    // Only the room for the replies, before the first command, and a command that may grow can want memory.
+    ensures cause { IfErr result (λ stop. (stop.done ≡ 0) ⊎ IsTrue (grows_at commands.now stop.done)) }
 {
     let Ok(mut replies) = Vec::with_capacity(alloc, commands.len()) else {
         return Err(Stop { done: 0 });

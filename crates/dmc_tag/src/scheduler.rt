@@ -67,26 +67,37 @@ pub trait Scheduler<T: Tag> {
         ensures state { result ≡ length (state self.now).requests }
         ensures each { (s : State T) → StandsFor (state self.now) s → result ≡ length s.requests };
 
-    /// The reply to a command. An error is want of memory, and changes nothing.
-    fn apply(&mut self, command: &Command) -> Result<Reply<T>, AllocError>
+    /// The reply to a command. An error is an allocation failure, of a Register or an Add alone, and changes nothing.
+    final fn apply(&mut self, command: &Command) -> Result<Reply<T>, AllocError>
         ensures { Steps T.ops (state self.old) (state self.new) command.now (result_ok result) }
     {
-        match *command {
-            Command::Register { client, info, at } => {
-                answers::registered(self.register(client, info, at))
-            }
-            Command::Update { client, info, at } => {
-                Ok(answers::updated(self.update_info(client, info, at)))
-            }
-            Command::Add {
-                client,
-                token,
-                params,
-                at,
-            } => answers::tagged(self.add_request(client, token, params, at)),
-            Command::Pull { at } => Ok(answers::pulled(self.pull_request(at))),
-            Command::Remove { client } => Ok(answers::removed(self.remove_by_client(client))),
-            Command::Clean { at } => Ok(answers::cleaned(self.clean(at))),
+        apply_to(self, command)
+    }
+}
+
+/// The reply of a queue to a command, as `Scheduler::apply`. It becomes a part of its caller, where the command is known.
+#[inline(always)]
+pub fn apply_to<T: Tag, Q: Scheduler<T>>(
+    queue: &mut Q,
+    command: &Command,
+) -> Result<Reply<T>, AllocError>
+    ensures { Steps T.ops (Q.state queue.old) (Q.state queue.new) command.now (result_ok result) }
+{
+    match *command {
+        Command::Register { client, info, at } => {
+            answers::registered(queue.register(client, info, at))
         }
+        Command::Update { client, info, at } => {
+            Ok(answers::updated(queue.update_info(client, info, at)))
+        }
+        Command::Add {
+            client,
+            token,
+            params,
+            at,
+        } => answers::tagged(queue.add_request(client, token, params, at)),
+        Command::Pull { at } => Ok(answers::pulled(queue.pull_request(at))),
+        Command::Remove { client } => Ok(answers::removed(queue.remove_by_client(client))),
+        Command::Clean { at } => Ok(answers::cleaned(queue.clean(at))),
     }
 }

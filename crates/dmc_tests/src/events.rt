@@ -7,6 +7,7 @@ use dmc_tag::event::Event;
 use dmc_tag::reply::Reply;
 use dmc_text::cause::LineCause;
 use dmc_text::script::ScriptFault;
+use dmc_text::watched::Watched;
 use dmc_tick::tick::TickTag;
 use dmc_types::command::Command;
 use dmc_types::config::{AtLimit, QueueConfig};
@@ -23,14 +24,14 @@ fn checks<T: AllocGlobal + Abort>(
     output: &[u8],
     answer: Result<Verdict, ScriptFault>,
 ) -> Result<(), Fail> {
-    let mut written = Vec::with_capacity(rt.alloc(), 32)?;
-    let mut reader = input;
+    let mut written = Watched::new(Vec::with_capacity(rt.alloc(), 32)?);
+    let mut reader = Watched::new(input);
     let checked = check_text::<TickTag, _, _>(rt.alloc(), &mut reader, &mut written);
     if checked == Err(ScriptFault::Memory) {
         return Err(AllocError.into());
     }
     assert_same(rt, &checked, &answer);
-    assert_same(rt, &written.as_slice(), &output);
+    assert_same(rt, &written.stream().as_slice(), &output);
     Ok(())
 }
 

@@ -39,7 +39,7 @@ module _ {T : Type 0} (ops : Tagging T) (old : State T) (id : ClientId) where
       ∙ ap (λ t. answer_of old (registered ops old id info t)) moment_is
   registered_step new info at moment (Err fault) moment_is may client client_is ok err memory =
       let done : IsOk (outcome ops old (Register id info at)) = ap (λ tests. is_ok (registered_by info (effective old at) tests)) (sym may) in
-      no_memory ops old (Register id info at) (λ (done : ⊤). Registered) (Err fault) new fault refl memory done err
+      no_memory ops old (Register id info at) (λ (done : ⊤). Registered) (Err fault) new fault refl refl memory done err
 
   module _ (token : Token) (params : Params) (at moment : ℕ) (moment_is : moment ≡ effective old at) where
     pub add_refused : (refusal : Refusal) → can_add ops old id params (ops.of_moment moment) ≡ Err refusal → Err refusal ≡ outcome ops old (Add id token params at)

@@ -1,4 +1,4 @@
-use Rattle.std.proofs.Common.{◌∙◌, Ok, Err, sym, ap}
+use Rattle.std.proofs.Common.{◌∙◌, Ok, Err, sym, ap, refl}
 use Rattle.std.specs.Prelude.{is_ok}
 use Rattle.dmc_types.specs.declared.command.Command.TheVariants.{Add}
 use Rattle.dmc_types.specs.declared.refusal.QueueFault.TheVariants as faults
@@ -26,7 +26,7 @@ queue-requires-clause-known g c = c.in_ok-shift.ensures.known
 pub returns-in_err-queue : goal.returns-in_err-queue
 returns-in_err-queue g c =
     let fault = c.in_err-queue.field-0.0 in
-    no_memory g.T.Tag.ops c.args.self.now (Add c.args.client c.args.token c.args.params c.args.at) Tagged c.from_residual-in_err-queue.result c.queue.new.self fault
+    no_memory g.T.Tag.ops c.args.self.now (Add c.args.client c.args.token c.args.params c.args.at) Tagged c.from_residual-in_err-queue.result c.queue.new.self fault refl
     (err_is c.from_residual-in_err-queue.result fault c.from_residual-in_err-queue.ensures.1) c.in_err-queue.ensures.memory
     (sym (ap is_ok (add_comes_to g.T.Tag.ops c.args.self.now c.args.client c.args.token c.args.params c.args.at c.effective-at.result c.of_moment.result
     (Ok (c.in_ok-shift.shift, c.in_ok-shift.tags)) c.of_moment.ensures c.effective-at.ensures (sym c.can_add.ensures.outcome ∙ c.in_ok-shift.was))))

@@ -34,4 +34,4 @@ pub returns-then-is_err : goal.returns-then-is_err
 returns-then-is_err g c =
     let may = sym c.can_register.ensures.outcome ∙ c.in_ok-can_register.was in
     let kept = kept_if _ c.self.inside.clients.items c.push.new.self.items c.newcomer.result c.push.ensures.items c.if-is_err.ensures.negation in
-    (rw may refl, unregistered_view _ c.args.self.now c.self.view_is _ kept)
+    (refl, rw may refl, unregistered_view _ c.args.self.now c.self.view_is _ kept)

@@ -1,5 +1,5 @@
 -- The step of an add, and what is told where it is refused or has no memory.
-use Rattle.std.proofs.Common.{sym, ap, ◌∙◌, subst}
+use Rattle.std.proofs.Common.{sym, ap, ◌∙◌, subst, refl}
 use Rattle.dmc_types.specs.declared.command.Command.TheVariants.{Add}
 use Rattle.dmc_types.specs.declared.refusal.QueueFault.TheVariants as faults
 use Rattle.dmc_tag.specs.Answers.{call_reply}
@@ -52,4 +52,4 @@ returns-in_err-queue g c =
     let result = c.from_residual-in_err-queue.result in
     let kept = ap state_of (c.in_err-queue.ensures.err ∙ c.can_add.ensures.same) in
     steps_exactly ops (tag_order g.T.Ord.cmp ops.compare g.met.T.Ord.total g.met.T.Tag.compares) old new command (call_reply (λ tags. Tagged tags) result)
-    (no_memory ops old command (λ tags. Tagged tags) result new fault (err_is result fault c.from_residual-in_err-queue.ensures.1) c.in_err-queue.ensures.memory done kept)
+    (no_memory ops old command (λ tags. Tagged tags) result new fault refl (err_is result fault c.from_residual-in_err-queue.ensures.1) c.in_err-queue.ensures.memory done kept)

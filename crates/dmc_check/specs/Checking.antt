@@ -1,5 +1,5 @@
 -- A check of an event text, line by line.
-use Rattle.std.specs.Prelude.{◌≡◌, ℕ, ℤ, Bool, ◌<◌, length, List, [], Option, Some, None, is_some, Result, Ok, Err, ⊤}
+use Rattle.std.specs.Prelude.{◌≡◌, ℕ, ℤ, Bool, true, ◌<◌, length, List, [], Option, Some, None, is_some, Result, Ok, Err, ⊤}
 use Rattle.std.proofs.Common.{ap}
 use Rattle.std.specs.Io.KnownBytes.{Appends, Keeps}
 use Rattle.dmc_types.specs.Limits.{most_line_bytes}
@@ -11,6 +11,8 @@ use Rattle.dmc_text.specs.Answers.{◌>>=◌}
 use Rattle.dmc_text.specs.Words.{words}
 use Rattle.dmc_text.specs.LineLaws.{long_kind}
 use Rattle.dmc_text.specs.Texts.{AppendsSome}
+use Rattle.dmc_text.specs.Watching.{failed, IsCalm}
+use Rattle.dmc_text.specs.declared.watched.Watched.{Watched}
 use Rattle.dmc_check.specs.declared.check.Verdict.{Verdict}
 use Rattle.dmc_check.specs.declared.line.EventLine.{EventLine}
 use Rattle.dmc_check.specs.declared.replay.Replay.{Replay}
@@ -49,3 +51,9 @@ WritesVerdict old new checked (Err faults.Write) = AppendsSome old new (verdict_
 WritesVerdict old new checked (Err faults.Memory) = Keeps old new
 WritesVerdict old new checked (Err faults.Read) = ⊥
 WritesVerdict old new checked (Err (faults.Line n cause)) = ⊥
+
+-- Write is reported exactly where the writer failed.
+abbrev pub VerdictNoted : {W : Type 0} → (old new : Watched W) → Result Verdict ScriptFault → Type 0
+VerdictNoted old new (Ok verdict) = IsCalm old new
+VerdictNoted old new (Err faults.Write) = failed new ≡ true
+VerdictNoted old new (Err fault) = IsCalm old new

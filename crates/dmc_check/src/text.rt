@@ -1,9 +1,10 @@
 //! Event texts are checked.
 ghost use Rattle.std.specs.Prelude.{◌≡◌, Option, None, Some, [], Err, IfOk, OnOk, IsTrue, is_some};
 ghost use Rattle.dmc_text.specs.declared.cause.LineCause.{LineCause};
+ghost use Rattle.dmc_text.specs.Watching.{stream_of, EndsNoted};
 ghost use Rattle.dmc_check.specs.EventLines.{event_of};
 ghost use Rattle.dmc_check.specs.EventTexts.{Recorded, with_line, verdict_text, ChecksAs};
-ghost use Rattle.dmc_check.specs.Checking.{Holds, Follows, IsChecked, WritesVerdict, long_event};
+ghost use Rattle.dmc_check.specs.Checking.{Holds, Follows, IsChecked, WritesVerdict, VerdictNoted, long_event};
 
 use crate::check::Verdict;
 use crate::line::{EventLine, read_event_line};
@@ -14,6 +15,7 @@ use dmc_text::script::ScriptFault;
 use dmc_text::send::send;
 use dmc_text::tag::TagText;
 use dmc_text::walk::{TakesLines, Walk};
+use dmc_text::watched::Watched;
 use dmc_types::config::QueueConfig;
 use std::alloc::{AllocError, Global};
 use std::io::{Read, Write};
@@ -124,9 +126,10 @@ fn verdict_line(alloc: Global, checked: Checked) -> Result<Vec<u8>, AllocError>
 fn write_verdict<W: Write>(
     alloc: Global,
     checked: Checked,
-    writer: &mut W,
+    writer: &mut Watched<W>,
 ) -> Result<Verdict, ScriptFault>
-    ensures { WritesVerdict (W.contents writer.old) (W.contents writer.new) checked result }
+    ensures bytes { WritesVerdict (W.contents (stream_of writer.old)) (W.contents (stream_of writer.new)) checked result }
+    ensures note { VerdictNoted writer.old writer.new result }
 {
     let Ok(line) = verdict_line(alloc, checked) else {
         return Err(ScriptFault::Memory);
@@ -141,11 +144,12 @@ fn write_verdict<W: Write>(
 fn check_lines<T: TagText, R: Read, W: Write>(
     alloc: Global,
     checking: &mut Checking<T>,
-    reader: &mut R,
-    writer: &mut W,
+    reader: &mut Watched<R>,
+    writer: &mut Watched<W>,
 ) -> Result<Verdict, ScriptFault>
     requires { Holds T.ops None checking.old.replay }
-    ensures { ChecksAs T.ops T.made (R.remaining reader.old) (R.remaining reader.new) (W.contents writer.old) (W.contents writer.new) result }
+    ensures bytes { ChecksAs T.ops T.made (R.remaining (stream_of reader.old)) (R.remaining (stream_of reader.new)) (W.contents (stream_of writer.old)) (W.contents (stream_of writer.new)) result }
+    ensures notes { EndsNoted R.remaining 0 reader.old reader.new writer.old writer.new result }
 {
     let Ok(mut walk) = Walk::new(alloc, 0) else {
         return Err(ScriptFault::Memory);
@@ -159,10 +163,11 @@ fn check_lines<T: TagText, R: Read, W: Write>(
 /// events, or `differs I`. All of the text is read, also behind a difference. No event is kept.
 pub fn check_text<T: TagText, R: Read, W: Write>(
     alloc: Global,
-    reader: &mut R,
-    writer: &mut W,
+    reader: &mut Watched<R>,
+    writer: &mut Watched<W>,
 ) -> Result<Verdict, ScriptFault>
-    ensures { ChecksAs T.ops T.made (R.remaining reader.old) (R.remaining reader.new) (W.contents writer.old) (W.contents writer.new) result }
+    ensures bytes { ChecksAs T.ops T.made (R.remaining (stream_of reader.old)) (R.remaining (stream_of reader.new)) (W.contents (stream_of writer.old)) (W.contents (stream_of writer.new)) result }
+    ensures notes { EndsNoted R.remaining 0 reader.old reader.new writer.old writer.new result }
 {
     let mut checking: Checking<T> = Checking { replay: None };
     check_lines(alloc, &mut checking, reader, writer)

@@ -1,26 +1,29 @@
 //! The program `dmclock`.
 #![tactic(auto)]
 
+use dmc_text::watched::Watched;
 use dmc_tool::fault::Fault;
-use dmc_tool::tool::{run_tool, tell};
+use dmc_tool::telling::tell;
+use dmc_tool::tool::run_tool;
 use std::io::ErrorKind;
 use std::process::ExitCode;
 use std::{env, io};
 
 /// Runs the tool that the program's words name, on the standard streams.
 fn main(rt: HostRuntime) -> ExitCode {
+    let mut fault_writer = Watched::new(rt.stderr());
     let words = match program_words(&rt) {
         Ok(words) => words,
-        Err(fault) => return ExitCode::from(tell(fault, &mut rt.stderr())),
+        Err(fault) => return ExitCode::from(tell(fault, &mut fault_writer)),
     };
-    let mut reader = rt.reader();
-    let mut writer = io::writer(&rt);
+    let mut reader = Watched::new(rt.reader());
+    let mut writer = Watched::new(io::writer(&rt));
     let status = run_tool(
         &rt,
         words.as_slice(),
         &mut reader,
         &mut writer,
-        &mut rt.stderr(),
+        &mut fault_writer,
     );
     ExitCode::from(status)
 }

@@ -55,6 +55,67 @@ fn thirds(rt: HostRuntime) -> Result<(), Fail> {
 }
 
 #[test]
+fn small_weights(rt: HostRuntime) -> Result<(), Fail> {
+    gives(
+        &rt,
+        "tick",
+        "hz 1000; client 1 - 1 - 0; client 2 - 2 - 0; add 1 1 1 1 0; add 1 2 1 1 0; add 2 1 1 \
+         1 0; add 2 2 1 1 0; pull 0; add 1 3 1 1 0; pull 100; add 2 3 1 1 100; pull 200; add \
+         1 4 1 1 200; pull 300; add 2 4 1 1 300; pull 400; add 2 5 1 1 400; pull 500; add 1 5 \
+         1 1 500; pull 600; add 2 6 1 1 600; pull 700; add 2 7 1 1 700; pull 800; add 1 6 1 1 \
+         800; pull 900; add 2 8 1 1 900; pull 1000; add 2 9 1 1 1000; pull 1100; add 1 7 1 1 \
+         1100; pull 1200; add 2 10 1 1 1200; pull 1300; add 2 11 1 1 1300; pull 1400; add 1 8 \
+         1 1 1400",
+        "ok; ok; tags - 0 1000; tags - 0 2000; tags - 0 500; tags - 0 1000; grant 1 1 \
+         priority; tags - 0 2000; grant 2 1 priority; tags - 100 1500; grant 1 2 priority; \
+         tags - 200 3000; grant 2 2 priority; tags - 300 2000; grant 2 3 priority; tags - 400 \
+         2500; grant 1 3 priority; tags - 500 4000; grant 2 4 priority; tags - 600 3000; \
+         grant 2 5 priority; tags - 700 3500; grant 1 4 priority; tags - 800 5000; grant 2 6 \
+         priority; tags - 900 4000; grant 2 7 priority; tags - 1000 4500; grant 1 5 priority; \
+         tags - 1100 6000; grant 2 8 priority; tags - 1200 5000; grant 2 9 priority; tags - \
+         1300 5500; grant 1 6 priority; tags - 1400 7000",
+    )
+}
+
+#[test]
+fn great_weights(rt: HostRuntime) -> Result<(), Fail> {
+    gives(
+        &rt,
+        "tick",
+        "hz 1000; client 1 - 500 - 0; client 2 - 1000 - 0; add 1 1 1 1 0; add 1 2 1 1 0; add \
+         2 1 1 1 0; add 2 2 1 1 0; pull 0; add 1 3 1 1 0; pull 100; add 2 3 1 1 100; pull \
+         200; add 1 4 1 1 200; pull 300; add 2 4 1 1 300; pull 400; add 1 5 1 1 400; pull \
+         500; add 2 5 1 1 500; pull 600; add 1 6 1 1 600; pull 700; add 2 6 1 1 700; pull \
+         800; add 1 7 1 1 800; pull 900; add 2 7 1 1 900; pull 1000; add 1 8 1 1 1000; pull \
+         1100; add 2 8 1 1 1100; pull 1200; add 1 9 1 1 1200; pull 1300; add 2 9 1 1 1300; \
+         pull 1400; add 1 10 1 1 1400",
+        "ok; ok; tags - 0 2; tags - 0 4; tags - 0 1; tags - 0 2; grant 1 1 priority; tags - 0 \
+         4; grant 2 1 priority; tags - 100 100; grant 1 2 priority; tags - 200 200; grant 2 2 \
+         priority; tags - 300 300; grant 1 3 priority; tags - 400 400; grant 2 3 priority; \
+         tags - 500 500; grant 1 4 priority; tags - 600 600; grant 2 4 priority; tags - 700 \
+         700; grant 1 5 priority; tags - 800 800; grant 2 5 priority; tags - 900 900; grant 1 \
+         6 priority; tags - 1000 1000; grant 2 6 priority; tags - 1100 1100; grant 1 7 \
+         priority; tags - 1200 1200; grant 2 7 priority; tags - 1300 1300; grant 1 8 \
+         priority; tags - 1400 1400",
+    )
+}
+
+#[test]
+fn refused_for_good(rt: HostRuntime) -> Result<(), Fail> {
+    gives(
+        &rt,
+        "ratio",
+        "hz 1; client 1 - 65521 - 0; client 2 - 65519 - 0; client 3 - 3 - 0; client 4 - 1 - \
+         0; client 5 - 1 - 0; add 3 1 0 0 0; pull 0; add 1 1 1 0 0; add 4 1 1 0 0; pull 0; \
+         pull 0; add 2 1 1 0 0; add 5 1 1 0 0; pull 0; pull 0; pull 0; add 3 2 1 0 0; add 3 2 \
+         1 0 1000000",
+        "ok; ok; ok; ok; ok; tags - 0 0; grant 3 1 priority; tags - 0 1/65521; tags - 0 1; \
+         grant 1 1 priority; grant 4 1 priority; tags - 0 1/65519; tags - 0 1; grant 2 1 \
+         priority; grant 5 1 priority; none; refused range; refused range",
+    )
+}
+
+#[test]
 fn backlog_all(rt: HostRuntime) -> Result<(), Fail> {
     gives(
         &rt,

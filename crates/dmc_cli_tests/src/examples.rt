@@ -2,6 +2,8 @@
 use crate::queues::over_queues;
 use crate::runs::{FailingReader, FailingWriter, ROOM, lines, runs, tells};
 use crate::same::assert_same;
+use dmc_text::cause::LineCause;
+use dmc_text::script::ScriptFault;
 use std::alloc::{AllocError, Global};
 use std::process::Abort;
 use std::sync::Wait;
@@ -22,21 +24,40 @@ fn gives<T: AllocGlobal + Threads + Wait + Sync + Abort>(
     let input = lines(rt.alloc(), input)?;
     let output = lines(rt.alloc(), output)?;
     for kind in tags {
-        over_queues(rt, kind, &input, &output)?;
+        over_queues(rt, kind, &input, &output, Ok(()))?;
         let words = ["script", "--tags", kind];
         runs(rt, words.as_slice(), &input, &output, b"", 0)?;
     }
     Ok(())
 }
 
-/// A script that writes these lines and then the fault.
+/// A script whose line of this number is faulty for this cause: what it writes, and the fault, over the same queues as above.
 fn faults<T: AllocGlobal + Threads + Wait + Sync + Abort>(
     rt: &T,
     input: &[u8],
     output: &[u8],
-    fault: &[u8],
+    number: u64,
+    cause: LineCause,
 ) -> Result<(), Fail> {
-    runs(rt, ["script"].as_slice(), input, output, fault, 1)
+    let word = match cause {
+        LineCause::Bytes => "bytes",
+        LineCause::Hz => "hz",
+        LineCause::Words => "words",
+        LineCause::Number => "number",
+    };
+    let fault = format!(in rt.alloc(); "dmclock: line {number} {word}\n")?;
+    for kind in BOTH {
+        over_queues(
+            rt,
+            kind,
+            input,
+            output,
+            Err(ScriptFault::Line(number, cause)),
+        )?;
+        let words = ["script", "--tags", kind];
+        runs(rt, words.as_slice(), input, output, fault.as_bytes(), 1)?;
+    }
+    Ok(())
 }
 
 #[test]
@@ -270,20 +291,25 @@ fn empty_script(rt: HostRuntime) -> Result<(), Fail> {
 
 #[test]
 fn no_header(rt: HostRuntime) -> Result<(), Fail> {
-    faults(&rt, b"", b"", b"dmclock: line 1 hz\n")
+    faults(&rt, b"", b"", 1, LineCause::Hz)
 }
 
 #[test]
 fn missing_words(rt: HostRuntime) -> Result<(), Fail> {
     let input = b"hz 1000\nclient 1 - 1 - 0\nadd 1 7 1\n";
-    faults(&rt, input, b"ok\n", b"dmclock: line 3 words\n")
+    faults(&rt, input, b"ok\n", 3, LineCause::Words)
 }
 
 #[test]
 fn last_line_without_end(rt: HostRuntime) -> Result<(), Fail> {
     let input = b"hz 1000\nclient 1 10 1 20 0\nadd 1 7 1 1 0\npull 0\npull 50\npull 50";
     let output = b"ok\ntags 100 50 1000\nfuture 50\ngrant 1 7 priority\nnone\n";
-    runs(&rt, ["script"].as_slice(), input, output, b"", 0)
+    for kind in BOTH {
+        over_queues(&rt, kind, input, output, Ok(()))?;
+        let words = ["script", "--tags", kind];
+        runs(&rt, words.as_slice(), input, output, b"", 0)?;
+    }
+    Ok(())
 }
 
 /// An `hz` line and a line of so many spaces.
@@ -296,32 +322,33 @@ fn blanks(alloc: Global, n: usize) -> Result<Vec<u8>, AllocError> {
     Ok(input)
 }
 
-/// Scripts that write nothing, each with its fault.
-const FAULTS: [(&[u8], &[u8]); 8] = [
-    (b"hz 1000\npull 0\r\n", b"dmclock: line 2 bytes\n"),
-    (b"hz 1000\npull 01\n", b"dmclock: line 2 number\n"),
+/// Scripts that write nothing, each with the number of its faulty line and the cause.
+const FAULTS: [(&[u8], u64, LineCause); 8] = [
+    (b"hz 1000\npull 0\r\n", 2, LineCause::Bytes),
+    (b"hz 1000\npull 01\n", 2, LineCause::Number),
     (
         b"hz 1000\npull 18446744073709551616\n",
-        b"dmclock: line 2 number\n",
+        2,
+        LineCause::Number,
     ),
-    (
-        b"hz 1000\nadd 1 4294967296 0 0 0\n",
-        b"dmclock: line 2 number\n",
-    ),
-    (b"hz 1000\nhz 1000\n", b"dmclock: line 2 hz\n"),
-    (b"hz 1000 100\n", b"dmclock: line 1 words\n"),
-    (b"hz 0\n", b"dmclock: line 1 hz\n"),
-    (b"hz 1000 2 1\n", b"dmclock: line 1 hz\n"),
+    (b"hz 1000\nadd 1 4294967296 0 0 0\n", 2, LineCause::Number),
+    (b"hz 1000\nhz 1000\n", 2, LineCause::Hz),
+    (b"hz 1000 100\n", 1, LineCause::Words),
+    (b"hz 0\n", 1, LineCause::Hz),
+    (b"hz 1000 2 1\n", 1, LineCause::Hz),
 ];
 
 #[test]
 fn script_faults(rt: HostRuntime) -> Result<(), Fail> {
     let most = blanks(rt.alloc(), 256)?;
+    for kind in BOTH {
+        over_queues(&rt, kind, &most, b"", Ok(()))?;
+    }
     runs(&rt, ["script"].as_slice(), &most, b"", b"", 0)?;
     let long = blanks(rt.alloc(), 257)?;
-    faults(&rt, long.as_slice(), b"", b"dmclock: line 2 bytes\n")?;
-    for (input, fault) in FAULTS {
-        faults(&rt, input, b"", fault)?;
+    faults(&rt, long.as_slice(), b"", 2, LineCause::Bytes)?;
+    for (input, number, cause) in FAULTS {
+        faults(&rt, input, b"", number, cause)?;
     }
     Ok(())
 }
@@ -335,6 +362,45 @@ pub const AT_LIMIT_OUT: &[u8] = b"ok\ntags 100 50 1000\nfuture 50\ngrant 1 7 pri
 
 #[test]
 fn failing_reader(rt: HostRuntime) -> Result<(), Fail> {
+    let input = b"hz 1000\nclient 1 - 1 - 0\npu";
+    let mut reader = FailingReader::new(input, input.len());
+    let mut written = Vec::with_capacity(rt.alloc(), ROOM)?;
+    let words = ["script"];
+    let status = tells(
+        &rt,
+        words.as_slice(),
+        &mut reader,
+        &mut written,
+        b"dmclock: read\n",
+    )?;
+    assert_same(&rt, &status, &1);
+    assert_same(&rt, &written.as_slice(), &b"ok\n".as_slice());
+    Ok(())
+}
+
+/// What is written for the whole lines of that script once so many of its bytes are read, or more.
+const ANSWERED: [(usize, &[u8]); 6] = [
+    (0, b""),
+    (27, b"ok\n"),
+    (41, b"ok\ntags 100 50 1000\n"),
+    (48, b"ok\ntags 100 50 1000\nfuture 50\n"),
+    (56, b"ok\ntags 100 50 1000\nfuture 50\ngrant 1 7 priority\n"),
+    (64, AT_LIMIT_OUT),
+];
+
+/// What is written for the whole lines of its first bytes, so many.
+fn answered(len: usize) -> &'static [u8] {
+    let mut out: &'static [u8] = b"";
+    for (from, written) in ANSWERED {
+        if from <= len {
+            out = written;
+        }
+    }
+    out
+}
+
+#[test]
+fn failing_reads(rt: HostRuntime) -> Result<(), Fail> {
     for left in 0..AT_LIMIT.len() + 1 {
         let mut reader = FailingReader::new(AT_LIMIT, left);
         let mut written = Vec::with_capacity(rt.alloc(), ROOM)?;
@@ -347,7 +413,7 @@ fn failing_reader(rt: HostRuntime) -> Result<(), Fail> {
             b"dmclock: read\n",
         )?;
         assert_same(&rt, &status, &1);
-        assert!(&rt; AT_LIMIT_OUT.starts_with(written.as_slice()));
+        assert_same(&rt, &written.as_slice(), &answered(left));
     }
     Ok(())
 }

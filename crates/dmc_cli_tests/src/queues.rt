@@ -8,6 +8,7 @@ use dmc_ratio::ratio::RatioTag;
 use dmc_tag::tag::Tag;
 use dmc_text::script::{QueueMaker, ScriptFault, run_script};
 use dmc_text::tag::TagText;
+use dmc_text::watched::Watched;
 use dmc_tick::tick::TickTag;
 use dmc_types::config::QueueConfig;
 use std::alloc::{AllocError, Global};
@@ -52,20 +53,22 @@ impl QueueMaker<RatioTag> for ListMaker {
     }
 }
 
-/// Runs a script over both queues with the tags of this name, and checks what it writes. Want of memory is an error.
+/// Runs a script over both queues with the tags of this name, and checks what it writes and how it ends. Want of memory is an
+/// error.
 pub fn over_queues<A: AllocGlobal + Threads + Wait + Sync + Abort>(
     rt: &A,
     tags: &str,
     input: &[u8],
     output: &[u8],
+    end: Result<(), ScriptFault>,
 ) -> Result<(), Fail> {
     let alloc = rt.alloc();
     if tags == "ratio" {
-        over::<RatioTag, PlainMaker, A>(rt, PlainMaker { alloc }, input, output)?;
-        over::<RatioTag, ListMaker, A>(rt, ListMaker { alloc }, input, output)
+        over::<RatioTag, PlainMaker, A>(rt, PlainMaker { alloc }, input, output, end)?;
+        over::<RatioTag, ListMaker, A>(rt, ListMaker { alloc }, input, output, end)
     } else {
-        over::<TickTag, PlainMaker, A>(rt, PlainMaker { alloc }, input, output)?;
-        over::<TickTag, ListMaker, A>(rt, ListMaker { alloc }, input, output)
+        over::<TickTag, PlainMaker, A>(rt, PlainMaker { alloc }, input, output, end)?;
+        over::<TickTag, ListMaker, A>(rt, ListMaker { alloc }, input, output, end)
     }
 }
 
@@ -75,15 +78,16 @@ fn over<T: TagText, M: QueueMaker<T> + Drop, A: AllocGlobal + Threads + Wait + S
     maker: M,
     input: &[u8],
     output: &[u8],
+    end: Result<(), ScriptFault>,
 ) -> Result<(), Fail> {
     let mut maker = maker;
-    let mut reader = input;
-    let mut written = Vec::with_capacity(rt.alloc(), ROOM)?;
+    let mut reader = Watched::new(input);
+    let mut written = Watched::new(Vec::with_capacity(rt.alloc(), ROOM)?);
     let ended = run_script::<T, M, _, _>(rt.alloc(), &mut maker, &mut reader, &mut written);
     if ended == Err(ScriptFault::Memory) {
         return Err(AllocError.into());
     }
-    assert_same(rt, &ended, &Ok(()));
-    assert_same(rt, &written.as_slice(), &output);
+    assert_same(rt, &ended, &end);
+    assert_same(rt, &written.stream().as_slice(), &output);
     Ok(())
 }

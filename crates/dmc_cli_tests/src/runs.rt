@@ -1,6 +1,7 @@
 //! Runs of the program in the tests: what it is given, and what it has to write. Room for all that is written is made
 //! before a run, so that a refused growth is never told as a failed write.
 use crate::same::assert_same;
+use dmc_text::watched::Watched;
 use dmc_tool::tool::run_tool;
 use std::alloc::{AllocError, Global};
 use std::convert::AsStr;
@@ -32,7 +33,8 @@ pub fn lines(alloc: Global, text: &str) -> Result<Vec<u8>, AllocError> {
     Ok(bytes)
 }
 
-/// Runs the program on these words, and answers its status. What its contract says of the streams, no test asks for.
+/// Runs the program on these words over these streams, watched, and returns its status. What its contract says of the
+/// streams, no test asks for.
 fn status_of<T: AllocGlobal + Threads + Wait + Sync, S: AsStr, R: Read, W: Write, E: Write>(
     rt: &T,
     words: &[S],
@@ -40,7 +42,13 @@ fn status_of<T: AllocGlobal + Threads + Wait + Sync, S: AsStr, R: Read, W: Write
     writer: &mut W,
     fault_writer: &mut E,
 ) -> u8 {
-    run_tool(rt, words, reader, writer, fault_writer)
+    run_tool(
+        rt,
+        words,
+        &mut Watched::new(reader),
+        &mut Watched::new(writer),
+        &mut Watched::new(fault_writer),
+    )
 }
 
 /// Runs the program on these words, checks what it tells of a fault, and answers its status. Want of memory is an error.

@@ -3,6 +3,7 @@ use crate::event_examples::{PULLS, PULLS_VERDICT};
 use crate::examples::{AT_LIMIT, AT_LIMIT_OUT};
 use crate::runs::{FailingReader, FailingWriter, Interrupted, ROOM, tells};
 use crate::same::assert_same;
+use dmc_text::watched::Watched;
 use std::process::Abort;
 use std::sync::Wait;
 use std::test::Fail;
@@ -43,6 +44,50 @@ fn interrupted_streams(rt: HostRuntime) -> Result<(), Fail> {
         assert_same(&rt, &writer.stream().written(), &output);
         assert_same(&rt, &status, &0);
     }
+    Ok(())
+}
+
+#[test]
+fn noted_failures(rt: HostRuntime) -> Result<(), Fail> {
+    let mut buffer = [0; 4];
+    let mut reader = Watched::new(FailingReader::new(b"ab", 3));
+    for n in [1, 1, 0] {
+        assert_same(&rt, &reader.read(&mut buffer)?, &n);
+        assert!(&rt; !reader.has_failed());
+    }
+    assert!(&rt; reader.read(&mut buffer).is_err());
+    assert!(&rt; reader.has_failed());
+    let mut writer = Watched::new(FailingWriter::new(rt.alloc(), 1)?);
+    assert_same(&rt, &writer.write(b"ab")?, &1);
+    writer.flush()?;
+    assert!(&rt; !writer.has_failed());
+    assert!(&rt; writer.write(b"b").is_err());
+    assert!(&rt; writer.has_failed());
+    let mut unflushed = Watched::new(FailingWriter::unflushed(rt.alloc())?);
+    assert!(&rt; unflushed.flush().is_err());
+    assert!(&rt; unflushed.has_failed());
+    Ok(())
+}
+
+#[test]
+fn interruptions_not_noted(rt: HostRuntime) -> Result<(), Fail> {
+    let mut reader = Watched::new(Interrupted::new(FailingReader::new(b"a", 2)));
+    assert_same(&rt, &reader.read(&mut [0; 4])?, &1);
+    assert!(&rt; !reader.has_failed());
+    let mut writer = Watched::new(Interrupted::new(FailingWriter::new(rt.alloc(), 1)?));
+    assert_same(&rt, &writer.write(b"a")?, &1);
+    assert!(&rt; !writer.has_failed());
+    Ok(())
+}
+
+#[test]
+fn nothing_taken(rt: HostRuntime) -> Result<(), Fail> {
+    let mut room = [0; 1];
+    let mut full = Watched::new(room.as_mut_slice());
+    assert_same(&rt, &full.write(b"ab")?, &1);
+    assert!(&rt; !full.has_failed());
+    assert!(&rt; full.write(b"b").is_err());
+    assert!(&rt; full.has_failed());
     Ok(())
 }
 

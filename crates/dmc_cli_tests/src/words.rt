@@ -1,8 +1,11 @@
 //! What no clause says: which words are lawful, and the texts of the faults.
+use crate::runs::ROOM;
 use crate::same::assert_same;
 use dmc_scene::key::Key;
 use dmc_text::cause::LineCause;
+use dmc_text::watched::Watched;
 use dmc_tool::fault::Fault;
+use dmc_tool::telling::tell;
 use dmc_tool::words::{Tool, ToolCommand, WordsFault, read_words};
 use dmc_types::config::TagKind;
 use std::alloc::Global;
@@ -155,9 +158,10 @@ fn fault_texts(rt: HostRuntime) -> Result<(), Fail> {
         (Fault::Stopped, "dmclock: stopped", 4),
     ];
     for (fault, text, status) in faults {
-        let told = format!(in alloc; "{fault}")?;
-        assert_same(&rt, &told.as_str(), &text);
-        assert_same(&rt, &fault.status(), &status);
+        let line = format!(in alloc; "{text}\n")?;
+        let mut told = Watched::new(Vec::with_capacity(alloc, ROOM)?);
+        assert_same(&rt, &tell(fault, &mut told), &status);
+        assert_same(&rt, &told.stream().as_slice(), &line.as_bytes());
     }
     Ok(())
 }

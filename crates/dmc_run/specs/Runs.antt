@@ -1,5 +1,5 @@
 -- What a run of a scene writes, and how it ends.
-use Rattle.std.specs.Prelude.{◌≡◌, ℕ, ⊤, List, Option, Result, Ok, Err}
+use Rattle.std.specs.Prelude.{◌≡◌, ℕ, ⊤, true, List, Option, Result, Ok, Err}
 use Rattle.std.specs.Io.KnownBytes.{Appends, Keeps}
 use Rattle.dmc_types.specs.Values.{Setting}
 use Rattle.dmc_types.specs.declared.config.TagKind.{TagKind}
@@ -8,6 +8,8 @@ use Rattle.dmc_tag.specs.Tag.{Tagging}
 use Rattle.dmc_tick.specs.Tick.{tick_ops}
 use Rattle.dmc_ratio.specs.Ratio.{ratio_ops}
 use Rattle.dmc_text.specs.Texts.{AppendsSome}
+use Rattle.dmc_text.specs.Watching.{failed, IsCalm}
+use Rattle.dmc_text.specs.declared.watched.Watched.{Watched}
 use Rattle.dmc_check.specs.declared.check.Verdict.{Verdict}
 use Rattle.dmc_scene.specs.SceneValue.{SceneValue}
 use Rattle.dmc_settle.specs.Reports.{IsReport}
@@ -72,3 +74,9 @@ RunsIn Ratio scene old new end = RunsOn ratio_ops scene old new end
 -- on the tags that the scene names
 abbrev pub RunsScene : SceneValue → (old new : Option (List ℕ)) → Result ⊤ RunSceneFault → Type 0
 RunsScene scene old new end = RunsIn scene.tags scene old new end
+
+-- Write is reported exactly where the writer failed.
+abbrev pub ReportNoted : {W : Type 0} → (old new : Watched W) → Result ⊤ RunSceneFault → Type 0
+ReportNoted old new (Err Write) = failed new ≡ true
+ReportNoted old new (Err fault) = IsCalm old new
+ReportNoted old new (Ok x) = IsCalm old new

@@ -1,6 +1,7 @@
 //! A scene that is run in threads, and its report.
 ghost use Rattle.std.specs.Prelude.{◌≡◌};
-ghost use Rattle.dmc_run.specs.Runs.{RunsOn, RunsScene, Tells, TellsFault};
+ghost use Rattle.dmc_text.specs.Watching.{stream_of};
+ghost use Rattle.dmc_run.specs.Runs.{ReportNoted, RunsOn, RunsScene, Tells, TellsFault};
 ghost use Rattle.dmc_run.specs.declared.run.RunSceneFault.TheVariants.{Memory};
 
 use crate::text::report_text;
@@ -14,6 +15,7 @@ use dmc_scene::scene::Scene;
 use dmc_settle::report::ClusterReport;
 use dmc_tag::tag::Tag;
 use dmc_text::send::send;
+use dmc_text::watched::Watched;
 use dmc_tick::tick::TickTag;
 use dmc_types::config::{QueueConfig, TagKind};
 use std::alloc::{AllocError, Global};
@@ -58,9 +60,10 @@ pub fn run_scene<R: Threads + Wait + Sync, W: Write>(
     rt: &R,
     alloc: Global,
     scene: &Scene,
-    writer: &mut W,
+    writer: &mut Watched<W>,
 ) -> Result<(), RunSceneFault>
-    ensures { RunsScene scene.now (W.contents writer.old) (W.contents writer.new) result }
+    ensures bytes { RunsScene scene.now (W.contents (stream_of writer.old)) (W.contents (stream_of writer.new)) result }
+    ensures note { ReportNoted writer.old writer.new result }
 {
     match scene.tags() {
         TagKind::Tick => run_on::<TickTag, R, W>(rt, alloc, scene, writer),
@@ -73,9 +76,10 @@ fn run_on<T: Tag + Send + Sync, R: Threads + Wait + Sync, W: Write>(
     rt: &R,
     alloc: Global,
     scene: &Scene,
-    writer: &mut W,
+    writer: &mut Watched<W>,
 ) -> Result<(), RunSceneFault>
-    ensures { RunsOn T.ops scene.now (W.contents writer.old) (W.contents writer.new) result }
+    ensures bytes { RunsOn T.ops scene.now (W.contents (stream_of writer.old)) (W.contents (stream_of writer.new)) result }
+    ensures note { ReportNoted writer.old writer.new result }
 {
     let clock = StepClock::new(scene.step());
     match run_cluster::<T, R, NoService, StepClock>(rt, alloc, scene, &NoService, &clock) {
@@ -90,9 +94,10 @@ fn tell_fault<T: Tag + Sync, R: Threads + Sync, W: Write>(
     alloc: Global,
     config: QueueConfig,
     fault: DriveFault<T>,
-    writer: &mut W,
+    writer: &mut Watched<W>,
 ) -> Result<(), RunSceneFault>
-    ensures { TellsFault T.ops config fault (W.contents writer.old) (W.contents writer.new) result }
+    ensures bytes { TellsFault T.ops config fault (W.contents (stream_of writer.old)) (W.contents (stream_of writer.new)) result }
+    ensures note { ReportNoted writer.old writer.new result }
 {
     match fault {
         DriveFault::Memory => Err(RunSceneFault::Memory),
@@ -114,9 +119,10 @@ fn tell<T: Tag + Sync, R: Threads + Sync, W: Write>(
     alloc: Global,
     config: QueueConfig,
     report: &ClusterReport<T>,
-    writer: &mut W,
+    writer: &mut Watched<W>,
 ) -> Result<(), RunSceneFault>
-    ensures { Tells T.ops config report.now (W.contents writer.old) (W.contents writer.new) result }
+    ensures bytes { Tells T.ops config report.now (W.contents (stream_of writer.old)) (W.contents (stream_of writer.new)) result }
+    ensures note { ReportNoted writer.old writer.new result }
 {
     let verdicts = check_all(rt, alloc, config, &report.servers)?;
     let text = report_text(alloc, report, &verdicts)?;

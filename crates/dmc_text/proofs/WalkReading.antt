@@ -1,10 +1,14 @@
 -- More of a text is read for a walk over its lines.
-use Rattle.std.proofs.Common.{◌≡◌, ℕ, suc, ◌+◌, ◌<◌, ◌≤◌, true, false, List, [], ◌++◌, refl, sym, ap, subst, ◌∙◌, arith, length, length-append, append-nil, Option, None, Result, Ok, Err}
+use Rattle.std.proofs.Common.{◌≡◌, ℕ, suc, ◌+◌, ◌<◌, ◌≤◌, true, false, List, [], ◌++◌, refl, sym, ap, subst, ◌∙◌, arith, length, length-append, append-nil, Option, None, Result, Ok, Err, inl, inr}
 use Rattle.std.specs.Prelude.{OnOk, OnErr, is_err}
 use Rattle.std.specs.Io.KnownBytes.{Consumes, Appends, IsAtEnd, Keeps}
 use Rattle.std.proofs.KnownBytes.{Consumes-nil, Consumes-trans, Appends-nil, Appends-trans}
 use Rattle.std.proofs.lemmas.List.{append_assoc}
+use Rattle.dmc_text.specs.declared.script.ScriptFault.{ScriptFault}
+use Rattle.dmc_text.specs.declared.script.ScriptFault.TheVariants as faults
 use Rattle.dmc_text.specs.declared.walk.Walk.{Walk}
+use Rattle.dmc_text.specs.declared.watched.Watched.{Watched}
+use Rattle.dmc_text.specs.Watching.{stream_of, IsCalm, IsNoted, FailsToRead, EndsNoted}
 use Rattle.dmc_text.specs.Reading.{Reading, most_bytes, next_line, Filled, Fills}
 use Rattle.dmc_text.specs.Texts.{AppendsSome}
 use Rattle.dmc_text.specs.Walks.{Feeds, Fails}
@@ -19,6 +23,31 @@ given_err (Err x) e a = a
 pub given_ok : {X E A : Type 0} (r : Result X E) → false ≡ is_err r → OnOk r A → A
 given_ok (Ok x) e a = a
 given_ok (Err x) e a = absurd (cc)
+
+-- ---- the notes of the streams
+
+-- a call that did not fail
+pub calm_ok : {S X E : Type 0} (old new : Watched S) (r : Result X E) → false ≡ is_err r → IsNoted old new r → IsCalm old new
+calm_ok old new (Ok x) e noted = noted
+calm_ok old new (Err x) e noted = absurd (cc)
+
+-- the reader fails once these bytes were read, or the text goes on past its most bytes
+pub fails_later : {R : Type 0} (left : R → Option (List ℕ)) (taken later : ℕ) (bytes : List ℕ) (before between after : Watched R)
+    → Consumes (left (stream_of before)) (left (stream_of between)) bytes → later ≡ taken + length bytes → IsCalm before between
+    → FailsToRead left later between after → FailsToRead left taken before after
+fails_later left taken later bytes before between after reads later-is calm (inl noted) = inl noted
+fails_later left taken later bytes before between after reads later-is calm (inr (calm-too, (more, reads-more, past))) =
+    inr (calm-too ∙ calm, (bytes ++ more, Consumes-trans _ _ _ bytes more reads reads-more, omega (arith, past, later-is, length-append bytes more)))
+
+-- the walk fails once these bytes were read
+pub ends_later : {R W : Type 0} (X Y : Type 0) (left : R → Option (List ℕ)) (taken later : ℕ) (bytes : List ℕ) (before between after : Watched R) (old middle new : Watched W) (fault : ScriptFault)
+    → Consumes (left (stream_of before)) (left (stream_of between)) bytes → later ≡ taken + length bytes → IsCalm before between → IsCalm old middle
+    → EndsNoted {X = X} left later between after middle new (Err fault) → EndsNoted {X = Y} left taken before after old new (Err fault)
+ends_later X Y left taken later bytes before between after old middle new (faults.Line n cause) reads later-is calm silent (noted, written) = (noted ∙ calm, written ∙ silent)
+ends_later X Y left taken later bytes before between after old middle new faults.Read reads later-is calm silent (noted, written) =
+    (fails_later left taken later bytes before between after reads later-is calm noted, written ∙ silent)
+ends_later X Y left taken later bytes before between after old middle new faults.Write reads later-is calm silent (noted, written) = (noted ∙ calm, written)
+ends_later X Y left taken later bytes before between after old middle new faults.Memory reads later-is calm silent (noted, written) = (noted ∙ calm, written ∙ silent)
 
 -- ---- from what was read before to what is read next
 

@@ -9,6 +9,7 @@ pub mod RoundTrip
 pub mod Texts
 pub mod Reading
 pub mod LineLaws
+pub mod Watching
 pub mod Walks
 pub mod Runs
 pub mod RatioText

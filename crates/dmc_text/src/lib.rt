@@ -13,5 +13,6 @@ pub mod send;
 pub mod tag;
 pub mod tags;
 pub mod walk;
+pub mod watched;
 pub mod word;
 pub mod write;

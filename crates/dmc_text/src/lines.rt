@@ -4,8 +4,10 @@ ghost use Rattle.std.specs.Io.KnownBytes.{Keeps, Consumes, IsAtEnd, ReadConsumes
 ghost use Rattle.std.specs.IoError.{error_kind};
 ghost use Rattle.dmc_types.specs.Limits.{most_line_bytes};
 ghost use Rattle.dmc_text.specs.Reading.{Reading, buffer_size, most_bytes, Finds, FindsLast, Fills};
+ghost use Rattle.dmc_text.specs.Watching.{stream_of, IsNoted, FillsNoted};
 
 use crate::line::MOST_LINE_BYTES;
+use crate::watched::Watched;
 use crate::word::first_of;
 use std::alloc::{AllocError, Global};
 use std::io::{self, ErrorKind, Read};
@@ -126,11 +128,12 @@ impl LineReader {
 
     /// Reads more of the text behind what is left; false at its end. A text of more than 2^32 bytes is an error once they
     /// are read. The line that was found last is not kept.
-    pub fn fill<R: Read>(&mut self, reader: &mut R) -> io::Result<bool>
+    pub fn fill<R: Read>(&mut self, reader: &mut Watched<R>) -> io::Result<bool>
         requires { length self.old.rest ≤ most_line_bytes }
-        ensures bytes { Fills (R.remaining reader.old) (R.remaining reader.new) self.old self.new result }
+        ensures bytes { Fills (R.remaining (stream_of reader.old)) (R.remaining (stream_of reader.new)) self.old self.new result }
         ensures taken { self.new.taken ≤ most_bytes }
         ensures retried { IfErr result (λ e. error_kind e ≢ ErrorKind.Interrupted) }
+        ensures note { FillsNoted R.remaining self.old.taken reader.old reader.new result }
     {
         self.move_to_front();
         if self.taken == MOST {
@@ -149,47 +152,38 @@ impl LineReader {
     }
 }
 
-/// Reads once, again where a read was interrupted: that is never the error.
-fn read_once<R: Read>(reader: &mut R, buffer: &mut [u8]) -> io::Result<usize>
-    ensures bound { IfOk result (λ n. n ≤ length buffer.new) }
-    ensures bytes { ReadConsumes (R.remaining reader.old) (R.remaining reader.new) result buffer.new }
-    ensures len { length buffer.new ≡ length buffer.old }
-    ensures retried { IfErr result (λ e. error_kind e ≢ ErrorKind.Interrupted) }
-{
-    for _ in 0..u64::MAX {
-        match reader.read(buffer) {
-            Err(fault) if fault.kind() == ErrorKind::Interrupted => {}
-            result => return result,
-        }
-    }
-    Err(io::Error::from(ErrorKind::TimedOut))
-}
-
 /// Reads at most so many bytes into the buffer from a place on.
-fn read_at<R: Read>(reader: &mut R, buffer: &mut Vec<u8>, at: usize, most: u64) -> io::Result<usize>
+fn read_at<R: Read>(
+    reader: &mut Watched<R>,
+    buffer: &mut Vec<u8>,
+    at: usize,
+    most: u64,
+) -> io::Result<usize>
     requires { at ≤ vec_len buffer.old }
     ensures len { vec_len buffer.new ≡ vec_len buffer.old }
     ensures front { take at buffer.new.items ≡ take at buffer.old.items }
     ensures bound { IfOk result (λ n. (n ≤ most) × (at + n ≤ vec_len buffer.new)) }
     ensures bytes { MatchResult result
-        (λ n. Consumes (R.remaining reader.old) (R.remaining reader.new) (take n (drop at buffer.new.items)))
-        (λ _. Keeps (R.remaining reader.old) (R.remaining reader.new)) }
+        (λ n. Consumes (R.remaining (stream_of reader.old)) (R.remaining (stream_of reader.new)) (take n (drop at buffer.new.items)))
+        (λ _. Keeps (R.remaining (stream_of reader.old)) (R.remaining (stream_of reader.new))) }
     ensures retried { IfErr result (λ e. error_kind e ≢ ErrorKind.Interrupted) }
-    ensures end { IfOk result (λ n. n ≡ 0 → at < vec_len buffer.old → 0 < most → IsAtEnd (R.remaining reader.new)) }
+    ensures end { IfOk result (λ n. n ≡ 0 → at < vec_len buffer.old → 0 < most → IsAtEnd (R.remaining (stream_of reader.new))) }
+    ensures note { IsNoted reader.old reader.new result }
 {
     let room = buffer.len() - at;
     let most = room.min(usize::try_from(most).unwrap_or(room));
-    read_once(reader, &mut buffer[at..at + most])
+    reader.read(&mut buffer[at..at + most])
 }
 
 /// Reads until the buffer is full or the reader at its end, and answers how many bytes were read. They stand at the front.
-pub fn read_text<R: Read>(reader: &mut R, buffer: &mut Vec<u8>) -> io::Result<usize>
+pub fn read_text<R: Read>(reader: &mut Watched<R>, buffer: &mut Vec<u8>) -> io::Result<usize>
     ensures len { vec_len buffer.new ≡ vec_len buffer.old }
     ensures within { IfOk result (λ n. n ≤ vec_len buffer.old) }
-    ensures bytes { IfOk result (λ n. Consumes (R.remaining reader.old) (R.remaining reader.new) (take n buffer.new.items)) }
-    ensures end { IfOk result (λ n. n < vec_len buffer.old → IsAtEnd (R.remaining reader.new)) }
+    ensures bytes { IfOk result (λ n. Consumes (R.remaining (stream_of reader.old)) (R.remaining (stream_of reader.new)) (take n buffer.new.items)) }
+    ensures end { IfOk result (λ n. n < vec_len buffer.old → IsAtEnd (R.remaining (stream_of reader.new))) }
     ensures err { OnErr result
-        ((bytes : List ℕ) × Consumes (R.remaining reader.old) (R.remaining reader.new) bytes × (length bytes ≤ vec_len buffer.old)) }
+        ((bytes : List ℕ) × Consumes (R.remaining (stream_of reader.old)) (R.remaining (stream_of reader.new)) bytes × (length bytes ≤ vec_len buffer.old)) }
+    ensures note { IsNoted reader.old reader.new result }
 {
     let mut len = 0;
     while len < buffer.len() {
@@ -202,13 +196,14 @@ pub fn read_text<R: Read>(reader: &mut R, buffer: &mut Vec<u8>) -> io::Result<us
 }
 
 /// Whether a text that has all the bytes that it may have goes on. That is an error.
-fn reads_too_much<R: Read>(reader: &mut R) -> io::Result<bool>
-    ensures bytes { MatchResult result (λ more. (more ≡ false) × IsAtEnd (R.remaining reader.new) × Keeps (R.remaining reader.old) (R.remaining reader.new))
-        (λ _. (bytes : List ℕ) × Consumes (R.remaining reader.old) (R.remaining reader.new) bytes × (length bytes ≤ 1)) }
+fn reads_too_much<R: Read>(reader: &mut Watched<R>) -> io::Result<bool>
+    ensures bytes { MatchResult result (λ more. (more ≡ false) × IsAtEnd (R.remaining (stream_of reader.new)) × Keeps (R.remaining (stream_of reader.old)) (R.remaining (stream_of reader.new)))
+        (λ _. (bytes : List ℕ) × Consumes (R.remaining (stream_of reader.old)) (R.remaining (stream_of reader.new)) bytes × (length bytes ≤ 1)) }
     ensures retried { IfErr result (λ e. error_kind e ≢ ErrorKind.Interrupted) }
+    ensures note { FillsNoted R.remaining most_bytes reader.old reader.new result }
 {
     let mut one = [0];
-    if read_once(reader, &mut one)? > 0 {
+    if reader.read(&mut one)? > 0 {
         return Err(io::Error::from(ErrorKind::FileTooLarge));
     }
     Ok(false)

@@ -7,6 +7,7 @@ ghost use Rattle.dmc_text.specs.Lines.{line_of};
 ghost use Rattle.dmc_text.specs.Replies.{IsTellable, reply_text, tag_text};
 ghost use Rattle.dmc_text.specs.Texts.{with_line_end, value_text, headed_by, written, RunsAs};
 ghost use Rattle.dmc_text.specs.Walks.{IsCut};
+ghost use Rattle.dmc_text.specs.Watching.{stream_of, SendsNoted};
 ghost use Rattle.dmc_text.specs.Runs.{answer_text, Answers, settled_of};
 ghost use Rattle.dmc_text.specs.LineLaws.{long_line};
 
@@ -15,6 +16,7 @@ use crate::line::{Line, read_line};
 use crate::send::send;
 use crate::tag::TagText;
 use crate::walk::{TakesLines, Walk};
+use crate::watched::Watched;
 use crate::write::write_reply;
 use dmc_tag::reply::Reply;
 use dmc_tag::scheduler::Scheduler;
@@ -177,11 +179,12 @@ const OUT: usize = 1 << 20;
 pub fn run_script<T: TagText, M: QueueMaker<T>, R: Read, W: Write>(
     alloc: Global,
     maker: &mut M,
-    reader: &mut R,
-    writer: &mut W,
+    reader: &mut Watched<R>,
+    writer: &mut Watched<W>,
 ) -> Result<(), ScriptFault>
-    ensures { RunsAs T.ops (tag_text T.numerator T.denominator)
-        (R.remaining reader.old) (R.remaining reader.new) (W.contents writer.old) (W.contents writer.new) result }
+    ensures bytes { RunsAs T.ops (tag_text T.numerator T.denominator)
+        (R.remaining (stream_of reader.old)) (R.remaining (stream_of reader.new)) (W.contents (stream_of writer.old)) (W.contents (stream_of writer.new)) result }
+    ensures notes { SendsNoted R.remaining 0 reader.old reader.new writer.old writer.new result }
 {
     let Ok(mut walk) = Walk::new(alloc, OUT) else {
         return Err(ScriptFault::Memory);

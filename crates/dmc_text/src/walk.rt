@@ -4,12 +4,14 @@ ghost use Rattle.dmc_types.specs.Limits.{most_line_bytes};
 ghost use Rattle.dmc_text.specs.declared.cause.LineCause.{LineCause};
 ghost use Rattle.dmc_text.specs.declared.cause.LineCause.TheVariants.{Bytes};
 ghost use Rattle.dmc_text.specs.Reading.{most_bytes, next_line};
+ghost use Rattle.dmc_text.specs.Watching.{stream_of, EndsNoted};
 ghost use Rattle.dmc_text.specs.Walks.{IsAnswer, Starts, Finds, Takes, TakesLast, end_result, EndsAs};
 
 use crate::cause::LineCause;
 use crate::lines::LineReader;
 use crate::script::ScriptFault;
 use crate::send::drain;
+use crate::watched::Watched;
 use std::alloc::{AllocError, Global};
 use std::io::{Read, Write};
 
@@ -71,11 +73,12 @@ impl Walk {
     /// of the text.
     fn find<R: Read, W: Write>(
         &mut self,
-        reader: &mut R,
-        writer: &mut W,
+        reader: &mut Watched<R>,
+        writer: &mut Watched<W>,
     ) -> Result<bool, ScriptFault>
         requires { self.old.lines.taken ≤ most_bytes }
-        ensures { Finds (R.remaining reader.old) (W.contents writer.old) self.old (R.remaining reader.new) (W.contents writer.new) self.new result }
+        ensures bytes { Finds (R.remaining (stream_of reader.old)) (W.contents (stream_of writer.old)) self.old (R.remaining (stream_of reader.new)) (W.contents (stream_of writer.new)) self.new result }
+        ensures notes { EndsNoted R.remaining self.old.lines.taken reader.old reader.new writer.old writer.new result }
     {
         while !self.lines.find() {
             if self.lines.is_long() {
@@ -144,12 +147,13 @@ impl Walk {
         &mut self,
         taker: &mut L,
         maker: &mut L::Maker,
-        reader: &mut R,
-        writer: &mut W,
+        reader: &mut Watched<R>,
+        writer: &mut Watched<W>,
     ) -> Result<(), ScriptFault>
         requires { Starts self.old }
-        ensures { EndsAs L.takes L.refuses L.headed taker.old (R.remaining reader.old) (W.contents writer.old)
-            taker.new (R.remaining reader.new) (W.contents writer.new) self.new result }
+        ensures bytes { EndsAs L.takes L.refuses L.headed taker.old (R.remaining (stream_of reader.old)) (W.contents (stream_of writer.old))
+            taker.new (R.remaining (stream_of reader.new)) (W.contents (stream_of writer.new)) self.new result }
+        ensures notes { EndsNoted R.remaining 0 reader.old reader.new writer.old writer.new result }
     {
         while self.find(reader, writer)? {
             self.take(taker, maker)?;

@@ -7,6 +7,7 @@ use Rattle.dmc_scene.specs.declared.fault.SceneFault.{SceneFault}
 use Rattle.dmc_scene.specs.declared.fault.SceneFault.TheVariants as scene
 use Rattle.dmc_scene.specs.Reading.{scene_in}
 use Rattle.dmc_scene.specs.SceneValue.{SceneValue}
+use Rattle.dmc_sim.specs.Reports.{Simulates}
 use Rattle.dmc_sim.specs.declared.report.SimFault.{SimFault}
 use Rattle.dmc_sim.specs.declared.report.SimFault.TheVariants as sim
 use Rattle.dmc_text.specs.Texts.{ReadsWithin}
@@ -47,14 +48,14 @@ refused_as before after text cause (Ok s) read is e = absurd e
 refused_as before after text cause (Err f) read is e = subst (λ x. ReadsScene before after (Err x)) (sym e) (refused before after text cause read.0 read.1 is)
 
 -- the scene has no report
-unreported : (before after old : Option (List ℕ)) (s : SceneValue) (f : SimFault) → ReadsScene before after (Ok s) → RunsSim before after old old (Err (fault_of_sim f))
-unreported before after old s (sim.Refused refusal) h = ((s, h), Keeps-refl old)
-unreported before after old s sim.Memory h = ((h.0, h.1), Keeps-refl old)
+unreported : (before after old : Option (List ℕ)) (s : SceneValue) (f : SimFault) → ReadsScene before after (Ok s) → Simulates s (Err f) → RunsSim before after old old (Err (fault_of_sim f))
+unreported before after old s (sim.Refused refusal) h is = ((s, refusal, h, is), Keeps-refl old)
+unreported before after old s sim.Memory h is = ((h.0, h.1), Keeps-refl old)
 
-pub unreported_as : (before after old : Option (List ℕ)) (s : SceneValue) (f : SimFault) (result : Result Outcome Fault) → ReadsScene before after (Ok s) → IsErrAnd result (λ told. told ≡ fault_of_sim f)
+pub unreported_as : (before after old : Option (List ℕ)) (s : SceneValue) (f : SimFault) (result : Result Outcome Fault) → ReadsScene before after (Ok s) → Simulates s (Err f) → IsErrAnd result (λ told. told ≡ fault_of_sim f)
     → RunsSim before after old old result
-unreported_as before after old s f (Ok outcome) h e = absurd e
-unreported_as before after old s f (Err told) h e = subst (λ x. RunsSim before after old old (Err x)) (sym e) (unreported before after old s f h)
+unreported_as before after old s f (Ok outcome) h is e = absurd e
+unreported_as before after old s f (Err told) h is e = subst (λ x. RunsSim before after old old (Err x)) (sym e) (unreported before after old s f h is)
 
 -- the report is written
 pub reported : (before after old new : Option (List ℕ)) (b : Bool) (end : Result Outcome Fault) → end ≡ (if b then Err fault.TurnsOut else Ok Done) → TellsAll before after old new end

@@ -9,6 +9,8 @@ use Rattle.dmc_text.specs.declared.script.ScriptFault.{ScriptFault}
 use Rattle.dmc_text.specs.RatioText.{ratio_if_lowest}
 use Rattle.dmc_text.specs.Replies.{in_ticks, tag_text}
 use Rattle.dmc_text.specs.Texts.{RunsAs}
+use Rattle.dmc_text.specs.Watching.{stream_of}
+use Rattle.dmc_text.specs.declared.watched.Watched.{Watched}
 use Rattle.dmc_check.specs.declared.check.Verdict.{Verdict}
 use Rattle.dmc_check.specs.EventTexts.{ChecksAs}
 use Rattle.dmc_tool.specs.declared.fault.Fault.{Fault}
@@ -20,8 +22,10 @@ use Rattle.dmc_tool.specs.declared.words.ToolCommand.{ToolCommand}
 use Rattle.dmc_tool.specs.declared.words.ToolCommand.TheVariants.{Script, Check, Sim, Run}
 use Rattle.dmc_tool.specs.Faults as faults
 use Rattle.dmc_tool.specs.Outcomes as outcomes
+use Rattle.dmc_tool.specs.Notes.{WordsNoted}
 use Rattle.dmc_tool.specs.SceneRuns.{RunsRun}
 use Rattle.dmc_tool.specs.Sims.{RunsSim}
+use Rattle.dmc_tool.specs.Telling.{TellsEnd}
 
 -- ---- tags of a kind
 
@@ -72,6 +76,12 @@ abbrev pub RunsWords : Option Tool → (before after old new : Option (List ℕ)
 RunsWords None before after old new end = Keeps before after × Keeps old new × ((end ≡ Err Usage) ⊎ (end ≡ Err Memory))
 RunsWords (Some tool) before after old new end = RunsCommand tool.command tool.tags before after old new end
 
--- what a run does, by its exit status
-abbrev pub RunsTool : Option Tool → (before after old new : Option (List ℕ)) → ℕ → Type 0
-RunsTool tool before after old new status = (end : Result Outcome Fault) × RunsWords tool before after old new end × (status ≡ exit_status end)
+-- What a run does, by its exit status: what it reads and writes, whether its streams fail, and what it writes of its fault.
+-- The first arguments say which bytes the reader has left, and which the writer and the fault writer have taken.
+pub record RunsTool {R W E : Type 0} (left : R → Option (List ℕ)) (held : W → Option (List ℕ)) (told : E → Option (List ℕ)) (tool : Option Tool)
+    (before after : Watched R) (old new : Watched W) (quiet loud : Watched E) (status : ℕ) : Type 0 where
+  pub end : Result Outcome Fault
+  pub runs : RunsWords tool (left (stream_of before)) (left (stream_of after)) (held (stream_of old)) (held (stream_of new)) end
+  pub notes : WordsNoted left tool before after old new end
+  pub tells : TellsEnd told end quiet loud
+  pub status_is : status ≡ exit_status end

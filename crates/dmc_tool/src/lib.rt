@@ -9,5 +9,6 @@ mod run;
 mod scenes;
 mod script;
 mod sim;
+pub mod telling;
 pub mod tool;
 pub mod words;

@@ -1,12 +1,15 @@
 //! The command `run`.
 ghost use Rattle.std.specs.Prelude.{◌≡◌};
+ghost use Rattle.dmc_text.specs.Watching.{stream_of};
 ghost use Rattle.dmc_tool.specs.Faults.{fault_of_run};
+ghost use Rattle.dmc_tool.specs.Notes.{ReportNoted};
 ghost use Rattle.dmc_tool.specs.SceneRuns.{RunsRun};
 
 use crate::fault::Fault;
 use crate::outcome::Outcome;
 use crate::scenes::scene_of;
 use dmc_run::run::{RunSceneFault, run_scene};
+use dmc_text::watched::Watched;
 use std::alloc::Global;
 use std::io::{Read, Write};
 use std::sync::Wait;
@@ -30,10 +33,11 @@ impl From<RunSceneFault> for Fault {
 pub fn run_on<X: Threads + Wait + Sync, R: Read, W: Write>(
     rt: &X,
     alloc: Global,
-    reader: &mut R,
-    writer: &mut W,
+    reader: &mut Watched<R>,
+    writer: &mut Watched<W>,
 ) -> Result<Outcome, Fault>
-    ensures { RunsRun (R.remaining reader.old) (R.remaining reader.new) (W.contents writer.old) (W.contents writer.new) result }
+    ensures bytes { RunsRun (R.remaining (stream_of reader.old)) (R.remaining (stream_of reader.new)) (W.contents (stream_of writer.old)) (W.contents (stream_of writer.new)) result }
+    ensures notes { ReportNoted reader.old reader.new writer.old writer.new result }
 {
     let scene = scene_of(alloc, reader)?;
     run_scene(rt, alloc, &scene, writer)?;

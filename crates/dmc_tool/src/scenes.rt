@@ -1,12 +1,15 @@
 //! The scene on standard input, which `sim` and `run` work on.
 ghost use Rattle.std.specs.Prelude.{◌≡◌};
+ghost use Rattle.dmc_text.specs.Watching.{stream_of};
 ghost use Rattle.dmc_tool.specs.Faults.{fault_of_scene};
+ghost use Rattle.dmc_tool.specs.Notes.{SceneNoted};
 ghost use Rattle.dmc_tool.specs.Scenes.{ReadsScene};
 
 use crate::fault::Fault;
 use dmc_scene::fault::SceneFault;
 use dmc_scene::scene::{Scene, read_scene};
 use dmc_text::lines::read_text;
+use dmc_text::watched::Watched;
 use std::alloc::{AllocError, Global};
 use std::io::Read;
 
@@ -38,8 +41,9 @@ impl From<SceneFault> for Fault {
 }
 
 /// Reads a scene.
-pub fn scene_of<R: Read>(alloc: Global, reader: &mut R) -> Result<Scene, Fault>
-    ensures { ReadsScene (R.remaining reader.old) (R.remaining reader.new) result }
+pub fn scene_of<R: Read>(alloc: Global, reader: &mut Watched<R>) -> Result<Scene, Fault>
+    ensures bytes { ReadsScene (R.remaining (stream_of reader.old)) (R.remaining (stream_of reader.new)) result }
+    ensures note { SceneNoted reader.old reader.new result }
 {
     let mut text = vec![in alloc; 0; MOST_BYTES]?;
     let Ok(len) = read_text(reader, &mut text) else {

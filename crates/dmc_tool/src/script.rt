@@ -2,6 +2,7 @@
 ghost use Rattle.std.specs.Prelude.{◌≡◌};
 ghost use Rattle.dmc_text.specs.Replies.{tag_text};
 ghost use Rattle.dmc_text.specs.Texts.{RunsAs};
+ghost use Rattle.dmc_text.specs.Watching.{stream_of, SendsNoted};
 ghost use Rattle.dmc_tool.specs.Faults.{fault_of_script};
 ghost use Rattle.dmc_tool.specs.Runs.{RunsScript};
 
@@ -10,6 +11,7 @@ use crate::makers::HeapMaker;
 use dmc_ratio::ratio::RatioTag;
 use dmc_text::script::{ScriptFault, run_script};
 use dmc_text::tag::TagText;
+use dmc_text::watched::Watched;
 use dmc_tick::tick::TickTag;
 use dmc_types::config::TagKind;
 use std::alloc::Global;
@@ -32,10 +34,11 @@ impl From<ScriptFault> for Fault {
 pub fn run_on<R: Read, W: Write>(
     alloc: Global,
     tags: TagKind,
-    reader: &mut R,
-    writer: &mut W,
+    reader: &mut Watched<R>,
+    writer: &mut Watched<W>,
 ) -> Result<(), ScriptFault>
-    ensures { RunsScript tags (R.remaining reader.old) (R.remaining reader.new) (W.contents writer.old) (W.contents writer.new) result }
+    ensures bytes { RunsScript tags (R.remaining (stream_of reader.old)) (R.remaining (stream_of reader.new)) (W.contents (stream_of writer.old)) (W.contents (stream_of writer.new)) result }
+    ensures notes { SendsNoted R.remaining 0 reader.old reader.new writer.old writer.new result }
 {
     match tags {
         TagKind::Tick => run_on_heaps::<TickTag, R, W>(alloc, reader, writer),
@@ -46,10 +49,11 @@ pub fn run_on<R: Read, W: Write>(
 /// Runs a script on an indexed queue over heaps.
 fn run_on_heaps<T: TagText, R: Read, W: Write>(
     alloc: Global,
-    reader: &mut R,
-    writer: &mut W,
+    reader: &mut Watched<R>,
+    writer: &mut Watched<W>,
 ) -> Result<(), ScriptFault>
-    ensures { RunsAs T.ops (tag_text T.numerator T.denominator) (R.remaining reader.old) (R.remaining reader.new) (W.contents writer.old) (W.contents writer.new) result }
+    ensures bytes { RunsAs T.ops (tag_text T.numerator T.denominator) (R.remaining (stream_of reader.old)) (R.remaining (stream_of reader.new)) (W.contents (stream_of writer.old)) (W.contents (stream_of writer.new)) result }
+    ensures notes { SendsNoted R.remaining 0 reader.old reader.new writer.old writer.new result }
 {
     run_script::<T, HeapMaker, R, W>(alloc, &mut HeapMaker { alloc }, reader, writer)
 }

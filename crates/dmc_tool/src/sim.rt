@@ -1,6 +1,8 @@
 //! The command `sim`.
 ghost use Rattle.std.specs.Prelude.{◌≡◌};
+ghost use Rattle.dmc_text.specs.Watching.{stream_of};
 ghost use Rattle.dmc_tool.specs.Faults.{fault_of_sim};
+ghost use Rattle.dmc_tool.specs.Notes.{ReportNoted};
 ghost use Rattle.dmc_tool.specs.Sims.{RunsSim, end_of_sim};
 
 use crate::fault::Fault;
@@ -9,6 +11,7 @@ use crate::scenes::scene_of;
 use dmc_sim::report::{SimFault, SimReport, report_text};
 use dmc_sim::simulation::simulate;
 use dmc_text::send::send;
+use dmc_text::watched::Watched;
 use std::alloc::Global;
 use std::io::{Read, Write};
 
@@ -26,10 +29,11 @@ impl From<SimFault> for Fault {
 /// Simulates the scene that is read, and writes the report. That the turns are out is told after the report.
 pub fn simulate_on<R: Read, W: Write>(
     alloc: Global,
-    reader: &mut R,
-    writer: &mut W,
+    reader: &mut Watched<R>,
+    writer: &mut Watched<W>,
 ) -> Result<Outcome, Fault>
-    ensures { RunsSim (R.remaining reader.old) (R.remaining reader.new) (W.contents writer.old) (W.contents writer.new) result }
+    ensures bytes { RunsSim (R.remaining (stream_of reader.old)) (R.remaining (stream_of reader.new)) (W.contents (stream_of writer.old)) (W.contents (stream_of writer.new)) result }
+    ensures notes { ReportNoted reader.old reader.new writer.old writer.new result }
 {
     let scene = scene_of(alloc, reader)?;
     let report = simulate(alloc, &scene)?;

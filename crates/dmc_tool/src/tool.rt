@@ -1,14 +1,17 @@
 //! One run of the program, over any streams.
 ghost use Rattle.std.specs.Prelude.{◌≡◌, ◌≤◌, map};
-ghost use Rattle.dmc_tool.specs.Faults.{status_of};
+ghost use Rattle.dmc_text.specs.Watching.{stream_of};
+ghost use Rattle.dmc_tool.specs.Notes.{CheckNoted, CommandNoted, ScriptNoted, WordsNoted};
 ghost use Rattle.dmc_tool.specs.Runs.{RunsCommand, RunsTool, RunsWords};
 ghost use Rattle.dmc_tool.specs.Words.{tool_of_words};
 ghost use Rattle.dmc_tool.specs.declared.words.ToolCommand.TheVariants.{Check, Script};
 
 use crate::fault::Fault;
 use crate::outcome::Outcome;
+use crate::telling::tell;
 use crate::words::{Tool, ToolCommand, WRITTEN, read_words};
 use crate::{check, run, script, sim};
+use dmc_text::watched::Watched;
 use dmc_types::config::TagKind;
 use std::alloc::Global;
 use std::convert::AsStr;
@@ -22,12 +25,12 @@ use std::thread::Threads;
 pub fn run_tool<T: AllocGlobal + Threads + Wait + Sync, S: AsStr, R: Read, W: Write, E: Write>(
     rt: &T,
     words: &[S],
-    reader: &mut R,
-    writer: &mut W,
-    fault_writer: &mut E,
+    reader: &mut Watched<R>,
+    writer: &mut Watched<W>,
+    fault_writer: &mut Watched<E>,
 ) -> u8
-    ensures runs { RunsTool (tool_of_words WRITTEN (map S.text words.now))
-        (R.remaining reader.old) (R.remaining reader.new) (W.contents writer.old) (W.contents writer.new) result }
+    ensures runs { RunsTool R.remaining W.contents E.contents (tool_of_words WRITTEN (map S.text words.now))
+        reader.old reader.new writer.old writer.new fault_writer.old fault_writer.new result }
     ensures status { result ≤ 4 }
 {
     match run_words(rt, words, reader, writer) {
@@ -36,23 +39,16 @@ pub fn run_tool<T: AllocGlobal + Threads + Wait + Sync, S: AsStr, R: Read, W: Wr
     }
 }
 
-/// Writes a fault's text as one line, and answers its exit status. Where the text can't be written, the status tells.
-pub fn tell<E: Write>(fault: Fault, fault_writer: &mut E) -> u8
-    ensures { result ≡ status_of fault }
-{
-    let _ = writeln!(fault_writer, "{fault}");
-    fault.status()
-}
-
 /// Runs the tool that the words name.
 fn run_words<T: AllocGlobal + Threads + Wait + Sync, S: AsStr, R: Read, W: Write>(
     rt: &T,
     words: &[S],
-    reader: &mut R,
-    writer: &mut W,
+    reader: &mut Watched<R>,
+    writer: &mut Watched<W>,
 ) -> Result<Outcome, Fault>
-    ensures { RunsWords (tool_of_words WRITTEN (map S.text words.now))
-        (R.remaining reader.old) (R.remaining reader.new) (W.contents writer.old) (W.contents writer.new) result }
+    ensures bytes { RunsWords (tool_of_words WRITTEN (map S.text words.now))
+        (R.remaining (stream_of reader.old)) (R.remaining (stream_of reader.new)) (W.contents (stream_of writer.old)) (W.contents (stream_of writer.new)) result }
+    ensures notes { WordsNoted R.remaining (tool_of_words WRITTEN (map S.text words.now)) reader.old reader.new writer.old writer.new result }
 {
     let tool = read_words(rt.alloc(), words)?;
     run_command(rt, tool, reader, writer)
@@ -62,11 +58,12 @@ fn run_words<T: AllocGlobal + Threads + Wait + Sync, S: AsStr, R: Read, W: Write
 fn run_command<T: AllocGlobal + Threads + Wait + Sync, R: Read, W: Write>(
     rt: &T,
     tool: Tool,
-    reader: &mut R,
-    writer: &mut W,
+    reader: &mut Watched<R>,
+    writer: &mut Watched<W>,
 ) -> Result<Outcome, Fault>
-    ensures { RunsCommand tool.command tool.tags
-        (R.remaining reader.old) (R.remaining reader.new) (W.contents writer.old) (W.contents writer.new) result }
+    ensures bytes { RunsCommand tool.command tool.tags
+        (R.remaining (stream_of reader.old)) (R.remaining (stream_of reader.new)) (W.contents (stream_of writer.old)) (W.contents (stream_of writer.new)) result }
+    ensures notes { CommandNoted R.remaining tool.command reader.old reader.new writer.old writer.new result }
 {
     let alloc = rt.alloc();
     match tool.command {
@@ -81,10 +78,11 @@ fn run_command<T: AllocGlobal + Threads + Wait + Sync, R: Read, W: Write>(
 fn run_script<R: Read, W: Write>(
     alloc: Global,
     tags: TagKind,
-    reader: &mut R,
-    writer: &mut W,
+    reader: &mut Watched<R>,
+    writer: &mut Watched<W>,
 ) -> Result<Outcome, Fault>
-    ensures { RunsCommand Script tags (R.remaining reader.old) (R.remaining reader.new) (W.contents writer.old) (W.contents writer.new) result }
+    ensures bytes { RunsCommand Script tags (R.remaining (stream_of reader.old)) (R.remaining (stream_of reader.new)) (W.contents (stream_of writer.old)) (W.contents (stream_of writer.new)) result }
+    ensures notes { ScriptNoted R.remaining reader.old reader.new writer.old writer.new result }
 {
     script::run_on(alloc, tags, reader, writer)?;
     Ok(Outcome::Done)
@@ -94,10 +92,11 @@ fn run_script<R: Read, W: Write>(
 fn check_events<R: Read, W: Write>(
     alloc: Global,
     tags: TagKind,
-    reader: &mut R,
-    writer: &mut W,
+    reader: &mut Watched<R>,
+    writer: &mut Watched<W>,
 ) -> Result<Outcome, Fault>
-    ensures { RunsCommand Check tags (R.remaining reader.old) (R.remaining reader.new) (W.contents writer.old) (W.contents writer.new) result }
+    ensures bytes { RunsCommand Check tags (R.remaining (stream_of reader.old)) (R.remaining (stream_of reader.new)) (W.contents (stream_of writer.old)) (W.contents (stream_of writer.new)) result }
+    ensures notes { CheckNoted R.remaining reader.old reader.new writer.old writer.new result }
 {
     let verdict = check::check_on(alloc, tags, reader, writer)?;
     Ok(verdict.into())

@@ -1,5 +1,5 @@
 //! The words of the command line: which command is asked for, and on which tags.
-ghost use Rattle.std.specs.Prelude.{◌≡◌, IfOk, codes, false, find, map};
+ghost use Rattle.std.specs.Prelude.{◌≡◌, IfOk, codes, false, find, map, ok_or};
 ghost use Rattle.std.specs.Str.{bytes_eq};
 ghost use Rattle.clap.specs.Words.{app_of, found_of, kind_of, new_app, rows_of, subcommand_rows_of, with_subcommand};
 ghost use Rattle.clap.specs.declared.builder.command.Command.TheViews.{out-Command as fields_of};
@@ -84,13 +84,21 @@ impl ToolCommand {
 }
 
 /// The tool that the words ask for, as clap matches them; they are the arguments after the program's name. Without
-/// the option `--tags` the tags are ticks.
+/// the option `--tags` the tags are ticks. `Usage`: they ask for none. `Memory`: an allocation failed, whatever they ask for;
+/// clap's contract lets it report that at any time, so no clause here says when.
 pub fn read_words<S: AsStr>(alloc: Global, words: &[S]) -> Result<Tool, WordsFault>
     ensures ok { IfOk result (λ tool. tool_of_words WRITTEN (map S.text words.now) ≡ Some tool) }
     ensures usage { result ≡ Err WordsFault.Usage → tool_of_words WRITTEN (map S.text words.now) ≡ None }
 {
     let matches = program(alloc)?.try_get_matches_from(words)?;
-    tool_of(&matches).ok_or(WordsFault::Usage)
+    named_tool(&matches)
+}
+
+// The tool that a match names. One that names none is reported as `Usage`, and never as `Memory`.
+fn named_tool(matches: &ArgMatches<'_>) -> Result<Tool, WordsFault>
+    ensures { result ≡ ok_or (tool_in WRITTEN (subcommand_rows_of matches.now)) WordsFault.Usage }
+{
+    tool_of(matches).ok_or(WordsFault::Usage)
 }
 
 // The command line, as clap is told of it.

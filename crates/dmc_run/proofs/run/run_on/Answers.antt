@@ -2,10 +2,10 @@ use Rattle.std.proofs.Common.{rules}
 use Rattle.dmc_run.proofs.Ends.{told_done, told_fault}
 use Rattle.dmc_run.proofs.run.run_on.Goals as goal
 
-pub returns-in-Ok : goal.returns-in-Ok
-returns-in-Ok g c =
+pub returns-in-Ok-clause-bytes : goal.returns-in-Ok-clause-bytes
+returns-in-Ok-clause-bytes g c =
     told_done g.T.Tag.ops c.args.scene.now c.in-Ok.report _ _ c.tell.result (search rules) (search rules) (search rules)
 
-pub returns : goal.returns
-returns g c =
+pub returns-clause-bytes : goal.returns-clause-bytes
+returns-clause-bytes g c =
     told_fault g.T.Tag.ops c.args.scene.now c.in-Err.fault _ _ c.tell_fault.result (search rules) (search rules) (search rules)

@@ -7,16 +7,16 @@ pub report_text-requires : goal.report_text-requires
 report_text-requires g c =
     ap length c.deref-2.ensures.value ∙ as_many g.T.Tag.ops c.args.config c.args.report.now.servers.items c.in_ok-verdicts.verdicts.items (search rules)
 
-pub returns-then-not-send : goal.returns-then-not-send
-returns-then-not-send g c =
+pub returns-then-not-send-clause-bytes : goal.returns-then-not-send-clause-bytes
+returns-then-not-send-clause-bytes g c =
     let text = report_text c.args.report.now c.in_ok-verdicts.verdicts.items in (
       text,
       record { verdicts = c.in_ok-verdicts.verdicts.items; theirs = search rules; text_is = refl },
       search rules,
     )
 
-pub returns : goal.returns
-returns g c =
+pub returns-clause-bytes : goal.returns-clause-bytes
+returns-clause-bytes g c =
     let text = report_text c.args.report.now c.in_ok-verdicts.verdicts.items in (
       text,
       record { verdicts = c.in_ok-verdicts.verdicts.items; theirs = search rules; text_is = refl },

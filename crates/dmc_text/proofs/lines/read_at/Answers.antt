@@ -10,30 +10,30 @@ overflow_add-at g c = omega (arith, c.min-most.ensures, c.len.ensures, c.require
 pub returns-clause-front : goal.returns-clause-front
 returns-clause-front g c =
     let within : c.args.at ≤ length c.deref_mut.result.now = omega (arith, c.requires, c.deref_mut.ensures.len) in
-    before_piece c.deref_mut.result.now c.read_once.new.buffer _ _ c.args.at c.args.buffer.now.len within c.requires ∙ ap (take c.args.at) c.deref_mut.ensures.value
+    before_piece c.deref_mut.result.now c.read.new.buffer _ _ c.args.at c.args.buffer.now.len within c.requires ∙ ap (take c.args.at) c.deref_mut.ensures.value
 
 pub returns-clause-bound : goal.returns-clause-bound
 returns-clause-bound g c =
     let n = c.min-most.result in
     let most-is : c.unwrap_or.result ≡ c.args.most = most_kept _ _ _ _ _ c.try_from.ensures c.ranges.most.fits c.unwrap_or.ensures in
     let fits : c.args.at + n ≤ length c.deref_mut.result.now = omega (arith, c.min-most.ensures, c.len.ensures, c.requires, c.deref_mut.ensures.len) in
-    let len : length c.read_once.new.buffer ≡ n = c.read_once.ensures.len ∙ length_of_piece c.deref_mut.result.now c.args.at n fits in
-    IfOk-weaker c.read_once.result _ _ (λ k short. (omega (arith, c.min-most.ensures), omega (arith, c.deref_mut.ensures.len))) c.read_once.ensures.bound
+    let len : length c.read.new.buffer ≡ n = c.read.ensures.len ∙ length_of_piece c.deref_mut.result.now c.args.at n fits in
+    IfOk-weaker c.read.result _ _ (λ k short. (omega (arith, c.min-most.ensures), omega (arith, c.deref_mut.ensures.len))) c.read.ensures.bound
 
 pub returns-clause-bytes : goal.returns-clause-bytes
 returns-clause-bytes g c =
     let n = c.min-most.result in
     let fits : c.args.at + n ≤ length c.deref_mut.result.now = omega (arith, c.min-most.ensures, c.len.ensures, c.requires, c.deref_mut.ensures.len) in
-    let len : length c.read_once.new.buffer ≡ n = c.read_once.ensures.len ∙ length_of_piece c.deref_mut.result.now c.args.at n fits in
+    let len : length c.read.new.buffer ≡ n = c.read.ensures.len ∙ length_of_piece c.deref_mut.result.now c.args.at n fits in
     let within : c.args.at ≤ length c.deref_mut.result.now = omega (arith, fits) in
-    let room : c.args.at + length c.read_once.new.buffer ≤ c.args.buffer.now.len = omega (arith, len, fits, c.deref_mut.ensures.len) in
-    read_in_piece _ _ c.read_once.result c.deref_mut.result.now c.read_once.new.buffer _ _ c.args.at c.args.buffer.now.len within room
-    c.read_once.ensures.bound c.read_once.ensures.bytes
+    let room : c.args.at + length c.read.new.buffer ≤ c.args.buffer.now.len = omega (arith, len, fits, c.deref_mut.ensures.len) in
+    read_in_piece _ _ c.read.result c.deref_mut.result.now c.read.new.buffer _ _ c.args.at c.args.buffer.now.len within room
+    c.read.ensures.bound c.read.ensures.bytes
 
 pub returns-clause-end : goal.returns-clause-end
 returns-clause-end g c =
     let n = c.min-most.result in
     let most-is : c.unwrap_or.result ≡ c.args.most = most_kept _ _ _ _ _ c.try_from.ensures c.ranges.most.fits c.unwrap_or.ensures in
     let fits : c.args.at + n ≤ length c.deref_mut.result.now = omega (arith, c.min-most.ensures, c.len.ensures, c.requires, c.deref_mut.ensures.len) in
-    let len : length c.read_once.new.buffer ≡ n = c.read_once.ensures.len ∙ length_of_piece c.deref_mut.result.now c.args.at n fits in
-    end_in_piece _ _ c.read_once.result _ (λ room some. omega (arith, len, c.min-most.ensures, c.len.ensures, most-is)) c.read_once.ensures.bytes
+    let len : length c.read.new.buffer ≡ n = c.read.ensures.len ∙ length_of_piece c.deref_mut.result.now c.args.at n fits in
+    end_in_piece _ _ c.read.result _ (λ room some. omega (arith, len, c.min-most.ensures, c.len.ensures, most-is)) c.read.ensures.bytes

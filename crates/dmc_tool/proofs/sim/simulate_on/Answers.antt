@@ -1,35 +1,54 @@
 use Rattle.std.proofs.Common.{◌∙◌, subst}
 use Rattle.std.specs.Io.KnownBytes.{Appends}
 use Rattle.dmc_text.specs.Texts.{AppendsSome}
+use Rattle.dmc_text.specs.Watching.{stream_of}
 use Rattle.dmc_tool.proofs.SimLemmas.{reported, unreported_as}
+use Rattle.dmc_tool.proofs.NoteLemmas.{scene_noted, unreported_noted, reported_noted}
 use Rattle.dmc_tool.proofs.sim.simulate_on.Goals as goal
 
-pub returns-in_err-report : goal.returns-in_err-report
-returns-in_err-report g c =
-    unreported_as (g.R.Read.remaining c.args.reader.now) (g.R.Read.remaining c.scene_of.new.reader) (g.W.Write.contents c.args.writer.now) c.in_ok-scene.scene c.in_err-report.field-0.0
-    c.from_residual-in_err-report.result c.in_ok-scene.ensures c.from_residual-in_err-report.ensures.1
+pub returns-in_err-report-clause-bytes : goal.returns-in_err-report-clause-bytes
+returns-in_err-report-clause-bytes g c =
+    unreported_as (g.R.Read.remaining (stream_of c.args.reader.now)) (g.R.Read.remaining (stream_of c.scene_of.new.reader)) (g.W.Write.contents (stream_of c.args.writer.now)) c.in_ok-scene.scene c.in_err-report.field-0.0
+    c.from_residual-in_err-report.result c.in_ok-scene.ensures.bytes c.in_err-report.ensures.simulates c.from_residual-in_err-report.ensures.1
 
-pub returns-then-not-send : goal.returns-then-not-send
-returns-then-not-send g c =
+pub returns-then-not-send-clause-bytes : goal.returns-then-not-send-clause-bytes
+returns-then-not-send-clause-bytes g c =
     let told = c.in_ok-text.ensures in (
       c.in_ok-scene.scene,
       c.in_ok-report.report,
-      c.in_ok-scene.ensures,
-      c.in_ok-report.ensures,
-      subst (AppendsSome (g.W.Write.contents c.args.writer.now) (g.W.Write.contents c.send.new.writer)) (c.as_bytes.ensures.value ∙ told) c.send.ensures.some,
+      c.in_ok-scene.ensures.bytes,
+      c.in_ok-report.ensures.simulates,
+      c.in_ok-report.ensures.rows,
+      subst (AppendsSome (g.W.Write.contents (stream_of c.args.writer.now)) (g.W.Write.contents (stream_of c.send.new.writer))) (c.as_bytes.ensures.value ∙ told) c.send.ensures.some,
     )
 
-pub returns : goal.returns
-returns g c =
+pub returns-clause-bytes : goal.returns-clause-bytes
+returns-clause-bytes g c =
     let told = c.in_ok-text.ensures in
-    reported (g.R.Read.remaining c.args.reader.now) (g.R.Read.remaining c.scene_of.new.reader) (g.W.Write.contents c.args.writer.now) (g.W.Write.contents c.send.new.writer) c.in_ok-report.report.turns_out
+    reported (g.R.Read.remaining (stream_of c.args.reader.now)) (g.R.Read.remaining (stream_of c.scene_of.new.reader)) (g.W.Write.contents (stream_of c.args.writer.now)) (g.W.Write.contents (stream_of c.send.new.writer)) c.in_ok-report.report.turns_out
     c.end_of.result c.end_of.ensures (
       c.in_ok-scene.scene,
       c.in_ok-report.report,
-      c.in_ok-scene.ensures,
-      c.in_ok-report.ensures,
+      c.in_ok-scene.ensures.bytes,
+      c.in_ok-report.ensures.simulates,
+      c.in_ok-report.ensures.rows,
       (
-        subst (Appends (g.W.Write.contents c.args.writer.now) (g.W.Write.contents c.send.new.writer)) (c.as_bytes.ensures.value ∙ told) (c.send.ensures.all c.if-not-send.false),
+        subst (Appends (g.W.Write.contents (stream_of c.args.writer.now)) (g.W.Write.contents (stream_of c.send.new.writer))) (c.as_bytes.ensures.value ∙ told) (c.send.ensures.all c.if-not-send.false),
         c.end_of.ensures,
       ),
     )
+
+pub returns-in_err-scene-clause-notes : goal.returns-in_err-scene-clause-notes
+returns-in_err-scene-clause-notes g c =
+    scene_noted (g.R.Read.remaining (stream_of c.args.reader.now)) (g.R.Read.remaining (stream_of c.scene_of.new.reader)) c.args.reader.now c.scene_of.new.reader c.args.writer.now
+    c.in_err-scene.field-0.0 c.from_residual.result c.in_err-scene.ensures.bytes c.in_err-scene.ensures.note c.from_residual.ensures.1
+
+pub returns-in_err-report-clause-notes : goal.returns-in_err-report-clause-notes
+returns-in_err-report-clause-notes g c =
+    unreported_noted c.args.reader.now c.scene_of.new.reader c.args.writer.now c.in_err-report.field-0.0 c.from_residual-in_err-report.result c.in_ok-scene.ensures.note
+    c.from_residual-in_err-report.ensures.1
+
+pub returns-clause-notes : goal.returns-clause-notes
+returns-clause-notes g c =
+    reported_noted c.args.reader.now c.scene_of.new.reader c.args.writer.now c.send.new.writer c.in_ok-report.report.turns_out c.end_of.result c.end_of.ensures c.in_ok-scene.ensures.note
+    (rw c.if-not-send.false at c.send.ensures.note)

@@ -26,8 +26,8 @@ returns-clause-ok g c =
     let told : app_of c.in_ok-program.field-0 ≡ program_app = c.in_ok-program.ensures in
     let none = c.in_ok-matches.ensures.kinds (ap is_simple_and_free told ∙ is_simple_program) in
     let found = (c.in_ok-matches.ensures.matches (ap is_simple told ∙ matches_simply)).1 in
-    let asked = c.tool_of.ensures ∙ tool_is WRITTEN words _ _ told none found in
-    subst (λ (asks : Option Tool). IfOk c.ok_or.result (λ tool. asks ≡ Some tool)) asked (asks_for c.tool_of.result c.ok_or.result c.ok_or.ensures.value)
+    let asked = tool_is WRITTEN words _ _ told none found in
+    subst (λ (asks : Option Tool). IfOk c.named_tool.result (λ tool. asks ≡ Some tool)) asked (asks_for _ c.named_tool.result c.named_tool.ensures)
 
 pub returns-clause-usage : goal.returns-clause-usage
 returns-clause-usage g c =
@@ -35,5 +35,5 @@ returns-clause-usage g c =
     let told : app_of c.in_ok-program.field-0 ≡ program_app = c.in_ok-program.ensures in
     let none = c.in_ok-matches.ensures.kinds (ap is_simple_and_free told ∙ is_simple_program) in
     let found = (c.in_ok-matches.ensures.matches (ap is_simple told ∙ matches_simply)).1 in
-    let asked = c.tool_of.ensures ∙ tool_is WRITTEN words _ _ told none found in
-    subst (λ (asks : Option Tool). c.ok_or.result ≡ Err Usage → asks ≡ None) asked (asks_for_none c.tool_of.result c.ok_or.result c.ok_or.ensures.value)
+    let asked = tool_is WRITTEN words _ _ told none found in
+    subst (λ (asks : Option Tool). c.named_tool.result ≡ Err Usage → asks ≡ None) asked (asks_for_none _ c.named_tool.result c.named_tool.ensures)

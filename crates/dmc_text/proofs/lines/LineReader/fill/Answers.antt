@@ -17,8 +17,8 @@ returns-in-Ok-eq0-clause-bytes g c =
     let more : 0 < 2 ^ 32 - self.taken = omega (arith, c.if-self-eq-MOST.false, c.self.invariant.5) in
     let same = same_range self.buffer.items c.read_at.new.buffer.items self.start self.end (omega arith) c.read_at.ensures.front in
     let none : c.in-Ok-eq0.field-0 ≡ 0 = omega (arith, c.in-Ok-eq0.field-0-test) in
-    let before = g.R.Read.remaining c.args.reader.now in
-    let after = g.R.Read.remaining c.read_at.new.reader in
+    let before = g.R.Read.remaining c.args.reader.now.stream in
+    let after = g.R.Read.remaining c.read_at.new.reader.stream in
     let taken : Consumes before after [] = subst (λ k. Consumes before after (take k (drop self.end c.read_at.new.buffer.items))) none c.in-Ok-eq0.ensures.bytes in
     (c.in-Ok-eq0.ensures.end none within more, all_kept before after taken, same ∙ rest-is, taken-is)
 

@@ -1,10 +1,10 @@
 -- Interrupted reads take nothing.
 use Rattle.std.proofs.Common.{◌≡◌, length}
 use Rattle.std.specs.Io.KnownBytes.{Keeps}
-use Rattle.dmc_text.proofs.lines.read_once.Given as goal
+use Rattle.dmc_text.proofs.watched.read_once.Given as goal
 
 abbrev pub invariant-loop : goal.invariant-loop
 invariant-loop g l = record {
-  kept : Keeps (g.R.Read.remaining l.fn.reader) (g.R.Read.remaining l.reader);
+  kept : Keeps (g.R.Read.remaining l.fn.stream) (g.R.Read.remaining l.stream);
   len : length l.buffer ≡ length l.fn.buffer;
 }

@@ -1,1 +1,9 @@
 pub mod RowLemmas
+pub mod Endings
+pub mod Clients
+pub mod Traces
+pub mod TurnLemmas
+pub mod Sending
+pub mod Serving
+pub mod Rounds
+pub mod Starts

@@ -1,5 +1,6 @@
--- What bounds the counts of a simulation: a server grants at most one request a round.
-use Rattle.std.specs.Prelude.{ℕ, ◌+◌, ◌≤◌, All, List}
+-- What bounds the counts of a simulation: a server grants at most one request a round. And that the servers differ.
+use Rattle.std.specs.Prelude.{◌≢◌, ℕ, ◌+◌, ◌≤◌, All, List}
+use Rattle.dmc_types.specs.declared.ids.ServerId.{ServerId}
 use Rattle.dmc_sim.specs.declared.client.SimClient.{SimClient}
 use Rattle.dmc_sim.specs.declared.report.ServerReport.{ServerReport}
 
@@ -14,3 +15,7 @@ HaveGranted n rows = All (λ row. grants_of row ≤ n) rows
 -- no client has had more completions
 abbrev pub HaveCompleted : ℕ → List SimClient → Type 0
 HaveCompleted n clients = All (λ c. c.completed ≤ n) clients
+
+-- two servers have different numbers
+abbrev pub AreDifferent : ServerId → ServerId → Type 0
+AreDifferent a b = a.0 ≢ b.0

@@ -1,8 +1,9 @@
 //! A client of a simulation.
-ghost use Rattle.std.specs.Prelude.{◌≡◌, ◌+◌, ◌<◌, ◌≤◌, ◌^◌, ◌==◌, ◌&&◌, IfOk, IfSome, None, nat_lt, slice_get, vec_len};
+ghost use Rattle.std.specs.Prelude.{◌≡◌, ◌+◌, ◌<◌, ◌≤◌, ◌^◌, ◌==◌, ◌&&◌, IfOk, IfSome, None, if◌then◌else◌, nat_lt, slice_get, vec_len};
 ghost use Rattle.dmc_types.specs.Limits.{most_client_requests};
 ghost use Rattle.dmc_types.specs.declared.config.PhaseType.TheVariants as phases_of;
 ghost use Rattle.dmc_work.specs.Plan.{generator, planned, word};
+ghost use Rattle.dmc_sim.specs.Simulation.{is_phase};
 
 use dmc_scene::client::SceneClient;
 use dmc_types::config::PhaseType;
@@ -55,8 +56,7 @@ impl SimClient {
     /// The server of its next request, if it has requests left and fewer outstanding than its window.
     pub fn next_server(&self) -> Option<ServerId>
         ensures left { IfSome result (λ _. self.now.sent < self.now.scene.requests) }
-        ensures full { self.now.completed + self.now.scene.window ≤ self.now.sent → result ≡ None }
-        ensures next { self.now.sent < self.now.completed + self.now.scene.window → result ≡ slice_get self.now.plan.items self.now.sent }
+        ensures server { result ≡ (if nat_lt self.now.sent (self.now.completed + self.now.scene.window) then slice_get self.now.plan.items self.now.sent else None) }
     {
         if u64::from(self.sent) >= self.completed + u64::from(self.scene.window()) {
             return None;
@@ -91,8 +91,7 @@ impl SimClient {
         ensures plan { self.new.plan.items ≡ self.old.plan.items }
         ensures sent { self.new.sent ≡ self.old.sent }
         ensures completed { self.new.completed ≡ self.old.completed + 1 }
-        ensures reservation { phase ≡ phases_of.Reservation → self.new.reservation ≡ self.old.reservation + 1 }
-        ensures priority { phase ≡ phases_of.Priority → self.new.reservation ≡ self.old.reservation }
+        ensures reservation { self.new.reservation ≡ self.old.reservation + (if is_phase phases_of.Reservation phase then 1 else 0) }
     {
         self.completed += 1;
         if phase == PhaseType::Reservation {

@@ -1,33 +1,24 @@
 //! A round: each client sends, and then each server serves.
-ghost use Rattle.std.specs.Prelude.{◌≡◌, ◌+◌, ◌-◌, ◌<◌, ◌≤◌, ◌^◌, ℕ, All, OnOk, length, map};
+ghost use Rattle.std.specs.Prelude.{◌≡◌, ◌+◌, ◌-◌, ◌<◌, ◌≤◌, ◌^◌, ℕ, All, AllPairs, OnOk, Some, false, if◌then◌else◌, length, map};
+ghost use Rattle.dmc_pull.specs.Queue.{state_of};
+ghost use Rattle.dmc_scene.specs.SceneValue.{AreApart, SceneValue};
 ghost use Rattle.dmc_types.specs.Limits.{most_pulls, most_servers};
-ghost use Rattle.dmc_sim.specs.Counts.{HaveCompleted, HaveGranted, grants_of};
+ghost use Rattle.dmc_types.specs.declared.config.PhaseType.TheVariants as phases_of;
+ghost use Rattle.dmc_core.specs.declared.event.CoreEvent.TheVariants as events;
+ghost use Rattle.dmc_sim.specs.Counts.{AreDifferent, HaveCompleted, HaveGranted, grants_of};
+ghost use Rattle.dmc_sim.specs.Simulation.{asked, client_turn, each_in_turn, is_phase, moment_of, round, send_to, server_turn, servers_of, Sim};
+ghost use Rattle.dmc_sim.specs.Turns.{AllAt, AreMarked, ClientAt, ClientsAt, CompletesOne, Ends, ServerAt, has_next};
 
+use crate::ask::{ask, grant_in, is_counted, is_tagged};
 use crate::client::SimClient;
 use crate::report::{ServerReport, SimFault};
 use dmc_core::cluster_core::ClusterCore;
-use dmc_core::event::{CoreEvent, CoreFault, CoreReply};
+use dmc_core::event::CoreEvent;
 use dmc_core::ids::ClientIds;
-use dmc_tag::reply::Reply;
 use dmc_tag::tag::Tag;
 use dmc_types::config::PhaseType;
 use dmc_types::ids::{ClientId, ServerId, Token};
 use dmc_types::moment::Moment;
-
-/// What a server's queue answers to an event, if the event asks a queue. A queue's refusal ends the simulation.
-///
-/// The cluster refuses no event of a simulation but for want of memory: clients and servers are known, a message arrives in the
-/// round of its stamp, and a grant is responded in the round of its pull. If it did refuse one, nothing would have changed, and
-/// nothing is counted.
-#[inline(always)]
-fn ask<T: Tag>(core: &mut ClusterCore<T>, event: CoreEvent) -> Result<Option<Reply<T>>, SimFault> {
-    match core.step(event) {
-        Ok(CoreReply::Served(Reply::Refused(refusal))) => Err(SimFault::Refused(refusal)),
-        Ok(CoreReply::Served(reply)) => Ok(Some(reply)),
-        Err(CoreFault::Memory) => Err(SimFault::Memory),
-        _ => Ok(None),
-    }
-}
 
 /// A client sends its next request, if it may send one.
 fn send<T: Tag>(
@@ -37,6 +28,7 @@ fn send<T: Tag>(
 ) -> Result<(), SimFault>
     ensures scene { OnOk result (client.new.scene ≡ client.old.scene) }
     ensures completed { OnOk result (client.new.completed ≡ client.old.completed) }
+    ensures turn { (scene : SceneValue) (sim : Sim T) → ClientAt state_of scene core.old client.old sim → Ends (client_turn T.ops scene at client.old.scene sim) (λ _. ClientAt state_of scene core.new client.new) result }
 {
     match client.next_server() {
         Some(server) => send_to(core, client, server, at),
@@ -56,10 +48,11 @@ fn send_to<T: Tag>(
     requires { client.old.sent < client.old.scene.requests }
     ensures scene { OnOk result (client.new.scene ≡ client.old.scene) }
     ensures completed { OnOk result (client.new.completed ≡ client.old.completed) }
+    ensures turn { (scene : SceneValue) (sim : Sim T) → ClientAt state_of scene core.old client.old sim → Ends (send_to T.ops at client.old.scene (Some server) sim) (λ _. ClientAt state_of scene core.new client.new) result }
 {
     let id = client.scene.id();
     let token = Token(client.sent);
-    ask(
+    let _stamped = ask(
         core,
         CoreEvent::Stamp {
             client: id,
@@ -67,12 +60,15 @@ fn send_to<T: Tag>(
             token,
         },
     )?;
-    let arrival = CoreEvent::Arrive {
-        client: id,
-        server,
-        at,
-    };
-    if let Some(Reply::Tagged(_)) = ask(core, arrival)? {
+    let returned = ask(
+        core,
+        CoreEvent::Arrive {
+            client: id,
+            server,
+            at,
+        },
+    )?;
+    if is_tagged(&returned) {
         client.count_sent();
     }
     Ok(())
@@ -85,8 +81,11 @@ fn send_marked<T: Tag>(
     mark: &mut bool,
     at: Moment,
 ) -> Result<(), SimFault>
+    requires { mark.old ≡ false → has_next client.old ≡ false }
     ensures scene { OnOk result (client.new.scene ≡ client.old.scene) }
     ensures completed { OnOk result (client.new.completed ≡ client.old.completed) }
+    ensures mark { OnOk result (mark.new ≡ false → has_next client.new ≡ false) }
+    ensures turn { (scene : SceneValue) (sim : Sim T) → ClientAt state_of scene core.old client.old sim → Ends (client_turn T.ops scene at client.old.scene sim) (λ _. ClientAt state_of scene core.new client.new) result }
 {
     if *mark {
         send(core, client, at)?;
@@ -97,15 +96,19 @@ fn send_marked<T: Tag>(
 
 /// Each client sends a request, if it may, in the scene's order. Only clients with a mark are looked at: few may send in a round,
 /// and the marks of all take little of a cache.
-pub fn send_all<T: Tag>(
+fn send_all<T: Tag>(
     core: &mut ClusterCore<T>,
     clients: &mut [SimClient],
     marks: &mut [bool],
     at: Moment,
 ) -> Result<(), SimFault>
-    requires { length marks.old ≡ length clients.old }
+    requires marks { length marks.old ≡ length clients.old }
+    requires marked { AreMarked marks.old clients.old }
+    requires apart { AllPairs AreApart (map (λ c. c.scene) clients.old) }
     ensures scenes { OnOk result (map (λ c. c.scene) clients.new ≡ map (λ c. c.scene) clients.old) }
     ensures completed { OnOk result ((n : ℕ) → HaveCompleted n clients.old → HaveCompleted n clients.new) }
+    ensures marked { OnOk result (AreMarked marks.new clients.new) }
+    ensures turns { (scene : SceneValue) (sim : Sim T) → ClientsAt state_of scene core.old clients.old sim → Ends (each_in_turn (client_turn T.ops scene at) (map (λ c. c.scene) clients.old) sim) (λ _. ClientsAt state_of scene core.new clients.new) result }
 {
     for place in 0..clients.len() {
         send_marked(core, &mut clients[place], &mut marks[place], at)?;
@@ -117,7 +120,8 @@ pub fn send_all<T: Tag>(
 fn count_grant(row: &mut ServerReport, phase: PhaseType)
     requires { grants_of row.old < most_pulls }
     ensures server { row.new.server ≡ row.old.server }
-    ensures grants { grants_of row.new ≡ grants_of row.old + 1 }
+    ensures reservation { row.new.reservation ≡ row.old.reservation + (if is_phase phases_of.Reservation phase then 1 else 0) }
+    ensures priority { row.new.priority ≡ row.old.priority + (if is_phase phases_of.Priority phase then 1 else 0) }
 {
     match phase {
         PhaseType::Reservation => row.reservation += 1,
@@ -136,13 +140,51 @@ fn count_completion(
     requires marks { length marks.old ≡ length clients.old }
     requires ids { ids.now ≡ map (λ k. k.id) (map (λ c. c.scene) clients.old) }
     requires room { All (λ c. c.completed < 2 ^ 36) clients.old }
+    requires marked { AreMarked marks.old clients.old }
+    requires apart { AllPairs AreApart (map (λ c. c.scene) clients.old) }
     ensures scenes { map (λ c. c.scene) clients.new ≡ map (λ c. c.scene) clients.old }
     ensures completed { (n : ℕ) → HaveCompleted n clients.old → HaveCompleted (n + 1) clients.new }
+    ensures marked { AreMarked marks.new clients.new }
+    ensures counted { CompletesOne client phase clients.old clients.new }
 {
     if let Some(place) = ids.place(client) {
         clients[place].count_completed(phase);
         marks[place] = clients[place].may_send();
     }
+}
+
+/// The client of a grant responds at once. A completion that the cluster counts is one of the client.
+fn respond<T: Tag>(
+    core: &mut ClusterCore<T>,
+    ids: &ClientIds,
+    clients: &mut [SimClient],
+    marks: &mut [bool],
+    server: ServerId,
+    grant: (ClientId, PhaseType),
+) -> Result<(), SimFault>
+    requires marks { length marks.old ≡ length clients.old }
+    requires ids { ids.now ≡ map (λ k. k.id) (map (λ c. c.scene) clients.old) }
+    requires room { All (λ c. c.completed < 2 ^ 36) clients.old }
+    requires marked { AreMarked marks.old clients.old }
+    requires apart { AllPairs AreApart (map (λ c. c.scene) clients.old) }
+    ensures scenes { OnOk result (map (λ c. c.scene) clients.new ≡ map (λ c. c.scene) clients.old) }
+    ensures completed { OnOk result ((n : ℕ) → HaveCompleted n clients.old → HaveCompleted (n + 1) clients.new) }
+    ensures marked { OnOk result (AreMarked marks.new clients.new) }
+    ensures turn { (scene : SceneValue) (sim : Sim T) → ClientsAt state_of scene core.old clients.old sim → Ends (asked T.ops (events.Respond grant.0 server grant.1) sim) (λ _. ClientsAt state_of scene core.new clients.new) result }
+{
+    let (client, phase) = grant;
+    let returned = ask(
+        core,
+        CoreEvent::Respond {
+            client,
+            server,
+            phase,
+        },
+    )?;
+    if is_counted(&returned) {
+        count_completion(ids, clients, marks, client, phase);
+    }
+    Ok(())
 }
 
 /// A server pulls, and the client of a grant responds at once.
@@ -157,30 +199,29 @@ fn serve<T: Tag>(
     requires marks { length marks.old ≡ length clients.old }
     requires ids { ids.now ≡ map (λ k. k.id) (map (λ c. c.scene) clients.old) }
     requires clients { All (λ c. c.completed < 2 ^ 36) clients.old }
+    requires marked { AreMarked marks.old clients.old }
+    requires apart { AllPairs AreApart (map (λ c. c.scene) clients.old) }
     requires server { grants_of row.old < most_pulls }
     ensures server { OnOk result (row.new.server ≡ row.old.server) }
     ensures grants { OnOk result (grants_of row.new ≤ grants_of row.old + 1) }
     ensures scenes { OnOk result (map (λ c. c.scene) clients.new ≡ map (λ c. c.scene) clients.old) }
     ensures completed { OnOk result ((n : ℕ) → HaveCompleted n clients.old → HaveCompleted (n + 1) clients.new) }
+    ensures marked { OnOk result (AreMarked marks.new clients.new) }
+    ensures turn { (scene : SceneValue) (sim : Sim T) → ServerAt state_of scene core.old clients.old row.old sim → Ends (server_turn T.ops at row.old.server sim) (λ _. ServerAt state_of scene core.new clients.new row.new) result }
 {
     let server = row.server;
-    if let Some(Reply::Granted { client, phase, .. }) = ask(core, CoreEvent::Pull { server, at })? {
-        count_grant(row, phase);
-        count_completion(ids, clients, marks, client, phase);
-        ask(
-            core,
-            CoreEvent::Respond {
-                client,
-                server,
-                phase,
-            },
-        )?;
+    let returned = ask(core, CoreEvent::Pull { server, at })?;
+    match grant_in(&returned) {
+        Some(grant) => {
+            count_grant(row, grant.1);
+            respond(core, ids, clients, marks, server, grant)
+        }
+        None => Ok(()),
     }
-    Ok(())
 }
 
 /// Each server serves, by number.
-pub fn serve_all<T: Tag>(
+fn serve_all<T: Tag>(
     core: &mut ClusterCore<T>,
     ids: &ClientIds,
     clients: &mut [SimClient],
@@ -192,14 +233,47 @@ pub fn serve_all<T: Tag>(
     requires ids { ids.now ≡ map (λ k. k.id) (map (λ c. c.scene) clients.old) }
     requires some_servers { length servers.old ≤ most_servers }
     requires clients { HaveCompleted (2 ^ 36 - 64) clients.old }
+    requires marked { AreMarked marks.old clients.old }
+    requires apart { AllPairs AreApart (map (λ c. c.scene) clients.old) }
     requires servers { HaveGranted (most_pulls - 1) servers.old }
-    ensures numbers { OnOk result (map (λ r. r.server.0) servers.new ≡ map (λ r. r.server.0) servers.old) }
+    requires different { AllPairs AreDifferent (map (λ r. r.server) servers.old) }
+    ensures numbers { OnOk result (map (λ r. r.server) servers.new ≡ map (λ r. r.server) servers.old) }
     ensures grants { OnOk result ((n : ℕ) → HaveGranted n servers.old → HaveGranted (n + 1) servers.new) }
     ensures scenes { OnOk result (map (λ c. c.scene) clients.new ≡ map (λ c. c.scene) clients.old) }
     ensures completed { OnOk result ((n : ℕ) → HaveCompleted n clients.old → HaveCompleted (n + length servers.old) clients.new) }
+    ensures marked { OnOk result (AreMarked marks.new clients.new) }
+    ensures turns { (scene : SceneValue) (sim : Sim T) → AllAt state_of scene core.old clients.old servers.old sim → Ends (each_in_turn (server_turn T.ops at) (map (λ r. r.server) servers.old) sim) (λ _. AllAt state_of scene core.new clients.new servers.new) result }
 {
     for row in servers.iter_mut() {
         serve(core, ids, clients, marks, row, at)?;
     }
     Ok(())
+}
+
+/// A round at a moment: each client sends a request, if it may, and then each server serves.
+pub fn make_round<T: Tag>(
+    core: &mut ClusterCore<T>,
+    ids: &ClientIds,
+    clients: &mut [SimClient],
+    marks: &mut [bool],
+    servers: &mut [ServerReport],
+    at: Moment,
+) -> Result<(), SimFault>
+    requires marks { length marks.old ≡ length clients.old }
+    requires ids { ids.now ≡ map (λ k. k.id) (map (λ c. c.scene) clients.old) }
+    requires some_servers { length servers.old ≤ most_servers }
+    requires clients { HaveCompleted (2 ^ 36 - 64) clients.old }
+    requires marked { AreMarked marks.old clients.old }
+    requires apart { AllPairs AreApart (map (λ c. c.scene) clients.old) }
+    requires servers { HaveGranted (most_pulls - 1) servers.old }
+    requires different { AllPairs AreDifferent (map (λ r. r.server) servers.old) }
+    ensures numbers { OnOk result (map (λ r. r.server) servers.new ≡ map (λ r. r.server) servers.old) }
+    ensures grants { OnOk result ((n : ℕ) → HaveGranted n servers.old → HaveGranted (n + 1) servers.new) }
+    ensures scenes { OnOk result (map (λ c. c.scene) clients.new ≡ map (λ c. c.scene) clients.old) }
+    ensures completed { OnOk result ((n : ℕ) → HaveCompleted n clients.old → HaveCompleted (n + length servers.old) clients.new) }
+    ensures marked { OnOk result (AreMarked marks.new clients.new) }
+    ensures round { (scene : SceneValue) (k : ℕ) (sim : Sim T) → at ≡ moment_of scene k → map (λ c. c.scene) clients.old ≡ scene.clients → map (λ r. r.server) servers.old ≡ servers_of scene → AllAt state_of scene core.old clients.old servers.old sim → Ends (round T.ops scene k sim) (λ _. AllAt state_of scene core.new clients.new servers.new) result }
+{
+    send_all(core, clients, marks, at)?;
+    serve_all(core, ids, clients, marks, servers, at)
 }

@@ -1,7 +1,8 @@
 //! The rows of a report.
 ghost use Rattle.std.specs.Prelude.{◌≡◌, ◌≤◌, [], IfOk, length, map, vec_capacity};
 ghost use Rattle.std.specs.List.{range_with_len};
-ghost use Rattle.dmc_sim.specs.Rows.{idle_row, row_of};
+ghost use Rattle.dmc_pull.specs.Queue.{state_of};
+ghost use Rattle.dmc_sim.specs.Rows.{idle_row, row_of, with_left};
 
 use crate::client::SimClient;
 use crate::report::{ClientReport, ServerReport};
@@ -28,10 +29,11 @@ pub fn idle_servers(alloc: Global, servers: u32) -> Result<Vec<ServerReport>, Al
 
 /// Counts what is queued at each server.
 pub fn count_left<T: Tag>(core: &ClusterCore<T>, servers: &mut [ServerReport])
-    ensures { map (λ r. r.server.0) servers.new ≡ map (λ r. r.server.0) servers.old }
+    ensures { servers.new ≡ map (with_left state_of core.now.servers) servers.old }
 {
     for row in servers.iter_mut() {
-        row.left = core.request_count(row.server).unwrap_or(0);
+        let left = core.request_count(row.server).unwrap_or(0);
+        row.left = left;
     }
 }
 

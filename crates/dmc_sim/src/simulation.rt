@@ -1,13 +1,19 @@
 //! The simulation of a scene.
-ghost use Rattle.std.specs.Prelude.{◌≡◌, ◌*◌, ◌≤◌, All, IfOk, OnOk, length, map, min, true};
+ghost use Rattle.std.specs.Prelude.{◌≡◌, ◌*◌, ◌≤◌, All, AllPairs, IfOk, OnOk, length, map, min};
+ghost use Rattle.std.specs.List.{list_all, range_with_len};
 ghost use Rattle.dmc_types.specs.Limits.{greatest_moment, greatest_step, most_servers};
+ghost use Rattle.dmc_pull.specs.Queue.{state_of};
+ghost use Rattle.dmc_scene.specs.SceneValue.{AreApart};
 ghost use Rattle.dmc_core.specs.Opening.{HaveSpacings};
-ghost use Rattle.dmc_sim.specs.Counts.{HaveCompleted, HaveGranted};
-ghost use Rattle.dmc_sim.specs.Reports.{IsReportOf};
+ghost use Rattle.dmc_sim.specs.Counts.{AreDifferent, HaveCompleted, HaveGranted};
+ghost use Rattle.dmc_sim.specs.Reports.{IsReportOf, Simulates, SimulatesBy};
+ghost use Rattle.dmc_sim.specs.Rows.{idle_row};
+ghost use Rattle.dmc_sim.specs.Simulation.{Sim, rounds, servers_of, simulation};
+ghost use Rattle.dmc_sim.specs.Turns.{AllAt, AreMarked, Ends, HasRun, IsIdle, IsLast, is_complete};
 
 use crate::client::SimClient;
 use crate::report::{ServerReport, SimFault, SimReport};
-use crate::round::{send_all, serve_all};
+use crate::round::make_round;
 use crate::rows::{count_left, idle_servers, put_rows};
 use dmc_core::cluster_core::ClusterCore;
 use dmc_core::ids::ClientIds;
@@ -25,10 +31,12 @@ use std::alloc::{AllocError, Global};
 /// and it arrives at once; then each server, by number, pulls once, and a grant is responded at once. The rounds end when all
 /// requests are completed, or with `turns_out` after `max_pulls` of them.
 ///
-/// `Refused`: a queue refused an arrival or a pull, since a sum that it needs is no value of the tag type. `Memory`: the allocator
-/// refused a growth; the report's room is made before the first round.
+/// The report is exactly that of the simulation which `specs/Simulation.antt` defines, event by event, over the cluster run.
+/// `Refused`: in that simulation a queue refuses an arrival or a pull, since a sum that it needs is no value of the tag type, and
+/// this is the refusal. `Memory`: an allocation failed, and no more is said. The report's capacity is made before the first round.
 pub fn simulate(alloc: Global, scene: &Scene) -> Result<SimReport, SimFault>
-    ensures { IfOk result (IsReportOf scene.now) }
+    ensures simulates { Simulates scene.now result }
+    ensures rows { IfOk result (IsReportOf scene.now) }
 {
     match scene.tags() {
         TagKind::Tick => simulate_on::<TickTag>(alloc, scene),
@@ -39,7 +47,8 @@ pub fn simulate(alloc: Global, scene: &Scene) -> Result<SimReport, SimFault>
 /// Simulates a scene with tags of this type.
 fn simulate_on<T: Tag>(alloc: Global, scene: &Scene) -> Result<SimReport, SimFault>
     requires { HaveSpacings T.ops scene.now }
-    ensures { IfOk result (IsReportOf scene.now) }
+    ensures simulates { SimulatesBy T.ops scene.now result }
+    ensures rows { IfOk result (IsReportOf scene.now) }
 {
     let mut rows = Vec::with_capacity(alloc, scene.clients().len())?;
     let mut servers = idle_servers(alloc, scene.servers())?;
@@ -54,7 +63,7 @@ fn simulate_on<T: Tag>(alloc: Global, scene: &Scene) -> Result<SimReport, SimFau
     })
 }
 
-/// Opens the scene's cluster and runs it to the last round, whose moment it answers. The servers' rows then have what is left.
+/// Opens the scene's cluster and runs it to the last round, whose moment it returns. The servers' rows then have what is left.
 fn run_scene<T: Tag>(
     alloc: Global,
     scene: &Scene,
@@ -63,11 +72,11 @@ fn run_scene<T: Tag>(
 ) -> Result<Moment, SimFault>
     requires spacings { HaveSpacings T.ops scene.now }
     requires scenes { map (λ c. c.scene) clients.old ≡ scene.now.clients }
+    requires clients { All (IsIdle scene.now) clients.old }
+    requires servers { servers.old ≡ map idle_row (range_with_len 0 scene.now.servers) }
     requires some_servers { length servers.old ≤ most_servers }
-    requires completed { HaveCompleted 0 clients.old }
-    requires grants { HaveGranted 0 servers.old }
     ensures scenes { OnOk result (map (λ c. c.scene) clients.new ≡ map (λ c. c.scene) clients.old) }
-    ensures numbers { OnOk result (map (λ r. r.server.0) servers.new ≡ map (λ r. r.server.0) servers.old) }
+    ensures last { Ends (simulation T.ops scene.now) (IsLast scene.now clients.new servers.new) result }
 {
     let ids = ClientIds::of_clients(alloc, scene.clients())?;
     let mut marks = vec![in alloc; true; clients.len()]?;
@@ -78,7 +87,7 @@ fn run_scene<T: Tag>(
 /// The clients, before they send anything.
 fn idle_clients(alloc: Global, scene: &Scene) -> Result<Vec<SimClient>, AllocError>
     ensures scenes { IfOk result (λ clients. map (λ c. c.scene) clients.items ≡ scene.now.clients) }
-    ensures completed { IfOk result (λ clients. HaveCompleted 0 clients.items) }
+    ensures idle { IfOk result (λ clients. All (IsIdle scene.now) clients.items) }
 {
     let seed = scene.seed();
     let servers = scene.servers();
@@ -91,7 +100,7 @@ fn idle_clients(alloc: Global, scene: &Scene) -> Result<Vec<SimClient>, AllocErr
 
 /// Whether every client's requests are completed.
 fn are_complete(clients: &[SimClient]) -> bool
-    ensures { result ≡ true → All (λ c. c.completed ≡ c.scene.requests) clients.now }
+    ensures { result ≡ list_all is_complete clients.now }
 {
     clients.iter().all(|client| client.is_complete())
 }
@@ -105,7 +114,7 @@ fn moment_of(round: u32, step: u64) -> Moment
     Moment::new(ticks.min(GREATEST_MOMENT)).unwrap()
 }
 
-/// The rounds, to the last, whose moment it answers; the answer is 0 where there is none. Then each row has what is left.
+/// The rounds, to the last, whose moment it returns; 0 where there is none. Then each row has what is left.
 fn run<T: Tag>(
     core: &mut ClusterCore<T>,
     scene: &Scene,
@@ -115,22 +124,54 @@ fn run<T: Tag>(
     servers: &mut [ServerReport],
 ) -> Result<Moment, SimFault>
     requires marks { length marks.old ≡ length clients.old }
+    requires marked { AreMarked marks.old clients.old }
     requires ids { ids.now ≡ map (λ k. k.id) (map (λ c. c.scene) clients.old) }
+    requires apart { AllPairs AreApart (map (λ c. c.scene) clients.old) }
+    requires scenes { map (λ c. c.scene) clients.old ≡ scene.now.clients }
+    requires numbers { map (λ r. r.server) servers.old ≡ servers_of scene.now }
+    requires different { AllPairs AreDifferent (map (λ r. r.server) servers.old) }
     requires some_servers { length servers.old ≤ most_servers }
     requires completed { HaveCompleted 0 clients.old }
     requires grants { HaveGranted 0 servers.old }
     ensures scenes { OnOk result (map (λ c. c.scene) clients.new ≡ map (λ c. c.scene) clients.old) }
-    ensures numbers { OnOk result (map (λ r. r.server.0) servers.new ≡ map (λ r. r.server.0) servers.old) }
+    ensures last { (sim : Sim T) → AllAt state_of scene.now core.old clients.old servers.old sim → Ends (rounds T.ops scene.now scene.now.max_pulls 0 sim) (IsLast scene.now clients.new servers.new) result }
+{
+    let end = make_rounds(core, scene, ids, clients, marks, servers)?;
+    count_left(core, servers);
+    Ok(end)
+}
+
+/// The rounds, to the last, whose moment it returns; 0 where there is none. They end where all requests are completed, and after
+/// the most that the scene allows.
+fn make_rounds<T: Tag>(
+    core: &mut ClusterCore<T>,
+    scene: &Scene,
+    ids: &ClientIds,
+    clients: &mut [SimClient],
+    marks: &mut [bool],
+    servers: &mut [ServerReport],
+) -> Result<Moment, SimFault>
+    requires marks { length marks.old ≡ length clients.old }
+    requires marked { AreMarked marks.old clients.old }
+    requires ids { ids.now ≡ map (λ k. k.id) (map (λ c. c.scene) clients.old) }
+    requires apart { AllPairs AreApart (map (λ c. c.scene) clients.old) }
+    requires scenes { map (λ c. c.scene) clients.old ≡ scene.now.clients }
+    requires numbers { map (λ r. r.server) servers.old ≡ servers_of scene.now }
+    requires different { AllPairs AreDifferent (map (λ r. r.server) servers.old) }
+    requires some_servers { length servers.old ≤ most_servers }
+    requires completed { HaveCompleted 0 clients.old }
+    requires grants { HaveGranted 0 servers.old }
+    ensures scenes { OnOk result (map (λ c. c.scene) clients.new ≡ map (λ c. c.scene) clients.old) }
+    ensures numbers { OnOk result (map (λ r. r.server) servers.new ≡ map (λ r. r.server) servers.old) }
+    ensures rounds { (sim : Sim T) → AllAt state_of scene.now core.old clients.old servers.old sim → Ends (rounds T.ops scene.now scene.now.max_pulls 0 sim) (HasRun state_of scene.now core.new clients.new servers.new) result }
 {
     let mut end = Moment::zero();
     for round in 0..scene.max_pulls() {
         if are_complete(clients) {
-            break;
+            return Ok(end);
         }
         end = moment_of(round, scene.step());
-        send_all(core, clients, marks, end)?;
-        serve_all(core, ids, clients, marks, servers, end)?;
+        make_round(core, ids, clients, marks, servers, end)?;
     }
-    count_left(core, servers);
     Ok(end)
 }

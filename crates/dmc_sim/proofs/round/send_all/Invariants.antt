@@ -1,5 +1,11 @@
-use Rattle.std.proofs.Common.{◌≡◌, ℕ, map, length}
+-- The clients so far have had their turns, and the rest of them come to what all come to.
+use Rattle.std.proofs.Common.{◌≡◌, ℕ, drop, length, map}
+use Rattle.dmc_pull.specs.Queue.{state_of}
+use Rattle.dmc_scene.specs.SceneValue.{SceneValue}
 use Rattle.dmc_sim.specs.Counts.{HaveCompleted}
+use Rattle.dmc_sim.specs.Simulation.{Sim, client_turn, each_in_turn}
+use Rattle.dmc_sim.specs.Turns.{AreMarked, ClientsAt}
+use Rattle.dmc_sim.proofs.Endings.{Reaches}
 use Rattle.dmc_sim.proofs.round.send_all.Given as goal
 
 abbrev pub invariant-loop-place : goal.invariant-loop-place
@@ -7,4 +13,7 @@ invariant-loop-place g l = record {
   marks : length l.marks ≡ length l.clients;
   scenes : map (λ c. c.scene) l.clients ≡ map (λ c. c.scene) l.fn.clients;
   completed : (n : ℕ) → HaveCompleted n l.fn.clients → HaveCompleted n l.clients;
+  marked : AreMarked l.marks l.clients;
+  turns : (scene : SceneValue) (sim : Sim g.row.T.Denot) → ClientsAt state_of scene l.fn.core l.fn.clients sim
+      → Reaches (each_in_turn (client_turn g.T.Tag.ops scene l.at) (map (λ c. c.scene) l.fn.clients) sim) (each_in_turn (client_turn g.T.Tag.ops scene l.at) (drop l.place (map (λ c. c.scene) l.fn.clients))) (ClientsAt state_of scene l.core l.clients);
 }

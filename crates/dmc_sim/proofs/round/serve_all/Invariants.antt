@@ -1,15 +1,24 @@
--- The servers so far have granted one request more at most, and so many more requests are completed at most.
-use Rattle.std.proofs.Common.{◌≡◌, ◌≤◌, ℕ, ◌+◌, get_or, length, map}
+-- The servers so far have granted one request more at most, and so many more requests are completed at most. They have had their
+-- turns, and the rest of them come to what all come to.
+use Rattle.std.proofs.Common.{◌≡◌, ◌≤◌, ℕ, ◌+◌, drop, get_or, length, map}
+use Rattle.dmc_pull.specs.Queue.{state_of}
+use Rattle.dmc_scene.specs.SceneValue.{SceneValue}
 use Rattle.dmc_sim.specs.Counts.{HaveCompleted, HaveGranted}
+use Rattle.dmc_sim.specs.Simulation.{Sim, server_turn, each_in_turn}
+use Rattle.dmc_sim.specs.Turns.{AllAt, AreMarked}
 use Rattle.dmc_sim.specs.declared.report.ServerReport.{ServerReport}
+use Rattle.dmc_sim.proofs.Endings.{Reaches}
 use Rattle.dmc_sim.proofs.round.serve_all.Given as goal
 
 abbrev pub invariant-loop-row : goal.invariant-loop-row
 invariant-loop-row g l = record {
   marks : length l.marks ≡ length l.clients;
-  numbers : map (λ r. r.server.0) l.servers ≡ map (λ r. r.server.0) l.fn.servers;
+  numbers : map (λ r. r.server) l.servers ≡ map (λ r. r.server) l.fn.servers;
   untouched : (k : ℕ) (d : ServerReport) → l.row-index ≤ k → get_or l.servers k d ≡ get_or l.fn.servers k d;
   grants : (n : ℕ) → HaveGranted n l.fn.servers → HaveGranted (n + 1) l.servers;
   scenes : map (λ c. c.scene) l.clients ≡ map (λ c. c.scene) l.fn.clients;
   completed : (n : ℕ) → HaveCompleted n l.fn.clients → HaveCompleted (n + l.row-index) l.clients;
+  marked : AreMarked l.marks l.clients;
+  turns : (scene : SceneValue) (sim : Sim g.row.T.Denot) → AllAt state_of scene l.fn.core l.fn.clients l.fn.servers sim
+      → Reaches (each_in_turn (server_turn g.T.Tag.ops l.at) (map (λ r. r.server) l.fn.servers) sim) (each_in_turn (server_turn g.T.Tag.ops l.at) (drop l.row-index (map (λ r. r.server) l.fn.servers))) (AllAt state_of scene l.core l.clients l.servers);
 }

@@ -1,20 +1,20 @@
-use Rattle.std.proofs.Common.{◌+◌, ◌*◌, ◌≤◌, get_or, length, ◌∙◌, arith}
+use Rattle.std.proofs.Common.{ap, ◌∙◌, map}
+use Rattle.dmc_pull.specs.Queue.{state_of}
+use Rattle.dmc_sim.specs.Reports.{server_row}
+use Rattle.dmc_sim.proofs.RowLemmas.{left_rows}
 use Rattle.dmc_sim.proofs.simulation.run.Goals as goal
 
-pub serve_all-requires-clause-ids : goal.serve_all-requires-clause-ids
-serve_all-requires-clause-ids g c = rw (c.in_ok-send_all.ensures.scenes, c.loop-round.invariant.scenes) c.requires.ids
-
-pub loop-round-preserved : goal.loop-round-preserved
-loop-round-preserved g c =
-    let inv = c.loop-round.invariant in
-    let round = c.loop-round.round in
-    let servers : length c.loop-round.servers ≤ 64 = omega (arith, c.requires.some_servers) in
+pub returns-clause-last : goal.returns-clause-last
+returns-clause-last g c = λ sim h.
+    let made = c.in_ok-end.ensures.rounds sim h in
+    let last = made.value.1 in
+    let at = made.holds.at in
     record {
-      marks = omega arith;
-      numbers = c.in_ok-serve_all.ensures.numbers ∙ inv.numbers;
-      scenes = c.in_ok-serve_all.ensures.scenes ∙ c.in_ok-send_all.ensures.scenes ∙ inv.scenes;
-      completed = λ k d w.
-          let most : (get_or c.serve_all.new.clients k d).completed ≤ round * 64 + length c.loop-round.servers = c.in_ok-serve_all.ensures.completed (round * 64) (c.in_ok-send_all.ensures.completed (round * 64) inv.completed) k d w in
-          omega (arith, most, servers);
-      grants = c.in_ok-serve_all.ensures.grants round inv.grants;
+      value = made.value;
+      is = made.is;
+      holds = record {
+        counted = at.at.counted;
+        rows_are = c.count_left.ensures ∙ left_rows state_of c.make_rounds.new.core last at.at.run c.make_rounds.new.servers at.grants ∙ ap (map (server_row last)) (c.in_ok-end.ensures.numbers ∙ c.requires.numbers);
+        end_is = made.holds.end_is;
+      };
     }

@@ -38,7 +38,7 @@ def structs():
 
 def exports():
     """Each export's name, types and whether it answers a code."""
-    for file, handle in (("queue.rt", "dmc_queue"), ("tracker.rt", "dmc_tracker")):
+    for file, handle in (("queue.rt", "dmc_queue"), ("tracker.rt", "dmc_tracker"), ("rates.rt", None)):
         for name, params, code in re.findall(r'pub extern "C" fn (\w+)\((.*?)\)( -> u32)?\s*\n\s*ensures', read(file), re.S):
             types = [p.split(":")[1].strip() for p in params.split(",") if ":" in p]
             yield name, [c_type(t, handle) for t in types if t != "Global"], bool(code)
@@ -64,7 +64,7 @@ def main():
         for field, rust in fields:
             print(f'_Static_assert(offsetof(struct {name}, {field}) == offsetof(struct crate_{name}, {field}), "{name}.{field}");')
             print(f'_Static_assert(_Generic(((struct {name} *)0)->{field}, {c_type(rust, name)}: 1, default: 0), "{name}.{field}");')
-    declared = set(re.findall(r"\b(dmc_\w+)\(struct", header))
+    declared = set(re.findall(r"^(?:uint32_t|void) +(dmc_\w+)\(", header, re.M))
     found = set()
     for name, types, answers in exports():
         found.add(name)
@@ -76,6 +76,8 @@ def main():
         sys.exit(f"exports differ: {sorted(declared ^ found)}")
     if told != given:
         sys.exit(f"codes differ: {sorted(set(told.items()) ^ set(given.items()))}")
+    fine = re.search(r"FINE_HZ: u32 = ([\d_]+);", (SRC.parent.parent / "dmc_types" / "src" / "rates.rt").read_text()).group(1)
+    given["DMC_FINE_HZ"] = fine.replace("_", "")
     for name, number in given.items():
         print(f'_Static_assert({name} == {number}, "{name}");')
     print("int main(void) { return 0; }")

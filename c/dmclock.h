@@ -122,6 +122,32 @@ uint32_t dmc_tracker_respond(struct dmc_tracker *, uint32_t server, uint32_t pha
 /* Writes what the tracker knows of a server. DMC_NONE_HELD, DMC_NO_SERVER. */
 uint32_t dmc_tracker_status(struct dmc_tracker *, uint32_t server, struct dmc_track *);
 
+/* ---- rates and clocks
+   These calls hold nothing. hz is 1 to 1,000,000,000, else DMC_BAD_CONFIG; what is not DMC_OK writes nothing. */
+
+/* Ticks a second for rates that an operator typed: 1,344 rates divide it, every one from 1 to 18 among them, and from 1,000 to
+   1,000,000 the next one is at most 2.2% further. A tick is 1.36 ns. */
+#define DMC_FINE_HZ 735134400
+
+/* The greatest rate at most this one that divides hz, which tick tags ask for: for a limit, and for a weight. Clients have shares by
+   their weights while the sum of the weights is less than the requests that are granted in a second, so weights are small numbers.
+   DMC_BAD_CONFIG, DMC_BAD_RATE (a rate of 0). */
+uint32_t dmc_rate_at_most(uint64_t hz, uint32_t rate, uint32_t *found);
+
+/* The least rate at least this one that divides hz: for a reservation. DMC_BAD_CONFIG, DMC_BAD_RATE (a rate of 0, or past hz). */
+uint32_t dmc_rate_at_least(uint64_t hz, uint32_t rate, uint32_t *found);
+
+/* The moment of a clock that has counted so many nanoseconds: the whole ticks that have passed. DMC_BAD_CONFIG, DMC_BAD_MOMENT
+   (past 2^62). */
+uint32_t dmc_moment_from_nanos(uint64_t hz, uint64_t nanos, uint64_t *moment);
+
+/* The least nanoseconds after which a moment has come: who sleeps until then finds the request due. DMC_BAD_CONFIG,
+   DMC_BAD_MOMENT (a moment past 2^62, or nanoseconds past 2^64-1). */
+uint32_t dmc_nanos_from_moment(uint64_t hz, uint64_t moment, uint64_t *nanos);
+
+/* The same of what a pull says of DMC_FUTURE, which may be past 2^62. DMC_BAD_CONFIG, DMC_BAD_MOMENT (nanoseconds past 2^64-1). */
+uint32_t dmc_nanos_from_due(uint64_t hz, uint64_t due_low, uint64_t due_high, uint64_t *nanos);
+
 /* A text for each code. */
 static inline const char *dmc_text(uint32_t code) {
   switch (code) {

@@ -327,9 +327,66 @@ static void run_codes(void) {
   expect("each code is met, and no other", all && count == sizeof codes / sizeof *codes);
 }
 
+/* A number that a call wrote, or a mark where it wrote none. */
+static const uint64_t unwritten = 0x5555555555555555;
+
+/* Whether a rate is what a count over all rates finds: the nearest divisor downwards, or upwards. */
+static bool is_nearest(uint32_t hz, uint32_t rate) {
+  uint32_t below = rate, above = rate, found = 0;
+  while (hz % below != 0) below--;
+  if (code(dmc_rate_at_most(hz, rate, &found)) != DMC_OK || found != below) return false;
+  if (rate > hz) return code(dmc_rate_at_least(hz, rate, &found)) == DMC_BAD_RATE && found == below;
+  while (hz % above != 0) above++;
+  return code(dmc_rate_at_least(hz, rate, &found)) == DMC_OK && found == above;
+}
+
+static void run_rates(void) {
+  static const uint32_t all_hz[] = {1, 2, 97, 1000, 5040, 44100};
+  bool nearest = true;
+  for (size_t i = 0; i < sizeof all_hz / sizeof *all_hz; i++)
+    for (uint32_t rate = 1; rate <= all_hz[i] + 3; rate++) nearest = nearest && is_nearest(all_hz[i], rate);
+  expect("nearest rates", nearest);
+  bool small = true;
+  for (uint32_t rate = 1; rate <= 18; rate++) {
+    uint32_t found = 0;
+    small = small && code(dmc_rate_at_most(DMC_FINE_HZ, rate, &found)) == DMC_OK && found == rate;
+  }
+  expect("rates from 1 to 18", small);
+  uint32_t found = 7;
+  expect("no rate", code(dmc_rate_at_most(1000, 0, &found)) == DMC_BAD_RATE && code(dmc_rate_at_least(1000, 0, &found)) == DMC_BAD_RATE && found == 7);
+  expect("no hz", code(dmc_rate_at_most(0, 1, &found)) == DMC_BAD_CONFIG && code(dmc_rate_at_least(1000000001, 1, &found)) == DMC_BAD_CONFIG && found == 7);
+}
+
+/* The moment of a clock, or a mark. */
+static uint64_t moment_of(uint64_t hz, uint64_t nanos, uint32_t want) {
+  uint64_t moment = unwritten;
+  return code(dmc_moment_from_nanos(hz, nanos, &moment)) == want ? moment : 0;
+}
+
+static uint64_t nanos_of(uint64_t hz, uint64_t moment, uint32_t want) {
+  uint64_t nanos = unwritten;
+  return code(dmc_nanos_from_moment(hz, moment, &nanos)) == want ? nanos : 0;
+}
+
+static uint64_t nanos_of_due(uint64_t hz, uint64_t low, uint64_t high, uint32_t want) {
+  uint64_t nanos = unwritten;
+  return code(dmc_nanos_from_due(hz, low, high, &nanos)) == want ? nanos : 0;
+}
+
+static void run_clocks(void) {
+  expect("a clock in milliseconds", moment_of(1000, 1999999, DMC_OK) == 1 && nanos_of(1000, 2, DMC_OK) == 2000000);
+  expect("a clock in thirds", moment_of(3, 333333333, DMC_OK) == 0 && nanos_of(3, 1, DMC_OK) == 333333334 && moment_of(3, 333333334, DMC_OK) == 1);
+  expect("the last moment", moment_of(1000000000, 1ull << 62, DMC_OK) == 1ull << 62 && moment_of(1000000000, (1ull << 62) + 1, DMC_BAD_MOMENT) == unwritten);
+  expect("past the last moment", nanos_of(1000, (1ull << 62) + 1, DMC_BAD_MOMENT) == unwritten && nanos_of_due(1000000000, (1ull << 62) + 1, 0, DMC_OK) == (1ull << 62) + 1);
+  expect("nanoseconds past 64 bits", nanos_of(1, 18446744074, DMC_BAD_MOMENT) == unwritten && nanos_of(1, 18446744073, DMC_OK) == 18446744073000000000ull && nanos_of_due(1000, 0, 1, DMC_BAD_MOMENT) == unwritten);
+  expect("no clock", moment_of(0, 1, DMC_BAD_CONFIG) == unwritten && nanos_of(1000000001, 1, DMC_BAD_CONFIG) == unwritten && nanos_of_due(0, 1, 0, DMC_BAD_CONFIG) == unwritten);
+}
+
 int main(void) {
   run_scripts();
   run_trackers();
+  run_rates();
+  run_clocks();
   run_limits();
   run_refused();
   run_codes();

@@ -4,3 +4,4 @@ pub mod Reading
 pub mod Telling
 pub mod Ownership
 pub mod Calls
+pub mod Rates

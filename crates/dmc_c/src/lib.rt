@@ -9,6 +9,7 @@ mod handle;
 mod kept;
 mod loose;
 mod queue;
+mod rates;
 mod reading;
 mod telling;
 #[cfg(test)]

@@ -25,6 +25,8 @@ mod lines;
 #[cfg(test)]
 mod plans;
 #[cfg(test)]
+mod rates;
+#[cfg(test)]
 mod recorded;
 #[cfg(test)]
 mod records;

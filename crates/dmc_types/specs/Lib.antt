@@ -1,2 +1,4 @@
+pub mod Clock
 pub mod Limits
+pub mod Rates
 pub mod Values

@@ -1,10 +1,12 @@
 //! How a queue is set up.
-ghost use Rattle.std.specs.Prelude.{◌≡◌, ◌<◌, ◌≤◌};
+ghost use Rattle.std.specs.Prelude.{◌≡◌, ◌<◌, ◌≤◌, ◌↔◌, ◌⊎◌, IsNone, IfSome};
 ghost use Rattle.dmc_types.specs.Limits.{greatest_hz, greatest_moment};
+ghost use Rattle.dmc_types.specs.Rates.{IsGreatestAtMost, IsLeastAtLeast};
 ghost use Rattle.dmc_types.specs.Values.{IsSetting};
 ghost use Rattle.dmc_types.specs.declared.refusal.ValueFault.{ValueFault};
 
 use crate::limits::{GREATEST_AGE, GREATEST_HZ};
+use crate::rates;
 use crate::refusal::ValueFault;
 use std::marker::Model;
 
@@ -97,6 +99,24 @@ impl QueueConfig {
         ensures limit { result ≤ greatest_hz }
     {
         self.hz
+    }
+
+    /// The greatest rate with a whole spacing that is at most this one, in requests a second: the one to take for a limit.
+    /// `None` for a rate of 0.
+    pub fn rate_at_most(self, rate: u32) -> Option<u32>
+        ensures found { IfSome result (IsGreatestAtMost self.hz rate) }
+        ensures none { IsNone result ↔ (rate ≡ 0) }
+    {
+        rates::rate_at_most(self.hz(), rate)
+    }
+
+    /// The least rate with a whole spacing that is at least this one, in requests a second: the one to take for a reservation.
+    /// `None` for a rate of 0 and one past `hz`.
+    pub fn rate_at_least(self, rate: u32) -> Option<u32>
+        ensures found { IfSome result (IsLeastAtLeast self.hz rate) }
+        ensures none { IsNone result ↔ (rate ≡ 0) ⊎ (self.hz < rate) }
+    {
+        rates::rate_at_least(self.hz(), rate)
     }
 
     /// The age in ticks from which a clean marks a client idle.

@@ -2,11 +2,14 @@
 //! takes memory.
 #![tactic(auto)]
 
+pub mod clock;
 pub mod command;
 pub mod config;
 pub mod ids;
 pub mod info;
+pub mod laws;
 pub mod limits;
 pub mod moment;
 pub mod params;
+pub mod rates;
 pub mod refusal;

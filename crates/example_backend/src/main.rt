@@ -1,37 +1,42 @@
-//! A storage back end in small: server 0 with its queue, and three clients with a tracker each.
+//! A storage back end in small: server 0 with its queue, and three clients with a tracker each. It reads a monotonic clock, and
+//! takes the rates that its operator typed.
 #![tactic(auto)]
 
 ghost use Rattle.std.specs.Prelude.{◌≡◌, ◌+◌, OnOk};
 
-use anyhow::Result;
+use anyhow::{Result, bail};
 use dmclock::{
-    AtLimit, ClientId, ClientInfo, Counting, Moment, PhaseType, Pulled, QueueConfig, Scheduler,
-    ServerId, ServiceTracker, TickQueue, TickTag, Token,
+    AtLimit, ClientId, ClientInfo, Counting, FINE_HZ, Moment, PhaseType, Pulled, QueueConfig,
+    Scheduler, ServerId, ServiceTracker, TickQueue, TickTag, Token, nanos_until,
 };
 use std::alloc::Global;
+use std::rt::Clock;
+use std::thread;
+use std::time::{Duration, Instant};
 
-/// A client stamps its requests by its tracker, and tells the tracker of each response.
+/// How many requests each client makes.
+const REQUESTS: u32 = 4;
+
+/// A client stamps its requests by its tracker, and reports each response to the tracker.
 #[derive(Drop)]
 struct Client {
     id: ClientId,
     tracker: ServiceTracker,
+    sent: u32,
+    served: u32,
 }
 
 impl Client {
     /// Stamps a request, and queues it. A stamp is no completion.
-    fn submit<Q: Scheduler<TickTag>>(
-        &mut self,
-        queue: &mut Q,
-        token: Token,
-        at: Moment,
-    ) -> Result<()>
+    fn submit<Q: Scheduler<TickTag>>(&mut self, queue: &mut Q, at: Moment) -> Result<()>
         ensures { self.new.tracker.completions ≡ self.old.tracker.completions }
     {
         let params = self.tracker.get_req_params(ServerId(0))?;
-        match queue.add_request(self.id, token, params, at) {
-            Ok(_) => Ok(()),
-            Err(fault) => Err(fault.into()),
+        if let Err(fault) = queue.add_request(self.id, Token(self.sent), params, at) {
+            return Err(fault.into());
         }
+        self.sent = self.sent.saturating_add(1);
+        Ok(())
     }
 
     /// A response is one completion more.
@@ -39,71 +44,109 @@ impl Client {
         ensures { OnOk result (self.new.tracker.completions.delta ≡ self.old.tracker.completions.delta + 1) }
     {
         self.tracker.track_resp(ServerId(0), phase)?;
+        self.served = self.served.saturating_add(1);
         Ok(())
     }
 }
 
-/// One pull. The client that is granted gets its response, and submits another request.
-fn turn<Q: Scheduler<TickTag>>(
-    rt: &impl Print,
+/// The moment of the clock.
+fn now(rt: &impl Clock, start: &Instant) -> Result<Moment> {
+    let nanos = u64::try_from(start.elapsed(rt)?.as_nanos())?;
+    let Some(moment) = Moment::from_nanos(FINE_HZ, nanos) else {
+        bail!("the clock is past the last moment");
+    };
+    Ok(moment)
+}
+
+/// Sleeps until a request is due.
+fn sleep_until(rt: &impl Clock, start: &Instant, due: u128) -> Result<()> {
+    let Some(nanos) = nanos_until(FINE_HZ, due) else {
+        bail!("the next request is due after the last moment of the clock");
+    };
+    let due = Duration::from_nanos(nanos);
+    thread::sleep(rt, due.saturating_sub(start.elapsed(rt)?));
+    Ok(())
+}
+
+/// Serves what is granted until nothing is queued. A client that is served makes its next request.
+fn serve_all<Q: Scheduler<TickTag>>(
+    rt: &impl Clock,
+    start: &Instant,
     queue: &mut Q,
     all: &mut Vec<Client>,
+) -> Result<()> {
+    for _ in 0..10_000 {
+        let at = now(rt, start)?;
+        match queue.pull_request(at)? {
+            Pulled::Returning { client, phase, .. } => serve(queue, all, client, phase, at)?,
+            Pulled::Future(due) => sleep_until(rt, start, due)?,
+            Pulled::Nothing => return Ok(()),
+        }
+    }
+    bail!("requests are left after 10,000 pulls")
+}
+
+/// Here a device would do the work. The client gets its response, and makes its next request.
+fn serve<Q: Scheduler<TickTag>>(
+    queue: &mut Q,
+    all: &mut Vec<Client>,
+    granted: ClientId,
+    phase: PhaseType,
     at: Moment,
 ) -> Result<()> {
-    if let Pulled::Returning {
-        client: ClientId(id),
-        token: Token(number),
-        phase,
-        ..
-    } = queue.pull_request(at)?
-    {
-        let now = at.ticks();
-        println!(rt; "{now}: client {id}, request {number}, {phase:?}")?;
-        if let Some(client) = all.get_mut(id as usize) {
-            client.respond(phase)?;
-            client.submit(queue, Token(number.wrapping_add(1)), at)?;
-        }
+    let Some(client) = all.get_mut(granted.0 as usize) else {
+        bail!("a grant to an unknown client");
+    };
+    client.respond(phase)?;
+    if client.sent < REQUESTS {
+        client.submit(queue, at)?;
     }
     Ok(())
 }
 
-/// Registers the next client, and submits its first request.
+/// Registers the next client, and makes its first request.
 fn join<Q: Scheduler<TickTag>>(
     alloc: Global,
     queue: &mut Q,
     all: &mut Vec<Client>,
     info: ClientInfo,
+    at: Moment,
 ) -> Result<()> {
     let id = ClientId(u32::try_from(all.len())?);
-    queue.register(id, info, Moment::zero())?;
-    let tracker = ServiceTracker::new(alloc, 1, 1_000_000, Counting::All)?;
-    let mut client = Client { id, tracker };
-    client.submit(queue, Token(1), Moment::zero())?;
+    queue.register(id, info, at)?;
+    let mut client = Client {
+        id,
+        tracker: ServiceTracker::new(alloc, 1, 1_000_000, Counting::All)?,
+        sent: 0,
+        served: 0,
+    };
+    client.submit(queue, at)?;
     all.push(client)?;
     Ok(())
 }
 
-fn run<Q: Scheduler<TickTag>>(
-    rt: &impl Print,
-    queue: &mut Q,
-    all: &mut Vec<Client>,
-    alloc: Global,
-) -> Result<()> {
-    // Reservation, weight and limit, in requests a second.
-    join(alloc, queue, all, ClientInfo::new(Some(10), 1, None)?)?;
-    join(alloc, queue, all, ClientInfo::new(None, 2, None)?)?;
-    join(alloc, queue, all, ClientInfo::new(None, 2, Some(20))?)?;
-    if let Err(fault) = join(alloc, queue, all, ClientInfo::new(None, 3, None)?) {
-        println!(rt; "not registered: {fault}")?;
+fn main(rt: HostRuntime) -> Result<()> {
+    let minute = 60 * u64::from(FINE_HZ);
+    let config = QueueConfig::new(u64::from(FINE_HZ), minute, 10 * minute, AtLimit::Wait)?;
+    // What the operator asked for, in requests a second, rounded to rates that are exact: a reservation up, a limit down.
+    let reservation = config.rate_at_least(1_234);
+    let limit = config.rate_at_most(777);
+    println!(&rt; "1234 reserved: {reservation:?}, at most 777: {limit:?}")?;
+
+    let start = Instant::now(&rt)?;
+    let mut queue = TickQueue::new(rt.alloc(), config);
+    let mut all = Vec::new(rt.alloc());
+    let infos = [
+        ClientInfo::new(reservation, 1, None)?,
+        ClientInfo::new(None, 2, None)?,
+        ClientInfo::new(None, 2, limit)?,
+    ];
+    for info in infos {
+        join(rt.alloc(), &mut queue, &mut all, info, now(&rt, &start)?)?;
     }
-    for number in 0..8 {
-        turn(rt, queue, all, Moment::new(number * 20)?)?;
+    serve_all(&rt, &start, &mut queue, &mut all)?;
+    for client in &all {
+        println!(&rt; "client {}: {} served", client.id.0, client.served)?;
     }
     Ok(())
-}
-
-fn main(rt: HostRuntime) -> Result<()> {
-    let config = QueueConfig::new(1000, 60_000, 600_000, AtLimit::Wait)?;
-    let mut queue = TickQueue::new(rt.alloc(), config);
-    run(&rt, &mut queue, &mut Vec::new(rt.alloc()), rt.alloc())
 }

@@ -1,6 +1,7 @@
 //! dmClock for storage back ends: what a back end uses, in one crate. It has no code of its own.
 #![tactic(auto)]
 
+pub mod laws;
 pub mod locks;
 
 pub use dmc_check::check::{Verdict, check};
@@ -8,6 +9,7 @@ pub use dmc_events::history::EventHistory;
 pub use dmc_events::list::EventList;
 use dmc_heap::indexed_heap::HeapIndexes;
 pub use dmc_history::{History, LimitFault, ReserveFault};
+pub use dmc_index::index::{Indexes, OrderIndex};
 pub use dmc_pull::granting::{GrantTest, PullFault};
 pub use dmc_pull::queue::PullQueue;
 pub use dmc_ratio::ratio::RatioTag;
@@ -17,6 +19,7 @@ pub use dmc_tag::scheduler::Scheduler;
 pub use dmc_tag::tag::Tag;
 pub use dmc_tick::tick::TickTag;
 pub use dmc_tracker::tracker::{MakeFault, ServiceTracker, TrackFault};
+pub use dmc_types::clock::nanos_until;
 pub use dmc_types::command::Command;
 pub use dmc_types::config::{AtLimit, Counting, PhaseType, QueueConfig};
 pub use dmc_types::ids::{ClientId, ServerId, Token, WorkerId};
@@ -24,6 +27,7 @@ pub use dmc_types::info::ClientInfo;
 pub use dmc_types::limits;
 pub use dmc_types::moment::Moment;
 pub use dmc_types::params::ReqParams;
+pub use dmc_types::rates::{FINE_HZ, rate_at_least, rate_at_most};
 pub use dmc_types::refusal::{Field, QueueFault, Refusal, ValueFault};
 
 /// A queue over heaps whose tags are whole ticks: each rate has to divide the configuration's hz.

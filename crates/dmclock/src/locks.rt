@@ -2,7 +2,6 @@
 
 pub use dmc_book::book::QueueBook;
 pub use dmc_book::fault::{BookFault, NewFault, RunFault, SubmitCause, SubmitFault};
-pub use dmc_book::laws::{history_is_counted, history_replays};
 pub use dmc_book::pass::WorkerPass;
 pub use dmc_book::seat::Seat;
 pub use dmc_book::settled::{GrantsHeld, Settled};
@@ -20,7 +19,6 @@ use dmc_ratio::ratio::RatioTag;
 use dmc_tick::tick::TickTag;
 pub use dmc_tlock::book::{TrackerBook, TrackerFault};
 pub use dmc_tlock::fault::{EntryFault, TillFault};
-pub use dmc_tlock::laws::book_is_consistent;
 pub use dmc_tlock::lock::TrackerLock;
 pub use dmc_tlock::pass::ClientPass;
 pub use dmc_tlock::settled::{StampsHeld, TrackerSettled};

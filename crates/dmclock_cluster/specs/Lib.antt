@@ -1,0 +1,12 @@
+-- What contracts of a caller cite of a cluster and of a run of it.
+pub use Rattle.dmc_core.specs.Core
+pub use Rattle.dmc_core.specs.Events
+pub use Rattle.dmc_core.specs.Run
+pub use Rattle.dmc_core_laws.specs.Bounds
+pub use Rattle.dmc_core_laws.specs.Histories
+pub use Rattle.dmc_driver.specs.Done
+pub use Rattle.dmc_driver.specs.Ending
+pub use Rattle.dmc_scene.specs.SceneValue
+pub use Rattle.dmc_settle.specs.Circle
+pub use Rattle.dmc_settle.specs.Remains
+pub use Rattle.dmc_settle.specs.Reports

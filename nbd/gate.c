@@ -1,0 +1,477 @@
+#define _GNU_SOURCE
+#include "gate.h"
+
+#include <errno.h>
+#include <search.h>
+#include <stdio.h>
+#include <stdlib.h>
+#include <string.h>
+#include <time.h>
+
+#define NEVER UINT64_MAX
+#define SECOND 1000000000u
+
+/* Where a thread waits for the grant of its request. Slots never move; the token of a request is its slot's place in the list. */
+struct slot {
+  pthread_cond_t wakes;
+  struct client *client;
+  uint64_t entered;
+  uint32_t token;
+  bool is_granted;
+  struct slot *next_free;
+};
+
+/* ---- the clock */
+
+static uint64_t clock_nanos(void)
+{
+  struct timespec time;
+  clock_gettime(CLOCK_MONOTONIC, &time);
+  return (uint64_t)time.tv_sec * SECOND + (uint64_t)time.tv_nsec;
+}
+
+uint64_t gate_now(const struct gate *gate)
+{
+  return clock_nanos() - gate->start;
+}
+
+/* The queue's moment of a time of the gate's clock. A clock of nanoseconds lasts 198 years to the last moment. */
+static uint64_t moment_of(uint64_t nanos)
+{
+  uint64_t moment = 0;
+  dmc_moment_from_nanos(DMC_FINE_HZ, nanos, &moment);
+  return moment;
+}
+
+/* Condition variables that wait by the gate's clock. */
+static int init_condition(pthread_cond_t *condition)
+{
+  pthread_condattr_t by_clock;
+  int fault = pthread_condattr_init(&by_clock);
+  if (fault)
+    return fault;
+  pthread_condattr_setclock(&by_clock, CLOCK_MONOTONIC);
+  fault = pthread_cond_init(condition, &by_clock);
+  pthread_condattr_destroy(&by_clock);
+  return fault;
+}
+
+/* ---- rates */
+
+bool gate_rates(const struct rates *asked, struct rates *found)
+{
+  struct rates rates = {0, 0, 0};
+  if (asked->reservation && dmc_rate_at_least(DMC_FINE_HZ, asked->reservation, &rates.reservation) != DMC_OK)
+    return false;
+  if (asked->limit && dmc_rate_at_most(DMC_FINE_HZ, asked->limit, &rates.limit) != DMC_OK)
+    return false;
+  if (dmc_rate_at_most(DMC_FINE_HZ, asked->weight, &rates.weight) != DMC_OK)
+    return false;
+  *found = rates;
+  return true;
+}
+
+/* ---- the queue's codes */
+
+static int errno_of(uint32_t code)
+{
+  switch (code) {
+    case DMC_OK: return 0;
+    case DMC_MEMORY:
+    case DMC_QUEUE_FULL: return ENOMEM;
+    case DMC_CLIENTS: return EBUSY;
+    default: return EIO;
+  }
+}
+
+/* ---- slots */
+
+/* Makes room for one slot more. */
+static int grow_slots(struct gate *gate)
+{
+  if (gate->slot_count < gate->slot_room)
+    return 0;
+  uint32_t room = gate->slot_room ? 2 * gate->slot_room : 64;
+  struct slot **slots = realloc(gate->slots, room * sizeof *slots);
+  if (!slots)
+    return ENOMEM;
+  gate->slots = slots;
+  gate->slot_room = room;
+  return 0;
+}
+
+static int add_slot(struct gate *gate)
+{
+  int fault = grow_slots(gate);
+  if (fault)
+    return fault;
+  struct slot *slot = calloc(1, sizeof *slot);
+  if (!slot)
+    return ENOMEM;
+  fault = init_condition(&slot->wakes);
+  if (fault) {
+    free(slot);
+    return fault;
+  }
+  slot->token = gate->slot_count;
+  gate->slots[gate->slot_count++] = slot;
+  gate->free_slots = slot;
+  return 0;
+}
+
+static int take_slot(struct gate *gate, struct slot **slot)
+{
+  int fault = gate->free_slots ? 0 : add_slot(gate);
+  if (fault)
+    return fault;
+  *slot = gate->free_slots;
+  gate->free_slots = (*slot)->next_free;
+  (*slot)->next_free = NULL;
+  return 0;
+}
+
+static void give_back(struct gate *gate, struct slot *slot)
+{
+  slot->next_free = gate->free_slots;
+  gate->free_slots = slot;
+}
+
+static void free_slots(struct gate *gate)
+{
+  for (uint32_t i = 0; i < gate->slot_count; i++) {
+    pthread_cond_destroy(&gate->slots[i]->wakes);
+    free(gate->slots[i]);
+  }
+  free(gate->slots);
+}
+
+/* ---- grants */
+
+/* From now on each request ends with this errno, those that wait too. The first fault stays. */
+static void stop(struct gate *gate, int fault)
+{
+  if (gate->fault)
+    return;
+  gate->fault = fault;
+  for (uint32_t i = 0; i < gate->slot_count; i++)
+    pthread_cond_signal(&gate->slots[i]->wakes);
+  pthread_cond_signal(&gate->timer_wakes);
+}
+
+/* A request is granted: its thread may use the device. */
+static void grant(struct gate *gate, const struct dmc_pulled *pulled, uint64_t now)
+{
+  struct slot *slot = gate->slots[pulled->token];
+  struct client *client = slot->client;
+  client->queued--;
+  client->grants[pulled->phase]++;
+  times_count(&client->waited, now - slot->entered);
+  gate->under_way++;
+  slot->is_granted = true;
+  pthread_cond_signal(&slot->wakes);
+}
+
+/* The next request is due later: the timer waits for it. A moment past all clocks is waited for by the next event instead. */
+static void wait_for_due(struct gate *gate, const struct dmc_pulled *pulled)
+{
+  uint64_t nanos;
+  if (dmc_nanos_from_due(DMC_FINE_HZ, pulled->due_low, pulled->due_high, &nanos) != DMC_OK)
+    return;
+  gate->due = nanos;
+  if (gate->due < gate->timer_until)
+    pthread_cond_signal(&gate->timer_wakes);
+}
+
+/* Grants what the queue grants now, while the device has room. It is called where either may have changed. */
+static void dispatch(struct gate *gate)
+{
+  struct dmc_pulled pulled = {.kind = DMC_GRANTED};
+  gate->due = NEVER;
+  while (!gate->fault && gate->under_way < gate->config.depth && pulled.kind == DMC_GRANTED) {
+    uint64_t now = gate_now(gate);
+    if (dmc_queue_pull(&gate->queue, moment_of(now), &pulled) != DMC_OK)
+      stop(gate, EIO);
+    else if (pulled.kind == DMC_GRANTED)
+      grant(gate, &pulled, now);
+    else if (pulled.kind == DMC_FUTURE)
+      wait_for_due(gate, &pulled);
+  }
+}
+
+/* ---- the timer */
+
+static void forget_clients(struct gate *gate, uint64_t now);
+
+/* The queue marks clients idle and forgets old ones, and so does the gate. The queue says how many it forgot and not which: one
+   that has a request later is registered again. */
+static void clean(struct gate *gate, uint64_t now)
+{
+  uint32_t idled, erased;
+  dmc_queue_clean(&gate->queue, moment_of(now), &idled, &erased);
+  forget_clients(gate, now);
+  gate->next_clean = now + gate->config.idle_seconds * SECOND / 4;
+}
+
+static void sleep_until(struct gate *gate, uint64_t nanos)
+{
+  uint64_t at = nanos < NEVER - gate->start ? gate->start + nanos : NEVER;
+  struct timespec until = {.tv_sec = (time_t)(at / SECOND), .tv_nsec = (long)(at % SECOND)};
+  gate->timer_until = nanos;
+  pthread_cond_timedwait(&gate->timer_wakes, &gate->lock, &until);
+  gate->timer_until = 0;
+}
+
+static void *keep_time(void *argument)
+{
+  struct gate *gate = argument;
+  pthread_mutex_lock(&gate->lock);
+  while (!gate->fault) {
+    uint64_t now = gate_now(gate);
+    if (gate->next_clean <= now)
+      clean(gate, now);
+    if (gate->due <= now)
+      dispatch(gate);
+    else
+      sleep_until(gate, gate->due < gate->next_clean ? gate->due : gate->next_clean);
+  }
+  pthread_mutex_unlock(&gate->lock);
+  return NULL;
+}
+
+/* ---- clients */
+
+static int by_name(const void *a, const void *b)
+{
+  return strcmp(((const struct client *)a)->name, ((const struct client *)b)->name);
+}
+
+static struct client *find(struct gate *gate, const char *name)
+{
+  struct client wanted = {.name = (char *)name};
+  struct client **found = tfind(&wanted, &gate->names, by_name);
+  return found ? *found : NULL;
+}
+
+static void free_client(struct client *client)
+{
+  free(client->name);
+  free(client);
+}
+
+static int register_client(struct gate *gate, const struct client *client, uint64_t now)
+{
+  const struct rates *rates = &client->rates;
+  return errno_of(dmc_queue_register(&gate->queue, client->id, rates->reservation, rates->weight, rates->limit, moment_of(now)));
+}
+
+/* A client with memory for all that it needs, which the gate does not know yet. */
+static struct client *new_client(const char *name, const struct rates *rates, bool is_kept)
+{
+  struct client *client = calloc(1, sizeof *client);
+  if (!client)
+    return NULL;
+  client->name = strdup(name);
+  client->rates = *rates;
+  client->is_kept = is_kept;
+  if (!client->name) {
+    free(client);
+    return NULL;
+  }
+  return client;
+}
+
+static int add_client(struct gate *gate, struct client *client)
+{
+  client->id = gate->next_id;
+  client->last_request = gate_now(gate);
+  if (!tsearch(client, &gate->names, by_name))
+    return ENOMEM;
+  int fault = register_client(gate, client, client->last_request);
+  if (fault) {
+    tdelete(client, &gate->names, by_name);
+    return fault;
+  }
+  gate->next_id++;
+  *gate->last = client;
+  gate->last = &client->next;
+  return 0;
+}
+
+static int make_client(struct gate *gate, const char *name, const struct rates *rates, bool is_kept, struct client **made)
+{
+  struct client *client = new_client(name, rates, is_kept);
+  if (!client)
+    return ENOMEM;
+  int fault = add_client(gate, client);
+  if (fault) {
+    free_client(client);
+    return fault;
+  }
+  *made = client;
+  return 0;
+}
+
+static bool is_forgotten(const struct gate *gate, const struct client *client, uint64_t now)
+{
+  uint64_t age = now - client->last_request;
+  return !client->is_kept && !client->users && !client->queued && gate->config.erase_seconds * SECOND < age;
+}
+
+/* Forgets the clients without rates of their own that nobody uses, and that have had no request for so long. */
+static void forget_clients(struct gate *gate, uint64_t now)
+{
+  struct client **at = &gate->first;
+  while (*at) {
+    struct client *client = *at;
+    if (is_forgotten(gate, client, now)) {
+      *at = client->next;
+      tdelete(client, &gate->names, by_name);
+      free_client(client);
+    } else {
+      at = &client->next;
+    }
+  }
+  gate->last = at;
+}
+
+/* A client that the queue has forgotten is registered again, under a number that the queue has not. */
+static int queue_request(struct gate *gate, struct client *client, const struct slot *slot)
+{
+  struct dmc_tags tags;
+  uint64_t moment = moment_of(slot->entered);
+  uint32_t code = dmc_queue_add(&gate->queue, client->id, slot->token, 1, 1, moment, &tags);
+  if (code != DMC_UNKNOWN)
+    return errno_of(code);
+  int fault = register_client(gate, client, slot->entered);
+  return fault ? fault : errno_of(dmc_queue_add(&gate->queue, client->id, slot->token, 1, 1, moment, &tags));
+}
+
+/* Queues a request of the client, with a slot where it is waited for. */
+static int submit(struct gate *gate, struct client *client, struct slot *slot)
+{
+  slot->client = client;
+  slot->entered = gate_now(gate);
+  slot->is_granted = false;
+  int fault = queue_request(gate, client, slot);
+  if (fault)
+    return fault;
+  client->queued++;
+  client->requests++;
+  client->last_request = slot->entered;
+  return 0;
+}
+
+static int wait_in(struct gate *gate, struct client *client, struct slot *slot, bool *has_waited)
+{
+  int fault = submit(gate, client, slot);
+  if (fault)
+    return fault;
+  dispatch(gate);
+  *has_waited = !slot->is_granted;
+  while (!slot->is_granted && !gate->fault)
+    pthread_cond_wait(&slot->wakes, &gate->lock);
+  return slot->is_granted ? 0 : gate->fault;
+}
+
+/* ---- what callers use */
+
+static int open_queue(struct gate *gate, const struct gate_config *config)
+{
+  uint64_t hz = DMC_FINE_HZ;
+  return errno_of(dmc_queue_new(&gate->queue, DMC_TICK, hz, config->idle_seconds * hz, config->erase_seconds * hz, config->at_limit));
+}
+
+int gate_open(struct gate *gate, const struct gate_config *config)
+{
+  gate->config = *config;
+  gate->start = clock_nanos();
+  gate->due = NEVER;
+  gate->next_clean = config->idle_seconds * SECOND / 4;
+  gate->last = &gate->first;
+  int fault = open_queue(gate, config);
+  if (fault)
+    return fault;
+  pthread_mutex_init(&gate->lock, NULL); /* which can't fail, of a plain lock */
+  fault = init_condition(&gate->timer_wakes);
+  if (fault)
+    dmc_queue_free(&gate->queue);
+  return fault;
+}
+
+int gate_start(struct gate *gate)
+{
+  int fault = pthread_create(&gate->timer, NULL, keep_time, gate);
+  gate->has_timer = !fault;
+  return fault;
+}
+
+void gate_stop(struct gate *gate, int fault)
+{
+  pthread_mutex_lock(&gate->lock);
+  stop(gate, fault);
+  pthread_mutex_unlock(&gate->lock);
+}
+
+static void free_clients(struct gate *gate)
+{
+  while (gate->first) {
+    struct client *client = gate->first;
+    gate->first = client->next;
+    tdelete(client, &gate->names, by_name);
+    free_client(client);
+  }
+}
+
+void gate_close(struct gate *gate)
+{
+  gate_stop(gate, ESHUTDOWN);
+  if (gate->has_timer)
+    pthread_join(gate->timer, NULL);
+  free_clients(gate);
+  free_slots(gate);
+  dmc_queue_free(&gate->queue);
+  pthread_cond_destroy(&gate->timer_wakes);
+  pthread_mutex_destroy(&gate->lock);
+}
+
+int gate_client(struct gate *gate, const char *name, const struct rates *rates, bool is_kept, struct client **client)
+{
+  int fault = 0;
+  pthread_mutex_lock(&gate->lock);
+  struct client *found = find(gate, name);
+  if (!found && rates)
+    fault = make_client(gate, name, rates, is_kept, &found);
+  if (found)
+    found->users++;
+  *client = found;
+  pthread_mutex_unlock(&gate->lock);
+  return fault ? fault : found ? 0 : ENOENT;
+}
+
+void gate_release(struct gate *gate, struct client *client)
+{
+  pthread_mutex_lock(&gate->lock);
+  client->users--;
+  pthread_mutex_unlock(&gate->lock);
+}
+
+int gate_enter(struct gate *gate, struct client *client, bool *has_waited)
+{
+  struct slot *slot = NULL;
+  pthread_mutex_lock(&gate->lock);
+  int fault = gate->fault ? gate->fault : take_slot(gate, &slot);
+  if (!fault)
+    fault = wait_in(gate, client, slot, has_waited);
+  if (slot)
+    give_back(gate, slot);
+  pthread_mutex_unlock(&gate->lock);
+  return fault;
+}
+
+void gate_leave(struct gate *gate)
+{
+  pthread_mutex_lock(&gate->lock);
+  gate->under_way--;
+  dispatch(gate);
+  pthread_mutex_unlock(&gate->lock);
+}

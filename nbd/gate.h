@@ -1,0 +1,97 @@
+/* The gate: a proved dmClock queue before a device, for any number of threads. A thread enters with a client's request, waits
+   until the queue grants it, uses the device, and leaves. The device has at most `depth` requests at once. */
+#ifndef DMCLOCK_GATE_H
+#define DMCLOCK_GATE_H
+
+#include <pthread.h>
+#include <stdbool.h>
+#include <stdint.h>
+
+#include "dmclock.h"
+#include "times.h"
+
+/* Rates in requests a second. A reservation or a limit of 0 is none; a weight is 1 or more. */
+struct rates {
+  uint32_t reservation, weight, limit;
+};
+
+struct gate_config {
+  uint32_t depth;
+  enum dmc_at_limit at_limit;
+  uint64_t idle_seconds, erase_seconds; /* how long without a request until a client is idle, and until it is forgotten */
+};
+
+/* A client of the gate, from its first `gate_client` on. Its fields are read under the gate's lock. */
+struct client {
+  char *name;
+  struct rates rates;      /* as the queue has them */
+  uint32_t id;
+  bool is_kept;            /* it has rates of its own, and is never forgotten */
+  uint32_t users;          /* who holds it: connections, of an nbdkit filter */
+  uint32_t queued;
+  uint64_t requests, grants[2]; /* the grants by dmc_phase */
+  uint64_t last_request;   /* nanoseconds of the gate's clock */
+  struct times waited;     /* from entering to the grant */
+  struct client *next;
+};
+
+struct slot;
+
+/* A gate. Its fields are the gate's own. */
+struct gate {
+  pthread_mutex_t lock;
+  pthread_cond_t timer_wakes;
+  pthread_t timer;
+  bool has_timer;
+  struct gate_config config;
+  struct dmc_queue queue;
+  uint64_t start;          /* of the gate's clock, in nanoseconds of CLOCK_MONOTONIC */
+  uint32_t under_way;      /* requests at the device */
+  uint64_t due;            /* when the next request is due; UINT64_MAX where that is not known */
+  uint64_t timer_until;    /* until when the timer waits */
+  uint64_t next_clean;
+  int fault;               /* an errno, once no request is granted any more */
+  uint32_t next_id;
+  struct client *first, **last; /* all clients, in the order in which they came */
+  void *names;             /* a tree of them */
+  struct slot **slots;     /* all slots, by the tokens of their requests */
+  uint32_t slot_count, slot_room;
+  struct slot *free_slots;
+};
+
+/* The rates that the queue takes for these: the least reservation at least as great, and the greatest limit and weight at most as
+   great. False where one of them is none that the queue has. Clients have shares by their weights while the sum of the weights is
+   less than the requests that the device serves in a second; so weights are small numbers, of which 1 to 18 are exact. */
+bool gate_rates(const struct rates *asked, struct rates *found);
+
+/* A gate with no client. Returns 0, or an errno. The gate is zeroed before. */
+int gate_open(struct gate *, const struct gate_config *);
+
+/* Starts the gate's timer: not before the process has forked for the last time. Returns 0, or an errno. */
+int gate_start(struct gate *);
+
+/* From now on each request ends with this errno, those that wait too. */
+void gate_stop(struct gate *, int fault);
+
+/* Ends the timer and frees all. Nobody is in the gate. */
+void gate_close(struct gate *);
+
+/* The client of this name, for one more user. Where there is none, one is registered with these rates, as `gate_rates` finds them;
+   one that is kept is never forgotten. Returns 0; else ENOENT where there is none and rates is NULL, EBUSY where the queue has its
+   most clients, or another errno. */
+int gate_client(struct gate *, const char *name, const struct rates *, bool is_kept, struct client **);
+
+/* A user of the client less. */
+void gate_release(struct gate *, struct client *);
+
+/* Waits for a request of the client until it is granted. Returns 0, and whether it had to wait; else ENOMEM, where an allocation
+   failed or the queue is full, or the errno that the gate was stopped with. After 0, and only then, `gate_leave` must follow. */
+int gate_enter(struct gate *, struct client *, bool *has_waited);
+
+/* The device is done with a request. */
+void gate_leave(struct gate *);
+
+/* Nanoseconds since the gate was opened. */
+uint64_t gate_now(const struct gate *);
+
+#endif

@@ -1,0 +1,252 @@
+/* Tests of the gate and of its times, without nbdkit. They are linked with -Wl,--wrap for malloc, calloc, realloc and strdup, so that
+   an allocation can be refused. */
+#define _GNU_SOURCE
+#include <errno.h>
+#include <stdio.h>
+#include <stdlib.h>
+#include <string.h>
+#include <unistd.h>
+
+#include "gate.h"
+
+static int failures;
+
+#define CHECK(holds)                                                                \
+  do {                                                                              \
+    if (!(holds)) {                                                                 \
+      printf("%s:%d: %s does not hold\n", __FILE__, __LINE__, #holds);              \
+      failures++;                                                                   \
+    }                                                                               \
+  } while (0)
+
+/* ---- allocations */
+
+/* How many allocations succeed before one is refused. */
+static unsigned long granted = -1ul;
+
+static bool is_refused(void)
+{
+  return granted != -1ul && granted-- == 0;
+}
+
+void *__real_malloc(size_t size);
+void *__real_calloc(size_t count, size_t size);
+void *__real_realloc(void *at, size_t size);
+char *__real_strdup(const char *text);
+
+void *__wrap_malloc(size_t size)
+{
+  return is_refused() ? NULL : __real_malloc(size);
+}
+
+void *__wrap_calloc(size_t count, size_t size)
+{
+  return is_refused() ? NULL : __real_calloc(count, size);
+}
+
+void *__wrap_realloc(void *at, size_t size)
+{
+  return is_refused() ? NULL : __real_realloc(at, size);
+}
+
+char *__wrap_strdup(const char *text)
+{
+  return is_refused() ? NULL : __real_strdup(text);
+}
+
+/* ---- tests */
+
+static const struct gate_config one_at_once = {.depth = 1, .at_limit = DMC_WAIT, .idle_seconds = 60, .erase_seconds = 60};
+
+static struct rates rates_of(uint32_t reservation, uint32_t weight, uint32_t limit)
+{
+  struct rates asked = {reservation, weight, limit}, found = {0, 0, 0};
+  CHECK(gate_rates(&asked, &found));
+  return found;
+}
+
+static void rates(void)
+{
+  struct rates found = rates_of(1500, 1, 500);
+  CHECK(found.reservation == 1512 && found.weight == 1 && found.limit == 495);
+  found = rates_of(0, 19, 0);
+  CHECK(found.reservation == 0 && found.limit == 0 && found.weight == 18);
+  struct rates asked = {DMC_FINE_HZ + 1u, 1, 0};
+  CHECK(!gate_rates(&asked, &found));
+  asked = (struct rates){0, 0, 0};
+  CHECK(!gate_rates(&asked, &found));
+}
+
+static void percentiles(void)
+{
+  static struct times times;
+  CHECK(times_mean(&times) == 0 && times_percentile(&times, 99) == 0);
+  for (uint64_t micros = 1; micros <= 1000; micros++)
+    times_count(&times, micros * 1000);
+  CHECK(times.count == 1000 && times.greatest == 1000000 && times_mean(&times) == 500500);
+  uint64_t most = times_percentile(&times, 99);
+  CHECK(990000 <= most && most <= 990000 * 9 / 8);
+  CHECK(times_percentile(&times, 100) == 1000000);
+  times_count(&times, UINT64_MAX / 2);
+  CHECK(times_percentile(&times, 100) == UINT64_MAX / 2);
+}
+
+struct entry {
+  struct gate *gate;
+  struct client *client;
+  int fault;
+};
+
+static void *enter(void *argument)
+{
+  struct entry *entry = argument;
+  bool has_waited;
+  entry->fault = gate_enter(entry->gate, entry->client, &has_waited);
+  return NULL;
+}
+
+static uint32_t queued(struct gate *gate, const struct client *client)
+{
+  pthread_mutex_lock(&gate->lock);
+  uint32_t queued = client->queued;
+  pthread_mutex_unlock(&gate->lock);
+  return queued;
+}
+
+static void await_queued(struct gate *gate, const struct client *client, uint32_t count)
+{
+  while (queued(gate, client) != count)
+    usleep(1000);
+}
+
+/* A request that finds the device busy waits until that is left, and at a stop ends with its errno. */
+static void waiting(void)
+{
+  struct gate gate = {0};
+  struct client *client, *same;
+  struct rates none = rates_of(0, 1, 0);
+  pthread_t thread;
+  bool has_waited = true;
+  CHECK(gate_open(&gate, &one_at_once) == 0 && gate_start(&gate) == 0);
+  CHECK(gate_client(&gate, "a", NULL, false, &client) == ENOENT);
+  CHECK(gate_client(&gate, "a", &none, false, &client) == 0);
+  CHECK(gate_client(&gate, "a", NULL, false, &same) == 0 && same == client && client->users == 2);
+  CHECK(gate_enter(&gate, client, &has_waited) == 0 && !has_waited);
+  struct entry entry = {&gate, client, -1};
+  pthread_create(&thread, NULL, enter, &entry);
+  await_queued(&gate, client, 1);
+  gate_leave(&gate);
+  pthread_join(thread, NULL);
+  CHECK(entry.fault == 0);
+  pthread_create(&thread, NULL, enter, &entry);
+  await_queued(&gate, client, 1);
+  gate_stop(&gate, ESHUTDOWN);
+  pthread_join(thread, NULL);
+  CHECK(entry.fault == ESHUTDOWN);
+  CHECK(gate_enter(&gate, client, &has_waited) == ESHUTDOWN);
+  CHECK(client->requests == 3 && client->grants[DMC_PRIORITY] == 2 && client->grants[DMC_RESERVATION] == 0);
+  gate_close(&gate);
+}
+
+/* At its limit a client waits for the timer. */
+static void due_later(void)
+{
+  struct gate gate = {0};
+  struct client *client;
+  struct rates ten = rates_of(0, 1, 10);
+  bool has_waited = false;
+  CHECK(gate_open(&gate, &one_at_once) == 0 && gate_start(&gate) == 0);
+  CHECK(gate_client(&gate, "a", &ten, true, &client) == 0);
+  uint64_t before = gate_now(&gate);
+  for (int i = 0; i < 4; i++) {
+    CHECK(gate_enter(&gate, client, &has_waited) == 0);
+    gate_leave(&gate);
+  }
+  CHECK(has_waited && 290000000 < gate_now(&gate) - before);
+  gate_close(&gate);
+}
+
+/* The queue has at most 65,536 clients. */
+static void most_clients(void)
+{
+  struct gate gate = {0};
+  struct client *client;
+  struct rates none = rates_of(0, 1, 0);
+  char name[16];
+  CHECK(gate_open(&gate, &one_at_once) == 0);
+  for (int i = 0; i < 65536; i++) {
+    snprintf(name, sizeof name, "%d", i);
+    CHECK(gate_client(&gate, name, &none, false, &client) == 0);
+  }
+  CHECK(gate_client(&gate, "one more", &none, false, &client) == EBUSY);
+  CHECK(gate_client(&gate, "65535", &none, false, &client) == 0);
+  gate_close(&gate);
+}
+
+/* A client that is not kept is forgotten where nobody uses it; one that is used is registered again. */
+static void forgotten(void)
+{
+  struct gate gate = {0};
+  struct client *used, *unused, *kept;
+  struct rates none = rates_of(0, 1, 0);
+  struct gate_config config = {.depth = 1, .at_limit = DMC_WAIT, .idle_seconds = 1, .erase_seconds = 1};
+  bool has_waited;
+  CHECK(gate_open(&gate, &config) == 0 && gate_start(&gate) == 0);
+  CHECK(gate_client(&gate, "used", &none, false, &used) == 0);
+  CHECK(gate_client(&gate, "kept", &none, true, &kept) == 0);
+  CHECK(gate_client(&gate, "unused", &none, false, &unused) == 0);
+  gate_release(&gate, unused);
+  gate_release(&gate, kept);
+  sleep(2);
+  CHECK(gate_client(&gate, "unused", NULL, false, &unused) == ENOENT);
+  CHECK(gate_client(&gate, "kept", NULL, false, &kept) == 0);
+  uint32_t clients = 9, requests = 9;
+  CHECK(dmc_queue_counts(&gate.queue, &clients, &requests) == DMC_OK && clients == 0 && requests == 0);
+  CHECK(gate_enter(&gate, used, &has_waited) == 0);
+  gate_leave(&gate);
+  CHECK(gate_enter(&gate, kept, &has_waited) == 0);
+  gate_leave(&gate);
+  gate_close(&gate);
+}
+
+/* Whichever allocation is refused, the answer is ENOMEM, and the same call then succeeds. */
+static void refused_allocations(void)
+{
+  unsigned long needed = 0;
+  bool is_done = false;
+  while (!is_done) {
+    struct gate gate = {0};
+    struct client *client = NULL;
+    struct rates none = rates_of(0, 1, 0);
+    bool has_waited;
+    CHECK(gate_open(&gate, &one_at_once) == 0);
+    granted = needed++;
+    int fault = gate_client(&gate, "a", &none, false, &client);
+    if (!fault)
+      fault = gate_enter(&gate, client, &has_waited);
+    is_done = granted != -1ul;
+    granted = -1ul;
+    CHECK(fault == (is_done ? 0 : ENOMEM));
+    if (!client)
+      CHECK(gate_client(&gate, "a", &none, false, &client) == 0);
+    if (fault)
+      CHECK(gate_enter(&gate, client, &has_waited) == 0);
+    CHECK(client->queued == 0 && client->requests == 1);
+    gate_leave(&gate);
+    gate_close(&gate);
+  }
+  printf("%lu allocations refused in turn\n", needed - 1);
+}
+
+int main(void)
+{
+  rates();
+  percentiles();
+  waiting();
+  due_later();
+  most_clients();
+  forgotten();
+  refused_allocations();
+  printf("%d failures\n", failures);
+  return failures != 0;
+}

@@ -1,0 +1,38 @@
+/* The settings of the filter, as its keys give them. */
+#ifndef DMCLOCK_SETTINGS_H
+#define DMCLOCK_SETTINGS_H
+
+#include "gate.h"
+
+/* A client of dmclock-client=NAME:RESERVATION:WEIGHT:LIMIT. */
+struct client_setting {
+  char *name;
+  struct rates asked, found;
+  struct client_setting *next;
+};
+
+struct settings {
+  struct gate_config gate;
+  struct client_setting *clients;
+  bool has_default;
+  struct rates asked, found; /* of dmclock-default */
+  char *stats;               /* a file, or NULL */
+};
+
+/* What holds where no key says otherwise. */
+#define SETTINGS_DEFAULT \
+  { .gate = {.depth = 4, .at_limit = DMC_WAIT, .idle_seconds = 600, .erase_seconds = 900} }
+
+/* Reads a key and its value. Returns 1 where the key is one of the filter, 0 where it is not, and -1 after an error that names the
+   key and the value. */
+int settings_read(struct settings *, const char *key, const char *value);
+
+/* Whether the settings agree with each other, after an error that names those that do not. */
+bool settings_agree(const struct settings *);
+
+/* Says what the rates became. */
+void settings_print(const struct settings *);
+
+void settings_free(struct settings *);
+
+#endif

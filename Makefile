@@ -21,12 +21,18 @@ examples:
 refusals:
 	scripts/refusals
 
-# What three clients were granted over time, drawn as docs/grants.svg. It needs gnuplot.
+# What three clients were granted over time, drawn as docs/grants.svg. It needs gnuplot. scripts/picture draws any script.
 picture:
-	scripts/picture
+	scripts/picture examples/three_clients.script > docs/grants.svg
 
 # The library for C and C++, c/out/libdmclock.a, with its examples and tests: builds and runs them. Not a part of the gate.
 c:
 	c/build
 
-.PHONY: program test demo examples refusals picture c
+# The filter for nbdkit, nbd/out/nbdkit-dmclock-filter.so: builds it and runs its tests. It installs the packages that are missing.
+nbd:
+	nbd/packages
+	nbd/build
+	nbd/tests
+
+.PHONY: program test demo examples refusals picture c nbd

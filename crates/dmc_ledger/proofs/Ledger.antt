@@ -1,9 +1,9 @@
 -- The ghost steps of the ledger. Each opens a book's rule round updates of rows. Assumes `Logic`.
-use Rattle.std.proofs.Common.{◌≡◌, ℕ, suc, ◌+◌, ◌-◌, ◌≤◌, ◌^◌, List, [], ◌∷◌, ◌++◌, set, length, refl, sym, subst, arith}
+use Rattle.std.proofs.Common.{◌≡◌, ◌≢◌, inl, inr, ℕ, suc, ◌+◌, ◌-◌, ◌≤◌, ◌^◌, List, [], ◌∷◌, ◌++◌, set, length, refl, sym, subst, arith}
 use seplogic.Ra.Ura.{Ura}
 use base.Fraction.{full_share, left, right}
 use base.Share
-use base.Stored.{coded_ℕ}
+use base.Stored.{Coded, coded_ℕ, coded×}
 use base.Logic.{SProp, ent, sep, emp, ex, guard, upd, upd_i, via}
 use base.Fml.{Share, Fml, ftrue, fex, finv}
 use types.Logic.{Logic, sem}
@@ -11,9 +11,10 @@ use types.Owned.{basic}
 use types.Keyed.{entry, entries_from, entries_new, entries_take}
 use types.Kit.{‵, raw, ◌⊛◌, some, given, later, ◌$◌, ◌∵◌, !, qed, by, move, keep, drop, split, join, fsplit, fjoin, fpick, fpack, pick, learn, check, suffices, settle, frame, assume, rewrite, done, use0, use1, use2, use3, updating, await, now}
 use denote.Steps.{nothing}
+use Rattle.std.proofs.lemmas.Bool.{cases_eq}
 use Rattle.core.proofs.ledger.Sums.{HasRow, Backed}
-use Rattle.dmc_ledger.specs.Rows.{row_shares, name_shares, known, roster, AddsUp, state, Rule, knows, mint_owns, book_owns, till_owns, row, owns}
-use Rattle.dmc_ledger.proofs.Agreed.{cuts, agrees, sets}
+use Rattle.dmc_ledger.specs.Rows.{row_shares, name_shares, known, part, roster, AddsUp, state, Rule, knows, mint_owns, book_owns, till_owns, row, owns}
+use Rattle.dmc_ledger.proofs.Agreed.{cuts, agrees, joins, excludes, sets}
 use Rattle.dmc_ledger.proofs.Rows.{finds, puts, adds}
 use Rattle.dmc_ledger.proofs.Sums.{Seen, seen_row, adds_up_set, adds_up_append}
 
@@ -112,6 +113,17 @@ module _ {M : Type 1} {𝓤 : Ura M} (𝓛 : Logic 𝓤) where
         use2 𝓛 (given (c ≡ b) (‵ (all_rows c xs) ⊛ ‵ book)) (finds 𝓛 δ (c ∷ xs) 0 0 0 (omega arith) (left q) b) $ learn ! (λ is. split ! $ use1 𝓛 (‵ I) (kept c xs ok) $ suffices ! _ (upd_i 𝓤 (⟦ I ⟧ ∗ Q)) $ frame ! $
         check ! (seen_row b xs j x has (subst (λ (z : ℕ × ℕ). AddsUp z xs) is ok)) $ done !)))
 
+    abbrev pair : Coded (ℕ × ℕ)
+    pair = coded× coded_ℕ coded_ℕ
+
+    -- the token's half of the book's row and the rule's are the whole, beside which no one has a share
+    owned_once : (b c : ℕ × ℕ) (q : Share) → A.inv I ∗ ⟦ ours 0 b ⟧ ∗ ⟦ row δ 0 c q ⟧ ⊢ H.⇛ (guard 𝓤 ⊥ ⟦ ours 0 b ⟧)
+    owned_once b c q = let rule : ℕ × ℕ → Fml = part δ 0 (right full_share) in inside (⟦ ours 0 b ⟧ ∗ ⟦ row δ 0 c q ⟧) (guard 𝓤 ⊥ ⟦ ours 0 b ⟧) (λ d xs _.
+        qed 𝓛 ((‵ (rule d) ⊛ ‵ (roster δ 1 xs)) ∷ ‵ (ours 0 b) ∷ ‵ (row δ 0 c q) ∷ []) ∵ split ! $ move ! (2 ∷ 0 ∷ []) $
+        use2 𝓛 (given (b ≡ d) (‵ (ours 0 b) ⊛ ‵ (rule d))) (agrees pair 𝓛 δ 0 (left full_share) (right full_share) b d) $ learn ! (λ same. split ! $ rewrite ! 1 (λ (u : ℕ × ℕ). ‵ (rule u)) (sym same) refl $
+        use2 𝓛 (‵ (part δ 0 full_share b)) (joins pair 𝓛 δ 0 full_share (left full_share) (right full_share) b (Share.halves full_share)) $ move ! (0 ∷ 2 ∷ []) $
+        use2 𝓛 (given ⊥ (‵ (part δ 0 full_share b))) (excludes pair 𝓛 δ 0 (left q) b c) $ learn ! (λ never. absurd never)))
+
     abbrev New : Fml
     New = fex ℕ (λ j. ours (suc j) (1, 0))
 
@@ -170,6 +182,13 @@ module _ {M : Type 1} {𝓤 : Ura M} (𝓛 : Logic 𝓤) where
         use3 𝓛 (later (given (Seen b x) (‵ (row δ 0 b q) ⊛ ‵ (row δ (suc j) x r)))) (audits δ b x j q r) $ await ! tt $ learn ! (λ seen. split ! $ now ! $ check ! seen $
         rewrite ! 1 (λ (d : ℕ). ‵ (row d (suc j) x r)) same refl $ keep ! (0 ∷ 1 ∷ []) $ done !))
 
+    -- a book in hand, and what a `&` to one shows
+    same_book : (δ ε : ℕ) (b c : ℕ × ℕ) (q : Share) → ⟦ owns γ n δ 0 b ⟧ ∗ ⟦ knows γ n ε ⟧ ∗ ⟦ row ε 0 c q ⟧ ⊢ H.⇛ (guard 𝓤 ⊥ ⟦ row δ 0 b full_share ⟧)
+    same_book δ ε b c q = let Mine : Fml = row δ 0 b full_share in qed 𝓛 ((‵ (knows γ n δ) ⊛ ‵ Mine) ∷ ‵ (knows γ n ε) ∷ ‵ (row ε 0 c q) ∷ []) ∵ updating ! $ split ! $ move ! (0 ∷ 2 ∷ []) $
+        use2 𝓛 (given (δ ≡ ε) (‵ (knows γ n δ) ⊛ ‵ (knows γ n ε))) (knows_agree γ n δ ε) $ learn ! (λ same. split ! $ fsplit ! $ drop ! $
+        rewrite ! 3 (λ (d : ℕ). ‵ (row d 0 c q)) (sym same) refl $ move ! (0 ∷ 2 ∷ 3 ∷ []) $
+        use3 𝓛 (later (given ⊥ (‵ Mine))) (owned_once δ b c q) $ await ! tt $ learn ! (λ never. absurd never))
+
     pub opens_till : (δ tills held : ℕ) → ⟦ book_owns γ n δ tills held ⟧ ⊢ H.⇛ (⟦ book_owns γ n δ (tills + 1) held ⟧ ∗ ⟦ fex ℕ (λ j. till_owns γ n δ j 0) ⟧)
     unfolding book_owns till_owns
     opens_till δ tills held = let Mine : ℕ × ℕ → Fml = λ z. row δ 0 z full_share in
@@ -187,6 +206,16 @@ module _ {M : Type 1} {𝓤 : Ura M} (𝓛 : Logic 𝓤) where
         use1 𝓛 (‵ (Rule δ)) (kept δ (0, 0) [] ((refl, refl, tt), omega arith)) $ use1 𝓛 (later (‵ (finv (Rule δ)))) (𝓛.invs.inv_new (Rule δ)) $ await ! tt $ move ! (2 ∷ []) $
         use1 𝓛 (later (‵ (Name δ))) (via 𝓤 _ (sets coded_ℕ 𝓛 γ n 0 δ) (basic 𝓛 _)) $ await ! tt $ use1 𝓛 (‵ (known γ n δ)) (known_in γ n full_share δ) $ move ! (0 ∷ 1 ∷ []) $ fjoin ! $ move ! (0 ∷ 1 ∷ []) $ fjoin ! $
         fpack ! ℕ (λ d. owns γ n d 0 (0, 0)) δ $ now ! $ move ! (1 ∷ 0 ∷ []) $ done !)
+
+  -- so two books in hand have different numbers
+  pub differs : (γ n m δ ε tills held : ℕ) (c : ℕ × ℕ) (q : Share) → ⟦ book_owns γ n δ tills held ⟧ ∗ ⟦ knows γ m ε ⟧ ∗ ⟦ row ε 0 c q ⟧
+      ⊢ H.⇛ (guard 𝓤 (n ≢ m) (⟦ book_owns γ n δ tills held ⟧ ∗ ⟦ row ε 0 c q ⟧))
+  unfolding book_owns
+  differs γ n m δ ε tills held c q = let b : ℕ × ℕ = (tills, held) in let Mine : Fml = owns γ n δ 0 b in let Theirs : Fml = row ε 0 c q in elim (cases_eq n m) [
+    | inl same ↦ qed 𝓛 (‵ Mine ∷ ‵ (knows γ m ε) ∷ ‵ Theirs ∷ []) ∵ updating ! $ rewrite ! 1 (λ (k : ℕ). ‵ (knows γ k ε)) (sym same) refl $
+        use3 𝓛 (later (given ⊥ (‵ (row δ 0 b full_share)))) (same_book γ n δ ε b c q) $ await ! tt $ learn ! (λ never. absurd never)
+    | inr apart ↦ qed 𝓛 (‵ Mine ∷ ‵ (knows γ m ε) ∷ ‵ Theirs ∷ []) ∵ updating ! $ now ! $ check ! apart $ keep ! (0 ∷ 2 ∷ []) $ done !
+  ]
 
   pub begins : emp 𝓤 ⊢ H.⇛ (ex 𝓤 (λ (γ : ℕ). ⟦ mint_owns γ 0 ⟧))
   unfolding mint_owns

@@ -1,12 +1,12 @@
 -- What the walks of the tokens' functions cite.
-pub use Rattle.std.proofs.Common.{◌≡◌, ℕ, zero, suc, ◌+◌, ◌-◌, ◌<◌, ◌≤◌, ◌^◌, List, [], ◌∷◌, refl, sym, w64, arith}
+pub use Rattle.std.proofs.Common.{◌≡◌, ◌≢◌, ℕ, zero, suc, ◌+◌, ◌-◌, ◌<◌, ◌≤◌, ◌^◌, List, [], ◌∷◌, refl, sym, w64, arith}
 pub use Rattle.std.proofs.raw_atomic.Walks.{proved}
 pub use base.Fml.{Share, Fml, ftrue, flft, fex, fshr_bor}
 pub use mir.Syntax.{Fn, a_type, dcons, dnil, named}
 pub use mir.Val.{Val, vunit, vint, vptr}
 pub use mir.MapTy.{inst_fn}
 pub use contract.Running.{tables}
-pub use types.Kit.{‵, raw, ◌⊛◌, some, given, later, ◌$◌, ◌∵◌, !, qed, by, move, keep, drop, split, join, fsplit, fsplit3, fjoin, fjoin3, pick, learn, suffices, frame, rewrite, use0, use1, use2, await, feq_i, fpick}
+pub use types.Kit.{‵, raw, ◌⊛◌, some, given, later, ◌$◌, ◌∵◌, !, qed, by, move, keep, drop, split, join, fsplit, fsplit3, fjoin, fjoin3, pick, learn, suffices, frame, rewrite, use0, use1, use2, use3, await, feq_i, fpick}
 pub use types.Run.{unit_lit, of_opd, no_more, and_then, returns, enter}
 pub use types.ByLocal.{alloc_all, pass_all, free_all, look_at, get, sets}
 pub use types.Part.{agg}

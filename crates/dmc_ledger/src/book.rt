@@ -1,5 +1,5 @@
 //! A book, which keeps the total of one quantity.
-ghost use Rattle.std.specs.Prelude.{◌≡◌, ◌+◌, ◌-◌, ◌<◌, ◌≤◌, ◌^◌, ◌↔◌, IfOk, OnOk, OnErr, IsErr};
+ghost use Rattle.std.specs.Prelude.{◌≡◌, ◌≢◌, ◌+◌, ◌-◌, ◌<◌, ◌≤◌, ◌^◌, ◌↔◌, IfOk, OnOk, OnErr, IsErr};
 ghost use Rattle.dmc_types.specs.Limits.{most_open_tills};
 ghost use Rattle.dmc_ledger.specs.Accounts.{total_of, new_till};
 ghost use Rattle.dmc_ledger.specs.Moves.{after_issue, after_opening, with_more};
@@ -125,6 +125,15 @@ impl<S: Setup> Book<S> {
     {
         self.gathered += till.gather(&mut self.token);
         self.open_tills -= 1;
+    }
+
+    /// Changes nothing, and shows that two books of one set-up have different numbers. The exclusive reference makes
+    /// them two: two shared references may be to one book.
+    pub fn differ_from(&mut self, other: &Book<S>)
+        ensures apart { self.old.number ≢ other.now.number }
+        ensures kept { self.new ≡ self.old }
+    {
+        self.token.differ_from(&other.token);
     }
 
     /// Changes nothing, and tells how a till of this book stands to it: the till holds at most the total less what was

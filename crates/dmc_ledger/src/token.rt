@@ -1,6 +1,6 @@
 //! The tokens, which have no bytes. What they own is a ghost resource (`specs/Rows.antt`), so each function here that
 //! makes or changes one is proved by hand, and does nothing at run time.
-ghost use Rattle.std.specs.Prelude.{◌≡◌, ℕ, ◌+◌, ◌-◌, ◌<◌, ◌≤◌, ◌^◌};
+ghost use Rattle.std.specs.Prelude.{◌≡◌, ◌≢◌, ℕ, ◌+◌, ◌-◌, ◌<◌, ◌≤◌, ◌^◌};
 ghost use Rattle.dmc_ledger.specs.Rows.{mint_owns, book_owns, book_shares, till_owns, till_shares};
 
 use crate::setup::Setup;
@@ -131,6 +131,14 @@ impl<S: Setup> BookToken<S> {
     {
         let TillToken { marker: _ } = till;
     }
+
+    /// Changes nothing, and shows that the other token is of another book.
+    pub(crate) fn differ_from(&mut self, other: &BookToken<S>)
+        ensures apart { self.old.number ≢ other.now.number }
+        ensures number { self.new.number ≡ self.old.number }
+        ensures tills { self.new.tills ≡ self.old.tills }
+        ensures held { self.new.held ≡ self.old.held }
+    {}
 
     /// Changes nothing, and tells how the till stands to its book.
     pub(crate) fn audit(&self, till: &TillToken<S>)

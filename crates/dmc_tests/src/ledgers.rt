@@ -1,5 +1,5 @@
 //! Tests of books and tills.
-ghost use Rattle.std.specs.Prelude.{◌≡◌, ◌≢◌, ◌<◌, IfOk};
+ghost use Rattle.std.specs.Prelude.{◌≡◌, ◌≢◌, ◌<◌};
 
 use crate::same::assert_same;
 use dmc_ledger::book::Book;
@@ -156,21 +156,22 @@ fn till_in_a_thread(rt: HostRuntime) -> Result<(), Fail> {
     Ok(())
 }
 
-/// Two books of a set-up have different numbers.
-fn next_two<S: Setup>(mint: &mut Mint<S>) -> Result<(Book<S>, Book<S>), Full>
-    ensures { IfOk result (λ pair. pair.0.number ≢ pair.1.number) }
+/// The numbers of two books that are in hand, whatever else is known of them.
+fn numbers_of_two<S: Setup>(first: Book<S>, second: Book<S>) -> (u32, u32)
+    ensures { result.0 ≢ result.1 }
 {
-    let first = mint.open()?;
-    let second = mint.open()?;
-    Ok((first, second))
+    let mut first = first;
+    first.differ_from(&second);
+    (first.number(), second.number())
 }
 
 fn numbers<S: Setup>(rt: &impl Abort, blank: Blank) -> Result<(), Full>
     requires { blank.name ≡ S.name }
 {
     let mut mint = blank.open::<S>();
-    let (first, second) = next_two(&mut mint)?;
-    assert_same(rt, &(first.number(), second.number()), &(0, 1));
+    let first = mint.open()?;
+    let second = mint.open()?;
+    assert_same(rt, &numbers_of_two(first, second), &(0, 1));
     Ok(())
 }
 

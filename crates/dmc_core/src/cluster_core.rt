@@ -51,7 +51,7 @@ impl<T: Tag> ClusterCore<T> {
     }
 
     /// Carries out an event. From each run that the core stands for, the answer is that of the rules, and the core then stands
-    /// for the run after the event; a refused event has changed nothing. Of several causes the first is told, in the order of
+    /// for the run after the event; a refused event has changed nothing. Of several causes the first is reported, in the order of
     /// `CoreFault`. `Memory` comes last, of a stamp or an arrival alone: the rules and the queue would have accepted it, and
     /// the core stands for what it stood for.
     #[inline(always)]

@@ -85,7 +85,7 @@ impl<T: Copy> Clone for CoreReply<T> {
     }
 }
 
-/// Why an event is refused. It has changed nothing. Of several causes the first is told, in this order.
+/// Why an event is refused. It has changed nothing. Of several causes the first is reported, in this order.
 #[derive(Clone, Copy, Debug, PartialEq, Eq, Error)]
 pub enum CoreFault {
     /// The cluster has no such client (`Stamp`, `Arrive`, `Respond`).
@@ -97,9 +97,6 @@ pub enum CoreFault {
     /// 2^20 messages from the client to the server are in flight (`Stamp`).
     #[error("2^20 messages are in flight")]
     FlightFull,
-    /// The client's tracker would count past 2^32-1 (`Stamp`, `Respond`).
-    #[error("the tracker has counted its most")]
-    TrackFull,
     /// No message from the client to the server is in flight (`Arrive`).
     #[error("no message is in flight")]
     NoFlight,
@@ -109,6 +106,9 @@ pub enum CoreFault {
     /// No grant of the server to the client in the phase waits for its response (`Respond`).
     #[error("no grant waits for its response")]
     NoGrant,
+    /// The client's tracker would count past 2^32-1 (`Stamp`, `Respond`).
+    #[error("the tracker has counted its most")]
+    TrackFull,
     /// The allocator refused a growth (`Stamp`, `Arrive`).
     #[error("out of memory")]
     Memory,

@@ -1,14 +1,30 @@
+# Lists what can be made.
+help:
+	@awk '/^# / { text = substr($$0, 3) } /^[a-z]+:/ { sub(/:.*/, ""); printf "make %-10s%s\n", $$0, text }' Makefile
+
 # The program, proved and built: crates/dmc_cli/out/dmc_cli, which ./dmclock runs.
 program:
 	scripts/build
 
-# The gate: every proof from nothing, the must-fail edits, the tests and the programs.
+# Every test: the gate, and then the parts below it that are built upon what it proved.
 test:
+	scripts/test
+
+# Every proof from nothing, the must-fail edits, the tests of the crates and the programs.
+gate:
 	rt ci
 
-# The main job on an example, by a build that is not proved. It takes about a minute.
+# Proves what changed in a crate, in seconds: make check CRATE=dmc_pull, or one function of it, by ONLY=queue::PullQueue::clean.
+check:
+	cd crates/$(CRATE) && rt check $(if $(ONLY),--only $(CRATE)::$(ONLY))
+
+# Runs a crate's tests with no proof, in a minute or two: make quick CRATE=dmc_tests.
+quick:
+	cd crates/$(CRATE) && rt try --test
+
+# The program on one example, by a build that is not proved. It takes about a minute.
 demo:
-	@echo "an unproved build, for a first look; make builds the proved one" >&2
+	@echo "an unproved build, for a first look; make program builds the proved one" >&2
 	@cat examples/two_clients.script
 	@echo "--- the replies:"
 	@cd crates/dmc_cli && rt try -- script < ../../examples/two_clients.script
@@ -21,11 +37,7 @@ examples:
 refusals:
 	scripts/refusals
 
-# What three clients were granted over time, drawn as docs/grants.svg. It needs gnuplot. scripts/picture draws any script.
-picture:
-	scripts/picture examples/three_clients.script > docs/grants.svg
-
-# The library for C and C++, c/out/libdmclock.a, with its examples and tests: builds and runs them. Not a part of the gate.
+# The library for C and C++, c/out/libdmclock.a, with its examples and tests: builds and runs them.
 c:
 	c/build
 
@@ -35,4 +47,8 @@ nbd:
 	nbd/build
 	nbd/tests
 
-.PHONY: program test demo examples refusals picture c nbd
+# What three clients were granted over time, drawn as docs/grants.svg. It needs gnuplot. scripts/picture draws any script.
+picture:
+	scripts/picture examples/three_clients.script > docs/grants.svg
+
+.PHONY: help program test gate check quick demo examples refusals c nbd picture

@@ -1,4 +1,5 @@
 //! The worked examples of the cluster core, and its refusals.
+use crate::failures::Failures;
 use crate::same::assert_same;
 use dmc_core::cluster_core::ClusterCore;
 use dmc_core::event::{CoreEvent, CoreFault, CoreReply};
@@ -17,7 +18,12 @@ use std::alloc::Global;
 use std::process::Abort;
 use std::test::Fail;
 
-type Core = ClusterCore<TickTag>;
+/// A cluster core, and the allocation failures that it reported.
+#[derive(Drop)]
+struct Core {
+    cluster: ClusterCore<TickTag>,
+    failures: Failures,
+}
 
 type Answer = Result<CoreReply<TickTag>, CoreFault>;
 
@@ -35,7 +41,10 @@ fn open(alloc: Global, scene: &str, client: &str) -> Result<Core, Fail> {
     )?;
     let scene = read_scene(alloc, text.as_bytes())?;
     match scene.tags() {
-        TagKind::Tick => Ok(ClusterCore::new(alloc, &scene)?),
+        TagKind::Tick => Ok(Core {
+            cluster: ClusterCore::new(alloc, &scene)?,
+            failures: Failures::none(),
+        }),
         TagKind::Ratio => Err(Fail::new("no ticks")),
     }
 }
@@ -49,9 +58,11 @@ fn two_clients(alloc: Global) -> Result<Core, Fail> {
     )
 }
 
-// Lets a cluster go.
-fn let_go(core: Core) {
-    drop(core);
+// Ends a test of a cluster.
+fn end(core: Core) -> Result<(), Fail> {
+    let Core { cluster, failures } = core;
+    drop(cluster);
+    Ok(failures.end()?)
 }
 
 // ---- events
@@ -114,13 +125,14 @@ fn clean(server: ServerId, ticks: u32) -> CoreEvent {
 // ---- events with their answers
 
 fn step(core: &mut Core, event: &CoreEvent) -> Answer {
-    core.step(*event)
+    core.cluster.step(*event)
 }
 
-// The answer to an event. One that wanted memory has changed nothing, so it is tried once more.
+// The answer to an event. One that reports an allocation failure has changed nothing, so the event is tried once more.
 fn answer(core: &mut Core, event: &CoreEvent) -> Answer {
     let answer = step(core, event);
     if answer == Err(CoreFault::Memory) {
+        core.failures.note();
         return step(core, event);
     }
     answer
@@ -218,8 +230,7 @@ fn plan_and_core(rt: HostRuntime) -> Result<(), Fail> {
         respond(ONE, ZERO, phase),
         CoreFault::NoGrant,
     );
-    let_go(core);
-    Ok(())
+    end(core)
 }
 
 // A request of client 1, with a limit of 20, is granted at 0 and its response counted; the next one arrives at 0.
@@ -239,8 +250,7 @@ fn waits_at_limit(rt: &impl Abort, alloc: Global) -> Result<(), Fail> {
     limited(rt, &mut core);
     replies(rt, &mut core, pull(ZERO, 0), Reply::Later(50));
     grants(rt, &mut core, 50, 2, PhaseType::Priority);
-    let_go(core);
-    Ok(())
+    end(core)
 }
 
 // A request is granted past its limit.
@@ -249,8 +259,7 @@ fn allowed_past_limit(rt: &impl Abort, alloc: Global) -> Result<(), Fail> {
     limited(rt, &mut core);
     let beyond = granted(2, PhaseType::Priority, true);
     replies(rt, &mut core, pull(ZERO, 0), beyond);
-    let_go(core);
-    Ok(())
+    end(core)
 }
 
 #[test]
@@ -270,8 +279,7 @@ fn reservation_bound(rt: HostRuntime) -> Result<(), Fail> {
     stamps(&rt, &mut core, ONE, ZERO, 2, (1, 1));
     arrives(&rt, &mut core, 0, (Some(100), 0, 1000));
     grants(&rt, &mut core, 100, 2, phase);
-    let_go(core);
-    Ok(())
+    end(core)
 }
 
 // ---- what the examples leave out
@@ -293,8 +301,7 @@ fn other_servers(rt: HostRuntime) -> Result<(), Fail> {
     stamps(&rt, &mut core, ONE, other, 2, (2, 2));
     stamps(&rt, &mut core, ONE, ZERO, 3, (1, 1));
     stamps(&rt, &mut core, two, other, 4, (1, 1));
-    let_go(core);
-    Ok(())
+    end(core)
 }
 
 // Three messages of a pair: two arrive, and are granted in the order of their stamps.
@@ -321,8 +328,7 @@ fn messages_in_order(rt: HostRuntime) -> Result<(), Fail> {
     replies(&rt, &mut core, clean(ZERO, 10), cleaned);
     refuses_unknown(&rt, &mut core, arrive(ONE, ZERO, 10));
     refuses_unknown(&rt, &mut core, arrive(ONE, ZERO, 10));
-    let_go(core);
-    Ok(())
+    end(core)
 }
 
 // An update and a removal are the queue's, and so is their refusal.
@@ -337,11 +343,10 @@ fn commands_to_a_queue(rt: HostRuntime) -> Result<(), Fail> {
     replies(&rt, &mut core, remove(ZERO, ONE), Reply::Removed(1));
     refuses_unknown(&rt, &mut core, remove(ZERO, three));
     refuses_unknown(&rt, &mut core, update(ZERO, three, fast));
-    let_go(core);
-    Ok(())
+    end(core)
 }
 
-// The first cause is told.
+// The first cause is reported.
 #[test]
 fn unknown_names(rt: HostRuntime) -> Result<(), Fail> {
     let (three, past) = (ClientId(3), ServerId(1));
@@ -366,6 +371,5 @@ fn unknown_names(rt: HostRuntime) -> Result<(), Fail> {
     ] {
         refuses(&rt, &mut core, event, CoreFault::NoServer);
     }
-    let_go(core);
-    Ok(())
+    end(core)
 }

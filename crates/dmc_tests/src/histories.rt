@@ -1,4 +1,5 @@
 //! Tests of histories.
+use crate::failures::Failures;
 use crate::same::assert_same;
 use dmc_history::{History, ReserveFault};
 use std::process::Abort;
@@ -29,9 +30,15 @@ fn event_at(history: &History<u32>, index: usize) -> Option<u32> {
 
 // Records one event. A growth is refused only at a block's first event: then the history has as many events as before,
 // and the next try is Ok.
-fn record(rt: &impl Abort, history: &mut History<u32>, event: u32) -> Result<(), Fail> {
+fn record(
+    rt: &impl Abort,
+    history: &mut History<u32>,
+    failures: &mut Failures,
+    event: u32,
+) -> Result<(), Fail> {
     let before = count(history);
     if let Err(fault) = reserve(history) {
+        failures.note();
         assert_same(rt, &fault, &ReserveFault::Memory);
         assert_same(rt, &(before % BLOCK), &0);
         assert_same(rt, &count(history), &before);
@@ -59,14 +66,15 @@ fn history_limit(rt: HostRuntime) -> Result<(), Fail> {
 
 #[test]
 fn history_blocks(rt: HostRuntime) -> Result<(), Fail> {
+    let mut failures = Failures::none();
     let mut history = History::new(rt.alloc(), 3000)?;
     for event in 0..2049 {
-        record(&rt, &mut history, event)?;
+        record(&rt, &mut history, &mut failures, event)?;
     }
     assert_same(&rt, &count(&history), &2049);
     for index in [0, 1023, 1024, 2048] {
         assert_same(&rt, &event_at(&history, index), &Some(index as u32));
     }
     assert_same(&rt, &event_at(&history, 2049), &None);
-    Ok(())
+    Ok(failures.end()?)
 }

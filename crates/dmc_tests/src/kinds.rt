@@ -1,4 +1,5 @@
 //! The kinds of indexes, and the examples that hold of each: the one place that names a kind.
+use crate::growths::grown_over;
 use crate::heads::{changes_over, marks_over};
 use crate::indexes::indexed_clients_over;
 use crate::limits::limits_over;
@@ -33,6 +34,8 @@ pub enum Example {
     FiveCommands,
     /// A client and a request too many.
     Limits,
+    /// Queues whose growths are refused.
+    GrownQueues,
 }
 
 /// Runs an example over these indexes.
@@ -43,6 +46,7 @@ fn run<I: Indexes<TickTag>>(rt: &impl Abort, alloc: Global, example: Example) ->
         Example::IndexedClients => indexed_clients_over::<I>(rt, alloc),
         Example::FiveCommands => five_commands_over::<I>(rt, alloc),
         Example::Limits => limits_over::<I>(rt, alloc),
+        Example::GrownQueues => grown_over::<I>(rt, alloc),
     }
 }
 

@@ -7,6 +7,10 @@ mod cores;
 #[cfg(test)]
 mod events;
 #[cfg(test)]
+mod failures;
+#[cfg(test)]
+mod growths;
+#[cfg(test)]
 mod heads;
 #[cfg(test)]
 mod heaps;

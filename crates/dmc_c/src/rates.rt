@@ -108,12 +108,7 @@ pub extern "C" fn dmc_nanos_from_moment(hz: u64, moment: u64, nanos: &mut u64) -
 
 /// The same of the 128 bits at which a pull says that a request is due: `DMC_BAD_CONFIG`, `DMC_BAD_MOMENT`.
 #[unsafe(no_mangle)]
-pub extern "C" fn dmc_nanos_from_due(
-    hz: u64,
-    due_low: u64,
-    due_high: u64,
-    nanos: &mut u64,
-) -> u32
+pub extern "C" fn dmc_nanos_from_due(hz: u64, due_low: u64, due_high: u64, nanos: &mut u64) -> u32
     ensures { (answer : Result ℕ Fault) × WaitsFor hz (from_halves due_low due_high) answer × (result ≡ code_of answer)
         × (nanos.new ≡ value_or_old answer nanos.old) }
 {

@@ -1,19 +1,23 @@
-ghost use Rattle.std.specs.Prelude.{◌≡◌};
+ghost use Rattle.std.specs.Prelude.{◌≡◌, map, IfOk};
+ghost use Rattle.std.specs.List.{AllByRecursion};
+ghost use Rattle.dmc_ledger.specs.Bundles.{client_side};
+ghost use Rattle.dmc_book.specs.Opening.{IsNewDesk};
 
 use crate::calls::{close, enroll, must_enroll, pull, status, submit, try_submit};
 use crate::opening::{
-    Book, LONG, ONE, Opened, SEVEN, ZERO, let_all_go, let_go, open, open_book, open_client_desks,
-    open_other, open_queue, wait_config,
+    Book, LONG, ONE, Opened, SEVEN, ZERO, let_all_go, let_go, only, open, open_book,
+    open_client_desks, open_other, open_queue, wait_config,
 };
 use crate::same::assert_same;
 use dmc_book::fault::{NewFault, RunFault, SubmitCause};
 use dmc_book::pass::WorkerPass;
 use dmc_ledger::bundle::StampTills;
+use dmc_ledger::desk::{ClientDesk, open_pair};
 use dmc_ledger::mint::{Blank, Mint};
 use dmc_ledger::setup::Setup;
 use dmc_tag::reply::Reply;
 use dmc_tlock::book::TrackerBook;
-use dmc_types::ids::ClientId;
+use dmc_types::ids::{ClientId, ServerId, WorkerId};
 use std::alloc::Global;
 use std::marker::Brand;
 use std::test::Fail;
@@ -128,6 +132,69 @@ fn twice<S: Setup>(alloc: Global, blank: Blank) -> Result<Option<NewFault>, Fail
         Err(NewFault::Memory) => Err(NewFault::Memory.into()),
         Err(cause) => Ok(Some(cause)),
     }
+}
+
+/// The desk of client 1 at a server.
+fn desks_at<S: Setup>(
+    alloc: Global,
+    mint: &mut Mint<S>,
+    server: ServerId,
+) -> Result<Vec<ClientDesk<S>>, Fail>
+    ensures { IfOk result (λ desks. AllByRecursion (IsNewDesk server.0) (map client_side desks.items)) }
+{
+    let (desk, _) = open_pair(mint, ONE, server)?;
+    only(alloc, desk)
+}
+
+/// The pass of a worker at a server's book, which is dropped.
+fn pass_of<S: Setup>(
+    alloc: Global,
+    mint: &mut Mint<S>,
+    server: ServerId,
+    worker: WorkerId,
+) -> Result<WorkerPass<S>, Fail> {
+    let config = wait_config(LONG)?;
+    let desks = desks_at(alloc, mint, server)?;
+    let (book, mut passes) = open_book(alloc, config, server, mint, desks, &[worker], 8)?;
+    let_go(book);
+    let pass = passes.pop();
+    drop(passes);
+    match pass {
+        Some(pass) => Ok(pass),
+        None => Err(Fail::new("a pass for the worker")),
+    }
+}
+
+/// Why a pull with this pass is refused at a book of server 0 and worker 7.
+fn refused_pull<S: Setup>(
+    alloc: Global,
+    mint: &mut Mint<S>,
+    other: &mut WorkerPass<S>,
+) -> Result<Option<RunFault>, Fail> {
+    let (mut book, pass) = open_queue(alloc, mint)?;
+    let refused = pull(&mut book, other).err();
+    let_go(book);
+    drop(pass);
+    Ok(refused)
+}
+
+/// The pass of a worker at another server's book, and that of a worker who is not enrolled.
+fn strangers_of<S: Setup>(alloc: Global, blank: Blank) -> Result<[Option<RunFault>; 2], Fail>
+    requires { blank.name ≡ S.name }
+{
+    let mut mint = blank.open::<S>();
+    let mut elsewhere = pass_of(alloc, &mut mint, ServerId(1), SEVEN)?;
+    let mut unknown = pass_of(alloc, &mut mint, ZERO, WorkerId(8))?;
+    let first = refused_pull(alloc, &mut mint, &mut elsewhere)?;
+    let second = refused_pull(alloc, &mut mint, &mut unknown)?;
+    Ok([first, second])
+}
+
+#[test]
+fn strangers(rt: HostRuntime) -> Result<(), Fail> {
+    let refused = strangers_of::<Brand>(rt.alloc(), Blank::new(60))?;
+    assert_same(&rt, &refused, &[Some(RunFault::Stranger); 2]);
+    Ok(())
 }
 
 #[test]

@@ -12,6 +12,8 @@ mod examples;
 #[cfg(test)]
 mod queues;
 #[cfg(test)]
+mod replays;
+#[cfg(test)]
 mod run_examples;
 #[cfg(test)]
 mod runs;

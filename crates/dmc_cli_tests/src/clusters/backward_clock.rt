@@ -1,5 +1,6 @@
 //! A clock that goes back.
 use super::setup::{Prompt, done, is_whole, run_by, three_servers};
+use crate::replays::must_replay;
 use dmc_driver::moments::Moments;
 use dmc_types::moment::Moment;
 use std::sync::atomic::{AtomicU64, Ordering};
@@ -31,5 +32,5 @@ fn backward_clock(rt: HostRuntime) -> Result<(), Fail> {
     };
     let report = done(run_by(&rt, &scene, &Prompt, &clock))?;
     is_whole(&rt, &report, 0);
-    Ok(())
+    must_replay(&rt, rt.alloc(), &scene, &report)
 }

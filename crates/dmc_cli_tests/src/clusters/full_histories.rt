@@ -1,5 +1,6 @@
 //! Runs whose histories or trackers are too small.
 use super::setup::{Prompt, granted, sent_and_completed, stopped, three_servers, units_left};
+use crate::replays::must_replay;
 use crate::same::assert_same;
 use dmc_driver::limits::Limits;
 use dmc_driver::moments::StepClock;
@@ -11,7 +12,7 @@ use std::sync::Wait;
 use std::test::Fail;
 use std::thread::Threads;
 
-/// The report of `three_servers` with limits that stop it for this cause.
+/// The report of `three_servers` with limits that stop it for this cause. Its histories replay.
 fn run_within<R: Abort + AllocGlobal + Threads + Wait + Sync>(
     rt: &R,
     events: u32,
@@ -24,7 +25,9 @@ fn run_within<R: Abort + AllocGlobal + Threads + Wait + Sync>(
         return Err(Fail::new("limits"));
     };
     let answer = run_limited(rt, rt.alloc(), &scene, &Prompt, &clock, limits);
-    stopped(answer, cause)
+    let report = stopped(answer, cause)?;
+    must_replay(rt, rt.alloc(), &scene, &report)?;
+    Ok(report)
 }
 
 #[test]

@@ -35,7 +35,7 @@ pub(super) fn scene(
     Ok(read_scene(alloc, text.as_bytes())?)
 }
 
-/// The scene as it stands.
+/// The scene as it is.
 pub(super) fn three_servers(alloc: Global) -> Result<Scene, Fail> {
     scene(alloc, 3, 1_000_000, "all")
 }
@@ -49,7 +49,7 @@ impl Service for Prompt {
     }
 }
 
-/// Runs a scene with this service and this clock. What is promised of the answer, no test asks for.
+/// Runs a scene with this service and this clock. Callers know nothing of the answer's contract.
 pub(super) fn run_by<R, V, M>(rt: &R, scene: &Scene, service: &V, clock: &M) -> Answer
 where
     R: AllocGlobal + Threads + Wait + Sync,
@@ -59,7 +59,7 @@ where
     run_cluster(rt, rt.alloc(), scene, service, clock)
 }
 
-/// The same with a clock that goes on by the scene's step.
+/// Runs a scene with this service and a clock that advances by the scene's step.
 pub(super) fn run<R, V>(rt: &R, scene: &Scene, service: &V) -> Answer
 where
     R: AllocGlobal + Threads + Wait + Sync,
@@ -77,16 +77,16 @@ pub(super) fn stopped_for(report: &ClusterReport<TickTag>, cause: StopCause) -> 
             .any(|row| row.stops.iter().any(|other| *other == cause))
 }
 
-/// What a test tells of a report that it did not want. Where a worker lacked memory, it tells that.
-fn unwanted(report: &ClusterReport<TickTag>, told: &'static str) -> Fail {
-    if stopped_for(report, StopCause::Memory) {
+/// How a test fails at a report that it did not want: by an allocation failure, where a worker had one, also of its thread.
+fn unwanted(report: &ClusterReport<TickTag>, what: &'static str) -> Fail {
+    if stopped_for(report, StopCause::Memory) || stopped_for(report, StopCause::Spawn) {
         AllocError.into()
     } else {
-        Fail::new(told)
+        Fail::new(what)
     }
 }
 
-/// What a test tells of an answer that it did not want.
+/// How a test fails at an answer that it did not want.
 fn unwanted_answer(answer: Answer) -> Fail {
     match answer {
         Ok(_) => Fail::new("done"),

@@ -1,8 +1,9 @@
 //! A thousand runs in a row, each of another scene and with another clock.
 use super::clock::JumpingClock;
 use super::scenes::scene_of;
-use super::totals::{Totals, all_done, are_balanced, replays, requests_of, totals_of};
+use super::totals::{Totals, all_done, are_balanced, requests_of, totals_of};
 use super::words::word_of;
+use crate::replays::must_replay;
 use dmc_driver::fault::DriveFault;
 use dmc_driver::run::run_cluster;
 use dmc_driver::service::{Job, ServeFault, Service};
@@ -62,9 +63,7 @@ fn run_once<R: Threads + Wait + Sync>(
     let clock = JumpingClock::new(seed);
     let answer = run_cluster(rt, alloc, scene, &Fickle, &clock);
     let (report, done) = told(answer)?;
-    if !replays(rt, alloc, scene, &report)? {
-        return Err(Fail::new("a history differs"));
-    }
+    must_replay(rt, alloc, scene, &report)?;
     Ok((totals_of(&report), done))
 }
 

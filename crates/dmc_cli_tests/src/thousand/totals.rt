@@ -1,11 +1,7 @@
 //! What a run came to, added up.
-use dmc_check::check::Verdict;
-use dmc_run::verdicts::check_all;
 use dmc_scene::scene::Scene;
 use dmc_settle::report::{ClientReport, ClusterReport, ServerReport};
 use dmc_tag::tag::Tag;
-use std::alloc::{AllocError, Global};
-use std::thread::Threads;
 
 /// Numbers of requests, over all clients and servers.
 #[derive(Clone, Copy, Debug, PartialEq, Eq)]
@@ -86,15 +82,4 @@ pub(super) fn all_done(requests: u64) -> Totals {
 pub(super) fn are_balanced(totals: Totals) -> bool {
     totals.completed.checked_add(totals.units) == Some(totals.granted)
         && totals.granted.checked_add(totals.left) == Some(totals.sent)
-}
-
-/// Whether each server's history replays.
-pub(super) fn replays<T: Tag + Sync, R: Threads + Sync>(
-    rt: &R,
-    alloc: Global,
-    scene: &Scene,
-    report: &ClusterReport<T>,
-) -> Result<bool, AllocError> {
-    let verdicts = check_all(rt, alloc, scene.config(), &report.servers)?;
-    Ok(verdicts.iter().all(|verdict| *verdict == Verdict::Replays))
 }

@@ -35,4 +35,8 @@ nbd:
 	nbd/build
 	nbd/tests
 
-.PHONY: program test demo examples refusals picture c nbd
+# The planner, out/dmclock-planner.html, a page that shows what rates will do.
+planner:
+	planner/build
+
+.PHONY: program test demo examples refusals picture c nbd planner

@@ -35,8 +35,11 @@ nbd:
 	nbd/build
 	nbd/tests
 
-# The planner, out/dmclock-planner.html, a page that shows what rates will do.
+# The planner, out/dmclock-planner.html, a page that shows what rates will do: builds it and runs its tests. It installs Chromium where it
+# is missing.
 planner:
+	planner/packages
 	planner/build
+	planner/tests
 
 .PHONY: program test demo examples refusals picture c nbd planner

@@ -47,8 +47,14 @@ nbd:
 	nbd/build
 	nbd/tests
 
+# The planner, out/dmclock-planner.html, a page that shows what rates will do: builds it and runs its tests. It installs Chromium.
+planner:
+	planner/packages
+	planner/build
+	planner/tests
+
 # What three clients were granted over time, drawn as docs/grants.svg. It needs gnuplot. scripts/picture draws any script.
 picture:
 	scripts/picture examples/three_clients.script > docs/grants.svg
 
-.PHONY: help program test gate check quick demo examples refusals c nbd picture
+.PHONY: help program test gate check quick demo examples refusals c nbd planner picture

@@ -1,0 +1,141 @@
+"use strict";
+
+// What can be set: its limits, the presets, its form in the page's address, and what is wrong with it. As long as it is text it
+// is a scene, as the fields and the address have it: { server: { key: text }, clients: [{ key: text }] }.
+
+const MOST_CLIENTS = 64;
+const MOST_REQUESTS = 5000000;
+const AT_LIMIT_WORDS = ["wait", "allow"];
+const COUNTING_WORDS = ["others", "all"];
+
+// The fields, in the order of the form and of the address. One with `none` may be left empty.
+const SERVER_FIELDS = [
+  { key: "capacity", label: "Capacity", least: 1, most: 100000 },
+  { key: "servers", label: "Servers", least: 1, most: 16 },
+  { key: "seconds", label: "Seconds", least: 1, most: 600 },
+  { key: "atLimit", label: "At the limit", words: AT_LIMIT_WORDS },
+  { key: "counting", label: "Stamps count completions", words: COUNTING_WORDS },
+];
+const CLIENT_FIELDS = [
+  { key: "name", label: "Name", isName: true },
+  { key: "reservation", label: "Reservation", least: 1, most: 1000000, none: true },
+  { key: "weight", label: "Weight", least: 1, most: 1000000 },
+  { key: "limit", label: "Limit", least: 1, most: 1000000, none: true },
+  { key: "demand", label: "Demand", least: 1, most: 100000 },
+  { key: "from", label: "From", least: 0, most: 599 },
+  { key: "until", label: "Until", least: 1, most: 600 },
+  { key: "window", label: "Window", least: 1, most: 10000 },
+];
+
+const scene = (server, ...clients) => ({
+  server: Object.fromEntries(SERVER_FIELDS.map(({ key }, k) => [key, String(server[k])])),
+  clients: clients.map(client => Object.fromEntries(CLIENT_FIELDS.map(({ key }, k) => [key, String(client[k])]))),
+});
+const PRESETS = [
+  ["Three tenants", scene([2000, 1, 60, "wait", "others"],
+    ["database", 800, 2, "", 1000, 0, 60, 64],
+    ["website", "", 3, "", 1600, 15, 45, 64],
+    ["backup", 100, 1, 500, 1500, 0, 60, 64])],
+  ["Noisy neighbour", scene([1000, 1, 60, "wait", "others"],
+    ["steady", 300, 1, "", 300, 0, 60, 32],
+    ["modest", "", 1, "", 250, 0, 60, 32],
+    ["noisy", "", 1, "", 4000, 20, 40, 1024])],
+  ["Backlog", scene([1000, 1, 60, "wait", "others"],
+    ["interactive", 400, 4, "", 700, 0, 60, 32],
+    ["nightly batch", "", 1, 300, 20000, 10, 11, 8000])],
+  ["Too much reserved", scene([1000, 1, 60, "wait", "others"],
+    ["first", 600, 1, "", 700, 0, 60, 64],
+    ["second", 600, 1, "", 700, 20, 60, 64],
+    ["third", "", 4, "", 500, 0, 60, 64])],
+  ["Three servers", scene([600, 3, 60, "wait", "others"],
+    ["database", 800, 2, "", 1000, 0, 60, 96],
+    ["website", "", 3, "", 1600, 15, 45, 96],
+    ["backup", 100, 1, 500, 1200, 0, 60, 96])],
+];
+
+// ---- the address: #capacity=2000&..&client=database,800,2,,1000,0,60,64
+
+function toAddress({ server, clients }) {
+  const part = text => encodeURIComponent(text).replace(/%20/g, "+");
+  const pairs = SERVER_FIELDS.map(({ key }) => `${key}=${part(server[key])}`);
+  return "#" + [...pairs, ...clients.map(client => "client=" + CLIENT_FIELDS.map(({ key }) => part(client[key])).join(","))].join("&");
+}
+
+// The scene of an address; undefined where it has none, or parts that a scene doesn't have.
+function fromAddress(address) {
+  const found = { server: {}, clients: [] };
+  try {
+    for (const pair of address.replace(/^#/, "").split("&")) {
+      const [key, value, more] = pair.split("=");
+      if (more !== undefined) return undefined;
+      const parts = value.split(",").map(part => decodeURIComponent(part.replace(/\+/g, " ")));
+      if (key === "client" && parts.length === CLIENT_FIELDS.length)
+        found.clients.push(Object.fromEntries(CLIENT_FIELDS.map((field, k) => [field.key, parts[k]])));
+      else if (SERVER_FIELDS.some(field => field.key === key) && parts.length === 1) [found.server[key]] = parts;
+      else return undefined;
+    }
+  } catch {
+    return undefined;
+  }
+  return SERVER_FIELDS.every(({ key }) => key in found.server) ? found : undefined;
+}
+
+// ---- what is wrong
+
+const plain = number => number.toLocaleString("en", { maximumFractionDigits: 1 });
+
+// What is wrong with the text of a field, if anything is.
+function faultOf(text, { least, most, none, words, isName }) {
+  if (isName) return text.trim() ? undefined : "is missing";
+  if (words) return words.includes(text) ? undefined : `is one of ${words.join(", ")}`;
+  const number = Number(text);
+  if (text === "" && none) return undefined;
+  if (/^[0-9]{1,9}$/.test(text) && number >= least && number <= most) return undefined;
+  return `is a whole number from ${plain(least)} to ${plain(most)}${none ? ", or left empty for none" : ""}`;
+}
+
+const tooMany = clients => clients.length > MOST_CLIENTS
+  && `There are ${plain(clients.length)} clients in the address: the page takes at most ${MOST_CLIENTS}.`;
+
+const valueOf = (text, { words, isName }) => (isName ? text.trim() : words ? text : Number(text));
+
+// The settings of a scene, or its faults: for each a field's key, the client's place if it is a client's, and a sentence.
+function readScene({ server, clients }) {
+  const faults = [];
+  const read = (fields, texts, client) => Object.fromEntries(fields.map(field => {
+    const fault = faultOf(texts[field.key], field);
+    const whose = client === undefined ? "" : ` of ${texts.name.trim() || `client ${client + 1}`}`;
+    if (fault) faults.push({ key: field.key, client, text: `${field.label}${whose} ${fault}.` });
+    return [field.key, valueOf(texts[field.key], field)];
+  }));
+  const settings = { ...read(SERVER_FIELDS, server), clients: clients.map((texts, k) => read(CLIENT_FIELDS, texts, k)) };
+  if (!clients.length) faults.push({ text: "There is no client: add one." });
+  if (!faults.length) checkTogether(settings, faults);
+  return { settings: faults.length ? undefined : settings, faults };
+}
+
+function checkTogether({ seconds, clients }, faults) {
+  clients.forEach(({ name, from, until }, client) => {
+    const text = `From of ${name} is less than the ${plain(seconds)} seconds of the run.`;
+    if (from >= seconds) faults.push({ key: "from", client, text });
+    else if (until <= from) faults.push({ key: "until", client, text: `Until of ${name} is more than its from.` });
+  });
+  const requests = clients.reduce((sum, { demand, from, until }) => sum + demand * Math.max(0, Math.min(until, seconds) - from), 0);
+  const advice = `the page takes at most ${plain(MOST_REQUESTS)}. Take fewer seconds, or less demand.`;
+  if (requests > MOST_REQUESTS) faults.push({ text: `The clients ask for ${plain(requests)} requests: ${advice}` });
+}
+
+// What is right but may surprise, given what the rates became.
+function warningsOf({ capacity, servers, clients }, rates) {
+  const whole = capacity * servers;
+  const weights = rates.reduce((sum, { weight }) => sum + weight, 0);
+  const found = [];
+  if (weights > whole)
+    found.push(`The weights sum to ${plain(weights)}, which is more than the ${plain(whole)} requests a second that are served: `
+      + "clients don't get shares by them. A weight is a rate as well; take small numbers such as 1, 2 and 3.");
+  clients.forEach(({ name }, id) => {
+    const { reservation, limit } = rates[id];
+    if (limit && reservation > limit) found.push(`The reservation of ${name} is above its limit: the reservation wins.`);
+  });
+  return found;
+}

@@ -1,0 +1,167 @@
+/* The simulation of the page over libdmclock.a, by the rule of docs/PLANNER.md. It reads the settings as words, a line for the servers
+ * and one for each client:
+ *     capacity servers seconds wait|allow others|all
+ *     reservation weight limit demand from until window
+ * with 0 for no reservation and no limit. It writes what each client's rates became, each grant (tick, server, client, token, phase,
+ * beyond, wait), and how many requests of each client were turned away. */
+#include "dmclock.h"
+
+#include <inttypes.h>
+#include <stddef.h>
+#include <stdio.h>
+#include <stdlib.h>
+#include <string.h>
+
+#define HZ ((uint64_t)DMC_FINE_HZ)
+#define NEVER UINT64_MAX
+
+/* What library.js reads. */
+_Static_assert(sizeof(struct dmc_queue) == 16 && sizeof(struct dmc_tracker) == 16, "HANDLE");
+_Static_assert(sizeof(struct dmc_stamp) == 8 && offsetof(struct dmc_stamp, rho) == 4, "STAMP");
+_Static_assert(sizeof(struct dmc_tags) == 80, "TAGS");
+_Static_assert(sizeof(struct dmc_pulled) == 40, "PULLED");
+_Static_assert(offsetof(struct dmc_pulled, kind) == 0 && offsetof(struct dmc_pulled, client) == 4, "PULLED");
+_Static_assert(offsetof(struct dmc_pulled, token) == 8 && offsetof(struct dmc_pulled, phase) == 12, "PULLED");
+_Static_assert(offsetof(struct dmc_pulled, beyond) == 16 && offsetof(struct dmc_pulled, due_low) == 24, "PULLED");
+_Static_assert(offsetof(struct dmc_pulled, due_high) == 32, "PULLED");
+_Static_assert(DMC_FINE_HZ == 735134400 && DMC_TICK == 0 && DMC_WAIT == 0 && DMC_ALLOW == 1, "numbers");
+_Static_assert(DMC_ALL == 0 && DMC_OTHERS == 1 && DMC_RESERVATION == 0 && DMC_GRANTED == 0 && DMC_FUTURE == 1, "numbers");
+
+struct client {
+  struct dmc_tracker tracker;
+  uint32_t reservation, weight, limit;
+  uint64_t spacing, next, until, window, under_way, turned_away;
+  uint64_t *sent_at; /* by token */
+  uint32_t sent, room;
+};
+
+struct server {
+  struct dmc_queue queue;
+  uint64_t next;
+  bool serves;
+  struct dmc_pulled grant;
+};
+
+static void must(uint32_t code)
+{
+  if (code != DMC_OK) {
+    fprintf(stderr, "the library refuses a call: %s\n", dmc_text(code));
+    exit(1);
+  }
+}
+
+static void *grown(void *at, size_t count, size_t size)
+{
+  at = realloc(at, count * size);
+  if (!at)
+    abort();
+  return at;
+}
+
+static uint64_t earlier(uint64_t one, uint64_t other) { return one < other ? one : other; }
+
+/* Reads a client's line, and makes its rates exact. */
+static bool read_client(struct client *it, uint64_t seconds, uint32_t servers, uint32_t counting)
+{
+  uint64_t demand, from, until;
+  if (scanf("%" SCNu32 "%" SCNu32 "%" SCNu32 "%" SCNu64 "%" SCNu64 "%" SCNu64 "%" SCNu64, &it->reservation, &it->weight, &it->limit,
+            &demand, &from, &until, &it->window) != 7)
+    return false;
+  if (it->reservation)
+    must(dmc_rate_at_least(HZ, it->reservation, &it->reservation));
+  must(dmc_rate_at_most(HZ, it->weight, &it->weight));
+  if (it->limit)
+    must(dmc_rate_at_most(HZ, it->limit, &it->limit));
+  printf("rates %" PRIu32 " %" PRIu32 " %" PRIu32 "\n", it->reservation, it->weight, it->limit);
+  must(dmc_tracker_new(&it->tracker, servers, UINT32_MAX, counting));
+  it->spacing = HZ / demand;
+  it->until = earlier(until, seconds) * HZ;
+  it->next = from * HZ < it->until ? from * HZ : NEVER;
+  return true;
+}
+
+/* A request of a client, or one that its window turns away. */
+static void send(struct client *it, uint32_t id, struct server *servers, uint32_t count, uint64_t now)
+{
+  it->next = now + it->spacing < it->until ? now + it->spacing : NEVER;
+  if (it->under_way == it->window) {
+    it->turned_away++;
+    return;
+  }
+  struct dmc_stamp stamp;
+  struct dmc_tags tags;
+  uint32_t token = it->sent++, to = token % count;
+  if (token == it->room)
+    it->sent_at = grown(it->sent_at, it->room = 2 * it->room + 1024, sizeof *it->sent_at);
+  it->sent_at[token] = now;
+  must(dmc_tracker_stamp(&it->tracker, to, &stamp));
+  must(dmc_queue_add(&servers[to].queue, id, token, stamp.delta, stamp.rho, now, &tags));
+  it->under_way++;
+  if (!servers[to].serves)
+    servers[to].next = now;
+}
+
+static void pull(struct server *it, uint32_t id, const struct client *clients, uint64_t service, uint64_t now)
+{
+  struct dmc_pulled pulled;
+  must(dmc_queue_pull(&it->queue, now, &pulled));
+  it->serves = pulled.kind == DMC_GRANTED;
+  if (it->serves) {
+    it->grant = pulled;
+    it->next = now + service;
+    printf("grant %" PRIu64 " %" PRIu32 " %" PRIu32 " %" PRIu32 " %" PRIu32 " %d %" PRIu64 "\n", now, id, pulled.client, pulled.token,
+           pulled.phase, pulled.beyond, now - clients[pulled.client].sent_at[pulled.token]);
+  } else {
+    it->next = pulled.kind == DMC_FUTURE && !pulled.due_high ? pulled.due_low : NEVER;
+  }
+}
+
+int main(void)
+{
+  uint64_t capacity, seconds;
+  uint32_t servers, clients = 0;
+  char at_limit[8], counting[8];
+  if (scanf("%" SCNu64 "%" SCNu32 "%" SCNu64 "%7s%7s", &capacity, &servers, &seconds, at_limit, counting) != 5 || servers > 16)
+    return 2;
+  static struct client all[64];
+  while (clients < 64 && read_client(&all[clients], seconds, servers, strcmp(counting, "all") ? DMC_OTHERS : DMC_ALL))
+    clients++;
+  static struct server list[16];
+  for (uint32_t s = 0; s < servers; s++) {
+    list[s].next = NEVER;
+    must(dmc_queue_new(&list[s].queue, DMC_TICK, HZ, HZ, 1000000 * HZ, strcmp(at_limit, "allow") ? DMC_WAIT : DMC_ALLOW));
+    for (uint32_t i = 0; i < clients; i++)
+      must(dmc_queue_register(&list[s].queue, i, all[i].reservation, all[i].weight, all[i].limit, 0));
+  }
+  for (uint64_t second = 1;;) {
+    uint64_t now = second * HZ;
+    for (uint32_t i = 0; i < clients; i++)
+      now = earlier(now, all[i].next);
+    for (uint32_t s = 0; s < servers; s++)
+      now = earlier(now, list[s].next);
+    if (now >= seconds * HZ)
+      break;
+    for (uint32_t s = 0; s < servers; s++)
+      if (list[s].serves && list[s].next == now) {
+        struct client *whose = &all[list[s].grant.client];
+        must(dmc_tracker_respond(&whose->tracker, s, list[s].grant.phase));
+        whose->under_way--;
+        list[s].serves = false;
+      }
+    if (now == second * HZ) {
+      uint32_t idled, erased;
+      for (uint32_t s = 0; s < servers; s++)
+        must(dmc_queue_clean(&list[s].queue, now, &idled, &erased));
+      second++;
+    }
+    for (uint32_t i = 0; i < clients; i++)
+      if (all[i].next == now)
+        send(&all[i], i, list, servers, now);
+    for (uint32_t s = 0; s < servers; s++)
+      if (!list[s].serves && list[s].next == now)
+        pull(&list[s], s, all, HZ / capacity, now);
+  }
+  for (uint32_t i = 0; i < clients; i++)
+    printf("turned away %" PRIu64 "\n", all[i].turned_away);
+  return 0;
+}

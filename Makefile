@@ -29,10 +29,20 @@ picture:
 c:
 	c/build
 
+# Installs program, libraries, headers and manual pages, and builds what is missing first: make install [PREFIX=/usr/local] [DESTDIR=]
+# With PROGRAM=FILE that is the program, and the proved one is not built.
+install:
+	packages/tree out/tree
+	packages/install.sh install out/tree
+
+# Takes away what an install put there.
+uninstall:
+	packages/install.sh uninstall
+
 # The filter for nbdkit, nbd/out/nbdkit-dmclock-filter.so: builds it and runs its tests. It installs the packages that are missing.
 nbd:
 	nbd/packages
 	nbd/build
 	nbd/tests
 
-.PHONY: program test demo examples refusals picture c nbd
+.PHONY: program test demo examples refusals picture c install uninstall nbd

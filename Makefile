@@ -39,10 +39,20 @@ install:
 uninstall:
 	packages/install.sh uninstall
 
+# The archive for machines without the toolchain, and its checksum, in out/.
+dist:
+	packages/dist
+
+# The archive, what a new user does with it, the linters, and the instructions from C++ and Rust beside C.
+packages: dist
+	packages/try out/dmclock-$$(cat VERSION)-x86_64-linux.tar.xz
+	packages/lint
+	packages/count
+
 # The filter for nbdkit, nbd/out/nbdkit-dmclock-filter.so: builds it and runs its tests. It installs the packages that are missing.
 nbd:
 	nbd/packages
 	nbd/build
 	nbd/tests
 
-.PHONY: program test demo examples refusals picture c install uninstall nbd
+.PHONY: program test demo examples refusals picture c install uninstall dist packages nbd

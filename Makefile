@@ -25,7 +25,8 @@ refusals:
 picture:
 	scripts/picture examples/three_clients.script > docs/grants.svg
 
-# The library for C and C++, c/out/libdmclock.a, with its examples and tests: builds and runs them. Not a part of the gate.
+# The library for C, C++ and Rust, c/out/libdmclock.a and libdmclock.so.0, with the examples and tests in C and C++: builds and runs
+# them. Not a part of the gate.
 c:
 	c/build
 

@@ -19,7 +19,7 @@ int main() {
       const Tags tags = queue.add_request(client, Token(token), tracker.get_req_params(server).value(), at).value();
       std::cout << "token " << token << " tags " << double(*tags.r()) << " " << double(tags.l()) << " " << double(tags.p())
                 << "\n";
-      // A device would do the work here. The response tells the client's tracker.
+      // A device would do the work here. The response goes to the client's tracker.
       for (auto pulled = queue.pull_request(at); pulled && pulled->is_granted(); pulled = queue.pull_request(at)) {
         std::cout << "granted token " << pulled->token().value()
                   << (pulled->phase() == PhaseType::Reservation ? " by reservation" : " by weight")

@@ -45,7 +45,9 @@ dist:
 	packages/dist
 
 # The archive, what a new user does with it, the linters, and the instructions from C++ and Rust beside C.
-packages: dist
+packages:
+	packages/needs
+	packages/dist
 	packages/try out/dmclock-$$(cat VERSION)-x86_64-linux.tar.xz
 	packages/lint
 	packages/count

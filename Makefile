@@ -37,9 +37,30 @@ examples:
 refusals:
 	scripts/refusals
 
-# The library for C and C++, c/out/libdmclock.a, with its examples and tests: builds and runs them.
+# The library for C, C++ and Rust, c/out/libdmclock.a and libdmclock.so.0: builds it and runs the examples and tests in C and C++.
 c:
 	c/build
+
+# Installs program, libraries, headers and manual pages, and builds what is missing: make install [PREFIX=/usr/local] [DESTDIR=]
+install:
+	packages/tree out/tree
+	packages/install.sh install out/tree
+
+# Takes away what an install put there.
+uninstall:
+	packages/install.sh uninstall
+
+# The archive for machines without the toolchain, and its checksum, in out/.
+dist:
+	packages/dist
+
+# Tests of what is installed: the archive, what a new user does with it, the linters, and the instructions from C++ and Rust.
+packages:
+	packages/needs
+	packages/dist
+	packages/try out/dmclock-$$(cat VERSION)-x86_64-linux.tar.xz
+	packages/lint
+	packages/count
 
 # The filter for nbdkit, nbd/out/nbdkit-dmclock-filter.so: builds it and runs its tests. It installs the packages that are missing.
 nbd:
@@ -57,4 +78,4 @@ planner:
 picture:
 	scripts/picture examples/three_clients.script > docs/grants.svg
 
-.PHONY: help program test gate check quick demo examples refusals c nbd planner picture
+.PHONY: help program test gate check quick demo examples refusals c install uninstall dist packages nbd planner picture

@@ -1,6 +1,7 @@
 #!/usr/bin/env python3
 """What crates/dmc_c says of the header, as a C source that compiles beside dmclock.h only where both agree: each export's
-name and types, the types, the order and the sizes of the structs' fields, and each code's number."""
+name and types, the types, the order and the sizes of the structs' fields, and each code's number. VERSION says which version
+the header has."""
 import re
 import sys
 from pathlib import Path
@@ -65,7 +66,7 @@ def main():
             print(f'_Static_assert(offsetof(struct {name}, {field}) == offsetof(struct crate_{name}, {field}), "{name}.{field}");')
             print(f'_Static_assert(_Generic(((struct {name} *)0)->{field}, {c_type(rust, name)}: 1, default: 0), "{name}.{field}");')
     declared = set(re.findall(r"^(?:uint32_t|void) +(dmc_\w+)\(", header, re.M))
-    found = set()
+    found = {"dmc_version"}  # of version.c
     for name, types, answers in exports():
         found.add(name)
         print(("uint32_t " if answers else "void ") + f"{name}({', '.join(types)});")
@@ -78,6 +79,8 @@ def main():
         sys.exit(f"codes differ: {sorted(set(told.items()) ^ set(given.items()))}")
     fine = re.search(r"FINE_HZ: u32 = ([\d_]+);", (SRC.parent.parent / "dmc_types" / "src" / "rates.rt").read_text()).group(1)
     given["DMC_FINE_HZ"] = fine.replace("_", "")
+    major, minor, patch = map(int, (SRC.parent.parent.parent / "VERSION").read_text().split("."))
+    given["DMC_VERSION"] = str(major * 10000 + minor * 100 + patch)
     for name, number in given.items():
         print(f'_Static_assert({name} == {number}, "{name}");')
     print("int main(void) { return 0; }")

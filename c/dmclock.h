@@ -1,9 +1,9 @@
 /* The proved dmClock queue and service tracker for back ends in C and C++. docs/C.md has the rest.
  *
- * A struct dmc_queue starts as DMC_QUEUE_NONE and a struct dmc_tracker as DMC_TRACKER_NONE. None is copied, and its fields
- * are not written by the caller. Pointers are valid and do not overlap. One call at a time on one queue or tracker; none
- * from a signal handler. A struct may move from thread to thread between calls, ordered by a lock or by a thread's start
- * or join.
+ * A struct dmc_queue starts as DMC_QUEUE_NONE and a struct dmc_tracker as DMC_TRACKER_NONE. Its fields are not written by
+ * the caller. It may be moved between calls: copied once, and the old one set to its NONE. It is copied in no other way.
+ * Pointers are valid and do not overlap. One call at a time on one queue or tracker; none from a signal handler. A struct
+ * may move from thread to thread between calls, ordered by a lock or by a thread's start or join.
  *
  * Each call but the frees answers a code. The order of codes: DMC_NONE_HELD (a `new`: DMC_HELD), then the values in the
  * order moment, params, rate, then the call's refusals in the order that stands at it, and DMC_MEMORY last. What is not
@@ -21,6 +21,10 @@
 #ifdef __cplusplus
 extern "C" {
 #endif
+
+/* The version of this header, 0.1.0: major * 10000 + minor * 100 + patch. dmc_version() returns that of the library. */
+#define DMC_VERSION 100
+uint32_t dmc_version(void);
 
 /* What is held: set by `new` and ended by `free`. */
 struct dmc_queue   { void *at; uint64_t held; };

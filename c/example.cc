@@ -1,96 +1,39 @@
-// A queue and a tracker in classes that free them (C++17).
-#include "dmclock.h"
+// A queue and a tracker in C++17, by dmclock.hpp.
+#include "dmclock.hpp"
 
-#include <cstdint>
 #include <iostream>
 #include <optional>
-#include <stdexcept>
 
-// Throws where a call is not accepted.
-static void must(std::uint32_t code) {
-  if (code != DMC_OK) throw std::runtime_error(dmc_text(code));
-}
-
-// A queue that ends with its scope. It is neither copied nor moved, as its struct is not.
-class Queue {
- public:
-  Queue(dmc_tag_kind tags, std::uint64_t hz, dmc_at_limit at_limit) {
-    must(dmc_queue_new(&queue_, tags, hz, 600 * hz, 1200 * hz, at_limit));
-  }
-  ~Queue() { dmc_queue_free(&queue_); }
-  Queue(const Queue &) = delete;
-  Queue &operator=(const Queue &) = delete;
-
-  void add_client(std::uint32_t client, std::uint32_t reservation, std::uint32_t weight, std::uint32_t limit) {
-    must(dmc_queue_register(&queue_, client, reservation, weight, limit, 0));
-  }
-
-  dmc_tags add(std::uint32_t client, std::uint32_t token, dmc_stamp stamp, std::uint64_t at) {
-    dmc_tags tags;
-    must(dmc_queue_add(&queue_, client, token, stamp.delta, stamp.rho, at, &tags));
-    return tags;
-  }
-
-  // What is granted at a moment, if anything is.
-  std::optional<dmc_pulled> pull(std::uint64_t at) {
-    dmc_pulled pulled;
-    must(dmc_queue_pull(&queue_, at, &pulled));
-    if (pulled.kind != DMC_GRANTED) return std::nullopt;
-    return pulled;
-  }
-
- private:
-  dmc_queue queue_ = DMC_QUEUE_NONE;
-};
-
-// A tracker that ends with its scope.
-class Tracker {
- public:
-  Tracker(std::uint32_t servers, std::uint32_t most, dmc_counting counting) {
-    must(dmc_tracker_new(&tracker_, servers, most, counting));
-  }
-  ~Tracker() { dmc_tracker_free(&tracker_); }
-  Tracker(const Tracker &) = delete;
-  Tracker &operator=(const Tracker &) = delete;
-
-  dmc_stamp stamp(std::uint32_t server) {
-    dmc_stamp params;
-    must(dmc_tracker_stamp(&tracker_, server, &params));
-    return params;
-  }
-
-  void respond(std::uint32_t server, std::uint32_t phase) { must(dmc_tracker_respond(&tracker_, server, phase)); }
-
-  dmc_track status(std::uint32_t server) {
-    dmc_track track;
-    must(dmc_tracker_status(&tracker_, server, &track));
-    return track;
-  }
-
- private:
-  dmc_tracker tracker_ = DMC_TRACKER_NONE;
-};
+using namespace dmclock;
 
 int main() {
+  const ClientId client(1);
+  const ServerId server(0);
   try {
-    Queue queue(DMC_TICK, 1000, DMC_ALLOW);
-    Tracker tracker(1, 1000, DMC_ALL);
-    queue.add_client(1, 10, 1, 20);
+    Queue queue = Queue::make({1000, 600000, 1200000, AtLimit::Allow}).value();
+    Tracker tracker = Tracker::make(1, 1000, Counting::All).value();
+    const ClientInfo info = {10, 1, 20};  // at least 10 requests a second, a weight of 1, at most 20
+    if (Code code = queue.register_client(client, info, Moment(0)); code != Code::Ok) throw Error(code);
     for (std::uint32_t token = 0; token < 4; ++token) {
-      std::uint64_t at = 30 * token;
-      dmc_tags tags = queue.add(1, token, tracker.stamp(0), at);
-      std::cout << "token " << token << " tags " << tags.r.low << " " << tags.l.low << " " << tags.p.low << "\n";
-      while (std::optional<dmc_pulled> granted = queue.pull(at)) {
-        std::cout << "granted token " << granted->token << (granted->phase == DMC_RESERVATION ? " by reservation" : " by weight")
-                  << (granted->beyond ? ", beyond its limit\n" : "\n");
-        tracker.respond(0, granted->phase);
+      const Moment at(30 * token);
+      const Tags tags = queue.add_request(client, Token(token), tracker.get_req_params(server).value(), at).value();
+      std::cout << "token " << token << " tags " << double(*tags.r()) << " " << double(tags.l()) << " " << double(tags.p())
+                << "\n";
+      // A device would do the work here. The response goes to the client's tracker.
+      for (auto pulled = queue.pull_request(at); pulled && pulled->is_granted(); pulled = queue.pull_request(at)) {
+        std::cout << "granted token " << pulled->token().value()
+                  << (pulled->phase() == PhaseType::Reservation ? " by reservation" : " by weight")
+                  << (pulled->beyond() ? ", beyond its limit\n" : "\n");
+        if (Code code = tracker.track_resp(server, pulled->phase()); code != Code::Ok) throw Error(code);
       }
     }
-    dmc_track track = tracker.status(0);
-    std::cout << "completions " << track.completions << ", by reservation " << track.reservation << "\n";
-    queue.add_client(1, 0, 1, 0);
-  } catch (const std::runtime_error &refused) {
-    std::cout << "refused: " << refused.what() << "\n";
+    const TrackStatus status = tracker.status(server).value();
+    std::cout << "completions " << status.completions() << ", by reservation " << status.reservation() << "\n";
+    const Code again = queue.register_client(client, info, Moment(90));
+    std::cout << "registered twice: " << text(again) << "\n";
+  } catch (const Error &refused) {
+    std::cerr << "refused: " << refused.what() << "\n";
+    return 1;
   }
   return 0;
 }

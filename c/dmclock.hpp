@@ -1,0 +1,525 @@
+/// \file dmclock.hpp
+/// The proved dmClock queue and service tracker for back ends in C++17: a header over dmclock.h, to link with libdmclock.
+///
+/// A server has a Queue, a client a Tracker. No call throws: a call that is refused has changed nothing and says why by its
+/// Code. The one that throws is Result::value(), for callers who like exceptions.
+///
+///     auto queue = dmclock::Queue::make({1000, 600000, 1200000}).value();  // 1,000 ticks a second
+///     auto code = queue.register_client(client, {10, 1, std::nullopt}, now);
+///     auto tags = queue.add_request(client, token, params, now);
+///     auto pulled = queue.pull_request(now);
+///     if (pulled && pulled->is_granted()) serve(pulled->client(), pulled->token());
+///
+/// One call at a time on one Queue or Tracker. Each may move to another thread.
+#ifndef DMCLOCK_HPP
+#define DMCLOCK_HPP
+
+#include "dmclock.h"
+
+#include <cstddef>
+#include <cstdint>
+#include <functional>
+#include <limits>
+#include <optional>
+#include <stdexcept>
+#include <utility>
+
+/// dmClock for storage back ends.
+namespace dmclock {
+
+/// What a call reports: that it is done, or why it is refused.
+enum class Code : std::uint32_t {
+  Ok = DMC_OK,                                  ///< done
+  Memory = DMC_MEMORY,                          ///< an allocation failed
+  NoneHeld = DMC_NONE_HELD,                     ///< the Queue or Tracker is empty: it was moved from, or made by `{}`
+  Held = DMC_HELD,                              ///< no call of this header reports it
+  BadMoment = DMC_BAD_MOMENT,                   ///< a moment past 2^62
+  BadParams = DMC_BAD_PARAMS,                   ///< a rho past its delta
+  BadRate = DMC_BAD_RATE,                       ///< a rate of 0, or no such rate
+  BadConfig = DMC_BAD_CONFIG,                   ///< a setting out of its limits
+  BadPhase = DMC_BAD_PHASE,                     ///< a number that is no PhaseType
+  Limit = DMC_LIMIT,                            ///< a tracker's servers or its `most` out of their limits
+  Known = DMC_KNOWN,                            ///< the client is registered already
+  Unknown = DMC_UNKNOWN,                        ///< the client is not registered
+  InexactReservation = DMC_INEXACT_RESERVATION, ///< the spacing hz/reservation is no value of the tags
+  InexactWeight = DMC_INEXACT_WEIGHT,           ///< the spacing hz/weight is no value of the tags
+  InexactLimit = DMC_INEXACT_LIMIT,             ///< the spacing hz/limit is no value of the tags
+  Clients = DMC_CLIENTS,                        ///< 65,536 clients are registered
+  QueueFull = DMC_QUEUE_FULL,                   ///< 2^20 requests are queued
+  Range = DMC_RANGE,                            ///< a sum that the call needs is no value of the tags
+  Busy = DMC_BUSY,          ///< an update gives or takes a reservation while the client has a queued request
+  NoServer = DMC_NO_SERVER, ///< the tracker has no such server
+  TrackFull = DMC_TRACK_FULL ///< a count of the tracker would pass its `most`
+};
+
+/// A text for a code, such as "queue full".
+inline const char *text(Code code) noexcept { return dmc_text(static_cast<std::uint32_t>(code)); }
+
+/// Whether tags are whole ticks, for rates that divide hz, or fractions, for any rate.
+enum class TagKind : std::uint32_t { Tick = DMC_TICK, Ratio = DMC_RATIO };
+
+/// At the limit: a pull says when the next request is due, or grants the best by weight beyond its limit.
+enum class AtLimit : std::uint32_t { Wait = DMC_WAIT, Allow = DMC_ALLOW };
+
+/// Which completions a stamp counts: those at all servers, or the request itself and those at the others.
+enum class Counting : std::uint32_t { All = DMC_ALL, Others = DMC_OTHERS };
+
+/// Whether a request is granted by its client's reservation, or by weight.
+enum class PhaseType : std::uint32_t { Reservation = DMC_RESERVATION, Priority = DMC_PRIORITY };
+
+/// Ticks a second for rates that an operator typed: 1,344 rates divide it, every one from 1 to 18 among them.
+inline constexpr std::uint32_t fine_hz = DMC_FINE_HZ;
+
+/// A refusal as an exception, which Result::value() throws.
+class Error : public std::runtime_error {
+ public:
+  /// The refusal of a code.
+  explicit Error(Code code) : std::runtime_error(text(code)), code_(code) {}
+  /// Why the call is refused.
+  Code code() const noexcept { return code_; }
+
+ private:
+  Code code_;
+};
+
+/// What a call returns: a value, or the code of its refusal.
+template <class T>
+class [[nodiscard]] Result {
+ public:
+  /// Whether there is a value.
+  bool ok() const noexcept { return code_ == Code::Ok; }
+  /// Whether there is a value.
+  explicit operator bool() const noexcept { return ok(); }
+  /// Code::Ok, or why the call is refused.
+  Code code() const noexcept { return code_; }
+
+  /// The value, where ok() is true.
+  const T &operator*() const & noexcept { return value_; }
+  /// The value, where ok() is true.
+  T &operator*() & noexcept { return value_; }
+  /// The value, where ok() is true.
+  T &&operator*() && noexcept { return std::move(value_); }
+  /// A member of the value, where ok() is true.
+  const T *operator->() const noexcept { return &value_; }
+  /// A member of the value, where ok() is true.
+  T *operator->() noexcept { return &value_; }
+
+  /// The value; throws Error where there is none.
+  const T &value() const & {
+    if (!ok()) throw Error(code_);
+    return value_;
+  }
+  /// The value; throws Error where there is none.
+  T value() && {
+    if (!ok()) throw Error(code_);
+    return std::move(value_);
+  }
+
+ private:
+  friend struct Calls;
+  Result() noexcept = default;
+
+  Code code_ = Code::Ok;
+  T value_{};  // where the call is refused, it was not written
+};
+
+/// A number of one kind, which is not mixed up with another kind's.
+template <class Kind, class Number>
+class Strong {
+ public:
+  /// 0.
+  constexpr Strong() noexcept = default;
+  /// This number.
+  constexpr explicit Strong(Number value) noexcept : value_(value) {}
+  /// The number.
+  constexpr Number value() const noexcept { return value_; }
+
+  /// Compares the numbers.
+  friend constexpr bool operator==(Kind a, Kind b) noexcept { return a.value() == b.value(); }
+  /// Compares the numbers.
+  friend constexpr bool operator!=(Kind a, Kind b) noexcept { return a.value() != b.value(); }
+  /// Compares the numbers.
+  friend constexpr bool operator<(Kind a, Kind b) noexcept { return a.value() < b.value(); }
+  /// Compares the numbers.
+  friend constexpr bool operator>(Kind a, Kind b) noexcept { return a.value() > b.value(); }
+  /// Compares the numbers.
+  friend constexpr bool operator<=(Kind a, Kind b) noexcept { return a.value() <= b.value(); }
+  /// Compares the numbers.
+  friend constexpr bool operator>=(Kind a, Kind b) noexcept { return a.value() >= b.value(); }
+
+ private:
+  Number value_ = 0;
+};
+
+/// A client of a queue, by a number of the caller's choice.
+struct ClientId : Strong<ClientId, std::uint32_t> {
+  using Strong::Strong;
+};
+
+/// A server of a tracker: 0, 1, ..
+struct ServerId : Strong<ServerId, std::uint32_t> {
+  using Strong::Strong;
+};
+
+/// A request, by a number of the caller's choice.
+struct Token : Strong<Token, std::uint32_t> {
+  using Strong::Strong;
+};
+
+/// A moment in ticks, 0 to 2^62.
+struct Moment : Strong<Moment, std::uint64_t> {
+  using Strong::Strong;
+  /// The moment of a clock that has counted so many nanoseconds: the whole ticks that have passed. BadConfig (hz is not 1 to
+  /// 1,000,000,000), BadMoment (past 2^62).
+  static Result<Moment> from_nanos(std::uint64_t hz, std::uint64_t nanos) noexcept;
+  /// The least nanoseconds after which the moment has come. BadConfig, BadMoment (past 2^62, or nanoseconds past 2^64-1).
+  Result<std::uint64_t> to_nanos(std::uint64_t hz) const noexcept;
+};
+
+/// When the next request is due, in ticks: high * 2^64 + low, which may be past all moments.
+struct Due {
+  std::uint64_t high; ///< the upper 64 bits
+  std::uint64_t low;  ///< the lower 64 bits
+};
+
+/// The least nanoseconds after which a request is due: who sleeps until then finds it due. BadConfig, BadMoment (nanoseconds
+/// past 2^64-1).
+Result<std::uint64_t> nanos_until(std::uint64_t hz, Due due) noexcept;
+
+/// The greatest rate at most this one that divides hz: for a limit. BadConfig, BadRate (a rate of 0).
+Result<std::uint32_t> rate_at_most(std::uint64_t hz, std::uint32_t rate) noexcept;
+
+/// The least rate at least this one that divides hz: for a reservation. BadConfig, BadRate (a rate of 0, or past hz).
+Result<std::uint32_t> rate_at_least(std::uint64_t hz, std::uint32_t rate) noexcept;
+
+/// A tag in ticks: an exact fraction. Tags are compared exactly.
+class Tag {
+ public:
+  /// The upper part of the numerator, which is high() * 2^64 + low().
+  std::int64_t high() const noexcept { return tag_.high; }
+  /// The lower part of the numerator.
+  std::uint64_t low() const noexcept { return tag_.low; }
+  /// The denominator, 1 or more; 1 where tags are whole ticks.
+  std::uint64_t denom() const noexcept { return tag_.denom; }
+  /// The nearest double or one beside it, for display.
+  explicit operator double() const noexcept { return static_cast<double>(numer()) / static_cast<double>(tag_.denom); }
+
+  /// Below 0, 0 or above 0, as this tag is before the other, the same or behind it.
+  int compare(Tag other) const noexcept {
+    // A numerator has an absolute value of at most 2^90, and a denominator is at most 2^32.
+    const Int128 left = numer() * static_cast<Int128>(other.tag_.denom);
+    const Int128 right = other.numer() * static_cast<Int128>(tag_.denom);
+    return left < right ? -1 : left > right ? 1 : 0;
+  }
+  /// Compares exactly.
+  friend bool operator==(Tag a, Tag b) noexcept { return a.compare(b) == 0; }
+  /// Compares exactly.
+  friend bool operator!=(Tag a, Tag b) noexcept { return a.compare(b) != 0; }
+  /// Compares exactly.
+  friend bool operator<(Tag a, Tag b) noexcept { return a.compare(b) < 0; }
+  /// Compares exactly.
+  friend bool operator>(Tag a, Tag b) noexcept { return a.compare(b) > 0; }
+  /// Compares exactly.
+  friend bool operator<=(Tag a, Tag b) noexcept { return a.compare(b) <= 0; }
+  /// Compares exactly.
+  friend bool operator>=(Tag a, Tag b) noexcept { return a.compare(b) >= 0; }
+
+ private:
+  friend class Tags;
+  __extension__ using Int128 = __int128;
+  explicit Tag(const dmc_tag &tag) noexcept : tag_(tag) {}
+  Int128 numer() const noexcept { return static_cast<Int128>(tag_.high) * (static_cast<Int128>(1) << 64) + tag_.low; }
+  dmc_tag tag_;
+};
+
+/// The tags of a request that is queued.
+class Tags {
+ public:
+  /// The reservation tag, where the client has a reservation.
+  std::optional<Tag> r() const noexcept { return tags_.reserved ? std::optional<Tag>(Tag(tags_.r)) : std::nullopt; }
+  /// The limit tag.
+  Tag l() const noexcept { return Tag(tags_.l); }
+  /// The weight tag.
+  Tag p() const noexcept { return Tag(tags_.p); }
+
+ private:
+  friend struct Calls;
+  dmc_tags tags_;
+};
+
+/// What a pull returns: a grant, or when the next request is due, or that nothing is queued.
+class Pulled {
+ public:
+  /// What it is.
+  enum class Kind : std::uint32_t {
+    Returning = DMC_GRANTED, ///< a request is granted: client(), token(), phase(), beyond()
+    Future = DMC_FUTURE,     ///< one is due() later, and none before
+    Nothing = DMC_NOTHING    ///< nothing is queued
+  };
+  /// What it is.
+  Kind kind() const noexcept { return static_cast<Kind>(pulled_.kind); }
+  /// Whether it is a grant.
+  bool is_granted() const noexcept { return pulled_.kind == DMC_GRANTED; }
+  /// Of a grant: whose request it is.
+  ClientId client() const noexcept { return ClientId(pulled_.client); }
+  /// Of a grant: which request it is.
+  Token token() const noexcept { return Token(pulled_.token); }
+  /// Of a grant: by reservation or by weight, which the client's tracker is to count.
+  PhaseType phase() const noexcept { return static_cast<PhaseType>(pulled_.phase); }
+  /// Of a grant: whether it is past its limit (AtLimit::Allow).
+  bool beyond() const noexcept { return pulled_.beyond; }
+  /// Of Kind::Future: when the next request is due.
+  Due due() const noexcept { return {pulled_.due_high, pulled_.due_low}; }
+
+ private:
+  friend struct Calls;
+  dmc_pulled pulled_;
+};
+
+/// What a clean did.
+struct Cleaned {
+  std::uint32_t idled;  ///< how many clients became idle
+  std::uint32_t erased; ///< how many clients were erased
+};
+
+/// A client's rates, in requests a second.
+struct ClientInfo {
+  std::optional<std::uint32_t> reservation; ///< at least so many, where there is one
+  std::uint32_t weight;                     ///< its share of the rest
+  std::optional<std::uint32_t> limit;       ///< at most so many, where there is one
+};
+
+/// The two counts of a stamp, which go with a request to a server.
+struct ReqParams {
+  std::uint32_t delta; ///< completions since the last stamp to the same server
+  std::uint32_t rho;   ///< those of them by reservation, at most delta
+};
+
+/// How a queue is set up.
+struct QueueConfig {
+  std::uint64_t hz;                 ///< ticks a second, 1 to 1,000,000,000
+  std::uint64_t idle_age;           ///< ticks without a request until clean() marks a client idle, 1 to 2^62
+  std::uint64_t erase_age;          ///< ticks without a request until clean() erases it, idle_age to 2^62
+  AtLimit at_limit = AtLimit::Wait; ///< what a pull does where all are at their limits
+  TagKind tags = TagKind::Tick;     ///< whole ticks or fractions
+};
+
+/// What a tracker knows of a server, and its completions at all servers.
+class TrackStatus {
+ public:
+  /// The delta that the next stamp to this server would carry; without the request itself in Counting::Others.
+  std::uint64_t pending_delta() const noexcept { return track_.pending.delta; }
+  /// The rho that the next stamp to this server would carry; without the request itself in Counting::Others.
+  std::uint64_t pending_rho() const noexcept { return track_.pending.rho; }
+  /// The sum of the deltas that were sent to this server.
+  std::uint64_t sent_delta() const noexcept { return track_.sent_delta; }
+  /// The sum of the rhos that were sent to this server.
+  std::uint64_t sent_rho() const noexcept { return track_.sent_rho; }
+  /// The completions at all servers.
+  std::uint64_t completions() const noexcept { return track_.completions; }
+  /// The completions at all servers by reservation.
+  std::uint64_t reservation() const noexcept { return track_.reservation; }
+
+ private:
+  friend struct Calls;
+  dmc_track track_;
+};
+
+/// \cond
+/// How the calls below fill a Result.
+struct Calls {
+  template <class T, class Call>
+  static Result<T> of(Call call) noexcept {
+    Result<T> result;
+    result.code_ = static_cast<Code>(call(inside(result.value_)));
+    return result;
+  }
+  static dmc_tags *inside(Tags &tags) noexcept { return &tags.tags_; }
+  static dmc_pulled *inside(Pulled &pulled) noexcept { return &pulled.pulled_; }
+  static dmc_track *inside(TrackStatus &status) noexcept { return &status.track_; }
+  template <class T>
+  static T *inside(T &value) noexcept {
+    return &value;
+  }
+};
+/// \endcond
+
+/// The queue of a server.
+class Queue {
+ public:
+  /// A queue with no client. BadConfig, Memory.
+  static Result<Queue> make(const QueueConfig &config) noexcept {
+    return Calls::of<Queue>([&](Queue *queue) {
+      return dmc_queue_new(&queue->queue_, static_cast<std::uint32_t>(config.tags), config.hz, config.idle_age,
+                           config.erase_age, static_cast<std::uint32_t>(config.at_limit));
+    });
+  }
+
+  /// No queue: each call is NoneHeld.
+  Queue() noexcept = default;
+  /// Takes the queue of another, which is left with none.
+  Queue(Queue &&other) noexcept : queue_(std::exchange(other.queue_, dmc_queue DMC_QUEUE_NONE)) {}
+  /// Ends its queue, and takes that of another, which is left with none.
+  Queue &operator=(Queue &&other) noexcept {
+    Queue taken(std::move(other));
+    std::swap(queue_, taken.queue_);
+    return *this;
+  }
+  Queue(const Queue &) = delete;
+  Queue &operator=(const Queue &) = delete;
+  /// Ends the queue, with all that is queued.
+  ~Queue() { dmc_queue_free(&queue_); }
+
+  /// Registers a client. NoneHeld, BadMoment, BadRate, Known, InexactReservation, InexactWeight, InexactLimit, Clients, Memory.
+  [[nodiscard]] Code register_client(ClientId client, const ClientInfo &info, Moment at) noexcept {
+    return static_cast<Code>(
+        dmc_queue_register(&queue_, client.value(), rate(info.reservation), weight(info), rate(info.limit), at.value()));
+  }
+
+  /// Replaces a client's rates. NoneHeld, BadMoment, BadRate, Unknown, InexactReservation, InexactWeight, InexactLimit, Busy.
+  [[nodiscard]] Code update_info(ClientId client, const ClientInfo &info, Moment at) noexcept {
+    return static_cast<Code>(
+        dmc_queue_update(&queue_, client.value(), rate(info.reservation), weight(info), rate(info.limit), at.value()));
+  }
+
+  /// Queues a request with the counts of its stamp, and returns its tags. NoneHeld, BadMoment, BadParams, Unknown, QueueFull,
+  /// Range, Memory.
+  Result<Tags> add_request(ClientId client, Token token, ReqParams params, Moment at) noexcept {
+    return Calls::of<Tags>([&](dmc_tags *tags) {
+      return dmc_queue_add(&queue_, client.value(), token.value(), params.delta, params.rho, at.value(), tags);
+    });
+  }
+
+  /// Grants the next request, or says when one is due. NoneHeld, BadMoment, Range.
+  Result<Pulled> pull_request(Moment at) noexcept {
+    return Calls::of<Pulled>([&](dmc_pulled *pulled) { return dmc_queue_pull(&queue_, at.value(), pulled); });
+  }
+
+  /// Takes out a client's queued requests, and returns how many. NoneHeld, Unknown.
+  Result<std::uint32_t> remove_by_client(ClientId client) noexcept {
+    return Calls::of<std::uint32_t>([&](std::uint32_t *removed) { return dmc_queue_remove(&queue_, client.value(), removed); });
+  }
+
+  /// Marks clients idle and erases old ones. NoneHeld, BadMoment.
+  Result<Cleaned> clean(Moment at) noexcept {
+    return Calls::of<Cleaned>(
+        [&](Cleaned *cleaned) { return dmc_queue_clean(&queue_, at.value(), &cleaned->idled, &cleaned->erased); });
+  }
+
+  /// How many clients are registered. NoneHeld.
+  Result<std::uint32_t> client_count() noexcept {
+    std::uint32_t requests;
+    return Calls::of<std::uint32_t>([&](std::uint32_t *clients) { return dmc_queue_counts(&queue_, clients, &requests); });
+  }
+
+  /// How many requests are queued. NoneHeld.
+  Result<std::uint32_t> request_count() noexcept {
+    std::uint32_t clients;
+    return Calls::of<std::uint32_t>([&](std::uint32_t *requests) { return dmc_queue_counts(&queue_, &clients, requests); });
+  }
+
+ private:
+  static std::uint32_t rate(std::optional<std::uint32_t> rate) noexcept { return rate.value_or(0); }
+  // C takes a rate of 0 for none. Here it is refused, as a weight of 0 is.
+  static std::uint32_t weight(const ClientInfo &info) noexcept {
+    return info.reservation.value_or(1) == 0 || info.limit.value_or(1) == 0 ? 0 : info.weight;
+  }
+
+  dmc_queue queue_ = DMC_QUEUE_NONE;
+};
+
+/// The service tracker of a client.
+class Tracker {
+ public:
+  /// A tracker of servers 0, 1, .. (1 to 64 of them), which counts at most `most` completions (1 to 2^32-1). Limit, Memory.
+  static Result<Tracker> make(std::uint32_t servers, std::uint64_t most, Counting counting) noexcept {
+    return Calls::of<Tracker>([&](Tracker *tracker) {
+      const bool fits = most <= std::numeric_limits<std::uint32_t>::max();
+      return dmc_tracker_new(&tracker->tracker_, servers, fits ? static_cast<std::uint32_t>(most) : 0,
+                             static_cast<std::uint32_t>(counting));
+    });
+  }
+
+  /// No tracker: each call is NoneHeld.
+  Tracker() noexcept = default;
+  /// Takes the tracker of another, which is left with none.
+  Tracker(Tracker &&other) noexcept : tracker_(std::exchange(other.tracker_, dmc_tracker DMC_TRACKER_NONE)) {}
+  /// Ends its tracker, and takes that of another, which is left with none.
+  Tracker &operator=(Tracker &&other) noexcept {
+    Tracker taken(std::move(other));
+    std::swap(tracker_, taken.tracker_);
+    return *this;
+  }
+  Tracker(const Tracker &) = delete;
+  Tracker &operator=(const Tracker &) = delete;
+  /// Ends the tracker.
+  ~Tracker() { dmc_tracker_free(&tracker_); }
+
+  /// Stamps a request to a server. NoneHeld, NoServer, TrackFull.
+  Result<ReqParams> get_req_params(ServerId server) noexcept {
+    return Calls::of<ReqParams>([&](ReqParams *params) {
+      dmc_stamp stamp = {0, 0};
+      const std::uint32_t code = dmc_tracker_stamp(&tracker_, server.value(), &stamp);
+      *params = {stamp.delta, stamp.rho};
+      return code;
+    });
+  }
+
+  /// Counts a completion: a server answered a request that it granted in a phase. NoneHeld, BadPhase, NoServer, TrackFull.
+  [[nodiscard]] Code track_resp(ServerId server, PhaseType phase) noexcept {
+    return static_cast<Code>(dmc_tracker_respond(&tracker_, server.value(), static_cast<std::uint32_t>(phase)));
+  }
+
+  /// What it knows of a server. NoneHeld, NoServer.
+  Result<TrackStatus> status(ServerId server) noexcept {
+    return Calls::of<TrackStatus>([&](dmc_track *track) { return dmc_tracker_status(&tracker_, server.value(), track); });
+  }
+
+ private:
+  dmc_tracker tracker_ = DMC_TRACKER_NONE;
+};
+
+inline Result<Moment> Moment::from_nanos(std::uint64_t hz, std::uint64_t nanos) noexcept {
+  return Calls::of<Moment>([&](Moment *moment) {
+    std::uint64_t ticks = 0;
+    const std::uint32_t code = dmc_moment_from_nanos(hz, nanos, &ticks);
+    *moment = Moment(ticks);
+    return code;
+  });
+}
+
+inline Result<std::uint64_t> Moment::to_nanos(std::uint64_t hz) const noexcept {
+  return Calls::of<std::uint64_t>([&](std::uint64_t *nanos) { return dmc_nanos_from_moment(hz, value(), nanos); });
+}
+
+inline Result<std::uint64_t> nanos_until(std::uint64_t hz, Due due) noexcept {
+  return Calls::of<std::uint64_t>([&](std::uint64_t *nanos) { return dmc_nanos_from_due(hz, due.low, due.high, nanos); });
+}
+
+inline Result<std::uint32_t> rate_at_most(std::uint64_t hz, std::uint32_t rate) noexcept {
+  return Calls::of<std::uint32_t>([&](std::uint32_t *found) { return dmc_rate_at_most(hz, rate, found); });
+}
+
+inline Result<std::uint32_t> rate_at_least(std::uint64_t hz, std::uint32_t rate) noexcept {
+  return Calls::of<std::uint32_t>([&](std::uint32_t *found) { return dmc_rate_at_least(hz, rate, found); });
+}
+
+}  // namespace dmclock
+
+/// \cond
+// Ids, tokens and moments as keys.
+template <class Kind>
+struct dmclock_hash {
+  std::size_t operator()(Kind kind) const noexcept { return std::hash<decltype(kind.value())>()(kind.value()); }
+};
+template <>
+struct std::hash<dmclock::ClientId> : dmclock_hash<dmclock::ClientId> {};
+template <>
+struct std::hash<dmclock::ServerId> : dmclock_hash<dmclock::ServerId> {};
+template <>
+struct std::hash<dmclock::Token> : dmclock_hash<dmclock::Token> {};
+template <>
+struct std::hash<dmclock::Moment> : dmclock_hash<dmclock::Moment> {};
+/// \endcond
+
+#endif

@@ -1,0 +1,111 @@
+//! The service tracker of a client.
+
+use crate::calls::written;
+use crate::error::{Refusal, RespondError, StampError, StatusError, TrackerError};
+use crate::values::{Counting, PhaseType, ReqParams, ServerId};
+use dmclock_sys as sys;
+use std::cell::UnsafeCell;
+use std::fmt;
+
+/// What a tracker knows of a server, and its completions at all servers.
+#[derive(Clone, Copy, Debug, PartialEq, Eq, Hash)]
+pub struct TrackStatus {
+    /// The delta that the next stamp to this server would carry; without the request itself in
+    /// [`Counting::Others`].
+    pub pending_delta: u64,
+    /// The rho that the next stamp to this server would carry; without the request itself in
+    /// [`Counting::Others`].
+    pub pending_rho: u64,
+    /// The sum of the deltas that were sent to this server.
+    pub sent_delta: u64,
+    /// The sum of the rhos that were sent to this server.
+    pub sent_rho: u64,
+    /// The completions at all servers.
+    pub completions: u64,
+    /// The completions at all servers by reservation.
+    pub reservation: u64,
+}
+
+/// The service tracker of a client: it counts the client's completions, and stamps each request
+/// with two counts.
+///
+/// It may move to another thread. Threads that share it need a lock, as with a
+/// [`Queue`](crate::Queue).
+pub struct Tracker {
+    /// It always holds a tracker.
+    tracker: UnsafeCell<sys::dmc_tracker>,
+}
+
+// SAFETY: a tracker may move from thread to thread between calls, as the header says.
+unsafe impl Send for Tracker {}
+
+impl Tracker {
+    /// A tracker of servers 0, 1, .. (1 to 64 of them), which counts at most `most` completions (1
+    /// to 2^32-1).
+    pub fn new(servers: u32, most: u64, counting: Counting) -> Result<Tracker, TrackerError> {
+        let most = u32::try_from(most).map_err(|_| TrackerError::Limit)?;
+        let counting = match counting {
+            Counting::All => sys::DMC_ALL,
+            Counting::Others => sys::DMC_OTHERS,
+        };
+        let mut tracker = sys::DMC_TRACKER_NONE;
+        // SAFETY: the pointer is a reference, and the struct is its `NONE`.
+        TrackerError::check(unsafe {
+            sys::dmc_tracker_new(&mut tracker, servers, most, counting)
+        })?;
+        let tracker = UnsafeCell::new(tracker);
+        Ok(Tracker { tracker })
+    }
+
+    /// Stamps a request to a server.
+    #[inline]
+    pub fn get_req_params(&mut self, server: ServerId) -> Result<ReqParams, StampError> {
+        let tracker = self.tracker.get_mut();
+        // SAFETY: the pointers are a reference and that of `written`.
+        let stamp: Result<sys::dmc_stamp, _> =
+            unsafe { written(|stamp| sys::dmc_tracker_stamp(tracker, server.0, stamp)) };
+        stamp.map(ReqParams::of)
+    }
+
+    /// Counts a completion: a server answered a request that it granted in a phase.
+    #[inline]
+    pub fn track_resp(&mut self, server: ServerId, phase: PhaseType) -> Result<(), RespondError> {
+        let phase = match phase {
+            PhaseType::Reservation => sys::DMC_RESERVATION,
+            PhaseType::Priority => sys::DMC_PRIORITY,
+        };
+        let tracker = self.tracker.get_mut();
+        // SAFETY: the pointer is a reference.
+        RespondError::check(unsafe { sys::dmc_tracker_respond(tracker, server.0, phase) })
+    }
+
+    /// What it knows of a server.
+    pub fn status(&self, server: ServerId) -> Result<TrackStatus, StatusError> {
+        let tracker = self.tracker.get();
+        // SAFETY: a tracker is not `Sync`, so this is the only call on it now; its cell is not lent
+        // to anyone.
+        let track: Result<sys::dmc_track, _> =
+            unsafe { written(|track| sys::dmc_tracker_status(tracker, server.0, track)) };
+        track.map(|track| TrackStatus {
+            pending_delta: track.pending.delta.into(),
+            pending_rho: track.pending.rho.into(),
+            sent_delta: track.sent_delta,
+            sent_rho: track.sent_rho,
+            completions: track.completions.into(),
+            reservation: track.reservation.into(),
+        })
+    }
+}
+
+impl Drop for Tracker {
+    fn drop(&mut self) {
+        // SAFETY: the pointer is a reference.
+        unsafe { sys::dmc_tracker_free(self.tracker.get_mut()) }
+    }
+}
+
+impl fmt::Debug for Tracker {
+    fn fmt(&self, f: &mut fmt::Formatter<'_>) -> fmt::Result {
+        f.debug_struct("Tracker").finish_non_exhaustive()
+    }
+}

@@ -1,0 +1,269 @@
+//! Checked values: ids, moments, rates, counts, settings.
+
+use crate::error::{ConfigError, MomentError, ParamsError, RateError};
+use dmclock_sys as sys;
+
+/// A client of a queue, by a number of the caller's choice.
+#[derive(Clone, Copy, Debug, PartialEq, Eq, PartialOrd, Ord, Hash)]
+pub struct ClientId(pub u32);
+
+/// A server of a tracker: 0, 1, ..
+#[derive(Clone, Copy, Debug, PartialEq, Eq, PartialOrd, Ord, Hash)]
+pub struct ServerId(pub u32);
+
+/// A request, by a number of the caller's choice.
+#[derive(Clone, Copy, Debug, PartialEq, Eq, PartialOrd, Ord, Hash)]
+pub struct Token(pub u32);
+
+/// Ticks a second for rates that an operator typed: 1,344 rates divide it, every one from 1 to 18
+/// among them.
+pub const FINE_HZ: u32 = sys::DMC_FINE_HZ;
+
+/// What a call that writes a number found, where it found one.
+fn found<N: Default>(call: impl FnOnce(&mut N) -> u32) -> Option<N> {
+    let mut number = N::default();
+    (call(&mut number) == sys::DMC_OK).then_some(number)
+}
+
+/// The greatest rate at most this one that divides hz: for a limit. `None` for a rate of 0, and
+/// where hz is not 1 to 1,000,000,000.
+pub fn rate_at_most(hz: u32, rate: u32) -> Option<u32> {
+    // SAFETY: the pointer is a reference.
+    found(|found| unsafe { sys::dmc_rate_at_most(hz.into(), rate, found) })
+}
+
+/// The least rate at least this one that divides hz: for a reservation. `None` for a rate of 0 or
+/// past hz, and where hz is not 1 to 1,000,000,000.
+pub fn rate_at_least(hz: u32, rate: u32) -> Option<u32> {
+    // SAFETY: the pointer is a reference.
+    found(|found| unsafe { sys::dmc_rate_at_least(hz.into(), rate, found) })
+}
+
+/// The least nanoseconds after which a request is due that
+/// [`Pulled::Future`](crate::Pulled::Future) speaks of: who sleeps until then finds it due. `None`
+/// where they are past 2^64-1, and where hz is not 1 to 1,000,000,000.
+pub fn nanos_until(hz: u32, due: u128) -> Option<u64> {
+    let (low, high) = (due as u64, (due >> 64) as u64);
+    // SAFETY: the pointer is a reference.
+    found(|nanos| unsafe { sys::dmc_nanos_from_due(hz.into(), low, high, nanos) })
+}
+
+/// A moment in ticks, 0 to 2^62.
+#[derive(Clone, Copy, Debug, PartialEq, Eq, PartialOrd, Ord, Hash)]
+pub struct Moment(u64);
+
+impl Moment {
+    /// The last moment, 2^62.
+    pub const MAX: Moment = Moment(1 << 62);
+
+    /// The moment of so many ticks.
+    pub const fn new(ticks: u64) -> Result<Moment, MomentError> {
+        if ticks > Moment::MAX.0 {
+            return Err(MomentError::Past);
+        }
+        Ok(Moment(ticks))
+    }
+
+    /// The moment 0.
+    pub const fn zero() -> Moment {
+        Moment(0)
+    }
+
+    /// How many ticks it is.
+    pub const fn ticks(self) -> u64 {
+        self.0
+    }
+
+    /// The moment of a clock that has counted so many nanoseconds: the whole ticks that have
+    /// passed. `None` where that is past [`Moment::MAX`], and where hz is not 1 to 1,000,000,000.
+    pub fn from_nanos(hz: u32, nanos: u64) -> Option<Moment> {
+        // SAFETY: the pointer is a reference.
+        found(|ticks| unsafe { sys::dmc_moment_from_nanos(hz.into(), nanos, ticks) }).map(Moment)
+    }
+
+    /// The least nanoseconds after which the moment has come. `None` where they are past 2^64-1,
+    /// and where hz is not 1 to 1,000,000,000.
+    pub fn to_nanos(self, hz: u32) -> Option<u64> {
+        // SAFETY: the pointer is a reference.
+        found(|nanos| unsafe { sys::dmc_nanos_from_moment(hz.into(), self.0, nanos) })
+    }
+}
+
+/// A client's rates, in requests a second: at least the reservation, at most the limit, and a share
+/// of the rest by its weight.
+#[derive(Clone, Copy, Debug, PartialEq, Eq, Hash)]
+pub struct ClientInfo {
+    reservation: Option<u32>,
+    weight: u32,
+    limit: Option<u32>,
+}
+
+impl ClientInfo {
+    /// These rates, none of which is 0.
+    pub const fn new(
+        reservation: Option<u32>,
+        weight: u32,
+        limit: Option<u32>,
+    ) -> Result<ClientInfo, RateError> {
+        match (reservation, weight, limit) {
+            (Some(0), _, _) | (_, 0, _) | (_, _, Some(0)) => Err(RateError::Zero),
+            _ => Ok(ClientInfo {
+                reservation,
+                weight,
+                limit,
+            }),
+        }
+    }
+
+    /// The least rate, where there is one.
+    pub const fn reservation(self) -> Option<u32> {
+        self.reservation
+    }
+
+    /// The weight.
+    pub const fn weight(self) -> u32 {
+        self.weight
+    }
+
+    /// The greatest rate, where there is one.
+    pub const fn limit(self) -> Option<u32> {
+        self.limit
+    }
+}
+
+/// The two counts of a stamp, which go with a request to a server.
+#[derive(Clone, Copy, Debug, PartialEq, Eq, Hash)]
+pub struct ReqParams {
+    delta: u32,
+    rho: u32,
+}
+
+impl ReqParams {
+    /// What a tracker stamped.
+    #[inline]
+    pub(crate) fn of(stamp: sys::dmc_stamp) -> ReqParams {
+        ReqParams {
+            delta: stamp.delta,
+            rho: stamp.rho,
+        }
+    }
+
+    /// The counts that came with a request; rho is at most delta.
+    pub const fn new(delta: u32, rho: u32) -> Result<ReqParams, ParamsError> {
+        if rho > delta {
+            return Err(ParamsError::Rho);
+        }
+        Ok(ReqParams { delta, rho })
+    }
+
+    /// Completions since the last stamp to the same server.
+    pub const fn delta(self) -> u32 {
+        self.delta
+    }
+
+    /// Those of them by reservation.
+    pub const fn rho(self) -> u32 {
+        self.rho
+    }
+}
+
+/// Whether tags are whole ticks, for rates that divide hz, or fractions, for any rate.
+#[derive(Clone, Copy, Debug, PartialEq, Eq, Hash)]
+pub enum TagKind {
+    /// Whole ticks: the fastest.
+    Tick,
+    /// Fractions: nothing is rounded.
+    Ratio,
+}
+
+/// What a pull does where every queued request is past its client's limit.
+#[derive(Clone, Copy, Debug, PartialEq, Eq, Hash)]
+pub enum AtLimit {
+    /// It says when the next one is due.
+    Wait,
+    /// It grants the best by weight.
+    Allow,
+}
+
+/// Which completions a stamp counts.
+#[derive(Clone, Copy, Debug, PartialEq, Eq, Hash)]
+pub enum Counting {
+    /// Those at all servers, since the last stamp to the same one.
+    All,
+    /// The request itself, and those at the other servers.
+    Others,
+}
+
+/// Why a request is granted.
+#[derive(Clone, Copy, Debug, PartialEq, Eq, Hash)]
+pub enum PhaseType {
+    /// By its client's reservation.
+    Reservation,
+    /// By weight.
+    Priority,
+}
+
+/// How a queue is set up.
+#[derive(Clone, Copy, Debug, PartialEq, Eq, Hash)]
+pub struct QueueConfig {
+    hz: u32,
+    idle_age: u64,
+    erase_age: u64,
+    at_limit: AtLimit,
+}
+
+impl QueueConfig {
+    /// Ticks a second (1 to 1,000,000,000), after how many ticks without a request
+    /// [`clean`](crate::Queue::clean) marks a client idle and erases it (1 to 2^62, the first at
+    /// most the second), and what a pull does at the limit.
+    pub const fn new(
+        hz: u64,
+        idle_age: u64,
+        erase_age: u64,
+        at_limit: AtLimit,
+    ) -> Result<QueueConfig, ConfigError> {
+        if hz == 0 || hz > 1_000_000_000 {
+            return Err(ConfigError::Hz);
+        }
+        if idle_age == 0 || idle_age > erase_age || erase_age > 1 << 62 {
+            return Err(ConfigError::Ages);
+        }
+        Ok(QueueConfig {
+            hz: hz as u32,
+            idle_age,
+            erase_age,
+            at_limit,
+        })
+    }
+
+    /// Ticks a second.
+    pub const fn hz(self) -> u32 {
+        self.hz
+    }
+
+    /// After how many ticks without a request a client is idle.
+    pub const fn idle_age(self) -> u64 {
+        self.idle_age
+    }
+
+    /// After how many ticks without a request a client is erased.
+    pub const fn erase_age(self) -> u64 {
+        self.erase_age
+    }
+
+    /// What a pull does at the limit.
+    pub const fn at_limit(self) -> AtLimit {
+        self.at_limit
+    }
+
+    /// The greatest rate at most this one that divides hz: for a limit. `None` for a rate of 0.
+    pub fn rate_at_most(self, rate: u32) -> Option<u32> {
+        rate_at_most(self.hz, rate)
+    }
+
+    /// The least rate at least this one that divides hz: for a reservation. `None` for a rate of 0
+    /// or past hz.
+    pub fn rate_at_least(self, rate: u32) -> Option<u32> {
+        rate_at_least(self.hz, rate)
+    }
+}

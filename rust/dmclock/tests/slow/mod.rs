@@ -1,0 +1,406 @@
+//! A dmClock queue as slow and as plain as can be: the rules, over a list of requests and a list of
+//! clients. The tests run it beside the library.
+
+use dmclock::{
+    AddError, AtLimit, Cleaned, ClientId, ClientInfo, Moment, PhaseType, PullError, Pulled,
+    QueueConfig, RegisterError, RemoveError, ReqParams, TagKind, Token, UpdateError,
+};
+use std::cmp::Ordering;
+
+fn gcd(a: i128, b: i128) -> i128 {
+    if b == 0 {
+        a
+    } else {
+        gcd(b, a % b)
+    }
+}
+
+/// A fraction in lowest terms, its denominator above 0.
+#[derive(Clone, Copy, Debug, PartialEq, Eq)]
+pub struct Fraction {
+    pub numer: i128,
+    pub denom: i128,
+}
+
+impl Fraction {
+    /// The fraction, where it is a value of the tags.
+    fn new(kind: TagKind, numer: i128, denom: i128) -> Option<Fraction> {
+        let by = gcd(numer.abs(), denom);
+        let (numer, denom) = (numer / by, denom / by);
+        let greatest_denom = match kind {
+            TagKind::Tick => 1,
+            TagKind::Ratio => 1 << 32,
+        };
+        let is_value = numer.abs() <= 1 << 90 && denom <= greatest_denom;
+        is_value.then_some(Fraction { numer, denom })
+    }
+
+    fn whole(number: u64) -> Fraction {
+        Fraction {
+            numer: number.into(),
+            denom: 1,
+        }
+    }
+
+    fn plus(self, kind: TagKind, other: Fraction) -> Option<Fraction> {
+        let numer = self.numer * other.denom + other.numer * self.denom;
+        Fraction::new(kind, numer, self.denom * other.denom)
+    }
+
+    fn minus(self, kind: TagKind, other: Fraction) -> Option<Fraction> {
+        let other = Fraction {
+            numer: -other.numer,
+            denom: other.denom,
+        };
+        self.plus(kind, other)
+    }
+
+    fn times(self, kind: TagKind, count: u32) -> Option<Fraction> {
+        Fraction::new(kind, self.numer * i128::from(count), self.denom)
+    }
+
+    /// The least whole number that is not below, and not below 0.
+    fn ceil(self) -> u128 {
+        let ceil = -(-self.numer).div_euclid(self.denom);
+        u128::try_from(ceil).unwrap_or(0)
+    }
+}
+
+impl Ord for Fraction {
+    fn cmp(&self, other: &Fraction) -> Ordering {
+        (self.numer * other.denom).cmp(&(other.numer * self.denom))
+    }
+}
+
+impl PartialOrd for Fraction {
+    fn partial_cmp(&self, other: &Fraction) -> Option<Ordering> {
+        Some(self.cmp(other))
+    }
+}
+
+/// The tags of a request, or the previous tags of a client, where `r` is always there.
+#[derive(Clone, Copy, Debug, PartialEq, Eq)]
+pub struct SlowTags {
+    pub r: Option<Fraction>,
+    pub l: Fraction,
+    pub p: Fraction,
+}
+
+#[derive(Clone)]
+struct Request {
+    client: ClientId,
+    token: Token,
+    tags: SlowTags,
+}
+
+#[derive(Clone)]
+struct Client {
+    id: ClientId,
+    info: ClientInfo,
+    previous: SlowTags,
+    idle: bool,
+    last_arrival: u64,
+}
+
+/// The queue.
+pub struct Slow {
+    kind: TagKind,
+    config: QueueConfig,
+    requests: Vec<Request>,
+    clients: Vec<Client>,
+    last: u64,
+}
+
+/// Which rate has no spacing.
+enum Inexact {
+    Reservation,
+    Weight,
+    Limit,
+}
+
+impl Slow {
+    pub fn new(kind: TagKind, config: QueueConfig) -> Slow {
+        Slow {
+            kind,
+            config,
+            requests: Vec::new(),
+            clients: Vec::new(),
+            last: 0,
+        }
+    }
+
+    pub fn client_count(&self) -> u32 {
+        self.clients.len() as u32
+    }
+
+    pub fn request_count(&self) -> u32 {
+        self.requests.len() as u32
+    }
+
+    fn effective(&self, at: Moment) -> u64 {
+        at.ticks().max(self.last)
+    }
+
+    fn place(&self, id: ClientId) -> Option<usize> {
+        self.clients.iter().position(|client| client.id == id)
+    }
+
+    fn has_queued(&self, id: ClientId) -> bool {
+        self.requests.iter().any(|request| request.client == id)
+    }
+
+    fn spacing(&self, rate: u32) -> Option<Fraction> {
+        Fraction::new(self.kind, self.config.hz().into(), rate.into())
+    }
+
+    fn check_rates(&self, info: ClientInfo) -> Result<(), Inexact> {
+        let has_spacing = |rate: Option<u32>| rate.is_none_or(|rate| self.spacing(rate).is_some());
+        if !has_spacing(info.reservation()) {
+            return Err(Inexact::Reservation);
+        }
+        if !has_spacing(Some(info.weight())) {
+            return Err(Inexact::Weight);
+        }
+        if !has_spacing(info.limit()) {
+            return Err(Inexact::Limit);
+        }
+        Ok(())
+    }
+
+    pub fn register(
+        &mut self,
+        id: ClientId,
+        info: ClientInfo,
+        at: Moment,
+    ) -> Result<(), RegisterError> {
+        let t = self.effective(at);
+        if self.place(id).is_some() {
+            return Err(RegisterError::Known);
+        }
+        self.check_rates(info).map_err(|field| match field {
+            Inexact::Reservation => RegisterError::InexactReservation,
+            Inexact::Weight => RegisterError::InexactWeight,
+            Inexact::Limit => RegisterError::InexactLimit,
+        })?;
+        if self.clients.len() >= 65_536 {
+            return Err(RegisterError::Clients);
+        }
+        let zero = Fraction::whole(0);
+        let previous = SlowTags {
+            r: Some(zero),
+            l: zero,
+            p: zero,
+        };
+        self.clients.push(Client {
+            id,
+            info,
+            previous,
+            idle: true,
+            last_arrival: t,
+        });
+        self.last = t;
+        Ok(())
+    }
+
+    pub fn update_info(
+        &mut self,
+        id: ClientId,
+        info: ClientInfo,
+        at: Moment,
+    ) -> Result<(), UpdateError> {
+        let t = self.effective(at);
+        let place = self.place(id).ok_or(UpdateError::Unknown)?;
+        self.check_rates(info).map_err(|field| match field {
+            Inexact::Reservation => UpdateError::InexactReservation,
+            Inexact::Weight => UpdateError::InexactWeight,
+            Inexact::Limit => UpdateError::InexactLimit,
+        })?;
+        let had = self.clients[place].info.reservation().is_some();
+        if had != info.reservation().is_some() && self.has_queued(id) {
+            return Err(UpdateError::Busy);
+        }
+        self.clients[place].info = info;
+        self.last = t;
+        Ok(())
+    }
+
+    /// The queue with all that is not idle shifted, so that the least share begins at `t`.
+    fn adjusted(&self, place: usize, t: u64) -> Option<(Vec<Request>, Vec<Client>)> {
+        let (mut requests, mut clients) = (self.requests.clone(), self.clients.clone());
+        if !self.clients[place].idle {
+            return Some((requests, clients));
+        }
+        let Some(least) = self.requests.iter().map(|request| request.tags.p).min() else {
+            return Some((requests, clients));
+        };
+        let amount = least.minus(self.kind, Fraction::whole(t))?;
+        for request in &mut requests {
+            let owner = self.place(request.client).unwrap();
+            if !self.clients[owner].idle {
+                request.tags.p = request.tags.p.minus(self.kind, amount)?;
+            }
+        }
+        for client in clients.iter_mut().filter(|client| !client.idle) {
+            client.previous.p = client.previous.p.minus(self.kind, amount)?;
+        }
+        Some((requests, clients))
+    }
+
+    /// A tag: max(previous + count * spacing, t).
+    fn next(&self, previous: Fraction, count: u32, rate: Option<u32>, t: u64) -> Option<Fraction> {
+        let step = match rate {
+            Some(rate) => self.spacing(rate)?.times(self.kind, count)?,
+            None => Fraction::whole(0),
+        };
+        Some(previous.plus(self.kind, step)?.max(Fraction::whole(t)))
+    }
+
+    pub fn add_request(
+        &mut self,
+        id: ClientId,
+        token: Token,
+        params: ReqParams,
+        at: Moment,
+    ) -> Result<SlowTags, AddError> {
+        let t = self.effective(at);
+        let place = self.place(id).ok_or(AddError::Unknown)?;
+        if self.requests.len() >= 1 << 20 {
+            return Err(AddError::QueueFull);
+        }
+        let (mut requests, mut clients) = self.adjusted(place, t).ok_or(AddError::Range)?;
+        let Client { info, previous, .. } = clients[place].clone();
+        let r = match info.reservation() {
+            Some(rate) => Some(
+                self.next(previous.r.unwrap(), params.rho(), Some(rate), t)
+                    .ok_or(AddError::Range)?,
+            ),
+            None => None,
+        };
+        let l = self.next(previous.l, params.delta(), info.limit(), t);
+        let p = self.next(previous.p, params.delta(), Some(info.weight()), t);
+        let tags = SlowTags {
+            r,
+            l: l.ok_or(AddError::Range)?,
+            p: p.ok_or(AddError::Range)?,
+        };
+        let client = &mut clients[place];
+        client.previous = SlowTags {
+            r: tags.r.or(previous.r),
+            ..tags
+        };
+        client.idle = false;
+        client.last_arrival = t;
+        requests.push(Request {
+            client: id,
+            token,
+            tags,
+        });
+        (self.requests, self.clients, self.last) = (requests, clients, t);
+        Ok(tags)
+    }
+
+    /// The place of the best request by a tag, among those that pass a test: the least tag, then
+    /// the least client, then the first to arrive.
+    fn best(
+        &self,
+        tag: impl Fn(&SlowTags) -> Option<Fraction>,
+        test: impl Fn(&SlowTags) -> bool,
+    ) -> Option<usize> {
+        let passing = self.requests.iter().enumerate();
+        passing
+            .filter(|(_, request)| test(&request.tags))
+            .filter_map(|(place, request)| Some((tag(&request.tags)?, request.client, place)))
+            .min()
+            .map(|(_, _, place)| place)
+    }
+
+    /// Grants by weight: one spacing goes off the client's reservation tags.
+    fn grant_by_weight(&mut self, place: usize, beyond: bool, t: u64) -> Result<Pulled, PullError> {
+        let (mut requests, mut clients) = (self.requests.clone(), self.clients.clone());
+        let granted = requests.remove(place);
+        let owner = self.place(granted.client).unwrap();
+        if let Some(rate) = clients[owner].info.reservation() {
+            let less = |tag: Fraction| {
+                let amount = self.spacing(rate)?;
+                tag.minus(self.kind, amount)
+            };
+            for request in requests.iter_mut().filter(|r| r.client == granted.client) {
+                if let Some(tag) = request.tags.r {
+                    request.tags.r = Some(less(tag).ok_or(PullError::Range)?);
+                }
+            }
+            let previous = clients[owner].previous.r.unwrap();
+            clients[owner].previous.r = Some(less(previous).ok_or(PullError::Range)?);
+        }
+        (self.requests, self.clients, self.last) = (requests, clients, t);
+        Ok(Pulled::Returning {
+            client: granted.client,
+            token: granted.token,
+            phase: PhaseType::Priority,
+            beyond,
+        })
+    }
+
+    pub fn pull_request(&mut self, at: Moment) -> Result<Pulled, PullError> {
+        let t = self.effective(at);
+        let now = Fraction::whole(t);
+        if let Some(place) = self.best(|tags| tags.r, |tags| tags.r.is_some_and(|r| r <= now)) {
+            let granted = self.requests.remove(place);
+            self.last = t;
+            return Ok(Pulled::Returning {
+                client: granted.client,
+                token: granted.token,
+                phase: PhaseType::Reservation,
+                beyond: false,
+            });
+        }
+        if let Some(place) = self.best(|tags| Some(tags.p), |tags| tags.l <= now) {
+            return self.grant_by_weight(place, false, t);
+        }
+        match (
+            self.best(|tags| Some(tags.p), |_| true),
+            self.config.at_limit(),
+        ) {
+            (Some(place), AtLimit::Allow) => self.grant_by_weight(place, true, t),
+            (Some(_), AtLimit::Wait) => {
+                self.last = t;
+                let tags = self.requests.iter().map(|request| request.tags);
+                let due = tags.flat_map(|tags| tags.r.into_iter().chain([tags.l]));
+                Ok(Pulled::Future(due.map(Fraction::ceil).min().unwrap()))
+            }
+            (None, _) => {
+                self.last = t;
+                Ok(Pulled::Nothing)
+            }
+        }
+    }
+
+    pub fn remove_by_client(&mut self, id: ClientId) -> Result<u32, RemoveError> {
+        self.place(id).ok_or(RemoveError::Unknown)?;
+        let before = self.requests.len();
+        self.requests.retain(|request| request.client != id);
+        Ok((before - self.requests.len()) as u32)
+    }
+
+    pub fn clean(&mut self, at: Moment) -> Cleaned {
+        let t = self.effective(at);
+        let (mut idled, mut erased) = (0, 0);
+        let mut kept = Vec::new();
+        for mut client in self.clients.clone() {
+            let age = t - client.last_arrival;
+            if !self.has_queued(client.id) {
+                if age >= self.config.erase_age() {
+                    erased += 1;
+                    continue;
+                }
+                if age >= self.config.idle_age() && !client.idle {
+                    client.idle = true;
+                    idled += 1;
+                }
+            }
+            kept.push(client);
+        }
+        (self.clients, self.last) = (kept, t);
+        Cleaned { idled, erased }
+    }
+}

@@ -1,0 +1,308 @@
+//! The worked examples, each under its name: the lines of a script, parted by `;`, and the replies.
+
+use dmclock::{
+    AddError, AtLimit, Cleaned, ClientId, ClientInfo, Counting, Moment, PhaseType, Pulled, Queue,
+    QueueConfig, RegisterError, ReqParams, ServerId, StampError, TagKind, Tags, Token, Tracker,
+    UpdateError,
+};
+use std::str::SplitWhitespace;
+
+/// The next word as a number.
+fn number(words: &mut SplitWhitespace<'_>) -> u64 {
+    words.next().unwrap().parse().unwrap()
+}
+
+fn small(words: &mut SplitWhitespace<'_>) -> u32 {
+    number(words).try_into().unwrap()
+}
+
+fn rate(words: &mut SplitWhitespace<'_>) -> Option<u32> {
+    let word = words.next().unwrap();
+    (word != "-").then(|| word.parse().unwrap())
+}
+
+fn refused(error: impl std::fmt::Debug) -> String {
+    format!("refused {error:?}")
+}
+
+fn tags_text(tags: Tags) -> String {
+    let r = tags.r.map_or("-".to_string(), |r| r.to_string());
+    format!("tags {r} {} {}", tags.l, tags.p)
+}
+
+fn pulled_text(pulled: Pulled) -> String {
+    let Pulled::Returning {
+        client,
+        token,
+        phase,
+        beyond,
+    } = pulled
+    else {
+        return match pulled {
+            Pulled::Future(due) => format!("future {due}"),
+            _ => "none".to_string(),
+        };
+    };
+    let phase = match phase {
+        PhaseType::Reservation => "reservation",
+        PhaseType::Priority => "priority",
+    };
+    let beyond = if beyond { " beyond" } else { "" };
+    format!("grant {} {} {phase}{beyond}", client.0, token.0)
+}
+
+/// The reply to a line. Values are checked in the order moment, params, rate.
+fn reply(queue: &mut Queue, line: &str) -> Result<String, String> {
+    let words = &mut line.split_whitespace();
+    let verb = words.next().unwrap();
+    if verb == "pull" || verb == "clean" {
+        let at = Moment::new(number(words)).map_err(refused)?;
+        if verb == "pull" {
+            return queue.pull_request(at).map(pulled_text).map_err(refused);
+        }
+        let Cleaned { idled, erased } = queue.clean(at);
+        return Ok(format!("cleaned {idled} {erased}"));
+    }
+    let client = ClientId(small(words));
+    if verb == "drop" {
+        let removed = queue.remove_by_client(client).map_err(refused)?;
+        return Ok(format!("dropped {removed}"));
+    }
+    if verb == "add" {
+        let (token, delta, rho) = (Token(small(words)), small(words), small(words));
+        let at = Moment::new(number(words)).map_err(refused)?;
+        let params = ReqParams::new(delta, rho).map_err(refused)?;
+        let added = queue.add_request(client, token, params, at);
+        return added.map(tags_text).map_err(refused);
+    }
+    let (reservation, weight, limit) = (rate(words), small(words), rate(words));
+    let at = Moment::new(number(words)).map_err(refused)?;
+    let info = ClientInfo::new(reservation, weight, limit).map_err(refused)?;
+    if verb == "client" {
+        queue.register(client, info, at).map_err(refused)?;
+        return Ok("ok".to_string());
+    }
+    queue.update_info(client, info, at).map_err(refused)?;
+    Ok("updated".to_string())
+}
+
+fn run(tags: TagKind, config: QueueConfig, script: &str) -> String {
+    let mut queue = Queue::new(tags, config).unwrap();
+    let lines = script.split(';').map(|line| reply(&mut queue, line));
+    let replies: Vec<_> = lines
+        .map(|reply| reply.unwrap_or_else(|refused| refused))
+        .collect();
+    replies.join("; ")
+}
+
+fn setting(hz: u64, at_limit: AtLimit) -> QueueConfig {
+    QueueConfig::new(hz, 600_000, 1_200_000, at_limit).unwrap()
+}
+
+fn ticks(script: &str) -> String {
+    run(TagKind::Tick, setting(1000, AtLimit::Wait), script)
+}
+
+fn ratios(hz: u64, script: &str) -> String {
+    run(TagKind::Ratio, setting(hz, AtLimit::Wait), script)
+}
+
+#[test]
+fn granted_by_reservation() {
+    let replies = ticks("client 1 10 1 - 0; add 1 9 0 0 0; pull 0");
+    assert_eq!(replies, "ok; tags 0 0 0; grant 1 9 reservation");
+}
+
+#[test]
+fn granted_at_limit() {
+    let replies = ticks("client 1 10 1 20 0; add 1 7 1 1 0; pull 0; pull 50; pull 50");
+    let wanted = "ok; tags 100 50 1000; future 50; grant 1 7 priority; none";
+    assert_eq!(replies, wanted);
+}
+
+#[test]
+fn allowed_beyond() {
+    let script = "client 1 10 1 20 0; add 1 1 1 1 0; add 1 2 1 1 0; pull 0; pull 100; pull 100";
+    let replies = run(TagKind::Tick, setting(1000, AtLimit::Allow), script);
+    let wanted = "ok; tags 100 50 1000; tags 200 100 2000; grant 1 1 priority beyond; \
+                  grant 1 2 reservation; none";
+    assert_eq!(replies, wanted);
+}
+
+#[test]
+fn updates() {
+    let replies = ticks(
+        "client 1 - 1 - 0; add 1 1 1 0 0; update 1 - 2 - 0; add 1 2 1 0 0; update 1 10 2 - 0; \
+         drop 1; update 1 10 2 - 0; add 1 3 1 1 0; update 1 - 3 - 0; update 2 - 1 - 0",
+    );
+    let wanted = "ok; tags - 0 1000; updated; tags - 0 1500; refused Busy; dropped 2; updated; \
+                  tags 100 0 2000; refused InexactWeight; refused Unknown";
+    assert_eq!(replies, wanted);
+}
+
+#[test]
+fn exact_thirds() {
+    let replies = ratios(
+        1000,
+        "client 1 - 3 - 0; add 1 1 1 0 0; add 1 2 1 0 0; add 1 3 1 0 0",
+    );
+    let wanted = "ok; tags - 0 1000/3; tags - 0 2000/3; tags - 0 1000";
+    assert_eq!(replies, wanted);
+}
+
+#[test]
+fn idle_then_erased() {
+    let config = QueueConfig::new(1000, 100, 1000, AtLimit::Wait).unwrap();
+    let script = "client 1 - 1 - 0; clean 100; add 1 1 0 0 100; pull 100; clean 199; clean 200; \
+                  clean 1099; clean 1100; add 1 2 0 0 1100";
+    let replies = run(TagKind::Tick, config, script);
+    let wanted = "ok; cleaned 0 0; tags - 100 100; grant 1 1 priority; cleaned 0 0; cleaned 1 0; \
+                  cleaned 0 0; cleaned 0 1; refused Unknown";
+    assert_eq!(replies, wanted);
+}
+
+#[test]
+fn reduction_out_of_range() {
+    let replies = ratios(
+        1,
+        "client 1 65537 1 - 0; add 1 1 1 1 0; add 1 2 1 1 0; update 1 65539 1 - 0; pull 0; \
+         pull 1; pull 1",
+    );
+    let wanted = "ok; tags 1/65537 0 1; tags 2/65537 0 2; updated; refused Range; \
+                  grant 1 1 reservation; grant 1 2 reservation";
+    assert_eq!(replies, wanted);
+}
+
+#[test]
+fn refused_values() {
+    let replies = ticks(
+        "client 1 - 1 - 0; client 1 - 0 - 18446744073709551615; client 1 - 0 - 0; \
+         client 1 3 3 3 0; client 2 3 3 3 0; client 2 10 3 3 0; client 2 10 1 3 0; \
+         add 2 1 0 1 18446744073709551615; add 2 1 0 1 0; add 2 1 0 0 0; \
+         pull 18446744073709551615; clean 18446744073709551615; drop 2",
+    );
+    let wanted = "ok; refused Past; refused Zero; refused Known; refused InexactReservation; \
+                  refused InexactWeight; refused InexactLimit; refused Past; refused Rho; \
+                  refused Unknown; refused Past; refused Past; refused Unknown";
+    assert_eq!(replies, wanted);
+}
+
+/// A stamp to server 0, a response, a stamp to server 1, a response, a stamp to server 0; and what
+/// the tracker then knows of both.
+fn three_stamps(counting: Counting) -> (Vec<(u32, u32)>, [[u64; 6]; 2]) {
+    let mut tracker = Tracker::new(2, 10, counting).unwrap();
+    let mut stamps = Vec::new();
+    let responses = [
+        Some(PhaseType::Reservation),
+        Some(PhaseType::Priority),
+        None,
+    ];
+    for (server, response) in [0, 1, 0].map(ServerId).into_iter().zip(responses) {
+        let params = tracker.get_req_params(server).unwrap();
+        stamps.push((params.delta(), params.rho()));
+        if let Some(phase) = response {
+            tracker.track_resp(server, phase).unwrap();
+        }
+    }
+    let known = [0, 1].map(|server| {
+        let status = tracker.status(ServerId(server)).unwrap();
+        [
+            status.sent_delta,
+            status.sent_rho,
+            status.pending_delta,
+            status.pending_rho,
+            status.completions,
+            status.reservation,
+        ]
+    });
+    (stamps, known)
+}
+
+#[test]
+fn two_server_tracker() {
+    let known = [[2, 1, 0, 0, 2, 1], [1, 1, 1, 0, 2, 1]];
+    let wanted = (vec![(0, 0), (1, 1), (2, 1)], known);
+    assert_eq!(three_stamps(Counting::All), wanted);
+}
+
+#[test]
+fn others_tracker() {
+    let known = [[3, 2, 0, 0, 2, 1], [2, 2, 0, 0, 2, 1]];
+    let wanted = (vec![(1, 1), (2, 2), (2, 1)], known);
+    assert_eq!(three_stamps(Counting::Others), wanted);
+    let mut tracker = Tracker::new(2, 1, Counting::Others).unwrap();
+    let params = tracker.get_req_params(ServerId(0)).unwrap();
+    assert_eq!((params.delta(), params.rho()), (1, 1));
+    let again = tracker.get_req_params(ServerId(0));
+    assert_eq!(again, Err(StampError::TrackFull));
+}
+
+#[test]
+fn queue_limits() {
+    let config = QueueConfig::new(1000, 1, 1, AtLimit::Wait).unwrap();
+    let mut queue = Queue::new(TagKind::Tick, config).unwrap();
+    let info = ClientInfo::new(None, 1, None).unwrap();
+    let (zero, params) = (Moment::zero(), ReqParams::new(1, 0).unwrap());
+    for client in 0..65_536 {
+        queue.register(ClientId(client), info, zero).unwrap();
+    }
+    let one_more = queue.register(ClientId(65_536), info, zero);
+    assert_eq!(one_more, Err(RegisterError::Clients));
+    for token in 0..1_048_576 {
+        queue
+            .add_request(ClientId(1), Token(token), params, zero)
+            .unwrap();
+    }
+    let one_more = queue.add_request(ClientId(1), Token(0), params, zero);
+    assert_eq!(one_more, Err(AddError::QueueFull));
+    assert_eq!(
+        (queue.client_count(), queue.request_count()),
+        (65_536, 1_048_576)
+    );
+    queue.pull_request(zero).unwrap();
+    queue
+        .add_request(ClientId(1), Token(0), params, zero)
+        .unwrap();
+    assert_eq!(
+        queue.update_info(ClientId(65_536), info, zero),
+        Err(UpdateError::Unknown)
+    );
+}
+
+/// Five requests of the greatest delta take the limit tag past 2^64 ticks.
+#[test]
+fn due_past_all_words() {
+    let config = setting(1_000_000_000, AtLimit::Wait);
+    let mut queue = Queue::new(TagKind::Tick, config).unwrap();
+    let (client, zero) = (ClientId(1), Moment::zero());
+    queue
+        .register(client, ClientInfo::new(None, 1, Some(1)).unwrap(), zero)
+        .unwrap();
+    let params = ReqParams::new(u32::MAX, 0).unwrap();
+    for token in 0..4 {
+        queue
+            .add_request(client, Token(token), params, zero)
+            .unwrap();
+    }
+    assert_eq!(queue.remove_by_client(client), Ok(4));
+    let tags = queue.add_request(client, Token(4), params, zero).unwrap();
+    let due = 5 * u128::from(u32::MAX) * 1_000_000_000;
+    assert!(due > 1 << 64);
+    assert_eq!(tags.l.numer(), i128::try_from(due).unwrap());
+    assert_eq!(queue.pull_request(zero), Ok(Pulled::Future(due)));
+}
+
+#[test]
+fn tags_in_order() {
+    let config = setting(1000, AtLimit::Wait);
+    let mut queue = Queue::new(TagKind::Ratio, config).unwrap();
+    let info = ClientInfo::new(Some(7), 3, None).unwrap();
+    let (client, zero) = (ClientId(1), Moment::zero());
+    queue.register(client, info, zero).unwrap();
+    let params = ReqParams::new(1, 1).unwrap();
+    let one = queue.add_request(client, Token(1), params, zero).unwrap();
+    let two = queue.add_request(client, Token(2), params, zero).unwrap();
+    assert!(one.r.unwrap() < one.p && one.p < two.p && one.l == two.l);
+    assert_eq!((one.p.numer(), one.p.denom()), (1000, 3));
+    assert!((one.p.to_f64() - 333.333).abs() < 0.001);
+}

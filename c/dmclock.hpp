@@ -18,6 +18,7 @@
 
 #include <cstddef>
 #include <cstdint>
+#include <cstdlib>
 #include <functional>
 #include <limits>
 #include <optional>
@@ -104,20 +105,28 @@ class [[nodiscard]] Result {
   /// A member of the value, where ok() is true.
   T *operator->() noexcept { return &value_; }
 
-  /// The value; throws Error where there is none.
+  /// The value; throws Error where there is none (and aborts where exceptions are switched off).
   const T &value() const & {
-    if (!ok()) throw Error(code_);
+    check();
     return value_;
   }
-  /// The value; throws Error where there is none.
+  /// The value; throws Error where there is none (and aborts where exceptions are switched off).
   T value() && {
-    if (!ok()) throw Error(code_);
+    check();
     return std::move(value_);
   }
 
  private:
   friend struct Calls;
   Result() noexcept = default;
+  void check() const {
+    if (ok()) return;
+#ifdef __cpp_exceptions
+    throw Error(code_);
+#else
+    std::abort();
+#endif
+  }
 
   Code code_ = Code::Ok;
   T value_{};  // where the call is refused, it was not written

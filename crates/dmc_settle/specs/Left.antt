@@ -1,20 +1,31 @@
--- What a cluster's threads leave, and when these are the parts of one cluster.
-use Rattle.std.specs.Prelude.{◌≡◌, ℕ, List, Some, length, map, slice_get}
+-- What a cluster's threads left, and when its parts are those of one cluster.
+use Rattle.std.specs.Prelude.{◌≡◌, ℕ, List, Option, Some, length, map, slice_get}
 use Rattle.dmc_ledger.specs.Accounts.{Account, Holding}
 use Rattle.dmc_ledger.specs.Bundles.{ClientSide, ServerSide, StampHoldings}
 use Rattle.dmc_tlock.specs.BookState as tracker_book
 use Rattle.dmc_tlock.specs.Settling as tracker_settling
 use Rattle.dmc_book.specs.BookState.{BookState, PassState, pass_state}
-use Rattle.dmc_book.specs.declared.pass.WorkerPass.{WorkerPass}
 use Rattle.dmc_book.specs.Settling as book_settling
 use Rattle.dmc_scene.specs.SceneValue.{SceneValue, ClientValue}
+use Rattle.dmc_settle.specs.declared.report.StopCause.{StopCause}
+use Rattle.dmc_settle.specs.declared.report.ClusterReport.{ClusterReport}
+use Rattle.dmc_settle.specs.declared.settle.Passes.{Passes}
 
--- the book of each server and the passes of its workers, and the tracker book of each client with the client's pass
-pub record Remains (T : Type 0) : Type 0 where
+-- why the worker of each client stopped, if it did; how many services failed for each client; and why the workers of each
+-- server stopped, those that did
+pub record Stops : Type 0 where
+  pub clients : List (Option StopCause)
+  pub failed : List ℕ
+  pub servers : List (List StopCause)
+
+-- What a cluster's threads left: the book of each server and the passes of the workers there, the tracker book of each client
+-- with the client's pass, and the stops.
+pub record Left (T : Type 0) : Type 0 where
   pub books : List (BookState T)
   pub worker_passes : List (List PassState)
   pub trackers : List tracker_book.BookState
   pub client_passes : List (List StampHoldings)
+  pub stops : Stops
 
 -- the till is of the book
 abbrev pub IsTillOf : Holding → Account → Type 0
@@ -43,7 +54,7 @@ pub record IsClientPart (scene : SceneValue) (client : ClientValue) (book : trac
   pub own : tracker_settling.IsOwn pass book.desks
 
 -- The parts are those of one cluster, set up as the scene says: configurations, ids and the numbers of books agree.
-pub record AreTogether {T : Type 0} (scene : SceneValue) (r : Remains T) : Type 0 where
+pub record AreTogether {T : Type 0} (scene : SceneValue) (r : Left T) : Type 0 where
   pub books : length r.books ≡ scene.servers
   pub worker_passes : length r.worker_passes ≡ scene.servers
   pub trackers : length r.trackers ≡ length scene.clients
@@ -59,11 +70,22 @@ pub record AreTogether {T : Type 0} (scene : SceneValue) (r : Remains T) : Type 
       → slice_get r.trackers c ≡ Some book → slice_get book.desks s ≡ Some t
       → ArePaired d t
 
--- the parts, as plain data
-abbrev pub remains : {T S : Type 0} → List (BookState T) → List (List (WorkerPass S)) → List tracker_book.BookState → List (List StampHoldings) → Remains T
-remains books worker_passes trackers client_passes = record {
+-- ---- as plain data
+
+-- the stops that a report names
+abbrev pub stops_of : {T : Type 0} → ClusterReport T → Stops
+stops_of r = record {
+  clients = map (λ c. c.stop) r.clients.items;
+  failed = map (λ c. c.failed) r.clients.items;
+  servers = map (λ s. s.stops.items) r.servers.items;
+}
+
+-- these books, trackers, passes and stops
+abbrev pub left_of : {T S : Type 0} → List (BookState T) → List tracker_book.BookState → Passes S → Stops → Left T
+left_of books trackers passes stops = record {
   books = books;
-  worker_passes = map (map pass_state) worker_passes;
+  worker_passes = map (map pass_state) (map (λ v. v.items) passes.workers.items);
   trackers = trackers;
-  client_passes = client_passes;
+  client_passes = passes.clients.items;
+  stops = stops;
 }

@@ -25,22 +25,20 @@ impl<S: Setup> Lasting for TrackerBook<S> {
 
 /// A book with its witness.
 #[derive(Drop)]
-struct Guarded<S: Setup, W: Witness<TrackerBook<S>>> {
-    book: TrackerBook<S>,
+struct Guarded<B: Lasting, W: Witness<B>> {
+    book: B,
     witness: W,
 }
 
-impl<S: Setup, W: Witness<TrackerBook<S>>> Model for Guarded<S, W> {
-    ghost use Rattle.dmc_tlock.specs.BookState.{BookState};
-
-    ghost Value = { BookState };
+impl<B: Lasting, W: Witness<B>> Model for Guarded<B, W> {
+    ghost Value = { B };
 
     ghost view = { λ g. g.book };
 
     ghost invariant = { λ g. W.holds g.witness g.book };
 }
 
-impl<S: Setup, W: Witness<TrackerBook<S>>> Guarded<S, W> {
+impl<S: Setup, W: Witness<TrackerBook<S>>> Guarded<TrackerBook<S>, W> {
     /// Stamps a request to a server, as the book does, and answers what the stamp carries.
     fn stamp_params(
         &mut self,
@@ -69,17 +67,17 @@ impl<S: Setup, W: Witness<TrackerBook<S>>> Guarded<S, W> {
 }
 
 /// A tracker book that threads share, and a witness of what it was. Contracts see whose book it is. A caller's own tills step
-/// with each call; each call is one of the book's, and refuses as that does.
+/// with each call; each call is one of the book's, and refuses as that does. It is generic in the book, as a queue's lock is.
 #[derive(Drop)]
-pub struct LockedTracker<S: Setup, W: Witness<TrackerBook<S>>> {
+pub struct LockedTracker<B: Lasting, W: Witness<B>> {
     client: ClientId,
-    guarded: Mutex<Guarded<S, W>>,
+    guarded: Mutex<Guarded<B, W>>,
 }
 
 /// A tracker book that threads share, without a witness.
-pub type TrackerLock<S> = LockedTracker<S, NoWitness>;
+pub type TrackerLock<S> = LockedTracker<TrackerBook<S>, NoWitness>;
 
-impl<S: Setup, W: Witness<TrackerBook<S>>> Model for LockedTracker<S, W> {
+impl<B: Lasting, W: Witness<B>> Model for LockedTracker<B, W> {
     ghost use Rattle.dmc_tlock.specs.BookState.{LockValue};
 
     ghost Value = { LockValue };
@@ -87,9 +85,9 @@ impl<S: Setup, W: Witness<TrackerBook<S>>> Model for LockedTracker<S, W> {
     ghost view = { λ l. record { client = l.client.0 } };
 }
 
-impl<S: Setup> LockedTracker<S, NoWitness> {
+impl<S: Setup> LockedTracker<TrackerBook<S>, NoWitness> {
     /// The book behind a lock.
-    pub fn new(book: TrackerBook<S>) -> LockedTracker<S, NoWitness>
+    pub fn new(book: TrackerBook<S>) -> LockedTracker<TrackerBook<S>, NoWitness>
         ensures { result.client ≡ book.client }
     {
         LockedTracker::with_witness(book, NoWitness)
@@ -102,9 +100,9 @@ impl<S: Setup> LockedTracker<S, NoWitness> {
     }
 }
 
-impl<S: Setup, W: Witness<TrackerBook<S>>> LockedTracker<S, W> {
+impl<S: Setup, W: Witness<TrackerBook<S>>> LockedTracker<TrackerBook<S>, W> {
     /// The book behind a lock, with a witness of it.
-    pub fn with_witness(book: TrackerBook<S>, witness: W) -> LockedTracker<S, W>
+    pub fn with_witness(book: TrackerBook<S>, witness: W) -> LockedTracker<TrackerBook<S>, W>
         requires { W.holds witness book }
         ensures { result.client ≡ book.client }
     {
@@ -157,9 +155,11 @@ impl<S: Setup, W: Witness<TrackerBook<S>>> LockedTracker<S, W> {
     {
         self.guarded.lock(rt).book.status(server, tills)
     }
+}
 
+impl<B: Lasting, W: Witness<B>> LockedTracker<B, W> {
     /// The book and its witness, once no thread shares the lock.
-    pub fn into_parts(self) -> (TrackerBook<S>, W)
+    pub fn into_parts(self) -> (B, W)
         ensures { W.holds result.1 result.0 }
     {
         let LockedTracker { client: _, guarded } = self;

@@ -1,6 +1,6 @@
 use Rattle.dmc_tlock.specs.Entries.{book_after_response}
 use Rattle.dmc_tlock.proofs.LaterLemmas.{later_by, later_response}
-use Rattle.dmc_tlock.proofs.lock.Guarded.respond.Goals as goal
+use Rattle.dmc_tlock.proofs.lock.Guarded+TrackerBook+S+W.respond.Goals as goal
 
 pub invariant_of-self : goal.invariant_of-self
 invariant_of-self g c =

@@ -2,6 +2,7 @@ pub mod BookState
 pub mod Calls
 pub mod Consistent
 pub mod Counts
+pub mod Later
 pub mod Lending
 pub mod Moves
 pub mod Opening

@@ -6,6 +6,7 @@ ghost use Rattle.dmc_ledger.specs.Bundles.{client_side};
 ghost use Rattle.dmc_tag.specs.Replay.{after, replays};
 ghost use Rattle.dmc_book.specs.BookState.{pass_state, worker_side};
 ghost use Rattle.dmc_book.specs.Calls.{Ran, Strays, is_add, lacks_desk, names_none, reply_to};
+ghost use Rattle.dmc_book.specs.Later.{IsLater};
 ghost use Rattle.dmc_book.specs.Moves.{IsEnrolled, takes};
 ghost use Rattle.dmc_book.specs.Opening.{AreBookLimits, AreNamedOnce, IsNewDesk, new_passes, new_state};
 ghost use Rattle.dmc_book.specs.Runs.{Runs};
@@ -29,6 +30,7 @@ use dmc_pull::queue::PullQueue;
 use dmc_tag::event::Event;
 use dmc_tag::reply::Reply;
 use dmc_tag::tag::Tag;
+use dmc_tlock::witness::Lasting;
 use dmc_types::command::Command;
 use dmc_types::config::QueueConfig;
 use dmc_types::ids::{ClientId, ServerId, WorkerId};
@@ -72,6 +74,10 @@ impl<T: Tag, I: Indexes<T>, S: Setup> Model for QueueBook<T, I, S> {
 
     ghost invariant = { λ b. IsConsistent T.ops (queue_specs.state_of b.queue.0) (state_of b.config b.server.0 b.history (map worker_side b.workers.items) (map client_side b.desks.items) b.closed)
         × (b.clients.keys ≡ map (λ d. d.client) b.desks.items) };
+}
+
+impl<T: Tag, I: Indexes<T>, S: Setup> Lasting for QueueBook<T, I, S> {
+    ghost later = { IsLater };
 }
 
 impl<T: Tag, I: Indexes<T>, S: Setup> QueueBook<T, I, S> {

@@ -1,8 +1,13 @@
 -- What is promised of a run, however it ends.
 use Rattle.std.specs.Prelude.{◌≡◌, ◌≤◌, ℕ, ⊤, Result, Ok, Err, List, Some, length, slice_get, All, Any}
+use Rattle.dmc_types.specs.Limits.{most_completions, most_events}
 use Rattle.dmc_tag.specs.Tag.{Tagging}
+use Rattle.dmc_tracker.specs.TrackerList.{completions}
 use Rattle.dmc_scene.specs.SceneValue.{SceneValue, ClientValue}
-use Rattle.dmc_settle.specs.Reports.{IsReport}
+use Rattle.dmc_work.specs.LimitsValue.{LimitsValue}
+use Rattle.dmc_settle.specs.Circle.{AreCircles}
+use Rattle.dmc_settle.specs.Left.{AreTogether, Left}
+use Rattle.dmc_settle.specs.Reports.{IsReport, IsReportOf}
 use Rattle.dmc_settle.specs.declared.report.StopCause.TheVariants.{Turns}
 use Rattle.dmc_settle.specs.declared.report.ClientReport.{ClientReport}
 use Rattle.dmc_settle.specs.declared.report.ServerReport.{ServerReport}
@@ -11,13 +16,40 @@ use Rattle.dmc_driver.specs.Done.{IsClientDone, IsDone, RanOut}
 use Rattle.dmc_driver.specs.declared.fault.DriveFault.{DriveFault}
 use Rattle.dmc_driver.specs.declared.fault.DriveFault.TheVariants.{Memory, Torn, TurnsOut, Stopped}
 
--- a report, if there is one, is the scene's
-abbrev pub Reports : {T : Type 0} → Tagging T → SceneValue → Result (ClusterReport T) (DriveFault T) → Type 0
-Reports ops scene (Ok r) = IsReport ops scene r
-Reports ops scene (Err Memory) = ⊤
-Reports ops scene (Err Torn) = ⊤
-Reports ops scene (Err (TurnsOut r)) = IsReport ops scene r
-Reports ops scene (Err (Stopped r)) = IsReport ops scene r
+-- the widest limits
+abbrev pub widest : LimitsValue
+widest = record { events = most_events; completions = most_completions }
+
+-- ---- what the threads left
+
+-- no history has more events than the limits allow, and no tracker more completions
+pub record AreWithin {T : Type 0} (limits : LimitsValue) (left : Left T) : Type 0 where
+  pub histories : All (λ book. length book.history ≤ limits.events) left.books
+  pub completions : All (λ book. (completions book.events).delta ≤ limits.completions) left.trackers
+
+-- The parts are those of one cluster, set up as the scene says, and their circles hold. They are within the limits.
+pub record IsRun {T : Type 0} (scene : SceneValue) (limits : LimitsValue) (left : Left T) : Type 0 where
+  pub together : AreTogether scene left
+  pub circles : AreCircles left
+  pub within : AreWithin limits left
+
+-- ---- the report
+
+-- The report is the one of what the threads left. So `held` is what was left in the passes, `completed` the tracker's completions,
+-- and each stop of a thread is in the report, and nothing else is.
+pub record IsRunReport {T : Type 0} (ops : Tagging T) (scene : SceneValue) (limits : LimitsValue) (r : ClusterReport T) : Type 0 where
+  pub left : Left T
+  pub run : IsRun scene limits left
+  pub its : IsReportOf left r
+  pub report : IsReport ops scene r
+
+-- a report, if there is one, is of this kind
+abbrev pub Reports : {T : Type 0} → Tagging T → SceneValue → LimitsValue → Result (ClusterReport T) (DriveFault T) → Type 0
+Reports ops scene limits (Ok r) = IsRunReport ops scene limits r
+Reports ops scene limits (Err Memory) = ⊤
+Reports ops scene limits (Err Torn) = ⊤
+Reports ops scene limits (Err (TurnsOut r)) = IsRunReport ops scene limits r
+Reports ops scene limits (Err (Stopped r)) = IsRunReport ops scene limits r
 
 -- Ok: all was done. TurnsOut: it was not, and some worker took its last turn. Stopped: it was not, and none did.
 abbrev pub EndsSo : {T : Type 0} → SceneValue → Result (ClusterReport T) (DriveFault T) → Type 0
@@ -27,17 +59,25 @@ EndsSo scene (Err Torn) = ⊤
 EndsSo scene (Err (TurnsOut r)) = (IsDone scene r → ⊥) × RanOut r
 EndsSo scene (Err (Stopped r)) = (IsDone scene r → ⊥) × (RanOut r → ⊥)
 
--- no history has more events than this
-abbrev pub AreWithin : {T : Type 0} → ℕ → List (ServerReport T) → Type 0
-AreWithin most rows = All (λ s. length s.history.events ≤ most) rows
+-- ---- on the way there
 
--- the same of a report, if there is one
-abbrev pub KeepsWithin : {T : Type 0} → ℕ → Result (ClusterReport T) (DriveFault T) → Type 0
-KeepsWithin most (Ok r) = AreWithin most r.servers.items
-KeepsWithin most (Err Memory) = ⊤
-KeepsWithin most (Err Torn) = ⊤
-KeepsWithin most (Err (TurnsOut r)) = AreWithin most r.servers.items
-KeepsWithin most (Err (Stopped r)) = AreWithin most r.servers.items
+-- the report is the one of what settling took, whatever the limits
+pub record IsSettledReport {T : Type 0} (ops : Tagging T) (scene : SceneValue) (r : ClusterReport T) : Type 0 where
+  pub left : Left T
+  pub together : AreTogether scene left
+  pub circles : AreCircles left
+  pub its : IsReportOf left r
+  pub report : IsReport ops scene r
+
+-- no history of these rows has more events than this, and no row more completions
+abbrev pub AreHistoriesWithin : {T : Type 0} → ℕ → List (ServerReport T) → Type 0
+AreHistoriesWithin most rows = All (λ s. length s.history.events ≤ most) rows
+
+abbrev pub AreCompletionsWithin : ℕ → List ClientReport → Type 0
+AreCompletionsWithin most rows = All (λ c. c.completed ≤ most) rows
+
+abbrev pub AreRowsWithin : {T : Type 0} → LimitsValue → ClusterReport T → Type 0
+AreRowsWithin limits r = AreHistoriesWithin limits.events r.servers.items × AreCompletionsWithin limits.completions r.clients.items
 
 -- each of the clients is done
 abbrev pub AreClientsDone : List ClientValue → List ClientReport → Type 0

@@ -1,8 +1,7 @@
 //! How a run ends, by its report.
 ghost use Rattle.std.specs.Prelude.{◌≡◌, ◌↔◌, All, IfOk, IsTrue, length};
-ghost use Rattle.dmc_settle.specs.Reports.{IsReport};
 ghost use Rattle.dmc_driver.specs.Done.{IsClientDone, IsDone, IsServerDone, RanOut};
-ghost use Rattle.dmc_driver.specs.Ending.{AreClientsDone, AreWithin, EndsSo, KeepsWithin, RanOutAt, Reports};
+ghost use Rattle.dmc_driver.specs.Ending.{AreClientsDone, AreCompletionsWithin, AreHistoriesWithin, AreRowsWithin, EndsSo, IsSettledReport, RanOutAt, Reports};
 
 use crate::fault::DriveFault;
 use dmc_scene::client::SceneClient;
@@ -82,26 +81,39 @@ fn ran_out<T: Tag>(report: &ClusterReport<T>) -> bool
     false
 }
 
-/// Whether no history has more events than the limits allow.
-fn are_within<T: Tag>(rows: &[ServerReport<T>], limits: Limits) -> bool
-    ensures { IsTrue result ↔ AreWithin limits.events rows.now }
+/// Whether no history has more events than this.
+fn are_histories_within<T: Tag>(rows: &[ServerReport<T>], most: u32) -> bool
+    ensures { IsTrue result ↔ AreHistoriesWithin most rows.now }
 {
-    let most = limits.events() as usize;
-    rows.iter().all(|row| row.history.len() <= most)
+    rows.iter().all(|row| row.history.len() <= most as usize)
 }
 
-/// The answer of a run with these limits, by its report.
+/// Whether no client has more completions than this.
+fn are_completions_within(rows: &[ClientReport], most: u32) -> bool
+    ensures { IsTrue result ↔ AreCompletionsWithin most rows.now }
+{
+    rows.iter().all(|row| row.completed <= u64::from(most))
+}
+
+/// Whether the report is within these limits.
+fn are_within<T: Tag>(report: &ClusterReport<T>, limits: Limits) -> bool
+    ensures { IsTrue result ↔ AreRowsWithin limits report.now }
+{
+    are_histories_within(&report.servers, limits.events())
+        && are_completions_within(&report.clients, limits.completions())
+}
+
+/// How a run with these limits ends, by its report.
 fn end<T: Tag>(
     scene: &Scene,
     limits: Limits,
     report: ClusterReport<T>,
 ) -> Result<ClusterReport<T>, DriveFault<T>>
-    requires { IsReport T.ops scene.now report }
-    ensures report { Reports T.ops scene.now result }
+    requires { IsSettledReport T.ops scene.now report }
+    ensures report { Reports T.ops scene.now limits result }
     ensures ending { EndsSo scene.now result }
-    ensures histories { KeepsWithin limits.events result }
 {
-    if !are_within(&report.servers, limits) {
+    if !are_within(&report, limits) {
         // The books were made with these limits.
         return Err(DriveFault::Torn);
     }
@@ -114,16 +126,15 @@ fn end<T: Tag>(
     }
 }
 
-/// The answer of a run with these limits, by its report or for want of one.
+/// How a run with these limits ends, by its report or for want of one.
 pub(crate) fn end_run<T: Tag>(
     scene: &Scene,
     limits: Limits,
     reported: Result<ClusterReport<T>, OpenFault>,
 ) -> Result<ClusterReport<T>, DriveFault<T>>
-    requires { IfOk reported (IsReport T.ops scene.now) }
-    ensures report { Reports T.ops scene.now result }
+    requires { IfOk reported (IsSettledReport T.ops scene.now) }
+    ensures report { Reports T.ops scene.now limits result }
     ensures ending { EndsSo scene.now result }
-    ensures histories { KeepsWithin limits.events result }
 {
     match reported {
         Ok(report) => end(scene, limits, report),

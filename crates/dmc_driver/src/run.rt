@@ -1,8 +1,7 @@
 //! A run of a scene's cluster.
 ghost use Rattle.std.specs.Prelude.{◌≡◌, ◌<◌, ◌≤◌, IfOk};
 ghost use Rattle.dmc_types.specs.Limits.{most_books};
-ghost use Rattle.dmc_settle.specs.Reports.{IsReport};
-ghost use Rattle.dmc_driver.specs.Ending.{EndsSo, KeepsWithin, Reports};
+ghost use Rattle.dmc_driver.specs.Ending.{EndsSo, IsSettledReport, Reports, widest};
 
 use crate::ending::end_run;
 use crate::fault::DriveFault;
@@ -44,7 +43,7 @@ where
     R: Threads + Wait + Sync,
     V: Service + Sync,
     M: Moments + Sync,
-    ensures report { Reports T.ops scene.now result }
+    ensures report { Reports T.ops scene.now widest result }
     ensures ending { EndsSo scene.now result }
 {
     run_limited(rt, alloc, scene, service, moments, Limits::widest())
@@ -64,9 +63,8 @@ where
     R: Threads + Wait + Sync,
     V: Service + Sync,
     M: Moments + Sync,
-    ensures report { Reports T.ops scene.now result }
+    ensures report { Reports T.ops scene.now limits result }
     ensures ending { EndsSo scene.now result }
-    ensures histories { KeepsWithin limits.events result }
 {
     let blank = Blank::new(books_of(scene));
     let reported = run_in::<T, Brand, R, V, M>(rt, alloc, blank, scene, service, moments, limits);
@@ -101,7 +99,7 @@ where
     V: Service + Sync,
     M: Moments + Sync,
     requires { blank.name ≡ S.name }
-    ensures { IfOk result (IsReport T.ops scene.now) }
+    ensures { IfOk result (IsSettledReport T.ops scene.now) }
 {
     let mut mint = blank.open::<S>();
     let room = SettleRoom::new(alloc, scene.servers())?;
@@ -117,7 +115,7 @@ fn settle_remains<T: Tag, I: Indexes<T>, S: Setup>(
     room: SettleRoom<S>,
 ) -> Result<ClusterReport<T>, OpenFault>
     requires { scene.now.servers ≤ room }
-    ensures { IfOk result (IsReport T.ops scene.now) }
+    ensures { IfOk result (IsSettledReport T.ops scene.now) }
 {
     let Remains {
         mut books,

@@ -2,5 +2,5 @@
 #![tactic(auto)]
 
 pub mod fault;
+mod guarded;
 pub mod lock;
-mod pulling;

@@ -9,7 +9,7 @@ ghost use Rattle.dmc_book.specs.Calls.{is_add};
 ghost use Rattle.dmc_qlock.specs.Calls.{Answered, IsStatusOf, PullAnswered, SubmitAnswered, registers};
 
 use crate::fault::RunOrRange;
-use crate::pulling;
+use crate::guarded::Guarded;
 use dmc_book::book::QueueBook;
 use dmc_book::fault::{RunFault, SubmitCause, SubmitFault};
 use dmc_book::pass::WorkerPass;
@@ -20,6 +20,7 @@ use dmc_ledger::setup::Setup;
 use dmc_tag::reply::{Pulled, Reply, Tags};
 use dmc_tag::tag::Tag;
 use dmc_tlock::stamp::Stamp;
+use dmc_tlock::witness::{Lasting, NoWitness, Witness};
 use dmc_types::command::Command;
 use dmc_types::ids::{ServerId, Token};
 use dmc_types::moment::Moment;
@@ -44,28 +45,24 @@ impl<T: Tag, I: Indexes<T>, S: Setup> OfServer for QueueBook<T, I, S> {
     }
 }
 
-/// What the lock guards: a book, and how many threads are in a pull that waits.
+/// A book that threads share, and a witness of what it was. Contracts see whose book it is. It is generic in the book, since
+/// generic code may not hand on by value what is generic in indexes, but for what stands behind a type parameter.
 #[derive(Drop)]
-struct Guarded<B> {
-    book: B,
-    waiting: u64,
-}
-
-/// A book that threads share. Contracts see whose it is. It is generic in the book, since generic code may not hand on by value
-/// what is generic in indexes, but for what stands behind a type parameter.
-#[derive(Drop)]
-pub struct Locked<B> {
+pub struct LockedQueue<B: Lasting, W: Witness<B>> {
     server: ServerId,
-    guarded: Mutex<Guarded<B>>,
+    guarded: Mutex<Guarded<B, W>>,
     // Notified where something is queued and a thread waits, and where the book is closed.
     changed: Condvar,
 }
 
-/// A queue's book that threads share. A worker's own pass steps with each call; each call is one of the book's, and refuses as
-/// that does.
-pub type QueueLock<T, I, S> = Locked<QueueBook<T, I, S>>;
+/// A queue's book that threads share, without a witness. A worker's own pass steps with each call; each call is one of the
+/// book's, and refuses as that does.
+pub type QueueLock<T, I, S> = LockedQueue<QueueBook<T, I, S>, NoWitness>;
 
-impl<B> Model for Locked<B> {
+/// The same, generic in the book.
+pub type Locked<B> = LockedQueue<B, NoWitness>;
+
+impl<B: Lasting, W: Witness<B>> Model for LockedQueue<B, W> {
     ghost use Rattle.dmc_qlock.specs.LockState.{LockState};
 
     ghost Value = { LockState };
@@ -73,20 +70,38 @@ impl<B> Model for Locked<B> {
     ghost view = { λ l. record { server = l.server.0 } };
 }
 
-impl<B: OfServer> Locked<B> {
+impl<B: OfServer + Lasting> LockedQueue<B, NoWitness> {
     /// The book behind a lock.
-    pub fn new(book: B) -> Locked<B>
+    pub fn new(book: B) -> LockedQueue<B, NoWitness>
         ensures { result.server ≡ B.server_of book }
     {
-        Locked {
+        LockedQueue::with_witness(book, NoWitness)
+    }
+}
+
+impl<B: Lasting> LockedQueue<B, NoWitness> {
+    /// The book, once no thread shares the lock. What it keeps the laws of dmc_book tell.
+    pub fn into_book(self) -> B {
+        let (book, _) = self.into_parts();
+        book
+    }
+}
+
+impl<B: OfServer + Lasting, W: Witness<B>> LockedQueue<B, W> {
+    /// The book behind a lock, with a witness of it.
+    pub fn with_witness(book: B, witness: W) -> LockedQueue<B, W>
+        requires { W.holds witness book }
+        ensures { result.server ≡ B.server_of book }
+    {
+        LockedQueue {
             server: book.its_server(),
-            guarded: Mutex::new(Guarded { book, waiting: 0 }),
+            guarded: Mutex::new(Guarded::new(book, witness)),
             changed: Condvar::new(),
         }
     }
 }
 
-impl<B> Locked<B> {
+impl<B: Lasting, W: Witness<B>> LockedQueue<B, W> {
     /// Whose book it is.
     pub fn server(&self) -> ServerId
         ensures { result.0 ≡ self.now.server }
@@ -94,22 +109,17 @@ impl<B> Locked<B> {
         self.server
     }
 
-    /// The book, once no thread shares the lock. What it keeps the laws of dmc_book tell.
-    pub fn into_book(self) -> B {
-        let Locked { guarded, .. } = self;
-        let Guarded { book, .. } = guarded.into_inner();
-        book
+    /// The book and its witness, once no thread shares the lock.
+    pub fn into_parts(self) -> (B, W)
+        ensures { W.holds result.1 result.0 }
+    {
+        let LockedQueue { guarded, .. } = self;
+        let Guarded { book, witness, .. } = guarded.into_inner();
+        (book, witness)
     }
 }
 
-impl<T: Tag, I: Indexes<T>, S: Setup> Guarded<QueueBook<T, I, S>> {
-    /// Whether a thread that waits can pull now.
-    fn must_wake(&self) -> bool {
-        self.waiting > 0 && !pulling::must_wait(&self.book)
-    }
-}
-
-impl<T: Tag, I: Indexes<T>, S: Setup> Locked<QueueBook<T, I, S>> {
+impl<T: Tag, I: Indexes<T>, S: Setup, W: Witness<QueueBook<T, I, S>>> LockedQueue<QueueBook<T, I, S>, W> {
     /// Hands a command that is not an Add to the queue, which answers and records it. The pass has one call more, one miss
     /// more where the reply is Later, Nothing or Refused, and of a grant one grant, its token, and one unit of its client and
     /// phase.
@@ -126,7 +136,7 @@ impl<T: Tag, I: Indexes<T>, S: Setup> Locked<QueueBook<T, I, S>> {
         ensures kept { OnErr result (pass_state pass.new ≡ pass_state pass.old) }
         ensures no_desk { IsErrOf result RunFault.NoDesk → registers command ≡ true }
     {
-        self.guarded.lock(rt).book.run(pass, command)
+        self.guarded.lock(rt).run(pass, command)
     }
 
     /// Queues a stamped request for its client, and answers its tags. The pass has one call and the token more, and the tills
@@ -160,7 +170,7 @@ impl<T: Tag, I: Indexes<T>, S: Setup> Locked<QueueBook<T, I, S>> {
             });
         }
         let mut guarded = self.guarded.lock(rt);
-        let answer = guarded.book.submit(pass, tills, stamp, token, at);
+        let answer = guarded.submit(pass, tills, stamp, token, at);
         let wakes = guarded.must_wake();
         drop(guarded);
         if wakes {
@@ -180,7 +190,7 @@ impl<T: Tag, I: Indexes<T>, S: Setup> Locked<QueueBook<T, I, S>> {
     ) -> Result<Pulled, RunOrRange>
         ensures { PullAnswered T.ops (pass_state pass.old) (pass_state pass.new) at result }
     {
-        self.guarded.lock(rt).book.pull(pass, at)
+        self.guarded.lock(rt).pull(pass, at)
     }
 
     /// Waits, recording nothing, while nothing is queued and the book isn't closed, and then pulls once. Where something is
@@ -194,12 +204,12 @@ impl<T: Tag, I: Indexes<T>, S: Setup> Locked<QueueBook<T, I, S>> {
         ensures { PullAnswered T.ops (pass_state pass.old) (pass_state pass.new) at result }
     {
         let mut free = self.guarded.lock(rt);
-        free.waiting = free.waiting.saturating_add(1);
+        free.begin_waiting();
         let mut guarded = self
             .changed
-            .wait_while(rt, free, |guarded| pulling::must_wait(&guarded.book));
-        guarded.waiting = guarded.waiting.saturating_sub(1);
-        let answer = pulling::pull_waited(&mut guarded.book, pass, at);
+            .wait_while(rt, free, |guarded| guarded.must_wait());
+        guarded.end_waiting();
+        let answer = guarded.pull_waited(pass, at);
         let wakes = guarded.must_wake();
         drop(guarded);
         if wakes {
@@ -218,7 +228,7 @@ impl<T: Tag, I: Indexes<T>, S: Setup> Locked<QueueBook<T, I, S>> {
 
     /// Takes no more requests from now on, and wakes who waits for one. What is queued is still granted.
     pub fn close<R: Wait>(&self, rt: &R) {
-        self.guarded.lock(rt).book.close();
+        self.guarded.lock(rt).close();
         self.changed.notify_all();
     }
 }

@@ -12,9 +12,9 @@ use Rattle.dmc_text.specs.Watching.{failed, IsCalm}
 use Rattle.dmc_text.specs.declared.watched.Watched.{Watched}
 use Rattle.dmc_check.specs.declared.check.Verdict.{Verdict}
 use Rattle.dmc_scene.specs.SceneValue.{SceneValue}
-use Rattle.dmc_settle.specs.Reports.{IsReport}
 use Rattle.dmc_settle.specs.declared.report.ClusterReport.{ClusterReport}
 use Rattle.dmc_driver.specs.Done.{IsDone, RanOut}
+use Rattle.dmc_driver.specs.Ending.{IsRunReport, widest}
 use Rattle.dmc_driver.specs.declared.fault.DriveFault.{DriveFault}
 use Rattle.dmc_driver.specs.declared.fault.DriveFault.TheVariants as drive
 use Rattle.dmc_run.specs.Texts.{report_text}
@@ -53,9 +53,9 @@ TellsFault ops config drive.Torn old new end = (end ≡ Err Torn) × Keeps old n
 TellsFault ops config (drive.TurnsOut r) old new end = TellsThen ops config r TurnsOut old new end
 TellsFault ops config (drive.Stopped r) old new end = TellsThen ops config r Stopped old new end
 
--- a report of the scene is written, and P holds of it
+-- the report of a run of the scene is written, and P holds of it
 abbrev pub Reported : {T : Type 0} → Tagging T → SceneValue → (old new : Option (List ℕ)) → (ClusterReport T → Type 0) → Type 0
-Reported {T} ops scene old new P = (r : ClusterReport T) × (text : List ℕ) × IsReport ops scene r × IsTextOf ops scene.config r text × Appends old new text × P r
+Reported {T} ops scene old new P = (r : ClusterReport T) × (text : List ℕ) × IsRunReport ops scene widest r × IsTextOf ops scene.config r text × Appends old new text × P r
 
 -- By how a run on such tags ends: the report is written, and all was done, or it was not and some worker took its last turn, or
 -- none did; or a first part of the report, where the writer fails; else nothing is written.
@@ -63,7 +63,7 @@ abbrev pub RunsOn : {T : Type 0} → Tagging T → SceneValue → (old new : Opt
 RunsOn ops scene old new (Ok x) = Reported ops scene old new (IsDone scene)
 RunsOn ops scene old new (Err TurnsOut) = Reported ops scene old new (λ r. (IsDone scene r → ⊥) × RanOut r)
 RunsOn ops scene old new (Err Stopped) = Reported ops scene old new (λ r. (IsDone scene r → ⊥) × (RanOut r → ⊥))
-RunsOn {T} ops scene old new (Err Write) = (r : ClusterReport T) × (text : List ℕ) × IsReport ops scene r × IsTextOf ops scene.config r text × AppendsSome old new text
+RunsOn {T} ops scene old new (Err Write) = (r : ClusterReport T) × (text : List ℕ) × IsRunReport ops scene widest r × IsTextOf ops scene.config r text × AppendsSome old new text
 RunsOn ops scene old new (Err Memory) = Keeps old new
 RunsOn ops scene old new (Err Torn) = Keeps old new
 

@@ -13,14 +13,14 @@ use Rattle.dmc_scene.specs.SceneValue.{SceneValue, ClientValue}
 use Rattle.dmc_settle.specs.Circle.{AreCircles, IsCircle}
 use Rattle.dmc_settle.specs.Filled.{AreBalanced, AreClientNumbers, AreServerNumbers, client_numbers, no_client_numbers, no_server_numbers, server_numbers}
 use Rattle.dmc_settle.specs.Places.{no_book, no_tracker}
-use Rattle.dmc_settle.specs.Remains.{AreTogether, Remains}
+use Rattle.dmc_settle.specs.Left.{AreTogether, Left}
 use Rattle.dmc_settle.specs.Reports.{AreRows}
 use Rattle.dmc_settle.specs.declared.report.ClusterReport.{ClusterReport}
 use Rattle.dmc_settle.proofs.Lists.{alike_at}
 use Rattle.dmc_settle.proofs.Ready.{client_at, desks_long, no_client, server_at}
 
 -- what the two walks leave: over the servers' books, and over the clients' tracker books
-pub record IsSettledCluster {T : Type 0} (ops : Tagging T) (scene : SceneValue) (r : Remains T) (desks : List (List ClientSide)) (old new : ClusterReport T) : Type 0 where
+pub record IsSettledCluster {T : Type 0} (ops : Tagging T) (scene : SceneValue) (r : Left T) (desks : List (List ClientSide)) (old new : ClusterReport T) : Type 0 where
   pub together : AreTogether scene r
   pub rows : AreRows scene old
   pub desks_each : length desks ≡ length r.books
@@ -35,7 +35,7 @@ pub record IsSettledCluster {T : Type 0} (ops : Tagging T) (scene : SceneValue) 
   pub same_servers : map (λ s. s.server) new.servers.items ≡ map (λ s. s.server) old.servers.items
   pub same_clients : map (λ c. c.client) new.clients.items ≡ map (λ c. c.client) old.clients.items
 
-module _ {T : Type 0} (ops : Tagging T) (scene : SceneValue) (r : Remains T) (desks : List (List ClientSide)) (old new : ClusterReport T)
+module _ {T : Type 0} (ops : Tagging T) (scene : SceneValue) (r : Left T) (desks : List (List ClientSide)) (old new : ClusterReport T)
     (h : IsSettledCluster ops scene r desks old new) where
   -- the desk is the client's
   pub its_desk : (c s : ℕ) (client : ClientValue) → s < scene.servers → slice_get scene.clients c ≡ Some client → (get_or (get_or r.books s no_book).desks c no_desk).client ≡ client.id.0

@@ -18,7 +18,7 @@ use Rattle.dmc_scene.specs.SceneValue.{SceneValue}
 use Rattle.dmc_settle.specs.Filled as filled
 use Rattle.dmc_settle.specs.Filled.{ClientNumbers, client_numbers, no_client_numbers, no_server_numbers, server_numbers}
 use Rattle.dmc_settle.specs.Places.{no_book, no_tracker}
-use Rattle.dmc_settle.specs.Remains.{Remains}
+use Rattle.dmc_settle.specs.Left.{Left}
 use Rattle.dmc_settle.specs.Reports.{IsReport, units_left}
 use Rattle.dmc_settle.specs.declared.report.ClientReport.{ClientReport}
 use Rattle.dmc_settle.specs.declared.report.ServerReport.{ServerReport}
@@ -30,7 +30,7 @@ use Rattle.dmc_settle.proofs.Ready.{client_at, desks_long, no_client, server_at}
 use Rattle.dmc_settle.proofs.Reported.{client_report, clients_long, server_report, servers_long}
 use Rattle.dmc_settle.proofs.Sums.{sum_to, sum_places, same_sum, sum_plus, sum_grid}
 
-module _ {T : Type 0} (ops : Tagging T) (scene : SceneValue) (r : Remains T) (desks : List (List ClientSide)) (old new : ClusterReport T)
+module _ {T : Type 0} (ops : Tagging T) (scene : SceneValue) (r : Left T) (desks : List (List ClientSide)) (old new : ClusterReport T)
     (h : IsSettledCluster ops scene r desks old new) where
   -- of a client and a server: the responses, the units that are left, and the grants, of both phases
   abbrev answered : ℕ → ℕ → ℕ

@@ -10,13 +10,13 @@ use Rattle.dmc_tag.specs.declared.event.Event.{Event}
 use Rattle.dmc_scene.specs.SceneValue.{SceneValue, ClientValue}
 use Rattle.dmc_settle.specs.Filled.{IsLastPair, IsReadyClient, IsReadyServer}
 use Rattle.dmc_settle.specs.Places.{desk_of, no_book, no_tracker}
-use Rattle.dmc_settle.specs.Remains.{AreTogether, ArePaired, IsServerPart, IsClientPart, Remains}
+use Rattle.dmc_settle.specs.Left.{AreTogether, ArePaired, IsServerPart, IsClientPart, Left}
 use Rattle.dmc_settle.proofs.Lists.{alike_long}
 
 abbrev pub no_client : ClientValue
 no_client = record { id = record { 0 = 0 }; info = record { reservation = None; weight = 0; limit = None }; requests = 0; window = 0 }
 
-module _ {T : Type 0} (scene : SceneValue) (r : Remains T) (h : AreTogether scene r) where
+module _ {T : Type 0} (scene : SceneValue) (r : Left T) (h : AreTogether scene r) where
   pub server_at : (s : ℕ) → s < scene.servers → IsServerPart scene s (get_or r.books s no_book) (get_or r.worker_passes s [])
   server_at s within = h.servers s _ _ (slice_get-get_or r.books s no_book (omega (arith, within, h.books))) (slice_get-get_or r.worker_passes s [] (omega (arith, within, h.worker_passes)))
 

@@ -1,5 +1,6 @@
 -- What the report of a settled cluster says.
-use Rattle.std.proofs.Common.{◌≡◌, ℕ, ◌+◌, ◌<◌, ◌≤◌, List, [], Some, length, map, get_or, slice_get, sym, ap, ◌∙◌, subst, arith}
+use Rattle.std.proofs.Common.{◌≡◌, ℕ, ◌+◌, ◌<◌, ◌≤◌, List, [], Some, length, map, get_or, slice_get, refl, sym, ap, ◌∙◌, subst, arith}
+use Rattle.std.specs.Global.{Vec}
 use Rattle.std.specs.Prelude.{sum_by}
 use Rattle.std.proofs.lemmas.List.{length-map}
 use Rattle.std.proofs.lemmas.Simd.{map-map}
@@ -25,10 +26,11 @@ use Rattle.dmc_scene.specs.SceneValue.{SceneValue, ClientValue}
 use Rattle.dmc_settle.specs.Filled as filled
 use Rattle.dmc_settle.specs.Filled.{ClientNumbers, client_numbers, no_client_numbers, no_server_numbers, server_numbers, grants_left}
 use Rattle.dmc_settle.specs.Places.{no_book, no_tracker}
-use Rattle.dmc_settle.specs.Remains.{Remains}
+use Rattle.dmc_settle.specs.Left.{Left, stops_of}
 use Rattle.dmc_settle.specs.Reports.{IsServerReport, IsClientReport, IsReportOf, delta_bound, stamps_left}
 use Rattle.dmc_settle.specs.declared.report.ClientReport.{ClientReport}
 use Rattle.dmc_settle.specs.declared.report.ServerReport.{ServerReport}
+use Rattle.dmc_settle.specs.declared.report.StopCause.{StopCause}
 use Rattle.dmc_settle.specs.declared.report.ClusterReport.{ClusterReport}
 use Rattle.dmc_settle.proofs.Balance.{sum_seen}
 use Rattle.dmc_settle.proofs.Circles.{IsSettledCluster, circle_at, its_desk, its_tracker}
@@ -58,7 +60,18 @@ one_left pass s within =
     let all = sum_places f pass no_tills in
     omega (arith, one, all)
 
-module _ {T : Type 0} (ops : Tagging T) (scene : SceneValue) (r : Remains T) (desks : List (List ClientSide)) (old new : ClusterReport T)
+-- two reports whose rows name the same stops
+pub same_stops : {T : Type 0} (old new : ClusterReport T)
+    → map (λ c. c.stop) new.clients.items ≡ map (λ c. c.stop) old.clients.items
+    → map (λ c. c.failed) new.clients.items ≡ map (λ c. c.failed) old.clients.items
+    → map (λ s. s.stops) new.servers.items ≡ map (λ s. s.stops) old.servers.items → stops_of new ≡ stops_of old
+same_stops {T} old new stop failed stops =
+    let items : Vec StopCause → List StopCause = (λ v. v.items) in
+    let read : ServerReport T → Vec StopCause = (λ s. s.stops) in
+    let servers = sym (map-map items read new.servers.items) ∙ ap (map items) stops ∙ map-map items read old.servers.items in
+    rw (stop, failed, servers) refl
+
+module _ {T : Type 0} (ops : Tagging T) (scene : SceneValue) (r : Left T) (desks : List (List ClientSide)) (old new : ClusterReport T)
     (h : IsSettledCluster ops scene r desks old new) where
   pub servers_long : length new.servers.items ≡ scene.servers
   servers_long = alike_long (λ (s : ServerReport T). s.server) (λ (s : ServerReport T). s.server) new.servers.items old.servers.items h.same_servers ∙ h.rows.as_many_servers
@@ -167,8 +180,8 @@ module _ {T : Type 0} (ops : Tagging T) (scene : SceneValue) (r : Remains T) (de
       }
 
   -- the report is of these parts
-  pub report_of : IsReportOf r new
-  report_of =
+  pub report_of : stops_of new ≡ r.stops → IsReportOf r new
+  report_of stops =
       let read : ServerReport T → filled.ServerNumbers T = server_numbers in
       let rows = map read new.servers.items in
       let read_client : ClientReport → ClientNumbers = client_numbers in
@@ -188,4 +201,5 @@ module _ {T : Type 0} (ops : Tagging T) (scene : SceneValue) (r : Remains T) (de
         units_left = sym (map-map (λ (n : filled.ServerNumbers T). n.held) read new.servers.items)
             ∙ alike_places (λ (n : filled.ServerNumbers T). n.held) grants_left rows r.worker_passes no_server_numbers [] (rows_long ∙ h.together.books ∙ sym h.together.worker_passes)
             (λ k within. (h.servers k (omega (arith, within, rows_long))).held);
+        stops = stops;
       }

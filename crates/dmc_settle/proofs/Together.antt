@@ -10,7 +10,7 @@ use Rattle.dmc_book.specs.declared.pass.WorkerPass.{WorkerPass}
 use Rattle.dmc_scene.specs.SceneValue.{SceneValue}
 use Rattle.dmc_settle.specs.Checks.{AreServerParts, AreClientParts, ArePairs}
 use Rattle.dmc_settle.specs.Places.{no_book, no_tracker, pass_states}
-use Rattle.dmc_settle.specs.Remains.{AreTogether, IsClientPart, IsServerPart, Remains}
+use Rattle.dmc_settle.specs.Left.{AreTogether, IsClientPart, IsServerPart, Left}
 
 -- each server's passes, as they are seen
 pub passes_seen : {S : Type 0} (workers : List (Vec (WorkerPass S))) → map (map pass_state) (map (λ v. v.items) workers) ≡ map pass_states workers
@@ -19,7 +19,7 @@ passes_seen {S} workers =
     let items : Vec (WorkerPass S) → List (WorkerPass S) = (λ v. v.items) in
     map-map f items workers
 
-module _ {T : Type 0} (scene : SceneValue) (r : Remains T) where
+module _ {T : Type 0} (scene : SceneValue) (r : Left T) where
   pub together_of : AreServerParts scene r.books r.worker_passes → AreClientParts scene r.trackers r.client_passes → ArePairs r.books r.trackers → AreTogether scene r
   together_of servers clients pairs = record {
     books = servers.a_book_each;

@@ -5,7 +5,7 @@ use Rattle.dmc_tlock.specs.BookState as tracker_book
 use Rattle.dmc_book.specs.BookState.{BookState, PassState}
 use Rattle.dmc_scene.specs.SceneValue.{SceneValue, ClientValue}
 use Rattle.dmc_settle.specs.Places.{no_book, no_tracker}
-use Rattle.dmc_settle.specs.Remains.{ArePaired, IsServerPart, IsClientPart}
+use Rattle.dmc_settle.specs.Left.{ArePaired, IsServerPart, IsClientPart}
 
 -- each server's book and passes
 pub record AreServerParts {T : Type 0} (scene : SceneValue) (books : List (BookState T)) (passes : List (List PassState)) : Type 0 where

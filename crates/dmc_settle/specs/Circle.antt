@@ -11,7 +11,7 @@ use Rattle.dmc_tlock.specs.BookState.{tills_at}
 use Rattle.dmc_book.specs.BookState.{BookState, PassState}
 use Rattle.dmc_book.specs.Counts.{count, stamps_added, delta_added, rho_added, grants_added}
 use Rattle.dmc_book.specs.Settling.{left_in}
-use Rattle.dmc_settle.specs.Remains.{Remains}
+use Rattle.dmc_settle.specs.Left.{Left}
 
 -- Of a client and a server s, by the queue's history, the tracker's list, the tills that are left of the client's stamps to s,
 -- and the units that are left of its grants at s: each accepted add was stamped, each response was granted, and what is missing
@@ -25,7 +25,7 @@ pub record IsCircle {T : Type 0} (client : ℕ) (s : ServerId) (history : List (
   pub priority : responses s Priority events + priorities ≡ count (grants_added client Priority) history
 
 -- of each client and each server
-abbrev pub AreCircles : {T : Type 0} → Remains T → Type 0
+abbrev pub AreCircles : {T : Type 0} → Left T → Type 0
 AreCircles {T} r = (c s : ℕ) (queue : BookState T) (passes : List PassState) (book : tracker_book.BookState) (pass : List StampHoldings)
     → slice_get r.books s ≡ Some queue → slice_get r.worker_passes s ≡ Some passes
     → slice_get r.trackers c ≡ Some book → slice_get r.client_passes c ≡ Some pass

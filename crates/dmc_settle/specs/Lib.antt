@@ -1,6 +1,6 @@
 pub mod Checks
 pub mod Circle
 pub mod Filled
+pub mod Left
 pub mod Places
-pub mod Remains
 pub mod Reports

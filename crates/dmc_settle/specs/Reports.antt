@@ -14,7 +14,7 @@ use Rattle.dmc_ledger.specs.Moves.{till_in}
 use Rattle.dmc_tlock.specs.declared.settled.StampsHeld.{StampsHeld}
 use Rattle.dmc_book.specs.BookState.{PassState}
 use Rattle.dmc_scene.specs.SceneValue.{SceneValue, ClientValue}
-use Rattle.dmc_settle.specs.Remains.{Remains}
+use Rattle.dmc_settle.specs.Left.{Left, stops_of}
 use Rattle.dmc_settle.specs.declared.report.ClientReport.{ClientReport}
 use Rattle.dmc_settle.specs.declared.report.ServerReport.{ServerReport}
 use Rattle.dmc_settle.specs.declared.report.ClusterReport.{ClusterReport}
@@ -63,22 +63,17 @@ stamps_left pass = record {
 abbrev pub units_left : PhaseType → List PassState → ℕ
 units_left phase passes = sum_by (λ p. sum_by (λ u. (till_in phase u).amount) p.units) passes
 
--- the histories, the completions, and what was left
-pub record IsReportOf {T : Type 0} (remains : Remains T) (r : ClusterReport T) : Type 0 where
-  pub histories : map (λ s. s.history.events) r.servers.items ≡ map (λ b. b.history) remains.books
-  pub completed : map (λ c. c.completed) r.clients.items ≡ map (λ t. (completions t.events).delta) remains.trackers
-  pub stamps_left : map (λ c. c.held) r.clients.items ≡ map stamps_left remains.client_passes
+-- the histories, the completions, what was left in the passes, and the stops
+pub record IsReportOf {T : Type 0} (left : Left T) (r : ClusterReport T) : Type 0 where
+  pub histories : map (λ s. s.history.events) r.servers.items ≡ map (λ b. b.history) left.books
+  pub completed : map (λ c. c.completed) r.clients.items ≡ map (λ t. (completions t.events).delta) left.trackers
+  pub stamps_left : map (λ c. c.held) r.clients.items ≡ map stamps_left left.client_passes
   pub units_left : map (λ s. s.held) r.servers.items
-      ≡ map (λ passes. record { reservation = units_left Reservation passes; priority = units_left Priority passes }) remains.worker_passes
+      ≡ map (λ passes. record { reservation = units_left Reservation passes; priority = units_left Priority passes }) left.worker_passes
+  pub stops : stops_of r ≡ left.stops
 
 -- the rows are those of the scene
 pub record AreRows {T : Type 0} (scene : SceneValue) (r : ClusterReport T) : Type 0 where
   pub clients : map (λ c. c.client) r.clients.items ≡ map (λ c. c.id) scene.clients
   pub as_many_servers : length r.servers.items ≡ scene.servers
   pub servers : (k : ℕ) (s : ServerReport T) → slice_get r.servers.items k ≡ Some s → s.server.0 ≡ k
-
--- the stops and the failures are as they were
-pub record KeepsStops {T : Type 0} (old new : ClusterReport T) : Type 0 where
-  pub clients : map (λ c. c.stop) new.clients.items ≡ map (λ c. c.stop) old.clients.items
-  pub failed : map (λ c. c.failed) new.clients.items ≡ map (λ c. c.failed) old.clients.items
-  pub servers : map (λ s. s.stops) new.servers.items ≡ map (λ s. s.stops) old.servers.items

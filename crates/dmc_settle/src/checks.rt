@@ -5,11 +5,12 @@ ghost use Rattle.dmc_book.specs.BookState.{pass_state};
 ghost use Rattle.dmc_settle.specs.Checks.{AreServerParts, AreClientParts, IsPairAt, ArePairsOf, ArePairs};
 ghost use Rattle.dmc_settle.specs.Places.{pass_states};
 ghost use Rattle.dmc_types.specs.Limits.{most_scene_clients, most_servers};
-ghost use Rattle.dmc_settle.specs.Remains.{ArePaired, AreTogether, IsClientPart, IsServerPart, IsTillOf, remains};
+ghost use Rattle.dmc_settle.specs.Left.{ArePaired, AreTogether, IsClientPart, IsServerPart, IsTillOf, left_of, stops_of};
 ghost use Rattle.dmc_settle.specs.Reports.{AreRows};
 ghost use Rattle.dmc_settle.specs.declared.report.ServerReport.{ServerReport};
 
 use crate::report::{ClientReport, ClusterReport, ServerReport};
+use crate::settle::Passes;
 use dmc_book::book::QueueBook;
 use dmc_book::pass::WorkerPass;
 use dmc_index::index::Indexes;
@@ -175,16 +176,16 @@ fn are_pairs<T: Tag, I: Indexes<T>, S: Setup>(
 pub(crate) fn are_together<T: Tag, I: Indexes<T>, S: Setup>(
     scene: &Scene,
     books: &[QueueBook<T, I, S>],
-    workers: &[Vec<WorkerPass<S>>],
     trackers: &[TrackerBook<S>],
-    clients: &[ClientPass<S>],
+    passes: &Passes<S>,
+    report: &ClusterReport<T>,
 ) -> bool
-    ensures { IsTrue result ↔ AreTogether scene.now (remains books.now (map (λ v. v.items) workers.now) trackers.now clients.now) }
+    ensures { IsTrue result ↔ AreTogether scene.now (left_of books.now trackers.now passes.now (stops_of report.now)) }
 {
-    if !are_server_parts(scene, books, workers) {
+    if !are_server_parts(scene, books, &passes.workers) {
         return false;
     }
-    if !are_client_parts(scene, trackers, clients) {
+    if !are_client_parts(scene, trackers, &passes.clients) {
         return false;
     }
     are_pairs(books, trackers)

@@ -1,9 +1,9 @@
 //! Settling a cluster.
-ghost use Rattle.std.specs.Prelude.{◌≤◌, ◌↔◌, length, map, IfOk, OnOk, IsOk, IsTrue};
+ghost use Rattle.std.specs.Prelude.{◌≤◌, ◌↔◌, length, IfOk, OnOk, IsOk, IsTrue};
 ghost use Rattle.dmc_types.specs.Limits.{most_scene_clients, most_servers};
-ghost use Rattle.dmc_settle.specs.Remains.{AreTogether, remains};
+ghost use Rattle.dmc_settle.specs.Left.{AreTogether, left_of, stops_of};
 ghost use Rattle.dmc_settle.specs.Circle.{AreCircles};
-ghost use Rattle.dmc_settle.specs.Reports.{AreRows, IsReport, IsReportOf, KeepsStops};
+ghost use Rattle.dmc_settle.specs.Reports.{AreRows, IsReport, IsReportOf};
 
 use crate::checks::{are_rows, are_together};
 use crate::clients::settle_clients;
@@ -49,13 +49,12 @@ pub fn settle_cluster<T: Tag, I: Indexes<T>, S: Setup>(
 ) -> Result<ClusterReport<T>, Torn>
     requires room { scene.now.servers ≤ room }
     ensures together { IsOk result
-        ↔ AreTogether scene.now (remains books.old (map (λ v. v.items) passes.workers.items) trackers.items passes.clients.items) × AreRows scene.now report }
+        ↔ AreTogether scene.now (left_of books.old trackers.items passes (stops_of report)) × AreRows scene.now report }
     ensures circle { OnOk result
-        (AreCircles (remains books.old (map (λ v. v.items) passes.workers.items) trackers.items passes.clients.items)) }
+        (AreCircles (left_of books.old trackers.items passes (stops_of report))) }
     ensures report { IfOk result (IsReport T.ops scene.now) }
     ensures its_report { IfOk result
-        (IsReportOf (remains books.old (map (λ v. v.items) passes.workers.items) trackers.items passes.clients.items)) }
-    ensures stops { IfOk result (KeepsStops report) }
+        (IsReportOf (left_of books.old trackers.items passes (stops_of report))) }
 {
     if !are_whole(scene, books, &trackers, &passes, &report) {
         return Err(Torn);
@@ -77,10 +76,10 @@ fn are_whole<T: Tag, I: Indexes<T>, S: Setup>(
     report: &ClusterReport<T>,
 ) -> bool
     ensures whole { IsTrue result
-        ↔ AreTogether scene.now (remains books.now (map (λ v. v.items) passes.now.workers.items) trackers.now passes.now.clients.items) × AreRows scene.now report.now }
+        ↔ AreTogether scene.now (left_of books.now trackers.now passes.now (stops_of report.now)) × AreRows scene.now report.now }
     ensures servers { IsTrue result → scene.now.servers ≤ most_servers }
     ensures clients { IsTrue result → length scene.now.clients ≤ most_scene_clients }
 {
-    are_together(scene, books, &passes.workers, trackers, &passes.clients)
+    are_together(scene, books, trackers, passes, report)
         && are_rows(scene, report)
 }

@@ -40,7 +40,7 @@ use std::marker::Model;
 #[derive(Drop)]
 pub struct TrackerBook<S: Setup> {
     client: ClientId,
-    tracker: ServiceTracker,
+    pub(crate) tracker: ServiceTracker,
     pub(crate) history: History<TrackerEvent>,
     desks: Vec<ServerDesk<S>>,
     held: Vec<StampsHeld>,

@@ -1,5 +1,7 @@
 //! What holds of every tracker book, by its type. Each law is the contract of a function that does nothing: a caller that
 //! calls it knows the law.
+ghost use Rattle.std.specs.Prelude.{◌≤◌};
+ghost use Rattle.dmc_tracker.specs.TrackerList.{completions};
 ghost use Rattle.dmc_tlock.specs.Consistent.{IsConsistent};
 
 use crate::book::TrackerBook;
@@ -10,4 +12,11 @@ pub fn book_is_consistent<S: Setup>(book: &TrackerBook<S>)
     ensures { IsConsistent book.now }
 {
     let _ = &book.history;
+}
+
+/// Its tracker has counted no more completions than its `most`.
+pub fn completions_are_within<S: Setup>(book: &TrackerBook<S>)
+    ensures { (completions book.now.events).delta ≤ book.now.tracker.most }
+{
+    let _ = book.tracker.completions();
 }

@@ -13,3 +13,4 @@ pub mod pass;
 pub mod settled;
 pub mod stamp;
 pub mod status;
+pub mod witness;

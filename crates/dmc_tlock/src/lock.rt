@@ -2,29 +2,82 @@
 ghost use Rattle.std.specs.Prelude.{◌≡◌, ◌<◌, IfOk, OnOk, OnErr};
 ghost use Rattle.dmc_ledger.specs.Bundles.{stamp_holdings};
 ghost use Rattle.dmc_ledger.specs.Moves.{tills_after_stamp, with_less};
+ghost use Rattle.dmc_tlock.specs.Later.{IsLater};
 ghost use Rattle.dmc_tlock.specs.Status.{IsWithin, AreSums};
 
 use crate::book::TrackerBook;
 use crate::fault::{EntryFault, TillFault};
 use crate::stamp::Stamp;
 use crate::status::TrackStatus;
+use crate::witness::{Lasting, NoWitness, Witness};
 use dmc_ledger::bundle::StampTills;
 use dmc_ledger::setup::Setup;
 use dmc_ledger::till::Till;
 use dmc_types::config::PhaseType;
 use dmc_types::ids::{ClientId, ServerId};
+use dmc_types::params::ReqParams;
 use std::marker::Model;
 use std::sync::{Mutex, Wait};
 
-/// A tracker book that threads share. Contracts see whose it is. A caller's own tills step with each call; each call is one
-/// of the book's, and refuses as that does.
-#[derive(Drop)]
-pub struct TrackerLock<S: Setup> {
-    client: ClientId,
-    book: Mutex<TrackerBook<S>>,
+impl<S: Setup> Lasting for TrackerBook<S> {
+    ghost later = { IsLater };
 }
 
-impl<S: Setup> Model for TrackerLock<S> {
+/// A book with its witness.
+#[derive(Drop)]
+struct Guarded<B: Lasting, W: Witness<B>> {
+    book: B,
+    witness: W,
+}
+
+impl<B: Lasting, W: Witness<B>> Model for Guarded<B, W> {
+    ghost Value = { B };
+
+    ghost view = { λ g. g.book };
+
+    ghost invariant = { λ g. W.holds g.witness g.book };
+}
+
+impl<S: Setup, W: Witness<TrackerBook<S>>> Guarded<TrackerBook<S>, W> {
+    /// Stamps a request to a server, as the book does, and answers what the stamp carries.
+    fn stamp_params(
+        &mut self,
+        server: ServerId,
+        tills: &mut StampTills<S>,
+    ) -> Result<ReqParams, EntryFault>
+        ensures tills { IfOk result (λ params. stamp_holdings tills.new ≡ tills_after_stamp params (stamp_holdings tills.old)) }
+        ensures kept { OnErr result (tills.new ≡ tills.old) }
+    {
+        self.book.stamp_params(server, tills)
+    }
+
+    /// Counts a response, as the book does.
+    fn respond(
+        &mut self,
+        server: ServerId,
+        phase: PhaseType,
+        till: &mut Till<S>,
+    ) -> Result<(), EntryFault>
+        requires { 0 < till.old.amount }
+        ensures till { OnOk result (till.new ≡ with_less 1 till.old) }
+        ensures kept { OnErr result (till.new ≡ till.old) }
+    {
+        self.book.respond(server, phase, till)
+    }
+}
+
+/// A tracker book that threads share, and a witness of what it was. Contracts see whose book it is. A caller's own tills step
+/// with each call; each call is one of the book's, and refuses as that does. It is generic in the book, as a queue's lock is.
+#[derive(Drop)]
+pub struct LockedTracker<B: Lasting, W: Witness<B>> {
+    client: ClientId,
+    guarded: Mutex<Guarded<B, W>>,
+}
+
+/// A tracker book that threads share, without a witness.
+pub type TrackerLock<S> = LockedTracker<TrackerBook<S>, NoWitness>;
+
+impl<B: Lasting, W: Witness<B>> Model for LockedTracker<B, W> {
     ghost use Rattle.dmc_tlock.specs.BookState.{LockValue};
 
     ghost Value = { LockValue };
@@ -32,14 +85,30 @@ impl<S: Setup> Model for TrackerLock<S> {
     ghost view = { λ l. record { client = l.client.0 } };
 }
 
-impl<S: Setup> TrackerLock<S> {
+impl<S: Setup> LockedTracker<TrackerBook<S>, NoWitness> {
     /// The book behind a lock.
-    pub fn new(book: TrackerBook<S>) -> TrackerLock<S>
+    pub fn new(book: TrackerBook<S>) -> LockedTracker<TrackerBook<S>, NoWitness>
         ensures { result.client ≡ book.client }
     {
-        TrackerLock {
+        LockedTracker::with_witness(book, NoWitness)
+    }
+
+    /// The book, once no thread shares the lock. What it keeps `laws::book_is_consistent` tells.
+    pub fn into_book(self) -> TrackerBook<S> {
+        let (book, _) = self.into_parts();
+        book
+    }
+}
+
+impl<S: Setup, W: Witness<TrackerBook<S>>> LockedTracker<TrackerBook<S>, W> {
+    /// The book behind a lock, with a witness of it.
+    pub fn with_witness(book: TrackerBook<S>, witness: W) -> LockedTracker<TrackerBook<S>, W>
+        requires { W.holds witness book }
+        ensures { result.client ≡ book.client }
+    {
+        LockedTracker {
             client: book.client(),
-            book: Mutex::new(book),
+            guarded: Mutex::new(Guarded { book, witness }),
         }
     }
 
@@ -55,7 +124,7 @@ impl<S: Setup> TrackerLock<S> {
         ensures tills { IfOk result (λ stamp. stamp_holdings tills.new ≡ tills_after_stamp stamp.params (stamp_holdings tills.old)) }
         ensures kept { OnErr result (tills.new ≡ tills.old) }
     {
-        let params = self.book.lock(rt).stamp_params(server, tills)?;
+        let params = self.guarded.lock(rt).stamp_params(server, tills)?;
         Ok(Stamp::new(self.client, server, params))
     }
 
@@ -71,7 +140,7 @@ impl<S: Setup> TrackerLock<S> {
         ensures till { OnOk result (till.new ≡ with_less 1 till.old) }
         ensures kept { OnErr result (till.new ≡ till.old) }
     {
-        self.book.lock(rt).respond(server, phase, till)
+        self.guarded.lock(rt).respond(server, phase, till)
     }
 
     /// What its tracker counts, seen from a server, by one of the tills of the server's stamp books.
@@ -84,12 +153,17 @@ impl<S: Setup> TrackerLock<S> {
         ensures sent { IfOk result (λ status. IsWithin (stamp_holdings tills.now) status) }
         ensures sums { IfOk result (λ status. AreSums status) }
     {
-        self.book.lock(rt).status(server, tills)
+        self.guarded.lock(rt).book.status(server, tills)
     }
+}
 
-    /// The book, once no thread shares the lock. What it keeps `laws::book_is_consistent` tells.
-    pub fn into_book(self) -> TrackerBook<S> {
-        let TrackerLock { client: _, book } = self;
-        book.into_inner()
+impl<B: Lasting, W: Witness<B>> LockedTracker<B, W> {
+    /// The book and its witness, once no thread shares the lock.
+    pub fn into_parts(self) -> (B, W)
+        ensures { W.holds result.1 result.0 }
+    {
+        let LockedTracker { client: _, guarded } = self;
+        let Guarded { book, witness } = guarded.into_inner();
+        (book, witness)
     }
 }

@@ -2,12 +2,13 @@
 use dmc_ledger::setup::Setup;
 use dmc_qlock::lock::Locked;
 use dmc_tlock::lock::TrackerLock;
+use dmc_tlock::witness::Lasting;
 use dmc_types::ids::ClientId;
 use indexmap::IndexSet;
 
 /// The locks of a cluster, and its clients' ids. It is generic in the queues' books.
 #[derive(Drop)]
-pub(crate) struct Cluster<B, S: Setup> {
+pub(crate) struct Cluster<B: Lasting, S: Setup> {
     /// Of server 0, 1, ..
     pub(crate) queues: Vec<Locked<B>>,
     /// Of the clients, in the scene's order.

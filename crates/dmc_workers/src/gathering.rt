@@ -11,9 +11,10 @@ use dmc_settle::settle::Passes;
 use dmc_tag::tag::Tag;
 use dmc_tlock::book::TrackerBook;
 use dmc_tlock::lock::TrackerLock;
+use dmc_tlock::witness::Lasting;
 
 /// Gathers what was shared, and what the jobs of the clients' and the servers' workers hold.
-pub(crate) fn gather<T: Tag, B: Drop, S: Setup>(
+pub(crate) fn gather<T: Tag, B: Lasting + Drop, S: Setup>(
     cluster: Cluster<B, S>,
     clients: Vec<ClientJob<S>>,
     servers: Vec<ServerJob<S>>,
@@ -26,7 +27,7 @@ pub(crate) fn gather<T: Tag, B: Drop, S: Setup>(
 }
 
 /// Takes the books out of their locks.
-fn take_books<B: Drop>(locks: Vec<Locked<B>>, books: &mut Vec<B>) {
+fn take_books<B: Lasting + Drop>(locks: Vec<Locked<B>>, books: &mut Vec<B>) {
     for lock in locks {
         // There is room.
         let _ = books.push(lock.into_book());

@@ -16,6 +16,7 @@ use dmc_ledger::mint::Mint;
 use dmc_ledger::setup::Setup;
 use dmc_scene::scene::Scene;
 use dmc_tag::tag::Tag;
+use dmc_tlock::witness::Lasting;
 use dmc_work::limits::Limits;
 use indexmap::IndexSet;
 use servers::{open_server, server_workers};
@@ -23,7 +24,7 @@ use std::alloc::{AllocError, Global};
 
 /// The workers of a run, what they share, and room for what they leave.
 #[derive(Drop)]
-pub(crate) struct Opened<T: Tag, B, S: Setup> {
+pub(crate) struct Opened<T: Tag, B: Lasting, S: Setup> {
     pub(crate) cluster: Cluster<B, S>,
     /// The clients' workers.
     pub(crate) senders: Senders<S>,
@@ -50,7 +51,7 @@ pub(crate) fn open<T: Tag, I: Indexes<T>, S: Setup>(
 }
 
 /// No client and no server yet, with room for the clients' ids.
-fn none_opened<T: Tag, B, S: Setup>(
+fn none_opened<T: Tag, B: Lasting, S: Setup>(
     alloc: Global,
     scene: &Scene,
 ) -> Result<Opened<T, B, S>, AllocError> {
@@ -83,7 +84,7 @@ fn open_all<T: Tag, I: Indexes<T>, S: Setup>(
 }
 
 /// Makes room for the clients and the servers of a scene.
-fn reserve_all<T: Tag, B, S: Setup>(
+fn reserve_all<T: Tag, B: Lasting, S: Setup>(
     scene: &Scene,
     opened: &mut Opened<T, B, S>,
 ) -> Result<(), AllocError> {
@@ -97,7 +98,7 @@ fn reserve_all<T: Tag, B, S: Setup>(
 }
 
 /// Makes room for so many trackers and queues.
-fn reserve_locks<B, S: Setup>(
+fn reserve_locks<B: Lasting, S: Setup>(
     clients: usize,
     servers: usize,
     cluster: &mut Cluster<B, S>,

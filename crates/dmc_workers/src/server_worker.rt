@@ -13,6 +13,7 @@ use dmc_settle::report::StopCause;
 use dmc_tag::reply::Pulled;
 use dmc_tag::tag::Tag;
 use dmc_tlock::lock::TrackerLock;
+use dmc_tlock::witness::Lasting;
 use dmc_types::ids::ServerId;
 use dmc_work::moments::Moments;
 use std::sync::Wait;
@@ -104,7 +105,7 @@ fn take_turn<T: Tag, I: Indexes<T>, S: Setup, V: Service, M: Moments, R: Wait>(
 }
 
 /// Has a granted request served, and tells its client.
-fn complete<B, S: Setup, V: Service, R: Wait>(
+fn complete<B: Lasting, S: Setup, V: Service, R: Wait>(
     rt: &R,
     cluster: &Cluster<B, S>,
     service: &V,

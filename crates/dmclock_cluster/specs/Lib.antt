@@ -8,5 +8,5 @@ pub use Rattle.dmc_driver.specs.Done
 pub use Rattle.dmc_driver.specs.Ending
 pub use Rattle.dmc_scene.specs.SceneValue
 pub use Rattle.dmc_settle.specs.Circle
-pub use Rattle.dmc_settle.specs.Remains
+pub use Rattle.dmc_settle.specs.Left
 pub use Rattle.dmc_settle.specs.Reports

@@ -18,6 +18,7 @@ use dmc_tlock::book::TrackerBook;
 use dmc_tlock::lock::TrackerLock;
 use dmc_tlock::pass::ClientPass;
 use dmc_tlock::settled::StampsHeld;
+use dmc_tlock::witness::Lasting;
 use dmc_types::config::Counting;
 use dmc_types::ids::ClientId;
 use dmc_work::limits::Limits;
@@ -44,7 +45,7 @@ pub(crate) fn reserve_senders<S: Setup>(
 }
 
 /// Opens the clients of a scene, in order, with a desk of each at each of these servers.
-pub(crate) fn open_clients<T: Tag, B, S: Setup>(
+pub(crate) fn open_clients<T: Tag, B: Lasting, S: Setup>(
     alloc: Global,
     mint: &mut Mint<S>,
     scene: &Scene,
@@ -59,7 +60,7 @@ pub(crate) fn open_clients<T: Tag, B, S: Setup>(
 }
 
 /// The next client.
-fn open_client<T: Tag, B, S: Setup>(
+fn open_client<T: Tag, B: Lasting, S: Setup>(
     alloc: Global,
     mint: &mut Mint<S>,
     scene: &Scene,

@@ -22,6 +22,7 @@ use dmc_scene::scene::Scene;
 use dmc_settle::report::{ServerReport, StopCause};
 use dmc_tag::reply::Reply;
 use dmc_tag::tag::Tag;
+use dmc_tlock::witness::Lasting;
 use dmc_types::command::Command;
 use dmc_types::ids::{ServerId, WorkerId};
 use dmc_types::moment::Moment;
@@ -187,7 +188,7 @@ fn book_of<T: Tag, I: Indexes<T>, S: Setup>(
 }
 
 /// One queue more, behind its lock.
-fn push_queue<B: OfServer + Drop>(book: B, queues: &mut Vec<Locked<B>>) -> Result<(), AllocError> {
+fn push_queue<B: OfServer + Lasting + Drop>(book: B, queues: &mut Vec<Locked<B>>) -> Result<(), AllocError> {
     push_last(Locked::new(book), queues)
 }
 

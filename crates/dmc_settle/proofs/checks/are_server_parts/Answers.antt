@@ -5,7 +5,7 @@ use Rattle.dmc_book.specs.BookState.{BookState, PassState, pass_state}
 use Rattle.dmc_book.specs.declared.pass.WorkerPass.{WorkerPass}
 use Rattle.dmc_settle.specs.Checks.{AreServerParts}
 use Rattle.dmc_settle.specs.Places.{no_book, pass_states}
-use Rattle.dmc_settle.specs.Remains.{IsServerPart}
+use Rattle.dmc_settle.specs.Left.{IsServerPart}
 use Rattle.dmc_settle.proofs.checks.are_server_parts.Goals as goal
 use Rattle.dmc_settle.proofs.checks.are_server_parts.Goals.{then-books-servers-via-then-books-servers, then-books-servers-via-else-books-servers+then-passes-servers}
 

@@ -2,7 +2,7 @@ use Rattle.std.proofs.Common.{◌≡◌, ◌<◌, length, subst, get_or, rules}
 use Rattle.dmc_ledger.specs.Bundles.{ClientSide, ServerSide, client_side, server_side}
 use Rattle.dmc_ledger.specs.declared.desk.ClientDesk.{ClientDesk}
 use Rattle.dmc_ledger.specs.declared.desk.ServerDesk.{ServerDesk}
-use Rattle.dmc_settle.specs.Remains.{ArePaired}
+use Rattle.dmc_settle.specs.Left.{ArePaired}
 use Rattle.dmc_settle.proofs.Lists.{got_seen, there_seen}
 use Rattle.dmc_settle.proofs.checks.is_pair_at.Goals as goal
 

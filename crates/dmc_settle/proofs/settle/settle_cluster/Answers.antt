@@ -10,7 +10,7 @@ use Rattle.dmc_book.specs.Settling.{AreSettledDesks}
 use Rattle.dmc_scene.specs.SceneValue.{ClientValue}
 use Rattle.dmc_settle.specs.Filled.{AreServerNumbers, IsReadyServer, no_server_numbers, server_numbers}
 use Rattle.dmc_settle.specs.Places.{no_book, pass_states, sides}
-use Rattle.dmc_settle.specs.Remains.{AreTogether, Remains, remains}
+use Rattle.dmc_settle.specs.Left.{AreTogether, Left, left_of, stops_of}
 use Rattle.dmc_settle.specs.Reports.{AreRows}
 use Rattle.dmc_settle.specs.declared.report.ClientReport.{ClientReport}
 use Rattle.dmc_settle.specs.declared.report.ServerReport.{ServerReport}
@@ -19,7 +19,7 @@ use Rattle.dmc_settle.proofs.Circles.{IsSettledCluster, circles}
 use Rattle.dmc_settle.proofs.Completed.{report}
 use Rattle.dmc_settle.proofs.Lists.{alike_long}
 use Rattle.dmc_settle.proofs.Ready.{ready_clients, ready_servers}
-use Rattle.dmc_settle.proofs.Reported.{report_of}
+use Rattle.dmc_settle.proofs.Reported.{report_of, same_stops}
 use Rattle.dmc_settle.proofs.Together.{passes_seen}
 use Rattle.dmc_settle.proofs.settle.settle_cluster.Given.{Over}
 use Rattle.dmc_settle.proofs.settle.settle_cluster.Goals as goal
@@ -27,52 +27,52 @@ use Rattle.dmc_tag.proofs.Lists.{lent_back}
 
 pub returns-then-not-are_whole-clause-together : goal.returns-then-not-are_whole-clause-together
 returns-then-not-are_whole-clause-together g c =
-    let r : Remains g.row.T.Denot = remains c.args.books.now (map (λ v. v.items) c.args.passes.workers.items) c.args.trackers.items c.args.passes.clients.items in (
+    let r : Left g.row.T.Denot = left_of c.args.books.now c.args.trackers.items c.args.passes (stops_of c.args.report) in (
       (λ e. cc),
       (λ (both : AreTogether c.args.scene.now r × AreRows c.args.scene.now c.args.report). absurd (false≢true (sym c.if-not-are_whole.true ∙ c.are_whole.ensures.whole.1 (rw c.deref.ensures.value both)))),
     )
 
 pub settle_servers-requires-clause-passes : goal.settle_servers-requires-clause-passes
 settle_servers-requires-clause-passes g c =
-    let r : Remains g.row.T.Denot = remains c.args.books.now (map (λ v. v.items) c.args.passes.workers.items) c.args.trackers.items c.args.passes.clients.items in
+    let r : Left g.row.T.Denot = left_of c.args.books.now c.args.trackers.items c.args.passes (stops_of c.args.report) in
     let together : AreTogether c.args.scene.now r = (rw c.deref.ensures.value at (c.are_whole.ensures.whole.0 c.if-not-are_whole.false)).0 in
     omega (arith, together.books, together.worker_passes, ap length (passes_seen c.args.passes.workers.items), length-map c.args.passes.workers.items (pass_states {S = g.row.S.Denot}))
 
 pub settle_servers-requires-clause-ready : goal.settle_servers-requires-clause-ready
 settle_servers-requires-clause-ready g c =
-    let r : Remains g.row.T.Denot = remains c.args.books.now (map (λ v. v.items) c.args.passes.workers.items) c.args.trackers.items c.args.passes.clients.items in
+    let r : Left g.row.T.Denot = left_of c.args.books.now c.args.trackers.items c.args.passes (stops_of c.args.report) in
     let together : AreTogether c.args.scene.now r = (rw c.deref.ensures.value at (c.are_whole.ensures.whole.0 c.if-not-are_whole.false)).0 in
     λ s within. subst (λ (ps : List (List PassState)). IsReadyServer (get_or c.args.books.now s no_book) (get_or ps s [])) (passes_seen c.args.passes.workers.items)
     (ready_servers c.args.scene.now r together (c.are_whole.ensures.clients c.if-not-are_whole.false) s within)
 
 pub returns-clause-together : goal.returns-clause-together
 returns-clause-together g c =
-    let r : Remains g.row.T.Denot = remains c.args.books.now (map (λ v. v.items) c.args.passes.workers.items) c.args.trackers.items c.args.passes.clients.items in
+    let r : Left g.row.T.Denot = left_of c.args.books.now c.args.trackers.items c.args.passes (stops_of c.args.report) in
     let together : AreTogether c.args.scene.now r = (rw c.deref.ensures.value at (c.are_whole.ensures.whole.0 c.if-not-are_whole.false)).0 in
     ((λ e. (together, (c.are_whole.ensures.whole.0 c.if-not-are_whole.false).1)), (λ both. refl))
 
 pub settle_servers-requires-clause-rows : goal.settle_servers-requires-clause-rows
 settle_servers-requires-clause-rows g c =
-    let r : Remains g.row.T.Denot = remains c.args.books.now (map (λ v. v.items) c.args.passes.workers.items) c.args.trackers.items c.args.passes.clients.items in
+    let r : Left g.row.T.Denot = left_of c.args.books.now c.args.trackers.items c.args.passes (stops_of c.args.report) in
     let together : AreTogether c.args.scene.now r = (rw c.deref.ensures.value at (c.are_whole.ensures.whole.0 c.if-not-are_whole.false)).0 in
     let rows : AreRows c.args.scene.now c.args.report = (c.are_whole.ensures.whole.0 c.if-not-are_whole.false).1 in
     omega (arith, ap length c.deref_mut.ensures.value, rows.as_many_servers, together.books)
 
 pub settle_servers-requires-clause-room : goal.settle_servers-requires-clause-room
 settle_servers-requires-clause-room g c =
-    let r : Remains g.row.T.Denot = remains c.args.books.now (map (λ v. v.items) c.args.passes.workers.items) c.args.trackers.items c.args.passes.clients.items in
+    let r : Left g.row.T.Denot = left_of c.args.books.now c.args.trackers.items c.args.passes (stops_of c.args.report) in
     let together : AreTogether c.args.scene.now r = (rw c.deref.ensures.value at (c.are_whole.ensures.whole.0 c.if-not-are_whole.false)).0 in
     omega (arith, together.books, c.requires.room, c.room.view_is)
 
 pub settle_clients-requires-clause-passes : goal.settle_clients-requires-clause-passes
 settle_clients-requires-clause-passes g c =
-    let r : Remains g.row.T.Denot = remains c.args.books.now (map (λ v. v.items) c.args.passes.workers.items) c.args.trackers.items c.args.passes.clients.items in
+    let r : Left g.row.T.Denot = left_of c.args.books.now c.args.trackers.items c.args.passes (stops_of c.args.report) in
     let together : AreTogether c.args.scene.now r = (rw c.deref.ensures.value at (c.are_whole.ensures.whole.0 c.if-not-are_whole.false)).0 in
     together.client_passes ∙ sym together.trackers
 
 pub settle_clients-requires-clause-rows : goal.settle_clients-requires-clause-rows
 settle_clients-requires-clause-rows g c =
-    let r : Remains g.row.T.Denot = remains c.args.books.now (map (λ v. v.items) c.args.passes.workers.items) c.args.trackers.items c.args.passes.clients.items in
+    let r : Left g.row.T.Denot = left_of c.args.books.now c.args.trackers.items c.args.passes (stops_of c.args.report) in
     let together : AreTogether c.args.scene.now r = (rw c.deref.ensures.value at (c.are_whole.ensures.whole.0 c.if-not-are_whole.false)).0 in
     let rows : AreRows c.args.scene.now c.args.report = (c.are_whole.ensures.whole.0 c.if-not-are_whole.false).1 in
     let long = alike_long (λ (x : ClientReport). x.client) (λ (x : ClientValue). x.id) c.args.report.clients.items c.args.scene.now.clients rows.clients in
@@ -80,13 +80,13 @@ settle_clients-requires-clause-rows g c =
 
 pub settle_clients-requires-clause-few : goal.settle_clients-requires-clause-few
 settle_clients-requires-clause-few g c =
-    let r : Remains g.row.T.Denot = remains c.args.books.now (map (λ v. v.items) c.args.passes.workers.items) c.args.trackers.items c.args.passes.clients.items in
+    let r : Left g.row.T.Denot = left_of c.args.books.now c.args.trackers.items c.args.passes (stops_of c.args.report) in
     let together : AreTogether c.args.scene.now r = (rw c.deref.ensures.value at (c.are_whole.ensures.whole.0 c.if-not-are_whole.false)).0 in
     omega (arith, ap length c.deref-2.ensures.value, c.settle_servers.ensures.desks_each, together.books, c.are_whole.ensures.servers c.if-not-are_whole.false)
 
 pub settle_clients-requires-clause-ready : goal.settle_clients-requires-clause-ready
 settle_clients-requires-clause-ready g c =
-    let r : Remains g.row.T.Denot = remains c.args.books.now (map (λ v. v.items) c.args.passes.workers.items) c.args.trackers.items c.args.passes.clients.items in
+    let r : Left g.row.T.Denot = left_of c.args.books.now c.args.trackers.items c.args.passes (stops_of c.args.report) in
     let together : AreTogether c.args.scene.now r = (rw c.deref.ensures.value at (c.are_whole.ensures.whole.0 c.if-not-are_whole.false)).0 in
     let see : Vec (ClientDesk g.row.S.Denot) → List ClientSide = sides in
     let desks = map see c.settle_servers.new.desks.items in
@@ -118,10 +118,10 @@ client_rows g c =
     lent_back new (drop (length new) c.args.report.clients.items) c.args.report.clients.len (long ∙ sym c.args.report.clients.ok.0)
 
 settled_cluster : (g : Over) (c : goal.After-drop-desks g) → IsSettledCluster g.T.Tag.ops c.args.scene.now
-    (remains c.args.books.now (map (λ v. v.items) c.args.passes.workers.items) c.args.trackers.items c.args.passes.clients.items)
+    (left_of c.args.books.now c.args.trackers.items c.args.passes (stops_of c.args.report))
     (map sides c.settle_servers.new.desks.items) c.args.report (new_report g c)
 settled_cluster g c =
-    let r : Remains g.row.T.Denot = remains c.args.books.now (map (λ v. v.items) c.args.passes.workers.items) c.args.trackers.items c.args.passes.clients.items in
+    let r : Left g.row.T.Denot = left_of c.args.books.now c.args.trackers.items c.args.passes (stops_of c.args.report) in
     let together : AreTogether c.args.scene.now r = (rw c.deref.ensures.value at (c.are_whole.ensures.whole.0 c.if-not-are_whole.false)).0 in
     let rows : AreRows c.args.scene.now c.args.report = (c.are_whole.ensures.whole.0 c.if-not-are_whole.false).1 in
     let see : Vec (ClientDesk g.row.S.Denot) → List ClientSide = sides in
@@ -149,25 +149,25 @@ settled_cluster g c =
 
 pub returns-clause-circle : goal.returns-clause-circle
 returns-clause-circle g c =
-    let r : Remains g.row.T.Denot = remains c.args.books.now (map (λ v. v.items) c.args.passes.workers.items) c.args.trackers.items c.args.passes.clients.items in
+    let r : Left g.row.T.Denot = left_of c.args.books.now c.args.trackers.items c.args.passes (stops_of c.args.report) in
     circles g.T.Tag.ops c.args.scene.now r (map sides c.settle_servers.new.desks.items) c.args.report (new_report g c) (settled_cluster g c)
 
 pub returns-clause-report : goal.returns-clause-report
 returns-clause-report g c =
-    let r : Remains g.row.T.Denot = remains c.args.books.now (map (λ v. v.items) c.args.passes.workers.items) c.args.trackers.items c.args.passes.clients.items in
+    let r : Left g.row.T.Denot = left_of c.args.books.now c.args.trackers.items c.args.passes (stops_of c.args.report) in
     report g.T.Tag.ops c.args.scene.now r (map sides c.settle_servers.new.desks.items) c.args.report (new_report g c) (settled_cluster g c)
+
+-- neither walk writes a stop
+stops_kept : (g : Over) (c : goal.After-drop-desks g) → stops_of (new_report g c) ≡ stops_of c.args.report
+stops_kept g c =
+    let of_servers = server_rows g c in
+    let of_clients = client_rows g c in
+    same_stops c.args.report (new_report g c)
+    (rw of_clients (c.settle_clients.ensures.stops ∙ ap (λ (xs : List ClientReport). map (λ (x : ClientReport). x.stop) xs) c.deref_mut-2.ensures.value))
+    (rw of_clients (c.settle_clients.ensures.failed ∙ ap (λ (xs : List ClientReport). map (λ (x : ClientReport). x.failed) xs) c.deref_mut-2.ensures.value))
+    (rw of_servers (c.settle_servers.ensures.stops ∙ ap (λ (xs : List (ServerReport g.row.T.Denot)). map (λ (x : ServerReport g.row.T.Denot). x.stops) xs) c.deref_mut.ensures.value))
 
 pub returns-clause-its_report : goal.returns-clause-its_report
 returns-clause-its_report g c =
-    let r : Remains g.row.T.Denot = remains c.args.books.now (map (λ v. v.items) c.args.passes.workers.items) c.args.trackers.items c.args.passes.clients.items in
-    report_of g.T.Tag.ops c.args.scene.now r (map sides c.settle_servers.new.desks.items) c.args.report (new_report g c) (settled_cluster g c)
-
-pub returns-clause-stops : goal.returns-clause-stops
-returns-clause-stops g c =
-    let of_servers = server_rows g c in
-    let of_clients = client_rows g c in
-    record {
-      clients = rw of_clients (c.settle_clients.ensures.stops ∙ ap (λ (xs : List ClientReport). map (λ (x : ClientReport). x.stop) xs) c.deref_mut-2.ensures.value);
-      failed = rw of_clients (c.settle_clients.ensures.failed ∙ ap (λ (xs : List ClientReport). map (λ (x : ClientReport). x.failed) xs) c.deref_mut-2.ensures.value);
-      servers = rw of_servers (c.settle_servers.ensures.stops ∙ ap (λ (xs : List (ServerReport g.row.T.Denot)). map (λ (x : ServerReport g.row.T.Denot). x.stops) xs) c.deref_mut.ensures.value);
-    }
+    let r : Left g.row.T.Denot = left_of c.args.books.now c.args.trackers.items c.args.passes (stops_of c.args.report) in
+    report_of g.T.Tag.ops c.args.scene.now r (map sides c.settle_servers.new.desks.items) c.args.report (new_report g c) (settled_cluster g c) (stops_kept g c)

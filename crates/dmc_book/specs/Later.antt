@@ -1,0 +1,47 @@
+-- What no call of a queue's book changes.
+use Rattle.std.specs.Prelude.{◌≡◌, ℕ, List, ◌++◌, map}
+use Rattle.dmc_tag.specs.declared.event.Event.{Event}
+use Rattle.dmc_ledger.specs.Bundles.{ClientSide}
+use Rattle.dmc_tlock.specs.Later.{DeskNumbers}
+use Rattle.dmc_book.specs.BookState.{BookState, WorkerSide}
+
+-- the worker, and the numbers of its five books
+pub record WorkerNumbers : Type 0 where
+  pub worker : ℕ
+  pub calls : ℕ
+  pub misses : ℕ
+  pub tokens : ℕ
+  pub grants : ℕ
+  pub granted : ℕ
+
+abbrev pub worker_numbers : WorkerSide → WorkerNumbers
+worker_numbers w = record {
+  worker = w.worker;
+  calls = w.books.calls.number;
+  misses = w.books.misses.number;
+  tokens = w.books.tokens.number;
+  grants = w.books.grants.number;
+  granted = w.books.granted.number;
+}
+
+abbrev pub desk_numbers : ClientSide → DeskNumbers
+desk_numbers desk = record {
+  client = desk.client;
+  server = desk.server;
+  stamps = desk.held.stamps.number;
+  delta = desk.held.delta.number;
+  rho = desk.held.rho.number;
+  reservation = desk.books.reservation.number;
+  priority = desk.books.priority.number;
+}
+
+-- The configuration, the server, how long the history may become, and the numbers of the workers and of the desks. The history
+-- only grows.
+pub record IsLater {T : Type 0} (old new : BookState T) : Type 0 where
+  pub config : new.config ≡ old.config
+  pub server : new.server ≡ old.server
+  pub most : new.most ≡ old.most
+  pub workers : map worker_numbers new.workers ≡ map worker_numbers old.workers
+  pub desks : map desk_numbers new.desks ≡ map desk_numbers old.desks
+  pub rest : List (Event T)
+  pub grown : new.history ≡ old.history ++ rest

@@ -1,0 +1,146 @@
+//! What a queue's lock guards: the book, a witness of what it was, and how many threads are in a pull that waits.
+ghost use Rattle.std.specs.Prelude.{◌≡◌, true, false, IfOk, IfErr, OnOk, OnErr, IsErrOf, IsErrAnd};
+ghost use Rattle.dmc_ledger.specs.Bundles.{Covers, stamp_holdings};
+ghost use Rattle.dmc_ledger.specs.Moves.{tills_after_submit};
+ghost use Rattle.dmc_tag.specs.declared.reply.Pulled.TheVariants as pulls;
+ghost use Rattle.dmc_tag.specs.declared.reply.Reply.TheVariants as replies;
+ghost use Rattle.dmc_types.specs.declared.command.Command.TheVariants as commands;
+ghost use Rattle.dmc_book.specs.BookState.{pass_state};
+ghost use Rattle.dmc_book.specs.Calls.{is_add};
+ghost use Rattle.dmc_qlock.specs.Calls.{Answered, PullAnswered, SubmitAnswered, must_wait, registers};
+
+use crate::fault::RunOrRange;
+use dmc_book::book::QueueBook;
+use dmc_book::fault::{RunFault, SubmitFault};
+use dmc_book::pass::WorkerPass;
+use dmc_index::index::Indexes;
+use dmc_ledger::bundle::StampTills;
+use dmc_ledger::setup::Setup;
+use dmc_tag::reply::{Pulled, Reply, Tags};
+use dmc_tag::tag::Tag;
+use dmc_tlock::stamp::Stamp;
+use dmc_tlock::witness::{Lasting, Witness};
+use dmc_types::command::Command;
+use dmc_types::ids::Token;
+use dmc_types::moment::Moment;
+use std::marker::Model;
+
+/// A book with its witness. Contracts see the book.
+#[derive(Drop)]
+pub(crate) struct Guarded<B: Lasting, W: Witness<B>> {
+    pub(crate) book: B,
+    pub(crate) witness: W,
+    waiting: u64,
+}
+
+impl<B: Lasting, W: Witness<B>> Model for Guarded<B, W> {
+    ghost Value = { B };
+
+    ghost view = { λ g. g.book };
+
+    ghost invariant = { λ g. W.holds g.witness g.book };
+}
+
+impl<B: Lasting, W: Witness<B>> Guarded<B, W> {
+    /// A book that no thread waits for.
+    pub(crate) fn new(book: B, witness: W) -> Guarded<B, W>
+        requires { W.holds witness book }
+        ensures { result ≡ book }
+    {
+        Guarded {
+            book,
+            witness,
+            waiting: 0,
+        }
+    }
+
+    /// One thread more waits.
+    pub(crate) fn begin_waiting(&mut self)
+        ensures { self.new ≡ self.old }
+    {
+        self.waiting = self.waiting.saturating_add(1);
+    }
+
+    /// One thread waits no longer.
+    pub(crate) fn end_waiting(&mut self)
+        ensures { self.new ≡ self.old }
+    {
+        self.waiting = self.waiting.saturating_sub(1);
+    }
+}
+
+impl<T: Tag, I: Indexes<T>, S: Setup, W: Witness<QueueBook<T, I, S>>> Guarded<QueueBook<T, I, S>, W> {
+    /// Whether nothing is queued and more may come.
+    pub(crate) fn must_wait(&self) -> bool
+        ensures { result ≡ must_wait T.ops self.now }
+    {
+        self.book.is_empty() && !self.book.is_closed()
+    }
+
+    /// Whether a thread that waits can pull now.
+    pub(crate) fn must_wake(&self) -> bool {
+        self.waiting > 0 && !self.must_wait()
+    }
+
+    /// Hands a command to the queue, as the book does.
+    pub(crate) fn run(
+        &mut self,
+        pass: &mut WorkerPass<S>,
+        command: Command,
+    ) -> Result<Reply<T>, RunFault>
+        requires { is_add command ≡ false }
+        ensures answered { IfOk result (λ reply. Answered T.ops (pass_state pass.old) (pass_state pass.new) command reply) }
+        ensures kept { OnErr result (pass_state pass.new ≡ pass_state pass.old) }
+        ensures no_desk { IsErrOf result RunFault.NoDesk → registers command ≡ true }
+    {
+        self.book.run(pass, command)
+    }
+
+    /// Queues a request, as the book does.
+    pub(crate) fn submit(
+        &mut self,
+        pass: &mut WorkerPass<S>,
+        tills: &mut StampTills<S>,
+        stamp: Stamp,
+        token: Token,
+        at: Moment,
+    ) -> Result<Tags<T>, SubmitFault>
+        requires { Covers (stamp_holdings tills.old) stamp.params }
+        ensures accepted { IfOk result (λ tags. Answered T.ops (pass_state pass.old) (pass_state pass.new) (commands.Add (record { 0 = stamp.client }) token stamp.params at) (replies.Tagged tags)) }
+        ensures taken { OnOk result (stamp_holdings tills.new ≡ tills_after_submit stamp.params (stamp_holdings tills.old)) }
+        ensures refused { IfErr result (λ fault. SubmitAnswered T.ops (pass_state pass.old) (pass_state pass.new) (commands.Add (record { 0 = stamp.client }) token stamp.params at) fault.cause) }
+        ensures handed_back { IfErr result (λ fault. fault.stamp ≡ stamp) }
+        ensures tills_kept { OnErr result (stamp_holdings tills.new ≡ stamp_holdings tills.old) }
+    {
+        self.book.submit(pass, tills, stamp, token, at)
+    }
+
+    /// Pulls, as the book does.
+    pub(crate) fn pull(
+        &mut self,
+        pass: &mut WorkerPass<S>,
+        at: Moment,
+    ) -> Result<Pulled, RunOrRange>
+        ensures { PullAnswered T.ops (pass_state pass.old) (pass_state pass.new) at result }
+    {
+        self.book.pull(pass, at)
+    }
+
+    /// One pull after a wait: something is queued, or the book is closed.
+    pub(crate) fn pull_waited(
+        &mut self,
+        pass: &mut WorkerPass<S>,
+        at: Moment,
+    ) -> Result<Pulled, RunOrRange>
+        requires { must_wait T.ops self.old ≡ false }
+        ensures pulled { PullAnswered T.ops (pass_state pass.old) (pass_state pass.new) at result }
+        ensures nothing { IfOk result (λ pulled. pulled ≡ pulls.Nothing → self.old.closed ≡ true) }
+    {
+        self.book.pull(pass, at)
+    }
+
+    /// Takes no more requests from now on.
+    pub(crate) fn close(&mut self) {
+        self.book.close();
+    }
+}

@@ -13,11 +13,11 @@ pub const FINE_HZ: u32 = 735_134_400;
 /// One more than the greatest whole number whose square is below 2^32.
 const MOST_ROOT: u32 = 1 << 16;
 
-/// The greatest divisor of `hz` that is at most `rate`, in requests a second: the rate to take for a limit. `None` for a rate of
-/// 0, and where `hz` is not 1 to 1,000,000,000. It makes at most 31,623 divisions.
+/// The greatest divisor of `hz` that is at most `rate`, in requests a second: the rate to take for a limit and for a weight.
+/// `None` for a rate of 0, and where `hz` is not 1 to 1,000,000,000. It makes at most 31,623 divisions.
 ///
-/// Of weights only the proportions count: with `rate_at_most(hz, 1000 * weight)` for each client they stay within 5% of those
-/// asked for, at an hz with as many divisors as `FINE_HZ`.
+/// Weights are small numbers: shares are in their proportions only while their sum is less than the requests a second that are
+/// granted by weight, so a weight is taken as it was typed and not multiplied.
 pub fn rate_at_most(hz: u32, rate: u32) -> Option<u32>
     ensures found { IfSome result (IsGreatestAtMost hz rate) }
     ensures none { IsNone result ↔ (rate ≡ 0) ⊎ (IsHz hz → ⊥) }

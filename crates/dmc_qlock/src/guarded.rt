@@ -69,7 +69,10 @@ impl<B: Lasting, W: Witness<B>> Guarded<B, W> {
     }
 }
 
-impl<T: Tag, I: Indexes<T>, S: Setup, W: Witness<QueueBook<T, I, S>>> Guarded<QueueBook<T, I, S>, W> {
+impl<T: Tag, I: Indexes<T>, S: Setup, W: Witness<QueueBook<T, I, S>>> Guarded<
+    QueueBook<T, I, S>,
+    W,
+> {
     /// Whether nothing is queued and more may come.
     pub(crate) fn must_wait(&self) -> bool
         ensures { result ≡ must_wait T.ops self.now }

@@ -119,7 +119,10 @@ impl<B: Lasting, W: Witness<B>> LockedQueue<B, W> {
     }
 }
 
-impl<T: Tag, I: Indexes<T>, S: Setup, W: Witness<QueueBook<T, I, S>>> LockedQueue<QueueBook<T, I, S>, W> {
+impl<T: Tag, I: Indexes<T>, S: Setup, W: Witness<QueueBook<T, I, S>>> LockedQueue<
+    QueueBook<T, I, S>,
+    W,
+> {
     /// Hands a command that is not an Add to the queue, which answers and records it. The pass has one call more, one miss
     /// more where the reply is Later, Nothing or Refused, and of a grant one grant, its token, and one unit of its client and
     /// phase.

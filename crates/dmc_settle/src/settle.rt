@@ -80,6 +80,5 @@ fn are_whole<T: Tag, I: Indexes<T>, S: Setup>(
     ensures servers { IsTrue result → scene.now.servers ≤ most_servers }
     ensures clients { IsTrue result → length scene.now.clients ≤ most_scene_clients }
 {
-    are_together(scene, books, trackers, passes, report)
-        && are_rows(scene, report)
+    are_together(scene, books, trackers, passes, report) && are_rows(scene, report)
 }

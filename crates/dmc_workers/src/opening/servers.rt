@@ -188,7 +188,10 @@ fn book_of<T: Tag, I: Indexes<T>, S: Setup>(
 }
 
 /// One queue more, behind its lock.
-fn push_queue<B: OfServer + Lasting + Drop>(book: B, queues: &mut Vec<Locked<B>>) -> Result<(), AllocError> {
+fn push_queue<B: OfServer + Lasting + Drop>(
+    book: B,
+    queues: &mut Vec<Locked<B>>,
+) -> Result<(), AllocError> {
     push_last(Locked::new(book), queues)
 }
 

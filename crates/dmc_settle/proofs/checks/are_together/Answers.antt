@@ -1,4 +1,4 @@
-use Rattle.std.proofs.Common.{List, map, sym, ◌∙◌, subst}
+use Rattle.std.proofs.Common.{List, sym, ◌∙◌, subst}
 use Rattle.std.proofs.lemmas.Bool.{false≢true}
 use Rattle.dmc_book.specs.BookState.{PassState}
 use Rattle.dmc_settle.specs.Checks.{AreServerParts}

@@ -1,5 +1,5 @@
 #!/usr/bin/env bash
-# Instructions of a pull and an add, of one client with so many requests queued (callgrind). Build
+# Instructions of a pull and an add, of one client with this many requests queued (callgrind). Build
 # dmc_bench first: cd crates/dmc_bench && rt run -- heap 10 100
 set -eu
 cd "$(dirname "$0")/.."

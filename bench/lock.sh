@@ -8,7 +8,7 @@ cd "$(dirname "$0")/.."
 bench=crates/dmc_bench/out/dmc_bench
 folder=$(mktemp -d)
 trap 'rm -rf "$folder"' EXIT
-# nanoseconds of a submit and of a pull, those told last; the checksum goes to the file sum
+# nanoseconds of a submit and of a pull, those printed last; the checksum goes to the file sum
 run() {
   "$bench" "$1" "$2" 20000 2>&1 > "$folder/sum" |
     awk '$1 == "submit" { submit = $3 / $2 } $1 == "pull" { pull = $3 / $2 } END { print submit, pull }'

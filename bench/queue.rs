@@ -5,7 +5,7 @@ use std::collections::{HashMap, VecDeque};
 
 const VACANT: usize = usize::MAX;
 
-/// A binary heap of ranks, with the place of each key.
+/// A binary heap of ranks, with the index of each key.
 struct Heap<R> {
     heap: Vec<(R, usize)>,
     places: Vec<usize>,

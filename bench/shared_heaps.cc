@@ -39,7 +39,7 @@ struct Client {
   double shift = 0; // of the tags of weight, since the client was idle
   bool is_idle = true;
   std::deque<Request> requests{};
-  std::size_t by_reservation = 0, by_limit = 0, by_readiness = 0; // its places in the heaps
+  std::size_t by_reservation = 0, by_limit = 0, by_readiness = 0; // its indexes in the heaps
 
   bool has_request() const { return !requests.empty(); }
   const Tag &next() const { return requests.front().tag; }
@@ -72,7 +72,7 @@ struct ByReadiness {
   }
 };
 
-// A heap of shared records, each of which knows its place.
+// A heap of shared records, each of which knows its index.
 template <std::size_t Client::*place, typename Before>
 class Heap {
  public:

@@ -1,4 +1,4 @@
-// The loads of dmc_bench on the unverified queue of queue.rs. It answers the same checksums.
+// The loads of dmc_bench on the unverified queue of queue.rs. It has the same checksums.
 // Build: rustc -O -o unverified bench/unverified.rs
 // Run: ./unverified CLIENTS ROUNDS [LIMIT]
 mod queue;

@@ -1,8 +1,8 @@
 // The run of `dmclock run` as one writes it by hand: threads, a Mutex and a Condvar round each server's queue, a Mutex round
 // each tracker, and channels of the standard library, over the unverified queue of queue.rs, for the scenes of scene.rs. It
-// writes the same report. As who runs a cluster gets its histories, it keeps them too: each command that a queue answered, with
-// the worker and the reply, appended under the queue's lock. It replays them over new queues of the same kind. It keeps no lists
-// of what its trackers were told and no ledgers, so the units in its report are always 0.
+// writes the same report. A run returns the histories, so it records them too: each command with the worker and the reply,
+// appended under the queue's lock. It replays them over new queues of the same kind. It keeps no lists
+// of its trackers' calls and no ledgers, so the units in its report are always 0.
 // Build: rustc -O -o unverified_run bench/unverified_run.rs
 // Run: ./unverified_run < examples/storage_cluster.toml
 mod queue;
@@ -57,7 +57,7 @@ fn answer(queue: &mut Queue, command: Command) -> Reply {
     }
 }
 
-/// The first event, counted from 0, that a new queue answers otherwise.
+/// The first event, counted from 0, whose reply at a new queue is another.
 fn first_difference(history: &[Event]) -> Option<usize> {
     let mut queue = Queue::new();
     history.iter().position(|event| answer(&mut queue, event.command) != event.reply)

@@ -38,7 +38,7 @@ def structs():
 
 
 def exports():
-    """Each export's name, types and whether it answers a code."""
+    """Each export's name, types and whether it returns a code."""
     for file, handle in (("queue.rt", "dmc_queue"), ("tracker.rt", "dmc_tracker"), ("rates.rt", None)):
         for name, params, code in re.findall(r'pub extern "C" fn (\w+)\((.*?)\)( -> u32)?\s*\n\s*ensures', read(file), re.S):
             types = [p.split(":")[1].strip() for p in params.split(",") if ":" in p]

@@ -5,7 +5,7 @@
  * Pointers are valid and do not overlap. One call at a time on one queue or tracker; none from a signal handler. A struct
  * may move from thread to thread between calls, ordered by a lock or by a thread's start or join.
  *
- * Each call but the frees answers a code. The order of codes: DMC_NONE_HELD (a `new`: DMC_HELD), then the values in the
+ * Each call but the frees returns a code. The order of codes: DMC_NONE_HELD (a `new`: DMC_HELD), then the values in the
  * order moment, params, rate, then the call's refusals in the order that stands at it, and DMC_MEMORY last. What is not
  * DMC_OK leaves the queue or tracker as it was and writes nothing to what the caller points to. A call on what was freed
  * is a call where none is held.
@@ -56,11 +56,11 @@ enum dmc_code {
   DMC_BUSY = 28,       /* an update gives or takes a reservation while the client has a queued request */
 
   DMC_NO_SERVER = 30, /* the tracker has no such server */
-  DMC_TRACK_FULL = 31 /* a count of the tracker would pass its `most` */
+  DMC_TRACK_FULL = 31 /* a count of the tracker would pass its `most`, or a stamp's delta 2^32-1 */
 };
 
 enum dmc_tag_kind { DMC_TICK = 0, DMC_RATIO = 1 };  /* whole ticks: rates divide hz; fractions: any rate */
-enum dmc_at_limit { DMC_WAIT = 0, DMC_ALLOW = 1 };  /* at the limit a pull tells when one is due; or grants beyond it */
+enum dmc_at_limit { DMC_WAIT = 0, DMC_ALLOW = 1 };  /* at the limit a pull returns when one is due; or grants beyond it */
 enum dmc_counting { DMC_ALL = 0, DMC_OTHERS = 1 };  /* a stamp counts the completions at all servers, or at the others */
 enum dmc_phase    { DMC_RESERVATION = 0, DMC_PRIORITY = 1 };
 enum dmc_kind     { DMC_GRANTED = 0, DMC_FUTURE = 1, DMC_NOTHING = 2 };
@@ -72,7 +72,7 @@ struct dmc_tags   { bool reserved; struct dmc_tag r, l, p; };           /* r is 
 struct dmc_pulled { uint32_t kind, client, token, phase; bool beyond; uint64_t due_low, due_high; };
 struct dmc_stamp  { uint32_t delta, rho; };
 /* of a server: what its next stamp would count, and what was sent to it; of all: completions, and those by reservation */
-struct dmc_track  { struct dmc_stamp pending; uint64_t sent_delta, sent_rho; uint32_t completions, reservation; };
+struct dmc_track  { uint64_t pending_delta, pending_rho, sent_delta, sent_rho, completions, reservation; };
 
 /* An empty queue: hz 1 to 1,000,000,000, ages 1 to 2^62, idle_age at most erase_age. DMC_HELD, DMC_BAD_CONFIG, DMC_MEMORY. */
 uint32_t dmc_queue_new(struct dmc_queue *, uint32_t tag_kind, uint64_t hz, uint64_t idle_age, uint64_t erase_age,
@@ -96,7 +96,7 @@ uint32_t dmc_queue_update(struct dmc_queue *, uint32_t client, uint32_t reservat
 uint32_t dmc_queue_add(struct dmc_queue *, uint32_t client, uint32_t token, uint32_t delta, uint32_t rho, uint64_t at,
                        struct dmc_tags *);
 
-/* Grants the next request, or tells when one is due. DMC_NONE_HELD, DMC_BAD_MOMENT, DMC_RANGE. */
+/* Grants the next request, or returns when one is due. DMC_NONE_HELD, DMC_BAD_MOMENT, DMC_RANGE. */
 uint32_t dmc_queue_pull(struct dmc_queue *, uint64_t at, struct dmc_pulled *);
 
 /* Takes out a client's queued requests, and writes how many. DMC_NONE_HELD, DMC_UNKNOWN. */
@@ -109,9 +109,9 @@ uint32_t dmc_queue_clean(struct dmc_queue *, uint64_t at, uint32_t *idled, uint3
 /* Writes how many clients are registered and how many requests are queued. DMC_NONE_HELD. */
 uint32_t dmc_queue_counts(struct dmc_queue *, uint32_t *clients, uint32_t *requests);
 
-/* A tracker of servers 0, 1, .. (1 to 64 of them), which counts at most `most` completions (1 or more). DMC_HELD,
+/* A tracker of servers 0, 1, .. (1 to 64 of them), which counts at most `most` completions (1 to 2^62). DMC_HELD,
    DMC_BAD_CONFIG, DMC_LIMIT, DMC_MEMORY. */
-uint32_t dmc_tracker_new(struct dmc_tracker *, uint32_t servers, uint32_t most, uint32_t counting);
+uint32_t dmc_tracker_new(struct dmc_tracker *, uint32_t servers, uint64_t most, uint32_t counting);
 
 /* Ends what is held; nothing where none is. */
 void dmc_tracker_free(struct dmc_tracker *);
@@ -119,7 +119,11 @@ void dmc_tracker_free(struct dmc_tracker *);
 /* Stamps a request to a server, and writes its counts. DMC_NONE_HELD, DMC_NO_SERVER, DMC_TRACK_FULL. */
 uint32_t dmc_tracker_stamp(struct dmc_tracker *, uint32_t server, struct dmc_stamp *);
 
-/* Counts a completion: a server answered a request that it granted in a phase. DMC_NONE_HELD, DMC_BAD_PHASE, DMC_NO_SERVER,
+/* Skips what is pending at a server: the next stamp to it counts only later completions. It sends nothing. Where a stamp is
+   DMC_TRACK_FULL for its delta, this ends that. DMC_NONE_HELD, DMC_NO_SERVER. */
+uint32_t dmc_tracker_skip(struct dmc_tracker *, uint32_t server);
+
+/* Counts a completion: the response to a request that a server granted in a phase. DMC_NONE_HELD, DMC_BAD_PHASE, DMC_NO_SERVER,
    DMC_TRACK_FULL. */
 uint32_t dmc_tracker_respond(struct dmc_tracker *, uint32_t server, uint32_t phase);
 
@@ -133,7 +137,7 @@ uint32_t dmc_tracker_status(struct dmc_tracker *, uint32_t server, struct dmc_tr
    1,000,000 the next one is at most 2.2% further. A tick is 1.36 ns. */
 #define DMC_FINE_HZ 735134400
 
-/* The greatest rate at most this one that divides hz, which tick tags ask for: for a limit, and for a weight. Clients have shares by
+/* The greatest rate at most this one that divides hz, as tick tags need: for a limit, and for a weight. Clients have shares by
    their weights while the sum of the weights is less than the requests that are granted in a second, so weights are small numbers.
    DMC_BAD_CONFIG, DMC_BAD_RATE (a rate of 0). */
 uint32_t dmc_rate_at_most(uint64_t hz, uint32_t rate, uint32_t *found);
@@ -141,7 +145,7 @@ uint32_t dmc_rate_at_most(uint64_t hz, uint32_t rate, uint32_t *found);
 /* The least rate at least this one that divides hz: for a reservation. DMC_BAD_CONFIG, DMC_BAD_RATE (a rate of 0, or past hz). */
 uint32_t dmc_rate_at_least(uint64_t hz, uint32_t rate, uint32_t *found);
 
-/* The moment of a clock that has counted so many nanoseconds: the whole ticks that have passed. DMC_BAD_CONFIG, DMC_BAD_MOMENT
+/* The moment of a clock that has counted nanos nanoseconds: the whole ticks that have passed. DMC_BAD_CONFIG, DMC_BAD_MOMENT
    (past 2^62). */
 uint32_t dmc_moment_from_nanos(uint64_t hz, uint64_t nanos, uint64_t *moment);
 

@@ -50,7 +50,7 @@ enum class Code : std::uint32_t {
   Range = DMC_RANGE,                            ///< a sum that the call needs is no value of the tags
   Busy = DMC_BUSY,          ///< an update gives or takes a reservation while the client has a queued request
   NoServer = DMC_NO_SERVER, ///< the tracker has no such server
-  TrackFull = DMC_TRACK_FULL ///< a count of the tracker would pass its `most`
+  TrackFull = DMC_TRACK_FULL ///< a count of the tracker would pass its `most`, or a stamp's delta 2^32-1
 };
 
 /// A text for a code, such as "queue full".
@@ -178,7 +178,7 @@ struct Token : Strong<Token, std::uint32_t> {
 /// A moment in ticks, 0 to 2^62.
 struct Moment : Strong<Moment, std::uint64_t> {
   using Strong::Strong;
-  /// The moment of a clock that has counted so many nanoseconds: the whole ticks that have passed. BadConfig (hz is not 1 to
+  /// The moment of a clock that has counted `nanos` nanoseconds: the whole ticks that have passed. BadConfig (hz is not 1 to
   /// 1,000,000,000), BadMoment (past 2^62).
   static Result<Moment> from_nanos(std::uint64_t hz, std::uint64_t nanos) noexcept;
   /// The least nanoseconds after which the moment has come. BadConfig, BadMoment (past 2^62, or nanoseconds past 2^64-1).
@@ -293,9 +293,9 @@ struct Cleaned {
 
 /// A client's rates, in requests a second.
 struct ClientInfo {
-  std::optional<std::uint32_t> reservation; ///< at least so many, where there is one
+  std::optional<std::uint32_t> reservation; ///< at least this many, where there is one
   std::uint32_t weight;                     ///< its share of the rest
-  std::optional<std::uint32_t> limit;       ///< at most so many, where there is one
+  std::optional<std::uint32_t> limit;       ///< at most this many, where there is one
 };
 
 /// The two counts of a stamp, which go with a request to a server.
@@ -317,9 +317,9 @@ struct QueueConfig {
 class TrackStatus {
  public:
   /// The delta that the next stamp to this server would carry; without the request itself in Counting::Others.
-  std::uint64_t pending_delta() const noexcept { return track_.pending.delta; }
+  std::uint64_t pending_delta() const noexcept { return track_.pending_delta; }
   /// The rho that the next stamp to this server would carry; without the request itself in Counting::Others.
-  std::uint64_t pending_rho() const noexcept { return track_.pending.rho; }
+  std::uint64_t pending_rho() const noexcept { return track_.pending_rho; }
   /// The sum of the deltas that were sent to this server.
   std::uint64_t sent_delta() const noexcept { return track_.sent_delta; }
   /// The sum of the rhos that were sent to this server.
@@ -440,12 +440,10 @@ class Queue {
 /// The service tracker of a client.
 class Tracker {
  public:
-  /// A tracker of servers 0, 1, .. (1 to 64 of them), which counts at most `most` completions (1 to 2^32-1). Limit, Memory.
+  /// A tracker of servers 0, 1, .. (1 to 64 of them), which counts at most `most` completions (1 to 2^62). Limit, Memory.
   static Result<Tracker> make(std::uint32_t servers, std::uint64_t most, Counting counting) noexcept {
     return Calls::of<Tracker>([&](Tracker *tracker) {
-      const bool fits = most <= std::numeric_limits<std::uint32_t>::max();
-      return dmc_tracker_new(&tracker->tracker_, servers, fits ? static_cast<std::uint32_t>(most) : 0,
-                             static_cast<std::uint32_t>(counting));
+      return dmc_tracker_new(&tracker->tracker_, servers, most, static_cast<std::uint32_t>(counting));
     });
   }
 
@@ -474,7 +472,13 @@ class Tracker {
     });
   }
 
-  /// Counts a completion: a server answered a request that it granted in a phase. NoneHeld, BadPhase, NoServer, TrackFull.
+  /// Skips what is pending at a server: the next stamp to it counts only later completions. It sends nothing. Where a stamp is
+  /// TrackFull for its delta, this ends that. NoneHeld, NoServer.
+  [[nodiscard]] Code skip(ServerId server) noexcept {
+    return static_cast<Code>(dmc_tracker_skip(&tracker_, server.value()));
+  }
+
+  /// Counts a completion: the response to a request that a server granted in a phase. NoneHeld, BadPhase, NoServer, TrackFull.
   [[nodiscard]] Code track_resp(ServerId server, PhaseType phase) noexcept {
     return static_cast<Code>(dmc_tracker_respond(&tracker_, server.value(), static_cast<std::uint32_t>(phase)));
   }

@@ -43,7 +43,7 @@ static void send(struct dmc_queue *queue, struct dmc_tracker *tracker, uint32_t 
   show_tags(tags);
 }
 
-/* Serves what a server has to serve at a moment, and tells each client's tracker. */
+/* Serves what a server has to serve at a moment, and counts the responses at the clients' trackers. */
 static void serve(struct dmc_queue *queue, struct dmc_tracker *trackers, uint32_t server, uint64_t at) {
   struct dmc_pulled pulled;
   for (;;) {
@@ -59,8 +59,9 @@ static void show_status(struct dmc_tracker *tracker, uint32_t client) {
   for (uint32_t server = 0; server < SERVERS; server++) {
     struct dmc_track track;
     must(dmc_tracker_status(tracker, server, &track));
-    printf("client %u server %u: pending %u %u sent %" PRIu64 " %" PRIu64 " completions %u %u\n", client, server,
-           track.pending.delta, track.pending.rho, track.sent_delta, track.sent_rho, track.completions, track.reservation);
+    printf("client %u server %u: pending %" PRIu64 " %" PRIu64 " sent %" PRIu64 " %" PRIu64 " completions %" PRIu64 " %" PRIu64
+           "\n", client, server, track.pending_delta, track.pending_rho, track.sent_delta, track.sent_rho, track.completions,
+           track.reservation);
   }
 }
 
@@ -93,7 +94,7 @@ static void run_cluster(uint32_t counting) {
   for (uint32_t client = 0; client < CLIENTS; client++) dmc_tracker_free(&trackers[client]);
 }
 
-/* What is not accepted is told by a code; nothing has changed then. */
+/* A call that is not accepted returns a code, and has changed nothing. */
 static void run_refusals(void) {
   struct dmc_queue queue = DMC_QUEUE_NONE;
   struct dmc_tracker tracker = DMC_TRACKER_NONE;

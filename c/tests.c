@@ -146,7 +146,7 @@ static uint32_t run_line(struct dmc_queue *queue, struct line l) {
   return answer;
 }
 
-/* the replies to a script; what is refused for want of memory is asked once more */
+/* the replies to a script; a command at which an allocation failed is given again */
 static const char *replies(struct setting s, const struct line *lines, size_t count) {
   struct dmc_queue queue = DMC_QUEUE_NONE;
   text[0] = 0;
@@ -231,8 +231,9 @@ static void write_status(struct dmc_tracker *tracker, uint32_t server) {
   struct dmc_track track;
   char word[128];
   code(dmc_tracker_status(tracker, server, &track));
-  snprintf(word, sizeof word, "sent (%" PRIu64 ",%" PRIu64 ") pending (%u,%u) completions (%u,%u); ", track.sent_delta,
-           track.sent_rho, track.pending.delta, track.pending.rho, track.completions, track.reservation);
+  snprintf(word, sizeof word,
+           "sent (%" PRIu64 ",%" PRIu64 ") pending (%" PRIu64 ",%" PRIu64 ") completions (%" PRIu64 ",%" PRIu64 "); ",
+           track.sent_delta, track.sent_rho, track.pending_delta, track.pending_rho, track.completions, track.reservation);
   write_text(word);
 }
 
@@ -251,6 +252,21 @@ static const char *three_stamps(uint32_t counting) {
   return text;
 }
 
+/* Two responses of server 0, a skip of server 1, and a stamp to each. */
+static const char *skip_between(uint32_t counting) {
+  struct dmc_tracker tracker = DMC_TRACKER_NONE;
+  text[0] = 0;
+  while (code(dmc_tracker_new(&tracker, 2, UINT64_C(1) << 62, counting)) == DMC_MEMORY) write_text("");
+  for (uint32_t phase = 0; phase < 2; phase++)
+    write_text(dmc_tracker_respond(&tracker, 0, phase) == DMC_OK ? "ok; " : "refused; ");
+  write_text(dmc_tracker_skip(&tracker, 1) == DMC_OK ? "ok; " : "refused; ");
+  write_status(&tracker, 1);
+  write_stamp(&tracker, 0);
+  write_stamp(&tracker, 1);
+  dmc_tracker_free(&tracker);
+  return text;
+}
+
 static void run_trackers(void) {
   struct dmc_tracker tracker = DMC_TRACKER_NONE;
   struct dmc_track track;
@@ -260,6 +276,10 @@ static void run_trackers(void) {
   expect_text("others_tracker", three_stamps(DMC_OTHERS),
               "(1,1); ok; (2,2); ok; (2,1); sent (3,2) pending (0,0) completions (2,1); "
               "sent (2,2) pending (0,0) completions (2,1); ");
+  expect_text("skipped_server", skip_between(DMC_ALL),
+              "ok; ok; ok; sent (0,0) pending (0,0) completions (2,1); (2,1); (0,0); ");
+  expect_text("skipped_server, others", skip_between(DMC_OTHERS),
+              "ok; ok; ok; sent (0,0) pending (0,0) completions (2,1); (1,1); (1,1); ");
   while (code(dmc_tracker_new(&tracker, 2, 1, DMC_OTHERS)) == DMC_MEMORY) continue;
   text[0] = 0;
   write_stamp(&tracker, 0);
@@ -268,10 +288,13 @@ static void run_trackers(void) {
   expect("a tracker twice", code(dmc_tracker_new(&tracker, 0, 0, 9)) == DMC_HELD);
   expect("no phase", code(dmc_tracker_respond(&tracker, 9, 2)) == DMC_BAD_PHASE);
   expect("no server", code(dmc_tracker_respond(&tracker, 2, 1)) == DMC_NO_SERVER);
+  expect("a skip of no server", code(dmc_tracker_skip(&tracker, 2)) == DMC_NO_SERVER);
   dmc_tracker_free(&tracker);
   dmc_tracker_free(&tracker);
   expect("a tracker that is freed", code(dmc_tracker_status(&tracker, 0, &track)) == DMC_NONE_HELD);
+  expect("a skip by no tracker", code(dmc_tracker_skip(&tracker, 0)) == DMC_NONE_HELD);
   expect("65 servers", code(dmc_tracker_new(&tracker, 65, 1, DMC_ALL)) == DMC_LIMIT);
+  expect("past 2^62", code(dmc_tracker_new(&tracker, 1, (UINT64_C(1) << 62) + 1, DMC_ALL)) == DMC_LIMIT);
   expect("no form", code(dmc_tracker_new(&tracker, 65, 1, 2)) == DMC_BAD_CONFIG);
 }
 

@@ -114,7 +114,7 @@ static std::string run_line(Queue &queue, const std::string &line) {
                           : done(queue.update_info(client, info, words.at()), "updated");
 }
 
-// The replies to a script, whose lines are parted by "; ".
+// The replies to a script, whose lines are separated by "; ".
 static std::string replies(const QueueConfig &config, const std::string &script) {
   Queue queue = Queue::make(config).value();
   std::string all;
@@ -195,6 +195,17 @@ static std::string three_stamps(Counting counting) {
   return all + status(tracker, 0) + status(tracker, 1);
 }
 
+/// Two responses of server 0, a skip of server 1, and a stamp to each.
+static std::string skip_between(Counting counting) {
+  Tracker tracker = Tracker::make(2, std::uint64_t(1) << 62, counting).value();
+  std::string all = done(tracker.track_resp(ServerId(0), PhaseType::Reservation), "ok; ");
+  all += done(tracker.track_resp(ServerId(0), PhaseType::Priority), "ok; ");
+  all += done(tracker.skip(ServerId(1)), "ok; ");
+  all += status(tracker, 1);
+  all += stamp(tracker, 0);
+  return all + stamp(tracker, 1);
+}
+
 static void run_trackers() {
   expect_text("two_server_tracker", three_stamps(Counting::All),
               "(0,0); ok; (1,1); ok; (2,1); sent (2,1) pending (0,0) completions (2,1); "
@@ -202,16 +213,22 @@ static void run_trackers() {
   expect_text("others_tracker", three_stamps(Counting::Others),
               "(1,1); ok; (2,2); ok; (2,1); sent (3,2) pending (0,0) completions (2,1); "
               "sent (2,2) pending (0,0) completions (2,1); ");
+  expect_text("skipped_server", skip_between(Counting::All),
+              "ok; ok; ok; sent (0,0) pending (0,0) completions (2,1); (2,1); (0,0); ");
+  expect_text("skipped_server, others", skip_between(Counting::Others),
+              "ok; ok; ok; sent (0,0) pending (0,0) completions (2,1); (1,1); (1,1); ");
   Tracker tracker = Tracker::make(2, 1, Counting::Others).value();
   const std::string first = stamp(tracker, 0);
   expect_text("others_tracker, most 1", first + stamp(tracker, 0), "(1,1); refused tracker full");
   expect("no phase", tracker.track_resp(ServerId(9), static_cast<PhaseType>(2)) == Code::BadPhase);
   expect("no server", tracker.track_resp(ServerId(2), PhaseType::Priority) == Code::NoServer &&
                           tracker.get_req_params(ServerId(2)).code() == Code::NoServer &&
+                          tracker.skip(ServerId(2)) == Code::NoServer &&
                           tracker.status(ServerId(2)).code() == Code::NoServer);
   expect("65 servers", Tracker::make(65, 1, Counting::All).code() == Code::Limit);
-  expect("a tracker of 2^32", Tracker::make(1, std::uint64_t(1) << 32, Counting::All).code() == Code::Limit &&
-                                  Tracker::make(1, (std::uint64_t(1) << 32) - 1, Counting::All).ok());
+  const std::uint64_t most = std::uint64_t(1) << 62;
+  expect("a tracker of 2^62", Tracker::make(1, most, Counting::All).ok() &&
+                                  Tracker::make(1, most + 1, Counting::All).code() == Code::Limit);
   expect("no form", Tracker::make(65, 1, static_cast<Counting>(2)).code() == Code::BadConfig);
 }
 
@@ -279,6 +296,7 @@ static void run_moves() {
   expect("none", Queue().client_count().code() == Code::NoneHeld &&
                      Queue().register_client(client, {0, 1, {}}, zero) == Code::NoneHeld &&
                      Tracker().get_req_params(ServerId(0)).code() == Code::NoneHeld &&
+                     Tracker().skip(ServerId(0)) == Code::NoneHeld &&
                      Tracker().track_resp(ServerId(0), PhaseType::Priority) == Code::NoneHeld);
   Tracker tracker = Tracker::make(1, 9, Counting::All).value(), other = std::move(tracker);
   tracker = std::move(other);

@@ -147,7 +147,7 @@ static void dmclock_close(void *handle)
 /* ---- requests */
 
 /* Waits for a grant, and returns 0; the device's answer must then be followed by gate_leave. Else -1, and sets err. A connection
-   may die while its request waits: then the device is not asked. */
+   may die while its request waits: then the device is not called. */
 static int enter(struct client *client, int *err)
 {
   bool has_waited = false;

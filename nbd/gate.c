@@ -11,7 +11,7 @@
 #define NEVER UINT64_MAX
 #define SECOND 1000000000u
 
-/* Where a thread waits for the grant of its request. Slots never move; the token of a request is its slot's place in the list. */
+/* Where a thread waits for the grant of its request. Slots never move; the token of a request is its slot's index in the list. */
 struct slot {
   pthread_cond_t wakes;
   struct client *client;
@@ -86,7 +86,7 @@ static int errno_of(uint32_t code)
 
 /* ---- slots */
 
-/* Makes room for one slot more. */
+/* Reserves memory for one more slot. */
 static int grow_slots(struct gate *gate)
 {
   if (gate->slot_count < gate->slot_room)

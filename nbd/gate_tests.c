@@ -209,7 +209,7 @@ static void forgotten(void)
   gate_close(&gate);
 }
 
-/* Whichever allocation is refused, the answer is ENOMEM, and the same call then succeeds. */
+/* Whichever allocation is refused, the result is ENOMEM, and the same call then succeeds. */
 static void refused_allocations(void)
 {
   unsigned long needed = 0;

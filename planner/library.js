@@ -58,7 +58,7 @@ class Library {
     }
   }
 
-  // The word at so many words from a pointer.
+  // The word at this many words from a pointer.
   word(at, words = 0) {
     this.memory();
     return this.words[Number(at) / 4 + words];
@@ -106,7 +106,7 @@ class Library {
 
   newTracker(servers, counting) {
     const tracker = this.room(HANDLE.bytes);
-    this.must(this.calls.dmc_tracker_new(tracker, servers, 0xffffffff, COUNTING[counting]));
+    this.must(this.calls.dmc_tracker_new(tracker, servers, 1n << 62n, COUNTING[counting]));
     return tracker;
   }
 

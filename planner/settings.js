@@ -99,7 +99,7 @@ const tooMany = clients => clients.length > MOST_CLIENTS
 
 const valueOf = (text, { words, isName }) => (isName ? text.trim() : words ? text : Number(text));
 
-// The settings of a scene, or its faults: for each a field's key, the client's place if it is a client's, and a sentence.
+// The settings of a scene, or its faults: for each a field's key, the client's index if it is a client's, and a sentence.
 function readScene({ server, clients }) {
   const faults = [];
   const read = (fields, texts, client) => Object.fromEntries(fields.map(field => {

@@ -73,7 +73,7 @@ static bool read_client(struct client *it, uint64_t seconds, uint32_t servers, u
   if (it->limit)
     must(dmc_rate_at_most(HZ, it->limit, &it->limit));
   printf("rates %" PRIu32 " %" PRIu32 " %" PRIu32 "\n", it->reservation, it->weight, it->limit);
-  must(dmc_tracker_new(&it->tracker, servers, UINT32_MAX, counting));
+  must(dmc_tracker_new(&it->tracker, servers, UINT64_C(1) << 62, counting));
   it->spacing = HZ / demand;
   it->until = earlier(until, seconds) * HZ;
   it->next = from * HZ < it->until ? from * HZ : NEVER;

@@ -1,4 +1,4 @@
--- What a record's part of a plain state comes to.
+-- What a record's part of a plain state is.
 use Rattle.std.proofs.Common.{◌≡◌, Bool, true, false, not, ◌&&◌, ◌||◌, List, [], ◌∷◌, map, refl, sym, ap, ◌∙◌}
 use Rattle.std.specs.Prelude.{if◌then◌else◌, Some}
 use Rattle.std.specs.Option.{option_map_or}

@@ -1,1 +1,2 @@
+-- The adjustment and the reduction of one record.
 pub mod Changes

@@ -1,4 +1,4 @@
-//! Adjustment: the shares of all who are not idle are shifted, so that the least begins at t (own, after mClock's tag
+//! Adjustment: the P of all clients that are not idle are shifted, so that the least P is t (extension, after mClock's tag
 //! adjustment).
 ghost use Rattle.std.specs.Prelude.{◌≡◌, ◌&&◌, not, true, Some, List, ◌∷◌, [], map, if◌then◌else◌};
 ghost use Rattle.std.specs.Option.{option_map};
@@ -14,7 +14,7 @@ ghost use Rattle.dmc_types.specs.declared.ids.ClientId.{ClientId};
 use dmc_client::record::ClientRec;
 use dmc_tag::tag::Tag;
 
-/// How far the least share is past t: what an adjustment takes off. None where that is no value.
+/// The amount that an adjustment takes off: the least P less t. `None` where that is no value.
 pub fn shift_for<T: Tag>(least: T, t: T) -> Option<T>
     ensures value { result ≡ T.ops.minus least t }
     ensures shift { (found : PlainRequest T × List (PlainRequest T)) → found.0.tags.p ≡ least →
@@ -33,8 +33,8 @@ pub fn can_shift<T: Tag>(rec: &ClientRec<T>, amount: T) -> bool
     rec.is_idle() || rec.has_less_shares(amount)
 }
 
-/// Takes the amount off the shares of the client if each stays a value, and else changes nothing. Answers whether each
-/// does. An idle client isn't shifted.
+/// Takes the amount off the P tags of the client if each stays a value, and otherwise changes nothing. Returns whether each does.
+/// An idle client isn't shifted.
 pub fn shift<T: Tag>(rec: &mut ClientRec<T>, amount: T) -> bool
     ensures tests { result ≡ changes.is_shiftable T.ops amount rec.old }
     ensures value { rec.new ≡ (if result then changes.shifted T.ops amount rec.old else rec.old) }

@@ -1,4 +1,4 @@
-//! Reduction: a Priority grant takes one spacing off the R tags of its client (dmClock's constraint phase gives it back).
+//! Reduction: a Priority grant takes one spacing off the R tags of its client, so that it does not count against the reservation.
 ghost use Rattle.std.specs.Prelude.{◌≡◌, ℕ, true, Ok, ◌∷◌, []};
 ghost use Rattle.dmc_adjust.specs.Changes as changes;
 ghost use Rattle.dmc_client.specs.Record.{client_of, requests_of_record, IsRecord};
@@ -9,8 +9,8 @@ ghost use Rattle.dmc_types.specs.declared.ids.ClientId.{ClientId};
 use dmc_client::record::ClientRec;
 use dmc_tag::tag::Tag;
 
-/// Whether each tag that a grant of the first request reduces is a value: those of all other requests, and the previous
-/// one. It is asked before that request's `pop`.
+/// Whether each tag that a grant of the first request reduces is a value: those of all other requests, and the previous one. It
+/// is called before that request's `pop`.
 pub fn can_reduce<T: Tag>(rec: &ClientRec<T>) -> bool
     ensures value { result ≡ changes.is_reducible T.ops (changes.popped rec.now) }
     ensures tests { (id : ClientId) → result ≡ rules_of.can_reduce_by T.ops id rec.now.spacings.r (client_of id rec.now ∷ [])

@@ -3,7 +3,7 @@ use Rattle.std.specs.Prelude.{◌≡◌, ℕ, ◌≤◌, ◌<◌, List, Option, 
 use Rattle.dmc_index.specs.Index.{slot_of_key}
 use Rattle.dmc_tag.specs.declared.rank.TagRank.{TagRank}
 
--- The keys below the count are held and no others, within the room, and each key's rank is that of the client of its number.
+-- Exactly the keys below the count have ranks, within the capacity, and each key's rank is that of the client of its number.
 pub record HoldsFirst {T : Type 0} (count room : ℕ) (slots : List (Option (TagRank T))) : Type 0 where
   pub size : length slots ≡ room
   pub here : (key : ℕ) → key < count → IsSome (slot_of_key slots key)

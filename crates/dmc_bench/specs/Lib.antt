@@ -1,1 +1,2 @@
+-- An index that holds the first keys, each under a rank of its own client.
 pub mod Keys

@@ -25,7 +25,7 @@ use dmc_types::command::Command;
 use dmc_types::config::{AtLimit, Counting, PhaseType, QueueConfig};
 use dmc_types::ids::{ClientId, ServerId, Token, WorkerId};
 use dmc_types::info::ClientInfo;
-use dmc_types::limits::MOST_EVENTS;
+use dmc_types::limits::{MOST_COMPLETIONS, MOST_EVENTS};
 use dmc_types::moment::Moment;
 use std::alloc::Global;
 use std::sync::Wait;
@@ -33,7 +33,7 @@ use std::sync::Wait;
 /// The one server.
 const SERVER: ServerId = ServerId(0);
 
-/// The most clients, and the most workers.
+/// The greatest number of clients, and of workers.
 const MOST: u32 = 65_536;
 
 /// A client's tracker of the server, its tills, and its next stamp.
@@ -52,7 +52,7 @@ pub struct Clients<S: Setup> {
     pub clients: Vec<Client<S>>,
 }
 
-/// How many books the server's lock and its clients take: five for each client, and five for each worker.
+/// The number of books that the server's lock and its clients take: five for each client, and five for each worker.
 pub fn book_count(clients: u32, workers: u32) -> Result<u64, Fault>
     ensures some { IfOk result (λ books. 0 < books) }
     ensures limit { IfOk result (λ books. books ≤ most_books) }
@@ -60,7 +60,7 @@ pub fn book_count(clients: u32, workers: u32) -> Result<u64, Fault>
     if clients == 0 || clients > MOST || workers == 0 || workers > MOST {
         return Err(Fault::Usage);
     }
-    Ok(5 * (u64::from(clients) + u64::from(workers)))
+    Ok(5 * (u64::from(clients) + u64::from(workers)) + 1)
 }
 
 /// The desks of a client and the server.
@@ -88,7 +88,14 @@ fn open_client<S: Setup>(
     ensures { IfOk result (λ opened. IsNewDesk 0 (client_side opened.0)) }
 {
     let (desk, sides) = open_desks(alloc, mint, id)?;
-    match TrackerBook::new(alloc, id, sides, u32::MAX, MOST_EVENTS, Counting::All) {
+    match TrackerBook::new(
+        alloc,
+        id,
+        sides,
+        MOST_COMPLETIONS,
+        MOST_EVENTS,
+        Counting::All,
+    ) {
         Ok((tracker, tills)) => Ok((
             desk,
             Client {
@@ -102,7 +109,7 @@ fn open_client<S: Setup>(
     }
 }
 
-/// One client more.
+/// Adds one more client.
 fn push_client<S: Setup>(
     alloc: Global,
     mint: &mut Mint<S>,
@@ -140,7 +147,7 @@ fn workers(alloc: Global, count: u32) -> Result<Vec<WorkerId>, Fault> {
     Ok(workers)
 }
 
-/// How a queue is set up, and its workers.
+/// The configuration of a queue, and its workers.
 fn config_and_workers(alloc: Global, count: u32) -> Result<(QueueConfig, Vec<WorkerId>), Fault>
     ensures { IfOk result (λ made. length made.1.items ≤ most_workers) }
 {
@@ -217,7 +224,7 @@ pub fn stamp<S: Setup>(client: &mut Client<S>) -> Result<(), Fault> {
     Ok(())
 }
 
-/// Whether the tills hold what the stamp carries.
+/// Whether the tills cover the stamp.
 fn covers<S: Setup>(tills: &StampTills<S>, stamp: &Stamp) -> bool
     ensures { IsTrue result → Covers (stamp_holdings tills.now) stamp.now.params }
 {
@@ -249,7 +256,7 @@ pub fn submit<T: Tag, I: Indexes<T>, S: Setup, R: Wait>(
     }
 }
 
-/// Whose request a pull grants, or `None` where it grants none.
+/// The client of a grant of a pull, or `None` where it grants none.
 pub fn pull<T: Tag, I: Indexes<T>, S: Setup, R: Wait>(
     rt: &R,
     lock: &QueueLock<T, I, S>,
@@ -262,7 +269,7 @@ pub fn pull<T: Tag, I: Indexes<T>, S: Setup, R: Wait>(
     }
 }
 
-/// The unit of a grant goes back to its client's tracker.
+/// Returns the unit of a grant to its client's tracker.
 pub fn respond<S: Setup>(pass: &mut WorkerPass<S>, client: &mut Client<S>) -> Result<(), Fault> {
     let Some(till) = pass.grant_till(client.id, PhaseType::Priority) else {
         return Err(Fault::Usage);

@@ -1,15 +1,15 @@
-//! Why a load does not run.
+//! The reasons why a load does not run.
 use dmc_types::refusal::{QueueFault, ValueFault};
 use std::alloc::{AllocError, AllocFailed};
 use std::io;
 use std::num::ParseIntError;
 
-/// Why a load does not run.
+/// The reason why a load does not run.
 #[derive(Clone, Copy, Debug, PartialEq, Eq)]
 pub enum Fault {
     /// The words name no load.
     Usage,
-    /// There is no memory, no clock, or a standard stream fails.
+    /// An allocation failed, there is no clock, or a standard stream fails.
     Failed,
 }
 

@@ -1,4 +1,4 @@
-//! An index that is filled, changed, asked and emptied again and again.
+//! An index that is filled, changed, searched and emptied again and again.
 ghost use Rattle.std.specs.Prelude.{◌≡◌, Some, OnOk, ◌^◌};
 ghost use Rattle.dmc_bench.specs.Keys.{HoldsFirst};
 
@@ -19,8 +19,8 @@ struct Times {
     remove: u128,
 }
 
-/// Fills an index with the load's keys, changes each, asks so often for the least, and empties it; again and again, about as
-/// often as the load has rounds for the keys. Answers a checksum of the least keys.
+/// Fills an index with the load's keys, changes each, reads the least this often, and empties it; again and again, about as often
+/// as the load has rounds for the keys. Returns a checksum of the least keys.
 pub fn use_index<I: OrderIndex<TagRank<TickTag>>>(
     rt: &HostRuntime,
     load: Load,
@@ -43,7 +43,7 @@ pub fn use_index<I: OrderIndex<TagRank<TickTag>>>(
     Ok(checksum)
 }
 
-/// Tells what each kind of call took.
+/// Writes what each kind of call took.
 fn tell_times(rt: &HostRuntime, calls: u32, times: Times) -> Result<(), Fault> {
     tell(rt, "insert", calls, times.insert)?;
     tell(rt, "change", calls, times.change)?;
@@ -51,7 +51,7 @@ fn tell_times(rt: &HostRuntime, calls: u32, times: Times) -> Result<(), Fault> {
     tell(rt, "remove", calls, times.remove)
 }
 
-/// Fills the index, changes each key, asks for the least, and empties it.
+/// Fills the index, changes each key, reads the least, and empties it.
 fn use_once<I: OrderIndex<TagRank<TickTag>>>(
     rt: &HostRuntime,
     index: &mut I,
@@ -98,7 +98,7 @@ fn change_all<I: OrderIndex<TagRank<TickTag>>>(index: &mut I, keys: u32, round: 
     }
 }
 
-/// Asks so often for the least, and answers the checksum with its keys in it.
+/// Reads the least this often, and returns the checksum with its keys in it.
 fn ask_all<I: OrderIndex<TagRank<TickTag>>>(index: &I, times: u32, checksum: u64) -> u64 {
     let mut checksum = checksum;
     for _ in 0..times {
@@ -109,7 +109,7 @@ fn ask_all<I: OrderIndex<TagRank<TickTag>>>(index: &I, times: u32, checksum: u64
     checksum
 }
 
-/// Takes the keys out, the last one first.
+/// Removes the keys, the last one first.
 fn remove_all<I: OrderIndex<TagRank<TickTag>>>(index: &mut I, keys: u32)
     requires { HoldsFirst keys keys (I.slots index.old) }
     ensures { HoldsFirst 0 keys (I.slots index.new) }
@@ -119,7 +119,7 @@ fn remove_all<I: OrderIndex<TagRank<TickTag>>>(index: &mut I, keys: u32)
     }
 }
 
-/// A rank of the client of this number, with a tag that scatters.
+/// A rank of the client of this number, with a scattered tag.
 fn rank_of(key: u32, round: u32) -> TagRank<TickTag>
     ensures { result.client.0 ≡ key }
 {

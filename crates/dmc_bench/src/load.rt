@@ -26,7 +26,7 @@ use std::thread::Threads;
 /// What is measured.
 #[derive(Clone, Copy, Debug, PartialEq, Eq)]
 pub enum Kind {
-    /// The plain queue.
+    /// The reference queue.
     PlainQueue,
     /// The indexed queue over sorted vectors.
     ListQueue,
@@ -36,9 +36,9 @@ pub enum Kind {
     DeepQueue,
     /// The indexed queue over heaps, in batches.
     LoneQueue,
-    /// The same behind its lock.
+    /// The indexed queue over heaps, in batches, behind its lock.
     LockedQueue,
-    /// That three times in one process.
+    /// Three such loads in one process.
     WarmQueue,
     /// The lock, shared by threads.
     SharedQueue,
@@ -94,7 +94,7 @@ fn kind_of(word: &str) -> Result<Kind, Fault> {
     }
 }
 
-/// The limit that the last words name: one word, or none.
+/// The limit in the last words: one word, or none.
 fn limit_of(words: &[String]) -> Result<Option<u32>, Fault> {
     match words {
         [] => Ok(None),
@@ -103,12 +103,12 @@ fn limit_of(words: &[String]) -> Result<Option<u32>, Fault> {
     }
 }
 
-/// The number that a word spells.
+/// The number of a word.
 fn number_of(word: &str) -> Result<u32, Fault> {
     Ok(word.parse()?)
 }
 
-/// Runs a load, tells what each part of it took, and answers its checksum. Only a load of a lock waits or starts threads.
+/// Runs a load, writes what each part of it took, and returns its checksum. Only a load of a lock waits or starts threads.
 pub fn run_load<R: Threads + Wait + Sync>(
     rt: &HostRuntime,
     threads: &R,
@@ -131,12 +131,12 @@ pub fn run_load<R: Threads + Wait + Sync>(
     }
 }
 
-/// How the queues are set up.
+/// The configuration of the queues.
 fn queue_config() -> Result<QueueConfig, Fault> {
     Ok(QueueConfig::new(HZ as u64, 1, 1, AtLimit::Wait)?)
 }
 
-/// Runs the load of a plain queue.
+/// Runs the load of a reference queue.
 fn run_plain<T: Tag>(rt: &HostRuntime, load: Load) -> Result<u64, Fault> {
     let mut queue: PlainQueue<T> = PlainQueue::new(rt.alloc(), queue_config()?);
     serve_queue(rt, &mut queue, load)
@@ -185,7 +185,8 @@ fn run_locked<T: Tag, I: Indexes<T>, R: Wait>(
     serve_locked::<T, I, Brand, R>(rt, waiter, load, blank)
 }
 
-/// Runs that load three times, each time with a new lock. The last one's history takes the pages of those before it.
+/// Runs the load of a lock three times, each time with a new lock. The last one's history is stored in the pages of those before
+/// it.
 fn run_warm<T: Tag, I: Indexes<T>, R: Wait>(
     rt: &HostRuntime,
     waiter: &R,
@@ -206,7 +207,7 @@ fn run_shared<T: Tag + Send, R: Threads + Wait + Sync>(
     serve_shared::<T, Brand, R>(rt, threads, load, blank)
 }
 
-/// A checksum with one more answer in it.
+/// A checksum with one more result in it.
 pub fn mixed(checksum: u64, answer: u64) -> u64
     ensures { result ≡ (checksum * 31 + answer) % 2 ^ 64 }
 {

@@ -21,7 +21,7 @@ use dmc_types::moment::Moment;
 use dmc_types::params::ReqParams;
 use std::sync::Wait;
 
-/// What a load of batches has come to: the nanoseconds of its two parts, and its checksum.
+/// The result of a load of batches: the nanoseconds of its two parts, and its checksum.
 #[derive(Clone, Copy)]
 struct Taken {
     submitting: u128,
@@ -35,7 +35,7 @@ const NOTHING: Taken = Taken {
     checksum: 0,
 };
 
-/// How many batches the rounds are, each of a request of each client.
+/// The number of batches: each takes a round for each client.
 fn batch_count(load: Load) -> u32 {
     load.rounds.checked_div(load.clients).unwrap_or(0)
 }
@@ -45,7 +45,7 @@ fn moment_of(batch: u32) -> Result<Moment, Fault> {
     Ok(Moment::new(u64::from(batch))?)
 }
 
-/// Tells the two parts, and answers the checksum.
+/// Writes the two parts, and returns the checksum.
 fn tell_parts(rt: &HostRuntime, load: Load, taken: Taken) -> Result<u64, Fault> {
     let calls = batch_count(load).saturating_mul(load.clients);
     tell(rt, "submit", calls, taken.submitting)?;
@@ -64,8 +64,8 @@ fn mix_all(checksum: u64, granted: &[ClientId]) -> u64 {
 
 // ---- behind the lock
 
-/// In batches, each client stamps and submits a request, one worker pulls them all, and each unit goes back to its client's
-/// tracker. What is told is the time of the submits and of the pulls.
+/// In batches, each client stamps and submits a request, one worker pulls them all, and each unit is returned to its client's
+/// tracker. The time of the submits and that of the pulls are measured.
 pub fn serve_locked<T: Tag, I: Indexes<T>, S: Setup, R: Wait>(
     rt: &HostRuntime,
     waiter: &R,
@@ -171,7 +171,7 @@ fn submit_each<T: Tag, I: Indexes<T>, S: Setup, R: Wait>(
     Ok(())
 }
 
-/// Pulls so often, and notes whose requests were granted.
+/// Pulls this often, and notes whose requests were granted.
 #[inline(never)]
 fn pull_each<T: Tag, I: Indexes<T>, S: Setup, R: Wait>(
     waiter: &R,
@@ -202,7 +202,7 @@ fn respond_each<S: Setup>(
 
 // ---- alone
 
-/// The same batches of the queue alone, whose requests carry what the stamps carry: nothing at first, and then a delta of 1.
+/// The same batches at the queue alone, whose requests have the counts of the stamps: 0 at first, and then a delta of 1.
 pub fn serve_alone<T: Tag, Q: Scheduler<T>>(
     rt: &HostRuntime,
     queue: &mut Q,

@@ -1,4 +1,4 @@
-//! Loads that are measured: `dmc_bench LOAD CLIENTS ROUNDS [LIMIT]` runs a load and writes a checksum of its answers to standard
+//! Loads that are measured: `dmc_bench LOAD CLIENTS ROUNDS [LIMIT]` runs a load and writes a checksum of its results to standard
 //! output. To standard error it writes a line for each part of the load: its name, how many calls it made, and how many
 //! nanoseconds they took.
 #![tactic(auto)]
@@ -20,7 +20,8 @@ use std::process::ExitCode;
 use std::sync::Wait;
 use std::thread::Threads;
 
-/// Runs the load that the words name. Status 0: done; 1: no memory, no clock, or a stream that fails; 2: the words name no load.
+/// Runs the load that the words name. Status 0: done; 1: an allocation failed, there is no clock, or a stream fails; 2: the words
+/// name no load.
 fn main(rt: HostRuntime) -> ExitCode {
     match measure(&rt, &rt) {
         Ok(()) => ExitCode::SUCCESS,

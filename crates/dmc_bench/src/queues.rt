@@ -13,8 +13,8 @@ use dmc_types::params::ReqParams;
 /// Ticks a second.
 pub const HZ: u32 = 1_000_000;
 
-/// Registers the clients, queues a request of each at one moment, and then serves them in batches: pulls, and another
-/// request of each client that was granted. Answers a checksum of the grants.
+/// Registers the clients, queues a request of each at one moment, and then serves them in batches: pulls, and another request of
+/// each client that was granted. Returns a checksum of the grants.
 pub fn serve_queue<T: Tag, Q: Scheduler<T>>(
     rt: &HostRuntime,
     queue: &mut Q,
@@ -31,8 +31,8 @@ pub fn serve_queue<T: Tag, Q: Scheduler<T>>(
     serve(rt, queue, load)
 }
 
-/// Registers one client, queues so many requests of it, and then pulls one and queues another, by turns. Answers a
-/// checksum of the grants.
+/// Registers one client, queues this many requests of it, and then pulls one and queues another, by turns. Returns a checksum of
+/// the grants.
 pub fn serve_deep<T: Tag, Q: Scheduler<T>>(
     rt: &HostRuntime,
     queue: &mut Q,
@@ -50,7 +50,7 @@ pub fn serve_deep<T: Tag, Q: Scheduler<T>>(
     Ok(checksum)
 }
 
-/// Pulls a request and queues another of its client, so often. Answers a checksum of the grants.
+/// Pulls a request and queues another of its client, this often. Returns a checksum of the grants.
 fn take_turns<T: Tag, Q: Scheduler<T>>(queue: &mut Q, rounds: u32) -> Result<u64, Fault> {
     let mut checksum = 0;
     for _ in 0..rounds {
@@ -116,7 +116,7 @@ fn serve<T: Tag, Q: Scheduler<T>>(
     Ok(checksum)
 }
 
-/// Pulls so often, and notes whose requests were granted.
+/// Pulls this often, and notes whose requests were granted.
 #[inline(never)]
 pub fn pull_all<T: Tag, Q: Scheduler<T>>(
     queue: &mut Q,
@@ -132,7 +132,7 @@ pub fn pull_all<T: Tag, Q: Scheduler<T>>(
     Ok(())
 }
 
-/// Queues a request of each, and answers the checksum with their ids in it.
+/// Queues a request of each, and returns the checksum with their ids in it.
 fn add_all<T: Tag, Q: Scheduler<T>>(
     queue: &mut Q,
     granted: &[ClientId],

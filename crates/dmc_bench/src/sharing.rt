@@ -27,7 +27,7 @@ struct Job<S: Setup> {
     granted: u32,
 }
 
-/// As many threads as clients share the rounds: each stamps a request of its own client, submits it, and pulls one. Answers how
+/// As many threads as clients share the rounds: each stamps a request of its own client, submits it, and pulls one. Returns how
 /// many requests were granted.
 pub fn serve_shared<T: Tag + Send, S: Setup + Send + Sync, R: Threads + Wait + Sync>(
     rt: &HostRuntime,
@@ -59,7 +59,7 @@ fn open_jobs<T: Tag, I: Indexes<T>, S: Setup, R: Wait>(
     Ok((lock, jobs))
 }
 
-/// Has all jobs done.
+/// Runs all jobs.
 fn serve_jobs<T: Tag + Send, S: Setup + Send + Sync, R: Threads + Wait + Sync>(
     rt: &HostRuntime,
     threads: &R,
@@ -111,7 +111,7 @@ fn register<T: Tag, I: Indexes<T>, S: Setup, R: Wait>(
     register_all(rt, lock, &mut job.pass, count)
 }
 
-/// Each job in a thread of its own.
+/// Runs each job in a thread of its own.
 fn work_all<T: Tag + Send, S: Setup + Send + Sync, R: Threads + Wait + Sync>(
     rt: &R,
     lock: &QueueLock<T, HeapIndexes, S>,
@@ -123,7 +123,7 @@ fn work_all<T: Tag + Send, S: Setup + Send + Sync, R: Threads + Wait + Sync>(
     }
 }
 
-/// The requests of a job, by turns submitted and pulled.
+/// Submits and pulls the requests of a job, by turns.
 fn work<T: Tag, I: Indexes<T>, S: Setup, R: Wait>(
     rt: &R,
     lock: &QueueLock<T, I, S>,
@@ -151,7 +151,7 @@ fn take_turn<T: Tag, I: Indexes<T>, S: Setup, R: Wait>(
     Ok(())
 }
 
-/// How many requests the jobs were granted.
+/// The number of requests that the jobs were granted.
 fn granted_in<S: Setup>(jobs: &[Job<S>]) -> u64 {
     let mut granted: u64 = 0;
     for job in jobs {

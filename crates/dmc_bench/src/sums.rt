@@ -5,7 +5,7 @@ use crate::watch::{add_since, start, tell};
 use dmc_tag::tag::Tag;
 use dmc_types::moment::Moment;
 
-/// Adds the summands in turn, as many as the load has rounds, and answers a checksum of the sums.
+/// Adds the summands in turn, as many as the load has rounds, and returns a checksum of the sums.
 pub fn sum_tags<T: Tag>(
     rt: &HostRuntime,
     load: Load,
@@ -19,7 +19,7 @@ pub fn sum_tags<T: Tag>(
     Ok(checksum)
 }
 
-/// Adds the summands in turn, from 0 on again where a sum is no value, and answers a checksum of the sums.
+/// Adds the summands in turn, from 0 on again where a sum is no value, and returns a checksum of the sums.
 fn sum_of<T: Tag>(first: Option<T>, second: Option<T>, rounds: u32) -> u64 {
     let zero = T::of_moment(Moment::zero());
     let mut sum = zero;

@@ -1,4 +1,4 @@
-//! How long the parts of a load take.
+//! The time that the parts of a load take.
 use crate::fault::Fault;
 use std::time::Instant;
 
@@ -13,7 +13,7 @@ pub fn add_since(rt: &HostRuntime, start: Instant, nanos: u128) -> Result<u128, 
     Ok(nanos.saturating_add(taken.as_nanos()))
 }
 
-/// Tells a part's name, how many calls it made, and the nanoseconds that they took.
+/// Writes a part's name, how many calls it made, and the nanoseconds that they took.
 pub fn tell(rt: &HostRuntime, part: &str, calls: u32, nanos: u128) -> Result<(), Fault> {
     eprintln!(rt; "{part} {calls} {nanos}")?;
     Ok(())

@@ -1,6 +1,5 @@
 -- What a command that is handed to the queue gives.
 use Rattle.std.proofs.Common.{◌≡◌, ℕ, Bool, true, true≢false, List, map, ap, ◌∙◌, refl, sym, subst, Some, Result, Ok, Err}
-use mathlib.Core.Path.{fun_ext}
 use Rattle.std.specs.Prelude.{⊤, Option, None, is_some}
 use Rattle.std.specs.Cmp.{IsTotalOrder}
 use Rattle.dmc_types.specs.declared.ids.ClientId.{ClientId}
@@ -28,18 +27,14 @@ use Rattle.dmc_pull.specs.Allowed.{is_allowed, PullsIf}
 use Rattle.dmc_pull.specs.declared.granting.PullFault.TheVariants as pull
 use Rattle.dmc_book.specs.declared.fault.RunFault.{RunFault}
 use Rattle.dmc_book.specs.declared.fault.RunFault.TheVariants as run
-use Rattle.dmc_book.specs.Calls.{Asks, Strays, reply_to}
-use Rattle.dmc_book.specs.BookState.{BookState}
-use Rattle.dmc_book.specs.Consistent.{HasDesk, IsConsistent}
+use Rattle.dmc_book.specs.Calls.{Asks, Strays}
+use Rattle.dmc_types.specs.Values.{Setting}
+use Rattle.dmc_tag.specs.declared.event.Event.{Event}
+use Rattle.dmc_book.specs.Consistent.{HasDesk, IsReplayed}
 use Rattle.dmc_book.specs.Counts.{grant_in}
 use Rattle.dmc_tag.specs.Replay.{after}
-use Rattle.dmc_book.proofs.Counting.{consistent_memory, reply_after}
-use Rattle.dmc_book.specs.Moves.{desk_place, takes, takes_at, takes_by, place_of, same_place}
-use Rattle.dmc_book.proofs.DeskLemmas.{places_agree}
-
--- the names of the desks ask as the desks do
-pub asks_by_desks : {T S : Type 0} (clients : List ClientId) (ds : List (ClientDesk S)) (names : List ClientId) (units : List GrantHoldings) → clients ≡ map (λ d. d.client) ds → (ops : Tagging T) (old new : State T) (command : Command) (answer : Result (Reply T) RunFault) → Asks ops (takes_by clients (map client_side ds) names units) old new command answer → Asks ops (takes (map client_side ds) names units) old new command answer
-asks_by_desks clients ds names units named ops old new command answer = subst (λ allows. Asks ops allows old new command answer) (fun_ext (λ client. fun_ext (λ phase. ap (λ o. takes_at phase (map client_side ds) units (same_place o (place_of client.0 names))) (places_agree client.0 clients ds named))))
+use Rattle.dmc_book.proofs.Counting.{replayed_memory, reply_after}
+use Rattle.dmc_book.specs.Moves.{desk_place, takes, takes_at, place_of, same_place}
 
 -- ---- a pull
 
@@ -106,18 +101,21 @@ module _ {T : Type 0} (ops : Tagging T) (allows : ClientId → PhaseType → Boo
 
 -- ---- what a book keeps where nothing is answered
 
-module _ {T : Type 0} (ops : Tagging T) (order : IsTotalOrder ops.compare) (allows : ClientId → PhaseType → Bool) (q p : State T) (b : BookState T) (command : Command) (h : IsConsistent ops q b) where
-  pub consistent_unasked : (fault : RunFault) → Asks ops allows q p command (Err fault) → IsConsistent ops p b
-  consistent_unasked run.Stranger a = subst (λ s. IsConsistent ops s b) (sym a.0) h
-  consistent_unasked run.NoDesk a = absurd a
-  consistent_unasked run.HistoryFull a = absurd a
-  consistent_unasked run.Memory a = consistent_memory ops q p b command h a
+module _ {T : Type 0} (ops : Tagging T) (order : IsTotalOrder ops.compare) (allows : ClientId → PhaseType → Bool) (q p : State T) (config : Setting) (history : List (Event T)) (command : Command) (h : IsReplayed ops q config history) where
+  pub replayed_unasked : (fault : RunFault) → Asks ops allows q p command (Err fault) → IsReplayed ops p config history
+  replayed_unasked run.Stranger a = subst (λ s. IsReplayed ops s config history) (sym a.0) h
+  replayed_unasked run.NoDesk a = absurd a
+  replayed_unasked run.HistoryFull a = absurd a
+  replayed_unasked run.Memory a = replayed_memory ops q p config history h command a
 
-  pub strays_by_history : Asks ops allows q p command (Err run.Stranger) → Strays allows command (reply_to ops b command)
-  strays_by_history a = subst (Strays allows command) (steps_agree ops order q (after ops b.config b.history) command h.stands).0 a.1
+  abbrev reply : Reply T
+  reply = (step ops (after ops config history) command).1
 
-  pub granted_by_history : (reply : Reply T) → Asks ops allows q p command (Ok reply) → Strays allows command (reply_to ops b command) → ⊥
-  granted_by_history reply a s = a.2 (subst (Strays allows command) (sym (reply_after ops q p b command reply h a.0)) s)
+  pub strays_by_history : Asks ops allows q p command (Err run.Stranger) → Strays allows command reply
+  strays_by_history a = subst (Strays allows command) (steps_agree ops order q (after ops config history) command h.stands).0 a.1
+
+  pub granted_by_history : (answer : Reply T) → Asks ops allows q p command (Ok answer) → Strays allows command reply → ⊥
+  granted_by_history answer a s = a.2 (subst (Strays allows command) (sym (reply_after ops q p config history h command answer a.0)) s)
 
 -- ---- who is granted has a desk
 

@@ -1,12 +1,13 @@
--- What a book keeps, one event later.
-use Rattle.std.proofs.Common.{◌≡◌, ℕ, ◌+◌, ◌≤◌, ◌<◌, ◌^◌, Bool, true, false, List, [], ◌∷◌, ◌++◌, map, length, length-append, ap, ◌∙◌, refl, sym, subst, Option, Some, None, arith}
+-- What accounts and a book keep, one event later.
+use Rattle.std.proofs.Common.{◌≡◌, ℕ, ◌+◌, ◌*◌, ◌≤◌, ◌<◌, ◌^◌, Bool, true, false, List, [], ◌∷◌, ◌++◌, map, drop, length, length-append, ap, ◌∙◌, refl, sym, subst, Option, Some, None, arith}
 use Rattle.std.specs.Prelude.{◌==◌, if◌then◌else◌, is_some}
 use Rattle.std.specs.List.{AllByRecursion}
-use Rattle.std.proofs.lemmas.List.{length-map}
+use Rattle.std.proofs.lemmas.List.{drop-append-le, length-map}
 use Rattle.dmc_types.specs.declared.ids.ClientId.{ClientId}
 use Rattle.dmc_types.specs.declared.config.PhaseType.{PhaseType}
 use Rattle.dmc_types.specs.declared.config.PhaseType.TheVariants.{Reservation, Priority}
 use Rattle.dmc_types.specs.declared.command.Command.{Command}
+use Rattle.dmc_types.specs.Values.{Setting}
 use Rattle.dmc_tag.specs.Tag.{Tagging}
 use Rattle.dmc_tag.specs.State.{State, StandsFor}
 use Rattle.dmc_tag.specs.Step.{step}
@@ -15,26 +16,16 @@ use Rattle.dmc_tag.specs.Replay.{after}
 use Rattle.dmc_tag.specs.declared.event.Event.{Event}
 use Rattle.dmc_tag.specs.declared.reply.Reply.{Reply}
 use Rattle.dmc_tag.proofs.ForCallers.{after_one_more, replays_one_more}
+use Rattle.dmc_queue_history.specs.Segmented.{Segmented}
 use Rattle.dmc_ledger.specs.Accounts.{Account, total_of}
 use Rattle.dmc_ledger.specs.Bundles.{ClientSide}
 use Rattle.dmc_ledger.specs.Moves.{after_issue}
 use Rattle.dmc_book.specs.declared.counts.Numbers.{Numbers}
-use Rattle.dmc_book.specs.Counts.{count, numbers_of, no_numbers, worker_adds, stamps_added, delta_added, rho_added, grants_added, units_for, grant_in, one_if, IsSmall}
-use Rattle.dmc_book.specs.BookState.{BookState, WorkerSide}
-use Rattle.dmc_book.specs.Consistent.{IsConsistent, IsCounted, IsWorker, IsDesk, AreWorkersApart, AreClientsApart, AreWithin, AreGrantsWithin, HasDesk}
-use Rattle.dmc_book.specs.Moves.{worker_after, desk_after, book_after}
+use Rattle.dmc_book.specs.Counts.{count, numbers_of, no_numbers, worker_adds, stamps_added, delta_added, rho_added, grants_added, units_for, grant_in, is_miss, one_if, IsSmall}
+use Rattle.dmc_book.specs.BookState.{AccountsState, WorkerSide, accounts_of, state_of}
+use Rattle.dmc_book.specs.Consistent.{AreConsistent, AreTokensFit, IsCounted, IsReplayed, IsWorker, IsDesk, AreWorkersApart, AreClientsApart, AreWithin, AreGrantsWithin, HasDesk, most_before}
+use Rattle.dmc_book.specs.Moves.{accounts_after, book_after, worker_after, desk_after}
 use Rattle.dmc_tag.proofs.Lists.{all_as, all_mapped, position_map}
-
--- ---- what was written
-
--- a place for an event changes no book
-pub unwritten : {T : Type 0} (b : BookState T) (history : List (Event T)) (most : ℕ) → history ≡ b.history → most ≡ b.most → ◌≡◌ {A = BookState T} (record b { history = history; most = most }) b
-unwritten b history most h m = rw (h, m) refl
-
--- what was written to the parts of a book is the book after the event
-pub written : {T : Type 0} (b : BookState T) (e : Event T) (history : List (Event T)) (most : ℕ) (workers : List WorkerSide) (desks : List ClientSide) → history ≡ b.history ++ e ∷ [] → most ≡ b.most → workers ≡ map (worker_after e) b.workers → desks ≡ map (desk_after e) b.desks
-    → ◌≡◌ {A = BookState T} (record b { history = history; most = most; workers = workers; desks = desks }) (book_after e b)
-written b e history most workers desks h m w d = rw (h, m, w, d) refl
 
 -- ---- the counts
 
@@ -42,40 +33,46 @@ small_adds : (n : Numbers) → IsSmall n → (b : Bool) → IsSmall (if b then n
 small_adds n h true = h
 small_adds n h false = record { calls = omega arith; misses = omega arith; tokens = omega arith; grants = omega arith; granted = omega arith }
 
-small_one : (b : Bool) → one_if b ≤ 4294967295
-small_one true = omega arith
-small_one false = omega arith
+one_at_most : (b : Bool) → one_if b ≤ 1
+one_at_most true = omega arith
+one_at_most false = omega arith
 
-small_unit : (client : ℕ) (phase : PhaseType) (o : Option (ClientId × PhaseType)) → units_for client phase o ≤ 4294967295
-small_unit client phase None = omega arith
-small_unit client phase (Some grant) = small_one _
+one_of : (n : Numbers) → n.calls ≤ 1 → n.misses ≤ 1 → n.grants ≤ 1 → (b : Bool) → ((if b then n else no_numbers).calls ≤ 1) × ((if b then n else no_numbers).misses ≤ 1) × ((if b then n else no_numbers).grants ≤ 1)
+one_of n c m g true = (c, m, g)
+one_of n c m g false = (omega arith, omega arith, omega arith)
+
+unit_at_most : (client : ℕ) (phase : PhaseType) (o : Option (ClientId × PhaseType)) → units_for client phase o ≤ 1
+unit_at_most client phase None = omega arith
+unit_at_most client phase (Some grant) = one_at_most _
 
 module _ {T : Type 0} where
   count_more : (adds : Event T → ℕ) (es : List (Event T)) (e : Event T) → count adds (es ++ e ∷ []) ≡ count adds es + adds e
   count_more adds [] e = omega arith
   count_more adds (x ∷ es) e = let rest = count_more adds es e in omega arith
 
-  counted_more : (adds : Event T → ℕ) (es : List (Event T)) (e : Event T) (tills : ℕ) (a : Account) → adds e ≤ 4294967295 → IsCounted adds es tills a → IsCounted adds (es ++ e ∷ []) tills (after_issue (adds e) a)
-  counted_more adds es e tills a small h =
+  counted_more : (adds : Event T → ℕ) (es : List (Event T)) (e : Event T) (tills : ℕ) (a : Account) → IsCounted adds es tills a → IsCounted adds (es ++ e ∷ []) tills (after_issue (adds e) a)
+  counted_more adds es e tills a h =
       let more = count_more adds es e in
       let was = h.total in
-      let bound = h.bound in
-      let long : length (es ++ e ∷ []) ≡ length es + 1 = length-append es (e ∷ []) in
-      record { total = omega arith; bound = omega arith; gathered = h.gathered; open_tills = h.open_tills }
+      record { total = omega arith; gathered = h.gathered; open_tills = h.open_tills }
 
   amount_more : (adds : Event T → ℕ) (es : List (Event T)) (e : Event T) (n : ℕ) → n ≡ count adds es → n + adds e ≡ count adds (es ++ e ∷ [])
   amount_more adds es e n h = let more = count_more adds es e in omega arith
 
-  worker_more : (es : List (Event T)) (e : Event T) → IsSmall (numbers_of e.command e.reply) → (w : WorkerSide) → IsWorker es w → IsWorker (es ++ e ∷ []) (worker_after e w)
-  worker_more es e small w h =
-      let adds = small_adds (numbers_of e.command e.reply) small (e.worker.0 == w.worker) in
-      record {
-        calls = counted_more (λ e. (worker_adds w.worker e).calls) es e 1 w.books.calls adds.calls h.calls;
-        misses = counted_more (λ e. (worker_adds w.worker e).misses) es e 1 w.books.misses adds.misses h.misses;
-        tokens = counted_more (λ e. (worker_adds w.worker e).tokens) es e 1 w.books.tokens adds.tokens h.tokens;
-        grants = counted_more (λ e. (worker_adds w.worker e).grants) es e 1 w.books.grants adds.grants h.grants;
-        granted = counted_more (λ e. (worker_adds w.worker e).granted) es e 1 w.books.granted adds.granted h.granted;
-      }
+  -- what is counted since a renewal, one event later
+  since_more : (adds : Event T → ℕ) (es : List (Event T)) (e : Event T) (n tills : ℕ) (a : Account) → n ≤ length es → IsCounted adds (drop n es) tills a → IsCounted adds (drop n (es ++ e ∷ [])) tills (after_issue (adds e) a)
+  since_more adds es e n tills a within h =
+      subst (λ (xs : List (Event T)). IsCounted adds xs tills (after_issue (adds e) a)) (sym (drop-append-le n es (e ∷ []) within)) (counted_more adds (drop n es) e tills a h)
+
+  worker_more : (es : List (Event T)) (e : Event T) → (w : WorkerSide) → IsWorker es w → IsWorker (es ++ e ∷ []) (worker_after e w)
+  worker_more es e w h = record {
+    renewed = let long : length (es ++ e ∷ []) ≡ length es + 1 = length-append es (e ∷ []) in omega (arith, h.renewed, long);
+    calls = counted_more (λ e. (worker_adds w.worker e).calls) es e 1 w.books.calls h.calls;
+    misses = counted_more (λ e. (worker_adds w.worker e).misses) es e 1 w.books.misses h.misses;
+    tokens = since_more (λ e. (worker_adds w.worker e).tokens) es e w.renewed 1 w.books.tokens h.renewed h.tokens;
+    grants = counted_more (λ e. (worker_adds w.worker e).grants) es e 1 w.books.grants h.grants;
+    granted = since_more (λ e. (worker_adds w.worker e).granted) es e w.renewed 1 w.books.granted h.renewed h.granted;
+  }
 
   desk_more : (es : List (Event T)) (e : Event T) (server workers : ℕ) (d : ClientSide) → IsDesk es server workers d → IsDesk (es ++ e ∷ []) server workers (desk_after e d)
   desk_more es e server workers d h = record {
@@ -83,20 +80,53 @@ module _ {T : Type 0} where
     stamps = amount_more (stamps_added d.client) es e _ h.stamps;
     delta = amount_more (delta_added d.client) es e _ h.delta;
     rho = amount_more (rho_added d.client) es e _ h.rho;
-    reservation = counted_more (grants_added d.client Reservation) es e _ d.books.reservation (small_unit d.client Reservation (grant_in e.reply)) h.reservation;
-    priority = counted_more (grants_added d.client Priority) es e _ d.books.priority (small_unit d.client Priority (grant_in e.reply)) h.priority;
+    reservation = counted_more (grants_added d.client Reservation) es e _ d.books.reservation h.reservation;
+    priority = counted_more (grants_added d.client Priority) es e _ d.books.priority h.priority;
   }
 
-  -- no total is past 2^62
-  within_one : (adds : Event T → ℕ) (es : List (Event T)) (tills : ℕ) (a : Account) → length es < 2 ^ 30 → IsCounted adds es tills a → total_of a ≤ 2 ^ 62
-  within_one adds es tills a l h = let bound = h.bound in omega (arith, l)
+  -- ---- no total can pass a book's 2^63
 
-  pub workers_within : (es : List (Event T)) → length es < 2 ^ 30 → (ws : List WorkerSide) → AllByRecursion (IsWorker es) ws → AllByRecursion (λ w. AreWithin (2 ^ 62) w.books) ws
-  workers_within es l = all_as _ _ (λ w h. record { calls = within_one _ es 1 w.books.calls l h.calls; misses = within_one _ es 1 w.books.misses l h.misses; tokens = within_one _ es 1 w.books.tokens l h.tokens; grants = within_one _ es 1 w.books.grants l h.grants; granted = within_one _ es 1 w.books.granted l h.granted })
+  -- what adds at most 1 counts at most the events
+  count_few : (adds : Event T → ℕ) → ((e : Event T) → adds e ≤ 1) → (es : List (Event T)) → count adds es ≤ length es
+  count_few adds one [] = omega arith
+  count_few adds one (e ∷ es) = let here = one e in let rest = count_few adds one es in omega arith
 
-  pub desks_within : (es : List (Event T)) (server workers : ℕ) → length es < 2 ^ 30 → (ds : List ClientSide) → AllByRecursion (IsDesk es server workers) ds → AllByRecursion (λ d. AreGrantsWithin (2 ^ 62) d.books) ds
-  desks_within es server workers l = all_as _ _ (λ d h. record { reservation = within_one _ es _ d.books.reservation l h.reservation; priority = within_one _ es _ d.books.priority l h.priority })
+  few_fit : (adds : Event T → ℕ) → ((e : Event T) → adds e ≤ 1) → (es : List (Event T)) (tills : ℕ) (a : Account) → length es ≤ 2 ^ 62 + 2 ^ 30 → IsCounted adds es tills a → total_of a ≤ most_before
+  few_fit adds one es tills a few h = let most = count_few adds one es in omega (arith, few, most, h.total)
 
+  one_each : (worker : ℕ) (e : Event T) → ((worker_adds worker e).calls ≤ 1) × ((worker_adds worker e).misses ≤ 1) × ((worker_adds worker e).grants ≤ 1)
+  one_each worker e = one_of (numbers_of e.command e.reply) (omega arith) (one_at_most (is_miss e.reply)) (one_at_most (is_some (grant_in e.reply))) (e.worker.0 == worker)
+
+module _ {T : Type 0} (a : AccountsState T) (h : AreConsistent a) (fewer : length a.history < a.most) where
+  short : length a.history ≤ 2 ^ 62 + 2 ^ 30
+  short = omega (arith, fewer, h.few, h.limit)
+
+  tokens_below : (total : ℕ) → total + a.first * 4294967295 ≤ 2 ^ 62 + length a.history * 4294967295 → total ≤ most_before
+  tokens_below total fit = omega (arith, fit, fewer, h.limit)
+
+  worker_fits : (w : WorkerSide) → IsWorker a.history w → AreTokensFit a.first (length a.history) w.books → AreWithin most_before w.books
+  worker_fits w is fit = record {
+    calls = few_fit _ (λ e. (one_each w.worker e).0) a.history 1 w.books.calls short is.calls;
+    misses = few_fit _ (λ e. (one_each w.worker e).1) a.history 1 w.books.misses short is.misses;
+    tokens = tokens_below (total_of w.books.tokens) fit.tokens;
+    grants = few_fit _ (λ e. (one_each w.worker e).2) a.history 1 w.books.grants short is.grants;
+    granted = tokens_below (total_of w.books.granted) fit.granted;
+  }
+
+  all_fit : (ws : List WorkerSide) → AllByRecursion (IsWorker a.history) ws → AllByRecursion (λ w. AreTokensFit a.first (length a.history) w.books) ws → AllByRecursion (λ w. AreWithin most_before w.books) ws
+  all_fit [] is fit = tt
+  all_fit (w ∷ ws) is fit = (worker_fits w is.0 fit.0, all_fit ws is.1 fit.1)
+
+  pub workers_fit : AllByRecursion (λ w. AreWithin most_before w.books) a.workers
+  workers_fit = all_fit a.workers h.workers h.tokens_fit
+
+  pub desks_fit : AllByRecursion (λ d. AreGrantsWithin most_before d.books) a.desks
+  desks_fit = all_as _ _ (λ d is. record {
+    reservation = few_fit _ (λ e. unit_at_most d.client Reservation (grant_in e.reply)) a.history _ d.books.reservation short is.reservation;
+    priority = few_fit _ (λ e. unit_at_most d.client Priority (grant_in e.reply)) a.history _ d.books.priority short is.priority;
+  }) a.desks h.desks
+
+module _ {T : Type 0} where
   -- ---- who is who
 
   workers_apart : (e : Event T) (ws : List WorkerSide) → AreWorkersApart ws → AreWorkersApart (map (worker_after e) ws)
@@ -117,29 +147,63 @@ module _ {T : Type 0} where
   granted_more e ds [] h last = (desk_stays e ds (grant_in e.reply) last, tt)
   granted_more e ds (x ∷ es) h last = (desk_stays e ds (grant_in x.reply) h.0, granted_more e ds es h.1 last)
 
--- ---- a book
+-- ---- one event more
 
-module _ {T : Type 0} (ops : Tagging T) where
-  -- a call for which there was no memory
-  pub consistent_memory : (q p : State T) (b : BookState T) (command : Command) → IsConsistent ops q b → Steps ops q p command None → IsConsistent ops p b
-  consistent_memory q p b command h steps = record { stands = (steps.1 (after ops b.config b.history) h.stands).1; replaying = h.replaying; workers = h.workers; desks = h.desks; workers_apart = h.workers_apart; clients_apart = h.clients_apart; granted = h.granted; limit = h.limit }
+module _ {T : Type 0} (e : Event T) where
+  tokens_more : (first events : ℕ) (w : WorkerSide) → IsSmall (numbers_of e.command e.reply) → AreTokensFit first events w.books → AreTokensFit first (events + 1) ((worker_after e w).books)
+  tokens_more first events w small h =
+      let adds = small_adds (numbers_of e.command e.reply) small (e.worker.0 == w.worker) in
+      record { tokens = omega (arith, adds.tokens, h.tokens); granted = omega (arith, adds.granted, h.granted) }
+
+  -- what was written to the parts of accounts is consistent
+  pub consistent_recorded : (a : AccountsState T) (h : Segmented (Event T)) (workers : List WorkerSide) (desks : List ClientSide)
+      → h.events ≡ a.history ++ e ∷ [] → h.first ≡ a.first → h.most ≡ a.most → workers ≡ map (worker_after e) a.workers → desks ≡ map (desk_after e) a.desks
+      → IsSmall (numbers_of e.command e.reply) → HasDesk a.desks (grant_in e.reply) → AreConsistent a → AreConsistent (accounts_of a.server h workers desks)
+  consistent_recorded a h workers desks events first most ws ds small granted was =
+      let long : length (a.history ++ e ∷ []) ≡ length a.history + 1 = length-append a.history (e ∷ []) in
+      let as_many : length (map (worker_after e) a.workers) ≡ length a.workers = length-map a.workers (worker_after e) in
+      let same : AreConsistent (accounts_after e a) = record {
+        workers = all_mapped _ _ (worker_after e) (worker_more a.history e) a.workers was.workers;
+        desks = subst (λ (n : ℕ). AllByRecursion (IsDesk (a.history ++ e ∷ []) a.server n) (map (desk_after e) a.desks)) (sym as_many) (all_mapped _ _ (desk_after e) (desk_more a.history e a.server (length a.workers)) a.desks was.desks);
+        workers_apart = workers_apart e a.workers was.workers_apart;
+        clients_apart = clients_apart e a.desks was.clients_apart;
+        granted = granted_more e a.desks a.history was.granted granted;
+        tokens_fit = subst (λ (n : ℕ). AllByRecursion (λ w. AreTokensFit a.first n w.books) (map (worker_after e) a.workers)) (sym long) (all_mapped _ _ (worker_after e) (λ w. tokens_more a.first (length a.history) w small) a.workers was.tokens_fit);
+        within = omega (arith, was.within, long);
+        few = was.few;
+        limit = was.limit;
+      } in
+      rw (events, first, most, ws, ds) (record { workers = same.workers; desks = same.desks; workers_apart = same.workers_apart; clients_apart = same.clients_apart; granted = same.granted; tokens_fit = same.tokens_fit; within = same.within; few = same.few; limit = same.limit })
+
+-- ---- the queue
+
+module _ {T : Type 0} (ops : Tagging T) (q p : State T) (config : Setting) (history : List (Event T)) (h : IsReplayed ops q config history) where
+  -- a call that was refused memory
+  pub replayed_memory : (command : Command) → Steps ops q p command None → IsReplayed ops p config history
+  replayed_memory command steps = record { stands = (steps.1 (after ops config history) h.stands).1; replaying = h.replaying }
 
   -- the reply is that of the rules
-  pub reply_after : (q p : State T) (b : BookState T) (command : Command) (reply : Reply T) → IsConsistent ops q b → Steps ops q p command (Some reply) → reply ≡ (step ops (after ops b.config b.history) command).1
-  reply_after q p b command reply h steps = (steps (after ops b.config b.history) h.stands).0
+  pub reply_after : (command : Command) (reply : Reply T) → Steps ops q p command (Some reply) → reply ≡ (step ops (after ops config history) command).1
+  reply_after command reply steps = (steps (after ops config history) h.stands).0
 
   -- one event more
-  pub consistent_more : (q p : State T) (b : BookState T) (e : Event T) → IsSmall (numbers_of e.command e.reply) → HasDesk b.desks (grant_in e.reply) → IsConsistent ops q b → Steps ops q p e.command (Some e.reply) → IsConsistent ops p (book_after e b)
-  consistent_more q p b e small granted h steps =
-      let now = steps (after ops b.config b.history) h.stands in
-      let as_many : length (map (worker_after e) b.workers) ≡ length b.workers = length-map b.workers (worker_after e) in
+  pub replayed_more : (e : Event T) → Steps ops q p e.command (Some e.reply) → IsReplayed ops p config (history ++ e ∷ [])
+  replayed_more e steps =
+      let now = steps (after ops config history) h.stands in
       record {
-        stands = subst (λ (s : State T). StandsFor p s) (sym (after_one_more ops b.config b.history e)) now.1;
-        replaying = replays_one_more ops b.config b.history e h.replaying now.0;
-        workers = all_mapped _ _ (worker_after e) (worker_more b.history e small) b.workers h.workers;
-        desks = subst (λ (n : ℕ). AllByRecursion (IsDesk (b.history ++ e ∷ []) b.server n) (map (desk_after e) b.desks)) (sym as_many) (all_mapped _ _ (desk_after e) (desk_more b.history e b.server (length b.workers)) b.desks h.desks);
-        workers_apart = workers_apart e b.workers h.workers_apart;
-        clients_apart = clients_apart e b.desks h.clients_apart;
-        granted = granted_more e b.desks b.history h.granted granted;
-        limit = h.limit;
+        stands = subst (λ (s : State T). StandsFor p s) (sym (after_one_more ops config history e)) now.1;
+        replaying = replays_one_more ops config history e h.replaying now.0;
       }
+
+-- ---- a book whose accounts made a place, or have an event more
+
+module _ {T : Type 0} (config : Setting) (closed : Bool) (old reserved : AccountsState T) (kept : reserved ≡ record old { room = reserved.room }) where
+  pub book_reserved : state_of config reserved closed ≡ state_of config old closed
+  book_reserved = ap (λ (a : AccountsState T). state_of config a closed) kept
+
+  module _ (e : Event T) (new : AccountsState T) (recorded : new ≡ accounts_after e reserved) where
+    pub history_recorded : new.history ≡ old.history ++ e ∷ []
+    history_recorded = ap (λ (a : AccountsState T). a.history) recorded ∙ ap (λ (a : AccountsState T). a.history ++ e ∷ []) kept
+
+    pub book_recorded : state_of config new closed ≡ book_after e (state_of config old closed)
+    book_recorded = ap (λ (a : AccountsState T). state_of config a closed) recorded ∙ ap (book_after e) book_reserved

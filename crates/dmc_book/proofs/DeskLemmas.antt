@@ -21,7 +21,7 @@ use Rattle.dmc_tag.specs.declared.reply.Reply.TheVariants.{Registered, Updated, 
 use Rattle.dmc_pull.specs.Allowed.{is_allowed}
 use Rattle.dmc_tlock.specs.BookState.{StampValue}
 use Rattle.dmc_book.specs.BookState.{no_desk}
-use Rattle.dmc_book.specs.Calls.{AreAlike, IsForDesk, lacks_desk, names_none}
+use Rattle.dmc_book.specs.Calls.{AreAlike, IsForDesk}
 use Rattle.dmc_book.specs.Consistent.{AreClientsApart, AreGrantsWithin}
 use Rattle.dmc_book.specs.Counts.{accepted, grant_in, grants_added, stamps_added, delta_added, rho_added, stamps_for, params_for, units_for, one_if, is_phase}
 use Rattle.dmc_book.specs.Moves.{desk_after, desk_place, same_place, takes_at, is_unit_of, unit_at}
@@ -245,15 +245,6 @@ module _ (phase : PhaseType) (ds : List ClientSide) (us : List GrantHoldings) wh
   pub named_nowhere : (desk named : Option ℕ) → named ≡ None → takes_at phase ds us (same_place desk named) ≡ true → ⊥
   named_nowhere None named is h = true≢false (sym h)
   named_nowhere (Some i) named is h = true≢false (sym h ∙ ap (λ o. takes_at phase ds us (same_place (Some i) o)) is)
-
--- the names of the desks tell who has none
-pub lacks_agree : {S : Type 0} (names : List ClientId) (ds : List (ClientDesk S)) → names ≡ map (λ d. d.client) ds → (command : Command) → names_none names command ≡ lacks_desk (map client_side ds) command
-lacks_agree names ds named (Register client info at) = ap (λ o. not (is_some o)) (places_agree client.0 names ds named)
-lacks_agree names ds named (Update client info at) = refl
-lacks_agree names ds named (Add client token params at) = refl
-lacks_agree names ds named (Pull at) = refl
-lacks_agree names ds named (Remove client) = refl
-lacks_agree names ds named (Clean at) = refl
 
 -- ---- whose stamp it is
 

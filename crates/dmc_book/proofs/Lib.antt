@@ -4,6 +4,8 @@ mod Counting
 mod DeskLemmas
 mod GrantLemmas
 mod OpeningLemmas
+mod RenewingLemmas
+mod RotatingLemmas
 mod RunLemmas
 mod SettlingLemmas
 mod SubmitLemmas

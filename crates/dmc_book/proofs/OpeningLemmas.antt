@@ -15,8 +15,8 @@ use Rattle.dmc_ledger.specs.Accounts.{Account, new_book}
 use Rattle.dmc_ledger.specs.Bundles.{ClientSide, client_side, new_client_side}
 use Rattle.dmc_ledger.specs.declared.desk.ClientDesk.{ClientDesk}
 use Rattle.dmc_book.specs.BookState.{PassState, WorkerSide, no_desk}
-use Rattle.dmc_book.specs.Consistent.{IsCounted, IsWorker, IsDesk, IsConsistent, AreWorkersApart, AreClientsApart}
-use Rattle.dmc_book.specs.Opening.{AreApart, AreNamedOnce, HaveRoom, IsNewDesk, desk_with_tills, with_tills, new_unit, new_worker, new_workers, new_pass, new_passes, new_state}
+use Rattle.dmc_book.specs.Consistent.{AreConsistent, AreTokensFit, IsCounted, IsReplayed, IsWorker, IsDesk, AreWorkersApart, AreClientsApart}
+use Rattle.dmc_book.specs.Opening.{AreApart, AreNamedOnce, HaveRoom, IsNewDesk, desk_with_tills, with_tills, new_unit, new_worker, new_workers, new_pass, new_passes, new_accounts_state}
 use Rattle.std.proofs.lemmas.Bool.{or_parts}
 
 -- ---- no number is named twice
@@ -98,7 +98,7 @@ module _ (ws : List WorkerId) (i : ℕ) (x : WorkerId) (within : i < length ws) 
 
 module _ {T : Type 0} where
   new_counted : (adds : Event T → ℕ) (n : ℕ) → IsCounted adds [] 1 (new_book n)
-  new_counted adds n = record { total = refl; bound = omega arith; gathered = refl; open_tills = refl }
+  new_counted adds n = record { total = refl; gathered = refl; open_tills = refl }
 
   opened_desk : (client server n k : ℕ) → IsDesk {T = T} [] server k (desk_with_tills k (new_client_side client server n))
   opened_desk client server n k = record {
@@ -106,8 +106,8 @@ module _ {T : Type 0} where
     stamps = refl;
     delta = refl;
     rho = refl;
-    reservation = record { total = refl; bound = omega arith; gathered = refl; open_tills = refl };
-    priority = record { total = refl; bound = omega arith; gathered = refl; open_tills = refl };
+    reservation = record { total = refl; gathered = refl; open_tills = refl };
+    priority = record { total = refl; gathered = refl; open_tills = refl };
   }
 
   desk_counted : (server k : ℕ) (d : ClientSide) → IsNewDesk server d → IsDesk {T = T} [] server k (desk_with_tills k d)
@@ -119,6 +119,7 @@ workers_counted T n (w ∷ ws) = (
   record {
     calls = new_counted _ n;
     misses = new_counted _ (n + 1);
+    renewed = omega arith;
     tokens = new_counted _ (n + 2);
     grants = new_counted _ (n + 3);
     granted = new_counted _ (n + 4);
@@ -142,35 +143,44 @@ pub as_many_workers : (n : ℕ) (ws : List WorkerId) → length (new_workers n w
 as_many_workers n [] = refl
 as_many_workers n (w ∷ ws) = ap suc (as_many_workers (n + 5) ws)
 
-module _ {T : Type 0} (ops : Tagging T) where
-  stands_new : (q : State T) (config : Setting) → q ≡ opening config → StandsFor q (opening config)
-  stands_new q config is = subst (λ (s : State T). StandsFor s (opening config)) (sym is) (record { config = refl; requests = λ id. refl; clients = refl; last_moment = refl })
+tokens_low : (n : ℕ) (ws : List WorkerId) → AllByRecursion (λ w. AreTokensFit 0 0 w.books) (new_workers n ws)
+tokens_low n [] = tt
+tokens_low n (w ∷ ws) = (record { tokens = omega arith; granted = omega arith }, tokens_low (n + 5) ws)
 
-  -- so is one of no worker, no desk and no event
-  pub consistent_empty : (q : State T) (config : Setting) (server most : ℕ) (closed : Bool) → q ≡ opening config → most ≤ 2 ^ 30
-      → IsConsistent ops q (record { config = config; server = server; history = []; most = most; workers = []; desks = []; closed = closed })
-  consistent_empty q config server most closed is limit = record {
-    stands = stands_new q config is;
-    replaying = tt;
+module _ {T : Type 0} where
+  -- accounts of no worker, no desk and no event
+  pub consistent_empty : (server : ℕ) → AreConsistent {T = T} (record { server = server; history = []; first = 0; most = 0; room = 0; workers = []; desks = [] })
+  consistent_empty server = record {
     workers = tt;
     desks = tt;
     workers_apart = tt;
     clients_apart = tt;
     granted = tt;
-    limit = limit;
+    tokens_fit = tt;
+    within = omega arith;
+    few = omega arith;
+    limit = omega arith;
   }
 
-  pub consistent_new : (q : State T) (config : Setting) (server most n : ℕ) (ws : List WorkerId) (ds : List ClientSide) → q ≡ opening config → AllByRecursion (IsNewDesk server) ds → AreNamedOnce ws ds → most ≤ 2 ^ 30 → IsConsistent ops q (new_state config server most n ws ds)
-  consistent_new q config server most n ws ds is new once limit = record {
-    stands = stands_new q config is;
-    replaying = tt;
+  pub consistent_new : (server most n : ℕ) (ws : List WorkerId) (ds : List ClientSide) → AllByRecursion (IsNewDesk server) ds → AreNamedOnce ws ds → most ≤ 2 ^ 30 → AreConsistent {T = T} (new_accounts_state server most n ws ds)
+  consistent_new server most n ws ds new once limit = record {
     workers = workers_counted T n ws;
     desks = subst (λ (k : ℕ). AllByRecursion (IsDesk {T = T} [] server k) (map (desk_with_tills (length ws)) ds)) (sym (as_many_workers n ws)) (all_mapped _ _ (desk_with_tills (length ws)) (desk_counted server (length ws)) ds new);
     workers_apart = opened_workers_apart n ws once.workers_once;
     clients_apart = opened_clients_apart (length ws) ds once.clients_once;
     granted = tt;
-    limit = limit;
+    tokens_fit = tokens_low n ws;
+    within = omega arith;
+    few = omega arith;
+    limit = omega (arith, limit);
   }
+
+-- the queue of an empty history
+pub replayed_new : {T : Type 0} (ops : Tagging T) (q : State T) (config : Setting) → q ≡ opening config → IsReplayed ops q config []
+replayed_new ops q config is = record {
+  stands = subst (λ (s : State _). StandsFor s (opening config)) (sym is) (record { config = refl; requests = λ id. refl; clients = refl; last_moment = refl });
+  replaying = tt;
+}
 
 -- ---- one worker more
 

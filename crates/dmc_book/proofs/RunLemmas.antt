@@ -20,21 +20,14 @@ use Rattle.dmc_book.specs.declared.fault.RunFault.{RunFault}
 use Rattle.dmc_book.specs.declared.fault.RunFault.TheVariants as run
 use Rattle.dmc_book.specs.declared.fault.RunOrRange.{RunOrRange}
 use Rattle.dmc_book.specs.declared.fault.RunOrRange.TheVariants as pull
-use Rattle.dmc_book.specs.BookState.{BookState, PassState, worker_side}
+use Rattle.dmc_book.specs.BookState.{BookState, PassState}
 use Rattle.dmc_book.specs.Calls.{Asks, Ran, WasPulled, asked, lacks_desk, reply_to, run_cause}
-use Rattle.dmc_book.specs.Consistent.{IsConsistent}
+use Rattle.dmc_book.specs.Consistent.{IsReplayed}
 use Rattle.dmc_book.specs.Counts.{accepted, is_tagged}
 use Rattle.dmc_book.specs.Moves.{IsEnrolled, takes}
 use Rattle.dmc_book.specs.Runs.{IsFull, Runs, StraysHere}
-use Rattle.dmc_book.specs.declared.seat.Seat.{Seat}
 use Rattle.dmc_book.proofs.AskLemmas.{strays_by_history}
 use Rattle.dmc_book.proofs.Causes.{memory_is_not_full}
-
--- the seats are those that were lent, and the pass has its place among them
-pub enrolled_at : {S : Type 0} (lent own : List (Seat S)) (p : PassState) → lent ≡ own → IsEnrolled (map worker_side lent) p → (p.place < length own) × IsEnrolled (map worker_side own) p
-enrolled_at lent own p same e =
-    let mine : IsEnrolled (map worker_side own) p = subst (λ seats. IsEnrolled (map worker_side seats) p) same e in
-    (subst (λ n. p.place < n) (length-map own worker_side) mine.within, mine)
 
 -- a pull accepts no stamp
 pub no_stamp_in_pull : {T : Type 0} (worker : WorkerId) (at : ℕ) (reply : Reply T) → accepted (record { worker = worker; command = Pull at; reply = reply }) ≡ None
@@ -50,9 +43,9 @@ module _ {T : Type 0} (ops : Tagging T) (old : BookState T) (before : PassState)
   unreserved reserve.Memory full = (refl, refl, enrolled, has_desk, λ f. absurd (memory_is_not_full (full.1 f)))
 
   -- the queue was not asked, or answered nothing
-  pub unasked : (order : IsTotalOrder ops.compare) (q p : State T) → IsConsistent ops q old → length old.history < old.most → (e : RunFault)
+  pub unasked : (order : IsTotalOrder ops.compare) (q p : State T) → IsReplayed ops q old.config old.history → length old.history < old.most → (e : RunFault)
       → Asks ops (takes old.desks before.clients before.units) q p command (Err e) → Runs ops old before command old before (Err e)
-  unasked order q p known fewer run.Stranger a = (refl, refl, λ k. (has_desk, (λ full. omega (arith, fewer, full)), strays_by_history ops order (takes old.desks before.clients before.units) q p old command known a))
+  unasked order q p known fewer run.Stranger a = (refl, refl, λ k. (has_desk, (λ full. omega (arith, fewer, full)), strays_by_history ops order (takes old.desks before.clients before.units) q p old.config old.history command known a))
   unasked order q p known fewer run.NoDesk a = absurd a
   unasked order q p known fewer run.HistoryFull a = absurd a
   unasked order q p known fewer run.Memory a = (refl, refl, enrolled, has_desk, λ full. omega (arith, fewer, full))

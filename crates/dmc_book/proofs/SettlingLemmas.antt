@@ -174,9 +174,9 @@ module _ {T : Type 0} where
   settled_worker es w h = record {
     calls = gathered_all _ es w.books.calls h.calls;
     misses = gathered_all _ es w.books.misses h.misses;
-    tokens = gathered_all _ es w.books.tokens h.tokens;
+    tokens = gathered_all _ (drop w.renewed es) w.books.tokens h.tokens;
     grants = gathered_all _ es w.books.grants h.grants;
-    granted = gathered_all _ es w.books.granted h.granted;
+    granted = gathered_all _ (drop w.renewed es) w.books.granted h.granted;
   }
 
   pub settled_workers : (es : List (Event T)) (ws : List WorkerSide) → AllByRecursion (IsWorker es) ws → AllByRecursion (IsSettledWorker es) (map closed_worker ws)

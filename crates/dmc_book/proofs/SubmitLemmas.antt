@@ -15,11 +15,6 @@ use Rattle.dmc_book.specs.Submits.{FindsDesk, IsAsked, Submits}
 use Rattle.dmc_book.specs.declared.seat.Seat.{Seat}
 use Rattle.dmc_book.proofs.Causes.{memory_is_not_full}
 
--- the desk is found among the seats and the desks that were lent
-pub found_at : {S : Type 0} (lent own : List (Seat S)) (lent_desks own_desks : List (ClientDesk S)) (server : ℕ) (p : PassState) (stamp : StampValue) (tills : StampHoldings) (place : Option ℕ) → lent ≡ own → lent_desks ≡ own_desks
-    → FindsDesk server (map worker_side lent) (map client_side lent_desks) p stamp tills place → FindsDesk server (map worker_side own) (map client_side own_desks) p stamp tills place
-found_at lent own lent_desks own_desks server p stamp tills place seats desks = subst₂ (λ s d. FindsDesk server (map worker_side s) (map client_side d) p stamp tills place) seats desks
-
 module _ {T : Type 0} (b : BookState T) (p : PassState) (stamp : StampValue) (tills : StampHoldings) where
   abbrev Enrolled : Type 0
   Enrolled = IsEnrolled b.workers p

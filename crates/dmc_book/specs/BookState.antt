@@ -4,7 +4,7 @@ use Rattle.std.specs.Arc.{arc_value}
 use Rattle.dmc_types.specs.Values.{Setting}
 use Rattle.dmc_types.specs.declared.ids.ClientId.{ClientId}
 use Rattle.dmc_tag.specs.declared.event.Event.{Event}
-use Rattle.dmc_history.specs.Log.{Log}
+use Rattle.dmc_queue_history.specs.Segmented.{Segmented}
 use Rattle.dmc_ledger.specs.Accounts.{Account, Holding}
 use Rattle.dmc_ledger.specs.Bundles.{ClientSide, GrantHoldings, grant_holdings}
 use Rattle.dmc_tlock.specs.BookState.{no_account, no_holding}
@@ -28,17 +28,29 @@ pub record WorkerHoldings : Type 0 where
   pub grants : Holding
   pub granted : Holding
 
--- an enrolled worker
+-- an enrolled worker; how many events were recorded when its sums of tokens were last renewed; and its books
 pub record WorkerSide : Type 0 where
   pub worker : ℕ
+  pub renewed : ℕ
   pub books : WorkerAccounts
 
--- the configuration, the number of the server, what the queue answered, how much of that there may be, the workers, the
--- desk of each client, and whether no more requests are taken
+-- The number of the server; what the queue answered, how many events of that were released, how many there may be until more
+-- are released, and for how many more a place is reserved; the workers; and the desk of each client.
+pub record AccountsState (T : Type 0) : Type 0 where
+  pub server : ℕ
+  pub history : List (Event T)
+  pub first : ℕ
+  pub most : ℕ
+  pub room : ℕ
+  pub workers : List WorkerSide
+  pub desks : List ClientSide
+
+-- The configuration; the accounts, but for the places that are reserved; and whether no more requests are taken.
 pub record BookState (T : Type 0) : Type 0 where
   pub config : Setting
   pub server : ℕ
   pub history : List (Event T)
+  pub first : ℕ
   pub most : ℕ
   pub workers : List WorkerSide
   pub desks : List ClientSide
@@ -60,7 +72,7 @@ module _ {S : Type 0} where
   worker_holdings t = record { calls = t.calls; misses = t.misses; tokens = t.tokens; grants = t.grants; granted = t.granted }
 
   abbrev pub worker_side : Seat S → WorkerSide
-  worker_side s = record { worker = s.worker.0; books = worker_accounts s.books }
+  worker_side s = record { worker = s.worker.0; renewed = s.renewed; books = worker_accounts s.books }
 
   abbrev pub pass_state : WorkerPass S → PassState
   pass_state p = record {
@@ -71,15 +83,28 @@ module _ {S : Type 0} where
     units = map grant_holdings p.units.items;
   }
 
--- the state of a book of these parts
-abbrev pub state_of : {T : Type 0} → Setting → ℕ → Log (Event T) → List WorkerSide → List ClientSide → Bool → BookState T
-state_of config server history workers desks closed = record {
-  config = config;
+-- the state of accounts of these parts
+abbrev pub accounts_of : {T : Type 0} → ℕ → Segmented (Event T) → List WorkerSide → List ClientSide → AccountsState T
+accounts_of server history workers desks = record {
   server = server;
   history = history.events;
+  first = history.first;
   most = history.most;
+  room = history.room;
   workers = workers;
   desks = desks;
+}
+
+-- the state of a book of these accounts
+abbrev pub state_of : {T : Type 0} → Setting → AccountsState T → Bool → BookState T
+state_of config accounts closed = record {
+  config = config;
+  server = accounts.server;
+  history = accounts.history;
+  first = accounts.first;
+  most = accounts.most;
+  workers = accounts.workers;
+  desks = accounts.desks;
   closed = closed;
 }
 
@@ -87,6 +112,7 @@ state_of config server history workers desks closed = record {
 abbrev pub no_worker : WorkerSide
 no_worker = record {
   worker = 0;
+  renewed = 0;
   books = record { calls = no_account; misses = no_account; tokens = no_account; grants = no_account; granted = no_account };
 }
 

@@ -1,6 +1,5 @@
 -- What a call does to a book and a pass, and what it is refused for.
 use Rattle.std.specs.Prelude.{◌≡◌, ℕ, ◌==◌, Bool, true, false, not, List, Option, Some, None, Result, Ok, Err, is_some, slice_index_or}
-use Rattle.std.specs.List.{position}
 use Rattle.dmc_types.specs.declared.ids.ClientId.{ClientId}
 use Rattle.dmc_types.specs.declared.config.PhaseType.{PhaseType}
 use Rattle.dmc_types.specs.declared.command.Command.{Command}
@@ -48,15 +47,6 @@ lacks_desk desks (Add client token params at) = false
 lacks_desk desks (Pull at) = false
 lacks_desk desks (Remove client) = false
 lacks_desk desks (Clean at) = false
-
--- the same, with the names of the clients that have one
-abbrev pub names_none : List ClientId → Command → Bool
-names_none names (Register client info at) = not (is_some (position (λ id. client.0 == id.0) names))
-names_none names (Update client info at) = false
-names_none names (Add client token params at) = false
-names_none names (Pull at) = false
-names_none names (Remove client) = false
-names_none names (Clean at) = false
 
 abbrev pub event_of : {T : Type 0} → ℕ → Command → Reply T → Event T
 event_of worker command reply = record { worker = record { 0 = worker }; command = command; reply = reply }

@@ -1,7 +1,8 @@
--- What holds of every queue's book: the invariant of its type.
-use Rattle.std.specs.Prelude.{◌≡◌, ℕ, ◌+◌, ◌*◌, ◌≤◌, ◌==◌, true, false, List, [], ◌∷◌, length, Option, Some, None, is_some, ⊤}
+-- What holds of all accounts, and of every queue's book: the invariants of their types.
+use Rattle.std.specs.Prelude.{◌≡◌, ℕ, ◌+◌, ◌-◌, ◌*◌, ◌^◌, ◌≤◌, ◌==◌, true, false, List, [], ◌∷◌, drop, length, Option, Some, None, is_some, ⊤}
 use Rattle.std.specs.List.{AllByRecursion}
 use Rattle.dmc_types.specs.Limits.{most_events}
+use Rattle.dmc_types.specs.Values.{Setting}
 use Rattle.dmc_types.specs.declared.ids.ClientId.{ClientId}
 use Rattle.dmc_types.specs.declared.config.PhaseType.{PhaseType}
 use Rattle.dmc_types.specs.declared.config.PhaseType.TheVariants.{Reservation, Priority}
@@ -9,27 +10,27 @@ use Rattle.dmc_tag.specs.Tag.{Tagging}
 use Rattle.dmc_tag.specs.State.{State, StandsFor}
 use Rattle.dmc_tag.specs.Replay.{after, replays}
 use Rattle.dmc_tag.specs.declared.event.Event.{Event}
+use Rattle.dmc_queue_history.specs.Segmented.{most_released}
 use Rattle.dmc_ledger.specs.Accounts.{Account, total_of}
 use Rattle.dmc_ledger.specs.Bundles.{ClientSide, GrantAccounts}
-use Rattle.dmc_book.specs.BookState.{BookState, WorkerAccounts, WorkerSide}
+use Rattle.dmc_book.specs.BookState.{AccountsState, WorkerAccounts, WorkerSide}
 use Rattle.dmc_book.specs.Counts.{most_added, count, worker_adds, stamps_added, delta_added, rho_added, grant_in, grants_added}
 use Rattle.dmc_book.specs.Moves.{desk_place}
 
--- The book totals what the events add. Nothing of it is gathered, and so many of its tills are open. No event adds more
--- than 2^32-1, so the total stays far below the 2^63 of a book.
+-- The book totals what the events add. Nothing of it is gathered, and so many of its tills are open.
 pub record IsCounted {T : Type 0} (adds : Event T → ℕ) (history : List (Event T)) (tills : ℕ) (book : Account) : Type 0 where
   pub total : total_of book ≡ count adds history
-  pub bound : total_of book ≤ length history * most_added
   pub gathered : book.gathered ≡ 0
   pub open_tills : book.open_tills ≡ tills
 
--- the five books of a worker, each with one till open: that of its pass
+-- The five books of a worker, each with one till open: that of its pass. Those of its tokens count since they were last renewed.
 pub record IsWorker {T : Type 0} (history : List (Event T)) (w : WorkerSide) : Type 0 where
   pub calls : IsCounted (λ e. (worker_adds w.worker e).calls) history 1 w.books.calls
   pub misses : IsCounted (λ e. (worker_adds w.worker e).misses) history 1 w.books.misses
-  pub tokens : IsCounted (λ e. (worker_adds w.worker e).tokens) history 1 w.books.tokens
+  pub renewed : w.renewed ≤ length history
+  pub tokens : IsCounted (λ e. (worker_adds w.worker e).tokens) (drop w.renewed history) 1 w.books.tokens
   pub grants : IsCounted (λ e. (worker_adds w.worker e).grants) history 1 w.books.grants
-  pub granted : IsCounted (λ e. (worker_adds w.worker e).granted) history 1 w.books.granted
+  pub granted : IsCounted (λ e. (worker_adds w.worker e).granted) (drop w.renewed history) 1 w.books.granted
 
 -- the desk of a client: the stamps, deltas and rhos of its accepted adds, and the books of its grants, of which the held
 -- till of the tracker's desk is open and one in each worker's pass
@@ -55,17 +56,33 @@ abbrev pub HasDesk : List ClientSide → Option (ClientId × PhaseType) → Type
 HasDesk desks None = ⊤
 HasDesk desks (Some grant) = is_some (desk_place grant.0.0 desks) ≡ true
 
--- The history replays, and the queue stands for the state after it. Workers and desks count it, and each client that it
--- grants a request of has a desk.
-pub record IsConsistent {T : Type 0} (ops : Tagging T) (queue : State T) (b : BookState T) : Type 0 where
-  pub stands : StandsFor queue (after ops b.config b.history)
-  pub replaying : replays ops b.config b.history
-  pub workers : AllByRecursion (IsWorker b.history) b.workers
-  pub desks : AllByRecursion (IsDesk b.history b.server (length b.workers)) b.desks
-  pub workers_apart : AreWorkersApart b.workers
-  pub clients_apart : AreClientsApart b.desks
-  pub granted : AllByRecursion (λ e. HasDesk b.desks (grant_in e.reply)) b.history
-  pub limit : b.most ≤ most_events
+-- Sums of tokens grow faster than a history, since a token is any number up to 2^32-1. What they had grown to when events were
+-- last released leaves them room for the events that are kept.
+pub record AreTokensFit (first events : ℕ) (books : WorkerAccounts) : Type 0 where
+  pub tokens : total_of books.tokens + first * most_added ≤ 2 ^ 62 + events * most_added
+  pub granted : total_of books.granted + first * most_added ≤ 2 ^ 62 + events * most_added
+
+-- Workers and desks count the history, and each client that it grants a request of has a desk. No total can pass the 2^63 of a
+-- book.
+pub record AreConsistent {T : Type 0} (a : AccountsState T) : Type 0 where
+  pub workers : AllByRecursion (IsWorker a.history) a.workers
+  pub desks : AllByRecursion (IsDesk a.history a.server (length a.workers)) a.desks
+  pub workers_apart : AreWorkersApart a.workers
+  pub clients_apart : AreClientsApart a.desks
+  pub granted : AllByRecursion (λ e. HasDesk a.desks (grant_in e.reply)) a.history
+  pub tokens_fit : AllByRecursion (λ w. AreTokensFit a.first (length a.history) w.books) a.workers
+  pub within : a.first ≤ length a.history
+  pub few : a.first ≤ most_released
+  pub limit : a.most ≤ a.first + most_events
+
+-- The history replays, and the queue represents the state after it.
+pub record IsReplayed {T : Type 0} (ops : Tagging T) (queue : State T) (config : Setting) (history : List (Event T)) : Type 0 where
+  pub stands : StandsFor queue (after ops config history)
+  pub replaying : replays ops config history
+
+-- a total of at most so much is sure to take what one more event adds
+abbrev pub most_before : ℕ
+most_before = 2 ^ 63 - 2 ^ 32
 
 -- none of the totals is past a bound
 pub record AreWithin (n : ℕ) (books : WorkerAccounts) : Type 0 where

@@ -1,5 +1,5 @@
 -- What no call of a queue's book changes.
-use Rattle.std.specs.Prelude.{◌≡◌, ℕ, List, ◌++◌, map}
+use Rattle.std.specs.Prelude.{◌≡◌, ◌≤◌, ℕ, ◌+◌, List, ◌++◌, map}
 use Rattle.dmc_tag.specs.declared.event.Event.{Event}
 use Rattle.dmc_ledger.specs.Bundles.{ClientSide}
 use Rattle.dmc_tlock.specs.Later.{DeskNumbers}
@@ -35,12 +35,13 @@ desk_numbers desk = record {
   priority = desk.books.priority.number;
 }
 
--- The configuration, the server, how long the history may become, and the numbers of the workers and of the desks. The history
--- only grows.
+-- The configuration, the server, how many events may be kept, and the numbers of the workers and of the desks. The history only
+-- grows, and what was released stays so.
 pub record IsLater {T : Type 0} (old new : BookState T) : Type 0 where
   pub config : new.config ≡ old.config
   pub server : new.server ≡ old.server
-  pub most : new.most ≡ old.most
+  pub first : old.first ≤ new.first
+  pub most : new.most + old.first ≡ old.most + new.first
   pub workers : map worker_numbers new.workers ≡ map worker_numbers old.workers
   pub desks : map desk_numbers new.desks ≡ map desk_numbers old.desks
   pub rest : List (Event T)

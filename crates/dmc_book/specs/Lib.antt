@@ -1,13 +1,29 @@
+-- What contracts see of a queue's book and of a worker's pass.
 pub mod BookState
+-- What a call does to a book and a pass, and the cause of each refusal.
 pub mod Calls
+-- The invariant of every queue's book.
 pub mod Consistent
+-- Counts over a queue's history: what each event adds to a count, and the sums.
 pub mod Counts
+-- What no call of a queue's book changes.
 pub mod Later
+-- What a pass lends, and what the pass is once that was given back.
 pub mod Lending
+-- What an event changes in a book and in its worker's pass.
 pub mod Moves
+-- A queue's book as it is made.
 pub mod Opening
+-- Capacity that is reserved for a pass.
+pub mod Renewing
 pub mod Rooms
+-- A book that releases events, in segments.
+pub mod Rotating
+-- The effect of a command that is no Add.
 pub mod Runs
+-- A queue's book as it is settled.
 pub mod Settling
+-- What `status` returns.
 pub mod Status
+-- The effect of a submit, and the desk of its stamp.
 pub mod Submits

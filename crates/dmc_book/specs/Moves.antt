@@ -1,5 +1,5 @@
 -- What an event moves in a book and in the pass of its worker.
-use Rattle.std.specs.Prelude.{◌≡◌, ℕ, ◌<◌, ◌==◌, Bool, false, if◌then◌else◌, List, [], ◌∷◌, ◌++◌, map, length, Option, Some, None, slice_get, slice_index_or, slice_set}
+use Rattle.std.specs.Prelude.{◌≡◌, ℕ, ◌-◌, ◌<◌, ◌==◌, Bool, false, if◌then◌else◌, List, [], ◌∷◌, ◌++◌, map, length, Option, Some, None, slice_get, slice_index_or, slice_set}
 use Rattle.std.specs.List.{position}
 use Rattle.dmc_types.specs.declared.ids.ClientId.{ClientId}
 use Rattle.dmc_types.specs.declared.config.PhaseType.{PhaseType}
@@ -10,7 +10,7 @@ use Rattle.dmc_tag.specs.declared.reply.Reply.{Reply}
 use Rattle.dmc_ledger.specs.Bundles.{ClientSide, GrantHoldings}
 use Rattle.dmc_ledger.specs.Moves.{after_issue, with_more, till_in, book_in, tills_after_response}
 use Rattle.dmc_book.specs.declared.counts.Numbers.{Numbers}
-use Rattle.dmc_book.specs.BookState.{WorkerAccounts, WorkerHoldings, WorkerSide, BookState, PassState, no_worker, no_unit}
+use Rattle.dmc_book.specs.BookState.{WorkerAccounts, WorkerHoldings, WorkerSide, AccountsState, BookState, PassState, no_worker, no_unit}
 use Rattle.dmc_book.specs.Counts.{numbers_of, worker_adds, stamps_added, delta_added, rho_added, grants_added, grant_in}
 
 -- each of the five books issues its number, into its till
@@ -47,6 +47,15 @@ desk_after e d = record d {
     reservation = after_issue (grants_added d.client Reservation e) d.books.reservation;
     priority = after_issue (grants_added d.client Priority e) d.books.priority;
   };
+}
+
+-- the accounts, with the event recorded in a reserved place
+abbrev pub accounts_after : {T : Type 0} → Event T → AccountsState T → AccountsState T
+accounts_after e a = record a {
+  history = a.history ++ e ∷ [];
+  room = a.room - 1;
+  workers = map (worker_after e) a.workers;
+  desks = map (desk_after e) a.desks;
 }
 
 -- the book, with the event recorded
@@ -117,7 +126,3 @@ same_place (Some i) (Some j) = if i == j then Some i else None
 -- the desk's place, and the till there is of the desk's book
 abbrev pub takes : List ClientSide → List ClientId → List GrantHoldings → ClientId → PhaseType → Bool
 takes desks names units client phase = takes_at phase desks units (same_place (desk_place client.0 desks) (place_of client.0 names))
-
--- the same, with the names of the clients that have a desk
-abbrev pub takes_by : List ClientId → List ClientSide → List ClientId → List GrantHoldings → ClientId → PhaseType → Bool
-takes_by clients desks names units client phase = takes_at phase desks units (same_place (place_of client.0 clients) (place_of client.0 names))

@@ -7,18 +7,18 @@ use Rattle.dmc_types.specs.declared.ids.ClientId.{ClientId}
 use Rattle.dmc_types.specs.declared.ids.WorkerId.{WorkerId}
 use Rattle.dmc_ledger.specs.Accounts.{Account, new_book, new_till}
 use Rattle.dmc_ledger.specs.Bundles.{ClientSide, GrantAccounts, GrantHoldings, new_client_side}
-use Rattle.dmc_book.specs.BookState.{BookState, PassState, WorkerAccounts, WorkerHoldings, WorkerSide}
+use Rattle.dmc_book.specs.BookState.{AccountsState, BookState, PassState, WorkerAccounts, WorkerHoldings, WorkerSide, state_of}
 
 -- the desk is this server's, as `open_pair` gave it
 abbrev pub IsNewDesk : ℕ → ClientSide → Type 0
 IsNewDesk server d = (n : ℕ) × (d ≡ new_client_side d.client server n)
 
--- the limits of a history, of the desks, and of the books that the mint has left: five for each worker
+-- the limits of a history, of the desks, and of the numbers that the mint has left: five for each worker, and the history's
 pub record AreBookLimits (workers desks left most : ℕ) : Type 0 where
   pub some_events : 0 < most
   pub events_limit : most ≤ most_events
   pub desks_limit : desks ≤ most_clients
-  pub books : 5 * workers ≤ left
+  pub books : 5 * workers + 1 ≤ left
 
 -- no number is named twice
 abbrev pub AreApart : {X : Type 0} → (X → ℕ) → List X → Type 0
@@ -50,7 +50,7 @@ new_holdings n = record {
 }
 
 abbrev pub new_worker : ℕ → WorkerId → WorkerSide
-new_worker n w = record { worker = w.0; books = new_accounts n }
+new_worker n w = record { worker = w.0; renewed = 0; books = new_accounts n }
 
 -- the workers, whose books are the next of the mint
 abbrev pub new_workers : ℕ → List WorkerId → List WorkerSide
@@ -85,17 +85,21 @@ abbrev pub new_passes : ℕ → ℕ → List ClientId → List ClientSide → Li
 new_passes place n clients desks [] = []
 new_passes place n clients desks (w ∷ ws) = new_pass place n clients desks w ∷ new_passes (place + 1) (n + 5) clients desks ws
 
--- a book of an empty history, which is open; each desk has a till open for each worker beside the held ones
-abbrev pub new_state : {T : Type 0} → Setting → ℕ → ℕ → ℕ → List WorkerId → List ClientSide → BookState T
-new_state config server most n workers desks = record {
-  config = config;
+-- accounts of an empty history; each desk has a till open for each worker beside the held ones
+abbrev pub new_accounts_state : {T : Type 0} → ℕ → ℕ → ℕ → List WorkerId → List ClientSide → AccountsState T
+new_accounts_state server most n workers desks = record {
   server = server;
   history = [];
+  first = 0;
   most = most;
+  room = 0;
   workers = new_workers n workers;
   desks = map (desk_with_tills (length workers)) desks;
-  closed = false;
 }
+
+-- a book of such accounts, which is open
+abbrev pub new_state : {T : Type 0} → Setting → ℕ → ℕ → ℕ → List WorkerId → List ClientSide → BookState T
+new_state config server most n workers desks = state_of config (new_accounts_state server most n workers desks) false
 
 -- one more till of each of the books may be opened
 pub record HaveRoom (books : GrantAccounts) : Type 0 where

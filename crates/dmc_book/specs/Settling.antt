@@ -1,5 +1,5 @@
 -- A queue's book that is settled.
-use Rattle.std.specs.Prelude.{◌≡◌, ℕ, ◌+◌, ◌<◌, List, [], ◌∷◌, length, slice_index_or, sum_by}
+use Rattle.std.specs.Prelude.{◌≡◌, ℕ, ◌+◌, ◌<◌, List, [], ◌∷◌, drop, length, slice_index_or, sum_by}
 use Rattle.std.specs.List.{AllByRecursion}
 use Rattle.dmc_types.specs.declared.config.PhaseType.{PhaseType}
 use Rattle.dmc_types.specs.declared.config.PhaseType.TheVariants.{Reservation, Priority}
@@ -7,7 +7,7 @@ use Rattle.dmc_tag.specs.declared.event.Event.{Event}
 use Rattle.dmc_ledger.specs.Accounts.{Account, after_closing, total_of}
 use Rattle.dmc_ledger.specs.Bundles.{ClientSide, GrantAccounts, GrantHoldings}
 use Rattle.dmc_ledger.specs.Moves.{till_in}
-use Rattle.dmc_book.specs.BookState.{BookState, PassState, WorkerAccounts, WorkerSide, no_desk, no_unit}
+use Rattle.dmc_book.specs.BookState.{AccountsState, BookState, PassState, WorkerAccounts, WorkerSide, no_desk, no_unit}
 use Rattle.dmc_book.specs.Counts.{count, worker_adds, stamps_added, delta_added, rho_added, grants_added, phase_grants}
 use Rattle.dmc_book.specs.Moves.{IsEnrolled}
 
@@ -70,13 +70,13 @@ pub record IsGathered {T : Type 0} (adds : Event T → ℕ) (history : List (Eve
   pub held : book.held ≡ 0
   pub open_tills : book.open_tills ≡ 0
 
--- the numbers of a worker's pass are its counts over the history
+-- The numbers of a worker's pass are its counts over the history, those of its tokens since they were last renewed.
 pub record IsSettledWorker {T : Type 0} (history : List (Event T)) (w : WorkerSide) : Type 0 where
   pub calls : IsGathered (λ e. (worker_adds w.worker e).calls) history w.books.calls
   pub misses : IsGathered (λ e. (worker_adds w.worker e).misses) history w.books.misses
-  pub tokens : IsGathered (λ e. (worker_adds w.worker e).tokens) history w.books.tokens
+  pub tokens : IsGathered (λ e. (worker_adds w.worker e).tokens) (drop w.renewed history) w.books.tokens
   pub grants : IsGathered (λ e. (worker_adds w.worker e).grants) history w.books.grants
-  pub granted : IsGathered (λ e. (worker_adds w.worker e).granted) history w.books.granted
+  pub granted : IsGathered (λ e. (worker_adds w.worker e).granted) (drop w.renewed history) w.books.granted
 
 -- ---- the desks
 
@@ -134,6 +134,10 @@ pub record AreSettledDesks {T : Type 0} (history : List (Event T)) (passes : Lis
 
 -- ---- the book
 
--- nothing of the book is left that could be settled again
+-- nothing of the book is left that could be settled again, and nothing more can be recorded
 abbrev pub after_settling : {T : Type 0} → BookState T → BookState T
-after_settling b = record b { history = []; workers = []; desks = [] }
+after_settling b = record b { history = []; first = 0; most = 0; workers = []; desks = [] }
+
+-- the same of accounts
+abbrev pub accounts_settled : {T : Type 0} → AccountsState T → AccountsState T
+accounts_settled a = record a { history = []; first = 0; most = 0; room = 0; workers = []; desks = [] }

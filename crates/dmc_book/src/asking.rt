@@ -1,6 +1,5 @@
 //! Commands handed to the queue.
-ghost use Rattle.std.specs.Prelude.{◌≡◌, false, map, ⊤};
-ghost use Rattle.dmc_ledger.specs.Bundles.{client_side};
+ghost use Rattle.std.specs.Prelude.{◌≡◌, false, ⊤};
 ghost use Rattle.dmc_tag.specs.Steps.{Steps};
 ghost use Rattle.dmc_types.specs.declared.command.Command.TheVariants as commands;
 ghost use Rattle.dmc_pull.specs.Queue.{state_of};
@@ -8,11 +7,11 @@ ghost use Rattle.dmc_book.specs.BookState.{pass_state};
 ghost use Rattle.dmc_book.specs.Calls.{Asks, added_reply, asked, is_add};
 ghost use Rattle.dmc_book.specs.Moves.{takes};
 
+use crate::accounts::Accounts;
 use crate::desk::UnitTest;
 use crate::fault::{RunFault, RunOrRange};
 use crate::pass::WorkerPass;
 use dmc_index::index::Indexes;
-use dmc_ledger::desk::ClientDesk;
 use dmc_ledger::setup::Setup;
 use dmc_pull::granting::PullFault;
 use dmc_pull::queue::PullQueue;
@@ -25,7 +24,6 @@ use dmc_types::ids::{ClientId, Token};
 use dmc_types::moment::Moment;
 use dmc_types::params::ReqParams;
 use dmc_types::refusal::{QueueFault, Refusal};
-use indexmap::IndexSet;
 use std::alloc::AllocError;
 
 /// What the queue makes of an add.
@@ -69,19 +67,13 @@ pub(crate) fn ask_to_add<T: Tag, I: Indexes<T>>(
 #[inline(always)]
 pub(crate) fn ask_to_pull<T: Tag, I: Indexes<T>, S: Setup>(
     queue: &mut PullQueue<T, I>,
-    clients: &IndexSet<ClientId>,
-    desks: &[ClientDesk<S>],
+    accounts: &Accounts<T, S>,
     pass: &WorkerPass<S>,
     at: Moment,
 ) -> Result<Pulled, RunOrRange>
-    requires { clients.now.keys ≡ map (λ d. d.client) desks.now }
-    ensures { Asks T.ops (takes (map client_side desks.now) (pass_state pass.now).clients (pass_state pass.now).units) (state_of queue.old) (state_of queue.new) (commands.Pull at) (asked result) }
+    ensures { Asks T.ops (takes accounts.now.desks (pass_state pass.now).clients (pass_state pass.now).units) (state_of queue.old) (state_of queue.new) (commands.Pull at) (asked result) }
 {
-    let test = UnitTest {
-        clients,
-        desks,
-        pass,
-    };
+    let test = UnitTest { accounts, pass };
     match queue.pull_allowed(at, &test) {
         Ok(pulled) => Ok(pulled),
         Err(PullFault::Refused(refusal)) => Err(RunOrRange::Range),
@@ -103,17 +95,15 @@ pub(crate) fn reply_of<T>(answer: Result<Pulled, RunOrRange>) -> Result<Reply<T>
 /// Hands a command that is not an Add to the queue. The pass keeps the place of a granted client's desk.
 pub(crate) fn ask<T: Tag, I: Indexes<T>, S: Setup>(
     queue: &mut PullQueue<T, I>,
-    clients: &IndexSet<ClientId>,
-    desks: &[ClientDesk<S>],
+    accounts: &Accounts<T, S>,
     pass: &WorkerPass<S>,
     command: &Command,
 ) -> Result<Reply<T>, RunFault>
     requires plain { is_add command.now ≡ false }
-    requires named { clients.now.keys ≡ map (λ d. d.client) desks.now }
-    ensures { Asks T.ops (takes (map client_side desks.now) (pass_state pass.now).clients (pass_state pass.now).units) (state_of queue.old) (state_of queue.new) command.now result }
+    ensures { Asks T.ops (takes accounts.now.desks (pass_state pass.now).clients (pass_state pass.now).units) (state_of queue.old) (state_of queue.new) command.now result }
 {
     if let Command::Pull { at } = *command {
-        return reply_of(ask_to_pull(queue, clients, desks, pass, at));
+        return reply_of(ask_to_pull(queue, accounts, pass, at));
     }
     match queue.apply(command) {
         Ok(reply) => Ok(reply),

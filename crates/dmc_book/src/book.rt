@@ -1,43 +1,41 @@
 //! The queue's book.
-ghost use Rattle.std.specs.Prelude.{◌≡◌, ◌≤◌, ◌+◌, ◌*◌, ◌↔◌, length, map, true, false, IfOk, IfErr, IsOk, OnOk, OnErr, IsErrOf, IsErrAnd};
+ghost use Rattle.std.specs.Prelude.{◌≡◌, ◌≤◌, ◌+◌, ◌*◌, ◌↔◌, drop, length, map, true, false, IfNone, IfSome, OnSome, IfOk, IfErr, IsOk, IsSome, OnOk, OnErr, IsErrOf, IsErrAnd};
 ghost use Rattle.std.specs.List.{AllByRecursion};
 ghost use Rattle.dmc_types.specs.Limits.{most_events, most_workers};
 ghost use Rattle.dmc_ledger.specs.Bundles.{client_side};
 ghost use Rattle.dmc_tag.specs.Replay.{after, replays};
 ghost use Rattle.dmc_book.specs.BookState.{pass_state, worker_side};
-ghost use Rattle.dmc_book.specs.Calls.{Ran, Strays, is_add, lacks_desk, names_none, reply_to};
+ghost use Rattle.dmc_book.specs.Calls.{Ran, Strays, is_add, lacks_desk, reply_to};
 ghost use Rattle.dmc_book.specs.Later.{IsLater};
 ghost use Rattle.dmc_book.specs.Moves.{IsEnrolled, takes};
 ghost use Rattle.dmc_book.specs.Opening.{AreBookLimits, AreNamedOnce, IsNewDesk, new_passes, new_state};
+ghost use Rattle.dmc_book.specs.Renewing.{book_renewed, renewed_pass};
+ghost use Rattle.dmc_book.specs.Rotating.{MayRotate, after_rotating, segment_of};
 ghost use Rattle.dmc_book.specs.Runs.{Runs};
 ghost use Rattle.dmc_book.specs.Settling.{AreGrantsOfDesks, AreOwn, AreSettledDesks, IsSettledWorker, after_settling, closed_worker};
 ghost use Rattle.dmc_book.specs.Status.{IsStatusOf};
 
+use crate::accounts::Accounts;
 use crate::asking::ask;
 use crate::fault::{BookFault, NewFault, RunFault};
-use crate::opening::{Parts, Room, make_parts, open_workers};
+use crate::opening::{make_parts, open_accounts};
 use crate::pass::WorkerPass;
-use crate::recording::record;
-use crate::seat::{Seat, is_enrolled};
-use crate::settled::{Settled, are_own, take_passes};
+use crate::settled::Settled;
 use crate::status::Status;
-use dmc_events::history::EventHistory;
 use dmc_index::index::Indexes;
 use dmc_ledger::desk::ClientDesk;
 use dmc_ledger::mint::Mint;
 use dmc_ledger::setup::Setup;
 use dmc_pull::queue::PullQueue;
-use dmc_tag::event::Event;
+use dmc_queue_history::segment::Segment;
 use dmc_tag::reply::Reply;
 use dmc_tag::tag::Tag;
 use dmc_tlock::witness::Lasting;
 use dmc_types::command::Command;
 use dmc_types::config::QueueConfig;
-use dmc_types::ids::{ClientId, ServerId, WorkerId};
-use indexmap::IndexSet;
+use dmc_types::ids::{ServerId, WorkerId};
 use std::alloc::Global;
 use std::marker::Model;
-use std::mem::replace;
 
 /// A part of a book. A struct that is generic in indexes has a rule for letting it go, as generic code does, where such a
 /// part stands behind a type parameter.
@@ -46,34 +44,27 @@ pub(crate) struct Part<P>(pub(crate) P);
 
 /// A server's queue with the history of what it answered, five books for each enrolled worker, and a desk for each client.
 ///
-/// What holds of every book is the invariant of its type: the three indexes hold exactly the clients with a queued request,
-/// the history replays, the books of each worker total its counts over the history, and each desk holds what the history
-/// took from its client and totals what it granted. The laws tell it.
+/// What holds of every book is the invariant of its type, and of its accounts: the three indexes hold exactly the clients with a
+/// queued request, the history replays, the books of each worker total its counts over the history, and each desk holds what
+/// the history took from its client and totals what it granted. The laws state it.
 #[derive(Drop)]
 pub struct QueueBook<T: Tag, I: Indexes<T>, S: Setup> {
     pub(crate) config: QueueConfig,
-    pub(crate) server: ServerId,
     pub(crate) queue: Part<PullQueue<T, I>>,
-    pub(crate) history: EventHistory<T>,
-    pub(crate) workers: Vec<Seat<S>>,
-    pub(crate) clients: IndexSet<ClientId>,
-    pub(crate) desks: Vec<ClientDesk<S>>,
+    pub(crate) accounts: Accounts<T, S>,
     pub(crate) closed: bool,
 }
 
 impl<T: Tag, I: Indexes<T>, S: Setup> Model for QueueBook<T, I, S> {
-    ghost use Rattle.std.specs.Prelude.{◌≡◌, map};
-    ghost use Rattle.dmc_ledger.specs.Bundles.{client_side};
     ghost use Rattle.dmc_pull.specs.Queue as queue_specs;
-    ghost use Rattle.dmc_book.specs.BookState.{BookState, state_of, worker_side};
-    ghost use Rattle.dmc_book.specs.Consistent.{IsConsistent};
+    ghost use Rattle.dmc_book.specs.BookState.{BookState, state_of};
+    ghost use Rattle.dmc_book.specs.Consistent.{IsReplayed};
 
     ghost Value = { BookState T };
 
-    ghost view = { λ b. state_of b.config b.server.0 b.history (map worker_side b.workers.items) (map client_side b.desks.items) b.closed };
+    ghost view = { λ b. state_of b.config b.accounts b.closed };
 
-    ghost invariant = { λ b. IsConsistent T.ops (queue_specs.state_of b.queue.0) (state_of b.config b.server.0 b.history (map worker_side b.workers.items) (map client_side b.desks.items) b.closed)
-        × (b.clients.keys ≡ map (λ d. d.client) b.desks.items) };
+    ghost invariant = { λ b. IsReplayed T.ops (queue_specs.state_of b.queue.0) b.config b.accounts.history };
 }
 
 impl<T: Tag, I: Indexes<T>, S: Setup> Lasting for QueueBook<T, I, S> {
@@ -82,11 +73,11 @@ impl<T: Tag, I: Indexes<T>, S: Setup> Lasting for QueueBook<T, I, S> {
 
 impl<T: Tag, I: Indexes<T>, S: Setup> QueueBook<T, I, S> {
     /// A book of an empty queue, which is open, and a pass for each worker, in their order, which holds nothing. The desks are
-    /// this server's, as `open_pair` gave them; beside the held till of each of their books each pass has one. `most` is the
-    /// history's (1 to 2^30).
+    /// this server's, as `open_pair` gave them; beside the held till of each of their books each pass has one. The book keeps
+    /// at most `most` events (1 to 2^30). The mint gives five numbers to each worker, and one to the history.
     ///
-    /// Refused `Limit`, `Twice`, `Memory`, with the desks handed back and the mint as it was. Names are compared in room that
-    /// is made for it: where there is none, names that stand there twice are refused `Memory`.
+    /// Refused `Limit`, `Twice`, `Memory`, with the desks handed back and the mint as it was. Names are compared in memory that
+    /// is allocated for it: where there is none, names that are there twice are refused `Memory`.
     pub fn new(
         alloc: Global,
         config: QueueConfig,
@@ -102,8 +93,8 @@ impl<T: Tag, I: Indexes<T>, S: Setup> QueueBook<T, I, S> {
             made.0 ≡ new_state config server.0 most mint.old.opened workers.now (map client_side desks.items)) }
         ensures passes { IfOk result (λ made. map pass_state made.1.items
             ≡ new_passes 0 mint.old.opened (map (λ d. d.client) desks.items) (map client_side desks.items) workers.now) }
-        ensures opened { OnOk result (mint.new.opened ≡ mint.old.opened + 5 * length workers.now) }
-        ensures left { OnOk result (mint.new.left + 5 * length workers.now ≡ mint.old.left) }
+        ensures opened { OnOk result (mint.new.opened ≡ mint.old.opened + (5 * length workers.now + 1)) }
+        ensures left { OnOk result (mint.new.left + (5 * length workers.now + 1) ≡ mint.old.left) }
         ensures once { OnOk result (AreNamedOnce workers.now (map client_side desks.items)) }
         ensures back { IfErr result (λ fault. fault.desks ≡ desks) }
         ensures mint_kept { OnErr result (mint.new ≡ mint.old) }
@@ -116,26 +107,11 @@ impl<T: Tag, I: Indexes<T>, S: Setup> QueueBook<T, I, S> {
             Ok(parts) => parts,
             Err(cause) => return Err(BookFault { desks, cause }),
         };
-        let Parts {
-            history,
-            clients,
-            room,
-        } = parts;
-        let Room {
-            rooms,
-            mut seats,
-            mut passes,
-        } = room;
-        let mut desks = desks;
-        open_workers(mint, workers, &mut desks, rooms, &mut seats, &mut passes);
+        let (accounts, passes) = open_accounts(server, workers, desks, mint, parts);
         let book = QueueBook {
             config,
-            server,
             queue: Part(PullQueue::new(alloc, config)),
-            history,
-            workers: seats,
-            clients,
-            desks,
+            accounts,
             closed: false,
         };
         Ok((book, passes))
@@ -156,7 +132,7 @@ impl<T: Tag, I: Indexes<T>, S: Setup> QueueBook<T, I, S> {
         ensures stranger { OnErr result (IsEnrolled self.now.workers (pass_state pass.now) → ⊥) }
         ensures cause { IfErr result (λ fault. fault ≡ RunFault.Stranger) }
     {
-        if !is_enrolled(&self.workers, pass) {
+        if !self.accounts.is_enrolled(pass) {
             return Err(RunFault::Stranger);
         }
         Ok(Status {
@@ -167,7 +143,7 @@ impl<T: Tag, I: Indexes<T>, S: Setup> QueueBook<T, I, S> {
             granted: pass.tills.granted.amount(),
             clients: self.queue.0.client_count(),
             requests: self.queue.0.request_count(),
-            events: self.history.len() as u32,
+            events: self.accounts.event_count(),
             closed: self.closed,
         })
     }
@@ -197,45 +173,28 @@ impl<T: Tag, I: Indexes<T>, S: Setup> QueueBook<T, I, S> {
         self.hand_on(pass, command)
     }
 
-    /// Hands a command on to the queue, as `run` tells.
+    /// Hands a command on to the queue: see `run`.
     fn hand_on(&mut self, pass: &mut WorkerPass<S>, command: Command) -> Result<Reply<T>, RunFault>
         requires { is_add command ≡ false }
         ensures { Runs T.ops self.old (pass_state pass.old) command self.new (pass_state pass.new) result }
     {
-        if !is_enrolled(&self.workers, pass) {
+        if !self.accounts.is_enrolled(pass) {
             return Err(RunFault::Stranger);
         }
-        if lacks_desk_for(&self.clients, &command) {
+        if self.accounts.lacks_desk_for(&command) {
             return Err(RunFault::NoDesk);
         }
-        self.history.reserve_one()?;
-        let reply = ask(
-            &mut self.queue.0,
-            &self.clients,
-            &self.desks,
-            pass,
-            &command,
-        )?;
-        let event = Event {
-            worker: pass.worker,
-            command,
-            reply,
-        };
-        record(
-            &mut self.workers,
-            &mut self.desks,
-            &mut self.history,
-            pass,
-            event,
-        );
+        self.accounts.reserve()?;
+        let reply = ask(&mut self.queue.0, &self.accounts, pass, &command)?;
+        self.accounts.record(pass, command, reply);
         Ok(reply)
     }
 
-    /// Settles the book with exactly the passes that `new` gave, in any order. It gathers them, and answers what the queue
-    /// answered, how many requests are queued, the workers with what their passes held, and the desks: of each grant book what
-    /// was gathered is what the passes held, and the held till of its pair alone is open. The book is then empty: it has no
-    /// worker, no desk and no event, so nothing is counted twice. Other passes are handed back, and the book is as it was. It
-    /// takes no memory.
+    /// Settles the book with exactly the passes that `new` gave, in any order. It gathers them, and returns the events that were
+    /// not released, how many requests are queued, the workers with what their passes held, and the desks: of each grant book
+    /// what was gathered is what the passes held, and the held till of its pair alone is open. The book is then empty: it has
+    /// no worker, no desk and no event, so nothing is counted twice. Other passes are handed back, and the book is as it was.
+    /// It takes no memory.
     pub fn settle(
         &mut self,
         alloc: Global,
@@ -245,15 +204,15 @@ impl<T: Tag, I: Indexes<T>, S: Setup> QueueBook<T, I, S> {
         ensures back { IfErr result (λ back. back ≡ passes) }
         ensures kept { OnErr result (self.new ≡ self.old) }
         ensures emptied { OnOk result (self.new ≡ after_settling self.old) }
-        ensures history { IfOk result (λ settled. settled.history.events ≡ self.old.history) }
-        ensures replays { IfOk result (λ settled. replays T.ops self.old.config settled.history.events) }
+        ensures history { IfOk result (λ settled. settled.history.events ≡ drop self.old.first self.old.history) }
+        ensures replays { OnOk result (replays T.ops self.old.config self.old.history) }
         ensures left { IfOk result (λ settled. settled.left ≡ length (after T.ops self.old.config self.old.history).requests) }
         ensures workers { IfOk result (λ settled. map worker_side settled.workers.items ≡ map closed_worker self.old.workers) }
         ensures counts { IfOk result (λ settled. AllByRecursion (IsSettledWorker self.old.history) (map worker_side settled.workers.items)) }
         ensures desks { IfOk result (λ settled.
             AreSettledDesks self.old.history (map pass_state passes.items) self.old.desks (map client_side settled.desks.items)) }
     {
-        if !are_own(&self.workers, &self.desks, &passes) {
+        if !self.owns(&passes) {
             return Err(passes);
         }
         Ok(self.settle_own(alloc, passes))
@@ -264,9 +223,9 @@ impl<T: Tag, I: Indexes<T>, S: Setup> QueueBook<T, I, S> {
     pub fn settle_own(&mut self, alloc: Global, passes: Vec<WorkerPass<S>>) -> Settled<T, S>
         requires own { AreOwn self.old.workers self.old.desks (map pass_state passes.items) }
         ensures emptied { self.new ≡ after_settling self.old }
-        ensures history { result.history.events ≡ self.old.history }
+        ensures history { result.history.events ≡ drop self.old.first self.old.history }
         ensures few { length result.history.events ≤ most_events }
-        ensures replays { replays T.ops self.old.config result.history.events }
+        ensures replays { replays T.ops self.old.config self.old.history }
         ensures left { result.left ≡ length (after T.ops self.old.config self.old.history).requests }
         ensures workers { map worker_side result.workers.items ≡ map closed_worker self.old.workers }
         ensures counts { AllByRecursion (IsSettledWorker self.old.history) (map worker_side result.workers.items) }
@@ -274,27 +233,44 @@ impl<T: Tag, I: Indexes<T>, S: Setup> QueueBook<T, I, S> {
         ensures grants { AreGrantsOfDesks self.old.history self.old.desks }
     {
         let left = self.queue.0.request_count();
-        take_passes(&mut self.workers, &mut self.desks, passes);
         self.queue = Part(PullQueue::new(alloc, self.config));
-        self.clients = IndexSet::new(alloc);
-        Settled {
-            history: self.history.take(),
-            left,
-            workers: replace(&mut self.workers, Vec::new(alloc)),
-            desks: replace(&mut self.desks, Vec::new(alloc)),
-        }
+        self.accounts.settle(alloc, passes, left)
     }
-}
 
-/// Whether the command registers a client that has no desk.
-fn lacks_desk_for(clients: &IndexSet<ClientId>, command: &Command) -> bool
-    ensures { result ≡ names_none clients.now.keys command.now }
-{
-    match *command {
-        Command::Register { client, .. } => match clients.get_index_of(&client) {
-            Some(_) => false,
-            None => true,
-        },
-        _ => false,
+    /// Begins the sums of the worker's tokens anew, of those that it added and of those that it was granted: what they were,
+    /// which is what the pass held. For these two books `status`, `settle` and the law of counts speak of the events since then.
+    /// So sums of large tokens do not keep events from being released.
+    ///
+    /// Refused `Stranger`, with nothing changed, where the pass is of no worker that is enrolled here, or its tills are not of
+    /// that worker's books.
+    pub fn renew(&mut self, pass: &mut WorkerPass<S>) -> Result<(u64, u64), RunFault>
+        ensures tokens { IfOk result (λ sums. sums.0 ≡ (pass_state pass.old).tills.tokens.amount) }
+        ensures granted { IfOk result (λ sums. sums.1 ≡ (pass_state pass.old).tills.granted.amount) }
+        ensures book { OnOk result (self.new ≡ book_renewed (pass_state pass.old).place self.old) }
+        ensures pass { OnOk result (pass_state pass.new ≡ renewed_pass (pass_state pass.old)) }
+        ensures stranger { IsErrOf result RunFault.Stranger ↔ (IsEnrolled self.old.workers (pass_state pass.old) → ⊥) }
+        ensures no_other { IfErr result (λ fault. fault ≡ RunFault.Stranger) }
+        ensures kept { OnErr result (self.new ≡ self.old) }
+        ensures pass_kept { OnErr result (pass_state pass.new ≡ pass_state pass.old) }
+    {
+        if !self.accounts.is_enrolled(pass) {
+            return Err(RunFault::Stranger);
+        }
+        Ok(self.accounts.renew(pass))
+    }
+
+    /// Releases what the queue answered since events were last released, in a time that grows with the number of workers and
+    /// not with that of events. It takes no memory. The book goes on with none of them kept.
+    ///
+    /// `None`, and nothing changes, exactly where more than 2^62 events were recorded, a worker's sum of tokens (added, or
+    /// granted) is past 2^62, or the book is settled.
+    pub fn rotate(&mut self) -> Option<Segment<T, S>>
+        ensures segment { IfSome result (λ segment. segment ≡ segment_of self.old) }
+        ensures some { IsSome result ↔ MayRotate self.old.history self.old.first self.old.most self.old.workers }
+        ensures rotated { IfSome result (λ _. self.new ≡ after_rotating self.old) }
+        ensures within { OnSome result (self.old.first ≤ length self.old.history) }
+        ensures kept { IfNone result (self.new ≡ self.old) }
+    {
+        self.accounts.rotate(self.config)
     }
 }

@@ -6,11 +6,12 @@ ghost use Rattle.dmc_ledger.specs.Bundles.{Covers, client_side, grant_accounts, 
 ghost use Rattle.dmc_ledger.specs.Moves.{book_in, till_in, books_after_grant, tills_after_response, tills_after_stamp, tills_after_submit};
 ghost use Rattle.dmc_pull.specs.Allowed.{is_allowed};
 ghost use Rattle.dmc_book.specs.Calls.{AreAlike, IsForDesk};
-ghost use Rattle.dmc_book.specs.Consistent.{AreClientsApart, AreGrantsWithin};
+ghost use Rattle.dmc_book.specs.Consistent.{AreClientsApart, AreGrantsWithin, most_before};
 ghost use Rattle.dmc_book.specs.Counts as counts;
-ghost use Rattle.dmc_book.specs.Moves.{desk_after, takes, takes_at, takes_by, desk_place, units_after, unit_at};
+ghost use Rattle.dmc_book.specs.Moves.{desk_after, takes, takes_at, desk_place, units_after, unit_at};
 ghost use Rattle.dmc_book.specs.BookState.{no_desk, pass_state};
 
+use crate::accounts::Accounts;
 use crate::counts::grant_in;
 use crate::names::{place_near, place_recent};
 use crate::pass::WorkerPass;
@@ -21,6 +22,7 @@ use dmc_ledger::setup::Setup;
 use dmc_ledger::till::shift_till;
 use dmc_pull::granting::GrantTest;
 use dmc_tag::event::Event;
+use dmc_tag::tag::Tag;
 use dmc_tlock::stamp::Stamp;
 use dmc_types::config::PhaseType;
 use dmc_types::ids::{ClientId, ServerId};
@@ -31,24 +33,25 @@ use std::cell::Cell;
 /// Whether a pass has a till for a grant: the client has a desk, the pass names the client at the same place, and the till of
 /// the phase there is of the desk's book.
 #[derive(Drop)]
-pub(crate) struct UnitTest<'a, S: Setup> {
-    pub(crate) clients: &'a IndexSet<ClientId>,
-    pub(crate) desks: &'a [ClientDesk<S>],
+pub(crate) struct UnitTest<'a, T: Tag, S: Setup> {
+    pub(crate) accounts: &'a Accounts<T, S>,
     pub(crate) pass: &'a WorkerPass<S>,
 }
 
-impl<'a, S: Setup> GrantTest for UnitTest<'a, S> {
-    ghost allows = { λ s client phase. takes_by s.clients.now.keys (map client_side s.desks.now) (pass_state s.pass.now).clients (pass_state s.pass.now).units client phase };
+impl<'a, T: Tag, S: Setup> GrantTest for UnitTest<'a, T, S> {
+    ghost allows = { λ t client phase. takes t.accounts.now.desks (pass_state t.pass.now).clients (pass_state t.pass.now).units client phase };
 
     fn allows(&self, client: ClientId, phase: PhaseType, near: usize) -> bool {
-        let Some(place) = place_near(self.clients, near, client) else {
+        let accounts = self.accounts;
+        let pass = self.pass;
+        let Some(place) = accounts.desk_near(near, client) else {
             return false;
         };
-        self.pass.recent.set(place);
-        let Some(named) = place_near(&self.pass.clients, place, client) else {
+        pass.recent.set(place);
+        let Some(named) = place_near(&pass.clients, place, client) else {
             return false;
         };
-        place == named && takes_unit(self.desks, &self.pass.units, place, phase)
+        place == named && takes_unit(&accounts.desks, &pass.units, place, phase)
     }
 }
 
@@ -89,7 +92,7 @@ fn grant_number<S: Setup>(books: &GrantBooks<S>, phase: PhaseType) -> u32
 #[inline(always)]
 fn issue_unit<S: Setup>(books: &mut GrantBooks<S>, unit: &mut GrantTills<S>, phase: PhaseType)
     requires its { (till_in phase (grant_holdings unit.old)).number ≡ (book_in phase (grant_accounts books.old)).number }
-    requires fits { total_of (book_in phase (grant_accounts books.old)) ≤ 2 ^ 62 }
+    requires fits { total_of (book_in phase (grant_accounts books.old)) ≤ most_before }
     ensures books { grant_accounts books.new ≡ books_after_grant phase (grant_accounts books.old) }
     ensures unit { grant_holdings unit.new ≡ tills_after_response phase (grant_holdings unit.old) }
 {
@@ -111,7 +114,7 @@ pub(crate) fn hand_out<T: Copy, S: Setup>(
 )
     requires no_stamp { counts.accepted event.now ≡ None }
     requires its { is_allowed (takes (map client_side desks.old.items) names.now.keys (map grant_holdings units.old.items)) event.now.reply ≡ true }
-    requires fits { AllByRecursion (λ d. AreGrantsWithin (2 ^ 62) d.books) (map client_side desks.old.items) }
+    requires fits { AllByRecursion (λ d. AreGrantsWithin most_before d.books) (map client_side desks.old.items) }
     requires apart { AreClientsApart (map client_side desks.old.items) }
     ensures desks { map client_side desks.new.items ≡ map (desk_after event.now) (map client_side desks.old.items) }
     ensures names { map (λ d. d.client) desks.new.items ≡ map (λ d. d.client) desks.old.items }
@@ -140,7 +143,7 @@ fn hand_out_at<T: Copy, S: Setup>(
     requires grant { counts.grant_in event.now.reply ≡ Some (client, phase) }
     requires no_stamp { counts.accepted event.now ≡ None }
     requires its { takes_at phase (map client_side desks.old.items) (map grant_holdings units.old.items) (Some place) ≡ true }
-    requires fits { AllByRecursion (λ d. AreGrantsWithin (2 ^ 62) d.books) (map client_side desks.old.items) }
+    requires fits { AllByRecursion (λ d. AreGrantsWithin most_before d.books) (map client_side desks.old.items) }
     requires apart { AreClientsApart (map client_side desks.old.items) }
     ensures desks { map client_side desks.new.items ≡ map (desk_after event.now) (map client_side desks.old.items) }
     ensures names { map (λ d. d.client) desks.new.items ≡ map (λ d. d.client) desks.old.items }

@@ -2,12 +2,12 @@
 //! law is the contract of a function that changes nothing: a caller that calls it knows the law.
 ghost use Rattle.std.specs.Prelude.{List, Option, length};
 ghost use Rattle.std.specs.List.{AllByRecursion};
-ghost use Rattle.dmc_heads.specs.Heads as heads_of;
-ghost use Rattle.dmc_heads.specs.Heads.{Ranks};
-ghost use Rattle.dmc_heads.specs.declared.head.Head.{Head};
+ghost use Rattle.dmc_head_index.specs.Heads as heads_of;
+ghost use Rattle.dmc_head_index.specs.Heads.{Ranks};
+ghost use Rattle.dmc_head_index.specs.declared.head.Head.{Head};
 ghost use Rattle.dmc_pull.specs.FirstRequests.{AreFirstRequests};
 ghost use Rattle.dmc_tag.specs.Replay.{after, replays};
-ghost use Rattle.dmc_bounds.specs.Bounds.{KeepsToLimits, KeepsToReservations};
+ghost use Rattle.dmc_history_laws.specs.Bounds.{KeepsToLimits, KeepsToReservations};
 ghost use Rattle.dmc_book.specs.Consistent.{IsWorker, IsDesk};
 ghost use Rattle.dmc_book.specs.Settling.{AreGrantsOfDesks};
 
@@ -29,7 +29,8 @@ pub fn history_is_counted<T: Tag, I: Indexes<T>, S: Setup>(book: &QueueBook<T, I
     ensures workers { AllByRecursion (IsWorker book.now.history) book.now.workers }
     ensures desks { AllByRecursion (IsDesk book.now.history book.now.server (length book.now.workers)) book.now.desks }
 {
-    let _ = &book.queue;
+    let accounts = &book.accounts;
+    let _ = &accounts.workers;
 }
 
 /// The grants: each is of a client that has a desk, and no two desks are of one client. So what the desks' clients were granted
@@ -37,7 +38,8 @@ pub fn history_is_counted<T: Tag, I: Indexes<T>, S: Setup>(book: &QueueBook<T, I
 pub fn grants_are_of_desks<T: Tag, I: Indexes<T>, S: Setup>(book: &QueueBook<T, I, S>)
     ensures { AreGrantsOfDesks book.now.history book.now.desks }
 {
-    let _ = &book.queue;
+    let accounts = &book.accounts;
+    let _ = &accounts.desks;
 }
 
 /// The bound of the limits: from an accepted add of a client, a_i, to a grant of a_k in phase Priority, not beyond, hz times the

@@ -1,6 +1,7 @@
 //! The queue behind a server's lock, with what it answered and the counts of that.
 #![tactic(auto)]
 
+mod accounts;
 mod asking;
 pub mod book;
 mod counts;
@@ -12,7 +13,6 @@ mod opening;
 mod parts;
 pub mod pass;
 mod pulling;
-mod recording;
 pub mod seat;
 pub mod settled;
 pub mod status;

@@ -2,25 +2,27 @@
 ghost use Rattle.std.specs.Prelude.{◌≡◌, ◌+◌, ◌-◌, ◌*◌, ◌<◌, ◌≤◌, ◌↔◌, ℕ, [], length, map, vec_capacity, slice_index_or, IfOk, OnOk, IfSome, IsSome, IsTrue, IsErrOf};
 ghost use Rattle.std.specs.List.{AllByRecursion};
 ghost use Rattle.std.specs.Arc.{arc_value};
-ghost use Rattle.dmc_types.specs.Limits.{most_workers};
+ghost use Rattle.dmc_types.specs.Limits.{most_events, most_workers};
 ghost use Rattle.dmc_ledger.specs.Accounts.{new_book, new_till};
 ghost use Rattle.dmc_ledger.specs.Bundles.{client_side, grant_holdings};
 ghost use Rattle.dmc_book.specs.BookState.{pass_state, worker_accounts, worker_holdings, worker_side, no_desk};
-ghost use Rattle.dmc_book.specs.Opening.{AreApart, AreBookLimits, AreNamedOnce, HaveRoom, IsNewDesk, desk_with_tills, new_accounts, new_holdings, new_pass, new_passes, new_unit, new_worker, new_workers};
+ghost use Rattle.dmc_book.specs.Opening.{AreApart, AreBookLimits, AreNamedOnce, HaveRoom, IsNewDesk, desk_with_tills, new_accounts, new_accounts_state, new_holdings, new_pass, new_passes, new_unit, new_worker, new_workers};
 ghost use Rattle.dmc_book.specs.Rooms.{IsRoom, IsRoomFor};
 
+use crate::accounts::Accounts;
 use crate::fault::NewFault;
 use crate::pass::WorkerPass;
 use crate::seat::{Seat, WorkerBooks, WorkerTills};
-use dmc_events::history::EventHistory;
 use dmc_ledger::book::Book;
 use dmc_ledger::bundle::GrantTills;
 use dmc_ledger::desk::ClientDesk;
 use dmc_ledger::mint::Mint;
 use dmc_ledger::setup::Setup;
 use dmc_ledger::till::Till;
+use dmc_queue_history::history::EventHistory;
+use dmc_queue_history::segmented::SegmentedHistory;
 use dmc_tag::tag::Tag;
-use dmc_types::ids::{ClientId, WorkerId};
+use dmc_types::ids::{ClientId, ServerId, WorkerId};
 use dmc_types::limits::MOST_EVENTS;
 use indexmap::IndexSet;
 use std::alloc::{AllocError, Global};
@@ -100,11 +102,15 @@ fn rooms_for<S: Setup>(
     Ok(rooms)
 }
 
-/// Whether the limits are kept: of the history, of the desks, and of the books that the mint has left.
+/// Whether the limits are kept: of the history, of the desks, and of the numbers that the mint has left.
 fn are_limits(workers: usize, desks: usize, left: u64, most: u32) -> bool
     ensures { IsTrue result ↔ AreBookLimits workers desks left most }
 {
-    0 < most && most <= MOST_EVENTS && desks <= MOST_DESKS && workers as u64 <= left / 5
+    0 < most
+        && most <= MOST_EVENTS
+        && desks <= MOST_DESKS
+        && 0 < left
+        && workers as u64 <= (left - 1) / 5
 }
 
 /// The clients of the desks, in order: refused `Twice`, `Memory`.
@@ -173,7 +179,7 @@ pub(crate) fn make_parts<T: Tag, S: Setup>(
     ensures twice { IsErrOf result NewFault.Twice → AreNamedOnce workers.now (map client_side desks.now) → ⊥ }
     ensures limits { OnOk result (AreBookLimits (length workers.now) (length desks.now) left most) }
     ensures once { OnOk result (AreNamedOnce workers.now (map client_side desks.now)) }
-    ensures events { IfOk result (λ parts. (parts.history.events ≡ []) × (parts.history.most ≡ most)) }
+    ensures events { IfOk result (λ parts. parts.history ≡ record { events = []; most = most; room = 0 }) }
     ensures clients { IfOk result (λ parts. parts.clients.keys ≡ map (λ d. d.client) desks.now) }
     ensures room { IfOk result (λ parts. IsRoomFor (length workers.now) (map (λ d. d.client) desks.now) parts.room) }
 {
@@ -297,7 +303,12 @@ fn open_one<S: Setup>(
         units,
         recent: Cell::new(0),
     };
-    (Seat { worker, books }, pass)
+    let seat = Seat {
+        worker,
+        renewed: 0,
+        books,
+    };
+    (seat, pass)
 }
 
 /// Opens the books of each worker, and its pass, in room that was made.
@@ -332,4 +343,52 @@ pub(crate) fn open_workers<S: Setup>(
         seats.push(seat).unwrap();
         passes.push(pass).unwrap();
     }
+}
+
+/// The accounts of an empty history, with the workers' books and the desks, and a pass for each worker.
+pub(crate) fn open_accounts<T: Tag, S: Setup>(
+    server: ServerId,
+    workers: &[WorkerId],
+    desks: Vec<ClientDesk<S>>,
+    mint: &mut Mint<S>,
+    parts: Parts<T, S>,
+) -> (Accounts<T, S>, Vec<WorkerPass<S>>)
+    requires few { length workers.now ≤ most_workers }
+    requires left { 5 * length workers.now + 1 ≤ mint.old.left }
+    requires new { AllByRecursion (IsNewDesk server.0) (map client_side desks.items) }
+    requires once { AreNamedOnce workers.now (map client_side desks.items) }
+    requires empty { parts.history.events ≡ [] }
+    requires no_room { parts.history.room ≡ 0 }
+    requires limit { parts.history.most ≤ most_events }
+    requires clients { parts.clients.keys ≡ map (λ d. d.client) desks.items }
+    requires room { IsRoomFor (length workers.now) (map (λ d. d.client) desks.items) parts.room }
+    ensures accounts { result.0 ≡ new_accounts_state server.0 parts.history.most mint.old.opened workers.now (map client_side desks.items) }
+    ensures passes { map pass_state result.1.items
+        ≡ new_passes 0 mint.old.opened (map (λ d. d.client) desks.items) (map client_side desks.items) workers.now }
+    ensures opened { mint.new.opened ≡ mint.old.opened + (5 * length workers.now + 1) }
+    ensures left { mint.new.left + (5 * length workers.now + 1) ≡ mint.old.left }
+{
+    let Parts {
+        history,
+        clients,
+        room,
+    } = parts;
+    let Room {
+        rooms,
+        mut seats,
+        mut passes,
+    } = room;
+    let mut desks = desks;
+    open_workers(mint, workers, &mut desks, rooms, &mut seats, &mut passes);
+    let Ok((number, list)) = mint.open_list() else {
+        unreachable!()
+    };
+    let accounts = Accounts {
+        server,
+        history: SegmentedHistory::new(number, list, history),
+        workers: seats,
+        clients,
+        desks,
+    };
+    (accounts, passes)
 }

@@ -1,5 +1,5 @@
 //! The tills of a worker.
-ghost use Rattle.std.specs.Prelude.{◌≡◌, slice_get};
+ghost use Rattle.std.specs.Prelude.{◌≡◌, ◌<◌, ◌^◌, ◌↔◌, ◌⊎◌, IsTrue, slice_get};
 ghost use Rattle.std.specs.Borrow.{sem, Lends, LendsIf};
 ghost use Rattle.std.specs.Option.{option_copied_mut};
 ghost use Rattle.dmc_ledger.specs.Bundles.{grant_holdings};
@@ -20,6 +20,9 @@ use indexmap::IndexSet;
 use std::alloc::Global;
 use std::cell::Cell;
 use std::sync::Arc;
+
+/// A sum of tokens past this one is to be renewed.
+const RENEWAL: u64 = 1 << 61;
 
 /// A worker's tills: five of its own counts, and for each client with a desk one for the grants of each phase.
 ///
@@ -49,6 +52,13 @@ impl<S: Setup> WorkerPass<S> {
         let place = self.clients.get_index_of(&client)?;
         let unit = self.unit_mut(place)?;
         Some(till_mut(unit, phase))
+    }
+
+    /// Whether a sum of its tokens is past 2^61: `renew` it then.
+    pub fn needs_renewal(&self) -> bool
+        ensures { IsTrue result ↔ (2 ^ 61 < (pass_state self.now).tills.tokens.amount) ⊎ (2 ^ 61 < (pass_state self.now).tills.granted.amount) }
+    {
+        self.tills.tokens.amount() > RENEWAL || self.tills.granted.amount() > RENEWAL
     }
 
     /// Lends the tills of the client at a place.

@@ -9,15 +9,11 @@ ghost use Rattle.dmc_book.specs.Runs.{Runs};
 
 use crate::asking::{ask_to_pull, reply_of};
 use crate::book::QueueBook;
-use crate::desk::hand_out;
 use crate::fault::{RunFault, RunOrRange};
 use crate::pass::WorkerPass;
-use crate::recording::record;
-use crate::seat::{count, is_enrolled};
 use dmc_index::index::Indexes;
 use dmc_ledger::setup::Setup;
-use dmc_tag::event::Event;
-use dmc_tag::reply::{Pulled, Reply};
+use dmc_tag::reply::Pulled;
 use dmc_tag::tag::Tag;
 use dmc_types::command::Command;
 use dmc_types::moment::Moment;
@@ -41,65 +37,23 @@ impl<T: Tag, I: Indexes<T>, S: Setup> QueueBook<T, I, S> {
         self.pull_next(pass, at)
     }
 
-    /// Pulls, as `pull` tells.
+    /// Pulls: see `pull`.
     #[inline(always)]
     fn pull_next(&mut self, pass: &mut WorkerPass<S>, at: Moment) -> Result<Pulled, RunOrRange>
         ensures { Runs T.ops self.old (pass_state pass.old) (commands.Pull at) self.new (pass_state pass.new) (asked result) }
     {
-        if !is_enrolled(&self.workers, pass) {
+        if !self.accounts.is_enrolled(pass) {
             return Err(RunOrRange::Run(RunFault::Stranger));
         }
-        if let Err(fault) = self.history.reserve_one() {
+        if let Err(fault) = self.accounts.reserve() {
             return Err(RunOrRange::Run(RunFault::from(fault)));
         }
-        let answer = ask_to_pull(&mut self.queue.0, &self.clients, &self.desks, pass, at);
-        if let Ok(
-            Pulled::Returning {
-                client,
-                token,
-                phase,
-                beyond,
-            },
-        ) = answer
-        {
-            let event: Event<T> = Event {
-                worker: pass.worker,
-                command: Command::Pull { at },
-                reply: Reply::Granted {
-                    client,
-                    token,
-                    phase,
-                    beyond,
-                },
-            };
-            count(&mut self.workers, pass.place, &mut pass.tills, &event);
-            hand_out(
-                &pass.clients,
-                pass.recent.get(),
-                &mut self.desks,
-                &mut pass.units,
-                &event,
-            );
-            self.history
-                .push_granted(pass.worker, at, client, token, phase, beyond);
-            return answer;
-        }
+        let answer = ask_to_pull(&mut self.queue.0, &self.accounts, pass, at);
         let reply = match reply_of(answer) {
             Ok(reply) => reply,
             Err(fault) => return Err(RunOrRange::Run(fault)),
         };
-        let event = Event {
-            worker: pass.worker,
-            command: Command::Pull { at },
-            reply,
-        };
-        record(
-            &mut self.workers,
-            &mut self.desks,
-            &mut self.history,
-            pass,
-            event,
-        );
+        self.accounts.record(pass, Command::Pull { at }, reply);
         answer
     }
 }

@@ -1,10 +1,12 @@
 //! The enrolled workers.
-ghost use Rattle.std.specs.Prelude.{◌≡◌, ◌≤◌, ◌<◌, ◌^◌, ◌↔◌, length, map, IsTrue, slice_index_or};
+ghost use Rattle.std.specs.Prelude.{◌≡◌, ◌+◌, ◌≤◌, ◌<◌, ◌^◌, ◌↔◌, length, map, IsTrue, slice_index_or};
 ghost use Rattle.std.specs.List.{AllByRecursion};
 ghost use Rattle.dmc_ledger.specs.Accounts.{total_of};
 ghost use Rattle.dmc_ledger.specs.Moves.{after_issue, with_more};
 ghost use Rattle.dmc_book.specs.BookState.{worker_accounts, worker_holdings, worker_side, pass_state, no_worker};
-ghost use Rattle.dmc_book.specs.Consistent.{AreWorkersApart, AreWithin};
+ghost use Rattle.dmc_book.specs.Consistent.{AreWorkersApart, AreWithin, most_before};
+ghost use Rattle.dmc_book.specs.Renewing.{renewed_tills, renewed_worker};
+ghost use Rattle.dmc_book.specs.Rotating.{AreTokensLow};
 ghost use Rattle.dmc_book.specs.Counts as counts;
 ghost use Rattle.dmc_book.specs.Moves.{AreOf, IsEnrolled, books_after, tills_after, worker_after};
 
@@ -41,6 +43,8 @@ pub(crate) struct WorkerTills<S: Setup> {
 #[derive(Drop)]
 pub struct Seat<S: Setup> {
     pub(crate) worker: WorkerId,
+    // How many events were recorded when the sums of its tokens were last renewed.
+    pub(crate) renewed: u64,
     pub(crate) books: WorkerBooks<S>,
 }
 
@@ -66,7 +70,7 @@ impl<S: Setup> Seat<S> {
         self.books.misses.gathered()
     }
 
-    /// The tokens of the adds that were accepted from it, summed.
+    /// The tokens of the adds that were accepted from it since they were last renewed, summed.
     pub fn tokens(&self) -> u64
         ensures { result ≡ (worker_side self.now).books.tokens.gathered }
     {
@@ -80,7 +84,7 @@ impl<S: Setup> Seat<S> {
         self.books.grants.gathered()
     }
 
-    /// The tokens of these grants, summed.
+    /// The tokens of its grants since they were last renewed, summed.
     pub fn granted(&self) -> u64
         ensures { result ≡ (worker_side self.now).books.granted.gathered }
     {
@@ -92,7 +96,7 @@ impl<S: Setup> Seat<S> {
 #[inline(always)]
 pub(crate) fn credit<S: Setup>(book: &mut Book<S>, till: &mut Till<S>, amount: u32)
     requires its { till.old.number ≡ book.old.number }
-    requires fits { total_of book.old ≤ 2 ^ 62 }
+    requires fits { total_of book.old ≤ most_before }
     ensures book { book.new ≡ after_issue amount book.old }
     ensures till { till.new ≡ with_more amount till.old }
 {
@@ -105,7 +109,7 @@ pub(crate) fn credit<S: Setup>(book: &mut Book<S>, till: &mut Till<S>, amount: u
 #[inline(always)]
 fn credit_all<S: Setup>(books: &mut WorkerBooks<S>, tills: &mut WorkerTills<S>, numbers: Numbers)
     requires its { AreOf (worker_holdings tills.old) (worker_accounts books.old) }
-    requires fits { AreWithin (2 ^ 62) (worker_accounts books.old) }
+    requires fits { AreWithin most_before (worker_accounts books.old) }
     ensures books { worker_accounts books.new ≡ books_after numbers (worker_accounts books.old) }
     ensures tills { worker_holdings tills.new ≡ tills_after numbers (worker_holdings tills.old) }
 {
@@ -149,7 +153,7 @@ pub(crate) fn count<T: Copy, S: Setup>(
     requires within { place < length workers.old.items }
     requires its_worker { (slice_index_or (map worker_side workers.old.items) place no_worker).worker ≡ event.now.worker.0 }
     requires its_tills { AreOf (worker_holdings tills.old) (slice_index_or (map worker_side workers.old.items) place no_worker).books }
-    requires fits { AllByRecursion (λ w. AreWithin (2 ^ 62) w.books) (map worker_side workers.old.items) }
+    requires fits { AllByRecursion (λ w. AreWithin most_before w.books) (map worker_side workers.old.items) }
     requires apart { AreWorkersApart (map worker_side workers.old.items) }
     ensures workers { map worker_side workers.new.items ≡ map (worker_after event.now) (map worker_side workers.old.items) }
     ensures small { counts.IsSmall (counts.numbers_of event.now.command event.now.reply) }
@@ -157,4 +161,46 @@ pub(crate) fn count<T: Copy, S: Setup>(
 {
     let numbers = numbers_of(&event.command, &event.reply);
     credit_all(&mut workers[place].books, tills, numbers);
+}
+
+/// Begins the sums of a worker's tokens anew, after so many events: what they were.
+pub(crate) fn renew_seat<S: Setup>(
+    seat: &mut Seat<S>,
+    tills: &mut WorkerTills<S>,
+    events: u64,
+) -> (u64, u64)
+    requires its_tills { AreOf (worker_holdings tills.old) (worker_side seat.old).books }
+    requires tokens_open { (worker_side seat.old).books.tokens.open_tills ≡ 1 }
+    requires granted_open { (worker_side seat.old).books.granted.open_tills ≡ 1 }
+    ensures seat { worker_side seat.new ≡ renewed_worker events (worker_side seat.old) }
+    ensures tills { worker_holdings tills.new ≡ renewed_tills (worker_holdings tills.old) }
+    ensures tokens { (worker_side seat.old).books.tokens.gathered + (worker_holdings tills.old).tokens.amount ≡ result.0 }
+    ensures granted { (worker_side seat.old).books.granted.gathered + (worker_holdings tills.old).granted.amount ≡ result.1 }
+{
+    seat.renewed = events;
+    let tokens = seat.books.tokens.restart(&mut tills.tokens);
+    let granted = seat.books.granted.restart(&mut tills.granted);
+    (tokens, granted)
+}
+
+/// The most that a sum of tokens may be when events are released.
+const MOST_TOKENS: u64 = 1 << 62;
+
+/// Whether a worker's sums of tokens leave room for the events that may be kept next.
+fn is_low<S: Setup>(seat: &Seat<S>) -> bool
+    ensures { IsTrue result ↔ AreTokensLow (worker_side seat.now).books }
+{
+    seat.books.tokens.total() <= MOST_TOKENS && seat.books.granted.total() <= MOST_TOKENS
+}
+
+/// Whether each worker's do.
+pub(crate) fn are_low<S: Setup>(workers: &[Seat<S>]) -> bool
+    ensures { IsTrue result ↔ AllByRecursion (λ w. AreTokensLow w.books) (map worker_side workers.now) }
+{
+    for seat in workers {
+        if !is_low(seat) {
+            return false;
+        }
+    }
+    true
 }

@@ -1,21 +1,26 @@
 //! What a queue's book leaves.
-ghost use Rattle.std.specs.Prelude.{◌≡◌, ◌<◌, ◌↔◌, length, map, IfSome, IsSome, IsTrue, slice_index_or, slice_set};
+ghost use Rattle.std.specs.Prelude.{◌≡◌, ◌≤◌, ◌<◌, ◌↔◌, drop, length, map, IfSome, IsSome, IsTrue, slice_index_or, slice_set};
 ghost use Rattle.std.specs.List.{AllByRecursion};
+ghost use Rattle.dmc_types.specs.Limits.{most_events};
 ghost use Rattle.dmc_ledger.specs.Accounts.{after_closing};
 ghost use Rattle.dmc_ledger.specs.Bundles.{client_side, grant_accounts, grant_holdings};
 ghost use Rattle.dmc_book.specs.BookState.{pass_state, worker_accounts, worker_holdings, worker_side, no_desk, no_worker};
 ghost use Rattle.dmc_book.specs.Moves.{AreOf};
-ghost use Rattle.dmc_book.specs.Settling.{AreDeskUnits, AreOneOpen, AreOwn, AreUnitsOf, AreUnitsTakenIn, ArePassesTakenIn, IsDeskTakenIn, IsOwn, IsTakenIn, closed_accounts, closed_worker};
+ghost use Rattle.dmc_book.specs.Settling.{AreDeskUnits, AreGrantsOfDesks, AreOneOpen, AreOwn, AreSettledDesks, AreUnitsOf, AreUnitsTakenIn, ArePassesTakenIn, IsDeskTakenIn, IsOwn, IsSettledWorker, IsTakenIn, accounts_settled, closed_accounts, closed_worker};
 
+use crate::accounts::Accounts;
 use crate::pass::WorkerPass;
 use crate::seat::{Seat, WorkerBooks, WorkerTills, is_enrolled};
-use dmc_events::history::EventHistory;
 use dmc_ledger::book::Book;
 use dmc_ledger::bundle::{GrantBooks, GrantTills};
 use dmc_ledger::desk::ClientDesk;
 use dmc_ledger::setup::Setup;
 use dmc_ledger::till::Till;
+use dmc_queue_history::history::EventHistory;
 use dmc_tag::tag::Tag;
+use indexmap::IndexSet;
+use std::alloc::Global;
+use std::mem::replace;
 
 /// What was left of a client's grants in the workers' passes: units of each phase.
 #[derive(Clone, Copy, Debug, Default, PartialEq, Eq)]
@@ -24,7 +29,8 @@ pub struct GrantsHeld {
     pub priority: u64,
 }
 
-/// What a queue's book leaves: what the queue answered, how many requests were queued, the workers, and the desks.
+/// What a queue's book leaves: what the queue answered since events were last released, how many requests were queued, the
+/// workers, and the desks.
 #[derive(Drop)]
 pub struct Settled<T: Tag, S: Setup> {
     pub history: EventHistory<T>,
@@ -187,5 +193,34 @@ pub(crate) fn take_passes<S: Setup>(
         } = pass;
         take_seat(workers, place, tills);
         take_units(desks, units);
+    }
+}
+
+impl<T: Tag, S: Setup> Accounts<T, S> {
+    /// Gathers the passes, which are their own, and takes all out: with them go so many requests that are left in the queue.
+    pub(crate) fn settle(
+        &mut self,
+        alloc: Global,
+        passes: Vec<WorkerPass<S>>,
+        left: u32,
+    ) -> Settled<T, S>
+        requires own { AreOwn self.old.workers self.old.desks (map pass_state passes.items) }
+        ensures emptied { self.new ≡ accounts_settled self.old }
+        ensures history { result.history.events ≡ drop self.old.first self.old.history }
+        ensures few { length result.history.events ≤ most_events }
+        ensures left { result.left ≡ left }
+        ensures workers { map worker_side result.workers.items ≡ map closed_worker self.old.workers }
+        ensures counts { AllByRecursion (IsSettledWorker self.old.history) (map worker_side result.workers.items) }
+        ensures desks { AreSettledDesks self.old.history (map pass_state passes.items) self.old.desks (map client_side result.desks.items) }
+        ensures grants { AreGrantsOfDesks self.old.history self.old.desks }
+    {
+        take_passes(&mut self.workers, &mut self.desks, passes);
+        self.clients = IndexSet::new(alloc);
+        Settled {
+            history: self.history.take(),
+            left,
+            workers: replace(&mut self.workers, Vec::new(alloc)),
+            desks: replace(&mut self.desks, Vec::new(alloc)),
+        }
     }
 }

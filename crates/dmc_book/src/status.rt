@@ -17,8 +17,8 @@ pub struct Status {
     pub clients: u32,
     /// How many requests are queued.
     pub requests: u32,
-    /// How many events the history has.
-    pub events: u32,
+    /// How many events were recorded, released or not.
+    pub events: u64,
     /// Whether no more requests are taken.
     pub closed: bool,
 }

@@ -1,7 +1,7 @@
 -- What each call of the header comes to. In each, answer is what the call answers: a value or the fault.
 use Rattle.std.specs.Prelude.{◌≡◌, ℕ, ◌<◌, ◌≤◌, ⊤, List, [], ◌∷◌, ◌++◌, length, Option, Some, None, Result, Ok, Err, nat_lt, nat_le, ◌&&◌, if◌then◌else◌, slice_get}
 use Rattle.std.specs.Option.{option_map, ok_or}
-use Rattle.dmc_types.specs.Limits.{most_servers}
+use Rattle.dmc_types.specs.Limits.{most_completions, most_servers}
 use Rattle.dmc_types.specs.Values.{Params}
 use Rattle.dmc_types.specs.declared.ids.ServerId.{ServerId}
 use Rattle.dmc_types.specs.declared.config.Counting.{Counting}
@@ -10,12 +10,12 @@ use Rattle.dmc_types.specs.declared.command.Command.{Command}
 use Rattle.dmc_tag.specs.Outcome.{◌>>=◌}
 use Rattle.dmc_tag.specs.Tag.{Fraction}
 use Rattle.dmc_tag.specs.declared.reply.Reply.{Reply}
-use Rattle.dmc_front.specs.Front.{Front, opening_with, clients_in, requests_in, FrontSteps}
+use Rattle.dmc_any_queue.specs.AnyState.{AnyState, opening_with, clients_in, requests_in, AnySteps}
 use Rattle.dmc_tracker.specs.declared.event.TrackerEvent.{TrackerEvent}
-use Rattle.dmc_tracker.specs.declared.event.TrackerEvent.TheVariants.{Stamp, Response}
+use Rattle.dmc_tracker.specs.declared.event.TrackerEvent.TheVariants.{Stamp, Skip, Response}
 use Rattle.dmc_tracker.specs.declared.tracker.TrackFault.TheVariants as tracks
 use Rattle.dmc_tracker.specs.TrackerList.{demanded}
-use Rattle.dmc_tracker.specs.Numbers.{Numbers, new_numbers, next_params, after_stamp, after_response, IsSentFull, Stands}
+use Rattle.dmc_tracker.specs.Numbers.{Numbers, new_numbers, next_params, after_stamp, after_skip, after_response, IsFullAt, Stands}
 use Rattle.dmc_c.specs.declared.fault.Fault.{Fault}
 use Rattle.dmc_c.specs.declared.fault.Fault.TheVariants as faults
 use Rattle.dmc_c.specs.declared.kept.Kept.{Kept}
@@ -33,7 +33,7 @@ AtHandle Call (Some old) (Some new) answer = Call old new answer
 AtHandle Call (Some old) None answer = ⊥
 
 -- A tracker is no queue: the call is refused, and changes nothing.
-abbrev pub AtQueue : {X : Type 0} → (Front → Front → Result X Fault → Type 0) → Kept → Kept → Result X Fault → Type 0
+abbrev pub AtQueue : {X : Type 0} → (AnyState → AnyState → Result X Fault → Type 0) → Kept → Kept → Result X Fault → Type 0
 AtQueue Call (Queue old) (Queue new) answer = Call old new answer
 AtQueue Call (Queue old) (Tracker new) answer = ⊥
 AtQueue Call (Tracker old) new answer = (answer ≡ Err faults.NoneHeld) × (new ≡ Tracker old)
@@ -48,10 +48,10 @@ AtTracker Call (Queue old) new answer = (answer ≡ Err faults.NoneHeld) × (new
 
 -- A value out of its limits changes nothing. Else the command is the one call of the queue: a step of the rules, or want
 -- of memory.
-abbrev pub Asks : Result Command Fault → Front → Front → Result (Reply Fraction) Fault → Type 0
+abbrev pub Asks : Result Command Fault → AnyState → AnyState → Result (Reply Fraction) Fault → Type 0
 Asks (Err fault) old new answer = (answer ≡ Err fault) × (new ≡ old)
-Asks (Ok command) old new (Ok reply) = FrontSteps old new command (Some reply)
-Asks (Ok command) old new (Err faults.Memory) = FrontSteps old new command None
+Asks (Ok command) old new (Ok reply) = AnySteps old new command (Some reply)
+Asks (Ok command) old new (Err faults.Memory) = AnySteps old new command None
 Asks (Ok command) old new (Err fault) = ⊥
 
 -- a command at a queue that C holds
@@ -72,7 +72,7 @@ counts_held (Some kept) = counts_of kept
 -- The stamp to a server carries what the tracker's list demands, and becomes an entry of it.
 pub record IsStamped (s : ServerId) (old new : Numbers) (params : Params) : Type 0 where
   pub within : s.0 < length old.servers
-  pub not_full : IsSentFull old s → ⊥
+  pub not_full : IsFullAt old s → ⊥
   pub carries : params ≡ next_params old s
   pub after : new ≡ after_stamp s old
   pub stands : (events : List TrackerEvent) → Stands old events → (params ≡ demanded old.counting s events) × Stands new (events ++ Stamp s params ∷ [])
@@ -80,8 +80,19 @@ pub record IsStamped (s : ServerId) (old new : Numbers) (params : Params) : Type
 abbrev pub Stamps : ServerId → Numbers → Numbers → Result Params Fault → Type 0
 Stamps s old new (Ok params) = IsStamped s old new params
 Stamps s old new (Err (faults.Track tracks.NoServer)) = (length old.servers ≤ s.0) × (new ≡ old)
-Stamps s old new (Err (faults.Track tracks.TrackFull)) = IsSentFull old s × (new ≡ old)
+Stamps s old new (Err (faults.Track tracks.TrackFull)) = IsFullAt old s × (new ≡ old)
 Stamps s old new (Err fault) = ⊥
+
+-- The skip becomes an entry of the tracker's list.
+pub record IsSkipped (s : ServerId) (old new : Numbers) : Type 0 where
+  pub within : s.0 < length old.servers
+  pub after : new ≡ after_skip s old
+  pub stands : (events : List TrackerEvent) → Stands old events → Stands new (events ++ Skip s ∷ [])
+
+abbrev pub Skips : ServerId → Numbers → Numbers → Result ⊤ Fault → Type 0
+Skips s old new (Ok done) = IsSkipped s old new
+Skips s old new (Err (faults.Track tracks.NoServer)) = (length old.servers ≤ s.0) × (new ≡ old)
+Skips s old new (Err fault) = ⊥
 
 -- The response becomes an entry of the tracker's list.
 pub record IsCounted (s : ServerId) (phase : PhaseType) (old new : Numbers) : Type 0 where
@@ -98,9 +109,12 @@ Responds s (Ok phase) old new (Err (faults.Track tracks.NoServer)) = (length old
 Responds s (Ok phase) old new (Err (faults.Track tracks.TrackFull)) = (s.0 < length old.servers) × (old.completions.delta ≡ old.most) × (new ≡ old)
 Responds s (Ok phase) old new (Err fault) = ⊥
 
--- a stamp and a response at a tracker that C holds
+-- a stamp, a skip and a response at a tracker that C holds
 abbrev pub StampsHeld : ServerId → Option Kept → Option Kept → Result Params Fault → Type 0
 StampsHeld s = AtHandle (AtTracker (Stamps s))
+
+abbrev pub SkipsHeld : ServerId → Option Kept → Option Kept → Result ⊤ Fault → Type 0
+SkipsHeld s = AtHandle (AtTracker (Skips s))
 
 abbrev pub RespondsHeld : ServerId → Result PhaseType Fault → Option Kept → Option Kept → Result ⊤ Fault → Type 0
 RespondsHeld s phase = AtHandle (AtTracker (Responds s phase))
@@ -117,7 +131,7 @@ track_held s (Some kept) = track_at s kept
 -- ---- new queues and trackers
 
 -- the opening state of a queue
-abbrev pub new_queue : (tags hz idle_age erase_age limit : ℕ) → Result Front Fault
+abbrev pub new_queue : (tags hz idle_age erase_age limit : ℕ) → Result AnyState Fault
 new_queue tags hz idle_age erase_age limit = do
   kind ← tag_kind tags
   config ← config_of hz idle_age erase_age limit
@@ -126,7 +140,7 @@ new_queue tags hz idle_age erase_age limit = do
 -- the numbers of a tracker's empty list
 unfoldable pub tracker_of : Counting → (servers most : ℕ) → Result Numbers Fault
 tracker_of form servers most =
-    if nat_lt 0 servers && nat_le servers most_servers && nat_lt 0 most then Ok (new_numbers form most servers) else Err faults.Limit
+    if nat_lt 0 servers && nat_le servers most_servers && nat_lt 0 most && nat_le most most_completions then Ok (new_numbers form most servers) else Err faults.Limit
 
 abbrev pub new_tracker : (servers most form : ℕ) → Result Numbers Fault
 new_tracker servers most form = counting form >>= λ count. tracker_of count servers most
@@ -142,7 +156,7 @@ abbrev pub vacancy : Option Kept → Result ⊤ Fault
 vacancy None = Ok tt
 vacancy (Some kept) = Err faults.Held
 
-abbrev pub queue_opened : Result Front Fault → Result Kept Fault
+abbrev pub queue_opened : Result AnyState Fault → Result Kept Fault
 queue_opened (Ok queue) = Ok (Queue queue)
 queue_opened (Err fault) = Err fault
 

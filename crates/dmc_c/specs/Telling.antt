@@ -1,5 +1,5 @@
 -- What C reads of a reply. A call that is not DMC_OK writes nothing.
-use Rattle.std.specs.Prelude.{◌≡◌, ℕ, ◌/◌, ◌%◌, ◌^◌, Bool, true, false, ℤ, pos, ◌+ℤ◌, ◌*ℤ◌, Option, Some, None, Result, Ok, Err}
+use Rattle.std.specs.Prelude.{◌≡◌, ℕ, ◌/◌, ◌%◌, ◌^◌, Bool, true, false, pos, ◌+ℤ◌, ◌*ℤ◌, Option, Some, None, Result, Ok, Err}
 use Rattle.dmc_types.specs.Values.{Params}
 use Rattle.dmc_types.specs.declared.ids.ClientId.{ClientId}
 use Rattle.dmc_types.specs.declared.ids.Token.{Token}
@@ -107,7 +107,8 @@ stamp_told (Err fault) old = old
 -- what a tracker knows of a server
 abbrev pub track_of : Numbers → ServerNumbers → DmcTrack
 track_of tracker server = record {
-  pending = stamp_of server.pending;
+  pending_delta = server.pending.delta;
+  pending_rho = server.pending.rho;
   sent_delta = server.sent.delta;
   sent_rho = server.sent.rho;
   completions = tracker.completions.delta;

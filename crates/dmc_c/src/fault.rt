@@ -3,7 +3,7 @@ ghost use Rattle.std.specs.Prelude.{◌≡◌};
 ghost use Rattle.dmc_c.specs.Codes.{number, refusal_number, code_of, reply_code};
 ghost use Rattle.dmc_c.specs.declared.fault.Fault.TheVariants.{Value, Track, Memory};
 
-use dmc_front::fraction::TagFraction;
+use dmc_any_queue::fraction::TagFraction;
 use dmc_tag::reply::Reply;
 use dmc_tracker::tracker::{MakeFault, TrackFault};
 use dmc_types::refusal::{Field, Refusal, ValueFault};
@@ -20,7 +20,7 @@ pub enum Fault {
     Value(ValueFault),
     /// A number that names no phase.
     Phase,
-    /// A tracker's servers are not 1 to 64, or its `most` is 0.
+    /// A tracker's servers are not 1 to 64, or its `most` is not 1 to 2^62.
     Limit,
     /// The tracker refuses the call.
     Track(TrackFault),

@@ -1,11 +1,11 @@
 //! What C holds.
 ghost use Rattle.std.specs.Prelude.{◌≡◌};
-ghost use Rattle.dmc_c.specs.Calls.{AtQueue, AtTracker, Asks, counts_of, Stamps, Responds, track_at};
+ghost use Rattle.dmc_c.specs.Calls.{AtQueue, AtTracker, Asks, counts_of, Stamps, Skips, Responds, track_at};
 
 use crate::fault::Fault;
-use crate::telling::{DmcStamp, DmcTrack};
-use dmc_front::fraction::TagFraction;
-use dmc_front::front::FrontQueue;
+use crate::telling::DmcTrack;
+use dmc_any_queue::any_queue::AnyQueue;
+use dmc_any_queue::fraction::TagFraction;
 use dmc_tag::reply::Reply;
 use dmc_tracker::tracker::{ServiceTracker, TrackFault};
 use dmc_types::command::Command;
@@ -16,7 +16,7 @@ use dmc_types::params::ReqParams;
 /// A queue or a tracker. A call that is for the other is refused `NoneHeld`.
 #[derive(Drop)]
 pub enum Kept {
-    Queue(FrontQueue),
+    Queue(AnyQueue),
     Tracker(ServiceTracker),
 }
 
@@ -53,6 +53,16 @@ impl Kept {
         Ok(tracker.get_req_params(server)?)
     }
 
+    /// Skips what is pending at a server.
+    pub fn skip(&mut self, server: ServerId) -> Result<(), Fault>
+        ensures { AtTracker (Skips server) self.old self.new result }
+    {
+        let Kept::Tracker(tracker) = self else {
+            return Err(Fault::NoneHeld);
+        };
+        Ok(tracker.skip(server)?)
+    }
+
     /// Counts a completion, which a server granted in a phase, if the number names one.
     pub fn respond(
         &mut self,
@@ -80,12 +90,10 @@ impl Kept {
         };
         let completions = tracker.completions();
         Ok(DmcTrack {
-            pending: DmcStamp {
-                delta: pending.0,
-                rho: pending.1,
-            },
-            sent_delta: u64::from(sent.0),
-            sent_rho: u64::from(sent.1),
+            pending_delta: pending.0,
+            pending_rho: pending.1,
+            sent_delta: sent.0,
+            sent_rho: sent.1,
             completions: completions.0,
             reservation: completions.1,
         })

@@ -18,8 +18,8 @@ use crate::reading::{
 use crate::telling::{
     DmcPulled, DmcTags, tell_cleaned, tell_counts, tell_pulled, tell_removed, tell_tags,
 };
-use dmc_front::fraction::TagFraction;
-use dmc_front::front::FrontQueue;
+use dmc_any_queue::any_queue::AnyQueue;
+use dmc_any_queue::fraction::TagFraction;
 use dmc_tag::reply::Reply;
 use dmc_types::command::Command;
 use dmc_types::ids::ClientId;
@@ -33,12 +33,12 @@ fn make_queue(
     erase_age: u64,
     limit: u32,
     alloc: Global,
-) -> Result<FrontQueue, Fault>
+) -> Result<AnyQueue, Fault>
     ensures { result ≡ new_queue tags hz idle_age erase_age limit }
 {
     let tags = tag_kind(tags)?;
     let config = queue_config(hz, idle_age, erase_age, limit)?;
-    Ok(FrontQueue::new(alloc, tags, config))
+    Ok(AnyQueue::new(alloc, tags, config))
 }
 
 /// Makes a queue where nothing is held.

@@ -3,7 +3,7 @@ ghost use Rattle.std.specs.Prelude.{◌≡◌};
 ghost use Rattle.dmc_c.specs.Telling.{value_of, IsTags, granted, future, TagsTold, pulled_told, removed_told, idled_told, erased_told, clients_told, requests_told, stamp_told, value_or_old};
 
 use crate::fault::Fault;
-use dmc_front::fraction::TagFraction;
+use dmc_any_queue::fraction::TagFraction;
 use dmc_tag::reply::{Reply, Tags};
 use dmc_types::config::PhaseType;
 use dmc_types::ids::{ClientId, Token};
@@ -54,11 +54,12 @@ pub struct DmcStamp {
 #[repr(C)]
 #[derive(Clone, Copy)]
 pub struct DmcTrack {
-    pub pending: DmcStamp,
+    pub pending_delta: u64,
+    pub pending_rho: u64,
     pub sent_delta: u64,
     pub sent_rho: u64,
-    pub completions: u32,
-    pub reservation: u32,
+    pub completions: u64,
+    pub reservation: u64,
 }
 
 impl DmcTag {
@@ -229,4 +230,4 @@ const _: () = prove!(size_of::<DmcPulled>() == 40);
 
 const _: () = prove!(size_of::<DmcStamp>() == 8);
 
-const _: () = prove!(size_of::<DmcTrack>() == 32);
+const _: () = prove!(size_of::<DmcTrack>() == 48);

@@ -6,7 +6,7 @@ ghost use Rattle.dmc_c.specs.declared.fault.Fault.{Fault};
 ghost use Rattle.dmc_c.specs.Codes.{code_of};
 ghost use Rattle.dmc_c.specs.Reading as reading;
 ghost use Rattle.dmc_c.specs.Telling.{value_or_old, stamp_told};
-ghost use Rattle.dmc_c.specs.Calls.{StampsHeld, RespondsHeld, track_held, new_tracker, Makes, tracker_opened, Opens};
+ghost use Rattle.dmc_c.specs.Calls.{StampsHeld, SkipsHeld, RespondsHeld, track_held, new_tracker, Makes, tracker_opened, Opens};
 
 use crate::fault::{Fault, code_of};
 use crate::handle::{Handle, check_vacant, fill, put, take};
@@ -19,9 +19,9 @@ use dmc_types::ids::ServerId;
 use dmc_types::params::ReqParams;
 use std::alloc::Global;
 
-/// A tracker that nothing was told yet.
+/// A tracker with nothing counted yet.
 #[tactic(auto, unfolding(crate::specs::Calls::tracker_of))]
-fn make_tracker(servers: u32, most: u32, form: u32, alloc: Global) -> Result<ServiceTracker, Fault>
+fn make_tracker(servers: u32, most: u64, form: u32, alloc: Global) -> Result<ServiceTracker, Fault>
     ensures { Makes (new_tracker servers most form) result }
 {
     let form = reading::counting(form)?;
@@ -32,7 +32,7 @@ fn make_tracker(servers: u32, most: u32, form: u32, alloc: Global) -> Result<Ser
 fn open_tracker(
     tracker: &mut Handle,
     servers: u32,
-    most: u32,
+    most: u64,
     form: u32,
     alloc: Global,
 ) -> Result<(), Fault>
@@ -51,6 +51,18 @@ fn stamp(tracker: &mut Handle, server: ServerId, alloc: Global) -> Result<ReqPar
         return Err(Fault::NoneHeld);
     };
     let answer = held.stamp(server);
+    put(tracker, held, alloc);
+    answer
+}
+
+/// Skips what is pending at a server, at the tracker that is held.
+fn skip(tracker: &mut Handle, server: ServerId, alloc: Global) -> Result<(), Fault>
+    ensures { SkipsHeld server tracker.old.value tracker.new.value result }
+{
+    let Some(mut held) = take(tracker, alloc) else {
+        return Err(Fault::NoneHeld);
+    };
+    let answer = held.skip(server);
     put(tracker, held, alloc);
     answer
 }
@@ -85,13 +97,13 @@ fn track(tracker: &mut Handle, server: ServerId, alloc: Global) -> Result<DmcTra
     answer
 }
 
-/// Makes a tracker of `servers` servers (1 to 64), which counts `most` completions (1 or more): `DMC_HELD`,
+/// Makes a tracker of `servers` servers (1 to 64), which counts `most` completions (1 to 2^62): `DMC_HELD`,
 /// `DMC_BAD_CONFIG`, `DMC_LIMIT`, `DMC_MEMORY`.
 #[unsafe(no_mangle)]
 pub extern "C" fn dmc_tracker_new(
     tracker: &mut Handle,
     servers: u32,
-    most: u32,
+    most: u64,
     counting: u32,
     alloc: Global,
 ) -> u32
@@ -126,6 +138,18 @@ pub extern "C" fn dmc_tracker_stamp(
 {
     let answer = stamp(tracker, ServerId(server), alloc);
     tell_stamp(&answer, params);
+    code_of(&answer)
+}
+
+/// Skips what is pending at a server: the next stamp to it counts only later completions. It sends nothing. `DMC_NONE_HELD`,
+/// `DMC_NO_SERVER`.
+#[unsafe(no_mangle)]
+pub extern "C" fn dmc_tracker_skip(tracker: &mut Handle, server: u32, alloc: Global) -> u32
+    ensures { (answer : Result ⊤ Fault)
+        × SkipsHeld (record { 0 = server }) tracker.old.value tracker.new.value answer
+        × (result ≡ code_of answer) }
+{
+    let answer = skip(tracker, ServerId(server), alloc);
     code_of(&answer)
 }
 

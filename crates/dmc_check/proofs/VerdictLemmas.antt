@@ -22,6 +22,9 @@ none_within [] i within h = absurd (omega (arith, within))
 none_within (x ∷ xs) zero within h = absurd (cc)
 none_within (x ∷ xs) (suc i) within h = none_within xs i (omega (arith, within)) h
 
+pub taken_next : {E : Type 0} (all : List E) (i : ℕ) (e : E) → slice_get all i ≡ Some e → take (i + 1) all ≡ take i all ++ e ∷ []
+taken_next all i e at = take_more all i e (slice_get_within all i e at) ∙ ap (λ d. take i all ++ d ∷ []) (get_or_from_slice_get all i e e at)
+
 module _ {T : Type 0} (ops : Tagging T) where
   at_from : (s : State T) (events : List (Event T)) (i : ℕ) (e : Event T) → replays_from ops s events → slice_get events i ≡ Some e → e.reply ≡ (step ops (state_after ops s (map (λ e. e.command) (take i events))) e.command).1
   at_from s [] i e h k = absurd (cc)
@@ -65,6 +68,30 @@ module _ {T : Type 0} (ops : Tagging T) where
 
   -- ---- the replayer
 
+  -- a queue that still represents the state
+  so_far_kept : (config : Setting) (events : List (Event T)) (s new : State T) (difference : Option ℕ) → ((u : State T) → StandsFor s u → StandsFor new u)
+      → SoFar ops config events s difference → SoFar ops config events new difference
+  so_far_kept config events s new None k h = (h.0, k (after ops config events) h.1)
+  so_far_kept config events s new (Some i) k h = h
+
+  pub stands_kept : (config : Setting) (events : List (Event T)) (old new : Replay T) → new.events ≡ old.events → new.difference ≡ old.difference
+      → ((u : State T) → StandsFor (state_of old.queue) u → StandsFor (state_of new.queue) u) → Stands ops config events old → Stands ops config events new
+  stands_kept config events old new count same k h = record {
+    count = count ∙ h.count;
+    so_far = subst (SoFar ops config events (state_of new.queue)) (sym same) (so_far_kept config events (state_of old.queue) (state_of new.queue) old.difference k h.so_far);
+  }
+
+  -- what replays has no difference, and the queue represents the state after it
+  pub no_difference_yet : (config : Setting) (events : List (Event T)) (replay : Replay T) → Stands ops config events replay → (replay.difference ≡ None) ↔ replays ops config events
+  no_difference_yet config events replay h = by replay.difference h.so_far
+    where
+      by : (difference : Option ℕ) → SoFar ops config events (state_of replay.queue) difference → (difference ≡ None) ↔ replays ops config events
+      by None k = (λ e. k.0, λ r. refl)
+      by (Some i) k = (λ e. absurd (cc), λ r. absurd (no_difference config events i k r))
+
+  pub queue_stands : (config : Setting) (events : List (Event T)) (replay : Replay T) → Stands ops config events replay → replay.difference ≡ None → StandsFor (state_of replay.queue) (after ops config events)
+  queue_stands config events replay h none = (subst (SoFar ops config events (state_of replay.queue)) none h.so_far).1
+
   -- an event behind the first difference
   pub later_event : (config : Setting) (events : List (Event T)) (e : Event T) (s : State T) (difference : Option ℕ) → true ≡ is_some difference
       → SoFar ops config events s difference → SoFar ops config (events ++ e ∷ []) s difference
@@ -77,7 +104,7 @@ module _ {T : Type 0} (ops : Tagging T) where
   none_yet config events s None none h = h
   none_yet config events s (Some i) none h = absurd (cc)
 
-  -- an event is answered as it was recorded
+  -- the reply to an event is the recorded one
   pub same_event : (config : Setting) (events : List (Event T)) (e : Event T) (s new : State T) (same : Bool) → same ≡ true → SoFar ops config events s None
       → ((u : State T) → StandsFor s u → (IsTrue same ↔ (e.reply ≡ (step ops u e.command).1)) × StandsFor new ((step ops u e.command).0))
       → SoFar ops config (events ++ e ∷ []) new None
@@ -94,7 +121,7 @@ module _ {T : Type 0} (ops : Tagging T) where
       subst (DiffersAt ops config (events ++ e ∷ [])) (sym count)
       (differs_now config events e h.0 (λ recorded. let yes : same ≡ true = now.0.1 recorded in let no : false ≡ true = sym is ∙ yes in absurd (cc)))
 
-  -- one more event stands
+  -- one more event is there
   pub stands_more : (config : Setting) (events : List (Event T)) (e : Event T) (old new : Replay T) → Stands ops config events old → new.events ≡ suc old.events
       → SoFar ops config (events ++ e ∷ []) (state_of new.queue) new.difference → Stands ops config (events ++ e ∷ []) new
   stands_more config events e old new h count so_far = record {
@@ -108,10 +135,7 @@ module _ {T : Type 0} (ops : Tagging T) where
   -- the next event of a list
   pub stands_next : (config : Setting) (all : List (Event T)) (i : ℕ) (e : Event T) (replay : Replay T) → slice_get all i ≡ Some e
       → Stands ops config (take i all ++ e ∷ []) replay → Stands ops config (take (i + 1) all) replay
-  stands_next config all i e replay at h =
-      let within : i < length all = slice_get_within all i e at in
-      let same : take (i + 1) all ≡ take i all ++ e ∷ [] = take_more all i e within ∙ ap (λ d. take i all ++ d ∷ []) (get_or_from_slice_get all i e e at) in
-      subst (λ es. Stands ops config es replay) (sym same) h
+  stands_next config all i e replay at h = subst (λ es. Stands ops config es replay) (sym (taken_next all i e at)) h
 
   -- all events of a list
   pub verdict_is : (config : Setting) (all : List (Event T)) (i : ℕ) (replay : Replay T) → length all ≤ i → Stands ops config (take i all) replay → IsVerdict ops config all (verdict_of replay.difference)

@@ -21,14 +21,14 @@ use Rattle.dmc_check.specs.EventLines.{event_of, event_line_of_kind}
 use Rattle.dmc_check.specs.EventTexts.{Recorded, with_line, verdict_text}
 use Rattle.dmc_check.specs.Verdicts.{Stands, verdict_of}
 
--- the replay stands where the lines so far say
+-- the replay is that of the lines up to now
 abbrev pub Holds : {T : Type 0} → Tagging T → Option (Recorded T) → Option (Replay T) → Type 0
 Holds ops None None = ⊤
 Holds ops None (Some replay) = ⊥
 Holds ops (Some r) None = ⊥
 Holds ops (Some r) (Some replay) = Stands ops r.config r.events replay
 
--- a line is taken in: what it says, and that the replay follows it; nothing is to be written for it
+-- a line is taken in: its meaning, and that the replay includes it; nothing is to be written for it
 pub record Follows {T : Type 0} (ops : Tagging T) (made : ℤ → ℕ → Option T) (old : Option (Replay T)) (bytes answer : List ℕ) (new : Option (Replay T)) : Type 0 where
   pub line : EventLine T
   pub is_line : event_of made (is_some old) bytes ≡ Ok line
@@ -39,12 +39,12 @@ pub record Follows {T : Type 0} (ops : Tagging T) (made : ℤ → ℕ → Option
 pub long_event : {T : Type 0} (made : ℤ → ℕ → Option T) (headed : Bool) (line : List ℕ) → most_line_bytes < length line → event_of made headed line ≡ Err Bytes
 long_event made headed line h = ap (λ k. k >>= λ x. event_line_of_kind made x (words line)) (long_kind headed line h)
 
--- what a replay comes to
+-- the result of a replay
 abbrev pub IsChecked : {T : Type 0} → Option (Replay T) → Checked → Type 0
 IsChecked None checked = ⊥
 IsChecked (Some replay) checked = (checked.verdict ≡ verdict_of replay.difference) × (checked.events ≡ replay.events)
 
--- the line of a verdict is written, or of it a first part, or nothing
+-- the line of a verdict is written, or a first part of it, or nothing
 abbrev pub WritesVerdict : (old new : Option (List ℕ)) → Checked → Result Verdict ScriptFault → Type 0
 WritesVerdict old new checked (Ok verdict) = (verdict ≡ checked.verdict) × Appends old new (verdict_text checked.verdict checked.events)
 WritesVerdict old new checked (Err faults.Write) = AppendsSome old new (verdict_text checked.verdict checked.events)

@@ -22,18 +22,18 @@ use Rattle.dmc_check.specs.declared.line.EventLine.TheVariants as event_lines
 
 -- ---- words
 
--- an event whose words are not read as numbers or tags yet
+-- an event whose words are not yet read as numbers or tags
 pub record Spoken : Type 0 where
   pub worker : List ℕ
   pub command : Phrase
   pub reply : Saying
 
--- behind the command stands `=`, and a reply to the end of the line
+-- after the command there is `=`, and a reply up to the end of the line
 unfoldable pub answer_words : List (List ℕ) → Result Saying LineCause
 answer_words [] = Err Words
 answer_words (sign ∷ ws) = if bytes_eq sign (codes "=") then saying ws else Err Words
 
--- the event that words make: the worker, the command, and the reply
+-- the event of words: the worker, the command, and the reply
 unfoldable pub event_words : List (List ℕ) → Result Spoken LineCause
 event_words [] = Err Words
 event_words (worker ∷ ws) = phrase ws >>= λ p. answer_words p.1 >>= λ s. Ok (record { worker = worker; command = p.0; reply = s })
@@ -45,7 +45,7 @@ abbrev pub sure : Result Command CommandFault → Result Command LineCause
 sure (Ok c) = Ok c
 sure (Err fault) = Err Number
 
--- the event that words say
+-- the event of words that are read
 unfoldable pub event_said : {T : Type 0} → (ℤ → ℕ → Option T) → Spoken → Result (Event T) LineCause
 event_said made s = do
   worker ← ok_or (number (2 ^ 32) s.worker) Number
@@ -55,13 +55,13 @@ event_said made s = do
 
 -- ---- lines
 
--- what the words of a line of this kind say
+-- the meaning of the words of a line of this kind
 abbrev pub event_line_of_kind : {T : Type 0} → (ℤ → ℕ → Option T) → LineKind → List (List ℕ) → Result (EventLine T) LineCause
 event_line_of_kind made kinds.Skip ws = Ok Skip
 event_line_of_kind made (kinds.Config config) ws = Ok (Config config)
 event_line_of_kind made kinds.Command ws = event_words ws >>= event_said made >>= (λ event. Ok (event_lines.Event event))
 
--- what a line says; headed: an hz line was read before
+-- the meaning of a line; headed: an hz line was read before
 abbrev pub event_of : {T : Type 0} → (ℤ → ℕ → Option T) → Bool → List ℕ → Result (EventLine T) LineCause
 event_of made headed line = kind_of headed line >>= λ k. event_line_of_kind made k (words line)
 

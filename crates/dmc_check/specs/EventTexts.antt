@@ -1,4 +1,4 @@
--- Whole event texts: what their lines record, and what is written of it.
+-- Whole event texts: what their lines record, and what is written about it.
 use Rattle.std.specs.Prelude.{◌≡◌, ◌≤◌, ℕ, suc, ℤ, List, [], ◌∷◌, ◌++◌, length, IfSome, Option, Some, None, is_some, Result, Ok, Err, codes}
 use Rattle.std.specs.Option.{ok_or}
 use Rattle.std.specs.List.{join_with_byte}
@@ -23,12 +23,12 @@ use Rattle.dmc_check.specs.Verdicts.{IsVerdict}
 
 -- ---- what a text records
 
--- the configuration of the hz line, and the events behind it
+-- the configuration of the hz line, and the events after it
 pub record Recorded (T : Type 0) : Type 0 where
   pub config : Setting
   pub events : List (Event T)
 
--- with one more line; there is nothing before the hz line
+-- with one more line; nothing is recorded before the hz line
 abbrev pub with_line : {T : Type 0} → Option (Recorded T) → EventLine T → Option (Recorded T)
 with_line r Skip = r
 with_line r (Config config) = Some (record { config = config; events = [] })
@@ -39,8 +39,8 @@ abbrev pub or_fault : {T X : Type 0} → ℕ → Result T LineCause → (T → R
 or_fault n (Err cause) more = Err (n, cause)
 or_fault n (Ok line) more = more line
 
--- with the lines from the one numbered n on; or the first faulty one by its number, and what is wrong with it. A text
--- without an hz line lacks it behind its last line.
+-- the record with the lines from the one numbered n on; or the number and the cause of the first faulty one. A text without an hz
+-- line is faulty after its last line.
 abbrev pub with_lines : {T : Type 0} → (ℤ → ℕ → Option T) → Option (Recorded T) → ℕ → List (List ℕ) → Result (Recorded T) (ℕ × LineCause)
 with_lines made r n [] = ok_or r (n, Hz)
 with_lines made r n (line ∷ lines) = or_fault n (event_of made (is_some r) line) (λ l. with_lines made (with_line r l) (suc n) lines)
@@ -51,14 +51,15 @@ record_of made text = with_lines made None 1 (lines_of text)
 
 -- ---- what is written
 
--- the line of a verdict on so many events
+-- the line of a verdict on this many events
 abbrev pub verdict_text : Verdict → ℕ → List ℕ
 verdict_text Replays n = with_line_end (join_with_byte 32 (codes "replays" ∷ decimal n ∷ []))
 verdict_text (Differs i) n = with_line_end (join_with_byte 32 (codes "differs" ∷ decimal i ∷ []))
 
 -- ---- what a check does
 
--- A text has no more bytes than a text may have and no faulty line, and this is the verdict on its events, so many.
+-- A text has at most as many bytes as a text may have and no faulty line, and this is the verdict on its events, of which there
+-- are this many.
 pub record HasVerdict {T : Type 0} (ops : Tagging T) (made : ℤ → ℕ → Option T) (text : List ℕ) (verdict : Verdict) (count : ℕ) : Type 0 where
   pub within : length text ≤ most_bytes
   pub recorded : Recorded T
@@ -66,10 +67,10 @@ pub record HasVerdict {T : Type 0} (ops : Tagging T) (made : ℤ → ℕ → Opt
   pub is_verdict : IsVerdict ops recorded.config recorded.events verdict
   pub counts : count ≡ length recorded.events
 
--- What a check reads and writes, by what it answers, where the bytes are known. Ok: all of the text is read, no line is
--- faulty, and the verdict on its events is written. Line: it is the first faulty line of the text and stands in what was
--- read, and nothing is written. Write: all of the text is read, and of the line of the verdict a first part is written.
--- Read and Memory: nothing is written. At Read one byte more than a text may have may be read, to tell that it goes on.
+-- What a check reads and writes, by its result, where the bytes are known. Ok: all of the text is read, no line is faulty, and
+-- the verdict on its events is written. Line: it is the first faulty line of the text and is in what was read, and nothing is
+-- written. Write: all of the text is read, and of the line of the verdict a first part is written. Read and Memory: nothing is
+-- written. At Read one byte more than a text may have may be read, which shows that it is too long.
 abbrev pub ChecksAs : {T : Type 0} → Tagging T → (ℤ → ℕ → Option T) → (before after old new : Option (List ℕ)) → Result Verdict ScriptFault → Type 0
 ChecksAs ops made before after old new (Ok verdict) = IsAtEnd after × IfSome before (λ text. (count : ℕ) × HasVerdict ops made text verdict count × Appends old new (verdict_text verdict count))
 ChecksAs ops made before after old new (Err (faults.Line n cause)) =

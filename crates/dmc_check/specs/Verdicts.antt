@@ -29,7 +29,7 @@ abbrev pub verdict_of : Option ℕ → Verdict
 verdict_of None = Replays
 verdict_of (Some i) = Differs i
 
--- up to the first difference the queue stands for the state after the events
+-- up to the first difference the queue represents the state after the events
 abbrev pub SoFar : {T : Type 0} → Tagging T → Setting → List (Event T) → State T → Option ℕ → Type 0
 SoFar ops config events s None = replays ops config events × StandsFor s (after ops config events)
 SoFar ops config events s (Some i) = DiffersAt ops config events i

@@ -1,10 +1,10 @@
-//! Histories are checked.
+//! Checks of histories.
 ghost use Rattle.std.specs.Prelude.{◌≡◌, ◌↔◌, IfOk};
 ghost use Rattle.dmc_tag.specs.Replay.{replays};
 ghost use Rattle.dmc_check.specs.Verdicts.{IsVerdict};
 
 use crate::replay::Replay;
-use dmc_events::list::EventList;
+use dmc_queue_history::list::EventList;
 use dmc_tag::tag::Tag;
 use dmc_types::config::QueueConfig;
 use std::alloc::{AllocError, Global};
@@ -18,7 +18,7 @@ pub enum Verdict {
     Differs(usize),
 }
 
-/// Replays a history over an indexed queue in the opening state. An error is want of memory.
+/// Replays a history over an indexed queue in the opening state. An error is an allocation failure.
 pub fn check<T: Tag, L: EventList<T>>(
     alloc: Global,
     config: QueueConfig,

@@ -2,7 +2,9 @@
 #![tactic(auto)]
 
 pub mod check;
+mod ghost_list;
 pub mod line;
 mod replay;
+pub mod replayer;
 mod same;
 pub mod text;

@@ -18,14 +18,14 @@ use dmc_types::config::QueueConfig;
 use dmc_types::ids::WorkerId;
 use std::alloc::AllocError;
 
-/// What a line says.
+/// The meaning of a line.
 #[derive(Copy)]
 pub enum EventLine<T> {
-    /// Nothing: it has no word, or its first begins with `#`.
+    /// It is ignored: it has no word, or its first begins with `#`.
     Skip,
-    /// How the queue is set up.
+    /// The configuration of the queue.
     Config(QueueConfig),
-    /// What a worker asked, and what was answered.
+    /// A worker's command, and the recorded reply.
     Event(Event<T>),
 }
 
@@ -39,7 +39,7 @@ impl<T: Copy> Clone for EventLine<T> {
     }
 }
 
-/// An event whose words are not read as numbers or tags yet.
+/// An event whose words are not yet read as numbers or tags.
 #[derive(Clone, Copy)]
 struct EventWords<'a> {
     worker: &'a [u8],
@@ -47,7 +47,7 @@ struct EventWords<'a> {
     reply: ReplyWords<'a>,
 }
 
-/// The words of the answer, behind the command: `=`, and a reply to the end of the line.
+/// The words of the reply, after the command: `=`, and a reply up to the end of the line.
 #[tactic(auto, unfolding(crate::specs::EventLines::answer_words))]
 fn answer_words(text: &[u8]) -> Result<ReplyWords<'_>, LineCause>
     ensures { Gives seen_reply result (answer_words (words text.now)) }
@@ -59,7 +59,7 @@ fn answer_words(text: &[u8]) -> Result<ReplyWords<'_>, LineCause>
     reply_words(rest)
 }
 
-/// The event of a line, its words alone. The only cause is `Words`.
+/// The words of an event's line. The only cause is `Words`.
 #[tactic(auto, unfolding(crate::specs::EventLines::event_words))]
 fn event_words(line: &[u8]) -> Result<EventWords<'_>, LineCause>
     ensures { Gives seen_event result (event_words (words line.now)) }
@@ -74,14 +74,14 @@ fn event_words(line: &[u8]) -> Result<EventWords<'_>, LineCause>
     })
 }
 
-/// The command that words name. A value that a script would refuse is no number.
+/// The command of words. A value that a script would refuse is no number.
 fn sure_command(words: CommandWords<'_>) -> Result<Command, LineCause>
     ensures { result ≡ sure (command (seen words.entry)) }
 {
     read_command(words).map_err(|_| LineCause::Number)
 }
 
-/// The event that words say: each number and each tag is read.
+/// The event of words: each number and each tag is read.
 #[tactic(auto, unfolding(crate::specs::EventLines::event_said))]
 fn read_event<T: TagText>(words: EventWords<'_>) -> Result<Event<T>, LineCause>
     ensures { result ≡ event_said T.made (seen_event words.entry) }
@@ -96,7 +96,7 @@ fn read_event<T: TagText>(words: EventWords<'_>) -> Result<Event<T>, LineCause>
     })
 }
 
-/// What a line of an event text says, without its LF. `headed`: an `hz` line was read before.
+/// The meaning of a line of an event text, without its LF. `headed`: an `hz` line was read before.
 pub fn read_event_line<T: TagText>(line: &[u8], headed: bool) -> Result<EventLine<T>, LineCause>
     ensures { result ≡ event_of T.made headed line.now }
 {

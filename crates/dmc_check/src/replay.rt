@@ -1,5 +1,5 @@
 //! Events are replayed one after the other.
-ghost use Rattle.std.specs.Prelude.{◌≡◌, ◌↔◌, ◌++◌, ◌∷◌, [], List, OnOk, IfOk, IsTrue};
+ghost use Rattle.std.specs.Prelude.{◌≡◌, ◌↔◌, ◌++◌, ◌∷◌, [], List, None, OnErr, OnOk, IfOk, IfSome, IsSome, IsTrue};
 ghost use Rattle.dmc_types.specs.Values.{Setting};
 ghost use Rattle.dmc_tag.specs.State.{State, StandsFor};
 ghost use Rattle.dmc_tag.specs.Step.{step};
@@ -17,30 +17,31 @@ use dmc_tag::tag::Tag;
 use dmc_types::config::QueueConfig;
 use std::alloc::{AllocError, Global};
 
-/// A queue that carries out the commands of events, up to the first that was answered otherwise.
+/// A queue that carries out the commands of events, up to the first whose recorded reply is another.
 #[derive(Drop)]
 pub(crate) struct Replay<T: Tag> {
     queue: PullQueue<T, HeapIndexes>,
-    /// How many events there were.
+    /// The number of events.
     events: usize,
-    /// The first event that was answered otherwise. Behind it nothing is carried out.
+    /// The first event whose recorded reply is another. After it nothing is carried out.
     difference: Option<usize>,
 }
 
-/// Carries out the command of an event; whether the reply is the one that was recorded.
+/// Carries out the command of an event. Returns whether the reply is the recorded one.
 fn replays_next<T: Tag>(
     queue: &mut PullQueue<T, HeapIndexes>,
     event: &Event<T>,
 ) -> Result<bool, AllocError>
-    ensures { (s : State T) → StandsFor (state_of queue.old) s → IfOk result (λ same.
+    ensures replayed { (s : State T) → StandsFor (state_of queue.old) s → IfOk result (λ same.
         (IsTrue same ↔ (event.now.reply ≡ (step T.ops s event.now.command).1)) × StandsFor (state_of queue.new) ((step T.ops s event.now.command).0)) }
+    ensures kept { (s : State T) → StandsFor (state_of queue.old) s → OnErr result (StandsFor (state_of queue.new) s) }
 {
     let reply = queue.apply(&event.command)?;
     Ok(is_same_reply(&event.reply, &reply))
 }
 
 impl<T: Tag> Replay<T> {
-    /// A replay of no event, from the opening state.
+    /// A replay of no event yet, from the opening state.
     pub(crate) fn new(alloc: Global, config: QueueConfig) -> Replay<T>
         ensures { Stands T.ops config [] result }
     {
@@ -51,11 +52,13 @@ impl<T: Tag> Replay<T> {
         }
     }
 
-    /// The first difference, with one more event.
+    /// The first difference, after one more event.
     fn difference_with(&mut self, event: &Event<T>) -> Result<Option<usize>, AllocError>
         ensures so_far { (config : Setting) (events : List (Event T)) →
             Stands T.ops config events self.old → IfOk result (λ found. SoFar T.ops config (events ++ event.now ∷ []) (state_of self.new.queue) found) }
         ensures count { self.new.events ≡ self.old.events }
+        ensures kept { (config : Setting) (events : List (Event T)) →
+            Stands T.ops config events self.old → OnErr result (Stands T.ops config events self.new) }
     {
         if self.difference.is_some() {
             return Ok(self.difference);
@@ -66,21 +69,36 @@ impl<T: Tag> Replay<T> {
         Ok(Some(self.events))
     }
 
-    /// Replays one more event. An error is want of memory, or of a number for the event.
+    /// Replays one more event. It fails where the allocator refuses a growth, or where there is no number for the event, and then
+    /// nothing was replayed.
     pub(crate) fn add(&mut self, event: &Event<T>) -> Result<(), AllocError>
-        ensures { (config : Setting) (events : List (Event T)) →
+        ensures added { (config : Setting) (events : List (Event T)) →
             Stands T.ops config events self.old → OnOk result (Stands T.ops config (events ++ event.now ∷ []) self.new) }
+        ensures kept { (config : Setting) (events : List (Event T)) →
+            Stands T.ops config events self.old → OnErr result (Stands T.ops config events self.new) }
     {
+        let events = self.events.checked_add(1).ok_or(AllocError)?;
         self.difference = self.difference_with(event)?;
-        self.events = self.events.checked_add(1).ok_or(AllocError)?;
+        self.events = events;
         Ok(())
     }
 
-    /// How many events there were.
+    /// The number of events.
     pub(crate) fn events(&self) -> usize
         ensures { result ≡ self.now.events }
     {
         self.events
+    }
+
+    /// The queue, unless an event did not replay.
+    pub(crate) fn into_queue(self) -> Option<PullQueue<T, HeapIndexes>>
+        ensures some { IsSome result ↔ (self.difference ≡ None) }
+        ensures queue { IfSome result (λ queue. queue ≡ self.queue) }
+    {
+        match self.difference {
+            None => Some(self.queue),
+            Some(_) => None,
+        }
     }
 
     /// Whether they replay.

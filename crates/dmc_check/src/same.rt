@@ -1,4 +1,4 @@
-//! Replies are compared.
+//! The comparison of replies.
 ghost use Rattle.std.specs.Prelude.{◌≡◌, ◌↔◌, IsTrue};
 
 use dmc_tag::reply::Reply;

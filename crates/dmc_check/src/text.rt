@@ -1,4 +1,4 @@
-//! Event texts are checked.
+//! Checks of event texts.
 ghost use Rattle.std.specs.Prelude.{◌≡◌, Option, None, Some, [], Err, IfOk, OnOk, IsTrue, is_some};
 ghost use Rattle.dmc_text.specs.declared.cause.LineCause.{LineCause};
 ghost use Rattle.dmc_text.specs.Watching.{stream_of, EndsNoted};
@@ -26,21 +26,21 @@ struct Checking<T: Tag> {
     replay: Option<Replay<T>>,
 }
 
-/// What a text comes to: the verdict on its events, and how many they are.
+/// The result of a text: the verdict on its events, and the number of events.
 #[derive(Clone, Copy)]
 struct Checked {
     verdict: Verdict,
     events: usize,
 }
 
-/// Begins a replay anew.
+/// Begins a new replay.
 fn begin<T: TagText>(alloc: Global, replay: &mut Option<Replay<T>>, config: QueueConfig)
     ensures { Holds T.ops (Some (record { config = config; events = [] })) replay.new }
 {
     *replay = Some(Replay::new(alloc, config));
 }
 
-/// Carries out what a line says.
+/// Carries out a line.
 fn carry_out<T: TagText>(
     alloc: Global,
     replay: &mut Option<Replay<T>>,
@@ -92,7 +92,7 @@ impl<T: TagText> TakesLines for Checking<T> {
 }
 
 impl<T: TagText> Checking<T> {
-    /// What the text came to.
+    /// The result of the text.
     fn checked(&self) -> Checked
         requires { IsTrue (is_some self.now.replay) }
         ensures { IsChecked self.now.replay result }
@@ -159,8 +159,8 @@ fn check_lines<T: TagText, R: Read, W: Write>(
     write_verdict(alloc, checking.checked(), writer)
 }
 
-/// Checks an event text: each event is replayed over an indexed queue, and the verdict is written as a line, `replays N` of N
-/// events, or `differs I`. All of the text is read, also behind a difference. No event is kept.
+/// Checks an event text. Each event is replayed over an indexed queue, and the verdict is written as a line, `replays N` of N
+/// events, or `differs I`. All of the text is read, also after a difference. No event is kept.
 pub fn check_text<T: TagText, R: Read, W: Write>(
     alloc: Global,
     reader: &mut Watched<R>,

@@ -28,13 +28,13 @@ fn main(rt: HostRuntime) -> ExitCode {
     ExitCode::from(status)
 }
 
-/// The words after the program's name. One that is no text is a usage fault.
+/// The words after the program's name. A word that is no UTF-8 is a usage fault.
 fn program_words(rt: &HostRuntime) -> Result<Vec<String>, Fault> {
     let all = env::args(rt).map_err(words_fault)?;
     all.skip(1).collect(rt.alloc()).map_err(|_| Fault::Memory)
 }
 
-/// What a fault of the system's words is told as.
+/// The program's fault for one of the system's words.
 fn words_fault(fault: io::Error) -> Fault {
     match fault.kind() {
         ErrorKind::OutOfMemory => Fault::Memory,

@@ -1,4 +1,4 @@
--- What is owed, as requests come and go.
+-- The deferred amount, as requests are added and removed.
 use Rattle.std.proofs.Common.{◌≡◌, ℕ, Bool, true, false, ◌&&◌, List, [], ◌∷◌, ◌++◌, map, drop, length, Option, Some, None, refl, sym, ap, ◌∙◌, subst, arith}
 use Rattle.std.specs.Prelude.{◌==◌, if◌then◌else◌, slice_get, is_some, Result, Ok, Err, OnOk, OnErr}
 use Rattle.std.specs.Option.{option_map, option_map_or, unwrap_or}
@@ -17,7 +17,7 @@ use Rattle.dmc_client.proofs.Records.{all_rest}
 use Rattle.dmc_tag.proofs.Lists.{all_next}
 
 module _ {T : Type 0} (ops : Tagging T) where
-  -- nothing owed is nothing taken off
+  -- nothing deferred is nothing taken off
   pub none_owed : (xs : List (QueuedRequest T)) → all_less_owed ops None xs ≡ xs
   none_owed [] = refl
   none_owed (x ∷ xs) = ap (λ ys. x ∷ ys) (none_owed xs)
@@ -31,7 +31,7 @@ module _ {T : Type 0} (ops : Tagging T) where
 
   -- ---- the first request, and the others
 
-  -- what is read at a place: what is stored there, less what is owed
+  -- what is read at an index: what is stored there, less the deferred amount
   pub read_less : (owed : Option T) (stored xs : List (QueuedRequest T)) (i : ℕ) (found : Option (QueuedRequest T)) → all_less_owed ops owed stored ≡ xs → found ≡ slice_get stored i → option_map (less_owed ops owed) found ≡ slice_get xs i
   read_less owed stored xs i found view e = ap (option_map (less_owed ops owed)) e ∙ sym (slice_get-map (less_owed ops owed) stored i) ∙ ap (λ ys. slice_get ys i) view
 
@@ -129,7 +129,7 @@ module _ {T : Type 0} (ops : Tagging T) where
           ap (λ y. y ∷ all_less_owed ops (Some t) xs) one.1 ∙ ap (λ ys. less_reservation ops a (less_owed ops owed x) ∷ ys) rest.1,
         )
 
-    -- a value stored with what is owed
+    -- a value stored with the deferred amount
     pub stored_with : (r amount sum : T) → is_value (fraction r) → ops.plus r amount ≡ Some sum → (less ops amount sum ≡ r) × (has_less ops amount sum ≡ true)
     stored_with r amount sum known e =
         let back = plus_then_minus ops fraction is_value exact r amount sum known e in
@@ -163,7 +163,7 @@ module _ {T : Type 0} (ops : Tagging T) where
   pub popped_less : (owed : Option T) (old new view : List (QueuedRequest T)) → all_less_owed ops owed old ≡ view → new ≡ drop 1 old → all_less_owed ops owed new ≡ drop 1 view
   popped_less owed old new view v e = ap (all_less_owed ops owed) e ∙ sym (rest_less owed old) ∙ ap (drop 1) v
 
-  -- of nothing stored, what is owed takes off nothing
+  -- of nothing stored, the deferred amount takes off nothing
   pub empty_less : (owed : Option T) (xs : List (QueuedRequest T)) → true ≡ (length xs == 0) → all_less_owed ops None xs ≡ all_less_owed ops owed xs
   empty_less owed [] e = refl
   empty_less owed (x ∷ xs) e = let none : length (x ∷ xs) ≡ 0 = eqb-true _ _ (sym e) in absurd (omega arith)

@@ -1,4 +1,4 @@
--- Elements read by their places: the first request and those behind it, and a test of all from a place on.
+-- Elements read by their indexes: the first request and those after it, and a test of all from an index on.
 use Rattle.std.proofs.Common.{◌≡◌, ◌≢◌, ℕ, zero, suc, ◌+◌, ◌-◌, ◌<◌, Bool, true, false, ◌&&◌, List, [], slice_get, length, drop, get_or, Option, Some, None, Bor, refl, ap, sym, ◌∙◌, arith}
 use Rattle.std.specs.List.{cons_option, list_all}
 use Rattle.std.specs.Option.{option_copied}
@@ -23,7 +23,7 @@ module _ {A : Type 0} where
   read_copied xs i None is = sym (slice_get_past xs i is.3)
   read_copied xs i (Some x) is = sym (slice_get_read xs (length xs) i x.now refl is.3.0 is.1)
 
-  -- of those from a place on all pass where the first of them does and the others do
+  -- of those from an index on all pass where the first of them does and the others do
   all_from : (p : A → Bool) (xs : List A) (i : ℕ) (x : A) → i < length xs → x ≡ get_or xs i x → list_all p (drop i xs) ≡ (p x && list_all p (drop (i + 1) xs))
   all_from p xs i x within read = at_drop_more (list_all p) xs i x within ∙ ap (λ y. p y && list_all p (drop (i + 1) xs)) (sym read)
 

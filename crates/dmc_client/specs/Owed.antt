@@ -1,4 +1,4 @@
--- An amount that was taken off each queued R, but not yet off the stored one.
+-- Reductions that are deferred: an amount was taken off each queued R, but not yet off the stored one.
 use Rattle.std.specs.Prelude.{◌≡◌, Bool, true, List, [], map, Option, Some, None}
 use Rattle.std.specs.Option.{option_map, option_map_or}
 use Rattle.std.specs.List.{AllByRecursion}
@@ -6,12 +6,12 @@ use Rattle.dmc_tag.specs.Tag.{Tagging}
 use Rattle.dmc_tag.specs.Rules.{has_less, less}
 use Rattle.dmc_client.specs.declared.request.QueuedRequest.{QueuedRequest}
 
--- a stored R, less what is owed
+-- a stored R, less the deferred amount
 abbrev pub tag_less_owed : {T : Type 0} → Tagging T → Option T → Option T → Option T
 tag_less_owed ops None r = r
 tag_less_owed ops (Some amount) r = option_map (less ops amount) r
 
--- a stored request, less what is owed
+-- a stored request, less the deferred amount
 abbrev pub less_owed : {T : Type 0} → Tagging T → Option T → QueuedRequest T → QueuedRequest T
 less_owed ops owed r = record r { tags = record (r.tags) { r = tag_less_owed ops owed r.tags.r } }
 
@@ -22,7 +22,7 @@ all_less_owed ops owed requests = map (less_owed ops owed) requests
 abbrev pub reservation_has_less : {T : Type 0} → Tagging T → T → QueuedRequest T → Bool
 reservation_has_less ops amount r = option_map_or (has_less ops amount) r.tags.r true
 
--- and less what is owed
+-- the R less an amount, and less the deferred amount, is a value
 abbrev pub tag_has_owed : {T : Type 0} → Tagging T → Option T → Option T → Bool
 tag_has_owed ops None r = true
 tag_has_owed ops (Some amount) r = option_map_or (has_less ops amount) r true
@@ -30,12 +30,12 @@ tag_has_owed ops (Some amount) r = option_map_or (has_less ops amount) r true
 abbrev pub has_owed : {T : Type 0} → Tagging T → Option T → QueuedRequest T → Bool
 has_owed ops owed r = tag_has_owed ops owed r.tags.r
 
--- Each stored R less what is owed is a value, and nothing is owed where nothing is queued.
+-- Each stored R less the deferred amount is a value, and nothing is deferred where nothing is queued.
 pub record IsOwed {T : Type 0} (ops : Tagging T) (owed : Option T) (stored : List (QueuedRequest T)) : Type 0 where
   pub values : AllByRecursion (λ r. has_owed ops owed r ≡ true) stored
   pub empty : stored ≡ [] → owed ≡ None
 
--- how much is owed once an amount more is
+-- the deferred amount after one more reduction
 abbrev pub owed_with : {T : Type 0} → Tagging T → Option T → T → Option T
 owed_with ops None amount = Some amount
 owed_with ops (Some owed) amount = ops.plus owed amount

@@ -1,4 +1,4 @@
--- What contracts see of a client's record, what it stands for in a plain state, and what is true of each.
+-- What contracts see of a client's record, what it represents in a plain state, and its invariant.
 use Rattle.std.specs.Prelude.{◌≡◌, ℕ, Bool, true, false, ◌&&◌, List, [], ◌∷◌, ◌++◌, map, is_some, filter_map}
 use Rattle.std.specs.Option.{option_map, option_map_or}
 use Rattle.std.specs.List.{list_all, AllByRecursion}
@@ -24,7 +24,7 @@ pub record Rec (T : Type 0) : Type 0 where
   -- in order of arrival
   pub requests : List (QueuedRequest T)
 
--- ---- what a record stands for, under a client's id
+-- ---- what a record represents, under a client's id
 
 abbrev pub client_of : {T : Type 0} → ClientId → Rec T → PlainClient T
 client_of id rec = record { id = id; info = rec.info; previous = rec.previous; idle = rec.idle; last_arrival = rec.last_arrival }
@@ -35,7 +35,7 @@ request_of id r = record { client = id; token = r.token; tags = r.tags }
 abbrev pub requests_of_record : {T : Type 0} → ClientId → Rec T → List (PlainRequest T)
 requests_of_record id rec = map (request_of id) rec.requests
 
--- ---- what is true of every record
+-- ---- the invariant of every record
 
 -- the tags of one kind, front first, and the previous one last
 abbrev pub reservation_tags : {T : Type 0} → Rec T → List T
@@ -57,7 +57,7 @@ pub record IsRecord {T : Type 0} (ops : Tagging T) (rec : Rec T) : Type 0 where
   pub shares : InOrder ops (share_tags rec)
   pub idle : rec.idle ≡ true → rec.requests ≡ []
 
--- ---- what calls make of a record
+-- ---- what a record becomes by a call
 
 -- a client that is registered at a moment
 abbrev pub registered_at : {T : Type 0} → Tagging T → Rates → Spacings T → ℕ → Rec T
@@ -65,7 +65,7 @@ registered_at ops info spacings at =
     let zero_tag = ops.of_moment 0 in
     record { info = info; spacings = spacings; previous = record { r = zero_tag; l = zero_tag; p = zero_tag }; idle = true; last_arrival = at; requests = [] }
 
--- a request comes at a moment
+-- a request arrives at a moment
 abbrev pub pushed : {T : Type 0} → QueuedRequest T → ℕ → Rec T → Rec T
 pushed request at rec = record rec {
   previous = previous_after request.tags rec.previous;
@@ -94,7 +94,7 @@ less_reservations ops amount rec = record rec {
   requests = map (less_reservation ops amount) rec.requests;
 }
 
--- each of those is a value
+-- each of these is a value
 abbrev pub has_less_shares : {T : Type 0} → Tagging T → T → Rec T → Bool
 has_less_shares ops amount rec = list_all (λ r. has_less ops amount r.tags.p) rec.requests && has_less ops amount rec.previous.p
 

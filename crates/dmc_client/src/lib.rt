@@ -1,4 +1,4 @@
-//! The record that a queue keeps of a client.
+//! The record of a client in a queue.
 #![tactic(auto)]
 
 mod queue;

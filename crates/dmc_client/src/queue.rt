@@ -16,8 +16,8 @@ use std::alloc::{AllocError, Global};
 use std::collections::VecDeque;
 use std::marker::Model;
 
-/// The queued requests of a client in order of arrival. Of whole numbers a reduction adds to what is
-/// owed, and walks over no request: what is owed comes off an R as its request is read.
+/// The queued requests of a client in order of arrival. Where tags are whole numbers a reduction adds to one deferred amount, and
+/// walks over no request: the amount is taken off an R as its request is read.
 #[derive(Drop)]
 pub struct RequestQueue<T: Tag> {
     stored: StoredRequests<T>,
@@ -37,7 +37,7 @@ impl<T: Tag> Model for RequestQueue<T> {
 }
 
 impl<T: Tag> RequestQueue<T> {
-    /// An empty queue. It takes no memory.
+    /// An empty queue. It does not allocate.
     pub fn new(alloc: Global) -> RequestQueue<T>
         ensures { result ≡ [] }
     {
@@ -47,7 +47,7 @@ impl<T: Tag> RequestQueue<T> {
         }
     }
 
-    /// Queues a request behind the others. A refused growth changes nothing.
+    /// Queues a request behind the others. An allocation failure changes nothing.
     pub fn push(&mut self, request: QueuedRequest<T>) -> Result<(), AllocError>
         ensures ok { OnOk result (self.new ≡ self.old ++ request ∷ []) }
         ensures err { OnErr result (self.new ≡ self.old) }
@@ -60,7 +60,7 @@ impl<T: Tag> RequestQueue<T> {
         self.stored.push(request)
     }
 
-    /// The request that came first.
+    /// The request that arrived first.
     pub fn front(&self) -> Option<QueuedRequest<T>>
         ensures { result ≡ slice_get self.now 0 }
     {
@@ -70,7 +70,7 @@ impl<T: Tag> RequestQueue<T> {
         }
     }
 
-    /// Takes out the request that came first.
+    /// Removes the request that arrived first.
     pub fn pop_front(&mut self) -> Option<QueuedRequest<T>>
         ensures value { result ≡ slice_get self.old 0 }
         ensures rest { self.new ≡ drop 1 self.old }
@@ -83,7 +83,7 @@ impl<T: Tag> RequestQueue<T> {
         Some(less_owed(first, owed))
     }
 
-    /// Takes out all requests.
+    /// Removes all requests.
     pub fn clear(&mut self)
         ensures { self.new ≡ [] }
     {
@@ -91,7 +91,7 @@ impl<T: Tag> RequestQueue<T> {
         self.owed = None;
     }
 
-    /// How many requests are queued.
+    /// The number of queued requests.
     pub fn len(&self) -> usize
         ensures { result ≡ length self.now }
     {
@@ -129,7 +129,7 @@ impl<T: Tag> RequestQueue<T> {
         others_have_less(self.stored.later(), self.owed, amount)
     }
 
-    /// Takes the amount off each P if each stays a value, and else changes nothing. Answers whether each does.
+    /// Takes the amount off each P if each stays a value, and otherwise changes nothing. Returns whether each does.
     pub fn subtract_shares(&mut self, amount: T) -> bool
         ensures value { result ≡ list_all (λ r. rules_of.has_less T.ops amount r.tags.p) self.old }
         ensures new { self.new ≡ (if result then map (record_of.less_share T.ops amount) self.old else self.old) }
@@ -137,8 +137,8 @@ impl<T: Tag> RequestQueue<T> {
         self.stored.subtract_shares(amount)
     }
 
-    /// Takes the amount off each R: of whole numbers it is owed, and taken off the stored tags only
-    /// where what is owed has no value any more; of other tags it is taken off at once.
+    /// Takes the amount off each R. Where tags are whole numbers it is deferred, and taken off the stored tags only where the
+    /// deferred sum is no value. Otherwise it is taken off at once.
     pub fn subtract_reservations(&mut self, amount: T)
         requires { list_all (owed_of.reservation_has_less T.ops amount) self.old ≡ true }
         ensures { self.new ≡ map (record_of.less_reservation T.ops amount) self.old }
@@ -158,7 +158,7 @@ impl<T: Tag> RequestQueue<T> {
     }
 }
 
-/// A stored request, less what is owed.
+/// A stored request, less the deferred amount.
 fn less_owed<T: Tag>(request: QueuedRequest<T>, owed: Option<T>) -> QueuedRequest<T>
     ensures { result ≡ owed_of.less_owed T.ops owed request }
 {
@@ -167,7 +167,7 @@ fn less_owed<T: Tag>(request: QueuedRequest<T>, owed: Option<T>) -> QueuedReques
     QueuedRequest { tags, ..request }
 }
 
-/// A stored R, less what is owed.
+/// A stored R, less the deferred amount.
 fn tag_less_owed<T: Tag>(r: Option<T>, owed: Option<T>) -> Option<T>
     ensures { result ≡ owed_of.tag_less_owed T.ops owed r }
 {
@@ -177,7 +177,7 @@ fn tag_less_owed<T: Tag>(r: Option<T>, owed: Option<T>) -> Option<T>
     }
 }
 
-/// The request as it is stored: its R and what is owed. None where that is no value.
+/// The request as it is stored: its R plus the deferred amount. `None` where that is no value.
 fn with_owed<T: Tag>(request: QueuedRequest<T>, owed: Option<T>) -> Option<QueuedRequest<T>>
     ensures { IfSome result (λ stored. (owed_of.less_owed T.ops owed stored ≡ request) × (owed_of.has_owed T.ops owed stored ≡ true)) }
 {
@@ -189,7 +189,7 @@ fn with_owed<T: Tag>(request: QueuedRequest<T>, owed: Option<T>) -> Option<Queue
     Some(QueuedRequest { tags, ..request })
 }
 
-/// An R and what is owed. None where that is no value.
+/// An R plus the deferred amount. `None` where that is no value.
 fn tag_with_owed<T: Tag>(r: T, owed: Option<T>) -> Option<T>
     ensures { IfSome result (λ stored. (owed_of.tag_less_owed T.ops owed (Some stored) ≡ Some r) × (owed_of.tag_has_owed T.ops owed (Some stored) ≡ true)) }
 {
@@ -199,7 +199,7 @@ fn tag_with_owed<T: Tag>(r: T, owed: Option<T>) -> Option<T>
     }
 }
 
-/// What is owed with an amount more. None where that is no value.
+/// The deferred amount plus another. `None` where that is no value.
 fn owed_with<T: Tag>(owed: Option<T>, amount: T) -> Option<T>
     ensures { result ≡ owed_of.owed_with T.ops owed amount }
 {
@@ -209,7 +209,7 @@ fn owed_with<T: Tag>(owed: Option<T>, amount: T) -> Option<T>
     }
 }
 
-/// Whether each R, less what is owed and the amount, is a value.
+/// Whether each R, less the deferred amount and this amount, is a value.
 fn others_have_less<T: Tag>(others: &VecDeque<QueuedRequest<T>>, owed: Option<T>, amount: T) -> bool
     ensures { result ≡ list_all (λ r. owed_of.reservation_has_less T.ops amount (owed_of.less_owed T.ops owed r)) others.now.items }
 {
@@ -221,7 +221,7 @@ fn others_have_less<T: Tag>(others: &VecDeque<QueuedRequest<T>>, owed: Option<T>
     true
 }
 
-/// Takes what is owed off each stored R.
+/// Takes the deferred amount off each stored R.
 #[cold]
 #[inline(never)]
 fn settle<T: Tag>(stored: &mut StoredRequests<T>, owed: Option<T>)

@@ -17,12 +17,12 @@ use dmc_types::moment::Moment;
 use std::alloc::{AllocError, Global};
 use std::marker::Model;
 
-/// What a queue keeps of a client: its rates and their spacings, its previous tags, the idle mark, its last arrival, and
-/// its queued requests in order of arrival. No tag decreases from front to back, and the previous tags are not below the
-/// last queued ones.
+/// What a queue stores of a client: its rates and their spacings, its previous tags, the idle mark, its last arrival, and its
+/// queued requests in order of arrival. No tag decreases from front to back, and the previous tags are not below the last queued
+/// ones.
 #[derive(Drop)]
 pub struct ClientRec<T: Tag> {
-    // What a shift of all records reads and writes comes first, side by side: fields lie in this order.
+    // What a shift of all records reads and writes is first, side by side: fields are laid out in this order.
     idle: bool,
     previous: Previous<T>,
     queue: RequestQueue<T>,
@@ -42,7 +42,7 @@ impl<T: Tag> Model for ClientRec<T> {
 }
 
 impl<T: Tag> ClientRec<T> {
-    /// The record of a client that registers at a moment: previous tags 0, idle, nothing queued. It takes no memory.
+    /// The record of a client that registers at a moment: previous tags 0, idle, nothing queued. It does not allocate.
     pub fn new(alloc: Global, info: ClientInfo, spacings: Spacings<T>, at: Moment) -> ClientRec<T>
         requires { AreSpacings T.ops info spacings }
         ensures value { result ≡ record_of.registered_at T.ops info spacings at }
@@ -64,8 +64,8 @@ impl<T: Tag> ClientRec<T> {
         }
     }
 
-    /// Queues a request that comes at a moment: its tags become the previous ones, and the client is not idle. A refused
-    /// growth changes nothing.
+    /// Queues a request that arrives at a moment. Its tags become the previous ones, and the client is not idle. An allocation
+    /// failure changes nothing.
     pub fn push(&mut self, request: QueuedRequest<T>, at: Moment) -> Result<(), AllocError>
         requires { AreNext T.ops self.old.info self.old.previous request.tags }
         ensures ok { OnOk result (self.new ≡ record_of.pushed request at self.old) }
@@ -81,7 +81,7 @@ impl<T: Tag> ClientRec<T> {
         Ok(())
     }
 
-    /// The request that came first of those queued.
+    /// The queued request that arrived first.
     pub fn head(&self) -> Option<QueuedRequest<T>>
         ensures value { result ≡ slice_get self.now.requests 0 }
         ensures kept { IsRecord T.ops self.now }
@@ -89,7 +89,7 @@ impl<T: Tag> ClientRec<T> {
         self.queue.front()
     }
 
-    /// Takes out the request that came first.
+    /// Removes the queued request that arrived first.
     pub fn pop(&mut self) -> Option<QueuedRequest<T>>
         ensures value { result ≡ slice_get self.old.requests 0 }
         ensures rest { self.new ≡ record self.old { requests = drop 1 self.old.requests } }
@@ -98,7 +98,7 @@ impl<T: Tag> ClientRec<T> {
         self.queue.pop_front()
     }
 
-    /// Takes out all queued requests, and answers how many.
+    /// Removes all queued requests, and returns how many.
     pub fn drain(&mut self) -> usize
         ensures count { result ≡ length self.old.requests }
         ensures rest { self.new ≡ record self.old { requests = [] } }
@@ -109,7 +109,7 @@ impl<T: Tag> ClientRec<T> {
         count
     }
 
-    /// How many requests are queued.
+    /// The number of queued requests.
     pub fn len(&self) -> usize
         ensures { result ≡ length self.now.requests }
     {
@@ -130,7 +130,7 @@ impl<T: Tag> ClientRec<T> {
         self.info
     }
 
-    /// How far apart the tags are.
+    /// The spacings of the rates.
     pub fn spacings(&self) -> &Spacings<T>
         ensures value { result.now ≡ self.now.spacings }
         ensures kept { IsRecord T.ops self.now }
@@ -138,14 +138,14 @@ impl<T: Tag> ClientRec<T> {
         &self.spacings
     }
 
-    /// The tags of the last request, less what was taken off since.
+    /// The tags of the last request, less what has been subtracted since.
     pub fn previous(&self) -> &Previous<T>
         ensures { result.now ≡ self.now.previous }
     {
         &self.previous
     }
 
-    /// Whether no request has come since registration, or since a clean marked the client.
+    /// Whether no request has arrived since registration, or since a clean marked the client idle.
     pub fn is_idle(&self) -> bool
         ensures value { result ≡ self.now.idle }
         ensures kept { IsRecord T.ops self.now }
@@ -171,7 +171,7 @@ impl<T: Tag> ClientRec<T> {
         self.spacings = spacings;
     }
 
-    /// Marks the client idle, which has nothing queued.
+    /// Marks a client idle that has nothing queued.
     pub fn mark_idle(&mut self)
         requires { self.old.requests ≡ [] }
         ensures value { self.new ≡ record self.old { idle = true } }
@@ -187,8 +187,8 @@ impl<T: Tag> ClientRec<T> {
         self.queue.has_less_shares(amount) && has_less(self.previous.p, amount)
     }
 
-    /// Whether the R of each request but the first, and the previous R, less the amount, are values. The second R is the
-    /// least of them and the previous one the greatest: of whole numbers no other has to be asked.
+    /// Whether the R of each request but the first, and the previous R, less the amount, are values. The second R is the least of
+    /// them and the previous one the greatest, so where tags are whole numbers these two are enough.
     pub fn others_have_less_reservations(&self, amount: T) -> bool
         ensures { result ≡ record_of.has_less_reservations T.ops amount (record self.now { requests = drop 1 self.now.requests }) }
     {
@@ -201,8 +201,8 @@ impl<T: Tag> ClientRec<T> {
         self.queue.others_have_less(amount)
     }
 
-    /// Takes the amount off the P of each request and off the previous P if each stays a value, and else changes
-    /// nothing. Answers whether each does.
+    /// Takes the amount off the P of each request and off the previous P if each stays a value, and otherwise changes nothing.
+    /// Returns whether each does.
     pub fn subtract_from_shares(&mut self, amount: T) -> bool
         ensures value { result ≡ record_of.has_less_shares T.ops amount self.old }
         ensures new { self.new ≡ (if result then record_of.less_shares T.ops amount self.old else self.old) }

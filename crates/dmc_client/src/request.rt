@@ -5,7 +5,7 @@ use dmc_tag::reply::Tags;
 use dmc_types::ids::Token;
 use std::alloc::AllocError;
 
-/// A request that waits in its client's queue.
+/// A request in its client's queue.
 #[derive(Copy, Debug)]
 pub struct QueuedRequest<T> {
     pub token: Token,

@@ -1,4 +1,4 @@
-//! The requests that a client's queue stores.
+//! The requests as a client's queue stores them.
 ghost use Rattle.std.specs.Prelude.{◌≡◌, ◌==◌, ◌++◌, ◌∷◌, [], drop, length, map, slice_get, if◌then◌else◌, OnOk, OnErr};
 ghost use Rattle.std.specs.List.{list_all};
 ghost use Rattle.dmc_client.specs.Record as record_of;
@@ -14,8 +14,8 @@ use std::alloc::{AllocError, Global};
 use std::collections::VecDeque;
 use std::marker::Model;
 
-/// Requests in order of arrival. A client mostly has one request queued at a server, or none: so the first stands in the struct
-/// itself, and takes no memory elsewhere.
+/// Requests in order of arrival. A client mostly has one request queued at a server, or none: so the first is stored in the
+/// struct itself, and takes no other memory.
 #[derive(Drop)]
 pub struct StoredRequests<T: Tag> {
     first: Option<QueuedRequest<T>>,
@@ -36,7 +36,7 @@ impl<T: Tag> Model for StoredRequests<T> {
 }
 
 impl<T: Tag> StoredRequests<T> {
-    /// No request. It takes no memory.
+    /// No requests. It does not allocate.
     pub fn new(alloc: Global) -> StoredRequests<T>
         ensures { result ≡ [] }
     {
@@ -46,7 +46,7 @@ impl<T: Tag> StoredRequests<T> {
         }
     }
 
-    /// Stores a request behind the others. A refused growth changes nothing.
+    /// Stores a request behind the others. An allocation failure changes nothing.
     pub fn push(&mut self, request: QueuedRequest<T>) -> Result<(), AllocError>
         ensures ok { OnOk result (self.new ≡ self.old ++ request ∷ []) }
         ensures err { OnErr result (self.new ≡ self.old) }
@@ -61,7 +61,7 @@ impl<T: Tag> StoredRequests<T> {
         Ok(())
     }
 
-    /// Takes out the request that came first.
+    /// Removes the request that arrived first.
     pub fn pop(&mut self) -> Option<QueuedRequest<T>>
         ensures value { result ≡ slice_get self.old 0 }
         ensures rest { self.new ≡ drop 1 self.old }
@@ -71,7 +71,7 @@ impl<T: Tag> StoredRequests<T> {
         first
     }
 
-    /// The request that came as number i, from 0, of those that are stored.
+    /// The stored request at index i, in order of arrival.
     pub fn get(&self, i: usize) -> Option<QueuedRequest<T>>
         ensures { result ≡ slice_get self.now i }
     {
@@ -88,7 +88,7 @@ impl<T: Tag> StoredRequests<T> {
         &self.later
     }
 
-    /// Takes out all requests.
+    /// Removes all requests.
     pub fn clear(&mut self)
         ensures { self.new ≡ [] }
     {
@@ -96,7 +96,7 @@ impl<T: Tag> StoredRequests<T> {
         self.later.clear();
     }
 
-    /// How many requests are stored.
+    /// The number of stored requests.
     pub fn len(&self) -> usize
         ensures { result ≡ length self.now }
     {
@@ -123,7 +123,7 @@ impl<T: Tag> StoredRequests<T> {
         }
     }
 
-    /// Takes the amount off each P if each stays a value, and else changes nothing. Answers whether each does.
+    /// Takes the amount off each P if each stays a value, and otherwise changes nothing. Returns whether each does.
     pub fn subtract_shares(&mut self, amount: T) -> bool
         ensures value { result ≡ list_all (λ r. rules_of.has_less T.ops amount r.tags.p) self.old }
         ensures new { self.new ≡ (if result then map (record_of.less_share T.ops amount) self.old else self.old) }

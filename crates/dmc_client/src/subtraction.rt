@@ -1,4 +1,4 @@
-//! An amount taken off each tag of one kind, in place, and whether that is a value.
+//! An amount taken off each tag of one kind, in place, and whether the results are values.
 ghost use Rattle.std.specs.Prelude.{◌≡◌, map, is_some, IfSome};
 ghost use Rattle.dmc_client.specs.Owed as owed_of;
 ghost use Rattle.dmc_client.specs.Record as record_of;
@@ -20,7 +20,7 @@ pub fn less_share<T: Tag>(request: QueuedRequest<T>, amount: T) -> QueuedRequest
     QueuedRequest { tags, ..request }
 }
 
-/// A request with the amount off its P; None where that is no value.
+/// A request with the amount off its P, and `None` where that is no value.
 pub fn checked_less_share<T: Tag>(request: QueuedRequest<T>, amount: T) -> Option<QueuedRequest<T>>
     ensures test { is_some result ≡ rules_of.has_less T.ops amount request.tags.p }
     ensures value { IfSome result (λ changed. changed ≡ record_of.less_share T.ops amount request) }
@@ -43,7 +43,7 @@ pub fn less_reservation<T: Tag>(request: QueuedRequest<T>, amount: T) -> QueuedR
     QueuedRequest { tags, ..request }
 }
 
-/// Whether the R less the amount is a value, or there is none.
+/// Whether the R less the amount is a value, or there is no R.
 pub fn reservation_has_less<T: Tag>(request: QueuedRequest<T>, amount: T) -> bool
     ensures { result ≡ owed_of.reservation_has_less T.ops amount request }
 {

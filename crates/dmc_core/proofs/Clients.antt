@@ -1,5 +1,5 @@
 -- What the rules make of a client that matches one that is held.
-use Rattle.std.proofs.Common.{◌≡◌, ◌-◌, ◌<◌, ◌≤◌, true, false, List, [], ◌∷◌, ◌++◌, length, nat_le, ◌==◌, refl, sym, ap, ◌∙◌, arith, Ok, Err}
+use Rattle.std.proofs.Common.{◌≡◌, ◌-◌, ◌<◌, ◌≤◌, true, false, List, [], ◌∷◌, ◌++◌, length, nat_le, ◌==◌, refl, sym, ap, ◌∙◌, arith, inl, inr, Ok, Err}
 use Rattle.std.specs.Prelude.{Result, IsErrOf, ◌↔◌, ⊤}
 use Rattle.std.proofs.lemmas.Bool.{ltb-true, lt-ltb, eqb-true, false_from_ne_true}
 use Rattle.std.proofs.lemmas.List.{length-set}
@@ -13,6 +13,7 @@ use Rattle.dmc_tracker.specs.declared.event.TrackerEvent.{TrackerEvent}
 use Rattle.dmc_tracker.specs.declared.event.TrackerEvent.TheVariants as entries
 use Rattle.dmc_tracker.specs.TrackerList.{demanded, completions, IsStampFull, IsComplete}
 use Rattle.dmc_tracker.specs.Numbers.{Numbers, Stands, Keeps}
+use Rattle.dmc_tracker.proofs.ForCallers.{pending-le}
 use Rattle.dmc_core.specs.declared.event.CoreReply.TheVariants.{Stamped, Counted}
 use Rattle.dmc_core.specs.declared.event.CoreFault.TheVariants.{FlightFull, TrackFull, NoGrant, Memory}
 use Rattle.dmc_core.specs.Faults.{fault_of}
@@ -25,13 +26,16 @@ use Rattle.dmc_core.specs.Core.{Held, Matches, ClientFollows}
 -- ---- Stamp
 
 module _ (s : ServerId) (list : List TrackerEvent) where
-  stamp_is_full : (k : Counting) → IsStampFull k most_completions s list → is_stamp_full k s list ≡ true
-  stamp_is_full All full = let e = full.form in cc
-  stamp_is_full Others full = lt-ltb _ _ full.past
+  -- the greatest count of a stamp is the most completions, so in `All` no delta passes it, and in `Others` one that does takes
+  -- what was sent past the most
+  stamp_is_full : (k : Counting) → (completions list).delta ≤ most_completions → IsStampFull k most_completions s list → is_stamp_full k s list ≡ true
+  stamp_is_full All few wide = absurd (omega (arith, few, wide, pending-le All s list))
+  stamp_is_full Others few (inl wide) = lt-ltb _ _ (omega (arith, wide))
+  stamp_is_full Others few (inr past) = lt-ltb _ _ past
 
   stamp_not_full : (k : Counting) → (IsStampFull k most_completions s list → ⊥) → is_stamp_full k s list ≡ false
   stamp_not_full All unfull = refl
-  stamp_not_full Others unfull = false_from_ne_true _ (λ e. unfull (record { form = refl; past = ltb-true _ _ e }))
+  stamp_not_full Others unfull = false_from_ne_true _ (λ e. unfull (inr (ltb-true _ _ e)))
 
 module _ (counting : Counting) (h : Held) (c : Client) (s : ServerId) (m : Matches counting h c) where
   room_too : nat_le most_in_flight (length (pair_at s h.pairs).flight) ≡ false → nat_le most_in_flight (length (pair_at s c.pairs).flight) ≡ false
@@ -64,8 +68,11 @@ module _ (T : Type 0) (h : Held) (s : ServerId) (token : Token) where
   stamp-flight_full full = (refl, λ counting c m. rw (← m.pairs, full) refl)
 
   module _ (room : nat_le most_in_flight (length (pair_at s h.pairs).flight) ≡ false) where
-    track_full : (counting : Counting) (c : Client) → Matches counting h c → IsStampFull h.tracker.counting h.tracker.most s c.list → stamp {T = T} counting s token c ≡ Err TrackFull
-    track_full counting c m full = rw (room_too counting h c s m room, stamp_is_full s c.list counting (rw (m.form, m.most) at full)) refl
+    track_full : h.tracker.completions.delta ≤ h.tracker.most → (counting : Counting) (c : Client) → Matches counting h c
+        → IsStampFull h.tracker.counting h.tracker.most s c.list → stamp {T = T} counting s token c ≡ Err TrackFull
+    track_full counted counting c m full =
+        let few : (completions c.list).delta ≤ most_completions = omega (arith, counted, m.most, ap (λ (p : Params). p.delta) m.tracker.completed) in
+        rw (room_too counting h c s m room, stamp_is_full s c.list counting few (rw (m.form, m.most) at full)) refl
 
     ok : (counting : Counting) (c : Client) → Matches counting h c → (IsStampFull h.tracker.counting h.tracker.most s c.list → ⊥)
         → stamp {T = T} counting s token c ≡ Ok (after_stamp s (record { token = token; params = demanded counting s c.list }) c, Stamped (demanded counting s c.list))
@@ -73,11 +80,12 @@ module _ (T : Type 0) (h : Held) (s : ServerId) (token : Token) where
 
     -- the tracker's test refuses
     pub stamp-refused : (fault : TrackFault) (tested : Result ⊤ TrackFault) → tested ≡ Err fault → s.0 < length h.pairs
+        → h.tracker.completions.delta ≤ h.tracker.most
         → (IsErrOf tested faults.NoServer ↔ (length h.tracker.servers ≤ s.0))
         → ((events : List TrackerEvent) → Stands h.tracker events → (IsErrOf tested faults.TrackFull ↔ ((s.0 < length h.tracker.servers) × IsStampFull h.tracker.counting h.tracker.most s events)))
         → ClientFollows {T = T} (λ counting c. stamp counting s token c) h h (Err (fault_of fault))
-    stamp-refused faults.NoServer tested e within no_server full = (refl, λ counting c m. absurd (omega (arith, no_server.0 e, m.servers, within)))
-    stamp-refused faults.TrackFull tested e within no_server full = (refl, λ counting c m. track_full counting c m ((full c.list m.tracker).0 e).1)
+    stamp-refused faults.NoServer tested e within counted no_server full = (refl, λ counting c m. absurd (omega (arith, no_server.0 e, m.servers, within)))
+    stamp-refused faults.TrackFull tested e within counted no_server full = (refl, λ counting c m. track_full counted counting c m ((full c.list m.tracker).0 e).1)
 
     module _ (tested : Result ⊤ TrackFault) (tested_is : tested ≡ Ok tt) (within : s.0 < length h.pairs)
         (full : (events : List TrackerEvent) → Stands h.tracker events → (IsErrOf tested faults.TrackFull ↔ ((s.0 < length h.tracker.servers) × IsStampFull h.tracker.counting h.tracker.most s events))) where

@@ -39,7 +39,7 @@ pub record Run (T : Type 0) : Type 0 where
 
 -- what a tracker counts at most
 abbrev pub most_completions : ℕ
-most_completions = limits.most_completions
+most_completions = limits.most_run_completions
 
 -- the most messages in flight of a pair
 abbrev pub most_in_flight : ℕ

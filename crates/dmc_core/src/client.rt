@@ -15,6 +15,9 @@ use dmc_types::ids::{ClientId, ServerId, Token};
 use std::alloc::{AllocError, Global};
 use std::marker::Model;
 
+/// The most completions of a client.
+const MOST_RUN_COMPLETIONS: u64 = 0xffff_ffff;
+
 /// A client: its id, its tracker, and what is under way between it and server 0, 1, ..
 #[derive(Drop)]
 pub struct CoreClient {
@@ -50,7 +53,7 @@ impl CoreClient {
           pairs = replicate servers no_pair;
         }) }
     {
-        let Ok(tracker) = ServiceTracker::new(alloc, servers, u32::MAX, counting) else {
+        let Ok(tracker) = ServiceTracker::new(alloc, servers, MOST_RUN_COMPLETIONS, counting) else {
             return Err(AllocError);
         };
         Ok(CoreClient {

@@ -14,7 +14,7 @@ use Rattle.dmc_tag.specs.State.{is_client}
 use Rattle.dmc_tag.specs.declared.event.Event.{Event}
 use Rattle.dmc_tag.specs.declared.reply.Tags.{Tags}
 use Rattle.dmc_tag.specs.declared.reply.Reply.TheVariants.{Tagged}
-use Rattle.dmc_bounds.specs.Bounds.{Arrival, arrivals, sum_since, ticks_since, IsNext}
+use Rattle.dmc_history_laws.specs.Bounds.{Arrival, arrivals, sum_since, ticks_since, IsNext}
 use Rattle.dmc_scene.specs.SceneValue.{SceneValue}
 use Rattle.dmc_tracker.specs.TrackerList.{IsTracked}
 use Rattle.dmc_core.specs.declared.event.Message.{Message}
@@ -42,7 +42,7 @@ module _ {T : Type 0} (ops : Tagging T) (scene : SceneValue) (id : ClientId) (s 
       let flight = map (λ (m : Message). m.params) (pair_at s c.pairs).flight in
       let parts = parted ops scene id s Priority p in
       let some = subst (λ xs. 0 < length (arrivals id xs)) (sym parts.first_is) (some_arrival id (history ops scene s p.before) parts.add parts.added.0 p.arrived p.tags parts.added.1) in
-      completed_between id s p.token (first_part p) (second_part p) c.list flight (subst (λ k. IsTracked k c.list) all is.tracked)
+      completed_between id s p.token (first_part p) (second_part p) c.list flight (subst (λ k. IsTracked k c.list) all is.tracked) is.unskipped
       (ap (λ ps. ps ++ flight) (sym params) ∙ is.stamps) some next
       (ap length (arrivals_both id (first_part p) (second_part p)) ∙ length-append (arrivals id (first_part p)) (arrivals id (second_part p)))
 

@@ -16,11 +16,11 @@ use Rattle.dmc_tag.specs.declared.event.Event.{Event}
 use Rattle.dmc_tag.specs.declared.reply.Tags.{Tags}
 use Rattle.dmc_tag.specs.declared.reply.Reply.{Reply}
 use Rattle.dmc_tag.specs.declared.reply.Reply.TheVariants as replies
-use Rattle.dmc_bounds.specs.Bounds.{Arrival, arrivals}
+use Rattle.dmc_history_laws.specs.Bounds.{Arrival, arrivals}
 use Rattle.dmc_tracker.specs.declared.event.TrackerEvent.{TrackerEvent}
 use Rattle.dmc_tracker.specs.declared.event.TrackerEvent.TheVariants as entries
-use Rattle.dmc_tracker.specs.TrackerList.{demanded, IsTracked}
-use Rattle.dmc_tracker.proofs.ForCallers.{IsTracked-stamp, IsTracked-response}
+use Rattle.dmc_tracker.specs.TrackerList.{demanded, skips, IsTracked}
+use Rattle.dmc_tracker.proofs.ForCallers.{IsTracked-stamp, IsTracked-response, skips-stamp, skips-response}
 use Rattle.dmc_core.specs.declared.event.Message.{Message}
 use Rattle.dmc_core.specs.declared.event.CoreReply.TheVariants.{Served}
 use Rattle.dmc_core.specs.Run.{Pair, Client, no_pair, pair_at, with_pair, with_flight, grants, with_grants, change_first}
@@ -83,9 +83,10 @@ params_front : (m : Message) (ms : List Message) → slice_get ms 0 ≡ Some m �
 params_front m [] e = cc
 params_front m (x ∷ ms) e = let same : x ≡ m = cc in ap (λ (y : Message). y.params ∷ params_in ms) same
 
--- the tracker list is tracked, and the arrivals at s so far, with these params, follow its stamps
+-- the tracker list is tracked and has no skip of s, and the arrivals at s so far, with these params, follow its stamps
 pub record IsFollowed (counting : Counting) (s : ServerId) (arrived : List Params) (c : Client) : Type 0 where
   pub tracked : IsTracked counting c.list
+  pub unskipped : skips s c.list ≡ 0
   pub paired : s.0 < length c.pairs
   pub stamps : arrived ++ params_in (pair_at s c.pairs).flight ≡ stamps_to s c.list
 
@@ -107,6 +108,7 @@ module _ (counting : Counting) (s : ServerId) (arrived : List Params) (c : Clien
   pub stamp_follows : (q : ServerId) (m : Message) → m.params ≡ demanded counting q c.list → IsFollowed counting s arrived (after_stamp q m c)
   stamp_follows q m due = record {
     tracked = IsTracked-stamp counting c.list q m.params due f.tracked;
+    unskipped = skips-stamp s c.list q m.params ∙ f.unskipped;
     paired = paired_after q _;
     stamps = by (q.0 == s.0) refl ∙ sym (stamps_push s c.list (entries.Stamp q m.params));
   }
@@ -130,11 +132,12 @@ module _ (counting : Counting) (s : ServerId) (arrived : List Params) (c : Clien
   regranted q phase n = ap (λ (ms : List Message). arrived ++ params_in ms) (flight_kept c.pairs q.0 s.0 (with_grants phase n (pair_at q c.pairs)) (grants_leave_flight phase n (pair_at q c.pairs))) ∙ f.stamps
 
   pub grant_follows : (q : ServerId) (phase : PhaseType) → IsFollowed counting s arrived (after_grant q phase c)
-  grant_follows q phase = record { tracked = f.tracked; paired = paired_after q _; stamps = regranted q phase (grants phase (pair_at q c.pairs) + 1) }
+  grant_follows q phase = record { tracked = f.tracked; unskipped = f.unskipped; paired = paired_after q _; stamps = regranted q phase (grants phase (pair_at q c.pairs) + 1) }
 
   pub response_follows : (q : ServerId) (phase : PhaseType) → IsFollowed counting s arrived (after_response q phase c)
   response_follows q phase = record {
     tracked = IsTracked-response counting c.list q phase f.tracked;
+    unskipped = skips-response s c.list q phase ∙ f.unskipped;
     paired = paired_after q _;
     stamps = regranted q phase (grants phase (pair_at q c.pairs) - 1) ∙ sym (stamps_push s c.list (entries.Response q phase) ∙ append-nil (stamps_to s c.list));
   }
@@ -143,6 +146,7 @@ module _ (counting : Counting) (s : ServerId) (arrived : List Params) (c : Clien
   stays : {T : Type 0} (q : ServerId) (reply : Reply T) → ((pair : Pair) → after_arrival reply pair ≡ pair) → IsFollowed counting s arrived (client_after_arrival q reply c)
   stays q reply same = record {
     tracked = f.tracked;
+    unskipped = f.unskipped;
     paired = paired_after q _;
     stamps = ap (λ (ms : List Message). arrived ++ params_in ms) (flight_kept c.pairs q.0 s.0 (after_arrival reply (pair_at q c.pairs)) (ap (λ (x : Pair). x.flight) (same (pair_at q c.pairs)))) ∙ f.stamps;
   }
@@ -164,7 +168,7 @@ module _ (counting : Counting) (s : ServerId) (arrived : List Params) (c : Clien
         by false = refl
 
     accepted : (tags : Tags T) → Follows (replies.Tagged tags)
-    accepted tags = record { tracked = f.tracked; paired = paired_after q _; stamps = by (q.0 == s.0) refl }
+    accepted tags = record { tracked = f.tracked; unskipped = f.unskipped; paired = paired_after q _; stamps = by (q.0 == s.0) refl }
       where
         by : (b : Bool) → (q.0 == s.0) ≡ b → (arrived ++ params_of (arrivals id (recorded_events b (Some (commands.Add id m.token m.params at)) (Ok (Served (replies.Tagged tags)))))) ++ params_in (pair_at s (with_pair q (without_first q) c.pairs)).flight ≡ stamps_to s c.list
         by true e =

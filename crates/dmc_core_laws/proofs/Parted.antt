@@ -16,8 +16,8 @@ use Rattle.dmc_tag.specs.declared.event.Event.{Event}
 use Rattle.dmc_tag.specs.declared.reply.Reply.{Reply}
 use Rattle.dmc_tag.specs.declared.reply.Reply.TheVariants.{Tagged, Granted, Updated}
 use Rattle.dmc_types.specs.Values.{Rates}
-use Rattle.dmc_bounds.specs.Bounds.{AllKeep, Keeps, IsNext, sum_since, ticks_since, priorities, limit_of, reservation_of}
-use Rattle.dmc_bounds.proofs.ForCallers.{holds_limit, holds_reservation}
+use Rattle.dmc_history_laws.specs.Bounds.{AllKeep, Keeps, IsNext, sum_since, ticks_since, priorities, limit_of, reservation_of}
+use Rattle.dmc_history_laws.proofs.ForCallers.{holds_limit, holds_reservation}
 use Rattle.dmc_scene.specs.SceneValue.{SceneValue}
 use Rattle.dmc_core.specs.declared.event.Message.{Message}
 use Rattle.dmc_core.specs.declared.event.CoreEvent.{CoreEvent}
@@ -52,7 +52,7 @@ module _ {T : Type 0} (ops : Tagging T) where
       let opened = opening_of ops scene in
       ap (λ xs. registered ++ xs) (history_both s opened es fs) ∙ sym (append_assoc registered (history_from ops s opened es) (history_from ops s (run_of ops scene es) fs))
 
-  -- what is answered was given
+  -- what has a reply was given
   answered : (run : Run T) (e : CoreEvent) (y : CoreReply T) → (cluster_step ops run e).1 ≡ Ok y → (x : Run T × CoreReply T) × (outcome ops run e ≡ Ok x) × (x.1 ≡ y)
   answered run e y is = by (outcome ops run e) refl is where
     by : (o : Outcome T) → outcome ops run e ≡ o → (conclusion run o).1 ≡ Ok y → (x : Run T × CoreReply T) × (outcome ops run e ≡ Ok x) × (x.1 ≡ y)

@@ -16,9 +16,9 @@ use Rattle.dmc_tag.specs.Step.{step}
 use Rattle.dmc_tag.specs.declared.event.Event.{Event}
 use Rattle.dmc_tag.specs.declared.reply.Reply.{Reply}
 use Rattle.dmc_tag.specs.declared.reply.Reply.TheVariants as replies
-use Rattle.dmc_bounds.specs.Bounds.{Arrival, arrival_of, arrivals}
+use Rattle.dmc_history_laws.specs.Bounds.{Arrival, arrival_of, arrivals}
 use Rattle.dmc_scene.specs.SceneValue.{SceneValue}
-use Rattle.dmc_tracker.specs.TrackerList.{demanded, IsTracked}
+use Rattle.dmc_tracker.specs.TrackerList.{demanded, skips, IsTracked}
 use Rattle.dmc_tracker.proofs.ForCallers.{IsTracked-nil}
 use Rattle.dmc_core.specs.declared.event.Message.{Message}
 use Rattle.dmc_core.specs.declared.event.CoreEvent.{CoreEvent}
@@ -197,6 +197,7 @@ module _ {T : Type 0} (ops : Tagging T) (scene : SceneValue) (id : ClientId) (s 
         let is = opened_client id scene.servers (map named_rates scene.clients) c found in
         record {
           tracked = subst (IsTracked scene.counting) (sym is.0) (IsTracked-nil scene.counting);
+          unskipped = ap (skips s) is.0;
           paired = let long = ap length is.1 ∙ length-replicate scene.servers no_pair in omega (arith, long, within);
           stamps =
               ap (λ ps. map (λ (m : Message). m.params) (pair_at s ps).flight) is.1

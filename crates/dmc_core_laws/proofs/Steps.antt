@@ -1,4 +1,4 @@
--- What a cluster core answers is what the rules answer in a run.
+-- What a cluster core returns is what the rules give in a run.
 use Rattle.std.proofs.Common.{◌≡◌, ℕ, ◌+◌, ◌*◌, ◌≤◌, Some, true, false, true≢false, List, [], ◌∷◌, ◌++◌, map, inl, inr, ◌⊎◌, Ok, Err, refl, sym, ap, ◌∙◌, subst}
 use Rattle.std.specs.Cmp.{IsTotalOrder}
 use Rattle.dmc_types.specs.declared.ids.ClientId.{ClientId}
@@ -9,7 +9,7 @@ use Rattle.dmc_tag.specs.Tag.{Tagging, Fraction, IsExact}
 use Rattle.dmc_tag.specs.State.{State}
 use Rattle.dmc_tag.specs.Replay.{after}
 use Rattle.dmc_tag.specs.declared.reply.Reply.TheVariants.{Tagged, Granted}
-use Rattle.dmc_bounds.specs.Bounds.{limit_of, reservation_of, sum_since, ticks_since, priorities, IsNext}
+use Rattle.dmc_history_laws.specs.Bounds.{limit_of, reservation_of, sum_since, ticks_since, priorities, IsNext}
 use Rattle.dmc_core.specs.declared.event.CoreEvent.{CoreEvent}
 use Rattle.dmc_core.specs.declared.event.CoreEvent.TheVariants.{Arrive, Pull}
 use Rattle.dmc_core.specs.declared.event.CoreReply.TheVariants.{Served}
@@ -56,7 +56,7 @@ module _ {T Q : Type 0} (ops : Tagging T) (state : Q → State T) where
   parted_steps old new [] ys h = (old, refl, h)
   parted_steps old new (x ∷ xs) ys h = let rest = parted_steps h.0 new xs ys h.2 in (rest.0, (h.0, h.1, rest.1), rest.2)
 
-  -- an answer that does not want memory
+  -- a reply that is no allocation failure
   heard_one : (e : CoreEvent) (answer : Answer T) (old middle : CoreValue Q) → wants_memory answer ≡ false → Follows ops state e old middle answer → (run : Run T) → StandsForRun state old run
       → (answer ≡ (cluster_step ops run e).1) × StandsForRun state middle ((cluster_step ops run e).0)
   heard_one e answer old middle served f run r = by (one e answer old middle f run r)

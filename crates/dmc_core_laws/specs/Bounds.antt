@@ -15,7 +15,7 @@ use Rattle.dmc_tag.specs.Replay.{after}
 use Rattle.dmc_tag.specs.declared.event.Event.{Event}
 use Rattle.dmc_tag.specs.declared.reply.Tags.{Tags}
 use Rattle.dmc_tag.specs.declared.reply.Reply.TheVariants.{Tagged, Granted, Updated}
-use Rattle.dmc_bounds.specs.Bounds.{arrivals, departures, priorities, limit_of, reservation_of, sum_since, ticks_since, IsNext}
+use Rattle.dmc_history_laws.specs.Bounds.{arrivals, departures, priorities, limit_of, reservation_of, sum_since, ticks_since, IsNext}
 use Rattle.dmc_scene.specs.SceneValue.{SceneValue}
 use Rattle.dmc_tracker.specs.declared.event.TrackerEvent.{TrackerEvent}
 use Rattle.dmc_tracker.specs.declared.event.TrackerEvent.TheVariants as entries
@@ -28,7 +28,7 @@ use Rattle.dmc_core.specs.Events.{cluster_step, run_after}
 use Rattle.dmc_core.specs.Opening.{opening_of}
 use Rattle.dmc_core_laws.specs.Histories.{Answer, client_in, is_server, history, history_from}
 
--- the run that the events give from the scene's opening
+-- the run after the events, from the scene's opening on
 abbrev pub run_of : {T : Type 0} → Tagging T → SceneValue → List CoreEvent → Run T
 run_of ops scene events = run_after ops (opening_of ops scene) events
 
@@ -44,7 +44,7 @@ NoneUpdated ops id s run [] = ⊤
 NoneUpdated ops id s run (e ∷ es) = NotUpdated id s e ((cluster_step ops run e).1) × NoneUpdated ops id s ((cluster_step ops run e).0) es
 
 -- A run in parts. The first events end with an accepted arrival of the client at s, a_i. In the second no Update of the client at
--- s is accepted; no event of a cluster is a Register. Then s pulls, and grants a_k, not beyond.
+-- s is accepted (no event of a cluster is a Register). Then s pulls, and grants a_k, not beyond.
 pub record Parts {T : Type 0} (ops : Tagging T) (scene : SceneValue) (id : ClientId) (s : ServerId) (phase : PhaseType) : Type 0 where
   pub before : List CoreEvent
   pub arrived : ℕ
@@ -69,7 +69,7 @@ module _ {T : Type 0} {ops : Tagging T} {scene : SceneValue} {id : ClientId} {s 
   abbrev pub second_part : List (Event T)
   second_part = history_from ops s (run_of ops scene first_events) p.second
 
-  -- the run that the pull finds
+  -- the run before the pull
   abbrev pub run_at_pull : Run T
   run_at_pull = run_of ops scene (first_events ++ p.second)
 
@@ -94,6 +94,7 @@ completed_at s j list = (completions (before_stamp s j list)).delta
 -- the params of the stamps to s, in order
 abbrev pub stamp_in : ServerId → TrackerEvent → List Params
 stamp_in s (entries.Stamp server params) = if server.0 == s.0 then params ∷ [] else []
+stamp_in s (entries.Skip server) = []
 stamp_in s (entries.Response server phase) = []
 
 abbrev pub stamps_to : ServerId → List TrackerEvent → List Params
@@ -110,8 +111,8 @@ ArrivalsFollowStamps ops =
 
 -- ---- the bounds
 
--- what the limit bounds: in the form `All` C_k - C_i, in the form `Others` the sum of the deltas of a_(i+1) .. a_k; i is how many
--- arrivals the first part has, and k one more than how many left in both
+-- what the limit bounds: in the form `All` C_k - C_i, in the form `Others` the sum of the deltas of a_(i+1) .. a_k; i is the
+-- number of arrivals in the first part, and k is one more than the number removed in both
 abbrev pub counted_since : {T : Type 0} → Counting → ClientId → ServerId → List TrackerEvent → List (Event T) → List (Event T) → ℕ
 counted_since counting.All id s list first second = completed_at s (departures id (first ++ second)) list - completed_at s (length (arrivals id first) - 1) list
 counted_since counting.Others id s list first second = sum_since (λ p. p.delta) id first second

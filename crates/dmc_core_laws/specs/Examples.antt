@@ -8,7 +8,7 @@ use Rattle.dmc_types.specs.declared.config.PhaseType.TheVariants.{Reservation, P
 use Rattle.dmc_types.specs.declared.config.TagKind.TheVariants.{Tick}
 use Rattle.dmc_tag.specs.declared.event.Event.{Event}
 use Rattle.dmc_tick.specs.Tick.{tick_ops}
-use Rattle.dmc_bounds.specs.Examples.{first_client}
+use Rattle.dmc_history_laws.specs.Examples.{first_client}
 use Rattle.dmc_scene.specs.SceneValue.{SceneValue}
 use Rattle.dmc_core.specs.declared.event.CoreEvent.{CoreEvent}
 use Rattle.dmc_core.specs.declared.event.CoreEvent.TheVariants.{Stamp, Arrive, Pull, Respond}
@@ -36,7 +36,7 @@ scene_of config reservation limit = record {
 abbrev pub sent : ℕ → List CoreEvent
 sent token = Stamp first_client only_server (record { 0 = token }) ∷ Arrive first_client only_server 0 ∷ []
 
--- a_1 is granted at 0 by weight and responded, and a_2 is sent; under Wait a pull at 0 then finds nothing due
+-- a_1 is granted at 0 by weight and responded, and a_2 is sent; under Wait nothing is due at a pull at 0 then
 abbrev pub at_limit : List CoreEvent
 at_limit = Pull only_server 0 ∷ Respond first_client only_server Priority ∷ sent 2
 
@@ -47,7 +47,7 @@ waits = at_limit ++ Pull only_server 0 ∷ []
 abbrev pub at_reservation : List CoreEvent
 at_reservation = Pull only_server 0 ∷ Respond first_client only_server Reservation ∷ sent 2
 
--- ---- the history up to a_1, and from there on; and what a pull then answers
+-- ---- the history up to a_1, and from there on; and the reply to a pull then
 
 abbrev pub up_to : SceneValue → List (Event ℤ)
 up_to scene = history tick_ops scene only_server (sent 1)

@@ -1,4 +1,4 @@
--- The history of a server in a cluster run: each client's registration first, then each command that an event handed to the
+-- The history of a server in a cluster run: each client's registration first, then each command that an event gives to the
 -- server's queue, with the queue's reply.
 use Rattle.std.specs.Prelude.{◌≡◌, ◌<◌, ◌==◌, Bool, true, List, [], ◌∷◌, ◌++◌, map, slice_get, Option, Some, None, Result, Ok}
 use Rattle.std.specs.Option.{option_map, option_and_then}
@@ -28,7 +28,7 @@ use Rattle.dmc_core.specs.Opening.{named_rates, opening_of}
 abbrev pub Answer : Type 0 → Type 0
 Answer T = Result (CoreReply T) CoreFault
 
--- ---- what an event hands to a queue
+-- ---- what an event gives to a queue
 
 abbrev pub client_in : {T : Type 0} → Run T → ClientId → Option Client
 client_in run id = find (λ c. is_client id c.id) run.clients
@@ -47,7 +47,7 @@ server_named (Update server client info at) = server
 server_named (Remove server client) = server
 server_named (Clean server at) = server
 
--- the command that it hands to that server's queue
+-- the command that an event gives to that server's queue
 abbrev pub queue_command : {T : Type 0} → Run T → CoreEvent → Option Command
 queue_command run (Stamp client server token) = None
 queue_command run (Arrive client server at) = option_map (λ m. commands.Add client m.token m.params at) (oldest run client server)
@@ -64,7 +64,7 @@ is_server s server = server.0 == s.0
 abbrev pub entry : {T : Type 0} → Command → Reply T → Event T
 entry command reply = record { worker = record { 0 = 0 }; command = command; reply = reply }
 
--- what a queue is asked and answers
+-- the command to a queue and its reply
 abbrev pub recorded_events : {T : Type 0} → Bool → Option Command → Answer T → List (Event T)
 recorded_events true (Some command) (Ok (Served reply)) = entry command reply ∷ []
 recorded_events here command answer = []
@@ -75,7 +75,7 @@ abbrev pub registrations : {T : Type 0} → Tagging T → State T → List (Clie
 registrations ops u [] = []
 registrations ops u (c ∷ cs) = entry (registration c) (step ops u (registration c)).1 ∷ registrations ops ((step ops u (registration c)).0) cs
 
--- by the events from a run on
+-- the history of the events, from a run on
 abbrev pub history_from : {T : Type 0} → Tagging T → ServerId → Run T → List CoreEvent → List (Event T)
 history_from ops s run [] = []
 history_from ops s run (e ∷ es) =
@@ -84,7 +84,7 @@ history_from ops s run (e ∷ es) =
 abbrev pub history : {T : Type 0} → Tagging T → SceneValue → ServerId → List CoreEvent → List (Event T)
 history ops scene s events = registrations ops (opening scene.config) (map named_rates scene.clients) ++ history_from ops s (opening_of ops scene) events
 
--- The history of a server replays, and what the rules give after it is the server's plain state.
+-- The history of a server replays, and the state after it by the rules is the server's plain state.
 pub record Replays {T : Type 0} (ops : Tagging T) (scene : SceneValue) (s : ServerId) (events : List CoreEvent) : Type 0 where
   pub replays_all : replays ops scene.config (history ops scene s events)
   pub state_is : slice_get (run_after ops (opening_of ops scene) events).servers s.0 ≡ Some (after ops scene.config (history ops scene s events))

@@ -1,4 +1,4 @@
--- What a cluster core was asked, one event after the other, and what its step answered.
+-- The events that a cluster core was called with, one after the other, and the replies of its step.
 use Rattle.std.specs.Prelude.{◌≡◌, ℕ, ◌+◌, ◌*◌, ◌≤◌, ◌<◌, Some, Bool, true, false, if◌then◌else◌, List, [], ◌∷◌, ◌++◌, map, Ok, Err, ⊤}
 use Rattle.dmc_types.specs.declared.ids.ClientId.{ClientId}
 use Rattle.dmc_types.specs.declared.ids.ServerId.{ServerId}
@@ -11,7 +11,7 @@ use Rattle.dmc_tag.specs.Replay.{after}
 use Rattle.dmc_tag.specs.declared.event.Event.{Event}
 use Rattle.dmc_tag.specs.declared.reply.Tags.{Tags}
 use Rattle.dmc_tag.specs.declared.reply.Reply.TheVariants.{Tagged, Granted}
-use Rattle.dmc_bounds.specs.Bounds.{limit_of, reservation_of, sum_since, ticks_since, priorities, IsNext}
+use Rattle.dmc_history_laws.specs.Bounds.{limit_of, reservation_of, sum_since, ticks_since, priorities, IsNext}
 use Rattle.dmc_scene.specs.SceneValue.{SceneValue}
 use Rattle.dmc_core.specs.declared.event.CoreEvent.{CoreEvent}
 use Rattle.dmc_core.specs.declared.event.CoreEvent.TheVariants.{Arrive, Pull}
@@ -24,7 +24,7 @@ use Rattle.dmc_core.specs.Opening.{opening_of}
 use Rattle.dmc_core_laws.specs.Histories.{Answer, history, history_from}
 use Rattle.dmc_core_laws.specs.Bounds.{NotUpdated, Parts, run_of, tracker_list, counted_since}
 
--- each event was answered as the contract of step says, from the core that the one before it left
+-- each reply is as the contract of step says, from the core after the event before
 abbrev pub Steps : {T Q : Type 0} → Tagging T → (Q → State T) → CoreValue Q → List (CoreEvent × Answer T) → CoreValue Q → Type 0
 Steps {T} {Q} ops state old [] new = new ≡ old
 Steps {T} {Q} ops state old (x ∷ xs) new = (middle : CoreValue Q) × Follows ops state x.0 old middle x.1 × Steps ops state middle xs new
@@ -33,33 +33,33 @@ abbrev pub wants_memory : {T : Type 0} → Answer T → Bool
 wants_memory (Err Memory) = true
 wants_memory answer = false
 
--- those that were answered: where memory was wanted nothing happened
+-- the events that have replies: where an allocation failed nothing happened
 abbrev pub heard : {T : Type 0} → List (CoreEvent × Answer T) → List (CoreEvent × Answer T)
 heard [] = []
 heard (x ∷ xs) = if wants_memory x.1 then heard xs else x ∷ heard xs
 
--- The answers are those of the rules to these events, and the core stands for the run after them.
+-- The replies are those of the rules to these events, and the core represents the run after them.
 pub record IsRunOf {T Q : Type 0} (ops : Tagging T) (state : Q → State T) (run : Run T) (steps : List (CoreEvent × Answer T)) (new : CoreValue Q) : Type 0 where
   pub answers : map (λ x. x.1) (heard steps) ≡ answers_of ops run (map (λ x. x.0) (heard steps))
   pub stands : StandsForRun state new (run_after ops run (map (λ x. x.0) (heard steps)))
 
--- So from each run that a core stands for.
+-- This holds from each run that a core represents.
 abbrev pub StepsAreRuns : {T Q : Type 0} → Tagging T → (Q → State T) → Type 0
 StepsAreRuns {T} {Q} ops state =
     (run : Run T) (old new : CoreValue Q) (steps : List (CoreEvent × Answer T)) → StandsForRun state old run → Steps ops state old steps new → IsRunOf ops state run steps new
 
--- ---- a core's answers in parts
+-- ---- a core's replies in parts
 
--- the events that were answered
+-- the events that have replies
 abbrev pub answered_events : {T : Type 0} → List (CoreEvent × Answer T) → List CoreEvent
 answered_events steps = map (λ x. x.0) (heard steps)
 
--- no Update of the client at s is answered as accepted
+-- no Update of the client at s is accepted
 abbrev pub NoneAccepted : {T : Type 0} → ClientId → ServerId → List (CoreEvent × Answer T) → Type 0
 NoneAccepted id s [] = ⊤
 NoneAccepted id s (x ∷ xs) = NotUpdated id s x.0 x.1 × NoneAccepted id s xs
 
--- What the step of a core that opened for a scene answered, up to a grant, in the parts of `Parts`.
+-- The replies of a core that opened for a scene, up to a grant, in the parts of `Parts`.
 pub record CoreParts {T Q : Type 0} (ops : Tagging T) (state : Q → State T) (scene : SceneValue) (id : ClientId) (s : ServerId) (phase : PhaseType) : Type 0 where
   pub opened : CoreValue Q
   pub new : CoreValue Q
@@ -80,7 +80,7 @@ AnswersArePartsOfRuns ops state =
     (scene : SceneValue) (id : ClientId) (s : ServerId) (phase : PhaseType) (k : CoreParts ops state scene id s phase)
     → (p : Parts ops scene id s phase) × (p.before ≡ answered_events k.before) × (p.arrived ≡ k.arrived) × (p.second ≡ answered_events k.second) × (p.pulled ≡ k.pulled) × (p.token ≡ k.token)
 
--- ---- the bounds of a core's answers
+-- ---- the bounds of a core's replies
 
 module _ {T Q : Type 0} {ops : Tagging T} {state : Q → State T} {scene : SceneValue} {id : ClientId} {s : ServerId} {phase : PhaseType} (k : CoreParts ops state scene id s phase) where
   -- the history of s up to a_i, and from there to the grant
@@ -90,7 +90,7 @@ module _ {T Q : Type 0} {ops : Tagging T} {state : Q → State T} {scene : Scene
   abbrev pub core_second : List (Event T)
   core_second = history_from ops s (run_of ops scene (answered_events k.before ++ Arrive id s k.arrived ∷ [])) (answered_events k.second)
 
-  -- the run that the pull finds
+  -- the run before the pull
   abbrev pub core_run : Run T
   core_run = run_of ops scene ((answered_events k.before ++ Arrive id s k.arrived ∷ []) ++ answered_events k.second)
 

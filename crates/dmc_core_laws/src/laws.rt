@@ -1,4 +1,4 @@
-//! What every cluster run keeps to. Each law is the contract of a function that does nothing.
+//! Laws of every cluster run. Each law is the contract of a function that does nothing.
 ghost use Rattle.dmc_core_laws.specs.Bounds.{ArrivalsFollowStamps, LimitOverRuns, ReservationOverRuns};
 ghost use Rattle.dmc_core_laws.specs.Histories.{HistoriesReplay};
 ghost use Rattle.dmc_core_laws.specs.Steps.{StepsAreRuns, LimitOfCores, ReservationOfCores};
@@ -6,7 +6,7 @@ ghost use Rattle.dmc_pull.specs.Queue.{Queue, state_of};
 
 use dmc_tag::tag::Tag;
 
-/// The history of a server replays, and what the rules give after it is the server's plain state.
+/// The history of a server replays, and the state after it by the rules is the server's plain state.
 pub fn histories_replay<T: Tag>()
     ensures { HistoriesReplay T.ops }
 {}
@@ -17,31 +17,32 @@ pub fn arrivals_follow_stamps<T: Tag>()
 {}
 
 /// Every cluster run keeps to the limits: where a server grants a client's a_k in phase Priority, not beyond, hz times the
-/// client's completions at all servers between the stamps of a_i and a_k (in the form `Others`: the deltas of a_(i+1) .. a_k)
-/// are at most the limit times the ticks between.
+/// client's completions at all servers between the stamps of a_i and a_k (in the form `Others`: the deltas of a_(i+1) .. a_k) is
+/// at most the limit times the ticks between.
 pub fn runs_keep_to_limits<T: Tag>()
     ensures { LimitOverRuns T.ops }
 {}
 
-/// And to the reservations: where it grants a_k in phase Reservation, hz times the rhos of a_(i+1) .. a_k, less hz for each
-/// Priority grant of the client at the server after a_i, is at most the reservation times the ticks between.
+/// Every cluster run keeps to the reservations: where a server grants a_k in phase Reservation, hz times the rhos of a_(i+1) ..
+/// a_k, less hz for each Priority grant of the client at the server after a_i, is at most the reservation times the ticks
+/// between.
 pub fn runs_keep_to_reservations<T: Tag>()
     ensures { ReservationOverRuns T.ops }
 {}
 
-/// What the step of a `ClusterCore` answered, event by event, is what the rules answer in a run: from each run that the core
-/// stood for, the events that did not want memory got these answers, and the core stands for the run after them.
+/// What the step of a `ClusterCore` returned, event by event, is what the rules give in a run. From each run that the core
+/// represented, the events at which no allocation failed got these replies, and the core represents the run after them.
 pub fn steps_are_runs<T: Tag>()
     ensures { StepsAreRuns T.ops (λ (q : Queue T). state_of q) }
 {}
 
-/// So a `ClusterCore` keeps to the limits: of what its step answered, from a scene's opening on and up to a grant in phase
-/// Priority, not beyond, the bound holds as of every run.
+/// A `ClusterCore` keeps to the limits: the bound of every run holds of what its step returned, from a scene's opening on and up
+/// to a grant in phase Priority, not beyond.
 pub fn cores_keep_to_limits<T: Tag>()
     ensures { LimitOfCores T.ops (λ (q : Queue T). state_of q) }
 {}
 
-/// And to the reservations, up to a grant in phase Reservation.
+/// A `ClusterCore` keeps to the reservations, up to a grant in phase Reservation.
 pub fn cores_keep_to_reservations<T: Tag>()
     ensures { ReservationOfCores T.ops (λ (q : Queue T). state_of q) }
 {}

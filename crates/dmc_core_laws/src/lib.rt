@@ -1,4 +1,4 @@
-//! The bounds over the cluster: what every cluster run keeps to, and so a cluster core.
+//! The bounds over the cluster: what limits and reservations mean in every cluster run, and so in a cluster core.
 #![tactic(auto)]
 
 pub mod examples;

@@ -1,5 +1,5 @@
 -- A report within the limits is the one of what was left within them.
-use Rattle.std.proofs.Common.{◌≡◌, ℕ, ◌<◌, ◌≤◌, List, [], ◌∷◌, length, map, get_or, sym, ap, ◌∙◌, subst, arith}
+use Rattle.std.proofs.Common.{◌≡◌, ◌<◌, ◌≤◌, List, [], ◌∷◌, length, map, get_or, sym, ap, ◌∙◌, subst, arith}
 use Rattle.std.specs.Prelude.{All}
 use Rattle.std.proofs.lemmas.List.{get_or-map, length-map}
 use Rattle.dmc_tag.specs.Tag.{Tagging}
@@ -8,7 +8,7 @@ use Rattle.dmc_tracker.specs.TrackerList.{completions}
 use Rattle.dmc_tlock.specs.BookState as tracker_book
 use Rattle.dmc_book.specs.BookState.{BookState}
 use Rattle.dmc_scene.specs.SceneValue.{SceneValue}
-use Rattle.dmc_work.specs.LimitsValue.{LimitsValue}
+use Rattle.dmc_driver_threads.specs.LimitsValue.{LimitsValue}
 use Rattle.dmc_settle.specs.declared.report.ClientReport.{ClientReport}
 use Rattle.dmc_settle.specs.declared.report.ServerReport.{ServerReport}
 use Rattle.dmc_settle.specs.declared.report.ClusterReport.{ClusterReport}
@@ -29,6 +29,7 @@ run_report {T} ops scene limits r h within = record {
   run = record {
     together = h.together;
     circles = h.circles;
+    registered = h.registered;
     within = record {
       histories = seen_alike (λ (s : ServerReport T). s.history.events) (λ (b : BookState T). b.history) (λ (events : List (Event T)). length events ≤ limits.events)
           r.servers.items h.left.books h.its.histories within.0;

@@ -1,10 +1,11 @@
 -- What is promised of a run, however it ends.
 use Rattle.std.specs.Prelude.{◌≡◌, ◌≤◌, ℕ, ⊤, Result, Ok, Err, List, Some, length, slice_get, All, Any}
-use Rattle.dmc_types.specs.Limits.{most_completions, most_events}
+use Rattle.dmc_types.specs.Limits.{most_events, most_run_completions}
 use Rattle.dmc_tag.specs.Tag.{Tagging}
 use Rattle.dmc_tracker.specs.TrackerList.{completions}
 use Rattle.dmc_scene.specs.SceneValue.{SceneValue, ClientValue}
-use Rattle.dmc_work.specs.LimitsValue.{LimitsValue}
+use Rattle.dmc_driver_threads.specs.LimitsValue.{LimitsValue}
+use Rattle.dmc_driver_threads.specs.Opened.{IsRegistered}
 use Rattle.dmc_settle.specs.Circle.{AreCircles}
 use Rattle.dmc_settle.specs.Left.{AreTogether, Left}
 use Rattle.dmc_settle.specs.Reports.{IsReport, IsReportOf}
@@ -18,7 +19,7 @@ use Rattle.dmc_driver.specs.declared.fault.DriveFault.TheVariants.{Memory, Torn,
 
 -- the widest limits
 abbrev pub widest : LimitsValue
-widest = record { events = most_events; completions = most_completions }
+widest = record { events = most_events; completions = most_run_completions }
 
 -- ---- what the threads left
 
@@ -27,10 +28,16 @@ pub record AreWithin {T : Type 0} (limits : LimitsValue) (left : Left T) : Type 
   pub histories : All (λ book. length book.history ≤ limits.events) left.books
   pub completions : All (λ book. (completions book.events).delta ≤ limits.completions) left.trackers
 
--- The parts are those of one cluster, set up as the scene says, and their circles hold. They are within the limits.
+-- the first commands of each server's history register the scene's clients, in its order, with its rates
+abbrev pub AreRegistered : {T : Type 0} → SceneValue → Left T → Type 0
+AreRegistered scene left = All (λ book. IsRegistered scene.clients book.history) left.books
+
+-- The parts are those of one cluster, set up as the scene says, and their circles hold. Each server's history begins with the
+-- registrations of the scene's clients, with their rates. All are within the limits.
 pub record IsRun {T : Type 0} (scene : SceneValue) (limits : LimitsValue) (left : Left T) : Type 0 where
   pub together : AreTogether scene left
   pub circles : AreCircles left
+  pub registered : AreRegistered scene left
   pub within : AreWithin limits left
 
 -- ---- the report
@@ -66,6 +73,7 @@ pub record IsSettledReport {T : Type 0} (ops : Tagging T) (scene : SceneValue) (
   pub left : Left T
   pub together : AreTogether scene left
   pub circles : AreCircles left
+  pub registered : AreRegistered scene left
   pub its : IsReportOf left r
   pub report : IsReport ops scene r
 

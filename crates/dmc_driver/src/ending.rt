@@ -4,12 +4,12 @@ ghost use Rattle.dmc_driver.specs.Done.{IsClientDone, IsDone, IsServerDone, RanO
 ghost use Rattle.dmc_driver.specs.Ending.{AreClientsDone, AreCompletionsWithin, AreHistoriesWithin, AreRowsWithin, EndsSo, IsSettledReport, RanOutAt, Reports};
 
 use crate::fault::DriveFault;
+use dmc_driver_threads::fault::OpenFault;
+use dmc_driver_threads::limits::Limits;
 use dmc_scene::client::SceneClient;
 use dmc_scene::scene::Scene;
 use dmc_settle::report::{ClientReport, ClusterReport, ServerReport, StopCause};
 use dmc_tag::tag::Tag;
-use dmc_work::limits::Limits;
-use dmc_workers::fault::OpenFault;
 
 /// Whether the client sent and completed its requests, has nothing left, and did not stop.
 fn is_client_done(client: SceneClient, row: &ClientReport) -> bool

@@ -7,17 +7,17 @@ pub mod run;
 
 /// How long the histories of a run may grow, and how far its trackers count.
 pub mod limits {
-    pub use dmc_work::limits::Limits;
+    pub use dmc_driver_threads::limits::Limits;
 }
 
 /// What time it is, for the workers of a run.
 pub mod moments {
-    pub use dmc_work::moments::{Moments, StepClock};
+    pub use dmc_driver_threads::moments::{Moments, StepClock};
 }
 
 /// What a server does with a request that its queue granted.
 pub mod service {
-    pub use dmc_workers::service::{Job, ServeFault, Service};
+    pub use dmc_driver_threads::service::{Job, ServeFault, Service};
 }
 
 /// What is proved of a run beside its own contract.

@@ -1,11 +1,19 @@
 //! A run of a scene's cluster.
-ghost use Rattle.std.specs.Prelude.{◌≡◌, ◌<◌, ◌≤◌, IfOk};
+ghost use Rattle.std.specs.Prelude.{◌≡◌, ◌<◌, ◌≤◌, All, IfOk};
 ghost use Rattle.dmc_types.specs.Limits.{most_books};
+ghost use Rattle.dmc_driver_threads.specs.Opened.{IsRegistered};
 ghost use Rattle.dmc_driver.specs.Ending.{EndsSo, IsSettledReport, Reports, widest};
 
 use crate::ending::end_run;
 use crate::fault::DriveFault;
 use dmc_book::book::QueueBook;
+use dmc_driver_threads::fault::OpenFault;
+use dmc_driver_threads::limits::Limits;
+use dmc_driver_threads::moments::Moments;
+use dmc_driver_threads::origin::Origin;
+use dmc_driver_threads::remains::Remains;
+use dmc_driver_threads::service::Service;
+use dmc_driver_threads::workers::run_workers;
 use dmc_index::index::Indexes;
 use dmc_ledger::mint::Blank;
 use dmc_ledger::setup::Setup;
@@ -14,12 +22,6 @@ use dmc_settle::report::ClusterReport;
 use dmc_settle::room::SettleRoom;
 use dmc_settle::settle::settle_cluster;
 use dmc_tag::tag::Tag;
-use dmc_work::limits::Limits;
-use dmc_work::moments::Moments;
-use dmc_workers::fault::OpenFault;
-use dmc_workers::remains::Remains;
-use dmc_workers::service::Service;
-use dmc_workers::workers::run_workers;
 use std::alloc::Global;
 use std::marker::Brand;
 use std::sync::Wait;
@@ -78,7 +80,7 @@ fn books_of(scene: &Scene) -> u64
 {
     let clients = scene.clients().len() as u64;
     let servers = u64::from(scene.servers());
-    let at_each = 5 * (2 * clients + u64::from(scene.workers()));
+    let at_each = 5 * (2 * clients + u64::from(scene.workers())) + 1;
     servers * at_each
 }
 
@@ -94,11 +96,13 @@ fn run_in<T, S, R, V, M>(
 ) -> Result<ClusterReport<T>, OpenFault>
 where
     T: Tag + Send + Sync,
-    S: Setup + Send + Sync,
+    S: Origin + Send + Sync,
     R: Threads + Wait + Sync,
     V: Service + Sync,
     M: Moments + Sync,
-    requires { blank.name ≡ S.name }
+    requires name { blank.name ≡ S.name }
+    requires scene { S.scene ≡ scene.now }
+    requires limits { S.limits ≡ limits }
     ensures { IfOk result (IsSettledReport T.ops scene.now) }
 {
     let mut mint = blank.open::<S>();
@@ -114,7 +118,8 @@ fn settle_remains<T: Tag, I: Indexes<T>, S: Setup>(
     remains: Remains<T, QueueBook<T, I, S>, S>,
     room: SettleRoom<S>,
 ) -> Result<ClusterReport<T>, OpenFault>
-    requires { scene.now.servers ≤ room }
+    requires room { scene.now.servers ≤ room }
+    requires registered { All (λ book. IsRegistered scene.now.clients book.history) remains.books.items }
     ensures { IfOk result (IsSettledReport T.ops scene.now) }
 {
     let Remains {

@@ -1,4 +1,4 @@
--- The places of a heap's entries, and the ranks of their keys.
+-- The indexes of a heap's entries, and the ranks of their keys.
 use Rattle.std.proofs.Common.{◌≡◌, ◌≢◌, ℕ, ◌<◌, List, Some, None, length, set, slice_get, option_and_then, sym, ap, ◌∙◌, inl, inr, arith}
 use Rattle.std.specs.Option.{option_map}
 use Rattle.std.proofs.lemmas.Bool.{cases_eq}
@@ -72,7 +72,7 @@ module _ {R : Type 0} (heap : List (Entry R)) (places : List ℕ) (x y : Entry R
   new_place_else k p q =
       slice_get-set_other (set places y.key hole) x.key k to p ∙ slice_get-set_other places y.key k hole q ∙ sym (slice_get-set_other places x.key k hole p)
 
-  -- another key's place is another place
+  -- another key's index is another index
   elsewhere : (k i : ℕ) → k ≢ x.key → k ≢ y.key → slice_get (set places x.key hole) k ≡ Some i → (i ≢ hole) × (i ≢ to)
   elsewhere k i p q h =
       (λ e. p (sym (linked.keyed k hole x (h ∙ ap Some e) at_hole)), λ e. q (sym (linked.keyed k to y (h ∙ ap Some e) at_to)))

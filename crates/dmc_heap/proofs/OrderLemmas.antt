@@ -43,7 +43,7 @@ module _ {R : Type 0} (compare : R → R → Ordering) (o : IsTotalOrder compare
       upto_if_not_lt x above (ap (λ (y : Entry R). is_lt (compare x.rank y.rank)) (sym read) ∙ sym e ∙ f)
 
   module _ (heap : List (Entry R)) (places : List ℕ) (hole : ℕ) (x : Entry R) (is_hole : IsHole compare heap places hole x) where
-    -- what stands in the hole once y is put there, and elsewhere
+    -- the entry in the hole once y is put there, and the entries elsewhere
     in_hole : (y e : Entry R) → slice_get (set heap hole y) hole ≡ Some e → y ≡ e
     in_hole y e h = same_Some y e (sym (slice_get-set_same heap hole y is_hole.within) ∙ h)
 
@@ -179,7 +179,7 @@ IsSettled-fill compare o heap0 places0 hole0 heap places hole x is_hole moved un
   ranks = moved.ranks;
 }
 
--- an entry that fills a hole has a key below the room
+-- an entry that fills a hole has a key below the capacity
 pub key_in_room : {R : Type 0} (compare : R → R → Ordering) (heap : List (Entry R)) (places : List ℕ) (hole : ℕ) (x : Entry R) → IsHole compare heap places hole x → x.key < length places
 key_in_room compare heap places hole x is_hole =
     omega (arith, slice_get_within (set places x.key hole) x.key hole (is_hole.linked.placed hole x (slice_get-set_same heap hole x is_hole.within)), length-set places x.key hole)

@@ -1,4 +1,4 @@
--- The map that a heap and its places are, after each edit of the two.
+-- The map that a heap and its indexes represent, after each change of the two.
 use Rattle.std.proofs.Common.{◌≡◌, ◌≢◌, ℕ, zero, suc, ◌+◌, ◌<◌, ◌≤◌, ◌⊎◌, List, [], ◌∷◌, ◌++◌, Option, Some, None, length, get_or, set, replicate, slice_get, option_and_then, count_by, is_some, cond, refl, sym, ap, ◌∙◌, subst, inl, inr, arith}
 use Rattle.std.specs.Option.{option_map}
 use Rattle.std.specs.declared.cmp.Ordering.{Ordering}
@@ -99,7 +99,7 @@ module _ {R : Type 0} where
 -- ---- where a key is
 
 module _ {R : Type 0} (heap : List (Entry R)) (places : List ℕ) (linked : IsLinked heap places) where
-  -- a key that is held has a place, where its entry stands
+  -- a key that is held has an index, where its entry is
   pub place_of_held : (key : ℕ) (rank : R) → rank_of heap places key ≡ Some rank → (place : ℕ) × ((entry : Entry R) × (slice_get places key ≡ Some place) × (slice_get heap place ≡ Some entry) × (entry.key ≡ key) × (entry.rank ≡ rank))
   place_of_held key rank h =
       option_cases (slice_get places key) (λ none. cc (rank_of_none heap places key none)) (λ place some. option_cases (slice_get heap place) (λ none. cc (ap (option_and_then (rank_at heap)) some ∙ ap (option_map (λ (e : Entry R). e.rank)) none)) (λ entry there. (place, (entry, some, there, linked.keyed key place entry some there, same_Some entry.rank rank (sym (rank_of_some heap places key place entry some there) ∙ h)))))
@@ -182,7 +182,7 @@ module _ {R : Type 0} (compare : R → R → Ordering) (heap : List (Entry R)) (
   new_place : slice_get (set places e.key (length heap)) e.key ≡ Some (length heap)
   new_place = slice_get-set_same places e.key (length heap) within
 
-  -- the end of the heap is no key's place
+  -- the end of the heap is no key's index
   no_place : (k : ℕ) → slice_get places k ≡ Some (length heap) → ⊥
   no_place k h =
       let e : length heap ≡ VACANT = linked.vacant k (length heap) h (slice_get_past heap (length heap) (omega arith)) in
@@ -273,7 +273,7 @@ pub IsHeap-pop : {R : Type 0} (compare : R → R → Ordering) (heap : List (Ent
 IsHeap-pop compare heap y ordered i above below pos qa qb =
     ordered i above below pos (slice_get-append heap (y ∷ []) (parent_of i) above qa) (slice_get-append heap (y ∷ []) i below qb)
 
--- another entry goes, and the last entry is to stand in its place
+-- another entry goes, and the last entry is to be where it was
 module _ {R : Type 0} (compare : R → R → Ordering) (o : IsTotalOrder compare) (heap : List (Entry R)) (last : Entry R) (places : List ℕ) (linked : IsLinked (heap ++ last ∷ []) places) (ordered : IsHeap compare (heap ++ last ∷ [])) (small : length heap < VACANT) (place : ℕ) (old : Entry R) (there : slice_get heap place ≡ Some old) where
   inside : place < length heap
   inside = slice_get_within heap place old there

@@ -1,2 +1,3 @@
 pub use Rattle.dmc_index.specs.Index
+-- A heap of entries with the index of each key in it, and the map that it represents.
 pub mod Heap

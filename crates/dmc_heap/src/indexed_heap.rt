@@ -1,4 +1,4 @@
-//! An index as a binary heap and a place for each key.
+//! An index as a binary heap that also stores the heap index of each key.
 ghost use Rattle.std.specs.Prelude.{◌≡◌, ◌≢◌, ◌<◌, ◌≤◌, ◌/◌, length, slice_set, ⊤};
 ghost use Rattle.std.specs.List.{All};
 ghost use Rattle.dmc_heap.specs.Heap.{IsHole, IsMoved, IsUnderParent, IsOverChildren, IsLowerChild, IsSettled, MapsEntries};
@@ -9,7 +9,7 @@ use dmc_tag::tag::Tag;
 use std::alloc::{AllocError, Global};
 use std::marker::Model;
 
-/// A held key and its rank.
+/// A key and its rank.
 #[derive(Copy)]
 struct Entry<R> {
     rank: R,
@@ -26,16 +26,16 @@ impl<R: Copy> Clone for Entry<R> {
     }
 }
 
-// The place of a key that is not held, which is past every heap.
+// The heap index of a key that is not in the heap. No heap is so large.
 const VACANT: usize = usize::MAX;
 
-/// An index as a binary heap. The least rank is at hand, and the other changes take a number of steps that is
-/// logarithmic in the number of keys that are held.
+/// An index as a binary heap. The least rank takes O(1); the other changes take a number of steps that is logarithmic in the
+/// number of keys.
 #[derive(Drop)]
 pub struct IndexedHeap<R: Rank> {
-    // No rank is above those of the two children, which for place i are at 2i + 1 and 2i + 2.
+    // No rank is above those of the two children, which for index i are at 2i + 1 and 2i + 2.
     heap: Vec<Entry<R>>,
-    // Each key's place in the heap.
+    // Each key's index in the heap.
     places: Vec<usize>,
 }
 
@@ -50,7 +50,7 @@ impl<R: Rank> Model for IndexedHeap<R> {
     ghost invariant = { λ x. IsSound R.cmp (vec_capacity x.heap) x.heap.items x.places.items };
 }
 
-// Puts an entry at a place, and keeps the place.
+// Puts an entry at an index, and stores the index at the entry's key.
 fn put<R: Copy>(heap: &mut [Entry<R>], places: &mut [usize], at: usize, entry: Entry<R>)
     requires in_heap { at < length heap.old }
     requires in_room { entry.key < length places.old }
@@ -121,8 +121,8 @@ fn descend<R: Rank>(
     at
 }
 
-// Moves the hole for an entry to where the entry belongs, by way of a leaf, and fills it. What is settled mostly belongs far
-// down: this takes about half as many comparisons as a search from the hole on.
+// Moves the hole for an entry to where the entry belongs, and fills it: down to a leaf, and then up (as in bottom-up heapsort).
+// Such an entry mostly belongs far down, so this takes about half as many comparisons as a search from the hole on.
 fn settle<R: Rank>(heap: &mut [Entry<R>], places: &mut [usize], at: usize, entry: Entry<R>)
     requires { IsHole R.cmp heap.old places.old at entry }
     ensures { IsSettled R.cmp heap.old places.old at entry heap.new places.new }

@@ -1,4 +1,4 @@
-//! An ordered index as a binary heap that knows each key's place.
+//! An ordered index as a binary heap that knows the index of each key in it.
 #![tactic(auto)]
 
 pub mod indexed_heap;

@@ -28,12 +28,12 @@ module _ {E : Type 0} where
   length-events_of (b ∷ bs) len h =
       omega (arith, length-append b.items (events_of bs), length-events_of bs (len - 1024) h.2, h.1)
 
-  -- the blocks have room for the events
+  -- the blocks have memory for the events
   pub len-le : (blocks : List (Vec E)) (len : ℕ) → AreFilled blocks len → len ≤ 1024 * length blocks
   len-le [] len h = omega (arith, h)
   len-le (b ∷ bs) len h = omega (arith, len-le bs (len - 1024) h.2)
 
-  -- an event, by its block and its place there
+  -- an event, by its block and its index there
   slice_get_in : (blocks : List (Vec E)) (len k j : ℕ) → AreFilled blocks len → j < 1024
       → slice_get (events_of blocks) (1024 * k + j) ≡ option_and_then (λ b. slice_get b.items j) (slice_get blocks k)
   slice_get_in [] len k j h in_block = refl
@@ -65,7 +65,7 @@ module _ {E : Type 0} where
       let e : 1024 * (i / 1024) + i % 1024 ≡ i = omega arith in
       sym (ap (slice_get (events_of blocks)) e) ∙ slice_get_in blocks len (i / 1024) (i % 1024) h (omega arith)
 
-  -- the block that takes the next event has a place for it
+  -- the block that takes the next event has a slot for it
   next_in : (blocks : List (Vec E)) (len k j : ℕ) (d : Vec E) → AreFilled blocks len → j < 1024 → len ≡ 1024 * k + j
       → k < length blocks → length (get_or blocks k d).items < vec_capacity (get_or blocks k d)
   next_in [] len k j d h in_block e within = absurd (omega arith)
@@ -125,7 +125,7 @@ module _ {E : Type 0} where
   events_of-push [] b empty = rw empty refl
   events_of-push (a ∷ bs) b empty = ap (λ events. a.items ++ events) (events_of-push bs b empty)
 
-  -- it makes a whole block of places, or as many as may still be filled
+  -- it makes a whole block of slots, or as many as may still be filled
   pub room_of-push : (blocks : List (Vec E)) (b : Vec E) (len most : ℕ) → len ≡ 1024 * length blocks → len ≤ most
       → room_of (blocks ++ b ∷ []) len most ≡ min block_size (most - len)
   room_of-push blocks b len most full within = omega (arith, length-append blocks (b ∷ []))

@@ -1,4 +1,4 @@
-//! A history: a list of events that only grows, kept in blocks of 1,024, so that a growth copies no event.
+//! A history: a list of events that only grows, stored in blocks of 1,024, so that a growth copies no event.
 #![tactic(auto)]
 
 ghost use Rattle.std.specs.Prelude.{◌≡◌, ◌↔◌, ◌+◌, ◌-◌, ◌<◌, ◌≤◌, [], ◌∷◌, ◌++◌, length, IsTrue, OnOk, OnErr, IsErrOf, IsOk, min, option_copied, slice_get, vec_capacity};
@@ -13,7 +13,7 @@ use std::marker::Model;
 use std::mem::replace;
 use thiserror::Error;
 
-// How many events a block has room for.
+// The number of slots in a block.
 const BLOCK: usize = 1024;
 
 /// A history that could not be made: `most` was not 1 to 2^30.
@@ -23,13 +23,13 @@ pub enum LimitFault {
     Limit,
 }
 
-/// Why no place was reserved. The history is as it was.
+/// The reason why no slot was reserved. The history is as it was.
 #[derive(Clone, Copy, Debug, PartialEq, Eq, Error)]
 pub enum ReserveFault {
     /// It has its `most` events.
     #[error("the history is full")]
     HistoryFull,
-    /// The allocator refused a growth.
+    /// An allocation failed.
     #[error("out of memory")]
     Memory,
 }
@@ -46,8 +46,8 @@ impl From<AllocError> for ReserveFault {
 
 /// A list of at most `most` events (1 to 2^30), oldest first.
 ///
-/// An event goes in by two calls: `reserve_one`, which may need memory, and `push_reserved`, which needs none. Each push
-/// uses up one reserved place. Contracts see the events, `most`, and how many places are reserved.
+/// An event is added by two calls: `reserve_one`, which may allocate, and `push_reserved`, which does not. Each push uses one
+/// reserved slot. Contracts see the events, `most`, and how many slots are reserved.
 #[derive(Drop)]
 pub struct History<E> {
     alloc: Global,
@@ -73,7 +73,7 @@ impl<E> Model for History<E> {
 }
 
 impl<E: Drop> History<E> {
-    /// An empty history of at most `most` events, which takes no memory; refused `Limit` where `most` is not 1 to 2^30.
+    /// An empty history of at most `most` events. It does not allocate, and is refused `Limit` where `most` is not 1 to 2^30.
     pub fn new(alloc: Global, most: u32) -> Result<History<E>, LimitFault>
         ensures ok { (0 < most) × (most ≤ most_events) → result ≡ Ok (record { events = []; most = most; room = 0 }) }
         ensures refused { ((0 < most) × (most ≤ most_events) → ⊥) → result ≡ Err LimitFault.Limit }
@@ -89,7 +89,7 @@ impl<E: Drop> History<E> {
         })
     }
 
-    /// How many events it has.
+    /// The number of events.
     pub fn len(&self) -> usize
         ensures value { result ≡ length self.now.events }
         ensures bound { result + self.now.room ≤ self.now.most }
@@ -113,7 +113,7 @@ impl<E: Drop> History<E> {
         self.most
     }
 
-    /// For how many more events a place is reserved.
+    /// The number of reserved slots.
     pub fn room(&self) -> usize
         ensures value { result ≡ self.now.room }
         ensures bound { length self.now.events + result ≤ self.now.most }
@@ -122,16 +122,16 @@ impl<E: Drop> History<E> {
         places.min(self.most as usize) - self.len
     }
 
-    /// The event at an index, counted from 0, or `None` past the end.
+    /// The event at an index, counted from 0, or `None` after the last.
     pub fn at(&self, index: usize) -> Option<&E>
         ensures { option_copied result ≡ slice_get self.now.events index }
     {
         self.blocks.get(index / BLOCK)?.get(index % BLOCK)
     }
 
-    /// Reserves a place, which the next push uses: refused `HistoryFull` exactly where it has its `most` events, then
-    /// `Memory` where the allocator refused a growth. A place that is reserved already serves again, and needs no memory.
-    /// Where none is, a growth makes a whole block of places: 1,024, or as many as it may still have.
+    /// Reserves a slot, which the next push uses. It is refused `HistoryFull` exactly where the history has its `most` events,
+    /// and then `Memory` where an allocation failed. A slot that is reserved already is used again, without an allocation. Where
+    /// none is, a whole block of slots is allocated: 1,024, or as many as the history may still have.
     pub fn reserve_one(&mut self) -> Result<(), ReserveFault>
         ensures ok { OnOk result (0 < self.new.room) }
         ensures fewer { OnOk result (length self.old.events < self.old.most) }
@@ -140,7 +140,7 @@ impl<E: Drop> History<E> {
         ensures full { IsErrOf result ReserveFault.HistoryFull ↔ (length self.old.events ≡ self.old.most) }
         ensures reserved { 0 < self.old.room → IsOk result }
 
-        // The events stay, whatever the result, and so does a place that was there.
+        // The events stay, whatever the result, and so does a slot that was reserved.
         ensures events { self.new.events ≡ self.old.events }
         ensures most { self.new.most ≡ self.old.most }
         ensures kept { 0 < self.old.room → self.new.room ≡ self.old.room }
@@ -155,7 +155,7 @@ impl<E: Drop> History<E> {
         Ok(())
     }
 
-    /// Puts an event at the end, in a reserved place.
+    /// Adds an event at the end, in a reserved slot.
     #[inline(always)]
     pub fn push_reserved(&mut self, event: E)
         requires { 0 < self.old.room }
@@ -168,7 +168,7 @@ impl<E: Drop> History<E> {
         self.len += 1;
     }
 
-    /// Takes out all events, and with them the places that are reserved. It takes no memory.
+    /// Takes out all events, and with them the reserved slots. It does not allocate.
     pub fn take(&mut self) -> History<E>
         ensures value { result ≡ self.old }
         ensures within { length result.events ≤ result.most }

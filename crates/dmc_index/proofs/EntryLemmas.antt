@@ -43,7 +43,7 @@ module _ {X : Type 0} (P : X → X → Type 0) where
   pub AllPairs-tail : (x : X) (xs : List X) → AllPairs P (x ∷ xs) → AllPairs P xs
   AllPairs-tail x xs h i j d l b = h (suc i) (suc j) d (omega arith) (omega arith)
 
-  -- where an element of the longer list stood before
+  -- where an element of the longer list was before
   place : (xs : List X) (n : ℕ) (y : X) → n ≤ length xs → (k : ℕ) (d : X) → ((k < n) × (get_or (insert xs n y) k d ≡ get_or xs k d)) ⊎ (((k ≡ n) × (get_or (insert xs n y) k d ≡ y)) ⊎ ((n < k) × (get_or (insert xs n y) k d ≡ get_or xs (k - 1) d)))
   place xs n y within k d =
       elim (cases_lt k n) [
@@ -107,7 +107,7 @@ not_passing p xs h k d l =
     let past = ltb-false (prefix_len (λ x. not (p x)) xs) (length xs) (false_test (nat_lt (prefix_len (λ x. not (p x)) xs) (length xs)) (prefix_len (λ x. not (p x)) xs) h) in
     not-true (p (get_or xs k d)) (prefix_len_passes (λ x. not (p x)) xs k d (omega arith))
 
--- the places by a rank, where the ranks rise
+-- the indexes by a rank, where the ranks rise
 pub IsPartitionedBy-rising : {R : Type 0} {compare : R → R → Ordering} (o : IsTotalOrder compare) (es : List (Entry R)) (rank : R) → IsRising compare es → IsPartitionedBy (λ e. is_lt (compare e.rank rank)) es
 IsPartitionedBy-rising {R} {compare} o es rank rising i j d l m h =
     elim (cases_eq i j) [
@@ -158,7 +158,7 @@ module _ {R : Type 0} where
       let rest = count-slots_of room es (AllPairs-tail (λ a b. a.key ≢ b.key) e es h) (All-tail (λ e. e.key < room) e es b) in
       omega (arith, rest, count-set_some (slots_of room es) e.key e.rank l none)
 
-  -- more room
+  -- more capacity
   pub slots_of-more : (room more : ℕ) (es : List (Entry R)) → All (λ e. e.key < room) es → room ≤ more → slots_of more es ≡ slots_of room es ++ replicate (more - length (slots_of room es)) None
   slots_of-more room more [] b l =
       let none : List (Option R) = replicate room None in

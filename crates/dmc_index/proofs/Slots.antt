@@ -1,4 +1,4 @@
--- Finite maps from keys, as lists of what each key below a room holds.
+-- Finite maps from keys, as lists of what each key below a capacity holds.
 use Rattle.std.proofs.Common.{◌≡◌, ◌≢◌, ℕ, zero, suc, ◌+◌, ◌<◌, List, [], ◌∷◌, ◌++◌, map, Option, Some, None, length, get_or, set, replicate, count_by, is_some, cond, refl, ap, ◌∙◌, ⊎_elim, arith}
 use Rattle.std.specs.Option.{option_map}
 use Rattle.std.proofs.lemmas.Bool.{cases_lt}
@@ -18,7 +18,7 @@ module _ {X : Type 0} where
   pub slot_of_key-set_other : (slots : List (Option X)) (key k : ℕ) (o : Option X) → k ≢ key → slot_of_key (set slots key o) k ≡ slot_of_key slots k
   slot_of_key-set_other slots key k o ne = get_or-set_other slots key k o None ne
 
-  -- two maps with one room that hold the same
+  -- two maps with one capacity that hold the same
   pub same_slots : (xs ys : List (Option X)) → length xs ≡ length ys → ((key : ℕ) → slot_of_key xs key ≡ slot_of_key ys key) → xs ≡ ys
   same_slots [] [] e h = refl
   same_slots [] (y ∷ ys) e h = absurd (omega arith)
@@ -26,7 +26,7 @@ module _ {X : Type 0} where
   same_slots (x ∷ xs) (y ∷ ys) e h =
       ap (λ z. z ∷ xs) (h 0) ∙ ap (λ zs. y ∷ zs) (same_slots xs ys (omega arith) (λ key. h (suc key)))
 
-  -- more room holds nothing
+  -- more capacity holds nothing
   pub slot_of_key-more : (slots : List (Option X)) (n key : ℕ) → slot_of_key (slots ++ replicate n None) key ≡ slot_of_key slots key
   slot_of_key-more [] zero key = refl
   slot_of_key-more [] (suc n) zero = refl
@@ -40,7 +40,7 @@ module _ {X : Type 0} where
       let none : ◌≡◌ {A = ℕ} (cond (is_some (get_or slots key None)) 1 0) 0 = ap (λ (o : Option X). cond (is_some o) 1 0) h in
       omega (arith, none, sum_by-set (λ (o : Option X). cond (is_some o) 1 0) slots key (Some x) None l)
 
-  -- a map with a vacant key holds fewer keys than its room
+  -- a map with a vacant key holds fewer keys than its capacity
   pub count_below : (slots : List (Option X)) (key : ℕ) (x : X) → key < length slots → slot_of_key slots key ≡ None → count_by is_some slots < length slots
   count_below slots key x l h =
       omega (arith, count-set_some slots key x l h, count_by-le-length is_some (set slots key (Some x)), length-set slots key (Some x))

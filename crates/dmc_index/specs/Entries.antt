@@ -1,11 +1,11 @@
--- What a sorted vector of entries keeps, and the map that it is.
+-- The invariant of a sorted vector of entries, and the map that it represents.
 use Rattle.std.specs.Prelude.{◌≡◌, ◌≢◌, ℕ, ◌<◌, ◌≤◌, List, [], ◌∷◌, Option, Some, None, length, replicate, slice_set, slice_index_or}
 use Rattle.std.specs.List.{All, AllPairs}
 use Rattle.std.specs.declared.cmp.Ordering.{Ordering}
 use Rattle.std.specs.declared.cmp.Ordering.TheVariants.{Less}
 use Rattle.dmc_index.specs.declared.list_index.Entry.{Entry}
 
--- what each key below the room holds: each entry's rank at its key
+-- what each key below the capacity holds: each entry's rank at its key
 abbrev pub slots_of : {R : Type 0} → ℕ → List (Entry R) → List (Option R)
 slots_of room [] = replicate room None
 slots_of room (entry ∷ entries) = slice_set (slots_of room entries) entry.key (Some entry.rank)
@@ -14,14 +14,14 @@ slots_of room (entry ∷ entries) = slice_set (slots_of room entries) entry.key 
 abbrev pub IsRising : {R : Type 0} → (R → R → Ordering) → List (Entry R) → Type 0
 IsRising compare entries = AllPairs (λ a b. compare a.rank b.rank ≡ Less) entries
 
--- The ranks rise, the keys are distinct and below the room, and there is memory for as many.
+-- The ranks rise, the keys are distinct and below the capacity, and there is memory for as many entries.
 pub record IsSound {R : Type 0} (compare : R → R → Ordering) (room capacity : ℕ) (entries : List (Entry R)) : Type 0 where
   pub rising : IsRising compare entries
   pub distinct : AllPairs (λ a b. a.key ≢ b.key) entries
   pub in_room : All (λ entry. entry.key < room) entries
   pub memory : room ≤ capacity
 
--- each entry has its key, and what f gives for its rank
+-- each entry has its key, and the rank that f returns for its rank
 pub record MapsEntries {R : Type 0} (gives : R → R → Type 0) (old new : List (Entry R)) : Type 0 where
   pub size : length new ≡ length old
   pub keys : (k : ℕ) (d : Entry R) → k < length old → (slice_index_or new k d).key ≡ (slice_index_or old k d).key

@@ -6,17 +6,17 @@ use dmc_tag::rank::{LimitRank, Rank, ReadyRank, TagRank};
 use dmc_tag::tag::Tag;
 use std::alloc::{AllocError, Global};
 
-/// A finite map from keys to distinct ranks, with a room: the keys below it can be held. No call but `reserve_keys`
-/// takes memory.
+/// A finite map from keys to distinct ranks, with a capacity: the keys below it may have ranks. No call but `reserve_keys`
+/// allocates.
 pub trait OrderIndex<R: Rank>: Drop {
-    /// What each key below the room holds.
+    /// What each key below the capacity holds.
     ghost slots: { Self → List (Option R) };
 
-    /// An empty index without room.
+    /// An empty index of capacity 0.
     fn new(alloc: Global) -> Self
         ensures { slots result ≡ [] };
 
-    /// Makes room for the keys below `n`. Room never shrinks.
+    /// Raises the capacity to `n`, for the keys below it. It never falls.
     fn reserve_keys(&mut self, n: usize) -> Result<(), AllocError>
         ensures ok { OnOk result (slots self.new ≡ slots self.old ++ replicate (n - length (slots self.old)) None) }
         ensures err { OnErr result (slots self.new ≡ slots self.old) }
@@ -35,7 +35,7 @@ pub trait OrderIndex<R: Rank>: Drop {
         requires apart { IsApartFromOthers R.cmp (slots self.old) key rank }
         ensures { slots self.new ≡ slice_set (slots self.old) key (Some rank) };
 
-    /// Takes a key out, and answers the rank that it had.
+    /// Removes a key, and returns the rank that it had.
     fn remove(&mut self, key: usize) -> R
         requires { IsSome (slot_of_key (slots self.old) key) }
         ensures value { slot_of_key (slots self.old) key ≡ Some result }
@@ -55,12 +55,12 @@ pub trait OrderIndex<R: Rank>: Drop {
         requires ordered { KeepsOrder R.cmp (slots self.old) (F.post f) }
         ensures { IsMapped (F.post f) (slots self.old) (slots self.new) };
 
-    /// How many keys are held.
+    /// How many keys have a rank.
     fn len(&self) -> usize
         ensures value { result ≡ count_by is_some (slots self.now) }
         ensures distinct { AreApart R.cmp (slots self.now) };
 
-    /// Whether no key is held.
+    /// Whether no key has a rank.
     fn is_empty(&self) -> bool
         ensures { result ≡ (count_by is_some (slots self.now) == 0) }
     {
@@ -73,9 +73,9 @@ pub trait Indexes<T: Tag> {
     /// By reservation tag.
     type ReservationIndex: OrderIndex<TagRank<T>>;
 
-    /// By limit tag, what is unready first.
+    /// By limit tag, unready ones first.
     type LimitIndex: OrderIndex<LimitRank<T>>;
 
-    /// By weight tag, what is ready first.
+    /// By weight tag, ready ones first.
     type WeightIndex: OrderIndex<ReadyRank<T>>;
 }

@@ -1,4 +1,4 @@
-//! Ordered indexes: finite maps from keys to distinct ranks, whose least key is at hand.
+//! Ordered indexes: finite maps from keys to distinct ranks, with the least one in O(1).
 #![tactic(auto)]
 
 pub mod index;

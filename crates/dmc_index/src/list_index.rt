@@ -11,7 +11,7 @@ use dmc_tag::tag::Tag;
 use std::alloc::{AllocError, Global};
 use std::marker::Model;
 
-/// A held key and its rank.
+/// A key and its rank.
 #[derive(Copy)]
 struct Entry<R> {
     rank: R,
@@ -28,7 +28,7 @@ impl<R: Copy> Clone for Entry<R> {
     }
 }
 
-/// An index as a vector, least rank first.
+/// An index as a vector, with the least rank first.
 #[derive(Drop)]
 pub struct ListIndex<R: Rank> {
     entries: Vec<Entry<R>>,
@@ -46,7 +46,7 @@ impl<R: Rank> Model for ListIndex<R> {
     ghost invariant = { λ x. IsSound R.cmp x.room (vec_capacity x.entries) x.entries.items };
 }
 
-// The place of a key.
+// The index of a key.
 fn place_of<R>(entries: &[Entry<R>], key: usize) -> Option<usize>
     ensures { result ≡ position (λ entry. entry.key == key) entries.now }
 {

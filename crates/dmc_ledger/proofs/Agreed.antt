@@ -56,7 +56,7 @@ module _ {X : Type 0} (cx : Coded X) where
         via 𝓤 (ex 𝓤 F) (entry_glue R 𝓛 γ k (e, x) (f, x)) (ex_e 𝓤 F (λ c. guard_e 𝓤 (c ∈ R.op (e, x) (f, x)) (sem 𝓛 (entry R γ k c)) (λ n.
         subst (λ (z : Share × X). sem 𝓛 (entry R γ k c) ⊢ sem 𝓛 (entry R γ k z)) (mem_unique (R.op (e, x) (f, x)) n (sum x r e f m)) (id⊢ 𝓤 _))))
 
-    -- the whole stands beside no share
+    -- there is no share beside the whole
     pub excludes : (f : Share) (x y : X) → own full_share x ∗ own f y ⊢ guard 𝓤 ⊥ (own full_share x)
     excludes f x y = let F : Share × X → Pr = λ c. guard 𝓤 (c ∈ R.op (full_share, x) (f, y)) (sem 𝓛 (entry R γ k c)) in
         via 𝓤 (ex 𝓤 F) (entry_glue R 𝓛 γ k (full_share, x) (f, y)) (ex_e 𝓤 F (λ c. guard_e 𝓤 (c ∈ R.op (full_share, x) (f, y)) (sem 𝓛 (entry R γ k c)) (λ m. absurd (not-OpDef-full_share f m.0.0))))

@@ -36,14 +36,14 @@ module _ {M : Type 1} {𝓤 : Ura M} (𝓛 : Logic 𝓤) where
   infix 26 ◌⊢◌
   infixr 35 ◌∗◌
   module _ (γ n : ℕ) where
-    known_in : (q : Share) (δ : ℕ) → ⟦ entry name_shares γ n (q, δ) ⟧ ⊢ ⟦ known γ n δ ⟧
+    pub known_in : (q : Share) (δ : ℕ) → ⟦ entry name_shares γ n (q, δ) ⟧ ⊢ ⟦ known γ n δ ⟧
     known_in q δ = qed 𝓛 (‵ (entry name_shares γ n (q, δ)) ∷ []) ∵ fpack ! Share (λ r. entry name_shares γ n (r, δ)) q $ done !
 
-    known_twice : (δ : ℕ) → ⟦ known γ n δ ⟧ ⊢ ⟦ known γ n δ ⟧ ∗ ⟦ known γ n δ ⟧
+    pub known_twice : (δ : ℕ) → ⟦ known γ n δ ⟧ ⊢ ⟦ known γ n δ ⟧ ∗ ⟦ known γ n δ ⟧
     known_twice δ = qed 𝓛 (‵ (known γ n δ) ∷ []) ∵ fpick ! (λ q. use1 𝓛 (‵ (entry name_shares γ n (left q, δ)) ⊛ ‵ (entry name_shares γ n (right q, δ))) (cuts coded_ℕ 𝓛 γ n δ q (left q) (right q) (Share.halves q)) $ split ! $
         use1 𝓛 (‵ (known γ n δ)) (known_in (left q) δ) $ move ! (1 ∷ []) $ use1 𝓛 (‵ (known γ n δ)) (known_in (right q) δ) $ done !)
 
-    known_agree : (δ ε : ℕ) → ⟦ known γ n δ ⟧ ∗ ⟦ known γ n ε ⟧ ⊢ guard 𝓤 (δ ≡ ε) (⟦ known γ n δ ⟧ ∗ ⟦ known γ n ε ⟧)
+    pub known_agree : (δ ε : ℕ) → ⟦ known γ n δ ⟧ ∗ ⟦ known γ n ε ⟧ ⊢ guard 𝓤 (δ ≡ ε) (⟦ known γ n δ ⟧ ∗ ⟦ known γ n ε ⟧)
     known_agree δ ε = qed 𝓛 (‵ (known γ n δ) ∷ ‵ (known γ n ε) ∷ []) ∵ fpick ! (λ q. move ! (1 ∷ []) $ fpick ! (λ r. move ! (1 ∷ 0 ∷ []) $
         use2 𝓛 (given (δ ≡ ε) (‵ (entry name_shares γ n (q, δ)) ⊛ ‵ (entry name_shares γ n (r, ε)))) (agrees coded_ℕ 𝓛 γ n q r δ ε) $ learn ! (λ same. check ! same $ split ! $
         use1 𝓛 (‵ (known γ n δ)) (known_in q δ) $ move ! (1 ∷ []) $ use1 𝓛 (‵ (known γ n ε)) (known_in r ε) $ move ! (1 ∷ 0 ∷ []) $ done !)))
@@ -207,7 +207,7 @@ module _ {M : Type 1} {𝓤 : Ura M} (𝓛 : Logic 𝓤) where
         use1 𝓛 (later (‵ (Name δ))) (via 𝓤 _ (sets coded_ℕ 𝓛 γ n 0 δ) (basic 𝓛 _)) $ await ! tt $ use1 𝓛 (‵ (known γ n δ)) (known_in γ n full_share δ) $ move ! (0 ∷ 1 ∷ []) $ fjoin ! $ move ! (0 ∷ 1 ∷ []) $ fjoin ! $
         fpack ! ℕ (λ d. owns γ n d 0 (0, 0)) δ $ now ! $ move ! (1 ∷ 0 ∷ []) $ done !)
 
-  -- so two books in hand have different numbers
+  -- so two books have different numbers
   pub differs : (γ n m δ ε tills held : ℕ) (c : ℕ × ℕ) (q : Share) → ⟦ book_owns γ n δ tills held ⟧ ∗ ⟦ knows γ m ε ⟧ ∗ ⟦ row ε 0 c q ⟧
       ⊢ H.⇛ (guard 𝓤 (n ≢ m) (⟦ book_owns γ n δ tills held ⟧ ∗ ⟦ row ε 0 c q ⟧))
   unfolding book_owns

@@ -1,4 +1,5 @@
 mod Agreed
+mod GrowingLists
 mod Ledger
 mod Rows
 mod Shared

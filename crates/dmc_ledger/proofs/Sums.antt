@@ -1,4 +1,4 @@
--- How the tills' rows stand to their book's.
+-- How the tills' rows are related to their book's.
 use Rattle.std.proofs.Common.{◌≡◌, ℕ, ◌+◌, ◌≤◌, ◌^◌, List, [], ◌∷◌, ◌++◌, set, refl, arith}
 use Rattle.core.specs.Sync.Ledger.{parts_of, amount_of, IsBacked}
 use Rattle.core.proofs.ledger.Sums.{HasRow, Backed, Audited, parts_of_set, amount_of_set, backed_set, audited_row}

@@ -1,7 +1,7 @@
--- What contracts see of a set-up.
+-- What contracts see of a set-up, its books and its tills.
 use Rattle.std.specs.Prelude.{◌≡◌, ℕ, ◌+◌, ◌≤◌, ◌^◌}
 
--- a set-up that no type stands for yet: its name and how many books it may have
+-- a set-up that has no type yet: its name and how many books it may have
 pub record Unopened : Type 0 where
   pub name : ℕ
   pub books : ℕ
@@ -11,7 +11,7 @@ pub record Stock : Type 0 where
   pub opened : ℕ
   pub left : ℕ
 
--- a book: its number, what was gathered, what its open tills hold together, and how many they are
+-- a book: its number, what was gathered, what its open tills hold together, and how many are open
 pub record Account : Type 0 where
   pub number : ℕ
   pub gathered : ℕ
@@ -38,7 +38,7 @@ new_book n = record { number = n; gathered = 0; held = 0; open_tills = 1 }
 abbrev pub new_till : ℕ → Holding
 new_till n = record { number = n; amount = 0 }
 
--- how the numbers of a book stand to its token's
+-- how the numbers of a book are related to its token's
 pub record IsCounted (total gathered open_tills tills held : ℕ) : Type 0 where
   pub sum : total ≡ gathered + held
   pub limit : total ≤ 2 ^ 63

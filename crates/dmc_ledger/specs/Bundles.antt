@@ -1,4 +1,4 @@
--- What contracts see of the bundles and desks of a pair.
+-- What contracts see of tills, books and desks that belong together.
 use Rattle.std.specs.Prelude.{◌≡◌, ℕ, ◌+◌, ◌<◌, ◌≤◌}
 use Rattle.dmc_types.specs.Values.{Params}
 use Rattle.dmc_ledger.specs.Accounts.{Account, Holding, after_closing, new_book, new_till}
@@ -42,7 +42,7 @@ pub record ServerSide : Type 0 where
   pub books : StampAccounts
   pub held : GrantHoldings
 
--- each as plain data, whatever set-up it is of
+-- each as plain data, whatever its set-up
 module _ {S : Type 0} where
   abbrev pub stamp_holdings : StampTills S → StampHoldings
   stamp_holdings t = record { stamps = t.stamps; delta = t.delta; rho = t.rho }
@@ -85,7 +85,7 @@ new_server_side client server n = record {
   held = record { reservation = new_till (n + 3); priority = new_till (n + 4) };
 }
 
--- the till is the only one that is open of the book
+-- the till is the only open one of the book
 pub record IsOnlyTill (book : Account) (till : Holding) : Type 0 where
   pub same_number : till.number ≡ book.number
   pub alone : book.open_tills ≡ 1

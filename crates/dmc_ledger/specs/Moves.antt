@@ -40,7 +40,7 @@ pub record AreWithin (tills : StampHoldings) (books : StampAccounts) : Type 0 wh
   pub delta : tills.delta.amount ≤ books.delta.held
   pub rho : tills.rho.amount ≤ books.rho.held
 
--- a stamp: one unit, its delta and its rho, issued from the books, into tills, and out of tills
+-- a stamp: one unit, its delta and its rho; issued from the books, added to tills, and taken out of tills
 abbrev pub books_after_stamp : Params → StampAccounts → StampAccounts
 books_after_stamp params books = record {
   stamps = after_issue 1 books.stamps;

@@ -1,8 +1,8 @@
--- What the tokens own.
--- A set-up's name has an entry for each number, which says for good what names the rows of that book, once the book is open.
--- A book's rows are numbered too. Row 0 is the book's own, at how many tills are open and what they hold together; each
--- other row is a till's, at one part and its amount, or at nothing once the till is gathered. A rule keeps one half of each
--- row and that they add up, and the token has the other half. A `&` to a token shows some share of that half.
+-- The ghost resource that the tokens of books and tills own. A set-up's name has an entry for each number, which says for good
+-- what names the rows of that book, once the book is open. A book's rows are numbered too. Row 0 is the book's own: how many
+-- tills are open, and what they hold together. Each other row is a till's: one part and its amount, or nothing once the till is
+-- gathered. A rule has one half of each row and says that they add up, and the token has the other half. A `&` to a token shows
+-- some share of that half.
 use Rattle.std.specs.Prelude.{ℕ, suc, ◌≤◌, ◌^◌, List, [], ◌∷◌}
 use base.Fraction.{full_share, left, right}
 use base.Stored.{coded_ℕ, coded×}
@@ -29,7 +29,7 @@ part rows k q x = entry row_shares rows k (q, x)
 abbrev pub known : ℕ → ℕ → ℕ → Fml
 known name number rows = fex Share (λ q. entry name_shares name number (q, rows))
 
--- the rule's half of each row from the k-th on. No one has the rows behind them yet
+-- the rule's half of each row from the k-th on; nobody has the rows behind them yet
 abbrev pub roster : ℕ → ℕ → List (ℕ × ℕ) → Fml
 roster rows k [] = entries_from row_shares rows k (λ _. (full_share, (0, 0)))
 roster rows k (x ∷ xs) = fsep (part rows k (right full_share) x) (roster rows (suc k) xs)

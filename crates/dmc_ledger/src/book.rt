@@ -1,7 +1,7 @@
-//! A book, which keeps the total of one quantity.
+//! A book: the total of one quantity.
 ghost use Rattle.std.specs.Prelude.{◌≡◌, ◌≢◌, ◌+◌, ◌-◌, ◌<◌, ◌≤◌, ◌^◌, ◌↔◌, IfOk, OnOk, OnErr, IsErr};
 ghost use Rattle.dmc_types.specs.Limits.{most_open_tills};
-ghost use Rattle.dmc_ledger.specs.Accounts.{total_of, new_till};
+ghost use Rattle.dmc_ledger.specs.Accounts.{total_of, new_book, new_till};
 ghost use Rattle.dmc_ledger.specs.Moves.{after_issue, after_opening, with_more};
 
 use crate::full::Full;
@@ -9,8 +9,9 @@ use crate::setup::Setup;
 use crate::till::Till;
 use crate::token::BookToken;
 use std::marker::Model;
+use std::mem::replace;
 
-/// The most that a book counts to.
+/// The greatest total of a book.
 const MOST: u64 = 1 << 63;
 
 /// The total of one quantity: what was gathered, and what the open tills hold. Contracts see an `Account`.
@@ -74,7 +75,7 @@ impl<S: Setup> Book<S> {
         self.gathered
     }
 
-    /// How many tills are open. A dropped till stays open.
+    /// The number of open tills. A till that was dropped stays open.
     pub fn open_tills(&self) -> u32
         ensures value { result ≡ self.now.open_tills }
         ensures none { result ≡ 0 → total_of self.now ≡ self.now.gathered }
@@ -82,7 +83,7 @@ impl<S: Setup> Book<S> {
         self.open_tills
     }
 
-    /// Opens a till, which holds nothing. `Full` at 2^32-1 open tills.
+    /// Opens a till, which holds nothing. It is refused `Full` at 2^32-1 open tills.
     pub fn till(&mut self) -> Result<Till<S>, Full>
         ensures full { IsErr result ↔ (self.old.open_tills ≡ most_open_tills) }
         ensures till { IfOk result (λ till. till ≡ new_till self.old.number) }
@@ -97,7 +98,7 @@ impl<S: Setup> Book<S> {
         Ok(till)
     }
 
-    /// Adds an amount to a till of this book, and so to the total. `Full` where the total would pass 2^63.
+    /// Adds an amount to a till of this book, and so to the total. It is refused `Full` where the total would be above 2^63.
     pub fn issue(&mut self, till: &mut Till<S>, amount: u64) -> Result<(), Full>
         requires { till.old.number ≡ self.old.number }
         ensures full { IsErr result ↔ (2 ^ 63 < total_of self.old + amount) }
@@ -127,8 +128,26 @@ impl<S: Setup> Book<S> {
         self.open_tills -= 1;
     }
 
-    /// Changes nothing, and shows that two books of one set-up have different numbers. The exclusive reference makes
-    /// them two: two shared references may be to one book.
+    /// Begins anew with the one open till: the book then has no total, the till holds nothing, and what the book had
+    /// totalled is returned.
+    pub fn restart(&mut self, till: &mut Till<S>) -> u64
+        requires its { till.old.number ≡ self.old.number }
+        requires only { self.old.open_tills ≡ 1 }
+        ensures total { result ≡ total_of self.old }
+        ensures held { self.old.gathered + till.old.amount ≡ result }
+        ensures book { self.new ≡ new_book self.old.number }
+        ensures till { till.new ≡ new_till self.old.number }
+    {
+        // The only till holds all that is held.
+        self.audit(till);
+        let Ok(new) = self.till() else { unreachable!() };
+        self.gather(replace(till, new));
+        self.gathered = 0;
+        replace(&mut self.total, 0)
+    }
+
+    /// Changes nothing, and shows that two books of one set-up have different numbers. The exclusive reference makes them two
+    /// books: two shared references may be to one.
     pub fn differ_from(&mut self, other: &Book<S>)
         ensures apart { self.old.number ≢ other.now.number }
         ensures kept { self.new ≡ self.old }
@@ -136,7 +155,7 @@ impl<S: Setup> Book<S> {
         self.token.differ_from(&other.token);
     }
 
-    /// Changes nothing, and tells how a till of this book stands to it: the till holds at most the total less what was
+    /// Changes nothing, and shows how a till of this book is related to it: the till holds at most the total less what was
     /// gathered, and exactly that where no other till is open.
     pub fn audit(&self, till: &Till<S>)
         requires { till.now.number ≡ self.now.number }

@@ -1,4 +1,4 @@
-//! Tills and books that go together.
+//! Tills and books that belong together.
 ghost use Rattle.std.specs.Prelude.{◌↔◌, IsTrue};
 ghost use Rattle.dmc_ledger.specs.Bundles.{Covers, stamp_holdings};
 
@@ -16,8 +16,8 @@ pub struct StampTills<S: Setup> {
 }
 
 impl<S: Setup> StampTills<S> {
-    /// Whether the tills hold at least one stamp, at least this delta and at least this rho. They may hold the units of
-    /// earlier stamps too, which were made and not accepted.
+    /// Whether the tills hold at least one stamp, at least this delta and at least this rho. They may also hold the units of
+    /// earlier stamps, which were made and not accepted.
     pub fn covers(&self, params: &ReqParams) -> bool
         ensures { IsTrue result ↔ Covers (stamp_holdings self.now) params.now }
     {

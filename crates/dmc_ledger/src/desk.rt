@@ -1,5 +1,5 @@
-//! The two desks of a client at a server. Each keeps the books of what it hands out, and a till of the other's books
-//! for what it has taken in.
+//! The two desks of a client at a server. Each has the books of what it gives out, and a till of the other's books for what it
+//! has taken in.
 ghost use Rattle.std.specs.Prelude.{◌≡◌, ◌+◌, ◌-◌, ◌<◌, ◌↔◌, IfOk, OnOk, OnErr, IsErr};
 ghost use Rattle.dmc_ledger.specs.Accounts.{after_closing, new_book, new_till};
 ghost use Rattle.dmc_ledger.specs.Bundles.{IsOnlyTill, IsPair, client_side, server_side, stamp_accounts, grant_accounts, new_client_side, new_server_side, closed_stamps, closed_grants};
@@ -30,8 +30,8 @@ pub struct ServerDesk<S: Setup> {
     pub held: GrantTills<S>,
 }
 
-/// The desks of a client at a server, with five new books, each with one open till at the other desk. `Full` where
-/// fewer than five books are left.
+/// The desks of a client at a server, with five new books. Each book has one open till, at the other desk. It is refused `Full`
+/// where fewer than five books are left.
 pub fn open_pair<S: Setup>(
     mint: &mut Mint<S>,
     client: ClientId,
@@ -92,7 +92,7 @@ fn open_one<S: Setup>(mint: &mut Mint<S>) -> (Book<S>, Till<S>)
     (book, till)
 }
 
-/// Gathers both held bundles of a pair, so that none of its tills is open. Each book's total is then what was gathered.
+/// Gathers both held bundles of a pair, so that no till of it is open. Each book's total is then what was gathered.
 pub fn close_pair<S: Setup>(
     client: ClientDesk<S>,
     server: ServerDesk<S>,

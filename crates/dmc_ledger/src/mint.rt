@@ -1,14 +1,15 @@
 //! A set-up, and its one mint, which opens the books.
-ghost use Rattle.std.specs.Prelude.{◌≡◌, ◌+◌, ◌-◌, ◌<◌, ◌≤◌, ◌↔◌, IfOk, OnOk, OnErr, IsErr};
+ghost use Rattle.std.specs.Prelude.{◌≡◌, ◌+◌, ◌-◌, ◌<◌, ◌≤◌, ◌↔◌, IfOk, OnOk, OnErr, IsErr, []};
 ghost use Rattle.dmc_types.specs.Limits.{most_books};
 
 use crate::book::Book;
 use crate::full::Full;
+use crate::growing::{GrowingList, open_list};
 use crate::setup::Setup;
 use crate::token::{BlankToken, MintToken};
 use std::marker::Model;
 
-/// A set-up that no type stands for yet.
+/// A set-up that has no type yet.
 #[derive(Drop)]
 pub struct Blank {
     books: u64,
@@ -28,7 +29,7 @@ impl Model for Blank {
 }
 
 impl Blank {
-    /// A new set-up of so many books, from 1 to 2^32. To use it, call a function that is generic in a `Setup` at
+    /// A new set-up of this many books, from 1 to 2^32. To use it, call a function that is generic in a `Setup` at
     /// `std::marker::Brand`, and `open` the set-up there.
     pub fn new(books: u64) -> Blank
         requires some { 0 < books }
@@ -76,7 +77,7 @@ impl<S: Setup> Model for Mint<S> {
 }
 
 impl<S: Setup> Mint<S> {
-    /// The next book. Books are numbered from 0 in the order in which they are opened, so no two have one number.
+    /// The next book. Books are numbered from 0 in the order in which they are opened, so no two have one number. It is refused
     /// `Full` when all books of the set-up are open.
     pub fn open(&mut self) -> Result<Book<S>, Full>
         ensures full { IsErr result ↔ (self.old.left ≡ 0) }
@@ -93,7 +94,25 @@ impl<S: Setup> Mint<S> {
         Ok(book)
     }
 
-    /// How many books may still be opened.
+    /// An empty list that only grows, of the next number, with that number. `Full` as for a book.
+    pub fn open_list<E>(&mut self) -> Result<(u32, GrowingList<E, S>), Full>
+        ensures full { IsErr result ↔ (self.old.left ≡ 0) }
+        ensures list { IfOk result (λ opened.
+            (opened.0 ≡ self.old.opened) × (opened.1.number ≡ self.old.opened) × (opened.1.list ≡ [])) }
+        ensures mint { OnOk result (self.new ≡ record { opened = self.old.opened + 1; left = self.old.left - 1 }) }
+        ensures kept { OnErr result (self.new ≡ self.old) }
+    {
+        if self.left == 0 {
+            return Err(Full);
+        }
+        let list = open_list(&mut self.token);
+        let number = self.opened as u32;
+        self.opened += 1;
+        self.left -= 1;
+        Ok((number, list))
+    }
+
+    /// The number of books that may still be opened.
     pub fn left(&self) -> u64
         ensures value { result ≡ self.now.left }
         ensures limit { self.now.opened + result ≤ most_books }

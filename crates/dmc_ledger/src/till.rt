@@ -1,4 +1,4 @@
-//! A till, which holds a share of a book's total.
+//! A till: a share of a book's total.
 ghost use Rattle.std.specs.Prelude.{◌≡◌, ◌+◌, ◌-◌, ◌<◌, ◌≤◌, ◌^◌};
 ghost use Rattle.dmc_ledger.specs.Moves.{with_more, with_less};
 
@@ -6,7 +6,7 @@ use crate::setup::Setup;
 use crate::token::{BookToken, TillToken};
 use std::marker::Model;
 
-/// One holder's share of a book's total. It is of the book with its number. Contracts see a `Holding`.
+/// One owner's share of a book's total, that of the book with its number. Contracts see a `Holding`.
 #[derive(Drop)]
 pub struct Till<S: Setup> {
     amount: u64,
@@ -46,7 +46,7 @@ impl<S: Setup> Till<S> {
         self.number
     }
 
-    /// What it holds.
+    /// The amount that it holds.
     pub fn amount(&self) -> u64
         ensures { result ≡ self.now.amount }
     {
@@ -66,7 +66,7 @@ impl<S: Setup> Till<S> {
         self.amount += amount;
     }
 
-    /// What it held.
+    /// The amount that it held.
     pub(crate) fn gather(self, book: &mut BookToken<S>) -> u64
         requires { self.number ≡ book.old.number }
         ensures value { result ≡ self.amount }

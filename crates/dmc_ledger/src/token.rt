@@ -1,12 +1,12 @@
-//! The tokens, which have no bytes. What they own is a ghost resource (`specs/Rows.antt`), so each function here that
-//! makes or changes one is proved by hand, and does nothing at run time.
+//! The tokens, which have no bytes. What they own is a ghost resource (`specs/Rows.antt`). So each function here that makes or
+//! changes one is proved by hand, and does nothing at run time.
 ghost use Rattle.std.specs.Prelude.{◌≡◌, ◌≢◌, ℕ, ◌+◌, ◌-◌, ◌<◌, ◌≤◌, ◌^◌};
 ghost use Rattle.dmc_ledger.specs.Rows.{mint_owns, book_owns, book_shares, till_owns, till_shares};
 
 use crate::setup::Setup;
 use std::marker::{Model, PhantomData};
 
-/// A set-up that no type stands for yet.
+/// A set-up that has no type yet.
 #[derive(Drop)]
 pub(crate) struct BlankToken {
     marker: PhantomData<()>,
@@ -44,7 +44,7 @@ impl<S: Setup> Model for BookToken<S> {
     ghost also_shares = { λ b _ κ. book_shares S.name b.number b.rows b.tills b.held κ };
 }
 
-/// An open till of the book of this number, with what it holds. `row` is its place in the ledger that `rows` names.
+/// An open till of the book of this number, with what it holds. `row` is its index in the ledger that `rows` names.
 #[derive(Drop)]
 pub(crate) struct TillToken<S: Setup> {
     marker: PhantomData<S>,
@@ -68,7 +68,7 @@ impl BlankToken {
         }
     }
 
-    /// The set-up's mint, once a type stands for it.
+    /// The set-up's mint, once a type names the set-up.
     pub(crate) fn open<S: Setup>(self) -> MintToken<S>
         requires { self.name ≡ S.name }
         ensures { result.opened ≡ 0 }
@@ -121,7 +121,7 @@ impl<S: Setup> BookToken<S> {
         ensures within { till.old.amount ≤ self.old.held }
     {}
 
-    /// Ends a till. What it held is held no more.
+    /// Ends a till. What it held is no longer held.
     pub(crate) fn gather(&mut self, till: TillToken<S>)
         requires { till.number ≡ self.old.number }
         ensures number { self.new.number ≡ self.old.number }
@@ -140,7 +140,7 @@ impl<S: Setup> BookToken<S> {
         ensures held { self.new.held ≡ self.old.held }
     {}
 
-    /// Changes nothing, and tells how the till stands to its book.
+    /// Changes nothing, and shows how the till is related to its book.
     pub(crate) fn audit(&self, till: &TillToken<S>)
         requires { till.now.number ≡ self.now.number }
         ensures some { 0 < self.now.tills }

@@ -5,7 +5,7 @@ use Rattle.std.proofs.lemmas.List.{take_all}
 use Rattle.std.proofs.lemmas.List.Filters.{length-filter_more}
 
 module _ {X : Type 0} (p : X → Bool) (xs : List X) where
-  -- so many of the first i pass
+  -- this many of the first i pass
   pub record Counted (i : ℕ) (count : ℕ) : Type 0 where
     pub is : count ≡ length (filter p (take i xs))
     pub within : count ≤ i

@@ -9,7 +9,7 @@ use Rattle.dmc_tag.specs.Best.{best}
 use Rattle.dmc_plain.specs.Sets.{found_at, beats}
 
 module _ {R : Type 0} (before : R → R → Bool) (member : R → Bool) where
-  -- the best of ys, which begin at place i
+  -- the best of ys, which begin at index i
   abbrev pub Found : List R → ℕ → Option ℕ → Type 0
   Found ys i None = best before member ys ≡ None
   Found ys i (Some j) = (k : ℕ) × (j ≡ i + k) × (k < length ys) × (best before member ys ≡ found_at ys (Some k))
@@ -39,7 +39,7 @@ module _ {R : Type 0} (before : R → R → Bool) (member : R → Bool) where
       let e : drop i xs ≡ x ∷ drop (suc i) xs = drop-cons xs i x within ∙ ap (λ y. y ∷ drop (suc i) xs) (sym is) in
       subst (λ ys. Found ys i (cond (member x && not (beats before xs found x)) (Some i) found)) (sym e) (more xs x i found f)
 
-  -- from the first place on, it is the best of all
+  -- from the first index on, it is the best of all
   pub found_all : (xs : List R) (found : Option ℕ) → Found xs 0 found → found_at xs found ≡ best before member xs
   found_all xs None f = sym f
   found_all xs (Some j) (k, at, within, e) = let same : j ≡ k = omega arith in rw same (sym e)

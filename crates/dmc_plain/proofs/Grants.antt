@@ -59,7 +59,7 @@ updated_as ops s id info at x e = ap (λ outcome. answer_of s (outcome >>= (λ _
 abbrev pub addition : {T : Type 0} → Tagging T → ClientId → Token → ℕ → State T → Option T × Tags T → State T × Reply T
 addition ops id token t s (shift, tags) = (queued (shifted_by ops shift s) (record { client = id; token = token; tags = tags }) t, Tagged tags)
 
--- an add comes to what its tests come to
+-- the effect of an add follows from its tests
 pub add_comes_to : {T : Type 0} (ops : Tagging T) (s : State T) (id : ClientId) (token : Token) (params : Params) (at m : ℕ) (t : T)
     (result : Result (Option T × Tags T) Refusal) → t ≡ ops.of_moment m → m ≡ effective s at → can_add ops s id params t ≡ result →
     (result >>= λ p. Ok (addition ops id token m s p)) ≡ outcome ops s (Add id token params at)

@@ -1,4 +1,4 @@
--- What a pull comes to, once the best of a set is found or none is.
+-- The result of a pull, once the best of a set is found or none is.
 use Rattle.std.proofs.Common.{◌≡◌, ℕ, ◌<◌, List, [], ◌∷◌, length, suc, zero, true, false, Option, Some, refl, subst, arith}
 use Rattle.std.specs.Prelude.{slice_get}
 use Rattle.std.specs.Option.{option_map_or}
@@ -36,7 +36,7 @@ module _ {T : Type 0} (ops : Tagging T) (old : State T) (t : ℕ) where
   allowed [] is = refl
   allowed (x ∷ xs) is = rw is refl
 
-  -- before the limits, the next moment is told
+  -- before the limits, the next moment is returned
   pub waits : (requests : List (PlainRequest T)) → old.config.at_limit ≡ Wait → (record old { last_moment = t }, pull_reply (option_map_or pulls.Future (least_due ops requests) pulls.Nothing)) ≡ answer_of old (nothing_due ops old t requests)
   waits [] is = refl
   waits (x ∷ xs) is = rw is refl

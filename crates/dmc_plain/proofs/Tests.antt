@@ -1,4 +1,4 @@
--- What the tests of an add, a registration and an update come to, at each way out.
+-- The results of the tests of an add, a registration and an update, at each exit.
 use Rattle.std.proofs.Common.{◌≡◌, Bool, not, ◌&&◌, true, false, length, Option, Some, None, is_some, Result, Ok, Err, ap, sym}
 use Rattle.std.specs.Prelude.{nat_le}
 use Rattle.std.specs.Option.{ok_or}

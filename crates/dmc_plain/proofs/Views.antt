@@ -1,4 +1,4 @@
--- The state that a call leaves: what it stands for, and that its queued clients are active and it is not too large.
+-- The state that a call leaves: what it represents, and that its queued clients are active and it is not too large.
 use Rattle.std.proofs.Common.{◌≡◌, ℕ, ◌+◌, ◌<◌, ◌≤◌, Bool, true, false, not, ◌&&◌, ◌||◌, List, [], ◌∷◌, ◌++◌, length, map}
 use Rattle.std.proofs.Common.{Option, Some, None, refl, sym, ap, ◌∙◌, subst, arith, length-append}
 use Rattle.std.specs.Prelude.{filter, is_some, if◌then◌else◌}

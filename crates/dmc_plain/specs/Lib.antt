@@ -1,2 +1,4 @@
+-- An adjustment may shift every request: a client with a queued request is not idle.
 pub mod Shares
+-- The sets of requests that the queue searches.
 pub mod Sets

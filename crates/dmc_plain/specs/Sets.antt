@@ -1,4 +1,4 @@
--- The sets that the queue looks through.
+-- The sets that the queue searches.
 use Rattle.std.specs.Prelude.{◌≡◌, [], ◌∷◌, ℕ, Bool, false, not, ◌&&◌, if◌then◌else◌, List, Option, Some, None, slice_get, slice_index_or}
 use Rattle.std.specs.Option.{option_map}
 use Rattle.std.specs.List.{remove}
@@ -31,17 +31,17 @@ rank_of (Early t) r = record { tag = r.tags.r; client = r.client }
 rank_of (Free t) r = record { tag = Some r.tags.p; client = r.client }
 rank_of All r = record { tag = Some r.tags.p; client = r.client }
 
--- the element at a place, and the list without it
+-- the element at an index, and the list without it
 abbrev pub found_at : {R : Type 0} → List R → Option ℕ → Option (R × List R)
 found_at xs None = None
 found_at xs (Some i) = option_map (λ r. (r, remove xs i)) (slice_get xs i)
 
--- whether the element at a place is before x
+-- whether the element at an index is before x
 abbrev pub beats : {R : Type 0} → (R → R → Bool) → List R → Option ℕ → R → Bool
 beats before xs None x = false
 beats before xs (Some i) x = before (slice_index_or xs i x) x
 
--- the place i of a member x that is not beaten, else the one that was found
+-- the index i of a member x that no other is before, else the one that was found
 abbrev pub better_at : {R : Type 0} → (R → R → Bool) → (R → Bool) → List R → Option ℕ → ℕ → R → Option ℕ
 better_at before member xs found i x = if member x && not (beats before xs found x) then Some i else found
 

@@ -12,11 +12,11 @@ use dmc_types::moment::Moment;
 /// A set of requests.
 #[derive(Clone, Copy)]
 pub enum Set {
-    /// Those whose R is at or before the moment, ordered by R.
+    /// The requests whose R is at or before the moment, ordered by R.
     Early(Moment),
-    /// Those whose L is at or before the moment, ordered by P.
+    /// The requests whose L is at or before the moment, ordered by P.
     Free(Moment),
-    /// All, ordered by P.
+    /// All requests, ordered by P.
     All,
 }
 
@@ -32,7 +32,7 @@ impl Set {
         }
     }
 
-    /// What the set orders a request by.
+    /// The rank by which the set orders a request.
     fn rank<T: Tag>(&self, request: &PlainRequest<T>) -> TagRank<T>
         ensures { result ≡ rank_of self.now request.now }
     {
@@ -54,7 +54,7 @@ impl Set {
     }
 }
 
-/// Where the best of the set is: the scan goes from the back, so that the first of equals is kept.
+/// The index of the best of the set. The scan goes from the back, so the first of equals is found.
 pub fn best_index<T: Tag>(requests: &[PlainRequest<T>], set: &Set) -> Option<usize>
     ensures found { found_at requests.now result ≡ best (order T.ops set.now) (members T.ops set.now) requests.now }
     ensures bound { IfSome result (λ i. i < length requests.now) }
@@ -66,7 +66,7 @@ pub fn best_index<T: Tag>(requests: &[PlainRequest<T>], set: &Set) -> Option<usi
     found
 }
 
-/// The place i of a request, or the one that was found behind it where that is better.
+/// The index i of a request, or the one that was found behind it where that is better.
 fn better_index<T: Tag>(
     requests: &[PlainRequest<T>],
     set: &Set,
@@ -84,7 +84,7 @@ fn better_index<T: Tag>(
     }
 }
 
-/// Whether the one that was found is before a request.
+/// Whether the request that was found is before another.
 fn is_beaten<T: Tag>(
     requests: &[PlainRequest<T>],
     set: &Set,

@@ -14,11 +14,11 @@ use dmc_types::ids::ClientId;
 use dmc_types::info::ClientInfo;
 use dmc_types::moment::Moment;
 
-/// What a rule makes of an element.
+/// What an element becomes by a rule.
 pub trait Change<X> {
     ghost changed: { Self → X → X };
 
-    /// Changes an element in its place.
+    /// Changes an element in place.
     fn apply(&self, item: &mut X)
         ensures { item.new ≡ changed self.now item.old };
 }
@@ -171,7 +171,7 @@ impl<'a, T> Change<PlainClient<T>> for Mark<'a, T> {
     }
 }
 
-/// Whether the client has nothing queued and its last arrival is so long ago.
+/// Whether the client has nothing queued and its last arrival is at least this old.
 pub fn is_stale<T>(
     requests: &[PlainRequest<T>],
     at: Moment,

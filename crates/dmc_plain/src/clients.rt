@@ -1,4 +1,4 @@
-//! Looking through clients.
+//! Searches among clients.
 ghost use Rattle.std.specs.Prelude.{◌≡◌};
 ghost use Rattle.dmc_tag.specs.State as state;
 ghost use Rattle.dmc_tag.specs.Rules as rules_of;

@@ -17,14 +17,14 @@ fn due_moment<T: Tag>(request: &PlainRequest<T>) -> u128
     }
 }
 
-/// The whole number as a moment: 0 below 0.
+/// The whole number as a moment: 0 where it is below 0.
 fn moment_of(ticks: i128) -> u128
     ensures { result ≡ rules_of.moment_of ticks }
 {
     if ticks < 0 { 0 } else { ticks as u128 }
 }
 
-/// The least whole number at which some request is early or free; none where nothing is queued.
+/// The least whole number at which some request is early or free, and `None` where nothing is queued.
 pub fn least_due<T: Tag>(requests: &[PlainRequest<T>]) -> Option<u128>
     ensures { result ≡ least_due T.ops requests.now }
 {

@@ -1,4 +1,4 @@
-//! The plain queue: the rules of dmClock over one flat list, as the definitions have them.
+//! The reference queue: the rules of dmClock over one flat list, as the definitions state them.
 #![tactic(auto)]
 
 mod best;

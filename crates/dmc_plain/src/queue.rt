@@ -1,4 +1,4 @@
-//! The plain queue.
+//! The reference queue.
 ghost use Rattle.std.specs.Prelude.{◌≡◌, ◌<◌, ◌&&◌, length, OnOk, ◌==◌};
 ghost use Rattle.dmc_types.specs.Limits.{most_clients};
 ghost use Rattle.dmc_tag.specs.Answers.{call_reply, sure_call_reply, clean_reply};
@@ -28,7 +28,7 @@ use dmc_types::refusal::{QueueFault, Refusal};
 use std::alloc::Global;
 use std::marker::Model;
 
-/// The queue of the definitions: one flat list of requests, scanned at each call. Contracts see it as a plain state.
+/// The queue of the definitions: one flat list of requests, which each call scans. Contracts see it as a plain state.
 #[derive(Drop)]
 pub struct PlainQueue<T> {
     config: QueueConfig,
@@ -51,7 +51,7 @@ impl<T> Model for PlainQueue<T> {
 }
 
 impl<T> PlainQueue<T> {
-    /// An empty queue. It takes no memory.
+    /// An empty queue. It does not allocate.
     pub fn new(alloc: Global, config: QueueConfig) -> PlainQueue<T>
         ensures { result ≡ opening config }
     {
@@ -96,7 +96,7 @@ fn changes_reservation(old: ClientInfo, new: ClientInfo) -> bool
     old.reservation().is_some() != new.reservation().is_some()
 }
 
-/// Whether queued requests keep a client from these rates.
+/// Whether queued requests forbid these rates to a client.
 fn is_busy<T>(
     requests: &[PlainRequest<T>],
     client: ClientId,
@@ -124,7 +124,7 @@ impl<T: Tag> PlainQueue<T> {
         Ok(())
     }
 
-    /// Registers a client; refused `Known`, `Inexact`, `Clients`, in this order, and `Memory` last.
+    /// Registers a client. It is refused `Known`, `Inexact`, `Clients`, in this order, and `Memory` last.
     pub fn register(
         &mut self,
         client: ClientId,
@@ -156,7 +156,7 @@ impl<T: Tag> PlainQueue<T> {
         Ok(())
     }
 
-    /// Replaces a client's rates; refused `Unknown`, `Inexact`, `Busy`, in this order.
+    /// Replaces a client's rates. It is refused `Unknown`, `Inexact`, `Busy`, in this order.
     pub fn update_info(
         &mut self,
         client: ClientId,
@@ -182,7 +182,7 @@ impl<T: Tag> PlainQueue<T> {
         Ok(())
     }
 
-    /// Takes out a client's queued requests, and answers how many; refused `Unknown`.
+    /// Removes a client's queued requests, and returns how many. It is refused `Unknown`.
     pub fn remove_by_client(&mut self, client: ClientId) -> Result<u32, Refusal>
         ensures { Exactly T.ops self.old self.new (commands.Remove client) (sure_call_reply replies.Removed result) }
     {
@@ -192,7 +192,7 @@ impl<T: Tag> PlainQueue<T> {
         Ok(count as u32)
     }
 
-    /// Marks idle clients and erases old ones, and answers how many became idle and how many were erased.
+    /// Marks idle clients and erases old ones. Returns how many became idle and how many were erased.
     pub fn clean(&mut self, at: Moment) -> (u32, u32)
         ensures { Exactly T.ops self.old self.new (commands.Clean at) (Some (clean_reply result)) }
     {
@@ -215,14 +215,14 @@ impl<T: Tag> PlainQueue<T> {
         (idled as u32, erased as u32)
     }
 
-    /// How many clients are registered.
+    /// The number of registered clients.
     pub fn client_count(&self) -> u32
         ensures { result ≡ length self.now.clients }
     {
         self.clients.len() as u32
     }
 
-    /// How many requests are queued.
+    /// The number of queued requests.
     pub fn request_count(&self) -> u32
         ensures { result ≡ length self.now.requests }
     {

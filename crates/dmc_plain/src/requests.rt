@@ -1,4 +1,4 @@
-//! Looking through requests.
+//! Searches among requests.
 ghost use Rattle.std.specs.Prelude.{◌≡◌, ◌<◌, ◌||◌, ◌≤◌, not, true, length, remove, filter, vec_len};
 ghost use Rattle.std.specs.Option.{option_map_or};
 ghost use Rattle.std.specs.List.{list_all};
@@ -33,7 +33,7 @@ pub fn can_reduce<T: Tag>(requests: &[PlainRequest<T>], id: ClientId, amount: T)
     requests.iter().all(|request| request.client != id || is_reducible(request.tags.r, amount))
 }
 
-/// The same of all requests but one.
+/// Whether each reduced tag of the client is a value, leaving one request out.
 pub fn can_reduce_others<T: Tag>(
     requests: &[PlainRequest<T>],
     index: usize,
@@ -56,7 +56,7 @@ fn is_reducible<T: Tag>(tag: Option<T>, amount: T) -> bool
     }
 }
 
-/// How many requests of the client are queued.
+/// The number of queued requests of the client.
 pub fn count_of<T>(requests: &[PlainRequest<T>], id: ClientId) -> usize
     ensures value { result ≡ length (state.requests_of id requests.now) }
     ensures bound { result ≤ length requests.now }
@@ -70,7 +70,7 @@ pub fn count_of<T>(requests: &[PlainRequest<T>], id: ClientId) -> usize
     count
 }
 
-/// Takes out the requests of the client.
+/// Removes the requests of the client.
 pub fn drop_of<T: Copy>(requests: &mut Vec<PlainRequest<T>>, id: ClientId)
     ensures items { requests.new.items ≡ filter (λ r. not (state.is_client id r.client)) requests.old.items }
     ensures bound { vec_len requests.new ≤ vec_len requests.old }

@@ -1,4 +1,4 @@
-//! The plain queue is a scheduler: what it does from its own state, it does from each state that it stands for.
+//! The reference queue is a scheduler: each call is the same step from its own state and from each state that it represents.
 use crate::queue::PlainQueue;
 use dmc_tag::reply::{Pulled, Tags};
 use dmc_tag::scheduler::Scheduler;

@@ -1,4 +1,4 @@
--- An add: the shift of all records but one, and what the tests come to.
+-- An add: the shift of all records but one, and the results of its tests.
 use Rattle.std.specs.Prelude.{◌≡◌, ℕ, ◌<◌, ◌==◌, ◌&&◌, true, not, if◌then◌else◌, List, length, map, Option, Some, None, is_some, IfSome, IsSome, Result, Ok, Err}
 use Rattle.std.specs.Option.{option_map}
 use Rattle.std.specs.Ordering.{is_eq}
@@ -20,8 +20,8 @@ use Rattle.dmc_tag.specs.Tag.{Fraction, Tagging}
 use Rattle.dmc_client.specs.Record.{Rec}
 use Rattle.dmc_adjust.specs.Changes.{shifted, is_shiftable}
 use Rattle.dmc_roster.specs.Entries.{Entry, entry_keyed, entry_named, record_at, with_rec}
-use Rattle.dmc_heads.specs.declared.head.Head.{Head}
-use Rattle.dmc_heads.specs.Heads as heads_of
+use Rattle.dmc_head_index.specs.declared.head.Head.{Head}
+use Rattle.dmc_head_index.specs.Heads as heads_of
 
 -- each record but the newcomer's is shifted, where its shifted tags are values
 abbrev pub shifted_but : {T : Type 0} → Tagging T → T → ℕ → ℕ → Rec T → Rec T
@@ -36,24 +36,24 @@ abbrev pub heads_shifted : {T : Type 0} → Tagging T → Option T → List (Opt
 heads_shifted ops None heads = heads
 heads_shifted ops (Some amount) heads = map (option_map (heads_of.shifted ops amount)) heads
 
--- no shift, where the amount is nothing
+-- no shift, where the amount is 0
 abbrev pub unless_nothing : {T : Type 0} → Tagging T → Option T → Option T
 unless_nothing ops None = None
 unless_nothing ops (Some amount) = if is_eq (ops.compare amount (ops.of_moment 0)) then None else Some amount
 
--- how far all others are shifted for a client that comes at t
+-- the amount by which all others are shifted for a client that arrives at t
 abbrev pub needed_shift : {T : Type 0} → Tagging T → List (PlainRequest T) → PlainClient T → T → Result (Option T) Refusal
 needed_shift ops requests arriving t = shift_of ops requests arriving t >>= λ full. Ok (unless_nothing ops full)
 
--- the tests of an add held: the new tags are these, and so is the shift, which is left out where it is nothing
+-- the tests of an add passed: the new tags are these, and so is the shift, which is left out where it is 0
 pub record Allows {T : Type 0} (ops : Tagging T) (s : State T) (id : ClientId) (params : Params) (t : ℕ) (addition : Addition T) : Type 0 where
   pub full : Option T
   pub test : can_add ops s id params (ops.of_moment t) ≡ Ok (full, addition.tags)
   pub shift : addition.shift ≡ unless_nothing ops full
 
--- an addition to a queue, which its request can be queued by
+-- what an add changes, so that its request can be queued
 pub record IsAddition {T : Type 0} (ops : Tagging T) (fraction : T → Fraction) (is_value : Fraction → Type 0) (q : Queue T) (client : ClientId) (addition : Addition T) : Type 0 where
-  -- its key is that of the client, which is registered
+  -- the key is that of the client, which is registered
   pub key : entry_keyed addition.key q.roster.entries ≡ entry_named client q.roster.entries
   pub held : is_some (entry_keyed addition.key q.roster.entries) ≡ true
   -- its tags follow the client's last ones
@@ -64,10 +64,10 @@ pub record IsAddition {T : Type 0} (ops : Tagging T) (fraction : T → Fraction)
   pub shiftable : can_shift_by ops addition.shift (state_of q).clients (state_of q).requests ≡ true
   -- the new P is a value
   pub value : is_value (fraction addition.tags.p)
-  -- one request more may be queued
+  -- one more request may be queued
   pub room : length (state_of q).requests < most_requests
 
--- the tests of an add held, and what it comes to
+-- the tests of an add passed, and its effect
 pub record IsAllowed {T : Type 0} (ops : Tagging T) (fraction : T → Fraction) (is_value : Fraction → Type 0) (q : Queue T) (client : ClientId) (params : Params) (t : ℕ) (addition : Addition T) : Type 0 where
   pub tests : Allows ops (state_of q) client params t addition
   -- the plain state afterwards and the reply, for each token

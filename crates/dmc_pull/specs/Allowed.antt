@@ -1,4 +1,4 @@
--- What a pull with a test answers.
+-- The result of a pull with the caller's test.
 use Rattle.std.specs.Prelude.{◌≡◌, ℕ, Bool, true, false, Result, Ok, Err, Some}
 use Rattle.dmc_types.specs.declared.command.Command.TheVariants.{Pull}
 use Rattle.dmc_types.specs.declared.config.PhaseType.{PhaseType}
@@ -34,7 +34,7 @@ PullsIf {T} allows ops old new at (Ok pulled) = Exactly ops old new (Pull at) (S
 PullsIf allows ops old new at (Err (faults.Refused refusal)) = Exactly ops old new (Pull at) (Some (Refused refusal))
 PullsIf allows ops old new at (Err faults.Declined) = (new ≡ old) × (is_allowed allows ((step ops old (Pull at)).1) ≡ false)
 
--- the same of an outcome
+-- the outcome of such a pull, in the same way
 abbrev pub SettlesIf : {T : Type 0} → (ClientId → PhaseType → Bool) → State T → State T → Outcome T → Result Pulled PullFault → Type 0
 SettlesIf {T} allows old new outcome (Ok pulled) = Settles old new outcome (Some (pull_reply pulled)) × (is_allowed {T = T} allows (pull_reply pulled) ≡ true)
 SettlesIf allows old new outcome (Err (faults.Refused refusal)) = Settles old new outcome (Some (Refused refusal))

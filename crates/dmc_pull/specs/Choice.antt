@@ -26,19 +26,19 @@ first_at key entries = option_and_then (first_of entries key) (entry_keyed key e
 abbrev pub IsFirstOf : {T : Type 0} → List (Entry T) → ℕ → ClientId → Type 0
 IsFirstOf entries key client = option_map (λ found. found.0.client) (first_at key entries) ≡ Some client
 
--- the first request of the client that is named is the best of the early ones; none is early where no client is named
+-- the first request of the named client is the best of the early ones; none is early where no client is named
 abbrev pub Early : {T : Type 0} → Tagging T → ℕ → List (Entry T) → Option (ℕ × ClientId) → Type 0
 Early ops t entries None = best (by_reservation ops) (is_early ops t) (requests_in entries) ≡ None
 Early ops t entries (Some (key, client)) = (best (by_reservation ops) (is_early ops t) (requests_in entries) ≡ first_at key entries) × IsFirstOf entries key client
 
--- The first request of the client that is named is the best of the free ones; or none is free, and it is the best of all.
--- Nothing is queued where no client is named.
+-- The first request of the named client is the best of the free ones; or none is free, and it is the best of all. Nothing is
+-- queued where no client is named.
 abbrev pub ByWeight : {T : Type 0} → Tagging T → ℕ → List (Entry T) → Option (ℕ × ClientId × Bool) → Type 0
 ByWeight ops t entries None = requests_in entries ≡ []
 ByWeight ops t entries (Some (key, client, true)) = (best (by_weight ops) (is_free ops t) (requests_in entries) ≡ first_at key entries) × IsFirstOf entries key client
 ByWeight ops t entries (Some (key, client, false)) = (best (by_weight ops) (is_free ops t) (requests_in entries) ≡ None) × (best (by_weight ops) is_any (requests_in entries) ≡ first_at key entries) × IsFirstOf entries key client
 
--- a call's answer is the outcome's, and its state
+-- the result and the state of a call are those of the outcome
 abbrev pub Settles : {T : Type 0} → State T → State T → Outcome T → Option (Reply T) → Type 0
 Settles old new outcome (Some reply) = (new, reply) ≡ answer_of old outcome
 Settles old new outcome None = ⊥
@@ -47,7 +47,7 @@ Settles old new outcome None = ⊥
 abbrev pub after_grant : {T : Type 0} → Tagging T → Bool → Rec T → Rec T
 after_grant ops reduces rec = if reduces then reduced ops (popped rec) else popped rec
 
--- the test of a grant in the weight phase: what it takes off is the spacing of the reservation
+-- the test of a grant in the weight phase: the amount is the spacing of the reservation
 abbrev pub IsGrantable : {T : Type 0} → Tagging T → State T → PlainRequest T × List (PlainRequest T) → Option (Rec T) → Bool → Type 0
 IsGrantable ops s found None can = ⊥
 IsGrantable ops s found (Some rec) can = can_grant ops s.config.hz found.0.client s.clients found.1 ≡ (if can then Ok rec.spacings.r else Err Range)

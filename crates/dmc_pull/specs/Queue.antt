@@ -1,4 +1,4 @@
--- What contracts see of the indexed queue, the plain state that it is, and what is true of it.
+-- What contracts see of the indexed queue, the plain state that it represents, and its invariant.
 use Rattle.std.specs.Prelude.{◌≡◌, ℕ, ◌≤◌, ◌<◌, true, false, List, Option, Some, Result, Ok, Err, ⊤, length, slice_get}
 use Rattle.std.specs.Option.{option_map, option_and_then}
 use Rattle.std.specs.List.{AllByRecursion}
@@ -14,7 +14,7 @@ use Rattle.dmc_tag.specs.Spacing.{spacings_of}
 use Rattle.dmc_client.specs.Record.{Rec, IsRecord, share_tags}
 use Rattle.dmc_roster.specs.Entries.{Entry, Listing, entry_keyed, AreDistinct}
 use Rattle.dmc_index.specs.Index.{slot_of_key}
-use Rattle.dmc_heads.specs.declared.head.Head.{Head}
+use Rattle.dmc_head_index.specs.declared.head.Head.{Head}
 use Rattle.dmc_pull.specs.Standing.{clients_in, requests_in}
 
 pub record Queue (T : Type 0) : Type 0 where
@@ -24,7 +24,7 @@ pub record Queue (T : Type 0) : Type 0 where
   pub heads : List (Option (Head T))
   pub last_moment : ℕ
 
--- the plain state that it is, with the requests client after client
+-- the plain state that it represents, with the requests client after client
 abbrev pub state_of : {T : Type 0} → Queue T → State T
 state_of q = record { config = q.config; requests = requests_in q.roster.entries; clients = clients_in q.roster.entries; last_moment = q.last_moment }
 
@@ -36,7 +36,7 @@ unready h = record h { ready = false }
 abbrev pub unready_head : {T : Type 0} → ClientId → Tags T → Head T
 unready_head client tags = record { client = client; tags = tags; ready = false }
 
--- marked ready where its L is not past
+-- marked ready where its L is at most the moment
 abbrev pub head_at : {T : Type 0} → Tagging T → ℕ → ClientId → Tags T → Head T
 head_at ops t client tags = record { client = client; tags = tags; ready = is_due ops t (Some tags.l) }
 
@@ -44,19 +44,19 @@ head_at ops t client tags = record { client = client; tags = tags; ready = is_du
 abbrev pub head_of : {T : Type 0} → Entry T → Option (Head T)
 head_of e = option_map (λ r. unready_head e.id r.tags) (slice_get e.rec.requests 0)
 
--- The indexes hold exactly the clients with a queued request, each under the tags of its first request; a ready mark is
--- true only where the L is not past the last effective moment.
+-- The indexes hold exactly the clients with a queued request, each under the tags of its first request. A ready mark is true only
+-- where L is at most the last effective moment.
 pub record AreHeads {T : Type 0} (ops : Tagging T) (t : ℕ) (entries : List (Entry T)) (heads : List (Option (Head T))) : Type 0 where
   pub here : (key : ℕ) → option_map unready (slot_of_key heads key) ≡ option_and_then head_of (entry_keyed key entries)
   pub marks : (key : ℕ) (head : Head T) → slot_of_key heads key ≡ Some head → head.ready ≡ true → is_due ops t (Some head.tags.l) ≡ true
 
--- each head is marked ready that is free
+-- each head that is free is marked ready
 abbrev pub IsMarked : {T : Type 0} → Tagging T → Queue T → Type 0
 IsMarked {T} ops q = (key : ℕ) (head : Head T) → slot_of_key q.heads key ≡ Some head → head.ready ≡ false → is_due ops q.last_moment (Some head.tags.l) ≡ false
 
--- ---- what is true of each queue
+-- ---- the invariant of each queue
 
--- what is true of each record: its spacings are those of its rates, and its P tags are values
+-- the invariant of each record: its spacings are those of its rates, and its P tags are values
 pub record IsKept {T : Type 0} (ops : Tagging T) (fraction : T → Fraction) (is_value : Fraction → Type 0) (hz : ℕ) (rec : Rec T) : Type 0 where
   pub is_record : IsRecord ops rec
   pub spacings : spacings_of ops hz rec.info ≡ Ok rec.spacings
@@ -70,7 +70,7 @@ pub record IsQueue {T : Type 0} (ops : Tagging T) (fraction : T → Fraction) (i
   pub counted : queued ≡ length (requests_in q.roster.entries)
   pub bound : queued ≤ most_requests
 
--- a test's answer, whatever it found
+-- the result of a test, whatever it is
 abbrev pub without_value : {X : Type 0} → Result X Refusal → Result ⊤ Refusal
 without_value (Ok x) = Ok tt
 without_value (Err refusal) = Err refusal

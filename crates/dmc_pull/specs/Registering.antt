@@ -1,4 +1,4 @@
--- What the tests of a registration and of an update come to.
+-- The results of the tests of a registration and of an update.
 use Rattle.std.specs.Prelude.{◌≡◌, ℕ, ◌<◌, true, [], None, Ok, length, is_some, IfSome}
 use Rattle.dmc_types.specs.Limits.{most_clients}
 use Rattle.dmc_types.specs.Values.{Rates}
@@ -15,7 +15,7 @@ use Rattle.dmc_pull.specs.Queue.{Queue}
 pub record IsRegistration {T : Type 0} (ops : Tagging T) (q : Queue T) (client : ClientId) (info : Rates) (spacings : Spacings T) : Type 0 where
   pub exact : spacings_of ops q.config.hz info ≡ Ok spacings
   pub are : AreSpacings ops info spacings
-  -- nobody has the name, and one client more may be registered
+  -- no client has the id, and one more client may be registered
   pub new : entry_named client q.roster.entries ≡ None
   pub room : length q.roster.entries < most_clients
 
@@ -23,7 +23,7 @@ pub record IsRegistration {T : Type 0} (ops : Tagging T) (q : Queue T) (client :
 pub record IsUpdate {T : Type 0} (ops : Tagging T) (q : Queue T) (client : ClientId) (info : Rates) (found : ℕ) (spacings : Spacings T) : Type 0 where
   pub exact : spacings_of ops q.config.hz info ≡ Ok spacings
   pub are : AreSpacings ops info spacings
-  -- its key is that of the client, which is registered
+  -- the key is that of the client, which is registered
   pub key : entry_keyed found q.roster.entries ≡ entry_named client q.roster.entries
   pub held : is_some (entry_keyed found q.roster.entries) ≡ true
   pub distinct : AreDistinct q.roster.entries

@@ -1,4 +1,4 @@
--- The clients and requests that the entries of a roster stand for in a plain state.
+-- The clients and requests that the entries of a roster represent in a plain state.
 use Rattle.std.specs.Prelude.{List, [], ◌∷◌, ◌++◌, map}
 use Rattle.dmc_tag.specs.declared.plain.PlainRequest.{PlainRequest}
 use Rattle.dmc_tag.specs.declared.plain.PlainClient.{PlainClient}

@@ -3,12 +3,12 @@ ghost use Rattle.std.specs.Prelude.{◌≡◌, true, Some, IfSome, ⊤};
 ghost use Rattle.std.specs.List.{AllByRecursion};
 ghost use Rattle.dmc_adjust.specs.Changes as changes;
 ghost use Rattle.dmc_client.specs.Record.{IsRecord};
-ghost use Rattle.dmc_heads.specs.Heads.{CanShift};
+ghost use Rattle.dmc_head_index.specs.Heads.{CanShift};
 ghost use Rattle.dmc_pull.specs.Adding as adding_of;
 
 use dmc_adjust::adjustment::{can_shift, shift};
 use dmc_client::record::ClientRec;
-use dmc_heads::heads::Heads;
+use dmc_head_index::heads::Heads;
 use dmc_index::index::Indexes;
 use dmc_roster::change::{RecordRule, RecordTest};
 use dmc_roster::roster::Roster;
@@ -17,7 +17,7 @@ use dmc_tag::tag::Tag;
 use dmc_types::moment::Moment;
 use std::alloc::AllocError;
 
-/// What an add comes to: the key of its client, how far all others are shifted, and the new tags.
+/// The effect of an add: the key of its client, the amount by which all others are shifted, and the new tags.
 #[derive(Copy)]
 pub struct Addition<T> {
     pub key: usize,
@@ -35,7 +35,7 @@ impl<T: Copy> Clone for Addition<T> {
     }
 }
 
-/// No shift, where the amount is nothing.
+/// No shift, where the amount is 0.
 pub fn unless_nothing<T: Tag>(amount: T) -> Option<T>
     ensures { result ≡ adding_of.unless_nothing T.ops (Some amount) }
 {
@@ -59,7 +59,7 @@ impl<T: Tag> RecordTest<T> for Shiftable<T> {
     }
 }
 
-/// The shift of every record but that of the client that comes, and of those whose tags are no values then.
+/// The rule that shifts every record but that of the client that arrives, and but those whose shifted tags are no values.
 #[derive(Drop)]
 pub struct ShiftOthers<T> {
     pub amount: T,
@@ -79,7 +79,7 @@ impl<T: Tag> RecordRule<T> for ShiftOthers<T> {
     }
 }
 
-/// Shifts all clients but the one that comes, and all heads, where there is a shift.
+/// Shifts all clients but the one that arrives, and all heads, where there is a shift.
 pub fn shift_others<T: Tag, I: Indexes<T>>(
     roster: &mut Roster<T>,
     heads: &mut Heads<T, I>,

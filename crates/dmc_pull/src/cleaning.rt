@@ -12,7 +12,7 @@ use dmc_roster::roster::Roster;
 use dmc_tag::tag::Tag;
 use dmc_types::moment::Moment;
 
-/// Whether nothing is queued, and the last arrival is so long ago.
+/// Whether nothing is queued, and the last arrival is at least this old.
 fn is_stale<T: Tag>(rec: &ClientRec<T>, at: Moment, age: u64) -> bool
     ensures { result ≡ cleaning_of.is_stale at age rec.now }
 {
@@ -34,7 +34,7 @@ impl<T: Tag> RecordTest<T> for Erased {
     }
 }
 
-/// A client that becomes idle: it was not, and it is not erased.
+/// The test of a client that becomes idle: it is not idle, and it is not erased.
 #[derive(Drop)]
 struct Idled {
     at: Moment,
@@ -52,7 +52,7 @@ impl<T: Tag> RecordTest<T> for Idled {
     }
 }
 
-/// What a clean does with each client.
+/// The rule of a clean for each client.
 #[derive(Drop)]
 struct Clean {
     at: Moment,
@@ -74,7 +74,7 @@ impl<T: Tag> RecordRule<T> for Clean {
     }
 }
 
-/// How many clients become idle.
+/// The number of clients that become idle.
 pub fn count_idled<T: Tag>(roster: &Roster<T>, at: Moment, idle_age: u64, erase_age: u64) -> usize
     ensures value { result ≡ length (filter (λ e. cleaning_of.is_idled at idle_age erase_age e.rec) roster.now.entries) }
     ensures bound { result ≤ most_clients }
@@ -86,7 +86,7 @@ pub fn count_idled<T: Tag>(roster: &Roster<T>, at: Moment, idle_age: u64, erase_
     })
 }
 
-/// How many clients are erased.
+/// The number of clients that are erased.
 pub fn count_erased<T: Tag>(roster: &Roster<T>, at: Moment, erase_age: u64) -> usize
     ensures value { result ≡ length (filter (λ e. cleaning_of.is_stale at erase_age e.rec) roster.now.entries) }
     ensures bound { result ≤ most_clients }
@@ -94,7 +94,7 @@ pub fn count_erased<T: Tag>(roster: &Roster<T>, at: Moment, erase_age: u64) -> u
     roster.count(&Erased { at, erase_age })
 }
 
-/// Erases the old clients, and marks the others idle that are stale.
+/// Erases the old clients, and marks the stale ones among the others idle.
 pub fn age_all<T: Tag>(roster: &mut Roster<T>, at: Moment, idle_age: u64, erase_age: u64)
     ensures kept { AllByRecursion (λ e. IsRecord T.ops e.rec) roster.new.entries }
     ensures value { roster.new.entries ≡ map (λ e. with_rec (cleaning_of.with_idle_mark at idle_age) e) (filter (λ e. not (cleaning_of.is_stale at erase_age e.rec)) roster.old.entries) }

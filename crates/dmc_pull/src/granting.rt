@@ -1,4 +1,4 @@
-//! A pull that asks before it grants.
+//! A pull with a test of the caller.
 ghost use Rattle.std.specs.Prelude.{◌≡◌, Bool, true};
 ghost use Rattle.dmc_types.specs.declared.config.PhaseType.{PhaseType as Phase};
 ghost use Rattle.dmc_types.specs.declared.ids.ClientId.{ClientId as Client};
@@ -8,13 +8,13 @@ use dmc_types::ids::ClientId;
 use dmc_types::refusal::Refusal;
 use thiserror::Error;
 
-/// A question that a pull asks before it grants (own).
+/// A test that a pull makes before it grants (extension).
 pub trait GrantTest {
-    /// Whether a grant may go to a client in a phase.
+    /// Whether a client may get a grant in a phase.
     ghost allows: { Self → Client → Phase → Bool };
 
-    /// Whether a grant may go to the client in this phase. `near` is the client's place in order of registration as long as no
-    /// client is erased: a test that keeps clients in that order may look there first.
+    /// Whether the client may get a grant in this phase. `near` is the client's index in order of registration as long as no
+    /// client is erased: a test that has clients in that order may look there first.
     fn allows(&self, client: ClientId, phase: PhaseType, near: usize) -> bool
         ensures { result ≡ allows self.now client phase };
 }
@@ -31,13 +31,13 @@ impl GrantTest for AllowAll {
     }
 }
 
-/// Why a pull with a test fails. Nothing has changed.
+/// The reason why a pull with a test fails. Nothing has changed.
 #[derive(Clone, Copy, Debug, PartialEq, Eq, Error)]
 pub enum PullFault {
     /// The rules refuse the pull.
     #[error("{0}")]
     Refused(Refusal),
-    /// The rules grant a request to a client and in a phase that the test does not allow.
+    /// The rules grant a request whose client and phase the test does not allow.
     #[error("the grant is not allowed")]
     Declined,
 }

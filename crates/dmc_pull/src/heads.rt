@@ -5,8 +5,8 @@ ghost use Rattle.dmc_index.specs.Index.{slot_of_key};
 ghost use Rattle.dmc_pull.specs.Queue as queue_of;
 ghost use Rattle.dmc_tag.specs.Rules as rules_of;
 
-use dmc_heads::head::Head;
-use dmc_heads::heads::Heads;
+use dmc_head_index::head::Head;
+use dmc_head_index::heads::Heads;
 use dmc_index::index::Indexes;
 use dmc_tag::due::is_due;
 use dmc_tag::reply::Tags;
@@ -14,7 +14,7 @@ use dmc_tag::tag::Tag;
 use dmc_types::ids::ClientId;
 use dmc_types::moment::Moment;
 
-/// A client's head at a moment, marked ready where its L is not past then: so it need not be marked by a later pull.
+/// A client's head at a moment. It is marked ready where its L is at most that moment, so that no later pull has to mark it.
 pub fn head_at<T: Tag>(client: ClientId, tags: Tags<T>, at: Moment) -> Head<T>
     ensures { result ≡ queue_of.head_at T.ops at client tags }
 {
@@ -25,7 +25,7 @@ pub fn head_at<T: Tag>(client: ClientId, tags: Tags<T>, at: Moment) -> Head<T>
     }
 }
 
-/// The head of a client after its first request left: that of the next request, or none.
+/// Changes the head of a client whose first request was removed, to that of the next request or to none.
 pub fn renew<T: Tag, I: Indexes<T>>(
     heads: &mut Heads<T, I>,
     key: usize,
@@ -42,7 +42,7 @@ pub fn renew<T: Tag, I: Indexes<T>>(
     }
 }
 
-/// Takes out the head of a client that had so many requests queued; without any it has no head.
+/// Removes the head of a client that had this many requests queued. A client without any has no head.
 pub fn clear<T: Tag, I: Indexes<T>>(heads: &mut Heads<T, I>, key: usize, queued: usize)
     requires { is_some (slot_of_key heads.old key) ≡ not (queued == 0) }
     ensures { heads.new ≡ slice_set heads.old key None }
@@ -52,7 +52,7 @@ pub fn clear<T: Tag, I: Indexes<T>>(heads: &mut Heads<T, I>, key: usize, queued:
     }
 }
 
-/// The least whole number that is not below the tag, as a moment: 0 below 0.
+/// The least whole number that is not below the tag, as a moment: 0 where it is below 0.
 pub fn due_moment<T: Tag>(tag: T) -> u128
     ensures { result ≡ rules_of.moment_of (T.ops.ceil tag) }
 {

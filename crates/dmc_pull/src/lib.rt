@@ -1,4 +1,4 @@
-//! The indexed queue: a queue of dmClock that looks at the first request of each client alone.
+//! The indexed queue: a queue of dmClock that looks at the first request of each client only.
 #![tactic(auto)]
 
 mod adding;

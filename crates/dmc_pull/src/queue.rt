@@ -1,7 +1,7 @@
 //! The indexed queue.
 ghost use Rattle.std.specs.Prelude.{◌≡◌, ◌≤◌, ◌==◌, Some, Ok, length};
-ghost use Rattle.dmc_heads.specs.Heads as heads_of;
-ghost use Rattle.dmc_heads.specs.Heads.{Ranks};
+ghost use Rattle.dmc_head_index.specs.Heads as heads_of;
+ghost use Rattle.dmc_head_index.specs.Heads.{Ranks};
 ghost use Rattle.dmc_pull.specs.FirstRequests.{AreFirstRequests};
 ghost use Rattle.dmc_pull.specs.Queue.{state_of};
 ghost use Rattle.dmc_tag.specs.Answers.{sure_call_reply, clean_reply};
@@ -18,7 +18,7 @@ use crate::cleaning::{age_all, count_erased, count_idled};
 use crate::heads::clear;
 use crate::range::{ShareRange, first_range};
 use crate::records::drain_at;
-use dmc_heads::heads::Heads;
+use dmc_head_index::heads::Heads;
 use dmc_index::index::Indexes;
 use dmc_roster::roster::Roster;
 use dmc_tag::tag::Tag;
@@ -29,21 +29,21 @@ use dmc_types::refusal::Refusal;
 use std::alloc::Global;
 use std::marker::Model;
 
-/// A part of a queue. A struct that is generic in indexes has a rule for letting it go, as generic code does, where such a part
-/// stands behind a type parameter.
+/// A part of a queue. In generic code a struct that is generic in indexes can be dropped only where such a part is behind a type
+/// parameter.
 #[derive(Drop)]
 struct Part<P>(P);
 
-/// A queue that keeps each client's requests apart, and the first ones in three indexes. Contracts see its clients in order
-/// of registration and what the indexes hold.
+/// A queue that stores each client's requests apart, and the first ones in three indexes. Contracts see its clients in order of
+/// registration and what the indexes hold.
 #[derive(Drop)]
 pub struct PullQueue<T: Tag, I: Indexes<T>> {
     config: QueueConfig,
     roster: Roster<T>,
     heads: Part<Heads<T, I>>,
-    // How many requests are queued.
+    // The number of queued requests.
     queued: usize,
-    // Between which tags each P lies, where that is known.
+    // Between which two tags each P lies, where that is known.
     range: Option<ShareRange<T>>,
     last_moment: Moment,
     alloc: Global,
@@ -61,7 +61,7 @@ impl<T: Tag, I: Indexes<T>> Model for PullQueue<T, I> {
 }
 
 impl<T: Tag, I: Indexes<T>> PullQueue<T, I> {
-    /// An empty queue. It takes no memory.
+    /// An empty queue. It does not allocate.
     pub fn new(alloc: Global, config: QueueConfig) -> PullQueue<T, I>
         ensures { state_of result ≡ opening config }
     {
@@ -76,35 +76,35 @@ impl<T: Tag, I: Indexes<T>> PullQueue<T, I> {
         }
     }
 
-    /// What it was made with.
+    /// The configuration that it was made with.
     pub fn config(&self) -> QueueConfig
         ensures { result ≡ (state_of self.now).config }
     {
         self.config
     }
 
-    /// How many clients are registered.
+    /// The number of registered clients.
     pub fn client_count(&self) -> u32
         ensures { result ≡ length (state_of self.now).clients }
     {
         self.roster.len() as u32
     }
 
-    /// How many requests are queued.
+    /// The number of queued requests.
     pub fn request_count(&self) -> u32
         ensures { result ≡ length (state_of self.now).requests }
     {
         self.queued as u32
     }
 
-    /// Whether nothing is queued (Ceph's name).
+    /// Whether nothing is queued, under Ceph's name.
     pub fn empty(&self) -> bool
         ensures { result ≡ (length (state_of self.now).requests == 0) }
     {
         self.queued == 0
     }
 
-    /// The same, under the name that Rust's collections give it.
+    /// Whether nothing is queued, under the name that Rust's collections have.
     pub fn is_empty(&self) -> bool
         ensures { result ≡ (length (state_of self.now).requests == 0) }
     {
@@ -120,7 +120,7 @@ impl<T: Tag, I: Indexes<T>> PullQueue<T, I> {
         self.heads.0.by_reservation()
     }
 
-    /// The index by L, what is unready first. A ready mark is true only where the L is not past the last effective moment.
+    /// The index by L, unready ones first. A ready mark is true only where L is at most the last effective moment.
     pub fn limit_index(&self) -> &I::LimitIndex
         ensures heads { AreFirstRequests T.ops (state_of self.now) self.now.heads }
         ensures ranks { Ranks heads_of.limit_rank self.now.heads (I.LimitIndex.slots result.now) }
@@ -128,7 +128,7 @@ impl<T: Tag, I: Indexes<T>> PullQueue<T, I> {
         self.heads.0.by_limit()
     }
 
-    /// The index by P, what is ready first.
+    /// The index by P, ready ones first.
     pub fn weight_index(&self) -> &I::WeightIndex
         ensures heads { AreFirstRequests T.ops (state_of self.now) self.now.heads }
         ensures ranks { Ranks heads_of.ready_rank self.now.heads (I.WeightIndex.slots result.now) }
@@ -151,7 +151,7 @@ impl<T: Tag, I: Indexes<T>> PullQueue<T, I> {
         self.last_moment
     }
 
-    /// Takes out a client's queued requests, and answers how many; refused `Unknown`.
+    /// Removes a client's queued requests, and returns how many. It is refused `Unknown`.
     pub fn remove_by_client(&mut self, client: ClientId) -> Result<u32, Refusal>
         ensures { Exactly T.ops (state_of self.old) (state_of self.new) (commands.Remove client) (sure_call_reply replies.Removed result) }
     {
@@ -164,7 +164,7 @@ impl<T: Tag, I: Indexes<T>> PullQueue<T, I> {
         Ok(count as u32)
     }
 
-    /// Marks idle clients and erases old ones, and answers how many became idle and how many were erased.
+    /// Marks idle clients and erases old ones. Returns how many became idle and how many were erased.
     pub fn clean(&mut self, at: Moment) -> (u32, u32)
         ensures { Exactly T.ops (state_of self.old) (state_of self.new) (commands.Clean at) (Some (clean_reply result)) }
     {

@@ -1,4 +1,4 @@
-//! Between which tags the P tags of a queue lie.
+//! Between which two tags the P tags of a queue lie.
 ghost use Rattle.std.specs.Prelude.{◌≡◌, ⊤};
 ghost use Rattle.dmc_pull.specs.Range as range_of;
 ghost use Rattle.dmc_pull.specs.Range.{IsWithin};
@@ -8,7 +8,7 @@ use dmc_tag::tag::Tag;
 use dmc_types::moment::Moment;
 use std::alloc::AllocError;
 
-/// Two tags between which each P of a queue lies. It may be wider than need be.
+/// Two tags between which each P of a queue lies. The range may be wider than it has to be.
 #[derive(Copy)]
 pub struct ShareRange<T> {
     pub least: T,
@@ -25,7 +25,7 @@ impl<T: Copy> Clone for ShareRange<T> {
     }
 }
 
-/// The range of a queue without clients: 0 alone. It is kept of whole numbers only.
+/// The range of a queue without clients: 0 alone. It is known only where tags are whole numbers.
 pub fn first_range<T: Tag>() -> Option<ShareRange<T>>
     ensures { IsWithin T.ops result (T.ops.of_moment 0) }
 {
@@ -39,8 +39,8 @@ pub fn first_range<T: Tag>() -> Option<ShareRange<T>>
     })
 }
 
-/// Widens the range for a request that comes with such a P, and for a shift of all others. It is not known any more where
-/// a bound is no value then.
+/// Widens the range for a request that arrives with a P, and for a shift of all others. Where a bound is then no value, the range
+/// is no longer known.
 pub fn widen<T: Tag>(range: &mut Option<ShareRange<T>>, share: T, shift: Option<T>)
     ensures { range.new ≡ range_of.range_after T.ops range.old share shift }
 {
@@ -53,8 +53,8 @@ pub fn widen<T: Tag>(range: &mut Option<ShareRange<T>>, share: T, shift: Option<
     }
 }
 
-/// Whether it follows from the range that each P less the amount is a value: what lies between two whole numbers that are
-/// values is one.
+/// Whether it follows from the range that each P less the amount is a value. What lies between two whole numbers that are values
+/// is a value.
 pub fn all_have_less<T: Tag>(range: Option<ShareRange<T>>, amount: T) -> bool
     ensures { result ≡ range_of.all_have_less T.whole T.ops amount range }
 {
@@ -66,7 +66,7 @@ pub fn all_have_less<T: Tag>(range: Option<ShareRange<T>>, amount: T) -> bool
     }
 }
 
-/// Widens the range for a tag more.
+/// Widens the range for one more tag.
 fn include<T: Tag>(range: &mut ShareRange<T>, share: T)
     ensures { range.new ≡ range_of.with_share T.ops share range.old }
 {
@@ -78,7 +78,7 @@ fn include<T: Tag>(range: &mut ShareRange<T>, share: T)
     }
 }
 
-/// The range with each tag of it less an amount. None where a bound less the amount is no value.
+/// The range after an amount was taken off each tag. `None` where a bound less the amount is no value.
 fn with_less<T: Tag>(range: ShareRange<T>, amount: T) -> Option<ShareRange<T>>
     ensures { result ≡ range_of.with_less T.ops amount range }
 {

@@ -1,4 +1,4 @@
-//! Changes of one client's record, by the key that the roster has for it.
+//! Changes of one client's record, by its key in the roster.
 ghost use Rattle.std.specs.Prelude.{◌≡◌, ◌==◌, ◌&&◌, not, true, [], Some, IfSome, OnOk, OnErr, is_some, slice_get, length};
 ghost use Rattle.std.specs.Option.{option_map, option_and_then};
 ghost use Rattle.dmc_adjust.specs.Changes as changes;
@@ -39,7 +39,7 @@ pub fn first_tags<T: Tag>(roster: &Roster<T>, key: usize) -> Option<Tags<T>>
     }
 }
 
-/// Takes out the client's first request; in the weight phase the spacing of its reservation is taken off its R tags.
+/// Removes the client's first request. In the weight phase the spacing of its reservation is taken off its R tags.
 pub fn grant_first<T: Tag>(
     roster: &mut Roster<T>,
     key: usize,
@@ -54,7 +54,7 @@ pub fn grant_first<T: Tag>(
     grant_on(roster.at_mut(key), reduces)
 }
 
-/// The same on the record.
+/// Removes the first request of the record, as `grant_first` does.
 fn grant_on<T: Tag>(rec: &mut ClientRec<T>, reduces: bool) -> Option<QueuedRequest<T>>
     requires { reduces ≡ true → changes.is_reducible T.ops (changes.popped rec.old) ≡ true }
     ensures value { result ≡ slice_get rec.old.requests 0 }
@@ -68,7 +68,7 @@ fn grant_on<T: Tag>(rec: &mut ClientRec<T>, reduces: bool) -> Option<QueuedReque
     request
 }
 
-/// Takes out the client's queued requests, and answers how many.
+/// Removes the client's queued requests, and returns how many.
 pub fn drain_at<T: Tag>(roster: &mut Roster<T>, key: usize) -> usize
     requires { is_some (entry_keyed key roster.old.entries) ≡ true }
     ensures count { IfSome (record_at key roster.old.entries) (λ rec. result ≡ length rec.requests) }
@@ -78,7 +78,7 @@ pub fn drain_at<T: Tag>(roster: &mut Roster<T>, key: usize) -> usize
     roster.at_mut(key).drain()
 }
 
-/// Queues a request that comes at a moment. A refused growth changes nothing.
+/// Queues a request that arrives at a moment. An allocation failure changes nothing.
 pub fn push_at<T: Tag>(
     roster: &mut Roster<T>,
     key: usize,

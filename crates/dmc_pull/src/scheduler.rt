@@ -1,4 +1,4 @@
-//! The indexed queue is a scheduler: what it does from its own state, it does from each state that it stands for.
+//! The indexed queue is a scheduler: each call is the same step from its own state and from each state that it represents.
 ghost use Rattle.dmc_pull.specs.Queue.{state_of};
 
 use crate::queue::PullQueue;

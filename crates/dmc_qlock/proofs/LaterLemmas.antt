@@ -1,6 +1,6 @@
 -- What no call changes, call by call.
-use Rattle.std.proofs.Common.{◌≡◌, ℕ, List, [], ◌∷◌, map, refl, sym, ap, ◌∙◌, subst}
-use Rattle.std.specs.Prelude.{Bool, Result, Ok, Err, IfErr, IfOk, OnErr}
+use Rattle.std.proofs.Common.{◌≡◌, ℕ, zero, suc, ◌+◌, ◌≤◌, ◌<◌, arith, slice_index_or, slice_set, List, [], ◌∷◌, map, refl, sym, ap, ◌∙◌, subst}
+use Rattle.std.specs.Prelude.{Bool, Option, Some, None, Result, Ok, Err, IfErr, IfNone, IfOk, IfSome, IsSome, OnErr, OnOk, OnSome, length}
 use Rattle.std.proofs.lemmas.List.{append-nil}
 use Rattle.dmc_types.specs.declared.command.Command.{Command}
 use Rattle.dmc_types.specs.declared.command.Command.TheVariants.{Pull}
@@ -11,9 +11,11 @@ use Rattle.dmc_tag.specs.declared.event.Event.{Event}
 use Rattle.dmc_tag.specs.declared.reply.Pulled.{Pulled}
 use Rattle.dmc_tag.specs.declared.reply.Reply.{Reply}
 use Rattle.dmc_tag.specs.declared.reply.Reply.TheVariants.{Refused}
-use Rattle.dmc_book.specs.BookState.{BookState, PassState}
+use Rattle.dmc_book.specs.BookState.{BookState, PassState, WorkerSide, no_worker}
 use Rattle.dmc_book.specs.Calls.{Ran, SubmitRefused, WasPulled, event_of}
 use Rattle.dmc_book.specs.Moves.{book_after, desk_after, worker_after}
+use Rattle.dmc_book.specs.Renewing.{book_renewed, renewed_worker}
+use Rattle.dmc_book.specs.Rotating.{after_rotating}
 use Rattle.dmc_book.specs.declared.fault.RunOrRange.{RunOrRange}
 use Rattle.dmc_book.specs.declared.fault.RunOrRange.TheVariants as pull
 use Rattle.dmc_book.specs.declared.fault.SubmitCause.{SubmitCause}
@@ -26,23 +28,63 @@ seen_kept : {X Y : Type 0} (f : X → Y) (g : X → X) (xs : List X) → ((x : X
 seen_kept f g [] same = refl
 seen_kept f g (x ∷ xs) same = ap (λ z. z ∷ map f (map g xs)) (same x) ∙ ap (λ zs. f x ∷ zs) (seen_kept f g xs same)
 
+-- one worker is seen as what it was
+seen_set : {Y : Type 0} (f : WorkerSide → Y) (ws : List WorkerSide) (i : ℕ) (v : WorkerSide) → f v ≡ f (slice_index_or ws i no_worker) → map f (slice_set ws i v) ≡ map f ws
+seen_set f [] i v same = refl
+seen_set f (w ∷ ws) zero v same = ap (λ y. y ∷ map f ws) same
+seen_set f (w ∷ ws) (suc i) v same = ap (λ ys. f w ∷ ys) (seen_set f ws i v same)
+
 module _ {T : Type 0} where
   pub later_same : (b : BookState T) → IsLater b b
-  later_same b = record { config = refl; server = refl; most = refl; workers = refl; desks = refl; rest = []; grown = sym (append-nil b.history) }
+  later_same b = record { config = refl; server = refl; first = omega arith; most = refl; workers = refl; desks = refl; rest = []; grown = sym (append-nil b.history) }
 
   pub later_closed : (b : BookState T) (closed : Bool) → IsLater b (record b { closed = closed })
-  later_closed b closed = record { config = refl; server = refl; most = refl; workers = refl; desks = refl; rest = []; grown = sym (append-nil b.history) }
+  later_closed b closed = record { config = refl; server = refl; first = omega arith; most = refl; workers = refl; desks = refl; rest = []; grown = sym (append-nil b.history) }
 
   later_event : (e : Event T) (b : BookState T) → IsLater b (book_after e b)
   later_event e b = record {
     config = refl;
     server = refl;
+    first = omega arith;
     most = refl;
     workers = seen_kept worker_numbers (worker_after e) b.workers (λ w. refl);
     desks = seen_kept desk_numbers (desk_after e) b.desks (λ d. refl);
     rest = e ∷ [];
     grown = refl;
   }
+
+  later_released : (b : BookState T) → b.first ≤ length b.history → b.first < b.most → IsLater b (after_rotating b)
+  later_released b within goes_on = record {
+    config = refl;
+    server = refl;
+    first = within;
+    most = omega (arith, goes_on);
+    workers = refl;
+    desks = refl;
+    rest = [];
+    grown = sym (append-nil b.history);
+  }
+
+  pub later_rotated : {X : Type 0} (old new : BookState T) (segment : Option X) → IfSome segment (λ x. new ≡ after_rotating old)
+      → OnSome segment (old.first ≤ length old.history) → (IsSome segment → old.first < old.most) → IfNone segment (new ≡ old) → IsLater old new
+  later_rotated old new (Some x) rotated within goes_on kept = subst (IsLater old) (sym rotated) (later_released old within (goes_on refl))
+  later_rotated old new None rotated within goes_on kept = subst (IsLater old) (sym kept) (later_same old)
+
+  later_anew : (b : BookState T) (place : ℕ) → IsLater b (book_renewed place b)
+  later_anew b place = record {
+    config = refl;
+    server = refl;
+    first = omega arith;
+    most = refl;
+    workers = seen_set worker_numbers b.workers place (renewed_worker (length b.history) (slice_index_or b.workers place no_worker)) refl;
+    desks = refl;
+    rest = [];
+    grown = sym (append-nil b.history);
+  }
+
+  pub later_renewed : {X E : Type 0} (old new : BookState T) (place : ℕ) (sums : Result X E) → OnOk sums (new ≡ book_renewed place old) → OnErr sums (new ≡ old) → IsLater old new
+  later_renewed old new place (Ok x) renewed kept = subst (IsLater old) (sym renewed) (later_anew old place)
+  later_renewed old new place (Err e) renewed kept = subst (IsLater old) (sym kept) (later_same old)
 
   module _ (ops : Tagging T) (old new : BookState T) (before later : PassState) where
     later_left : new ≡ old → IsLater old new

@@ -1,2 +1,4 @@
+-- What a call through the lock promises its caller: what the caller's own pass holds afterwards.
 pub mod Calls
+-- What contracts see of a queue's lock.
 pub mod LockState

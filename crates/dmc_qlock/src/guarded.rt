@@ -7,6 +7,7 @@ ghost use Rattle.dmc_tag.specs.declared.reply.Reply.TheVariants as replies;
 ghost use Rattle.dmc_types.specs.declared.command.Command.TheVariants as commands;
 ghost use Rattle.dmc_book.specs.BookState.{pass_state};
 ghost use Rattle.dmc_book.specs.Calls.{is_add};
+ghost use Rattle.dmc_book.specs.Renewing.{renewed_pass};
 ghost use Rattle.dmc_qlock.specs.Calls.{Answered, PullAnswered, SubmitAnswered, must_wait, registers};
 
 use crate::fault::RunOrRange;
@@ -16,6 +17,7 @@ use dmc_book::pass::WorkerPass;
 use dmc_index::index::Indexes;
 use dmc_ledger::bundle::StampTills;
 use dmc_ledger::setup::Setup;
+use dmc_queue_history::segment::Segment;
 use dmc_tag::reply::{Pulled, Reply, Tags};
 use dmc_tag::tag::Tag;
 use dmc_tlock::stamp::Stamp;
@@ -140,6 +142,22 @@ impl<T: Tag, I: Indexes<T>, S: Setup, W: Witness<QueueBook<T, I, S>>> Guarded<
         ensures nothing { IfOk result (λ pulled. pulled ≡ pulls.Nothing → self.old.closed ≡ true) }
     {
         self.book.pull(pass, at)
+    }
+
+    /// Releases the events since the last segment, as the book does.
+    pub(crate) fn rotate(&mut self) -> Option<Segment<T, S>> {
+        self.book.rotate()
+    }
+
+    /// Begins the sums of the worker's tokens anew, as the book does.
+    pub(crate) fn renew(&mut self, pass: &mut WorkerPass<S>) -> Result<(u64, u64), RunFault>
+        ensures tokens { IfOk result (λ sums. sums.0 ≡ (pass_state pass.old).tills.tokens.amount) }
+        ensures granted { IfOk result (λ sums. sums.1 ≡ (pass_state pass.old).tills.granted.amount) }
+        ensures pass { OnOk result (pass_state pass.new ≡ renewed_pass (pass_state pass.old)) }
+        ensures stranger { IfErr result (λ fault. fault ≡ RunFault.Stranger) }
+        ensures kept { OnErr result (pass_state pass.new ≡ pass_state pass.old) }
+    {
+        self.book.renew(pass)
     }
 
     /// Takes no more requests from now on.

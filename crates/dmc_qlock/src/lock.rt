@@ -6,6 +6,7 @@ ghost use Rattle.dmc_tag.specs.declared.reply.Reply.TheVariants as replies;
 ghost use Rattle.dmc_types.specs.declared.command.Command.TheVariants as commands;
 ghost use Rattle.dmc_book.specs.BookState.{pass_state};
 ghost use Rattle.dmc_book.specs.Calls.{is_add};
+ghost use Rattle.dmc_book.specs.Renewing.{renewed_pass};
 ghost use Rattle.dmc_qlock.specs.Calls.{Answered, IsStatusOf, PullAnswered, SubmitAnswered, registers};
 
 use crate::fault::RunOrRange;
@@ -17,6 +18,7 @@ use dmc_book::status::Status;
 use dmc_index::index::Indexes;
 use dmc_ledger::bundle::StampTills;
 use dmc_ledger::setup::Setup;
+use dmc_queue_history::segment::Segment;
 use dmc_tag::reply::{Pulled, Reply, Tags};
 use dmc_tag::tag::Tag;
 use dmc_tlock::stamp::Stamp;
@@ -227,6 +229,28 @@ impl<T: Tag, I: Indexes<T>, S: Setup, W: Witness<QueueBook<T, I, S>>> LockedQueu
         ensures stranger { IfErr result (λ fault. fault ≡ RunFault.Stranger) }
     {
         self.guarded.lock(rt).book.status(pass)
+    }
+
+    /// Releases what the queue answered since the last segment. It takes no memory, and a time that does not grow with the
+    /// number of events. `None`, and nothing changes, exactly where the book's `rotate` returns it.
+    ///
+    /// Segments of one lock are parts of one history: `Segment::follows` shows which is the next.
+    pub fn rotate<R: Wait>(&self, rt: &R) -> Option<Segment<T, S>> {
+        self.guarded.lock(rt).rotate()
+    }
+
+    /// Begins the sums of the worker's tokens anew: what they were, which is what the pass held. `WorkerPass::needs_renewal`
+    /// shows when it is time.
+    ///
+    /// Refused `Stranger` as by the book.
+    pub fn renew<R: Wait>(&self, rt: &R, pass: &mut WorkerPass<S>) -> Result<(u64, u64), RunFault>
+        ensures tokens { IfOk result (λ sums. sums.0 ≡ (pass_state pass.old).tills.tokens.amount) }
+        ensures granted { IfOk result (λ sums. sums.1 ≡ (pass_state pass.old).tills.granted.amount) }
+        ensures pass { OnOk result (pass_state pass.new ≡ renewed_pass (pass_state pass.old)) }
+        ensures stranger { IfErr result (λ fault. fault ≡ RunFault.Stranger) }
+        ensures kept { OnErr result (pass_state pass.new ≡ pass_state pass.old) }
+    {
+        self.guarded.lock(rt).renew(pass)
     }
 
     /// Takes no more requests from now on, and wakes who waits for one. What is queued is still granted.

@@ -1,7 +1,7 @@
 -- The greatest common divisor, computed.
 use Rattle.std.specs.Prelude.{ℕ, zero, suc, ◌%◌}
 
--- Euclid's algorithm, in at most so many steps
+-- Euclid's algorithm, in at most this many steps
 abbrev pub gcd_within : ℕ → ℕ → ℕ → ℕ
 gcd_within zero a b = a
 gcd_within (suc steps) a zero = a

@@ -1,4 +1,4 @@
--- `gcd` is the greatest common divisor, and what follows from that.
+-- That `gcd` is the greatest common divisor, and what follows from that.
 use Rattle.std.specs.Prelude.{◌≡◌, ℕ, zero, suc, ◌*◌, ◌/◌, ◌%◌, ◌<◌}
 use Rattle.std.specs.Int.{IsGcd}
 use Rattle.std.proofs.Common.{refl, sym, ap, ◌∙◌, subst, arith}
@@ -41,7 +41,7 @@ pub gcd_scale : (c a b : ℕ) → 0 < c → gcd (c * a) (c * b) ≡ c * gcd a b
 gcd_scale c a b some =
     same_from_IsGcd (c * a) (c * b) _ _ (gcd_is (c * a) (c * b)) (mul-dvd-mul_left (gcd a b) c (gcd_is a b).0, mul-dvd-mul_left (gcd a b) c (gcd_is a b).1, λ d p q. scaled c a b d some p q)
 
--- the quotients by the greatest common divisor have none above 1
+-- the quotients by the greatest common divisor have no common divisor above 1
 pub gcd_quotients : (a b : ℕ) → 0 < b → gcd (a / gcd a b) (b / gcd a b) ≡ 1
 gcd_quotients a b some =
     let g = gcd a b in
@@ -53,7 +53,7 @@ gcd_quotients a b some =
     let same : gcd (g * (a / g)) (g * (b / g)) ≡ g = ap (λ x. gcd x (g * (b / g))) left ∙ ap (λ y. gcd a y) right in
     eq_of_mul-eq-mul_left g positive (gcd (a / g) (b / g)) 1 (sym scale ∙ same ∙ sym (mul-one g))
 
--- where b shares nothing with a, what it divides of a*c it divides of c
+-- where a and b have no common divisor above 1, b divides c if it divides a*c
 divides_rest : (a b c : ℕ) → gcd a b ≡ 1 → 0 < c → b ∣ a * c → b ∣ c
 divides_rest a b c apart some h =
     let one : c * gcd a b ≡ c = ap (λ x. c * x) apart ∙ mul-one c in

@@ -1,8 +1,16 @@
+-- The greatest common divisor, computed.
 pub mod Gcd
+-- That `gcd` is the greatest common divisor, and what follows from that.
 pub mod GcdLaws
+-- Integers as the difference of two naturals, `up` less `down`.
 pub mod Products
+-- Lowest terms.
 pub mod Lowest
+-- The value of a ratio tag, a fraction in lowest terms, and what its operations compute.
 pub mod Ratio
+-- That the operations of ratio tags are exact.
 pub mod RatioExact
+-- That ratios are in a total order, by cross products.
 pub mod RatioOrder
+-- Worked examples: the replies that the rules give in ratio tags, computed.
 pub mod Examples

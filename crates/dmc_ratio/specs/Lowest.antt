@@ -6,12 +6,12 @@ use lib.Dec.{eqb→eq}
 use Rattle.dmc_ratio.specs.Gcd.{gcd}
 use Rattle.dmc_ratio.specs.GcdLaws.{gcd_is, gcd_whole, gcd_quotients}
 
--- nothing above 1 divides n and d, and d is not 0
+-- no number above 1 divides n and d, and d is not 0
 abbrev pub is_lowest : ℤ → ℕ → Bool
 is_lowest n zero = false
 is_lowest n (suc d) = nat_eq (gcd (unsigned_abs n) (suc d)) 1
 
--- the number of this size, below 0 or not
+-- the number of this absolute value, below 0 or not
 abbrev pub with_sign : ℕ → Bool → ℤ
 with_sign size true = neg_ℤ (pos size)
 with_sign size false = pos size
@@ -68,7 +68,7 @@ neg_scale : (a b : ℕ) → neg_ℤ (pos a) *ℤ pos b ≡ neg_ℤ (pos (a * b))
 neg_scale zero b = let e : 0 * b ≡ 0 = omega arith in ap pos e ∙ sym (ap (λ x. neg_ℤ (pos x)) e)
 neg_scale (suc a) b = refl
 
--- and they are the same fraction
+-- the quotients by the greatest common divisor are the same fraction
 pub over_same : (n : ℤ) (d g : ℕ) → unsigned_abs n / g * g ≡ unsigned_abs n → d / g * g ≡ d → over n g *ℤ pos d ≡ n *ℤ pos (d / g)
 over_same (pos n) d g e f = ap pos (cross n d g e f)
 over_same (negsuc n) d g e f = neg_scale (suc n / g) d ∙ ap (λ x. neg_ℤ (pos x)) (cross (suc n) d g e f)

@@ -1,4 +1,4 @@
--- What is below 0, read as the difference of two naturals, `up` less `down`.
+-- An integer as the difference of two naturals, `up` less `down`.
 use Rattle.std.specs.Prelude.{◌≡◌, ℕ, zero, suc, pos, neg_ℤ}
 use Rattle.std.proofs.Common.{refl}
 use borrow.Author.Differences.{up, down}

@@ -19,7 +19,7 @@ pub fn ratio_future()
         ≡ (Registered ∷ tags None (1000 ∕ 3) (1000 ∕ 1) ∷ Later 334 ∷ Later 334 ∷ by_priority 1 1 ∷ []) }
 {}
 
-/// A sum whose denominator in lowest terms is past 2^32 refuses the request, and changes nothing.
+/// A sum whose denominator in lowest terms is above 2^32 refuses the request, and changes nothing.
 pub fn sum_out_of_range()
     ensures { replies 1
         (client 1 None 65521 None 0 ∷ client 2 None 65519 None 0 ∷ client 3 None 2 None 0 ∷ client 4 None 1 None 0 ∷
@@ -39,7 +39,7 @@ pub fn reduction_out_of_range()
         Refused Range ∷ by_reservation 1 1 ∷ by_reservation 1 2 ∷ []) }
 {}
 
-/// A refused pull leaves the last effective moment, so an earlier one may follow.
+/// A refused pull leaves the last effective moment, so a pull at an earlier moment may follow.
 pub fn marks_set_back()
     ensures { replies 1
         (client 1 (Some 65537) 1 None 0 ∷ client 2 None 1 (Some 1) 0 ∷ add 1 1 131075 131075 0 ∷ add 1 2 1 1 0 ∷

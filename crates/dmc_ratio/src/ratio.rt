@@ -47,8 +47,8 @@ const GREATEST_NUMER: u128 = 1 << 90;
 const GREATEST_DENOM: u128 = 1 << 32;
 
 impl RatioTag {
-    /// The tag of a fraction. None for the denominator 0, and where the fraction in lowest terms has a numerator past
-    /// 2^90 or below -2^90, or a denominator past 2^32.
+    /// The tag of a fraction. `None` for the denominator 0, and where the fraction in lowest terms has a numerator above 2^90 or
+    /// below -2^90, or a denominator above 2^32.
     pub fn new(numer: i128, denom: u64) -> Option<RatioTag>
         ensures value { result ≡ reduced numer denom }
         ensures exact { Gives ratio_fraction IsRatioValue result (record { numer = numer; denom = denom }) }
@@ -73,7 +73,7 @@ impl RatioTag {
         self.denom
     }
 
-    /// The tag of a fraction, whatever the size of its two numbers: the size is judged in lowest terms.
+    /// The tag of a fraction with two numbers of any size. Its range is checked in lowest terms.
     fn reduce(numer: i128, denom: u128) -> Option<RatioTag>
         ensures { result ≡ reduced numer denom }
     {
@@ -101,7 +101,7 @@ impl RatioTag {
         self.numer() * other.denom() as i128
     }
 
-    /// A denominator of both, over which the numerators are the cross products.
+    /// A common denominator, over which the numerators are the cross products.
     fn shared_denom(self, other: RatioTag) -> u128
         ensures { result ≡ self.denom * other.denom }
     {
@@ -109,7 +109,7 @@ impl RatioTag {
     }
 }
 
-/// The number of this size, below 0 or not.
+/// The number of this absolute value, below 0 or not.
 fn with_sign(size: u128, negative: bool) -> i128
     requires { size ≤ greatest_numer }
     ensures { result ≡ with_sign size negative }

@@ -8,7 +8,7 @@ use Rattle.dmc_types.specs.declared.ids.ClientId.{ClientId}
 use Rattle.dmc_tag.specs.State.{is_client}
 use Rattle.dmc_client.specs.Record.{Rec}
 
--- a registered client: its id, the key that its record is reached by, and the record
+-- a registered client: its id, the key of its record, and the record
 pub record Entry (T : Type 0) : Type 0 where
   pub id : ClientId
   pub key : ℕ
@@ -17,7 +17,7 @@ pub record Entry (T : Type 0) : Type 0 where
 pub record Listing (T : Type 0) : Type 0 where
   -- in order of registration
   pub entries : List (Entry T)
-  -- the key that the next client takes
+  -- the key that the next client gets
   pub next_key : ℕ
 
 abbrev pub entry_named : {T : Type 0} → ClientId → List (Entry T) → Option (Entry T)
@@ -30,11 +30,11 @@ entry_keyed key entries = find (λ e. e.key == key) entries
 abbrev pub record_at : {T : Type 0} → ℕ → List (Entry T) → Option (Rec T)
 record_at key entries = option_map (λ e. e.rec) (entry_keyed key entries)
 
--- the record of an entry changed
+-- an entry whose record is changed
 abbrev pub with_rec : {T : Type 0} → (Rec T → Rec T) → Entry T → Entry T
 with_rec f e = record e { rec = f e.rec }
 
--- the record under a key changed, and each other as it was
+-- the record under a key is changed, and each other stays
 abbrev pub with_record : {T : Type 0} → ℕ → Rec T → List (Entry T) → List (Entry T)
 with_record key rec entries = map (λ e. if e.key == key then with_rec (λ old. rec) e else e) entries
 
@@ -46,13 +46,14 @@ abbrev pub AreDistinct : {T : Type 0} → List (Entry T) → Type 0
 AreDistinct [] = ⊤
 AreDistinct (e ∷ entries) = AllByRecursion (λ f. (is_client e.id f.id ≡ false) × ((e.key == f.key) ≡ false)) entries × AreDistinct entries
 
--- what an add of a new client comes to: the client is last, under the key that was told; or memory lacks, and all stays
+-- the effect of an add of a new client: the client is last, under the key that was returned; or an allocation failed, and all
+-- stays
 abbrev pub Adds : {T : Type 0} → Listing T → Listing T → ClientId → Rec T → Result ℕ AllocError → Type 0
 Adds old new id rec (Ok key) =
     (key ≡ old.next_key) × (new.entries ≡ old.entries ++ record { id = id; key = key; rec = rec } ∷ []) × AreDistinct new.entries
 Adds old new id rec (Err fault) = new ≡ old
 
--- ---- how it is kept: ids with their keys, in order, and a record or nothing at each key
+-- ---- how it is stored: ids with their keys, in order, and a record or nothing at each key
 
 abbrev pub entry_of : {T : Type 0} → List (Option (Rec T)) → ClientId × ℕ → Option (Entry T)
 entry_of slots p = option_map (λ rec. record { id = p.0; key = p.1; rec = rec }) (slice_index_or slots p.1 None)
@@ -60,17 +61,17 @@ entry_of slots p = option_map (λ rec. record { id = p.0; key = p.1; rec = rec }
 abbrev pub entries_of : {T : Type 0} → List (ClientId × ℕ) → List (Option (Rec T)) → List (Entry T)
 entries_of ids slots = filter_map (entry_of slots) ids
 
--- a record kept and changed, or taken out
+-- a record that stays and is changed, or is removed
 abbrev pub after_retain : {T : Type 0} → (Rec T → Bool) → (Rec T → Rec T) → Option (Rec T) → Option (Rec T)
 after_retain keeps changed None = None
 after_retain keeps changed (Some rec) = if keeps rec then Some (changed rec) else None
 
--- the slots from a key on, each record kept and changed, or taken out
+-- the slots from a key on: each record stays and is changed, or is removed
 abbrev pub slots_after_retain : {T : Type 0} → (ℕ → Rec T → Bool) → (ℕ → Rec T → Rec T) → ℕ → List (Option (Rec T)) → List (Option (Rec T))
 slots_after_retain keeps changed key [] = []
 slots_after_retain keeps changed key (o ∷ slots) = after_retain (keeps key) (changed key) o ∷ slots_after_retain keeps changed (key + 1) slots
 
--- no id and no key stands twice
+-- no id and no key is there twice
 abbrev pub AreApart : List (ClientId × ℕ) → Type 0
 AreApart [] = ⊤
 AreApart (p ∷ ids) = AllByRecursion (λ q. (is_client p.0 q.0 ≡ false) × ((p.1 == q.1) ≡ false)) ids × AreApart ids

@@ -1,1 +1,2 @@
+-- What contracts see of a roster: its clients in order of registration.
 pub mod Entries

@@ -1,4 +1,4 @@
-//! What is done with each record of a roster, and asked of it.
+//! Rules and tests for each record of a roster.
 ghost use Rattle.std.specs.Prelude.{◌≡◌, ℕ, Bool};
 ghost use Rattle.dmc_client.specs.Record.{Rec, IsRecord};
 
@@ -7,20 +7,20 @@ use dmc_tag::tag::Tag;
 
 /// A rule that keeps or erases each client, and changes the records of those that it keeps.
 pub trait RecordRule<T: Tag> {
-    /// Whether the client under a key is kept.
+    /// Whether the client under a key stays.
     ghost keeps: { Self → ℕ → Rec T → Bool };
 
     /// What its record becomes.
     ghost changed: { Self → ℕ → Rec T → Rec T };
 
-    /// Changes the record under a key, and answers whether it is kept.
+    /// Changes the record under a key, and returns whether it stays.
     fn apply(&self, key: usize, rec: &mut ClientRec<T>) -> bool
         ensures keeps { result ≡ keeps self.now key rec.old }
         ensures changed { rec.new ≡ changed self.now key rec.old }
         ensures kept { IsRecord T.ops rec.new };
 }
 
-/// A question that is asked of records.
+/// A test of records.
 pub trait RecordTest<T: Tag> {
     /// Whether a record passes.
     ghost passes: { Self → Rec T → Bool };

@@ -20,7 +20,7 @@ use slab::Slab;
 use std::alloc::{AllocError, Global};
 use std::marker::Model;
 
-/// A place where no client stands.
+/// An index at which no client is.
 const NOWHERE: usize = usize::MAX;
 
 /// The registered clients, in order of registration: an id, the key of its record, and the record. No two have one id or
@@ -42,7 +42,7 @@ impl<T: Tag> Model for Roster<T> {
 }
 
 impl<T: Tag> Roster<T> {
-    /// A roster of no clients. It takes no memory.
+    /// A roster of no clients. It does not allocate.
     pub fn new(alloc: Global) -> Roster<T>
         ensures { result.entries ≡ [] }
     {
@@ -52,7 +52,7 @@ impl<T: Tag> Roster<T> {
         }
     }
 
-    /// How many clients are registered.
+    /// The number of registered clients.
     pub fn len(&self) -> usize
         ensures value { result ≡ length self.now.entries }
         ensures bound { result ≤ most_clients }
@@ -61,7 +61,7 @@ impl<T: Tag> Roster<T> {
         self.ids.len()
     }
 
-    /// The key that the next client takes.
+    /// The key that the next client gets.
     pub fn next_key(&self) -> usize
         ensures { result ≡ self.now.next_key }
     {
@@ -78,8 +78,8 @@ impl<T: Tag> Roster<T> {
         self.find_near(id, NOWHERE)
     }
 
-    /// The same, where the client may be the one that was the `near`-th to register, counted from 0, of those that are
-    /// registered: that one is looked at first.
+    /// The key of a client's record, with a hint: the client may be the one at the index `near`, in order of registration,
+    /// counted from 0. That one is looked at first.
     pub fn find_near(&self, id: ClientId, near: usize) -> Option<usize>
         ensures key { result ≡ option_map (λ e. e.key) (entries.entry_named id self.now.entries) }
         ensures entry { IfSome result (λ key. entries.entry_keyed key self.now.entries ≡ entries.entry_named id self.now.entries) }
@@ -98,7 +98,7 @@ impl<T: Tag> Roster<T> {
         self.records.get(key).unwrap()
     }
 
-    /// The record under a key, to change.
+    /// The record under a key, to be changed.
     pub fn at_mut(&mut self, key: usize) -> &mut ClientRec<T>
         requires { is_some (entries.entry_keyed key self.old.entries) ≡ true }
         ensures* writes_back { sem 𝓛 (Lends (the_row T.row (record { ops = T.ops; fraction = T.fraction; is_value = T.is_value; whole = T.whole }) (record { cmp = T.cmp }) (record { eq = T.eq }) (record { partial_cmp = T.partial_cmp })) (record_row T.row (record { ops = T.ops; fraction = T.fraction; is_value = T.is_value; whole = T.whole }) (record { cmp = T.cmp }) (record { eq = T.eq }) (record { partial_cmp = T.partial_cmp })) self.entry result (λ rec. entries.with_record_at self.old key rec)) }
@@ -107,8 +107,8 @@ impl<T: Tag> Roster<T> {
         &mut self.records[key]
     }
 
-    /// Registers a client, and answers the key of its record. No two clients then have one id or one key. A refused growth
-    /// changes nothing.
+    /// Registers a client, and returns the key of its record. The caller knows that no client has this id yet. An allocation
+    /// failure changes nothing.
     pub fn add(&mut self, id: ClientId, rec: ClientRec<T>) -> Result<usize, AllocError>
         requires new { entries.entry_named id self.old.entries ≡ None }
         requires room { length self.old.entries < most_clients }
@@ -124,7 +124,7 @@ impl<T: Tag> Roster<T> {
         Ok(key)
     }
 
-    /// Lets a rule change each record and erase clients, in one pass. The others keep their order.
+    /// Applies a rule that may change records and erase clients, in one pass. The others keep their order.
     pub fn retain<R: RecordRule<T>>(&mut self, rule: &R)
         ensures kept { AllByRecursion (λ e. IsRecord T.ops e.rec) self.new.entries }
         ensures value { self.new.entries ≡ map (λ e. entries.with_rec (R.changed rule.now e.key) e) (filter (λ e. R.keeps rule.now e.key e.rec) self.old.entries) }
@@ -133,7 +133,7 @@ impl<T: Tag> Roster<T> {
         drop_vacant(&mut self.ids, &self.records);
     }
 
-    /// Lets a rule that erases no client change each record, in one pass over the records alone.
+    /// Applies a rule that changes records and erases no client, in one pass over the records alone.
     pub fn change<R: RecordRule<T>>(&mut self, rule: &R)
         requires { (key : ℕ) (rec : Rec T) → R.keeps rule.now key rec ≡ true }
         ensures kept { AllByRecursion (λ e. IsRecord T.ops e.rec) self.new.entries }
@@ -142,7 +142,7 @@ impl<T: Tag> Roster<T> {
         apply_to_each(&mut self.records, rule);
     }
 
-    /// How many records pass a test.
+    /// The number of records that pass a test.
     pub fn count<R: RecordTest<T>>(&self, test: &R) -> usize
         ensures value { result ≡ length (filter (λ e. R.passes test.now e.rec) self.now.entries) }
         ensures bound { result ≤ most_clients }
@@ -151,7 +151,7 @@ impl<T: Tag> Roster<T> {
     }
 }
 
-/// The key of an id: at a place, where the id may stand, and else by its hash.
+/// The key of an id. It is looked for at an index first, and else by its hash.
 fn key_near(ids: &IndexMap<ClientId, usize>, id: ClientId, near: usize) -> Option<usize>
     ensures { result ≡ lookup (λ other. id.0 == other.0) ids.now.entries }
 {
@@ -163,7 +163,7 @@ fn key_near(ids: &IndexMap<ClientId, usize>, id: ClientId, near: usize) -> Optio
     ids.get(&id).copied()
 }
 
-/// Lets the rule change or take out each record.
+/// Applies the rule to each record.
 fn apply_to_each<T: Tag, R: RecordRule<T>>(records: &mut Slab<ClientRec<T>>, rule: &R)
     ensures slots { records.new.slots ≡ entries.slots_after_retain (R.keeps rule.now) (R.changed rule.now) 0 records.old.slots }
     ensures kept { AllByRecursion (λ o. IfSome o (IsRecord T.ops)) records.new.slots }
@@ -175,7 +175,7 @@ fn apply_to_each<T: Tag, R: RecordRule<T>>(records: &mut Slab<ClientRec<T>>, rul
     );
 }
 
-/// How many of the records that the ids reach pass a test.
+/// The number of records that pass a test, of those that the ids have.
 fn count_passing<T: Tag, R: RecordTest<T>>(
     ids: &IndexMap<ClientId, usize>,
     records: &Slab<ClientRec<T>>,
@@ -188,7 +188,7 @@ fn count_passing<T: Tag, R: RecordTest<T>>(
         .count()
 }
 
-/// Whether a record is there and passes a test.
+/// Whether there is a record, and it passes a test.
 fn passes_at<T: Tag, R: RecordTest<T>>(records: &Slab<ClientRec<T>>, key: usize, test: &R) -> bool
     ensures { result ≡ option_map_or (R.passes test.now) (get records.now key) false }
 {
@@ -198,7 +198,7 @@ fn passes_at<T: Tag, R: RecordTest<T>>(records: &Slab<ClientRec<T>>, key: usize,
     }
 }
 
-/// Drops the ids whose keys have no record.
+/// Removes the ids whose keys have no record.
 fn drop_vacant<T: Tag>(ids: &mut IndexMap<ClientId, usize>, records: &Slab<ClientRec<T>>)
     ensures { ids.new.entries ≡ filter (λ p. is_some (get records.now p.1)) ids.old.entries }
 {

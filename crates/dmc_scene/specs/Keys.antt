@@ -1,5 +1,5 @@
--- What a key of a table holds. The checks of a key are, in order: it is missing, it is of another kind, it is none of its
--- values.
+-- The value of a key of a table. The checks of a key are, in order: it is missing, its value is of another kind, its value is out
+-- of its limits.
 use Rattle.std.specs.Prelude.{ℕ, ◌&&◌, nat_le, ℤ, pos, negsuc, Bool, if◌then◌else◌, List, Option, Some, None, Result, Ok, codes}
 use Rattle.std.specs.Option.{ok_or, unwrap_or}
 use Rattle.dmc_tag.specs.Outcome.{◌>>=◌}
@@ -30,13 +30,13 @@ name_of key.Limit = codes "limit"
 name_of key.Requests = codes "requests"
 name_of key.Window = codes "window"
 
--- what a key's value stands for: by its kind, and then by its values
+-- what a key's value represents: by its kind, and then by its limits
 abbrev pub meaning : {A B : Type 0} → (Data → Option A) → (A → Option B) → Key → Data → Result B SceneFault
 meaning kind value key held = do
   found ← ok_or (kind held) (Kind key)
   ok_or (value found) (Value key)
 
--- what a key may hold
+-- the values that a key may have
 abbrev pub optional_meaning : {A B : Type 0} → (Data → Option A) → (A → Option B) → Key → Option Data → Result (Option B) SceneFault
 optional_meaning kind value key None = Ok None
 optional_meaning kind value key (Some held) = meaning kind value key held >>= λ found. Ok (Some found)
@@ -53,12 +53,12 @@ optional kind value key table = optional_meaning kind value key (get_member (nam
 abbrev pub defaulted : {A B : Type 0} → B → (Data → Option A) → (A → Option B) → Key → Members → Result B SceneFault
 defaulted default kind value key table = optional kind value key table >>= λ found. Ok (unwrap_or found default)
 
--- a whole number from the one to the other
+-- a whole number between two bounds
 abbrev pub number : ℕ → ℕ → ℤ → Option ℕ
 number least greatest (pos n) = if nat_le least n && nat_le n greatest then Some n else None
 number least greatest (negsuc n) = None
 
--- only what passes the test
+-- only a value that passes the test
 abbrev pub passing : {A : Type 0} → (A → Bool) → Option A → Option A
 passing test None = None
 passing test (Some x) = if test x then Some x else None

@@ -1,4 +1,4 @@
--- The scene that a table is, or the first fault, in the order of the keys.
+-- The scene of a table, or the first fault, in the order of the keys.
 use Rattle.std.specs.Prelude.{ℕ, ◌^◌, ◌-◌, ◌==◌, ◌&&◌, nat_le, not, ℤ, Bool, true, is_some, if◌then◌else◌, List, [], ◌∷◌, ◌++◌, length, Option, Some, None, Result, Ok, codes}
 use Rattle.std.specs.List.{list_any}
 use Rattle.std.specs.Option.{ok_or, option_and_then, option_to_list}
@@ -57,18 +57,18 @@ abbrev pub tables_in : Items → List Members
 tables_in no_items = []
 tables_in (item d ds) = option_to_list (as_table d) ++ tables_in ds
 
--- the tables of a list that has nothing else
+-- the tables of a list of tables
 abbrev pub tables_alone : Items → Option (List Members)
 tables_alone ds = if are_tables ds then Some (tables_in ds) else None
 
 abbrev pub as_tables : Data → Option (List Members)
 as_tables held = option_and_then tables_alone (as_array held)
 
--- one or more of them, and no more than a scene may have
+-- at least one of them, and at most as many as a scene may have
 abbrev pub some_clients : List Members → Option (List Members)
 some_clients tables = if nat_le 1 (length tables) && nat_le (length tables) most_scene_clients then Some tables else None
 
--- the client that a table is, beside those before it
+-- the client of a table, after those before it
 abbrev pub client_of : TagKind → ℕ → List ClientValue → Members → Result ClientValue SceneFault
 client_of tags hz before table = do
   id ← required as_integer (id_beside before) key.Id table
@@ -84,13 +84,13 @@ client_of tags hz before table = do
     window = window;
   })
 
--- those before, and the clients that the tables are
+-- the clients before, and the clients of the tables
 abbrev pub clients_of : TagKind → ℕ → List ClientValue → List Members → Result (List ClientValue) SceneFault
 clients_of tags hz before [] = Ok before
 clients_of tags hz before (table ∷ tables) =
     client_of tags hz before table >>= λ client. clients_of tags hz (before ++ client ∷ []) tables
 
--- how many ticks a second has, and the ages
+-- the ticks a second, and the ages
 abbrev pub ages_of : Members → Result Ages SceneFault
 ages_of table = do
   hz ← required as_integer (number 1 greatest_hz) key.Hz table
@@ -98,7 +98,7 @@ ages_of table = do
   erase_age ← defaulted greatest_moment as_integer (number idle_age greatest_moment) key.EraseAge table
   Ok (record { hz = hz; idle_age = idle_age; erase_age = erase_age })
 
--- the numbers beside those of the configuration and of the clients
+-- the numbers besides those of the configuration and of the clients
 abbrev pub sizes_of : Members → Result Sizes SceneFault
 sizes_of table = do
   servers ← required as_integer (number 1 most_servers) key.Servers table
@@ -108,7 +108,7 @@ sizes_of table = do
   max_pulls ← required as_integer (number 1 most_pulls) key.MaxPulls table
   Ok (record { servers = servers; workers = workers; step = step; seed = seed; max_pulls = max_pulls })
 
--- the scene that a table is
+-- the scene of a table
 abbrev pub scene_of : Members → Result SceneValue SceneFault
 scene_of table = do
   ages ← ages_of table
@@ -130,10 +130,10 @@ scene_of table = do
     clients = clients;
   })
 
--- the table that a text is: UTF-8 of no more bytes than a scene may have, and TOML
+-- the table of a text: UTF-8 of at most as many bytes as a scene may have, and TOML
 abbrev pub table_of : List ℕ → Option Members
 table_of text = if nat_le (length text) most_scene_bytes && is_utf8 text then parse_document text else None
 
--- the scene that a text is
+-- the scene of a text
 abbrev pub scene_in : List ℕ → Result SceneValue SceneFault
 scene_in text = ok_or (table_of text) Text >>= scene_of

@@ -1,4 +1,4 @@
--- What contracts see of a scene, and the limits that each scene keeps.
+-- What contracts see of a scene, and the limits that each scene is within.
 use Rattle.std.specs.Prelude.{◌≢◌, ℕ, ◌%◌, ◌<◌, ◌≤◌, ◌^◌, ◌==◌, ◌&&◌, nat_le, Bool, IsTrue, IfSome, List, length, All, AllPairs}
 use Rattle.dmc_types.specs.Limits.{greatest_hz, greatest_step, greatest_window, most_client_requests, most_pulls, most_scene_clients, most_server_workers, most_servers}
 use Rattle.dmc_types.specs.Values.{Rates, Setting}

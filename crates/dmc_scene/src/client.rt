@@ -17,10 +17,10 @@ use dmc_types::info::ClientInfo;
 use std::marker::Model;
 use toml::{Table, Value};
 
-/// The most requests of a client.
+/// The greatest number of requests of a client.
 const MOST_CLIENT_REQUESTS: u64 = 1_000_000;
 
-/// The most of them that are outstanding at once.
+/// The greatest number of a client's requests that are outstanding at once.
 const GREATEST_WINDOW: u64 = 1024;
 
 /// A client of a scene: its id and rates, how many requests it makes (at most 1,000,000), and how many of them may be
@@ -89,7 +89,7 @@ fn has_spacing(tags: TagKind, hz: u32, rate: u32) -> bool
     }
 }
 
-/// The number, if it is a rate that has a spacing.
+/// The number, if it is a rate and has a spacing.
 fn rate_of(z: i64, tags: TagKind, hz: u32) -> Option<u32>
     ensures value { result ≡ rate tags hz z }
     ensures some { IfSome result (λ n. 0 < n) }
@@ -103,7 +103,7 @@ fn rate_of(z: i64, tags: TagKind, hz: u32) -> Option<u32>
     }
 }
 
-/// The rate that a key's value is.
+/// The rate in a key's value.
 fn rate_in(value: &Value, key: Key, tags: TagKind, hz: u32) -> Result<u32, SceneFault>
     ensures value { result ≡ meaning as_integer (rate tags hz) key (view value.now) }
     ensures some { IfOk result (λ n. 0 < n) }
@@ -141,7 +141,7 @@ fn has_id(clients: &[SceneClient], id: u32) -> bool
     clients.iter().any(|client| client.id().0 == id)
 }
 
-/// The number, if it is an id that none of the clients before has.
+/// The number, if it is an id that no client before has.
 fn id_of(z: i64, before: &[SceneClient]) -> Option<u32>
     ensures value { result ≡ id_beside before.now z }
     ensures fresh { IfSome result (IsFresh before.now) }
@@ -150,7 +150,7 @@ fn id_of(z: i64, before: &[SceneClient]) -> Option<u32>
     if has_id(before, id) { None } else { Some(id) }
 }
 
-/// The id at its key.
+/// The id at its key, if no client before has it.
 fn id_beside(table: &Table, before: &[SceneClient]) -> Result<u32, SceneFault>
     ensures value { result ≡ required as_integer (id_beside before.now) Key.Id (table_view table.now) }
     ensures fresh { IfOk result (IsFresh before.now) }
@@ -159,7 +159,7 @@ fn id_beside(table: &Table, before: &[SceneClient]) -> Result<u32, SceneFault>
     id_of(number, before).ok_or(SceneFault::Value(Key::Id))
 }
 
-/// The client that a table is, beside those before it.
+/// The client of a table, after the clients before it.
 pub(crate) fn read_client(
     table: &Table,
     tags: TagKind,

@@ -1,4 +1,4 @@
-//! Why a text is no scene.
+//! Faults of a scene's text.
 ghost use Rattle.std.specs.Prelude.{◌≡◌};
 ghost use Rattle.dmc_scene.specs.declared.fault.SceneFault.TheVariants.{Memory};
 
@@ -6,22 +6,22 @@ use crate::key::Key;
 use std::alloc::AllocError;
 use thiserror::Error;
 
-/// Why a text is no scene. Of several causes the first is told, in the order of the keys.
+/// The reason why a text is no scene. Of several reasons the first is reported, in the order of the keys.
 #[derive(Clone, Copy, Debug, PartialEq, Eq, Error)]
 pub enum SceneFault {
     /// The text has more than 2^20 bytes, or is no UTF-8, or no TOML.
     #[error("the text is no TOML of at most 2^20 bytes")]
     Text,
-    /// There is no such key.
+    /// There is no such key, and it has no default.
     #[error("the key {} is missing", .0.name())]
     Missing(Key),
-    /// The key holds a value of another kind.
+    /// The value of the key is of another kind.
     #[error("the value of the key {} is of another kind", .0.name())]
     Kind(Key),
-    /// The key holds a value past its limits.
+    /// The value of the key is out of its limits.
     #[error("the value of the key {} is past its limits", .0.name())]
     Value(Key),
-    /// The allocator refused a growth, which says nothing of the text.
+    /// An allocation failed, which says nothing of the text.
     #[error("out of memory")]
     Memory,
 }

@@ -1,4 +1,4 @@
-//! What a key of a table holds.
+//! The values of a table's keys.
 ghost use Rattle.std.specs.Prelude.{◌≡◌, ◌<◌, ◌≤◌, Result, IfOk, IfSome, Some};
 ghost use Rattle.std.specs.Option.{option_map, ok_or};
 ghost use Rattle.std.specs.Result.{result_map_both};
@@ -25,21 +25,21 @@ pub fn required<'a>(table: &'a Table, key: Key) -> Result<&'a Value, SceneFault>
     value_at(table, key).ok_or(SceneFault::Missing(key))
 }
 
-/// The whole number that a key's value is.
+/// The whole number in a key's value.
 pub fn integer_of(value: &Value, key: Key) -> Result<i64, SceneFault>
     ensures { result ≡ ok_or (as_integer (view value.now)) (Kind key) }
 {
     value.as_integer().ok_or(SceneFault::Kind(key))
 }
 
-/// The text that a key's value is.
+/// The text in a key's value.
 pub fn text_of<'a>(value: &'a Value, key: Key) -> Result<&'a str, SceneFault>
     ensures { result_map_both (λ s. s.now) (λ fault. fault) result ≡ ok_or (as_str (view value.now)) (Kind key) }
 {
     value.as_str().ok_or(SceneFault::Kind(key))
 }
 
-/// The number, if it is from the least to the greatest.
+/// The number, if it is between the two bounds.
 pub fn number(z: i64, least: u64, greatest: u64) -> Option<u64>
     ensures value { result ≡ number least greatest z }
     ensures least { IfSome result (λ n. least ≤ n) }
@@ -51,7 +51,7 @@ pub fn number(z: i64, least: u64, greatest: u64) -> Option<u64>
     }
 }
 
-/// The whole number, from the least to the greatest, that a key's value is.
+/// The whole number between the two bounds in a key's value.
 pub fn integer_in(value: &Value, key: Key, least: u64, greatest: u64) -> Result<u64, SceneFault>
     ensures value { result ≡ meaning as_integer (number least greatest) key (view value.now) }
     ensures least { IfOk result (λ n. least ≤ n) }

@@ -2,7 +2,7 @@
 ghost use Rattle.std.specs.Prelude.{◌≡◌};
 ghost use Rattle.dmc_scene.specs.Keys.{name_of};
 
-/// A key of a scene, in the order in which they are judged. The last six stand in each client's table.
+/// A key of a scene, in the order in which they are checked. The last six are keys of each client's table.
 #[derive(Clone, Copy, Debug, PartialEq, Eq)]
 pub enum Key {
     /// Ticks a second.
@@ -13,19 +13,19 @@ pub enum Key {
     EraseAge,
     /// Which tags the queues run on.
     Tags,
-    /// How many servers there are.
+    /// The number of servers.
     Servers,
-    /// How many workers each server has.
+    /// The number of workers of each server.
     Workers,
     /// The ticks of a round of the simulation.
     Step,
-    /// What the plans of the clients are made from.
+    /// The seed of the clients' plans.
     Seed,
     /// The most rounds of a simulation, and the most turns of a server's worker.
     MaxPulls,
     /// Which completions a stamp counts.
     Counting,
-    /// What a pull does while each queued request is past its limit.
+    /// What a pull does while each queued request is over its client's limit.
     AtLimit,
     /// The list of the clients.
     Client,
@@ -37,14 +37,14 @@ pub enum Key {
     Weight,
     /// Its greatest rate, in requests a second.
     Limit,
-    /// How many requests it makes.
+    /// The number of its requests.
     Requests,
-    /// How many of them may be outstanding.
+    /// The number of its requests that may be outstanding.
     Window,
 }
 
 impl Key {
-    /// How the key is written in a scene.
+    /// The name of the key in a scene.
     pub fn name(&self) -> &'static str
         ensures { result.now ≡ name_of self.now }
     {

@@ -1,5 +1,4 @@
-//! Scenes: what a run of a cluster is set up with, read from a TOML text and checked. A caller that has a `Scene` has its
-//! limits from the type.
+//! Scenes: the settings of a run of a cluster, read from a TOML text and checked. The type `Scene` carries its limits.
 #![tactic(auto)]
 
 pub mod client;

@@ -24,26 +24,26 @@ use std::alloc::Global;
 use std::marker::Model;
 use toml::{Table, Value};
 
-/// The most bytes of a scene.
+/// The greatest length of a scene in bytes.
 const MOST_SCENE_BYTES: usize = 1 << 20;
 
-/// The most workers of a server.
+/// The greatest number of workers of a server.
 const MOST_SERVER_WORKERS: u64 = 16;
 
-/// The most ticks of a step.
+/// The greatest number of ticks of a step.
 const GREATEST_STEP: u64 = 1_000_000_000;
 
-/// The most rounds, and the most turns of a worker.
+/// The greatest number of rounds, and of turns of a worker.
 const MOST_PULLS: u64 = 1 << 30;
 
-/// The most clients.
+/// The greatest number of clients.
 const MOST_SCENE_CLIENTS: usize = 256;
 
-/// What a run is set up with: the queues' configuration, the tags, how many servers and workers there are, the step of a
-/// simulation's round, the seed of the plans, the most pulls, the counting form, and the clients.
+/// The settings of a run: the queues' configuration, the tags, the numbers of servers and workers, the step of a simulation's
+/// round, the seed of the plans, the greatest number of pulls, the counting form, and the clients.
 ///
-/// A scene keeps the limits of its text: 1 to 64 servers, 1 to 16 workers each, a step of 1 to 1,000,000,000 ticks, a
-/// seed below 2^63, 1 to 2^30 pulls, and 1 to 256 clients of different ids, each of whose rates has a spacing.
+/// A scene is within the limits of its text: 1 to 64 servers, 1 to 16 workers each, a step of 1 to 1,000,000,000 ticks, a seed
+/// below 2^63, 1 to 2^30 pulls, and 1 to 256 clients of different ids, each of whose rates has a spacing.
 #[derive(Drop)]
 pub struct Scene {
     config: QueueConfig,
@@ -79,7 +79,7 @@ impl Model for Scene {
 }
 
 impl Scene {
-    /// How each queue is set up: hz, the ages, and what is done at the limit.
+    /// The configuration of each queue: hz, the ages, and what is done at the limit.
     pub fn config(&self) -> QueueConfig
         ensures { result ≡ self.now.config }
     {
@@ -96,7 +96,7 @@ impl Scene {
         self.tags
     }
 
-    /// How many servers there are.
+    /// The number of servers.
     pub fn servers(&self) -> u32
         ensures value { result ≡ self.now.servers }
         ensures some { 0 < result }
@@ -105,7 +105,7 @@ impl Scene {
         self.servers
     }
 
-    /// How many workers each server has.
+    /// The number of workers of each server.
     pub fn workers(&self) -> u32
         ensures value { result ≡ self.now.workers }
         ensures some { 0 < result }
@@ -123,7 +123,7 @@ impl Scene {
         self.step
     }
 
-    /// What the clients' plans are made from.
+    /// The seed of the clients' plans.
     pub fn seed(&self) -> u64
         ensures value { result ≡ self.now.seed }
         ensures limit { result < 2 ^ 63 }
@@ -131,7 +131,7 @@ impl Scene {
         self.seed
     }
 
-    /// The most rounds of a simulation, and the most turns of a server's worker.
+    /// The greatest number of rounds of a simulation, and of turns of a server's worker.
     pub fn max_pulls(&self) -> u32
         ensures value { result ≡ self.now.max_pulls }
         ensures some { 0 < result }
@@ -159,11 +159,11 @@ impl Scene {
     }
 }
 
-/// The scene that a text is, or the first fault: `Text` or `Memory` while it is parsed, then the keys in the order of
-/// `Key` (own). Keys that a scene does not have are passed over.
+/// The scene of a text, or the first fault: `Text` or `Memory` while it is parsed, then the keys in the order of `Key`
+/// (extension). Keys that a scene does not have are ignored.
 pub fn read_scene(alloc: Global, text: &[u8]) -> Result<Scene, SceneFault>
     ensures read { result ≢ Err SceneFault.Memory → result ≡ scene_in text.now }
-    // no memory is asked for before the text is known to be a scene's
+    // nothing is allocated before the text is known to be short enough and UTF-8
     ensures memory { result ≡ Err SceneFault.Memory → (length text.now ≤ most_scene_bytes) × IsUtf8 text.now }
 {
     if text.len() > MOST_SCENE_BYTES {
@@ -175,7 +175,7 @@ pub fn read_scene(alloc: Global, text: &[u8]) -> Result<Scene, SceneFault>
     }
 }
 
-/// The table that a text is.
+/// The table of a text.
 fn table_in(alloc: Global, text: &str) -> Result<Table, SceneFault>
     ensures ok { IfOk result (λ table. parse_document text.now ≡ Some (table_view table)) }
     ensures fault { IfErr result (λ fault. fault ≢ SceneFault.Memory → (fault ≡ SceneFault.Text) × (parse_document text.now ≡ None)) }
@@ -189,7 +189,7 @@ fn table_in(alloc: Global, text: &str) -> Result<Table, SceneFault>
     })
 }
 
-/// The scene that a table is, or the first fault.
+/// The scene of a table, or the first fault.
 fn read_table(alloc: Global, table: &Table) -> Result<Scene, SceneFault>
     ensures { result ≢ Err SceneFault.Memory → result ≡ scene_of (table_view table.now) }
 {
@@ -212,7 +212,7 @@ fn read_table(alloc: Global, table: &Table) -> Result<Scene, SceneFault>
     })
 }
 
-/// How many ticks a second has, and after how many a client is idle, and erased.
+/// The ticks a second, and the ages in ticks after which a client is marked idle and erased.
 #[derive(Clone, Copy)]
 struct Ages {
     hz: u32,
@@ -220,7 +220,7 @@ struct Ages {
     erase_age: u64,
 }
 
-/// The ages, by default the greatest.
+/// The ticks a second, and the ages. An age is by default the greatest.
 fn read_ages(table: &Table) -> Result<Ages, SceneFault>
     ensures value { result ≡ ages_of (table_view table.now) }
     ensures setting { IfOk result (λ ages. IsSetting ages.hz ages.idle_age ages.erase_age) }
@@ -243,7 +243,7 @@ fn config_of(ages: Ages, at_limit: AtLimit) -> QueueConfig
     QueueConfig::new(u64::from(ages.hz), ages.idle_age, ages.erase_age, at_limit).unwrap()
 }
 
-/// The numbers of a scene beside those of its configuration and its clients.
+/// The numbers of a scene besides those of its configuration and its clients.
 #[derive(Clone, Copy)]
 struct Sizes {
     servers: u32,
@@ -341,7 +341,7 @@ fn are_tables(values: &[Value]) -> bool
     values.iter().all(|value| value.is_table())
 }
 
-/// The tables that a key's value is.
+/// The tables in a key's value.
 fn tables_of(value: &Value) -> Result<&[Value], SceneFault>
     ensures value { result_map_both (λ values. tables_in (items_view values.now)) (λ fault. fault) result
         ≡ ok_or (as_tables (view value.now)) (Kind Key.Client) }
@@ -373,7 +373,7 @@ fn client_tables(table: &Table) -> Result<&[Value], SceneFault>
     Ok(values)
 }
 
-/// The clients that the tables of a list are.
+/// The clients of the tables of a list.
 fn read_clients(
     alloc: Global,
     tags: TagKind,

@@ -31,7 +31,7 @@ module _ {T : Type 0} (scene : SceneValue) (r : Left T) (h : AreTogether scene r
   pub ready_servers : length scene.clients ≤ 256 → (s : ℕ) → s < length r.books → IsReadyServer (get_or r.books s no_book) (get_or r.worker_passes s [])
   ready_servers few s within =
       let in_servers : s < scene.servers = omega (arith, within, h.books) in
-      record { own = (server_at s in_servers).own; few = omega (arith, few, desks_long s in_servers) }
+      record { own = (server_at s in_servers).own; whole = (server_at s in_servers).whole; few = omega (arith, few, desks_long s in_servers) }
 
   -- the desk of a pair, once its server's passes are gathered
   last_settled : (history : List (Event T)) (passes : List PassState) (c : ℕ) (old new : ClientSide) (t : ServerSide) → IsSettledDesk history passes c old new → ArePaired old t → IsLastPair new t

@@ -52,6 +52,7 @@ no_server_numbers = record { reservation = 0; priority = 0; left = 0; held = rec
 -- a book and its own passes
 pub record IsReadyServer {T : Type 0} (book : BookState T) (passes : List PassState) : Type 0 where
   pub own : AreOwn book.workers book.desks passes
+  pub whole : book.first ≡ 0
   pub few : length book.desks ≤ most_scene_clients
 
 -- what the passes hold, over all clients

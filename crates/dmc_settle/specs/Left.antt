@@ -39,11 +39,13 @@ pub record ArePaired (queue : ClientSide) (tracker : ServerSide) : Type 0 where
   pub reservation : IsTillOf tracker.held.reservation queue.books.reservation
   pub priority : IsTillOf tracker.held.priority queue.books.priority
 
--- a server's book: as the scene sets it up, with a desk for each client in the scene's order; and the passes are its own
+-- a server's book, which released no event: as the scene sets it up, with a desk for each client in the scene's order; and the
+-- passes are its own
 pub record IsServerPart {T : Type 0} (scene : SceneValue) (server : ℕ) (book : BookState T) (passes : List PassState) : Type 0 where
   pub config : book.config ≡ scene.config
   pub its_server : book.server ≡ server
   pub desks : map (λ d. d.client) book.desks ≡ map (λ c. c.id.0) scene.clients
+  pub whole : book.first ≡ 0
   pub own : book_settling.AreOwn book.workers book.desks passes
 
 -- a client's tracker book: in the scene's counting form, with a desk for each server; and the pass is its own

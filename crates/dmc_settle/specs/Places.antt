@@ -16,7 +16,7 @@ abbrev pub no_setting : Setting
 no_setting = record { hz = 0; idle_age = 0; erase_age = 0; at_limit = Wait }
 
 abbrev pub no_book : {T : Type 0} → BookState T
-no_book = record { config = no_setting; server = 0; history = []; most = 0; workers = []; desks = []; closed = false }
+no_book = record { config = no_setting; server = 0; history = []; first = 0; most = 0; workers = []; desks = []; closed = false }
 
 abbrev pub no_tracker : tracker_book.BookState
 no_tracker = record {

@@ -51,6 +51,7 @@ fn is_server_part<T: Tag, I: Indexes<T>, S: Setup>(
     book.config() == scene.config()
         && book.server().0 == server
         && are_desks_of(book.desks(), scene.clients())
+        && book.first() == 0
         && book.owns(passes)
 }
 

@@ -1,7 +1,7 @@
 //! What a run of a cluster tells.
 
 use dmc_book::settled::GrantsHeld;
-use dmc_events::history::EventHistory;
+use dmc_queue_history::history::EventHistory;
 use dmc_tag::tag::Tag;
 use dmc_tlock::settled::StampsHeld;
 use dmc_types::ids::{ClientId, ServerId};

@@ -27,7 +27,7 @@ ends_as part whole P Q (Ok done) same holds h = record { value = h.value; is = s
 ends_as part whole P Q (Err (faults.Refused refusal)) same holds h = same ∙ h
 ends_as part whole P Q (Err faults.Memory) same holds h = tt
 
--- The whole comes to what the rest makes of this value, of which P holds.
+-- The whole ends as the rest does from this value, of which P holds.
 pub record Reaches {X Y : Type 0} (whole : Result Y Refusal) (rest : X → Result Y Refusal) (P : X → Type 0) : Type 0 where
   pub value : X
   pub is : whole ≡ rest value

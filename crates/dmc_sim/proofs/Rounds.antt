@@ -1,4 +1,4 @@
--- A round, and what rounds come to.
+-- A round, and how rounds end.
 use Rattle.std.proofs.Common.{◌≡◌, ℕ, zero, suc, ◌+◌, ◌-◌, ◌<◌, Bool, true, false, List, [], ◌∷◌, get_or, map, refl, sym, ap, ◌∙◌, arith, Ok, Err}
 use Rattle.std.specs.Prelude.{◌==◌, ◌&&◌, All, Result}
 use Rattle.std.specs.List.{list_all}
@@ -39,7 +39,7 @@ module _ {T Q : Type 0} (ops : Tagging T) (state : Q → State T) (scene : Scene
       grants = λ i d w. still_granted sim.trace sent.value.trace (get_or rows i d) (client_turns_grants ops scene at cs sim sent.value sent.is (get_or rows i d).server) (h.grants i d w);
     }
 
-    -- what its second part comes to
+    -- how its second part ends
     pub second_ends : {A : Type 0} (P : Sim T → Type 0) (result : Result A SimFault) → Ends (each_in_turn (server_turn ops at) ss sent.value) (λ x. P) result → Ends (round ops scene k sim) (λ x. P) result
     second_ends P result h =
         ends_as (each_in_turn (server_turn ops at) ss sent.value) (round ops scene k sim) (λ x. P) (λ x. P) result (round_is ∙ ap (λ r. r >>= λ (v : Sim T). each_in_turn (server_turn ops at) ss v) sent.is) (λ x v e p. p) h

@@ -50,7 +50,7 @@ server_row sim s = record {
   left = left_at sim.run s;
 }
 
--- the moment of the last of so many rounds, 0 where there is none
+-- the moment of the last of this many rounds, 0 where there is none
 abbrev pub end_of : SceneValue → ℕ → ℕ
 end_of scene zero = 0
 end_of scene (suc k) = moment_of scene k
@@ -72,7 +72,7 @@ report_of ops scene = do
 -- ---- what a call of `simulate` returns
 
 -- The report is that of the scene, and the refusal is the one that ends its simulation. An allocation may fail at any time, and
--- then nothing is said.
+-- then nothing is claimed.
 abbrev pub SimulatesBy : {T : Type 0} → Tagging T → SceneValue → Result SimReport SimFault → Type 0
 SimulatesBy ops scene (Ok report) = report_of ops scene ≡ Ok (value_of report)
 SimulatesBy ops scene (Err (Refused refusal)) = report_of ops scene ≡ Err refusal
@@ -82,7 +82,7 @@ abbrev pub SimulatesOn : TagKind → SceneValue → Result SimReport SimFault �
 SimulatesOn Tick = SimulatesBy tick_ops
 SimulatesOn Ratio = SimulatesBy ratio_ops
 
--- on the tags that the scene names
+-- the simulation on the tags that the scene names
 abbrev pub Simulates : SceneValue → Result SimReport SimFault → Type 0
 Simulates scene = SimulatesOn scene.tags scene
 
@@ -98,7 +98,8 @@ pub record IsClientRow (c : ClientValue) (row : ClientReport) : Type 0 where
 abbrev pub IsComplete : ClientValue → ClientReport → Type 0
 IsComplete c row = row.completed ≡ c.requests
 
--- A row per client in the scene's order, and a row per server by number. Where the turns are not out, all requests are completed.
+-- A row for each client in the scene's order, and a row for each server by number. Where the round limit was not reached, all
+-- requests are completed.
 pub record IsReportOf (scene : SceneValue) (report : SimReport) : Type 0 where
   pub clients : AllZip IsClientRow scene.clients report.clients.items
   pub servers : map (λ r. r.server.0) report.servers.items ≡ range_with_len 0 scene.servers

@@ -1,4 +1,4 @@
--- The rows of a report: of a client, of a server that has granted nothing, and of one whose queue has been counted.
+-- The rows of a report: of a client, of a server that has granted nothing, and of one whose queued requests have been counted.
 use Rattle.std.specs.Prelude.{ℕ, ◌-◌, List, length, slice_get, option_map, unwrap_or}
 use Rattle.dmc_tag.specs.State.{State}
 use Rattle.dmc_sim.specs.declared.client.SimClient.{SimClient}
@@ -17,6 +17,6 @@ row_of c = record {
 abbrev pub idle_row : ℕ → ServerReport
 idle_row server = record { server = record { 0 = server }; reservation = 0; priority = 0; left = 0 }
 
--- with how many requests the server's queue holds, 0 where there is no such server
+-- with the number of requests in the server's queue, 0 where there is no such server
 abbrev pub with_left : {T Q : Type 0} → (Q → State T) → List Q → ServerReport → ServerReport
 with_left state queues row = record row { left = unwrap_or (option_map (λ queue. length (state queue).requests) (slice_get queues row.server.0)) 0 }

@@ -22,7 +22,7 @@ use Rattle.dmc_core.specs.declared.event.CoreReply.{CoreReply}
 use Rattle.dmc_core.specs.declared.event.CoreReply.TheVariants.{Served, Counted}
 use Rattle.dmc_core.specs.declared.event.CoreFault.{CoreFault}
 
--- ---- what a simulation is made of
+-- ---- the parts of a simulation
 
 -- what the cluster returns for an event: a reply, or its refusal
 abbrev pub Returned : Type 0 → Type 0
@@ -33,7 +33,7 @@ pub record Entry (T : Type 0) : Type 0 where
   pub event : CoreEvent
   pub returned : Returned T
 
--- a simulation so far: the cluster as it is now, and all events in their order
+-- a simulation up to now: the cluster, and all events in their order
 pub record Sim (T : Type 0) : Type 0 where
   pub run : Run T
   pub trace : List (Entry T)
@@ -46,16 +46,16 @@ entry_of ops event sim = record { event = event; returned = (cluster_step ops si
 abbrev pub after_event : {T : Type 0} → Tagging T → CoreEvent → Sim T → Sim T
 after_event ops event sim = record { run = (cluster_step ops sim.run event).0; trace = sim.trace ++ entry_of ops event sim ∷ [] }
 
--- a queue's refusal ends a simulation; what the cluster refuses is passed over
+-- a queue's refusal ends a simulation; what the cluster refuses is ignored
 abbrev pub unless_refused : {T : Type 0} → Returned T → Sim T → Result (Sim T) Refusal
 unless_refused (Ok (Served (Refused refusal))) sim = Err refusal
 unless_refused returned sim = Ok sim
 
--- one event: the cluster takes it, and it is the next of the trace
+-- one event: the cluster takes it, and it is added to the trace
 abbrev pub asked : {T : Type 0} → Tagging T → CoreEvent → Sim T → Result (Sim T) Refusal
 asked ops event sim = unless_refused ((cluster_step ops sim.run event).1) (after_event ops event sim)
 
--- ---- what a returned value says
+-- ---- what a returned value means
 
 -- a request is queued
 abbrev pub is_tagged : {T : Type 0} → Returned T → Bool
@@ -92,7 +92,7 @@ abbrev pub is_completion : {T : Type 0} → ClientId → CoreEvent → Returned 
 is_completion id (Respond client server phase) returned = is_client id client && is_counted returned
 is_completion id event returned = false
 
--- and the grant was in the constraint phase
+-- a response of the client is counted, and the grant was in the constraint phase
 abbrev pub is_reserved : {T : Type 0} → ClientId → CoreEvent → Returned T → Bool
 is_reserved id (Respond client server phase) returned = (is_client id client && is_counted returned) && is_phase Reservation phase
 is_reserved id event returned = false
@@ -130,12 +130,12 @@ all_complete scene trace = list_all (λ c. completed_by c.id trace == c.requests
 abbrev pub plan_of : SceneValue → ClientValue → List ServerId
 plan_of scene c = planned (word (generator scene.seed c.id.0)) scene.servers c.requests
 
--- The server of a client's next request. There is none where it has sent all its requests, or as many as its window are
+-- The server of a client's next request. There is none where all its requests are sent, or where as many as its window are
 -- outstanding.
 abbrev pub next_server : {T : Type 0} → SceneValue → ClientValue → List (Entry T) → Option ServerId
 next_server scene c trace = if nat_lt (sent_by c.id trace) (completed_by c.id trace + c.window) then slice_get (plan_of scene c) (sent_by c.id trace) else None
 
--- a client stamps its next request to this server, if there is one, by the request's number, and it arrives at once
+-- a client stamps its next request for this server, if there is one, by the request's number, and it arrives at once
 abbrev pub send_to : {T : Type 0} → Tagging T → ℕ → ClientValue → Option ServerId → Sim T → Result (Sim T) Refusal
 send_to ops at c None sim = Ok sim
 send_to ops at c (Some server) sim = do
@@ -179,8 +179,8 @@ round ops scene k sim = do
   sent ← each_in_turn (client_turn ops scene (moment_of scene k)) scene.clients sim
   each_in_turn (server_turn ops (moment_of scene k)) (servers_of scene) sent
 
--- The rounds from number k on, of which so many are left at most. They end where all requests are completed, which is tested
--- before each round. What is returned is how many rounds were made in all, and the simulation after them.
+-- The rounds from number k on, of which at most this many are left. They end where all requests are completed, which is tested
+-- before each round. The result is how many rounds were made in all, and the simulation after them.
 abbrev pub rounds : {T : Type 0} → Tagging T → SceneValue → ℕ → ℕ → Sim T → Result (ℕ × Sim T) Refusal
 rounds ops scene zero k sim = Ok (k, sim)
 rounds ops scene (suc left) k sim = elim (all_complete scene sim.trace) [

@@ -1,4 +1,4 @@
--- Which simulations the data of the code represents, and how its calls end by the definition.
+-- Which simulations the data of the code represents, and that its calls end as the definition does.
 use Rattle.std.specs.Prelude.{◌≡◌, ℕ, ◌+◌, ◌<◌, ◌==◌, ◌&&◌, Bool, false, ⊤, if◌then◌else◌, nat_lt, List, length, map, All, slice_index_or, Option, Some, None, Result, Ok, Err}
 use Rattle.dmc_types.specs.declared.ids.ClientId.{ClientId}
 use Rattle.dmc_types.specs.declared.config.PhaseType.{PhaseType}
@@ -53,7 +53,7 @@ is_complete c = c.completed == c.scene.requests
 abbrev pub AreMarked : List Bool → List SimClient → Type 0
 AreMarked marks clients = (k : ℕ) (c : SimClient) → k < length clients → slice_index_or marks k false ≡ false → has_next (slice_index_or clients k c) ≡ false
 
--- one completion more is counted where the client has this id
+-- one more completion is counted where the client has this id
 pub record Completes (id : ClientId) (phase : PhaseType) (old new : SimClient) : Type 0 where
   pub scene : new.scene ≡ old.scene
   pub plan : new.plan.items ≡ old.plan.items
@@ -66,42 +66,42 @@ CompletesOne id phase old new = (k : ℕ) (c : SimClient) → k < length old →
 
 -- ---- a simulation
 
--- the core and one client
+-- the core and one client represent a simulation
 pub record ClientAt {T Q : Type 0} (state : Q → State T) (scene : SceneValue) (core : CoreValue Q) (c : SimClient) (sim : Sim T) : Type 0 where
   pub run : StandsForRun state core sim.run
   pub counted : IsCounted scene sim.trace c
 
--- the core and all clients
+-- the core and all clients represent a simulation
 pub record ClientsAt {T Q : Type 0} (state : Q → State T) (scene : SceneValue) (core : CoreValue Q) (clients : List SimClient) (sim : Sim T) : Type 0 where
   pub run : StandsForRun state core sim.run
   pub counted : All (IsCounted scene sim.trace) clients
 
--- these, and one server
+-- the core, all clients and one server represent a simulation
 pub record ServerAt {T Q : Type 0} (state : Q → State T) (scene : SceneValue) (core : CoreValue Q) (clients : List SimClient) (row : ServerReport) (sim : Sim T) : Type 0 where
   pub at : ClientsAt state scene core clients sim
   pub grants : AreGrants sim.trace row
 
--- these, and all servers
+-- the core, all clients and all servers represent a simulation
 pub record AllAt {T Q : Type 0} (state : Q → State T) (scene : SceneValue) (core : CoreValue Q) (clients : List SimClient) (rows : List ServerReport) (sim : Sim T) : Type 0 where
   pub at : ClientsAt state scene core clients sim
   pub grants : All (AreGrants sim.trace) rows
 
 -- ---- how a call ends
 
--- what a returned value ends the code with: the refusal of a queue, or an allocation failure
+-- how a returned value ends the code: with the refusal of a queue, or an allocation failure
 abbrev pub fault_in : {T : Type 0} → Returned T → Option SimFault
 fault_in (Ok (Served (replies.Refused refusal))) = Some (Refused refusal)
 fault_in (Err core.Memory) = Some Memory
 fault_in returned = None
 
--- the definition gives a value, of which P holds
+-- the result of the definition is a value, of which P holds
 pub record Gives {X : Type 0} (given : Result X Refusal) (P : X → Type 0) : Type 0 where
   pub value : X
   pub is : given ≡ Ok value
   pub holds : P value
 
--- A call ends as the definition does: with a value of which this holds, or with the refusal. After an allocation failure nothing is
--- said.
+-- A call ends as the definition does: with a value of which this holds, or with the refusal. After an allocation failure nothing
+-- is claimed.
 abbrev pub Ends : {X A : Type 0} → Result X Refusal → (A → X → Type 0) → Result A SimFault → Type 0
 Ends given After (Ok done) = Gives given (After done)
 Ends given After (Err (Refused refusal)) = given ≡ Err refusal
@@ -118,7 +118,7 @@ pub record HasRun {T Q : Type 0} (state : Q → State T) (scene : SceneValue) (c
   pub at : AllAt state scene core clients rows last.1
   pub end_is : end ≡ end_of scene last.0
 
--- the last of the simulation: its clients and servers, and the moment of the last round
+-- the end of the simulation: its clients and servers, and the moment of the last round
 pub record IsLast {T : Type 0} (scene : SceneValue) (clients : List SimClient) (rows : List ServerReport) (end : ℕ) (last : ℕ × Sim T) : Type 0 where
   pub counted : All (IsCounted scene last.1.trace) clients
   pub rows_are : rows ≡ map (server_row last.1) (servers_of scene)

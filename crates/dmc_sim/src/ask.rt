@@ -28,7 +28,7 @@ pub fn ask<T: Tag>(
     }
 }
 
-/// What a returned value ends the simulation with, if it does.
+/// How a returned value ends the simulation, if it does.
 #[inline(always)]
 fn fault_in<T: Tag>(returned: &Result<CoreReply<T>, CoreFault>) -> Option<SimFault>
     ensures { result ≡ fault_in returned.now }

@@ -11,8 +11,8 @@ use dmc_types::ids::ServerId;
 use dmc_work::plan::plan;
 use std::alloc::{AllocError, Global};
 
-/// A client: what the scene says of it, the servers of its requests, how many of them it has sent, and how many are completed,
-/// all and in the constraint phase. A round completes at most one request a server, so a simulation of 2^30 rounds and 64
+/// A client: its part of the scene, the servers of its requests, how many of them it has sent, and how many are completed, in all
+/// and in the constraint phase. A round completes at most one request at each server, so a simulation of 2^30 rounds and 64
 /// servers completes at most 2^36.
 #[derive(Drop)]
 pub struct SimClient {

@@ -14,7 +14,7 @@ pub fn two_clients()
     }) }
 {}
 
-/// After one round the turns are out, and client 2's request is left.
+/// After one round the round limit is reached, and client 2's request is left.
 pub fn turns_out()
     ensures { report (two_clients All 1) ≡ Ok (record {
       clients = client_row 1 1 1 1 0 ∷ client_row 2 1 0 0 0 ∷ [];
@@ -24,7 +24,7 @@ pub fn turns_out()
     }) }
 {}
 
-/// Four rounds are just enough: all requests are completed in the last.
+/// Four rounds are enough: all requests are completed in the last.
 pub fn in_time()
     ensures { report (two_clients All 4) ≡ report (two_clients All 100) }
 {}

@@ -1,4 +1,4 @@
-//! What a simulation tells.
+//! The report of a simulation.
 ghost use Rattle.std.specs.Prelude.{◌≡◌, ◌++◌, IfOk, OnOk, flat_map, string_bytes};
 ghost use Rattle.dmc_sim.specs.Texts.{client_line, report_text, server_line};
 ghost use Rattle.dmc_sim.specs.declared.report.SimFault.TheVariants.{Memory};
@@ -8,51 +8,51 @@ use dmc_types::moment::Moment;
 use dmc_types::refusal::Refusal;
 use std::alloc::{AllocError, Global};
 
-/// What a client did, in numbers of requests.
+/// A client's requests, in numbers.
 #[derive(Clone, Copy, Debug, PartialEq, Eq)]
 pub struct ClientReport {
     pub client: ClientId,
-    /// Those that it sent, at most those that the scene gives it.
+    /// The requests that it sent, at most those that the scene gives it.
     pub sent: u32,
-    /// Those of them that were completed: granted, and the client heard of it.
+    /// The requests that were completed: granted, and responded.
     pub completed: u64,
-    /// Those that were completed by a grant in the constraint phase.
+    /// The requests that were completed by a grant in the constraint phase.
     pub reservation: u64,
-    /// Those that were completed by a grant in the weight phase, beyond the limit or not.
+    /// The requests that were completed by a grant in the weight phase, beyond the limit or not.
     pub priority: u64,
 }
 
-/// What a server did, in numbers of requests.
+/// A server's requests, in numbers.
 #[derive(Clone, Copy, Debug, PartialEq, Eq)]
 pub struct ServerReport {
     pub server: ServerId,
-    /// Those that it granted in the constraint phase.
+    /// The requests that it granted in the constraint phase.
     pub reservation: u32,
-    /// Those that it granted in the weight phase, beyond the limit or not.
+    /// The requests that it granted in the weight phase, beyond the limit or not.
     pub priority: u32,
-    /// Those that were queued at it in the end.
+    /// The requests that were queued at it in the end.
     pub left: u32,
 }
 
-/// What came of a simulation.
+/// The report of a simulation.
 #[derive(Drop)]
 pub struct SimReport {
     /// The clients, in the scene's order.
     pub clients: Vec<ClientReport>,
-    /// Server 0, 1, ..
+    /// The servers, by number.
     pub servers: Vec<ServerReport>,
     /// The moment of the last round in ticks, 0 where there was none.
     pub end: Moment,
-    /// The rounds ended before all requests were completed.
+    /// Whether the rounds ended before all requests were completed.
     pub turns_out: bool,
 }
 
-/// Why a simulation has no report.
+/// The reason why a simulation has no report.
 #[derive(Clone, Copy, Debug, PartialEq, Eq)]
 pub enum SimFault {
     /// A queue refused an arrival or a pull: a sum that it needs is no value of the tag type.
     Refused(Refusal),
-    /// The allocator refused a growth.
+    /// An allocation failed.
     Memory,
 }
 

@@ -37,7 +37,7 @@ fn send<T: Tag>(
 }
 
 /// A client stamps its next request to a server, and it arrives at once.
-// Not a part of the loop over all clients, which stays small.
+// It is not inlined into the loop over all clients, which stays small.
 #[inline(never)]
 fn send_to<T: Tag>(
     core: &mut ClusterCore<T>,
@@ -74,7 +74,7 @@ fn send_to<T: Tag>(
     Ok(())
 }
 
-/// A client with a mark sends its next request, if it may send one, and keeps the mark where it may send another.
+/// A client with a mark sends its next request, if it may send one. The mark stays where it may send another.
 fn send_marked<T: Tag>(
     core: &mut ClusterCore<T>,
     client: &mut SimClient,
@@ -95,7 +95,7 @@ fn send_marked<T: Tag>(
 }
 
 /// Each client sends a request, if it may, in the scene's order. Only clients with a mark are looked at: few may send in a round,
-/// and the marks of all take little of a cache.
+/// and all marks together need few lines of a cache.
 fn send_all<T: Tag>(
     core: &mut ClusterCore<T>,
     clients: &mut [SimClient],
@@ -153,7 +153,7 @@ fn count_completion(
     }
 }
 
-/// The client of a grant responds at once. A completion that the cluster counts is one of the client.
+/// The client of a grant responds at once. A completion that the cluster counts is counted at the client.
 fn respond<T: Tag>(
     core: &mut ClusterCore<T>,
     ids: &ClientIds,

@@ -27,7 +27,7 @@ pub fn idle_servers(alloc: Global, servers: u32) -> Result<Vec<ServerReport>, Al
     Ok(rows)
 }
 
-/// Counts what is queued at each server.
+/// Counts the queued requests of each server.
 pub fn count_left<T: Tag>(core: &ClusterCore<T>, servers: &mut [ServerReport])
     ensures { servers.new ≡ map (with_left state_of core.now.servers) servers.old }
 {
@@ -37,7 +37,7 @@ pub fn count_left<T: Tag>(core: &ClusterCore<T>, servers: &mut [ServerReport])
     }
 }
 
-/// Adds a row for each client, in room that was made.
+/// Adds a row for each client, within the reserved capacity.
 pub fn put_rows(clients: &[SimClient], rows: &mut Vec<ClientReport>)
     requires none { rows.old.items ≡ [] }
     requires room { length clients.now ≤ vec_capacity rows.old }
@@ -48,7 +48,7 @@ pub fn put_rows(clients: &[SimClient], rows: &mut Vec<ClientReport>)
     }
 }
 
-/// What a client did so far.
+/// The row of a client.
 fn row_of(client: &SimClient) -> ClientReport
     ensures { result ≡ row_of client.now }
 {

@@ -26,14 +26,15 @@ use dmc_types::limits::GREATEST_MOMENT;
 use dmc_types::moment::Moment;
 use std::alloc::{AllocError, Global};
 
-/// Simulates a scene (own). Round 0, 1, .. has the moment that is so many steps from 0, at most 2^62. In a round each client, in
-/// the scene's order, that has requests left and fewer than its window outstanding stamps one, to the server that its plan names,
-/// and it arrives at once; then each server, by number, pulls once, and a grant is responded at once. The rounds end when all
-/// requests are completed, or with `turns_out` after `max_pulls` of them.
+/// Simulates a scene (extension). Round k, counted from 0, is at the moment k times the step, at most 2^62. In a round each
+/// client, in the scene's order, that has requests left and fewer than its window outstanding stamps one, for the server that its
+/// plan names, and it arrives at once. Then each server, by number, pulls once, and a grant is responded at once. The rounds end
+/// when all requests are completed, or with `turns_out` after `max_pulls` of them.
 ///
 /// The report is exactly that of the simulation which `specs/Simulation.antt` defines, event by event, over the cluster run.
 /// `Refused`: in that simulation a queue refuses an arrival or a pull, since a sum that it needs is no value of the tag type, and
-/// this is the refusal. `Memory`: an allocation failed, and no more is said. The report's capacity is made before the first round.
+/// this is the refusal. `Memory`: an allocation failed, and nothing more is claimed. The report's capacity is reserved before the
+/// first round.
 pub fn simulate(alloc: Global, scene: &Scene) -> Result<SimReport, SimFault>
     ensures simulates { Simulates scene.now result }
     ensures rows { IfOk result (IsReportOf scene.now) }
@@ -114,7 +115,7 @@ fn moment_of(round: u32, step: u64) -> Moment
     Moment::new(ticks.min(GREATEST_MOMENT)).unwrap()
 }
 
-/// The rounds, to the last, whose moment it returns; 0 where there is none. Then each row has what is left.
+/// Makes the rounds and returns the moment of the last, or 0 where there is none. Then each row has what is left.
 fn run<T: Tag>(
     core: &mut ClusterCore<T>,
     scene: &Scene,
@@ -141,8 +142,8 @@ fn run<T: Tag>(
     Ok(end)
 }
 
-/// The rounds, to the last, whose moment it returns; 0 where there is none. They end where all requests are completed, and after
-/// the most that the scene allows.
+/// Makes the rounds and returns the moment of the last, or 0 where there is none. They end where all requests are completed, or
+/// after the greatest number that the scene allows.
 fn make_rounds<T: Tag>(
     core: &mut ClusterCore<T>,
     scene: &Scene,

@@ -231,14 +231,14 @@ module _ {T : Type 0} (ops : Tagging T) (o : IsTotalOrder ops.compare) where
   pub steps_agree : (s u : State T) (c : Command) → StandsFor s u → SameStep ops s u c
   steps_agree s u c h = same_answer s u (outcome ops s c) (outcome ops u c) h (outcomes_agree s u c h)
 
-  -- a step from one state is the step from each that it stands for
+  -- a step from one state is the step from each state that it represents
   pub steps_exactly : (old new : State T) (c : Command) (answer : Option (Reply T)) → Exactly ops old new c answer → Steps ops old new c answer
   steps_exactly old new c (Some reply) e = λ s h.
       let same = steps_agree old s c h in
       (ap (λ p. p.1) e ∙ same.0, subst (λ p. StandsFor p.0 ((step ops s c).0)) (sym e) same.1)
   steps_exactly old new c None e = (e.0, λ s h. (same_ok (outcome ops old c) (outcome ops s c) (outcomes_agree old s c h) e.1, subst (λ v. StandsFor v s) (sym e.2) h))
 
-  -- a step to a state that agrees with step's is the step from each state that the old one stands for
+  -- a step to a state that agrees with step's is the step from each state that the old one represents
   pub steps_agreeing : (old new : State T) (c : Command) (reply : Reply T) → reply ≡ (step ops old c).1 → StandsFor new ((step ops old c).0) → Steps ops old new c (Some reply)
   steps_agreeing old new c reply e n = λ s h.
       let same = steps_agree old s c h in

@@ -28,8 +28,8 @@ pub use Rattle.dmc_tag.proofs.Active.{same_client}
 pub use Rattle.dmc_tag.proofs.Running.{state_after-more}
 -- an order that is the same as a total one is total: so the order of a tag type is
 pub use Rattle.dmc_tag.proofs.Orderings.{tag_order}
--- agreeing states get the same reply to a command, and still agree; a step from one state is that step from each that it
--- stands for, and so is a step to a state that agrees with the one after it
+-- agreeing states get the same reply to a command, and still agree; a step from one state is that step from each state that it
+-- represents, and so is a step to a state that agrees with the one after it
 pub use Rattle.dmc_tag.proofs.Agreement.{steps_agree, steps_exactly, steps_agreeing}
 -- sums, and differences, of two tags and an amount are ordered as the tags are; an assignment gives no tag below the previous
 -- one, and an R exactly where there is a reservation

@@ -1,4 +1,5 @@
--- Ids: one is itself, two are compared either way, and in lists where no two are equal one that is at a place is found there.
+-- Ids: an id is equal to itself, two are compared either way, and in lists where no two are equal the one at an index is found
+-- there.
 use Rattle.std.proofs.Common.{◌≡◌, ℕ, ◌<◌, Bool, false, true, List, length, eqb, zero, suc, [], ◌∷◌, get_or, slice_get, Some, refl, sym, arith}
 use Rattle.std.specs.Prelude.{position}
 use Rattle.std.specs.List.{AllByRecursion, IsDistinct}
@@ -15,7 +16,7 @@ itself_id id = eq-eqb id.0 id.0 refl
 pub client_turned : (a b : ClientId) (r : Bool) → is_client b a ≡ r → is_client a b ≡ r
 client_turned a b r e = eqb_turned b.0 a.0 r e
 
--- what holds of each element holds of the one at a place
+-- what holds of each element holds of the one at an index
 pub all_there : {A : Type 0} (P : A → Type 0) (xs : List A) (i : ℕ) (x : A) → AllByRecursion P xs → slice_get xs i ≡ Some x → P x
 all_there P [] i x h e = cc
 all_there P (y ∷ ys) zero x h e = rw (sym (same_Some y x e)) h.0

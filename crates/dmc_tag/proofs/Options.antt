@@ -22,7 +22,7 @@ same_presence None (Some y) e = cc
 same_presence (Some x) None e = cc
 same_presence (Some x) (Some y) e = refl
 
--- what a `?` hands on
+-- what a `?` passes on
 pub err_is : {X E : Type 0} (r : Result X E) (e : E) → IsErrAnd r (λ f. f ≡ e) → r ≡ Err e
 err_is (Ok x) e h = absurd h
 err_is (Err f) e h = ap Err h

@@ -1,4 +1,4 @@
--- Orderings: what one, two in turn, and two of a total order tell; and tags that are not above others.
+-- Orderings: of one, of two in turn, and of two of a total order; and tags that are not above others.
 use Rattle.std.proofs.Common.{◌≡◌, ℕ, not, true, false, Option, Some, None, refl, ap, subst}
 use mathlib.Core.Path.{fun_ext}
 use Rattle.std.specs.Cmp.{IsTotalOrder}

@@ -1,4 +1,5 @@
--- Why a registration or an update is refused, before anything else is asked; and what a call that is refused, or that gets no memory, answers.
+-- Why a registration or an update is refused before anything else; and the reply of a call that is refused, or at which an
+-- allocation failed.
 use Rattle.std.proofs.Common.{◌≡◌, true, false, Some, None, is_some, Result, Err, refl, sym, ap, ◌∙◌, subst}
 use Rattle.std.specs.Prelude.{IsOk, IsTrue}
 use Rattle.dmc_types.specs.Values.{Rates}

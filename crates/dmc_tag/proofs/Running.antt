@@ -39,7 +39,7 @@ module _ {T : Type 0} (ops : Tagging T) where
   pub reaches_from_runs : (old new : State T) (cs : List Command) (replies : List (Reply T)) → Runs ops old new cs replies → Reaches ops old new cs
   reaches_from_runs old new cs replies runs = λ s h. (runs s h).1
 
-  -- want of memory leaves what was reached
+  -- an allocation failure leaves what was reached
   pub reaches_same : (old mid new : State T) (cs : List Command) (replies : List (Reply T)) (c : Command) → Runs ops old mid cs replies → Steps ops mid new c None → Reaches ops old new cs
   reaches_same old mid new cs replies c runs steps = λ s h. (steps.1 (state_after ops s cs) (runs s h).1).1
 

@@ -72,7 +72,7 @@ less_cmp x y z = at (int_cmp x y) refl where
   at Equal e = int_cmp_is _ _ Equal (ap (λ w. w -ℤ z) (int_ranked x y Equal e))
   at Greater e = int_cmp_is _ _ Greater (less_lt y x z (int_ranked x y Greater e))
 
--- the order of two numbers, told and asked
+-- the order of two numbers, as a test and as a proposition
 pub not_above : (x y : ℤ) (r : Ordering) → r ≡ int_cmp x y → x ≤ℤ y → is_gt r ≡ false
 not_above x y Less e h = refl
 not_above x y Equal e h = refl

@@ -102,7 +102,7 @@ module _ {R : Type 0} (key : R → ℕ) where
       let r = rec e in
       record { front = y ∷ r.front; back = r.back; whole = ap (λ zs. y ∷ zs) r.whole; none = rw q r.none }
 
-  -- the first of its key stands somewhere, behind others of other keys
+  -- the first of its key is somewhere, after others of other keys
   split : (k : ℕ) (ys : List R) (x : R) (zs : List R) → of_key k ys ≡ x ∷ zs → Split k ys x
   split k [] x zs e = cc
   split k (y ∷ ys) x zs e = split_at k y ys x zs (key y == k) refl (split k ys x zs) e

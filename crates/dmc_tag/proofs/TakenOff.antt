@@ -10,7 +10,7 @@ use Rattle.dmc_tag.proofs.TagValues.{difference_value, one_answer}
 
 -- ---- whole numbers over the denominators of all
 
--- one product, parted in two ways
+-- one product, split in two ways
 aside : (z : ℤ) (a b c d : ℕ) → a * b ≡ c * d → (z *ℤ pos a) *ℤ pos b ≡ (z *ℤ pos c) *ℤ pos d
 aside z a b c d e = scaled_twice z a b ∙ ap (λ n. z *ℤ pos n) e ∙ sym (scaled_twice z c d)
 

@@ -1,4 +1,4 @@
--- What a scheduler's calls answer, as replies. A call that wants memory has none.
+-- What a scheduler's calls return, as replies. A failed allocation has no reply.
 use Rattle.std.specs.Prelude.{ℕ, Option, Some, None, Result, Ok, Err}
 use Rattle.dmc_types.specs.declared.refusal.Refusal.{Refusal}
 use Rattle.dmc_types.specs.declared.refusal.QueueFault.{QueueFault}
@@ -8,13 +8,13 @@ use Rattle.dmc_tag.specs.declared.reply.Pulled.TheVariants as pulls
 use Rattle.dmc_tag.specs.declared.reply.Reply.{Reply}
 use Rattle.dmc_tag.specs.declared.reply.Reply.TheVariants.{Granted, Later, Nothing, Cleaned, Refused}
 
--- the reply of a call that answered so: its value or its refusal, and none where it wanted memory
+-- the reply of a call that returned a value or a refusal, and none where an allocation failed
 abbrev pub call_reply : {T X : Type 0} → (X → Reply T) → Result X QueueFault → Option (Reply T)
 call_reply tell (Ok x) = Some (tell x)
 call_reply tell (Err (faults.Refused refusal)) = Some (Refused refusal)
 call_reply tell (Err faults.Memory) = None
 
--- the same of a call that wants no memory
+-- the reply of a call that does not allocate
 abbrev pub sure_call_reply : {T X : Type 0} → (X → Reply T) → Result X Refusal → Option (Reply T)
 sure_call_reply tell (Ok x) = Some (tell x)
 sure_call_reply tell (Err refusal) = Some (Refused refusal)

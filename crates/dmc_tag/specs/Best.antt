@@ -1,4 +1,4 @@
--- Sets of requests, and the best of a set: the member with the least (tag, client, place in the list).
+-- Sets of requests, and the best of a set: the member with the least (tag, client, index in the list).
 use Rattle.std.specs.List.{AllByRecursion}
 use Rattle.std.specs.Prelude.{◌≡◌, ◌++◌, ℕ, Bool, true, false, not, ◌&&◌, List, [], ◌∷◌, Option, Some, None, if◌then◌else◌}
 use Rattle.std.specs.Ordering.{is_lt, is_gt, ordering_then}
@@ -32,7 +32,7 @@ by_reservation ops = is_before ops (λ r. r.tags.r)
 abbrev pub by_weight : {T : Type 0} → Tagging T → PlainRequest T → PlainRequest T → Bool
 by_weight ops = is_before ops (λ r. Some r.tags.p)
 
--- x and the requests after it, or the best of those where x is no member or they have one before it
+-- x and the requests after it; or the best of those, where x is no member or one of them is before it
 abbrev pub better : {R : Type 0} → (R → R → Bool) → Bool → R → List R → Option (R × List R) → Option (R × List R)
 better before member x xs None = if member then Some (x, xs) else None
 better before member x xs (Some (y, others)) = if member && not (before y x) then Some (x, xs) else Some (y, x ∷ others)
@@ -42,7 +42,7 @@ abbrev pub best : {R : Type 0} → (R → R → Bool) → (R → Bool) → List 
 best before member [] = None
 best before member (x ∷ xs) = better before (member x) x xs (best before member xs)
 
--- r is a member, no member of the list is before it in (tag, client, place), and the others are the list without it
+-- r is a member, no member of the list is before it in (tag, client, index), and the others are the list without it
 pub record IsBest {R : Type 0} (before : R → R → Bool) (member : R → Bool) (xs : List R) (r : R) (others : List R) : Type 0 where
   pub front : List R
   pub back : List R

@@ -15,7 +15,7 @@ use Rattle.dmc_tag.specs.declared.reply.Reply.TheVariants.{Tagged, Granted}
 abbrev pub setting : ℕ → ℕ → ℕ → AtLimit → Setting
 setting hz idle erase at = record { hz = hz; idle_age = idle; erase_age = erase; at_limit = at }
 
--- so many ticks a second, and no client grows old
+-- this many ticks a second, and ages that no client reaches
 abbrev pub ticks_a_second : ℕ → AtLimit → Setting
 ticks_a_second hz at = setting hz greatest_moment greatest_moment at
 

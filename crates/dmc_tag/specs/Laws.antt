@@ -1,4 +1,4 @@
--- What follows from the rules, in the subject's own words.
+-- What follows from the rules, in the words of the subject.
 use Rattle.std.specs.Prelude.{◌≡◌, ℕ, ◌<◌, ◌⊎◌, Bool, true, false, List, [], ◌∷◌, ◌++◌, Option, None, Ok}
 use Rattle.dmc_types.specs.declared.ids.ClientId.{ClientId}
 use Rattle.dmc_types.specs.declared.ids.Token.{Token}
@@ -26,7 +26,7 @@ abbrev pub IsReduction : {T : Type 0} → Tagging T → State T → ClientId →
 IsReduction ops old client phases.Reservation reduction = reduction ≡ None
 IsReduction ops old client phases.Priority reduction = reduction_of ops old.config.hz client old.clients ≡ Ok reduction
 
--- The best of a set is granted at t, and leaves the list. What is left of its client is reduced, and all else stays.
+-- The best of a set is granted at t, and removed from the list. Its client's other requests are reduced, and all else stays.
 pub record Grants {T : Type 0} (ops : Tagging T) (t : ℕ) (phase : PhaseType) (before : PlainRequest T → PlainRequest T → Bool) (member : PlainRequest T → Bool) (old new : State T) (client : ClientId) (token : Token) : Type 0 where
   pub request : PlainRequest T
   pub others : List (PlainRequest T)
@@ -54,7 +54,7 @@ pub record IsNextDue {T : Type 0} (ops : Tagging T) (m : ℕ) (requests : List (
   pub none_free : (n : ℕ) → n < m → HasNone (is_free ops n) requests
   pub some : HasDue ops m requests
 
--- what the reply to a pull at t says, and the state after it
+-- what the reply to a pull at t means, and the state after it
 abbrev pub Pulls : {T : Type 0} → Tagging T → ℕ → State T → State T → Reply T → Type 0
 Pulls ops t old new (Granted client token phases.Reservation beyond) = (beyond ≡ false) × Grants ops t phases.Reservation (by_reservation ops) (is_early ops t) old new client token
 Pulls ops t old new (Granted client token phases.Priority false) = HasNone (is_early ops t) old.requests × Grants ops t phases.Priority (by_weight ops) (is_free ops t) old new client token
@@ -62,7 +62,7 @@ Pulls ops t old new (Granted client token phases.Priority true) = HasNone (is_ea
 Pulls ops t old new (Later m) = HasNone (is_early ops t) old.requests × HasNone (is_free ops t) old.requests × (old.config.at_limit ≡ Wait) × IsNextDue ops m old.requests × (new ≡ record old { last_moment = t })
 Pulls ops t old new Nothing = (old.requests ≡ []) × (new ≡ record old { last_moment = t })
 Pulls ops t old new (Refused refusal) = (refusal ≡ Range) × (new ≡ old)
--- no other reply is given
+-- there is no other reply
 Pulls ops t old new Registered = ⊥
 Pulls ops t old new Updated = ⊥
 Pulls ops t old new (Tagged tags) = ⊥

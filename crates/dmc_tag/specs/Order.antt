@@ -1,4 +1,4 @@
--- Tags in order, and what an assignment keeps of it.
+-- Tags in order, and that an assignment keeps them in order.
 use Rattle.std.specs.Prelude.{◌≡◌, false, is_some, IfSome}
 use Rattle.std.specs.Ordering.{is_gt}
 use Rattle.dmc_types.specs.Values.{Rates}
@@ -11,7 +11,7 @@ use Rattle.dmc_tag.specs.declared.reply.Tags.{Tags}
 abbrev pub AtMost : {T : Type 0} → Tagging T → T → T → Type 0
 AtMost ops a b = is_gt (ops.compare a b) ≡ false
 
--- The spacings are those of such rates: none is below 0, and there is one for R exactly where there is a reservation.
+-- The spacings are those of these rates: none is below 0, and there is one for R exactly where there is a reservation.
 pub record AreSpacings {T : Type 0} (ops : Tagging T) (info : Rates) (spacings : Spacings T) : Type 0 where
   pub reserved : is_some spacings.r ≡ is_some info.reservation
   pub r : IfSome spacings.r (AtMost ops (ops.of_moment 0))

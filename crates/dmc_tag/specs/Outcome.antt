@@ -1,11 +1,11 @@
--- What a rule gives: a value, or the refusal that ends it.
+-- The result of a rule: a value, or the refusal that ends it.
 use Rattle.std.specs.Prelude.{Bool, Option, Result, Ok, Err, ⊤, if◌then◌else◌}
 use Rattle.std.specs.Option.{ok_or}
 use Rattle.dmc_types.specs.declared.refusal.Refusal.{Refusal}
 use Rattle.dmc_types.specs.declared.refusal.Refusal.TheVariants.{Range, Inexact}
 use Rattle.dmc_types.specs.declared.refusal.Field.{Field}
 
--- the next rule goes on from the value; a refusal ends all
+-- the next rule starts from the value; a refusal ends all
 infixl 10 ◌>>=◌
 abbrev pub ◌>>=◌ : {A B E : Type 0} → Result A E → (A → Result B E) → Result B E
 (Ok x) >>= f = f x

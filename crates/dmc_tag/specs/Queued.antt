@@ -1,4 +1,4 @@
--- Whose requests are queued.
+-- Which clients have queued requests.
 use Rattle.std.specs.Prelude.{◌≡◌, Bool, true, false, List}
 use Rattle.std.specs.List.{AllByRecursion}
 use Rattle.dmc_types.specs.declared.ids.ClientId.{ClientId}
@@ -8,7 +8,7 @@ use Rattle.dmc_tag.specs.State.{is_client, is_active}
 use Rattle.dmc_tag.specs.declared.plain.PlainClient.{PlainClient}
 use Rattle.dmc_tag.specs.declared.plain.PlainRequest.{PlainRequest}
 
--- who has a queued request is registered, and not idle
+-- a client with a queued request is registered, and not idle
 abbrev pub AreActive : {T : Type 0} → List (PlainClient T) → List (PlainRequest T) → Type 0
 AreActive clients requests = AllByRecursion (λ r. is_active r.client clients ≡ true) requests
 

@@ -24,11 +24,11 @@ client_cmp = on (λ c. c.0) nat_cmp
 abbrev pub tag_rank_cmp : {T : Type 0} → (T → T → Ordering) → TagRank T → TagRank T → Ordering
 tag_rank_cmp compare = then_cmp (on (λ r. r.tag) (last_if_absent compare)) (on (λ r. r.client) client_cmp)
 
--- what is unready first, then by tag, and then by client
+-- unready first, then by tag, and then by client
 abbrev pub limit_rank_cmp : {T : Type 0} → (T → T → Ordering) → LimitRank T → LimitRank T → Ordering
 limit_rank_cmp compare = then_cmp (on (λ r. r.ready) bool_cmp) (then_cmp (on (λ r. r.tag) compare) (on (λ r. r.client) client_cmp))
 
--- what is ready first, then by tag, and then by client
+-- ready first, then by tag, and then by client
 abbrev pub ready_rank_cmp : {T : Type 0} → (T → T → Ordering) → ReadyRank T → ReadyRank T → Ordering
 ready_rank_cmp compare = then_cmp (on (λ r. r.ready) (flip_args bool_cmp)) (then_cmp (on (λ r. r.tag) compare) (on (λ r. r.client) client_cmp))
 

@@ -31,7 +31,7 @@ use Rattle.dmc_tag.specs.declared.reply.Reply.TheVariants.{Registered, Updated, 
 abbrev pub Outcome : Type 0 → Type 0
 Outcome T = Result (State T × Reply T) Refusal
 
--- the client's record changed, and each other as it was
+-- the client's record is changed, and each other stays
 abbrev pub change_client : {T : Type 0} → ClientId → (PlainClient T → PlainClient T) → List (PlainClient T) → List (PlainClient T)
 change_client id f clients = map (λ c. if is_client id c.id then f c else c) clients
 
@@ -56,7 +56,7 @@ registered ops s id info t =
 
 -- ---- Update
 
--- whether it gives or takes a reservation
+-- whether an update gives or takes a reservation
 abbrev pub changes_reservation : Rates → Rates → Bool
 changes_reservation old new = if is_some old.reservation then is_none new.reservation else is_some new.reservation
 
@@ -104,7 +104,7 @@ assigned ops hz client params t = do
 abbrev pub previous_after : {T : Type 0} → Tags T → Previous T → Previous T
 previous_after tags previous = record { r = unwrap_or tags.r previous.r; l = tags.l; p = tags.p }
 
--- ---- Adjustment: the shares of all who are not idle are shifted, so that the least begins at t
+-- ---- Adjustment: the P of all clients that are not idle are shifted, so that the least P is t
 
 -- the tag less an amount, where that is a value
 abbrev pub less : {T : Type 0} → Tagging T → T → T → T
@@ -128,7 +128,7 @@ requests_can_shift ops amount clients requests = list_all (λ r. not (is_active 
 abbrev pub clients_can_shift : {T : Type 0} → Tagging T → T → List (PlainClient T) → Bool
 clients_can_shift ops amount clients = list_all (λ c. c.idle || has_less ops amount c.previous.p) clients
 
--- how much the least share is past t; with nothing queued there is no shift
+-- the least P less t; with nothing queued there is no shift
 abbrev pub shift_from : {T : Type 0} → Tagging T → T → Option (PlainRequest T × List (PlainRequest T)) → Result (Option T) Refusal
 shift_from ops t None = Ok None
 shift_from ops t (Some least) = in_range (ops.minus least.0.tags.p t) >>= λ amount. Ok (Some amount)
@@ -136,7 +136,7 @@ shift_from ops t (Some least) = in_range (ops.minus least.0.tags.p t) >>= λ amo
 abbrev pub shift_of : {T : Type 0} → Tagging T → List (PlainRequest T) → PlainClient T → T → Result (Option T) Refusal
 shift_of ops requests arriving t = if arriving.idle then shift_from ops t (best (by_weight ops) is_any requests) else Ok None
 
--- with no amount there is no shift
+-- without an amount there is no shift
 abbrev pub can_shift_by : {T : Type 0} → Tagging T → Option T → List (PlainClient T) → List (PlainRequest T) → Bool
 can_shift_by ops None clients requests = true
 can_shift_by ops (Some amount) clients requests = requests_can_shift ops amount clients requests && clients_can_shift ops amount clients
@@ -157,7 +157,7 @@ shifted_by ops shift s = record s {
 
 -- ---- Add
 
--- the tests of an add, in order, and what it comes to: the shift of the others and the new tags
+-- the tests of an add, in order, and its effect: the shift of the others and the new tags
 abbrev pub can_add : {T : Type 0} → Tagging T → State T → ClientId → Params → T → Result (Option T × Tags T) Refusal
 can_add ops s id params t = do
   client ← ok_or (client_named id s.clients) Unknown
@@ -206,7 +206,7 @@ reduction_at ops hz (Some rate) = in_range (ops.spacing hz rate) >>= λ amount. 
 abbrev pub reduction_of : {T : Type 0} → Tagging T → ℕ → ClientId → List (PlainClient T) → Result (Option T) Refusal
 reduction_of ops hz id clients = reduction_at ops hz (option_and_then (λ c. c.info.reservation) (client_named id clients))
 
--- with no amount there is no reduction
+-- without an amount there is no reduction
 abbrev pub can_reduce_by : {T : Type 0} → Tagging T → ClientId → Option T → List (PlainClient T) → List (PlainRequest T) → Bool
 can_reduce_by ops id None clients requests = true
 can_reduce_by ops id (Some amount) clients requests = requests_can_reduce ops id amount requests && clients_can_reduce ops id amount clients
@@ -225,7 +225,7 @@ reduced_by ops id amount s = record s {
   clients = reduced_clients ops id amount s.clients;
 }
 
--- the test of a reduction, and what it takes off
+-- the test of a reduction, and the amount that is taken off
 abbrev pub can_grant : {T : Type 0} → Tagging T → ℕ → ClientId → List (PlainClient T) → List (PlainRequest T) → Result (Option T) Refusal
 can_grant ops hz id clients requests = do
   amount ← reduction_of ops hz id clients
@@ -237,7 +237,7 @@ can_grant ops hz id clients requests = do
 abbrev pub granted : {T : Type 0} → PlainRequest T → PhaseType → Bool → Reply T
 granted r phase beyond = Granted r.client r.token phase beyond
 
--- the list without a request, at t
+-- the state at t without the request
 abbrev pub without : {T : Type 0} → State T → ℕ → List (PlainRequest T) → State T
 without s t others = record s { requests = others; last_moment = t }
 
@@ -246,7 +246,7 @@ grant_priority ops s t (r, others) beyond =
     can_grant ops s.config.hz r.client s.clients others
     >>= λ amount. Ok (reduced_by ops r.client amount (without s t others), granted r phases.Priority beyond)
 
--- the whole number that is not below, as a moment
+-- the least whole number that is not below the tag, as a moment
 abbrev pub moment_of : ℤ → ℕ
 moment_of (pos n) = n
 moment_of (negsuc n) = 0
@@ -301,7 +301,7 @@ removed s id =
 
 -- ---- Clean
 
--- nothing is queued, and the last arrival is so long ago
+-- nothing is queued, and the last arrival is at least this old
 abbrev pub is_stale : {T : Type 0} → List (PlainRequest T) → ℕ → ℕ → PlainClient T → Bool
 is_stale requests t age c = not (has_queued c.id requests) && nat_le age (t - c.last_arrival)
 
@@ -312,7 +312,7 @@ is_erased s t = is_stale s.requests t s.config.erase_age
 abbrev pub is_idled : {T : Type 0} → State T → ℕ → PlainClient T → Bool
 is_idled s t c = not (is_erased s t c) && is_stale s.requests t s.config.idle_age c && not c.idle
 
--- idle where it is that stale, or was so before
+-- idle where its last arrival is that old, or where it was idle before
 abbrev pub with_idle_mark : {T : Type 0} → State T → ℕ → PlainClient T → PlainClient T
 with_idle_mark s t c = record c { idle = c.idle || is_stale s.requests t s.config.idle_age c }
 

@@ -8,11 +8,11 @@ use Rattle.dmc_tag.specs.Tag.{Tagging}
 use Rattle.dmc_tag.specs.Outcome.{◌>>=◌}
 use Rattle.dmc_tag.specs.declared.spacing.Spacings.{Spacings}
 
--- the spacing of a rate; which rate it is, where that is no value
+-- the spacing of a rate, or the name of the rate where that is no value
 abbrev pub spacing_of : {T : Type 0} → Tagging T → ℕ → Field → ℕ → Result T Field
 spacing_of ops hz field rate = ok_or (ops.spacing hz rate) field
 
--- the same of a rate that may be absent
+-- the spacing of a rate that may be absent
 abbrev pub optional_spacing : {T : Type 0} → Tagging T → ℕ → Field → Option ℕ → Result (Option T) Field
 optional_spacing ops hz field None = Ok None
 optional_spacing ops hz field (Some rate) = spacing_of ops hz field rate >>= λ spacing. Ok (Some spacing)

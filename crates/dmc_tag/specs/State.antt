@@ -1,4 +1,4 @@
--- The plain state: one list over all clients, and nothing kept that a rule can compute.
+-- The plain state: one list of requests over all clients, and nothing that a rule can compute.
 use Rattle.std.specs.Prelude.{◌≡◌, ℕ, Bool, not, ◌&&◌, max, List, [], filter, ◌==◌}
 use Rattle.std.specs.List.{find, list_any}
 use Rattle.std.specs.Prelude.{Option}
@@ -40,8 +40,8 @@ client_named id clients = find (λ c. is_client id c.id) clients
 abbrev pub is_active : {T : Type 0} → ClientId → List (PlainClient T) → Bool
 is_active id clients = list_any (λ c. is_client id c.id && not c.idle) clients
 
--- Each client's requests, taken in list order, and all else are equal: a queue that keeps the one stands for the
--- other. The order between requests of different clients is read by no rule.
+-- Each client's requests, in list order, and all else are equal. A queue that has one of the states represents the other too: no
+-- rule reads the order between requests of different clients.
 pub record StandsFor {T : Type 0} (s u : State T) : Type 0 where
   pub config : s.config ≡ u.config
   pub requests : (id : ClientId) → requests_of id s.requests ≡ requests_of id u.requests

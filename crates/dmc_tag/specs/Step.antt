@@ -1,4 +1,4 @@
--- One command: the state and the reply that the rules give. A refused command leaves the state.
+-- One command: the state after it and the reply that the rules give. A refused command leaves the state.
 use Rattle.std.specs.Prelude.{Ok, Err}
 use Rattle.dmc_types.specs.declared.command.Command.{Command}
 use Rattle.dmc_types.specs.declared.command.Command.TheVariants.{Register, Update, Add, Pull, Remove, Clean}
@@ -16,7 +16,7 @@ outcome ops s (Pull at) = pulled ops s (effective s at)
 outcome ops s (Remove client) = removed s client
 outcome ops s (Clean at) = cleaned s (effective s at)
 
--- the state and the reply of an outcome: a refusal is answered, and changes nothing
+-- the state and the reply of an outcome: a refusal is a reply, and changes nothing
 abbrev pub answer_of : {T : Type 0} → State T → Outcome T → State T × Reply T
 answer_of s (Ok answer) = answer
 answer_of s (Err refusal) = (s, Refused refusal)

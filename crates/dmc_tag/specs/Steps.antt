@@ -1,4 +1,4 @@
--- What a scheduler promises of a call.
+-- What a scheduler promises of each call.
 use Rattle.std.specs.Prelude.{◌≡◌, ℕ, Bool, true, false, IsTrue, Option, Some, None, List, IsOk, slice_get}
 use Rattle.std.specs.Option.{option_map_or}
 use Rattle.dmc_types.specs.declared.command.Command.{Command}
@@ -9,7 +9,7 @@ use Rattle.dmc_tag.specs.Step.{outcome, step}
 use Rattle.dmc_tag.specs.Replay.{replies_of, state_after}
 use Rattle.dmc_tag.specs.declared.reply.Reply.{Reply}
 
--- the commands that may make a queue grow: no other fails for want of memory
+-- the commands that may allocate: no other returns an allocation failure
 abbrev pub may_grow : Command → Bool
 may_grow (Register client info at) = true
 may_grow (Update client info at) = false
@@ -22,22 +22,22 @@ may_grow (Clean at) = false
 abbrev pub grows_at : List Command → ℕ → Bool
 grows_at commands i = option_map_or may_grow (slice_get commands i) false
 
--- From each plain state that the scheduler stands for, a call is that step; or it answers nothing for want of memory,
--- where the command may grow and step refuses nothing, and stands for what it stood for.
+-- From each plain state that the scheduler represents, a call is that step. Or an allocation failed: then the command is one that
+-- may allocate, step refuses nothing, there is no reply, and the scheduler represents what it represented.
 abbrev pub Steps : {T : Type 0} → Tagging T → State T → State T → Command → Option (Reply T) → Type 0
 Steps {T} ops old new command (Some reply) = (s : State T) → StandsFor old s → (reply ≡ (step ops s command).1) × StandsFor new ((step ops s command).0)
 Steps {T} ops old new command None = IsTrue (may_grow command) × ((s : State T) → StandsFor old s → IsOk (outcome ops s command) × StandsFor new s)
 
--- One step from this very state: its reply and its state; or nothing for want of memory, where the command may grow and
--- step refuses nothing, and the state as it was.
+-- One step from this very state: its reply and its state. Or an allocation failed: then the command is one that may allocate,
+-- step refuses nothing, there is no reply, and the state is as it was.
 abbrev pub Exactly : {T : Type 0} → Tagging T → State T → State T → Command → Option (Reply T) → Type 0
 Exactly ops old new command (Some reply) = (new, reply) ≡ step ops old command
 Exactly ops old new command None = IsTrue (may_grow command) × IsOk (outcome ops old command) × (new ≡ old)
 
--- From each plain state that the scheduler stood for, the replies are those of step, and it stands for the state after.
+-- From each plain state that the scheduler represented, the replies are those of step, and it represents the state after.
 abbrev pub Runs : {T : Type 0} → Tagging T → State T → State T → List Command → List (Reply T) → Type 0
 Runs {T} ops old new commands replies = (s : State T) → StandsFor old s → (replies ≡ replies_of ops s commands) × StandsFor new (state_after ops s commands)
 
--- the same of the state alone
+-- From each plain state that the scheduler represented, it represents the state after.
 abbrev pub Reaches : {T : Type 0} → Tagging T → State T → State T → List Command → Type 0
 Reaches {T} ops old new commands = (s : State T) → StandsFor old s → StandsFor new (state_after ops s commands)

@@ -1,4 +1,4 @@
--- The value of a tag: which fraction it stands for, and what its operations compute.
+-- The value of a tag: which fraction it represents, and what its operations compute.
 use Rattle.std.specs.Prelude.{◌≡◌, ℕ, ◌*◌, ◌<◌, ◌≤◌, ◌↔◌, ℤ, pos, ◌+ℤ◌, ◌-ℤ◌, ◌*ℤ◌, ◌≤ℤ◌, Option, Some, None}
 use Rattle.std.specs.declared.cmp.Ordering.{Ordering}
 use Rattle.std.specs.declared.cmp.Ordering.TheVariants.{Equal}
@@ -14,7 +14,7 @@ pub record Fraction : Type 0 where
 abbrev pub fraction_cmp : Fraction → Fraction → Ordering
 fraction_cmp a b = int_cmp (a.numer *ℤ pos b.denom) (b.numer *ℤ pos a.denom)
 
--- two fractions of one value
+-- two fractions have one value
 abbrev pub IsSame : Fraction → Fraction → Type 0
 IsSame a b = a.numer *ℤ pos b.denom ≡ b.numer *ℤ pos a.denom
 
@@ -52,7 +52,7 @@ abbrev pub Gives : {T : Type 0} → (T → Fraction) → (Fraction → Type 0) �
 Gives fraction is_value None f = is_value f → ⊥
 Gives fraction is_value (Some a) f = is_value f × IsSame (fraction a) f
 
--- The operations are those of the fractions that the tags stand for.
+-- The operations are those of the fractions that the tags represent.
 pub record IsExact {T : Type 0} (ops : Tagging T) (fraction : T → Fraction) (is_value : Fraction → Type 0) : Type 0 where
   pub denom : (a : T) → 0 < (fraction a).denom
   pub order : (a b : T) → ops.compare a b ≡ fraction_cmp (fraction a) (fraction b)

@@ -1,4 +1,4 @@
-//! What a scheduler's calls answer, as replies. Want of memory is an error.
+//! What a scheduler's calls return, as replies. An allocation failure is an error.
 ghost use Rattle.std.specs.Prelude.{◌≡◌};
 ghost use Rattle.std.specs.Result.{result_ok};
 ghost use Rattle.dmc_tag.specs.Answers.{call_reply, sure_call_reply, pull_reply, clean_reply};
@@ -8,7 +8,7 @@ use crate::reply::{Pulled, Reply, Tags};
 use dmc_types::refusal::{QueueFault, Refusal};
 use std::alloc::AllocError;
 
-/// What `register` answered.
+/// The reply of `register`.
 pub fn registered<T>(answer: Result<(), QueueFault>) -> Result<Reply<T>, AllocError>
     ensures { result_ok result ≡ call_reply (λ _. replies.Registered) answer }
 {
@@ -19,7 +19,7 @@ pub fn registered<T>(answer: Result<(), QueueFault>) -> Result<Reply<T>, AllocEr
     }
 }
 
-/// What `update_info` answered.
+/// The reply of `update_info`.
 pub fn updated<T>(answer: Result<(), Refusal>) -> Reply<T>
     ensures { Some result ≡ sure_call_reply (λ _. replies.Updated) answer }
 {
@@ -29,7 +29,7 @@ pub fn updated<T>(answer: Result<(), Refusal>) -> Reply<T>
     }
 }
 
-/// What `add_request` answered.
+/// The reply of `add_request`.
 pub fn tagged<T>(answer: Result<Tags<T>, QueueFault>) -> Result<Reply<T>, AllocError>
     ensures { result_ok result ≡ call_reply replies.Tagged answer }
 {
@@ -40,7 +40,7 @@ pub fn tagged<T>(answer: Result<Tags<T>, QueueFault>) -> Result<Reply<T>, AllocE
     }
 }
 
-/// What `pull_request` answered.
+/// The reply of `pull_request`.
 pub fn pulled<T>(answer: Result<Pulled, Refusal>) -> Reply<T>
     ensures { Some result ≡ sure_call_reply pull_reply answer }
 {
@@ -64,7 +64,7 @@ pub fn pulled<T>(answer: Result<Pulled, Refusal>) -> Reply<T>
     }
 }
 
-/// What `remove_by_client` answered.
+/// The reply of `remove_by_client`.
 pub fn removed<T>(answer: Result<u32, Refusal>) -> Reply<T>
     ensures { Some result ≡ sure_call_reply replies.Removed answer }
 {
@@ -74,7 +74,7 @@ pub fn removed<T>(answer: Result<u32, Refusal>) -> Reply<T>
     }
 }
 
-/// What `clean` answered.
+/// The reply of `clean`.
 pub fn cleaned<T>(counts: (u32, u32)) -> Reply<T>
     ensures { result ≡ clean_reply counts }
 {

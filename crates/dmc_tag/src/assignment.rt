@@ -9,8 +9,7 @@ use crate::spacing::Spacings;
 use crate::tag::Tag;
 use dmc_types::params::ReqParams;
 
-/// One tag's step: max(previous + k*spacing, t). None where a sum is no value (mClock's Algorithm 1, with dmClock's
-/// counts).
+/// One tag's step: max(previous + k*spacing, t). `None` where a sum is no value (mClock's Algorithm 1, with dmClock's counts).
 pub fn next_tag<T: Tag>(previous: T, k: u32, spacing: T, t: T) -> Option<T>
     ensures { in_range result ≡ rules_of.next_tag T.ops previous k spacing t }
 {
@@ -18,8 +17,8 @@ pub fn next_tag<T: Tag>(previous: T, k: u32, spacing: T, t: T) -> Option<T>
     Some(sum.max(t))
 }
 
-/// The tags of a request that comes at t, after these. None where a sum is no value. Without a reservation there is no
-/// R.
+/// The tags of a request that arrives at t, after the previous tags. `None` where a sum is no value. Without a reservation there
+/// is no R.
 pub fn next_tags<T: Tag>(
     spacings: &Spacings<T>,
     previous: &Previous<T>,
@@ -37,7 +36,7 @@ pub fn next_tags<T: Tag>(
     Some(Tags { r, l, p })
 }
 
-/// The previous tags after a request with these. Without an R, the previous one stays.
+/// The previous tags after a request with these tags. Without an R, the previous R stays.
 pub fn previous_after<T: Copy>(tags: Tags<T>, previous: Previous<T>) -> Previous<T>
     ensures { result ≡ rules_of.previous_after tags previous }
 {

@@ -1,4 +1,4 @@
-//! What happened at a queue.
+//! Events: what happened at a queue.
 ghost use Rattle.std.specs.Prelude.{◌≡◌, ⊤};
 
 use crate::reply::Reply;
@@ -6,7 +6,7 @@ use dmc_types::command::Command;
 use dmc_types::ids::WorkerId;
 use std::alloc::AllocError;
 
-/// One command, who gave it, and what was answered.
+/// A command, the worker that gave it, and the reply.
 #[derive(Copy, Debug, PartialEq, Eq)]
 pub struct Event<T> {
     pub worker: WorkerId,

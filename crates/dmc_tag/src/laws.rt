@@ -1,4 +1,4 @@
-//! What follows from the rules alone. Each law is the contract of a function that does nothing.
+//! Laws that follow from the rules alone. Each law is the contract of a function that does nothing.
 ghost use Rattle.std.specs.Prelude.{◌≡◌, ℕ, ◌⊎◌, ◌++◌, ◌∷◌, [], Bool, true, List, length, Option, Some, Ok, Err};
 ghost use Rattle.dmc_types.specs.Values.{Setting, Rates, Params};
 ghost use Rattle.dmc_types.specs.declared.ids.ClientId.{ClientId};
@@ -29,7 +29,7 @@ pub fn agreeing_states<T: Tag>()
     ensures { (s u : State T) (command : Command) → StandsFor s u → SameStep T.ops s u command }
 {}
 
-/// A step from one state is that step from each state that it stands for.
+/// A step from one state is that step from each state that it represents.
 pub fn steps_exactly<T: Tag>()
     ensures { (old new : State T) (command : Command) (answer : Option (Reply T)) →
         Exactly T.ops old new command answer → Steps T.ops old new command answer }
@@ -40,8 +40,8 @@ pub fn agreeing_states_count_alike<T>()
     ensures { (s u : State T) → StandsFor s u → (length s.requests ≡ length u.requests) × (length s.clients ≡ length u.clients) }
 {}
 
-/// A history with one event more: the state after it is one step further, and it replays exactly where the history does
-/// and the event's reply is that step's.
+/// A history with one event more: the state after it is one step further. It replays exactly where the history does and the
+/// event's reply is that of the step.
 pub fn histories_grow<T: Tag>()
     ensures state { (config : Setting) (events : List (Event T)) (e : Event T) →
         after T.ops config (events ++ e ∷ []) ≡ (step T.ops (after T.ops config events) e.command).0 }
@@ -51,7 +51,7 @@ pub fn histories_grow<T: Tag>()
         replays T.ops config events × (e.reply ≡ (step T.ops (after T.ops config events) e.command).1) }
 {}
 
-/// Who has a queued request is registered and not idle: after each history, and where a state has it so, after each step.
+/// A client with a queued request is registered and not idle. This holds after each history, and a step keeps it.
 pub fn queued_clients_are_active<T: Tag>()
     ensures history { (config : Setting) (events : List (Event T)) (id : ClientId) →
         has_queued id (after T.ops config events).requests ≡ true → is_active id (after T.ops config events).clients ≡ true }
@@ -59,26 +59,26 @@ pub fn queued_clients_are_active<T: Tag>()
         AreActive ((step T.ops s command).0).clients ((step T.ops s command).0).requests }
 {}
 
-/// A client that has a queued request after a step had one before it, or the step is an Add of this client.
+/// Where a client has a queued request after a step, it had one before it, or the step is an Add of this client.
 pub fn only_an_add_queues<T: Tag>()
     ensures { (s : State T) (command : Command) (id : ClientId) → has_queued id ((step T.ops s command).0).requests ≡ true →
         (has_queued id s.requests ≡ true) ⊎ (is_add_of id command ≡ true) }
 {}
 
-/// Who is granted had a queued request.
+/// A client that is granted had a queued request.
 pub fn grants_what_is_queued<T: Tag>()
     ensures { (s : State T) (command : Command) (client : ClientId) (token : Token) (phase : PhaseType) (beyond : Bool) →
         (step T.ops s command).1 ≡ replies.Granted client token phase beyond → has_queued client s.requests ≡ true }
 {}
 
-/// The request that is granted is in its set, and no member of the set is before it in (tag, client, place); the reply
-/// to a pull says which set it was, and that the sets before it have no member. A grant in the weight phase takes hz/r
-/// off the R tags of its client, one in the constraint phase takes nothing, and all else stays.
+/// The request that is granted is in its set, and no member of the set is before it in (tag, client, index). The reply to a pull
+/// says which set it was, and that the sets before it have no member. A grant in the weight phase takes hz/r off the R tags of
+/// its client, one in the constraint phase takes nothing off, and all else stays.
 pub fn pulls_grant_the_best<T: Tag>()
     ensures { (s : State T) (at : ℕ) → Pulls T.ops (effective s at) s ((step T.ops s (commands.Pull at)).0) ((step T.ops s (commands.Pull at)).1) }
 {}
 
-/// Future is exact: before the moment that it names no request is early or free, and at it one is.
+/// Future is exact: before its moment no request is early or free, and at it one is.
 pub fn future_is_exact<T: Tag>()
     ensures { (s : State T) (at m : ℕ) → (step T.ops s (commands.Pull at)).1 ≡ replies.Later m → IsNextDue T.ops m s.requests }
 {}
@@ -88,18 +88,17 @@ pub fn refusals_change_nothing<T: Tag>()
     ensures { (s : State T) (command : Command) (refusal : Refusal) → outcome T.ops s command ≡ Err refusal → step T.ops s command ≡ (s, replies.Refused refusal) }
 {}
 
-/// Two tags less an amount are ordered as the tags are.
+/// Subtracting one tag from two others keeps their order.
 pub fn subtraction_keeps_order<T: Tag>()
     ensures { (a b amount x y : T) → T.ops.minus a amount ≡ Some x → T.ops.minus b amount ≡ Some y → T.ops.compare x y ≡ T.ops.compare a b }
 {}
 
-/// Two tags and an amount are ordered as the tags are.
+/// Adding one tag to two others keeps their order.
 pub fn plus_keeps_order<T: Tag>()
     ensures { (a b amount x y : T) → T.ops.plus a amount ≡ Some x → T.ops.plus b amount ≡ Some y → T.ops.compare x y ≡ T.ops.compare a b }
 {}
 
-/// The sum of two tags is that of the same tags turned round, and there is none of the one where there is none of the
-/// other.
+/// The sum of two tags commutes, and there is none in one order exactly where there is none in the other.
 pub fn plus_commutes<T: Tag>()
     ensures { (a b : T) → T.ops.plus a b ≡ T.ops.plus b a }
 {}

@@ -1,4 +1,4 @@
-//! What dmClock is here: tags and their laws, the plain state and its rules, and what a scheduler promises.
+//! What dmClock means here: tags and their laws, the plain state and its rules, and what a scheduler promises.
 #![tactic(auto)]
 
 pub mod answers;

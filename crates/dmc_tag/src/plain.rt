@@ -1,4 +1,4 @@
-//! The parts of a plain state: what dmClock knows of a request and of a client.
+//! The parts of a plain state: its requests and its clients.
 ghost use Rattle.std.specs.Prelude.{◌≡◌, ⊤};
 
 use crate::reply::Tags;
@@ -25,7 +25,7 @@ impl<T: Copy> Clone for PlainRequest<T> {
     }
 }
 
-/// The tags of a client's last request, less what was taken off since. They are 0 at registration.
+/// The tags of a client's last request, less what has been subtracted since. They are 0 at registration.
 #[derive(Copy, Debug)]
 pub struct Previous<T> {
     pub r: T,

@@ -1,4 +1,4 @@
-//! Ranks: what the indexes over clients order by. Each compares its fields in turn.
+//! Ranks, by which the indexes order clients. Each compares its fields in turn.
 ghost use Rattle.std.specs.Prelude.{◌≡◌, ⊤};
 ghost use Rattle.std.specs.Cmp.{IsTotalOrder};
 ghost use Rattle.std.specs.Ordering.{is_lt, ordering_then};
@@ -9,12 +9,12 @@ use dmc_types::ids::ClientId;
 use std::alloc::AllocError;
 use std::cmp::Ordering;
 
-/// A lawful total order. An index asks which of two ranks is below, and nothing else.
+/// A lawful total order. An index asks only which of two ranks is below the other.
 pub trait Rank: Copy {
     /// The order.
     ghost cmp: { Self → Self → Ordering };
 
-    /// Whether it is below another.
+    /// Whether this rank is below another.
     fn is_below(&self, other: &Self) -> bool
         ensures { result ≡ is_lt (cmp self.now other.now) };
 
@@ -39,7 +39,7 @@ impl<T: Copy> Clone for TagRank<T> {
     }
 }
 
-/// Unready first, then by tag, and then by client. The fields stand so that they take little room.
+/// Unready first, then by tag, and then by client. The fields are in an order that takes few bytes.
 #[derive(Copy, Debug)]
 pub struct LimitRank<T> {
     pub tag: T,
@@ -57,7 +57,7 @@ impl<T: Copy> Clone for LimitRank<T> {
     }
 }
 
-/// Ready first, then by tag, and then by client. The fields stand so that they take little room.
+/// Ready first, then by tag, and then by client. The fields are in an order that takes few bytes.
 #[derive(Copy, Debug)]
 pub struct ReadyRank<T> {
     pub tag: T,

@@ -1,4 +1,4 @@
-//! What a queue answers.
+//! The replies of a queue.
 ghost use Rattle.std.specs.Prelude.{◌≡◌, ⊤};
 
 use dmc_types::config::PhaseType;
@@ -24,10 +24,10 @@ impl<T: Copy> Clone for Tags<T> {
     }
 }
 
-/// What a pull answers.
+/// The reply to a pull.
 #[derive(Clone, Copy, Debug, PartialEq, Eq)]
 pub enum Pulled {
-    /// A request is granted. `beyond` says that it is past its limit.
+    /// A request is granted. `beyond` says that it is over its client's limit.
     Returning {
         client: ClientId,
         token: Token,
@@ -40,14 +40,14 @@ pub enum Pulled {
     Nothing,
 }
 
-/// What a command is answered.
+/// The reply to a command.
 #[derive(Copy, Debug, PartialEq, Eq)]
 pub enum Reply<T> {
     Registered,
     Updated,
     /// A request was queued with these tags.
     Tagged(Tags<T>),
-    /// A request is granted. `beyond` says that it is past its limit.
+    /// A request is granted. `beyond` says that it is over its client's limit.
     Granted {
         client: ClientId,
         token: Token,
@@ -58,9 +58,9 @@ pub enum Reply<T> {
     Later(u128),
     /// Nothing is queued.
     Nothing,
-    /// So many requests were taken out.
+    /// This many requests were removed.
     Removed(u32),
-    /// So many clients became idle, and so many were erased.
+    /// This many clients became idle, and this many were erased.
     Cleaned {
         idled: u32,
         erased: u32,

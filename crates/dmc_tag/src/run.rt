@@ -9,14 +9,14 @@ use dmc_types::command::Command;
 use std::alloc::Global;
 use thiserror::Error;
 
-/// Want of memory. The first `done` commands were carried out, and no other.
+/// An allocation failed. The first `done` commands were carried out, and no other.
 #[derive(Clone, Copy, Debug, PartialEq, Eq, Error)]
 #[error("out of memory after {done} commands")]
 pub struct Stop {
     pub done: usize,
 }
 
-/// Hands the commands to the scheduler in order, and answers their replies.
+/// Applies the commands to the scheduler in order, and returns their replies.
 pub fn run_commands<T: Tag, S: Scheduler<T>>(
     alloc: Global,
     scheduler: &mut S,
@@ -25,7 +25,7 @@ pub fn run_commands<T: Tag, S: Scheduler<T>>(
     ensures replies { IfOk result (λ replies. Runs T.ops (S.state scheduler.old) (S.state scheduler.new) commands.now replies.items) }
     ensures stop { IfErr result (λ stop. (stop.done ≤ length commands.now) × Reaches T.ops (S.state scheduler.old) (S.state scheduler.new) (take stop.done commands.now)) }
 
-    // Only the room for the replies, before the first command, and a command that may grow can want memory.
+    // Two allocations may fail: the one for the replies, before the first command, and one of a command that may allocate.
     ensures cause { IfErr result (λ stop. (stop.done ≡ 0) ⊎ IsTrue (grows_at commands.now stop.done)) }
 {
     let Ok(mut replies) = Vec::with_capacity(alloc, commands.len()) else {

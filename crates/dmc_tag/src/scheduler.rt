@@ -20,20 +20,20 @@ use std::alloc::AllocError;
 
 /// A queue of dmClock: each call is a step of the rules.
 pub trait Scheduler<T: Tag> {
-    /// A plain state of the scheduler. It stands for each state that agrees with this one client by client.
+    /// A plain state of the scheduler. It represents each state that agrees with this one client by client.
     ghost state: { Self → State T };
 
-    /// Registers a client; refused `Known`, `Inexact`, `Clients`, in this order, and `Memory` last.
+    /// Registers a client. It is refused `Known`, `Inexact`, `Clients`, in this order, and `Memory` last.
     fn register(&mut self, client: ClientId, info: ClientInfo, at: Moment) -> Result<(), QueueFault>
         ensures { Steps T.ops (state self.old) (state self.new) (commands.Register client info at)
             (call_reply (λ _. replies.Registered) result) };
 
-    /// Replaces a client's rates; refused `Unknown`, `Inexact`, `Busy`, in this order.
+    /// Replaces a client's rates. It is refused `Unknown`, `Inexact`, `Busy`, in this order.
     fn update_info(&mut self, client: ClientId, info: ClientInfo, at: Moment) -> Result<(), Refusal>
         ensures { Steps T.ops (state self.old) (state self.new) (commands.Update client info at)
             (sure_call_reply (λ _. replies.Updated) result) };
 
-    /// Queues a request, and answers its tags; refused `Unknown`, `QueueFull`, `Range`, in this order, and `Memory` last.
+    /// Queues a request, and returns its tags. It is refused `Unknown`, `QueueFull`, `Range`, in this order, and `Memory` last.
     fn add_request(
         &mut self,
         client: ClientId,
@@ -44,25 +44,25 @@ pub trait Scheduler<T: Tag> {
         ensures { Steps T.ops (state self.old) (state self.new) (commands.Add client token params at)
             (call_reply replies.Tagged result) };
 
-    /// Grants the next request, or tells when one is due; refused `Range`.
+    /// Grants the next request, or returns the moment at which one is due. It is refused `Range`.
     fn pull_request(&mut self, at: Moment) -> Result<Pulled, Refusal>
         ensures { Steps T.ops (state self.old) (state self.new) (commands.Pull at) (sure_call_reply pull_reply result) };
 
-    /// Takes out a client's queued requests, and answers how many; refused `Unknown`.
+    /// Removes a client's queued requests, and returns how many. It is refused `Unknown`.
     fn remove_by_client(&mut self, client: ClientId) -> Result<u32, Refusal>
         ensures { Steps T.ops (state self.old) (state self.new) (commands.Remove client)
             (sure_call_reply replies.Removed result) };
 
-    /// Marks idle clients and erases old ones, and answers how many became idle and how many were erased.
+    /// Marks idle clients and erases old ones. Returns how many became idle and how many were erased.
     fn clean(&mut self, at: Moment) -> (u32, u32)
         ensures { Steps T.ops (state self.old) (state self.new) (commands.Clean at) (Some (clean_reply result)) };
 
-    /// How many clients are registered, in each plain state that the scheduler stands for.
+    /// The number of registered clients, in each plain state that the scheduler represents.
     fn client_count(&self) -> u32
         ensures state { result ≡ length (state self.now).clients }
         ensures each { (s : State T) → StandsFor (state self.now) s → result ≡ length s.clients };
 
-    /// How many requests are queued, in each plain state that the scheduler stands for.
+    /// The number of queued requests, in each plain state that the scheduler represents.
     fn request_count(&self) -> u32
         ensures state { result ≡ length (state self.now).requests }
         ensures each { (s : State T) → StandsFor (state self.now) s → result ≡ length s.requests };
@@ -75,7 +75,7 @@ pub trait Scheduler<T: Tag> {
     }
 }
 
-/// The reply of a queue to a command, as `Scheduler::apply`. It becomes a part of its caller, where the command is known.
+/// The reply of a queue to a command, for `Scheduler::apply`. It is inlined into its caller, where the command is known.
 #[inline(always)]
 pub fn apply_to<T: Tag, Q: Scheduler<T>>(
     queue: &mut Q,

@@ -9,7 +9,7 @@ use dmc_types::moment::Moment;
 use dmc_types::refusal::Field;
 use std::alloc::AllocError;
 
-/// How far apart a client's tags are: hz/rate ticks for each of its rates. Without a limit, 0.
+/// The distance between a client's tags: hz/rate ticks for each of its rates, and 0 for an absent limit.
 #[derive(Copy, Debug)]
 pub struct Spacings<T> {
     pub r: Option<T>,
@@ -46,7 +46,7 @@ fn optional_spacing_for<T: Tag>(
     }
 }
 
-/// The spacings of a client's rates, or the first whose spacing is no value: reservation, weight, limit (own).
+/// The spacings of a client's rates, or the first rate whose spacing is no value: reservation, weight, limit (extension).
 pub fn spacings_for<T: Tag>(hz: u32, info: ClientInfo) -> Result<Spacings<T>, Field>
     ensures value { result ≡ spacings_of T.ops hz info }
     ensures spacings { IfOk result (AreSpacings T.ops info) }

@@ -1,15 +1,15 @@
-//! Tags: the numbers that requests are ordered by.
+//! Tags, the numbers by which requests are ordered.
 ghost use Rattle.std.specs.Prelude.{◌≡◌, Bool, true};
 ghost use Rattle.dmc_tag.specs.Tag.{Fraction, Tagging, IsExact, IsWhole};
 
 use dmc_types::moment::Moment;
 
-/// A tag: an exact number of ticks, below 0 too. A sum that is no value of the type is `None`; nothing is rounded.
+/// A tag: an exact number of ticks, which may be below 0. A sum that is no value of the type is `None`; nothing is rounded.
 pub trait Tag: Copy + Ord {
     /// What the operations compute.
     ghost ops: { Tagging Self };
 
-    /// The fraction that a tag stands for.
+    /// The fraction that a tag represents.
     ghost fraction: { Self → Fraction };
 
     /// Which fractions are values of the type.
@@ -26,7 +26,7 @@ pub trait Tag: Copy + Ord {
     fn of_moment(at: Moment) -> Self
         ensures { result ≡ ops.of_moment at };
 
-    /// The spacing of a rate: hz/rate ticks. None where that is no value, as at rate 0.
+    /// The spacing of a rate: hz/rate ticks. `None` where that is no value, as at rate 0.
     fn spacing(hz: u32, rate: u32) -> Option<Self>
         ensures { result ≡ ops.spacing hz rate };
 
@@ -34,7 +34,7 @@ pub trait Tag: Copy + Ord {
     fn steps(self, k: u32) -> Option<Self>
         ensures { result ≡ ops.steps self k };
 
-    /// The sum. A tag that a program has is a value of the type.
+    /// The sum. Every tag in a program is a value of the type.
     fn plus(self, other: Self) -> Option<Self>
         ensures sum { result ≡ ops.plus self other }
         ensures value { is_value (fraction self) };
@@ -53,6 +53,6 @@ pub trait Tag: Copy + Ord {
     /// The operations are those of fractions.
     ghost exact: { IsExact ops fraction is_value };
 
-    /// What a type whose values are the whole numbers of an interval keeps.
+    /// The law of a type whose values are the whole numbers of an interval.
     ghost interval: { whole ≡ true → IsWhole fraction is_value };
 }

@@ -1,4 +1,4 @@
--- A piece of a buffer that a read is given: what stands before it stays, and what is read stands at its front.
+-- A piece of a buffer that a read is given: what is before it stays, and what is read is at its front.
 use Rattle.std.proofs.Common.{◌≡◌, ℕ, ◌+◌, ◌-◌, ◌<◌, ◌≤◌, List, ◌++◌, length, take, drop, Result, Ok, Err, Option, sym, ap, subst, ◌∙◌, arith, append_assoc, length-drop}
 use Rattle.std.specs.Prelude.{IfOk, MatchResult, OkIff}
 use Rattle.std.specs.Result.{result_unwrap_or}
@@ -43,7 +43,7 @@ front_of_piece buffer piece behind tail at len n within short fits =
     ∙ ap (take n) (append_assoc piece behind tail)
     ∙ take-append-le n piece (behind ++ tail) short
 
--- what a read takes stands at the front of its piece
+-- what a read takes is at the front of its piece
 pub read_in_piece : {E : Type 0} (before after : Option (List ℕ)) (r : Result ℕ E) (buffer piece behind tail : List ℕ) (at len : ℕ)
     → at ≤ length buffer → at + length piece ≤ len → IfOk r (λ n. n ≤ length piece) → ReadConsumes before after r piece
     → MatchResult r (λ n. Consumes before after (take n (drop at (with_piece buffer piece behind tail at len)))) (λ _. Keeps before after)
@@ -52,7 +52,7 @@ read_in_piece before after (Ok n) buffer piece behind tail at len within fits sh
     subst (Consumes before after) (sym (front_of_piece buffer piece behind tail at len n within short near)) read.0
 read_in_piece before after (Err e) buffer piece behind tail at len within fits short read = read
 
--- no byte where there is room for one: the reader is at its end
+-- no byte where one fits: the reader is at its end
 pub end_in_piece : {E A B : Type 0} (before after : Option (List ℕ)) (r : Result ℕ E) (piece : List ℕ)
     → (A → B → 0 < length piece) → ReadConsumes before after r piece → IfOk r (λ n. n ≡ 0 → A → B → IsAtEnd after)
 end_in_piece before after (Ok n) piece room read = λ none a b. read.1 none (room a b)

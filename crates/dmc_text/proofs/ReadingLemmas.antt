@@ -16,7 +16,7 @@ front_of_range items start end n h =
     let fits : n ≤ end - start = omega arith in
     take-take n (end - start) (drop start items) fits ∙ ap (λ k. take k (drop start items)) (sym same)
 
--- what stands behind the first n of a range
+-- what is after the first n of a range
 pub back_of_range : (items : List ℕ) (start end n : ℕ) → start + n ≤ end → drop n (slice_range items start end) ≡ slice_range items (start + n) end
 back_of_range items start end n h =
     let m : ℕ = end - (start + n) in
@@ -25,7 +25,7 @@ back_of_range items start end n h =
     ∙ drop-take n m (drop start items)
     ∙ ap (take m) (drop-drop n start items)
 
--- where the first LF of a range stands, its first line ends
+-- where the first LF of a range is, its first line ends
 pub found_line : (items : List ℕ) (start end i : ℕ) → start + (i + 1) ≤ end → position is_end (slice_range items start end) ≡ Some i
     → next_line (slice_range items start end) ≡ Some (slice_range items start (start + i), slice_range items (start + i + 1) end)
 found_line items start end i h e =
@@ -42,7 +42,7 @@ range_of_front items start end h =
     let whole : end ≡ start + (end - start) = omega arith in
     sym (ap (λ k. drop start (take k items)) whole ∙ drop-take start (end - start) items)
 
--- what stands behind the end of a range changes nothing
+-- what is after the end of a range changes nothing
 pub same_range : (old new : List ℕ) (start end : ℕ) → start ≤ end → take end new ≡ take end old → slice_range new start end ≡ slice_range old start end
 same_range old new start end h e = range_of_front new start end h ∙ ap (drop start) e ∙ sym (range_of_front old start end h)
 

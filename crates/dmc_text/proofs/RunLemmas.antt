@@ -10,8 +10,7 @@ use Rattle.dmc_text.specs.declared.line.Line.TheVariants.{Skip, Config, Ask, Val
 use Rattle.dmc_text.specs.Replies.{reply_text}
 use Rattle.dmc_text.specs.Texts.{with_line_end, value_text, written}
 
--- each state stands for itself
--- states that agree client by client are answered alike
+-- each state represents itself; states that agree client by client give the same replies
 pub written_alike : {T : Type 0} (ops : Tagging T) (text : T → List ℕ) (law : (s u : State T) (command : Command) → StandsFor s u → SameStep ops s u command)
     (lines : List Line) (s u : State T) → StandsFor s u → written ops text (Some s) lines ≡ written ops text (Some u) lines
 written_alike ops text law [] s u h = refl
@@ -23,7 +22,7 @@ written_alike ops text law (Ask command ∷ lines) s u h =
     ap (λ reply. with_line_end (reply_text text reply) ++ written ops text (Some ((step ops s command).0)) lines) same.0
     ∙ ap (λ more. with_line_end (reply_text text ((step ops u command).1)) ++ more) (written_alike ops text law lines ((step ops s command).0) ((step ops u command).0) same.1)
 
--- a command is answered, and then the rest from the state that is reached, or from one that agrees
+-- a command has its reply, and then the rest from the state after it, or from one that agrees
 pub asked_alike : {T : Type 0} (ops : Tagging T) (text : T → List ℕ) (law : (s u : State T) (command : Command) → StandsFor s u → SameStep ops s u command)
     (s u : State T) (command : Command) → StandsFor u ((step ops s command).0)
     → (rest : List Line) → with_line_end (reply_text text ((step ops s command).1)) ++ written ops text (Some u) rest ≡ written ops text (Some s) (Ask command ∷ rest)

@@ -1,4 +1,4 @@
--- The replies of steps can be told: no grant by reservation is beyond its limit.
+-- The replies of steps can be written: no grant by reservation is beyond its limit.
 use Rattle.std.proofs.Common.{ℕ, Bool, true, false, List, [], ◌∷◌, Option, Some, None, Result, Ok, Err, refl}
 use Rattle.dmc_types.specs.declared.config.AtLimit.{AtLimit}
 use Rattle.dmc_types.specs.declared.config.AtLimit.TheVariants.{Wait, Allow}
@@ -41,7 +41,7 @@ told_early : {T : Type 0} (ops : Tagging T) (u s : State T) (t : ℕ) (found : O
 told_early ops u s t (Some (r, others)) = refl
 told_early ops u s t None = told_free ops u s t (best (by_weight ops) (is_free ops t) s.requests)
 
--- each reply of a step can be told
+-- each reply of a step can be written
 pub tellable : {T : Type 0} (ops : Tagging T) (s : State T) (command : Command) → IsTellable ((step ops s command).1)
 tellable ops s (Register client info at) = told_of s (can_register ops s client info) _ (λ a. tt)
 tellable ops s (Update client info at) = told_of s (can_update ops s client info) _ (λ a. tt)

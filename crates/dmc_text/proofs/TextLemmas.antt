@@ -38,7 +38,7 @@ split_last (b ∷ bs) h =
     let p = and_parts _ _ h in
     slice_split-cons_no is_space b bs (not-true _ p.0) ∙ ap (onto_first b) (split_last bs p.1)
 
--- words that are parted by one space each are read again
+-- words that are separated by one space each are read again
 pub words_joined : (ws : List (List ℕ)) → list_all is_plain ws ≡ true → words (join_with_byte 32 ws) ≡ ws
 words_joined [] h = refl
 words_joined (w ∷ []) h =

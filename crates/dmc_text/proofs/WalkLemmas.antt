@@ -15,7 +15,7 @@ use Rattle.dmc_text.specs.Texts.{lines_of, has_end}
 use Rattle.dmc_text.specs.Walks.{GoesThrough, TakesWhole, IsCut, Starts, Feeds, Fails, Finds, FindsLine, TakesLine, Takes, TakesRest, TakesLast, end_result, IsFault, Ending, Halt, EndsAs}
 use Rattle.dmc_text.specs.LineLaws.{first_line, no_line, line_first, lines_behind, leads, last_line, whole_on, ends_whole, behind_line, line_and_more, shorter}
 
--- how much is left to do at most: what may be read yet counts twice, and what is read and not handed out once
+-- how much is left to do at most: what may still be read counts twice, and what is read and not yet returned once
 abbrev pub work_left : Walk → ℕ
 work_left walk = 2 * (most_bytes - walk.lines.taken) + length walk.lines.rest
 

@@ -31,7 +31,7 @@ pub calm_ok : {S X E : Type 0} (old new : Watched S) (r : Result X E) → false 
 calm_ok old new (Ok x) e noted = noted
 calm_ok old new (Err x) e noted = absurd (cc)
 
--- the reader fails once these bytes were read, or the text goes on past its most bytes
+-- the reader fails once these bytes were read, or the text has more than its most bytes
 pub fails_later : {R : Type 0} (left : R → Option (List ℕ)) (taken later : ℕ) (bytes : List ℕ) (before between after : Watched R)
     → Consumes (left (stream_of before)) (left (stream_of between)) bytes → later ≡ taken + length bytes → IsCalm before between
     → FailsToRead left later between after → FailsToRead left taken before after

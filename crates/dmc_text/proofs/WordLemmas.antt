@@ -1,4 +1,4 @@
--- The first word of a text, by places.
+-- The first word of a text, by indexes.
 use Rattle.std.proofs.Common.{◌≡◌, ℕ, suc, ◌+◌, ◌<◌, ◌≤◌, Bool, true, false, not, cond, ltb, List, [], ◌∷◌, refl, sym, ap, subst, ◌∙◌, arith, length, take, drop, get_or, drop-cons, Some, None, unwrap_or, position}
 use Rattle.std.specs.List.{filter, slice_split, onto_first, position_or_len}
 use Rattle.std.proofs.lemmas.Bool.{ltb-true, ltb-false}
@@ -12,7 +12,7 @@ use Rattle.std.proofs.lemmas.Bool.{not-true}
 pub words_blank : (x : ℕ) (xs : List ℕ) → is_space x ≡ true → words (x ∷ xs) ≡ words xs
 words_blank x xs e = ap (filter is_word) (slice_split-cons_yes is_space x xs e)
 
--- how many spaces stand in front
+-- how many spaces are in front
 abbrev pub blanks : List ℕ → ℕ
 blanks xs = position_or_len (λ b. not (is_space b)) xs
 
@@ -75,7 +75,7 @@ or_length p xs false e =
     let past : length xs ≤ position_or_len p xs = ltb-false _ _ e in
     ap (λ b. unwrap_or (cond b (Some (position_or_len p xs)) None) (length xs)) e ∙ omega arith
 
--- the place, or else the length
+-- the index, or else the length
 pub position_or_length : (p : ℕ → Bool) (xs : List ℕ) → unwrap_or (position p xs) (length xs) ≡ position_or_len p xs
 position_or_length p xs = or_length p xs (ltb (position_or_len p xs) (length xs)) refl
 

@@ -1,4 +1,4 @@
--- The commands of a line: which words make one, and what its numbers say.
+-- The commands of a line: which words make one, and what its numbers mean.
 use Rattle.std.specs.Prelude.{ℕ, ◌^◌, Bool, true, ◌&&◌, List, [], ◌∷◌, Option, Some, None, Result, Ok, Err, nat_lt, nat_le, if◌then◌else◌, codes}
 use Rattle.std.specs.Option.{ok_or}
 use Rattle.std.specs.Str.{bytes_eq}
@@ -32,7 +32,7 @@ verb_of word =
     else (if bytes_eq word (codes "clean") then Some Clean
     else None)))))
 
--- a command whose words are not read as numbers yet
+-- a command whose words are not yet read as numbers
 pub data Phrase : Type 0 where
   registering : (client reservation weight limit at : List ℕ) → Phrase
   updating : (client reservation weight limit at : List ℕ) → Phrase
@@ -41,12 +41,12 @@ pub data Phrase : Type 0 where
   dropping : (client : List ℕ) → Phrase
   cleaning : (at : List ℕ) → Phrase
 
--- a phrase of one word, and the words behind it
+-- a phrase of one word, and the words after it
 abbrev pub with_one : (List ℕ → Phrase) → List (List ℕ) → Result (Phrase × List (List ℕ)) LineCause
 with_one make [] = Err Words
 with_one make (a ∷ behind) = Ok (make a, behind)
 
--- a phrase of five words, and the words behind it
+-- a phrase of five words, and the words after it
 abbrev pub with_five : (List ℕ → List ℕ → List ℕ → List ℕ → List ℕ → Phrase) → List (List ℕ) → Result (Phrase × List (List ℕ)) LineCause
 with_five make (a ∷ b ∷ c ∷ d ∷ e ∷ behind) = Ok (make a b c d e, behind)
 with_five make _ = Err Words
@@ -59,7 +59,7 @@ phrase_of Pull = with_one pulling
 phrase_of Drop = with_one dropping
 phrase_of Clean = with_one cleaning
 
--- the command in front of these words, and the words behind it
+-- the command in these words, and the words after it
 unfoldable pub phrase : List (List ℕ) → Result (Phrase × List (List ℕ)) LineCause
 phrase [] = Err Words
 phrase (name ∷ args) = ok_or (verb_of name) Words >>= λ v. phrase_of v args
@@ -92,7 +92,7 @@ is_rate (Some q) = nat_lt 0 q
 unfoldable pub rates : Option ℕ → ℕ → Option ℕ → Result Rates CommandFault
 rates r w l = if is_rate r && is_rate (Some w) && is_rate l then Ok (record { reservation = r; weight = w; limit = l }) else Err (Value faults.Rate)
 
--- all numbers, and then the values: the moment first
+-- all numbers, and then the values, the moment first
 abbrev pub with_info : (ClientId → Rates → ℕ → Command) → (client reservation weight limit at : List ℕ) → Result Command CommandFault
 with_info make c r w l t = do
   client ← small c

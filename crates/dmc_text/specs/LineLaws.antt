@@ -1,4 +1,4 @@
--- The lines of a text, one after the other, and what is taken of its bytes.
+-- The lines of a text, one after the other, and how many of its bytes are read.
 use Rattle.std.proofs.Common.{◌≡◌, ℕ, suc, ◌+◌, ◌<◌, ◌≤◌, Bool, true, false, not, cond, ltb, List, [], ◌∷◌, ◌++◌, refl, sym, ap, ◌∙◌, arith, length, length-append, take, drop, get_or, drop-cons, ◌==◌, Option, Some, None}
 use Rattle.std.specs.Option.{option_map}
 use Rattle.std.specs.List.{position_or_len}
@@ -33,12 +33,12 @@ plain_more x xs false e ih =
     let far : position_or_len is_end (x ∷ xs) ≡ suc (position_or_len is_end xs) = ap (λ b. cond (not b) (1 + position_or_len is_end xs) 0) e ∙ one in
     ap (λ k. has_end (take k (x ∷ xs))) far ∙ rw (e, ih) refl
 
--- no LF stands before the first one
+-- there is no LF before the first one
 plain_front : (xs : List ℕ) → has_end (take (position_or_len is_end xs) xs) ≡ false
 plain_front [] = refl
 plain_front (x ∷ xs) = plain_more x xs (is_end x) refl (plain_front xs)
 
--- the first line, its LF, and what stands behind
+-- the first line, its LF, and what follows
 pub record FirstLine (xs line rest : List ℕ) : Type 0 where
   pub whole : xs ≡ line ++ (10 ∷ rest)
   pub plain : has_end line ≡ false
@@ -80,14 +80,14 @@ no_line xs h = none_by xs (ltb (position_or_len is_end xs) (length xs)) refl h
 
 -- ---- lines
 
--- a line without an LF comes first
+-- a line without an LF is first
 pub line_first : (line more : List ℕ) → has_end line ≡ false → lines_of (line ++ (10 ∷ more)) ≡ line ∷ lines_of more
 line_first [] more h = refl
 line_first (b ∷ bs) more h =
     let p = or_parts (b == 10) (has_end bs) h in
     ap (λ t. cond t ([] ∷ lines_of (bs ++ (10 ∷ more))) (onto b (lines_of (bs ++ (10 ∷ more))))) p.0 ∙ ap (onto b) (line_first bs more p.1)
 
--- bytes in front of the first line
+-- bytes before the first line
 abbrev pub in_front : List ℕ → List (List ℕ) → List (List ℕ)
 in_front [] lines = lines
 in_front (b ∷ bs) lines = onto b (in_front bs lines)
@@ -98,7 +98,7 @@ lines_behind (b ∷ bs) more h =
     let p = or_parts (b == 10) (has_end bs) h in
     ap (λ t. cond t ([] ∷ lines_of (bs ++ more)) (onto b (lines_of (bs ++ more)))) p.0 ∙ ap (onto b) (lines_behind bs more p.1)
 
--- the first of lines, and that it is as long as what is put in front of it
+-- the first of lines, and that it is as long as what is put before it
 pub record Leads (xs : List ℕ) (lines : List (List ℕ)) : Type 0 where
   pub line : List ℕ
   pub others : List (List ℕ)
@@ -130,11 +130,11 @@ last_line (b ∷ bs) none some = one_line b bs (no_line (b ∷ bs) none)
 
 -- ---- a line that was found
 
--- a line and its LF, and what stands behind them
+-- a line and its LF, and what follows
 pub behind_line : (done line more : List ℕ) → done ++ (line ++ (10 ∷ more)) ≡ (done ++ (line ++ 10 ∷ [])) ++ more
 behind_line done line more = ap (λ w. done ++ w) (sym (append_assoc line (10 ∷ []) more)) ∙ sym (append_assoc done (line ++ 10 ∷ []) more)
 
--- the line that was found, in front of what follows it
+-- the line that was found, before what follows it
 pub line_and_more : (rest : List ℕ) (l : Reading) (more : List ℕ) → next_line rest ≡ Some (l.line, l.rest) → lines_of (rest ++ more) ≡ l.line ∷ lines_of (l.rest ++ more)
 line_and_more rest l more found =
     let f = first_line rest l.line l.rest found in
@@ -161,7 +161,7 @@ long_line headed line h = ap (λ k. k >>= λ x. said x (words line)) (long_kind 
 
 -- ---- bytes
 
--- what keeps all bytes takes none
+-- a reader that keeps all bytes reads none
 pub none_taken : (before after : Option (List ℕ)) → Keeps before after → Consumes before after []
 none_taken None after h = tt
 none_taken (Some xs) None h = h
@@ -169,7 +169,7 @@ none_taken (Some xs) (Some ys) h = sym h
 
 -- ---- whole lines
 
--- behind whole lines, the whole lines go on
+-- after whole lines, the whole lines go on
 pub whole_on : (done xs : List ℕ) → whole_lines done ≡ done → whole_lines (done ++ xs) ≡ done ++ whole_lines xs
 whole_on [] xs h = refl
 whole_on (b ∷ bs) xs h = whole_by b bs xs (has_end (b ∷ bs)) refl h (λ k. whole_on bs xs k)
@@ -187,7 +187,7 @@ whole_on (b ∷ bs) xs h = whole_by b bs xs (has_end (b ∷ bs)) refl h (λ k. w
         let none : [] ≡ b ∷ bs = ap (λ t. cond t (b ∷ whole_lines bs) []) (sym e) ∙ h in
         cc
 
--- what ends with an LF is whole lines
+-- a text that ends with an LF is whole lines
 pub ends_whole : (xs : List ℕ) → whole_lines (xs ++ 10 ∷ []) ≡ xs ++ 10 ∷ []
 ends_whole [] = refl
 ends_whole (b ∷ bs) =

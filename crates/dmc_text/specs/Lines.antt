@@ -28,7 +28,7 @@ use Rattle.dmc_text.specs.Commands.{Phrase, phrase, command}
 abbrev pub is_line_byte : ℕ → Bool
 is_line_byte b = nat_le 32 b && nat_le b 126
 
--- of no more bytes than a line may have, each 32 to 126
+-- at most as many bytes as a line may have, each 32 to 126
 unfoldable pub is_clean : List ℕ → Bool
 is_clean line = nat_le (length line) most_line_bytes && list_all is_line_byte line
 
@@ -40,7 +40,7 @@ pub record Heading : Type 0 where
   pub ages : Option (List ℕ × List ℕ)
   pub at_limit : AtLimit
 
--- what the last words of an hz line set: nothing, or `allow`
+-- the last words of an hz line: nothing, or `allow`
 abbrev pub limit_of : List (List ℕ) → Result AtLimit LineCause
 limit_of [] = Ok Wait
 limit_of (last ∷ []) = if bytes_eq last (codes "allow") then Ok Allow else Err Words
@@ -49,7 +49,7 @@ limit_of (a ∷ b ∷ ws) = Err Words
 abbrev pub with_limit : List ℕ → Option (List ℕ × List ℕ) → List (List ℕ) → Result Heading LineCause
 with_limit hz ages last = limit_of last >>= λ at_limit. Ok (record { hz = hz; ages = ages; at_limit = at_limit })
 
--- what stands behind `hz`: H or H IDLE ERASE, and `allow` or nothing
+-- the words after `hz`: H or H IDLE ERASE, and `allow` or nothing
 unfoldable pub heading : List (List ℕ) → Result Heading LineCause
 heading [] = Err Words
 heading (h ∷ []) = with_limit h None []
@@ -59,7 +59,7 @@ heading (h ∷ idle ∷ erase ∷ last) = with_limit h (Some (idle, erase)) last
 unfoldable pub figure : List ℕ → Result ℕ LineCause
 figure word = ok_or (number (2 ^ 64) word) Number
 
--- the ages that are given, or else the greatest
+-- the ages that are given, or otherwise the greatest
 abbrev pub ages_of : Option (List ℕ × List ℕ) → Result (ℕ × ℕ) LineCause
 ages_of None = Ok (greatest_moment, greatest_moment)
 ages_of (Some words) = do
@@ -80,7 +80,7 @@ setting h = do
   ages ← ages_of h.ages
   configured hz ages.0 ages.1 h.at_limit
 
--- the code's words
+-- what the code's words represent
 abbrev pub seen_ages : Option (Bor (List ℕ) × Bor (List ℕ)) → Option (List ℕ × List ℕ)
 seen_ages ages = option_map (λ x. (x.0.now, x.1.now)) ages
 
@@ -89,18 +89,18 @@ seen_heading c = record { hz = c.hz.now; ages = seen_ages c.ages; at_limit = c.a
 
 -- ---- commands
 
--- a value out of its limits is told; a word that is no number ends the run
+-- a value out of its limits gets a reply; a word that is no number ends the run
 abbrev pub line_of_command : Result Command CommandFault → Result Line LineCause
 line_of_command (Ok c) = Ok (Ask c)
 line_of_command (Err (unread.Value v)) = Ok (Value v)
 line_of_command (Err unread.Number) = Err Number
 
--- a command, and no word behind it
+-- a command, and no word after it
 abbrev pub alone : Phrase × List (List ℕ) → Result Phrase LineCause
 alone (p, []) = Ok p
 alone (p, w ∷ ws) = Err Words
 
--- the line that a command's words say
+-- the line of a command's words
 unfoldable pub line_of_words : List (List ℕ) → Result Line LineCause
 line_of_words ws = do
   x ← phrase ws
@@ -109,12 +109,12 @@ line_of_words ws = do
 
 -- ---- lines
 
--- a line whose first word begins with `#` says nothing
+-- a line whose first word begins with `#` is ignored
 abbrev pub is_comment : List ℕ → Bool
 is_comment [] = false
 is_comment (b ∷ bs) = b == 35
 
--- what the words of a line are: an hz line comes first, and once
+-- the kind of a line, by its words: an hz line is first, and there is one
 abbrev pub kind : Bool → List (List ℕ) → Result LineKind LineCause
 kind headed [] = Ok kinds.Skip
 kind headed (name ∷ args) =
@@ -122,16 +122,16 @@ kind headed (name ∷ args) =
     else (if headed then (if bytes_eq name (codes "hz") then Err Hz else Ok kinds.Command)
     else (if bytes_eq name (codes "hz") then heading args >>= setting >>= (λ config. Ok (kinds.Config config)) else Err Hz))
 
--- what a line is; headed: an hz line was read before
+-- the kind of a line; headed: an hz line was read before
 abbrev pub kind_of : Bool → List ℕ → Result LineKind LineCause
 kind_of headed line = if is_clean line then kind headed (words line) else Err Bytes
 
--- what the words of a line of a script say
+-- the meaning of the words of a line of a script
 abbrev pub said : LineKind → List (List ℕ) → Result Line LineCause
 said kinds.Skip ws = Ok Skip
 said (kinds.Config config) ws = Ok (Config config)
 said kinds.Command ws = line_of_words ws
 
--- what a line of a script says; headed: an hz line was read before
+-- the meaning of a line of a script; headed: an hz line was read before
 abbrev pub line_of : Bool → List ℕ → Result Line LineCause
 line_of headed line = kind_of headed line >>= λ k. said k (words line)

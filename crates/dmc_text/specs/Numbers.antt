@@ -6,20 +6,20 @@ abbrev pub is_empty : List ℕ → Bool
 is_empty [] = true
 is_empty (b ∷ bs) = false
 
--- no 0 stands in front of anything
+-- a number has no leading 0
 abbrev pub is_led : List ℕ → Bool
 is_led [] = false
 is_led (b ∷ bs) = not (b == 48) || is_empty bs
 
--- `0`, or digits of which the first is no 0
+-- `0`, or digits of which the first is not 0
 abbrev pub is_numeral : List ℕ → Bool
 is_numeral word = is_led word && all_ascii_digits word
 
--- one more digit behind a number
+-- one more digit after a number
 abbrev pub with_digit : ℕ → ℕ → ℕ
 with_digit n b = n * 10 + (b - 48)
 
--- what digits are worth
+-- the value of digits
 abbrev pub value : List ℕ → ℕ
 value ds = fold with_digit 0 ds
 

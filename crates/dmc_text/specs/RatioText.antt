@@ -9,11 +9,11 @@ use Rattle.dmc_ratio.specs.Lowest.{is_lowest, over, lowest_apart}
 use Rattle.dmc_ratio.specs.Ratio.{Ratio, same_ratio, lowest_terms, reduced, is_small, greatest_numer, greatest_denom}
 use Rattle.std.proofs.lemmas.Option.{same_Some}
 
--- the ratio of n/d, where these are in lowest terms: reducing leaves the denominator
+-- the ratio of n/d, where these are in lowest terms already
 abbrev pub ratio_if_lowest : ℤ → ℕ → Option Ratio
 ratio_if_lowest n d = option_and_then (λ a. if a.denom == d then Some a else None) (reduced n d)
 
--- ---- what is kept is n/d
+-- ---- what is stored is n/d
 
 over_one : (n : ℤ) → over n 1 ≡ n
 over_one (pos n) = let e : n / 1 ≡ n = omega arith in ap pos e
@@ -55,7 +55,7 @@ pub ratio_if_lowest_has : (n : ℤ) (d : ℕ) (a : Ratio) → ratio_if_lowest n 
 ratio_if_lowest_has n zero a e = absurd (cc)
 ratio_if_lowest_has n (suc d) a e = ratio_if_lowest_by n d a (is_small (lowest_terms n d)) (eqb ((lowest_terms n d).denom) (suc d)) refl refl e
 
--- ---- a ratio is kept
+-- ---- a ratio stays
 
 again : (n : ℤ) (d : ℕ) (h : T (is_lowest n d)) → is_small (record { numer = n; denom = d; lowest = h }) ≡ true → ratio_if_lowest n d ≡ Some (record { numer = n; denom = d; lowest = h })
 again n zero h small = elim h [ ]
@@ -71,7 +71,7 @@ again n (suc d) h small =
 pub ratio_if_lowest_again : (a : Ratio) → is_small a ≡ true → ratio_if_lowest a.numer a.denom ≡ Some a
 ratio_if_lowest_again a small = again a.numer a.denom a.lowest small
 
--- a ratio whose two numbers are within their bounds is made again of them
+-- a ratio whose two numbers are within their bounds is the ratio of these two numbers
 pub made_again : (a : Ratio) (n : ℤ) (d : ℕ) → n ≡ a.numer → d ≡ a.denom → unsigned_abs n ≤ greatest_numer → d ≤ greatest_denom → ratio_if_lowest n d ≡ Some a
 made_again a n d n-is d-is over under =
     let small : is_small a ≡ true = ap (λ z. nat_le (unsigned_abs z) greatest_numer && nat_le a.denom greatest_denom) (sym n-is)

@@ -1,4 +1,4 @@
--- The texts of replies: their words, parted by one space each.
+-- The texts of replies: words, separated by one space each.
 use Rattle.std.specs.Prelude.{◌≡◌, ℕ, ◌^◌, ℤ, Bool, true, false, ◌&&◌, List, [], ◌∷◌, Option, Some, None, option_and_then, Result, Ok, Err, if◌then◌else◌, codes}
 use Rattle.std.specs.List.{join_with_byte}
 use Rattle.std.specs.Option.{ok_or}
@@ -65,11 +65,11 @@ reply_words text (Refused refusal) = codes "refused" ∷ refusal_words refusal
 abbrev pub tag_text : {T : Type 0} → (T → ℤ) → (T → ℕ) → T → List ℕ
 tag_text numer denom a = fraction_text (numer a) (denom a)
 
--- that of a whole number of ticks
+-- the text of a whole number of ticks
 abbrev pub in_ticks : ℤ → List ℕ
 in_ticks z = fraction_text z 1
 
--- a tag's parts as text, or `-` for none
+-- a tag's parts as text, or `-` where there is no tag
 abbrev pub word_text : Option (ℤ × ℕ) → List ℕ
 word_text None = codes "-"
 word_text (Some x) = fraction_text x.0 x.1
@@ -88,7 +88,7 @@ IsTellable reply = Unit {0}
 
 -- ---- reading: words
 
--- a reply whose words are not read as numbers or tags yet
+-- a reply whose words are not yet read as numbers or tags
 pub data Saying : Type 0 where
   registered : Saying
   updated : Saying
@@ -175,7 +175,7 @@ saying_of names.Dropped = one_more removed
 saying_of names.Cleaned = two_more cleaned
 saying_of names.Refused = λ ws. refusal_of ws >>= λ x. Ok (refused x)
 
--- the reply that words make
+-- the kind of reply that words make
 unfoldable pub saying : List (List ℕ) → Result Saying LineCause
 saying [] = Err Words
 saying (name ∷ args) = ok_or (name_of name) Words >>= λ n. saying_of n args
@@ -188,14 +188,14 @@ count word = ok_or (number (2 ^ 32) word) Number
 unfoldable pub instant : List ℕ → Result ℕ LineCause
 instant word = ok_or (number (2 ^ 128) word) Number
 
--- the tag that a word spells, where made says which tag has a numerator and a denominator
+-- the tag of a word, where made says which tag has a numerator and a denominator
 unfoldable pub tag : {T : Type 0} → (ℤ → ℕ → Option T) → List ℕ → Result T LineCause
 tag made word = ok_or (option_and_then (λ x. made x.0 x.1) (fraction_of word)) Number
 
 unfoldable pub optional_tag : {T : Type 0} → (ℤ → ℕ → Option T) → List ℕ → Result (Option T) LineCause
 optional_tag made word = if bytes_eq word (codes "-") then Ok None else (tag made word >>= λ a. Ok (Some a))
 
--- the reply that words say
+-- the reply of words
 unfoldable pub reply_said : {T : Type 0} → (ℤ → ℕ → Option T) → Saying → Result (Reply T) LineCause
 reply_said made registered = Ok Registered
 reply_said made updated = Ok Updated

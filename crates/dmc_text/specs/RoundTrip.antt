@@ -1,4 +1,4 @@
--- What was written is read again.
+-- What was written of a reply is read as that reply.
 use Rattle.std.specs.Prelude.{◌≡◌, ℕ, ℤ, Bool, true, false, not, ◌&&◌, List, Option, Some, None, Ok, codes}
 use Rattle.std.specs.List.{list_all}
 use Rattle.std.specs.Str.{bytes_eq}
@@ -20,6 +20,6 @@ abbrev pub ReadsEach : {T : Type 0} → (ℤ → ℕ → Option T) → (T → Li
 ReadsEach made text None = Unit {0}
 ReadsEach made text (Some a) = ReadsAgain made text a
 
--- of its text the reply is read
+-- the reply is read from its text
 pub record IsReadBack {T : Type 0} (made : ℤ → ℕ → Option T) (text : T → List ℕ) (reply : Reply T) : Type 0 where
   pub read : reply_of made (words (reply_text text reply)) ≡ Ok reply

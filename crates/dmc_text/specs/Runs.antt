@@ -11,7 +11,7 @@ use Rattle.dmc_text.specs.Lines.{line_of}
 use Rattle.dmc_text.specs.Replies.{reply_text}
 use Rattle.dmc_text.specs.Texts.{with_line_end, value_text, headed_by, written}
 
--- what is written for what one line says, in a state; there is none before the hz line
+-- what is written for one line, in a state; there is none before the hz line
 abbrev pub answer_text : {T : Type 0} → Tagging T → (T → List ℕ) → Option (State T) → Line → List ℕ
 answer_text ops text s Skip = []
 answer_text ops text s (Config config) = []
@@ -19,14 +19,14 @@ answer_text ops text s (Value fault) = with_line_end (value_text fault)
 answer_text ops text None (Ask command) = []
 answer_text ops text (Some s) (Ask command) = with_line_end (reply_text text ((step ops s command).1))
 
--- a line is carried out: what it says, what is written for it, and that the rest is answered from the state that is reached
+-- a line is carried out: its meaning, what is written for it, and that the rest continues from the state after it
 pub record Answers {T : Type 0} (ops : Tagging T) (text : T → List ℕ) (s : Option (State T)) (bytes answer : List ℕ) (t : Option (State T)) : Type 0 where
   pub line : Line
   pub is_line : line_of (is_some s) bytes ≡ Ok line
   pub headed : is_some t ≡ headed_by (is_some s) line
   pub rest : (rest : List Line) → answer ++ written ops text t rest ≡ written ops text s (line ∷ rest)
 
--- what was to be written last is written, or not all of it
+-- what was pending is written, or not all of it
 abbrev pub settled_of : Result ⊤ ScriptFault → Bool → Result ⊤ ScriptFault
 settled_of (Ok x) sent = if sent then Ok x else Err faults.Write
 settled_of (Err (faults.Line n cause)) sent = if sent then Err (faults.Line n cause) else Err faults.Write

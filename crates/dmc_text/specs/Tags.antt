@@ -5,17 +5,17 @@ use Rattle.dmc_text.specs.Numbers.{number}
 
 -- ---- writing
 
--- N where D is 1, and else N/D
+-- N where D is 1, and otherwise N/D
 abbrev pub fraction_text : ℤ → ℕ → List ℕ
 fraction_text n d = if d == 1 then signed_decimal n else signed_decimal n ++ (codes "/" ++ decimal d)
 
 -- ---- reading
 
--- a whole number of 128 bits from 0 on
+-- a whole number of 128 bits that is not negative
 abbrev pub from_zero : ℕ → Option ℤ
 from_zero m = if nat_lt m (2 ^ 127) then Some (pos m) else None
 
--- one of that size below 0
+-- a whole number of this absolute value below 0
 abbrev pub below_zero : ℕ → Option ℤ
 below_zero zero = None
 below_zero (suc m) = if nat_lt m (2 ^ 127) then Some (negsuc m) else None
@@ -32,7 +32,7 @@ is_slash b = b == 47
 abbrev pub over : ℤ → ℕ → Option (ℤ × ℕ)
 over n d = if nat_lt 1 d then Some (n, d) else None
 
--- what stands before the slash, and behind it; without one the denominator is 1
+-- what is before the slash, and after it; without a slash the denominator is 1
 abbrev pub cut : List ℕ → Option ℕ → Option (ℤ × ℕ)
 cut word None = option_and_then (λ n. Some (n, 1)) (signed word)
 cut word (Some i) = option_and_then (λ n. option_and_then (over n) (number (2 ^ 64) (drop (i + 1) word))) (signed (take i word))

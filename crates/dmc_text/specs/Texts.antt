@@ -1,4 +1,4 @@
--- Whole texts: their lines, what they say, and what is written for them.
+-- Whole texts: their lines, what they mean, and what is written for them.
 use Rattle.std.specs.Prelude.{◌≡◌, ℕ, suc, ◌==◌, ◌≤◌, length, IfSome, Bool, true, false, ◌||◌, List, [], ◌∷◌, ◌++◌, Option, Some, None, is_some, Result, Ok, Err, if◌then◌else◌, codes, ⊤}
 use Rattle.std.specs.List.{list_any}
 use Rattle.std.specs.Io.KnownBytes.{Consumes, Appends, IsAtEnd}
@@ -19,7 +19,7 @@ use Rattle.dmc_text.specs.Replies.{reply_text}
 
 -- ---- lines
 
--- a byte in front of the first line
+-- a byte before the first line
 abbrev pub onto : ℕ → List (List ℕ) → List (List ℕ)
 onto b [] = (b ∷ []) ∷ []
 onto b (line ∷ lines) = (b ∷ line) ∷ lines
@@ -29,7 +29,7 @@ abbrev pub lines_of : List ℕ → List (List ℕ)
 lines_of [] = []
 lines_of (b ∷ bs) = if b == 10 then [] ∷ lines_of bs else onto b (lines_of bs)
 
--- ---- what the lines say
+-- ---- what the lines mean
 
 abbrev pub is_config : Line → Bool
 is_config Skip = false
@@ -45,7 +45,7 @@ abbrev pub and_on : Result Line LineCause → (Line → List Line) → List Line
 and_on (Err cause) more = []
 and_on (Ok line) more = line ∷ more line
 
--- what the lines say, up to the first faulty one
+-- the meaning of the lines, up to the first faulty one
 abbrev pub commands : Bool → List (List ℕ) → List Line
 commands headed [] = []
 commands headed (line ∷ lines) = and_on (line_of headed line) (λ l. commands (headed_by headed l) lines)
@@ -54,12 +54,12 @@ abbrev pub fault_or : ℕ → Result Line LineCause → (Line → Option (ℕ ×
 fault_or n (Err cause) more = Some (n, cause)
 fault_or n (Ok line) more = more line
 
--- the first faulty line by its number, and what is wrong with it; a text without an hz line lacks it behind its last line
+-- the number and the cause of the first faulty line; a text without an hz line is faulty after its last line
 abbrev pub first_fault : Bool → ℕ → List (List ℕ) → Option (ℕ × LineCause)
 first_fault headed n [] = if headed then None else Some (n, Hz)
 first_fault headed n (line ∷ lines) = fault_or n (line_of headed line) (λ l. first_fault (headed_by headed l) (suc n) lines)
 
--- the same of a whole text, whose lines are numbered from 1
+-- the first faulty line of a whole text, whose lines are numbered from 1
 abbrev pub fault_of : List ℕ → Option (ℕ × LineCause)
 fault_of text = first_fault false 1 (lines_of text)
 
@@ -75,7 +75,7 @@ value_text faults.Config = codes "refused config"
 abbrev pub with_line_end : List ℕ → List ℕ
 with_line_end line = line ++ 10 ∷ []
 
--- what is written for what the lines say, from a state on; there is none before the hz line
+-- what is written for lines, from a state on; there is none before the hz line
 abbrev pub written : {T : Type 0} → Tagging T → (T → List ℕ) → Option (State T) → List Line → List ℕ
 written ops text s [] = []
 written ops text s (Skip ∷ lines) = written ops text s lines
@@ -102,36 +102,35 @@ abbrev pub whole_lines : List ℕ → List ℕ
 whole_lines [] = []
 whole_lines (b ∷ bs) = if has_end (b ∷ bs) then b ∷ whole_lines bs else []
 
--- known bytes grow by the first of these, or by all
+-- the known bytes, and the first of these after them, or all
 abbrev pub AppendsSome : Option (List ℕ) → Option (List ℕ) → List ℕ → Type 0
 AppendsSome old new bytes = (sent : List ℕ) × (unsent : List ℕ) × Appends old new sent × (sent ++ unsent ≡ bytes)
 
--- so many bytes at most are read
+-- at most this many bytes are read
 abbrev pub ReadsWithin : ℕ → (before after : Option (List ℕ)) → List ℕ → Type 0
 ReadsWithin most before after read = Consumes before after read × (length read ≤ most)
 
--- What a run reads and writes, where the bytes are known. Ok: all of the text is read, it has no more bytes than a text may
--- have, no line is faulty, and what is written is what the text asks for.
+-- What a run reads and writes, where the bytes are known. Ok: all of the text is read, it has at most as many bytes as a text may
+-- have, no line is faulty, and what is written is the text of the replies.
 abbrev pub RunsToEnd : {T : Type 0} → Tagging T → (T → List ℕ) → (before after old new : Option (List ℕ)) → Type 0
 RunsToEnd ops text before after old new = IsAtEnd after × IfSome before (λ input. (length input ≤ most_bytes) × (fault_of input ≡ None) × Appends old new (out ops text input))
 
--- A line fault: it is the first of the text and stands in what was read, and what is written is what the text asks for up
--- to it.
+-- A line fault: it is the first of the text and is in what was read, and what is written is the text of the replies up to it.
 abbrev pub RunsToFault : {T : Type 0} → Tagging T → (T → List ℕ) → (before after old new : Option (List ℕ)) → ℕ → LineCause → Type 0
 RunsToFault ops text before after old new n cause =
     ((read : List ℕ) × ReadsWithin most_bytes before after read × (fault_of read ≡ Some (n, cause)))
     × IfSome before (λ input. (fault_of input ≡ Some (n, cause)) × Appends old new (out ops text input))
 
--- The writer failed, or there was no memory: a first part of what was read was answered, and of that a first part written.
+-- The writer failed, or an allocation: a first part of what was read was carried out, and a first part of its replies written.
 abbrev pub RunsPartly : {T : Type 0} → Tagging T → (T → List ℕ) → (before after old new : Option (List ℕ)) → Type 0
 RunsPartly ops text before after old new = (read : List ℕ) × ReadsWithin most_bytes before after read × AppendsSome old new (out ops text read)
 
--- The reader failed, or the text goes on past the most bytes, of which one more byte tells: of the replies to the whole
--- lines that were read, a first part is written.
+-- The reader failed, or the text has more than the most bytes, which one more byte shows: of the replies to the whole lines that
+-- were read, a first part is written.
 abbrev pub RunsWholeLines : {T : Type 0} → Tagging T → (T → List ℕ) → (before after old new : Option (List ℕ)) → Type 0
 RunsWholeLines ops text before after old new = (read : List ℕ) × ReadsWithin (suc most_bytes) before after read × AppendsSome old new (out ops text (whole_lines read))
 
--- What a script reads and writes, by what it answers.
+-- What a script reads and writes, by its result.
 abbrev pub RunsAs : {T : Type 0} → Tagging T → (T → List ℕ) → (before after old new : Option (List ℕ)) → Result ⊤ ScriptFault → Type 0
 RunsAs ops text before after old new (Ok x) = RunsToEnd ops text before after old new
 RunsAs ops text before after old new (Err (ends.Line n cause)) = RunsToFault ops text before after old new n cause

@@ -1,4 +1,4 @@
--- The lines of a text, taken one after the other.
+-- The loop over the lines of a text.
 use Rattle.std.specs.Prelude.{◌≡◌, ◌⊎◌, ℕ, suc, ◌+◌, ◌<◌, ◌≤◌, length, Bool, true, false, List, [], ◌∷◌, ◌++◌, Option, Some, None, Result, Ok, Err, ⊤, if◌then◌else◌}
 use Rattle.std.specs.Io.KnownBytes.{Consumes, Appends, IsAtEnd}
 use Rattle.dmc_types.specs.Limits.{most_line_bytes}
@@ -10,18 +10,18 @@ use Rattle.dmc_text.specs.declared.walk.Walk.{Walk}
 use Rattle.dmc_text.specs.Reading.{most_bytes, next_line}
 use Rattle.dmc_text.specs.Texts.{lines_of, whole_lines, ReadsWithin}
 
--- In each of these, takes says which state follows by a line, and what is to be written for it; refuses, for which cause a
--- line is faulty; and headed, whether an hz line was taken.
+-- In each of these, takes relates a state, a line, what is to be written for it and the next state; refuses says for which cause
+-- a line is faulty; and headed whether an hz line was taken.
 
 -- ---- lines
 
--- from a state to another by these lines, and what is to be written for them
+-- from one state to another by these lines, and what is to be written for them
 abbrev pub GoesThrough : {S : Type 0} → (takes : S → List ℕ → List ℕ → S → Type 0) → S → List (List ℕ) → List ℕ → S → Type 0
 GoesThrough takes s [] answers t = (t ≡ s) × (answers ≡ [])
 GoesThrough {S} takes s (line ∷ lines) answers t =
     (next : S) × (answer : List ℕ) × (others : List ℕ) × takes s line answer next × GoesThrough takes next lines others t × (answers ≡ answer ++ others)
 
--- these bytes are whole lines, which are taken, and what is to be written for them
+-- these bytes are whole lines, which were taken, and what is to be written for them
 pub record TakesWhole {S : Type 0} (takes : S → List ℕ → List ℕ → S → Type 0) (s : S) (bytes : List ℕ) (t : S) : Type 0 where
   pub lines : List (List ℕ)
   pub answers : List ℕ
@@ -33,7 +33,7 @@ pub record TakesWhole {S : Type 0} (takes : S → List ℕ → List ℕ → S �
 abbrev pub IsCut : List ℕ → List ℕ → Type 0
 IsCut old new = (new ≡ old) ⊎ (new ≡ [])
 
--- A line is taken, and what is to be written for it is added; or it is faulty, and all stays; or there is no memory, and what
+-- A line is taken, and what is to be written for it is added. Or it is faulty, and all stays. Or an allocation failed, and what
 -- was to be written stays or is dropped.
 abbrev pub IsAnswer : {S E : Type 0} → (takes : S → List ℕ → List ℕ → S → Type 0) → (refuses : S → List ℕ → LineCause → Type 0)
     → S → List ℕ → S → (old new : List ℕ) → Result (Option LineCause) E → Type 0
@@ -50,7 +50,7 @@ pub record Starts (walk : Walk) : Type 0 where
   pub rest : walk.lines.rest ≡ []
   pub taken : walk.lines.taken ≡ 0
 
--- bytes are read behind what was read, and of what was to be written a first part is written
+-- bytes are read after what was read, and of what was to be written a first part is written
 pub record Feeds (r w : Option (List ℕ)) (old : Walk) (r' w' : Option (List ℕ)) (new : Walk) : Type 0 where
   pub bytes : List ℕ
   pub sent : List ℕ
@@ -62,7 +62,7 @@ pub record Feeds (r w : Option (List ℕ)) (old : Walk) (r' w' : Option (List �
   pub out : sent ++ new.out.items ≡ old.out.items
   pub number : new.number ≡ old.number
 
--- the same, and then the reader or the writer failed
+-- as before, and then the reader or the writer failed
 pub record Fails (most : ℕ) (r w : Option (List ℕ)) (old : Walk) (r' w' : Option (List ℕ)) (new : Walk) : Type 0 where
   pub bytes : List ℕ
   pub sent : List ℕ
@@ -73,7 +73,7 @@ pub record Fails (most : ℕ) (r w : Option (List ℕ)) (old : Walk) (r' w' : Op
   pub parts : sent ++ unsent ≡ old.out.items
   pub out : new.out.items ≡ []
 
--- the next whole line is found in what is read by then
+-- the next whole line is found in what has been read by then
 pub record FindsLine (r w : Option (List ℕ)) (old : Walk) (r' w' : Option (List ℕ)) (new : Walk) : Type 0 where
   pub between : Walk
   pub feeds : Feeds r w old r' w' between
@@ -82,7 +82,7 @@ pub record FindsLine (r w : Option (List ℕ)) (old : Walk) (r' w' : Option (Lis
   pub out : new.out.items ≡ between.out.items
   pub number : new.number ≡ between.number
 
--- or there is none to the end of the text, or the one that begins is too long
+-- or there is none up to the end of the text, or the one that begins is too long
 abbrev pub Finds : (r w : Option (List ℕ)) → Walk → (r' w' : Option (List ℕ)) → Walk → Result Bool ScriptFault → Type 0
 Finds r w old r' w' new (Ok true) = FindsLine r w old r' w' new
 Finds r w old r' w' new (Ok false) = Feeds r w old r' w' new × IsAtEnd r' × (next_line new.lines.rest ≡ None)
@@ -100,7 +100,7 @@ pub record TakesLine {S : Type 0} (takes : S → List ℕ → List ℕ → S →
   pub number : new.number ≡ suc old.number
   pub lines : new.lines ≡ old.lines
 
--- or it is faulty, or there is no memory
+-- or it is faulty, or an allocation failed
 abbrev pub Takes : {S : Type 0} → (takes : S → List ℕ → List ℕ → S → Type 0) → (refuses : S → List ℕ → LineCause → Type 0) → S → Walk → S → Walk → Result ⊤ ScriptFault → Type 0
 Takes takes refuses s old t new (Ok x) = TakesLine takes s old t new
 Takes takes refuses s old t new (Err (faults.Line n cause)) = refuses s old.lines.line cause × (n ≡ old.number) × (t ≡ s) × (new.out.items ≡ old.out.items)
@@ -115,7 +115,7 @@ pub record TakesRest {S : Type 0} (takes : S → List ℕ → List ℕ → S →
   pub out : new.out.items ≡ old.out.items ++ answers
   pub number : new.number ≡ old.number + length (lines_of old.lines.rest)
 
--- or it is faulty, or there is no memory
+-- or it is faulty, or an allocation failed
 abbrev pub TakesLast : {S : Type 0} → (takes : S → List ℕ → List ℕ → S → Type 0) → (refuses : S → List ℕ → LineCause → Type 0) → S → Walk → S → Walk → Result ⊤ ScriptFault → Type 0
 TakesLast takes refuses s old t new (Ok x) = TakesRest takes s old t new
 TakesLast takes refuses s old t new (Err (faults.Line n cause)) =
@@ -124,21 +124,21 @@ TakesLast takes refuses s old t new (Err faults.Memory) = IsCut old.out.items ne
 TakesLast takes refuses s old t new (Err faults.Read) = ⊥
 TakesLast takes refuses s old t new (Err faults.Write) = ⊥
 
--- a text without an hz line lacks it behind its last line
+-- a text without an hz line is faulty after its last line
 abbrev pub end_result : (headed : Bool) → ℕ → Result ⊤ ScriptFault
 end_result headed n = if headed then Ok tt else Err (faults.Line n Hz)
 
 -- ---- whole texts
 
--- What is left behind the lines that were taken, from number n on, makes this fault: nothing is left, or the next line is faulty.
+-- What is left after the lines that were taken, from number n on, has this fault: nothing is left, or the next line is faulty.
 abbrev pub IsFault : {S : Type 0} → (refuses : S → List ℕ → LineCause → Type 0) → (headed : S → Bool) → S → ℕ → List (List ℕ) → Option (ℕ × LineCause) → Type 0
 IsFault refuses headed t n [] None = headed t ≡ true
 IsFault refuses headed t n [] (Some (m, cause)) = (m ≡ n) × (cause ≡ Hz) × (headed t ≡ false)
 IsFault refuses headed t n (line ∷ lines) None = ⊥
 IsFault refuses headed t n (line ∷ lines) (Some (m, cause)) = (m ≡ n) × refuses t line cause
 
--- All lines were taken, or those before the first faulty one. What is to be written for them is written, or is pending. So it
--- is of what was read, however it goes on where the reader is not at its end.
+-- All lines were taken, or those before the first faulty one. What is to be written for them is written or pending. The same
+-- holds of what was read, whatever follows it, where the reader is not at its end.
 pub record Ending {S : Type 0} (takes : S → List ℕ → List ℕ → S → Type 0) (refuses : S → List ℕ → LineCause → Type 0) (headed : S → Bool) (fault : Option (ℕ × LineCause))
     (first : S) (input output : Option (List ℕ)) (last : S) (before after : Option (List ℕ)) (pending : List ℕ) : Type 0 where
   pub read : List ℕ
@@ -152,8 +152,8 @@ pub record Ending {S : Type 0} (takes : S → List ℕ → List ℕ → S → Ty
   pub ends : (more : List ℕ) → (IsAtEnd before → more ≡ []) →
       (others : List (List ℕ)) × (lines_of (read ++ more) ≡ lines ++ others) × IsFault refuses headed last (suc (length lines)) others fault
 
--- Of what was read, so many bytes at most, whole lines were taken, and more was not. Of what is to be written for them a first
--- part is written, and the next one is pending.
+-- Of what was read, at most this many bytes, whole lines were taken. Of what is to be written for them a first part is written,
+-- and the next one is pending.
 pub record Halt {S : Type 0} (takes : S → List ℕ → List ℕ → S → Type 0) (most : ℕ) (first : S) (input output before after : Option (List ℕ)) (pending : List ℕ) : Type 0 where
   pub done : List ℕ
   pub rest : List ℕ
@@ -165,8 +165,8 @@ pub record Halt {S : Type 0} (takes : S → List ℕ → List ℕ → S → Type
   pub sends : Appends output after sent
   pub out : sent ++ (pending ++ dropped) ≡ took.answers
 
--- What a walk comes to. Read: the reader failed, or the text goes on past the most bytes, of which one more byte tells. Write:
--- the writer failed, so there was something to be written.
+-- The result of a walk. Read: the reader failed, or the text has more than the most bytes, which one more byte shows. Write: the
+-- writer failed, so there was something to be written.
 abbrev pub EndsAs : {S : Type 0} → (takes : S → List ℕ → List ℕ → S → Type 0) → (refuses : S → List ℕ → LineCause → Type 0) → (headed : S → Bool)
     → S → (input output : Option (List ℕ)) → S → (before after : Option (List ℕ)) → Walk → Result ⊤ ScriptFault → Type 0
 EndsAs takes refuses headed s input output t before after walk (Ok x) = IsAtEnd before × Ending takes refuses headed None s input output t before after walk.out.items

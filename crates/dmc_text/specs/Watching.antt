@@ -1,4 +1,4 @@
--- Streams that are watched: whether a call of the stream failed, and when a run of a text may report that one did.
+-- Watched streams: whether a call of the stream failed, and when a run over a text may report that.
 use Rattle.std.specs.Prelude.{◌≡◌, ◌⊎◌, ℕ, suc, ◌+◌, Bool, true, false, List, length, Option, Result, Ok, Err}
 use Rattle.std.specs.Io.KnownBytes.{Consumes}
 use Rattle.dmc_text.specs.declared.script.ScriptFault.{ScriptFault}
@@ -20,28 +20,28 @@ failed w = w.has_failed
 abbrev pub IsCalm : {S : Type 0} → (old new : Watched S) → Type 0
 IsCalm old new = failed new ≡ failed old
 
--- calls of it may have failed in between; none takes a note back
+-- calls of it may have failed in between; the note is never reset
 abbrev pub MayFail : {S : Type 0} → (old new : Watched S) → Type 0
 MayFail old new = failed old ≡ true → failed new ≡ true
 
--- by what a call comes to: an error is reported exactly where the stream failed
+-- by the result of a call: an error is reported exactly where the stream failed
 abbrev pub IsNoted : {S X E : Type 0} → (old new : Watched S) → Result X E → Type 0
 IsNoted old new (Ok x) = IsCalm old new
 IsNoted old new (Err e) = failed new ≡ true
 
--- the same of a call that returns whether the stream did not fail
+-- the note after a call that returns whether the stream did not fail
 abbrev pub IsNotedBy : {S : Type 0} → (old new : Watched S) → Bool → Type 0
 IsNotedBy old new true = IsCalm old new
 IsNotedBy old new false = failed new ≡ true
 
 -- ---- texts
 
--- One byte more is read than a text may have. So many were read before.
+-- One more byte is read than a text may have. The first argument is how many were read before.
 abbrev pub ReadsPast : (taken : ℕ) → (before after : Option (List ℕ)) → Type 0
 ReadsPast taken before after = (bytes : List ℕ) × Consumes before after bytes × (taken + length bytes ≡ suc most_bytes)
 
--- Reading a text fails: the reader failed, or it did not and the text goes on past its most bytes. The first argument says
--- which bytes a reader has left.
+-- Reading a text fails: the reader failed, or it did not and the text has more than its most bytes. The first argument says which
+-- bytes a reader has left.
 abbrev pub FailsToRead : {R : Type 0} → (R → Option (List ℕ)) → (taken : ℕ) → (before after : Watched R) → Type 0
 FailsToRead left taken before after =
     (failed after ≡ true) ⊎ (IsCalm before after × ReadsPast taken (left (stream_of before)) (left (stream_of after)))
@@ -53,8 +53,8 @@ FillsNoted left taken before after (Err e) = FailsToRead left taken before after
 
 -- ---- runs
 
--- A run over a text from where so many bytes were read. Read and Write are reported only where the reader or the writer
--- failed, or at the most bytes of a text, and any other end only where neither failed.
+-- A run over a text, after this many bytes were read. Read and Write are reported only where the reader or the writer failed, or
+-- at the most bytes of a text, and any other end only where neither failed.
 abbrev pub EndsNoted : {R W X : Type 0} → (R → Option (List ℕ)) → (taken : ℕ) → (before after : Watched R) → (old new : Watched W) → Result X ScriptFault → Type 0
 EndsNoted left taken before after old new (Ok x) = IsCalm before after × IsCalm old new
 EndsNoted left taken before after old new (Err (ends.Line n cause)) = IsCalm before after × IsCalm old new
@@ -62,8 +62,8 @@ EndsNoted left taken before after old new (Err ends.Read) = FailsToRead left tak
 EndsNoted left taken before after old new (Err ends.Write) = IsCalm before after × (failed new ≡ true)
 EndsNoted left taken before after old new (Err ends.Memory) = IsCalm before after × IsCalm old new
 
--- The same of a run that at its end sends what is left to be written, whatever it came to: at Read and at Memory the writer
--- may fail then, and the first fault is reported.
+-- A run that at its end also sends what is pending, whatever its result: at Read and at Memory the writer may fail then, and the
+-- first fault is reported.
 abbrev pub SendsNoted : {R W X : Type 0} → (R → Option (List ℕ)) → (taken : ℕ) → (before after : Watched R) → (old new : Watched W) → Result X ScriptFault → Type 0
 SendsNoted left taken before after old new (Ok x) = IsCalm before after × IsCalm old new
 SendsNoted left taken before after old new (Err (ends.Line n cause)) = IsCalm before after × IsCalm old new

@@ -9,6 +9,6 @@ abbrev pub is_word : List ℕ → Bool
 is_word [] = false
 is_word (b ∷ bs) = true
 
--- the words of a line: what stands between its spaces, where that is something
+-- the words of a line: the parts between its spaces that are not empty
 abbrev pub words : List ℕ → List (List ℕ)
 words line = filter is_word (slice_split is_space line)

@@ -1,21 +1,21 @@
-//! Why a line is refused.
+//! The cause for which a line is refused.
 
 use thiserror::Error;
 
-/// What is wrong with a line. Where several things are, the first of these.
+/// What is wrong with a line. Where several things are, it is the first of these.
 #[derive(Clone, Copy, Debug, PartialEq, Eq, Error)]
 pub enum LineCause {
     /// It has more than 256 bytes, or one out of 32 to 126.
     #[error("bytes")]
     Bytes,
-    /// It is the first line that says something and is no `hz` line, or a later `hz` line; or an `hz` line that
-    /// breaks a limit.
+    /// It is the first line that is not ignored and is no `hz` line, or a later `hz` line; or an `hz` line that is out of a
+    /// limit.
     #[error("hz")]
     Hz,
     /// Its first word is unknown, or it has too few words or too many.
     #[error("words")]
     Words,
-    /// A word that has to be a number is none of its type.
+    /// A word that has to be a number is not one of its type.
     #[error("number")]
     Number,
 }

@@ -1,4 +1,4 @@
-//! The commands of a line. Their words are judged before any is read as a number.
+//! The commands of a line. All its words are checked before any is read as a number.
 ghost use Rattle.std.specs.Prelude.{◌≡◌, ℕ, List, ◌∷◌, [], MatchResult};
 ghost use Rattle.dmc_text.specs.Words.{words};
 ghost use Rattle.dmc_text.specs.Answers.{Gives};
@@ -26,7 +26,7 @@ pub enum Verb {
     Clean,
 }
 
-/// The words behind `client` or `update`.
+/// The words after `client` or `update`.
 #[derive(Clone, Copy)]
 pub struct InfoWords<'a> {
     pub client: &'a [u8],
@@ -36,7 +36,7 @@ pub struct InfoWords<'a> {
     pub at: &'a [u8],
 }
 
-/// The words behind `add`.
+/// The words after `add`.
 #[derive(Clone, Copy)]
 pub struct AddWords<'a> {
     pub client: &'a [u8],
@@ -46,7 +46,7 @@ pub struct AddWords<'a> {
     pub at: &'a [u8],
 }
 
-/// A command whose words are not read as numbers yet.
+/// A command whose words are not yet read as numbers.
 #[derive(Clone, Copy)]
 pub enum CommandWords<'a> {
     Register(InfoWords<'a>),
@@ -57,10 +57,10 @@ pub enum CommandWords<'a> {
     Clean(&'a [u8]),
 }
 
-/// Why the words of a command name none.
+/// The reason why the words of a command name none.
 #[derive(Clone, Copy, Debug, PartialEq, Eq)]
 pub enum CommandFault {
-    /// A word that has to be a number is none of its type.
+    /// A word that has to be a number is not one of its type.
     Number,
     /// A value is out of its limits: the moment, and then the params or a rate.
     Value(ValueFault),
@@ -87,7 +87,7 @@ fn verb_of(word: &[u8]) -> Option<Verb>
     }
 }
 
-/// The next word, and what stands behind it.
+/// The next word, and what follows it.
 pub fn next_word(text: &[u8]) -> Result<(&[u8], &[u8]), LineCause>
     ensures { MatchResult result (λ x. words text.now ≡ x.0.now ∷ words x.1.now)
         (λ e. (words text.now ≡ []) × (e ≡ LineCause.Words)) }
@@ -95,7 +95,7 @@ pub fn next_word(text: &[u8]) -> Result<(&[u8], &[u8]), LineCause>
     first_word(text).ok_or(LineCause::Words)
 }
 
-/// The words of an info: a client, and the others at the front of a text. And what stands behind them.
+/// The words of an info: a client, and the first words of a text. And what follows them.
 fn info_words<'a>(client: &'a [u8], text: &'a [u8]) -> Result<(InfoWords<'a>, &'a [u8]), LineCause>
     ensures { (make : List ℕ → List ℕ → List ℕ → List ℕ → List ℕ → Phrase) → Gives
         (λ x. (make x.0.client.now x.0.reservation.now x.0.weight.now x.0.limit.now x.0.at.now, words x.1.now))
@@ -115,7 +115,7 @@ fn info_words<'a>(client: &'a [u8], text: &'a [u8]) -> Result<(InfoWords<'a>, &'
     Ok((info, rest))
 }
 
-/// The words of `client`, and what stands behind them.
+/// The words of `client`, and what follows them.
 fn register_words<'a>(
     client: &'a [u8],
     text: &'a [u8],
@@ -126,7 +126,7 @@ fn register_words<'a>(
     Ok((CommandWords::Register(info), rest))
 }
 
-/// The words of `update`, and what stands behind them.
+/// The words of `update`, and what follows them.
 fn update_words<'a>(
     client: &'a [u8],
     text: &'a [u8],
@@ -137,7 +137,7 @@ fn update_words<'a>(
     Ok((CommandWords::Update(info), rest))
 }
 
-/// The words of `add`, and what stands behind them.
+/// The words of `add`, and what follows them.
 fn add_words<'a>(
     client: &'a [u8],
     text: &'a [u8],
@@ -158,7 +158,7 @@ fn add_words<'a>(
     Ok((CommandWords::Add(add), rest))
 }
 
-/// The words behind the first word of a command, and what stands behind them. Each command has one at least.
+/// The words after the first word of a command, and what follows them. Each command has at least one.
 #[tactic(auto, unfolding(crate::specs::Commands::phrase))]
 fn words_behind(verb: Verb, text: &[u8]) -> Result<(CommandWords<'_>, &[u8]), LineCause>
     ensures { Gives (λ x. (seen x.0, words x.1.now)) result (phrase_of verb (words text.now)) }
@@ -174,7 +174,7 @@ fn words_behind(verb: Verb, text: &[u8]) -> Result<(CommandWords<'_>, &[u8]), Li
     }
 }
 
-/// The command at the front of a text, its words alone, and what stands behind it. The only cause is `Words`.
+/// The words of the command at the front of a text, and what follows it. The only cause is `Words`.
 #[tactic(auto, unfolding(crate::specs::Commands::phrase))]
 pub fn command_words(text: &[u8]) -> Result<(CommandWords<'_>, &[u8]), LineCause>
     ensures { Gives (λ x. (seen x.0, words x.1.now)) result (phrase (words text.now)) }
@@ -200,7 +200,7 @@ fn long(word: &[u8]) -> Result<u64, CommandFault>
     read_u64(word).ok_or(CommandFault::Number)
 }
 
-/// A number of 32 bits, or `-` for none.
+/// A number of 32 bits, or `-` where it is absent.
 #[tactic(auto, unfolding(crate::specs::Commands::optional))]
 fn optional(word: &[u8]) -> Result<Option<u32>, CommandFault>
     ensures { result ≡ optional word.now }
@@ -239,7 +239,7 @@ fn rates(
     ClientInfo::new(reservation, weight, limit).map_err(CommandFault::Value)
 }
 
-/// The client, the rates and the moment that words name.
+/// The client, the rates and the moment of words.
 fn read_info(words: InfoWords<'_>) -> Result<(ClientId, ClientInfo, Moment), CommandFault>
     ensures { (make : ClientId → Rates → ℕ → Command) → Gives (λ x. make x.0 x.1 x.2) result
         (with_info make words.entry.client.now words.entry.reservation.now words.entry.weight.now words.entry.limit.now words.entry.at.now) }
@@ -252,7 +252,7 @@ fn read_info(words: InfoWords<'_>) -> Result<(ClientId, ClientInfo, Moment), Com
     Ok((client, rates(reservation, weight, limit)?, at))
 }
 
-/// The request that words name.
+/// The request of words.
 fn read_add(words: AddWords<'_>) -> Result<Command, CommandFault>
     ensures { result ≡ with_params words.entry.client.now words.entry.token.now words.entry.delta.now words.entry.rho.now words.entry.at.now }
 {
@@ -271,14 +271,14 @@ fn read_add(words: AddWords<'_>) -> Result<Command, CommandFault>
     })
 }
 
-/// The moment that a word names.
+/// The moment of a word.
 fn read_moment(word: &[u8]) -> Result<Moment, CommandFault>
     ensures { (make : ℕ → Command) → Gives make result (at_moment make word.now) }
 {
     moment(long(word)?)
 }
 
-/// The command that words name: all numbers are read, and then its values are judged.
+/// The command of words: all numbers are read, and then its values are checked.
 #[tactic(auto, unfolding(crate::specs::Commands::command))]
 pub fn read_command(words: CommandWords<'_>) -> Result<Command, CommandFault>
     ensures { result ≡ command (seen words.entry) }

@@ -13,12 +13,12 @@ ghost use Rattle.dmc_text.specs.Tags.{fraction_of, fraction_text};
 ghost use Rattle.dmc_text.specs.Lines.{line_of};
 ghost use Rattle.dmc_text.specs.Replies.{reply_text, in_ticks};
 
-/// Words are parted by one or more spaces, and spaces at either end say nothing.
+/// Words are separated by one or more spaces, and spaces at either end are ignored.
 pub fn words_of_a_line()
     ensures { words (codes "  drop   1 ") ≡ codes "drop" ∷ codes "1" ∷ [] }
 {}
 
-/// A number has no 0 in front, and fits its type.
+/// A number has no leading 0, and fits its type.
 pub fn numbers_of_words()
     ensures zero { number 10 (codes "0") ≡ Some 0 }
     ensures digits { number 1000 (codes "105") ≡ Some 105 }
@@ -56,7 +56,7 @@ pub fn lines_of_a_script()
     ensures allow { line_of false (codes "hz 1000 1 2 allow") ≡ Ok (Config (record { hz = 1000; idle_age = 1; erase_age = 2; at_limit = Allow })) }
 {}
 
-/// The text of each kind of reply is its words, parted by one space each.
+/// The text of each kind of reply is its words, separated by one space each.
 pub fn texts_of_replies()
     ensures future { reply_text in_ticks (Later 50) ≡ codes "future 50" }
     ensures tags { reply_text in_ticks (Tagged (record { r = None; l = pos 0; p = negsuc 999 })) ≡ codes "tags - 0 -1000" }

@@ -15,12 +15,12 @@ use dmc_types::config::{AtLimit, QueueConfig};
 use dmc_types::limits::GREATEST_AGE;
 use dmc_types::refusal::ValueFault;
 
-/// What a line says.
+/// The meaning of a line.
 #[derive(Clone, Copy, Debug, PartialEq, Eq)]
 pub enum Line {
-    /// Nothing: it has no word, or its first begins with `#`.
+    /// It is ignored: it has no word, or its first begins with `#`.
     Skip,
-    /// How the queue is set up.
+    /// The configuration of the queue.
     Config(QueueConfig),
     /// A command.
     Ask(Command),
@@ -28,21 +28,21 @@ pub enum Line {
     Value(ValueFault),
 }
 
-/// What a line is, before a command is read of it.
+/// The kind of a line, before a command is read from it.
 #[derive(Clone, Copy, Debug, PartialEq, Eq)]
 pub enum LineKind {
-    /// It says nothing: it has no word, or its first begins with `#`.
+    /// It is ignored: it has no word, or its first begins with `#`.
     Skip,
-    /// How the queue is set up.
+    /// The configuration of the queue.
     Config(QueueConfig),
-    /// It has to say a command.
+    /// It has to be a command.
     Command,
 }
 
-/// The most bytes of a line, without its LF.
+/// The greatest length of a line in bytes, without its LF.
 pub(crate) const MOST_LINE_BYTES: usize = 256;
 
-/// The words behind `hz`.
+/// The words after `hz`.
 #[derive(Clone, Copy)]
 struct ConfigWords<'a> {
     hz: &'a [u8],
@@ -50,21 +50,21 @@ struct ConfigWords<'a> {
     at_limit: AtLimit,
 }
 
-/// Whether a byte may stand in a line.
+/// Whether a line may have this byte.
 fn is_line_byte(byte: u8) -> bool
     ensures { result ≡ is_line_byte byte }
 {
     32 <= byte && byte <= 126
 }
 
-/// Whether each byte may stand in a line.
+/// Whether a line may have each of these bytes.
 fn are_line_bytes(line: &[u8]) -> bool
     ensures { result ≡ list_all is_line_byte line.now }
 {
     line.iter().all(|byte| is_line_byte(*byte))
 }
 
-/// Whether a line is not too long and each of its bytes is in range.
+/// Whether a line is not too long, and may have each of its bytes.
 #[tactic(auto, unfolding(crate::specs::Lines::is_clean))]
 fn is_clean(line: &[u8]) -> bool
     ensures { result ≡ is_clean line.now }
@@ -100,7 +100,7 @@ fn configured(
     QueueConfig::new(hz, idle_age, erase_age, at_limit).map_err(|_| LineCause::Hz)
 }
 
-/// The line that a command's words say.
+/// The line of a command's words.
 fn said(words: CommandWords<'_>) -> Result<Line, LineCause>
     ensures { result ≡ line_of_command (command (seen words.entry)) }
 {
@@ -123,7 +123,7 @@ fn asked(line: &[u8]) -> Result<Line, LineCause>
     said(command)
 }
 
-/// Whether `allow` stands at the end of an `hz` line, alone.
+/// Whether an `hz` line ends with `allow`, which is then its last part alone.
 fn at_limit(text: &[u8]) -> Result<AtLimit, LineCause>
     ensures { result ≡ limit_of (words text.now) }
 {
@@ -136,7 +136,7 @@ fn at_limit(text: &[u8]) -> Result<AtLimit, LineCause>
     Ok(AtLimit::Allow)
 }
 
-/// The words behind `hz`.
+/// The words after `hz`.
 #[tactic(auto, unfolding(crate::specs::Lines::heading))]
 fn config_words(text: &[u8]) -> Result<ConfigWords<'_>, LineCause>
     ensures { Gives seen_heading result (heading (words text.now)) }
@@ -163,7 +163,7 @@ fn config_words(text: &[u8]) -> Result<ConfigWords<'_>, LineCause>
     })
 }
 
-/// The ages that are given, or else the greatest.
+/// The ages that are given, or otherwise the greatest.
 fn ages_of(ages: Option<(&[u8], &[u8])>) -> Result<(u64, u64), LineCause>
     ensures { result ≡ ages_of (seen_ages ages.entry) }
 {
@@ -173,7 +173,7 @@ fn ages_of(ages: Option<(&[u8], &[u8])>) -> Result<(u64, u64), LineCause>
     Ok((figure(idle)?, figure(erase)?))
 }
 
-/// The configuration that words name.
+/// The configuration of words.
 #[tactic(auto, unfolding(crate::specs::Lines::setting))]
 fn read_config(words: ConfigWords<'_>) -> Result<QueueConfig, LineCause>
     ensures { result ≡ setting (seen_heading words.entry) }
@@ -183,7 +183,7 @@ fn read_config(words: ConfigWords<'_>) -> Result<QueueConfig, LineCause>
     configured(hz, idle_age, erase_age, words.at_limit)
 }
 
-/// What a line is, without its LF. `headed`: an `hz` line was read before.
+/// The kind of a line, without its LF. `headed`: an `hz` line was read before.
 pub fn read_kind(line: &[u8], headed: bool) -> Result<LineKind, LineCause>
     ensures { result ≡ kind_of headed line.now }
 {
@@ -206,7 +206,7 @@ pub fn read_kind(line: &[u8], headed: bool) -> Result<LineKind, LineCause>
     Ok(LineKind::Config(read_config(config_words(rest)?)?))
 }
 
-/// What a line of a script says, without its LF. `headed`: an `hz` line was read before.
+/// The meaning of a line of a script, without its LF. `headed`: an `hz` line was read before.
 pub fn read_line(line: &[u8], headed: bool) -> Result<Line, LineCause>
     ensures { result ≡ line_of headed line.now }
 {

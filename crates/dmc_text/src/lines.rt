@@ -1,4 +1,4 @@
-//! The lines of a reader, read in pieces into a buffer that is made once.
+//! The lines of a reader, which are read in pieces into one buffer.
 ghost use Rattle.std.specs.Prelude.{◌≡◌, ◌≢◌, ℕ, List, false, ◌+◌, ◌-◌, ◌<◌, ◌≤◌, [], length, take, drop, slice_range, IfOk, IfErr, OnErr, MatchResult, vec_len, nat_lt};
 ghost use Rattle.std.specs.Io.KnownBytes.{Keeps, Consumes, IsAtEnd, ReadConsumes};
 ghost use Rattle.std.specs.IoError.{error_kind};
@@ -13,14 +13,14 @@ use std::alloc::{AllocError, Global};
 use std::io::{self, ErrorKind, Read};
 use std::marker::Model;
 
-/// How many bytes are kept at most.
+/// The size of the buffer in bytes.
 const CAPACITY: usize = 1 << 16;
 
-/// The most bytes of a text.
+/// The greatest length of a text in bytes.
 const MOST: u64 = 1 << 32;
 
-/// Reads the lines of a text. Contracts see the line that was found last, what is read and not handed out yet, how many
-/// bytes there is room for behind it, and how many were read.
+/// Reads the lines of a text. Contracts see the line that was found last, what is read and not yet returned, how many bytes may
+/// be read after that, and how many were read.
 #[derive(Drop)]
 pub struct LineReader {
     buffer: Vec<u8>,
@@ -73,7 +73,7 @@ impl LineReader {
         &self.buffer[self.line_start..self.line_end]
     }
 
-    /// What is read and not handed out yet.
+    /// What is read and not yet returned.
     fn rest(&self) -> &[u8]
         ensures { result.now ≡ self.now.rest }
     {
@@ -93,7 +93,7 @@ impl LineReader {
         true
     }
 
-    /// Finds the last line of a text that is read to its end, which lacks its LF.
+    /// Finds the last line of a text that is read to its end, where it lacks its LF.
     pub fn find_last(&mut self) -> bool
         ensures { FindsLast self.old self.new result }
     {
@@ -126,7 +126,7 @@ impl LineReader {
         self.line_end = 0;
     }
 
-    /// Reads more of the text behind what is left; false at its end. A text of more than 2^32 bytes is an error once they
+    /// Reads more of the text after what is left. Returns false at its end. A text of more than 2^32 bytes is an error once they
     /// are read. The line that was found last is not kept.
     pub fn fill<R: Read>(&mut self, reader: &mut Watched<R>) -> io::Result<bool>
         requires { length self.old.rest ≤ most_line_bytes }
@@ -152,7 +152,7 @@ impl LineReader {
     }
 }
 
-/// Reads at most so many bytes into the buffer from a place on.
+/// Reads at most this many bytes into the buffer, from an index on.
 fn read_at<R: Read>(
     reader: &mut Watched<R>,
     buffer: &mut Vec<u8>,
@@ -175,7 +175,7 @@ fn read_at<R: Read>(
     reader.read(&mut buffer[at..at + most])
 }
 
-/// Reads until the buffer is full or the reader at its end, and answers how many bytes were read. They stand at the front.
+/// Reads until the buffer is full or the reader at its end. Returns how many bytes were read; they are at the front.
 pub fn read_text<R: Read>(reader: &mut Watched<R>, buffer: &mut Vec<u8>) -> io::Result<usize>
     ensures len { vec_len buffer.new ≡ vec_len buffer.old }
     ensures within { IfOk result (λ n. n ≤ vec_len buffer.old) }
@@ -195,7 +195,7 @@ pub fn read_text<R: Read>(reader: &mut Watched<R>, buffer: &mut Vec<u8>) -> io::
     Ok(len)
 }
 
-/// Whether a text that has all the bytes that it may have goes on. That is an error.
+/// Whether a text that has all the bytes that it may have goes on. Then it is an error.
 fn reads_too_much<R: Read>(reader: &mut Watched<R>) -> io::Result<bool>
     ensures bytes { MatchResult result (λ more. (more ≡ false) × IsAtEnd (R.remaining (stream_of reader.new)) × Keeps (R.remaining (stream_of reader.old)) (R.remaining (stream_of reader.new)))
         (λ _. (bytes : List ℕ) × Consumes (R.remaining (stream_of reader.old)) (R.remaining (stream_of reader.new)) bytes × (length bytes ≤ 1)) }

@@ -1,4 +1,4 @@
-//! The texts of replies. Their words are judged before any is read as a number or a tag.
+//! The texts of replies. All their words are checked before any is read as a number or a tag.
 ghost use Rattle.std.specs.Prelude.{◌≡◌, ◌∷◌, []};
 ghost use Rattle.dmc_text.specs.Words.{words};
 ghost use Rattle.dmc_text.specs.Answers.{Gives};
@@ -28,7 +28,7 @@ pub enum ReplyName {
     Refused,
 }
 
-/// The words behind `tags`.
+/// The words after `tags`.
 #[derive(Clone, Copy)]
 pub struct TagWords<'a> {
     pub r: &'a [u8],
@@ -36,7 +36,7 @@ pub struct TagWords<'a> {
     pub p: &'a [u8],
 }
 
-/// A reply whose words are not read as numbers or tags yet.
+/// A reply whose words are not yet read as numbers or tags.
 #[derive(Clone, Copy)]
 pub enum ReplyWords<'a> {
     Registered,
@@ -58,7 +58,7 @@ pub enum ReplyWords<'a> {
     Refused(Refusal),
 }
 
-/// The reply that a word names.
+/// The kind of reply that a word names.
 fn name_of(word: &[u8]) -> Option<ReplyName>
     ensures { result ≡ name_of word.now }
 {
@@ -85,7 +85,7 @@ fn name_of(word: &[u8]) -> Option<ReplyName>
     }
 }
 
-/// A reply behind which nothing stands; the cause is `Words` where something does.
+/// A reply that nothing follows. The cause is `Words` where something does.
 fn ended<'a>(reply: ReplyWords<'a>, text: &[u8]) -> Result<ReplyWords<'a>, LineCause>
     ensures { Gives seen_reply result (no_more (seen_reply reply.entry) (words text.now)) }
 {
@@ -105,7 +105,7 @@ fn tagged(text: &[u8]) -> Result<ReplyWords<'_>, LineCause>
     ended(ReplyWords::Tagged(TagWords { r, l, p }), rest)
 }
 
-/// The one word of a moment that is to come.
+/// The one word of the moment of a `future`.
 fn later(text: &[u8]) -> Result<ReplyWords<'_>, LineCause>
     ensures { Gives seen_reply result (one_more later (words text.now)) }
 {
@@ -141,7 +141,7 @@ fn phase_of(text: &[u8]) -> Result<(PhaseType, bool), LineCause>
     }
 }
 
-/// What two words and what stands behind them name.
+/// What two words and the rest name.
 fn beyond_named(phase: &[u8], beyond: &[u8], text: &[u8]) -> Result<(PhaseType, bool), LineCause>
     ensures { result ≡ phase_of (phase.now ∷ beyond.now ∷ words text.now) }
 {
@@ -216,7 +216,7 @@ fn plain_refusal(word: &[u8]) -> Result<Refusal, LineCause>
     }
 }
 
-/// The refusal that two words and what stands behind them name.
+/// The refusal that two words and the rest name.
 fn inexact(word: &[u8], field: &[u8], text: &[u8]) -> Result<Refusal, LineCause>
     ensures { result ≡ refusal_of (word.now ∷ field.now ∷ words text.now) }
 {
@@ -226,7 +226,7 @@ fn inexact(word: &[u8], field: &[u8], text: &[u8]) -> Result<Refusal, LineCause>
     Ok(Refusal::Inexact(field_of(field)?))
 }
 
-/// The refusal that the words behind `refused` name.
+/// The refusal that the words after `refused` name.
 fn refusal_of(text: &[u8]) -> Result<Refusal, LineCause>
     ensures { result ≡ refusal_of (words text.now) }
 {
@@ -237,7 +237,7 @@ fn refusal_of(text: &[u8]) -> Result<Refusal, LineCause>
     }
 }
 
-/// The words behind the first word of a reply.
+/// The words after the first word of a reply.
 fn words_behind(name: ReplyName, text: &[u8]) -> Result<ReplyWords<'_>, LineCause>
     ensures { Gives seen_reply result (saying_of name (words text.now)) }
 {
@@ -254,7 +254,7 @@ fn words_behind(name: ReplyName, text: &[u8]) -> Result<ReplyWords<'_>, LineCaus
     }
 }
 
-/// The reply of a text, its words alone. The only cause is `Words`.
+/// The words of a reply's text. The only cause is `Words`.
 #[tactic(auto, unfolding(crate::specs::Replies::saying))]
 pub fn reply_words(text: &[u8]) -> Result<ReplyWords<'_>, LineCause>
     ensures { Gives seen_reply result (saying (words text.now)) }
@@ -288,7 +288,7 @@ fn tag<T: TagText>(word: &[u8]) -> Result<T, LineCause>
     read_tag(word).ok_or(LineCause::Number)
 }
 
-/// A tag, or `-` for none.
+/// A tag, or `-` where it is absent.
 #[tactic(auto, unfolding(crate::specs::Replies::optional_tag))]
 fn optional_tag<T: TagText>(word: &[u8]) -> Result<Option<T>, LineCause>
     ensures { result ≡ optional_tag T.made word.now }
@@ -299,7 +299,7 @@ fn optional_tag<T: TagText>(word: &[u8]) -> Result<Option<T>, LineCause>
     Ok(Some(tag(word)?))
 }
 
-/// The tags that words say.
+/// The tags of words.
 #[tactic(auto, unfolding(crate::specs::Replies::reply_said))]
 fn tagged_said<T: TagText>(words: TagWords<'_>) -> Result<Reply<T>, LineCause>
     ensures { result ≡ reply_said T.made (tagged words.entry.r.now words.entry.l.now words.entry.p.now) }
@@ -310,7 +310,7 @@ fn tagged_said<T: TagText>(words: TagWords<'_>) -> Result<Reply<T>, LineCause>
     Ok(Reply::Tagged(Tags { r, l, p }))
 }
 
-/// The grant that words say.
+/// The grant of words.
 #[tactic(auto, unfolding(crate::specs::Replies::reply_said))]
 fn granted_said<T: TagText>(
     client: &[u8],
@@ -330,7 +330,7 @@ fn granted_said<T: TagText>(
     })
 }
 
-/// The cleaning that words say.
+/// The cleaning of words.
 #[tactic(auto, unfolding(crate::specs::Replies::reply_said))]
 fn cleaned_said<T: TagText>(idled: &[u8], erased: &[u8]) -> Result<Reply<T>, LineCause>
     ensures { result ≡ reply_said T.made (cleaned idled.now erased.now) }
@@ -340,7 +340,7 @@ fn cleaned_said<T: TagText>(idled: &[u8], erased: &[u8]) -> Result<Reply<T>, Lin
     Ok(Reply::Cleaned { idled, erased })
 }
 
-/// The reply that words say: each number and each tag is read.
+/// The reply of words: each number and each tag is read.
 #[tactic(auto, unfolding(crate::specs::Replies::reply_said))]
 pub fn reply_said<T: TagText>(words: ReplyWords<'_>) -> Result<Reply<T>, LineCause>
     ensures { result ≡ reply_said T.made (seen_reply words.entry) }
@@ -363,8 +363,8 @@ pub fn reply_said<T: TagText>(words: ReplyWords<'_>) -> Result<Reply<T>, LineCau
     }
 }
 
-/// The reply of a text, without its LF. The cause is `Words` where its words make no reply, and `Number` where one that
-/// has to be a number or a tag is none of its type.
+/// The reply of a text, without its LF. The cause is `Words` where its words make no reply, and `Number` where a word that has to
+/// be a number or a tag is not one of its type.
 pub fn read_reply<T: TagText>(text: &[u8]) -> Result<Reply<T>, LineCause>
     ensures { result ≡ reply_of T.made (words text.now) }
 {

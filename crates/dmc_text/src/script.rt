@@ -30,7 +30,7 @@ use thiserror::Error;
 
 /// Makes the queue of a script, when its `hz` line is read.
 pub trait QueueMaker<T: Tag> {
-    /// What it makes.
+    /// What its queues represent.
     type Queue: Scheduler<T> + Drop;
 
     /// A queue in the opening state of a configuration.
@@ -50,7 +50,7 @@ fn value_text(fault: ValueFault) -> &'static [u8]
     }
 }
 
-/// Adds a line with these bytes. Where there is no memory, nothing is left to write.
+/// Adds a line with these bytes. Where the allocation fails, nothing is left to write.
 fn put_line(text: &[u8], out: &mut Vec<u8>) -> Result<(), AllocError>
     ensures ok { OnOk result (out.new.items ≡ out.old.items ++ with_line_end text.now) }
     ensures err { OnErr result (IsCut out.old.items out.new.items) }
@@ -62,7 +62,7 @@ fn put_line(text: &[u8], out: &mut Vec<u8>) -> Result<(), AllocError>
     Ok(())
 }
 
-/// Adds the line of a reply. Where there is no memory, nothing is left to write.
+/// Adds the line of a reply. Where the allocation fails, nothing is left to write.
 fn put_reply<T: TagText>(reply: &Reply<T>, out: &mut Vec<u8>) -> Result<(), AllocError>
     requires { IsTellable reply.now }
     ensures ok { OnOk result (out.new.items ≡ out.old.items ++ with_line_end (reply_text (tag_text T.numerator T.denominator) reply.now)) }
@@ -89,10 +89,10 @@ fn ask<T: TagText, Q: Scheduler<T>>(
     put_reply(&reply, out)
 }
 
-/// Why a run of a script ends before its end.
+/// The reason why a run of a script ends early.
 #[derive(Clone, Copy, Debug, PartialEq, Eq, Error)]
 pub enum ScriptFault {
-    /// A line is faulty: its number, counted from 1, and why.
+    /// A line is faulty: its number, counted from 1, and its cause.
     #[error("line {0}: {1}")]
     Line(u64, LineCause),
     /// The reader failed, or the text has more than 2^32 bytes.
@@ -101,18 +101,18 @@ pub enum ScriptFault {
     /// The writer failed.
     #[error("the replies cannot be written")]
     Write,
-    /// There was no memory.
+    /// An allocation failed.
     #[error("out of memory")]
     Memory,
 }
 
-/// The queue that answers a script. There is none before the `hz` line.
+/// The queue of a script. There is none before the `hz` line.
 #[derive(Drop)]
 struct Answering<T: Tag, M: QueueMaker<T>> {
     queue: Option<M::Queue>,
 }
 
-/// Carries out what a line says, and adds the line of its reply.
+/// Carries out a line, and adds the line of its reply.
 fn carry_out<T: TagText, M: QueueMaker<T>>(
     maker: &mut M,
     queue: &mut Option<M::Queue>,
@@ -170,12 +170,12 @@ impl<T: TagText, M: QueueMaker<T>> TakesLines for Answering<T, M> {
     ghost long = { λ s line. long_line (is_some (option_map M.Queue.state s.queue)) line };
 }
 
-/// The room for replies: they are written before more lines are read, and no reply has more than ten times the bytes of its
-/// line.
+/// The capacity for replies in bytes. They are written before more lines are read, and no reply has more than ten times the bytes
+/// of its line.
 const OUT: usize = 1 << 20;
 
-/// Carries out a script: each line's command in turn, each reply a line of its own. Nothing of a line is kept, and no
-/// memory taken but for the two buffers and by the queue.
+/// Carries out a script: each line's command in turn, each reply a line of its own. Nothing of a line is kept. Only the two
+/// buffers and the queue allocate.
 pub fn run_script<T: TagText, M: QueueMaker<T>, R: Read, W: Write>(
     alloc: Global,
     maker: &mut M,
@@ -195,7 +195,7 @@ pub fn run_script<T: TagText, M: QueueMaker<T>, R: Read, W: Write>(
     settled(ended, is_sent)
 }
 
-/// What a run comes to whose last replies were sent, or were not.
+/// The result of a run, by whether its last replies were sent.
 fn settled(ended: Result<(), ScriptFault>, is_sent: bool) -> Result<(), ScriptFault>
     ensures { result ≡ settled_of ended is_sent }
 {

@@ -1,4 +1,4 @@
-//! Bytes are sent to a watched writer.
+//! Bytes that are sent to a watched writer.
 ghost use Rattle.std.specs.Prelude.{◌≡◌, ◌≢◌, ◌<◌, [], length, true, OnOk, OnErr, IfErr};
 ghost use Rattle.std.specs.Io.KnownBytes.{Appends};
 ghost use Rattle.std.specs.IoError.{error_kind};
@@ -21,7 +21,8 @@ pub(crate) fn drain<W: Write>(out: &mut Vec<u8>, writer: &mut Watched<W>) -> io:
     sent
 }
 
-/// Writes all bytes, again where a write was interrupted: that is never the error. Where there are none, there is no error.
+/// Writes all bytes, and makes an interrupted write again: an interruption is never the error. Where there are no bytes, there is
+/// no error.
 pub fn send_all<W: Write>(bytes: &[u8], writer: &mut Watched<W>) -> io::Result<()>
     ensures ok { OnOk result (Appends (W.contents (stream_of writer.old)) (W.contents (stream_of writer.new)) bytes.now) }
     ensures err { OnErr result (AppendsSome (W.contents (stream_of writer.old)) (W.contents (stream_of writer.new)) bytes.now) }
@@ -36,7 +37,7 @@ pub fn send_all<W: Write>(bytes: &[u8], writer: &mut Watched<W>) -> io::Result<(
     Ok(())
 }
 
-/// Writes all bytes, and flushes; false where the writer fails.
+/// Writes all bytes, and flushes. Returns false where the writer fails.
 pub fn send<W: Write>(bytes: &[u8], writer: &mut Watched<W>) -> bool
     ensures all { result ≡ true → Appends (W.contents (stream_of writer.old)) (W.contents (stream_of writer.new)) bytes.now }
     ensures some { AppendsSome (W.contents (stream_of writer.old)) (W.contents (stream_of writer.new)) bytes.now }

@@ -8,18 +8,18 @@ use crate::number::{read_u64, read_u128};
 use crate::word::first_of;
 use dmc_tag::tag::Tag;
 
-/// A tag with a text: its fraction in the form that the type keeps, `N` where the denominator is 1, and else `N/D`.
+/// A tag with a text: its fraction in the form of the type, `N` where the denominator is 1, and otherwise `N/D`.
 pub trait TagText: Tag {
     /// The numerator of a tag's text.
     ghost numerator: { Self → ℤ };
 
-    /// Its denominator.
+    /// The denominator of a tag's text.
     ghost denominator: { Self → ℕ };
 
     /// The tag whose text has this numerator and this denominator.
     ghost made: { ℤ → ℕ → Option Self };
 
-    /// The numerator and the denominator, of which the tag is made again.
+    /// The numerator and the denominator, from which the tag can be made.
     fn parts(self) -> (i128, u64)
         ensures over { result.0 ≡ numerator self }
         ensures under { result.1 ≡ denominator self }
@@ -27,15 +27,15 @@ pub trait TagText: Tag {
         ensures value { IsSame (Self.fraction self) (record { numer = result.0; denom = result.1 }) }
         ensures again { made result.0 result.1 ≡ Some self };
 
-    /// The tag of these parts. None where they are no tag's.
+    /// The tag of these parts. `None` where no tag has them.
     fn of_parts(numer: i128, denom: u64) -> Option<Self>
         ensures { result ≡ made numer denom };
 
-    /// What is made of parts has them.
+    /// A tag that is made of parts has them.
     ghost only: { (n : ℤ) (d : ℕ) (a : Self) → made n d ≡ Some a → (numerator a ≡ n) × (denominator a ≡ d) };
 }
 
-/// The number below 0 of this size. None where it does not fit, and for 0.
+/// The number of this absolute value below 0. `None` where it does not fit, and for 0.
 fn below_zero(size: u128) -> Option<i128>
     ensures { result ≡ below_zero size }
 {
@@ -56,7 +56,7 @@ fn read_i128(word: &[u8]) -> Option<i128>
     }
 }
 
-/// A numerator, and the denominator that a word spells.
+/// A numerator, and the denominator of a word.
 fn over(numer: i128, word: &[u8]) -> Option<(i128, u64)>
     ensures { result ≡ option_and_then (over numer) (number (2 ^ 64) word.now) }
 {
@@ -67,7 +67,7 @@ fn over(numer: i128, word: &[u8]) -> Option<(i128, u64)>
     Some((numer, denom))
 }
 
-/// The numerator and the denominator that a word spells.
+/// The numerator and the denominator of a word.
 #[tactic(auto, unfolding(crate::specs::Tags::fraction_of))]
 fn read_fraction(word: &[u8]) -> Option<(i128, u64)>
     ensures { result ≡ fraction_of word.now }
@@ -78,7 +78,7 @@ fn read_fraction(word: &[u8]) -> Option<(i128, u64)>
     }
 }
 
-/// The tag that a word spells.
+/// The tag of a word.
 pub fn read_tag<T: TagText>(word: &[u8]) -> Option<T>
     ensures { result ≡ option_and_then (λ x. T.made x.0 x.1) (fraction_of word.now) }
 {

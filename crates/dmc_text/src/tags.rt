@@ -31,7 +31,7 @@ impl TagText for TickTag {
     }
 }
 
-/// A ratio tag is a fraction in lowest terms, and is read from no other.
+/// A ratio tag is a fraction in lowest terms. No other text is read as it.
 impl TagText for RatioTag {
     ghost numerator = { λ a. a.numer };
 

@@ -1,4 +1,4 @@
-//! The lines of a text, taken one after the other.
+//! The loop over the lines of a text.
 ghost use Rattle.std.specs.Prelude.{◌≡◌, ◌≤◌, ◌<◌, ◌-◌, ◌^◌, ℕ, Bool, List, None, length, IfOk};
 ghost use Rattle.dmc_types.specs.Limits.{most_line_bytes};
 ghost use Rattle.dmc_text.specs.declared.cause.LineCause.{LineCause};
@@ -15,26 +15,26 @@ use crate::watched::Watched;
 use std::alloc::{AllocError, Global};
 use std::io::{Read, Write};
 
-/// What takes the lines of a text in turn.
+/// Takes the lines of a text in turn.
 pub trait TakesLines {
-    /// What its queue is made with.
+    /// The maker of its queue.
     type Maker;
 
     /// Whether an `hz` line was taken.
     ghost headed: { Self → Bool };
 
-    /// From one state to the next by a line, and what is to be written for it.
+    /// The next state after a line, and what is to be written for it.
     ghost takes: { Self → List ℕ → List ℕ → Self → Type 0 };
 
-    /// Whether a line is faulty in a state, for a cause.
+    /// Whether a line is faulty in a state, for this cause.
     ghost refuses: { Self → List ℕ → LineCause → Type 0 };
 
     /// Whether an `hz` line was taken.
     fn is_headed(&self) -> bool
         ensures { result ≡ headed self.now };
 
-    /// Takes a line, without its LF, and adds what is to be written for it. A faulty one is told by its cause, and changes
-    /// nothing.
+    /// Takes a line, without its LF, and adds what is to be written for it. Where the line is faulty, its cause is returned and
+    /// nothing changes.
     fn take(
         &mut self,
         maker: &mut Self::Maker,
@@ -47,7 +47,7 @@ pub trait TakesLines {
     ghost long: { (state : Self) (line : List ℕ) → most_line_bytes < length line → refuses state line Bytes };
 }
 
-/// The lines of a text, as far as they are taken, and what is to be written for them.
+/// The lines of a text, as far as they have been taken, and what is to be written for them.
 #[derive(Drop)]
 pub struct Walk {
     lines: LineReader,
@@ -58,7 +58,7 @@ pub struct Walk {
 }
 
 impl Walk {
-    /// A walk that has read nothing yet, with so much room for what is to be written.
+    /// A walk that has read nothing yet, with this capacity for what is to be written.
     pub fn new(alloc: Global, room: usize) -> Result<Walk, AllocError>
         ensures { IfOk result Starts }
     {
@@ -69,8 +69,8 @@ impl Walk {
         })
     }
 
-    /// Finds the next whole line. While there is none, writes what is to be written, and then reads more. False at the end
-    /// of the text.
+    /// Finds the next whole line. While there is none, it writes what is to be written, and then reads more. Returns false at the
+    /// end of the text.
     fn find<R: Read, W: Write>(
         &mut self,
         reader: &mut Watched<R>,
@@ -141,8 +141,8 @@ impl Walk {
         Ok(())
     }
 
-    /// Takes line after line, to the end of the text or to the first faulty one. What is to be written is written before more
-    /// is read; the last of it is left.
+    /// Takes line after line, to the end of the text or to the first faulty one. What is to be written is written before more is
+    /// read, and what is added last is left.
     pub fn run<L: TakesLines, R: Read, W: Write>(
         &mut self,
         taker: &mut L,

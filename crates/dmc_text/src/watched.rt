@@ -1,5 +1,5 @@
-//! Streams whose failures are noted: what a contract can say of a failed read or write, of which the standard library's own
-//! contracts have no word.
+//! Streams whose failures are noted. So contracts can speak of a failed read or write, of which those of the standard library say
+//! nothing.
 ghost use Rattle.std.specs.Prelude.{◌≡◌, ◌≢◌, ◌<◌, ◌≤◌, length, false, IfOk, IfErr};
 ghost use Rattle.std.specs.Io.KnownBytes.{Keeps, ReadConsumes, WriteAppends};
 ghost use Rattle.std.specs.IoError.{error_kind};
@@ -7,8 +7,8 @@ ghost use Rattle.dmc_text.specs.Watching.{stream_of, failed, IsNoted};
 
 use std::io::{self, ErrorKind, Read, Write};
 
-/// A stream, and a note whether a call of it failed. The note is set by `read`, `write` and `flush` alone, which are the only
-/// calls of the stream, and is never taken back.
+/// A stream, and a note whether a call of it failed. The note is set only by `read`, `write` and `flush`, which are the only
+/// calls of the stream, and is never reset.
 #[derive(Drop)]
 pub struct Watched<S> {
     stream: S,
@@ -16,7 +16,7 @@ pub struct Watched<S> {
 }
 
 impl<S> Watched<S> {
-    /// The stream, of which no call has failed yet.
+    /// A stream, of which no call has failed yet.
     pub fn new(stream: S) -> Watched<S>
         ensures stream { stream_of result ≡ stream }
         ensures note { failed result ≡ false }
@@ -43,7 +43,7 @@ impl<S> Watched<S> {
 }
 
 impl<R: Read> Watched<R> {
-    /// Reads once, again where a read was interrupted: that is never the error, and no failure. An error is noted.
+    /// Reads once, and again after an interruption, which is never the error and no failure. An error is noted.
     pub fn read(&mut self, buffer: &mut [u8]) -> io::Result<usize>
         ensures bound { IfOk result (λ n. n ≤ length buffer.new) }
         ensures bytes { ReadConsumes (R.remaining (stream_of self.old)) (R.remaining (stream_of self.new)) result buffer.new }
@@ -60,8 +60,8 @@ impl<R: Read> Watched<R> {
 }
 
 impl<W: Write> Watched<W> {
-    /// Writes once, again where a write was interrupted: that is never the error, and no failure. An error is noted. That
-    /// none of some bytes is taken is one.
+    /// Writes once, and again after an interruption, which is never the error and no failure. An error is noted. It is one, too,
+    /// where none of some bytes is taken.
     pub fn write(&mut self, bytes: &[u8]) -> io::Result<usize>
         ensures bound { IfOk result (λ n. n ≤ length bytes.now) }
         ensures some { IfOk result (λ n. 0 < length bytes.now → 0 < n) }
@@ -89,7 +89,7 @@ impl<W: Write> Watched<W> {
     }
 }
 
-/// Reads once, again where a read was interrupted: that is never the error.
+/// Reads once, and again after an interruption, which is never the error.
 fn read_once<R: Read>(stream: &mut R, buffer: &mut [u8]) -> io::Result<usize>
     ensures bound { IfOk result (λ n. n ≤ length buffer.new) }
     ensures bytes { ReadConsumes (R.remaining stream.old) (R.remaining stream.new) result buffer.new }
@@ -105,7 +105,7 @@ fn read_once<R: Read>(stream: &mut R, buffer: &mut [u8]) -> io::Result<usize>
     Err(io::Error::from(ErrorKind::TimedOut))
 }
 
-/// Writes once, again where a write was interrupted: that is never the error.
+/// Writes once, and again after an interruption, which is never the error.
 fn write_once<W: Write>(stream: &mut W, bytes: &[u8]) -> io::Result<usize>
     ensures bound { IfOk result (λ n. n ≤ length bytes.now) }
     ensures bytes { WriteAppends (W.contents stream.old) (W.contents stream.new) result bytes.now }
@@ -120,7 +120,7 @@ fn write_once<W: Write>(stream: &mut W, bytes: &[u8]) -> io::Result<usize>
     Err(io::Error::from(ErrorKind::TimedOut))
 }
 
-/// Writes some of the bytes. That none is taken, where there are some, is an error.
+/// Writes some of the bytes. Where there are some and none is taken, that is an error.
 fn write_some<W: Write>(stream: &mut W, bytes: &[u8]) -> io::Result<usize>
     ensures bound { IfOk result (λ n. n ≤ length bytes.now) }
     ensures some { IfOk result (λ n. 0 < length bytes.now → 0 < n) }

@@ -3,21 +3,21 @@ ghost use Rattle.std.specs.Prelude.{◌≡◌, ◌==◌, [], ◌∷◌, not, Mat
 ghost use Rattle.std.specs.Str.{bytes_eq};
 ghost use Rattle.dmc_text.specs.Words.{is_space, words};
 
-/// Where the first byte stands that is no space.
+/// The index of the first byte that is no space.
 fn first_other(text: &[u8]) -> Option<usize>
     ensures { result ≡ position (λ b. not (is_space b)) text.now }
 {
     text.iter().position(|byte| *byte != b' ')
 }
 
-/// Where a byte stands first.
+/// The index of a byte's first occurrence.
 pub(crate) fn first_of(text: &[u8], sought: u8) -> Option<usize>
     ensures { result ≡ position (λ b. b == sought) text.now }
 {
     text.iter().position(|byte| *byte == sought)
 }
 
-/// The first word of a text, and what stands behind it. None where there is no word.
+/// The first word of a text, and what follows it. `None` where there is no word.
 pub fn first_word(text: &[u8]) -> Option<(&[u8], &[u8])>
     ensures { MatchOption result (words text.now ≡ [])
         (λ found. words text.now ≡ found.0.now ∷ words found.1.now) }
@@ -27,7 +27,7 @@ pub fn first_word(text: &[u8]) -> Option<(&[u8], &[u8])>
     Some(text.split_at(end))
 }
 
-/// Whether a word is spelled so.
+/// Whether a word has this spelling.
 pub(crate) fn spells(word: &[u8], text: &[u8]) -> bool
     ensures { result ≡ bytes_eq word.now text.now }
 {

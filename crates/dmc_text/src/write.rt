@@ -1,4 +1,4 @@
-//! Replies are written.
+//! The texts of replies, written.
 ghost use Rattle.std.specs.Prelude.{◌≡◌, ◌∷◌, [], ◌<◌, ◌^◌, Some, OnOk, codes};
 ghost use Rattle.std.specs.List.{join_with_byte};
 ghost use Rattle.std.specs.Io.KnownBytes.{Appends};
@@ -14,7 +14,7 @@ use dmc_types::ids::{ClientId, Token};
 use dmc_types::refusal::{Field, Refusal};
 use std::{fmt, io};
 
-/// The text of a tag, or `-` for none.
+/// The text of a tag, or `-` where it is absent.
 #[derive(Clone, Copy)]
 struct TagWord(Option<(i128, u64)>);
 
@@ -79,7 +79,7 @@ fn write_tags<T: TagText, W: io::Write>(tags: Tags<T>, out: &mut W) -> io::Resul
     write!(out, "tags {r} {l} {p}")
 }
 
-/// How a grant's text ends.
+/// The end of a grant's text.
 fn phase_text(phase: PhaseType, beyond: bool) -> &'static str
     requires { IsPhase phase beyond }
     ensures { result.now ≡ join_with_byte 32 (grant_words phase beyond) }
@@ -113,7 +113,7 @@ fn write_grant<W: io::Write>(
     write!(out, "grant {} {} {last}", client.0, token.0)
 }
 
-/// Writes a moment that is to come.
+/// Writes the moment of a `future`.
 fn write_later<W: io::Write>(at: u128, out: &mut W) -> io::Result<()>
     ensures { OnOk result (Appends (W.contents out.old) (W.contents out.new)
         (join_with_byte 32 (codes "future" ∷ decimal at ∷ []))) }
@@ -121,7 +121,7 @@ fn write_later<W: io::Write>(at: u128, out: &mut W) -> io::Result<()>
     write!(out, "future {at}")
 }
 
-/// Writes how many requests were dropped.
+/// Writes how many requests were removed.
 fn write_removed<W: io::Write>(removed: u32, out: &mut W) -> io::Result<()>
     ensures { OnOk result (Appends (W.contents out.old) (W.contents out.new)
         (join_with_byte 32 (codes "dropped" ∷ decimal removed ∷ []))) }
@@ -129,7 +129,7 @@ fn write_removed<W: io::Write>(removed: u32, out: &mut W) -> io::Result<()>
     write!(out, "dropped {removed}")
 }
 
-/// Writes what a cleaning did.
+/// Writes how many clients a cleaning marked and erased.
 fn write_cleaned<W: io::Write>(idled: u32, erased: u32, out: &mut W) -> io::Result<()>
     ensures { OnOk result (Appends (W.contents out.old) (W.contents out.new)
         (join_with_byte 32 (codes "cleaned" ∷ decimal idled ∷ decimal erased ∷ []))) }
@@ -137,7 +137,7 @@ fn write_cleaned<W: io::Write>(idled: u32, erased: u32, out: &mut W) -> io::Resu
     write!(out, "cleaned {idled} {erased}")
 }
 
-/// Writes the text of a reply, without its LF. What went out where the writer fails is left open.
+/// Writes the text of a reply, without its LF. Where the writer fails, a part of it may have been written.
 pub fn write_reply<T: TagText, W: io::Write>(reply: &Reply<T>, out: &mut W) -> io::Result<()>
     requires { IsTellable reply.now }
     ensures text { OnOk result

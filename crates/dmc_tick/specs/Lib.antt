@@ -1,4 +1,8 @@
+-- The value of a tick tag, a whole number of absolute value at most 2^90, and what its operations compute.
 pub mod Tick
+-- A tick tag in two words: its number plus 2^90.
 pub mod Words
+-- That the operations of tick tags are exact.
 pub mod TickExact
+-- Worked examples: the replies that the rules give in whole ticks, computed.
 pub mod Examples

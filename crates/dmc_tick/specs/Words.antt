@@ -13,7 +13,7 @@ word = 2 ^ 64
 abbrev pub raised : ℕ → ℕ → ℕ
 raised high low = high * word + low
 
--- the tag that they stand for
+-- the tag that the two words represent
 abbrev pub number : ℕ → ℕ → ℤ
 number high low = pos (raised high low) -ℤ pos greatest
 
@@ -27,7 +27,7 @@ high_word z = raised_number z / word
 abbrev pub low_word : ℤ → ℕ
 low_word z = raised_number z % word
 
--- ---- the words of the tag that two words stand for are these
+-- ---- the words of the tag that two words represent are these two
 
 lowered : (n g : ℕ) → unsigned_abs (pos n -ℤ pos g +ℤ pos g) ≡ n
 lowered n g = omega (arith, ints)

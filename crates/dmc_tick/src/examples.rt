@@ -28,7 +28,7 @@ pub fn unknown_and_known()
         ≡ (Refused Unknown ∷ Registered ∷ Refused Known ∷ []) }
 {}
 
-/// Equal tags go to the least client.
+/// Of equal tags the one of the least client id is granted.
 pub fn tie_by_client()
     ensures { replies waiting
         (client 2 (Some 10) 1 None 0 ∷ client 1 (Some 10) 1 None 0 ∷ add 2 1 1 1 0 ∷ add 1 1 1 1 0 ∷ pull 100 ∷
@@ -37,7 +37,7 @@ pub fn tie_by_client()
         tags (Some (pos 100)) (pos 0) (pos 1000) ∷ by_reservation 1 1 ∷ by_reservation 2 1 ∷ []) }
 {}
 
-/// A Priority grant takes one spacing off the R tags that are left.
+/// A Priority grant takes one spacing off the client's other R tags.
 pub fn reduced_reservation()
     ensures { replies waiting
         (client 1 (Some 10) 1 None 0 ∷ add 1 1 1 1 0 ∷ add 1 2 1 1 0 ∷ pull 0 ∷ pull 100 ∷ [])
@@ -45,7 +45,7 @@ pub fn reduced_reservation()
         by_priority 1 1 ∷ by_reservation 1 2 ∷ []) }
 {}
 
-/// A newcomer finds the shares of all others shifted to its moment.
+/// When an idle client comes back, the P of all others are shifted to its moment.
 pub fn newcomer_shift()
     ensures { replies waiting
         (client 1 None 1 None 0 ∷ client 2 None 1 None 0 ∷ add 1 11 1 0 0 ∷ add 1 12 1 0 0 ∷ pull 0 ∷
@@ -68,7 +68,7 @@ pub fn moment_goes_back()
         ≡ (Registered ∷ Nothing ∷ tags None (pos 50) (pos 50) ∷ by_priority 1 1 ∷ []) }
 {}
 
-/// Requests are taken out; the previous tags stay.
+/// Requests are removed; the previous tags stay.
 pub fn dropped_requests()
     ensures { replies waiting
         (client 1 None 1 None 0 ∷ add 1 1 1 0 0 ∷ add 1 2 1 0 0 ∷ drop_all 1 ∷ drop_all 1 ∷ add 1 3 1 0 0 ∷ [])
@@ -111,7 +111,7 @@ pub fn allowed_beyond()
         by_priority_beyond 1 1 ∷ by_reservation 1 2 ∷ Nothing ∷ []) }
 {}
 
-/// An update changes the rates of requests to come, and is refused where it gives or takes a reservation while one is queued.
+/// An update changes the rates of later requests. It is refused where it gives or takes a reservation while a request is queued.
 pub fn updates()
     ensures { replies waiting
         (client 1 None 1 None 0 ∷ add 1 1 1 0 0 ∷ update 1 None 2 None 0 ∷ add 1 2 1 0 0 ∷

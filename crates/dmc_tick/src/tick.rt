@@ -14,8 +14,8 @@ use std::marker::Model;
 
 /// A whole number of ticks, of absolute value at most 2^90. Contracts see it as that number.
 ///
-/// It is kept as the number plus 2^90, which is not below 0, in two words: so it stands at every eighth byte, and a record
-/// of tags or an event is smaller than with an `i128`, which stands at every sixteenth.
+/// It is stored as the number plus 2^90, which is not below 0, in two words. So it is aligned to 8 bytes, and a record of tags or
+/// an event is smaller than with an `i128`, which is aligned to 16.
 #[derive(Clone, Copy, Debug)]
 pub struct TickTag {
     high: u64,
@@ -45,7 +45,7 @@ const GREATEST: i128 = 1 << 90;
 const WORD: u128 = 1 << 64;
 
 impl TickTag {
-    /// The tag of so many ticks; None past 2^90 or below -2^90.
+    /// The tag of this many ticks. `None` above 2^90 or below -2^90.
     pub fn new(ticks: i128) -> Option<TickTag>
         ensures { result ≡ tick ticks }
     {
@@ -55,7 +55,7 @@ impl TickTag {
         Some(TickTag::of(ticks))
     }
 
-    /// How many ticks it is.
+    /// The number of ticks.
     pub fn ticks(self) -> i128
         ensures value { result ≡ self }
         ensures bound { unsigned_abs result ≤ greatest }
@@ -63,7 +63,7 @@ impl TickTag {
         self.raised() as i128 - GREATEST
     }
 
-    /// The tag of so many ticks, which are in its range.
+    /// The tag of this many ticks, which are in its range.
     fn of(ticks: i128) -> TickTag
         requires { unsigned_abs ticks ≤ greatest }
         ensures { result ≡ ticks }
@@ -75,7 +75,7 @@ impl TickTag {
         }
     }
 
-    /// Its ticks plus 2^90.
+    /// The number of ticks plus 2^90.
     fn raised(self) -> u128
         ensures value { pos result ≡ self +ℤ pos greatest }
         ensures bound { result ≤ 2 * greatest }

@@ -1,4 +1,4 @@
--- A stamp and a response keep a tracker book consistent.
+-- A stamp, a skip and a response keep a tracker book consistent.
 use Rattle.std.proofs.Common.{◌≡◌, ℕ, ◌+◌, ◌<◌, ◌≤◌, ◌^◌, List, [], ◌∷◌, ◌++◌, length, sym, ap, ◌∙◌, arith}
 use Rattle.std.specs.Prelude.{slice_set, sum_by}
 use Rattle.std.proofs.lemmas.List.Sums.{sum_by-cons, sum_by-set}
@@ -10,19 +10,19 @@ use Rattle.dmc_types.specs.declared.config.Counting.TheVariants.{All, Others}
 use Rattle.dmc_types.specs.declared.config.PhaseType.{PhaseType}
 use Rattle.dmc_types.specs.declared.config.PhaseType.TheVariants.{Reservation, Priority}
 use Rattle.dmc_tracker.specs.declared.event.TrackerEvent.{TrackerEvent}
-use Rattle.dmc_tracker.specs.declared.event.TrackerEvent.TheVariants.{Stamp, Response}
-use Rattle.dmc_tracker.specs.TrackerList.{completed_by, plus, completions, sent, pending, IsTracked}
+use Rattle.dmc_tracker.specs.declared.event.TrackerEvent.TheVariants.{Stamp, Skip, Response}
+use Rattle.dmc_tracker.specs.TrackerList.{completed_by, plus, completions, sent, skipped, pending, IsTracked}
 use Rattle.dmc_tracker.specs.Numbers.{ServerNumbers, Stands, next_params}
-use Rattle.dmc_tracker.proofs.ForCallers.{completions-stamp, completions-response, Stands-stamp, Stands-response, next_params-stands, IsTracked-stamp, IsTracked-response, sums-all, sums-others, completions-by_server, stamps-le-length, length-servers_grown}
+use Rattle.dmc_tracker.proofs.ForCallers.{completions-stamp, completions-skip, completions-response, Stands-stamp, Stands-skip, Stands-response, next_params-stands, IsTracked-stamp, IsTracked-skip, IsTracked-response, sums-all, sums-others, completions-by_server, stamps-le-length, length-servers_grown}
 use Rattle.dmc_ledger.specs.Accounts.{total_of}
 use Rattle.dmc_ledger.specs.Bundles.{ServerSide, StampAccounts}
 use Rattle.dmc_tlock.specs.BookState.{BookState, no_side, desk_at}
 use Rattle.dmc_tlock.specs.Consistent.{due, responded, IsBalanced, IsDesk, IsConsistent}
-use Rattle.dmc_tlock.specs.Entries.{side_after_stamp, side_after_response, book_after_stamp, book_after_response}
-use Rattle.dmc_tlock.proofs.DeskLemmas.{IsDesk-stamp_same, IsDesk-stamp_other, IsDesk-response_same, IsDesk-response_other, at_set}
+use Rattle.dmc_tlock.specs.Entries.{side_after_stamp, side_after_response, book_after_stamp, book_after_skip, book_after_response}
+use Rattle.dmc_tlock.proofs.DeskLemmas.{IsDesk-stamp_same, IsDesk-stamp_other, IsDesk-skip, IsDesk-response_same, IsDesk-response_other, at_set}
 
 sum_due : (counting : Counting) (s : ServerId) (events : List TrackerEvent) → IsTracked counting events
-    → plus (sent s events) (pending counting s events) ≡ due counting s events
+    → plus (plus (sent s events) (skipped counting s events)) (pending counting s events) ≡ due counting s events
 sum_due All s events h = sums-all s events h
 sum_due Others s events h = sums-others s events h
 
@@ -74,6 +74,24 @@ IsConsistent-stamp b s within room h =
       limit = h.limit;
     }
 
+pub IsConsistent-skip : (b : BookState) (s : ServerId) → s.0 < length b.desks → length b.events < b.most_events → IsConsistent b
+    → IsConsistent (book_after_skip s b)
+IsConsistent-skip b s within room h =
+    let inside : s.0 < length b.tracker.servers = omega (arith, h.servers) in
+    let stands = Stands-skip b.tracker b.events s inside h.stands in
+    let tracked = IsTracked-skip b.tracker.counting b.events s h.tracked in
+    let servers = h.servers ∙ sym (length-set b.tracker.servers s.0 _) in
+    record {
+      balanced = balanced (book_after_skip s b) stands tracked servers;
+      tracked = tracked;
+      stands = stands;
+      desks = λ q q_in. IsDesk-skip b.client b.events q s (desk_at b.desks q) (h.desks q q_in);
+      servers = servers;
+      completed = ap (λ (x : Params). x.delta) (completions-skip b.events s) ∙ h.completed;
+      within = omega (arith, length-append b.events (Skip s ∷ []));
+      limit = h.limit;
+    }
+
 pub IsConsistent-response : (b : BookState) (s : ServerId) (phase : PhaseType) → s.0 < length b.desks → length b.events < b.most_events
     → IsConsistent b → IsConsistent (book_after_response s phase b)
 IsConsistent-response b s phase within room h =
@@ -100,6 +118,7 @@ IsConsistent-response b s phase within room h =
 -- no list completes more than one of each count an entry
 few_completed : (e : TrackerEvent) → ((completed_by e).delta ≤ 1) × ((completed_by e).rho ≤ 1)
 few_completed (Stamp q params) = (omega arith, omega arith)
+few_completed (Skip q) = (omega arith, omega arith)
 few_completed (Response q Reservation) = (omega arith, omega arith)
 few_completed (Response q Priority) = (omega arith, omega arith)
 

@@ -8,8 +8,8 @@ use Rattle.dmc_types.specs.declared.ids.ServerId.{ServerId}
 use Rattle.dmc_types.specs.declared.config.PhaseType.{PhaseType}
 use Rattle.dmc_types.specs.declared.config.PhaseType.TheVariants.{Reservation, Priority}
 use Rattle.dmc_tracker.specs.declared.event.TrackerEvent.{TrackerEvent}
-use Rattle.dmc_tracker.specs.declared.event.TrackerEvent.TheVariants.{Stamp, Response}
-use Rattle.dmc_tracker.proofs.ForCallers.{sent-response, sent-stamp_same, sent-stamp_other, stamps-response, stamps-stamp_same, stamps-stamp_other, responses-stamp, responses-response_same, responses-response_other, responses-reservation-priority, responses-priority-reservation, same_server}
+use Rattle.dmc_tracker.specs.declared.event.TrackerEvent.TheVariants.{Stamp, Skip, Response}
+use Rattle.dmc_tracker.proofs.ForCallers.{sent-response, sent-skip, sent-stamp_same, sent-stamp_other, stamps-response, stamps-skip, stamps-stamp_same, stamps-stamp_other, responses-skip, responses-stamp, responses-response_same, responses-response_other, responses-reservation-priority, responses-priority-reservation, same_server}
 use Rattle.dmc_ledger.specs.Accounts.{Account}
 use Rattle.dmc_ledger.specs.Bundles.{ServerSide, StampAccounts, GrantHoldings, server_side}
 use Rattle.dmc_ledger.specs.declared.desk.ServerDesk.{ServerDesk}
@@ -29,7 +29,7 @@ module _ (events : List TrackerEvent) (s : ServerId) where
   here : (s.0 == s.0) ≡ true
   here = eq-eqb s.0 s.0 refl
 
-  -- the stamp books: a stamp to their server, a stamp to another, a response
+  -- the stamp books: a stamp to their server, a stamp to another, a skip, a response
   books-stamp_same : (p : Params) (b : StampAccounts) → AreStampBooks events s b
       → AreStampBooks (events ++ Stamp s p ∷ []) s (books_after_stamp p b)
   books-stamp_same p b h =
@@ -50,6 +50,15 @@ module _ (events : List TrackerEvent) (s : ServerId) where
         rho = same _ _ _ (ap (λ (x : Params). x.rho) sums) h.rho;
       }
 
+  books-skip : (q : ServerId) (b : StampAccounts) → AreStampBooks events s b → AreStampBooks (events ++ Skip q ∷ []) s b
+  books-skip q b h =
+      let sums = sent-skip s events q in
+      record {
+        stamps = same _ _ _ (stamps-skip s events q) h.stamps;
+        delta = same _ _ _ (ap (λ (x : Params). x.delta) sums) h.delta;
+        rho = same _ _ _ (ap (λ (x : Params). x.rho) sums) h.rho;
+      }
+
   books-response : (q : ServerId) (phase : PhaseType) (b : StampAccounts) → AreStampBooks events s b
       → AreStampBooks (events ++ Response q phase ∷ []) s b
   books-response q phase b h =
@@ -60,11 +69,17 @@ module _ (events : List TrackerEvent) (s : ServerId) where
         rho = same _ _ _ (ap (λ (x : Params). x.rho) sums) h.rho;
       }
 
-  -- the grant tills: a stamp, a response of their server, a response of another
+  -- the grant tills: a stamp, a skip, a response of their server, a response of another
   tills-stamp : (q : ServerId) (p : Params) (t : GrantHoldings) → AreGrantTills events s t → AreGrantTills (events ++ Stamp q p ∷ []) s t
   tills-stamp q p t h = record {
     reservation = h.reservation ∙ sym (responses-stamp s events Reservation q p);
     priority = h.priority ∙ sym (responses-stamp s events Priority q p);
+  }
+
+  tills-skip : (q : ServerId) (t : GrantHoldings) → AreGrantTills events s t → AreGrantTills (events ++ Skip q ∷ []) s t
+  tills-skip q t h = record {
+    reservation = h.reservation ∙ sym (responses-skip s events Reservation q);
+    priority = h.priority ∙ sym (responses-skip s events Priority q);
   }
 
   tills-response_same : (phase : PhaseType) (t : GrantHoldings) → AreGrantTills events s t
@@ -107,6 +122,15 @@ module _ (client : ℕ) (events : List TrackerEvent) (s : ServerId) where
     its_server = h.its_server;
     books = books-stamp_other events q s p d.books there h.books;
     held = tills-stamp events q s p d.held h.held;
+  }
+
+  -- a skip leaves each desk
+  pub IsDesk-skip : (q : ServerId) (d : ServerSide) → IsDesk client events s d → IsDesk client (events ++ Skip q ∷ []) s d
+  IsDesk-skip q d h = record {
+    its_client = h.its_client;
+    its_server = h.its_server;
+    books = books-skip events s q d.books h.books;
+    held = tills-skip events s q d.held h.held;
   }
 
   pub IsDesk-response_same : (phase : PhaseType) (d : ServerSide) → IsDesk client events s d

@@ -5,7 +5,7 @@ use Rattle.dmc_types.specs.declared.ids.ServerId.{ServerId}
 use Rattle.dmc_types.specs.declared.config.PhaseType.{PhaseType}
 use Rattle.dmc_types.specs.declared.config.PhaseType.TheVariants.{Reservation, Priority}
 use Rattle.dmc_tlock.specs.BookState.{BookState, no_side}
-use Rattle.dmc_tlock.specs.Entries.{book_after_response, book_after_stamp}
+use Rattle.dmc_tlock.specs.Entries.{book_after_response, book_after_skip, book_after_stamp}
 use Rattle.dmc_tlock.specs.Later.{IsLater, side_numbers}
 
 -- a write that is seen as what was there
@@ -25,6 +25,9 @@ later_stamp s b = record {
   most_events = refl;
   desks = seen_kept side_numbers b.desks s.0 _ no_side refl;
 }
+
+pub later_skip : (s : ServerId) (b : BookState) → IsLater b (book_after_skip s b)
+later_skip s b = record { client = refl; counting = refl; most = refl; most_events = refl; desks = refl }
 
 pub later_response : (s : ServerId) (phase : PhaseType) (b : BookState) → IsLater b (book_after_response s phase b)
 later_response s Reservation b = record {

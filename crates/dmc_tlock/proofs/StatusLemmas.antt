@@ -1,5 +1,5 @@
 -- What is read off a consistent book's tracker and desk is what its list has.
-use Rattle.std.proofs.Common.{◌≡◌, ℕ, ◌+◌, ◌<◌, ◌≤◌, ◌^◌, List, length, ap, ◌∙◌, arith}
+use Rattle.std.proofs.Common.{◌≡◌, ℕ, ◌+◌, ◌<◌, ◌≤◌, List, length, ap, ◌∙◌, arith}
 use Rattle.dmc_types.specs.Values.{Params}
 use Rattle.dmc_types.specs.declared.ids.ServerId.{ServerId}
 use Rattle.dmc_types.specs.declared.config.Counting.{Counting}
@@ -7,8 +7,7 @@ use Rattle.dmc_types.specs.declared.config.Counting.TheVariants.{All, Others}
 use Rattle.dmc_tracker.specs.declared.event.TrackerEvent.{TrackerEvent}
 use Rattle.dmc_tracker.specs.TrackerList.{plus, completions, others, stamps}
 use Rattle.dmc_tracker.specs.Numbers.{Numbers, ServerNumbers, numbers_at}
-use Rattle.dmc_tracker.proofs.ForCallers.{completions-by_server, stamps-le-length}
-use Rattle.dmc_ledger.specs.Accounts.{total_of}
+use Rattle.dmc_tracker.proofs.ForCallers.{completions-by_server}
 use Rattle.dmc_ledger.specs.Bundles.{ServerSide, StampHoldings}
 use Rattle.dmc_ledger.specs.Moves.{AreWithin}
 use Rattle.dmc_tlock.specs.BookState.{BookState, desk_at}
@@ -22,7 +21,6 @@ same_pair p q a b = ap (λ x. (x, p.1)) a ∙ ap (λ y. (q.0, y)) b
 -- what `read_status` may be asked of
 pub record IsReadable (tracker : Numbers) (desk : ServerSide) (s : ServerId) : Type 0 where
   pub within : s.0 < length tracker.servers
-  pub stamps : total_of desk.books.stamps < 2 ^ 32
   pub all : desk.held.reservation.amount + desk.held.priority.amount ≤ tracker.completions.delta
   pub constraint : desk.held.reservation.amount ≤ tracker.completions.rho
 
@@ -30,7 +28,6 @@ module _ (b : BookState) (s : ServerId) (within : s.0 < length b.desks) (h : IsC
   pub readable : IsReadable b.tracker (desk_at b.desks s) s
   readable =
       let d = h.desks s within in
-      let few = stamps-le-length s b.events in
       let by_server = completions-by_server b.events s in
       let all = ap (λ (x : Params). x.delta) (by_server) in
       let constraint = ap (λ (x : Params). x.rho) (by_server) in
@@ -38,7 +35,6 @@ module _ (b : BookState) (s : ServerId) (within : s.0 < length b.desks) (h : IsC
       let constraint_now = ap (λ (x : Params). x.rho) h.stands.completed in
       record {
         within = omega (arith, h.servers);
-        stamps = omega (arith, few, d.books.stamps.total, h.within, h.limit);
         all = omega (arith, all, all_now, d.held.reservation, d.held.priority);
         constraint = omega (arith, constraint, constraint_now, d.held.reservation);
       }
@@ -53,6 +49,7 @@ module _ (b : BookState) (s : ServerId) (within : s.0 < length b.desks) (h : IsC
       let constraint_now = ap (λ (x : Params). x.rho) h.stands.completed in
       record {
         sent = t.sent;
+        skipped = t.skipped;
         pending = t.pending;
         completions = t.completions;
         counting = t.counting;
@@ -77,21 +74,21 @@ module _ (b : BookState) (s : ServerId) (within : s.0 < length b.desks) (h : IsC
       }
 
 -- the sums of what is told
-sums_read : (counting : Counting) (s : ServerId) (events : List TrackerEvent) (sent pending : Params) (status : TrackStatus)
-    → status.counting ≡ counting → plus sent pending ≡ due counting s events → status.sent ≡ pair_of sent
-    → status.pending ≡ pair_of pending → status.completions ≡ pair_of (completions events) → status.stamps ≡ stamps s events
+sums_read : (counting : Counting) (s : ServerId) (events : List TrackerEvent) (sent skipped pending : Params) (status : TrackStatus)
+    → status.counting ≡ counting → plus (plus sent skipped) pending ≡ due counting s events → status.sent ≡ pair_of sent
+    → status.skipped ≡ pair_of skipped → status.pending ≡ pair_of pending → status.completions ≡ pair_of (completions events) → status.stamps ≡ stamps s events
     → status.others ≡ pair_of (others s events) → AreSums status
-sums_read All s events sent pending status form sum a b c n o =
+sums_read All s events sent skipped pending status form sum a k b c n o =
     let all = ap (λ (x : Params). x.delta) sum in
     let constraint = ap (λ (x : Params). x.rho) sum in
-    rw (form, a, b, c) (record { all = all; constraint = constraint })
-sums_read Others s events sent pending status form sum a b c n o =
+    rw (form, a, k, b, c) (record { all = all; constraint = constraint })
+sums_read Others s events sent skipped pending status form sum a k b c n o =
     let all = ap (λ (x : Params). x.delta) sum in
     let constraint = ap (λ (x : Params). x.rho) sum in
-    rw (form, a, b, n, o) (record { all = all; constraint = constraint })
+    rw (form, a, k, b, n, o) (record { all = all; constraint = constraint })
 
 pub AreSums-status : (b : BookState) (s : ServerId) → s.0 < length b.desks → IsConsistent b → (status : TrackStatus) → IsStatusOf b s status
     → AreSums status
 AreSums-status b s within h status is =
-    sums_read b.tracker.counting s b.events (numbers_at b.tracker s).sent (numbers_at b.tracker s).pending status is.counting
-    (h.balanced s within) is.sent is.pending (is.completions ∙ ap pair_of h.stands.completed) is.stamps is.others
+    sums_read b.tracker.counting s b.events (numbers_at b.tracker s).sent (numbers_at b.tracker s).skipped (numbers_at b.tracker s).pending
+    status is.counting (h.balanced s within) is.sent is.skipped is.pending (is.completions ∙ ap pair_of h.stands.completed) is.stamps is.others

@@ -8,8 +8,8 @@ use Rattle.dmc_history.specs.Log.{Log}
 use Rattle.dmc_ledger.specs.Accounts.{Account, Holding}
 use Rattle.dmc_ledger.specs.Bundles.{ServerSide, StampHoldings}
 
--- the client, the numbers of its tracker, the list of its stamps and responses, how long the list may become, and the
--- desk of each server
+-- the client, the numbers of its tracker, the list of its stamps, skips and responses, how long the list may become, and
+-- the desk of each server
 pub record BookState : Type 0 where
   pub client : ℕ
   pub tracker : Numbers

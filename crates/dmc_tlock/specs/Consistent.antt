@@ -13,16 +13,17 @@ use Rattle.dmc_ledger.specs.Accounts.{Account, total_of}
 use Rattle.dmc_ledger.specs.Bundles.{ServerSide, StampAccounts, GrantHoldings}
 use Rattle.dmc_tlock.specs.BookState.{BookState, desk_at}
 
--- what was sent to s and what is pending there, together: the completions; in `Others` the stamps to s and the
--- completions at the other servers
+-- what was sent to s, what was skipped and what is pending there, together: the completions; in `Others` the stamps to s
+-- and the completions at the other servers
 abbrev pub due : Counting → ServerId → List TrackerEvent → Params
 due All s events = completions events
 due Others s events = plus (record { delta = stamps s events; rho = stamps s events }) (others s events)
 
--- sent plus pending, of each server and in both counts
+-- sent plus skipped plus pending, of each server and in both counts
 abbrev pub IsBalanced : BookState → Type 0
 IsBalanced b = (s : ServerId) → s.0 < length b.desks
-    → plus (numbers_at b.tracker s).sent (numbers_at b.tracker s).pending ≡ due b.tracker.counting s b.events
+    → plus (plus (numbers_at b.tracker s).sent (numbers_at b.tracker s).skipped) (numbers_at b.tracker s).pending
+    ≡ due b.tracker.counting s b.events
 
 -- the book totals n, of which so much is gathered, and so many of its tills are open
 pub record IsBook (n back tills : ℕ) (book : Account) : Type 0 where

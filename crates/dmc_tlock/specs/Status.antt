@@ -17,6 +17,7 @@ pair_of params = (params.delta, params.rho)
 -- the numbers of the tracker and of its list, seen from s
 pub record IsStatusOf (b : BookState) (s : ServerId) (status : TrackStatus) : Type 0 where
   pub sent : status.sent ≡ pair_of (numbers_at b.tracker s).sent
+  pub skipped : status.skipped ≡ pair_of (numbers_at b.tracker s).skipped
   pub pending : status.pending ≡ pair_of (numbers_at b.tracker s).pending
   pub completions : status.completions ≡ pair_of b.tracker.completions
   pub counting : status.counting ≡ b.tracker.counting
@@ -34,14 +35,15 @@ abbrev pub due_by : TrackStatus → Counting → ℕ × ℕ
 due_by status All = status.completions
 due_by status Others = (status.stamps + status.others.0, status.stamps + status.others.1)
 
--- the two sums: sent plus pending is what is due, in the form that the status tells
+-- the two sums: sent plus skipped plus pending is what is due, in the form that the status names
 pub record AreSums (status : TrackStatus) : Type 0 where
-  pub all : status.sent.0 + status.pending.0 ≡ (due_by status status.counting).0
-  pub constraint : status.sent.1 + status.pending.1 ≡ (due_by status status.counting).1
+  pub all : status.sent.0 + status.skipped.0 + status.pending.0 ≡ (due_by status status.counting).0
+  pub constraint : status.sent.1 + status.skipped.1 + status.pending.1 ≡ (due_by status status.counting).1
 
 -- how a status is read off the tracker and the desk of s, without the list
 pub record IsReadOff (tracker : Numbers) (desk : ServerSide) (s : ServerId) (status : TrackStatus) : Type 0 where
   pub sent : status.sent ≡ pair_of (numbers_at tracker s).sent
+  pub skipped : status.skipped ≡ pair_of (numbers_at tracker s).skipped
   pub pending : status.pending ≡ pair_of (numbers_at tracker s).pending
   pub completions : status.completions ≡ pair_of tracker.completions
   pub counting : status.counting ≡ tracker.counting

@@ -1,18 +1,18 @@
 //! The tracker book.
-ghost use Rattle.std.specs.Prelude.{◌≡◌, ◌<◌, ◌≤◌, ◌↔◌, length, map, IfOk, IfErr, OnOk, OnErr, IsOk, IsErrAnd, IsErrOf, IsTrue};
+ghost use Rattle.std.specs.Prelude.{◌≡◌, ◌≢◌, ◌<◌, ◌≤◌, ◌↔◌, length, map, IfOk, IfErr, OnOk, OnErr, IsOk, IsErrAnd, IsErrOf, IsTrue};
 ghost use Rattle.dmc_types.specs.declared.ids.ServerId.{ServerId};
-ghost use Rattle.dmc_tracker.specs.Numbers.{IsSentFull, next_params};
+ghost use Rattle.dmc_tracker.specs.Numbers.{IsFullAt, next_params};
 ghost use Rattle.dmc_ledger.specs.Bundles.{stamp_holdings, server_side};
 ghost use Rattle.dmc_ledger.specs.Moves.{AreOf, tills_after_stamp, till_in, with_less};
 ghost use Rattle.dmc_tlock.specs.BookState.{desk_at, tills_at};
 ghost use Rattle.dmc_tlock.specs.Consistent.{IsConsistent};
-ghost use Rattle.dmc_tlock.specs.Entries.{book_after_stamp, book_after_response, AreTillsOf, IsTillOf};
+ghost use Rattle.dmc_tlock.specs.Entries.{book_after_stamp, book_after_skip, book_after_response, AreTillsOf, IsTillOf};
 ghost use Rattle.dmc_tlock.specs.Opening.{AreNew, AreBookLimits, new_book_state, new_pass};
 ghost use Rattle.dmc_tlock.specs.Settling.{IsOwn, AreGathered, IsSettledDesk, held_of};
 ghost use Rattle.dmc_tlock.specs.Status.{IsStatusOf, IsWithin, AreSums};
 
 use crate::desk::{audit_tills, find_desk, find_grants, issue_stamp, take_unit};
-use crate::entry::{record_response, record_stamp};
+use crate::entry::{record_response, record_skip, record_stamp};
 use crate::fault::{EntryFault, TillFault};
 use crate::parts::{Parts, make_parts};
 use crate::pass::{ClientPass, open_pass};
@@ -32,7 +32,7 @@ use dmc_types::params::ReqParams;
 use std::alloc::Global;
 use std::marker::Model;
 
-/// A client's tracker with the list of its stamps and responses, and its desk for each server.
+/// A client's tracker with the list of its stamps, skips and responses, and its desk for each server.
 ///
 /// What holds of every book is the invariant of its type (`IsConsistent`; `laws::book_is_consistent` tells it): for each
 /// server the two sums hold, the stamp books total what the list sent there, and the held grant tills are its responses of
@@ -77,14 +77,14 @@ pub struct Unsettled<S: Setup> {
 
 impl<S: Setup> TrackerBook<S> {
     /// A client's book of an empty list, and the client's pass, which holds nothing. The desks are the client's for the
-    /// servers 0, 1, .. in order, as `open_pair` gave them. `most` is the tracker's (1 to 2^32-1), `most_events` the list's
+    /// servers 0, 1, .. in order, as `open_pair` gave them. `most` is the tracker's (1 to 2^62), `most_events` the list's
     /// (1 to 2^30). Refused `Limit` where these or the number of desks (1 to 64) are past their limits, then `Memory`; the
     /// desks are handed back. The room that `settle` needs is made here.
     pub fn new(
         alloc: Global,
         client: ClientId,
         desks: Vec<ServerDesk<S>>,
-        most: u32,
+        most: u64,
         most_events: u32,
         counting: Counting,
     ) -> Result<(TrackerBook<S>, ClientPass<S>), TrackerFault<S>>
@@ -122,7 +122,7 @@ impl<S: Setup> TrackerBook<S> {
     /// Stamps a request to a server, and puts the stamp into the tills: one unit, its delta and its rho.
     ///
     /// Refused `NoServer`; `Stranger` where the tills are not of the server's stamp books; `TrackFull` as the tracker says
-    /// (in `Others` alone); `HistoryFull`; `Memory`.
+    /// (`ServiceTracker::can_stamp`); `HistoryFull`; `Memory`.
     pub fn stamp(
         &mut self,
         server: ServerId,
@@ -139,10 +139,10 @@ impl<S: Setup> TrackerBook<S> {
         ensures stranger { IsErrOf result EntryFault.Stranger ↔ ((server.0 < length self.old.desks)
             × (AreOf (stamp_holdings tills.old) (desk_at self.old.desks server).books → ⊥)) }
         ensures track_full { IsErrOf result EntryFault.TrackFull
-            ↔ (AreTillsOf self.old server (stamp_holdings tills.old) × IsSentFull self.old.tracker server) }
+            ↔ (AreTillsOf self.old server (stamp_holdings tills.old) × IsFullAt self.old.tracker server) }
         ensures history_full { IsErrOf result EntryFault.HistoryFull
             ↔ (AreTillsOf self.old server (stamp_holdings tills.old)
-            × (IsSentFull self.old.tracker server → ⊥)
+            × (IsFullAt self.old.tracker server → ⊥)
             × (length self.old.events ≡ self.old.most_events)) }
     {
         let params = self.stamp_params(server, tills)?;
@@ -165,10 +165,10 @@ impl<S: Setup> TrackerBook<S> {
         ensures stranger { IsErrOf result EntryFault.Stranger ↔ ((server.0 < length self.old.desks)
             × (AreOf (stamp_holdings tills.old) (desk_at self.old.desks server).books → ⊥)) }
         ensures track_full { IsErrOf result EntryFault.TrackFull
-            ↔ (AreTillsOf self.old server (stamp_holdings tills.old) × IsSentFull self.old.tracker server) }
+            ↔ (AreTillsOf self.old server (stamp_holdings tills.old) × IsFullAt self.old.tracker server) }
         ensures history_full { IsErrOf result EntryFault.HistoryFull
             ↔ (AreTillsOf self.old server (stamp_holdings tills.old)
-            × (IsSentFull self.old.tracker server → ⊥)
+            × (IsFullAt self.old.tracker server → ⊥)
             × (length self.old.events ≡ self.old.most_events)) }
     {
         let index = find_desk(&self.desks, server, tills)?;
@@ -177,6 +177,27 @@ impl<S: Setup> TrackerBook<S> {
         let params = record_stamp(&mut self.tracker, &mut self.history, server);
         issue_stamp(&mut self.desks[index], tills, params);
         Ok(params)
+    }
+
+    /// Skips what is pending at a server, as the tracker does: the next stamp to it counts only later completions. It is an
+    /// entry of the list, sends nothing, and moves no till.
+    ///
+    /// Refused `NoServer`; `HistoryFull`; `Memory`.
+    pub fn skip(&mut self, server: ServerId) -> Result<(), EntryFault>
+        ensures book { OnOk result (self.new ≡ book_after_skip server self.old) }
+        ensures kept { OnErr result (self.new ≡ self.old) }
+        ensures no_server { IsErrOf result EntryFault.NoServer ↔ (length self.old.desks ≤ server.0) }
+        ensures history_full { IsErrOf result EntryFault.HistoryFull
+            ↔ ((server.0 < length self.old.desks) × (length self.old.events ≡ self.old.most_events)) }
+        ensures its { result ≢ Err EntryFault.Stranger }
+        ensures never_full { result ≢ Err EntryFault.TrackFull }
+    {
+        if server.0 as usize >= self.desks.len() {
+            return Err(EntryFault::NoServer);
+        }
+        self.history.reserve_one()?;
+        record_skip(&mut self.tracker, &mut self.history, server);
+        Ok(())
     }
 
     /// Counts a response of a server to a request that it granted in a phase, and takes its unit from the till.

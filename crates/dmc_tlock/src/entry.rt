@@ -1,7 +1,7 @@
 //! One entry more, in a tracker and in its list.
 ghost use Rattle.std.specs.Prelude.{◌≡◌, ◌<◌, [], ◌∷◌, ◌++◌, length};
 ghost use Rattle.dmc_tracker.specs.declared.event.TrackerEvent.{TrackerEvent};
-ghost use Rattle.dmc_tracker.specs.Numbers.{IsSentFull, next_params, after_stamp, after_response};
+ghost use Rattle.dmc_tracker.specs.Numbers.{IsFullAt, next_params, after_stamp, after_skip, after_response};
 
 use dmc_history::History;
 use dmc_tracker::event::TrackerEvent;
@@ -17,7 +17,7 @@ pub(crate) fn record_stamp(
     server: ServerId,
 ) -> ReqParams
     requires within { server.0 < length tracker.old.servers }
-    requires not_full { IsSentFull tracker.old server → ⊥ }
+    requires not_full { IsFullAt tracker.old server → ⊥ }
     requires place { 0 < history.old.room }
     ensures params { result ≡ next_params tracker.old server }
     ensures tracker { tracker.new ≡ after_stamp server tracker.old }
@@ -29,6 +29,24 @@ pub(crate) fn record_stamp(
     };
     history.push_reserved(TrackerEvent::Stamp { server, params });
     params
+}
+
+/// Skips what is pending at a server, and puts the skip into the list.
+pub(crate) fn record_skip(
+    tracker: &mut ServiceTracker,
+    history: &mut History<TrackerEvent>,
+    server: ServerId,
+)
+    requires within { server.0 < length tracker.old.servers }
+    requires place { 0 < history.old.room }
+    ensures tracker { tracker.new ≡ after_skip server tracker.old }
+    ensures events { history.new.events ≡ history.old.events ++ TrackerEvent.Skip server ∷ [] }
+    ensures most { history.new.most ≡ history.old.most }
+{
+    let Ok(()) = tracker.skip(server) else {
+        unreachable!()
+    };
+    history.push_reserved(TrackerEvent::Skip { server });
 }
 
 /// Counts a response, and puts it into the list.

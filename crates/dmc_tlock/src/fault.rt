@@ -14,7 +14,7 @@ pub enum TillFault {
     Stranger,
 }
 
-/// Why a stamp or a response is refused. Nothing has changed.
+/// Why a stamp, a skip or a response is refused. Nothing has changed.
 #[derive(Clone, Copy, Debug, PartialEq, Eq, Error)]
 pub enum EntryFault {
     /// The tracker has no such server.
@@ -23,8 +23,8 @@ pub enum EntryFault {
     /// A till is not of that server's books here; of a response, not of the phase's.
     #[error("a till is of other books")]
     Stranger,
-    /// The call would take a count past the tracker's `most`.
-    #[error("the tracker has counted its most")]
+    /// The call would take a count past the tracker's `most`, or a stamp's delta past 2^32-1.
+    #[error("a count would pass the tracker's most, or a stamp's 2^32-1")]
     TrackFull,
     /// The list has its `most_events` entries.
     #[error("the history is full")]

@@ -1,5 +1,5 @@
-//! A client's service tracker with the list of its stamps and responses, and the books that they are counted in: in one
-//! hand, and behind a lock.
+//! A client's service tracker with the list of its stamps, skips and responses, and the books that they are counted in: in
+//! one hand, and behind a lock.
 #![tactic(auto)]
 
 pub mod book;

@@ -1,5 +1,5 @@
 //! A tracker book behind a lock. Each time that the lock is taken, the book is consistent: that is the invariant of its type.
-ghost use Rattle.std.specs.Prelude.{◌≡◌, ◌<◌, IfOk, OnOk, OnErr};
+ghost use Rattle.std.specs.Prelude.{◌≡◌, ◌≢◌, ◌<◌, IfOk, OnOk, OnErr};
 ghost use Rattle.dmc_ledger.specs.Bundles.{stamp_holdings};
 ghost use Rattle.dmc_ledger.specs.Moves.{tills_after_stamp, with_less};
 ghost use Rattle.dmc_tlock.specs.Later.{IsLater};
@@ -49,6 +49,14 @@ impl<S: Setup, W: Witness<TrackerBook<S>>> Guarded<TrackerBook<S>, W> {
         ensures kept { OnErr result (tills.new ≡ tills.old) }
     {
         self.book.stamp_params(server, tills)
+    }
+
+    /// Skips what is pending at a server, as the book does.
+    fn skip(&mut self, server: ServerId) -> Result<(), EntryFault>
+        ensures its { result ≢ Err EntryFault.Stranger }
+        ensures never_full { result ≢ Err EntryFault.TrackFull }
+    {
+        self.book.skip(server)
     }
 
     /// Counts a response, as the book does.
@@ -126,6 +134,14 @@ impl<S: Setup, W: Witness<TrackerBook<S>>> LockedTracker<TrackerBook<S>, W> {
     {
         let params = self.guarded.lock(rt).stamp_params(server, tills)?;
         Ok(Stamp::new(self.client, server, params))
+    }
+
+    /// Skips what is pending at a server: the next stamp to it counts only later completions. It sends nothing.
+    pub fn skip<R: Wait>(&self, rt: &R, server: ServerId) -> Result<(), EntryFault>
+        ensures its { result ≢ Err EntryFault.Stranger }
+        ensures never_full { result ≢ Err EntryFault.TrackFull }
+    {
+        self.guarded.lock(rt).skip(server)
     }
 
     /// Counts a response of a server to a request that it granted in a phase, and takes its unit from the till.

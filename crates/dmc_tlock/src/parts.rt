@@ -26,7 +26,7 @@ pub(crate) struct Parts<S: Setup> {
 pub(crate) fn make_parts<S: Setup>(
     alloc: Global,
     servers: usize,
-    most: u32,
+    most: u64,
     most_events: u32,
     counting: Counting,
 ) -> Result<Parts<S>, MakeFault>

@@ -1,6 +1,5 @@
-//! What a tracker book tells.
-ghost use Rattle.std.specs.Prelude.{◌≡◌, ◌+◌, ◌<◌, ◌≤◌, ◌^◌, length};
-ghost use Rattle.dmc_ledger.specs.Accounts.{total_of};
+//! What a tracker book reports.
+ghost use Rattle.std.specs.Prelude.{◌≡◌, ◌+◌, ◌<◌, ◌≤◌, length};
 ghost use Rattle.dmc_ledger.specs.Bundles.{server_side};
 ghost use Rattle.dmc_tlock.specs.Status.{IsReadOff};
 
@@ -14,17 +13,19 @@ use dmc_types::ids::ServerId;
 #[derive(Clone, Copy, Debug, PartialEq, Eq)]
 pub struct TrackStatus {
     /// The deltas and the rhos that were sent to the server, summed.
-    pub sent: (u32, u32),
+    pub sent: (u64, u64),
+    /// The completions that were skipped there.
+    pub skipped: (u64, u64),
     /// The completions that its next stamp would count.
-    pub pending: (u32, u32),
+    pub pending: (u64, u64),
     /// The completions at all servers.
-    pub completions: (u32, u32),
+    pub completions: (u64, u64),
     /// Which completions a stamp counts.
     pub counting: Counting,
     /// The stamps to the server.
-    pub stamps: u32,
+    pub stamps: u64,
     /// The completions at the other servers.
-    pub others: (u32, u32),
+    pub others: (u64, u64),
 }
 
 /// The status of a server, read off the tracker and the server's desk.
@@ -34,7 +35,6 @@ pub(crate) fn read_status<S: Setup>(
     server: ServerId,
 ) -> TrackStatus
     requires within { server.0 < length tracker.now.servers }
-    requires stamps { total_of (server_side desk.now).books.stamps < 2 ^ 32 }
     requires all { (server_side desk.now).held.reservation.amount + (server_side desk.now).held.priority.amount ≤ tracker.now.completions.delta }
     requires constraint { (server_side desk.now).held.reservation.amount ≤ tracker.now.completions.rho }
     ensures { IsReadOff tracker.now (server_side desk.now) server result }
@@ -42,23 +42,24 @@ pub(crate) fn read_status<S: Setup>(
     let completions = tracker.completions();
     TrackStatus {
         sent: tracker.sent(server).unwrap(),
+        skipped: tracker.skipped(server).unwrap(),
         pending: tracker.pending(server).unwrap(),
         completions,
         counting: tracker.counting(),
-        stamps: desk.books.stamps.total() as u32,
+        stamps: desk.books.stamps.total(),
         others: others_than(desk, completions),
     }
 }
 
 /// The completions without those at the desk's server.
-fn others_than<S: Setup>(desk: &ServerDesk<S>, completions: (u32, u32)) -> (u32, u32)
+fn others_than<S: Setup>(desk: &ServerDesk<S>, completions: (u64, u64)) -> (u64, u64)
     requires all { (server_side desk.now).held.reservation.amount + (server_side desk.now).held.priority.amount ≤ completions.0 }
     requires constraint { (server_side desk.now).held.reservation.amount ≤ completions.1 }
     ensures all { result.0 + ((server_side desk.now).held.reservation.amount + (server_side desk.now).held.priority.amount) ≡ completions.0 }
     ensures constraint { result.1 + (server_side desk.now).held.reservation.amount ≡ completions.1 }
 {
     let (all, constraint) = completions;
-    let reservation = desk.held.reservation.amount() as u32;
-    let priority = desk.held.priority.amount() as u32;
+    let reservation = desk.held.reservation.amount();
+    let priority = desk.held.priority.amount();
     (all - reservation - priority, constraint - reservation)
 }

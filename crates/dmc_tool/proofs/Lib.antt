@@ -1,5 +1,7 @@
 pub mod WordsLemmas
 pub mod RunLemmas
+pub mod RunEnds
 pub mod SimLemmas
 pub mod NoteLemmas
 pub mod TellLemmas
+pub mod VerdictRows

@@ -6,9 +6,9 @@ use Rattle.dmc_text.specs.declared.script.ScriptFault.TheVariants as script
 use Rattle.dmc_text.specs.declared.watched.Watched.{Watched}
 use Rattle.dmc_text.specs.Watching.{IsCalm, EndsNoted, SendsNoted}
 use Rattle.dmc_check.specs.declared.check.Verdict.{Verdict}
-use Rattle.dmc_run.specs.declared.run.RunSceneFault.{RunSceneFault}
-use Rattle.dmc_run.specs.declared.run.RunSceneFault.TheVariants as run
-use Rattle.dmc_run.specs.Runs as runs
+use Rattle.dmc_tool.specs.declared.run_scene.RunSceneFault.{RunSceneFault}
+use Rattle.dmc_tool.specs.declared.run_scene.RunSceneFault.TheVariants as run
+use Rattle.dmc_tool.specs.RunReports as runs
 use Rattle.dmc_scene.specs.declared.fault.SceneFault.{SceneFault}
 use Rattle.dmc_scene.specs.declared.fault.SceneFault.TheVariants as scene
 use Rattle.dmc_scene.specs.SceneValue.{SceneValue}

@@ -46,7 +46,7 @@ no_run_yet before old = inr (faults.Memory, none_yet before, Keeps-refl old, ref
 
 -- ---- words that are not read
 
--- the want of memory, before the command runs
+-- the allocation failure, before the command runs
 none_of : (command : ToolCommand) (tags : TagKind) (before old : Option (List ℕ)) → RunsCommand command tags before before old old (Err faults.Memory)
 none_of Script tags before old = (Err script.Memory, no_script_yet tags before old, refl)
 none_of Check tags before old = (Err script.Memory, no_check_yet tags before old, refl)

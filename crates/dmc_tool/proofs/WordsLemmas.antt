@@ -19,7 +19,7 @@ pub matches_simply : is_simple program_app ≡ true
 unfolding clap_on_literals program_app
 matches_simply = refl
 
--- an error that is no want of memory comes only where there is no match
+-- an error that is no allocation failure is returned only where there is no match
 pub no_match : {X : Type 0} (kinds : Kinds) (x : Option X) (k : ErrorKind)
     → ((k ≡ OutOfMemory) ⊎ IsAmong k kinds) → fault_at k ≡ Usage → if_no_fault kinds x ≡ None
 no_match [] x k (inl memory) usage = cc

@@ -4,8 +4,8 @@ use Rattle.dmc_scene.specs.declared.fault.SceneFault.{SceneFault}
 use Rattle.dmc_scene.specs.declared.fault.SceneFault.TheVariants as scene
 use Rattle.dmc_sim.specs.declared.report.SimFault.{SimFault}
 use Rattle.dmc_sim.specs.declared.report.SimFault.TheVariants as sim
-use Rattle.dmc_run.specs.declared.run.RunSceneFault.{RunSceneFault}
-use Rattle.dmc_run.specs.declared.run.RunSceneFault.TheVariants as run
+use Rattle.dmc_tool.specs.declared.run_scene.RunSceneFault.{RunSceneFault}
+use Rattle.dmc_tool.specs.declared.run_scene.RunSceneFault.TheVariants as run
 use Rattle.dmc_text.specs.declared.cause.LineCause.{LineCause}
 use Rattle.dmc_text.specs.declared.cause.LineCause.TheVariants as cause
 use Rattle.dmc_text.specs.declared.script.ScriptFault.{ScriptFault}
@@ -36,19 +36,19 @@ cause_word cause.Hz = codes "hz"
 cause_word cause.Words = codes "words"
 cause_word cause.Number = codes "number"
 
--- the program's fault for that of its words
+-- the program's fault for one of its words
 abbrev pub fault_of_words : WordsFault → Fault
 fault_of_words words.Usage = fault.Usage
 fault_of_words words.Memory = fault.Memory
 
--- the program's fault for that of a script
+-- the program's fault for one of a script
 abbrev pub fault_of_script : ScriptFault → Fault
 fault_of_script (script.Line number cause) = fault.Line number cause
 fault_of_script script.Read = fault.Read
 fault_of_script script.Write = fault.Write
 fault_of_script script.Memory = fault.Memory
 
--- the program's fault for that of a scene
+-- the program's fault for one of a scene
 abbrev pub fault_of_scene : SceneFault → Fault
 fault_of_scene scene.Text = fault.SceneText
 fault_of_scene (scene.Missing key) = fault.SceneMissing key
@@ -56,12 +56,12 @@ fault_of_scene (scene.Kind key) = fault.SceneKind key
 fault_of_scene (scene.Value key) = fault.SceneValue key
 fault_of_scene scene.Memory = fault.Memory
 
--- the program's fault for that of a simulation
+-- the program's fault for one of a simulation
 abbrev pub fault_of_sim : SimFault → Fault
 fault_of_sim (sim.Refused refusal) = fault.Range
 fault_of_sim sim.Memory = fault.Memory
 
--- the program's fault for that of a run
+-- the program's fault for one of a run
 abbrev pub fault_of_run : RunSceneFault → Fault
 fault_of_run run.Memory = fault.Memory
 fault_of_run run.Torn = fault.Torn

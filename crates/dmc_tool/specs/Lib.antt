@@ -1,10 +1,25 @@
+-- The exit status of each fault, and the word for a line's cause.
 pub mod Faults
+-- When a run may report that a stream failed, by how the run ends.
 pub mod Notes
+-- The exit status of each way to end without a fault.
 pub mod Outcomes
+-- The text of a run's report.
+pub mod ReportTexts
+-- What a run in threads writes, and how it ends.
+pub mod RunReports
+-- One run of the program, by what its words ask for.
 pub mod Runs
+-- What a run of a scene in threads reads and writes.
 pub mod SceneRuns
+-- What reading a scene takes from the reader, and its result.
 pub mod Scenes
+-- What a simulation reads and writes.
 pub mod Sims
+-- What is written to the fault writer.
 pub mod Telling
+-- Verdicts on the histories of a report.
+pub mod Verdicts
+-- What the words of the command line ask for, as clap matches them.
 pub mod Words
 pub use Rattle.clap.specs.Words as ClapWords

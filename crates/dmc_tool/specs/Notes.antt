@@ -21,7 +21,7 @@ SceneNoted before after (Err fault) = IsCalm before after
 abbrev pub AreCalm : {R W : Type 0} → (before after : Watched R) → (old new : Watched W) → Type 0
 AreCalm before after old new = IsCalm before after × IsCalm old new
 
--- A script: at Read and at Memory the replies that are left are sent, and the writer may fail then.
+-- A script: at Read and at Memory the pending replies are sent, and the writer may fail then.
 abbrev pub ScriptNoted : {R W : Type 0} → (R → Option (List ℕ)) → (before after : Watched R) → (old new : Watched W) → Result Outcome Fault → Type 0
 ScriptNoted left before after old new (Err Read) = FailsToRead left 0 before after × MayFail old new
 ScriptNoted left before after old new (Err Write) = IsCalm before after × (failed new ≡ true)

@@ -1,4 +1,4 @@
--- What one run of the program does, by what its words ask for.
+-- One run of the program, by what its words ask for.
 use Rattle.std.specs.Prelude.{◌≡◌, ◌⊎◌, ◌==◌, ℕ, ℤ, List, Option, Some, None, Result, Ok, Err, ⊤, if◌then◌else◌}
 use Rattle.std.specs.Io.KnownBytes.{Keeps}
 use Rattle.dmc_types.specs.declared.config.TagKind.{TagKind}
@@ -70,14 +70,14 @@ RunsCommand Check tags before after old new end = (ended : Result Verdict Script
 RunsCommand Sim tags before after old new end = RunsSim before after old new end
 RunsCommand Run tags before after old new end = RunsRun before after old new end
 
--- Words that ask for no tool: nothing is read, nothing is written, and the fault is Usage, or Memory, which reading the words
--- takes. Words that ask for one: what its command does.
+-- Words that ask for no tool: nothing is read, nothing is written, and the fault is Usage, or Memory, which reading the words may
+-- need. Words that ask for one: what its command does.
 abbrev pub RunsWords : Option Tool → (before after old new : Option (List ℕ)) → Result Outcome Fault → Type 0
 RunsWords None before after old new end = Keeps before after × Keeps old new × ((end ≡ Err Usage) ⊎ (end ≡ Err Memory))
 RunsWords (Some tool) before after old new end = RunsCommand tool.command tool.tags before after old new end
 
--- What a run does, by its exit status: what it reads and writes, whether its streams fail, and what it writes of its fault.
--- The first arguments say which bytes the reader has left, and which the writer and the fault writer have taken.
+-- A run, by its exit status: what it reads and writes, whether its streams fail, and what it writes of its fault. The first
+-- arguments say which bytes the reader has left, and which the writer and the fault writer have taken.
 pub record RunsTool {R W E : Type 0} (left : R → Option (List ℕ)) (held : W → Option (List ℕ)) (told : E → Option (List ℕ)) (tool : Option Tool)
     (before after : Watched R) (old new : Watched W) (quiet loud : Watched E) (status : ℕ) : Type 0 where
   pub end : Result Outcome Fault

@@ -2,8 +2,8 @@
 use Rattle.std.specs.Prelude.{◌≡◌, ◌⊎◌, ℕ, ⊤, List, Option, Result, Ok, Err}
 use Rattle.std.specs.Io.KnownBytes.{Keeps}
 use Rattle.dmc_scene.specs.SceneValue.{SceneValue}
-use Rattle.dmc_run.specs.Runs.{RunsScene}
-use Rattle.dmc_run.specs.declared.run.RunSceneFault.{RunSceneFault}
+use Rattle.dmc_tool.specs.RunReports.{RunsScene}
+use Rattle.dmc_tool.specs.declared.run_scene.RunSceneFault.{RunSceneFault}
 use Rattle.dmc_tool.specs.declared.fault.Fault.{Fault}
 use Rattle.dmc_tool.specs.declared.outcome.Outcome.{Outcome}
 use Rattle.dmc_tool.specs.declared.outcome.Outcome.TheVariants.{Done}

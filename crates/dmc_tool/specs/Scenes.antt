@@ -1,4 +1,4 @@
--- What reading a scene takes from the reader, and what comes of it.
+-- What reading a scene takes from the reader, and its result.
 use Rattle.std.specs.Prelude.{◌≡◌, ◌+◌, ◌<◌, ℕ, List, length, Option, Result, Ok, Err}
 use Rattle.std.specs.Io.KnownBytes.{IsAtEnd}
 use Rattle.dmc_types.specs.Limits.{most_scene_bytes}
@@ -14,7 +14,7 @@ use Rattle.dmc_tool.specs.declared.fault.Fault.TheVariants.{Read, Memory, SceneT
 abbrev pub most_bytes : ℕ
 most_bytes = most_scene_bytes + 1
 
--- All of a text is read, or as much as tells that it is too long, and this is the scene that it is, or why it is none.
+-- All of a text is read, or enough to show that it is too long, and this is its scene, or the reason why it is none.
 abbrev pub ReadsAs : (before after : Option (List ℕ)) → Result SceneValue SceneFault → Type 0
 ReadsAs before after result = (text : List ℕ) × ReadsWithin most_bytes before after text × (length text < most_bytes → IsAtEnd after) × (scene_in text ≡ result)
 
@@ -22,7 +22,7 @@ ReadsAs before after result = (text : List ℕ) × ReadsWithin most_bytes before
 abbrev pub ReadsSome : (before after : Option (List ℕ)) → Type 0
 ReadsSome before after = (text : List ℕ) × ReadsWithin most_bytes before after text
 
--- a scene, or a fault of the text; else the reader failed or there was no memory
+-- a scene, or a fault of the text; otherwise the reader failed or an allocation did
 abbrev pub ReadsScene : (before after : Option (List ℕ)) → Result SceneValue Fault → Type 0
 ReadsScene before after (Ok s) = ReadsAs before after (Ok s)
 ReadsScene before after (Err SceneText) = ReadsAs before after (Err scene.Text)

@@ -14,7 +14,7 @@ use Rattle.dmc_tool.specs.declared.outcome.Outcome.{Outcome}
 use Rattle.dmc_tool.specs.declared.outcome.Outcome.TheVariants.{Done}
 use Rattle.dmc_tool.specs.Scenes.{ReadsScene}
 
--- how a simulation ends whose report is written
+-- the end of a simulation whose report is written
 abbrev pub end_of_sim : SimReport → Result Outcome Fault
 end_of_sim report = if report.turns_out then Err TurnsOut else Ok Done
 
@@ -26,12 +26,12 @@ Reports before after P = (scene : SceneValue) × (report : SimReport) × ReadsSc
 abbrev pub TellsAll : (before after old new : Option (List ℕ)) → Result Outcome Fault → Type 0
 TellsAll before after old new end = Reports before after (λ report. Appends old new (report_text report) × (end ≡ end_of_sim report))
 
--- a scene is read whose simulation a queue's refusal ends
+-- a scene is read, and a queue's refusal ends its simulation
 abbrev pub IsRefused : (before after : Option (List ℕ)) → Type 0
 IsRefused before after = (scene : SceneValue) × (refusal : Refusal) × ReadsScene before after (Ok scene) × Simulates scene (Err (Refused refusal))
 
 -- By how a simulation ends: the report of the scene that is read is written, all of it, or a first part where the writer fails;
--- else nothing is written.
+-- otherwise nothing is.
 abbrev pub RunsSim : (before after old new : Option (List ℕ)) → Result Outcome Fault → Type 0
 RunsSim before after old new (Ok outcome) = TellsAll before after old new (Ok outcome)
 RunsSim before after old new (Err TurnsOut) = TellsAll before after old new (Err TurnsOut)

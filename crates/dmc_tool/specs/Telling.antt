@@ -33,23 +33,23 @@ abbrev pub number_text : Option ℕ → List ℕ
 number_text None = []
 number_text (Some n) = decimal n
 
--- the line that the parts of a text make, with its LF
+-- the line of the parts of a text, with its LF
 abbrev pub line_of : FaultText → List ℕ
 line_of text = text.head.now ++ (number_text text.number ++ (text.tail.now ++ 10 ∷ []))
 
 -- ---- writing
 
--- All of these bytes are written, or the writer fails and a first part of them is. The first argument says which bytes a
--- writer has taken.
+-- All of these bytes are written, or the writer fails after a first part of them. The first argument says which bytes a writer
+-- has taken.
 abbrev pub Sends : {W : Type 0} → (W → Option (List ℕ)) → List ℕ → (old new : Watched W) → Bool → Type 0
 Sends held bytes old new true = Appends (held (stream_of old)) (held (stream_of new)) bytes × IsCalm old new
 Sends held bytes old new false = AppendsSome (held (stream_of old)) (held (stream_of new)) bytes × (failed new ≡ true)
 
--- a fault's text is written as one line, as far as the writer does not fail
+-- a fault's text is written as one line, up to where the writer fails
 abbrev pub Tells : {W : Type 0} → (W → Option (List ℕ)) → Fault → (old new : Watched W) → Type 0
 Tells held fault old new = (is_sent : Bool) × Sends held (with_line_end (fault_text fault)) old new is_sent
 
--- a run without a fault leaves the fault writer alone
+-- a run without a fault does not use the fault writer
 abbrev pub TellsEnd : {W : Type 0} → (W → Option (List ℕ)) → Result Outcome Fault → (old new : Watched W) → Type 0
 TellsEnd held (Ok outcome) old new = new ≡ old
 TellsEnd held (Err fault) old new = Tells held fault old new

@@ -26,13 +26,13 @@ kind_named word =
     if bytes_eq word (codes "tick") then Some Tick
     else (if bytes_eq word (codes "ratio") then Some Ratio else None)
 
--- ---- what clap is told
+-- ---- what clap gets
 
 -- a command with the option `--tags`
 abbrev pub tagged_app : Text → App
 tagged_app name = with_rule (new_app name) (record (new_rule (codes "tags")) { long = Some (codes "tags") })
 
--- the words come without the program's name, a command has to be named, and there is no help
+-- the words do not begin with the program's name, a command has to be named, and there is no help
 abbrev pub bare : App → App
 bare app = record app {
   top = record app.top {
@@ -53,7 +53,7 @@ program_app =
     (new_app (name_of Sim)).top)
     (new_app (name_of Run)).top
 
--- ---- what clap answers
+-- ---- what clap returns
 
 abbrev pub if_no_fault : {X : Type 0} → Kinds → Option X → Option X
 if_no_fault [] x = x
@@ -77,7 +77,7 @@ tool_in written = option_and_then (λ m.
 abbrev pub tool_of_words : List ToolCommand → List Text → Option Tool
 tool_of_words written words = tool_in written (match_of words)
 
--- the fault that stands for an error of clap
+-- the fault for an error of clap
 abbrev pub fault_at : ErrorKind → WordsFault
 fault_at kind.OutOfMemory = Memory
 fault_at _ = Usage

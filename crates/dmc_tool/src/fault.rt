@@ -9,10 +9,10 @@ use crate::words::WordsFault;
 use dmc_scene::key::Key;
 use dmc_text::cause::LineCause;
 
-/// Why the program does not end with status 0. Its text goes to standard error as one line.
+/// The reason why the program does not end with status 0. Its text goes to standard error as one line.
 #[derive(Clone, Copy, Debug, PartialEq, Eq)]
 pub enum Fault {
-    /// The words are none that the usage names.
+    /// The usage does not have these words.
     Usage,
     /// A line of a script or of events is refused; lines count from 1.
     Line { number: u64, cause: LineCause },
@@ -20,21 +20,21 @@ pub enum Fault {
     Read,
     /// Standard output can't be written.
     Write,
-    /// The allocator refused a growth.
+    /// An allocation failed.
     Memory,
     /// Standard input is no scene: it has too many bytes, or is no TOML.
     SceneText,
     /// A scene lacks the key.
     SceneMissing(Key),
-    /// The key of a scene holds a value of another kind.
+    /// The value of a scene's key is of another kind.
     SceneKind(Key),
-    /// The key of a scene holds a value past its limits.
+    /// The value of a scene's key is out of its limits.
     SceneValue(Key),
-    /// After `run`, what it set up and what came back are of different set-ups.
+    /// After `run`, what it set up and what came back are parts of different set-ups.
     Torn,
     /// A simulated queue refused an arrival or a pull: a sum is no value of the tag type.
     Range,
-    /// The turns ended before all requests were completed.
+    /// The round limit was reached before all requests were completed.
     TurnsOut,
     /// A worker stopped before all requests were completed.
     Stopped,
@@ -119,7 +119,7 @@ fn of_key(head: &'static str, key: Key) -> FaultText
     }
 }
 
-/// The word that names the cause of a line, behind a space.
+/// The word for the cause of a line, after a space.
 fn cause_text(cause: LineCause) -> &'static str
     ensures { result.now ≡ codes " " ++ cause_word cause }
 {

@@ -1,10 +1,10 @@
-//! How the program ends without a fault.
+//! The ways in which the program ends without a fault.
 ghost use Rattle.std.specs.Prelude.{◌≡◌};
 ghost use Rattle.dmc_tool.specs.Outcomes.{outcome_of, status_of};
 
 use dmc_check::check::Verdict;
 
-/// How a tool ends without a fault.
+/// The way in which a tool ends without a fault.
 #[derive(Clone, Copy, Debug, PartialEq, Eq)]
 pub enum Outcome {
     /// All is done.

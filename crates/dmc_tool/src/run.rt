@@ -7,8 +7,8 @@ ghost use Rattle.dmc_tool.specs.SceneRuns.{RunsRun};
 
 use crate::fault::Fault;
 use crate::outcome::Outcome;
+use crate::run_scene::{RunSceneFault, run_scene};
 use crate::scenes::scene_of;
-use dmc_run::run::{RunSceneFault, run_scene};
 use dmc_text::watched::Watched;
 use std::alloc::Global;
 use std::io::{Read, Write};
@@ -29,7 +29,7 @@ impl From<RunSceneFault> for Fault {
     }
 }
 
-/// Runs the scene that is read in threads, and writes the report. That it was not done is told after the report.
+/// Runs the scene that is read in threads, and writes the report. Where the run was not done, that is reported after the report.
 pub fn run_on<X: Threads + Wait + Sync, R: Read, W: Write>(
     rt: &X,
     alloc: Global,

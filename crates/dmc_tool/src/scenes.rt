@@ -13,7 +13,7 @@ use dmc_text::watched::Watched;
 use std::alloc::{AllocError, Global};
 use std::io::Read;
 
-/// The most bytes that are read: one more than a scene may have, which tells that it has too many.
+/// The greatest number of bytes that are read: one more than a scene may have, which shows that it has too many.
 const MOST_BYTES: usize = (1 << 20) + 1;
 
 impl From<AllocError> for Fault {

@@ -26,7 +26,7 @@ impl From<SimFault> for Fault {
     }
 }
 
-/// Simulates the scene that is read, and writes the report. That the turns are out is told after the report.
+/// Simulates the scene that is read, and writes the report. Where the round limit was reached, that is reported after the report.
 pub fn simulate_on<R: Read, W: Write>(
     alloc: Global,
     reader: &mut Watched<R>,
@@ -44,7 +44,7 @@ pub fn simulate_on<R: Read, W: Write>(
     end_of(&report)
 }
 
-/// How a simulation ends, once its report is written.
+/// The end of a simulation, once its report is written.
 fn end_of(report: &SimReport) -> Result<Outcome, Fault>
     ensures { result ≡ end_of_sim report.now }
 {

@@ -1,4 +1,4 @@
-//! The line of a fault is written. Nothing is allocated, since a failed allocation may be the fault.
+//! Writing the line of a fault. Nothing is allocated, since a failed allocation may be the fault.
 ghost use Rattle.std.specs.Prelude.{◌≡◌, ◌∷◌, ◌++◌, []};
 ghost use Rattle.dmc_tool.specs.Faults.{status_of};
 ghost use Rattle.dmc_tool.specs.Telling.{number_text, line_of, Sends, Tells};
@@ -19,7 +19,7 @@ pub fn tell<W: Write>(fault: Fault, fault_writer: &mut Watched<W>) -> u8
     fault.status()
 }
 
-/// Sends the line that the parts of a text make; false where the writer fails.
+/// Sends the line of the parts of a text. Returns false where the writer fails.
 fn send_text<W: Write>(text: &FaultText, writer: &mut Watched<W>) -> bool
     ensures { Sends W.contents (line_of text.now) writer.old writer.new result }
 {

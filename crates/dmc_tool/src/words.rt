@@ -15,9 +15,9 @@ use std::convert::AsStr;
 /// A command of the program.
 #[derive(Clone, Copy, Debug, PartialEq, Eq)]
 pub enum ToolCommand {
-    /// Runs the commands of a script on a queue and tells its replies.
+    /// Runs the commands of a script on a queue and writes its replies.
     Script,
-    /// Tells whether events replay.
+    /// Says whether events replay.
     Check,
     /// Simulates a scene.
     Sim,
@@ -37,16 +37,16 @@ pub const WRITTEN: [ToolCommand; 4] = [
 #[derive(Clone, Copy, Debug, PartialEq, Eq)]
 pub struct Tool {
     pub command: ToolCommand,
-    /// The tags to run on; `sim` and `run` take those of the scene and leave this at ticks.
+    /// The tags to run on. `sim` and `run` take those of the scene and leave this at ticks.
     pub tags: TagKind,
 }
 
-/// Why the words name no tool.
+/// The reason why the words name no tool.
 #[derive(Clone, Copy, Debug, PartialEq, Eq)]
 pub enum WordsFault {
-    /// The words are none that the usage names; a call for help is one of these.
+    /// The usage does not have these words. A call for help is one of these.
     Usage,
-    /// The allocator refused a growth.
+    /// An allocation failed.
     Memory,
 }
 
@@ -83,9 +83,9 @@ impl ToolCommand {
     }
 }
 
-/// The tool that the words ask for, as clap matches them; they are the arguments after the program's name. Without
-/// the option `--tags` the tags are ticks. `Usage`: they ask for none. `Memory`: an allocation failed, whatever they ask for;
-/// clap's contract lets it report that at any time, so no clause here says when.
+/// The tool that the words ask for, as clap matches them. They are the arguments after the program's name. Without the option
+/// `--tags` the tags are ticks. `Usage`: the words ask for none. `Memory`: an allocation failed, whatever the words ask for.
+/// Clap's contract lets it report that at any time, so no clause here says when.
 pub fn read_words<S: AsStr>(alloc: Global, words: &[S]) -> Result<Tool, WordsFault>
     ensures ok { IfOk result (λ tool. tool_of_words WRITTEN (map S.text words.now) ≡ Some tool) }
     ensures usage { result ≡ Err WordsFault.Usage → tool_of_words WRITTEN (map S.text words.now) ≡ None }
@@ -101,7 +101,7 @@ fn named_tool(matches: &ArgMatches<'_>) -> Result<Tool, WordsFault>
     tool_of(matches).ok_or(WordsFault::Usage)
 }
 
-// The command line, as clap is told of it.
+// The command line, as clap gets it.
 fn program<'a>(alloc: Global) -> Result<Command<'a>, AllocError>
     ensures { IfOk result (λ command. app_of command ≡ program_app) }
 {
@@ -111,7 +111,7 @@ fn program<'a>(alloc: Global) -> Result<Command<'a>, AllocError>
     with_untagged(alloc, command, ToolCommand::Run)
 }
 
-// A command line with no commands yet: one has to be named, and no help is given.
+// A command line with no commands yet. One has to be named, and there is no help.
 fn bare_program<'a>(alloc: Global) -> Command<'a>
     ensures { app_of result ≡ bare (new_app (codes "dmclock")) }
 {

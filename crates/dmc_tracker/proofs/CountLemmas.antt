@@ -7,7 +7,7 @@ use Rattle.dmc_types.specs.declared.config.Counting.TheVariants.{Others}
 use Rattle.dmc_types.specs.declared.config.PhaseType.{PhaseType}
 use Rattle.dmc_types.specs.declared.config.PhaseType.TheVariants.{Reservation, Priority}
 use Rattle.dmc_tracker.specs.declared.event.TrackerEvent.{TrackerEvent}
-use Rattle.dmc_tracker.specs.declared.event.TrackerEvent.TheVariants.{Stamp, Response}
+use Rattle.dmc_tracker.specs.declared.event.TrackerEvent.TheVariants.{Stamp, Skip, Response}
 use Rattle.dmc_tracker.specs.TrackerList.{plus, one_in, completed_by, counted_by, is_stamp_to, is_response_in, completions, completions_at, others, responses, stamps}
 use Rattle.dmc_tracker.proofs.ListLemmas.{same_params, plus-none, total-push, snoc}
 
@@ -30,6 +30,7 @@ completed_at-other q s Priority there = same_params _ _ (ap (λ b. 0 + cond b 1 
 -- an entry completes at s or elsewhere
 completed_by-parts : (s : ServerId) (e : TrackerEvent) → plus (completed_at s e) (counted_by Others s e) ≡ completed_by e
 completed_by-parts s (Stamp q params) = refl
+completed_by-parts s (Skip q) = refl
 completed_by-parts s (Response q Reservation) =
     elim (q.0 == s.0) as (λ b. plus (record { delta = cond b 1 0 + 0; rho = cond b 1 0 }) (cond b no_counts (one_in Reservation)) ≡ one_in Reservation) [
       | true ↦ refl
@@ -53,6 +54,9 @@ module _ (s : ServerId) (events : List TrackerEvent) where
   pub responses-stamp : (phase : PhaseType) (q : ServerId) (params : Params)
       → responses s phase (events ++ Stamp q params ∷ []) ≡ responses s phase events
   responses-stamp phase q params = omega (arith, responses-push phase (Stamp q params))
+
+  pub responses-skip : (phase : PhaseType) (q : ServerId) → responses s phase (events ++ Skip q ∷ []) ≡ responses s phase events
+  responses-skip phase q = omega (arith, responses-push phase (Skip q))
 
   pub responses-response_same : (phase : PhaseType) (q : ServerId) → (q.0 == s.0) ≡ true
       → responses s phase (events ++ Response q phase ∷ []) ≡ responses s phase events + 1
@@ -86,6 +90,9 @@ module _ (s : ServerId) (events : List TrackerEvent) where
 
   pub completions_at-stamp : (q : ServerId) (params : Params) → completions_at s (events ++ Stamp q params ∷ []) ≡ completions_at s events
   completions_at-stamp q params = completions_at-push (Stamp q params) ∙ plus-none (completions_at s events)
+
+  pub completions_at-skip : (q : ServerId) → completions_at s (events ++ Skip q ∷ []) ≡ completions_at s events
+  completions_at-skip q = completions_at-push (Skip q) ∙ plus-none (completions_at s events)
 
   pub completions_at-response_same : (q : ServerId) (phase : PhaseType) → (q.0 == s.0) ≡ true
       → completions_at s (events ++ Response q phase ∷ []) ≡ plus (completions_at s events) (one_in phase)

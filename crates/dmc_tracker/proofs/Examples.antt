@@ -1,13 +1,13 @@
 -- The definitions, computed on two lists of two servers: stamp 0, response 0 reservation, stamp 1, response 1 priority,
 -- stamp 0, in each form.
-use Rattle.std.proofs.Common.{◌≡◌, ℕ, List, [], ◌∷◌, refl, arith}
+use Rattle.std.proofs.Common.{◌≡◌, ℕ, ◌^◌, List, [], ◌∷◌, ◌++◌, refl, arith, inl, inr}
 use Rattle.dmc_types.specs.Values.{Params}
 use Rattle.dmc_types.specs.declared.ids.ServerId.{ServerId}
 use Rattle.dmc_types.specs.declared.config.Counting.TheVariants.{All, Others}
 use Rattle.dmc_types.specs.declared.config.PhaseType.TheVariants.{Reservation, Priority}
 use Rattle.dmc_tracker.specs.declared.event.TrackerEvent.{TrackerEvent}
-use Rattle.dmc_tracker.specs.declared.event.TrackerEvent.TheVariants.{Stamp, Response}
-use Rattle.dmc_tracker.specs.TrackerList.{completions, completions_at, others, responses, stamps, sent, pending, demanded, IsComplete, IsStampFull}
+use Rattle.dmc_tracker.specs.declared.event.TrackerEvent.TheVariants.{Stamp, Skip, Response}
+use Rattle.dmc_tracker.specs.TrackerList.{completions, completions_at, others, responses, stamps, skips, sent, skipped, pending, demanded, IsComplete, IsStampFull, IsTooMuch}
 
 abbrev counts : ℕ → ℕ → Params
 counts delta rho = record { delta = delta; rho = rho }
@@ -69,7 +69,53 @@ complete-all = refl
 
 -- in `Others` the next stamp to server 0 takes what is sent to it from 1 to 3
 stamp_full : IsStampFull Others 2 (server 0) in_others
-stamp_full = record { form = refl; past = omega arith }
+stamp_full = inr (omega arith)
 
 stamp_fits : IsStampFull Others 3 (server 0) in_others → ⊥
-stamp_fits h = let past = h.past in omega arith
+stamp_fits (inl wide) = omega arith
+stamp_fits (inr past) = omega arith
+
+-- a stamp carries up to 2^32-1, in each form
+wide_in_all : IsTooMuch All (2 ^ 62) 0 (2 ^ 32)
+wide_in_all = omega arith
+
+narrow_in_all : IsTooMuch All (2 ^ 62) 0 4294967295 → ⊥
+narrow_in_all wide = omega arith
+
+wide_in_others : IsTooMuch Others (2 ^ 62) 0 (2 ^ 32)
+wide_in_others = inl (omega arith)
+
+-- server 0 is skipped after these: what was pending there, (2, 1), is skipped, and the next stamp to it counts later responses
+abbrev skipped_in_all : List TrackerEvent
+skipped_in_all = in_all ++ (Skip (server 0) ∷ (Response (server 0) Priority ∷ []))
+
+skips-all : skips (server 0) skipped_in_all ≡ 1
+skips-all = refl
+
+skipped-all : skipped All (server 0) skipped_in_all ≡ counts 2 1
+skipped-all = refl
+
+skipped-elsewhere : skipped All (server 1) skipped_in_all ≡ counts 0 0
+skipped-elsewhere = refl
+
+sent-after_skip : sent (server 0) skipped_in_all ≡ counts 0 0
+sent-after_skip = refl
+
+pending-after_skip : pending All (server 0) skipped_in_all ≡ counts 1 0
+pending-after_skip = refl
+
+completions-after_skip : completions skipped_in_all ≡ counts 3 1
+completions-after_skip = refl
+
+-- in `Others` a skip has no share of its own, since it goes with no request
+abbrev skipped_in_others : List TrackerEvent
+skipped_in_others = in_others ++ (Skip (server 0) ∷ (Response (server 1) Priority ∷ []))
+
+skipped-others : skipped Others (server 0) skipped_in_others ≡ counts 1 0
+skipped-others = refl
+
+demanded-after_skip : demanded Others (server 0) skipped_in_others ≡ counts 2 1
+demanded-after_skip = refl
+
+stamps-after_skip : stamps (server 0) skipped_in_others ≡ 1
+stamps-after_skip = refl

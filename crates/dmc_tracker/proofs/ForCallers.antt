@@ -1,29 +1,33 @@
 -- What a caller's proof may cite: a tracker's list through one more entry, and what holds of a tracked list.
 
--- the empty list is tracked, and a list stays tracked by a stamp that carries what it demands and by a response
-pub use Rattle.dmc_tracker.proofs.LawLemmas.{IsTracked-nil, IsTracked-stamp, IsTracked-response, IsTracked-front}
--- a new tracker stands for the empty list; what a stamp carries; what a tracker stands for after a stamp and a response
-pub use Rattle.dmc_tracker.proofs.StandsLemmas.{Stands-new, next_params-stands, Stands-stamp, Stands-response}
+-- the empty list is tracked, and a list stays tracked by a stamp that carries what it demands, by a skip and by a response
+pub use Rattle.dmc_tracker.proofs.LawLemmas.{IsTracked-nil, IsTracked-stamp, IsTracked-skip, IsTracked-response, IsTracked-front}
+-- a new tracker stands for the empty list; what a stamp carries; what a tracker stands for after a stamp, a skip, a response
+pub use Rattle.dmc_tracker.proofs.StandsLemmas.{Stands-new, next_params-stands, Stands-stamp, Stands-skip, Stands-response}
 -- a server with the number of another is that one; a response leaves as many servers
 pub use Rattle.dmc_tracker.proofs.StandsLemmas.{same_server, length-servers_grown}
--- what was sent to a server and is pending there, in `All` and in `Others`
+-- what was sent to a server, what was skipped and what is pending there, in `All` and in `Others`
 pub use Rattle.dmc_tracker.proofs.LawLemmas.{sums-all, sums-others}
 -- in `All` what was sent, with what is demanded, is at most the completions; what was sent between two stamps
 pub use Rattle.dmc_tracker.proofs.LawLemmas.{next-all, sent-between}
+-- what is pending is at most the completions
+pub use Rattle.dmc_tracker.proofs.LawLemmas.{pending-le}
 -- the completions at a server and those at the other servers are all completions
 pub use Rattle.dmc_tracker.proofs.CountLemmas.{completions-by_server}
--- one more entry: what was sent to a server, by a stamp to it, by a stamp to another, by a response
-pub use Rattle.dmc_tracker.proofs.ListLemmas.{sent-stamp_same, sent-stamp_other, sent-response}
+-- one more entry: what was sent to a server, by a stamp to it, by a stamp to another, by a skip, by a response
+pub use Rattle.dmc_tracker.proofs.ListLemmas.{sent-stamp_same, sent-stamp_other, sent-skip, sent-response}
 -- the stamps to a server
-pub use Rattle.dmc_tracker.proofs.ListLemmas.{stamps-stamp_same, stamps-stamp_other, stamps-response}
+pub use Rattle.dmc_tracker.proofs.ListLemmas.{stamps-stamp_same, stamps-stamp_other, stamps-skip, stamps-response}
+-- the skips of a server, and what they skip
+pub use Rattle.dmc_tracker.proofs.ListLemmas.{skips-stamp, skips-response, skipped-none}
 -- the completions
-pub use Rattle.dmc_tracker.proofs.ListLemmas.{completions-stamp, completions-response}
+pub use Rattle.dmc_tracker.proofs.ListLemmas.{completions-stamp, completions-skip, completions-response}
 -- what is pending at a server
-pub use Rattle.dmc_tracker.proofs.ListLemmas.{pending-stamp_same, pending-stamp_other, pending-response}
--- the responses of a server in a phase, by its own response there, by another server's, by one in the other phase, by a stamp
+pub use Rattle.dmc_tracker.proofs.ListLemmas.{pending-stamp_same, pending-stamp_other, pending-skip_same, pending-skip_other, pending-response}
+-- the responses of a server in a phase, by its own response there, by another server's, by one in the other phase, by a stamp, by a skip
 pub use Rattle.dmc_tracker.proofs.CountLemmas.{responses-response_same, responses-response_other}
-pub use Rattle.dmc_tracker.proofs.CountLemmas.{responses-reservation-priority, responses-priority-reservation, responses-stamp}
+pub use Rattle.dmc_tracker.proofs.CountLemmas.{responses-reservation-priority, responses-priority-reservation, responses-stamp, responses-skip}
 -- the completions at a server
-pub use Rattle.dmc_tracker.proofs.CountLemmas.{completions_at-response_same, completions_at-response_other, completions_at-stamp}
+pub use Rattle.dmc_tracker.proofs.CountLemmas.{completions_at-response_same, completions_at-response_other, completions_at-stamp, completions_at-skip}
 -- no list has more stamps or responses than entries
 pub use Rattle.dmc_tracker.proofs.CountLemmas.{stamps-le-length, responses-le-length}

@@ -9,10 +9,10 @@ use Rattle.dmc_types.specs.declared.config.Counting.{Counting}
 use Rattle.dmc_types.specs.declared.config.Counting.TheVariants.{All, Others}
 use Rattle.dmc_types.specs.declared.config.PhaseType.{PhaseType}
 use Rattle.dmc_tracker.specs.declared.event.TrackerEvent.{TrackerEvent}
-use Rattle.dmc_tracker.specs.declared.event.TrackerEvent.TheVariants.{Stamp, Response}
-use Rattle.dmc_tracker.specs.TrackerList.{plus, total, one_in, completed_by, counted_by, sent_by, is_stamp_to, own_share, completions, others, stamps, sent, pending, demanded, IsTracked}
+use Rattle.dmc_tracker.specs.declared.event.TrackerEvent.TheVariants.{Stamp, Skip, Response}
+use Rattle.dmc_tracker.specs.TrackerList.{plus, total, one_in, completed_by, counted_by, sent_by, is_stamp_to, own_share, completions, others, stamps, sent, skipped, skipped_after, pending, demanded, IsTracked}
 use Rattle.dmc_tracker.proofs.StandsLemmas.{same_server}
-use Rattle.dmc_tracker.proofs.ListLemmas.{same_params, plus-none, none-plus, total-push, snoc, completions-stamp, sent-response, sent-stamp_same, sent-stamp_other, pending-response, pending-stamp_same, pending-stamp_other}
+use Rattle.dmc_tracker.proofs.ListLemmas.{same_params, plus-none, none-plus, total-push, snoc, completions-stamp, completions-skip, completions-response, sent-response, sent-stamp_same, sent-stamp_other, sent-skip, pending-response, pending-stamp_same, pending-stamp_other, pending-skip_same, pending-skip_other, skipped-append, skipped-stamp, skipped-response, skipped-skip_same, skipped-skip_other}
 
 -- the front of a tracked list is tracked
 pub IsTracked-front : (counting : Counting) (events more : List TrackerEvent) → IsTracked counting (events ++ more) → IsTracked counting events
@@ -22,33 +22,43 @@ IsTracked-front counting events more h = λ before after s params e.
 -- what the stamps to s count for their own requests
 abbrev own_by : Counting → ServerId → TrackerEvent → Params
 own_by counting s (Stamp server params) = cond (server.0 == s.0) (own_share counting) no_counts
+own_by counting s (Skip server) = no_counts
 own_by counting s (Response server phase) = no_counts
 
--- what was sent to s and is pending there is what was counted for s, and the own shares
+-- what was sent to s, what was skipped and what is pending there is what was counted for s, and the own shares
 abbrev IsSum : Counting → ServerId → List TrackerEvent → Type 0
 IsSum counting s events =
-    plus (sent s events) (pending counting s events) ≡ plus (total (own_by counting s) events) (total (counted_by counting s) events)
+    plus (plus (sent s events) (skipped counting s events)) (pending counting s events)
+    ≡ plus (total (own_by counting s) events) (total (counted_by counting s) events)
 
--- one entry more: a part k becomes pending, or a stamp sends all that is pending and its own share
-grows : (S P O C k S' P' O' C' : Params) → S' ≡ S → P' ≡ plus P k → O' ≡ plus O no_counts → C' ≡ plus C k
-    → plus S P ≡ plus O C → plus S' P' ≡ plus O' C'
-grows S P O C k S' P' O' C' s p o c h =
+-- one entry more: a part k becomes pending, or a stamp sends all that is pending and its own share, or a skip skips all
+-- that is pending
+grows : (S K P O C k S' K' P' O' C' : Params) → S' ≡ S → K' ≡ K → P' ≡ plus P k → O' ≡ plus O no_counts → C' ≡ plus C k
+    → plus (plus S K) P ≡ plus O C → plus (plus S' K') P' ≡ plus O' C'
+grows S K P O C k S' K' P' O' C' s l p o c h =
     let d = ap (λ (x : Params). x.delta) h in
     let r = ap (λ (x : Params). x.rho) h in
-    rw (s, p, o, c) (same_params _ _ (omega (arith, d)) (omega (arith, r)))
+    rw (s, l, p, o, c) (same_params _ _ (omega (arith, d)) (omega (arith, r)))
 
-sends : (S P O C k share S' P' O' C' : Params) → k ≡ plus P share → S' ≡ plus S k → P' ≡ no_counts → O' ≡ plus O share
-    → C' ≡ plus C no_counts → plus S P ≡ plus O C → plus S' P' ≡ plus O' C'
-sends S P O C k share S' P' O' C' e s p o c h =
+sends : (S K P O C k share S' K' P' O' C' : Params) → k ≡ plus P share → S' ≡ plus S k → K' ≡ K → P' ≡ no_counts → O' ≡ plus O share
+    → C' ≡ plus C no_counts → plus (plus S K) P ≡ plus O C → plus (plus S' K') P' ≡ plus O' C'
+sends S K P O C k share S' K' P' O' C' e s l p o c h =
     let d = ap (λ (x : Params). x.delta) h in
     let r = ap (λ (x : Params). x.rho) h in
-    rw (s, p, o, c, e) (same_params _ _ (omega (arith, d)) (omega (arith, r)))
+    rw (s, l, p, o, c, e) (same_params _ _ (omega (arith, d)) (omega (arith, r)))
+
+passes : (S K P O C S' K' P' O' C' : Params) → S' ≡ S → K' ≡ plus K P → P' ≡ no_counts → O' ≡ plus O no_counts → C' ≡ plus C no_counts
+    → plus (plus S K) P ≡ plus O C → plus (plus S' K') P' ≡ plus O' C'
+passes S K P O C S' K' P' O' C' s l p o c h =
+    let d = ap (λ (x : Params). x.delta) h in
+    let r = ap (λ (x : Params). x.rho) h in
+    rw (s, l, p, o, c) (same_params _ _ (omega (arith, d)) (omega (arith, r)))
 
 sums-push : (counting : Counting) (s : ServerId) (events : List TrackerEvent) (e : TrackerEvent)
     → (IsTracked counting events → IsSum counting s events) → IsTracked counting (events ++ e ∷ []) → IsSum counting s (events ++ e ∷ [])
 sums-push counting s events (Response q phase) h tracked =
-    grows _ _ _ _ (counted_by counting s (Response q phase)) _ _ _ _
-    (sent-response s events q phase) (pending-response counting s events q phase)
+    grows _ _ _ _ _ (counted_by counting s (Response q phase)) _ _ _ _ _
+    (sent-response s events q phase) (skipped-response counting s events q phase) (pending-response counting s events q phase)
     (total-push (own_by counting s) events (Response q phase))
     (total-push (counted_by counting s) events (Response q phase))
     (h (IsTracked-front counting events (Response q phase ∷ []) tracked))
@@ -58,17 +68,33 @@ sums-push counting s events (Stamp q params) h tracked =
     let counted = total-push (counted_by counting s) events (Stamp q params) in
     elim (eqb_tells q.0 s.0) [
       | inl here ↦
-          sends _ _ _ _ params (own_share counting) _ _ _ _
+          sends _ _ _ _ _ params (own_share counting) _ _ _ _ _
           (tracked events [] q params refl ∙ ap (λ x. demanded counting x events) (same_server q s here.1))
-          (sent-stamp_same s events q params here.0) (pending-stamp_same counting s events q params here.0)
+          (sent-stamp_same s events q params here.0) (skipped-stamp counting s events q params)
+          (pending-stamp_same counting s events q params here.0)
           (own ∙ ap (λ b. plus (total (own_by counting s) events) (cond b (own_share counting) no_counts)) here.0)
           counted before
       | inr there ↦
-          grows _ _ _ _ no_counts _ _ _ _
-          (sent-stamp_other s events q params there.0)
+          grows _ _ _ _ _ no_counts _ _ _ _ _
+          (sent-stamp_other s events q params there.0) (skipped-stamp counting s events q params)
           (pending-stamp_other counting s events q params there.0 ∙ sym (plus-none _))
           (own ∙ ap (λ b. plus (total (own_by counting s) events) (cond b (own_share counting) no_counts)) there.0)
           counted before
+    ]
+sums-push counting s events (Skip q) h tracked =
+    let before = h (IsTracked-front counting events (Skip q ∷ []) tracked) in
+    let own = total-push (own_by counting s) events (Skip q) in
+    let counted = total-push (counted_by counting s) events (Skip q) in
+    elim (eqb_tells q.0 s.0) [
+      | inl here ↦
+          passes _ _ _ _ _ _ _ _ _ _
+          (sent-skip s events q) (skipped-skip_same counting s events q here.0) (pending-skip_same counting s events q here.0)
+          own counted before
+      | inr there ↦
+          grows _ _ _ _ _ no_counts _ _ _ _ _
+          (sent-skip s events q) (skipped-skip_other counting s events q there.0)
+          (pending-skip_other counting s events q there.0 ∙ sym (plus-none _))
+          own counted before
     ]
 
 sums : (counting : Counting) (s : ServerId) (events : List TrackerEvent) → IsTracked counting events → IsSum counting s events
@@ -81,6 +107,7 @@ own-all s events = snoc (λ es. total (own_by All s) es ≡ no_counts) refl (ste
   where
     step : (es : List TrackerEvent) (e : TrackerEvent) → total (own_by All s) es ≡ no_counts → total (own_by All s) (es ++ e ∷ []) ≡ no_counts
     step es (Response q phase) h = total-push (own_by All s) es (Response q phase) ∙ ap (λ x. plus x no_counts) h
+    step es (Skip q) h = total-push (own_by All s) es (Skip q) ∙ ap (λ x. plus x no_counts) h
     step es (Stamp q params) h =
         total-push (own_by All s) es (Stamp q params)
         ∙ elim (q.0 == s.0) as (λ b. plus (total (own_by All s) es) (cond b no_counts no_counts) ≡ no_counts) [
@@ -99,6 +126,9 @@ counted-all s events = snoc (λ es. total (counted_by All s) es ≡ completions 
     step es (Stamp q params) h =
         total-push (counted_by All s) es (Stamp q params) ∙ ap (λ x. plus x no_counts) h
         ∙ sym (total-push completed_by es (Stamp q params))
+    step es (Skip q) h =
+        total-push (counted_by All s) es (Skip q) ∙ ap (λ x. plus x no_counts) h
+        ∙ sym (total-push completed_by es (Skip q))
 
 abbrev pair : ℕ → Params
 pair n = record { delta = n; rho = n }
@@ -113,6 +143,9 @@ own-others s events =
     step es (Response q phase) h =
         total-push (own_by Others s) es (Response q phase) ∙ ap (λ x. plus x no_counts) h
         ∙ ap pair (sym (sum_by_push (λ x. cond (is_stamp_to s x) 1 0) es (Response q phase)))
+    step es (Skip q) h =
+        total-push (own_by Others s) es (Skip q) ∙ ap (λ x. plus x no_counts) h
+        ∙ ap pair (sym (sum_by_push (λ x. cond (is_stamp_to s x) 1 0) es (Skip q)))
     step es (Stamp q params) h =
         total-push (own_by Others s) es (Stamp q params)
         ∙ (elim (q.0 == s.0) as (λ b. plus (total (own_by Others s) es) (cond b (own_share Others) no_counts) ≡ pair (stamps s es + cond b 1 0)) [
@@ -121,16 +154,17 @@ own-others s events =
         ])
         ∙ ap pair (sym (sum_by_push (λ x. cond (is_stamp_to s x) 1 0) es (Stamp q params)))
 
--- what was sent to s and is pending there are the completions
+-- what was sent to s, what was skipped and what is pending there are the completions
 pub sums-all : (s : ServerId) (events : List TrackerEvent) → IsTracked All events
-    → plus (sent s events) (pending All s events) ≡ completions events
+    → plus (plus (sent s events) (skipped All s events)) (pending All s events) ≡ completions events
 sums-all s events h =
     sums All s events h ∙ ap (λ x. plus x (total (counted_by All s) events)) (own-all s events)
     ∙ none-plus (total (counted_by All s) events) ∙ counted-all s events
 
 -- in `Others` they are the stamps to s and the completions at the other servers
 pub sums-others : (s : ServerId) (events : List TrackerEvent) → IsTracked Others events
-    → plus (sent s events) (pending Others s events) ≡ plus (record { delta = stamps s events; rho = stamps s events }) (others s events)
+    → plus (plus (sent s events) (skipped Others s events)) (pending Others s events)
+    ≡ plus (record { delta = stamps s events; rho = stamps s events }) (others s events)
 sums-others s events h = sums Others s events h ∙ ap (λ x. plus x (others s events)) (own-others s events)
 
 -- the empty list is tracked
@@ -175,31 +209,83 @@ IsTracked-response counting events s phase h = λ before after q params e.
       | inr w ↦ absurd (let differ = w.1 in cc)
     ]
 
+pub IsTracked-skip : (counting : Counting) (events : List TrackerEvent) (s : ServerId) → IsTracked counting events
+    → IsTracked counting (events ++ Skip s ∷ [])
+IsTracked-skip counting events s h = λ before after q params e.
+    elim (parted events before after (Skip s) (Stamp q params) e) [
+      | inl w ↦ h before w.0 q params w.1
+      | inr w ↦ absurd (let differ = w.1 in cc)
+    ]
+
 total-append : (f : TrackerEvent → Params) (xs ys : List TrackerEvent) → total f (xs ++ ys) ≡ plus (total f xs) (total f ys)
 total-append f xs ys =
     same_params _ _ (sum_by-append (λ x. (f x).delta) xs ys) (sum_by-append (λ x. (f x).rho) xs ys)
 
--- up to a stamp to s, all completions were sent to s
+-- up to a stamp to s, all completions were sent to s or skipped there
 sent-all : (s : ServerId) (params : Params) (events : List TrackerEvent) → IsTracked All (events ++ Stamp s params ∷ [])
-    → sent s (events ++ Stamp s params ∷ []) ≡ completions events
+    → plus (sent s (events ++ Stamp s params ∷ [])) (skipped All s (events ++ Stamp s params ∷ [])) ≡ completions events
 sent-all s params events h =
+    let whole = events ++ Stamp s params ∷ [] in
     let none = pending-stamp_same All s events s params (eq-eqb s.0 s.0 refl) in
-    sym (ap (λ x. plus (sent s (events ++ Stamp s params ∷ [])) x) none ∙ plus-none _)
-    ∙ sums-all s (events ++ Stamp s params ∷ []) h
+    sym (ap (λ x. plus (plus (sent s whole) (skipped All s whole)) x) none ∙ plus-none _)
+    ∙ sums-all s whole h
     ∙ completions-stamp events s params
+
+-- two sums of which each has a part before and a part after
+pairs : (A B C D : Params) → plus (plus A C) (plus B D) ≡ plus (plus A B) (plus C D)
+pairs A B C D = same_params _ _ (omega arith) (omega arith)
 
 pub sent-between : (before between after : List TrackerEvent) (s : ServerId) (first last : Params)
     → IsTracked All (before ++ Stamp s first ∷ (between ++ Stamp s last ∷ after))
-    → plus (completions before) (sent s (between ++ Stamp s last ∷ [])) ≡ completions (before ++ Stamp s first ∷ between)
+    → plus (completions before) (plus (sent s (between ++ Stamp s last ∷ [])) (skipped_after All s (before ++ Stamp s first ∷ []) (between ++ Stamp s last ∷ [])))
+    ≡ completions (before ++ Stamp s first ∷ between)
 sent-between before between after s first last h =
     let whole = before ++ Stamp s first ∷ between in
-    let joined : (before ++ Stamp s first ∷ []) ++ (between ++ Stamp s last ∷ []) ≡ whole ++ Stamp s last ∷ [] = simp append_assoc in
-    let to_first = IsTracked-front All (before ++ Stamp s first ∷ []) (between ++ Stamp s last ∷ after) (rw append_assoc h) in
+    let front = before ++ Stamp s first ∷ [] in
+    let back = between ++ Stamp s last ∷ [] in
+    let joined : front ++ back ≡ whole ++ Stamp s last ∷ [] = simp append_assoc in
+    let to_first = IsTracked-front All front (between ++ Stamp s last ∷ after) (rw append_assoc h) in
     let to_last = IsTracked-front All (whole ++ Stamp s last ∷ []) after (rw (append_assoc, append_assoc) h) in
-    ap (λ x. plus x (sent s (between ++ Stamp s last ∷ []))) (sym (sent-all s first before to_first))
-    ∙ sym (total-append (sent_by s) (before ++ Stamp s first ∷ []) (between ++ Stamp s last ∷ []))
-    ∙ ap (sent s) joined
+    ap (λ x. plus x (plus (sent s back) (skipped_after All s front back))) (sym (sent-all s first before to_first))
+    ∙ pairs (sent s front) (sent s back) (skipped All s front) (skipped_after All s front back)
+    ∙ ap (λ x. plus x (plus (skipped All s front) (skipped_after All s front back))) (sym (total-append (sent_by s) front back))
+    ∙ ap (plus (sent s (front ++ back))) (sym (skipped-append All s [] front back))
+    ∙ ap (λ es. plus (sent s es) (skipped All s es)) joined
     ∙ sent-all s last whole to_last
+
+-- what is pending is at most the completions, in each form
+pub pending-le : (counting : Counting) (s : ServerId) (events : List TrackerEvent) → (pending counting s events).delta ≤ (completions events).delta
+pending-le counting s events = snoc (λ es. (pending counting s es).delta ≤ (completions es).delta) (omega arith) step [] events (omega arith)
+  where
+    part : (form : Counting) (q : ServerId) (phase : PhaseType) → (counted_by form s (Response q phase)).delta ≤ (one_in phase).delta
+    part All q phase = omega arith
+    part Others q phase = elim (q.0 == s.0) as (λ b. (cond b no_counts (one_in phase)).delta ≤ (one_in phase).delta) [
+      | true ↦ omega arith
+      | false ↦ omega arith
+    ]
+
+    step : (es : List TrackerEvent) (e : TrackerEvent) → (pending counting s es).delta ≤ (completions es).delta
+        → (pending counting s (es ++ e ∷ [])).delta ≤ (completions (es ++ e ∷ [])).delta
+    step es (Response q phase) h =
+        let grown = ap (λ (x : Params). x.delta) (pending-response counting s es q phase) in
+        let more = ap (λ (x : Params). x.delta) (completions-response es q phase) in
+        omega (arith, h, grown, more, part counting q phase)
+    step es (Stamp q params) h =
+        let same = ap (λ (x : Params). x.delta) (completions-stamp es q params) in
+        elim (eqb_tells q.0 s.0) [
+          | inl here ↦
+              (let none = ap (λ (x : Params). x.delta) (pending-stamp_same counting s es q params here.0) in omega (arith, none, same))
+          | inr there ↦
+              (let kept = ap (λ (x : Params). x.delta) (pending-stamp_other counting s es q params there.0) in omega (arith, h, kept, same))
+        ]
+    step es (Skip q) h =
+        let same = ap (λ (x : Params). x.delta) (completions-skip es q) in
+        elim (eqb_tells q.0 s.0) [
+          | inl here ↦
+              (let none = ap (λ (x : Params). x.delta) (pending-skip_same counting s es q here.0) in omega (arith, none, same))
+          | inr there ↦
+              (let kept = ap (λ (x : Params). x.delta) (pending-skip_other counting s es q there.0) in omega (arith, h, kept, same))
+        ]
 
 pub next-all : (events : List TrackerEvent) (s : ServerId) → IsTracked All events
     → (sent s events).delta + (demanded All s events).delta ≤ (completions events).delta

@@ -1,16 +1,16 @@
 -- What one more entry does to the counts of a tracker list.
-use Rattle.std.proofs.Common.{◌≡◌, ℕ, ◌+◌, ◌-◌, ◌≤◌, List, [], ◌∷◌, ◌++◌, length, drop, subst, sym, ap, ◌∙◌, arith, Bool, true, false, cond, not, ◌==◌, append_assoc}
+use Rattle.std.proofs.Common.{◌≡◌, ℕ, ◌+◌, ◌-◌, ◌≤◌, List, [], ◌∷◌, ◌++◌, length, drop, refl, subst, sym, ap, ◌∙◌, arith, Bool, true, false, cond, not, ◌==◌, append_assoc}
 use Rattle.std.specs.List.{after_last, suffix_len, prefix_len}
 use Rattle.std.proofs.lemmas.List.{length-append, append-nil, drop-append-le, reverse-append}
-use Rattle.std.proofs.lemmas.List.Sums.{sum_by_push, suffix_len-le-length}
+use Rattle.std.proofs.lemmas.List.Sums.{sum_by-cons, sum_by_push, suffix_len-le-length}
 use Rattle.std.proofs.Math.Seq.{drop-length}
 use Rattle.dmc_types.specs.Values.{Params, no_counts}
 use Rattle.dmc_types.specs.declared.ids.ServerId.{ServerId}
 use Rattle.dmc_types.specs.declared.config.Counting.{Counting}
 use Rattle.dmc_types.specs.declared.config.PhaseType.{PhaseType}
 use Rattle.dmc_tracker.specs.declared.event.TrackerEvent.{TrackerEvent}
-use Rattle.dmc_tracker.specs.declared.event.TrackerEvent.TheVariants.{Stamp, Response}
-use Rattle.dmc_tracker.specs.TrackerList.{plus, total, one_in, completed_by, counted_by, sent_by, is_stamp_to, completions, stamps, sent, pending}
+use Rattle.dmc_tracker.specs.declared.event.TrackerEvent.TheVariants.{Stamp, Skip, Response}
+use Rattle.dmc_tracker.specs.TrackerList.{plus, total, one_in, completed_by, counted_by, sent_by, is_stamp_to, is_skip_of, is_mark_of, completions, stamps, skips, sent, pending, skipped_by, skipped_after, skipped}
 
 pub same_params : (a b : Params) → a.delta ≡ b.delta → a.rho ≡ b.rho → a ≡ b
 same_params a b d r = ap (λ x. record { delta = x; rho = a.rho }) d ∙ ap (λ x. record { delta = b.delta; rho = x }) r
@@ -60,10 +60,16 @@ module _ (events : List TrackerEvent) where
   pub completions-stamp : (q : ServerId) (params : Params) → completions (events ++ Stamp q params ∷ []) ≡ completions events
   completions-stamp q params = total-push completed_by events (Stamp q params) ∙ plus-none (completions events)
 
+  pub completions-skip : (q : ServerId) → completions (events ++ Skip q ∷ []) ≡ completions events
+  completions-skip q = total-push completed_by events (Skip q) ∙ plus-none (completions events)
+
 module _ (s : ServerId) (events : List TrackerEvent) where
   -- what was sent
   pub sent-response : (q : ServerId) (phase : PhaseType) → sent s (events ++ Response q phase ∷ []) ≡ sent s events
   sent-response q phase = total-push (sent_by s) events (Response q phase) ∙ plus-none (sent s events)
+
+  pub sent-skip : (q : ServerId) → sent s (events ++ Skip q ∷ []) ≡ sent s events
+  sent-skip q = total-push (sent_by s) events (Skip q) ∙ plus-none (sent s events)
 
   pub sent-stamp_same : (q : ServerId) (params : Params) → (q.0 == s.0) ≡ true
       → sent s (events ++ Stamp q params ∷ []) ≡ plus (sent s events) params
@@ -83,6 +89,9 @@ module _ (s : ServerId) (events : List TrackerEvent) where
   pub stamps-response : (q : ServerId) (phase : PhaseType) → stamps s (events ++ Response q phase ∷ []) ≡ stamps s events
   stamps-response q phase = omega (arith, stamps-push (Response q phase))
 
+  pub stamps-skip : (q : ServerId) → stamps s (events ++ Skip q ∷ []) ≡ stamps s events
+  stamps-skip q = omega (arith, stamps-push (Skip q))
+
   pub stamps-stamp_same : (q : ServerId) (params : Params) → (q.0 == s.0) ≡ true
       → stamps s (events ++ Stamp q params ∷ []) ≡ stamps s events + 1
   stamps-stamp_same q params here =
@@ -93,24 +102,113 @@ module _ (s : ServerId) (events : List TrackerEvent) where
   stamps-stamp_other q params there =
       omega (arith, stamps-push (Stamp q params), ap {B = ℕ} (λ b. cond b 1 0) there)
 
+  -- how many skips there are: no other entry adds one
+  skips-push : (e : TrackerEvent) → skips s (events ++ e ∷ []) ≡ skips s events + cond (is_skip_of s e) 1 0
+  skips-push e = sum_by_push (λ x. cond (is_skip_of s x) 1 0) events e
+
+  pub skips-stamp : (q : ServerId) (params : Params) → skips s (events ++ Stamp q params ∷ []) ≡ skips s events
+  skips-stamp q params = omega (arith, skips-push (Stamp q params))
+
+  pub skips-response : (q : ServerId) (phase : PhaseType) → skips s (events ++ Response q phase ∷ []) ≡ skips s events
+  skips-response q phase = omega (arith, skips-push (Response q phase))
+
 module _ (counting : Counting) (s : ServerId) (events : List TrackerEvent) where
   -- what is pending
   pub pending-response : (q : ServerId) (phase : PhaseType)
       → pending counting s (events ++ Response q phase ∷ []) ≡ plus (pending counting s events) (counted_by counting s (Response q phase))
   pending-response q phase =
-      ap (total (counted_by counting s)) (after_last-push (is_stamp_to s) events (Response q phase))
-      ∙ total-push (counted_by counting s) (after_last (is_stamp_to s) events) (Response q phase)
+      ap (total (counted_by counting s)) (after_last-push (is_mark_of s) events (Response q phase))
+      ∙ total-push (counted_by counting s) (after_last (is_mark_of s) events) (Response q phase)
+
+  -- nothing, after a mark of s
+  pending-mark : (e : TrackerEvent) → is_mark_of s e ≡ true → pending counting s (events ++ e ∷ []) ≡ no_counts
+  pending-mark e here =
+      ap (total (counted_by counting s)) (after_last-push (is_mark_of s) events e
+      ∙ ap (λ b. cond b [] (after_last (is_mark_of s) events ++ e ∷ [])) here)
+
+  -- the same, after an entry that is no mark of s and counts nothing
+  pending-same : (e : TrackerEvent) → is_mark_of s e ≡ false → counted_by counting s e ≡ no_counts
+      → pending counting s (events ++ e ∷ []) ≡ pending counting s events
+  pending-same e there none =
+      ap (total (counted_by counting s)) (after_last-push (is_mark_of s) events e
+      ∙ ap (λ b. cond b [] (after_last (is_mark_of s) events ++ e ∷ [])) there)
+      ∙ total-push (counted_by counting s) (after_last (is_mark_of s) events) e
+      ∙ ap (plus (pending counting s events)) none
+      ∙ plus-none (pending counting s events)
 
   pub pending-stamp_same : (q : ServerId) (params : Params) → (q.0 == s.0) ≡ true
       → pending counting s (events ++ Stamp q params ∷ []) ≡ no_counts
-  pending-stamp_same q params here =
-      ap (total (counted_by counting s)) (after_last-push (is_stamp_to s) events (Stamp q params)
-      ∙ ap (λ b. cond b [] (after_last (is_stamp_to s) events ++ Stamp q params ∷ [])) here)
+  pending-stamp_same q params here = pending-mark (Stamp q params) here
 
   pub pending-stamp_other : (q : ServerId) (params : Params) → (q.0 == s.0) ≡ false
       → pending counting s (events ++ Stamp q params ∷ []) ≡ pending counting s events
-  pending-stamp_other q params there =
-      ap (total (counted_by counting s)) (after_last-push (is_stamp_to s) events (Stamp q params)
-      ∙ ap (λ b. cond b [] (after_last (is_stamp_to s) events ++ Stamp q params ∷ [])) there)
-      ∙ total-push (counted_by counting s) (after_last (is_stamp_to s) events) (Stamp q params)
-      ∙ plus-none (pending counting s events)
+  pending-stamp_other q params there = pending-same (Stamp q params) there refl
+
+  pub pending-skip_same : (q : ServerId) → (q.0 == s.0) ≡ true → pending counting s (events ++ Skip q ∷ []) ≡ no_counts
+  pending-skip_same q here = pending-mark (Skip q) here
+
+  pub pending-skip_other : (q : ServerId) → (q.0 == s.0) ≡ false
+      → pending counting s (events ++ Skip q ∷ []) ≡ pending counting s events
+  pending-skip_other q there = pending-same (Skip q) there refl
+
+plus-assoc : (a b c : Params) → plus (plus a b) c ≡ plus a (plus b c)
+plus-assoc a b c = same_params _ _ (omega arith) (omega arith)
+
+module _ (counting : Counting) (s : ServerId) where
+  -- what is skipped, by a list after another, and by one more entry
+  pub skipped-append : (before xs ys : List TrackerEvent)
+      → skipped_after counting s before (xs ++ ys) ≡ plus (skipped_after counting s before xs) (skipped_after counting s (before ++ xs) ys)
+  skipped-append before [] ys =
+      ap (λ zs. skipped_after counting s zs ys) (sym (append-nil before))
+      ∙ sym (none-plus (skipped_after counting s (before ++ []) ys))
+  skipped-append before (x ∷ xs) ys =
+      ap (plus (skipped_by counting s before x)) (skipped-append (before ++ x ∷ []) xs ys
+      ∙ ap (λ zs. plus (skipped_after counting s (before ++ x ∷ []) xs) (skipped_after counting s zs ys)) (append_assoc before (x ∷ []) xs))
+      ∙ sym (plus-assoc (skipped_by counting s before x) (skipped_after counting s (before ++ x ∷ []) xs) (skipped_after counting s (before ++ x ∷ xs) ys))
+
+  skipped-push : (events : List TrackerEvent) (e : TrackerEvent)
+      → skipped counting s (events ++ e ∷ []) ≡ plus (skipped counting s events) (skipped_by counting s events e)
+  skipped-push events e =
+      skipped-append [] events (e ∷ []) ∙ ap (plus (skipped counting s events)) (plus-none (skipped_by counting s events e))
+
+  pub skipped-stamp : (events : List TrackerEvent) (q : ServerId) (params : Params)
+      → skipped counting s (events ++ Stamp q params ∷ []) ≡ skipped counting s events
+  skipped-stamp events q params = skipped-push events (Stamp q params) ∙ plus-none (skipped counting s events)
+
+  pub skipped-response : (events : List TrackerEvent) (q : ServerId) (phase : PhaseType)
+      → skipped counting s (events ++ Response q phase ∷ []) ≡ skipped counting s events
+  skipped-response events q phase = skipped-push events (Response q phase) ∙ plus-none (skipped counting s events)
+
+  pub skipped-skip_same : (events : List TrackerEvent) (q : ServerId) → (q.0 == s.0) ≡ true
+      → skipped counting s (events ++ Skip q ∷ []) ≡ plus (skipped counting s events) (pending counting s events)
+  skipped-skip_same events q here =
+      skipped-push events (Skip q)
+      ∙ ap (λ b. plus (skipped counting s events) (cond b (pending counting s events) no_counts)) here
+
+  pub skipped-skip_other : (events : List TrackerEvent) (q : ServerId) → (q.0 == s.0) ≡ false
+      → skipped counting s (events ++ Skip q ∷ []) ≡ skipped counting s events
+  skipped-skip_other events q there =
+      skipped-push events (Skip q)
+      ∙ ap (λ b. plus (skipped counting s events) (cond b (pending counting s events) no_counts)) there
+      ∙ plus-none (skipped counting s events)
+
+  -- a list without a skip of s skips nothing
+  pub skipped-none : (before events : List TrackerEvent) → skips s events ≡ 0 → skipped_after counting s before events ≡ no_counts
+  skipped-none before [] none = refl
+  skipped-none before (Stamp q params ∷ es) none =
+      none-plus (skipped_after counting s (before ++ Stamp q params ∷ []) es)
+      ∙ skipped-none (before ++ Stamp q params ∷ []) es (omega (arith, none, sum_by-cons (λ x. cond (is_skip_of s x) 1 0) (Stamp q params) es))
+  skipped-none before (Response q phase ∷ es) none =
+      none-plus (skipped_after counting s (before ++ Response q phase ∷ []) es)
+      ∙ skipped-none (before ++ Response q phase ∷ []) es (omega (arith, none, sum_by-cons (λ x. cond (is_skip_of s x) 1 0) (Response q phase) es))
+  skipped-none before (Skip q ∷ es) none =
+      by (q.0 == s.0) refl (skipped-none (before ++ Skip q ∷ []) es (omega (arith, none, sum_by-cons (λ x. cond (is_skip_of s x) 1 0) (Skip q) es)))
+    where
+      by : (b : Bool) → (q.0 == s.0) ≡ b → skipped_after counting s (before ++ Skip q ∷ []) es ≡ no_counts
+          → skipped_after counting s before (Skip q ∷ es) ≡ no_counts
+      by true here rest =
+          absurd (let one : cond (q.0 == s.0) 1 0 ≡ 1 = ap {B = ℕ} (λ b. cond b 1 0) here in
+          omega (arith, none, sum_by-cons (λ x. cond (is_skip_of s x) 1 0) (Skip q) es, one))
+      by false there rest =
+          ap (λ b. plus (cond b (pending counting s before) no_counts) (skipped_after counting s (before ++ Skip q ∷ []) es)) there
+          ∙ none-plus (skipped_after counting s (before ++ Skip q ∷ []) es) ∙ rest

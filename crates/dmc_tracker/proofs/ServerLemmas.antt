@@ -1,5 +1,5 @@
--- What a tracker keeps for its servers, through a stamp and a response.
-use Rattle.std.proofs.Common.{◌≡◌, ℕ, zero, suc, ◌<◌, List, [], ◌∷◌, ◌+◌, ◌≤◌, ◌^◌, length, map, set, get_or, replicate, refl, sym, ap, ◌∙◌, arith}
+-- What a tracker keeps for its servers, through a stamp, a skip and a response.
+use Rattle.std.proofs.Common.{◌≡◌, ℕ, zero, suc, ◌<◌, List, [], ◌∷◌, ◌+◌, ◌≤◌, length, map, set, get_or, replicate, refl, sym, ap, ◌∙◌, arith}
 use Rattle.std.specs.Prelude.{All as Each}
 use Rattle.std.proofs.lemmas.List.{get_or-map, map-set, length-replicate}
 use Rattle.std.proofs.lemmas.List.Elements.{All-set, All-replicate}
@@ -13,7 +13,7 @@ use Rattle.dmc_types.specs.declared.config.PhaseType.{PhaseType}
 use Rattle.dmc_types.specs.declared.config.PhaseType.TheVariants.{Reservation, Priority}
 use Rattle.dmc_tracker.specs.declared.server.ServerCounts.{ServerCounts}
 use Rattle.dmc_tracker.specs.TrackerList.{plus, one_in, own_share}
-use Rattle.dmc_tracker.specs.Numbers.{Numbers, ServerNumbers, no_numbers, new_numbers, numbers_at, next_params, after_stamp, after_response, grown, servers_grown, AreLimits}
+use Rattle.dmc_tracker.specs.Numbers.{Numbers, ServerNumbers, no_numbers, new_numbers, numbers_at, next_params, after_stamp, after_skip, after_response, grown, servers_grown, AreLimits}
 use Rattle.dmc_tracker.specs.Server.{minus, IsPart, counted_at, numbers_now, view_of, IsKept, AreKept}
 use Rattle.dmc_tracker.proofs.ListLemmas.{same_params}
 use Rattle.dmc_tracker.proofs.StandsLemmas.{same_numbers}
@@ -32,21 +32,32 @@ minus-both a b k = same_params _ _ (omega arith) (omega arith)
 abbrev stamped : Counting → Params → Params → ServerCounts → ServerCounts
 stamped counting comps params x = record x { sent = plus x.sent params; mark = counted_at counting comps x }
 
+-- a skip
+abbrev passed : Counting → Params → ServerCounts → ServerCounts
+passed counting comps x =
+    record x { skipped = plus x.skipped (numbers_now counting comps x).pending; mark = counted_at counting comps x }
+
 -- a response of the server
 abbrev answered : PhaseType → ServerCounts → ServerCounts
 answered phase x = record x { own = plus x.own (one_in phase) }
 
--- what contracts see of a server, after a stamp and after a response
+-- what contracts see of a server, after a stamp, after a skip and after a response
 now-stamped : (counting : Counting) (comps params : Params) (x : ServerCounts)
-    → numbers_now counting comps (stamped counting comps params x) ≡ record { sent = plus x.sent params; pending = no_counts }
-now-stamped All comps params x = same_numbers _ _ refl (minus_self comps)
-now-stamped Others comps params x = same_numbers _ _ refl (minus_self (minus comps x.own))
+    → numbers_now counting comps (stamped counting comps params x) ≡ record { sent = plus x.sent params; skipped = x.skipped; pending = no_counts }
+now-stamped All comps params x = same_numbers _ _ refl refl (minus_self comps)
+now-stamped Others comps params x = same_numbers _ _ refl refl (minus_self (minus comps x.own))
+
+now-passed : (counting : Counting) (comps : Params) (x : ServerCounts)
+    → numbers_now counting comps (passed counting comps x)
+    ≡ record { sent = x.sent; skipped = plus x.skipped (numbers_now counting comps x).pending; pending = no_counts }
+now-passed All comps x = same_numbers _ _ refl refl (minus_self comps)
+now-passed Others comps x = same_numbers _ _ refl refl (minus_self (minus comps x.own))
 
 now-grown : (counting : Counting) (most : ℕ) (comps : Params) (phase : PhaseType) (x : ServerCounts) → IsKept counting most comps x
     → numbers_now counting (plus comps (one_in phase)) x ≡ grown phase (numbers_now counting comps x)
-now-grown All most comps phase x h = same_numbers _ _ refl (minus-plus comps x.mark (one_in phase) h.mark)
+now-grown All most comps phase x h = same_numbers _ _ refl refl (minus-plus comps x.mark (one_in phase) h.mark)
 now-grown Others most comps phase x h =
-    same_numbers _ _ refl (ap (λ c. minus c x.mark) (minus-plus comps x.own (one_in phase) h.own)
+    same_numbers _ _ refl refl (ap (λ c. minus c x.mark) (minus-plus comps x.own (one_in phase) h.own)
     ∙ minus-plus (minus comps x.own) x.mark (one_in phase) h.mark)
 
 map-grown : (counting : Counting) (most : ℕ) (comps : Params) (phase : PhaseType) (servers : List ServerCounts)
@@ -60,7 +71,7 @@ map-grown counting most comps phase (x ∷ servers) h =
 
 now-answered : (comps : Params) (phase : PhaseType) (x : ServerCounts)
     → numbers_now Others (plus comps (one_in phase)) (answered phase x) ≡ numbers_now Others comps x
-now-answered comps phase x = same_numbers _ _ refl (ap (λ c. minus c x.mark) (minus-both comps x.own (one_in phase)))
+now-answered comps phase x = same_numbers _ _ refl refl (ap (λ c. minus c x.mark) (minus-both comps x.own (one_in phase)))
 
 -- the numbers that contracts see of a server
 pub seen_at : (counting : Counting) (most : ℕ) (comps : Params) (servers : List ServerCounts) (s : ServerId) (x : ServerCounts)
@@ -86,8 +97,21 @@ view-stamp counting most comps params servers s x within at e =
     ap (λ (ys : List ServerNumbers). let n : Numbers = record view { servers = ys } in n) (
     map-set f servers s.0 (stamped counting comps params x)
     ∙ ap (λ (y : ServerNumbers). set (map f servers) s.0 y) (now-stamped counting comps params x)
-    ∙ ap (λ (p : Params). let y : ServerNumbers = record { sent = plus x.sent p; pending = no_counts } in set (map f servers) s.0 y) e
-    ∙ ap (λ (n : ServerNumbers). let y : ServerNumbers = record { sent = plus n.sent (plus n.pending (own_share counting)); pending = no_counts } in set (map f servers) s.0 y)
+    ∙ ap (λ (p : Params). let y : ServerNumbers = record { sent = plus x.sent p; skipped = x.skipped; pending = no_counts } in set (map f servers) s.0 y) e
+    ∙ ap (λ (n : ServerNumbers). let y : ServerNumbers = record { sent = plus n.sent (plus n.pending (own_share counting)); skipped = n.skipped; pending = no_counts } in set (map f servers) s.0 y)
+    (sym (seen_at counting most comps servers s x within at)))
+
+-- a skip
+pub view-skip : (counting : Counting) (most : ℕ) (comps : Params) (servers : List ServerCounts) (s : ServerId) (x : ServerCounts)
+    → s.0 < length servers → x ≡ get_or servers s.0 x
+    → view_of counting most comps (set servers s.0 (passed counting comps x)) ≡ after_skip s (view_of counting most comps servers)
+view-skip counting most comps servers s x within at =
+    let f = numbers_now counting comps in
+    let view = view_of counting most comps servers in
+    ap (λ (ys : List ServerNumbers). let n : Numbers = record view { servers = ys } in n) (
+    map-set f servers s.0 (passed counting comps x)
+    ∙ ap (λ (y : ServerNumbers). set (map f servers) s.0 y) (now-passed counting comps x)
+    ∙ ap (λ (n : ServerNumbers). let y : ServerNumbers = record { sent = n.sent; skipped = plus n.skipped n.pending; pending = no_counts } in set (map f servers) s.0 y)
     (sym (seen_at counting most comps servers s x within at)))
 
 IsKept-stamped : (counting : Counting) (most : ℕ) (comps params : Params) (x : ServerCounts) → IsKept counting most comps x
@@ -103,6 +127,8 @@ IsKept-stamped All most comps params x h e bound =
       mark = record { delta = omega arith; rho = omega arith; rest = omega arith };
       sent_rho = omega (arith, h.mark.rest, h.mark.rho, h.mark.delta, h.sent_rho);
       sent_most = bound;
+      skipped_rho = h.skipped_rho;
+      skipped_mark = omega (arith, h.skipped_mark, h.mark.delta);
       sent_all = λ _. same_params _ _ (omega (arith, h.mark.delta)) (omega (arith, h.mark.rho));
     }
 IsKept-stamped Others most comps params x h e bound =
@@ -113,8 +139,34 @@ IsKept-stamped Others most comps params x h e bound =
       mark = record { delta = omega arith; rho = omega arith; rest = omega arith };
       sent_rho = omega (arith, h.mark.rest, h.mark.rho, h.mark.delta, h.sent_rho);
       sent_most = bound;
+      skipped_rho = h.skipped_rho;
+      skipped_mark = omega (arith, h.skipped_mark, h.mark.delta);
       sent_all = λ form. absurd (cc);
     }
+
+IsKept-passed : (counting : Counting) (most : ℕ) (comps : Params) (x : ServerCounts) → IsKept counting most comps x
+    → IsKept counting most comps (passed counting comps x)
+IsKept-passed All most comps x h =
+    let sent = ap (λ (p : Params). p.delta) (h.sent_all refl) in
+    let sent_rho = ap (λ (p : Params). p.rho) (h.sent_all refl) in
+    record {
+      own = h.own;
+      mark = record { delta = omega arith; rho = omega arith; rest = omega arith };
+      sent_rho = h.sent_rho;
+      sent_most = h.sent_most;
+      skipped_rho = omega (arith, h.mark.rest, h.mark.rho, h.mark.delta, h.skipped_rho);
+      skipped_mark = omega (arith, h.skipped_mark, h.mark.delta);
+      sent_all = λ _. same_params _ _ (omega (arith, sent, h.mark.delta)) (omega (arith, sent_rho, h.mark.rho));
+    }
+IsKept-passed Others most comps x h = record {
+  own = h.own;
+  mark = record { delta = omega arith; rho = omega arith; rest = omega arith };
+  sent_rho = h.sent_rho;
+  sent_most = h.sent_most;
+  skipped_rho = omega (arith, h.mark.rest, h.mark.rho, h.mark.delta, h.skipped_rho);
+  skipped_mark = omega (arith, h.skipped_mark, h.mark.delta);
+  sent_all = λ form. absurd (cc);
+}
 
 -- a stamp that takes what is sent to its server no further than `most`
 pub AreKept-stamp : (counting : Counting) (most : ℕ) (comps params : Params) (servers : List ServerCounts) (s : ServerId) (x : ServerCounts)
@@ -132,6 +184,22 @@ AreKept-stamp counting most comps params servers s x kept within at e bound =
       completions_rho = kept.completions_rho;
       completions_most = kept.completions_most;
       each = All-set (IsKept counting most comps) servers s.0 new (IsKept-stamped counting most comps params x before e bound) kept.each;
+    }
+
+pub AreKept-skip : (counting : Counting) (most : ℕ) (comps : Params) (servers : List ServerCounts) (s : ServerId) (x : ServerCounts)
+    → AreKept counting most comps servers → s.0 < length servers → x ≡ get_or servers s.0 x
+    → AreKept counting most comps (set servers s.0 (passed counting comps x))
+AreKept-skip counting most comps servers s x kept within at =
+    let new = passed counting comps x in
+    let before : IsKept counting most comps x = rw at (kept.each s.0 x within) in
+    record {
+      some_most = kept.some_most;
+      most_limit = kept.most_limit;
+      some_servers = omega (arith, length-set servers s.0 new, kept.some_servers);
+      servers_limit = omega (arith, length-set servers s.0 new, kept.servers_limit);
+      completions_rho = kept.completions_rho;
+      completions_most = kept.completions_most;
+      each = All-set (IsKept counting most comps) servers s.0 new (IsKept-passed counting most comps x before) kept.each;
     }
 
 -- a part stays one where the whole grows, and where both do
@@ -183,6 +251,8 @@ AreKept-response counting most comps servers s x phase kept within at fewer =
       mark = mark-grown counting most comps phase _ h;
       sent_rho = h.sent_rho;
       sent_most = h.sent_most;
+      skipped_rho = h.skipped_rho;
+      skipped_mark = h.skipped_mark;
       sent_all = h.sent_all;
     }
     in
@@ -191,6 +261,8 @@ AreKept-response counting most comps servers s x phase kept within at fewer =
       mark = mark-answered counting most comps phase x before;
       sent_rho = before.sent_rho;
       sent_most = before.sent_most;
+      skipped_rho = before.skipped_rho;
+      skipped_mark = before.skipped_mark;
       sent_all = before.sent_all;
     } in
     record {
@@ -241,12 +313,14 @@ view-new counting most n d e =
     ap (λ (ys : List ServerNumbers). let m : Numbers = record view { servers = ys } in m)
     (map-replicate (numbers_now counting no_counts) n d ∙ ap (replicate n) e)
 
-none_kept : (counting : Counting) (most : ℕ) → IsKept counting most no_counts (record { sent = no_counts; own = no_counts; mark = no_counts })
+none_kept : (counting : Counting) (most : ℕ) → IsKept counting most no_counts (record { sent = no_counts; skipped = no_counts; own = no_counts; mark = no_counts })
 none_kept All most = record {
   own = record { delta = omega arith; rho = omega arith; rest = omega arith };
   mark = record { delta = omega arith; rho = omega arith; rest = omega arith };
   sent_rho = omega arith;
   sent_most = omega arith;
+  skipped_rho = omega arith;
+  skipped_mark = omega arith;
   sent_all = λ _. refl;
 }
 none_kept Others most = record {
@@ -254,16 +328,18 @@ none_kept Others most = record {
   mark = record { delta = omega arith; rho = omega arith; rest = omega arith };
   sent_rho = omega arith;
   sent_most = omega arith;
+  skipped_rho = omega arith;
+  skipped_mark = omega arith;
   sent_all = λ _. refl;
 }
 
 -- a new tracker keeps nothing of its servers
-pub AreKept-new : (counting : Counting) (most n : ℕ) → AreLimits n most → most < 2 ^ 32 → AreKept counting most no_counts (replicate n (record { sent = no_counts; own = no_counts; mark = no_counts }))
-AreKept-new counting most n limits fits =
-    let none : ServerCounts = record { sent = no_counts; own = no_counts; mark = no_counts } in
+pub AreKept-new : (counting : Counting) (most n : ℕ) → AreLimits n most → AreKept counting most no_counts (replicate n (record { sent = no_counts; skipped = no_counts; own = no_counts; mark = no_counts }))
+AreKept-new counting most n limits =
+    let none : ServerCounts = record { sent = no_counts; skipped = no_counts; own = no_counts; mark = no_counts } in
     record {
       some_most = limits.some_most;
-      most_limit = fits;
+      most_limit = limits.most_limit;
       some_servers = rw length-replicate limits.some_servers;
       servers_limit = rw length-replicate limits.servers_limit;
       completions_rho = omega arith;

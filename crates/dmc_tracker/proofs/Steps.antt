@@ -5,6 +5,7 @@ use Rattle.std.specs.Option.{option_map}
 use Rattle.std.proofs.lemmas.Bool.{cases_lt}
 use Rattle.std.proofs.lemmas.Option.{slice_get-map, slice_get-get_or, slice_get_past}
 use Rattle.std.proofs.lemmas.List.{length-map, length-set}
+use Rattle.dmc_types.specs.Limits.{greatest_count}
 use Rattle.dmc_types.specs.Values.{Params}
 use Rattle.dmc_types.specs.declared.ids.ServerId.{ServerId}
 use Rattle.dmc_types.specs.declared.config.Counting.{Counting}
@@ -13,12 +14,12 @@ use Rattle.dmc_types.specs.declared.config.PhaseType.{PhaseType}
 use Rattle.dmc_tracker.specs.declared.server.ServerCounts.{ServerCounts}
 use Rattle.dmc_tracker.specs.declared.tracker.TrackFault.TheVariants.{NoServer, TrackFull}
 use Rattle.dmc_tracker.specs.declared.event.TrackerEvent.{TrackerEvent}
-use Rattle.dmc_tracker.specs.declared.event.TrackerEvent.TheVariants.{Stamp, Response}
-use Rattle.dmc_tracker.specs.TrackerList.{plus, one_in, own_share, demanded, IsComplete, IsStampFull}
-use Rattle.dmc_tracker.specs.Numbers.{Numbers, ServerNumbers, pending_pair, numbers_at, next_params, after_stamp, after_response, IsSentFull, Stands, Keeps}
+use Rattle.dmc_tracker.specs.declared.event.TrackerEvent.TheVariants.{Stamp, Skip, Response}
+use Rattle.dmc_tracker.specs.TrackerList.{plus, one_in, own_share, demanded, IsComplete, IsStampFull, IsTooMuch}
+use Rattle.dmc_tracker.specs.Numbers.{Numbers, ServerNumbers, pending_pair, numbers_at, next_params, after_stamp, after_skip, after_response, IsFullAt, Stands, Keeps}
 use Rattle.dmc_tracker.specs.Server.{minus, IsPart, counted_at, numbers_now, view_of, IsKept, AreKept}
-use Rattle.dmc_tracker.proofs.ServerLemmas.{seen_at, next_params-view, view-stamp, AreKept-stamp, AreKept-response, view-response, one_delta, one_rho}
-use Rattle.dmc_tracker.proofs.StandsLemmas.{next_params-stands, Stands-stamp, Stands-response}
+use Rattle.dmc_tracker.proofs.ServerLemmas.{seen_at, next_params-view, view-stamp, AreKept-stamp, view-skip, AreKept-skip, AreKept-response, view-response, one_delta, one_rho}
+use Rattle.dmc_tracker.proofs.StandsLemmas.{next_params-stands, Stands-stamp, Stands-skip, Stands-response}
 
 -- a number is below another where not being so is an error, and there is none
 pub below_if_ok : {X E : Type 0} {x : X} {e : E} (a b : ℕ) → (b ≤ a → ◌≡◌ {A = Result X E} (Ok x) (Err e)) → a < b
@@ -127,87 +128,170 @@ module _ {counting : Counting} {most : ℕ} {comps : Params} {items : List Serve
       ones : (one.delta ≡ 1) × (one.rho ≤ 1)
       ones = rw one_is (one_delta phase, omega (arith, one_delta phase, one_rho phase))
 
-      comps_fit : (comps.delta + one.delta < 2 ^ 32) × (comps.rho + one.rho < 2 ^ 32)
+      comps_fit : (comps.delta + one.delta < 2 ^ 64) × (comps.rho + one.rho < 2 ^ 64)
       comps_fit =
           (omega (arith, room_for_one, ones.0, kept.most_limit), omega (arith, room_for_one, ones.1, kept.completions_rho, kept.most_limit))
 
-      pub own_fits : (x.own.delta + one.delta < 2 ^ 32) × (x.own.rho + one.rho < 2 ^ 32)
+      pub own_fits : (x.own.delta + one.delta < 2 ^ 64) × (x.own.rho + one.rho < 2 ^ 64)
       own_fits =
           (omega (arith, comps_fit.0, own_part.delta), omega (arith, comps_fit.1, own_part.rho))
 
       module _ {comps' own' : Params} (comps_are : comps' ≡ plus comps one) (own_is : own' ≡ plus x.own one) where
-        pub response_kept : AreKept counting most comps' (set items s.0 (record { sent = x.sent; own = own'; mark = x.mark }))
+        pub response_kept : AreKept counting most comps' (set items s.0 (record { sent = x.sent; skipped = x.skipped; own = own'; mark = x.mark }))
         response_kept =
             rw (comps_are, own_is, one_is) (AreKept-response counting most comps items s x phase kept inside at room_for_one)
 
-        pub response_seen : view_of counting most comps' (set items s.0 (record { sent = x.sent; own = own'; mark = x.mark })) ≡ after_response s phase now
+        pub response_seen : view_of counting most comps' (set items s.0 (record { sent = x.sent; skipped = x.skipped; own = own'; mark = x.mark })) ≡ after_response s phase now
         response_seen =
             rw (comps_are, own_is, one_is) (view-response counting most comps items s x phase kept inside at) ∙ ap (after_response s phase) view
 
-    -- ---- a stamp
+    -- ---- what is pending, and a skip
 
-    module _ {counted left own : Params} (counted_is : counted ≡ counted_at counting comps x) (left_is : left ≡ minus counted x.mark) (own_is : own ≡ own_share counting) (bound : (numbers_at now s).sent.delta + (next_params now s).delta ≤ now.most) where
-      next_is : next_params now s ≡ plus left own
-      next_is =
-          ap (λ n. next_params n s) (sym view)
-          ∙ next_params-view counting most comps items s x inside at
-          ∙ rw (left_is, counted_is, own_is) refl
-
-      share_rho : own.rho ≤ own.delta
-      share_rho = rw own_is (at_form counting) where
-        at_form : (form : Counting) → (own_share form).rho ≤ (own_share form).delta
-        at_form All = omega arith
-        at_form Others = omega arith
-
+    module _ {counted left : Params} (counted_is : counted ≡ counted_at counting comps x) (left_is : left ≡ minus counted x.mark) where
       part : IsPart x.mark counted
       part = mark_part counted_is
 
       left_rho : left.rho ≤ left.delta
       left_rho = rw left_is (omega (arith, part.rest, part.delta, part.rho))
 
-      room : x.sent.delta + (left.delta + own.delta) ≤ most
-      room =
-          let sent = ap (λ n. (numbers_at n s).sent.delta) (sym view) ∙ ap (λ (n : ServerNumbers). n.sent.delta) (seen_at counting most comps items s x inside at) in
-          omega (arith, bound, sent, ap (λ (p : Params). p.delta) next_is, ap (λ (n : Numbers). n.most) view)
+      counted_comps : counted.delta ≤ comps.delta
+      counted_comps = rw counted_is (at_form counting) where
+        at_form : (form : Counting) → (counted_at form comps x).delta ≤ comps.delta
+        at_form All = omega arith
+        at_form Others = omega arith
 
-      pub params_fit : (left.delta + own.delta < 2 ^ 32) × (left.rho + own.rho < 2 ^ 32)
-      params_fit = (omega (arith, room, kept.most_limit), omega (arith, room, left_rho, share_rho, kept.most_limit))
+      -- with what was skipped it is no more than the completions
+      left_most : x.skipped.delta + left.delta ≤ most
+      left_most =
+          let is = ap (λ (p : Params). p.delta) left_is in
+          omega (arith, is, part.delta, kept_at.skipped_mark, counted_comps, kept.completions_most)
 
-      module _ {params : Params} (params_is : params ≡ plus left own) where
-        carried : params ≡ next_params now s
-        carried = params_is ∙ sym next_is
+      pub skipped_fits : (x.skipped.delta + left.delta < 2 ^ 64) × (x.skipped.rho + left.rho < 2 ^ 64)
+      skipped_fits = (
+        omega (arith, left_most, kept.most_limit),
+        omega (arith, left_most, left_rho, kept_at.skipped_rho, kept.most_limit),
+      )
 
-        is_params : params.rho ≤ params.delta
-        is_params = rw params_is (omega (arith, left_rho, share_rho))
+      module _ {skipped' : Params} (skipped_is : skipped' ≡ plus x.skipped left) where
+        pub skip_kept : AreKept counting most comps (set items s.0 (record { sent = x.sent; skipped = skipped'; own = x.own; mark = counted }))
+        skip_kept = rw (skipped_is, left_is, counted_is) (AreKept-skip counting most comps items s x kept inside at)
 
-        pub sent_fits : (x.sent.delta + params.delta < 2 ^ 32) × (x.sent.rho + params.rho < 2 ^ 32)
-        sent_fits =
-            let is : params.delta ≡ left.delta + own.delta = ap (λ (p : Params). p.delta) params_is in
-            (omega (arith, is, room, kept.most_limit), omega (arith, is, room, is_params, kept_at.sent_rho, kept.most_limit))
+        pub skip_seen : view_of counting most comps (set items s.0 (record { sent = x.sent; skipped = skipped'; own = x.own; mark = counted })) ≡ after_skip s now
+        skip_seen = rw (skipped_is, left_is, counted_is) (view-skip counting most comps items s x inside at) ∙ ap (after_skip s) view
 
-        computed : params ≡ plus (numbers_now counting comps x).pending (own_share counting)
-        computed = rw (params_is, left_is, own_is, counted_is) refl
+      -- ---- a stamp
 
-        pub stamp_kept : {sent' : Params} → sent' ≡ plus x.sent params → AreKept counting most comps (set items s.0 (record { sent = sent'; own = x.own; mark = counted }))
-        stamp_kept e =
-            let is : params.delta ≡ left.delta + own.delta = ap (λ (p : Params). p.delta) params_is in
-            rw (e, counted_is) (AreKept-stamp counting most comps params items s x kept inside at computed (omega (arith, is, room)))
+      module _ {own : Params} (own_is : own ≡ own_share counting) where
+        next_is : next_params now s ≡ plus left own
+        next_is =
+            ap (λ n. next_params n s) (sym view)
+            ∙ next_params-view counting most comps items s x inside at
+            ∙ rw (left_is, counted_is, own_is) refl
 
-        pub stamp_seen : {sent' : Params} → sent' ≡ plus x.sent params → view_of counting most comps (set items s.0 (record { sent = sent'; own = x.own; mark = counted })) ≡ after_stamp s now
-        stamp_seen e =
-            rw (e, counted_is) (view-stamp counting most comps params items s x inside at computed) ∙ ap (after_stamp s) view
+        share : (own.rho ≤ own.delta) × (own.delta ≤ 1)
+        share = rw own_is (at_form counting) where
+          at_form : (form : Counting) → ((own_share form).rho ≤ (own_share form).delta) × ((own_share form).delta ≤ 1)
+          at_form All = (omega arith, omega arith)
+          at_form Others = (omega arith, omega arith)
 
-        made_is : {E : Type 0} {d r : ℕ} {made : Result Params E} → ◌≡◌ {A = Params} (record { delta = d; rho = r }) params → (r ≤ d → made ≡ Ok (record { delta = d; rho = r })) → made ≡ Ok params
-        made_is e ok =
-            ok (omega (arith, ap (λ (p : Params). p.delta) e, ap (λ (p : Params). p.rho) e, is_params)) ∙ ap Ok e
+        pub params_fit : (left.delta + own.delta < 2 ^ 64) × (left.rho + own.rho < 2 ^ 64)
+        params_fit = (
+          omega (arith, left_most, share, kept.most_limit),
+          omega (arith, left_most, left_rho, share, kept.most_limit),
+        )
 
-        -- what is handed out is what was computed
-        module _ {E : Type 0} {d r : ℕ} {made : Result Params E} (e : ◌≡◌ {A = Params} (record { delta = d; rho = r }) params) (ok : r ≤ d → made ≡ Ok (record { delta = d; rho = r })) where
-          pub is_made : IsOk made
-          is_made = ap is_ok (made_is e ok)
+        module _ {params : Params} (params_is : params ≡ plus left own) where
+          params_delta : params.delta ≡ left.delta + own.delta
+          params_delta = ap (λ (p : Params). p.delta) params_is
 
-          pub handed_out : {given : Params} → made ≡ Ok given → given ≡ next_params now s
-          handed_out {given} h = let same : ◌≡◌ {A = Result Params E} (Ok given) (Ok params) = sym h ∙ made_is e ok in cc (carried)
+          carried : params ≡ next_params now s
+          carried = params_is ∙ sym next_is
+
+          is_params : params.rho ≤ params.delta
+          is_params = rw params_is (omega (arith, left_rho, share))
+
+          computed : params ≡ plus (numbers_now counting comps x).pending (own_share counting)
+          computed = rw (params_is, left_is, own_is, counted_is) refl
+
+          sent_now : (numbers_at now s).sent.delta ≡ x.sent.delta
+          sent_now =
+              ap (λ n. (numbers_at n s).sent.delta) (sym view)
+              ∙ ap (λ (n : ServerNumbers). n.sent.delta) (seen_at counting most comps items s x inside at)
+
+          -- the test of a stamp: its sum fits, and what it says
+          pub sum_fits : x.sent.delta + params.delta < 2 ^ 64
+          sum_fits = omega (arith, params_delta, left_most, share, kept_at.sent_most, kept.most_limit)
+
+          seen_full : IsTooMuch counting most x.sent.delta params.delta ≡ IsTooMuch now.counting now.most (numbers_at now s).sent.delta (next_params now s).delta
+          seen_full =
+              ap (λ (n : Numbers). IsTooMuch n.counting n.most x.sent.delta params.delta) view
+              ∙ ap (λ n. IsTooMuch now.counting now.most n params.delta) (sym sent_now)
+              ∙ ap (λ (p : Params). IsTooMuch now.counting now.most (numbers_at now s).sent.delta p.delta) carried
+
+          pub is_full : IsTooMuch counting most x.sent.delta params.delta → IsFullAt now s
+          is_full h = record { within = within; past = subst (λ (t : Type 0). t) seen_full h }
+
+          pub is_not_full : (IsTooMuch counting most x.sent.delta params.delta → ⊥) → IsFullAt now s → ⊥
+          is_not_full none h = none (subst (λ (t : Type 0). t) (sym seen_full) h.past)
+
+          module _ (fits : IsTooMuch counting most x.sent.delta params.delta → ⊥) where
+            bounds : (params.delta ≤ greatest_count) × (x.sent.delta + params.delta ≤ most)
+            bounds = by counting kept_at.sent_all own_is fits where
+              by : (form : Counting) → (form ≡ All → plus x.sent x.skipped ≡ x.mark) → own ≡ own_share form
+                  → (IsTooMuch form most x.sent.delta params.delta → ⊥) → (params.delta ≤ greatest_count) × (x.sent.delta + params.delta ≤ most)
+              by All sums none fits =
+                  let sum = ap (λ (p : Params). p.delta) (sums refl) in
+                  let zero = ap (λ (p : Params). p.delta) none in
+                  let is = ap (λ (p : Params). p.delta) left_is in (
+                    elim (cases_lt greatest_count params.delta) [ inl l ↦ absurd (fits l) | inr l ↦ l ],
+                    omega (arith, params_delta, is, zero, sum, part.delta, counted_comps, kept.completions_most),
+                  )
+              by Others sums none fits = (
+                elim (cases_lt greatest_count params.delta) [ inl l ↦ absurd (fits (inl l)) | inr l ↦ l ],
+                elim (cases_lt most (x.sent.delta + params.delta)) [ inl l ↦ absurd (fits (inr l)) | inr l ↦ l ],
+              )
+
+            pub sent_bound : (numbers_at now s).sent.delta + (next_params now s).delta ≤ now.most
+            sent_bound =
+                omega (arith, bounds.1, sent_now, ap (λ (p : Params). p.delta) carried, ap (λ (n : Numbers). n.most) view)
+
+            pub count_bound : (next_params now s).delta ≤ greatest_count
+            count_bound = omega (arith, bounds.0, ap (λ (p : Params). p.delta) carried)
+
+          -- ---- what the test let through
+
+          module _ (bound : (numbers_at now s).sent.delta + (next_params now s).delta ≤ now.most) (narrow : (next_params now s).delta ≤ greatest_count) where
+            room : x.sent.delta + params.delta ≤ most
+            room = omega (arith, bound, sent_now, ap (λ (p : Params). p.delta) carried, ap (λ (n : Numbers). n.most) view)
+
+            pub sent_fits : (x.sent.delta + params.delta < 2 ^ 64) × (x.sent.rho + params.rho < 2 ^ 64)
+            sent_fits =
+                (omega (arith, room, kept.most_limit), omega (arith, room, is_params, kept_at.sent_rho, kept.most_limit))
+
+            pub narrow_counts : (params.delta < 2 ^ 32) × (params.rho < 2 ^ 32)
+            narrow_counts =
+                let d : params.delta < 2 ^ 32 = omega (arith, narrow, ap (λ (p : Params). p.delta) carried) in
+                (d, omega (arith, d, is_params))
+
+            pub stamp_kept : {sent' : Params} → sent' ≡ plus x.sent params → AreKept counting most comps (set items s.0 (record { sent = sent'; skipped = x.skipped; own = x.own; mark = counted }))
+            stamp_kept e =
+                rw (e, counted_is) (AreKept-stamp counting most comps params items s x kept inside at computed room)
+
+            pub stamp_seen : {sent' : Params} → sent' ≡ plus x.sent params → view_of counting most comps (set items s.0 (record { sent = sent'; skipped = x.skipped; own = x.own; mark = counted })) ≡ after_stamp s now
+            stamp_seen e =
+                rw (e, counted_is) (view-stamp counting most comps params items s x inside at computed) ∙ ap (after_stamp s) view
+
+            made_is : {E : Type 0} {d r : ℕ} {made : Result Params E} → ◌≡◌ {A = Params} (record { delta = d; rho = r }) params → (r ≤ d → made ≡ Ok (record { delta = d; rho = r })) → made ≡ Ok params
+            made_is e ok =
+                ok (omega (arith, ap (λ (p : Params). p.delta) e, ap (λ (p : Params). p.rho) e, is_params)) ∙ ap Ok e
+
+            -- what is handed out is what was computed
+            module _ {E : Type 0} {d r : ℕ} {made : Result Params E} (e : ◌≡◌ {A = Params} (record { delta = d; rho = r }) params) (ok : r ≤ d → made ≡ Ok (record { delta = d; rho = r })) where
+              pub is_made : IsOk made
+              is_made = ap is_ok (made_is e ok)
+
+              pub handed_out : {given : Params} → made ≡ Ok given → given ≡ next_params now s
+              handed_out {given} h = let same : ◌≡◌ {A = Result Params E} (Ok given) (Ok params) = sym h ∙ made_is e ok in cc (carried)
 
 -- the list after a stamp
 pub stands_after : {now new : Numbers} {s : ServerId} {params : Params} → s.0 < length now.servers → new ≡ after_stamp s now → params ≡ next_params now s
@@ -215,21 +299,22 @@ pub stands_after : {now new : Numbers} {s : ServerId} {params : Params} → s.0 
 stands_after {now} {s = s} within e p events stands =
     (p ∙ next_params-stands now events s within stands, rw (e, p) (Stands-stamp now events s within stands))
 
+-- the list after a skip
+pub stands_after_skip : {now new : Numbers} {s : ServerId} → s.0 < length now.servers → new ≡ after_skip s now → (events : List TrackerEvent) → Stands now events → Stands new (events ++ Skip s ∷ [])
+stands_after_skip {now} {s = s} within e events stands = rw e (Stands-skip now events s within stands)
+
 -- the list after a response
 pub stands_after_response : {now new : Numbers} (s : ServerId) (phase : PhaseType) → new ≡ after_response s phase now → (events : List TrackerEvent) → Stands now events → Stands new (events ++ Response s phase ∷ [])
 stands_after_response {now} s phase e events stands = rw e (Stands-response now events s phase stands)
 
 -- what is full by the numbers is so by the list
 module _ {now : Numbers} {s : ServerId} {events : List TrackerEvent} (stands : Stands now events) where
-  listed : IsSentFull now s → (s.0 < length now.servers) × IsStampFull now.counting now.most s events
-  listed f =
-      let past = subst (λ (n : ServerNumbers). now.most < n.sent.delta + (plus n.pending (own_share now.counting)).delta) (stands.each s f.within) f.past in
-      (f.within, record { form = f.form; past = past })
+  same_test : s.0 < length now.servers → IsTooMuch now.counting now.most (numbers_at now s).sent.delta (next_params now s).delta ≡ IsStampFull now.counting now.most s events
+  same_test within =
+      ap (λ (n : ServerNumbers). IsTooMuch now.counting now.most n.sent.delta (plus n.pending (own_share now.counting)).delta) (stands.each s within)
 
-  numbered : (s.0 < length now.servers) × IsStampFull now.counting now.most s events → IsSentFull now s
-  numbered h =
-      let past = subst (λ (n : ServerNumbers). now.most < n.sent.delta + (plus n.pending (own_share now.counting)).delta) (sym (stands.each s h.0)) (h.1).past in
-      record { within = h.0; form = (h.1).form; past = past }
-
-  pub full_by_list : {A : Type 0} → A ↔ IsSentFull now s → A ↔ ((s.0 < length now.servers) × IsStampFull now.counting now.most s events)
-  full_by_list is = (λ a. listed (is.0 a), λ h. is.1 (numbered h))
+  pub full_by_list : {A : Type 0} → A ↔ IsFullAt now s → A ↔ ((s.0 < length now.servers) × IsStampFull now.counting now.most s events)
+  full_by_list is = (
+    λ a. let f = is.0 a in (f.within, subst (λ (t : Type 0). t) (same_test f.within) f.past),
+    λ h. is.1 (record { within = h.0; past = subst (λ (t : Type 0). t) (sym (same_test h.0)) h.1 }),
+  )

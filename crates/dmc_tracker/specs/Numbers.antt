@@ -1,17 +1,18 @@
 -- What contracts see of a tracker: the numbers of a tracker list, and no list.
-use Rattle.std.specs.Prelude.{◌≡◌, ℕ, ◌<◌, ◌≤◌, List, length, map, replicate, slice_set, slice_index_or, ◌+◌}
-use Rattle.dmc_types.specs.Limits.{most_servers}
+use Rattle.std.specs.Prelude.{◌≡◌, ℕ, ◌<◌, ◌≤◌, List, length, map, replicate, slice_set, slice_index_or}
+use Rattle.dmc_types.specs.Limits.{most_completions, most_servers}
 use Rattle.dmc_types.specs.Values.{Params, no_counts}
 use Rattle.dmc_types.specs.declared.ids.ServerId.{ServerId}
 use Rattle.dmc_types.specs.declared.config.Counting.{Counting}
 use Rattle.dmc_types.specs.declared.config.Counting.TheVariants.{All, Others}
 use Rattle.dmc_types.specs.declared.config.PhaseType.{PhaseType}
 use Rattle.dmc_tracker.specs.declared.event.TrackerEvent.{TrackerEvent}
-use Rattle.dmc_tracker.specs.TrackerList.{plus, one_in, own_share, completions, sent, pending}
+use Rattle.dmc_tracker.specs.TrackerList.{plus, one_in, own_share, completions, sent, skipped, pending, IsTooMuch}
 
--- what was sent to a server, and what is pending there
+-- what was sent to a server, what was skipped and what is pending there
 pub record ServerNumbers : Type 0 where
   pub sent : Params
+  pub skipped : Params
   pub pending : Params
 
 pub record Numbers : Type 0 where
@@ -21,13 +22,14 @@ pub record Numbers : Type 0 where
   pub servers : List ServerNumbers
 
 abbrev pub no_numbers : ServerNumbers
-no_numbers = record { sent = no_counts; pending = no_counts }
+no_numbers = record { sent = no_counts; skipped = no_counts; pending = no_counts }
 
 -- the limits of a tracker
 pub record AreLimits (servers most : ℕ) : Type 0 where
   pub some_servers : 0 < servers
   pub servers_limit : servers ≤ most_servers
   pub some_most : 0 < most
+  pub most_limit : most ≤ most_completions
 
 -- no entry yet
 abbrev pub new_numbers : Counting → ℕ → ℕ → Numbers
@@ -41,6 +43,9 @@ new_numbers counting most servers = record {
 abbrev pub sent_pair : ServerNumbers → ℕ × ℕ
 sent_pair server = (server.sent.delta, server.sent.rho)
 
+abbrev pub skipped_pair : ServerNumbers → ℕ × ℕ
+skipped_pair server = (server.skipped.delta, server.skipped.rho)
+
 abbrev pub pending_pair : ServerNumbers → ℕ × ℕ
 pending_pair server = (server.pending.delta, server.pending.rho)
 
@@ -52,17 +57,27 @@ numbers_at numbers s = slice_index_or numbers.servers s.0 no_numbers
 abbrev pub next_params : Numbers → ServerId → Params
 next_params numbers s = plus (numbers_at numbers s).pending (own_share numbers.counting)
 
--- in `Others`: the next delta would take what was sent to s past `most`
-pub record IsSentFull (numbers : Numbers) (s : ServerId) : Type 0 where
+-- the delta of the next stamp to s is too much
+pub record IsFullAt (numbers : Numbers) (s : ServerId) : Type 0 where
   pub within : s.0 < length numbers.servers
-  pub form : numbers.counting ≡ Others
-  pub past : numbers.most < (numbers_at numbers s).sent.delta + (next_params numbers s).delta
+  pub past : IsTooMuch numbers.counting numbers.most (numbers_at numbers s).sent.delta (next_params numbers s).delta
 
 -- a stamp to s sends what was pending there, and its own share
 abbrev pub after_stamp : ServerId → Numbers → Numbers
 after_stamp s numbers = record numbers {
   servers = slice_set numbers.servers s.0 (record {
     sent = plus (numbers_at numbers s).sent (next_params numbers s);
+    skipped = (numbers_at numbers s).skipped;
+    pending = no_counts;
+  });
+}
+
+-- a skip of s skips what was pending there, and sends nothing
+abbrev pub after_skip : ServerId → Numbers → Numbers
+after_skip s numbers = record numbers {
+  servers = slice_set numbers.servers s.0 (record {
+    sent = (numbers_at numbers s).sent;
+    skipped = plus (numbers_at numbers s).skipped (numbers_at numbers s).pending;
     pending = no_counts;
   });
 }
@@ -84,7 +99,11 @@ after_response s phase numbers = record numbers {
 
 -- the numbers of s in a list
 abbrev pub numbers_of : Counting → ServerId → List TrackerEvent → ServerNumbers
-numbers_of counting s events = record { sent = sent s events; pending = pending counting s events }
+numbers_of counting s events = record {
+  sent = sent s events;
+  skipped = skipped counting s events;
+  pending = pending counting s events;
+}
 
 -- the numbers are those of the list
 pub record Stands (numbers : Numbers) (events : List TrackerEvent) : Type 0 where

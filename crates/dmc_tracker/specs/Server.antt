@@ -1,10 +1,11 @@
 -- What a tracker keeps for a server, in the place of a list. No public clause cites this module.
-use Rattle.std.specs.Prelude.{◌≡◌, ℕ, ◌+◌, ◌-◌, ◌<◌, ◌≤◌, ◌^◌, List, length, map, All as Each}
-use Rattle.dmc_types.specs.Limits.{most_servers}
+use Rattle.std.specs.Prelude.{◌≡◌, ℕ, ◌+◌, ◌-◌, ◌<◌, ◌≤◌, List, length, map, All as Each}
+use Rattle.dmc_types.specs.Limits.{most_completions, most_servers}
 use Rattle.dmc_types.specs.Values.{Params}
 use Rattle.dmc_types.specs.declared.config.Counting.{Counting}
 use Rattle.dmc_types.specs.declared.config.Counting.TheVariants.{All, Others}
 use Rattle.dmc_tracker.specs.declared.server.ServerCounts.{ServerCounts}
+use Rattle.dmc_tracker.specs.TrackerList.{plus}
 use Rattle.dmc_tracker.specs.Numbers.{Numbers, ServerNumbers}
 
 abbrev pub minus : Params → Params → Params
@@ -25,6 +26,7 @@ counted_at Others completions server = minus completions server.own
 abbrev pub numbers_now : Counting → Params → ServerCounts → ServerNumbers
 numbers_now counting completions server = record {
   sent = server.sent;
+  skipped = server.skipped;
   pending = minus (counted_at counting completions server) server.mark;
 }
 
@@ -42,11 +44,13 @@ pub record IsKept (counting : Counting) (most : ℕ) (completions : Params) (ser
   pub mark : IsPart server.mark (counted_at counting completions server)
   pub sent_rho : server.sent.rho ≤ server.sent.delta
   pub sent_most : server.sent.delta ≤ most
-  pub sent_all : counting ≡ All → server.sent ≡ server.mark
+  pub skipped_rho : server.skipped.rho ≤ server.skipped.delta
+  pub skipped_mark : server.skipped.delta ≤ server.mark.delta
+  pub sent_all : counting ≡ All → plus server.sent server.skipped ≡ server.mark
 
 pub record AreKept (counting : Counting) (most : ℕ) (completions : Params) (servers : List ServerCounts) : Type 0 where
   pub some_most : 0 < most
-  pub most_limit : most < 2 ^ 32
+  pub most_limit : most ≤ most_completions
   pub some_servers : 0 < length servers
   pub servers_limit : length servers ≤ most_servers
   pub completions_rho : completions.rho ≤ completions.delta

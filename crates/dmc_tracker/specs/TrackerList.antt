@@ -1,7 +1,8 @@
--- A tracker's list of stamps and responses, oldest first, and what its counts are. Two counts always go together: delta,
--- of all responses, and rho, of those of them in the constraint phase.
-use Rattle.std.specs.Prelude.{◌≡◌, ℕ, ◌+◌, ◌<◌, ◌==◌, Bool, false, if◌then◌else◌, List, ◌∷◌, ◌++◌, sum_by, count_by}
+-- A tracker's list of stamps, skips and responses, oldest first, and what its counts are. Two counts always go together:
+-- delta, of all responses, and rho, of those of them in the constraint phase.
+use Rattle.std.specs.Prelude.{◌≡◌, ℕ, ◌+◌, ◌<◌, ◌⊎◌, ◌==◌, Bool, false, if◌then◌else◌, List, [], ◌∷◌, ◌++◌, sum_by, count_by}
 use Rattle.std.specs.List.{after_last}
+use Rattle.dmc_types.specs.Limits.{greatest_count}
 use Rattle.dmc_types.specs.Values.{Params, no_counts}
 use Rattle.dmc_types.specs.declared.ids.ServerId.{ServerId}
 use Rattle.dmc_types.specs.declared.config.Counting.{Counting}
@@ -9,7 +10,7 @@ use Rattle.dmc_types.specs.declared.config.Counting.TheVariants.{All, Others}
 use Rattle.dmc_types.specs.declared.config.PhaseType.{PhaseType}
 use Rattle.dmc_types.specs.declared.config.PhaseType.TheVariants.{Reservation, Priority}
 use Rattle.dmc_tracker.specs.declared.event.TrackerEvent.{TrackerEvent}
-use Rattle.dmc_tracker.specs.declared.event.TrackerEvent.TheVariants.{Stamp, Response}
+use Rattle.dmc_tracker.specs.declared.event.TrackerEvent.TheVariants.{Stamp, Skip, Response}
 
 abbrev pub plus : Params → Params → Params
 plus a b = record { delta = a.delta + b.delta; rho = a.rho + b.rho }
@@ -26,25 +27,41 @@ one_in Priority = record { delta = 1; rho = 0 }
 -- what an entry completes
 abbrev pub completed_by : TrackerEvent → Params
 completed_by (Stamp server params) = no_counts
+completed_by (Skip server) = no_counts
 completed_by (Response server phase) = one_in phase
 
 -- what an entry counts for the next stamp to s: in `Others` the responses of s count nothing
 abbrev pub counted_by : Counting → ServerId → TrackerEvent → Params
 counted_by counting s (Stamp server params) = no_counts
+counted_by counting s (Skip server) = no_counts
 counted_by All s (Response server phase) = one_in phase
 counted_by Others s (Response server phase) = if server.0 == s.0 then no_counts else one_in phase
 
 -- what an entry sends to s
 abbrev pub sent_by : ServerId → TrackerEvent → Params
 sent_by s (Stamp server params) = if server.0 == s.0 then params else no_counts
+sent_by s (Skip server) = no_counts
 sent_by s (Response server phase) = no_counts
 
 abbrev pub is_stamp_to : ServerId → TrackerEvent → Bool
 is_stamp_to s (Stamp server params) = server.0 == s.0
+is_stamp_to s (Skip server) = false
 is_stamp_to s (Response server phase) = false
+
+abbrev pub is_skip_of : ServerId → TrackerEvent → Bool
+is_skip_of s (Stamp server params) = false
+is_skip_of s (Skip server) = server.0 == s.0
+is_skip_of s (Response server phase) = false
+
+-- a stamp and a skip move the mark of their server: what is pending there begins anew
+abbrev pub is_mark_of : ServerId → TrackerEvent → Bool
+is_mark_of s (Stamp server params) = server.0 == s.0
+is_mark_of s (Skip server) = server.0 == s.0
+is_mark_of s (Response server phase) = false
 
 abbrev pub is_response_in : ServerId → PhaseType → TrackerEvent → Bool
 is_response_in s phase (Stamp server params) = false
+is_response_in s phase (Skip server) = false
 is_response_in s Reservation (Response server Reservation) = server.0 == s.0
 is_response_in s Reservation (Response server Priority) = false
 is_response_in s Priority (Response server Reservation) = false
@@ -78,13 +95,31 @@ completions_at s events = record {
 abbrev pub stamps : ServerId → List TrackerEvent → ℕ
 stamps s events = count_by (is_stamp_to s) events
 
+-- how many skips of s there are
+abbrev pub skips : ServerId → List TrackerEvent → ℕ
+skips s events = count_by (is_skip_of s) events
+
 -- the sum of the counts stamped to s
 abbrev pub sent : ServerId → List TrackerEvent → Params
 sent s events = total (sent_by s) events
 
--- the responses after the last stamp to s, or all where there is none, as the form counts them
+-- the responses after the last stamp or skip of s, or all where there is none, as the form counts them
 abbrev pub pending : Counting → ServerId → List TrackerEvent → Params
-pending counting s events = total (counted_by counting s) (after_last (is_stamp_to s) events)
+pending counting s events = total (counted_by counting s) (after_last (is_mark_of s) events)
+
+-- what an entry skips at s, after the entries before it: a skip of s skips all that is pending there
+abbrev pub skipped_by : Counting → ServerId → List TrackerEvent → TrackerEvent → Params
+skipped_by counting s before (Stamp server params) = no_counts
+skipped_by counting s before (Skip server) = if server.0 == s.0 then pending counting s before else no_counts
+skipped_by counting s before (Response server phase) = no_counts
+
+-- the sum of what the entries of a list skip at s, after the entries before them
+abbrev pub skipped_after : Counting → ServerId → (before events : List TrackerEvent) → Params
+skipped_after counting s before [] = no_counts
+skipped_after counting s before (e ∷ es) = plus (skipped_by counting s before e) (skipped_after counting s (before ++ e ∷ []) es)
+
+abbrev pub skipped : Counting → ServerId → List TrackerEvent → Params
+skipped counting s events = skipped_after counting s [] events
 
 -- what a stamp to s must carry after these entries
 abbrev pub demanded : Counting → ServerId → List TrackerEvent → Params
@@ -99,7 +134,12 @@ IsTracked counting events = (before after : List TrackerEvent) (s : ServerId) (p
 abbrev pub IsComplete : ℕ → List TrackerEvent → Type 0
 IsComplete most events = (completions events).delta ≡ most
 
--- in `Others`: the delta that the next stamp to s must carry would take the sum of the deltas stamped to s past `most`
-pub record IsStampFull (counting : Counting) (most : ℕ) (s : ServerId) (events : List TrackerEvent) : Type 0 where
-  pub form : counting ≡ Others
-  pub past : most < (sent s events).delta + (demanded counting s events).delta
+-- A delta that no stamp may carry, where the deltas stamped to its server sum to `sent`: it is past the greatest count (a
+-- rho is no more than its delta), or, in `Others`, it would take the sum past `most`.
+abbrev pub IsTooMuch : Counting → (most sent delta : ℕ) → Type 0
+IsTooMuch All most sent delta = greatest_count < delta
+IsTooMuch Others most sent delta = (greatest_count < delta) ⊎ (most < sent + delta)
+
+-- the delta that the next stamp to s must carry is too much
+abbrev pub IsStampFull : Counting → ℕ → ServerId → List TrackerEvent → Type 0
+IsStampFull counting most s events = IsTooMuch counting most (sent s events).delta (demanded counting s events).delta

@@ -10,8 +10,8 @@ use std::marker::Model;
 /// How many responses, and how many of them in the constraint phase.
 #[derive(Clone, Copy, Debug, PartialEq, Eq)]
 pub struct Counts {
-    pub delta: u32,
-    pub rho: u32,
+    pub delta: u64,
+    pub rho: u64,
 }
 
 impl Model for Counts {
@@ -55,8 +55,8 @@ impl Counts {
 
     /// The sums.
     pub fn plus(self, other: Counts) -> Counts
-        requires delta { self.delta + other.delta < 2 ^ 32 }
-        requires rho { self.rho + other.rho < 2 ^ 32 }
+        requires delta { self.delta + other.delta < 2 ^ 64 }
+        requires rho { self.rho + other.rho < 2 ^ 64 }
         ensures { result ≡ plus self other }
     {
         Counts {

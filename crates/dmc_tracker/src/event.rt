@@ -1,4 +1,4 @@
-//! What a tracker is told.
+//! The entries of a tracker's list.
 use dmc_types::config::PhaseType;
 use dmc_types::ids::ServerId;
 use dmc_types::params::ReqParams;
@@ -8,6 +8,8 @@ use dmc_types::params::ReqParams;
 pub enum TrackerEvent {
     /// A request to a server was stamped.
     Stamp { server: ServerId, params: ReqParams },
+    /// The completions that a stamp to a server would count were skipped: no request was sent.
+    Skip { server: ServerId },
     /// A server answered a request, which it granted in a phase.
     Response { server: ServerId, phase: PhaseType },
 }

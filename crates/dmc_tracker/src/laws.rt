@@ -1,12 +1,12 @@
 //! What follows from a tracker list alone. Each law is the contract of a function that does nothing: a caller that calls it
 //! knows the law.
 ghost use Rattle.std.specs.Prelude.{◌≡◌, ◌+◌, ◌≤◌, List, [], ◌∷◌, ◌++◌};
-ghost use Rattle.dmc_types.specs.Values.{Params};
+ghost use Rattle.dmc_types.specs.Values.{Params, no_counts};
 ghost use Rattle.dmc_types.specs.declared.ids.ServerId.{ServerId};
 ghost use Rattle.dmc_types.specs.declared.config.Counting.{Counting};
 ghost use Rattle.dmc_types.specs.declared.config.PhaseType.{PhaseType};
 ghost use Rattle.dmc_tracker.specs.declared.event.TrackerEvent.{TrackerEvent};
-ghost use Rattle.dmc_tracker.specs.TrackerList.{plus, completions, completions_at, others, stamps, sent, pending, demanded, IsTracked};
+ghost use Rattle.dmc_tracker.specs.TrackerList.{plus, completions, completions_at, others, stamps, skips, sent, skipped, skipped_after, pending, demanded, IsTracked};
 
 use crate::event::TrackerEvent;
 use dmc_types::config::Counting;
@@ -22,6 +22,12 @@ pub fn stamp_keeps_tracked()
         → IsTracked counting (events ++ TrackerEvent.Stamp s (demanded counting s events) ∷ []) }
 {}
 
+/// A tracked list stays tracked by a skip.
+pub fn skip_keeps_tracked()
+    ensures { (counting : Counting) (events : List TrackerEvent) (s : ServerId) → IsTracked counting events
+        → IsTracked counting (events ++ TrackerEvent.Skip s ∷ []) }
+{}
+
 /// A tracked list stays tracked by a response.
 pub fn response_keeps_tracked()
     ensures { (counting : Counting) (events : List TrackerEvent) (s : ServerId) (phase : PhaseType) → IsTracked counting events
@@ -34,26 +40,34 @@ pub fn completions_by_server()
         → plus (completions_at s events) (others s events) ≡ completions events }
 {}
 
-/// In the form `All` what was sent to a server and what is pending there are the completions, in both counts.
-pub fn sent_and_pending_in_all()
-    ensures { (events : List TrackerEvent) (s : ServerId) → IsTracked Counting.All events
-        → plus (sent s events) (pending Counting.All s events) ≡ completions events }
+/// Where a server was never skipped, nothing was skipped there.
+pub fn nothing_is_skipped()
+    ensures { (counting : Counting) (s : ServerId) (before events : List TrackerEvent) → skips s events ≡ 0
+        → skipped_after counting s before events ≡ no_counts }
 {}
 
-/// In the form `Others` what was sent to a server and what is pending there are the stamps to it and the completions at the
-/// other servers, in both counts.
+/// In the form `All` what was sent to a server, what was skipped and what is pending there are the completions, in both
+/// counts.
+pub fn sent_and_pending_in_all()
+    ensures { (events : List TrackerEvent) (s : ServerId) → IsTracked Counting.All events
+        → plus (plus (sent s events) (skipped Counting.All s events)) (pending Counting.All s events) ≡ completions events }
+{}
+
+/// In the form `Others` what was sent to a server, what was skipped and what is pending there are the stamps to it and the
+/// completions at the other servers, in both counts.
 pub fn sent_and_pending_in_others()
     ensures { (events : List TrackerEvent) (s : ServerId) → IsTracked Counting.Others events
-        → plus (sent s events) (pending Counting.Others s events)
+        → plus (plus (sent s events) (skipped Counting.Others s events)) (pending Counting.Others s events)
         ≡ plus (record { delta = stamps s events; rho = stamps s events }) (others s events) }
 {}
 
-/// In the form `All` the counts stamped to a server after one of its stamps, up to a later one, sum to the difference of
-/// the completions at these two stamps.
+/// In the form `All` the counts stamped to a server and skipped there after one of its stamps, up to a later one, sum to the
+/// difference of the completions at these two stamps.
 pub fn sent_between_stamps()
     ensures { (before between after : List TrackerEvent) (s : ServerId) (first last : Params)
         → IsTracked Counting.All (before ++ TrackerEvent.Stamp s first ∷ (between ++ TrackerEvent.Stamp s last ∷ after))
-        → plus (completions before) (sent s (between ++ TrackerEvent.Stamp s last ∷ []))
+        → plus (completions before) (plus (sent s (between ++ TrackerEvent.Stamp s last ∷ []))
+        (skipped_after Counting.All s (before ++ TrackerEvent.Stamp s first ∷ []) (between ++ TrackerEvent.Stamp s last ∷ [])))
         ≡ completions (before ++ TrackerEvent.Stamp s first ∷ between) }
 {}
 

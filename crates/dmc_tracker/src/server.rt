@@ -5,11 +5,12 @@ ghost use Rattle.dmc_types.specs.Values.{no_counts};
 use crate::counts::Counts;
 use dmc_types::config::Counting;
 
-/// What was sent to the server, the completions there, and the completions that its stamps count, as they were at its
-/// last stamp.
+/// What was sent to the server and what was skipped there, the completions there, and the completions that its stamps count,
+/// as they were at its last stamp or skip.
 #[derive(Clone, Copy, Debug, PartialEq, Eq)]
 pub struct ServerCounts {
     pub sent: Counts,
+    pub skipped: Counts,
     pub own: Counts,
     pub mark: Counts,
 }
@@ -17,12 +18,13 @@ pub struct ServerCounts {
 impl ServerCounts {
     ghost use Rattle.dmc_tracker.specs.Server.{counted_at, IsPart};
 
-    /// Nothing was sent, and nothing completed.
+    /// Nothing was sent, skipped or completed.
     pub fn none() -> ServerCounts
-        ensures { result ≡ record { sent = no_counts; own = no_counts; mark = no_counts } }
+        ensures { result ≡ record { sent = no_counts; skipped = no_counts; own = no_counts; mark = no_counts } }
     {
         ServerCounts {
             sent: Counts::none(),
+            skipped: Counts::none(),
             own: Counts::none(),
             mark: Counts::none(),
         }

@@ -1,17 +1,17 @@
 //! The tracker.
-ghost use Rattle.std.specs.Prelude.{◌≡◌, ◌<◌, ◌≤◌, ◌+◌, ◌↔◌, Option, List, [], ◌∷◌, ◌++◌, length, IfOk, OnOk, OnErr, IsErrOf, IsOkUnless, slice_get, option_map};
-ghost use Rattle.dmc_types.specs.Limits.{most_servers};
+ghost use Rattle.std.specs.Prelude.{◌≡◌, ◌<◌, ◌≤◌, ◌+◌, ◌^◌, ◌↔◌, Option, List, [], ◌∷◌, ◌++◌, length, IfOk, OnOk, OnErr, IsOk, IsErrOf, IsOkUnless, IsTrue, slice_get, option_map};
+ghost use Rattle.dmc_types.specs.Limits.{greatest_count, most_completions, most_servers};
 ghost use Rattle.dmc_types.specs.declared.config.Counting.{Counting};
 ghost use Rattle.dmc_tracker.specs.declared.event.TrackerEvent.{TrackerEvent};
-ghost use Rattle.dmc_tracker.specs.TrackerList.{demanded, IsComplete, IsStampFull};
-ghost use Rattle.dmc_tracker.specs.Numbers.{Numbers, new_numbers, numbers_at, next_params, after_stamp, after_response, sent_pair, pending_pair, AreLimits, IsSentFull, Keeps, Stands};
+ghost use Rattle.dmc_tracker.specs.TrackerList.{demanded, IsComplete, IsStampFull, IsTooMuch};
+ghost use Rattle.dmc_tracker.specs.Numbers.{Numbers, new_numbers, numbers_at, next_params, after_stamp, after_skip, after_response, sent_pair, skipped_pair, pending_pair, AreLimits, IsFullAt, Keeps, Stands};
 
 use crate::counts::Counts;
 use crate::event::TrackerEvent;
 use crate::server::ServerCounts;
 use dmc_types::config::{Counting, PhaseType};
 use dmc_types::ids::ServerId;
-use dmc_types::limits::MOST_SERVERS;
+use dmc_types::limits::{GREATEST_COUNT, MOST_COMPLETIONS, MOST_SERVERS};
 use dmc_types::params::ReqParams;
 use std::alloc::{AllocError, Global};
 use std::marker::Model;
@@ -20,22 +20,22 @@ use thiserror::Error;
 /// Why a tracker could not be made.
 #[derive(Clone, Copy, Debug, PartialEq, Eq, Error)]
 pub enum MakeFault {
-    /// The servers are not 1 to 64, or `most` is not 1 to 2^32-1.
-    #[error("the servers are not 1 to 64, or the most completions are 0")]
+    /// The servers are not 1 to 64, or `most` is not 1 to 2^62.
+    #[error("the servers are not 1 to 64, or the most completions are not 1 to 2^62")]
     Limit,
     /// The allocator refused the room.
     #[error("out of memory")]
     Memory,
 }
 
-/// Why a stamp or a response is refused. The tracker is as it was.
+/// Why a stamp, a skip or a response is refused. The tracker is as it was.
 #[derive(Clone, Copy, Debug, PartialEq, Eq, Error)]
 pub enum TrackFault {
     /// The tracker has no such server.
     #[error("the tracker has no such server")]
     NoServer,
-    /// The call would take a count past the tracker's `most`.
-    #[error("the tracker has counted its most")]
+    /// The call would take a count past the tracker's `most`, or a stamp's delta past 2^32-1.
+    #[error("a count would pass the tracker's most, or a stamp's 2^32-1")]
     TrackFull,
 }
 
@@ -54,11 +54,12 @@ impl From<AllocError> for MakeFault {
 ///
 /// It counts the client's completions, and stamps each request with two counts, delta of all of them and rho of those in
 /// the constraint phase, since the last stamp to the same server. Which completions a stamp counts is its `Counting`. A
-/// stamp and a response take constant time and no memory.
+/// stamp's counts are at most 2^32-1: a client that sent nothing to a server for more completions than that skips them. A
+/// stamp, a skip and a response take constant time and no memory.
 #[derive(Drop)]
 pub struct ServiceTracker {
     counting: Counting,
-    most: u32,
+    most: u64,
     completions: Counts,
     servers: Vec<ServerCounts>,
 }
@@ -76,12 +77,12 @@ impl Model for ServiceTracker {
 }
 
 impl ServiceTracker {
-    /// A tracker of `servers` servers (1 to 64), which counts `most` completions (1 to 2^32-1): refused `Limit`, then
-    /// `Memory`. It stands for the empty list.
+    /// A tracker of `servers` servers (1 to 64), which counts `most` completions (1 to 2^62): refused `Limit`, then `Memory`.
+    /// It represents the empty list.
     pub fn new(
         alloc: Global,
         servers: u32,
-        most: u32,
+        most: u64,
         counting: Counting,
     ) -> Result<ServiceTracker, MakeFault>
         ensures ok { IfOk result (λ tracker. tracker ≡ new_numbers counting most servers) }
@@ -89,7 +90,7 @@ impl ServiceTracker {
         ensures limit { (AreLimits servers most → ⊥) → result ≡ Err MakeFault.Limit }
         ensures memory { AreLimits servers most → IsOkUnless result MakeFault.Memory }
     {
-        if servers < 1 || servers > MOST_SERVERS || most < 1 {
+        if servers < 1 || servers > MOST_SERVERS || most < 1 || most > MOST_COMPLETIONS {
             return Err(MakeFault::Limit);
         }
         let servers = vec![in alloc; ServerCounts::none(); servers as usize]?;
@@ -101,15 +102,18 @@ impl ServiceTracker {
         })
     }
 
-    /// Whether the next stamp to a server would be refused, and why: `NoServer`, then `TrackFull`, in the form `Others`
-    /// alone, where the delta would take what was sent to the server past `most`. It changes nothing.
+    /// Whether the next stamp to a server would be refused, and why: `NoServer`, then `TrackFull` where its delta would pass
+    /// 2^32-1 (its rho is no more), and in the form `Others` where it would take what was sent to the server past `most`. It
+    /// changes nothing.
     pub fn can_stamp(&self, server: ServerId) -> Result<(), TrackFault>
         ensures within { OnOk result
             ((numbers_at self.now server).sent.delta + (next_params self.now server).delta ≤ self.now.most) }
+        ensures carried { OnOk result ((next_params self.now server).delta ≤ greatest_count) }
+        ensures counted { self.now.completions.delta ≤ self.now.most }
         ensures no_server { IsErrOf result TrackFault.NoServer ↔ (length self.now.servers ≤ server.0) }
-        ensures full { IsErrOf result TrackFault.TrackFull ↔ IsSentFull self.now server }
+        ensures full { IsErrOf result TrackFault.TrackFull ↔ IsFullAt self.now server }
 
-        // The same in words of each list that the tracker stands for.
+        // The same in words of each list that the tracker represents.
         ensures full_by_list { (events : List TrackerEvent) → Stands self.now events
             → (IsErrOf result TrackFault.TrackFull ↔ ((server.0 < length self.now.servers)
             × IsStampFull self.now.counting self.now.most server events)) }
@@ -120,8 +124,10 @@ impl ServiceTracker {
         }
         let counts = self.servers[index];
         let counted = counts.counted(self.counting, self.completions);
-        let pending = counted.minus(counts.mark);
-        if self.counting == Counting::Others && pending.delta >= self.most - counts.sent.delta {
+        let next = counted
+            .minus(counts.mark)
+            .plus(Counts::own_share(self.counting));
+        if is_too_much(self.counting, self.most, counts.sent.delta, next.delta) {
             return Err(TrackFault::TrackFull);
         }
         Ok(())
@@ -132,13 +138,13 @@ impl ServiceTracker {
         ensures params { IfOk result (λ params. params ≡ next_params self.old server) }
         ensures after { OnOk result (self.new ≡ after_stamp server self.old) }
 
-        // Of each list that the tracker stands for, it takes the numbers to those of the list with this stamp, which
+        // Of each list that the tracker represents, it takes the numbers to those of the list with this stamp, which
         // carries what the list demands.
         ensures stands { IfOk result (λ params. (events : List TrackerEvent) → Stands self.old events
             → (params ≡ demanded self.old.counting server events) × Stands self.new (events ++ TrackerEvent.Stamp server params ∷ [])) }
 
         ensures no_server { IsErrOf result TrackFault.NoServer ↔ (length self.old.servers ≤ server.0) }
-        ensures full { IsErrOf result TrackFault.TrackFull ↔ IsSentFull self.old server }
+        ensures full { IsErrOf result TrackFault.TrackFull ↔ IsFullAt self.old server }
         ensures full_by_list { (events : List TrackerEvent) → Stands self.old events
             → (IsErrOf result TrackFault.TrackFull ↔ ((server.0 < length self.old.servers)
             × IsStampFull self.old.counting self.old.most server events)) }
@@ -157,7 +163,36 @@ impl ServiceTracker {
             mark: counted,
             ..counts
         };
-        Ok(ReqParams::new(params.delta, params.rho).unwrap())
+        Ok(ReqParams::new(params.delta as u32, params.rho as u32).unwrap())
+    }
+
+    /// Skips what is pending at a server: the next stamp to it counts only later completions. It sends nothing. Where a stamp
+    /// is refused `TrackFull` for its delta, a skip ends that. Refused `NoServer`.
+    pub fn skip(&mut self, server: ServerId) -> Result<(), TrackFault>
+        ensures after { OnOk result (self.new ≡ after_skip server self.old) }
+
+        // Of each list that the tracker represents, it takes the numbers to those of the list with this skip.
+        ensures stands { OnOk result ((events : List TrackerEvent) → Stands self.old events
+            → Stands self.new (events ++ TrackerEvent.Skip server ∷ [])) }
+
+        ensures ok { IsOk result ↔ (server.0 < length self.old.servers) }
+        ensures no_server { IsErrOf result TrackFault.NoServer ↔ (length self.old.servers ≤ server.0) }
+        ensures err { OnErr result (self.new ≡ self.old) }
+        ensures kept { Keeps self.old self.new }
+    {
+        let index = server.0 as usize;
+        if index >= self.servers.len() {
+            return Err(TrackFault::NoServer);
+        }
+        let counts = self.servers[index];
+        let total = counts.counted(self.counting, self.completions);
+        let pending = total.minus(counts.mark);
+        self.servers[index] = ServerCounts {
+            skipped: counts.skipped.plus(pending),
+            mark: total,
+            ..counts
+        };
+        Ok(())
     }
 
     /// Whether a response of a server would be refused, and why: `NoServer`, then `TrackFull` where the completions are
@@ -168,7 +203,7 @@ impl ServiceTracker {
         ensures full { IsErrOf result TrackFault.TrackFull
             ↔ ((server.0 < length self.now.servers) × (self.now.completions.delta ≡ self.now.most)) }
 
-        // The same in words of each list that the tracker stands for.
+        // The same in words of each list that the tracker represents.
         ensures full_by_list { (events : List TrackerEvent) → Stands self.now events
             → (IsErrOf result TrackFault.TrackFull ↔ ((server.0 < length self.now.servers) × IsComplete self.now.most events)) }
     {
@@ -185,7 +220,7 @@ impl ServiceTracker {
     pub fn track_resp(&mut self, server: ServerId, phase: PhaseType) -> Result<(), TrackFault>
         ensures after { OnOk result (self.new ≡ after_response server phase self.old) }
 
-        // Of each list that the tracker stands for, it takes the numbers to those of the list with this response.
+        // Of each list that the tracker represents, it takes the numbers to those of the list with this response.
         ensures stands { OnOk result ((events : List TrackerEvent) → Stands self.old events
             → Stands self.new (events ++ TrackerEvent.Response server phase ∷ [])) }
 
@@ -210,16 +245,25 @@ impl ServiceTracker {
     }
 
     /// The sums of the deltas and of the rhos stamped to a server, or `None` where the tracker has no such server.
-    pub fn sent(&self, server: ServerId) -> Option<(u32, u32)>
+    pub fn sent(&self, server: ServerId) -> Option<(u64, u64)>
         ensures { result ≡ option_map sent_pair (slice_get self.now.servers server.0) }
     {
         let counts = self.servers.get(server.0 as usize)?;
         Some((counts.sent.delta, counts.sent.rho))
     }
 
+    /// The completions that were skipped at a server, of all and in the constraint phase, or `None` where the tracker has no
+    /// such server.
+    pub fn skipped(&self, server: ServerId) -> Option<(u64, u64)>
+        ensures { result ≡ option_map skipped_pair (slice_get self.now.servers server.0) }
+    {
+        let counts = self.servers.get(server.0 as usize)?;
+        Some((counts.skipped.delta, counts.skipped.rho))
+    }
+
     /// The completions that a stamp to a server would count now, of all and in the constraint phase, without the request
     /// itself; `None` where the tracker has no such server.
-    pub fn pending(&self, server: ServerId) -> Option<(u32, u32)>
+    pub fn pending(&self, server: ServerId) -> Option<(u64, u64)>
         ensures { result ≡ option_map pending_pair (slice_get self.now.servers server.0) }
     {
         let counts = self.servers.get(server.0 as usize)?;
@@ -229,7 +273,7 @@ impl ServiceTracker {
     }
 
     /// The completions at all servers, of all and in the constraint phase.
-    pub fn completions(&self) -> (u32, u32)
+    pub fn completions(&self) -> (u64, u64)
         ensures all { result.0 ≡ self.now.completions.delta }
         ensures constraint { result.1 ≡ self.now.completions.rho }
         ensures bound { result.0 ≤ self.now.most }
@@ -248,9 +292,10 @@ impl ServiceTracker {
     }
 
     /// How many completions it counts.
-    pub fn most(&self) -> u32
+    pub fn most(&self) -> u64
         ensures value { result ≡ self.now.most }
         ensures some { 0 < result }
+        ensures limit { result ≤ most_completions }
     {
         self.most
     }
@@ -260,5 +305,18 @@ impl ServiceTracker {
         ensures { result ≡ self.now.counting }
     {
         self.counting
+    }
+}
+
+/// Whether no stamp may carry this delta, where the deltas stamped to its server sum to `sent`: it is past 2^32-1, or, in the
+/// form `Others`, it would take the sum past `most`. Such a stamp is refused `TrackFull`.
+pub fn is_too_much(counting: Counting, most: u64, sent: u64, delta: u64) -> bool
+    requires { sent + delta < 2 ^ 64 }
+    ensures { IsTrue result ↔ IsTooMuch counting most sent delta }
+{
+    let is_wide = delta > u64::from(GREATEST_COUNT);
+    match counting {
+        Counting::All => is_wide,
+        Counting::Others => is_wide || sent + delta > most,
     }
 }

@@ -9,7 +9,7 @@ use Rattle.std.proofs.lemmas.Grind.{div_ceil_times}
 use Rattle.std.specs.Int.{div_ceil}
 use Rattle.dmc_types.specs.Clock.{IsHz, IsLeastNanos, ticks_after, nanos_per_second}
 
--- so many ticks have passed exactly where the products say so
+-- this many ticks have passed exactly where the products say so
 pub passed_from_products : (hz ticks nanos : ℕ) → ticks * nanos_per_second ≤ nanos * hz → ticks ≤ ticks_after hz nanos
 passed_from_products hz ticks nanos h = le-div ticks (nanos * hz) nanos_per_second (omega arith) h
 

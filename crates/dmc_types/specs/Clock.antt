@@ -5,15 +5,15 @@ use Rattle.dmc_types.specs.Limits.{greatest_hz}
 abbrev pub nanos_per_second : ℕ
 nanos_per_second = 1000000000
 
--- hz is one that a configuration may have
+-- a configuration may have this hz
 abbrev pub IsHz : ℕ → Type 0
 IsHz hz = (0 < hz) × (hz ≤ greatest_hz)
 
--- the whole ticks that have passed after so many nanoseconds
+-- the whole ticks that have passed after this many nanoseconds
 abbrev pub ticks_after : ℕ → ℕ → ℕ
 ticks_after hz nanos = nanos * hz / nanos_per_second
 
--- the least number of nanoseconds after which so many ticks have passed
+-- the least number of nanoseconds after which this many ticks have passed
 pub record IsLeastNanos (hz ticks nanos : ℕ) : Type 0 where
   pub reaches : ticks ≤ ticks_after hz nanos
   pub least : (other : ℕ) → ticks ≤ ticks_after hz other → nanos ≤ other

@@ -3,7 +3,7 @@ use Rattle.std.specs.Prelude.{ℕ, ◌-◌, ◌^◌}
 
 -- ---- queues
 
--- the last moment, and the greatest age of a configuration
+-- the last moment, and the greatest age in a configuration
 abbrev pub greatest_moment : ℕ
 greatest_moment = 2 ^ 62
 
@@ -27,7 +27,15 @@ most_servers = 64
 
 -- the most completions that a tracker counts
 abbrev pub most_completions : ℕ
-most_completions = 2 ^ 32 - 1
+most_completions = 2 ^ 62
+
+-- the greatest delta and the greatest rho that a stamp carries
+abbrev pub greatest_count : ℕ
+greatest_count = 2 ^ 32 - 1
+
+-- the most completions of a client in a cluster's core and in a run in threads
+abbrev pub most_run_completions : ℕ
+most_run_completions = 2 ^ 32 - 1
 
 -- ---- histories and books
 
@@ -43,7 +51,7 @@ most_books = 2 ^ 32
 abbrev pub most_open_tills : ℕ
 most_open_tills = 2 ^ 32 - 1
 
--- the most workers of a queue's book: each has a till of a desk's book, and the held till is one more
+-- the most workers of a queue's book: each has one till of a desk's book, and the desk holds one more
 abbrev pub most_workers : ℕ
 most_workers = 2 ^ 32 - 2
 
@@ -65,7 +73,7 @@ most_scene_clients = 256
 abbrev pub most_client_requests : ℕ
 most_client_requests = 1000000
 
--- the most requests of a client of a scene that are outstanding at once
+-- the most requests that a client of a scene has outstanding at once
 abbrev pub greatest_window : ℕ
 greatest_window = 1024
 

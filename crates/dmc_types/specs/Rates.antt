@@ -1,7 +1,7 @@
--- Rates that divide hz, near the one that was asked for.
+-- Rates that divide hz, near a given rate.
 use Rattle.std.specs.Prelude.{◌≡◌, ℕ, ◌%◌, ◌<◌, ◌≤◌}
 
--- the rate divides hz, so that in ticks its spacing is whole
+-- the rate divides hz, so its spacing in ticks is whole
 pub record IsDivisor (hz rate : ℕ) : Type 0 where
   pub some : 0 < rate
   pub exact : hz % rate ≡ 0

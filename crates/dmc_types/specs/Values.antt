@@ -3,7 +3,7 @@ use Rattle.std.specs.Prelude.{ℕ, ◌≤◌, ◌<◌, Option, IfSome}
 use Rattle.dmc_types.specs.Limits.{greatest_hz, greatest_moment}
 use Rattle.dmc_types.specs.declared.config.AtLimit.{AtLimit}
 
--- the counts of a stamp
+-- the two counts of a stamp
 pub record Params : Type 0 where
   pub delta : ℕ
   pub rho : ℕ
@@ -17,7 +17,7 @@ pub record Rates : Type 0 where
   pub weight : ℕ
   pub limit : Option ℕ
 
--- how a queue is set up
+-- the settings of a queue
 pub record Setting : Type 0 where
   pub hz : ℕ
   pub idle_age : ℕ

@@ -6,10 +6,10 @@ ghost use Rattle.dmc_types.specs.Limits.{greatest_moment};
 use crate::limits::{GREATEST_HZ, GREATEST_MOMENT};
 use crate::moment::Moment;
 
-/// How many nanoseconds a second has.
+/// The nanoseconds in a second.
 const NANOS_PER_SECOND: u128 = 1_000_000_000;
 
-/// Whether a configuration may have so many ticks a second.
+/// Whether a configuration may have this hz.
 fn is_hz(hz: u32) -> bool
     ensures { IsTrue result ↔ IsHz hz }
 {
@@ -17,8 +17,8 @@ fn is_hz(hz: u32) -> bool
 }
 
 impl Moment {
-    /// The moment of a clock that has counted so many nanoseconds, with `hz` ticks a second: the whole ticks that have passed.
-    /// `None` where that is past 2^62, and where `hz` is not 1 to 1,000,000,000.
+    /// The moment of a clock that has counted `nanos` nanoseconds, with `hz` ticks a second: the whole ticks that have passed.
+    /// `None` where that is above 2^62, and where `hz` is not 1 to 1,000,000,000.
     pub fn from_nanos(hz: u32, nanos: u64) -> Option<Moment>
         ensures value { IfSome result (λ moment. moment ≡ ticks_after hz nanos) }
         ensures none { IsNone result ↔ (IsHz hz → ⊥) ⊎ (greatest_moment < ticks_after hz nanos) }
@@ -43,8 +43,8 @@ impl Moment {
     }
 }
 
-/// The least number of nanoseconds after which so many ticks have passed, as for `Moment::to_nanos`: of the `Future` that a pull
-/// returns, which may be past the last moment.
+/// The least number of nanoseconds after which `ticks` ticks have passed, as in `Moment::to_nanos`. It is for the `Future` of a
+/// pull, which may be later than the last moment.
 pub fn nanos_until(hz: u32, ticks: u128) -> Option<u64>
     ensures value { IfSome result (IsLeastNanos hz ticks) }
     ensures none { IsNone result ↔ (IsHz hz → ⊥) ⊎ ((nanos : ℕ) → nanos < 2 ^ 64 → ticks_after hz nanos < ticks) }

@@ -1,4 +1,4 @@
-//! What a queue is asked.
+//! The commands of a queue.
 use crate::ids::{ClientId, Token};
 use crate::info::ClientInfo;
 use crate::moment::Moment;
@@ -26,11 +26,11 @@ pub enum Command {
         params: ReqParams,
         at: Moment,
     },
-    /// Asks for the next request.
+    /// Pulls the next request.
     Pull {
         at: Moment,
     },
-    /// Takes out a client's queued requests.
+    /// Removes a client's queued requests.
     Remove {
         client: ClientId,
     },

@@ -1,4 +1,4 @@
-//! How a queue is set up.
+//! The settings of a queue.
 ghost use Rattle.std.specs.Prelude.{◌≡◌, ◌<◌, ◌≤◌, ◌↔◌, ◌⊎◌, IsNone, IfSome};
 ghost use Rattle.dmc_types.specs.Limits.{greatest_hz, greatest_moment};
 ghost use Rattle.dmc_types.specs.Rates.{IsGreatestAtMost, IsLeastAtLeast};
@@ -10,21 +10,21 @@ use crate::rates;
 use crate::refusal::ValueFault;
 use std::marker::Model;
 
-/// What a pull does while each queued request is past its limit.
+/// What a pull does while each queued request is over its client's limit.
 #[derive(Clone, Copy, Debug, PartialEq, Eq)]
 pub enum AtLimit {
-    /// It answers when a request will be due.
+    /// It returns the moment at which a request will be due.
     Wait,
-    /// It grants the best by weight, beyond its limit.
+    /// It grants the best request by weight, beyond its limit.
     Allow,
 }
 
 /// Which completions a stamp counts.
 #[derive(Clone, Copy, Debug, PartialEq, Eq)]
 pub enum Counting {
-    /// Those at all servers since the last stamp to this one.
+    /// The completions at all servers since the last stamp to this one.
     All,
-    /// Those at the other servers since then, and the request itself.
+    /// The completions at the other servers since then, and the request itself.
     Others,
 }
 
@@ -69,7 +69,7 @@ impl Model for QueueConfig {
 }
 
 impl QueueConfig {
-    /// A configuration; refused `Config` where one of its limits is broken.
+    /// A configuration. It is refused `Config` where a value is out of its limits.
     pub fn new(
         hz: u64,
         idle_age: u64,

@@ -1,4 +1,4 @@
-//! What a client is promised.
+//! A client's rates.
 ghost use Rattle.std.specs.Prelude.{◌≡◌, ◌<◌, IfSome};
 ghost use Rattle.dmc_types.specs.Values.{AreRates, IsRate};
 ghost use Rattle.dmc_types.specs.declared.refusal.ValueFault.{ValueFault};
@@ -28,7 +28,7 @@ impl Model for ClientInfo {
 }
 
 impl ClientInfo {
-    /// The rates of a client; refused `Rate` where one is 0.
+    /// The rates of a client. They are refused `Rate` where one is 0.
     pub fn new(
         reservation: Option<u32>,
         weight: u32,

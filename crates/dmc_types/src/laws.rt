@@ -1,4 +1,4 @@
-//! What holds of clocks and moments. Each law is the contract of a function that changes nothing: whoever calls it knows the law.
+//! Laws of clocks and moments. Each law is the contract of a function that changes nothing: whoever calls it knows the law.
 ghost use Rattle.std.specs.Prelude.{ℕ, ◌≤◌};
 ghost use Rattle.dmc_types.specs.Clock.{IsLeastNanos, ticks_after};
 
@@ -7,7 +7,7 @@ pub fn clocks_keep_order()
     ensures { (hz a b : ℕ) → a ≤ b → ticks_after hz a ≤ ticks_after hz b }
 {}
 
-/// The nanoseconds of a moment give a moment that is not earlier.
+/// A clock that has counted the nanoseconds of a moment has reached that moment.
 pub fn moments_are_reached()
     ensures { (hz ticks nanos : ℕ) → IsLeastNanos hz ticks nanos → ticks ≤ ticks_after hz nanos }
 {}

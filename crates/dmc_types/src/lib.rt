@@ -1,5 +1,4 @@
-//! The checked values of dmClock: ids, moments, parameters, client infos, configurations and commands. None of them
-//! takes memory.
+//! The checked values of dmClock: ids, moments, parameters, client infos, configurations and commands. None of them allocates.
 #![tactic(auto)]
 
 pub mod clock;

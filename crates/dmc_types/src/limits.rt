@@ -18,5 +18,11 @@ pub const MOST_REQUESTS: u32 = 1 << 20;
 /// The most servers of a tracker, and of a scene.
 pub const MOST_SERVERS: u32 = 64;
 
+/// The most completions that a tracker counts.
+pub const MOST_COMPLETIONS: u64 = 1 << 62;
+
+/// The greatest delta and the greatest rho that a stamp carries.
+pub const GREATEST_COUNT: u32 = u32::MAX;
+
 /// The most events of a history.
 pub const MOST_EVENTS: u32 = 1 << 30;

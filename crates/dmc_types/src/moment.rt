@@ -1,4 +1,4 @@
-//! Time, which the caller hands in.
+//! Time, which the caller passes in.
 ghost use Rattle.std.specs.Prelude.{◌≡◌, ◌<◌, ◌≤◌, max};
 ghost use Rattle.dmc_types.specs.Limits.{greatest_moment};
 ghost use Rattle.dmc_types.specs.declared.refusal.ValueFault.{ValueFault};
@@ -27,7 +27,7 @@ impl Model for Moment {
 }
 
 impl Moment {
-    /// The moment of so many ticks; refused `Moment` past 2^62.
+    /// The moment of this many ticks. It is refused `Moment` above 2^62.
     pub fn new(ticks: u64) -> Result<Moment, ValueFault>
         ensures ok { ticks ≤ greatest_moment → result ≡ Ok ticks }
         ensures refused { greatest_moment < ticks → result ≡ Err ValueFault.Moment }
@@ -38,14 +38,14 @@ impl Moment {
         Ok(Moment { ticks })
     }
 
-    /// Where time starts.
+    /// The moment at which time starts.
     pub fn zero() -> Moment
         ensures { result ≡ 0 }
     {
         Moment { ticks: 0 }
     }
 
-    /// The later of the two.
+    /// The later of the two moments.
     pub fn later(self, other: Moment) -> Moment
         ensures { result ≡ max self other }
     {
@@ -56,7 +56,7 @@ impl Moment {
         }
     }
 
-    /// How many ticks it is.
+    /// The number of ticks.
     pub fn ticks(self) -> u64
         ensures value { result ≡ self }
         ensures bound { result ≤ greatest_moment }
@@ -65,7 +65,7 @@ impl Moment {
     }
 }
 
-/// The moment of so many ticks, as a `Future` tells them; refused `Moment` past 2^62.
+/// The moment of this many ticks, as a `Future` has them. It is refused `Moment` above 2^62.
 impl TryFrom<u128> for Moment {
     ghost use Rattle.std.specs.Prelude.{◌≡◌, ◌≤◌, ◌<◌, Ok, Err};
     ghost use Rattle.dmc_types.specs.Limits.{greatest_moment};

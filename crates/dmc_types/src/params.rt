@@ -1,4 +1,4 @@
-//! What a request is stamped with.
+//! The two counts that a request is stamped with.
 ghost use Rattle.std.specs.Prelude.{◌≡◌, ◌<◌, ◌≤◌};
 ghost use Rattle.dmc_types.specs.declared.refusal.ValueFault.{ValueFault};
 
@@ -27,7 +27,7 @@ impl Model for ReqParams {
 }
 
 impl ReqParams {
-    /// Both counts; refused `Params` where `rho` is past `delta`.
+    /// Both counts. They are refused `Params` where `rho` is above `delta`.
     pub fn new(delta: u32, rho: u32) -> Result<ReqParams, ValueFault>
         ensures ok { rho ≤ delta → result ≡ Ok (record { delta = delta; rho = rho }) }
         ensures refused { delta < rho → result ≡ Err ValueFault.Params }
@@ -38,14 +38,14 @@ impl ReqParams {
         Ok(ReqParams { delta, rho })
     }
 
-    /// Completions at all servers.
+    /// The completions at all servers.
     pub fn delta(self) -> u32
         ensures { result ≡ self.delta }
     {
         self.delta
     }
 
-    /// Those of them in the constraint phase.
+    /// The completions in the constraint phase.
     pub fn rho(self) -> u32
         ensures value { result ≡ self.rho }
         ensures bound { result ≤ self.delta }

@@ -1,4 +1,4 @@
-//! Rates in whole ticks: in ticks a rate has to divide hz, and here is the nearest one that does.
+//! Rates in whole ticks. In ticks a rate has to divide hz, and here are the nearest rates that do.
 ghost use Rattle.std.specs.Prelude.{◌≡◌, ◌<◌, ◌≤◌, ◌↔◌, ◌⊎◌, IsNone, IfSome};
 ghost use Rattle.dmc_types.specs.Clock.{IsHz};
 ghost use Rattle.dmc_types.specs.Rates.{IsGreatestAtMost, IsLeastAtLeast};
@@ -16,8 +16,8 @@ const MOST_ROOT: u32 = 1 << 16;
 /// The greatest divisor of `hz` that is at most `rate`, in requests a second: the rate to take for a limit and for a weight.
 /// `None` for a rate of 0, and where `hz` is not 1 to 1,000,000,000. It makes at most 31,623 divisions.
 ///
-/// Weights are small numbers: shares are in their proportions only while their sum is less than the requests a second that are
-/// granted by weight, so a weight is taken as it was typed and not multiplied.
+/// A weight is taken as it was typed, and not multiplied. Shares are in the proportion of the weights only while the sum of all
+/// weights is less than the requests a second that are granted by weight.
 pub fn rate_at_most(hz: u32, rate: u32) -> Option<u32>
     ensures found { IfSome result (IsGreatestAtMost hz rate) }
     ensures none { IsNone result ↔ (rate ≡ 0) ⊎ (IsHz hz → ⊥) }
@@ -29,7 +29,7 @@ pub fn rate_at_most(hz: u32, rate: u32) -> Option<u32>
 }
 
 /// The least divisor of `hz` that is at least `rate`, in requests a second: the rate to take for a reservation. `None` for a rate
-/// of 0 and one past `hz`. It makes at most 65,536 divisions, and for an `hz` up to 1,000,000,000 at most 31,623.
+/// of 0 and one above `hz`. It makes at most 65,536 divisions, and for an `hz` up to 1,000,000,000 at most 31,623.
 pub fn rate_at_least(hz: u32, rate: u32) -> Option<u32>
     ensures found { IfSome result (IsLeastAtLeast hz rate) }
     ensures none { IsNone result ↔ (rate ≡ 0) ⊎ (hz < rate) }

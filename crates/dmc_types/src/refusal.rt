@@ -1,4 +1,4 @@
-//! Why a value or a command is refused.
+//! Refusals of values and of commands.
 ghost use Rattle.std.specs.Prelude.{◌≡◌};
 ghost use Rattle.dmc_types.specs.declared.refusal.QueueFault.TheVariants.{Refused, Memory};
 ghost use Rattle.dmc_types.specs.declared.refusal.Refusal.TheVariants.{Inexact};
@@ -6,24 +6,24 @@ ghost use Rattle.dmc_types.specs.declared.refusal.Refusal.TheVariants.{Inexact};
 use std::alloc::AllocError;
 use thiserror::Error;
 
-/// A value out of its limits.
+/// A value is out of its limits.
 #[derive(Clone, Copy, Debug, PartialEq, Eq, Error)]
 pub enum ValueFault {
-    /// A moment past 2^62 ticks.
+    /// The moment is above 2^62 ticks.
     #[error("the moment is past 2^62 ticks")]
     Moment,
-    /// A rho past its delta.
+    /// Rho is above delta.
     #[error("rho is past delta")]
     Params,
-    /// A rate of 0.
+    /// A rate is 0.
     #[error("the rate is 0")]
     Rate,
-    /// A configuration out of its limits.
+    /// The configuration is out of its limits.
     #[error("the configuration is out of its limits")]
     Config,
 }
 
-/// Which rate of a client is meant.
+/// One of a client's rates.
 #[derive(Clone, Copy, Debug, PartialEq, Eq, Error)]
 pub enum Field {
     #[error("reservation")]
@@ -34,7 +34,7 @@ pub enum Field {
     Limit,
 }
 
-/// Why a queue refuses a command. A refused command changes nothing.
+/// The reason why a queue refuses a command. A refused command changes nothing.
 #[derive(Clone, Copy, Debug, PartialEq, Eq, Error)]
 pub enum Refusal {
     /// The client is registered already.
@@ -43,30 +43,30 @@ pub enum Refusal {
     /// The client is not registered.
     #[error("the client is not registered")]
     Unknown,
-    /// A rate whose spacing is no value of the tag type.
+    /// The spacing of this rate is no value of the tag type.
     #[error("the spacing of the {0} is no value of the tag type")]
     Inexact(Field),
-    /// 65,536 clients are registered.
+    /// 65,536 clients are registered already.
     #[error("65,536 clients are registered")]
     Clients,
-    /// 2^20 requests are queued.
+    /// 2^20 requests are queued already.
     #[error("2^20 requests are queued")]
     QueueFull,
     /// A sum that the command needs is no value of the tag type.
     #[error("a sum is no value of the tag type")]
     Range,
-    /// An update that gives or takes a reservation while the client has a queued request.
+    /// The update gives or takes a reservation while the client has a queued request.
     #[error("the client has a queued request")]
     Busy,
 }
 
-/// Why a queue's call that may grow fails.
+/// The reason why a queue's call that allocates fails.
 #[derive(Clone, Copy, Debug, PartialEq, Eq, Error)]
 pub enum QueueFault {
     /// The rules refuse the command.
     #[error("{0}")]
     Refused(Refusal),
-    /// The allocator refused a growth. Nothing has changed.
+    /// An allocation failed. Nothing has changed.
     #[error("out of memory")]
     Memory,
 }

@@ -8,7 +8,7 @@ use Rattle.rand_pcg.specs.Lcg.{Lcg, next, advance, next_state, state_after}
 use Rattle.rand_pcg.specs.Pcg.{multiplier_64}
 use Rattle.dmc_work.specs.Plan.{word, server_at, planned, IsBelow}
 
--- with `done` requests planned: the generator has given as many words, and there is room for the rest
+-- with `done` requests planned: the generator has given as many words, and there is capacity for the rest
 pub record Progress (start : Lcg) (servers done n : ℕ) (words : Lcg) (items : List ServerId) (capacity : ℕ) : Type 0 where
   pub room : n ≤ capacity
   pub given : words ≡ advance 64 multiplier_64 done start

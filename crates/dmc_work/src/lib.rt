@@ -1,6 +1,4 @@
-//! What a run takes beside its scene: the server of each request, how long histories may grow, and what time it is.
+//! Workloads: which server each request of a client goes to.
 #![tactic(auto)]
 
-pub mod limits;
-pub mod moments;
 pub mod plan;

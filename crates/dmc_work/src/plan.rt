@@ -8,10 +8,10 @@ use rand_core::utils::NextWord;
 use rand_pcg::Lcg64Xsh32;
 use std::alloc::{AllocError, Global};
 
-/// The servers of a client's first `n` requests, in order (own): request j goes to word j of the generator of the seed
-/// and the client, modulo the number of servers, both counted from 0.
+/// The servers of a client's first `n` requests, in order (extension): request j goes to word j of the generator of the seed and
+/// the client, modulo the number of servers, both counted from 0.
 ///
-/// It makes room once, and fails only where the allocator refuses that.
+/// It allocates once, and fails only where that allocation fails.
 pub fn plan(
     alloc: Global,
     seed: u64,

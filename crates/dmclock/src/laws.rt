@@ -5,7 +5,9 @@
 /// request, its counts are those of the history, and the history keeps to limits and reservations.
 pub use dmc_book::laws as queue_books;
 /// Of every history that replays: the bounds of limits and reservations, and that requests leave in order of arrival.
-pub use dmc_bounds::laws as histories;
+pub use dmc_history_laws::laws as histories;
+/// Of every segment of a queue's history: the history up to its end replays.
+pub use dmc_queue_history::laws as segments;
 /// Of the rules themselves: the granted request is the best of its set, the moment of a Future is exact, a refusal changes
 /// nothing, and states that agree client by client get the same replies.
 pub use dmc_tag::laws as rules;

@@ -5,13 +5,14 @@ pub mod laws;
 pub mod locks;
 
 pub use dmc_check::check::{Verdict, check};
-pub use dmc_events::history::EventHistory;
-pub use dmc_events::list::EventList;
+pub use dmc_check::replayer::{ReplayFault, Replayer};
 use dmc_heap::indexed_heap::HeapIndexes;
 pub use dmc_history::{History, LimitFault, ReserveFault};
 pub use dmc_index::index::{Indexes, OrderIndex};
 pub use dmc_pull::granting::{GrantTest, PullFault};
 pub use dmc_pull::queue::PullQueue;
+pub use dmc_queue_history::history::EventHistory;
+pub use dmc_queue_history::list::EventList;
 pub use dmc_ratio::ratio::RatioTag;
 pub use dmc_tag::event::Event;
 pub use dmc_tag::reply::{Pulled, Reply, Tags};

@@ -15,6 +15,7 @@ pub use dmc_ledger::setup::Setup;
 pub use dmc_ledger::till::Till;
 pub use dmc_qlock::fault::RunOrRange;
 pub use dmc_qlock::lock::{Locked, OfServer, QueueLock};
+pub use dmc_queue_history::segment::Segment;
 use dmc_ratio::ratio::RatioTag;
 use dmc_tick::tick::TickTag;
 pub use dmc_tlock::book::{TrackerBook, TrackerFault};

@@ -2,6 +2,8 @@
 //! takes the rates that its operator typed.
 #![tactic(auto)]
 
+mod first;
+
 ghost use Rattle.std.specs.Prelude.{◌≡◌, ◌+◌, OnOk};
 
 use anyhow::{Result, bail};
@@ -126,6 +128,9 @@ fn join<Q: Scheduler<TickTag>>(
 }
 
 fn main(rt: HostRuntime) -> Result<()> {
+    first::serve_first(rt.alloc())?;
+    println!(&rt; "the first request is served")?;
+
     let minute = 60 * u64::from(FINE_HZ);
     let config = QueueConfig::new(u64::from(FINE_HZ), minute, 10 * minute, AtLimit::Wait)?;
     // What the operator asked for, in requests a second, rounded to rates that are exact: a reservation up, a limit down.

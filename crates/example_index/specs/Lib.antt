@@ -1,1 +1,2 @@
+-- The key that an index by reservation has for a client.
 pub mod Keys

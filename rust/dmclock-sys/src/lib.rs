@@ -110,11 +110,12 @@ pub struct dmc_stamp {
 #[repr(C)]
 #[derive(Clone, Copy, Debug)]
 pub struct dmc_track {
-    pub pending: dmc_stamp,
+    pub pending_delta: u64,
+    pub pending_rho: u64,
     pub sent_delta: u64,
     pub sent_rho: u64,
-    pub completions: u32,
-    pub reservation: u32,
+    pub completions: u64,
+    pub reservation: u64,
 }
 
 extern "C" {
@@ -167,11 +168,12 @@ extern "C" {
     pub fn dmc_tracker_new(
         tracker: *mut dmc_tracker,
         servers: u32,
-        most: u32,
+        most: u64,
         counting: u32,
     ) -> u32;
     pub fn dmc_tracker_free(tracker: *mut dmc_tracker);
     pub fn dmc_tracker_stamp(tracker: *mut dmc_tracker, server: u32, stamp: *mut dmc_stamp) -> u32;
+    pub fn dmc_tracker_skip(tracker: *mut dmc_tracker, server: u32) -> u32;
     pub fn dmc_tracker_respond(tracker: *mut dmc_tracker, server: u32, phase: u32) -> u32;
     pub fn dmc_tracker_status(tracker: *mut dmc_tracker, server: u32, track: *mut dmc_track)
         -> u32;

@@ -156,7 +156,7 @@ fn calls() {
         })
         .collect();
     assert_eq!(found, wanted);
-    assert_eq!(found.len(), 20);
+    assert_eq!(found.len(), 21);
 }
 
 #[test]

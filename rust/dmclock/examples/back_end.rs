@@ -20,7 +20,7 @@ struct Client {
     served: u32,
 }
 
-/// The server's queue, its clock, and its clients, whose ids are their places.
+/// The server's queue, its clock, and its clients, whose ids are their indexes.
 struct BackEnd {
     queue: Queue,
     start: Instant,

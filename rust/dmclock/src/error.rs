@@ -3,7 +3,7 @@
 use dmclock_sys as sys;
 use std::fmt;
 
-/// An error that some codes of the library stand for.
+/// An error that some codes of the library represent.
 pub(crate) trait Refusal: Sized {
     /// The error of a code that is not `DMC_OK`.
     fn of(code: u32) -> Self;
@@ -148,7 +148,7 @@ errors! {
 
     /// Why [`Tracker::new`](crate::Tracker::new) makes no tracker, in the order of the tests.
     TrackerError {
-        /// The servers are not 1 to 64, or `most` is not 1 to 2^32-1.
+        /// The servers are not 1 to 64, or `most` is not 1 to 2^62.
         Limit = "the servers or the most completions are out of their limits", DMC_LIMIT;
         /// An allocation failed.
         Memory = "out of memory", DMC_MEMORY;
@@ -159,8 +159,15 @@ errors! {
     StampError {
         /// The tracker has no such server.
         NoServer = "the tracker has no such server", DMC_NO_SERVER;
-        /// A count would pass the tracker's `most`.
-        TrackFull = "a count would pass the most of the tracker", DMC_TRACK_FULL;
+        /// The delta would pass 2^32-1, or take what was sent to the server past the tracker's
+        /// `most`.
+        TrackFull = "a count would pass the most of the tracker, or a stamp's 2^32-1", DMC_TRACK_FULL;
+    }
+
+    /// Why [`Tracker::skip`](crate::Tracker::skip) skips nothing.
+    SkipError {
+        /// The tracker has no such server.
+        NoServer = "the tracker has no such server", DMC_NO_SERVER;
     }
 
     /// Why [`Tracker::track_resp`](crate::Tracker::track_resp) counts no completion, in the order

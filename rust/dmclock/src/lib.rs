@@ -44,7 +44,8 @@ mod values;
 
 pub use error::{
     AddError, ConfigError, MomentError, ParamsError, PullError, QueueError, RateError,
-    RegisterError, RemoveError, RespondError, StampError, StatusError, TrackerError, UpdateError,
+    RegisterError, RemoveError, RespondError, SkipError, StampError, StatusError, TrackerError,
+    UpdateError,
 };
 pub use queue::{Cleaned, Pulled, Queue};
 pub use tag::{Tag, Tags};

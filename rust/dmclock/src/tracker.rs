@@ -1,7 +1,7 @@
 //! The service tracker of a client.
 
 use crate::calls::written;
-use crate::error::{Refusal, RespondError, StampError, StatusError, TrackerError};
+use crate::error::{Refusal, RespondError, SkipError, StampError, StatusError, TrackerError};
 use crate::values::{Counting, PhaseType, ReqParams, ServerId};
 use dmclock_sys as sys;
 use std::cell::UnsafeCell;
@@ -41,9 +41,8 @@ unsafe impl Send for Tracker {}
 
 impl Tracker {
     /// A tracker of servers 0, 1, .. (1 to 64 of them), which counts at most `most` completions (1
-    /// to 2^32-1).
+    /// to 2^62).
     pub fn new(servers: u32, most: u64, counting: Counting) -> Result<Tracker, TrackerError> {
-        let most = u32::try_from(most).map_err(|_| TrackerError::Limit)?;
         let counting = match counting {
             Counting::All => sys::DMC_ALL,
             Counting::Others => sys::DMC_OTHERS,
@@ -67,7 +66,15 @@ impl Tracker {
         stamp.map(ReqParams::of)
     }
 
-    /// Counts a completion: a server answered a request that it granted in a phase.
+    /// Skips what is pending at a server: the next stamp to it counts only later completions. It
+    /// sends nothing. Where a stamp is [`StampError::TrackFull`] for its delta, this ends that.
+    pub fn skip(&mut self, server: ServerId) -> Result<(), SkipError> {
+        let tracker = self.tracker.get_mut();
+        // SAFETY: the pointer is a reference.
+        SkipError::check(unsafe { sys::dmc_tracker_skip(tracker, server.0) })
+    }
+
+    /// Counts a completion: the response to a request that a server granted in a phase.
     #[inline]
     pub fn track_resp(&mut self, server: ServerId, phase: PhaseType) -> Result<(), RespondError> {
         let phase = match phase {
@@ -87,12 +94,12 @@ impl Tracker {
         let track: Result<sys::dmc_track, _> =
             unsafe { written(|track| sys::dmc_tracker_status(tracker, server.0, track)) };
         track.map(|track| TrackStatus {
-            pending_delta: track.pending.delta.into(),
-            pending_rho: track.pending.rho.into(),
+            pending_delta: track.pending_delta,
+            pending_rho: track.pending_rho,
             sent_delta: track.sent_delta,
             sent_rho: track.sent_rho,
-            completions: track.completions.into(),
-            reservation: track.reservation.into(),
+            completions: track.completions,
+            reservation: track.reservation,
         })
     }
 }

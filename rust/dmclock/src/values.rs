@@ -56,7 +56,7 @@ impl Moment {
     /// The last moment, 2^62.
     pub const MAX: Moment = Moment(1 << 62);
 
-    /// The moment of so many ticks.
+    /// The moment of this many ticks.
     pub const fn new(ticks: u64) -> Result<Moment, MomentError> {
         if ticks > Moment::MAX.0 {
             return Err(MomentError::Past);
@@ -74,7 +74,7 @@ impl Moment {
         self.0
     }
 
-    /// The moment of a clock that has counted so many nanoseconds: the whole ticks that have
+    /// The moment of a clock that has counted `nanos` nanoseconds: the whole ticks that have
     /// passed. `None` where that is past [`Moment::MAX`], and where hz is not 1 to 1,000,000,000.
     pub fn from_nanos(hz: u32, nanos: u64) -> Option<Moment> {
         // SAFETY: the pointer is a reference.

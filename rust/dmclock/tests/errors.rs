@@ -172,7 +172,7 @@ fn add_request() {
     let mut add = |client| queue.add_request(client, Token(1), params(1, 0), ZERO);
     assert_eq!(add(NOBODY), Err(AddError::Unknown));
     assert!(add(CLIENT).is_ok());
-    // A client's first request takes no memory.
+    // A client's first request does not allocate.
     assert_eq!(refusing(|| add(CLIENT)), Err(AddError::Memory));
     assert!(add(CLIENT).is_ok());
     assert_eq!(queue.request_count(), 2);
@@ -209,8 +209,9 @@ fn no_tracker() {
     assert_eq!(made(0, 1), Some(TrackerError::Limit));
     assert_eq!(made(65, 1), Some(TrackerError::Limit));
     assert_eq!(made(1, 0), Some(TrackerError::Limit));
-    assert_eq!(made(1, 1 << 32), Some(TrackerError::Limit));
-    assert_eq!(made(64, (1 << 32) - 1), None);
+    assert_eq!(made(1, (1 << 62) + 1), Some(TrackerError::Limit));
+    assert_eq!(made(1, u64::MAX), Some(TrackerError::Limit));
+    assert_eq!(made(64, 1 << 62), None);
     assert_eq!(refusing(|| made(1, 1)), Some(TrackerError::Memory));
 }
 
@@ -225,6 +226,8 @@ fn tracker() {
     assert_eq!(respond(&mut tracker, none), Err(RespondError::NoServer));
     assert_eq!(respond(&mut tracker, first), Ok(()));
     assert_eq!(respond(&mut tracker, first), Err(RespondError::TrackFull));
+    assert_eq!(tracker.skip(none), Err(SkipError::NoServer));
+    assert_eq!(tracker.skip(first), Ok(()));
     assert_eq!(tracker.status(none), Err(StatusError::NoServer));
     assert_eq!(tracker.status(first).unwrap().completions, 1);
 }

@@ -1,4 +1,4 @@
-//! The worked examples, each under its name: the lines of a script, parted by `;`, and the replies.
+//! The worked examples, each under its name: a script, its lines separated by `;`, and the replies.
 
 use dmclock::{
     AddError, AtLimit, Cleaned, ClientId, ClientInfo, Counting, Moment, PhaseType, Pulled, Queue,
@@ -216,6 +216,30 @@ fn three_stamps(counting: Counting) -> (Vec<(u32, u32)>, [[u64; 6]; 2]) {
         ]
     });
     (stamps, known)
+}
+
+/// Two responses of server 0, a skip of server 1, and a stamp to each; and what is pending at
+/// server 1 after the skip.
+fn skip_between(counting: Counting) -> ([(u32, u32); 2], (u64, u64)) {
+    let mut tracker = Tracker::new(2, 1 << 62, counting).unwrap();
+    for phase in [PhaseType::Reservation, PhaseType::Priority] {
+        tracker.track_resp(ServerId(0), phase).unwrap();
+    }
+    tracker.skip(ServerId(1)).unwrap();
+    let status = tracker.status(ServerId(1)).unwrap();
+    let stamps = [0, 1].map(|server| {
+        let params = tracker.get_req_params(ServerId(server)).unwrap();
+        (params.delta(), params.rho())
+    });
+    (stamps, (status.pending_delta, status.pending_rho))
+}
+
+#[test]
+fn skipped_server() {
+    let wanted = ([(2, 1), (0, 0)], (0, 0));
+    assert_eq!(skip_between(Counting::All), wanted);
+    let wanted = ([(1, 1), (1, 1)], (0, 0));
+    assert_eq!(skip_between(Counting::Others), wanted);
 }
 
 #[test]

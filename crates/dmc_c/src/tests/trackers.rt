@@ -3,7 +3,8 @@ use crate::handle::Handle;
 use crate::telling::{DmcStamp, DmcTrack};
 use crate::tests::run::not_memory;
 use crate::tracker::{
-    dmc_tracker_free, dmc_tracker_new, dmc_tracker_respond, dmc_tracker_stamp, dmc_tracker_status,
+    dmc_tracker_free, dmc_tracker_new, dmc_tracker_respond, dmc_tracker_skip, dmc_tracker_stamp,
+    dmc_tracker_status,
 };
 use std::alloc::Global;
 use std::test::Fail;
@@ -11,9 +12,10 @@ use std::test::Fail;
 /// What no stamp carries.
 const NO_STAMP: DmcStamp = DmcStamp { delta: 9, rho: 9 };
 
-/// What no tracker tells.
+/// What no tracker writes.
 const NO_TRACK: DmcTrack = DmcTrack {
-    pending: NO_STAMP,
+    pending_delta: 9,
+    pending_rho: 9,
     sent_delta: 9,
     sent_rho: 9,
     completions: 9,
@@ -27,17 +29,17 @@ fn stamp(tracker: &mut Handle, server: u32, alloc: Global) -> (u32, u32, u32) {
     (code, params.delta, params.rho)
 }
 
-/// The code of a status, and what it tells: sent, pending, completions.
+/// The code of a status, and what it writes: sent, pending, completions.
 fn status(tracker: &mut Handle, server: u32, alloc: Global) -> (u32, [u64; 6]) {
     let mut track = NO_TRACK;
     let code = dmc_tracker_status(tracker, server, &mut track, alloc);
     let told = [
         track.sent_delta,
         track.sent_rho,
-        u64::from(track.pending.delta),
-        u64::from(track.pending.rho),
-        u64::from(track.completions),
-        u64::from(track.reservation),
+        track.pending_delta,
+        track.pending_rho,
+        track.completions,
+        track.reservation,
     ];
     (code, told)
 }
@@ -131,5 +133,55 @@ fn tracker_limits(rt: HostRuntime) -> Result<(), Fail> {
     ];
     tracker.end(rt.alloc());
     assert_eq!(rt; codes, [15, 15, 13, 2, 2]);
+    Ok(())
+}
+
+/// Two responses of server 0, a skip of server 1, and a stamp to each: the codes and the stamps, and what is written of both
+/// servers before the stamps.
+fn skip_between(
+    counting: u32,
+    alloc: Global,
+) -> ([u32; 4], [(u32, [u64; 6]); 2], [(u32, u32, u32); 2]) {
+    let mut tracker = Handle::none();
+    let made = dmc_tracker_new(&mut tracker, 2, 1 << 62, counting, alloc);
+    let one = dmc_tracker_respond(&mut tracker, 0, 0, alloc);
+    let two = dmc_tracker_respond(&mut tracker, 0, 1, alloc);
+    let skipped = dmc_tracker_skip(&mut tracker, 1, alloc);
+    let written = [
+        status(&mut tracker, 0, alloc),
+        status(&mut tracker, 1, alloc),
+    ];
+    let stamps = [stamp(&mut tracker, 0, alloc), stamp(&mut tracker, 1, alloc)];
+    tracker.end(alloc);
+    ([made, one, two, skipped], written, stamps)
+}
+
+#[test]
+fn skipped_server(rt: HostRuntime) -> Result<(), Fail> {
+    let (codes, written, stamps) = skip_between(0, rt.alloc());
+    not_memory(codes[0])?;
+    assert_eq!(rt; codes, [0; 4]);
+    assert_eq!(rt; written, [(0, [0, 0, 2, 1, 2, 1]), (0, [0, 0, 0, 0, 2, 1])]);
+    assert_eq!(rt; stamps, [(0, 2, 1), (0, 0, 0)]);
+    let (codes, written, stamps) = skip_between(1, rt.alloc());
+    assert_eq!(rt; (not_memory(codes[0])?, codes[3]), (0, 0));
+    assert_eq!(rt; written, [(0, [0, 0, 0, 0, 2, 1]), (0, [0, 0, 0, 0, 2, 1])]);
+    assert_eq!(rt; stamps, [(0, 1, 1), (0, 1, 1)]);
+    Ok(())
+}
+
+/// The codes of skips: no tracker, no such server, a queue; and of trackers that count 0 and more than 2^62 completions.
+#[test]
+fn skip_refusals(rt: HostRuntime) -> Result<(), Fail> {
+    let alloc = rt.alloc();
+    let mut tracker = Handle::none();
+    let none = dmc_tracker_skip(&mut tracker, 0, alloc);
+    let past = dmc_tracker_new(&mut tracker, 1, (1 << 62) + 1, 0, alloc);
+    let made = dmc_tracker_new(&mut tracker, 1, 1, 0, alloc);
+    let elsewhere = dmc_tracker_skip(&mut tracker, 1, alloc);
+    let empty = dmc_tracker_skip(&mut tracker, 0, alloc);
+    tracker.end(alloc);
+    not_memory(made)?;
+    assert_eq!(rt; [none, past, made, elsewhere, empty], [2, 15, 0, 30, 0]);
     Ok(())
 }

@@ -1,4 +1,4 @@
-//! An add to the plain queue.
+//! An add to the reference queue.
 ghost use Rattle.std.specs.Prelude.{◌≡◌, ◌<◌, ◌≤◌, ◌++◌, length, Some, true, is_some, OnOk, OnErr, IsOkUnless, take, drop, vec_len};
 ghost use Rattle.dmc_types.specs.Limits.{most_requests};
 ghost use Rattle.dmc_tag.specs.Answers.{call_reply};
@@ -39,7 +39,7 @@ impl<T: Tag> PlainQueue<T> {
         }
     }
 
-    /// The tests of an add, and what it comes to: the shift of the others and the new tags.
+    /// The tests of an add, and its effect: the shift of the others and the new tags.
     fn can_add(
         &self,
         client: ClientId,
@@ -94,7 +94,7 @@ impl<T: Tag> PlainQueue<T> {
         Ok(())
     }
 
-    /// Queues a request, and answers its tags; refused `Unknown`, `QueueFull`, `Range`, in this order, and `Memory` last.
+    /// Queues a request, and returns its tags. It is refused `Unknown`, `QueueFull`, `Range`, in this order, and `Memory` last.
     pub fn add_request(
         &mut self,
         client: ClientId,
@@ -116,7 +116,7 @@ impl<T: Tag> PlainQueue<T> {
     }
 }
 
-/// How far all others are shifted for a client that comes at t; none where it is not idle, or nothing is queued.
+/// The amount by which all others are shifted for a client that arrives at t. `None` where it is not idle, or nothing is queued.
 fn shift_of<T: Tag>(
     requests: &[PlainRequest<T>],
     arriving: &PlainClient<T>,

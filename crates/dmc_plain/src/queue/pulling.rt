@@ -1,4 +1,4 @@
-//! A pull of the plain queue.
+//! A pull of the reference queue.
 ghost use Rattle.std.specs.Prelude.{◌≡◌, ◌<◌, true, length, Some, remove, slice_get};
 ghost use Rattle.std.specs.Option.{option_map_or};
 ghost use Rattle.dmc_tag.specs.declared.reply.Pulled.TheVariants as pulls;
@@ -32,7 +32,7 @@ impl<T: Tag> PlainQueue<T> {
         self.requests[index]
     }
 
-    /// Takes a request out.
+    /// Removes a request.
     fn take_out(&mut self, index: usize, at: Moment)
         requires { index < length self.old.requests }
         ensures { self.new ≡ rules_of.without self.old at (remove self.old.requests index) }
@@ -56,7 +56,7 @@ impl<T: Tag> PlainQueue<T> {
         }
     }
 
-    /// Whether each tag that a reduction changes stays a value, the request at the index left out.
+    /// Whether each tag that a reduction changes stays a value. The request at the index is left out.
     fn can_reduce_by(&self, index: usize, client: ClientId, amount: Option<T>) -> bool
         requires { index < length self.now.requests }
         ensures { result ≡ rules_of.can_reduce_by T.ops client amount self.now.clients (remove self.now.requests index) }
@@ -70,7 +70,7 @@ impl<T: Tag> PlainQueue<T> {
         }
     }
 
-    /// What a Priority grant of the request takes off its client's R tags; refused `Range`.
+    /// What a Priority grant of the request takes off its client's R tags. It is refused `Range`.
     fn can_grant(&self, index: usize, client: ClientId) -> Result<Option<T>, Refusal>
         requires { index < length self.now.requests }
         ensures { result ≡ rules_of.can_grant T.ops self.now.config.hz client self.now.clients (remove self.now.requests index) }
@@ -92,7 +92,7 @@ impl<T: Tag> PlainQueue<T> {
         }
     }
 
-    /// Grants a request in the weight phase; refused `Range`.
+    /// Grants a request in the weight phase. It is refused `Range`.
     fn grant_priority(&mut self, index: usize, at: Moment, beyond: bool) -> Result<Pulled, Refusal>
         requires { index < length self.old.requests }
         ensures { Settles self.old self.new (rules_of.grant_found T.ops self.old at beyond (found_at self.old.requests (Some index))) (sure_call_reply pull_reply result) }
@@ -109,7 +109,7 @@ impl<T: Tag> PlainQueue<T> {
         })
     }
 
-    /// Grants the next request, or tells when one is due; refused `Range`.
+    /// Grants the next request, or returns the moment at which one is due. It is refused `Range`.
     pub fn pull_request(&mut self, at: Moment) -> Result<Pulled, Refusal>
         ensures { Exactly T.ops self.old self.new (commands.Pull at) (sure_call_reply pull_reply result) }
     {
@@ -120,7 +120,7 @@ impl<T: Tag> PlainQueue<T> {
         self.pull_free(at)
     }
 
-    /// Grants the next request in the weight phase, where none is due by its reservation; refused `Range`.
+    /// Grants the next request in the weight phase, where none is due by its reservation. It is refused `Range`.
     fn pull_free(&mut self, at: Moment) -> Result<Pulled, Refusal>
         ensures { Settles self.old self.new
             (rules_of.pulled_free T.ops self.old at (best (by_weight T.ops) (is_free T.ops at) self.old.requests))
@@ -132,7 +132,7 @@ impl<T: Tag> PlainQueue<T> {
         }
     }
 
-    /// Grants the best by weight, though it is beyond its limit; refused `Range`.
+    /// Grants the best request by weight, though it is beyond its limit. It is refused `Range`.
     fn pull_beyond(&mut self, at: Moment) -> Result<Pulled, Refusal>
         ensures { Settles self.old self.new
             (rules_of.grant_found T.ops self.old at true (best (by_weight T.ops) is_any self.old.requests))
@@ -147,7 +147,7 @@ impl<T: Tag> PlainQueue<T> {
         }
     }
 
-    /// Answers a pull where no request is early or free.
+    /// The result of a pull where no request is early or free.
     fn pull_at_limit(&mut self, at: Moment) -> Result<Pulled, Refusal>
         ensures { Settles self.old self.new (rules_of.nothing_due T.ops self.old at self.old.requests) (sure_call_reply pull_reply result) }
     {
@@ -157,7 +157,7 @@ impl<T: Tag> PlainQueue<T> {
         }
     }
 
-    /// Tells when the next request is due.
+    /// The moment at which the next request is due, as a pull returns it.
     fn tell_due(&mut self, at: Moment) -> Pulled
         ensures now { self.new ≡ rules_of.without self.old at self.old.requests }
         ensures answer { result ≡ option_map_or pulls.Future (least_due T.ops self.old.requests) pulls.Nothing }
@@ -167,7 +167,7 @@ impl<T: Tag> PlainQueue<T> {
     }
 }
 
-/// What a pull answers where something is due at a moment, or nothing is queued.
+/// The result of a pull where something is due at a moment, or where nothing is queued.
 fn due_at(due: Option<u128>) -> Pulled
     ensures { result ≡ option_map_or pulls.Future due pulls.Nothing }
 {
@@ -177,7 +177,7 @@ fn due_at(due: Option<u128>) -> Pulled
     }
 }
 
-/// What a Priority grant takes off a client's R tags: one spacing; none without a reservation.
+/// What a Priority grant takes off a client's R tags: one spacing, and nothing without a reservation.
 fn reduction_for<T: Tag>(
     hz: u32,
     clients: &[PlainClient<T>],

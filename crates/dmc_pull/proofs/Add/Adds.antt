@@ -1,4 +1,4 @@
--- What the tests of an add come to, and what the least P of all heads says of the shift.
+-- The results of the tests of an add, and what the least P of all heads means for the shift.
 use Rattle.std.proofs.Common.{◌≡◌, ℕ, Bool, true, false, not, List, [], length, Option, Some, None, Result, Ok, Err, refl, sym, ap, ◌∙◌, subst}
 use Rattle.std.specs.Prelude.{IfSome, IsSome, is_some, if◌then◌else◌, nat_le}
 use Rattle.std.specs.Option.{option_map, ok_or}
@@ -20,8 +20,8 @@ use Rattle.dmc_tag.specs.declared.plain.PlainClient.{PlainClient}
 use Rattle.dmc_tag.specs.declared.reply.Tags.{Tags}
 use Rattle.dmc_client.specs.Record.{IsRecord, client_of}
 use Rattle.dmc_roster.specs.Entries.{Entry, entry_named, AreDistinct}
-use Rattle.dmc_heads.specs.declared.head.Head.{Head}
-use Rattle.dmc_heads.specs.Heads.{IsLeastShare}
+use Rattle.dmc_head_index.specs.declared.head.Head.{Head}
+use Rattle.dmc_head_index.specs.Heads.{IsLeastShare}
 use Rattle.dmc_pull.specs.Adding.{needed_shift, unless_nothing}
 use Rattle.dmc_pull.specs.Queue.{AreHeads}
 use Rattle.dmc_pull.specs.Standing.{clients_in, requests_in}

@@ -18,8 +18,8 @@ use Rattle.dmc_client.specs.Record.{Rec, IsRecord, request_of, pushed}
 use Rattle.dmc_adjust.specs.Changes.{shifted}
 use Rattle.dmc_roster.specs.Entries.{Entry, Listing, entry_named, entry_keyed, record_at, with_rec, with_record, with_record_at, AreDistinct}
 use Rattle.dmc_index.specs.Index.{slot_of_key}
-use Rattle.dmc_heads.specs.declared.head.Head.{Head}
-use Rattle.dmc_heads.specs.Heads.{CanShift, IsOthers}
+use Rattle.dmc_head_index.specs.declared.head.Head.{Head}
+use Rattle.dmc_head_index.specs.Heads.{CanShift, IsOthers}
 use Rattle.dmc_pull.specs.Queue.{Queue, IsQueue, IsKept, AreHeads, head_of, head_at, unready}
 use Rattle.dmc_pull.specs.Standing.{clients_in, requests_in}
 use Rattle.dmc_pull.proofs.Common.Kept.{due_later}

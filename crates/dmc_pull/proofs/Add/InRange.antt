@@ -17,7 +17,7 @@ use Rattle.dmc_client.specs.declared.request.QueuedRequest.{QueuedRequest}
 use Rattle.dmc_client.specs.Record.{Rec, pushed, less_share, less_shares}
 use Rattle.dmc_adjust.specs.Changes.{shifted, is_shiftable}
 use Rattle.dmc_roster.specs.Entries.{Entry, Listing, record_at, with_rec, with_record_at}
-use Rattle.dmc_heads.specs.Least.{lesser}
+use Rattle.dmc_head_index.specs.Least.{lesser}
 use Rattle.dmc_pull.specs.Adding.{shifted_but, others_shifted}
 use Rattle.dmc_pull.specs.Queue.{Queue}
 use Rattle.dmc_pull.specs.Range.{IsWithin, HasSharesIn, AreWithin, greater, with_share, with_less, after_shift, range_after, all_have_less}

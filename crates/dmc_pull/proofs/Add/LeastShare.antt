@@ -16,8 +16,8 @@ use Rattle.dmc_tag.specs.declared.rank.TagRank.{TagRank}
 use Rattle.dmc_client.specs.Record.{IsRecord, request_of, requests_of_record}
 use Rattle.dmc_client.specs.declared.request.QueuedRequest.{QueuedRequest}
 use Rattle.dmc_roster.specs.Entries.{Entry, entry_keyed, AreDistinct}
-use Rattle.dmc_heads.specs.declared.head.Head.{Head}
-use Rattle.dmc_heads.specs.Heads.{IsLeastShare}
+use Rattle.dmc_head_index.specs.declared.head.Head.{Head}
+use Rattle.dmc_head_index.specs.Heads.{IsLeastShare}
 use Rattle.dmc_pull.specs.Standing.{requests_in}
 use Rattle.dmc_pull.specs.Queue.{AreHeads}
 use Rattle.dmc_pull.proofs.Common.Ordered.{share_first, FirstIsLeast}

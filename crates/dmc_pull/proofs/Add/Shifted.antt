@@ -147,7 +147,7 @@ module _ {T : Type 0} where
           ∙ ap (λ rs. map (shifted_request ops amount clients) (requests_of_record x.id x.rec) ++ rs) (requests_shifted_in xs h.1)
           ∙ sym (map-append (shifted_request ops amount clients) (requests_of_record x.id x.rec) (requests_in xs))
 
-    -- whether all can be shifted is asked record by record
+    -- whether all can be shifted is tested record by record
     pub shiftable : (es : List (Entry T)) → AreDistinct es → (requests_can_shift ops amount (clients_in es) (requests_in es) && clients_can_shift ops amount (clients_in es)) ≡ list_all (λ e. is_shiftable ops amount e.rec) es
     shiftable es d = tests_in (clients_in es) es (all_active es d)
 

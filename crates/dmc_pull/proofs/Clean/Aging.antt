@@ -1,4 +1,4 @@
--- The heads stay right while time goes on, room grows, and records change behind their first requests.
+-- The heads stay right while time advances, capacity grows, and records change after their first requests.
 use Rattle.std.proofs.Common.{◌≡◌, ℕ, ◌≤◌, List, [], ◌∷◌, ◌++◌, Option, Some, None, length, set, replicate, sym, ap, ◌∙◌, subst, inl, inr, nat_le}
 use Rattle.std.specs.Option.{option_map, option_and_then}
 use Rattle.std.specs.List.{AllByRecursion}
@@ -9,7 +9,7 @@ use Rattle.dmc_tag.specs.Best.{is_due}
 use Rattle.dmc_tag.specs.Rules.{moment_of}
 use Rattle.dmc_roster.specs.Entries.{Entry, entry_keyed}
 use Rattle.dmc_index.specs.Index.{slot_of_key}
-use Rattle.dmc_heads.specs.declared.head.Head.{Head}
+use Rattle.dmc_head_index.specs.declared.head.Head.{Head}
 use Rattle.dmc_pull.specs.Queue.{AreHeads, head_of, unready}
 use Rattle.dmc_index.proofs.Slots.{slot_of_key-more}
 use Rattle.dmc_pull.proofs.Common.Kept.{due_later}

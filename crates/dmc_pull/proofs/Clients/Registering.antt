@@ -18,7 +18,7 @@ use Rattle.dmc_tag.specs.declared.spacing.Spacings.{Spacings}
 use Rattle.dmc_client.specs.Record.{Rec, client_of}
 use Rattle.dmc_roster.specs.Entries.{Entry, Listing, entry_named, Adds, AreDistinct}
 use Rattle.dmc_index.specs.Index.{slot_of_key}
-use Rattle.dmc_heads.specs.declared.head.Head.{Head}
+use Rattle.dmc_head_index.specs.declared.head.Head.{Head}
 use Rattle.dmc_pull.specs.Standing.{clients_in, requests_in}
 use Rattle.dmc_pull.specs.Queue.{Queue, state_of, IsQueue, IsKept, AreHeads, head_of}
 use Rattle.dmc_pull.proofs.Common.Parts.{all_as, all_next}
@@ -43,8 +43,7 @@ module _ {T : Type 0} (ops : Tagging T) (s : State T) (id : ClientId) (info : Ra
   pub may_register : (spacings : Spacings T) → is_some (client_named id s.clients) ≡ false → spacings_of ops s.config.hz info ≡ Ok spacings → length s.clients < most_clients → Ok tt ≡ can_register ops s id info
   may_register spacings known exact room = rw (known, exact, lt-leb most_clients (length s.clients) room) refl
 
--- the answer about the spacings, at the rate of the clock that was read
--- nobody has the name, where no key was found
+-- the result on the spacings, at the rate of the clock that was read no client has the id, where no key was found
 pub not_named : {T : Type 0} (id : ClientId) (es : List (Entry T)) (found : Option ℕ) → found ≡ option_map (λ e. e.key) (entry_named id es) → is_some found ≡ false → entry_named id es ≡ None
 not_named id es found e none = at (entry_named id es) (ap is_some (sym e) ∙ none) where
   at : {T : Type 0} (o : Option (Entry T)) → is_some (option_map (λ e. e.key) o) ≡ false → o ≡ None
@@ -60,7 +59,7 @@ module _ {T : Type 0} (ops : Tagging T) (fraction : T → Fraction) (is_value : 
   abbrev Is : Queue T → ℕ → Type 0
   Is q queued = IsQueue ops fraction is_value q queued
 
-  -- more room in the indexes
+  -- more capacity in the indexes
   pub roomier_is : DueFromCeil ops → {q : Queue T} {queued : ℕ} → Is q queued → (heads : List (Option (Head T))) → ((key : ℕ) → slot_of_key heads key ≡ slot_of_key q.heads key) → length q.heads ≤ length heads → Is (record q { heads = heads }) queued
   roomier_is due_from {q} is heads holds more = record {
     kept = is.kept;
@@ -71,7 +70,7 @@ module _ {T : Type 0} (ops : Tagging T) (fraction : T → Fraction) (is_value : 
     bound = is.bound;
   }
 
-  -- a client comes last, under a key that has room
+  -- a client is added last, under a key below the capacity
   pub registered_is : DueFromCeil ops → {q : Queue T} {queued : ℕ} → Is q queued → (roster : Listing T) (e : Entry T) → roster.entries ≡ q.roster.entries ++ e ∷ [] → AreDistinct roster.entries → e.key < length q.heads → IsKept ops fraction is_value q.config.hz e.rec → e.rec.requests ≡ [] → (at : ℕ) → q.last_moment ≤ at → Is (record q { roster = roster; last_moment = at }) queued
   registered_is due_from {q} {queued} is roster e last distinct within keeps none at later =
       let es = q.roster.entries in
@@ -92,7 +91,7 @@ module _ {T : Type 0} (ops : Tagging T) (fraction : T → Fraction) (is_value : 
 pub registered_state : {T : Type 0} → (q : Queue T) (roster : Listing T) (heads : List (Option (Head T))) (e : Entry T) (at : ℕ) → roster.entries ≡ q.roster.entries ++ e ∷ [] → e.rec.requests ≡ [] → state_of (record { config = q.config; roster = roster; heads = heads; last_moment = at }) ≡ record (state_of q) { clients = clients_in q.roster.entries ++ client_of e.id e.rec ∷ []; last_moment = at }
 registered_state q roster heads e at last none = rw (last, registered_clients q.roster.entries e, registered_requests q.roster.entries e none) refl
 
--- the indexes have room for a key
+-- the indexes have capacity for a key
 pub has_room : {X : Type 0} → (slots more : List (Option X)) (key room : ℕ) → room ≡ suc key → more ≡ slots ++ replicate (room - length slots) None → key < length more
 has_room {X} slots more key room e h =
     let none : List (Option X) = replicate (room - length slots) None in

@@ -28,7 +28,7 @@ use Rattle.dmc_pull.proofs.Clean.Aging.{DueFromCeil, heads_later}
 -- ---- the client of an id
 
 module _ {T : Type 0} where
-  -- the entry of a client, and where it stands
+  -- the entry of a client, and where it is
   pub record HasClient (id : ClientId) (key : ℕ) (es : List (Entry T)) : Type 0 where
     pub entry : Entry T
     pub keyed : entry_keyed key es ≡ Some entry

@@ -1,4 +1,4 @@
--- The answer of a pull that went on to its moment, as that of the state before.
+-- The reply to a pull that advanced to its moment, as that of the state before.
 use Rattle.std.proofs.Common.{◌≡◌, ℕ, Bool, true, false, List, [], ◌∷◌, Option, Some, None, refl, sym, ap, ◌∙◌, subst}
 use Rattle.std.specs.Prelude.{Result, Ok, Err, is_err, IfOk}
 use Rattle.dmc_types.specs.declared.config.AtLimit.{AtLimit}
@@ -111,7 +111,7 @@ module _ {T : Type 0} (ops : Tagging T) (s new : State T) (at t : ℕ) (e : t �
   exactly_when (Some reply) after h = h ∙ pull_is
   exactly_when None after h = absurd h
 
-  -- the answer of the state that went on to the moment
+  -- the reply of the state that advanced to the moment
   module _ (went : State T) (went_is : went ≡ record s { last_moment = t }) (answer : Result Pulled Refusal) (h : Settles went new (pulled_free ops went went.last_moment (free went)) (sure_call_reply pull_reply answer)) where
     on_moment : Settles (record s { last_moment = t }) new (pulled_free ops s t (best (by_weight ops) (is_free ops t) s.requests)) (sure_call_reply pull_reply answer)
     on_moment =
@@ -127,7 +127,7 @@ module _ {T : Type 0} (ops : Tagging T) (s new : State T) (at t : ℕ) (e : t �
   -- ---- with a test
 
   module _ (allows : ClientId → PhaseType → Bool) (went : State T) (went_is : went ≡ record s { last_moment = t }) where
-    -- what is granted by P in a state, or told
+    -- what is granted by P in a state, or when something is due
     abbrev weighed : State T → Outcome T
     weighed v = pulled_free ops v v.last_moment (free v)
 

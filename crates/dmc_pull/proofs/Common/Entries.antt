@@ -1,4 +1,4 @@
--- What the clients and requests of a plain state come to, entry by entry.
+-- The clients and requests of a plain state, entry by entry.
 use Rattle.std.proofs.Common.{◌≡◌, ℕ, ◌+◌, Bool, true, false, not, ◌&&◌, ◌||◌, cond, List, [], ◌∷◌, ◌++◌, map, length, Some, refl, sym, ap, ◌∙◌, subst, arith}
 use Rattle.std.specs.Prelude.{filter, ◌==◌, if◌then◌else◌}
 use Rattle.std.specs.Option.{option_map}
@@ -104,7 +104,7 @@ module _ {T : Type 0} where
       ∙ ap (λ b. s.front ++ (if b then with_rec (λ old. rec) e else e) ∷ with_record key rec s.back) s.keyed
       ∙ ap (λ xs. s.front ++ record e { rec = rec } ∷ xs) (others_kept key rec e k s.back s.behind)
 
-  -- the changed entry stands where it stood
+  -- the changed entry is where it was
   abbrev pub split_changed : {key : ℕ} {e : Entry T} {es : List (Entry T)} (s : Split key e es) (rec : Rec T) → Split key (record e { rec = rec }) (with_record key rec es)
   split_changed {key} {e} s rec = record { front = s.front; back = s.back; whole = with_record_split s rec; keyed = s.keyed; ahead = s.ahead; behind = s.behind }
 

@@ -12,8 +12,8 @@ use Rattle.dmc_client.specs.Record.{request_of, requests_of_record}
 use Rattle.dmc_client.specs.declared.request.QueuedRequest.{QueuedRequest}
 use Rattle.dmc_roster.specs.Entries.{Entry, entry_named, entry_keyed, AreDistinct}
 use Rattle.dmc_index.specs.Index.{slot_of_key}
-use Rattle.dmc_heads.specs.declared.head.Head.{Head}
-use Rattle.dmc_heads.specs.Heads.{Ranks}
+use Rattle.dmc_head_index.specs.declared.head.Head.{Head}
+use Rattle.dmc_head_index.specs.Heads.{Ranks}
 use Rattle.dmc_pull.specs.Standing.{requests_in}
 use Rattle.dmc_pull.specs.Queue.{Queue, IsQueue, AreHeads, state_of}
 use Rattle.dmc_pull.specs.FirstRequests.{first_request, client_at, head_client, AreFirstRequests}
@@ -78,7 +78,7 @@ first_requests ops fraction is_value q queued is =
       marks = is.heads.marks;
     }
 
--- the same of each plain state that it stands for
+-- the same of each plain state that it represents
 pub first_requests_alike : {T : Type 0} (ops : Tagging T) (s u : State T) (heads : List (Option (Head T))) → StandsFor s u → AreFirstRequests ops s heads → AreFirstRequests ops u heads
 first_requests_alike ops s u heads agree are = record {
   tags = λ key head h. ap (λ rs. option_map (λ r. r.tags) (slice_get rs 0)) (sym (agree.requests head.client)) ∙ are.tags key head h;

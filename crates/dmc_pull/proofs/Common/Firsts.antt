@@ -93,7 +93,7 @@ module _ {T : Type 0} where
       ∙ ap (λ b. at.front ++ cond b (with_rec (λ old. rec) e) e ∷ with_record key rec at.back) at.keyed
       ∙ ap (λ l. at.front ++ with_rec (λ old. rec) e ∷ l) (others_stay key rec at.back at.behind)
 
-  -- the record that stands there changes nothing
+  -- the record that is there changes nothing
   pub same_record : (key : ℕ) (rec : Rec T) (es : List (Entry T)) → AreDistinct es → record_at key es ≡ Some rec → with_record key rec es ≡ es
   same_record key rec es d h = at (entry_keyed key es) refl h where
     at : (o : Option (Entry T)) → entry_keyed key es ≡ o → option_map (λ e. e.rec) o ≡ Some rec → with_record key rec es ≡ es

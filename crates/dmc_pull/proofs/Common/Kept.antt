@@ -10,8 +10,8 @@ use Rattle.dmc_tag.specs.Best.{is_due}
 use Rattle.dmc_roster.specs.Entries.{Entry, Listing}
 use Rattle.dmc_index.specs.Index.{slot_of_key}
 use Rattle.dmc_index.proofs.Slots.{slot_of_key-map}
-use Rattle.dmc_heads.specs.declared.head.Head.{Head}
-use Rattle.dmc_heads.specs.Heads as heads_of
+use Rattle.dmc_head_index.specs.declared.head.Head.{Head}
+use Rattle.dmc_head_index.specs.Heads as heads_of
 use Rattle.dmc_tag.specs.Rules.{moment_of}
 use Rattle.dmc_pull.specs.Queue.{Queue, IsQueue, AreHeads, unready}
 

@@ -15,9 +15,9 @@ use Rattle.dmc_adjust.specs.Changes.{shifted, is_shiftable}
 use Rattle.dmc_roster.specs.Entries.{Entry, entry_keyed, with_rec, with_record, AreDistinct}
 use Rattle.dmc_index.specs.Index.{slot_of_key}
 use Rattle.dmc_index.proofs.Slots.{slot_of_key-map}
-use Rattle.dmc_heads.specs.declared.head.Head.{Head}
-use Rattle.dmc_heads.specs.Heads as heads_of
-use Rattle.dmc_heads.specs.Heads.{CanShift}
+use Rattle.dmc_head_index.specs.declared.head.Head.{Head}
+use Rattle.dmc_head_index.specs.Heads as heads_of
+use Rattle.dmc_head_index.specs.Heads.{CanShift}
 use Rattle.dmc_pull.specs.Adding.{shifted_but}
 use Rattle.dmc_pull.specs.Queue.{AreHeads, head_of, unready}
 use Rattle.dmc_pull.specs.Standing.{clients_in, requests_in}

@@ -1,4 +1,4 @@
--- Lists in parts: what holds of each element, and what a map, a filter or a test of all comes to.
+-- Lists in parts: what holds of each element, and the result of a map, a filter or a test of all.
 use Rattle.std.proofs.Common.{◌≡◌, ℕ, suc, Bool, true, false, not, ◌&&◌, ◌||◌, cond, List, [], ◌∷◌, ◌++◌, map, length, refl, sym, ap, ◌∙◌, arith}
 use Rattle.std.specs.Prelude.{filter, ◌==◌}
 use Rattle.std.specs.List.{list_all, list_any, AllByRecursion}

@@ -1,4 +1,4 @@
--- What a registration or an add that is refused answers, and one that is not.
+-- The reply to a registration or an add that is refused, and to one that is not.
 use Rattle.std.proofs.Common.{◌≡◌, ℕ, [], ◌∷◌, ◌++◌, refl, sym, ap, ◌∙◌}
 use Rattle.std.specs.Prelude.{Result, Ok, Err, ⊤, is_ok, IsOk, OnOk, OnErr, IsOkUnless}
 use Rattle.dmc_types.specs.Values.{Rates, Params}
@@ -21,7 +21,7 @@ use Rattle.dmc_tag.specs.declared.reply.Reply.TheVariants.{Registered, Tagged}
 use Rattle.dmc_tag.proofs.Refusals.{no_memory}
 
 module _ {T : Type 0} (ops : Tagging T) (old : State T) (id : ClientId) where
-  -- what a registration comes to, from its tests
+  -- the effect of a registration, from its tests
   abbrev registered_by : Rates → ℕ → Result ⊤ Refusal → Outcome T
   registered_by info t tests = tests >>= λ x. Ok (record old { clients = old.clients ++ newcomer ops id info t ∷ []; last_moment = t }, Registered)
 

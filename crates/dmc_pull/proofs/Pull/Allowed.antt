@@ -1,4 +1,4 @@
--- The tests of an add, asked of the entries.
+-- The tests of an add, on the entries.
 use Rattle.std.proofs.Common.{◌≡◌, ℕ, ◌≤◌, ◌<◌, true, false, List, length, Option, Some, None, Result, Ok, Err, sym, ap, ◌∙◌, subst, arith}
 use Rattle.std.specs.Prelude.{IfSome, is_some, nat_le, ◌==◌}
 use Rattle.std.specs.Option.{option_map}
@@ -35,7 +35,7 @@ use Rattle.dmc_pull.proofs.Common.Keyed.{record_is}
 use Rattle.dmc_pull.proofs.Add.Adds.{held_entry, if_holds, full, no_shift, whole, Whole, out_of_range, no_tags, allowed, idle_where_shifted}
 use Rattle.dmc_pull.proofs.Add.NothingOff.{all_requests, all_clients, same_test, same_shifted}
 
--- the step of an add, from what it comes to at the effective moment
+-- the step of an add, from its effect at the effective moment
 pub step_of_add : {T : Type 0} (ops : Tagging T) (s : State T) (id : ClientId) (token : Token) (params : Params) (at moment : ℕ) (answer : State T × Reply T) → moment ≡ effective s at → added ops s id token params moment ≡ Ok answer → step ops s (Add id token params at) ≡ answer
 step_of_add ops s id token params at moment answer e h = ap (answer_of s) (ap (added ops s id token params) (sym e) ∙ h)
 
@@ -54,7 +54,7 @@ module _ {T : Type 0} (ops : Tagging T) (fraction : T → Fraction) (is_value : 
     shifted_left : (amount : Option T) → shifted_by ops (unless_nothing ops amount) (state_of q) ≡ shifted_by ops amount (state_of q)
     shifted_left = same_shifted ops (λ tag. is_value (fraction tag)) same off (state_of q) (all_requests ops (λ tag. is_value (fraction tag)) entries all_values) (all_clients ops (λ tag. is_value (fraction tag)) entries all_values)
 
-    -- what an add comes to, with the shift left out where it is nothing
+    -- the effect of an add, with the shift left out where it is 0
     pub added_is : (id : ClientId) (params : Params) (at : ℕ) (addition : Addition T) → Allows ops (state_of q) id params at addition → (token : Token) → added ops (state_of q) id token params at ≡ Ok (rules_of.queued (shifted_by ops addition.shift (state_of q)) (record { client = id; token = token; tags = addition.tags }) at, Tagged addition.tags)
     added_is id params at addition allows token =
         ap (λ r. r >>= λ (shift, tags). Ok (rules_of.queued (shifted_by ops shift (state_of q)) (record { client = id; token = token; tags = tags }) at, Tagged tags)) allows.test
@@ -116,7 +116,7 @@ module _ {T : Type 0} (ops : Tagging T) (fraction : T → Fraction) (is_value : 
               shift = whole_is.left;
             }
 
-            -- the tests held, and what the add comes to
+            -- the tests passed, and the effect of the add
             pub is_allowed : (assigned_tags : Tags T) → tags ≡ Some assigned_tags → IfSome tags (AreNext ops rec.info rec.previous) → is_value (fraction assigned_tags.p) → IsAllowed ops fraction is_value q id params at (record { key = key; shift = shift; tags = assigned_tags })
             is_allowed assigned_tags h follows value =
                 let counted = is.counted in

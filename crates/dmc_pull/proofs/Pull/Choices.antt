@@ -18,7 +18,7 @@ use Rattle.dmc_client.specs.declared.request.QueuedRequest.{QueuedRequest}
 use Rattle.dmc_roster.specs.Entries.{Entry, entry_keyed, with_record, AreDistinct}
 use Rattle.dmc_adjust.specs.Changes.{popped}
 use Rattle.dmc_index.specs.Index.{slot_of_key, IsEmpty}
-use Rattle.dmc_heads.specs.declared.head.Head.{Head}
+use Rattle.dmc_head_index.specs.declared.head.Head.{Head}
 use Rattle.dmc_tag.proofs.Lists.{all_both}
 use Rattle.dmc_tag.proofs.Orderings.{IsUpto}
 use Rattle.dmc_pull.specs.Standing.{requests_in}

@@ -26,8 +26,8 @@ use Rattle.dmc_client.specs.Record.{IsRecord, request_of}
 use Rattle.dmc_client.specs.declared.request.QueuedRequest.{QueuedRequest}
 use Rattle.dmc_roster.specs.Entries.{Entry, AreDistinct}
 use Rattle.dmc_index.specs.Index.{slot_of_key}
-use Rattle.dmc_heads.specs.declared.head.Head.{Head}
-use Rattle.dmc_heads.specs.Heads.{IsFirst, tag_rank, limit_rank}
+use Rattle.dmc_head_index.specs.declared.head.Head.{Head}
+use Rattle.dmc_head_index.specs.Heads.{IsFirst, tag_rank, limit_rank}
 use Rattle.dmc_tag.proofs.Lists.{all_at}
 use Rattle.dmc_tag.proofs.Orderings.{IsUpto, due_before}
 use Rattle.dmc_pull.specs.Standing.{requests_in}
@@ -175,7 +175,7 @@ module _ {T : Type 0} (ops : Tagging T) (t : ℕ) (es : List (Entry T)) (heads :
 module _ {T : Type 0} (ops : Tagging T) (order : IsTotalOrder ops.compare) (t : ℕ) (es : List (Entry T)) (heads : List (Option (Head T))) (are : AreHeads ops t es heads) (d : AreDistinct es) (records : AllByRecursion (λ e. IsRecord ops e.rec) es)
     (due_from : (tag : T) (n : ℕ) → is_due ops n (Some tag) ≡ nat_le (moment_of (ops.ceil tag)) n) (exactly : (s : State T) (at m : ℕ) → (step ops s (Pull at)).1 ≡ Later m → IsNextDue ops m s.requests) (config : Setting)
     (none_early : best (by_reservation ops) (is_early ops t) (requests_in es) ≡ None) (none_free : best (by_weight ops) (is_free ops t) (requests_in es) ≡ None) (has_none : HasNone (is_free ops t) (requests_in es)) where
-  -- what the indexes tell is what the rules name
+  -- what the indexes return is what the rules name
   pub due_told : (kr : ℕ) (r : TagRank T) → IsFirst tag_rank (tag_rank_cmp ops.compare) heads kr r → (kl : ℕ) (l : LimitRank T) → IsFirst limit_rank (limit_rank_cmp ops.compare) heads kl l → (m : ℕ) → m ≡ earlier (moment_of (ops.ceil l.tag)) (option_map (λ g. moment_of (ops.ceil g)) r.tag) → (first : PlainRequest T) (rest : List (PlainRequest T)) → requests_in es ≡ first ∷ rest → m ≡ least_due ops first rest
   due_told kr r first_r kl l first_l m e first rest whole =
       let told : IsNextDue ops m (requests_in es) = subst (λ n. IsNextDue ops n (requests_in es)) (sym e) (next_due ops order t es heads are d records due_from (all_unmarked ops t es heads are d has_none) kr r first_r kl l first_l) in

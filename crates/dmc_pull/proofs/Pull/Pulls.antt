@@ -16,8 +16,8 @@ use Rattle.dmc_tag.specs.declared.rank.ReadyRank.{ReadyRank}
 use Rattle.dmc_client.specs.Record.{Rec, IsRecord}
 use Rattle.dmc_roster.specs.Entries.{Entry, AreDistinct}
 use Rattle.dmc_index.specs.Index.{slot_of_key, IsEmpty}
-use Rattle.dmc_heads.specs.declared.head.Head.{Head}
-use Rattle.dmc_heads.specs.Heads.{IsFirst, tag_rank, ready_rank}
+use Rattle.dmc_head_index.specs.declared.head.Head.{Head}
+use Rattle.dmc_head_index.specs.Heads.{IsFirst, tag_rank, ready_rank}
 use Rattle.dmc_pull.specs.Standing.{requests_in}
 use Rattle.dmc_pull.specs.Queue.{AreHeads}
 use Rattle.dmc_pull.proofs.Common.Parts.{true_not_false}

@@ -1,4 +1,4 @@
--- What a pull answers, from the client that the call in it named: by R, by P, or none.
+-- The result of a pull, from the client that the call in it named: by R, by P, or none.
 use Rattle.std.proofs.Common.{◌≡◌, ℕ, Bool, true, false, List, [], ◌∷◌, Option, Some, None, refl, sym, ap, ◌∙◌, subst}
 use Rattle.std.specs.Prelude.{IfSome, Result, Ok}
 use Rattle.std.specs.Option.{option_map}
@@ -87,7 +87,7 @@ module _ {T : Type 0} (ops : Tagging T) (s : State T) where
     later_at [] (Some found) e n limit due = cc
     later_at (x ∷ xs) (Some found) e n limit due = ap (λ (m : ℕ). (s, Later m)) (due x xs refl) ∙ ap (λ l. answer_of s (at_limit ops s t l x xs)) (sym limit)
 
-    -- none is free, and the moment is told at which one is due
+    -- none is free, and the moment is returned at which one is due
     pub later_answers : {m : ℕ} → free ≡ None → best (by_weight ops) is_any s.requests ≡ first → s.config.at_limit ≡ Wait
         → ((x : PlainRequest T) (rest : List (PlainRequest T)) → s.requests ≡ x ∷ rest → m ≡ least_due ops x rest)
         → let answer : State T × Reply T = (s, Later m) in answer ≡ answer_of s (pulled_free ops s t free)

@@ -32,12 +32,12 @@ use dmc_types::moment::Moment;
 use dmc_types::params::ReqParams;
 use dmc_types::refusal::{QueueFault, Refusal};
 
-/// A place where no client is registered.
+/// An index at which no client is registered.
 const NOWHERE: usize = usize::MAX;
 
 impl<T: Tag, I: Indexes<T>> PullQueue<T, I> {
-    /// How far all others are shifted for a client that comes at t; none where it is not idle, where nothing is queued, or
-    /// where the shift is nothing.
+    /// The amount by which all others are shifted for a client that arrives at t. `None` where it is not idle, where nothing is
+    /// queued, or where the amount is 0.
     fn needed_shift(&mut self, key: usize, t: T) -> Result<Option<T>, Refusal>
         requires { is_some (entry_keyed key self.old.roster.entries) ≡ true }
         ensures value { IfSome (entry_keyed key self.old.roster.entries) (λ e.
@@ -56,7 +56,7 @@ impl<T: Tag, I: Indexes<T>> PullQueue<T, I> {
         }
     }
 
-    /// Whether each tag that a shift changes stays a value: asked record by record where it does not follow from the range.
+    /// Whether each tag that a shift changes stays a value. Where that does not follow from the range, each record is tested.
     fn can_shift_by(&self, shift: Option<T>) -> bool
         ensures { result ≡ rules_of.can_shift_by T.ops shift (state_of self.now).clients (state_of self.now).requests }
     {
@@ -73,8 +73,8 @@ impl<T: Tag, I: Indexes<T>> PullQueue<T, I> {
         self.roster.count(&Shiftable { amount }) == self.roster.len()
     }
 
-    /// The tests of an add, and what it comes to: the key of the client, the shift of all others and the new tags. The client is
-    /// looked for at a place first.
+    /// The tests of an add, and its effect: the key of the client, the shift of all others and the new tags. The client is looked
+    /// for at the index `near` first.
     fn can_add(
         &mut self,
         client: ClientId,
@@ -132,7 +132,7 @@ impl<T: Tag, I: Indexes<T>> PullQueue<T, I> {
         Ok(())
     }
 
-    /// Queues a request, and answers its tags; refused `Unknown`, `QueueFull`, `Range`, in this order, and `Memory` last.
+    /// Queues a request, and returns its tags. It is refused `Unknown`, `QueueFull`, `Range`, in this order, and `Memory` last.
     pub fn add_request(
         &mut self,
         client: ClientId,
@@ -145,8 +145,9 @@ impl<T: Tag, I: Indexes<T>> PullQueue<T, I> {
         self.add_request_near(NOWHERE, client, token, params, at)
     }
 
-    /// The same, where the client may be the one that was the `near`-th to register, counted from 0, of those that are
-    /// registered: that one is looked at first. So a caller that knows the order finds it without its hash (own).
+    /// Queues a request as `add_request` does, with a hint: the client may be the one at the index `near`, in order of
+    /// registration, counted from 0. That one is looked at first, so a caller that knows the order finds the client without a
+    /// hash (extension).
     pub fn add_request_near(
         &mut self,
         near: usize,

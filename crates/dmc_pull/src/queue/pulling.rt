@@ -31,7 +31,7 @@ use dmc_types::moment::Moment;
 use dmc_types::refusal::Refusal;
 
 impl<T: Tag, I: Indexes<T>> PullQueue<T, I> {
-    /// The key and the client of the least R, where it is not past a moment.
+    /// The key and the client of the least R, where it is at most the moment.
     fn early(&self, at: Moment) -> Option<(usize, ClientId)>
         ensures { Early T.ops at self.now.roster.entries result }
     {
@@ -47,7 +47,7 @@ impl<T: Tag, I: Indexes<T>> PullQueue<T, I> {
         }
     }
 
-    /// Goes on to a moment, at which each head is marked ready whose L is not past.
+    /// Advances to a moment, and marks each head ready whose L is at most that.
     fn advance(&mut self, at: Moment)
         requires { self.old.last_moment ≤ at }
         ensures state { state_of self.new ≡ record (state_of self.old) { last_moment = at } }
@@ -57,7 +57,7 @@ impl<T: Tag, I: Indexes<T>> PullQueue<T, I> {
         self.last_moment = at;
     }
 
-    /// Goes back to a moment, and sets back the marks of the heads whose L is past it.
+    /// Goes back to a moment, and resets the marks of the heads whose L is above it.
     fn go_back(&mut self, before: Moment)
         ensures { state_of self.new ≡ record (state_of self.old) { last_moment = before } }
     {
@@ -65,7 +65,7 @@ impl<T: Tag, I: Indexes<T>> PullQueue<T, I> {
         self.last_moment = before;
     }
 
-    /// The key and the client of the least P of what is free, or of all, and whether it is free; none where nothing is
+    /// The key and the client of the least P of the free requests, or of all, and whether it is free. `None` where nothing is
     /// queued.
     fn by_weight(&self) -> Option<(usize, ClientId, bool)>
         requires { IsMarked T.ops self.now }
@@ -97,8 +97,8 @@ impl<T: Tag, I: Indexes<T>> PullQueue<T, I> {
         }
     }
 
-    /// Takes out the first request of a client; in the weight phase the spacing of its reservation is taken off the R of the
-    /// others. It answers the token.
+    /// Removes the first request of a client, and returns its token. In the weight phase the spacing of the client's reservation
+    /// is taken off the R of its others.
     fn take_out(&mut self, key: usize, client: ClientId, reduces: bool, at: Moment) -> Token
         requires first { IsFirstOf self.old.roster.entries key client }
         requires reducible { reduces ≡ true → IfSome (record_at key self.old.roster.entries) (λ rec. changes.is_reducible T.ops (changes.popped rec) ≡ true) }
@@ -173,7 +173,7 @@ impl<T: Tag, I: Indexes<T>> PullQueue<T, I> {
         })
     }
 
-    /// Answers a pull where no request is early.
+    /// The result of a pull where no request is early.
     fn pull_by_weight<A: GrantTest>(&mut self, test: &A) -> Result<Pulled, PullFault>
         requires marked { IsMarked T.ops self.old }
         requires none_early { best (by_reservation T.ops) (is_early T.ops self.old.last_moment) (requests_in self.old.roster.entries) ≡ None }
@@ -193,7 +193,8 @@ impl<T: Tag, I: Indexes<T>> PullQueue<T, I> {
         }
     }
 
-    /// Grants the next request, or tells when one is due; refused `Range` (Algorithm 1; the future time is own).
+    /// Grants the next request, or returns the moment at which one is due. It is refused `Range` (mClock's Algorithm 1; the
+    /// moment is an extension).
     pub fn pull_request(&mut self, at: Moment) -> Result<Pulled, Refusal>
         ensures { Exactly T.ops (state_of self.old) (state_of self.new) (commands.Pull at) (sure_call_reply pull_reply result) }
     {
@@ -204,7 +205,7 @@ impl<T: Tag, I: Indexes<T>> PullQueue<T, I> {
         }
     }
 
-    /// Pulls, but for a grant that the test does not allow: that is `Declined`, and nothing changes (own).
+    /// Grants the next request where the test allows it, and otherwise returns `Declined` and changes nothing (extension).
     pub fn pull_allowed<A: GrantTest>(&mut self, at: Moment, test: &A) -> Result<Pulled, PullFault>
         ensures { PullsIf (A.allows test.now) T.ops (state_of self.old) (state_of self.new) at result }
     {

@@ -42,7 +42,7 @@ impl<T: Tag, I: Indexes<T>> PullQueue<T, I> {
         Ok(spacings)
     }
 
-    /// Takes a new client in, and makes room for it in all indexes.
+    /// Adds a new client, and reserves capacity for it in all indexes.
     fn admit(&mut self, client: ClientId, rec: ClientRec<T>, at: Moment) -> Result<(), QueueFault>
         requires new { entry_named client self.old.roster.entries ≡ None }
         requires room { length self.old.roster.entries < most_clients }
@@ -64,8 +64,8 @@ impl<T: Tag, I: Indexes<T>> PullQueue<T, I> {
         Ok(())
     }
 
-    /// Registers a client; refused `Known`, `Inexact`, `Clients`, in this order, and `Memory` last. It makes room in all
-    /// indexes.
+    /// Registers a client. It is refused `Known`, `Inexact`, `Clients`, in this order, and `Memory` last. It reserves capacity in
+    /// all indexes.
     pub fn register(
         &mut self,
         client: ClientId,
@@ -102,7 +102,7 @@ impl<T: Tag, I: Indexes<T>> PullQueue<T, I> {
         Ok((key, spacings))
     }
 
-    /// Replaces a client's rates; refused `Unknown`, `Inexact`, `Busy`, in this order.
+    /// Replaces a client's rates. It is refused `Unknown`, `Inexact`, `Busy`, in this order.
     pub fn update_info(
         &mut self,
         client: ClientId,

@@ -299,7 +299,7 @@ impl Slow {
         Ok(tags)
     }
 
-    /// The place of the best request by a tag, among those that pass a test: the least tag, then
+    /// The index of the best request by a tag, among those that pass a test: the least tag, then
     /// the least client, then the first to arrive.
     fn best(
         &self,

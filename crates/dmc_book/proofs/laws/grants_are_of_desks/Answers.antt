@@ -5,6 +5,6 @@ use Rattle.dmc_book.proofs.laws.grants_are_of_desks.Goals as goal
 
 pub returns : goal.returns
 returns g c =
-    let here = c.book.inside in
-    let known = c.book.invariant.0 in
-    rw (← c.book.view_is) (λ phase. grants_of_desks phase (map client_side here.desks.items) known.clients_apart here.history.events known.granted)
+    let here = c.accounts.inside in
+    let known = c.accounts.invariant.0 in
+    rw (← c.book.view_is, ← c.accounts.view_is) (λ phase. grants_of_desks phase (map client_side here.desks.items) known.clients_apart here.history.events known.granted)

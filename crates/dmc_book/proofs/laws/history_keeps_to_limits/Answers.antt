@@ -1,7 +1,7 @@
 use Rattle.std.proofs.Common.{◌<◌, subst}
 use Rattle.dmc_tag.specs.Replay.{replays}
 use Rattle.dmc_tag.proofs.ForCallers.{tag_order}
-use Rattle.dmc_bounds.proofs.ForCallers.{holds_limit}
+use Rattle.dmc_history_laws.proofs.ForCallers.{holds_limit}
 use Rattle.dmc_book.proofs.laws.history_keeps_to_limits.Goals as goal
 
 pub returns : goal.returns
@@ -11,4 +11,4 @@ returns g c =
     let some : 0 < here.config.hz = rw c.hz.ensures.value at c.hz.ensures.some in
     rw (← c.book.view_is) (λ id token rate at before second rest add grant is.
     holds_limit g.T.Tag.ops g.T.Tag.fraction g.T.Tag.is_value g.met.T.Tag.exact order here.config some id token rate at before second rest add grant
-    (subst (λ h. replays g.T.Tag.ops here.config h) is c.book.invariant.0.replaying))
+    (subst (λ h. replays g.T.Tag.ops here.config h) is c.book.invariant.replaying))

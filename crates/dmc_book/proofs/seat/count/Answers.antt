@@ -1,6 +1,6 @@
-use Rattle.std.proofs.Common.{rules, refl, ◌≡◌, ap, sym, subst, slice_index_or, ◌^◌}
+use Rattle.std.proofs.Common.{rules, refl, ◌≡◌, ap, sym, subst, slice_index_or}
 use Rattle.dmc_book.specs.BookState.{worker_accounts}
-use Rattle.dmc_book.specs.Consistent.{AreWithin}
+use Rattle.dmc_book.specs.Consistent.{AreWithin, most_before}
 use Rattle.dmc_book.proofs.WorkerLemmas.{counted_workers, fits_at}
 use Rattle.dmc_book.proofs.seat.count.Goals as goal
 
@@ -8,10 +8,10 @@ pub returns-clause-workers : goal.returns-clause-workers
 returns-clause-workers g c =
     let x = c.index_mut.result.now in
     let is : slice_index_or c.args.workers.now.items c.args.place x ≡ x = search rules in
-    counted_workers c.args.event.now c.args.workers.now.items c.args.place x (record { worker = x.worker; books = c.credit_all.new.books }) c.requires.within c.requires.its_worker c.requires.apart (ap (λ s. s.worker) (sym is)) (rw (is, c.credit_all.ensures.books, c.numbers_of-numbers.ensures.value) refl)
+    counted_workers c.args.event.now c.args.workers.now.items c.args.place x (record { worker = x.worker; renewed = x.renewed; books = c.credit_all.new.books }) c.requires.within c.requires.its_worker c.requires.apart (ap (λ s. s.worker) (sym is)) (ap (λ s. s.renewed) (sym is)) (rw (is, c.credit_all.ensures.books, c.numbers_of-numbers.ensures.value) refl)
 
 pub credit_all-requires-clause-fits : goal.credit_all-requires-clause-fits
 credit_all-requires-clause-fits g c =
     let x = c.index_mut.result.now in
     let is : slice_index_or c.args.workers.now.items c.args.place x ≡ x = search rules in
-    subst (λ y. AreWithin (2 ^ 62) (worker_accounts y.books)) is (fits_at (2 ^ 62) c.args.workers.now.items c.args.place x c.requires.fits c.requires.within)
+    subst (λ y. AreWithin most_before (worker_accounts y.books)) is (fits_at most_before c.args.workers.now.items c.args.place x c.requires.fits c.requires.within)

@@ -18,7 +18,7 @@ loop-index-preserved g c =
     elim c.match-event_at.branch [
       | in-Some+in_ok-add w ↦
           let at : slice_get all i ≡ Some w.in-Some.event = sym w.in-Some.ensures in
-          let next = w.in_ok-add.ensures config (take i all) c.loop-index.invariant in
+          let next = w.in_ok-add.ensures.added config (take i all) c.loop-index.invariant in
           subst (Stands ops config (take (i + 1) all)) (sym w.replay-is) (stands_next ops config all i w.in-Some.event w.add.new.self at next)
       | in_default w ↦
           let at : None ≡ slice_get all i = w.in_default.ensures in

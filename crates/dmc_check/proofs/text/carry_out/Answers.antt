@@ -13,4 +13,4 @@ returns-in-None g c = rw (c.in-Event.is, c.in-None.is) (none_begun g.T.Tag.ops g
 
 pub returns-in-Some : goal.returns-in-Some
 returns-in-Some g c =
-    rw (c.in-Event.is, c.in-Some.is) (told_on g.T.Tag.ops g.T.TagText.made c.add.result c.in-Some.replay c.add.new.self c.in-Event.event c.add.ensures)
+    rw (c.in-Event.is, c.in-Some.is) (told_on g.T.Tag.ops g.T.TagText.made c.add.result c.in-Some.replay c.add.new.self c.in-Event.event c.add.ensures.added)

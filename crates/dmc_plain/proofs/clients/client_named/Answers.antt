@@ -4,7 +4,7 @@ use Rattle.dmc_tag.specs.State.{client_named, is_client}
 use Rattle.dmc_tag.specs.declared.plain.PlainClient.{PlainClient}
 use Rattle.dmc_plain.proofs.clients.client_named.Goals as goal
 
--- the client at i is asked before those behind it
+-- the client at i is tested before those after it
 asked : {T : Type 0} (id : ClientId) (clients : List (PlainClient T)) (i : ℕ) (c : PlainClient T) → i < length clients → c ≡ get_or clients i c → (b : Bool) → is_client id c.id ≡ b → client_named id (drop i clients) ≡ cond b (Some c) (client_named id (drop (suc i) clients))
 asked id clients i c within is b e =
     let here = drop-cons clients i c within ∙ ap (λ d. d ∷ drop (suc i) clients) (sym is) in

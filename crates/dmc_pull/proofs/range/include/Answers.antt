@@ -2,7 +2,7 @@
 use Rattle.std.proofs.Common.{◌≡◌, Bool, true, false, sym, ap, ◌∙◌}
 use Rattle.std.specs.Prelude.{if◌then◌else◌}
 use Rattle.std.specs.Ordering.{is_gt}
-use Rattle.dmc_heads.specs.Least.{lesser}
+use Rattle.dmc_head_index.specs.Least.{lesser}
 use Rattle.dmc_tag.specs.Tag.{Tagging}
 use Rattle.dmc_pull.specs.Range.{with_share}
 use Rattle.dmc_pull.specs.declared.range.ShareRange.{ShareRange}

@@ -1,4 +1,4 @@
--- The record without its first request, and reduced where that is asked.
+-- The record without its first request, and reduced in the weight phase.
 use Rattle.std.proofs.Common.{sym, ap, ◌∙◌}
 use Rattle.dmc_adjust.specs.Changes.{reduced}
 use Rattle.dmc_pull.specs.Choice.{after_grant}

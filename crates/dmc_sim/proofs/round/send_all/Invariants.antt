@@ -1,4 +1,4 @@
--- The clients so far have had their turns, and the rest of them come to what all come to.
+-- The clients up to now have had their turns, and the rest of them end as all do.
 use Rattle.std.proofs.Common.{◌≡◌, ℕ, drop, length, map}
 use Rattle.dmc_pull.specs.Queue.{state_of}
 use Rattle.dmc_scene.specs.SceneValue.{SceneValue}

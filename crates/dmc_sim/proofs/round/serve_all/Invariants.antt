@@ -1,5 +1,5 @@
--- The servers so far have granted one request more at most, and so many more requests are completed at most. They have had their
--- turns, and the rest of them come to what all come to.
+-- The servers up to now have granted at most one more request, and at most this many more requests are completed. They have had
+-- their turns, and the rest of them end as all do.
 use Rattle.std.proofs.Common.{◌≡◌, ◌≤◌, ℕ, ◌+◌, drop, get_or, length, map}
 use Rattle.dmc_pull.specs.Queue.{state_of}
 use Rattle.dmc_scene.specs.SceneValue.{SceneValue}

@@ -1,5 +1,5 @@
--- A server grants at most one request a round, so that a round completes at most 64. The rounds so far are made, and the rest of
--- them come to what all come to.
+-- A server grants at most one request a round, so that a round completes at most 64. The rounds up to now are made, and the rest
+-- of them end as all do.
 use Rattle.std.proofs.Common.{◌≡◌, ◌*◌, ◌-◌, length, map}
 use Rattle.dmc_pull.specs.Queue.{state_of}
 use Rattle.dmc_sim.specs.Counts.{HaveCompleted, HaveGranted}

@@ -2,7 +2,7 @@ use Rattle.std.proofs.Common.{◌≡◌, ◌≤◌, length, take, vec_len, vec_c
 use Rattle.dmc_tag.specs.Steps.{Runs}
 use Rattle.dmc_tag.proofs.run.run_commands.Given as goal
 
--- the commands so far were carried out, and answered, and there is room for the replies to all
+-- the commands up to now were carried out, with their replies, and there is capacity for the replies to all
 abbrev pub invariant-loop-done : goal.invariant-loop-done
 invariant-loop-done g l =
     let state = g.S.Scheduler.state in

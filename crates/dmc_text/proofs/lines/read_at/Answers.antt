@@ -1,4 +1,4 @@
--- The read is given the piece behind the place, which has room for what may be read.
+-- The read is given the piece from the index on, which is as long as what may be read.
 use Rattle.std.proofs.Common.{◌≡◌, ◌+◌, ◌≤◌, length, take, ap, ◌∙◌, arith}
 use Rattle.std.proofs.lemmas.Result.{IfOk-weaker}
 use Rattle.dmc_text.proofs.PieceLemmas.{most_kept, length_of_piece, before_piece, read_in_piece, end_in_piece}

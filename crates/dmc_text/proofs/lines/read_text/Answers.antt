@@ -1,4 +1,4 @@
--- What was read stands at the front.
+-- What was read is at the front.
 use Rattle.std.proofs.Common.{◌∙◌, arith, take, subst, refl}
 use Rattle.std.specs.Io.KnownBytes.{Consumes}
 use Rattle.std.proofs.KnownBytes.{Consumes-kept, Consumes-nil}

@@ -1,4 +1,4 @@
--- What was read stands at the front, and no call failed.
+-- What was read is at the front, and no call failed.
 use Rattle.std.proofs.Common.{◌≡◌, ◌-◌, ◌≤◌, take}
 use Rattle.std.specs.Prelude.{vec_len}
 use Rattle.std.specs.Io.KnownBytes.{Consumes}

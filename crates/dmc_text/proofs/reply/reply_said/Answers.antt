@@ -1,4 +1,4 @@
--- Each kind of words is told apart, and its numbers and tags are read.
+-- Each kind of words is distinguished, and its numbers and tags are read.
 use Rattle.dmc_tag.proofs.Options.{err_is}
 use Rattle.dmc_text.specs.Replies.{reply_said}
 use Rattle.dmc_text.proofs.reply.reply_said.Goals as goal

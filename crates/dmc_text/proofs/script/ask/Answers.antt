@@ -1,4 +1,4 @@
--- The reply of a step can be told.
+-- The reply of a step can be written.
 use Rattle.std.proofs.Common.{sym, subst}
 use Rattle.dmc_text.specs.Replies.{IsTellable}
 use Rattle.dmc_text.proofs.Tellable.{tellable}

@@ -1,4 +1,4 @@
--- The rest is answered from the queue on.
+-- The rest continues from the queue.
 use Rattle.std.proofs.lemmas.Result.{on_ok_weaker}
 use Rattle.dmc_tag.specs.State.{opening}
 use Rattle.dmc_tag.proofs.ForCallers.{steps_agree, tag_order}

@@ -1,5 +1,5 @@
 use Rattle.std.proofs.Common.{◌≡◌, ◌<◌, ◌≤◌, ℕ, Result, Ok, Err, refl, sym, ◌∙◌, arith}
-use Rattle.dmc_types.specs.Limits.{most_events}
+use Rattle.dmc_types.specs.Limits.{most_completions, most_events}
 use Rattle.dmc_tracker.specs.Numbers.{AreLimits}
 use Rattle.dmc_tlock.specs.Opening.{AreBookLimits}
 use Rattle.dmc_tag.proofs.Options.{err_is}
@@ -14,9 +14,14 @@ taken_events events a e refused =
 
 taken_servers : {A E : Type 0} (servers most : ℕ) (a : A) (e : E) → ((AreLimits servers most → ⊥) → ◌≡◌ {A = Result A E} (Ok a) (Err e)) → AreLimits servers most
 taken_servers servers most a e refused =
-    let within : ((0 < servers) × (servers ≤ 64) × (0 < most) → ⊥) → ⊥ =
-    λ past. let is = refused (λ l. past (l.some_servers, l.servers_limit, l.some_most)) in cc in
-    record { some_servers = grind (arith, within); servers_limit = grind (arith, within); some_most = grind (arith, within) }
+    let within : ((0 < servers) × (servers ≤ 64) × (0 < most) × (most ≤ most_completions) → ⊥) → ⊥ =
+    λ past. let is = refused (λ l. past (l.some_servers, l.servers_limit, l.some_most, l.most_limit)) in cc in
+    record {
+      some_servers = grind (arith, within);
+      servers_limit = grind (arith, within);
+      some_most = grind (arith, within);
+      most_limit = grind (arith, within);
+    }
 
 -- equal successes have equal values
 ok_value : {A E : Type 0} (a b : A) → ◌≡◌ {A = Result A E} (Ok a) (Ok b) → a ≡ b

@@ -1,4 +1,4 @@
--- The head, and then what stands behind it.
+-- The head, and then what follows it.
 use Rattle.std.proofs.Common.{[], ◌∷◌, ◌++◌}
 use Rattle.dmc_tool.specs.Telling.{number_text}
 use Rattle.dmc_tool.proofs.TellLemmas.{sent_both, sent_cut}

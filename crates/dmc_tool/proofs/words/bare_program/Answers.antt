@@ -1,4 +1,4 @@
--- What clap is told before its commands.
+-- What clap gets before its commands.
 use Rattle.std.proofs.Common.{rules, ◌≡◌, ◌∙◌, ap, true}
 use Rattle.clap.specs.Words.{app_of}
 use Rattle.clap.specs.Simple.{app_of_fields}

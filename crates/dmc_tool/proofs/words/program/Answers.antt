@@ -1,4 +1,4 @@
--- What clap is told, command by command.
+-- What clap gets, command by command.
 use Rattle.std.proofs.Common.{◌∙◌, ap}
 use Rattle.std.proofs.lemmas.Result.{IfOk-weaker}
 use Rattle.clap.specs.Words.{App, new_app, with_subcommand}

@@ -1,36 +1,10 @@
-use Rattle.std.proofs.Common.{◌≡◌, List, length, map, drop, sym, subst, ap, ◌∙◌, rules}
-use Rattle.std.specs.List.{AllByRecursion}
-use Rattle.dmc_ledger.specs.Bundles.{ClientSide, client_side}
-use Rattle.dmc_ledger.specs.declared.desk.ClientDesk.{ClientDesk}
+use Rattle.std.proofs.Common.{ap, subst, sym}
 use Rattle.dmc_pull.specs.Queue as queue
-use Rattle.dmc_book.specs.Opening.{AreNamedOnce, IsNewDesk, desk_with_tills}
-use Rattle.dmc_book.proofs.OpeningLemmas.{as_many_desks, consistent_new, names_stay}
+use Rattle.dmc_book.specs.Consistent.{IsReplayed}
+use Rattle.dmc_book.proofs.OpeningLemmas.{replayed_new}
 use Rattle.dmc_book.proofs.book.QueueBook.new.Goals as goal
-use Rattle.dmc_tag.proofs.Lists.{lent_back}
 
 pub invariant_of-book : goal.invariant_of-book
 invariant_of-book g c =
-    let items = c.args.desks.items in
-    let f : ClientDesk g.row.S.Denot → ClientSide = client_side in
-    let start : List ClientSide = map f items in
-    let n = length c.args.workers.now in
-    let new = c.open_workers.new.desks in
-    let same : c.deref_mut.result.now ≡ items = c.deref_mut.ensures.value in
-    let read : c.deref.result.now ≡ items = search rules in
-    let once = subst (λ (xs : List (ClientDesk g.row.S.Denot)). AreNamedOnce c.args.workers.now (map f xs)) read c.in-Ok.ensures.once in
-    let clients = c.in-Ok.ensures.clients ∙ ap (λ (xs : List (ClientDesk g.row.S.Denot)). map (λ d. d.client) xs) read in
-    let opened : map f new ≡ map (desk_with_tills n) start =
-    c.open_workers.ensures.desks ∙ ap (λ (xs : List (ClientDesk g.row.S.Denot)). map (desk_with_tills n) (map f xs)) same in
-    let as_many : length new ≡ length items = as_many_desks n new items opened in
-    let back = lent_back new (drop (length new) items) c.args.desks.len (as_many ∙ sym c.args.desks.ok.0) in
-    rw (back, opened, c.open_workers.ensures.seats, c.in-Ok.ensures.events.0, c.in-Ok.ensures.events.1) (
-      consistent_new g.T.Tag.ops (queue.state_of c.new.result) c.args.config c.args.server.0 c.args.most c.args.mint.now.opened c.args.workers.now start
-          c.new.ensures c.requires.new once c.in-Ok.ensures.limits.events_limit,
-      clients ∙ sym (names_stay n new items opened),
-    )
-
-pub open_workers-requires-clause-new : goal.open_workers-requires-clause-new
-open_workers-requires-clause-new g c =
-    let items = c.args.desks.items in
-    let same : c.deref_mut.result.now ≡ items = c.deref_mut.ensures.value in
-    (c.args.server.0, subst (λ (xs : List (ClientDesk g.row.S.Denot)). AllByRecursion (IsNewDesk c.args.server.0) (map client_side xs)) (sym same) c.requires.new)
+    subst (IsReplayed g.T.Tag.ops (queue.state_of c.new.result) c.args.config) (sym (ap (λ a. a.history) c.open_accounts-accounts.ensures.accounts))
+    (replayed_new g.T.Tag.ops (queue.state_of c.new.result) c.args.config c.new.ensures)

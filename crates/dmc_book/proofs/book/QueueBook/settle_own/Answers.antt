@@ -1,97 +1,18 @@
-use Rattle.std.proofs.Common.{◌≡◌, List, length, map, drop, refl, sym, subst, ap, ◌∙◌, arith, rules}
-use Rattle.std.specs.List.{AllByRecursion}
-use Rattle.std.proofs.lemmas.List.{length-map}
-use Rattle.dmc_ledger.specs.Bundles.{ClientSide, client_side}
-use Rattle.dmc_ledger.specs.declared.desk.ClientDesk.{ClientDesk}
+use Rattle.std.proofs.Common.{◌∙◌, ap, subst, sym}
 use Rattle.dmc_tag.specs.Replay.{after}
 use Rattle.dmc_tag.proofs.ForCallers.{as_many_requests}
 use Rattle.dmc_pull.specs.Queue.{state_of}
-use Rattle.dmc_book.specs.BookState.{BookState, WorkerSide, pass_state, worker_side}
-use Rattle.dmc_book.specs.Settling.{AreOneOpen, AreOwn, ArePassesTakenIn, closed_worker}
-use Rattle.dmc_book.specs.declared.seat.Seat.{Seat}
-use Rattle.dmc_book.proofs.GrantLemmas.{grants_of_desks}
-use Rattle.dmc_book.proofs.OpeningLemmas.{consistent_empty}
-use Rattle.dmc_tag.proofs.Lists.{lent_back}
-use Rattle.dmc_book.proofs.SettlingLemmas.{one_open, settled_desks, settled_workers}
+use Rattle.dmc_book.specs.Consistent.{IsReplayed}
+use Rattle.dmc_book.proofs.OpeningLemmas.{replayed_new}
 use Rattle.dmc_book.proofs.book.QueueBook.settle_own.Goals as goal
-
-pub take_passes-requires-clause-one_open : goal.take_passes-requires-clause-one_open
-take_passes-requires-clause-one_open g c =
-    let here = c.self.inside in
-    let same : c.deref_mut.result.now ≡ here.workers.items = c.deref_mut.ensures.value in
-    subst (λ (ws : List (Seat g.row.S.Denot)). AllByRecursion (λ (w : WorkerSide). AreOneOpen w.books) (map worker_side ws)) (sym same)
-    (one_open here.history.events (map worker_side here.workers.items) c.self.invariant.0.workers)
-
-pub take_passes-requires-clause-own : goal.take_passes-requires-clause-own
-take_passes-requires-clause-own g c =
-    let own = subst (λ (b : BookState g.row.T.Denot). AreOwn b.workers b.desks (map pass_state c.args.passes.items)) (sym c.self.view_is) c.requires.own in
-    rw (c.deref_mut.ensures.value, c.deref_mut-2.ensures.value) own
 
 pub invariant_of-self : goal.invariant_of-self
 invariant_of-self g c =
-    let here = c.self.inside in
-    rw (c.take.ensures.empty, c.replace.ensures.after, c.replace-2.ensures.after, c.new-3.ensures.items, c.new-4.ensures.items) (
-      consistent_empty g.T.Tag.ops (state_of c.new.result) here.config here.server.0 here.history.most here.closed c.new.ensures c.self.invariant.0.limit,
-      c.new-2.ensures.empty,
-    )
-
-pub returns-clause-history : goal.returns-clause-history
-returns-clause-history g c = ap (λ h. h.events) c.take.ensures.value ∙ ap (λ b. b.history) c.self.view_is
-
-pub returns-clause-few : goal.returns-clause-few
-returns-clause-few g c = omega (arith, c.take.ensures.within, c.take.ensures.limit)
-
-pub returns-clause-replays : goal.returns-clause-replays
-returns-clause-replays g c = rw (c.take.ensures.value, ← c.self.view_is) c.self.invariant.0.replaying
+    subst (IsReplayed g.T.Tag.ops (state_of c.new.result) c.self.inside.config) (sym (ap (λ a. a.history) c.settle.ensures.emptied))
+    (replayed_new g.T.Tag.ops (state_of c.new.result) c.self.inside.config c.new.ensures)
 
 pub returns-clause-left : goal.returns-clause-left
 returns-clause-left g c =
     let here = c.self.inside in
-    let requests = as_many_requests (state_of here.queue.0) (after g.T.Tag.ops here.config here.history.events) c.self.invariant.0.stands in
-    rw (← c.self.view_is) (c.request_count-left.ensures ∙ requests)
-
-pub returns-clause-emptied : goal.returns-clause-emptied
-returns-clause-emptied g c = rw (← c.self.view_is, c.take.ensures.empty, c.replace.ensures.after, c.replace-2.ensures.after, c.new-3.ensures.items, c.new-4.ensures.items) refl
-
-pub returns-clause-workers : goal.returns-clause-workers
-returns-clause-workers g c =
-    let here = c.self.inside in
-    let f : Seat g.row.S.Denot → WorkerSide = worker_side in
-    let new = c.take_passes.new.workers in
-    let same : c.deref_mut.result.now ≡ here.workers.items = c.deref_mut.ensures.value in
-    let closed : map f new ≡ map closed_worker (map f here.workers.items) = c.take_passes.ensures.workers ∙ ap (λ (ws : List (Seat g.row.S.Denot)). map closed_worker (map f ws)) same in
-    let as_many : length new ≡ length here.workers.items = sym (length-map new f) ∙ ap length closed ∙ length-map (map f here.workers.items) closed_worker ∙ length-map here.workers.items f in
-    let back = lent_back new (drop (length new) here.workers.items) here.workers.len (as_many ∙ sym here.workers.ok.0) in
-    rw (← c.self.view_is, c.replace.ensures.value, back) closed
-
-pub returns-clause-counts : goal.returns-clause-counts
-returns-clause-counts g c =
-    let here = c.self.inside in
-    let f : Seat g.row.S.Denot → WorkerSide = worker_side in
-    let new = c.take_passes.new.workers in
-    let same : c.deref_mut.result.now ≡ here.workers.items = c.deref_mut.ensures.value in
-    let closed : map f new ≡ map closed_worker (map f here.workers.items) = c.take_passes.ensures.workers ∙ ap (λ (ws : List (Seat g.row.S.Denot)). map closed_worker (map f ws)) same in
-    let as_many : length new ≡ length here.workers.items = sym (length-map new f) ∙ ap length closed ∙ length-map (map f here.workers.items) closed_worker ∙ length-map here.workers.items f in
-    let back = lent_back new (drop (length new) here.workers.items) here.workers.len (as_many ∙ sym here.workers.ok.0) in
-    rw (← c.self.view_is, c.replace.ensures.value, back, closed) (settled_workers here.history.events (map f here.workers.items) c.self.invariant.0.workers)
-
-pub returns-clause-desks : goal.returns-clause-desks
-returns-clause-desks g c =
-    let here = c.self.inside in
-    let f : ClientDesk g.row.S.Denot → ClientSide = client_side in
-    let passes = map (pass_state {S = g.row.S.Denot}) c.args.passes.items in
-    let workers = map (worker_side {S = g.row.S.Denot}) here.workers.items in
-    let own = c.requires.own in
-    let passes_many : length passes ≡ length workers = own.as_many ∙ ap (λ b. length b.workers) (sym c.self.view_is) in
-    let new = c.take_passes.new.desks in
-    let same : c.deref_mut-2.result.now ≡ here.desks.items = c.deref_mut-2.ensures.value in
-    let as_many : length new ≡ length here.desks.items = search rules in
-    let back = lent_back new (drop (length new) here.desks.items) here.desks.len (as_many ∙ sym here.desks.ok.0) in
-    let taken = subst (λ (ds : List (ClientDesk g.row.S.Denot)). ArePassesTakenIn passes (map f ds) (map f new)) same c.take_passes.ensures.desks in
-    rw (← c.self.view_is, c.replace-2.ensures.value, back) (settled_desks here.history.events here.server.0 (length workers) passes (map f here.desks.items) (map f new) passes_many c.self.invariant.0.desks taken)
-
-pub returns-clause-grants : goal.returns-clause-grants
-returns-clause-grants g c =
-    let here = c.self.inside in
-    let known = c.self.invariant.0 in
-    rw (← c.self.view_is) (λ phase. grants_of_desks phase (map client_side here.desks.items) known.clients_apart here.history.events known.granted)
+    let requests = as_many_requests (state_of here.queue.0) (after g.T.Tag.ops here.config here.accounts.history) c.self.invariant.stands in
+    rw (← c.self.view_is) (c.settle.ensures.left ∙ c.request_count-left.ensures ∙ requests)

@@ -18,7 +18,7 @@ returns-in_err-can_stamp-clause-follows g c =
     rw (← c.self.view_is, err_is _ _ c.from_residual.ensures.1, pair_same items s x within c.index_mut-pair.ensures.value x refl)
     (stamp-refused g.row.T.Denot (record { id = c.self.inside.id; tracker = c.self.inside.tracker; pairs = map pair_of items }) s c.args.token
     (rw (seen, ← c.is_flight_full.ensures) c.if-is_flight_full.false)
-    c.in_err-can_stamp.field-0.0 c.can_stamp.result c.in_err-can_stamp.was within c.can_stamp.ensures.no_server c.can_stamp.ensures.full_by_list)
+    c.in_err-can_stamp.field-0.0 c.can_stamp.result c.in_err-can_stamp.was within c.can_stamp.ensures.counted c.can_stamp.ensures.no_server c.can_stamp.ensures.full_by_list)
 
 pub returns-in_err-reserve-clause-follows : goal.returns-in_err-reserve-clause-follows
 returns-in_err-reserve-clause-follows g c =

@@ -1,4 +1,4 @@
--- The last entry was taken off. It is the removed one, or belongs in its place.
+-- The last entry was taken off. It is the removed one, or belongs where that was.
 use Rattle.std.proofs.Common.{◌≡◌, ◌∷◌, [], ◌++◌, ◌<◌, ◌≤◌, IsSome, None, Some, length, take, drop, set, slice_get, refl, sym, subst, arith}
 use Rattle.std.proofs.lemmas.List.{take_at, length-set}
 use Rattle.std.proofs.lemmas.Option.{slice_get_read, slice_get_within}
@@ -44,7 +44,7 @@ held g c = subst (λ h. IsSome (slot_of_key (slots_of h c.self.inside.places.ite
 few : (g : Over) (c : After-unwrap-last g) → length c.self.inside.places.items ≤ VACANT
 few g c = let x = c.self.inside in omega (arith, x.places.ok.0, x.places.ok.1, x.places.small)
 
--- the new heap and places, without the removed one
+-- the new heap and indexes, without the removed one
 last_gone : (g : Over) (c : After-unwrap-last g) → slice_get c.self.inside.places.items c.args.key ≡ Some c.index-at.result.now → length c.pop.new.self.items ≤ c.index-at.result.now
     → IsSound g.R.Rank.cmp c.self.inside.heap.cap c.pop.new.self.items (set c.self.inside.places.items c.args.key VACANT)
     × (slots_of c.pop.new.self.items (set c.self.inside.places.items c.args.key VACANT) ≡ set (slots_of (c.pop.new.self.items ++ c.unwrap-last.result ∷ []) c.self.inside.places.items) c.args.key None)

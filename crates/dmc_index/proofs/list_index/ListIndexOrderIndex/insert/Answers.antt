@@ -1,4 +1,4 @@
--- The new entry stands between the ranks below it and those above it.
+-- The new entry is between the ranks below it and those above it.
 use Rattle.std.proofs.Common.{Some, set, refl, ap, ◌∙◌, arith}
 use Rattle.dmc_index.specs.Entries.{slots_of}
 use Rattle.dmc_index.proofs.EntryLemmas.{length-slots_of, short_of_room, IsSound-insert, slots_of-insert_at}

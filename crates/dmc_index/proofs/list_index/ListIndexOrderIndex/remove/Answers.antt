@@ -1,4 +1,4 @@
--- The place is found since the key is held, and the entries without it are the map without the key.
+-- The index is found since the key is held, and the entries without it are the map without the key.
 use Rattle.std.proofs.Common.{Some, None, set, sym, ap, ◌∙◌, arith}
 use Rattle.dmc_index.specs.Entries.{slots_of}
 use Rattle.dmc_index.proofs.EntryLemmas.{found_if_held, held_found, IsSound-remove, slots_of-remove}

@@ -1,4 +1,4 @@
--- `open` hands on what the blank set-up owns, at the name that the type says.
+-- `open` passes on what the blank set-up owns, at the name that the type has.
 use Rattle.dmc_ledger.proofs.Walks.{ℕ, [], ◌∷◌, refl, proved, ftrue, flft, Fn, a_type, dcons, dnil, inst_fn, tables, ‵, raw, ◌⊛◌, ◌$◌, ◌∵◌, !, qed, move, keep, split, join, fsplit, fjoin, suffices, frame, rewrite, use0, no_more, and_then, returns, enter, alloc_all, pass_all, free_all, look_at, get, sets, agg, yes, RattleType, owns, types_at, plain, unit, nothing, param, bounded, Stays, stay_dropped, walk_of, ends_at, Goes-dropped, token, Mark, told, made, hears, hears_last, tells_last, mint_owns}
 use Rattle.dmc_ledger.specs.contracts.token.BlankToken as Blank
 use Rattle.dmc_ledger.specs.contracts.token.MintToken as Mint

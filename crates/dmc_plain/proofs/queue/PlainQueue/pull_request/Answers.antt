@@ -16,7 +16,7 @@ settles_pull : {T : Type 0} (ops : Tagging T) (old new : State T) (at : ℕ) (re
 settles_pull ops old new at (Some reply) h = h
 settles_pull ops old new at None h = absurd h
 
--- no request is early, so the free ones are asked
+-- no request is early, so the free ones are searched
 pub returns : goal.returns
 returns g c =
     let ops = g.T.Tag.ops in

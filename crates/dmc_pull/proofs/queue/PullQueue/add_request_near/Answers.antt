@@ -1,4 +1,4 @@
--- The step of an add, and what is told where it is refused or has no memory.
+-- The step of an add, and what is returned where it is refused or an allocation failed.
 use Rattle.std.proofs.Common.{sym, ap, ◌∙◌, subst, refl}
 use Rattle.dmc_types.specs.declared.command.Command.TheVariants.{Add}
 use Rattle.dmc_types.specs.declared.refusal.QueueFault.TheVariants as faults

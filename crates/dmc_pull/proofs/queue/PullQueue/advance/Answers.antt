@@ -1,7 +1,7 @@
 use Rattle.std.proofs.Common.{sym, subst}
 use Rattle.std.specs.Prelude.{◌≤◌, map}
 use Rattle.std.specs.Option.{option_map}
-use Rattle.dmc_heads.specs.Heads.{with_ready_mark}
+use Rattle.dmc_head_index.specs.Heads.{with_ready_mark}
 use Rattle.dmc_tag.proofs.ForCallers.{due_from_ceil}
 use Rattle.dmc_pull.specs.Queue.{IsQueue, IsMarked}
 use Rattle.dmc_pull.proofs.Common.Kept.{same_roster, length_map, promoted, all_marked}

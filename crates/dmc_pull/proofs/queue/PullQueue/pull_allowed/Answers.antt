@@ -1,4 +1,4 @@
--- The client that is named early is asked for; or the answer is that of the state that went on to the moment.
+-- The test is called for the client that is named early; or the result is that of the state that advanced to the moment.
 use Rattle.std.proofs.Common.{rules, ◌≡◌, true, refl, ◌∙◌, sym, ap}
 use Rattle.dmc_types.specs.declared.config.PhaseType.TheVariants.{Reservation}
 use Rattle.dmc_tag.specs.Answers.{pull_reply}

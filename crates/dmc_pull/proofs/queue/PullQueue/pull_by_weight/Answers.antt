@@ -1,4 +1,4 @@
--- Each case is that of the client that is named; where a body is wrong, what the lemmas ask for is not there.
+-- Each case is that of the client that is named; where a body is wrong, what the lemmas need is not there.
 use Rattle.std.proofs.Common.{◌≡◌, true, false, refl, sym, ap, ◌∙◌}
 use Rattle.dmc_types.specs.declared.config.AtLimit.TheVariants.{Wait, Allow}
 use Rattle.dmc_pull.specs.Choice.{first_at}

@@ -1,4 +1,4 @@
--- What the call in it answers, under the test that every grant passes.
+-- The result of the call in it, under the test that every grant passes.
 use Rattle.std.proofs.Common.{true, Err, subst}
 use Rattle.dmc_types.specs.declared.command.Command.TheVariants.{Pull}
 use Rattle.dmc_tag.specs.Step.{step}

@@ -1,8 +1,8 @@
 use Rattle.std.proofs.Common.{◌≡◌, sym, ap, ◌∙◌, subst, Some}
 use Rattle.std.specs.Prelude.{◌==◌, ◌≤◌, ◌+◌, slice_set, length}
 use Rattle.dmc_client.specs.declared.request.QueuedRequest.{QueuedRequest}
-use Rattle.dmc_heads.specs.declared.head.Head.{Head}
-use Rattle.dmc_heads.specs.Heads.{IsOthers}
+use Rattle.dmc_head_index.specs.declared.head.Head.{Head}
+use Rattle.dmc_head_index.specs.Heads.{IsOthers}
 use Rattle.dmc_tag.specs.State.{StandsFor}
 use Rattle.dmc_tag.specs.Rules.{shifted_by, queued}
 use Rattle.dmc_tag.proofs.ForCallers.{differences_are_values, due_from_ceil, tag_order}

@@ -1,4 +1,4 @@
--- What was read stands behind what was left.
+-- What was read is after what was left.
 use Rattle.std.proofs.Common.{◌≡◌, ◌+◌, ◌-◌, ◌^◌, ◌<◌, ◌≤◌, [], ◌++◌, length, take, drop, length-drop, sym, ap, subst, ◌∙◌, arith}
 use Rattle.std.specs.Prelude.{slice_range, vec_len}
 use Rattle.std.specs.Io.KnownBytes.{Consumes}

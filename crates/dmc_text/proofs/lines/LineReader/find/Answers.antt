@@ -13,7 +13,7 @@ ends_within items start end i at =
     let within = (position-Some is_end (slice_range items start end) i 0 at).0 in
     omega (arith, within, length-take (end - start) (drop start items))
 
--- where the first LF of what is left stands
+-- where the first LF of what is left is
 found_at : (items rest : List ℕ) (start end i : ℕ) (found : Option ℕ) → slice_range items start end ≡ rest → found ≡ position is_end rest → found ≡ Some i
     → position is_end (slice_range items start end) ≡ Some i
 found_at items rest start end i found rest-is read is = ap (position is_end) rest-is ∙ sym read ∙ is

@@ -15,7 +15,7 @@ read_status-requires g c =
     c.in_ok-index.ensures.place within c.index-desk.ensures in
     let can = subst (λ (d : ServerSide). IsReadable here.tracker d c.args.server) at.seen
     (readable _ c.args.server at.within c.self.invariant.0) in
-    record { within = can.within; stamps = can.stamps; all = can.all; constraint = can.constraint }
+    record { within = can.within; all = can.all; constraint = can.constraint }
 
 pub returns-clause-status : goal.returns-clause-status
 returns-clause-status g c =

@@ -1,4 +1,4 @@
--- A new queue is in the opening state, which stands for itself.
+-- A new queue is in the opening state, which represents itself.
 use Rattle.std.proofs.Common.{refl, sym, subst}
 use Rattle.dmc_tag.specs.State.{StandsFor, opening}
 use Rattle.dmc_tool.proofs.makers.HeapMakerQueueMaker.make.Goals as goal

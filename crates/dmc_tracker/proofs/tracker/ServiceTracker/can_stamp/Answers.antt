@@ -1,8 +1,7 @@
-use Rattle.std.proofs.Common.{◌<◌, ◌≤◌, length, sym, ◌∙◌, subst, arith}
-use Rattle.std.proofs.lemmas.Grind.{common_steps}
+use Rattle.std.proofs.Common.{◌<◌, ◌≤◌, length, sym, ap, ◌∙◌, subst}
 use Rattle.dmc_tracker.specs.declared.server.ServerCounts.{ServerCounts}
-use Rattle.dmc_tracker.specs.Server.{IsPart}
-use Rattle.dmc_tracker.proofs.Steps.{refused, refused_otherwise, no_server_is_not_full, not_past, past_all, within_all, sent_within, own_part, mark_part, full_by_list}
+use Rattle.dmc_tracker.specs.Server.{IsPart, minus}
+use Rattle.dmc_tracker.proofs.Steps.{refused, refused_otherwise, no_server_is_not_full, not_past, past_all, within_all, own_part, mark_part, params_fit}
 use Rattle.dmc_tracker.proofs.tracker.ServiceTracker.can_stamp.Goals as goal
 
 pub returns-then-index-len-clause-no_server : goal.returns-then-index-len-clause-no_server
@@ -28,37 +27,18 @@ pub counted-counted-requires : goal.counted-counted-requires
 counted-counted-requires c =
     own_part c.self.invariant c.self.view_is (within_all c.self.invariant c.self.view_is (c.len.ensures ∙ c.self.inside.servers.ok.0) c.if-index-len.false) c.index.ensures
 
-pub minus-pending-requires-clause-delta : goal.minus-pending-requires-clause-delta
-minus-pending-requires-clause-delta c =
+pub minus-requires-clause-delta : goal.minus-requires-clause-delta
+minus-requires-clause-delta c =
     (subst (λ (x : ServerCounts). IsPart x.mark c.counted-counted.result) (sym c.counts.view_is) (mark_part c.self.invariant c.self.view_is (within_all c.self.invariant c.self.view_is (c.len.ensures ∙ c.self.inside.servers.ok.0) c.if-index-len.false) c.index.ensures c.counted-counted.ensures)).delta
 
-pub minus-pending-requires-clause-rho : goal.minus-pending-requires-clause-rho
-minus-pending-requires-clause-rho c =
+pub minus-requires-clause-rho : goal.minus-requires-clause-rho
+minus-requires-clause-rho c =
     (subst (λ (x : ServerCounts). IsPart x.mark c.counted-counted.result) (sym c.counts.view_is) (mark_part c.self.invariant c.self.view_is (within_all c.self.invariant c.self.view_is (c.len.ensures ∙ c.self.inside.servers.ok.0) c.if-index-len.false) c.index.ensures c.counted-counted.ensures)).rho
 
-pub overflow_sub-self-inside : goal.overflow_sub-self-inside
-overflow_sub-self-inside c =
-    subst (λ (x : ServerCounts). x.sent.delta ≤ c.self.inside.most) (sym c.counts.view_is) (sent_within c.self.invariant c.self.view_is (within_all c.self.invariant c.self.view_is (c.len.ensures ∙ c.self.inside.servers.ok.0) c.if-index-len.false) c.index.ensures)
+pub plus-next-requires-clause-delta : goal.plus-next-requires-clause-delta
+plus-next-requires-clause-delta c =
+    (params_fit c.self.invariant c.self.view_is (within_all c.self.invariant c.self.view_is (c.len.ensures ∙ c.self.inside.servers.ok.0) c.if-index-len.false) c.index.ensures c.counted-counted.ensures (c.minus.ensures ∙ ap (λ (x : ServerCounts). minus c.counted-counted.result x.mark) c.counts.view_is) c.own_share.ensures).0
 
--- Only `grind` proves these. Named, so that no other search fails first.
-pub returns-then-pending-self-clause-no_server : goal.returns-then-pending-self-clause-no_server
-returns-then-pending-self-clause-no_server c = grind (arith, common_steps)
-
-pub returns-then-pending-self-clause-full : goal.returns-then-pending-self-clause-full
-returns-then-pending-self-clause-full c = grind (arith, common_steps)
-
-pub returns-clause-within : goal.returns-clause-within
-returns-clause-within c = grind (arith, common_steps)
-
-pub returns-clause-no_server : goal.returns-clause-no_server
-returns-clause-no_server c = grind (arith, common_steps)
-
-pub returns-clause-full : goal.returns-clause-full
-returns-clause-full c = grind (arith, common_steps)
-
-pub returns-then-pending-self-clause-full_by_list : goal.returns-then-pending-self-clause-full_by_list
-returns-then-pending-self-clause-full_by_list c = λ events stands.
-    full_by_list stands (returns-then-pending-self-clause-full c)
-
-pub returns-clause-full_by_list : goal.returns-clause-full_by_list
-returns-clause-full_by_list c = λ events stands. full_by_list stands (returns-clause-full c)
+pub plus-next-requires-clause-rho : goal.plus-next-requires-clause-rho
+plus-next-requires-clause-rho c =
+    (params_fit c.self.invariant c.self.view_is (within_all c.self.invariant c.self.view_is (c.len.ensures ∙ c.self.inside.servers.ok.0) c.if-index-len.false) c.index.ensures c.counted-counted.ensures (c.minus.ensures ∙ ap (λ (x : ServerCounts). minus c.counted-counted.result x.mark) c.counts.view_is) c.own_share.ensures).1

@@ -24,27 +24,27 @@ minus-requires-clause-rho c =
 
 pub plus-params-requires-clause-delta : goal.plus-params-requires-clause-delta
 plus-params-requires-clause-delta c =
-    (params_fit c.self.invariant c.self.view_is (below_if_ok _ _ c.in_ok-can_stamp.ensures.no_server.1) c.index.ensures c.counted-counted.ensures c.minus.ensures c.own_share.ensures c.in_ok-can_stamp.ensures.within).0
+    (params_fit c.self.invariant c.self.view_is (below_if_ok _ _ c.in_ok-can_stamp.ensures.no_server.1) c.index.ensures c.counted-counted.ensures c.minus.ensures c.own_share.ensures).0
 
 pub plus-params-requires-clause-rho : goal.plus-params-requires-clause-rho
 plus-params-requires-clause-rho c =
-    (params_fit c.self.invariant c.self.view_is (below_if_ok _ _ c.in_ok-can_stamp.ensures.no_server.1) c.index.ensures c.counted-counted.ensures c.minus.ensures c.own_share.ensures c.in_ok-can_stamp.ensures.within).1
+    (params_fit c.self.invariant c.self.view_is (below_if_ok _ _ c.in_ok-can_stamp.ensures.no_server.1) c.index.ensures c.counted-counted.ensures c.minus.ensures c.own_share.ensures).1
 
 pub plus-requires-clause-delta : goal.plus-requires-clause-delta
 plus-requires-clause-delta c =
-    (sent_fits c.self.invariant c.self.view_is (below_if_ok _ _ c.in_ok-can_stamp.ensures.no_server.1) c.index.ensures c.counted-counted.ensures c.minus.ensures c.own_share.ensures c.in_ok-can_stamp.ensures.within c.plus-params.ensures).0
+    (sent_fits c.self.invariant c.self.view_is (below_if_ok _ _ c.in_ok-can_stamp.ensures.no_server.1) c.index.ensures c.counted-counted.ensures c.minus.ensures c.own_share.ensures c.plus-params.ensures c.in_ok-can_stamp.ensures.within c.in_ok-can_stamp.ensures.carried).0
 
 pub plus-requires-clause-rho : goal.plus-requires-clause-rho
 plus-requires-clause-rho c =
-    (sent_fits c.self.invariant c.self.view_is (below_if_ok _ _ c.in_ok-can_stamp.ensures.no_server.1) c.index.ensures c.counted-counted.ensures c.minus.ensures c.own_share.ensures c.in_ok-can_stamp.ensures.within c.plus-params.ensures).1
+    (sent_fits c.self.invariant c.self.view_is (below_if_ok _ _ c.in_ok-can_stamp.ensures.no_server.1) c.index.ensures c.counted-counted.ensures c.minus.ensures c.own_share.ensures c.plus-params.ensures c.in_ok-can_stamp.ensures.within c.in_ok-can_stamp.ensures.carried).1
 
 pub invariant_of-self : goal.invariant_of-self
 invariant_of-self c =
-    stamp_kept c.self.invariant c.self.view_is (below_if_ok _ _ c.in_ok-can_stamp.ensures.no_server.1) c.index.ensures c.counted-counted.ensures c.minus.ensures c.own_share.ensures c.in_ok-can_stamp.ensures.within c.plus-params.ensures c.plus.ensures
+    stamp_kept c.self.invariant c.self.view_is (below_if_ok _ _ c.in_ok-can_stamp.ensures.no_server.1) c.index.ensures c.counted-counted.ensures c.minus.ensures c.own_share.ensures c.plus-params.ensures c.in_ok-can_stamp.ensures.within c.in_ok-can_stamp.ensures.carried c.plus.ensures
 
 pub returns-clause-after : goal.returns-clause-after
 returns-clause-after c =
-    stamp_seen c.self.invariant c.self.view_is (below_if_ok _ _ c.in_ok-can_stamp.ensures.no_server.1) c.index.ensures c.counted-counted.ensures c.minus.ensures c.own_share.ensures c.in_ok-can_stamp.ensures.within c.plus-params.ensures c.plus.ensures
+    stamp_seen c.self.invariant c.self.view_is (below_if_ok _ _ c.in_ok-can_stamp.ensures.no_server.1) c.index.ensures c.counted-counted.ensures c.minus.ensures c.own_share.ensures c.plus-params.ensures c.in_ok-can_stamp.ensures.within c.in_ok-can_stamp.ensures.carried c.plus.ensures
 
 pub returns-clause-kept : goal.returns-clause-kept
 returns-clause-kept c =
@@ -52,11 +52,11 @@ returns-clause-kept c =
 
 pub unwrap-requires : goal.unwrap-requires
 unwrap-requires c =
-    is_made c.self.invariant c.self.view_is (below_if_ok _ _ c.in_ok-can_stamp.ensures.no_server.1) c.index.ensures c.counted-counted.ensures c.minus.ensures c.own_share.ensures c.in_ok-can_stamp.ensures.within c.plus-params.ensures c.params.view_is c.new.ensures.ok
+    is_made c.self.invariant c.self.view_is (below_if_ok _ _ c.in_ok-can_stamp.ensures.no_server.1) c.index.ensures c.counted-counted.ensures c.minus.ensures c.own_share.ensures c.plus-params.ensures c.in_ok-can_stamp.ensures.within c.in_ok-can_stamp.ensures.carried c.params.view_is c.new.ensures.ok
 
 pub returns-clause-params : goal.returns-clause-params
 returns-clause-params c =
-    handed_out c.self.invariant c.self.view_is (below_if_ok _ _ c.in_ok-can_stamp.ensures.no_server.1) c.index.ensures c.counted-counted.ensures c.minus.ensures c.own_share.ensures c.in_ok-can_stamp.ensures.within c.plus-params.ensures c.params.view_is c.new.ensures.ok c.unwrap.ensures
+    handed_out c.self.invariant c.self.view_is (below_if_ok _ _ c.in_ok-can_stamp.ensures.no_server.1) c.index.ensures c.counted-counted.ensures c.minus.ensures c.own_share.ensures c.plus-params.ensures c.in_ok-can_stamp.ensures.within c.in_ok-can_stamp.ensures.carried c.params.view_is c.new.ensures.ok c.unwrap.ensures
 
 pub returns-clause-stands : goal.returns-clause-stands
 returns-clause-stands c =

@@ -8,7 +8,7 @@ use Rattle.dmc_tracker.proofs.ServerLemmas.{view-new, AreKept-new}
 use Rattle.dmc_tracker.proofs.StandsLemmas.{Stands-new}
 use Rattle.dmc_tracker.proofs.tracker.ServiceTracker.new.Goals as goal
 
-none_now : (counting : Counting) → numbers_now counting no_counts (record { sent = no_counts; own = no_counts; mark = no_counts }) ≡ no_numbers
+none_now : (counting : Counting) → numbers_now counting no_counts (record { sent = no_counts; skipped = no_counts; own = no_counts; mark = no_counts }) ≡ no_numbers
 none_now All = refl
 none_now Others = refl
 
@@ -21,12 +21,12 @@ pub returns-clause-stands : goal.returns-clause-stands
 returns-clause-stands c = rw (returns-clause-ok c) (Stands-new c.args.counting c.args.most c.args.servers)
 
 pub returns-in_err-servers-clause-limit : goal.returns-in_err-servers-clause-limit
-returns-in_err-servers-clause-limit c over = absurd (over (record { some_servers = c.if-servers-lt1.false; servers_limit = omega arith; some_most = c.if-most-lt1.false }))
+returns-in_err-servers-clause-limit c over = absurd (over (record { some_servers = c.if-servers-lt1.false; servers_limit = omega arith; some_most = c.if-most-lt1.false; most_limit = omega arith }))
 
 pub returns-clause-limit : goal.returns-clause-limit
-returns-clause-limit c over = absurd (over (record { some_servers = c.if-servers-lt1.false; servers_limit = omega arith; some_most = c.if-most-lt1.false }))
+returns-clause-limit c over = absurd (over (record { some_servers = c.if-servers-lt1.false; servers_limit = omega arith; some_most = c.if-most-lt1.false; most_limit = omega arith }))
 
 pub invariant_of-result : goal.invariant_of-result
 invariant_of-result c =
     let items : c.in_ok-servers.servers.items ≡ replicate c.args.servers c.none.result = search rules in
-    rw (c.none-2.ensures, items, c.none.ensures) (AreKept-new c.args.counting c.args.most c.args.servers (record { some_servers = c.if-servers-lt1.false; servers_limit = omega arith; some_most = c.if-most-lt1.false }) c.ranges.most.fits)
+    rw (c.none-2.ensures, items, c.none.ensures) (AreKept-new c.args.counting c.args.most c.args.servers (record { some_servers = c.if-servers-lt1.false; servers_limit = omega arith; some_most = c.if-most-lt1.false; most_limit = omega arith }))

@@ -1,0 +1,68 @@
+-- Accounts whose sums of a worker's tokens begin anew.
+use Rattle.std.proofs.Common.{◌≡◌, ℕ, zero, suc, ◌+◌, ◌<◌, ◌≤◌, List, [], ◌∷◌, drop, length, refl, sym, ap, ◌∙◌, subst, slice_index_or, slice_set, arith}
+use Rattle.std.specs.Prelude.{◌==◌, false}
+use Rattle.std.specs.List.{AllByRecursion}
+use Rattle.std.proofs.lemmas.List.{length-set}
+use Rattle.dmc_tag.specs.declared.event.Event.{Event}
+use Rattle.dmc_ledger.specs.Accounts.{new_book}
+use Rattle.dmc_book.specs.BookState.{AccountsState, WorkerSide, no_worker}
+use Rattle.dmc_book.specs.Consistent.{AreConsistent, AreTokensFit, AreWorkersApart, IsCounted, IsDesk, IsWorker}
+use Rattle.dmc_book.specs.Counts.{count}
+use Rattle.dmc_book.specs.Renewing.{accounts_renewed, renewed_worker}
+
+module _ (P : WorkerSide → Type 0) where
+  all_there : (ws : List WorkerSide) (i : ℕ) → i < length ws → AllByRecursion P ws → P (slice_index_or ws i no_worker)
+  all_there [] i within h = absurd (omega (arith, within))
+  all_there (w ∷ ws) zero within h = h.0
+  all_there (w ∷ ws) (suc i) within h = all_there ws i (omega (arith, within)) h.1
+
+  all_set : (ws : List WorkerSide) (i : ℕ) (v : WorkerSide) → AllByRecursion P ws → P v → AllByRecursion P (slice_set ws i v)
+  all_set [] i v h new = tt
+  all_set (w ∷ ws) zero v h new = (new, h.1)
+  all_set (w ∷ ws) (suc i) v h new = (h.0, all_set ws i v h.1 new)
+
+apart_set : (ws : List WorkerSide) (i : ℕ) (v : WorkerSide) → i < length ws → v.worker ≡ (slice_index_or ws i no_worker).worker → AreWorkersApart ws → AreWorkersApart (slice_set ws i v)
+apart_set [] i v within same h = absurd (omega (arith, within))
+apart_set (w ∷ ws) zero v within same h = (subst (λ (n : ℕ). AllByRecursion (λ (o : WorkerSide). (o.worker == n) ≡ false) ws) (sym same) h.0, h.1)
+apart_set (w ∷ ws) (suc i) v within same h =
+    let inside : i < length ws = omega (arith, within) in
+    let P : WorkerSide → Type 0 = λ o. (o.worker == w.worker) ≡ false in
+    (all_set P ws i v h.0 (subst (λ (n : ℕ). (n == w.worker) ≡ false) (sym same) (all_there P ws i inside h.0)), apart_set ws i v inside same h.1)
+
+module _ {T : Type 0} where
+  none_left : (es : List (Event T)) → drop (length es) es ≡ []
+  none_left [] = refl
+  none_left (e ∷ es) = none_left es
+
+  begun : (adds : Event T → ℕ) (es : List (Event T)) (n : ℕ) → IsCounted adds (drop (length es) es) 1 (new_book n)
+  begun adds es n = subst (λ (xs : List (Event T)). IsCounted adds xs 1 (new_book n)) (sym (none_left es)) (record { total = refl; gathered = refl; open_tills = refl })
+
+  renewed_counts : (es : List (Event T)) (w : WorkerSide) → IsWorker es w → IsWorker es (renewed_worker (length es) w)
+  renewed_counts es w h = record {
+    calls = h.calls;
+    misses = h.misses;
+    renewed = omega arith;
+    tokens = begun _ es w.books.tokens.number;
+    grants = h.grants;
+    granted = begun _ es w.books.granted.number;
+  }
+
+  pub consistent_renewed : (a : AccountsState T) (place : ℕ) → place < length a.workers → AreConsistent a → AreConsistent (accounts_renewed place a)
+  consistent_renewed a place within h =
+      let w = slice_index_or a.workers place no_worker in
+      let v = renewed_worker (length a.history) w in
+      let as_many : length (slice_set a.workers place v) ≡ length a.workers = length-set a.workers place v in
+      record {
+        workers = all_set (IsWorker a.history) a.workers place v h.workers (renewed_counts a.history w (all_there (IsWorker a.history) a.workers place within h.workers));
+        desks = subst (λ (n : ℕ). AllByRecursion (IsDesk a.history a.server n) a.desks) (sym as_many) h.desks;
+        workers_apart = apart_set a.workers place v within refl h.workers_apart;
+        clients_apart = h.clients_apart;
+        granted = h.granted;
+        tokens_fit = all_set (λ x. AreTokensFit a.first (length a.history) x.books) a.workers place v h.tokens_fit (record { tokens = omega (arith, h.within); granted = omega (arith, h.within) });
+        within = h.within;
+        few = h.few;
+        limit = h.limit;
+      }
+
+  pub worker_there : (a : AccountsState T) (place : ℕ) → place < length a.workers → AreConsistent a → IsWorker a.history (slice_index_or a.workers place no_worker)
+  worker_there a place within h = all_there (IsWorker a.history) a.workers place within h.workers

@@ -1,0 +1,33 @@
+-- Accounts that release their events.
+use Rattle.std.proofs.Common.{◌≡◌, ℕ, ◌+◌, ◌-◌, ◌≤◌, List, [], ◌∷◌, length, refl, sym, subst, Option, Some, None, arith}
+use Rattle.std.specs.Prelude.{IfNone, IfSome, IsSome}
+use Rattle.std.specs.List.{AllByRecursion}
+use Rattle.dmc_tag.specs.declared.event.Event.{Event}
+use Rattle.dmc_queue_history.specs.Segmented.{MayRotate, Segmented, after_rotating}
+use Rattle.dmc_ledger.specs.Bundles.{ClientSide}
+use Rattle.dmc_book.specs.BookState.{WorkerSide, accounts_of}
+use Rattle.dmc_book.specs.Consistent.{AreConsistent, AreTokensFit}
+use Rattle.dmc_book.specs.Rotating.{AreTokensLow}
+
+tokens_rotated : (n : ℕ) (ws : List WorkerSide) → AllByRecursion (λ w. AreTokensLow w.books) ws → AllByRecursion (λ w. AreTokensFit n n w.books) ws
+tokens_rotated n [] low = tt
+tokens_rotated n (w ∷ ws) low = (record { tokens = omega (arith, low.0.tokens); granted = omega (arith, low.0.granted) }, tokens_rotated n ws low.1)
+
+module _ {T : Type 0} (server : ℕ) (old : Segmented (Event T)) (ws : List WorkerSide) (ds : List ClientSide) (low : AllByRecursion (λ w. AreTokensLow w.books) ws) (was : AreConsistent (accounts_of server old ws ds)) where
+  rotated : MayRotate old → AreConsistent (accounts_of server (after_rotating old (old.most - old.first)) ws ds)
+  rotated may = record {
+    workers = was.workers;
+    desks = was.desks;
+    workers_apart = was.workers_apart;
+    clients_apart = was.clients_apart;
+    granted = was.granted;
+    tokens_fit = tokens_rotated (length old.events) ws low;
+    within = omega arith;
+    few = may.long;
+    limit = omega (arith, was.limit);
+  }
+
+  -- whether they do or not
+  pub consistent_either : {X : Type 0} (r : Option X) (new : Segmented (Event T)) → IfSome r (λ x. new ≡ after_rotating old (old.most - old.first)) → IfNone r (new ≡ old) → (IsSome r → MayRotate old) → AreConsistent (accounts_of server new ws ds)
+  consistent_either (Some x) new some none may = subst (λ (h : Segmented (Event T)). AreConsistent (accounts_of server h ws ds)) (sym some) (rotated (may refl))
+  consistent_either None new some none may = subst (λ (h : Segmented (Event T)). AreConsistent (accounts_of server h ws ds)) (sym none) was

@@ -1,0 +1,29 @@
+-- A queue's book that releases events.
+use Rattle.std.specs.Prelude.{◌≡◌, ℕ, ◌+◌, ◌-◌, ◌<◌, ◌≤◌, ◌^◌, List, length}
+use Rattle.std.specs.List.{AllByRecursion}
+use Rattle.dmc_queue_history.specs.Segmented.{SegmentState, most_released}
+use Rattle.dmc_ledger.specs.Accounts.{total_of}
+use Rattle.dmc_book.specs.BookState.{AccountsState, BookState, WorkerAccounts, WorkerSide}
+
+-- the sums of tokens leave room for the events that may be kept next
+pub record AreTokensLow (books : WorkerAccounts) : Type 0 where
+  pub tokens : total_of books.tokens ≤ 2 ^ 62
+  pub granted : total_of books.granted ≤ 2 ^ 62
+
+-- A segment is released: not too many events were recorded, the tokens of each worker are low, and nothing is settled.
+pub record MayRotate {E : Type 0} (history : List E) (first most : ℕ) (workers : List WorkerSide) : Type 0 where
+  pub long : length history ≤ most_released
+  pub low : AllByRecursion (λ w. AreTokensLow w.books) workers
+  pub goes_on : first < most
+
+-- the segment: what the queue answered so far, of which it has the last, from the number `first` on
+abbrev pub segment_of : {T : Type 0} → BookState T → SegmentState T
+segment_of b = record { config = b.config; server = b.server; history = b.history; first = b.first }
+
+-- all events are released, and as many as before may be kept
+abbrev pub after_rotating : {T : Type 0} → BookState T → BookState T
+after_rotating b = record b { first = length b.history; most = length b.history + (b.most - b.first) }
+
+-- the same of accounts
+abbrev pub accounts_rotated : {T : Type 0} → AccountsState T → AccountsState T
+accounts_rotated a = record a { first = length a.history; most = length a.history + (a.most - a.first); room = 0 }

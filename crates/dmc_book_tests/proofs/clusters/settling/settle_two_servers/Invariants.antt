@@ -1,4 +1,0 @@
-use Rattle.dmc_book_tests.proofs.clusters.settling.settle_two_servers.Given as goal
-
-abbrev pub ghosts-settle_in : goal.ghosts-settle_in
-ghosts-settle_in g a = record { name = a.blank.name }

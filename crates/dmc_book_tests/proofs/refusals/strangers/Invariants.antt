@@ -1,4 +1,0 @@
-use Rattle.dmc_book_tests.proofs.refusals.strangers.Given as goal
-
-abbrev pub ghosts-strangers_of : goal.ghosts-strangers_of
-ghosts-strangers_of g a = record { name = a.blank.name }

@@ -1,7 +1,0 @@
-use Rattle.dmc_book_tests.proofs.tracker_refusals.full_closed_stranger.Given as goal
-
-abbrev pub ghosts-strangers : goal.ghosts-strangers
-ghosts-strangers g a = record { name = a.blank.name }
-
-abbrev pub ghosts-passes : goal.ghosts-passes
-ghosts-passes g a = record { name = a.blank.name }

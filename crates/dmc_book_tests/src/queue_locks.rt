@@ -1,8 +1,0 @@
-//! Tests of the lock, which threads share.
-mod calls;
-mod circle;
-mod refusals;
-mod settling;
-mod setup;
-mod threads;
-mod waiting;

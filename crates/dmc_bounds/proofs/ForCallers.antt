@@ -1,5 +1,0 @@
--- What a caller's proof may cite: the laws over plain variables.
--- a client's queued requests are its arrivals without the first ones, as many as left
-pub use Rattle.dmc_bounds.proofs.Histories.{in_order_of_arrival}
--- the bounds of the limit and of the reservation
-pub use Rattle.dmc_bounds.proofs.Numbered.{holds_limit, holds_reservation}

@@ -1,8 +1,0 @@
-use Rattle.dmc_tag.proofs.ForCallers.{tag_order}
-use Rattle.dmc_bounds.proofs.ForCallers.{holds_reservation}
-use Rattle.dmc_bounds.proofs.laws.histories_keep_to_reservations.Goals as goal
-
-pub returns : goal.returns
-returns g c =
-    let order = tag_order g.T.Ord.cmp g.T.Tag.ops.compare g.met.T.Ord.total g.met.T.Tag.compares in
-    holds_reservation g.T.Tag.ops g.T.Tag.fraction g.T.Tag.is_value g.met.T.Tag.exact order

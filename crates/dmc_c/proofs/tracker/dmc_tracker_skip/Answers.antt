@@ -1,0 +1,6 @@
+-- Answered here, so that a wrong body fails here.
+use Rattle.std.proofs.Common.{rules}
+use Rattle.dmc_c.proofs.tracker.dmc_tracker_skip.Goals as goal
+
+pub returns : goal.returns
+returns g = search rules

@@ -1,0 +1,52 @@
+-- What each server of a run is opened with, and keeps.
+use Rattle.std.specs.Prelude.{◌≡◌, ℕ, ◌+◌, ◌≤◌, List, ◌++◌, map}
+use Rattle.std.proofs.Common.{ap, arith, ◌∙◌}
+use Rattle.std.proofs.lemmas.List.{append_assoc, map-append}
+use Rattle.dmc_types.specs.declared.command.Command.{Command}
+use Rattle.dmc_types.specs.declared.command.Command.TheVariants.{Register}
+use Rattle.dmc_tag.specs.declared.event.Event.{Event}
+use Rattle.dmc_book.specs.BookState.{BookState}
+use Rattle.dmc_book.specs.Later.{IsLater}
+use Rattle.dmc_scene.specs.SceneValue.{ClientValue, SceneValue}
+use Rattle.dmc_driver_threads.specs.LimitsValue.{LimitsValue}
+
+-- the command that registers a client of a scene: with its rates, at moment 0
+abbrev pub registration : ClientValue → Command
+registration client = Register client.id client.info 0
+
+-- what a queue was asked, oldest first
+abbrev pub commands_of : {T : Type 0} → List (Event T) → List Command
+commands_of {T} events = map (λ (e : Event T). e.command) events
+
+-- the first commands of a history register each of the clients, in their order
+pub record IsRegistered {T : Type 0} (clients : List ClientValue) (history : List (Event T)) : Type 0 where
+  pub rest : List Command
+  pub commands : commands_of history ≡ map registration clients ++ rest
+
+-- a server's book: how long its history may become while no event is released, and that the clients were registered before
+-- anything else
+pub record IsOpenedBook {T : Type 0} (scene : SceneValue) (limits : LimitsValue) (book : BookState T) : Type 0 where
+  pub most : book.first ≡ 0 → book.most ≡ limits.events
+  pub registered : IsRegistered scene.clients book.history
+
+-- a history that grows begins as before
+pub opened_stays : {T : Type 0} (scene : SceneValue) (limits : LimitsValue) (old new : BookState T)
+    → IsLater old new → IsOpenedBook scene limits old → IsOpenedBook scene limits new
+opened_stays {T} scene limits old new later h =
+    let f : Event T → Command = (λ e. e.command) in
+    record {
+      most = λ whole. (
+          let was : old.first ≡ 0 = omega (arith, later.first, whole) in
+          let kept = h.most was in
+          omega (arith, later.most, whole, was, kept));
+      registered = record {
+        rest = h.registered.rest ++ map f later.rest;
+        commands = ap (map f) later.grown ∙ map-append f old.history later.rest
+            ∙ ap (λ xs. xs ++ map f later.rest) h.registered.commands
+            ∙ append_assoc (map registration scene.clients) h.registered.rest (map f later.rest);
+      };
+    }
+
+-- some witness says this of the book
+abbrev pub IsWitnessed : {W B : Type 0} → (W → B → Type 0) → B → Type 0
+IsWitnessed {W} holds book = (w : W) × holds w book

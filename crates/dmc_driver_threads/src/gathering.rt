@@ -1,0 +1,137 @@
+//! Gathers what the threads of a run leave.
+ghost use Rattle.std.specs.Prelude.{◌≡◌, [], All};
+ghost use Rattle.dmc_driver_threads.specs.Opened.{IsWitnessed};
+
+use crate::client_worker::ClientJob;
+use crate::cluster::Cluster;
+use crate::remains::Remains;
+use crate::server_worker::ServerJob;
+use dmc_book::pass::WorkerPass;
+use dmc_ledger::setup::Setup;
+use dmc_qlock::lock::LockedQueue;
+use dmc_settle::report::{ClientReport, ClusterReport, ServerReport, StopCause};
+use dmc_settle::settle::Passes;
+use dmc_tag::tag::Tag;
+use dmc_tlock::book::TrackerBook;
+use dmc_tlock::lock::TrackerLock;
+use dmc_tlock::witness::{Lasting, Witness};
+
+/// Gathers what was shared, and what the jobs of the clients' and the servers' workers hold. The books go where there is room
+/// for them.
+pub(crate) fn gather<T: Tag, B: Lasting + Drop, W: Witness<B> + Drop, S: Setup>(
+    cluster: Cluster<B, W, S>,
+    clients: Vec<ClientJob<S>>,
+    servers: Vec<ServerJob<S>>,
+    room: Vec<B>,
+    remains: &mut Remains<T, B, S>,
+)
+    requires { room.items ≡ [] }
+    ensures { All (IsWitnessed W.holds) remains.new.books.items }
+{
+    remains.books = take_books(cluster.queues, room);
+    take_trackers(cluster.trackers, &mut remains.trackers);
+    gather_clients(clients, &mut remains.passes, &mut remains.report.clients);
+    gather_servers(servers, &mut remains.passes.workers, &mut remains.report);
+}
+
+/// Takes the books out of their locks. There is room for them.
+fn take_books<B: Lasting + Drop, W: Witness<B> + Drop>(
+    locks: Vec<LockedQueue<B, W>>,
+    room: Vec<B>,
+) -> Vec<B>
+    requires { room.items ≡ [] }
+    ensures { All (IsWitnessed W.holds) result.items }
+{
+    let mut books = room;
+    for lock in locks {
+        let (book, _) = lock.into_parts();
+        let _ = books.push(book);
+    }
+    books
+}
+
+/// Takes the tracker books out of their locks.
+fn take_trackers<S: Setup>(locks: Vec<TrackerLock<S>>, books: &mut Vec<TrackerBook<S>>) {
+    for lock in locks {
+        let _ = books.push(lock.into_book());
+    }
+}
+
+/// Gathers what the clients' workers leave.
+fn gather_clients<S: Setup>(
+    jobs: Vec<ClientJob<S>>,
+    passes: &mut Passes<S>,
+    rows: &mut [ClientReport],
+) {
+    for job in jobs {
+        gather_client(job, passes, rows);
+    }
+}
+
+/// The tills and the passes of a client's worker, and why it stopped.
+fn gather_client<S: Setup>(job: ClientJob<S>, passes: &mut Passes<S>, rows: &mut [ClientReport]) {
+    keep_stop(job.place, job.stop, rows);
+    let _ = passes.clients.push(job.tills);
+    put_back(job.passes, &mut passes.workers);
+}
+
+/// Why the worker of the client at a place stopped.
+fn keep_stop(place: usize, stop: Option<StopCause>, rows: &mut [ClientReport]) {
+    if let Some(row) = rows.get_mut(place) {
+        row.stop = stop;
+    }
+}
+
+/// Puts a pass for each server beside those of the other workers there.
+fn put_back<S: Setup>(own: Vec<WorkerPass<S>>, passes: &mut [Vec<WorkerPass<S>>]) {
+    let mut servers = passes.iter_mut();
+    for pass in own {
+        if let Some(there) = servers.next() {
+            let _ = there.push(pass);
+        }
+    }
+}
+
+/// Gathers what the servers' workers leave.
+fn gather_servers<T: Tag, S: Setup>(
+    jobs: Vec<ServerJob<S>>,
+    passes: &mut [Vec<WorkerPass<S>>],
+    report: &mut ClusterReport<T>,
+) {
+    for job in jobs {
+        gather_server(job, passes, report);
+    }
+}
+
+/// The pass of a server's worker, the failures that it counted, and why it stopped.
+fn gather_server<T: Tag, S: Setup>(
+    job: ServerJob<S>,
+    passes: &mut [Vec<WorkerPass<S>>],
+    report: &mut ClusterReport<T>,
+) {
+    let index = job.server.0 as usize;
+    add_failures(&job.failures, &mut report.clients);
+    add_stop(index, job.stop, &mut report.servers);
+    put_pass(index, job.pass, passes);
+}
+
+/// Puts the pass of a worker beside those of the other workers of the server at a place.
+fn put_pass<S: Setup>(index: usize, pass: WorkerPass<S>, passes: &mut [Vec<WorkerPass<S>>]) {
+    if let Some(there) = passes.get_mut(index) {
+        let _ = there.push(pass);
+    }
+}
+
+/// Why a worker of the server at a place stopped, if it did.
+fn add_stop<T: Tag>(index: usize, stop: Option<StopCause>, rows: &mut [ServerReport<T>]) {
+    if let (Some(cause), Some(row)) = (stop, rows.get_mut(index)) {
+        let _ = row.stops.push(cause);
+    }
+}
+
+/// Adds up the failures of each client.
+fn add_failures(failures: &[u64], rows: &mut [ClientReport]) {
+    for (row, count) in rows.iter_mut().zip(failures) {
+        row.failed = row.failed.saturating_add(*count);
+    }
+}

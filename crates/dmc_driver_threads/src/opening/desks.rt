@@ -1,0 +1,135 @@
+//! The desks of a cluster while they are opened.
+ghost use Rattle.std.specs.Prelude.{◌≡◌, ◌++◌, ◌∷◌, ℕ, [], length, map, IfOk, OnOk};
+ghost use Rattle.std.specs.List.{AllByRecursion};
+ghost use Rattle.dmc_ledger.specs.Bundles.{client_side, server_side, new_server_side};
+ghost use Rattle.dmc_book.specs.Opening.{IsNewDesk};
+ghost use Rattle.dmc_tlock.specs.Opening.{AreNew};
+
+use crate::fault::OpenFault;
+use dmc_ledger::desk::{ClientDesk, ServerDesk, open_pair};
+use dmc_ledger::mint::Mint;
+use dmc_ledger::setup::Setup;
+use dmc_scene::scene::Scene;
+use dmc_types::ids::{ClientId, ServerId};
+use std::alloc::{AllocError, Global};
+use std::marker::Model;
+
+/// A server's desks for the clients, as `open_pair` gave them.
+#[derive(Drop)]
+pub(crate) struct QueueDesks<S: Setup> {
+    pub(crate) server: ServerId,
+    pub(crate) desks: Vec<ClientDesk<S>>,
+}
+
+impl<S: Setup> Model for QueueDesks<S> {
+    ghost use Rattle.std.specs.Prelude.{map};
+    ghost use Rattle.std.specs.List.{AllByRecursion};
+    ghost use Rattle.dmc_ledger.specs.Bundles.{client_side};
+    ghost use Rattle.dmc_book.specs.Opening.{IsNewDesk};
+    ghost use Rattle.dmc_driver_threads.specs.Desks.{QueueDesksValue};
+
+    ghost Value = { QueueDesksValue };
+
+    ghost view = { λ d. record { server = d.server.0; desks = map client_side d.desks.items } };
+
+    ghost invariant = { λ d. AllByRecursion (IsNewDesk d.server.0) (map client_side d.desks.items) };
+}
+
+impl<S: Setup> QueueDesks<S> {
+    /// None yet, and room for so many.
+    fn new(alloc: Global, server: ServerId, room: usize) -> Result<QueueDesks<S>, AllocError>
+        ensures { IfOk result (λ made. made ≡ record { server = server.0; desks = [] }) }
+    {
+        let desks = Vec::with_capacity(alloc, room)?;
+        Ok(QueueDesks { server, desks })
+    }
+
+    /// One more.
+    fn push(&mut self, desk: ClientDesk<S>) -> Result<(), AllocError>
+        requires { IsNewDesk self.old.server (client_side desk) }
+        ensures { OnOk result (self.new ≡ record self.old { desks = self.old.desks ++ client_side desk ∷ [] }) }
+    {
+        self.desks.push(desk)?;
+        Ok(())
+    }
+}
+
+/// A client's desks for servers 0, 1, .., as `open_pair` gave them.
+#[derive(Drop)]
+pub(crate) struct TrackerDesks<S: Setup> {
+    pub(crate) client: ClientId,
+    pub(crate) desks: Vec<ServerDesk<S>>,
+}
+
+impl<S: Setup> Model for TrackerDesks<S> {
+    ghost use Rattle.std.specs.Prelude.{map};
+    ghost use Rattle.dmc_ledger.specs.Bundles.{server_side};
+    ghost use Rattle.dmc_tlock.specs.Opening.{AreNew};
+    ghost use Rattle.dmc_driver_threads.specs.Desks.{TrackerDesksValue};
+
+    ghost Value = { TrackerDesksValue };
+
+    ghost view = { λ d. record { client = d.client.0; desks = map server_side d.desks.items } };
+
+    ghost invariant = { λ d. AreNew d.client.0 (map server_side d.desks.items) };
+}
+
+impl<S: Setup> TrackerDesks<S> {
+    /// None yet, and room for so many.
+    fn new(alloc: Global, client: ClientId, room: usize) -> Result<TrackerDesks<S>, AllocError>
+        ensures { IfOk result (λ made. made ≡ record { client = client.0; desks = [] }) }
+    {
+        let desks = Vec::with_capacity(alloc, room)?;
+        Ok(TrackerDesks { client, desks })
+    }
+
+    /// One more, for the next server.
+    fn push(&mut self, desk: ServerDesk<S>) -> Result<(), AllocError>
+        requires { (n : ℕ) × (server_side desk ≡ new_server_side self.old.client (length self.old.desks) n) }
+        ensures { OnOk result (self.new ≡ record self.old { desks = self.old.desks ++ server_side desk ∷ [] }) }
+    {
+        self.desks.push(desk)?;
+        Ok(())
+    }
+}
+
+/// The desks of each server, none yet, and room for those of all clients.
+pub(crate) fn no_desks<S: Setup>(
+    alloc: Global,
+    scene: &Scene,
+) -> Result<Vec<QueueDesks<S>>, AllocError> {
+    let mut queues = Vec::with_capacity(alloc, scene.servers() as usize)?;
+    for server in 0..scene.servers() {
+        queues.push(QueueDesks::new(alloc, ServerId(server), scene.clients().len())?)?;
+    }
+    Ok(queues)
+}
+
+/// The desks of a client at each server. The servers are 0, 1, .. in order.
+pub(crate) fn open_pairs<S: Setup>(
+    alloc: Global,
+    mint: &mut Mint<S>,
+    client: ClientId,
+    queues: &mut [QueueDesks<S>],
+) -> Result<TrackerDesks<S>, OpenFault> {
+    let mut sides = TrackerDesks::new(alloc, client, queues.len())?;
+    for queue in queues.iter_mut() {
+        open_next(mint, queue, &mut sides)?;
+    }
+    Ok(sides)
+}
+
+/// The desks of a client at the next server.
+fn open_next<S: Setup>(
+    mint: &mut Mint<S>,
+    queue: &mut QueueDesks<S>,
+    sides: &mut TrackerDesks<S>,
+) -> Result<(), OpenFault> {
+    if queue.server.0 as usize != sides.desks.len() {
+        return Err(OpenFault::Torn);
+    }
+    let (desk, side) = open_pair(mint, sides.client, queue.server)?;
+    queue.push(desk)?;
+    sides.push(side)?;
+    Ok(())
+}

@@ -1,0 +1,57 @@
+//! What the threads of a run leave, in room that is made before them.
+use dmc_ledger::setup::Setup;
+use dmc_settle::report::ClusterReport;
+use dmc_settle::settle::Passes;
+use dmc_tag::tag::Tag;
+use dmc_tlock::book::TrackerBook;
+use std::alloc::{AllocError, Global};
+
+/// What the threads of a run leave.
+#[derive(Drop)]
+pub struct Remains<T: Tag, B, S: Setup> {
+    /// The queues' books, of server 0, 1, ..
+    pub books: Vec<B>,
+    /// The trackers' books, in the order of the scene's clients.
+    pub trackers: Vec<TrackerBook<S>>,
+    /// The passes of all workers.
+    pub passes: Passes<S>,
+    /// With the stops and the failures.
+    pub report: ClusterReport<T>,
+}
+
+/// Nothing yet.
+pub(crate) fn no_remains<T: Tag, B, S: Setup>(alloc: Global) -> Remains<T, B, S> {
+    Remains {
+        books: Vec::new(alloc),
+        trackers: Vec::new(alloc),
+        passes: Passes {
+            workers: Vec::new(alloc),
+            clients: Vec::new(alloc),
+        },
+        report: ClusterReport {
+            clients: Vec::new(alloc),
+            servers: Vec::new(alloc),
+        },
+    }
+}
+
+/// Makes room for what so many clients leave.
+pub(crate) fn reserve_of_clients<T: Tag, B, S: Setup>(
+    clients: usize,
+    remains: &mut Remains<T, B, S>,
+) -> Result<(), AllocError> {
+    remains.trackers.reserve_exact(clients)?;
+    remains.passes.clients.reserve_exact(clients)?;
+    remains.report.clients.reserve_exact(clients)?;
+    Ok(())
+}
+
+/// Makes room for what so many servers leave beside their books.
+pub(crate) fn reserve_of_servers<T: Tag, B, S: Setup>(
+    servers: usize,
+    remains: &mut Remains<T, B, S>,
+) -> Result<(), AllocError> {
+    remains.passes.workers.reserve_exact(servers)?;
+    remains.report.servers.reserve_exact(servers)?;
+    Ok(())
+}

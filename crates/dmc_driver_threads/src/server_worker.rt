@@ -1,0 +1,191 @@
+//! A worker of a server: it pulls, has the granted requests served, and tells their clients.
+
+use crate::bell::{Ring, Ringer};
+use crate::cause::{of_entry, of_pull};
+use crate::cluster::Cluster;
+use crate::moments::Moments;
+use crate::origin::{AsOpened, Origin, ServerLock};
+use crate::service::{Job, Service};
+use dmc_book::book::QueueBook;
+use dmc_book::pass::WorkerPass;
+use dmc_index::index::Indexes;
+use dmc_ledger::setup::Setup;
+use dmc_settle::report::StopCause;
+use dmc_tag::reply::Pulled;
+use dmc_tag::tag::Tag;
+use dmc_tlock::lock::TrackerLock;
+use dmc_tlock::witness::{Lasting, Witness};
+use dmc_types::ids::ServerId;
+use std::sync::Wait;
+
+/// What a worker of a server has of its own.
+#[derive(Drop)]
+pub(crate) struct ServerJob<S: Setup> {
+    pub(crate) server: ServerId,
+    pub(crate) pass: WorkerPass<S>,
+    /// At the clients' doors, in the scene's order.
+    pub(crate) ringers: Vec<Ringer>,
+    /// How many services failed, of each client.
+    pub(crate) failures: Vec<u64>,
+    /// Why it stopped, if it did.
+    pub(crate) stop: Option<StopCause>,
+}
+
+/// The work of a server's worker. Where it stops, so do the clients.
+pub(crate) fn run_server<T, I, S, V, M, R>(
+    rt: &R,
+    cluster: &Cluster<QueueBook<T, I, S>, AsOpened<S>, S>,
+    service: &V,
+    moments: &M,
+    job: &mut ServerJob<S>,
+)
+where
+    T: Tag,
+    I: Indexes<T>,
+    S: Origin,
+    V: Service,
+    M: Moments,
+    R: Wait,
+{
+    job.stop = take_turns(rt, cluster, service, moments, job).err();
+    if job.stop.is_some() {
+        stop_all(rt, &mut job.ringers);
+    }
+}
+
+/// Tells every client's worker to end.
+pub(crate) fn stop_all<R: Wait>(rt: &R, ringers: &mut [Ringer]) {
+    for ringer in ringers.iter_mut() {
+        ringer.ring(rt, Ring::Stop);
+    }
+}
+
+/// Takes turns until the closed queue has nothing left.
+fn take_turns<T, I, S, V, M, R>(
+    rt: &R,
+    cluster: &Cluster<QueueBook<T, I, S>, AsOpened<S>, S>,
+    service: &V,
+    moments: &M,
+    job: &mut ServerJob<S>,
+) -> Result<(), StopCause>
+where
+    T: Tag,
+    I: Indexes<T>,
+    S: Origin,
+    V: Service,
+    M: Moments,
+    R: Wait,
+{
+    let Some(queue) = cluster.queues.get(job.server.0 as usize) else {
+        return Err(StopCause::Stray);
+    };
+    for _ in 0..cluster.max_pulls {
+        if !take_turn(rt, cluster, queue, service, moments, job)? {
+            return Ok(());
+        }
+    }
+    Err(StopCause::Turns)
+}
+
+/// Pulls, and has what is granted served. Whether there may be more.
+fn take_turn<T, I, S, V, M, R>(
+    rt: &R,
+    cluster: &Cluster<QueueBook<T, I, S>, AsOpened<S>, S>,
+    queue: &ServerLock<T, I, S>,
+    service: &V,
+    moments: &M,
+    job: &mut ServerJob<S>,
+) -> Result<bool, StopCause>
+where
+    T: Tag,
+    I: Indexes<T>,
+    S: Origin,
+    V: Service,
+    M: Moments,
+    R: Wait,
+{
+    match queue.pull_or_wait(rt, &mut job.pass, moments.now()) {
+        Ok(
+            Pulled::Returning {
+                client,
+                token,
+                phase,
+                beyond: _,
+            },
+        ) => {
+            let granted = Job {
+                server: job.server,
+                client,
+                token,
+                phase,
+            };
+            complete(rt, cluster, service, &granted, job)?;
+            Ok(true)
+        }
+        Ok(Pulled::Future(_)) => Ok(true),
+        Ok(Pulled::Nothing) => Ok(false),
+        Err(fault) => Err(of_pull(fault)),
+    }
+}
+
+/// Has a granted request served, and tells its client.
+fn complete<B: Lasting, W: Witness<B>, S: Setup, V: Service, R: Wait>(
+    rt: &R,
+    cluster: &Cluster<B, W, S>,
+    service: &V,
+    granted: &Job,
+    job: &mut ServerJob<S>,
+) -> Result<(), StopCause> {
+    let failed = service.serve(granted).is_err();
+    let Some(place) = cluster.ids.get_index_of(&granted.client) else {
+        return Err(StopCause::Stray);
+    };
+    if failed {
+        count_failure(&mut job.failures, place);
+    }
+    tell_client(rt, &cluster.trackers, place, granted, job)
+}
+
+/// Responds for a granted request to the client at a place, and rings at its door.
+fn tell_client<S: Setup, R: Wait>(
+    rt: &R,
+    trackers: &[TrackerLock<S>],
+    place: usize,
+    granted: &Job,
+    job: &mut ServerJob<S>,
+) -> Result<(), StopCause> {
+    let Some(tracker) = trackers.get(place) else {
+        return Err(StopCause::Stray);
+    };
+    respond(rt, tracker, granted, &mut job.pass)?;
+    if let Some(ringer) = job.ringers.get_mut(place) {
+        ringer.ring(rt, Ring::Completed);
+    }
+    Ok(())
+}
+
+/// Counts a failure of the client at a place.
+fn count_failure(failures: &mut [u64], place: usize) {
+    if let Some(count) = failures.get_mut(place) {
+        *count = count.saturating_add(1);
+    }
+}
+
+/// Responds for a granted request at its client's tracker, which takes a unit of the grant.
+fn respond<S: Setup, R: Wait>(
+    rt: &R,
+    tracker: &TrackerLock<S>,
+    granted: &Job,
+    pass: &mut WorkerPass<S>,
+) -> Result<(), StopCause> {
+    let Some(till) = pass.grant_till(granted.client, granted.phase) else {
+        return Err(StopCause::Stray);
+    };
+    if till.amount() == 0 {
+        return Err(StopCause::Stray);
+    }
+    match tracker.respond(rt, granted.server, granted.phase, till) {
+        Ok(()) => Ok(()),
+        Err(fault) => Err(of_entry(fault)),
+    }
+}

@@ -1,0 +1,78 @@
+//! The workers of a scene's cluster, from the first to the last.
+ghost use Rattle.std.specs.Prelude.{◌≡◌, [], All, IfOk};
+ghost use Rattle.dmc_driver_threads.specs.Opened.{IsOpenedBook};
+
+use crate::fault::OpenFault;
+use crate::gathering::gather;
+use crate::limits::Limits;
+use crate::moments::Moments;
+use crate::opening::{Opened, open};
+use crate::origin::{AsOpened, Origin};
+use crate::remains::Remains;
+use crate::service::Service;
+use crate::threads::run_all;
+use dmc_book::book::QueueBook;
+use dmc_heap::indexed_heap::HeapIndexes;
+use dmc_ledger::mint::Mint;
+use dmc_scene::scene::Scene;
+use dmc_tag::tag::Tag;
+use std::alloc::Global;
+use std::sync::Wait;
+use std::thread::Threads;
+
+/// Opens the clients and servers of a scene, runs a thread for each of their workers until all of them have ended, and returns
+/// what they leave. A fault comes before any thread is started.
+///
+/// Every book that they leave begins with the registrations of the scene's clients, and has the limit of its history. Nothing else
+/// is promised of what they leave. `settle_cluster` looks at it all, and proves the report of a run from that.
+pub fn run_workers<T, S, V, M, R>(
+    rt: &R,
+    alloc: Global,
+    mint: &mut Mint<S>,
+    scene: &Scene,
+    service: &V,
+    moments: &M,
+    limits: Limits,
+) -> Result<Remains<T, QueueBook<T, HeapIndexes, S>, S>, OpenFault>
+where
+    T: Tag + Send + Sync,
+    S: Origin + Send + Sync,
+    V: Service + Sync,
+    M: Moments + Sync,
+    R: Threads + Wait + Sync,
+    requires scene { S.scene ≡ scene.now }
+    requires limits { S.limits ≡ limits }
+    ensures { IfOk result (λ remains. All (IsOpenedBook scene.now limits) remains.books.items) }
+{
+    let room = Vec::with_capacity(alloc, scene.servers() as usize)?;
+    let opened = open::<T, HeapIndexes, S>(alloc, mint, scene, limits)?;
+    Ok(run_opened(rt, service, moments, opened, room))
+}
+
+/// Runs the workers that were opened, and gathers what they leave. The books go where there is room for them.
+fn run_opened<T, S, V, M, R>(
+    rt: &R,
+    service: &V,
+    moments: &M,
+    opened: Opened<T, QueueBook<T, HeapIndexes, S>, AsOpened<S>, S>,
+    room: Vec<QueueBook<T, HeapIndexes, S>>,
+) -> Remains<T, QueueBook<T, HeapIndexes, S>, S>
+where
+    T: Tag + Send + Sync,
+    S: Origin + Send + Sync,
+    V: Service + Sync,
+    M: Moments + Sync,
+    R: Threads + Wait + Sync,
+    requires { room.items ≡ [] }
+    ensures { All (IsOpenedBook S.scene S.limits) result.books.items }
+{
+    let Opened {
+        cluster,
+        senders,
+        mut servers,
+        mut remains,
+    } = opened;
+    let clients = run_all(rt, &cluster, service, moments, &mut servers, senders);
+    gather(cluster, clients, servers, room, &mut remains);
+    remains
+}

@@ -1,7 +1,0 @@
-use Rattle.dmc_events.proofs.Pushes.{adds_others}
-use Rattle.dmc_events.proofs.lists.Lists.push_other.Goals as goal
-
-pub returns : goal.returns
-returns g c =
-    adds_others g.T.Tag.ops c.args.self.now c.len.result c.place_in-place.result c.push_reserved.new.self c.args.event
-    c.push_reserved.ensures.events c.push_reserved.ensures.most c.push_reserved.ensures.used c.len.ensures.value c.place_in-place.ensures

@@ -1,0 +1,5 @@
+-- What a caller's proof may cite: the laws over plain variables.
+-- a client's queued requests are its arrivals without the first ones, as many as left
+pub use Rattle.dmc_history_laws.proofs.Histories.{in_order_of_arrival}
+-- the bounds of the limit and of the reservation
+pub use Rattle.dmc_history_laws.proofs.Numbered.{holds_limit, holds_reservation}

@@ -1,0 +1,57 @@
+-- Small histories on which the bounds are computed: client 1 of weight 1, 1,000 ticks a second, whole ticks as tags.
+use Rattle.std.specs.Prelude.{ℤ, pos, List, [], ◌∷◌, ◌++◌, Some, None}
+use Rattle.dmc_types.specs.declared.ids.ClientId.{ClientId}
+use Rattle.dmc_types.specs.declared.command.Command.{Command}
+use Rattle.dmc_tag.specs.declared.event.Event.{Event}
+use Rattle.dmc_tag.specs.declared.reply.Reply.{Reply}
+use Rattle.dmc_tag.specs.declared.reply.Reply.TheVariants.{Registered, Later}
+use Rattle.dmc_tag.specs.Examples.{client, add, pull, tags, by_reservation, by_priority, by_priority_beyond}
+
+abbrev pub first_client : ClientId
+first_client = record { 0 = 1 }
+
+abbrev pub event : Command → Reply ℤ → Event ℤ
+event command reply = record { worker = record { 0 = 1 }; command = command; reply = reply }
+
+-- ---- limit 20: a_1 is granted at once, and a_2 and a_3 arrive with delta 1
+
+abbrev pub limited : List (Event ℤ)
+limited = event (client 1 None 1 (Some 20) 0) Registered ∷ event (add 1 1 0 0 0) (tags None (pos 0) (pos 0)) ∷ []
+
+abbrev pub at_limit : List (Event ℤ)
+at_limit = event (pull 0) (by_priority 1 1) ∷ event (add 1 2 1 0 0) (tags None (pos 50) (pos 1000)) ∷ event (add 1 3 1 0 0) (tags None (pos 100) (pos 2000)) ∷ []
+
+abbrev pub waits : List (Event ℤ)
+waits = at_limit ++ event (pull 0) (Later 50) ∷ []
+
+-- under Wait the grant is at 50, under Allow beyond the limit at 0
+abbrev pub granted_at_50 : Event ℤ
+granted_at_50 = event (pull 50) (by_priority 1 2)
+
+abbrev pub granted_beyond : Event ℤ
+granted_beyond = event (pull 0) (by_priority_beyond 1 2)
+
+-- ---- reservation 10, no limit: a_1 is granted at once, and a_2 arrives with rho 1
+
+abbrev pub reserved : List (Event ℤ)
+reserved = event (client 1 (Some 10) 1 None 0) Registered ∷ event (add 1 1 0 0 0) (tags (Some (pos 0)) (pos 0) (pos 0)) ∷ []
+
+abbrev pub at_reservation : List (Event ℤ)
+at_reservation = event (pull 0) (by_reservation 1 1) ∷ event (add 1 2 1 1 0) (tags (Some (pos 100)) (pos 0) (pos 1000)) ∷ []
+
+abbrev pub reserved_at_100 : Event ℤ
+reserved_at_100 = event (pull 100) (by_reservation 1 2)
+
+-- a_2 is granted by weight, which takes one spacing off the R of a_3
+abbrev pub with_priority : List (Event ℤ)
+with_priority = at_reservation ++ event (add 1 3 1 1 0) (tags (Some (pos 200)) (pos 0) (pos 2000)) ∷ event (pull 0) (by_priority 1 2) ∷ []
+
+abbrev pub third_at_100 : Event ℤ
+third_at_100 = event (pull 100) (by_reservation 1 3)
+
+-- with limit 20 too, under Allow: as without it, but a_2 is granted beyond
+abbrev pub both : List (Event ℤ)
+both = event (client 1 (Some 10) 1 (Some 20) 0) Registered ∷ event (add 1 1 0 0 0) (tags (Some (pos 0)) (pos 0) (pos 0)) ∷ []
+
+abbrev pub with_beyond : List (Event ℤ)
+with_beyond = event (pull 0) (by_reservation 1 1) ∷ event (add 1 2 1 1 0) (tags (Some (pos 100)) (pos 50) (pos 1000)) ∷ event (add 1 3 1 1 0) (tags (Some (pos 200)) (pos 100) (pos 2000)) ∷ event (pull 0) (by_priority_beyond 1 2) ∷ []

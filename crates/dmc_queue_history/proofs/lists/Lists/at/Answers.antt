@@ -1,0 +1,6 @@
+-- Answered here, so that a wrong body fails here.
+use Rattle.std.proofs.Common.{rules}
+use Rattle.dmc_queue_history.proofs.lists.Lists.at.Goals as goal
+
+pub returns-in_default : goal.returns-in_default
+returns-in_default g c = search rules

@@ -1,0 +1,3 @@
+-- How a queue's history stores its events, in a list for each form and their order, and the list of events that contracts cite.
+pub mod Kept
+pub mod Segmented

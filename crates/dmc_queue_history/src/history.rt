@@ -1,0 +1,295 @@
+//! The history of a queue: a list of events that only grows.
+ghost use Rattle.std.specs.Prelude.{◌≡◌, ◌↔◌, ◌+◌, ◌<◌, ◌≤◌, [], ◌∷◌, ◌++◌, length, IsTrue, OnOk, OnErr, IsErrOf, IsOk, slice_get};
+ghost use Rattle.dmc_types.specs.Limits.{most_events};
+ghost use Rattle.dmc_types.specs.declared.command.Command.TheVariants as commands;
+ghost use Rattle.dmc_tag.specs.declared.reply.Reply.TheVariants as replies;
+
+use crate::kept::{Granted, Request, asked_to_add, asked_to_pull};
+use crate::lists::Lists;
+use dmc_history::{History, LimitFault, ReserveFault};
+use dmc_tag::event::Event;
+use dmc_tag::reply::{Reply, Tags};
+use dmc_tag::tag::Tag;
+use dmc_types::command::Command;
+use dmc_types::config::PhaseType;
+use dmc_types::ids::{ClientId, Token, WorkerId};
+use dmc_types::moment::Moment;
+use dmc_types::params::ReqParams;
+use std::alloc::Global;
+use std::marker::Model;
+
+/// A list of at most `most` events (1 to 2^30), oldest first: a `History<Event<T>>` in less memory. With tick tags it takes 28
+/// bytes for a grant, and 84 for a request that was queued, or 52 where the client has no reservation and the limit's tag is the
+/// moment (as it is within a limit, or without one), in place of 112.
+///
+/// An event goes in by two calls: `reserve_one`, which may need memory, and a push, which needs none. Each push uses up one
+/// reserved place. Contracts see the events, `most`, and how many places are reserved.
+#[derive(Drop)]
+pub struct EventHistory<T: Tag> {
+    // Where each event is.
+    places: History<u32>,
+    lists: Lists<T>,
+    // How many more events have a place, whatever their form.
+    room: usize,
+}
+
+impl<T: Tag> Model for EventHistory<T> {
+    ghost use Rattle.dmc_tag.specs.declared.event.Event.{Event};
+    ghost use Rattle.dmc_history.specs.Log.{Log};
+    ghost use Rattle.dmc_queue_history.specs.Kept.{IsKept, events_at, kept_of};
+
+    ghost Value = { Log (Event T) };
+
+    ghost view = { λ h. record { events = events_at T.ops (kept_of h.lists) h.places.events; most = h.places.most; room = h.room } };
+
+    ghost invariant = { λ h. IsKept T.ops h.lists h.places h.room };
+}
+
+impl<T: Tag> EventHistory<T> {
+    /// An empty history of at most `most` events, which takes no memory; refused `Limit` where `most` is not 1 to 2^30.
+    pub fn new(alloc: Global, most: u32) -> Result<EventHistory<T>, LimitFault>
+        ensures ok { (0 < most) × (most ≤ most_events) → result ≡ Ok (record { events = []; most = most; room = 0 }) }
+        ensures refused { ((0 < most) × (most ≤ most_events) → ⊥) → result ≡ Err LimitFault.Limit }
+    {
+        let places = History::new(alloc, most)?;
+        Ok(EventHistory {
+            places,
+            lists: Lists::new(alloc, most),
+            room: 0,
+        })
+    }
+
+    /// How many events it has.
+    pub fn len(&self) -> usize
+        ensures value { result ≡ length self.now.events }
+        ensures bound { result + self.now.room ≤ self.now.most }
+    {
+        self.places.len()
+    }
+
+    /// Whether it has no event.
+    pub fn is_empty(&self) -> bool
+        ensures { IsTrue result ↔ (self.now.events ≡ []) }
+    {
+        self.len() == 0
+    }
+
+    /// How many events it may have.
+    pub fn most(&self) -> u32
+        ensures value { result ≡ self.now.most }
+        ensures some { 0 < result }
+        ensures limit { result ≤ most_events }
+    {
+        self.places.most()
+    }
+
+    /// The event at an index, counted from 0, or `None` past the end.
+    pub fn at(&self, index: usize) -> Option<Event<T>>
+        ensures { result ≡ slice_get self.now.events index }
+    {
+        let place = *self.places.at(index)?;
+        self.lists.at(place)
+    }
+
+    /// Reserves a place, which the next push uses: refused `HistoryFull` exactly where it has its `most` events, then
+    /// `Memory` where the allocator refused a growth. A place that is reserved already serves again, and needs no memory.
+    pub fn reserve_one(&mut self) -> Result<(), ReserveFault>
+        ensures ok { OnOk result (0 < self.new.room) }
+        ensures fewer { OnOk result (length self.old.events < self.old.most) }
+        ensures full { IsErrOf result ReserveFault.HistoryFull ↔ (length self.old.events ≡ self.old.most) }
+        ensures reserved { 0 < self.old.room → IsOk result }
+
+        // The events stay, whatever the result, and so does a place that was there.
+        ensures events { self.new.events ≡ self.old.events }
+        ensures most { self.new.most ≡ self.old.most }
+        ensures kept { 0 < self.old.room → self.new.room ≡ self.old.room }
+        ensures err { OnErr result (self.new.room ≡ self.old.room) }
+    {
+        if self.room > 0 {
+            return Ok(());
+        }
+        self.reserve_more()
+    }
+
+    /// Reserves places, where none is.
+    #[inline(never)]
+    fn reserve_more(&mut self) -> Result<(), ReserveFault>
+        requires { self.old.room ≡ 0 }
+        ensures ok { OnOk result (0 < self.new.room) }
+        ensures fewer { OnOk result (length self.old.events < self.old.most) }
+        ensures full { IsErrOf result ReserveFault.HistoryFull ↔ (length self.old.events ≡ self.old.most) }
+        ensures events { self.new.events ≡ self.old.events }
+        ensures most { self.new.most ≡ self.old.most }
+        ensures err { OnErr result (self.new.room ≡ self.old.room) }
+    {
+        self.places.reserve_one()?;
+        self.lists.reserve_one()?;
+        self.room = self.places.room().min(self.lists.room());
+        Ok(())
+    }
+
+    /// Puts a request that was queued at the end, in a reserved place.
+    #[inline(always)]
+    pub fn push_queued(
+        &mut self,
+        worker: WorkerId,
+        client: ClientId,
+        token: Token,
+        params: ReqParams,
+        at: Moment,
+        tags: Tags<T>,
+    )
+        requires { 0 < self.old.room }
+        ensures events { self.new.events ≡ self.old.events
+            ++ record { worker = worker; command = commands.Add client token params at; reply = replies.Tagged tags } ∷ [] }
+        ensures most { self.new.most ≡ self.old.most }
+        ensures used { self.new.room + 1 ≡ self.old.room }
+    {
+        let place = self
+            .lists
+            .push_queued(worker, client, token, params, at, tags);
+        self.places.push_reserved(place);
+        self.room -= 1;
+    }
+
+    /// Puts a request that was granted at the end, in a reserved place.
+    #[inline(always)]
+    pub fn push_granted(
+        &mut self,
+        worker: WorkerId,
+        at: Moment,
+        client: ClientId,
+        token: Token,
+        phase: PhaseType,
+        beyond: bool,
+    )
+        requires { 0 < self.old.room }
+        ensures events { self.new.events ≡ self.old.events
+            ++ record { worker = worker; command = commands.Pull at; reply = replies.Granted client token phase beyond } ∷ [] }
+        ensures most { self.new.most ≡ self.old.most }
+        ensures used { self.new.room + 1 ≡ self.old.room }
+    {
+        let place = self.lists.push_granted(Granted {
+            at,
+            worker,
+            client,
+            token,
+            phase,
+            beyond,
+        });
+        self.places.push_reserved(place);
+        self.room -= 1;
+    }
+
+    /// Puts an event at the end as it is, in a reserved place.
+    fn push_other(&mut self, event: Event<T>)
+        requires { 0 < self.old.room }
+        ensures events { self.new.events ≡ self.old.events ++ event ∷ [] }
+        ensures most { self.new.most ≡ self.old.most }
+        ensures used { self.new.room + 1 ≡ self.old.room }
+    {
+        let place = self.lists.push_other(event);
+        self.places.push_reserved(place);
+        self.room -= 1;
+    }
+
+    /// Puts an event at the end, in a reserved place.
+    pub fn push_reserved(&mut self, event: Event<T>)
+        requires { 0 < self.old.room }
+        ensures events { self.new.events ≡ self.old.events ++ event ∷ [] }
+        ensures most { self.new.most ≡ self.old.most }
+        ensures used { self.new.room + 1 ≡ self.old.room }
+    {
+        let Event {
+            worker,
+            command,
+            reply,
+        } = event;
+        match reply {
+            Reply::Tagged(tags) => self.push_tagged(worker, command, tags),
+            Reply::Granted {
+                client,
+                token,
+                phase,
+                beyond,
+            } => self.push_grant(worker, command, client, token, phase, beyond),
+            _ => self.push_other(Event {
+                worker,
+                command,
+                reply,
+            }),
+        }
+    }
+
+    /// Puts a command that was answered with tags at the end.
+    fn push_tagged(&mut self, worker: WorkerId, command: Command, tags: Tags<T>)
+        requires { 0 < self.old.room }
+        ensures events { self.new.events ≡ self.old.events
+            ++ record { worker = worker; command = command; reply = replies.Tagged tags } ∷ [] }
+        ensures most { self.new.most ≡ self.old.most }
+        ensures used { self.new.room + 1 ≡ self.old.room }
+    {
+        match asked_to_add(&command) {
+            Some(
+                Request {
+                    client,
+                    token,
+                    params,
+                    at,
+                },
+            ) => self.push_queued(worker, client, token, params, at, tags),
+            None => self.push_other(Event {
+                worker,
+                command,
+                reply: Reply::Tagged(tags),
+            }),
+        }
+    }
+
+    /// Puts a command that was answered with a grant at the end.
+    fn push_grant(
+        &mut self,
+        worker: WorkerId,
+        command: Command,
+        client: ClientId,
+        token: Token,
+        phase: PhaseType,
+        beyond: bool,
+    )
+        requires { 0 < self.old.room }
+        ensures events { self.new.events ≡ self.old.events
+            ++ record { worker = worker; command = command; reply = replies.Granted client token phase beyond } ∷ [] }
+        ensures most { self.new.most ≡ self.old.most }
+        ensures used { self.new.room + 1 ≡ self.old.room }
+    {
+        match asked_to_pull(&command) {
+            Some(at) => self.push_granted(worker, at, client, token, phase, beyond),
+            None => self.push_other(Event {
+                worker,
+                command,
+                reply: Reply::Granted {
+                    client,
+                    token,
+                    phase,
+                    beyond,
+                },
+            }),
+        }
+    }
+
+    /// Takes out all events, and with them the places that are reserved. It takes no memory.
+    pub fn take(&mut self) -> EventHistory<T>
+        ensures value { result ≡ self.old }
+        ensures within { length result.events ≤ result.most }
+        ensures limit { result.most ≤ most_events }
+        ensures empty { self.new ≡ record { events = []; most = self.old.most; room = 0 } }
+    {
+        let taken = EventHistory {
+            places: self.places.take(),
+            lists: self.lists.take(),
+            room: self.room,
+        };
+        self.room = 0;
+        taken
+    }
+}

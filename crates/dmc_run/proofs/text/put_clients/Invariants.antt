@@ -1,8 +1,0 @@
--- The lines of the rows so far are there.
-use Rattle.std.proofs.Common.{◌≡◌, ◌++◌, take}
-use Rattle.std.specs.Prelude.{flat_map, string_bytes}
-use Rattle.dmc_run.specs.Texts.{client_line}
-use Rattle.dmc_run.proofs.text.put_clients.Given as goal
-
-abbrev pub invariant-loop-row : goal.invariant-loop-row
-invariant-loop-row l = string_bytes l.text ≡ string_bytes l.fn.text ++ flat_map client_line (take l.row-index l.rows)

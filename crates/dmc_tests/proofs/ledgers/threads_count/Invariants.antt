@@ -1,4 +1,0 @@
-use Rattle.dmc_tests.proofs.ledgers.threads_count.Given as goal
-
-abbrev pub ghosts-counted : goal.ghosts-counted
-ghosts-counted g a = record { name = a.blank.name }

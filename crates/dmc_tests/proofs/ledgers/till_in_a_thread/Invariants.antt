@@ -1,4 +1,0 @@
-use Rattle.dmc_tests.proofs.ledgers.till_in_a_thread.Given as goal
-
-abbrev pub ghosts-moved : goal.ghosts-moved
-ghosts-moved g a = record { name = a.blank.name }

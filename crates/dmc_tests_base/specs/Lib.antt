@@ -1,0 +1,2 @@
+-- Heads of tests.
+pub mod Heads

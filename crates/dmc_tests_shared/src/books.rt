@@ -1,0 +1,145 @@
+//! One request from its stamp to its response.
+ghost use Rattle.std.specs.Prelude.{◌≡◌};
+
+use crate::calls::{carried, must_enroll, pull, respond, stamp, status, submit};
+use crate::opening::{Book, ONE, Opened, ZERO, let_all_go, open};
+use dmc_book::pass::WorkerPass;
+use dmc_book::status::Status;
+use dmc_ledger::bundle::StampTills;
+use dmc_ledger::mint::Blank;
+use dmc_ledger::setup::Setup;
+use dmc_tag::reply::{Reply, Tags};
+use dmc_tag::tag::Tag;
+use dmc_tick::tick::TickTag;
+use dmc_tlock::book::TrackerBook;
+use dmc_tlock::fault::TillFault;
+use dmc_tlock::status::TrackStatus;
+use dmc_types::config::PhaseType;
+use dmc_types::ids::Token;
+use dmc_types::moment::Moment;
+use std::alloc::Global;
+use std::marker::Brand;
+use std::test::Fail;
+
+/// What a circle reports, from the registration to the second stamp.
+#[derive(Clone, Copy, PartialEq, Eq)]
+pub(crate) struct Told {
+    stamped: (u32, u32),
+    tags: Tags<TickTag>,
+    submitted: Status,
+    granted: Reply<TickTag>,
+    pulled: Status,
+    next: (u32, u32),
+    sent: (u64, u64),
+    pending: (u64, u64),
+    completions: (u64, u64),
+}
+
+/// What it has to report.
+fn circle_told() -> Told {
+    let submitted = Status {
+        calls: 2,
+        misses: 0,
+        tokens: 9,
+        grants: 0,
+        granted: 0,
+        clients: 1,
+        requests: 1,
+        events: 2,
+        closed: false,
+    };
+    let zero = TickTag::of_moment(Moment::zero());
+    Told {
+        stamped: (0, 0),
+        tags: Tags {
+            r: None,
+            l: zero,
+            p: zero,
+        },
+        submitted,
+        granted: Reply::Granted {
+            client: ONE,
+            token: Token(9),
+            phase: PhaseType::Priority,
+            beyond: false,
+        },
+        pulled: Status {
+            calls: 3,
+            grants: 1,
+            granted: 9,
+            requests: 0,
+            events: 3,
+            ..submitted
+        },
+        next: (1, 0),
+        sent: (1, 0),
+        pending: (0, 0),
+        completions: (1, 0),
+    }
+}
+
+/// The tracker's counts of server 0.
+fn tracker_status<S: Setup>(
+    tracker: &TrackerBook<S>,
+    tills: &StampTills<S>,
+) -> Result<TrackStatus, TillFault> {
+    tracker.status(ZERO, tills)
+}
+
+fn circle_in_hand<S: Setup>(
+    book: &mut Book<S>,
+    pass: &mut WorkerPass<S>,
+    tracker: &mut TrackerBook<S>,
+    tills: &mut StampTills<S>,
+) -> Result<Told, Fail> {
+    must_enroll(book, pass)?;
+    let (stamped, tags) = submit(book, pass, tracker, tills)?;
+    let submitted = status(book, pass)?;
+    let granted = pull(book, pass)?;
+    let pulled = status(book, pass)?;
+    respond(pass, tracker, ZERO, ONE, PhaseType::Priority)?;
+    let next = carried(&stamp(tracker, ZERO, tills)?);
+    let tracked = tracker_status(tracker, tills)?;
+    Ok(Told {
+        stamped,
+        tags,
+        submitted,
+        granted,
+        pulled,
+        next,
+        sent: tracked.sent,
+        pending: tracked.pending,
+        completions: tracked.completions,
+    })
+}
+
+/// A circle of the books that were opened.
+pub(crate) fn play<S: Setup>(opened: &mut Opened<S>) -> Result<Told, Fail> {
+    let Some(tills) = opened.tills.tills(ZERO) else {
+        return Err(Fail::new("tills for the server"));
+    };
+    circle_in_hand(
+        &mut opened.book,
+        &mut opened.pass,
+        &mut opened.tracker,
+        tills,
+    )
+}
+
+fn circle<S: Setup>(alloc: Global, blank: Blank) -> Result<Told, Fail>
+    requires { blank.name ≡ S.name }
+{
+    let mut mint = blank.open::<S>();
+    let mut opened = open(alloc, &mut mint, 8)?;
+    let told = play(&mut opened);
+    let_all_go(opened);
+    told
+}
+
+#[test]
+fn one_circle(rt: HostRuntime) -> Result<(), Fail> {
+    let told = circle::<Brand>(rt.alloc(), Blank::new(14))?;
+    assert_eq!(rt; told.tags.r, None);
+    assert!(rt; told == circle_told());
+    Ok(())
+}

@@ -1,0 +1,186 @@
+//! The calls of a book and of a tracker, each in a function that promises only what the next call requires. Their results are
+//! tested by running them.
+ghost use Rattle.std.specs.Prelude.{◌≡◌, false, IfOk};
+ghost use Rattle.dmc_ledger.specs.Bundles.{Covers, stamp_holdings};
+ghost use Rattle.dmc_book.specs.Calls.{is_add};
+
+use crate::opening::{Book, ONE, ZERO};
+use dmc_book::fault::{RunFault, SubmitCause};
+use dmc_book::pass::WorkerPass;
+use dmc_book::status::Status;
+use dmc_ledger::bundle::StampTills;
+use dmc_ledger::setup::Setup;
+use dmc_ledger::till::Till;
+use dmc_tag::reply::{Reply, Tags};
+use dmc_tick::tick::TickTag;
+use dmc_tlock::book::TrackerBook;
+use dmc_tlock::fault::EntryFault;
+use dmc_tlock::stamp::Stamp;
+use dmc_types::command::Command;
+use dmc_types::config::PhaseType;
+use dmc_types::ids::{ClientId, ServerId, Token};
+use dmc_types::info::ClientInfo;
+use dmc_types::moment::Moment;
+use std::test::Fail;
+
+/// Runs a command that submits nothing.
+pub(crate) fn run<S: Setup>(
+    book: &mut Book<S>,
+    pass: &mut WorkerPass<S>,
+    command: Command,
+) -> Result<Reply<TickTag>, RunFault>
+    requires { is_add command ≡ false }
+{
+    book.run(pass, command)
+}
+
+/// The registration of a client of weight 1, with a limit or none.
+pub(crate) fn register(client: ClientId, limit: Option<u32>) -> Result<Command, Fail>
+    ensures { IfOk result (λ command. is_add command ≡ false) }
+{
+    let at = Moment::zero();
+    match ClientInfo::new(None, 1, limit) {
+        Ok(info) => Ok(Command::Register { client, info, at }),
+        Err(_) => Err(Fail::new("a client of weight 1")),
+    }
+}
+
+/// Registers a client, and returns why it is refused, if it is.
+pub(crate) fn enroll<S: Setup>(
+    book: &mut Book<S>,
+    pass: &mut WorkerPass<S>,
+    client: ClientId,
+) -> Result<Option<RunFault>, Fail> {
+    let command = register(client, None)?;
+    Ok(run(book, pass, command).err())
+}
+
+/// Registers client 1.
+pub(crate) fn must_enroll<S: Setup>(
+    book: &mut Book<S>,
+    pass: &mut WorkerPass<S>,
+) -> Result<(), Fail> {
+    match enroll(book, pass, ONE)? {
+        None => Ok(()),
+        Some(fault) => Err(fault.into()),
+    }
+}
+
+/// A pull at moment 0.
+pub(crate) fn pull<S: Setup>(
+    book: &mut Book<S>,
+    pass: &mut WorkerPass<S>,
+) -> Result<Reply<TickTag>, RunFault> {
+    run(book, pass, Command::Pull { at: Moment::zero() })
+}
+
+/// Closes the book's queue.
+pub(crate) fn close<S: Setup>(book: &mut Book<S>) {
+    book.close();
+}
+
+/// What the worker of the pass sees of the book.
+pub(crate) fn status<S: Setup>(book: &Book<S>, pass: &WorkerPass<S>) -> Result<Status, RunFault> {
+    book.status(pass)
+}
+
+/// The counts of a stamp: delta and rho.
+pub(crate) fn carried(stamp: &Stamp) -> (u32, u32) {
+    let params = stamp.params();
+    (params.delta(), params.rho())
+}
+
+/// A stamp of the tracker, which the tills cover.
+pub(crate) fn stamp<S: Setup>(
+    tracker: &mut TrackerBook<S>,
+    server: ServerId,
+    tills: &mut StampTills<S>,
+) -> Result<Stamp, EntryFault>
+    ensures { IfOk result (λ stamp. Covers (stamp_holdings tills.new) stamp.params) }
+{
+    tracker.stamp(server, tills)
+}
+
+/// The tags of a request, or whose stamp comes back, and the cause.
+pub(crate) type Answer = Result<Tags<TickTag>, (ClientId, SubmitCause)>;
+
+/// Submits a stamped request at moment 0.
+fn submit_stamped<S: Setup>(
+    book: &mut Book<S>,
+    pass: &mut WorkerPass<S>,
+    tills: &mut StampTills<S>,
+    stamp: Stamp,
+    token: Token,
+) -> Answer
+    requires { Covers (stamp_holdings tills.old) stamp.params }
+{
+    match book.submit(pass, tills, stamp, token, Moment::zero()) {
+        Ok(tags) => Ok(tags),
+        Err(fault) => Err((fault.stamp.client(), fault.cause)),
+    }
+}
+
+/// Stamps a request for a server, and submits it: the counts of the stamp, and the result.
+pub(crate) fn stamp_and_submit<S: Setup>(
+    book: &mut Book<S>,
+    pass: &mut WorkerPass<S>,
+    tracker: &mut TrackerBook<S>,
+    tills: &mut StampTills<S>,
+    server: ServerId,
+    token: Token,
+) -> Result<((u32, u32), Answer), EntryFault> {
+    let stamp = stamp(tracker, server, tills)?;
+    let sent = carried(&stamp);
+    Ok((sent, submit_stamped(book, pass, tills, stamp, token)))
+}
+
+/// Stamps and submits token 9: the counts of the stamp, and the result.
+pub(crate) fn try_submit<S: Setup>(
+    book: &mut Book<S>,
+    pass: &mut WorkerPass<S>,
+    tracker: &mut TrackerBook<S>,
+    tills: &mut StampTills<S>,
+) -> Result<((u32, u32), Answer), EntryFault> {
+    stamp_and_submit(book, pass, tracker, tills, ZERO, Token(9))
+}
+
+/// Stamps and submits token 9: the counts of the stamp, and the tags.
+pub(crate) fn submit<S: Setup>(
+    book: &mut Book<S>,
+    pass: &mut WorkerPass<S>,
+    tracker: &mut TrackerBook<S>,
+    tills: &mut StampTills<S>,
+) -> Result<((u32, u32), Tags<TickTag>), Fail> {
+    match try_submit(book, pass, tracker, tills)? {
+        (sent, Ok(tags)) => Ok((sent, tags)),
+        (_, Err((_, cause))) => Err(cause.into()),
+    }
+}
+
+/// Responds with a unit of the till.
+fn give_back<S: Setup>(
+    tracker: &mut TrackerBook<S>,
+    server: ServerId,
+    phase: PhaseType,
+    till: &mut Till<S>,
+) -> Result<(), Fail> {
+    if till.amount() == 0 {
+        return Err(Fail::new("a unit of the grant"));
+    }
+    tracker.respond(server, phase, till)?;
+    Ok(())
+}
+
+/// Responds with a unit that the pass has of a client's grants.
+pub(crate) fn respond<S: Setup>(
+    pass: &mut WorkerPass<S>,
+    tracker: &mut TrackerBook<S>,
+    server: ServerId,
+    client: ClientId,
+    phase: PhaseType,
+) -> Result<(), Fail> {
+    match pass.grant_till(client, phase) {
+        Some(till) => give_back(tracker, server, phase, till),
+        None => Err(Fail::new("a till of the client")),
+    }
+}

@@ -1,0 +1,30 @@
+//! Tests of the books of queues and trackers, of their locks, and of what a cluster's threads leave. They are in a crate above
+//! these, so that these are proved once.
+#![tactic(auto)]
+
+#[cfg(test)]
+mod books;
+#[cfg(test)]
+mod calls;
+#[cfg(test)]
+mod clusters;
+#[cfg(test)]
+mod opening;
+#[cfg(test)]
+mod queue_locks;
+#[cfg(test)]
+mod refusals;
+#[cfg(test)]
+mod same;
+#[cfg(test)]
+mod segments;
+#[cfg(test)]
+mod settling;
+#[cfg(test)]
+mod tracker_books;
+#[cfg(test)]
+mod tracker_refusals;
+#[cfg(test)]
+mod tracker_setup;
+#[cfg(test)]
+mod tracker_skips;

@@ -1,0 +1,9 @@
+//! Tests of the lock, which threads share.
+mod auditing;
+mod calls;
+mod circle;
+mod refusals;
+mod settling;
+mod setup;
+mod threads;
+mod waiting;

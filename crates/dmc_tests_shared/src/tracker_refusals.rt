@@ -1,0 +1,266 @@
+//! Refusals: of another client's tills and pass, of a server that the tracker does not have, of a full list, and of a limit.
+ghost use Rattle.std.specs.Prelude.{◌≡◌, map};
+ghost use Rattle.dmc_ledger.specs.Bundles.{server_side};
+ghost use Rattle.dmc_tlock.specs.Opening.{AreNew};
+
+use crate::opening::ZERO;
+use crate::same::assert_same;
+use crate::tracker_setup::{
+    Opened, open_book, open_desks, respond, respond_at_lock, stamp, stamp_at_lock, status,
+    status_at_lock,
+};
+use dmc_ledger::bundle::StampTills;
+use dmc_ledger::desk::ServerDesk;
+use dmc_ledger::mint::{Blank, Mint};
+use dmc_ledger::setup::Setup;
+use dmc_ledger::till::Till;
+use dmc_tlock::book::TrackerBook;
+use dmc_tlock::fault::{EntryFault, TillFault};
+use dmc_tlock::lock::TrackerLock;
+use dmc_tlock::pass::ClientPass;
+use dmc_tracker::tracker::MakeFault;
+use dmc_types::config::Counting;
+use dmc_types::ids::{ClientId, ServerId};
+use std::alloc::Global;
+use std::marker::Brand;
+use std::process::Abort;
+use std::sync::Wait;
+use std::test::Fail;
+
+const ONE: ServerId = ServerId(1);
+
+/// The refusals of stamp, status and respond.
+type Refused = (Option<EntryFault>, Option<TillFault>, Option<EntryFault>);
+
+fn refused_in_hand<S: Setup>(
+    book: &mut TrackerBook<S>,
+    server: ServerId,
+    tills: &mut StampTills<S>,
+    grants: &mut Till<S>,
+) -> Refused {
+    let stamped = stamp(book, server, tills).err();
+    let seen = status(book, server, tills).err();
+    let responded = respond(book, server, grants).err();
+    (stamped, seen, responded)
+}
+
+fn refused_at_lock<S: Setup, R: Wait>(
+    rt: &R,
+    lock: &TrackerLock<S>,
+    server: ServerId,
+    tills: &mut StampTills<S>,
+    grants: &mut Till<S>,
+) -> Refused {
+    let stamped = stamp_at_lock(rt, lock, server, tills).err();
+    let seen = status_at_lock(rt, lock, server, tills).err();
+    let responded = respond_at_lock(rt, lock, server, grants).err();
+    (stamped, seen, responded)
+}
+
+/// The result of each call at server 0 with another client's tills, and at a server that the tracker does not have.
+const STRANGERS: [(ServerId, Refused); 2] = [
+    (
+        ZERO,
+        (
+            Some(EntryFault::Stranger),
+            Some(TillFault::Stranger),
+            Some(EntryFault::Stranger),
+        ),
+    ),
+    (
+        ONE,
+        (
+            Some(EntryFault::NoServer),
+            Some(TillFault::NoServer),
+            Some(EntryFault::NoServer),
+        ),
+    ),
+];
+
+/// The book refuses another client's tills, and a server that it does not have.
+fn assert_refused_in_hand<S: Setup>(
+    rt: &impl Abort,
+    book: &mut TrackerBook<S>,
+    tills: &mut StampTills<S>,
+    grants: &mut Till<S>,
+) {
+    for (server, refused) in STRANGERS {
+        assert!(rt; grants.amount() > 0);
+        let answers = refused_in_hand(book, server, tills, grants);
+        assert_same(rt, &answers, &refused);
+    }
+}
+
+/// The lock refuses the same.
+fn assert_refused_at_lock<S: Setup, R: Abort + Wait>(
+    rt: &R,
+    lock: &TrackerLock<S>,
+    tills: &mut StampTills<S>,
+    grants: &mut Till<S>,
+) {
+    for (server, refused) in STRANGERS {
+        assert!(rt; grants.amount() > 0);
+        let answers = refused_at_lock(rt, lock, server, tills, grants);
+        assert_same(rt, &answers, &refused);
+    }
+}
+
+/// Stamps twice. Returns the refusal of the second stamp, if it is refused.
+fn stamp_twice<S: Setup, R: Wait>(
+    rt: &R,
+    lock: &TrackerLock<S>,
+    tills: &mut StampTills<S>,
+) -> Result<Option<EntryFault>, EntryFault> {
+    stamp_at_lock(rt, lock, ZERO, tills)?;
+    Ok(stamp_at_lock(rt, lock, ZERO, tills).err())
+}
+
+/// The refusals in one hand and through the lock are the same. Returns them, and the result of a second stamp where the list has
+/// room for one.
+fn refuse_other<S: Setup, R: Abort + Wait>(
+    rt: &R,
+    own: Opened<S>,
+    other: &mut Opened<S>,
+) -> Result<Option<EntryFault>, EntryFault> {
+    let Opened {
+        mut book,
+        pass,
+        mut desk,
+        grants: own_grants,
+    } = own;
+    drop((pass, own_grants));
+    let (tills, grants) = (&mut other.desk.held, &mut other.grants);
+    assert_refused_in_hand(rt, &mut book, tills, grants);
+    let lock = TrackerLock::new(book);
+    assert_refused_at_lock(rt, &lock, tills, grants);
+    let refused = stamp_twice(rt, &lock, &mut desk.held);
+    drop((lock, desk));
+    refused
+}
+
+/// The books of clients 1 and 2. The list of client 1 may carry `most` stamps of a kind.
+fn open_both<S: Setup>(
+    alloc: Global,
+    mint: &mut Mint<S>,
+    most: u64,
+    counting: Counting,
+) -> Result<(Opened<S>, Opened<S>), Fail> {
+    let own = open_book(alloc, mint, ClientId(1), (most, 9), counting)?;
+    match open_book(alloc, mint, ClientId(2), (9, 9), counting) {
+        Ok(other) => Ok((own, other)),
+        Err(fail) => {
+            drop(own);
+            Err(fail)
+        }
+    }
+}
+
+fn strangers<S: Setup, R: Abort + Wait>(
+    rt: &R,
+    alloc: Global,
+    blank: Blank,
+    counting: Counting,
+) -> Result<Option<EntryFault>, Fail>
+    requires { blank.name ≡ S.name }
+{
+    let mut mint = blank.open::<S>();
+    let (own, mut other) = open_both(alloc, &mut mint, 1, counting)?;
+    let refused = refuse_other(rt, own, &mut other);
+    drop(other);
+    Ok(refused?)
+}
+
+/// A book and another's pass, which come back.
+fn handed_back<S: Setup>(
+    rt: &impl Abort,
+    book: TrackerBook<S>,
+    pass: ClientPass<S>,
+) -> (TrackerBook<S>, ClientPass<S>) {
+    match book.settle(pass) {
+        Ok(_) => panic!(rt; "another's pass"),
+        Err(back) => (back.book, back.pass),
+    }
+}
+
+/// Whether the book settles with the pass.
+fn settles<S: Setup>(book: TrackerBook<S>, pass: ClientPass<S>) -> bool {
+    let settled = book.settle(pass);
+    let is_settled = settled.is_ok();
+    drop(settled);
+    is_settled
+}
+
+/// The book and its pass alone.
+fn book_and_pass<S: Setup>(opened: Opened<S>) -> (TrackerBook<S>, ClientPass<S>) {
+    let Opened {
+        book,
+        pass,
+        desk,
+        grants,
+    } = opened;
+    drop((desk, grants));
+    (book, pass)
+}
+
+/// Another's pass comes back with the book, and each book settles with its own.
+fn swap_passes<S: Setup>(rt: &impl Abort, own: Opened<S>, other: Opened<S>) {
+    let (book, pass) = book_and_pass(own);
+    let (other_book, other_pass) = book_and_pass(other);
+    let (book, other_pass) = handed_back(rt, book, other_pass);
+    assert!(rt; settles(book, pass));
+    assert!(rt; settles(other_book, other_pass));
+}
+
+fn passes<S: Setup>(rt: &impl Abort, alloc: Global, blank: Blank) -> Result<(), Fail>
+    requires { blank.name ≡ S.name }
+{
+    let mut mint = blank.open::<S>();
+    let (own, other) = open_both(alloc, &mut mint, 9, Counting::All)?;
+    swap_passes(rt, own, other);
+    Ok(())
+}
+
+#[test]
+fn full_closed_stranger(rt: HostRuntime) -> Result<(), Fail> {
+    for (counting, full) in [
+        (Counting::All, None),
+        (Counting::Others, Some(EntryFault::TrackFull)),
+    ] {
+        let blank = Blank::new(10);
+        let refused = strangers::<Brand, HostRuntime>(&rt, rt.alloc(), blank, counting)?;
+        assert_same(&rt, &refused, &full);
+    }
+    passes::<Brand>(&rt, rt.alloc(), Blank::new(10))?;
+    Ok(())
+}
+
+/// The refusals of a tracker that may send nothing, and how many desks come back.
+fn refused_limit<S: Setup>(
+    rt: &impl Abort,
+    alloc: Global,
+    desks: Vec<ServerDesk<S>>,
+) -> (MakeFault, usize)
+    requires { AreNew 1 (map server_side desks.items) }
+{
+    match TrackerBook::new(alloc, ClientId(1), desks, 0, 1, Counting::All) {
+        Ok(_) => panic!(rt; "a limit"),
+        Err(fault) => (fault.cause, fault.desks.len()),
+    }
+}
+
+/// The desks that a refusal at a limit returns.
+fn limit<S: Setup>(rt: &impl Abort, alloc: Global, blank: Blank) -> Result<(), Fail>
+    requires { blank.name ≡ S.name }
+{
+    let mut mint = blank.open::<S>();
+    let (_desk, desks) = open_desks(alloc, &mut mint, ClientId(1))?;
+    let refused = refused_limit(rt, alloc, desks);
+    assert_same(rt, &refused, &(MakeFault::Limit, 1));
+    Ok(())
+}
+
+#[test]
+fn make_limits(rt: HostRuntime) -> Result<(), Fail> {
+    limit::<Brand>(&rt, rt.alloc(), Blank::new(5))?;
+    Ok(())
+}

@@ -1,0 +1,183 @@
+//! A tracker's book of server 0, and the calls of the book and of its lock.
+ghost use Rattle.std.specs.Prelude.{◌≡◌, ℕ, map, IfOk};
+ghost use Rattle.dmc_ledger.specs.Bundles.{new_server_side, server_side};
+ghost use Rattle.dmc_tlock.specs.Opening.{AreNew};
+
+use crate::calls::{self, carried};
+use crate::opening::{ZERO, only};
+use dmc_ledger::bundle::StampTills;
+use dmc_ledger::desk::{ClientDesk, ServerDesk, open_pair};
+use dmc_ledger::full::Full;
+use dmc_ledger::mint::Mint;
+use dmc_ledger::setup::Setup;
+use dmc_ledger::till::Till;
+use dmc_tlock::book::TrackerBook;
+use dmc_tlock::fault::{EntryFault, TillFault};
+use dmc_tlock::lock::TrackerLock;
+use dmc_tlock::pass::ClientPass;
+use dmc_tlock::status::TrackStatus;
+use dmc_types::config::{Counting, PhaseType};
+use dmc_types::ids::{ClientId, ServerId};
+use std::alloc::Global;
+use std::sync::Wait;
+use std::test::Fail;
+
+// How often each of two threads stamps and responds.
+pub(crate) const TIMES: u64 = 1000;
+
+/// A client's book for server 0 with its pass, the queue's desk of the pair, and grants of it in phase Priority.
+#[derive(Drop)]
+pub(crate) struct Opened<S: Setup> {
+    pub(crate) book: TrackerBook<S>,
+    pub(crate) pass: ClientPass<S>,
+    pub(crate) desk: ClientDesk<S>,
+    pub(crate) grants: Till<S>,
+}
+
+/// The desks of a client's tracker.
+pub(crate) fn tracker_desks<S: Setup>(
+    alloc: Global,
+    client: ClientId,
+    side: ServerDesk<S>,
+) -> Result<Vec<ServerDesk<S>>, Fail>
+    requires { (n : ℕ) × (server_side side ≡ new_server_side client.0 0 n) }
+    ensures { IfOk result (λ sides. AreNew client.0 (map server_side sides.items)) }
+{
+    only(alloc, side)
+}
+
+/// The desks of a client and server 0.
+pub(crate) fn open_desks<S: Setup>(
+    alloc: Global,
+    mint: &mut Mint<S>,
+    client: ClientId,
+) -> Result<(ClientDesk<S>, Vec<ServerDesk<S>>), Fail>
+    ensures { IfOk result (λ opened. AreNew client.0 (map server_side opened.1.items)) }
+{
+    let (desk, side) = open_pair(mint, client, ZERO)?;
+    Ok((desk, tracker_desks(alloc, client, side)?))
+}
+
+/// A book of the desks and its pass. The limits are its `most`, and how many events its list may have.
+pub(crate) fn open_tracker_of<S: Setup>(
+    alloc: Global,
+    client: ClientId,
+    sides: Vec<ServerDesk<S>>,
+    limits: (u64, u32),
+    counting: Counting,
+) -> Result<(TrackerBook<S>, ClientPass<S>), Fail>
+    requires { AreNew client.0 (map server_side sides.items) }
+{
+    let (most, most_events) = limits;
+    match TrackerBook::new(alloc, client, sides, most, most_events, counting) {
+        Ok(made) => Ok(made),
+        Err(fault) => Err(fault.cause.into()),
+    }
+}
+
+/// A book of a tracker with these limits and this counting form.
+pub(crate) fn open_book<S: Setup>(
+    alloc: Global,
+    mint: &mut Mint<S>,
+    client: ClientId,
+    limits: (u64, u32),
+    counting: Counting,
+) -> Result<Opened<S>, Fail> {
+    let (mut desk, sides) = open_desks(alloc, mint, client)?;
+    let grants = grants_of(&mut desk, TIMES)?;
+    let (book, pass) = open_tracker_of(alloc, client, sides, limits, counting)?;
+    Ok(Opened {
+        book,
+        pass,
+        desk,
+        grants,
+    })
+}
+
+/// A till of this many grants in phase Priority.
+pub(crate) fn grants_of<S: Setup>(desk: &mut ClientDesk<S>, amount: u64) -> Result<Till<S>, Full> {
+    let books = &mut desk.books;
+    let mut till = books.priority.till()?;
+    books.priority.issue(&mut till, amount)?;
+    Ok(till)
+}
+
+// The calls of a book and of its lock, each in a function that promises nothing. Their results are tested by running them.
+
+/// The counts of a stamp.
+pub(crate) fn stamp<S: Setup>(
+    book: &mut TrackerBook<S>,
+    server: ServerId,
+    tills: &mut StampTills<S>,
+) -> Result<(u32, u32), EntryFault> {
+    let stamp = calls::stamp(book, server, tills)?;
+    Ok(carried(&stamp))
+}
+
+pub(crate) fn skip<S: Setup>(
+    book: &mut TrackerBook<S>,
+    server: ServerId,
+) -> Result<(), EntryFault> {
+    book.skip(server)
+}
+
+pub(crate) fn status<S: Setup>(
+    book: &TrackerBook<S>,
+    server: ServerId,
+    tills: &StampTills<S>,
+) -> Result<TrackStatus, TillFault> {
+    book.status(server, tills)
+}
+
+/// Responds with a unit of the till, if it has one.
+pub(crate) fn respond<S: Setup>(
+    book: &mut TrackerBook<S>,
+    server: ServerId,
+    till: &mut Till<S>,
+) -> Result<(), EntryFault> {
+    if till.amount() == 0 {
+        return Ok(());
+    }
+    book.respond(server, PhaseType::Priority, till)
+}
+
+/// The counts of a stamp through the lock.
+pub(crate) fn stamp_at_lock<S: Setup, R: Wait>(
+    rt: &R,
+    lock: &TrackerLock<S>,
+    server: ServerId,
+    tills: &mut StampTills<S>,
+) -> Result<(u32, u32), EntryFault> {
+    let stamp = lock.stamp(rt, server, tills)?;
+    Ok(carried(&stamp))
+}
+
+pub(crate) fn skip_at_lock<S: Setup, R: Wait>(
+    rt: &R,
+    lock: &TrackerLock<S>,
+    server: ServerId,
+) -> Result<(), EntryFault> {
+    lock.skip(rt, server)
+}
+
+pub(crate) fn status_at_lock<S: Setup, R: Wait>(
+    rt: &R,
+    lock: &TrackerLock<S>,
+    server: ServerId,
+    tills: &StampTills<S>,
+) -> Result<TrackStatus, TillFault> {
+    lock.status(rt, server, tills)
+}
+
+/// Responds through the lock with a unit of the till, if it has one.
+pub(crate) fn respond_at_lock<S: Setup, R: Wait>(
+    rt: &R,
+    lock: &TrackerLock<S>,
+    server: ServerId,
+    till: &mut Till<S>,
+) -> Result<(), EntryFault> {
+    if till.amount() == 0 {
+        return Ok(());
+    }
+    lock.respond(rt, server, PhaseType::Priority, till)
+}

@@ -1,0 +1,133 @@
+//! A scene that is run in threads, and its report.
+ghost use Rattle.std.specs.Prelude.{◌≡◌};
+ghost use Rattle.dmc_text.specs.Watching.{stream_of};
+ghost use Rattle.dmc_tool.specs.RunReports.{ReportNoted, RunsOn, RunsScene, Tells, TellsFault};
+ghost use Rattle.dmc_tool.specs.declared.run_scene.RunSceneFault.TheVariants.{Memory};
+
+use crate::run_report::report_text;
+use crate::verdicts::check_all;
+use dmc_driver::fault::DriveFault;
+use dmc_driver::moments::StepClock;
+use dmc_driver::run::run_cluster;
+use dmc_driver::service::{Job, ServeFault, Service};
+use dmc_ratio::ratio::RatioTag;
+use dmc_scene::scene::Scene;
+use dmc_settle::report::ClusterReport;
+use dmc_tag::tag::Tag;
+use dmc_text::send::send;
+use dmc_text::watched::Watched;
+use dmc_tick::tick::TickTag;
+use dmc_types::config::{QueueConfig, TagKind};
+use std::alloc::{AllocError, Global};
+use std::io::Write;
+use std::sync::Wait;
+use std::thread::Threads;
+
+/// The reason why a run did not end with all of it done and reported.
+#[derive(Clone, Copy, Debug, PartialEq, Eq)]
+pub enum RunSceneFault {
+    /// An allocation failed, before any thread was started or for the report's text.
+    Memory,
+    /// What was set up and what came back are parts of different set-ups.
+    Torn,
+    /// The report can't be written.
+    Write,
+    /// The report is written: not all was done, and some worker took its last turn.
+    TurnsOut,
+    /// The report is written: not all was done, and no worker took its last turn.
+    Stopped,
+}
+
+impl From<AllocError> for RunSceneFault {
+    ghost from_gives = { λ _ fault. fault ≡ Memory };
+
+    fn from(_: AllocError) -> RunSceneFault {
+        RunSceneFault::Memory
+    }
+}
+
+/// A service that does each job by doing nothing.
+struct NoService;
+
+impl Service for NoService {
+    fn serve(&self, _job: &Job) -> Result<(), ServeFault> {
+        Ok(())
+    }
+}
+
+/// Runs a scene in threads, at the moments of a clock that advances by the scene's step, and writes the report.
+pub fn run_scene<R: Threads + Wait + Sync, W: Write>(
+    rt: &R,
+    alloc: Global,
+    scene: &Scene,
+    writer: &mut Watched<W>,
+) -> Result<(), RunSceneFault>
+    ensures bytes { RunsScene scene.now (W.contents (stream_of writer.old)) (W.contents (stream_of writer.new)) result }
+    ensures note { ReportNoted writer.old writer.new result }
+{
+    match scene.tags() {
+        TagKind::Tick => run_on::<TickTag, R, W>(rt, alloc, scene, writer),
+        TagKind::Ratio => run_on::<RatioTag, R, W>(rt, alloc, scene, writer),
+    }
+}
+
+/// Runs a scene on tags of this type.
+fn run_on<T: Tag + Send + Sync, R: Threads + Wait + Sync, W: Write>(
+    rt: &R,
+    alloc: Global,
+    scene: &Scene,
+    writer: &mut Watched<W>,
+) -> Result<(), RunSceneFault>
+    ensures bytes { RunsOn T.ops scene.now (W.contents (stream_of writer.old)) (W.contents (stream_of writer.new)) result }
+    ensures note { ReportNoted writer.old writer.new result }
+{
+    let clock = StepClock::new(scene.step());
+    match run_cluster::<T, R, NoService, StepClock>(rt, alloc, scene, &NoService, &clock) {
+        Ok(report) => tell(rt, alloc, scene.config(), &report, writer),
+        Err(fault) => tell_fault(rt, alloc, scene.config(), fault, writer),
+    }
+}
+
+/// Writes the report of a run that was not done, if it has one, and returns why it was not.
+fn tell_fault<T: Tag + Sync, R: Threads + Sync, W: Write>(
+    rt: &R,
+    alloc: Global,
+    config: QueueConfig,
+    fault: DriveFault<T>,
+    writer: &mut Watched<W>,
+) -> Result<(), RunSceneFault>
+    ensures bytes { TellsFault T.ops config fault (W.contents (stream_of writer.old)) (W.contents (stream_of writer.new)) result }
+    ensures note { ReportNoted writer.old writer.new result }
+{
+    match fault {
+        DriveFault::Memory => Err(RunSceneFault::Memory),
+        DriveFault::Torn => Err(RunSceneFault::Torn),
+        DriveFault::TurnsOut(report) => {
+            tell(rt, alloc, config, &report, writer)?;
+            Err(RunSceneFault::TurnsOut)
+        }
+        DriveFault::Stopped(report) => {
+            tell(rt, alloc, config, &report, writer)?;
+            Err(RunSceneFault::Stopped)
+        }
+    }
+}
+
+/// Writes the text of a report.
+fn tell<T: Tag + Sync, R: Threads + Sync, W: Write>(
+    rt: &R,
+    alloc: Global,
+    config: QueueConfig,
+    report: &ClusterReport<T>,
+    writer: &mut Watched<W>,
+) -> Result<(), RunSceneFault>
+    ensures bytes { Tells T.ops config report.now (W.contents (stream_of writer.old)) (W.contents (stream_of writer.new)) result }
+    ensures note { ReportNoted writer.old writer.new result }
+{
+    let verdicts = check_all(rt, alloc, config, &report.servers)?;
+    let text = report_text(alloc, report, &verdicts)?;
+    if !send(text.as_bytes(), writer) {
+        return Err(RunSceneFault::Write);
+    }
+    Ok(())
+}

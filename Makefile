@@ -10,7 +10,7 @@ program:
 test:
 	scripts/test
 
-# Every proof from nothing, the must-fail edits, the tests of the crates and the programs.
+# Every proof from nothing, the mutations, the tests of the crates and the programs.
 gate:
 	rt ci
 
@@ -18,7 +18,7 @@ gate:
 check:
 	cd crates/$(CRATE) && rt check $(if $(ONLY),--only $(CRATE)::$(ONLY))
 
-# Runs a crate's tests with no proof, in a minute or two: make quick CRATE=dmc_tests.
+# Runs a crate's tests with no proof, in a minute or two: make quick CRATE=dmc_tests_base.
 quick:
 	cd crates/$(CRATE) && rt try --test
 

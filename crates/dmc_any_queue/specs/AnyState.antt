@@ -6,7 +6,7 @@ use Rattle.dmc_types.specs.declared.config.TagKind.{TagKind}
 use Rattle.dmc_types.specs.declared.config.TagKind.TheVariants as kinds
 use Rattle.dmc_types.specs.declared.command.Command.{Command}
 use Rattle.dmc_tag.specs.Tag.{Fraction, Tagging}
-use Rattle.dmc_tag.specs.State.{State, StandsFor, opening}
+use Rattle.dmc_tag.specs.State.{State, Represents, opening}
 use Rattle.dmc_tag.specs.Step.{outcome, step}
 use Rattle.dmc_tag.specs.Steps.{may_grow}
 use Rattle.dmc_tag.specs.declared.reply.Tags.{Tags}
@@ -58,8 +58,8 @@ in_fractions fraction (Refused refusal) = Refused refusal
 -- after. Or an allocation failed: then the command is one that may allocate, step refuses nothing, there is no reply, and the
 -- queue represents what it represented.
 abbrev pub Shows : {T : Type 0} → Tagging T → (T → Fraction) → State T → State T → Command → Option (Reply Fraction) → Type 0
-Shows {T} ops fraction old new command (Some reply) = (s : State T) → StandsFor old s → (reply ≡ in_fractions fraction ((step ops s command).1)) × StandsFor new ((step ops s command).0)
-Shows {T} ops fraction old new command None = IsTrue (may_grow command) × ((s : State T) → StandsFor old s → IsOk (outcome ops s command) × StandsFor new s)
+Shows {T} ops fraction old new command (Some reply) = (s : State T) → Represents old s → (reply ≡ in_fractions fraction ((step ops s command).1)) × Represents new ((step ops s command).0)
+Shows {T} ops fraction old new command None = IsTrue (may_grow command) × ((s : State T) → Represents old s → IsOk (outcome ops s command) × Represents new s)
 
 -- the step of a queue with tags of either type, which it keeps
 abbrev pub AnySteps : AnyState → AnyState → Command → Option (Reply Fraction) → Type 0

@@ -1,7 +1,7 @@
 //! A server's lock, and clients with a tracker each.
 ghost use Rattle.std.specs.Prelude.{◌≤◌, ◌<◌, length, map, IfOk, IsTrue, OnOk};
 ghost use Rattle.std.specs.List.{AllByRecursion};
-ghost use Rattle.dmc_types.specs.Limits.{most_books, most_workers};
+ghost use Rattle.dmc_types.specs.Limits.{max_books, max_workers};
 ghost use Rattle.dmc_ledger.specs.Bundles.{Covers, client_side, server_side, stamp_holdings};
 ghost use Rattle.dmc_tlock.specs.Opening.{AreNew};
 ghost use Rattle.dmc_book.specs.Opening.{IsNewDesk};
@@ -25,7 +25,7 @@ use dmc_types::command::Command;
 use dmc_types::config::{AtLimit, Counting, PhaseType, QueueConfig};
 use dmc_types::ids::{ClientId, ServerId, Token, WorkerId};
 use dmc_types::info::ClientInfo;
-use dmc_types::limits::{MOST_COMPLETIONS, MOST_EVENTS};
+use dmc_types::limits::{MAX_COMPLETIONS, MAX_EVENTS};
 use dmc_types::moment::Moment;
 use std::alloc::Global;
 use std::sync::Wait;
@@ -55,7 +55,7 @@ pub struct Clients<S: Setup> {
 /// The number of books that the server's lock and its clients take: five for each client, and five for each worker.
 pub fn book_count(clients: u32, workers: u32) -> Result<u64, Fault>
     ensures some { IfOk result (λ books. 0 < books) }
-    ensures limit { IfOk result (λ books. books ≤ most_books) }
+    ensures limit { IfOk result (λ books. books ≤ max_books) }
 {
     if clients == 0 || clients > MOST || workers == 0 || workers > MOST {
         return Err(Fault::Usage);
@@ -88,14 +88,7 @@ fn open_client<S: Setup>(
     ensures { IfOk result (λ opened. IsNewDesk 0 (client_side opened.0)) }
 {
     let (desk, sides) = open_desks(alloc, mint, id)?;
-    match TrackerBook::new(
-        alloc,
-        id,
-        sides,
-        MOST_COMPLETIONS,
-        MOST_EVENTS,
-        Counting::All,
-    ) {
+    match TrackerBook::new(alloc, id, sides, MAX_COMPLETIONS, MAX_EVENTS, Counting::All) {
         Ok((tracker, tills)) => Ok((
             desk,
             Client {
@@ -149,7 +142,7 @@ fn workers(alloc: Global, count: u32) -> Result<Vec<WorkerId>, Fault> {
 
 /// The configuration of a queue, and its workers.
 fn config_and_workers(alloc: Global, count: u32) -> Result<(QueueConfig, Vec<WorkerId>), Fault>
-    ensures { IfOk result (λ made. length made.1.items ≤ most_workers) }
+    ensures { IfOk result (λ made. length made.1.items ≤ max_workers) }
 {
     let config = QueueConfig::new(u64::from(HZ), 1, 1, AtLimit::Wait)?;
     let workers = workers(alloc, count)?;
@@ -176,7 +169,7 @@ pub fn open_lock<T: Tag, I: Indexes<T>, S: Setup>(
         workers.as_slice(),
         desks,
         mint,
-        MOST_EVENTS,
+        MAX_EVENTS,
     ) {
         Ok((book, passes)) => Ok((QueueLock::new(book), passes)),
         Err(_) => Err(Fault::Failed),

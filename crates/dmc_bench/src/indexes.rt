@@ -4,7 +4,7 @@ ghost use Rattle.dmc_bench.specs.Keys.{HoldsFirst};
 
 use crate::fault::Fault;
 use crate::load::{Load, mixed};
-use crate::watch::{add_since, start, tell};
+use crate::watch::{add_since, print, start};
 use dmc_index::index::OrderIndex;
 use dmc_tag::rank::TagRank;
 use dmc_tick::tick::TickTag;
@@ -39,16 +39,16 @@ pub fn use_index<I: OrderIndex<TagRank<TickTag>>>(
     for round in 0..rounds {
         checksum = use_once(rt, &mut index, load.clients, round, checksum, &mut times)?;
     }
-    tell_times(rt, rounds.saturating_mul(load.clients), times)?;
+    print_times(rt, rounds.saturating_mul(load.clients), times)?;
     Ok(checksum)
 }
 
 /// Writes what each kind of call took.
-fn tell_times(rt: &HostRuntime, calls: u32, times: Times) -> Result<(), Fault> {
-    tell(rt, "insert", calls, times.insert)?;
-    tell(rt, "change", calls, times.change)?;
-    tell(rt, "least", calls, times.least)?;
-    tell(rt, "remove", calls, times.remove)
+fn print_times(rt: &HostRuntime, calls: u32, times: Times) -> Result<(), Fault> {
+    print(rt, "insert", calls, times.insert)?;
+    print(rt, "change", calls, times.change)?;
+    print(rt, "least", calls, times.least)?;
+    print(rt, "remove", calls, times.remove)
 }
 
 /// Fills the index, changes each key, reads the least, and empties it.

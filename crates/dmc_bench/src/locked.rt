@@ -7,7 +7,7 @@ use crate::cluster::{
 use crate::fault::Fault;
 use crate::load::{Load, mixed};
 use crate::queues::pull_all;
-use crate::watch::{add_since, start, tell};
+use crate::watch::{add_since, print, start};
 use dmc_book::pass::WorkerPass;
 use dmc_index::index::Indexes;
 use dmc_ledger::mint::Blank;
@@ -46,10 +46,10 @@ fn moment_of(batch: u32) -> Result<Moment, Fault> {
 }
 
 /// Writes the two parts, and returns the checksum.
-fn tell_parts(rt: &HostRuntime, load: Load, taken: Taken) -> Result<u64, Fault> {
+fn print_parts(rt: &HostRuntime, load: Load, taken: Taken) -> Result<u64, Fault> {
     let calls = batch_count(load).saturating_mul(load.clients);
-    tell(rt, "submit", calls, taken.submitting)?;
-    tell(rt, "pull", calls, taken.pulling)?;
+    print(rt, "submit", calls, taken.submitting)?;
+    print(rt, "pull", calls, taken.pulling)?;
     Ok(taken.checksum)
 }
 
@@ -102,7 +102,7 @@ fn serve_by_one<T: Tag, I: Indexes<T>, S: Setup, R: Wait>(
         return Err(Fault::Usage);
     };
     let taken = serve_batches(rt, waiter, lock, pass, clients, load)?;
-    tell_parts(rt, load, taken)
+    print_parts(rt, load, taken)
 }
 
 fn serve_batches<T: Tag, I: Indexes<T>, S: Setup, R: Wait>(
@@ -222,7 +222,7 @@ pub fn serve_alone<T: Tag, Q: Scheduler<T>>(
         taken.checksum = mix_all(taken.checksum, granted.as_slice());
         granted.clear();
     }
-    tell_parts(rt, load, taken)
+    print_parts(rt, load, taken)
 }
 
 fn register_alone<T: Tag, Q: Scheduler<T>>(queue: &mut Q, count: u32) -> Result<(), Fault> {

@@ -1,7 +1,7 @@
 //! A queue whose clients are all busy, and one with a single client.
 use crate::fault::Fault;
 use crate::load::{Load, mixed};
-use crate::watch::{add_since, start, tell};
+use crate::watch::{add_since, print, start};
 use dmc_tag::reply::Pulled;
 use dmc_tag::scheduler::Scheduler;
 use dmc_tag::tag::Tag;
@@ -22,12 +22,12 @@ pub fn serve_queue<T: Tag, Q: Scheduler<T>>(
 ) -> Result<u64, Fault> {
     let begun = start(rt)?;
     register_all(queue, load)?;
-    tell(rt, "register", load.clients, add_since(rt, begun, 0)?)?;
+    print(rt, "register", load.clients, add_since(rt, begun, 0)?)?;
     let begun = start(rt)?;
     for id in 0..load.clients {
         add(queue, ClientId(id), Moment::zero())?;
     }
-    tell(rt, "newcomer", load.clients, add_since(rt, begun, 0)?)?;
+    print(rt, "newcomer", load.clients, add_since(rt, begun, 0)?)?;
     serve(rt, queue, load)
 }
 
@@ -43,10 +43,10 @@ pub fn serve_deep<T: Tag, Q: Scheduler<T>>(
     for _ in 0..load.clients {
         add(queue, ClientId(0), Moment::zero())?;
     }
-    tell(rt, "fill", load.clients, add_since(rt, begun, 0)?)?;
+    print(rt, "fill", load.clients, add_since(rt, begun, 0)?)?;
     let begun = start(rt)?;
     let checksum = take_turns(queue, load.rounds)?;
-    tell(rt, "turn", load.rounds, add_since(rt, begun, 0)?)?;
+    print(rt, "turn", load.rounds, add_since(rt, begun, 0)?)?;
     Ok(checksum)
 }
 
@@ -111,8 +111,8 @@ fn serve<T: Tag, Q: Scheduler<T>>(
         granted.clear();
     }
     let calls = batches.saturating_mul(batch);
-    tell(rt, "pull", calls, pulling)?;
-    tell(rt, "add", calls, adding)?;
+    print(rt, "pull", calls, pulling)?;
+    print(rt, "add", calls, adding)?;
     Ok(checksum)
 }
 

@@ -4,7 +4,7 @@ ghost use Rattle.std.specs.Prelude.{◌≡◌};
 use crate::cluster::{Client, Clients, open_clients, open_lock, pull, register_all, stamp, submit};
 use crate::fault::Fault;
 use crate::load::Load;
-use crate::watch::{add_since, start, tell};
+use crate::watch::{add_since, print, start};
 use dmc_book::pass::WorkerPass;
 use dmc_heap::indexed_heap::HeapIndexes;
 use dmc_index::index::Indexes;
@@ -69,7 +69,7 @@ fn serve_jobs<T: Tag + Send, S: Setup + Send + Sync, R: Threads + Wait + Sync>(
 ) -> Result<u64, Fault> {
     let begun = start(rt)?;
     work_all(threads, lock, jobs);
-    tell(rt, "request", load.rounds, add_since(rt, begun, 0)?)?;
+    print(rt, "request", load.rounds, add_since(rt, begun, 0)?)?;
     Ok(granted_in(jobs))
 }
 

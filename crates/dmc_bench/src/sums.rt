@@ -1,7 +1,7 @@
 //! Sums of tags.
 use crate::fault::Fault;
 use crate::load::{Load, mixed};
-use crate::watch::{add_since, start, tell};
+use crate::watch::{add_since, print, start};
 use dmc_tag::tag::Tag;
 use dmc_types::moment::Moment;
 
@@ -15,7 +15,7 @@ pub fn sum_tags<T: Tag>(
     let begun = start(rt)?;
     let checksum = sum_of(first, second, load.rounds);
     let nanos = add_since(rt, begun, 0)?;
-    tell(rt, "sum", load.rounds, nanos)?;
+    print(rt, "sum", load.rounds, nanos)?;
     Ok(checksum)
 }
 

@@ -14,7 +14,7 @@ pub fn add_since(rt: &HostRuntime, start: Instant, nanos: u128) -> Result<u128, 
 }
 
 /// Writes a part's name, how many calls it made, and the nanoseconds that they took.
-pub fn tell(rt: &HostRuntime, part: &str, calls: u32, nanos: u128) -> Result<(), Fault> {
+pub fn print(rt: &HostRuntime, part: &str, calls: u32, nanos: u128) -> Result<(), Fault> {
     eprintln!(rt; "{part} {calls} {nanos}")?;
     Ok(())
 }

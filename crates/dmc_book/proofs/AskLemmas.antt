@@ -19,7 +19,7 @@ use Rattle.dmc_tag.specs.Answers.{pull_reply}
 use Rattle.dmc_tag.specs.declared.reply.Pulled.{Pulled}
 use Rattle.dmc_tag.specs.declared.reply.Reply.{Reply}
 use Rattle.dmc_tag.specs.declared.reply.Reply.TheVariants.{Registered, Updated, Tagged, Granted, Later, Nothing, Removed, Cleaned, Refused}
-use Rattle.dmc_tag.proofs.Agreement.{stands_itself}
+use Rattle.dmc_tag.proofs.Agreement.{represents_itself}
 use Rattle.dmc_tag.proofs.ForCallers.{pull_grants, steps_exactly, steps_agree}
 use Rattle.dmc_ledger.specs.Bundles.{ClientSide, GrantHoldings, client_side}
 use Rattle.dmc_ledger.specs.declared.desk.ClientDesk.{ClientDesk}
@@ -92,12 +92,12 @@ module _ {T : Type 0} (ops : Tagging T) (allows : ClientId → PhaseType → Boo
   passes (Clean at) other = refl
 
   pub no_pull : (new : State T) (command : Command) (reply : Reply T) → ((at : ℕ) → command ≡ Pull at → ⊥) → Steps ops s new command (Some reply) → Asks ops allows s new command (Ok reply)
-  no_pull new (Register client info at) reply other steps = (steps, ap (is_allowed allows) (steps s (stands_itself s)).0 ∙ passes (Register client info at) tt, λ x. x)
-  no_pull new (Update client info at) reply other steps = (steps, ap (is_allowed allows) (steps s (stands_itself s)).0 ∙ passes (Update client info at) tt, λ x. x)
-  no_pull new (Add client token params at) reply other steps = (steps, ap (is_allowed allows) (steps s (stands_itself s)).0 ∙ passes (Add client token params at) tt, λ x. x)
+  no_pull new (Register client info at) reply other steps = (steps, ap (is_allowed allows) (steps s (represents_itself s)).0 ∙ passes (Register client info at) tt, λ x. x)
+  no_pull new (Update client info at) reply other steps = (steps, ap (is_allowed allows) (steps s (represents_itself s)).0 ∙ passes (Update client info at) tt, λ x. x)
+  no_pull new (Add client token params at) reply other steps = (steps, ap (is_allowed allows) (steps s (represents_itself s)).0 ∙ passes (Add client token params at) tt, λ x. x)
   no_pull new (Pull at) reply other steps = absurd (other at refl)
-  no_pull new (Remove client) reply other steps = (steps, ap (is_allowed allows) (steps s (stands_itself s)).0 ∙ passes (Remove client) tt, λ x. x)
-  no_pull new (Clean at) reply other steps = (steps, ap (is_allowed allows) (steps s (stands_itself s)).0 ∙ passes (Clean at) tt, λ x. x)
+  no_pull new (Remove client) reply other steps = (steps, ap (is_allowed allows) (steps s (represents_itself s)).0 ∙ passes (Remove client) tt, λ x. x)
+  no_pull new (Clean at) reply other steps = (steps, ap (is_allowed allows) (steps s (represents_itself s)).0 ∙ passes (Clean at) tt, λ x. x)
 
 -- ---- what a book keeps where nothing is answered
 
@@ -112,7 +112,7 @@ module _ {T : Type 0} (ops : Tagging T) (order : IsTotalOrder ops.compare) (allo
   reply = (step ops (after ops config history) command).1
 
   pub strays_by_history : Asks ops allows q p command (Err run.Stranger) → Strays allows command reply
-  strays_by_history a = subst (Strays allows command) (steps_agree ops order q (after ops config history) command h.stands).0 a.1
+  strays_by_history a = subst (Strays allows command) (steps_agree ops order q (after ops config history) command h.represents).0 a.1
 
   pub granted_by_history : (answer : Reply T) → Asks ops allows q p command (Ok answer) → Strays allows command reply → ⊥
   granted_by_history answer a s = a.2 (subst (Strays allows command) (sym (reply_after ops q p config history h command answer a.0)) s)

@@ -9,7 +9,7 @@ use Rattle.dmc_types.specs.declared.config.PhaseType.TheVariants.{Reservation, P
 use Rattle.dmc_types.specs.declared.command.Command.{Command}
 use Rattle.dmc_types.specs.Values.{Setting}
 use Rattle.dmc_tag.specs.Tag.{Tagging}
-use Rattle.dmc_tag.specs.State.{State, StandsFor}
+use Rattle.dmc_tag.specs.State.{State, Represents}
 use Rattle.dmc_tag.specs.Step.{step}
 use Rattle.dmc_tag.specs.Steps.{Steps}
 use Rattle.dmc_tag.specs.Replay.{after}
@@ -23,7 +23,7 @@ use Rattle.dmc_ledger.specs.Moves.{after_issue}
 use Rattle.dmc_book.specs.declared.counts.Numbers.{Numbers}
 use Rattle.dmc_book.specs.Counts.{count, numbers_of, no_numbers, worker_adds, stamps_added, delta_added, rho_added, grants_added, units_for, grant_in, is_miss, one_if, IsSmall}
 use Rattle.dmc_book.specs.BookState.{AccountsState, WorkerSide, accounts_of, state_of}
-use Rattle.dmc_book.specs.Consistent.{AreConsistent, AreTokensFit, IsCounted, IsReplayed, IsWorker, IsDesk, AreWorkersApart, AreClientsApart, AreWithin, AreGrantsWithin, HasDesk, most_before}
+use Rattle.dmc_book.specs.Consistent.{AreConsistent, AreTokensFit, IsCounted, IsReplayed, IsWorker, IsDesk, AreWorkersApart, AreClientsApart, AreWithin, AreGrantsWithin, HasDesk, max_before}
 use Rattle.dmc_book.specs.Moves.{accounts_after, book_after, worker_after, desk_after}
 use Rattle.dmc_tag.proofs.Lists.{all_as, all_mapped, position_map}
 
@@ -91,7 +91,7 @@ module _ {T : Type 0} where
   count_few adds one [] = omega arith
   count_few adds one (e ∷ es) = let here = one e in let rest = count_few adds one es in omega arith
 
-  few_fit : (adds : Event T → ℕ) → ((e : Event T) → adds e ≤ 1) → (es : List (Event T)) (tills : ℕ) (a : Account) → length es ≤ 2 ^ 62 + 2 ^ 30 → IsCounted adds es tills a → total_of a ≤ most_before
+  few_fit : (adds : Event T → ℕ) → ((e : Event T) → adds e ≤ 1) → (es : List (Event T)) (tills : ℕ) (a : Account) → length es ≤ 2 ^ 62 + 2 ^ 30 → IsCounted adds es tills a → total_of a ≤ max_before
   few_fit adds one es tills a few h = let most = count_few adds one es in omega (arith, few, most, h.total)
 
   one_each : (worker : ℕ) (e : Event T) → ((worker_adds worker e).calls ≤ 1) × ((worker_adds worker e).misses ≤ 1) × ((worker_adds worker e).grants ≤ 1)
@@ -101,10 +101,10 @@ module _ {T : Type 0} (a : AccountsState T) (h : AreConsistent a) (fewer : lengt
   short : length a.history ≤ 2 ^ 62 + 2 ^ 30
   short = omega (arith, fewer, h.few, h.limit)
 
-  tokens_below : (total : ℕ) → total + a.first * 4294967295 ≤ 2 ^ 62 + length a.history * 4294967295 → total ≤ most_before
+  tokens_below : (total : ℕ) → total + a.first * 4294967295 ≤ 2 ^ 62 + length a.history * 4294967295 → total ≤ max_before
   tokens_below total fit = omega (arith, fit, fewer, h.limit)
 
-  worker_fits : (w : WorkerSide) → IsWorker a.history w → AreTokensFit a.first (length a.history) w.books → AreWithin most_before w.books
+  worker_fits : (w : WorkerSide) → IsWorker a.history w → AreTokensFit a.first (length a.history) w.books → AreWithin max_before w.books
   worker_fits w is fit = record {
     calls = few_fit _ (λ e. (one_each w.worker e).0) a.history 1 w.books.calls short is.calls;
     misses = few_fit _ (λ e. (one_each w.worker e).1) a.history 1 w.books.misses short is.misses;
@@ -113,14 +113,14 @@ module _ {T : Type 0} (a : AccountsState T) (h : AreConsistent a) (fewer : lengt
     granted = tokens_below (total_of w.books.granted) fit.granted;
   }
 
-  all_fit : (ws : List WorkerSide) → AllByRecursion (IsWorker a.history) ws → AllByRecursion (λ w. AreTokensFit a.first (length a.history) w.books) ws → AllByRecursion (λ w. AreWithin most_before w.books) ws
+  all_fit : (ws : List WorkerSide) → AllByRecursion (IsWorker a.history) ws → AllByRecursion (λ w. AreTokensFit a.first (length a.history) w.books) ws → AllByRecursion (λ w. AreWithin max_before w.books) ws
   all_fit [] is fit = tt
   all_fit (w ∷ ws) is fit = (worker_fits w is.0 fit.0, all_fit ws is.1 fit.1)
 
-  pub workers_fit : AllByRecursion (λ w. AreWithin most_before w.books) a.workers
+  pub workers_fit : AllByRecursion (λ w. AreWithin max_before w.books) a.workers
   workers_fit = all_fit a.workers h.workers h.tokens_fit
 
-  pub desks_fit : AllByRecursion (λ d. AreGrantsWithin most_before d.books) a.desks
+  pub desks_fit : AllByRecursion (λ d. AreGrantsWithin max_before d.books) a.desks
   desks_fit = all_as _ _ (λ d is. record {
     reservation = few_fit _ (λ e. unit_at_most d.client Reservation (grant_in e.reply)) a.history _ d.books.reservation short is.reservation;
     priority = few_fit _ (λ e. unit_at_most d.client Priority (grant_in e.reply)) a.history _ d.books.priority short is.priority;
@@ -180,18 +180,18 @@ module _ {T : Type 0} (e : Event T) where
 module _ {T : Type 0} (ops : Tagging T) (q p : State T) (config : Setting) (history : List (Event T)) (h : IsReplayed ops q config history) where
   -- a call that was refused memory
   pub replayed_memory : (command : Command) → Steps ops q p command None → IsReplayed ops p config history
-  replayed_memory command steps = record { stands = (steps.1 (after ops config history) h.stands).1; replaying = h.replaying }
+  replayed_memory command steps = record { represents = (steps.1 (after ops config history) h.represents).1; replaying = h.replaying }
 
   -- the reply is that of the rules
   pub reply_after : (command : Command) (reply : Reply T) → Steps ops q p command (Some reply) → reply ≡ (step ops (after ops config history) command).1
-  reply_after command reply steps = (steps (after ops config history) h.stands).0
+  reply_after command reply steps = (steps (after ops config history) h.represents).0
 
   -- one event more
   pub replayed_more : (e : Event T) → Steps ops q p e.command (Some e.reply) → IsReplayed ops p config (history ++ e ∷ [])
   replayed_more e steps =
-      let now = steps (after ops config history) h.stands in
+      let now = steps (after ops config history) h.represents in
       record {
-        stands = subst (λ (s : State T). StandsFor p s) (sym (after_one_more ops config history e)) now.1;
+        represents = subst (λ (s : State T). Represents p s) (sym (after_one_more ops config history e)) now.1;
         replaying = replays_one_more ops config history e h.replaying now.0;
       }
 

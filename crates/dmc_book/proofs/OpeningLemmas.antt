@@ -8,7 +8,7 @@ use Rattle.dmc_types.specs.Values.{Setting}
 use Rattle.dmc_types.specs.declared.ids.ClientId.{ClientId}
 use Rattle.dmc_types.specs.declared.ids.WorkerId.{WorkerId}
 use Rattle.dmc_tag.specs.Tag.{Tagging}
-use Rattle.dmc_tag.specs.State.{State, StandsFor, opening}
+use Rattle.dmc_tag.specs.State.{State, Represents, opening}
 use Rattle.dmc_tag.specs.declared.event.Event.{Event}
 use Rattle.dmc_tag.proofs.Lists.{all_append, all_at, all_mapped}
 use Rattle.dmc_ledger.specs.Accounts.{Account, new_book}
@@ -178,7 +178,7 @@ module _ {T : Type 0} where
 -- the queue of an empty history
 pub replayed_new : {T : Type 0} (ops : Tagging T) (q : State T) (config : Setting) → q ≡ opening config → IsReplayed ops q config []
 replayed_new ops q config is = record {
-  stands = subst (λ (s : State _). StandsFor s (opening config)) (sym is) (record { config = refl; requests = λ id. refl; clients = refl; last_moment = refl });
+  represents = subst (λ (s : State _). Represents s (opening config)) (sym is) (record { config = refl; requests = λ id. refl; clients = refl; last_moment = refl });
   replaying = tt;
 }
 

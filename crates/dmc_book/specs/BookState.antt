@@ -34,7 +34,7 @@ pub record WorkerSide : Type 0 where
   pub renewed : ℕ
   pub books : WorkerAccounts
 
--- The number of the server; what the queue answered, how many events of that were released, how many there may be until more
+-- The number of the server; the history, how many of its events were released, how many there may be until more
 -- are released, and for how many more a place is reserved; the workers; and the desk of each client.
 pub record AccountsState (T : Type 0) : Type 0 where
   pub server : ℕ
@@ -108,7 +108,7 @@ state_of config accounts closed = record {
   closed = closed;
 }
 
--- what stands at a place where there is no worker, no desk, no unit
+-- the default of a place without a worker, a desk, a unit
 abbrev pub no_worker : WorkerSide
 no_worker = record {
   worker = 0;

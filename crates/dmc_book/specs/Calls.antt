@@ -94,7 +94,7 @@ SubmitRefused ops old new before later command (submit.Refused refusal) = Ran op
 
 -- ---- pulls
 
--- The queue answered, if only by Range; or the pull was not handed on, which is never for want of a desk.
+-- The queue returned, if only Range; or the pull was not passed to it, and never because a desk is missing.
 abbrev pub WasPulled : {T : Type 0} → Tagging T → BookState T → BookState T → PassState → PassState → ℕ → Result Pulled RunOrRange → Type 0
 WasPulled ops old new before later at (Ok pulled) = Ran ops old new before later (Pull at) (pull_reply pulled)
 WasPulled ops old new before later at (Err pull.Range) = Ran ops old new before later (Pull at) (Refused Range)
@@ -112,7 +112,7 @@ submit_cause reserve.Memory = submit.Memory
 
 -- ---- what the queue makes of a command
 
--- a step whose grant the units can take; or no step, since they can't; or no step for want of memory
+-- a step whose grant the units can take; or no step, since they can't; or no step, since an allocation failed
 abbrev pub Asks : {T : Type 0} → Tagging T → (ClientId → PhaseType → Bool) → State T → State T → Command → Result (Reply T) RunFault → Type 0
 Asks ops takes old new command (Ok reply) = Steps ops old new command (Some reply) × (is_allowed takes reply ≡ true) × (Strays takes command reply → ⊥)
 Asks ops takes old new command (Err run.Stranger) = (new ≡ old) × Strays takes command ((step ops old command).1)

@@ -1,23 +1,23 @@
 -- What holds of all accounts, and of every queue's book: the invariants of their types.
 use Rattle.std.specs.Prelude.{◌≡◌, ℕ, ◌+◌, ◌-◌, ◌*◌, ◌^◌, ◌≤◌, ◌==◌, true, false, List, [], ◌∷◌, drop, length, Option, Some, None, is_some, ⊤}
 use Rattle.std.specs.List.{AllByRecursion}
-use Rattle.dmc_types.specs.Limits.{most_events}
+use Rattle.dmc_types.specs.Limits.{max_events}
 use Rattle.dmc_types.specs.Values.{Setting}
 use Rattle.dmc_types.specs.declared.ids.ClientId.{ClientId}
 use Rattle.dmc_types.specs.declared.config.PhaseType.{PhaseType}
 use Rattle.dmc_types.specs.declared.config.PhaseType.TheVariants.{Reservation, Priority}
 use Rattle.dmc_tag.specs.Tag.{Tagging}
-use Rattle.dmc_tag.specs.State.{State, StandsFor}
+use Rattle.dmc_tag.specs.State.{State, Represents}
 use Rattle.dmc_tag.specs.Replay.{after, replays}
 use Rattle.dmc_tag.specs.declared.event.Event.{Event}
-use Rattle.dmc_queue_history.specs.Segmented.{most_released}
+use Rattle.dmc_queue_history.specs.Segmented.{max_released}
 use Rattle.dmc_ledger.specs.Accounts.{Account, total_of}
 use Rattle.dmc_ledger.specs.Bundles.{ClientSide, GrantAccounts}
 use Rattle.dmc_book.specs.BookState.{AccountsState, WorkerAccounts, WorkerSide}
-use Rattle.dmc_book.specs.Counts.{most_added, count, worker_adds, stamps_added, delta_added, rho_added, grant_in, grants_added}
+use Rattle.dmc_book.specs.Counts.{max_added, count, worker_adds, stamps_added, delta_added, rho_added, grant_in, grants_added}
 use Rattle.dmc_book.specs.Moves.{desk_place}
 
--- The book totals what the events add. Nothing of it is gathered, and so many of its tills are open.
+-- The book totals what the events add. Nothing of it is gathered, and this number of its tills is open.
 pub record IsCounted {T : Type 0} (adds : Event T → ℕ) (history : List (Event T)) (tills : ℕ) (book : Account) : Type 0 where
   pub total : total_of book ≡ count adds history
   pub gathered : book.gathered ≡ 0
@@ -59,8 +59,8 @@ HasDesk desks (Some grant) = is_some (desk_place grant.0.0 desks) ≡ true
 -- Sums of tokens grow faster than a history, since a token is any number up to 2^32-1. What they had grown to when events were
 -- last released leaves them room for the events that are kept.
 pub record AreTokensFit (first events : ℕ) (books : WorkerAccounts) : Type 0 where
-  pub tokens : total_of books.tokens + first * most_added ≤ 2 ^ 62 + events * most_added
-  pub granted : total_of books.granted + first * most_added ≤ 2 ^ 62 + events * most_added
+  pub tokens : total_of books.tokens + first * max_added ≤ 2 ^ 62 + events * max_added
+  pub granted : total_of books.granted + first * max_added ≤ 2 ^ 62 + events * max_added
 
 -- Workers and desks count the history, and each client that it grants a request of has a desk. No total can pass the 2^63 of a
 -- book.
@@ -72,17 +72,17 @@ pub record AreConsistent {T : Type 0} (a : AccountsState T) : Type 0 where
   pub granted : AllByRecursion (λ e. HasDesk a.desks (grant_in e.reply)) a.history
   pub tokens_fit : AllByRecursion (λ w. AreTokensFit a.first (length a.history) w.books) a.workers
   pub within : a.first ≤ length a.history
-  pub few : a.first ≤ most_released
-  pub limit : a.most ≤ a.first + most_events
+  pub few : a.first ≤ max_released
+  pub limit : a.most ≤ a.first + max_events
 
 -- The history replays, and the queue represents the state after it.
 pub record IsReplayed {T : Type 0} (ops : Tagging T) (queue : State T) (config : Setting) (history : List (Event T)) : Type 0 where
-  pub stands : StandsFor queue (after ops config history)
+  pub represents : Represents queue (after ops config history)
   pub replaying : replays ops config history
 
 -- a total of at most so much is sure to take what one more event adds
-abbrev pub most_before : ℕ
-most_before = 2 ^ 63 - 2 ^ 32
+abbrev pub max_before : ℕ
+max_before = 2 ^ 63 - 2 ^ 32
 
 -- none of the totals is past a bound
 pub record AreWithin (n : ℕ) (books : WorkerAccounts) : Type 0 where

@@ -12,8 +12,8 @@ use Rattle.dmc_tag.specs.declared.reply.Reply.TheVariants.{Registered, Updated, 
 use Rattle.dmc_book.specs.declared.counts.Numbers.{Numbers}
 
 -- the most that an event adds to a book
-abbrev pub most_added : ℕ
-most_added = 2 ^ 32 - 1
+abbrev pub max_added : ℕ
+max_added = 2 ^ 32 - 1
 
 abbrev pub one_if : Bool → ℕ
 one_if b = if b then 1 else 0
@@ -159,8 +159,8 @@ count adds (e ∷ es) = adds e + count adds es
 
 -- each number fits an u32
 pub record IsSmall (n : Numbers) : Type 0 where
-  pub calls : n.calls ≤ most_added
-  pub misses : n.misses ≤ most_added
-  pub tokens : n.tokens ≤ most_added
-  pub grants : n.grants ≤ most_added
-  pub granted : n.granted ≤ most_added
+  pub calls : n.calls ≤ max_added
+  pub misses : n.misses ≤ max_added
+  pub tokens : n.tokens ≤ max_added
+  pub grants : n.grants ≤ max_added
+  pub granted : n.granted ≤ max_added

@@ -83,7 +83,7 @@ abbrev pub units_after : List ClientId → Option (ClientId × PhaseType) → Li
 units_after names None units = units
 units_after names (Some grant) units = unit_at grant.1 (place_of grant.0.0 names) units
 
--- the pass of the worker whose command was answered so: of a grant it has the unit where it names the client
+-- the worker's pass after this reply to its command: of a grant it has the unit where it names the client
 abbrev pub pass_after : {T : Type 0} → Command → Reply T → PassState → PassState
 pass_after command reply p = record p {
   tills = tills_after (numbers_of command reply) p.tills;

@@ -1,7 +1,7 @@
 -- A queue's book that is made.
 use Rattle.std.specs.Prelude.{◌≡◌, ℕ, ◌+◌, ◌*◌, ◌<◌, ◌≤◌, ◌==◌, false, List, [], ◌∷◌, map, length, ⊤}
 use Rattle.std.specs.List.{AllByRecursion}
-use Rattle.dmc_types.specs.Limits.{most_clients, most_events, most_open_tills}
+use Rattle.dmc_types.specs.Limits.{max_clients, max_events, max_open_tills}
 use Rattle.dmc_types.specs.Values.{Setting}
 use Rattle.dmc_types.specs.declared.ids.ClientId.{ClientId}
 use Rattle.dmc_types.specs.declared.ids.WorkerId.{WorkerId}
@@ -16,8 +16,8 @@ IsNewDesk server d = (n : ℕ) × (d ≡ new_client_side d.client server n)
 -- the limits of a history, of the desks, and of the numbers that the mint has left: five for each worker, and the history's
 pub record AreBookLimits (workers desks left most : ℕ) : Type 0 where
   pub some_events : 0 < most
-  pub events_limit : most ≤ most_events
-  pub desks_limit : desks ≤ most_clients
+  pub events_limit : most ≤ max_events
+  pub desks_limit : desks ≤ max_clients
   pub books : 5 * workers + 1 ≤ left
 
 -- no number is named twice
@@ -57,7 +57,7 @@ abbrev pub new_workers : ℕ → List WorkerId → List WorkerSide
 new_workers n [] = []
 new_workers n (w ∷ ws) = new_worker n w ∷ new_workers (n + 5) ws
 
--- so many tills more are open of a desk's grant books
+-- this number of tills more is open of a desk's grant books
 abbrev pub with_tills : ℕ → Account → Account
 with_tills k book = record book { open_tills = book.open_tills + k }
 
@@ -103,5 +103,5 @@ new_state config server most n workers desks = state_of config (new_accounts_sta
 
 -- one more till of each of the books may be opened
 pub record HaveRoom (books : GrantAccounts) : Type 0 where
-  pub reservation : books.reservation.open_tills < most_open_tills
-  pub priority : books.priority.open_tills < most_open_tills
+  pub reservation : books.reservation.open_tills < max_open_tills
+  pub priority : books.priority.open_tills < max_open_tills

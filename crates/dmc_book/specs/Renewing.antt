@@ -3,7 +3,7 @@ use Rattle.std.specs.Prelude.{ℕ, length, slice_index_or, slice_set}
 use Rattle.dmc_ledger.specs.Accounts.{new_book, new_till}
 use Rattle.dmc_book.specs.BookState.{AccountsState, BookState, PassState, WorkerHoldings, WorkerSide, no_worker}
 
--- the worker, whose two sums of tokens begin anew after so many events
+-- the worker, whose two sums of tokens begin anew after this number of events
 abbrev pub renewed_worker : ℕ → WorkerSide → WorkerSide
 renewed_worker events w = record w {
   renewed = events;

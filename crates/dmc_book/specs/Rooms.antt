@@ -12,7 +12,7 @@ pub record IsRoom {S : Type 0} (clients : List ClientId) (room : PassRoom S) : T
   pub empty : room.units.items ≡ []
   pub fits : length clients ≤ vec_capacity room.units
 
--- room for so many workers, and for their passes
+-- room for this number of workers, and for their passes
 pub record IsRoomFor {S : Type 0} (workers : ℕ) (clients : List ClientId) (r : Room S) : Type 0 where
   pub rooms : AllByRecursion (IsRoom clients) r.rooms.items
   pub as_many : length r.rooms.items ≡ workers

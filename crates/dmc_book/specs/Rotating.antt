@@ -1,7 +1,7 @@
 -- A queue's book that releases events.
 use Rattle.std.specs.Prelude.{◌≡◌, ℕ, ◌+◌, ◌-◌, ◌<◌, ◌≤◌, ◌^◌, List, length}
 use Rattle.std.specs.List.{AllByRecursion}
-use Rattle.dmc_queue_history.specs.Segmented.{SegmentState, most_released}
+use Rattle.dmc_queue_history.specs.Segmented.{SegmentState, max_released}
 use Rattle.dmc_ledger.specs.Accounts.{total_of}
 use Rattle.dmc_book.specs.BookState.{AccountsState, BookState, WorkerAccounts, WorkerSide}
 
@@ -12,11 +12,11 @@ pub record AreTokensLow (books : WorkerAccounts) : Type 0 where
 
 -- A segment is released: not too many events were recorded, the tokens of each worker are low, and nothing is settled.
 pub record MayRotate {E : Type 0} (history : List E) (first most : ℕ) (workers : List WorkerSide) : Type 0 where
-  pub long : length history ≤ most_released
+  pub long : length history ≤ max_released
   pub low : AllByRecursion (λ w. AreTokensLow w.books) workers
   pub goes_on : first < most
 
--- the segment: what the queue answered so far, of which it has the last, from the number `first` on
+-- the segment: the history so far, of which it has the last events, from the number `first` on
 abbrev pub segment_of : {T : Type 0} → BookState T → SegmentState T
 segment_of b = record { config = b.config; server = b.server; history = b.history; first = b.first }
 

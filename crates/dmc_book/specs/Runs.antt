@@ -1,4 +1,4 @@
--- What a command that is no Add comes to.
+-- What a command that is no Add does.
 use Rattle.std.specs.Prelude.{◌≡◌, true, false, length, Result, Ok, Err}
 use Rattle.dmc_types.specs.declared.command.Command.{Command}
 use Rattle.dmc_tag.specs.Tag.{Tagging}

@@ -28,7 +28,7 @@ pub record IsOwn (workers : List WorkerSide) (desks : List ClientSide) (p : Pass
   pub enrolled : IsEnrolled workers p
   pub units : AreDeskUnits desks p.units
 
--- As many passes as workers, each of a worker here. One till of each worker's books is open, so none stands there twice.
+-- As many passes as workers, each of a worker here. One till of each worker's books is open, so none is there twice.
 pub record AreOwn (workers : List WorkerSide) (desks : List ClientSide) (passes : List PassState) : Type 0 where
   pub as_many : length passes ≡ length workers
   pub each : AllByRecursion (IsOwn workers desks) passes
@@ -85,7 +85,7 @@ abbrev pub left_in : PhaseType → ℕ → List PassState → ℕ
 left_in phase k [] = 0
 left_in phase k (p ∷ ps) = (till_in phase (slice_index_or p.units k no_unit)).amount + left_in phase k ps
 
--- the book gathered so many tills, which held so many units
+-- the book gathered this number of tills, which held this number of units
 pub record IsTakenIn (tills units : ℕ) (old new : Account) : Type 0 where
   pub number : new.number ≡ old.number
   pub gathered : new.gathered ≡ old.gathered + units

@@ -1,4 +1,4 @@
--- What `status` tells.
+-- What `status` returns.
 use Rattle.std.specs.Prelude.{◌≡◌, length}
 use Rattle.dmc_tag.specs.Tag.{Tagging}
 use Rattle.dmc_tag.specs.Replay.{after}

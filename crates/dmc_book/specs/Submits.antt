@@ -1,4 +1,4 @@
--- What a submit comes to, and where it finds the desk of its stamp.
+-- What a submit does, and where it finds the desk of its stamp.
 use Rattle.std.specs.Prelude.{◌≡◌, ℕ, ◌<◌, true, false, List, length, Option, Some, None, Result, Ok, Err, slice_index_or}
 use Rattle.dmc_types.specs.declared.ids.Token.{Token}
 use Rattle.dmc_types.specs.declared.command.Command.TheVariants.{Add}

@@ -1,4 +1,4 @@
-//! What a queue answered, and the counts of that.
+//! A queue's history, and the counts of its events.
 ghost use Rattle.std.specs.Prelude.{◌≡◌, ◌≤◌, ◌<◌, ◌↔◌, ◌∷◌, length, map, true, None, IfNone, IfSome, OnSome, IsErrOf, IsSome, IsTrue, OnOk};
 ghost use Rattle.dmc_ledger.specs.Bundles.{Covers, client_side, stamp_holdings};
 ghost use Rattle.dmc_ledger.specs.Moves.{tills_after_submit};
@@ -16,7 +16,7 @@ ghost use Rattle.dmc_book.specs.Rotating.{MayRotate, accounts_rotated};
 ghost use Rattle.dmc_book.specs.Submits.{FindsDesk};
 
 use crate::desk::{find_stamps, hand_out, take_in};
-use crate::names::place_near;
+use crate::names::place_with_hint;
 use crate::pass::WorkerPass;
 use crate::seat::{Seat, are_low, count, is_enrolled, renew_seat};
 use dmc_history::ReserveFault;
@@ -36,7 +36,7 @@ use dmc_types::moment::Moment;
 use indexmap::IndexSet;
 use std::marker::Model;
 
-/// The history of what a server's queue answered, five books for each enrolled worker, and a desk for each client.
+/// The history of a server's queue, five books for each enrolled worker, and a desk for each client.
 ///
 /// What holds of all accounts is the invariant of the type: the books of each worker total its counts over the history, and
 /// each desk holds what the history took from its client and totals what it granted.
@@ -74,10 +74,10 @@ impl<T: Tag, S: Setup> Accounts<T, S> {
 
     /// The index of a client's desk, which is looked for at an index first.
     #[inline(always)]
-    pub(crate) fn desk_near(&self, near: usize, client: ClientId) -> Option<usize>
+    pub(crate) fn desk_with_hint(&self, hint: usize, client: ClientId) -> Option<usize>
         ensures { result ≡ desk_place client.0 self.now.desks }
     {
-        place_near(&self.clients, near, client)
+        place_with_hint(&self.clients, hint, client)
     }
 
     /// Whether the command registers a client that has no desk.
@@ -85,7 +85,7 @@ impl<T: Tag, S: Setup> Accounts<T, S> {
         ensures { result ≡ lacks_desk self.now.desks command.now }
     {
         match *command {
-            Command::Register { client, .. } => self.desk_near(0, client).is_none(),
+            Command::Register { client, .. } => self.desk_with_hint(0, client).is_none(),
             _ => false,
         }
     }
@@ -132,7 +132,7 @@ impl<T: Tag, S: Setup> Accounts<T, S> {
         self.history.reserve_one()
     }
 
-    /// Puts what the queue answered to a worker on record, in the reserved place: it counts the event in the worker's books and
+    /// Records the queue's reply to a worker's command, in the reserved place: it counts the event in the worker's books and
     /// tills, and issues the unit of a grant.
     #[inline(always)]
     pub(crate) fn record(&mut self, pass: &mut WorkerPass<S>, command: Command, reply: Reply<T>)

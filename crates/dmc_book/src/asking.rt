@@ -1,4 +1,4 @@
-//! Commands handed to the queue.
+//! Commands passed to the queue.
 ghost use Rattle.std.specs.Prelude.{◌≡◌, false, ⊤};
 ghost use Rattle.dmc_tag.specs.Steps.{Steps};
 ghost use Rattle.dmc_types.specs.declared.command.Command.TheVariants as commands;
@@ -48,7 +48,7 @@ impl<T: Copy> Clone for Added<T> {
 #[inline(always)]
 pub(crate) fn ask_to_add<T: Tag, I: Indexes<T>>(
     queue: &mut PullQueue<T, I>,
-    near: usize,
+    hint: usize,
     client: ClientId,
     token: Token,
     params: ReqParams,
@@ -56,7 +56,7 @@ pub(crate) fn ask_to_add<T: Tag, I: Indexes<T>>(
 ) -> Added<T>
     ensures { Steps T.ops (state_of queue.old) (state_of queue.new) (commands.Add client token params at) (added_reply result) }
 {
-    match queue.add_request_near(near, client, token, params, at) {
+    match queue.add_request_with_hint(hint, client, token, params, at) {
         Ok(tags) => Added::Tagged(tags),
         Err(QueueFault::Refused(refusal)) => Added::Refused(refusal),
         Err(QueueFault::Memory) => Added::Memory,
@@ -81,7 +81,7 @@ pub(crate) fn ask_to_pull<T: Tag, I: Indexes<T>, S: Setup>(
     }
 }
 
-/// What a pull is answered, as a reply.
+/// What a pull returns, as a reply.
 pub(crate) fn reply_of<T>(answer: Result<Pulled, RunOrRange>) -> Result<Reply<T>, RunFault>
     ensures { result ≡ asked answer }
 {

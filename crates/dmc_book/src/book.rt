@@ -1,7 +1,7 @@
 //! The queue's book.
 ghost use Rattle.std.specs.Prelude.{◌≡◌, ◌≤◌, ◌+◌, ◌*◌, ◌↔◌, drop, length, map, true, false, IfNone, IfSome, OnSome, IfOk, IfErr, IsOk, IsSome, OnOk, OnErr, IsErrOf, IsErrAnd};
 ghost use Rattle.std.specs.List.{AllByRecursion};
-ghost use Rattle.dmc_types.specs.Limits.{most_events, most_workers};
+ghost use Rattle.dmc_types.specs.Limits.{max_events, max_workers};
 ghost use Rattle.dmc_ledger.specs.Bundles.{client_side};
 ghost use Rattle.dmc_tag.specs.Replay.{after, replays};
 ghost use Rattle.dmc_book.specs.BookState.{pass_state, worker_side};
@@ -38,11 +38,11 @@ use std::alloc::Global;
 use std::marker::Model;
 
 /// A part of a book. A struct that is generic in indexes has a rule for letting it go, as generic code does, where such a
-/// part stands behind a type parameter.
+/// part is held behind a type parameter.
 #[derive(Drop)]
 pub(crate) struct Part<P>(pub(crate) P);
 
-/// A server's queue with the history of what it answered, five books for each enrolled worker, and a desk for each client.
+/// A server's queue with its history, five books for each enrolled worker, and a desk for each client.
 ///
 /// What holds of every book is the invariant of its type, and of its accounts: the three indexes hold exactly the clients with a
 /// queued request, the history replays, the books of each worker total its counts over the history, and each desk holds what
@@ -76,7 +76,7 @@ impl<T: Tag, I: Indexes<T>, S: Setup> QueueBook<T, I, S> {
     /// this server's, as `open_pair` gave them; beside the held till of each of their books each pass has one. The book keeps
     /// at most `most` events (1 to 2^30). The mint gives five numbers to each worker, and one to the history.
     ///
-    /// Refused `Limit`, `Twice`, `Memory`, with the desks handed back and the mint as it was. Names are compared in memory that
+    /// Refused `Limit`, `Twice`, `Memory`, with the desks returned and the mint as it was. Names are compared in memory that
     /// is allocated for it: where there is none, names that are there twice are refused `Memory`.
     pub fn new(
         alloc: Global,
@@ -87,7 +87,7 @@ impl<T: Tag, I: Indexes<T>, S: Setup> QueueBook<T, I, S> {
         mint: &mut Mint<S>,
         most: u32,
     ) -> Result<(QueueBook<T, I, S>, Vec<WorkerPass<S>>), BookFault<S>>
-        requires few { length workers.now ≤ most_workers }
+        requires few { length workers.now ≤ max_workers }
         requires new { AllByRecursion (IsNewDesk server.0) (map client_side desks.items) }
         ensures book { IfOk result (λ made.
             made.0 ≡ new_state config server.0 most mint.old.opened workers.now (map client_side desks.items)) }
@@ -124,7 +124,7 @@ impl<T: Tag, I: Indexes<T>, S: Setup> QueueBook<T, I, S> {
         self.closed = true;
     }
 
-    /// What the pass holds of the worker's counts, and how the book stands; refused `Stranger` where the pass is of no worker
+    /// What the pass holds of the worker's counts, and the book's numbers; refused `Stranger` where the pass is of no worker
     /// that is enrolled here, or its tills are not of that worker's books.
     pub fn status(&self, pass: &WorkerPass<S>) -> Result<Status, RunFault>
         ensures status { IfOk result (λ status. IsStatusOf T.ops self.now (pass_state pass.now).tills status) }
@@ -148,7 +148,7 @@ impl<T: Tag, I: Indexes<T>, S: Setup> QueueBook<T, I, S> {
         })
     }
 
-    /// Hands a command that is not an Add to the queue, and records what the queue answered, its refusals included. It adds
+    /// Passes a command that is not an Add to the queue, and records its reply, refusals included. It adds
     /// one to the worker's calls, one to its misses where the reply is Later, Nothing or Refused, and of a grant one unit of
     /// its client and phase to the pass.
     ///
@@ -193,8 +193,8 @@ impl<T: Tag, I: Indexes<T>, S: Setup> QueueBook<T, I, S> {
     /// Settles the book with exactly the passes that `new` gave, in any order. It gathers them, and returns the events that were
     /// not released, how many requests are queued, the workers with what their passes held, and the desks: of each grant book
     /// what was gathered is what the passes held, and the held till of its pair alone is open. The book is then empty: it has
-    /// no worker, no desk and no event, so nothing is counted twice. Other passes are handed back, and the book is as it was.
-    /// It takes no memory.
+    /// no worker, no desk and no event, so nothing is counted twice. Other passes are returned, and the book is as it was.
+    /// It does not allocate.
     pub fn settle(
         &mut self,
         alloc: Global,
@@ -218,13 +218,13 @@ impl<T: Tag, I: Indexes<T>, S: Setup> QueueBook<T, I, S> {
         Ok(self.settle_own(alloc, passes))
     }
 
-    /// Settles the book with passes that are its own, as `owns` tells. The desks are of different clients, and each grant is of a
+    /// Settles the book with passes that are its own, as `owns` says. The desks are of different clients, and each grant is of a
     /// client with a desk: so what the desks' clients were granted in a phase is together all that was granted in it.
     pub fn settle_own(&mut self, alloc: Global, passes: Vec<WorkerPass<S>>) -> Settled<T, S>
         requires own { AreOwn self.old.workers self.old.desks (map pass_state passes.items) }
         ensures emptied { self.new ≡ after_settling self.old }
         ensures history { result.history.events ≡ drop self.old.first self.old.history }
-        ensures few { length result.history.events ≤ most_events }
+        ensures few { length result.history.events ≤ max_events }
         ensures replays { replays T.ops self.old.config self.old.history }
         ensures left { result.left ≡ length (after T.ops self.old.config self.old.history).requests }
         ensures workers { map worker_side result.workers.items ≡ map closed_worker self.old.workers }
@@ -259,8 +259,8 @@ impl<T: Tag, I: Indexes<T>, S: Setup> QueueBook<T, I, S> {
         Ok(self.accounts.renew(pass))
     }
 
-    /// Releases what the queue answered since events were last released, in a time that grows with the number of workers and
-    /// not with that of events. It takes no memory. The book goes on with none of them kept.
+    /// Releases the events recorded since the last release, in a time that grows with the number of workers and
+    /// not with that of events. It does not allocate. The book goes on with none of them kept.
     ///
     /// `None`, and nothing changes, exactly where more than 2^62 events were recorded, a worker's sum of tokens (added, or
     /// granted) is past 2^62, or the book is settled.

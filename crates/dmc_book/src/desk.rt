@@ -6,14 +6,14 @@ ghost use Rattle.dmc_ledger.specs.Bundles.{Covers, client_side, grant_accounts, 
 ghost use Rattle.dmc_ledger.specs.Moves.{book_in, till_in, books_after_grant, tills_after_response, tills_after_stamp, tills_after_submit};
 ghost use Rattle.dmc_pull.specs.Allowed.{is_allowed};
 ghost use Rattle.dmc_book.specs.Calls.{AreAlike, IsForDesk};
-ghost use Rattle.dmc_book.specs.Consistent.{AreClientsApart, AreGrantsWithin, most_before};
+ghost use Rattle.dmc_book.specs.Consistent.{AreClientsApart, AreGrantsWithin, max_before};
 ghost use Rattle.dmc_book.specs.Counts as counts;
 ghost use Rattle.dmc_book.specs.Moves.{desk_after, takes, takes_at, desk_place, units_after, unit_at};
 ghost use Rattle.dmc_book.specs.BookState.{no_desk, pass_state};
 
 use crate::accounts::Accounts;
 use crate::counts::grant_in;
-use crate::names::{place_near, place_recent};
+use crate::names::{place_recent, place_with_hint};
 use crate::pass::WorkerPass;
 use crate::seat::credit;
 use dmc_ledger::bundle::{GrantBooks, GrantTills, StampTills};
@@ -41,14 +41,14 @@ pub(crate) struct UnitTest<'a, T: Tag, S: Setup> {
 impl<'a, T: Tag, S: Setup> GrantTest for UnitTest<'a, T, S> {
     ghost allows = { λ t client phase. takes t.accounts.now.desks (pass_state t.pass.now).clients (pass_state t.pass.now).units client phase };
 
-    fn allows(&self, client: ClientId, phase: PhaseType, near: usize) -> bool {
+    fn allows(&self, client: ClientId, phase: PhaseType, hint: usize) -> bool {
         let accounts = self.accounts;
         let pass = self.pass;
-        let Some(place) = accounts.desk_near(near, client) else {
+        let Some(place) = accounts.desk_with_hint(hint, client) else {
             return false;
         };
         pass.recent.set(place);
-        let Some(named) = place_near(&pass.clients, place, client) else {
+        let Some(named) = place_with_hint(&pass.clients, place, client) else {
             return false;
         };
         place == named && takes_unit(&accounts.desks, &pass.units, place, phase)
@@ -92,7 +92,7 @@ fn grant_number<S: Setup>(books: &GrantBooks<S>, phase: PhaseType) -> u32
 #[inline(always)]
 fn issue_unit<S: Setup>(books: &mut GrantBooks<S>, unit: &mut GrantTills<S>, phase: PhaseType)
     requires its { (till_in phase (grant_holdings unit.old)).number ≡ (book_in phase (grant_accounts books.old)).number }
-    requires fits { total_of (book_in phase (grant_accounts books.old)) ≤ most_before }
+    requires fits { total_of (book_in phase (grant_accounts books.old)) ≤ max_before }
     ensures books { grant_accounts books.new ≡ books_after_grant phase (grant_accounts books.old) }
     ensures unit { grant_holdings unit.new ≡ tills_after_response phase (grant_holdings unit.old) }
 {
@@ -103,18 +103,18 @@ fn issue_unit<S: Setup>(books: &mut GrantBooks<S>, unit: &mut GrantTills<S>, pha
 }
 
 /// Issues the unit of a grant at the desk of its client, and into the till where the pass names the client, who is looked for
-/// near by first.
+/// at the hint first.
 #[inline(always)]
 pub(crate) fn hand_out<T: Copy, S: Setup>(
     names: &IndexSet<ClientId>,
-    near: usize,
+    hint: usize,
     desks: &mut Vec<ClientDesk<S>>,
     units: &mut Vec<GrantTills<S>>,
     event: &Event<T>,
 )
     requires no_stamp { counts.accepted event.now ≡ None }
     requires its { is_allowed (takes (map client_side desks.old.items) names.now.keys (map grant_holdings units.old.items)) event.now.reply ≡ true }
-    requires fits { AllByRecursion (λ d. AreGrantsWithin most_before d.books) (map client_side desks.old.items) }
+    requires fits { AllByRecursion (λ d. AreGrantsWithin max_before d.books) (map client_side desks.old.items) }
     requires apart { AreClientsApart (map client_side desks.old.items) }
     ensures desks { map client_side desks.new.items ≡ map (desk_after event.now) (map client_side desks.old.items) }
     ensures names { map (λ d. d.client) desks.new.items ≡ map (λ d. d.client) desks.old.items }
@@ -123,7 +123,7 @@ pub(crate) fn hand_out<T: Copy, S: Setup>(
     let Some((client, phase)) = grant_in(&event.reply) else {
         return;
     };
-    let Some(place) = place_near(names, near, client) else {
+    let Some(place) = place_with_hint(names, hint, client) else {
         unreachable!()
     };
     hand_out_at(desks, units, place, client, phase, event);
@@ -143,7 +143,7 @@ fn hand_out_at<T: Copy, S: Setup>(
     requires grant { counts.grant_in event.now.reply ≡ Some (client, phase) }
     requires no_stamp { counts.accepted event.now ≡ None }
     requires its { takes_at phase (map client_side desks.old.items) (map grant_holdings units.old.items) (Some place) ≡ true }
-    requires fits { AllByRecursion (λ d. AreGrantsWithin most_before d.books) (map client_side desks.old.items) }
+    requires fits { AllByRecursion (λ d. AreGrantsWithin max_before d.books) (map client_side desks.old.items) }
     requires apart { AreClientsApart (map client_side desks.old.items) }
     ensures desks { map client_side desks.new.items ≡ map (desk_after event.now) (map client_side desks.old.items) }
     ensures names { map (λ d. d.client) desks.new.items ≡ map (λ d. d.client) desks.old.items }

@@ -7,7 +7,7 @@ use dmc_types::refusal::Refusal;
 use std::alloc::AllocError;
 use thiserror::Error;
 
-/// Why a command was not handed to the queue. Nothing has changed (own).
+/// Why a command was not passed to the queue. Nothing has changed (extension).
 #[derive(Clone, Copy, Debug, PartialEq, Eq, Error)]
 pub enum RunFault {
     /// The pass is of no worker that is enrolled here, or its tills are not of that worker's books; or the rules would
@@ -42,13 +42,13 @@ impl From<ReserveFault> for RunFault {
 /// Why a pull is refused.
 #[derive(Clone, Copy, Debug, PartialEq, Eq)]
 pub enum RunOrRange {
-    /// The pull was not handed to the queue. Nothing has changed.
+    /// The pull was not passed to the queue. Nothing has changed.
     Run(RunFault),
     /// The rules refuse the pull: a sum is no value of the tag type. This is recorded, as a miss.
     Range,
 }
 
-/// Why a request was not queued (own).
+/// Why a request was not queued (extension).
 #[derive(Clone, Copy, Debug, PartialEq, Eq, Error)]
 pub enum SubmitCause {
     /// The pass is of no worker that is enrolled here, or its tills are not of that worker's books; the stamp is for another

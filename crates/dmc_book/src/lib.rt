@@ -1,4 +1,4 @@
-//! The queue behind a server's lock, with what it answered and the counts of that.
+//! The queue behind a server's lock, with its history and the counts of its events.
 #![tactic(auto)]
 
 mod accounts;

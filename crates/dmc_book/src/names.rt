@@ -6,7 +6,7 @@ use dmc_types::ids::ClientId;
 use indexmap::IndexSet;
 use std::cell::Cell;
 
-/// Whether a client stands at a place.
+/// Whether a client is at an index.
 fn is_at(names: &[ClientId], place: usize, client: ClientId) -> bool
     ensures { IsTrue result ↔ (slice_get names.now place ≡ Some client) }
 {
@@ -14,11 +14,15 @@ fn is_at(names: &[ClientId], place: usize, client: ClientId) -> bool
 }
 
 /// The place of a client: looked for at a place first, where it often is, and else by its hash.
-pub(crate) fn place_near(names: &IndexSet<ClientId>, near: usize, client: ClientId) -> Option<usize>
+pub(crate) fn place_with_hint(
+    names: &IndexSet<ClientId>,
+    hint: usize,
+    client: ClientId,
+) -> Option<usize>
     ensures { result ≡ place_of client.0 names.now.keys }
 {
-    if is_at(names.as_slice(), near, client) {
-        return Some(near);
+    if is_at(names.as_slice(), hint, client) {
+        return Some(hint);
     }
     names.get_index_of(&client)
 }
@@ -36,7 +40,7 @@ pub(crate) fn place_recent(
     if is_at(names.as_slice(), last, client) {
         return Some(last);
     }
-    let place = place_near(names, last.wrapping_add(1), client)?;
+    let place = place_with_hint(names, last.wrapping_add(1), client)?;
     recent.set(place);
     Some(place)
 }

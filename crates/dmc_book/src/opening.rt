@@ -2,7 +2,7 @@
 ghost use Rattle.std.specs.Prelude.{◌≡◌, ◌+◌, ◌-◌, ◌*◌, ◌<◌, ◌≤◌, ◌↔◌, ℕ, [], length, map, vec_capacity, slice_index_or, IfOk, OnOk, IfSome, IsSome, IsTrue, IsErrOf};
 ghost use Rattle.std.specs.List.{AllByRecursion};
 ghost use Rattle.std.specs.Arc.{arc_value};
-ghost use Rattle.dmc_types.specs.Limits.{most_events, most_workers};
+ghost use Rattle.dmc_types.specs.Limits.{max_events, max_workers};
 ghost use Rattle.dmc_ledger.specs.Accounts.{new_book, new_till};
 ghost use Rattle.dmc_ledger.specs.Bundles.{client_side, grant_holdings};
 ghost use Rattle.dmc_book.specs.BookState.{pass_state, worker_accounts, worker_holdings, worker_side, no_desk};
@@ -23,14 +23,14 @@ use dmc_queue_history::history::EventHistory;
 use dmc_queue_history::segmented::SegmentedHistory;
 use dmc_tag::tag::Tag;
 use dmc_types::ids::{ClientId, ServerId, WorkerId};
-use dmc_types::limits::MOST_EVENTS;
+use dmc_types::limits::MAX_EVENTS;
 use indexmap::IndexSet;
 use std::alloc::{AllocError, Global};
 use std::cell::Cell;
 use std::sync::Arc;
 
 /// The most desks that a book has.
-const MOST_DESKS: usize = 65_536;
+const MAX_DESKS: usize = 65_536;
 
 /// The clients of the desks, in order, or `None` where one is named twice.
 fn name_clients<S: Setup>(
@@ -107,8 +107,8 @@ fn are_limits(workers: usize, desks: usize, left: u64, most: u32) -> bool
     ensures { IsTrue result ↔ AreBookLimits workers desks left most }
 {
     0 < most
-        && most <= MOST_EVENTS
-        && desks <= MOST_DESKS
+        && most <= MAX_EVENTS
+        && desks <= MAX_DESKS
         && 0 < left
         && workers as u64 <= (left - 1) / 5
 }
@@ -167,7 +167,7 @@ pub(crate) struct Parts<T: Tag, S: Setup> {
     pub(crate) room: Room<S>,
 }
 
-/// The parts of a book, for a mint that has so many books left: refused `Limit`, `Twice`, `Memory`.
+/// The parts of a book, for a mint that has this number of books left: refused `Limit`, `Twice`, `Memory`.
 pub(crate) fn make_parts<T: Tag, S: Setup>(
     alloc: Global,
     workers: &[WorkerId],
@@ -320,7 +320,7 @@ pub(crate) fn open_workers<S: Setup>(
     seats: &mut Vec<Seat<S>>,
     passes: &mut Vec<WorkerPass<S>>,
 )
-    requires few { length workers.now ≤ most_workers }
+    requires few { length workers.now ≤ max_workers }
     requires left { 5 * length workers.now ≤ mint.old.left }
     requires new { (server : ℕ) × AllByRecursion (IsNewDesk server) (map client_side desks.old) }
     requires rooms { AllByRecursion (IsRoom (map (λ d. d.client) desks.old)) rooms.items }
@@ -353,13 +353,13 @@ pub(crate) fn open_accounts<T: Tag, S: Setup>(
     mint: &mut Mint<S>,
     parts: Parts<T, S>,
 ) -> (Accounts<T, S>, Vec<WorkerPass<S>>)
-    requires few { length workers.now ≤ most_workers }
+    requires few { length workers.now ≤ max_workers }
     requires left { 5 * length workers.now + 1 ≤ mint.old.left }
     requires new { AllByRecursion (IsNewDesk server.0) (map client_side desks.items) }
     requires once { AreNamedOnce workers.now (map client_side desks.items) }
     requires empty { parts.history.events ≡ [] }
     requires no_room { parts.history.room ≡ 0 }
-    requires limit { parts.history.most ≤ most_events }
+    requires limit { parts.history.most ≤ max_events }
     requires clients { parts.clients.keys ≡ map (λ d. d.client) desks.items }
     requires room { IsRoomFor (length workers.now) (map (λ d. d.client) desks.items) parts.room }
     ensures accounts { result.0 ≡ new_accounts_state server.0 parts.history.most mint.old.opened workers.now (map client_side desks.items) }

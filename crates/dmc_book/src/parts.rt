@@ -17,7 +17,7 @@ use dmc_types::config::QueueConfig;
 use dmc_types::ids::ServerId;
 
 impl<T: Tag, I: Indexes<T>, S: Setup> QueueBook<T, I, S> {
-    /// What the queue answered since events were last released, oldest first.
+    /// The events recorded since the last release, oldest first.
     pub fn history(&self) -> &EventHistory<T>
         ensures events { result.now.events ≡ drop self.now.first self.now.history }
         ensures replays { replays T.ops self.now.config self.now.history }

@@ -19,7 +19,7 @@ use dmc_types::command::Command;
 use dmc_types::moment::Moment;
 
 impl<T: Tag, I: Indexes<T>, S: Setup> QueueBook<T, I, S> {
-    /// Pulls: grants the next request, or tells when one is due, or that nothing is queued. It records and counts as `run` does
+    /// Pulls: grants the next request, or says when one is due, or that nothing is queued. It records and counts as `run` does
     /// for a Pull, and takes less time.
     ///
     /// Refused `Range` by the rules, which is recorded; and with nothing recorded `Stranger`, `HistoryFull`, `Memory`, as for

@@ -4,7 +4,7 @@ ghost use Rattle.std.specs.List.{AllByRecursion};
 ghost use Rattle.dmc_ledger.specs.Accounts.{total_of};
 ghost use Rattle.dmc_ledger.specs.Moves.{after_issue, with_more};
 ghost use Rattle.dmc_book.specs.BookState.{worker_accounts, worker_holdings, worker_side, pass_state, no_worker};
-ghost use Rattle.dmc_book.specs.Consistent.{AreWorkersApart, AreWithin, most_before};
+ghost use Rattle.dmc_book.specs.Consistent.{AreWorkersApart, AreWithin, max_before};
 ghost use Rattle.dmc_book.specs.Renewing.{renewed_tills, renewed_worker};
 ghost use Rattle.dmc_book.specs.Rotating.{AreTokensLow};
 ghost use Rattle.dmc_book.specs.Counts as counts;
@@ -56,14 +56,14 @@ impl<S: Setup> Seat<S> {
         self.worker
     }
 
-    /// The worker's calls that the queue answered, as gathered of its pass.
+    /// The worker's calls that got a reply, as gathered of its pass.
     pub fn calls(&self) -> u64
         ensures { result ≡ (worker_side self.now).books.calls.gathered }
     {
         self.books.calls.gathered()
     }
 
-    /// Those of them that were answered Later, Nothing or by a refusal.
+    /// Those of them whose reply was Later, Nothing or a refusal.
     pub fn misses(&self) -> u64
         ensures { result ≡ (worker_side self.now).books.misses.gathered }
     {
@@ -96,7 +96,7 @@ impl<S: Setup> Seat<S> {
 #[inline(always)]
 pub(crate) fn credit<S: Setup>(book: &mut Book<S>, till: &mut Till<S>, amount: u32)
     requires its { till.old.number ≡ book.old.number }
-    requires fits { total_of book.old ≤ most_before }
+    requires fits { total_of book.old ≤ max_before }
     ensures book { book.new ≡ after_issue amount book.old }
     ensures till { till.new ≡ with_more amount till.old }
 {
@@ -109,7 +109,7 @@ pub(crate) fn credit<S: Setup>(book: &mut Book<S>, till: &mut Till<S>, amount: u
 #[inline(always)]
 fn credit_all<S: Setup>(books: &mut WorkerBooks<S>, tills: &mut WorkerTills<S>, numbers: Numbers)
     requires its { AreOf (worker_holdings tills.old) (worker_accounts books.old) }
-    requires fits { AreWithin most_before (worker_accounts books.old) }
+    requires fits { AreWithin max_before (worker_accounts books.old) }
     ensures books { worker_accounts books.new ≡ books_after numbers (worker_accounts books.old) }
     ensures tills { worker_holdings tills.new ≡ tills_after numbers (worker_holdings tills.old) }
 {
@@ -153,7 +153,7 @@ pub(crate) fn count<T: Copy, S: Setup>(
     requires within { place < length workers.old.items }
     requires its_worker { (slice_index_or (map worker_side workers.old.items) place no_worker).worker ≡ event.now.worker.0 }
     requires its_tills { AreOf (worker_holdings tills.old) (slice_index_or (map worker_side workers.old.items) place no_worker).books }
-    requires fits { AllByRecursion (λ w. AreWithin most_before w.books) (map worker_side workers.old.items) }
+    requires fits { AllByRecursion (λ w. AreWithin max_before w.books) (map worker_side workers.old.items) }
     requires apart { AreWorkersApart (map worker_side workers.old.items) }
     ensures workers { map worker_side workers.new.items ≡ map (worker_after event.now) (map worker_side workers.old.items) }
     ensures small { counts.IsSmall (counts.numbers_of event.now.command event.now.reply) }
@@ -163,7 +163,7 @@ pub(crate) fn count<T: Copy, S: Setup>(
     credit_all(&mut workers[place].books, tills, numbers);
 }
 
-/// Begins the sums of a worker's tokens anew, after so many events: what they were.
+/// Begins the sums of a worker's tokens anew, after this number of events: what they were.
 pub(crate) fn renew_seat<S: Setup>(
     seat: &mut Seat<S>,
     tills: &mut WorkerTills<S>,
@@ -184,13 +184,13 @@ pub(crate) fn renew_seat<S: Setup>(
 }
 
 /// The most that a sum of tokens may be when events are released.
-const MOST_TOKENS: u64 = 1 << 62;
+const MAX_TOKENS: u64 = 1 << 62;
 
 /// Whether a worker's sums of tokens leave room for the events that may be kept next.
 fn is_low<S: Setup>(seat: &Seat<S>) -> bool
     ensures { IsTrue result ↔ AreTokensLow (worker_side seat.now).books }
 {
-    seat.books.tokens.total() <= MOST_TOKENS && seat.books.granted.total() <= MOST_TOKENS
+    seat.books.tokens.total() <= MAX_TOKENS && seat.books.granted.total() <= MAX_TOKENS
 }
 
 /// Whether each worker's do.

@@ -1,7 +1,7 @@
 //! What a queue's book leaves.
 ghost use Rattle.std.specs.Prelude.{◌≡◌, ◌≤◌, ◌<◌, ◌↔◌, drop, length, map, IfSome, IsSome, IsTrue, slice_index_or, slice_set};
 ghost use Rattle.std.specs.List.{AllByRecursion};
-ghost use Rattle.dmc_types.specs.Limits.{most_events};
+ghost use Rattle.dmc_types.specs.Limits.{max_events};
 ghost use Rattle.dmc_ledger.specs.Accounts.{after_closing};
 ghost use Rattle.dmc_ledger.specs.Bundles.{client_side, grant_accounts, grant_holdings};
 ghost use Rattle.dmc_book.specs.BookState.{pass_state, worker_accounts, worker_holdings, worker_side, no_desk, no_worker};
@@ -29,7 +29,7 @@ pub struct GrantsHeld {
     pub priority: u64,
 }
 
-/// What a queue's book leaves: what the queue answered since events were last released, how many requests were queued, the
+/// What a queue's book leaves: the events recorded since the last release, how many requests were queued, the
 /// workers, and the desks.
 #[derive(Drop)]
 pub struct Settled<T: Tag, S: Setup> {
@@ -197,7 +197,7 @@ pub(crate) fn take_passes<S: Setup>(
 }
 
 impl<T: Tag, S: Setup> Accounts<T, S> {
-    /// Gathers the passes, which are their own, and takes all out: with them go so many requests that are left in the queue.
+    /// Gathers the passes, which are their own, and takes all out, beside the number of requests left in the queue.
     pub(crate) fn settle(
         &mut self,
         alloc: Global,
@@ -207,7 +207,7 @@ impl<T: Tag, S: Setup> Accounts<T, S> {
         requires own { AreOwn self.old.workers self.old.desks (map pass_state passes.items) }
         ensures emptied { self.new ≡ accounts_settled self.old }
         ensures history { result.history.events ≡ drop self.old.first self.old.history }
-        ensures few { length result.history.events ≤ most_events }
+        ensures few { length result.history.events ≤ max_events }
         ensures left { result.left ≡ left }
         ensures workers { map worker_side result.workers.items ≡ map closed_worker self.old.workers }
         ensures counts { AllByRecursion (IsSettledWorker self.old.history) (map worker_side result.workers.items) }

@@ -1,11 +1,11 @@
-//! What a queue's book tells.
+//! What a queue's book reports.
 
-/// What a worker's pass holds, and how its book stands.
+/// What a worker's pass holds, and its book's numbers.
 #[derive(Clone, Copy, Debug, PartialEq, Eq)]
 pub struct Status {
-    /// The worker's calls that the queue answered.
+    /// The worker's calls that got a reply.
     pub calls: u64,
-    /// Those of them that were answered Later, Nothing or by a refusal.
+    /// Those of them whose reply was Later, Nothing or a refusal.
     pub misses: u64,
     /// The tokens of the adds that were accepted from it, summed.
     pub tokens: u64,

@@ -1,7 +1,7 @@
--- What each call of the header comes to. In each, answer is what the call answers: a value or the fault.
+-- What each call of the header does. In each, answer is what the call returns: a value or the fault.
 use Rattle.std.specs.Prelude.{◌≡◌, ℕ, ◌<◌, ◌≤◌, ⊤, List, [], ◌∷◌, ◌++◌, length, Option, Some, None, Result, Ok, Err, nat_lt, nat_le, ◌&&◌, if◌then◌else◌, slice_get}
 use Rattle.std.specs.Option.{option_map, ok_or}
-use Rattle.dmc_types.specs.Limits.{most_completions, most_servers}
+use Rattle.dmc_types.specs.Limits.{max_completions, max_servers}
 use Rattle.dmc_types.specs.Values.{Params}
 use Rattle.dmc_types.specs.declared.ids.ServerId.{ServerId}
 use Rattle.dmc_types.specs.declared.config.Counting.{Counting}
@@ -15,14 +15,14 @@ use Rattle.dmc_tracker.specs.declared.event.TrackerEvent.{TrackerEvent}
 use Rattle.dmc_tracker.specs.declared.event.TrackerEvent.TheVariants.{Stamp, Skip, Response}
 use Rattle.dmc_tracker.specs.declared.tracker.TrackFault.TheVariants as tracks
 use Rattle.dmc_tracker.specs.TrackerList.{demanded}
-use Rattle.dmc_tracker.specs.Numbers.{Numbers, new_numbers, next_params, after_stamp, after_skip, after_response, IsFullAt, Stands}
+use Rattle.dmc_tracker.specs.Numbers.{Numbers, new_numbers, next_params, after_stamp, after_skip, after_response, IsFullAt, RepresentsEvents}
 use Rattle.dmc_c.specs.declared.fault.Fault.{Fault}
 use Rattle.dmc_c.specs.declared.fault.Fault.TheVariants as faults
 use Rattle.dmc_c.specs.declared.kept.Kept.{Kept}
 use Rattle.dmc_c.specs.declared.kept.Kept.TheVariants.{Queue, Tracker}
-use Rattle.dmc_c.specs.declared.telling.DmcTrack.{DmcTrack}
+use Rattle.dmc_c.specs.declared.outputs.DmcTrack.{DmcTrack}
 use Rattle.dmc_c.specs.Reading.{tag_kind, config_of, counting}
-use Rattle.dmc_c.specs.Telling.{track_of}
+use Rattle.dmc_c.specs.Outputs.{track_of}
 
 -- ---- what is held
 
@@ -46,8 +46,8 @@ AtTracker Call (Queue old) new answer = (answer ≡ Err faults.NoneHeld) × (new
 
 -- ---- queues
 
--- A value out of its limits changes nothing. Else the command is the one call of the queue: a step of the rules, or want
--- of memory.
+-- A value out of its limits changes nothing. Else the command is the one call of the queue: a step of the rules, or a
+-- failed allocation.
 abbrev pub Asks : Result Command Fault → AnyState → AnyState → Result (Reply Fraction) Fault → Type 0
 Asks (Err fault) old new answer = (answer ≡ Err fault) × (new ≡ old)
 Asks (Ok command) old new (Ok reply) = AnySteps old new command (Some reply)
@@ -75,7 +75,7 @@ pub record IsStamped (s : ServerId) (old new : Numbers) (params : Params) : Type
   pub not_full : IsFullAt old s → ⊥
   pub carries : params ≡ next_params old s
   pub after : new ≡ after_stamp s old
-  pub stands : (events : List TrackerEvent) → Stands old events → (params ≡ demanded old.counting s events) × Stands new (events ++ Stamp s params ∷ [])
+  pub represents : (events : List TrackerEvent) → RepresentsEvents old events → (params ≡ demanded old.counting s events) × RepresentsEvents new (events ++ Stamp s params ∷ [])
 
 abbrev pub Stamps : ServerId → Numbers → Numbers → Result Params Fault → Type 0
 Stamps s old new (Ok params) = IsStamped s old new params
@@ -87,7 +87,7 @@ Stamps s old new (Err fault) = ⊥
 pub record IsSkipped (s : ServerId) (old new : Numbers) : Type 0 where
   pub within : s.0 < length old.servers
   pub after : new ≡ after_skip s old
-  pub stands : (events : List TrackerEvent) → Stands old events → Stands new (events ++ Skip s ∷ [])
+  pub represents : (events : List TrackerEvent) → RepresentsEvents old events → RepresentsEvents new (events ++ Skip s ∷ [])
 
 abbrev pub Skips : ServerId → Numbers → Numbers → Result ⊤ Fault → Type 0
 Skips s old new (Ok done) = IsSkipped s old new
@@ -99,7 +99,7 @@ pub record IsCounted (s : ServerId) (phase : PhaseType) (old new : Numbers) : Ty
   pub within : s.0 < length old.servers
   pub not_full : old.completions.delta ≡ old.most → ⊥
   pub after : new ≡ after_response s phase old
-  pub stands : (events : List TrackerEvent) → Stands old events → Stands new (events ++ Response s phase ∷ [])
+  pub represents : (events : List TrackerEvent) → RepresentsEvents old events → RepresentsEvents new (events ++ Response s phase ∷ [])
 
 -- A number that names no phase changes nothing. Else it is the one call of the tracker.
 abbrev pub Responds : ServerId → Result PhaseType Fault → Numbers → Numbers → Result ⊤ Fault → Type 0
@@ -119,7 +119,7 @@ SkipsHeld s = AtHandle (AtTracker (Skips s))
 abbrev pub RespondsHeld : ServerId → Result PhaseType Fault → Option Kept → Option Kept → Result ⊤ Fault → Type 0
 RespondsHeld s phase = AtHandle (AtTracker (Responds s phase))
 
--- what a tracker tells of a server
+-- what a tracker reports of a server
 abbrev pub track_at : ServerId → Kept → Result DmcTrack Fault
 track_at s (Queue queue) = Err faults.NoneHeld
 track_at s (Tracker tracker) = ok_or (option_map (track_of tracker) (slice_get tracker.servers s.0)) (faults.Track tracks.NoServer)
@@ -140,12 +140,12 @@ new_queue tags hz idle_age erase_age limit = do
 -- the numbers of a tracker's empty list
 unfoldable pub tracker_of : Counting → (servers most : ℕ) → Result Numbers Fault
 tracker_of form servers most =
-    if nat_lt 0 servers && nat_le servers most_servers && nat_lt 0 most && nat_le most most_completions then Ok (new_numbers form most servers) else Err faults.Limit
+    if nat_lt 0 servers && nat_le servers max_servers && nat_lt 0 most && nat_le most max_completions then Ok (new_numbers form most servers) else Err faults.Limit
 
 abbrev pub new_tracker : (servers most form : ℕ) → Result Numbers Fault
 new_tracker servers most form = counting form >>= λ count. tracker_of count servers most
 
--- what is made, if its values are within their limits, or want of memory
+-- what is made, if its values are within their limits, or a failed allocation
 abbrev pub Makes : {X : Type 0} → Result X Fault → Result X Fault → Type 0
 Makes (Err fault) answer = answer ≡ Err fault
 Makes (Ok x) (Ok made) = made ≡ x

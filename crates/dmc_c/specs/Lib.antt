@@ -4,7 +4,7 @@ pub mod Codes
 -- What numbers from C mean. The values are checked in the order moment, params, rate.
 pub mod Reading
 -- What C reads of a reply. A call that is not DMC_OK writes nothing.
-pub mod Telling
+pub mod Outputs
 -- What a handle owns: the box behind its pointer, where it holds something.
 pub mod Ownership
 -- The effect of each call of the header, by its result: a value or the fault.

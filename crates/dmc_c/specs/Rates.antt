@@ -1,6 +1,6 @@
 -- What each call of the header on rates and clocks returns: a number, or the fault.
 use Rattle.std.specs.Prelude.{◌≡◌, ℕ, ◌+◌, ◌*◌, ◌^◌, ◌<◌, ◌≤◌, ◌⊎◌, ◌&&◌, nat_lt, nat_le, if◌then◌else◌, Result, Ok, Err}
-use Rattle.dmc_types.specs.Limits.{greatest_hz, greatest_moment}
+use Rattle.dmc_types.specs.Limits.{max_hz, max_moment}
 use Rattle.dmc_types.specs.Clock.{IsHz, IsLeastNanos, ticks_after}
 use Rattle.dmc_types.specs.Rates.{IsGreatestAtMost, IsLeastAtLeast}
 use Rattle.dmc_c.specs.declared.fault.Fault.{Fault}
@@ -9,7 +9,7 @@ use Rattle.dmc_types.specs.declared.refusal.ValueFault.TheVariants as values
 
 -- the ticks a second that a number names
 abbrev pub hz_of : ℕ → Result ℕ Fault
-hz_of hz = if nat_lt 0 hz && nat_le hz greatest_hz then Ok hz else Err (Value values.Config)
+hz_of hz = if nat_lt 0 hz && nat_le hz max_hz then Ok hz else Err (Value values.Config)
 
 -- a 128-bit number from its two halves
 abbrev pub from_halves : ℕ → ℕ → ℕ
@@ -30,7 +30,7 @@ FindsAtLeast hz rate (Err fault) = ⊥
 abbrev pub ReadsClock : ℕ → ℕ → Result ℕ Fault → Type 0
 ReadsClock hz nanos (Ok moment) = IsHz hz × (moment ≡ ticks_after hz nanos)
 ReadsClock hz nanos (Err (Value values.Config)) = IsHz hz → ⊥
-ReadsClock hz nanos (Err (Value values.Moment)) = IsHz hz × (greatest_moment < ticks_after hz nanos)
+ReadsClock hz nanos (Err (Value values.Moment)) = IsHz hz × (max_moment < ticks_after hz nanos)
 ReadsClock hz nanos (Err fault) = ⊥
 
 -- no number of nanoseconds that fits 64 bits is enough
@@ -45,7 +45,7 @@ WaitsFor hz ticks (Err fault) = ⊥
 
 -- the same of a moment, which has to be one
 abbrev pub WaitsForMoment : ℕ → ℕ → Result ℕ Fault → Type 0
-WaitsForMoment hz moment (Ok nanos) = (moment ≤ greatest_moment) × WaitsFor hz moment (Ok nanos)
+WaitsForMoment hz moment (Ok nanos) = (moment ≤ max_moment) × WaitsFor hz moment (Ok nanos)
 WaitsForMoment hz moment (Err (Value values.Config)) = IsHz hz → ⊥
-WaitsForMoment hz moment (Err (Value values.Moment)) = IsHz hz × ((greatest_moment < moment) ⊎ NoneFits hz moment)
+WaitsForMoment hz moment (Err (Value values.Moment)) = IsHz hz × ((max_moment < moment) ⊎ NoneFits hz moment)
 WaitsForMoment hz moment (Err fault) = ⊥

@@ -1,6 +1,6 @@
 -- What numbers from C say. The values are judged in the order moment, params, rate.
 use Rattle.std.specs.Prelude.{ℕ, ◌==◌, ◌&&◌, Option, Some, None, Result, Ok, Err, nat_lt, nat_le, if◌then◌else◌}
-use Rattle.dmc_types.specs.Limits.{greatest_hz, greatest_moment}
+use Rattle.dmc_types.specs.Limits.{max_hz, max_moment}
 use Rattle.dmc_types.specs.Values.{Params, Rates, Setting}
 use Rattle.dmc_types.specs.declared.ids.ClientId.{ClientId}
 use Rattle.dmc_types.specs.declared.config.AtLimit.{AtLimit}
@@ -21,7 +21,7 @@ use Rattle.dmc_c.specs.declared.fault.Fault.TheVariants.{Value, Phase}
 -- ---- values
 
 unfoldable pub moment : ℕ → Result ℕ Fault
-moment at = if nat_le at greatest_moment then Ok at else Err (Value faults.Moment)
+moment at = if nat_le at max_moment then Ok at else Err (Value faults.Moment)
 
 unfoldable pub params : ℕ → ℕ → Result Params Fault
 params delta rho = if nat_le rho delta then Ok (record { delta = delta; rho = rho }) else Err (Value faults.Params)
@@ -75,7 +75,7 @@ at_limit n = if n == 0 then Ok Wait else (if n == 1 then Ok Allow else Err (Valu
 -- the limits of a configuration
 unfoldable pub setting : (hz idle_age erase_age : ℕ) → AtLimit → Result Setting Fault
 setting hz idle_age erase_age limit =
-    if nat_lt 0 hz && nat_le hz greatest_hz && nat_lt 0 idle_age && nat_le idle_age erase_age && nat_le erase_age greatest_moment
+    if nat_lt 0 hz && nat_le hz max_hz && nat_lt 0 idle_age && nat_le idle_age erase_age && nat_le erase_age max_moment
     then Ok (record { hz = hz; idle_age = idle_age; erase_age = erase_age; at_limit = limit })
     else Err (Value faults.Config)
 

@@ -3,7 +3,7 @@ ghost use Rattle.std.specs.Prelude.{◌≡◌};
 ghost use Rattle.dmc_c.specs.Calls.{AtQueue, AtTracker, Asks, counts_of, Stamps, Skips, Responds, track_at};
 
 use crate::fault::Fault;
-use crate::telling::DmcTrack;
+use crate::outputs::DmcTrack;
 use dmc_any_queue::any_queue::AnyQueue;
 use dmc_any_queue::fraction::TagFraction;
 use dmc_tag::reply::Reply;
@@ -78,7 +78,7 @@ impl Kept {
         Ok(tracker.track_resp(server, phase)?)
     }
 
-    /// What the tracker tells of a server.
+    /// What the tracker reports of a server.
     pub fn track(&self, server: ServerId) -> Result<DmcTrack, Fault>
         ensures { result ≡ track_at server self.now }
     {

@@ -8,10 +8,10 @@ mod fault;
 mod handle;
 mod kept;
 mod loose;
+mod outputs;
 mod queue;
 mod rates;
 mod reading;
-mod telling;
 #[cfg(test)]
 mod tests;
 mod tracker;

@@ -5,18 +5,18 @@ ghost use Rattle.dmc_tag.specs.declared.reply.Reply.{Reply};
 ghost use Rattle.dmc_c.specs.declared.fault.Fault.{Fault};
 ghost use Rattle.dmc_c.specs.Codes.{code_of, reply_code};
 ghost use Rattle.dmc_c.specs.Reading.{register_command, update_command, add_command, pull_command, remove_command, clean_command};
-ghost use Rattle.dmc_c.specs.Telling.{TagsTold, pulled_told, removed_told, idled_told, erased_told, clients_told, requests_told};
+ghost use Rattle.dmc_c.specs.Outputs.{TagsWritten, pulled_written, removed_written, idled_written, erased_written, clients_written, requests_written};
 ghost use Rattle.dmc_c.specs.Calls.{AsksHeld, counts_held, new_queue, queue_opened, Opens};
 
 use crate::fault::{Fault, code_of, reply_code};
 use crate::handle::{Handle, check_vacant, fill, put, take};
 use crate::kept::Kept;
+use crate::outputs::{
+    DmcPulled, DmcTags, write_cleaned, write_counts, write_pulled, write_removed, write_tags,
+};
 use crate::reading::{
     add_command, clean_command, pull_command, queue_config, register_command, tag_kind,
     update_command,
-};
-use crate::telling::{
-    DmcPulled, DmcTags, tell_cleaned, tell_counts, tell_pulled, tell_removed, tell_tags,
 };
 use dmc_any_queue::any_queue::AnyQueue;
 use dmc_any_queue::fraction::TagFraction;
@@ -171,15 +171,15 @@ pub extern "C" fn dmc_queue_add(
 ) -> u32
     ensures { (answer : Result (Reply Fraction) Fault)
         × AsksHeld (add_command client token delta rho at) queue.old.value queue.new.value answer
-        × (result ≡ reply_code answer) × TagsTold answer tags.old tags.new }
+        × (result ≡ reply_code answer) × TagsWritten answer tags.old tags.new }
 {
     let command = add_command(client, token, delta, rho, at);
     let answer = ask(queue, command, alloc);
-    tell_tags(&answer, tags);
+    write_tags(&answer, tags);
     reply_code(&answer)
 }
 
-/// Grants the next request, or tells when one is due: `DMC_NONE_HELD`, `DMC_BAD_MOMENT`, `DMC_RANGE`.
+/// Grants the next request, or says when one is due: `DMC_NONE_HELD`, `DMC_BAD_MOMENT`, `DMC_RANGE`.
 #[unsafe(no_mangle)]
 pub extern "C" fn dmc_queue_pull(
     queue: &mut Handle,
@@ -189,10 +189,10 @@ pub extern "C" fn dmc_queue_pull(
 ) -> u32
     ensures { (answer : Result (Reply Fraction) Fault)
         × AsksHeld (pull_command at) queue.old.value queue.new.value answer
-        × (result ≡ reply_code answer) × (pulled.new ≡ pulled_told answer pulled.old) }
+        × (result ≡ reply_code answer) × (pulled.new ≡ pulled_written answer pulled.old) }
 {
     let answer = ask(queue, pull_command(at), alloc);
-    tell_pulled(&answer, pulled);
+    write_pulled(&answer, pulled);
     reply_code(&answer)
 }
 
@@ -206,11 +206,11 @@ pub extern "C" fn dmc_queue_remove(
 ) -> u32
     ensures { (answer : Result (Reply Fraction) Fault)
         × AsksHeld (remove_command client) queue.old.value queue.new.value answer
-        × (result ≡ reply_code answer) × (removed.new ≡ removed_told answer removed.old) }
+        × (result ≡ reply_code answer) × (removed.new ≡ removed_written answer removed.old) }
 {
     let client = ClientId(client);
     let answer = ask(queue, Ok(Command::Remove { client }), alloc);
-    tell_removed(&answer, removed);
+    write_removed(&answer, removed);
     reply_code(&answer)
 }
 
@@ -227,10 +227,10 @@ pub extern "C" fn dmc_queue_clean(
     ensures { (answer : Result (Reply Fraction) Fault)
         × AsksHeld (clean_command at) queue.old.value queue.new.value answer
         × (result ≡ reply_code answer)
-        × (idled.new ≡ idled_told answer idled.old) × (erased.new ≡ erased_told answer erased.old) }
+        × (idled.new ≡ idled_written answer idled.old) × (erased.new ≡ erased_written answer erased.old) }
 {
     let answer = ask(queue, clean_command(at), alloc);
-    tell_cleaned(&answer, idled, erased);
+    write_cleaned(&answer, idled, erased);
     reply_code(&answer)
 }
 
@@ -244,10 +244,10 @@ pub extern "C" fn dmc_queue_counts(
 ) -> u32
     ensures code { result ≡ code_of (counts_held queue.old.value) }
     ensures same { queue.new.value ≡ queue.old.value }
-    ensures clients { clients.new ≡ clients_told (counts_held queue.old.value) clients.old }
-    ensures requests { requests.new ≡ requests_told (counts_held queue.old.value) requests.old }
+    ensures clients { clients.new ≡ clients_written (counts_held queue.old.value) clients.old }
+    ensures requests { requests.new ≡ requests_written (counts_held queue.old.value) requests.old }
 {
     let counts = count(queue, alloc);
-    tell_counts(&counts, clients, requests);
+    write_counts(&counts, clients, requests);
     code_of(&counts)
 }

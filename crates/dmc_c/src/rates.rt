@@ -2,13 +2,13 @@
 ghost use Rattle.std.specs.Prelude.{◌≡◌, ℕ, Result};
 ghost use Rattle.dmc_c.specs.Codes.{code_of};
 ghost use Rattle.dmc_c.specs.Rates.{FindsAtLeast, FindsAtMost, ReadsClock, WaitsFor, WaitsForMoment, from_halves, hz_of};
-ghost use Rattle.dmc_c.specs.Telling.{value_or_old};
+ghost use Rattle.dmc_c.specs.Outputs.{value_or_old};
 ghost use Rattle.dmc_c.specs.declared.fault.Fault.{Fault};
 
 use crate::fault::{Fault, code_of};
-use crate::telling::tell;
+use crate::outputs::write_value;
 use dmc_types::clock::nanos_until;
-use dmc_types::limits::GREATEST_HZ;
+use dmc_types::limits::MAX_HZ;
 use dmc_types::moment::Moment;
 use dmc_types::rates::{rate_at_least, rate_at_most};
 use dmc_types::refusal::ValueFault;
@@ -17,7 +17,7 @@ use dmc_types::refusal::ValueFault;
 fn checked_hz(hz: u64) -> Result<u32, Fault>
     ensures { result ≡ hz_of hz }
 {
-    if hz == 0 || hz > GREATEST_HZ {
+    if hz == 0 || hz > MAX_HZ {
         return Err(Fault::Value(ValueFault::Config));
     }
     Ok(hz as u32)
@@ -69,7 +69,7 @@ pub extern "C" fn dmc_rate_at_most(hz: u64, rate: u32, found: &mut u32) -> u32
         × (found.new ≡ value_or_old answer found.old) }
 {
     let answer = find_at_most(hz, rate);
-    tell(&answer, found);
+    write_value(&answer, found);
     code_of(&answer)
 }
 
@@ -80,7 +80,7 @@ pub extern "C" fn dmc_rate_at_least(hz: u64, rate: u32, found: &mut u32) -> u32
         × (found.new ≡ value_or_old answer found.old) }
 {
     let answer = find_at_least(hz, rate);
-    tell(&answer, found);
+    write_value(&answer, found);
     code_of(&answer)
 }
 
@@ -91,7 +91,7 @@ pub extern "C" fn dmc_moment_from_nanos(hz: u64, nanos: u64, moment: &mut u64) -
         × (moment.new ≡ value_or_old answer moment.old) }
 {
     let answer = read_clock(hz, nanos);
-    tell(&answer, moment);
+    write_value(&answer, moment);
     code_of(&answer)
 }
 
@@ -102,7 +102,7 @@ pub extern "C" fn dmc_nanos_from_moment(hz: u64, moment: u64, nanos: &mut u64) -
         × (nanos.new ≡ value_or_old answer nanos.old) }
 {
     let answer = wait_for_moment(hz, moment);
-    tell(&answer, nanos);
+    write_value(&answer, nanos);
     code_of(&answer)
 }
 
@@ -114,6 +114,6 @@ pub extern "C" fn dmc_nanos_from_due(hz: u64, due_low: u64, due_high: u64, nanos
 {
     let due = (u128::from(due_high) << 64) + u128::from(due_low);
     let answer = wait_for(hz, due);
-    tell(&answer, nanos);
+    write_value(&answer, nanos);
     code_of(&answer)
 }

@@ -5,14 +5,14 @@ ghost use Rattle.dmc_types.specs.declared.ids.ServerId.{ServerId};
 ghost use Rattle.dmc_c.specs.declared.fault.Fault.{Fault};
 ghost use Rattle.dmc_c.specs.Codes.{code_of};
 ghost use Rattle.dmc_c.specs.Reading as reading;
-ghost use Rattle.dmc_c.specs.Telling.{value_or_old, stamp_told};
+ghost use Rattle.dmc_c.specs.Outputs.{value_or_old, stamp_written};
 ghost use Rattle.dmc_c.specs.Calls.{StampsHeld, SkipsHeld, RespondsHeld, track_held, new_tracker, Makes, tracker_opened, Opens};
 
 use crate::fault::{Fault, code_of};
 use crate::handle::{Handle, check_vacant, fill, put, take};
 use crate::kept::Kept;
+use crate::outputs::{DmcStamp, DmcTrack, write_stamp, write_value};
 use crate::reading;
-use crate::telling::{DmcStamp, DmcTrack, tell, tell_stamp};
 use dmc_tracker::tracker::ServiceTracker;
 use dmc_types::config::PhaseType;
 use dmc_types::ids::ServerId;
@@ -84,7 +84,7 @@ fn respond(
     answer
 }
 
-/// What the tracker that is held tells of a server.
+/// What the tracker in the handle reports of a server.
 fn track(tracker: &mut Handle, server: ServerId, alloc: Global) -> Result<DmcTrack, Fault>
     ensures value { result ≡ track_held server tracker.old.value }
     ensures same { tracker.new.value ≡ tracker.old.value }
@@ -134,10 +134,10 @@ pub extern "C" fn dmc_tracker_stamp(
 ) -> u32
     ensures { (answer : Result Params Fault)
         × StampsHeld (record { 0 = server }) tracker.old.value tracker.new.value answer
-        × (result ≡ code_of answer) × (params.new ≡ stamp_told answer params.old) }
+        × (result ≡ code_of answer) × (params.new ≡ stamp_written answer params.old) }
 {
     let answer = stamp(tracker, ServerId(server), alloc);
-    tell_stamp(&answer, params);
+    write_stamp(&answer, params);
     code_of(&answer)
 }
 
@@ -153,7 +153,7 @@ pub extern "C" fn dmc_tracker_skip(tracker: &mut Handle, server: u32, alloc: Glo
     code_of(&answer)
 }
 
-/// Counts a completion: a server answered a request that it granted in a phase. `DMC_NONE_HELD`, `DMC_BAD_PHASE`,
+/// Counts a completion: a server completed a request that it granted in a phase. `DMC_NONE_HELD`, `DMC_BAD_PHASE`,
 /// `DMC_NO_SERVER`, `DMC_TRACK_FULL`.
 #[unsafe(no_mangle)]
 pub extern "C" fn dmc_tracker_respond(
@@ -183,6 +183,6 @@ pub extern "C" fn dmc_tracker_status(
     ensures written { status.new ≡ value_or_old (track_held (record { 0 = server }) tracker.old.value) status.old }
 {
     let answer = track(tracker, ServerId(server), alloc);
-    tell(&answer, status);
+    write_value(&answer, status);
     code_of(&answer)
 }

@@ -12,7 +12,7 @@ use Rattle.dmc_text.specs.declared.cause.LineCause.TheVariants.{Hz}
 use Rattle.dmc_text.specs.declared.script.ScriptFault.{ScriptFault}
 use Rattle.dmc_text.specs.declared.script.ScriptFault.TheVariants as faults
 use Rattle.dmc_text.specs.declared.walk.Walk.{Walk}
-use Rattle.dmc_text.specs.Reading.{most_bytes}
+use Rattle.dmc_text.specs.Reading.{max_bytes}
 use Rattle.dmc_text.specs.Walks.{GoesThrough, IsFault, Ending, Halt, EndsAs}
 use Rattle.dmc_text.proofs.RunEnds.{of_text, of_read}
 use Rattle.dmc_check.specs.declared.check.Verdict.{Verdict}
@@ -23,7 +23,7 @@ use Rattle.dmc_check.specs.declared.text.Checked.{Checked}
 use Rattle.dmc_check.specs.EventLines.{event_of}
 use Rattle.dmc_check.specs.EventTexts.{Recorded, with_line, or_fault, with_lines, record_of, verdict_text, HasVerdict, ChecksAs}
 use Rattle.dmc_check.specs.Checking.{Holds, Follows, IsChecked, WritesVerdict}
-use Rattle.dmc_check.specs.Verdicts.{Stands, IsVerdict}
+use Rattle.dmc_check.specs.Verdicts.{RepresentsEvents, IsVerdict}
 use Rattle.dmc_check.proofs.VerdictLemmas.{verdict_by}
 
 -- what nothing is written to is kept
@@ -45,14 +45,14 @@ module _ {T : Type 0} (ops : Tagging T) (made : ℤ → ℕ → Option T) where
   -- ---- events
 
   told_holds : (recorded : Option (Recorded T)) (old new : Replay T) (event : Event T)
-      → ((config : Setting) (events : List (Event T)) → Stands ops config events old → Stands ops config (events ++ event ∷ []) new)
+      → ((config : Setting) (events : List (Event T)) → RepresentsEvents ops config events old → RepresentsEvents ops config (events ++ event ∷ []) new)
       → Holds ops recorded (Some old) → Holds ops (with_line recorded (event_lines.Event event)) (Some new)
   told_holds None old new event f h = absurd h
   told_holds (Some r) old new event f h = f r.config r.events h
 
   -- an event is replayed
   pub told_on : {X E : Type 0} (result : Result X E) (old new : Replay T) (event : Event T)
-      → ((config : Setting) (events : List (Event T)) → Stands ops config events old → OnOk result (Stands ops config (events ++ event ∷ []) new))
+      → ((config : Setting) (events : List (Event T)) → RepresentsEvents ops config events old → OnOk result (RepresentsEvents ops config (events ++ event ∷ []) new))
       → OnOk result ((recorded : Option (Recorded T)) → Holds ops recorded (Some old) → Holds ops (with_line recorded (event_lines.Event event)) (Some new))
   told_on (Ok x) old new event f = λ recorded h. told_holds recorded old new event f h
   told_on (Err e) old new event f = tt
@@ -130,7 +130,7 @@ module _ {T : Type 0} (ops : Tagging T) (made : ℤ → ℕ → Option T) where
 
   -- ---- the verdict
 
-  verdict_in : (text : List ℕ) (replay : Option (Replay T)) (recorded : Recorded T) (checked : Checked) → record_of made text ≡ Ok recorded → length text ≤ most_bytes
+  verdict_in : (text : List ℕ) (replay : Option (Replay T)) (recorded : Recorded T) (checked : Checked) → record_of made text ≡ Ok recorded → length text ≤ max_bytes
       → Holds ops (Some recorded) replay
       → IsChecked replay checked → HasVerdict ops made text checked.verdict checked.events
   verdict_in text None recorded checked e within h is = absurd h
@@ -142,7 +142,7 @@ module _ {T : Type 0} (ops : Tagging T) (made : ℤ → ℕ → Option T) where
     counts = is.1 ∙ h.count;
   }
 
-  has_verdict : (text : List ℕ) (t : Checking T) (found : Result (Recorded T) (ℕ × LineCause)) (checked : Checked) → record_of made text ≡ found → length text ≤ most_bytes → Found None t found
+  has_verdict : (text : List ℕ) (t : Checking T) (found : Result (Recorded T) (ℕ × LineCause)) (checked : Checked) → record_of made text ≡ found → length text ≤ max_bytes → Found None t found
       → IsChecked t.replay checked → HasVerdict ops made text checked.verdict checked.events
   has_verdict text t (Err fault) checked e within h is = absurd h
   has_verdict text t (Ok recorded) checked e within h is = verdict_in text t.replay recorded checked e within h is

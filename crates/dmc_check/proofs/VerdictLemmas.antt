@@ -5,14 +5,14 @@ use Rattle.std.proofs.lemmas.List.{take-append-le, take_all, take_more}
 use Rattle.std.proofs.lemmas.Option.{slice_get_within, get_or_from_slice_get}
 use Rattle.dmc_types.specs.Values.{Setting}
 use Rattle.dmc_tag.specs.Tag.{Tagging}
-use Rattle.dmc_tag.specs.State.{State, StandsFor, opening}
+use Rattle.dmc_tag.specs.State.{State, Represents, opening}
 use Rattle.dmc_tag.specs.Step.{step}
 use Rattle.dmc_tag.specs.Replay.{state_after, replays_from, after, replays}
 use Rattle.dmc_tag.specs.declared.event.Event.{Event}
 use Rattle.dmc_tag.proofs.ForCallers.{after_one_more, replays_one_more}
 use Rattle.dmc_tag.proofs.Lists.{slice_get-append, slice_get-push}
 use Rattle.dmc_pull.specs.Queue.{state_of}
-use Rattle.dmc_check.specs.Verdicts.{DiffersAt, IsVerdict, verdict_of, SoFar, Stands}
+use Rattle.dmc_check.specs.Verdicts.{DiffersAt, IsVerdict, verdict_of, SoFar, RepresentsEvents}
 use Rattle.dmc_check.specs.declared.replay.Replay.{Replay}
 use Rattle.dmc_check.specs.declared.check.Verdict.{Verdict}
 use Rattle.dmc_check.specs.declared.check.Verdict.TheVariants.{Replays, Differs}
@@ -69,28 +69,28 @@ module _ {T : Type 0} (ops : Tagging T) where
   -- ---- the replayer
 
   -- a queue that still represents the state
-  so_far_kept : (config : Setting) (events : List (Event T)) (s new : State T) (difference : Option ℕ) → ((u : State T) → StandsFor s u → StandsFor new u)
+  so_far_kept : (config : Setting) (events : List (Event T)) (s new : State T) (difference : Option ℕ) → ((u : State T) → Represents s u → Represents new u)
       → SoFar ops config events s difference → SoFar ops config events new difference
   so_far_kept config events s new None k h = (h.0, k (after ops config events) h.1)
   so_far_kept config events s new (Some i) k h = h
 
-  pub stands_kept : (config : Setting) (events : List (Event T)) (old new : Replay T) → new.events ≡ old.events → new.difference ≡ old.difference
-      → ((u : State T) → StandsFor (state_of old.queue) u → StandsFor (state_of new.queue) u) → Stands ops config events old → Stands ops config events new
-  stands_kept config events old new count same k h = record {
+  pub represents_kept : (config : Setting) (events : List (Event T)) (old new : Replay T) → new.events ≡ old.events → new.difference ≡ old.difference
+      → ((u : State T) → Represents (state_of old.queue) u → Represents (state_of new.queue) u) → RepresentsEvents ops config events old → RepresentsEvents ops config events new
+  represents_kept config events old new count same k h = record {
     count = count ∙ h.count;
     so_far = subst (SoFar ops config events (state_of new.queue)) (sym same) (so_far_kept config events (state_of old.queue) (state_of new.queue) old.difference k h.so_far);
   }
 
   -- what replays has no difference, and the queue represents the state after it
-  pub no_difference_yet : (config : Setting) (events : List (Event T)) (replay : Replay T) → Stands ops config events replay → (replay.difference ≡ None) ↔ replays ops config events
+  pub no_difference_yet : (config : Setting) (events : List (Event T)) (replay : Replay T) → RepresentsEvents ops config events replay → (replay.difference ≡ None) ↔ replays ops config events
   no_difference_yet config events replay h = by replay.difference h.so_far
     where
       by : (difference : Option ℕ) → SoFar ops config events (state_of replay.queue) difference → (difference ≡ None) ↔ replays ops config events
       by None k = (λ e. k.0, λ r. refl)
       by (Some i) k = (λ e. absurd (cc), λ r. absurd (no_difference config events i k r))
 
-  pub queue_stands : (config : Setting) (events : List (Event T)) (replay : Replay T) → Stands ops config events replay → replay.difference ≡ None → StandsFor (state_of replay.queue) (after ops config events)
-  queue_stands config events replay h none = (subst (SoFar ops config events (state_of replay.queue)) none h.so_far).1
+  pub queue_represents : (config : Setting) (events : List (Event T)) (replay : Replay T) → RepresentsEvents ops config events replay → replay.difference ≡ None → Represents (state_of replay.queue) (after ops config events)
+  queue_represents config events replay h none = (subst (SoFar ops config events (state_of replay.queue)) none h.so_far).1
 
   -- an event behind the first difference
   pub later_event : (config : Setting) (events : List (Event T)) (e : Event T) (s : State T) (difference : Option ℕ) → true ≡ is_some difference
@@ -106,15 +106,15 @@ module _ {T : Type 0} (ops : Tagging T) where
 
   -- the reply to an event is the recorded one
   pub same_event : (config : Setting) (events : List (Event T)) (e : Event T) (s new : State T) (same : Bool) → same ≡ true → SoFar ops config events s None
-      → ((u : State T) → StandsFor s u → (IsTrue same ↔ (e.reply ≡ (step ops u e.command).1)) × StandsFor new ((step ops u e.command).0))
+      → ((u : State T) → Represents s u → (IsTrue same ↔ (e.reply ≡ (step ops u e.command).1)) × Represents new ((step ops u e.command).0))
       → SoFar ops config (events ++ e ∷ []) new None
   same_event config events e s new same is h k =
       let now = k (after ops config events) h.1 in
-      (replays_one_more ops config events e h.0 (now.0.0 is), subst (StandsFor new) (sym (after_one_more ops config events e)) now.1)
+      (replays_one_more ops config events e h.0 (now.0.0 is), subst (Represents new) (sym (after_one_more ops config events e)) now.1)
 
   -- or otherwise
   pub other_event : (config : Setting) (events : List (Event T)) (e : Event T) (s new : State T) (n : ℕ) (same : Bool) → same ≡ false → n ≡ length events → SoFar ops config events s None
-      → ((u : State T) → StandsFor s u → (IsTrue same ↔ (e.reply ≡ (step ops u e.command).1)) × StandsFor new ((step ops u e.command).0))
+      → ((u : State T) → Represents s u → (IsTrue same ↔ (e.reply ≡ (step ops u e.command).1)) × Represents new ((step ops u e.command).0))
       → DiffersAt ops config (events ++ e ∷ []) n
   other_event config events e s new n same is count h k =
       let now = k (after ops config events) h.1 in
@@ -122,9 +122,9 @@ module _ {T : Type 0} (ops : Tagging T) where
       (differs_now config events e h.0 (λ recorded. let yes : same ≡ true = now.0.1 recorded in let no : false ≡ true = sym is ∙ yes in absurd (cc)))
 
   -- one more event is there
-  pub stands_more : (config : Setting) (events : List (Event T)) (e : Event T) (old new : Replay T) → Stands ops config events old → new.events ≡ suc old.events
-      → SoFar ops config (events ++ e ∷ []) (state_of new.queue) new.difference → Stands ops config (events ++ e ∷ []) new
-  stands_more config events e old new h count so_far = record {
+  pub represents_more : (config : Setting) (events : List (Event T)) (e : Event T) (old new : Replay T) → RepresentsEvents ops config events old → new.events ≡ suc old.events
+      → SoFar ops config (events ++ e ∷ []) (state_of new.queue) new.difference → RepresentsEvents ops config (events ++ e ∷ []) new
+  represents_more config events e old new h count so_far = record {
     count = count ∙ ap suc h.count ∙ sym (length-append events (e ∷ []) ∙ one_more (length events));
     so_far = so_far;
   }
@@ -133,12 +133,12 @@ module _ {T : Type 0} (ops : Tagging T) where
       one_more n = omega arith
 
   -- the next event of a list
-  pub stands_next : (config : Setting) (all : List (Event T)) (i : ℕ) (e : Event T) (replay : Replay T) → slice_get all i ≡ Some e
-      → Stands ops config (take i all ++ e ∷ []) replay → Stands ops config (take (i + 1) all) replay
-  stands_next config all i e replay at h = subst (λ es. Stands ops config es replay) (sym (taken_next all i e at)) h
+  pub represents_next : (config : Setting) (all : List (Event T)) (i : ℕ) (e : Event T) (replay : Replay T) → slice_get all i ≡ Some e
+      → RepresentsEvents ops config (take i all ++ e ∷ []) replay → RepresentsEvents ops config (take (i + 1) all) replay
+  represents_next config all i e replay at h = subst (λ es. RepresentsEvents ops config es replay) (sym (taken_next all i e at)) h
 
   -- all events of a list
-  pub verdict_is : (config : Setting) (all : List (Event T)) (i : ℕ) (replay : Replay T) → length all ≤ i → Stands ops config (take i all) replay → IsVerdict ops config all (verdict_of replay.difference)
+  pub verdict_is : (config : Setting) (all : List (Event T)) (i : ℕ) (replay : Replay T) → length all ≤ i → RepresentsEvents ops config (take i all) replay → IsVerdict ops config all (verdict_of replay.difference)
   verdict_is config all i replay past h =
       let whole : take i all ≡ all = take_all i all past in
       subst (λ es. IsVerdict ops config es (verdict_of replay.difference)) whole (verdict_by config (take i all) (state_of replay.queue) replay.difference h.so_far)

@@ -2,7 +2,7 @@
 use Rattle.std.specs.Prelude.{◌≡◌, ℕ, ℤ, Bool, true, ◌<◌, length, List, [], Option, Some, None, is_some, Result, Ok, Err, ⊤}
 use Rattle.std.proofs.Common.{ap}
 use Rattle.std.specs.Io.KnownBytes.{Appends, Keeps}
-use Rattle.dmc_types.specs.Limits.{most_line_bytes}
+use Rattle.dmc_types.specs.Limits.{max_line_bytes}
 use Rattle.dmc_tag.specs.Tag.{Tagging}
 use Rattle.dmc_text.specs.declared.cause.LineCause.TheVariants.{Bytes}
 use Rattle.dmc_text.specs.declared.script.ScriptFault.{ScriptFault}
@@ -19,14 +19,14 @@ use Rattle.dmc_check.specs.declared.replay.Replay.{Replay}
 use Rattle.dmc_check.specs.declared.text.Checked.{Checked}
 use Rattle.dmc_check.specs.EventLines.{event_of, event_line_of_kind}
 use Rattle.dmc_check.specs.EventTexts.{Recorded, with_line, verdict_text}
-use Rattle.dmc_check.specs.Verdicts.{Stands, verdict_of}
+use Rattle.dmc_check.specs.Verdicts.{RepresentsEvents, verdict_of}
 
 -- the replay is that of the lines up to now
 abbrev pub Holds : {T : Type 0} → Tagging T → Option (Recorded T) → Option (Replay T) → Type 0
 Holds ops None None = ⊤
 Holds ops None (Some replay) = ⊥
 Holds ops (Some r) None = ⊥
-Holds ops (Some r) (Some replay) = Stands ops r.config r.events replay
+Holds ops (Some r) (Some replay) = RepresentsEvents ops r.config r.events replay
 
 -- a line is taken in: its meaning, and that the replay includes it; nothing is to be written for it
 pub record Follows {T : Type 0} (ops : Tagging T) (made : ℤ → ℕ → Option T) (old : Option (Replay T)) (bytes answer : List ℕ) (new : Option (Replay T)) : Type 0 where
@@ -36,7 +36,7 @@ pub record Follows {T : Type 0} (ops : Tagging T) (made : ℤ → ℕ → Option
   pub silent : answer ≡ []
 
 -- a line that is too long is faulty
-pub long_event : {T : Type 0} (made : ℤ → ℕ → Option T) (headed : Bool) (line : List ℕ) → most_line_bytes < length line → event_of made headed line ≡ Err Bytes
+pub long_event : {T : Type 0} (made : ℤ → ℕ → Option T) (headed : Bool) (line : List ℕ) → max_line_bytes < length line → event_of made headed line ≡ Err Bytes
 long_event made headed line h = ap (λ k. k >>= λ x. event_line_of_kind made x (words line)) (long_kind headed line h)
 
 -- the result of a replay

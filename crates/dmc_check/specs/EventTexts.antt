@@ -11,7 +11,7 @@ use Rattle.dmc_text.specs.declared.cause.LineCause.{LineCause}
 use Rattle.dmc_text.specs.declared.cause.LineCause.TheVariants.{Hz}
 use Rattle.dmc_text.specs.declared.script.ScriptFault.{ScriptFault}
 use Rattle.dmc_text.specs.declared.script.ScriptFault.TheVariants as faults
-use Rattle.dmc_text.specs.Reading.{most_bytes}
+use Rattle.dmc_text.specs.Reading.{max_bytes}
 use Rattle.dmc_text.specs.Texts.{lines_of, with_line_end, AppendsSome, ReadsWithin}
 use Rattle.dmc_check.specs.declared.check.Verdict.{Verdict}
 use Rattle.dmc_check.specs.declared.check.Verdict.TheVariants.{Replays, Differs}
@@ -61,7 +61,7 @@ verdict_text (Differs i) n = with_line_end (join_with_byte 32 (codes "differs" �
 -- A text has at most as many bytes as a text may have and no faulty line, and this is the verdict on its events, of which there
 -- are this many.
 pub record HasVerdict {T : Type 0} (ops : Tagging T) (made : ℤ → ℕ → Option T) (text : List ℕ) (verdict : Verdict) (count : ℕ) : Type 0 where
-  pub within : length text ≤ most_bytes
+  pub within : length text ≤ max_bytes
   pub recorded : Recorded T
   pub says : record_of made text ≡ Ok recorded
   pub is_verdict : IsVerdict ops recorded.config recorded.events verdict
@@ -74,8 +74,8 @@ pub record HasVerdict {T : Type 0} (ops : Tagging T) (made : ℤ → ℕ → Opt
 abbrev pub ChecksAs : {T : Type 0} → Tagging T → (ℤ → ℕ → Option T) → (before after old new : Option (List ℕ)) → Result Verdict ScriptFault → Type 0
 ChecksAs ops made before after old new (Ok verdict) = IsAtEnd after × IfSome before (λ text. (count : ℕ) × HasVerdict ops made text verdict count × Appends old new (verdict_text verdict count))
 ChecksAs ops made before after old new (Err (faults.Line n cause)) =
-    ((read : List ℕ) × ReadsWithin most_bytes before after read × (record_of made read ≡ Err (n, cause)))
+    ((read : List ℕ) × ReadsWithin max_bytes before after read × (record_of made read ≡ Err (n, cause)))
     × IfSome before (λ text. record_of made text ≡ Err (n, cause)) × Keeps old new
 ChecksAs ops made before after old new (Err faults.Write) = IsAtEnd after × IfSome before (λ text. (verdict : Verdict) × (count : ℕ) × HasVerdict ops made text verdict count × AppendsSome old new (verdict_text verdict count))
-ChecksAs ops made before after old new (Err faults.Read) = ((read : List ℕ) × ReadsWithin (suc most_bytes) before after read) × Keeps old new
-ChecksAs ops made before after old new (Err faults.Memory) = ((read : List ℕ) × ReadsWithin most_bytes before after read) × Keeps old new
+ChecksAs ops made before after old new (Err faults.Read) = ((read : List ℕ) × ReadsWithin (suc max_bytes) before after read) × Keeps old new
+ChecksAs ops made before after old new (Err faults.Memory) = ((read : List ℕ) × ReadsWithin max_bytes before after read) × Keeps old new

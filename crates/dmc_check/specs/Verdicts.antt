@@ -2,7 +2,7 @@
 use Rattle.std.specs.Prelude.{◌≡◌, ℕ, List, length, take, Option, Some, None, slice_get}
 use Rattle.dmc_types.specs.Values.{Setting}
 use Rattle.dmc_tag.specs.Tag.{Tagging}
-use Rattle.dmc_tag.specs.State.{State, StandsFor}
+use Rattle.dmc_tag.specs.State.{State, Represents}
 use Rattle.dmc_tag.specs.Step.{step}
 use Rattle.dmc_tag.specs.Replay.{after, replays}
 use Rattle.dmc_tag.specs.declared.event.Event.{Event}
@@ -31,10 +31,10 @@ verdict_of (Some i) = Differs i
 
 -- up to the first difference the queue represents the state after the events
 abbrev pub SoFar : {T : Type 0} → Tagging T → Setting → List (Event T) → State T → Option ℕ → Type 0
-SoFar ops config events s None = replays ops config events × StandsFor s (after ops config events)
+SoFar ops config events s None = replays ops config events × Represents s (after ops config events)
 SoFar ops config events s (Some i) = DiffersAt ops config events i
 
 -- what a replay has after these events
-pub record Stands {T : Type 0} (ops : Tagging T) (config : Setting) (events : List (Event T)) (replay : Replay T) : Type 0 where
+pub record RepresentsEvents {T : Type 0} (ops : Tagging T) (config : Setting) (events : List (Event T)) (replay : Replay T) : Type 0 where
   pub count : replay.events ≡ length events
   pub so_far : SoFar ops config events (state_of replay.queue) replay.difference

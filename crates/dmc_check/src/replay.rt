@@ -1,11 +1,11 @@
 //! Events are replayed one after the other.
 ghost use Rattle.std.specs.Prelude.{◌≡◌, ◌↔◌, ◌++◌, ◌∷◌, [], List, None, OnErr, OnOk, IfOk, IfSome, IsSome, IsTrue};
 ghost use Rattle.dmc_types.specs.Values.{Setting};
-ghost use Rattle.dmc_tag.specs.State.{State, StandsFor};
+ghost use Rattle.dmc_tag.specs.State.{State, Represents};
 ghost use Rattle.dmc_tag.specs.Step.{step};
 ghost use Rattle.dmc_tag.specs.declared.event.Event.{Event};
 ghost use Rattle.dmc_pull.specs.Queue.{state_of};
-ghost use Rattle.dmc_check.specs.Verdicts.{Stands, SoFar, verdict_of};
+ghost use Rattle.dmc_check.specs.Verdicts.{RepresentsEvents, SoFar, verdict_of};
 
 use crate::check::Verdict;
 use crate::same::is_same_reply;
@@ -32,9 +32,9 @@ fn replays_next<T: Tag>(
     queue: &mut PullQueue<T, HeapIndexes>,
     event: &Event<T>,
 ) -> Result<bool, AllocError>
-    ensures replayed { (s : State T) → StandsFor (state_of queue.old) s → IfOk result (λ same.
-        (IsTrue same ↔ (event.now.reply ≡ (step T.ops s event.now.command).1)) × StandsFor (state_of queue.new) ((step T.ops s event.now.command).0)) }
-    ensures kept { (s : State T) → StandsFor (state_of queue.old) s → OnErr result (StandsFor (state_of queue.new) s) }
+    ensures replayed { (s : State T) → Represents (state_of queue.old) s → IfOk result (λ same.
+        (IsTrue same ↔ (event.now.reply ≡ (step T.ops s event.now.command).1)) × Represents (state_of queue.new) ((step T.ops s event.now.command).0)) }
+    ensures kept { (s : State T) → Represents (state_of queue.old) s → OnErr result (Represents (state_of queue.new) s) }
 {
     let reply = queue.apply(&event.command)?;
     Ok(is_same_reply(&event.reply, &reply))
@@ -43,7 +43,7 @@ fn replays_next<T: Tag>(
 impl<T: Tag> Replay<T> {
     /// A replay of no event yet, from the opening state.
     pub(crate) fn new(alloc: Global, config: QueueConfig) -> Replay<T>
-        ensures { Stands T.ops config [] result }
+        ensures { RepresentsEvents T.ops config [] result }
     {
         Replay {
             queue: PullQueue::new(alloc, config),
@@ -55,10 +55,10 @@ impl<T: Tag> Replay<T> {
     /// The first difference, after one more event.
     fn difference_with(&mut self, event: &Event<T>) -> Result<Option<usize>, AllocError>
         ensures so_far { (config : Setting) (events : List (Event T)) →
-            Stands T.ops config events self.old → IfOk result (λ found. SoFar T.ops config (events ++ event.now ∷ []) (state_of self.new.queue) found) }
+            RepresentsEvents T.ops config events self.old → IfOk result (λ found. SoFar T.ops config (events ++ event.now ∷ []) (state_of self.new.queue) found) }
         ensures count { self.new.events ≡ self.old.events }
         ensures kept { (config : Setting) (events : List (Event T)) →
-            Stands T.ops config events self.old → OnErr result (Stands T.ops config events self.new) }
+            RepresentsEvents T.ops config events self.old → OnErr result (RepresentsEvents T.ops config events self.new) }
     {
         if self.difference.is_some() {
             return Ok(self.difference);
@@ -73,9 +73,9 @@ impl<T: Tag> Replay<T> {
     /// nothing was replayed.
     pub(crate) fn add(&mut self, event: &Event<T>) -> Result<(), AllocError>
         ensures added { (config : Setting) (events : List (Event T)) →
-            Stands T.ops config events self.old → OnOk result (Stands T.ops config (events ++ event.now ∷ []) self.new) }
+            RepresentsEvents T.ops config events self.old → OnOk result (RepresentsEvents T.ops config (events ++ event.now ∷ []) self.new) }
         ensures kept { (config : Setting) (events : List (Event T)) →
-            Stands T.ops config events self.old → OnErr result (Stands T.ops config events self.new) }
+            RepresentsEvents T.ops config events self.old → OnErr result (RepresentsEvents T.ops config events self.new) }
     {
         let events = self.events.checked_add(1).ok_or(AllocError)?;
         self.difference = self.difference_with(event)?;

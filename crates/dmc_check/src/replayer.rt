@@ -1,7 +1,7 @@
 //! Segments of a history are replayed one after the other, in the memory of one queue.
 ghost use Rattle.std.specs.Prelude.{◌≡◌, ◌↔◌, ◌++◌, [], ◌∷◌, drop, length, IfOk, IfSome, IsErrOf, IsSome, OnErr, OnOk};
 ghost use Rattle.dmc_tag.specs.Replay.{after, replays};
-ghost use Rattle.dmc_tag.specs.State.{StandsFor};
+ghost use Rattle.dmc_tag.specs.State.{Represents};
 ghost use Rattle.dmc_pull.specs.Queue.{state_of};
 ghost use Rattle.dmc_check.specs.Replaying.{AddsPart, Refuses};
 ghost use Rattle.dmc_check.specs.Verdicts.{IsVerdict};
@@ -58,13 +58,13 @@ pub struct Replayer<T: Tag> {
 
 impl<T: Tag> Model for Replayer<T> {
     ghost use Rattle.dmc_check.specs.Replaying.{ReplayerState};
-    ghost use Rattle.dmc_check.specs.Verdicts.{Stands};
+    ghost use Rattle.dmc_check.specs.Verdicts.{RepresentsEvents};
 
     ghost Value = { ReplayerState T };
 
     ghost view = { λ r. record { config = r.config; server = r.server.0; events = r.events.items } };
 
-    ghost invariant = { λ r. Stands T.ops r.config r.events.items r.replay };
+    ghost invariant = { λ r. RepresentsEvents T.ops r.config r.events.items r.replay };
 }
 
 impl<T: Tag> Replayer<T> {
@@ -166,7 +166,7 @@ impl<T: Tag> Replayer<T> {
     /// exactly where they do not replay. So a standby takes over.
     pub fn into_queue(self) -> Option<PullQueue<T, HeapIndexes>>
         ensures some { IsSome result ↔ replays T.ops self.config self.events }
-        ensures state { IfSome result (λ queue. StandsFor (state_of queue) (after T.ops self.config self.events)) }
+        ensures state { IfSome result (λ queue. Represents (state_of queue) (after T.ops self.config self.events)) }
     {
         self.replay.into_queue()
     }

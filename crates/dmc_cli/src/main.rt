@@ -3,7 +3,7 @@
 
 use dmc_text::watched::Watched;
 use dmc_tool::fault::Fault;
-use dmc_tool::telling::tell;
+use dmc_tool::fault_line::write_fault;
 use dmc_tool::tool::run_tool;
 use std::io::ErrorKind;
 use std::process::ExitCode;
@@ -14,7 +14,7 @@ fn main(rt: HostRuntime) -> ExitCode {
     let mut fault_writer = Watched::new(rt.stderr());
     let words = match program_words(&rt) {
         Ok(words) => words,
-        Err(fault) => return ExitCode::from(tell(fault, &mut fault_writer)),
+        Err(fault) => return ExitCode::from(write_fault(fault, &mut fault_writer)),
     };
     let mut reader = Watched::new(rt.reader());
     let mut writer = Watched::new(io::writer(&rt));

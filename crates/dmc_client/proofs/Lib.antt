@@ -2,5 +2,5 @@ pub mod Order
 pub mod Records
 mod Places
 mod Behind
-pub mod Owed
+pub mod Deferred
 pub mod Whole

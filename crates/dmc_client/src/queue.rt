@@ -2,7 +2,7 @@
 ghost use Rattle.std.specs.Prelude.{◌≡◌, ◌==◌, ◌++◌, ◌∷◌, [], true, drop, length, map, slice_get, if◌then◌else◌, OnOk, OnErr, IfSome, Some};
 ghost use Rattle.std.specs.List.{list_all};
 ghost use Rattle.std.specs.Option.{option_map_or};
-ghost use Rattle.dmc_client.specs.Owed as owed_of;
+ghost use Rattle.dmc_client.specs.Deferred as deferred_of;
 ghost use Rattle.dmc_client.specs.Record as record_of;
 ghost use Rattle.dmc_tag.specs.Rules as rules_of;
 
@@ -21,19 +21,19 @@ use std::marker::Model;
 #[derive(Drop)]
 pub struct RequestQueue<T: Tag> {
     stored: StoredRequests<T>,
-    owed: Option<T>,
+    deferred: Option<T>,
 }
 
 impl<T: Tag> Model for RequestQueue<T> {
     ghost use Rattle.std.specs.Prelude.{List};
     ghost use Rattle.dmc_client.specs.declared.request.QueuedRequest.{QueuedRequest};
-    ghost use Rattle.dmc_client.specs.Owed.{all_less_owed, IsOwed};
+    ghost use Rattle.dmc_client.specs.Deferred.{all_less_deferred, IsDeferred};
 
     ghost Value = { List (QueuedRequest T) };
 
-    ghost view = { λ q. all_less_owed T.ops q.owed q.stored };
+    ghost view = { λ q. all_less_deferred T.ops q.deferred q.stored };
 
-    ghost invariant = { λ q. IsOwed T.ops q.owed q.stored };
+    ghost invariant = { λ q. IsDeferred T.ops q.deferred q.stored };
 }
 
 impl<T: Tag> RequestQueue<T> {
@@ -43,7 +43,7 @@ impl<T: Tag> RequestQueue<T> {
     {
         RequestQueue {
             stored: StoredRequests::new(alloc),
-            owed: None,
+            deferred: None,
         }
     }
 
@@ -52,11 +52,11 @@ impl<T: Tag> RequestQueue<T> {
         ensures ok { OnOk result (self.new ≡ self.old ++ request ∷ []) }
         ensures err { OnErr result (self.new ≡ self.old) }
     {
-        if let Some(stored) = with_owed(request, self.owed) {
+        if let Some(stored) = with_deferred(request, self.deferred) {
             return self.stored.push(stored);
         }
-        settle(&mut self.stored, self.owed);
-        self.owed = None;
+        settle(&mut self.stored, self.deferred);
+        self.deferred = None;
         self.stored.push(request)
     }
 
@@ -66,7 +66,7 @@ impl<T: Tag> RequestQueue<T> {
     {
         match self.stored.get(0) {
             None => None,
-            Some(first) => Some(less_owed(first, self.owed)),
+            Some(first) => Some(less_deferred(first, self.deferred)),
         }
     }
 
@@ -75,12 +75,12 @@ impl<T: Tag> RequestQueue<T> {
         ensures value { result ≡ slice_get self.old 0 }
         ensures rest { self.new ≡ drop 1 self.old }
     {
-        let owed = self.owed;
+        let deferred = self.deferred;
         let first = self.stored.pop()?;
         if self.stored.is_empty() {
-            self.owed = None;
+            self.deferred = None;
         }
-        Some(less_owed(first, owed))
+        Some(less_deferred(first, deferred))
     }
 
     /// Removes all requests.
@@ -88,7 +88,7 @@ impl<T: Tag> RequestQueue<T> {
         ensures { self.new ≡ [] }
     {
         self.stored.clear();
-        self.owed = None;
+        self.deferred = None;
     }
 
     /// The number of queued requests.
@@ -114,19 +114,19 @@ impl<T: Tag> RequestQueue<T> {
 
     /// Whether the second request's R less the amount is a value.
     pub fn second_has_less(&self, amount: T) -> bool
-        ensures { result ≡ option_map_or (owed_of.reservation_has_less T.ops amount) (slice_get self.now 1) true }
+        ensures { result ≡ option_map_or (deferred_of.reservation_has_less T.ops amount) (slice_get self.now 1) true }
     {
         match self.stored.get(1) {
             None => true,
-            Some(request) => reservation_has_less(less_owed(request, self.owed), amount),
+            Some(request) => reservation_has_less(less_deferred(request, self.deferred), amount),
         }
     }
 
     /// Whether each R but the first request's, less the amount, is a value.
     pub fn others_have_less(&self, amount: T) -> bool
-        ensures { result ≡ list_all (owed_of.reservation_has_less T.ops amount) (drop 1 self.now) }
+        ensures { result ≡ list_all (deferred_of.reservation_has_less T.ops amount) (drop 1 self.now) }
     {
-        others_have_less(self.stored.later(), self.owed, amount)
+        others_have_less(self.stored.later(), self.deferred, amount)
     }
 
     /// Takes the amount off each P if each stays a value, and otherwise changes nothing. Returns whether each does.
@@ -140,81 +140,85 @@ impl<T: Tag> RequestQueue<T> {
     /// Takes the amount off each R. Where tags are whole numbers it is deferred, and taken off the stored tags only where the
     /// deferred sum is no value. Otherwise it is taken off at once.
     pub fn subtract_reservations(&mut self, amount: T)
-        requires { list_all (owed_of.reservation_has_less T.ops amount) self.old ≡ true }
+        requires { list_all (deferred_of.reservation_has_less T.ops amount) self.old ≡ true }
         ensures { self.new ≡ map (record_of.less_reservation T.ops amount) self.old }
     {
         if self.is_empty() {
             return;
         }
         if T::is_whole() {
-            if let Some(owed) = owed_with(self.owed, amount) {
-                self.owed = Some(owed);
+            if let Some(deferred) = deferred_with(self.deferred, amount) {
+                self.deferred = Some(deferred);
                 return;
             }
         }
-        settle(&mut self.stored, self.owed);
-        self.owed = None;
+        settle(&mut self.stored, self.deferred);
+        self.deferred = None;
         self.stored.subtract_reservations(amount);
     }
 }
 
 /// A stored request, less the deferred amount.
-fn less_owed<T: Tag>(request: QueuedRequest<T>, owed: Option<T>) -> QueuedRequest<T>
-    ensures { result ≡ owed_of.less_owed T.ops owed request }
+fn less_deferred<T: Tag>(request: QueuedRequest<T>, deferred: Option<T>) -> QueuedRequest<T>
+    ensures { result ≡ deferred_of.less_deferred T.ops deferred request }
 {
-    let r = tag_less_owed(request.tags.r, owed);
+    let r = tag_less_deferred(request.tags.r, deferred);
     let tags = Tags { r, ..request.tags };
     QueuedRequest { tags, ..request }
 }
 
 /// A stored R, less the deferred amount.
-fn tag_less_owed<T: Tag>(r: Option<T>, owed: Option<T>) -> Option<T>
-    ensures { result ≡ owed_of.tag_less_owed T.ops owed r }
+fn tag_less_deferred<T: Tag>(r: Option<T>, deferred: Option<T>) -> Option<T>
+    ensures { result ≡ deferred_of.tag_less_deferred T.ops deferred r }
 {
-    match (r, owed) {
+    match (r, deferred) {
         (Some(r), Some(amount)) => Some(less(r, amount)),
         (r, _) => r,
     }
 }
 
 /// The request as it is stored: its R plus the deferred amount. `None` where that is no value.
-fn with_owed<T: Tag>(request: QueuedRequest<T>, owed: Option<T>) -> Option<QueuedRequest<T>>
-    ensures { IfSome result (λ stored. (owed_of.less_owed T.ops owed stored ≡ request) × (owed_of.has_owed T.ops owed stored ≡ true)) }
+fn with_deferred<T: Tag>(request: QueuedRequest<T>, deferred: Option<T>) -> Option<QueuedRequest<T>>
+    ensures { IfSome result (λ stored. (deferred_of.less_deferred T.ops deferred stored ≡ request) × (deferred_of.has_deferred T.ops deferred stored ≡ true)) }
 {
     let Some(r) = request.tags.r else {
         return Some(request);
     };
-    let r = Some(tag_with_owed(r, owed)?);
+    let r = Some(tag_with_deferred(r, deferred)?);
     let tags = Tags { r, ..request.tags };
     Some(QueuedRequest { tags, ..request })
 }
 
 /// An R plus the deferred amount. `None` where that is no value.
-fn tag_with_owed<T: Tag>(r: T, owed: Option<T>) -> Option<T>
-    ensures { IfSome result (λ stored. (owed_of.tag_less_owed T.ops owed (Some stored) ≡ Some r) × (owed_of.tag_has_owed T.ops owed (Some stored) ≡ true)) }
+fn tag_with_deferred<T: Tag>(r: T, deferred: Option<T>) -> Option<T>
+    ensures { IfSome result (λ stored. (deferred_of.tag_less_deferred T.ops deferred (Some stored) ≡ Some r) × (deferred_of.tag_has_deferred T.ops deferred (Some stored) ≡ true)) }
 {
-    match owed {
+    match deferred {
         None => Some(r),
         Some(amount) => Some(r.plus(amount)?),
     }
 }
 
 /// The deferred amount plus another. `None` where that is no value.
-fn owed_with<T: Tag>(owed: Option<T>, amount: T) -> Option<T>
-    ensures { result ≡ owed_of.owed_with T.ops owed amount }
+fn deferred_with<T: Tag>(deferred: Option<T>, amount: T) -> Option<T>
+    ensures { result ≡ deferred_of.deferred_with T.ops deferred amount }
 {
-    match owed {
+    match deferred {
         None => Some(amount),
-        Some(owed) => owed.plus(amount),
+        Some(deferred) => deferred.plus(amount),
     }
 }
 
 /// Whether each R, less the deferred amount and this amount, is a value.
-fn others_have_less<T: Tag>(others: &VecDeque<QueuedRequest<T>>, owed: Option<T>, amount: T) -> bool
-    ensures { result ≡ list_all (λ r. owed_of.reservation_has_less T.ops amount (owed_of.less_owed T.ops owed r)) others.now.items }
+fn others_have_less<T: Tag>(
+    others: &VecDeque<QueuedRequest<T>>,
+    deferred: Option<T>,
+    amount: T,
+) -> bool
+    ensures { result ≡ list_all (λ r. deferred_of.reservation_has_less T.ops amount (deferred_of.less_deferred T.ops deferred r)) others.now.items }
 {
     for i in 0..others.len() {
-        if !reservation_has_less(less_owed(others[i], owed), amount) {
+        if !reservation_has_less(less_deferred(others[i], deferred), amount) {
             return false;
         }
     }
@@ -224,10 +228,10 @@ fn others_have_less<T: Tag>(others: &VecDeque<QueuedRequest<T>>, owed: Option<T>
 /// Takes the deferred amount off each stored R.
 #[cold]
 #[inline(never)]
-fn settle<T: Tag>(stored: &mut StoredRequests<T>, owed: Option<T>)
-    ensures { stored.new ≡ owed_of.all_less_owed T.ops owed stored.old }
+fn settle<T: Tag>(stored: &mut StoredRequests<T>, deferred: Option<T>)
+    ensures { stored.new ≡ deferred_of.all_less_deferred T.ops deferred stored.old }
 {
-    if let Some(amount) = owed {
+    if let Some(amount) = deferred {
         stored.subtract_reservations(amount);
     }
 }

@@ -1,6 +1,6 @@
 //! An amount taken off each tag of one kind, in place, and whether the results are values.
 ghost use Rattle.std.specs.Prelude.{◌≡◌, map, is_some, IfSome};
-ghost use Rattle.dmc_client.specs.Owed as owed_of;
+ghost use Rattle.dmc_client.specs.Deferred as deferred_of;
 ghost use Rattle.dmc_client.specs.Record as record_of;
 ghost use Rattle.dmc_tag.specs.Rules as rules_of;
 ghost use Rattle.std.specs.List.{list_all};
@@ -45,7 +45,7 @@ pub fn less_reservation<T: Tag>(request: QueuedRequest<T>, amount: T) -> QueuedR
 
 /// Whether the R less the amount is a value, or there is no R.
 pub fn reservation_has_less<T: Tag>(request: QueuedRequest<T>, amount: T) -> bool
-    ensures { result ≡ owed_of.reservation_has_less T.ops amount request }
+    ensures { result ≡ deferred_of.reservation_has_less T.ops amount request }
 {
     match request.tags.r {
         None => true,

@@ -10,7 +10,7 @@ use Rattle.dmc_types.specs.declared.ids.ServerId.{ServerId}
 use Rattle.dmc_types.specs.declared.config.Counting.{Counting}
 use Rattle.dmc_types.specs.declared.config.PhaseType.{PhaseType}
 use Rattle.dmc_types.specs.declared.config.PhaseType.TheVariants.{Reservation, Priority}
-use Rattle.dmc_core.specs.Run.{Pair, Client, no_pair, pair_at, with_pair, grants, with_grants, most_grants, has_full_count, are_grants_full}
+use Rattle.dmc_core.specs.Run.{Pair, Client, no_pair, pair_at, with_pair, grants, with_grants, max_grants, has_full_count, are_grants_full}
 use Rattle.dmc_core.specs.Core.{Held, Matches}
 use Rattle.dmc_core.specs.Parts.{KeepsGrants, one_if_full, full_counts_of, full_counts}
 
@@ -27,7 +27,7 @@ are_full s counting (h ∷ hs) [] z = absurd z
 are_full s counting (h ∷ hs) (c ∷ cs) z =
     let p = pair_at s h.pairs in
     ap (λ (ps : List Pair). has_full_count (pair_at s ps) || are_grants_full s cs) (sym z.0.pairs)
-    ∙ by_pair (p.reservation == most_grants) (p.priority == most_grants) (are_grants_full s cs) (full_counts s hs) (are_full s counting hs cs z.1)
+    ∙ by_pair (p.reservation == max_grants) (p.priority == max_grants) (are_grants_full s cs) (full_counts s hs) (are_full s counting hs cs z.1)
     ∙ ap (nat_lt 0) (sym (sum_by-cons (λ h. full_counts_of (pair_at s h.pairs)) h hs))
 
 -- another client at a place

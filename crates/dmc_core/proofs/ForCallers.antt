@@ -36,8 +36,8 @@ ratio_spaced hz (suc d) limit h =
     let rate : suc d ≤ 4294967296 = leb-true _ _ (and_parts (nat_le 1 (suc d)) (nat_le (suc d) 4294967296) h).1 in
     let numer : unsigned_abs (over (pos hz) g) ≤ hz = rw (unsigned_abs-over (pos hz) g) (div-le_self hz g) in
     let denom : suc d / g ≤ suc d = div-le_self (suc d) g in
-    let first : nat_le (unsigned_abs (over (pos hz) g)) r.greatest_numer ≡ true = le-leb _ _ (omega arith) in
-    let second : nat_le (suc d / g) r.greatest_denom ≡ true = le-leb _ _ (omega arith) in
+    let first : nat_le (unsigned_abs (over (pos hz) g)) r.max_numer ≡ true = le-leb _ _ (omega arith) in
+    let second : nat_le (suc d / g) r.max_denom ≡ true = le-leb _ _ (omega arith) in
     (r.lowest_terms (pos hz) d, rw (first, second) refl)
 
 module _ {T : Type 0} (ops : Tagging T) (tags : TagKind) (hz : ℕ) (spaced : (rate : ℕ) → HasSpacing tags hz rate → (z : T) × (ops.spacing hz rate ≡ Some z)) where

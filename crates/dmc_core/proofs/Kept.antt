@@ -9,7 +9,7 @@ use Rattle.std.specs.List.{AllByRecursion}
 use Rattle.dmc_types.specs.declared.ids.ClientId.{ClientId}
 use Rattle.dmc_types.specs.declared.ids.ServerId.{ServerId}
 use Rattle.dmc_types.specs.declared.config.PhaseType.{PhaseType}
-use Rattle.dmc_core.specs.Run.{pair_at, with_pair, grants, with_grants, most_grants}
+use Rattle.dmc_core.specs.Run.{pair_at, with_pair, grants, with_grants, max_grants}
 use Rattle.dmc_core.specs.Core.{Held}
 use Rattle.dmc_core.specs.Parts.{IsKept, KeepsGrants, full_at, full_counts, one_if_full}
 use Rattle.dmc_core.specs.declared.server.CoreServer.{CoreServer}
@@ -106,8 +106,8 @@ module _ {Q : Type 0} (ids : List ClientId) (hs : List Held) (servers : List (Co
 -- ---- whether a count is full
 
 -- one less is not
-pub full_gone : (n : ℕ) → 0 < n → n ≤ most_grants → one_if_full (n - 1) ≡ 0
-full_gone n some most = ap (λ (b : Bool). cond b 1 0) (false_from_ne_true ((n - 1) == most_grants) (λ e. let f = eqb-true _ _ e in omega arith))
+pub full_gone : (n : ℕ) → 0 < n → n ≤ max_grants → one_if_full (n - 1) ≡ 0
+full_gone n some most = ap (λ (b : Bool). cond b 1 0) (false_from_ne_true ((n - 1) == max_grants) (λ e. let f = eqb-true _ _ e in omega arith))
 
-pub full_not : (n : ℕ) → (n ≡ most_grants → ⊥) → one_if_full n ≡ 0
-full_not n other = ap (λ (b : Bool). cond b 1 0) (false_from_ne_true (n == most_grants) (λ e. other (eqb-true _ _ e)))
+pub full_not : (n : ℕ) → (n ≡ max_grants → ⊥) → one_if_full n ≡ 0
+full_not n other = ap (λ (b : Bool). cond b 1 0) (false_from_ne_true (n == max_grants) (λ e. other (eqb-true _ _ e)))

@@ -6,7 +6,7 @@ use Rattle.std.proofs.lemmas.Bool.{eqb-true, leb-true, false_from_ne_true}
 use Rattle.std.proofs.lemmas.List.Sums.{sum_by-cons}
 use Rattle.std.proofs.lemmas.List.{length-map, length-replicate, length-take, map-append, take_more}
 use Rattle.indexmap.specs.IndexSet.{insert_key}
-use Rattle.dmc_types.specs.Limits.{most_scene_clients}
+use Rattle.dmc_types.specs.Limits.{max_scene_clients}
 use Rattle.dmc_types.specs.Values.{Rates, Setting}
 use Rattle.dmc_types.specs.declared.ids.ClientId.{ClientId}
 use Rattle.dmc_types.specs.declared.ids.ServerId.{ServerId}
@@ -14,7 +14,7 @@ use Rattle.dmc_types.specs.declared.config.Counting.{Counting}
 use Rattle.dmc_types.specs.declared.command.Command.TheVariants.{Register}
 use Rattle.dmc_types.specs.declared.refusal.Refusal.{Refusal}
 use Rattle.dmc_tag.specs.Tag.{Tagging}
-use Rattle.dmc_tag.specs.State.{State, StandsFor, opening, client_named, effective}
+use Rattle.dmc_tag.specs.State.{State, Represents, opening, client_named, effective}
 use Rattle.dmc_tag.specs.Spacing.{spacings_of}
 use Rattle.dmc_tag.specs.Step.{step}
 use Rattle.dmc_tag.specs.Steps.{Steps}
@@ -25,17 +25,17 @@ use Rattle.dmc_tag.specs.declared.reply.Reply.{Reply}
 use Rattle.dmc_tag.specs.declared.reply.Reply.TheVariants.{Registered, Refused}
 use Rattle.dmc_tag.proofs.ForCallers.{state_after-more}
 use Rattle.dmc_tracker.specs.Numbers.{no_numbers}
-use Rattle.dmc_tracker.proofs.ForCallers.{Stands-new}
+use Rattle.dmc_tracker.proofs.ForCallers.{RepresentsEvents-new}
 use Rattle.dmc_scene.specs.SceneValue.{SceneValue, ClientValue, AreApart}
 use Rattle.dmc_core.specs.declared.server.CoreServer.{CoreServer}
-use Rattle.dmc_core.specs.Run.{no_pair, pair_at, most_completions}
+use Rattle.dmc_core.specs.Run.{no_pair, pair_at, max_completions}
 use Rattle.dmc_core.specs.Events.{registration}
 use Rattle.dmc_core.specs.Core.{Held, Matches}
 use Rattle.dmc_core.specs.Parts.{IsKept, full_counts, full_counts_of}
 use Rattle.dmc_core.specs.Opening.{HaveSpacings, named_rates, opening_client}
-use Rattle.dmc_tag.proofs.Agreement.{stands_itself}
+use Rattle.dmc_tag.proofs.Agreement.{represents_itself}
 
--- ---- ids that stand apart
+-- ---- ids that are apart
 
 -- the id of a client differs from those before it
 pub fresh : (cs : List ClientValue) (i : ℕ) (x : ClientValue) → AllPairs AreApart cs → i < length cs → x ≡ get_or cs i x → AllByRecursion (λ k. k ≢ x.id) (map (λ c. c.id) (take i cs))
@@ -89,7 +89,7 @@ pub record HaveRegistered {T : Type 0} (ops : Tagging T) (scene : SceneValue) (i
   pub ids : map (λ c. c.id) (after_first ops scene i).clients ≡ map (λ c. c.id) (take i scene.clients)
 
 -- the next one registers
-pub next_registers : {T : Type 0} (ops : Tagging T) (scene : SceneValue) (i : ℕ) (x : ClientValue) → AllPairs AreApart scene.clients → HaveSpacings ops scene → length scene.clients ≤ most_scene_clients
+pub next_registers : {T : Type 0} (ops : Tagging T) (scene : SceneValue) (i : ℕ) (x : ClientValue) → AllPairs AreApart scene.clients → HaveSpacings ops scene → length scene.clients ≤ max_scene_clients
     → i < length scene.clients → x ≡ get_or scene.clients i x → HaveRegistered ops scene i
     → (step ops (after_first ops scene i) (Register x.id x.info 0) ≡ (after_first ops scene (i + 1), Registered)) × HaveRegistered ops scene (i + 1)
 next_registers {T} ops scene i x apart spaced limit within is h =
@@ -115,9 +115,9 @@ next_registers {T} ops scene i x apart spaced limit within is h =
       },
     )
 
--- a queue that stands for the state before the next client's registration
-module _ {T : Type 0} (ops : Tagging T) (scene : SceneValue) (cs : List ClientValue) (cs_are : cs ≡ scene.clients) (apart : AllPairs AreApart cs) (spaced : HaveSpacings ops scene) (limit : length cs ≤ most_scene_clients)
-    (i : ℕ) (x : ClientValue) (within : i < length cs) (is : x ≡ get_or cs i x) (h : HaveRegistered ops scene i) (old new : State T) (stands : StandsFor old (after_first ops scene i))
+-- a queue that represents the state before the next client's registration
+module _ {T : Type 0} (ops : Tagging T) (scene : SceneValue) (cs : List ClientValue) (cs_are : cs ≡ scene.clients) (apart : AllPairs AreApart cs) (spaced : HaveSpacings ops scene) (limit : length cs ≤ max_scene_clients)
+    (i : ℕ) (x : ClientValue) (within : i < length cs) (is : x ≡ get_or cs i x) (h : HaveRegistered ops scene i) (old new : State T) (represents : Represents old (after_first ops scene i))
     (id : ClientId) (info : Rates) (at : ℕ) (id_is : id ≡ x.id) (info_is : info ≡ x.info) (at_is : at ≡ 0) where
   named : Register id info at ≡ Register x.id x.info 0
   named = rw (id_is, info_is, at_is) refl
@@ -128,18 +128,18 @@ module _ {T : Type 0} (ops : Tagging T) (scene : SceneValue) (cs : List ClientVa
   ruled : step ops (after_first ops scene i) (Register id info at) ≡ (after_first ops scene (i + 1), Registered)
   ruled = ap (step ops (after_first ops scene i)) named ∙ next.0
 
-  -- stands for the state after it
-  pub next_stands : Steps ops old new (Register id info at) (Some Registered) → StandsFor new (after_first ops scene (i + 1)) × HaveRegistered ops scene (i + 1)
-  next_stands steps = (subst (λ (v : State T). StandsFor new v) (ap (λ (p : State T × Reply T). p.0) ruled) (steps (after_first ops scene i) stands).1, next.1)
+  -- represents the state after it
+  pub next_represents : Steps ops old new (Register id info at) (Some Registered) → Represents new (after_first ops scene (i + 1)) × HaveRegistered ops scene (i + 1)
+  next_represents steps = (subst (λ (v : State T). Represents new v) (ap (λ (p : State T × Reply T). p.0) ruled) (steps (after_first ops scene i) represents).1, next.1)
 
   -- and does not refuse it
   pub next_not_refused : (refusal : Refusal) → Steps ops old new (Register id info at) (Some (Refused refusal)) → ⊥
   next_not_refused refusal steps =
-      let same : Refused refusal ≡ Registered = (steps (after_first ops scene i) stands).0 ∙ ap (λ (p : State T × Reply T). p.1) ruled in
+      let same : Refused refusal ≡ Registered = (steps (after_first ops scene i) represents).0 ∙ ap (λ (p : State T × Reply T). p.1) ruled in
       cc
 
-pub stands_as : {T : Type 0} (u v : State T) → u ≡ v → StandsFor u v
-stands_as u v e = subst (StandsFor u) e (stands_itself u)
+pub represents_as : {T : Type 0} (u v : State T) → u ≡ v → Represents u v
+represents_as u v e = subst (Represents u) e (represents_itself u)
 
 -- ---- the run
 
@@ -149,10 +149,10 @@ none_at (suc n) zero = refl
 none_at (suc n) (suc i) = none_at n i
 
 module _ {T Q : Type 0} (state : Q → State T) (u : State T) (servers : List (CoreServer Q)) where
-  pub opened_servers : (n : ℕ) → length servers ≡ n → AllByRecursion (λ x. StandsFor (state x.queue) u × (x.full ≡ 0)) servers → AllZip (λ q v. StandsFor (state q) v) (map (λ x. x.queue) servers) (replicate n u)
-  opened_servers n e h = subst (λ (m : ℕ). AllZip (λ q v. StandsFor (state q) v) (map (λ x. x.queue) servers) (replicate m u)) e (go servers h)
+  pub opened_servers : (n : ℕ) → length servers ≡ n → AllByRecursion (λ x. Represents (state x.queue) u × (x.full ≡ 0)) servers → AllZip (λ q v. Represents (state q) v) (map (λ x. x.queue) servers) (replicate n u)
+  opened_servers n e h = subst (λ (m : ℕ). AllZip (λ q v. Represents (state q) v) (map (λ x. x.queue) servers) (replicate m u)) e (go servers h)
     where
-      go : (xs : List (CoreServer Q)) → AllByRecursion (λ x. StandsFor (state x.queue) u × (x.full ≡ 0)) xs → AllZip (λ q v. StandsFor (state q) v) (map (λ x. x.queue) xs) (replicate (length xs) u)
+      go : (xs : List (CoreServer Q)) → AllByRecursion (λ x. Represents (state x.queue) u × (x.full ≡ 0)) xs → AllZip (λ q v. Represents (state q) v) (map (λ x. x.queue) xs) (replicate (length xs) u)
       go [] h = tt
       go (x ∷ xs) h = (h.0.0, go xs h.1)
 
@@ -163,7 +163,7 @@ module _ (counting : Counting) (n : ℕ) where
     record {
       id = refl;
       pairs = refl;
-      tracker = Stands-new counting most_completions n;
+      tracker = RepresentsEvents-new counting max_completions n;
       form = refl;
       most = refl;
       servers = length-replicate n no_numbers ∙ sym (length-replicate n no_pair);

@@ -1,4 +1,4 @@
--- What the rules make of a run that the core stands for.
+-- What the rules make of a run that the core represents.
 use Rattle.std.proofs.Common.{◌≡◌, ℕ, ◌<◌, ◌≤◌, Bool, true, false, List, length, set, slice_get, nat_le, Option, Some, None, inl, inr, refl, sym, ap, ◌∙◌, arith, Ok, Err}
 use Rattle.std.specs.Prelude.{Result, ◌⊎◌, position}
 use Rattle.std.specs.List.{AllZip}
@@ -11,7 +11,7 @@ use Rattle.dmc_types.specs.declared.ids.ServerId.{ServerId}
 use Rattle.dmc_types.specs.declared.config.Counting.{Counting}
 use Rattle.dmc_types.specs.declared.command.Command.{Command}
 use Rattle.dmc_tag.specs.Tag.{Tagging}
-use Rattle.dmc_tag.specs.State.{State, StandsFor, is_client}
+use Rattle.dmc_tag.specs.State.{State, Represents, is_client}
 use Rattle.dmc_tag.specs.Outcome.{◌>>=◌, refuse_if}
 use Rattle.dmc_tag.specs.Step.{step}
 use Rattle.dmc_tag.specs.Steps.{Steps}
@@ -23,7 +23,7 @@ use Rattle.dmc_core.specs.declared.event.CoreFault.{CoreFault}
 use Rattle.dmc_core.specs.declared.event.CoreFault.TheVariants as faults
 use Rattle.dmc_core.specs.Run.{Client, Run, change_first, with_client, with_server, client_of, server_of}
 use Rattle.dmc_core.specs.Events.{Outcome, client_event, server_event, outcome}
-use Rattle.dmc_core.specs.Core.{Held, CoreValue, Matches, StandsForRun, Follows, ClientFollows, IsRefusal, may_grow, is_accepted}
+use Rattle.dmc_core.specs.Core.{Held, CoreValue, Matches, RepresentsRun, Follows, ClientFollows, IsRefusal, may_grow, is_accepted}
 use Rattle.dmc_core.specs.Parts.{place_of}
 use Rattle.dmc_core.proofs.Lists.{At, at_place, First, first_of_both, none_of_both, set_same}
 
@@ -32,26 +32,26 @@ use Rattle.dmc_core.proofs.Lists.{At, at_place, First, first_of_both, none_of_bo
 same_id : (id : ClientId) (counting : Counting) (h : Held) (c : Client) → Matches counting h c → is_client id h.id ≡ is_client id c.id
 same_id id counting h c m = ap (is_client id) m.id
 
-module _ {T Q : Type 0} (state : Q → State T) (core : CoreValue Q) (run : Run T) (stands : StandsForRun state core run) where
+module _ {T Q : Type 0} (state : Q → State T) (core : CoreValue Q) (run : Run T) (represents : RepresentsRun state core run) where
   as_many_servers : length run.servers ≡ length core.servers
-  as_many_servers = AllZip-long _ core.servers run.servers stands.servers
+  as_many_servers = AllZip-long _ core.servers run.servers represents.servers
 
   pub no_client : (id : ClientId) → position (λ h. is_client id h.id) core.clients ≡ None → client_of run id ≡ Err faults.NoClient
-  no_client id none = rw ((none_of_both (Matches run.counting) (λ h. is_client id h.id) (λ c. is_client id c.id) (same_id id run.counting) core.clients run.clients stands.clients none).0) refl
+  no_client id none = rw ((none_of_both (Matches run.counting) (λ h. is_client id h.id) (λ c. is_client id c.id) (same_id id run.counting) core.clients run.clients represents.clients none).0) refl
 
   pub no_server : (s : ServerId) → length core.servers ≤ s.0 → server_of run s ≡ Err faults.NoServer
   no_server s past = let none = slice_get_past run.servers s.0 (rw as_many_servers past) in rw none refl
 
   pub the_client : (id : ClientId) (i : ℕ) → position (λ h. is_client id h.id) core.clients ≡ Some i → First (Matches run.counting) (λ c. is_client id c.id) core.clients run.clients i
-  the_client id i place = first_of_both (Matches run.counting) (λ h. is_client id h.id) (λ c. is_client id c.id) (same_id id run.counting) core.clients run.clients i stands.clients place
+  the_client id i place = first_of_both (Matches run.counting) (λ h. is_client id h.id) (λ c. is_client id c.id) (same_id id run.counting) core.clients run.clients i represents.clients place
 
-  pub the_server : (s : ServerId) → s.0 < length core.servers → At (λ q u. StandsFor (state q) u) core.servers run.servers s.0
-  the_server s within = at_place (λ q u. StandsFor (state q) u) core.servers run.servers s.0 stands.servers within
+  pub the_server : (s : ServerId) → s.0 < length core.servers → At (λ q u. Represents (state q) u) core.servers run.servers s.0
+  the_server s within = at_place (λ q u. Represents (state q) u) core.servers run.servers s.0 represents.servers within
 
 -- ---- a refusal of the rules
 
 module _ {T Q : Type 0} (ops : Tagging T) (state : Q → State T) (event : CoreEvent) (core : CoreValue Q) where
-  pub refused : (fault : CoreFault) → (fault ≡ faults.Memory → ⊥) → ((run : Run T) → StandsForRun state core run → outcome ops run event ≡ Err fault) → Follows ops state event core core (Err fault)
+  pub refused : (fault : CoreFault) → (fault ≡ faults.Memory → ⊥) → ((run : Run T) → RepresentsRun state core run → outcome ops run event ≡ Err fault) → Follows ops state event core core (Err fault)
   refused faults.NoClient other is = λ run r. rw (is run r) (refl, r)
   refused faults.NoServer other is = λ run r. rw (is run r) (refl, r)
   refused faults.FlightFull other is = λ run r. rw (is run r) (refl, r)
@@ -77,11 +77,11 @@ a_place (Some j) false i e = (cc, refl)
 module _ {T Q : Type 0} (state : Q → State T) (core : CoreValue Q) (id : ClientId) (s : ServerId) where
   -- an event of a client at a server, whatever it does then, is refused for its names
   pub names_refused : (fault : CoreFault) → place_of id s core ≡ Err fault
-      → (fault ≡ faults.Memory → ⊥) × ((run : Run T) → StandsForRun state core run → (rest : Client → State T → Outcome T) → (client_of run id >>= λ client. server_of run s >>= λ u. rest client u) ≡ Err fault)
+      → (fault ≡ faults.Memory → ⊥) × ((run : Run T) → RepresentsRun state core run → (rest : Client → State T → Outcome T) → (client_of run id >>= λ client. server_of run s >>= λ u. rest client u) ≡ Err fault)
   names_refused fault e = by (no_place (position (λ h. is_client id h.id) core.clients) (nat_le (length core.servers) s.0) fault e)
     where
       by : ((position (λ h. is_client id h.id) core.clients ≡ None) × (fault ≡ faults.NoClient)) ⊎ ((i : ℕ) × (position (λ h. is_client id h.id) core.clients ≡ Some i) × (nat_le (length core.servers) s.0 ≡ true) × (fault ≡ faults.NoServer))
-          → (fault ≡ faults.Memory → ⊥) × ((run : Run T) → StandsForRun state core run → (rest : Client → State T → Outcome T) → (client_of run id >>= λ client. server_of run s >>= λ u. rest client u) ≡ Err fault)
+          → (fault ≡ faults.Memory → ⊥) × ((run : Run T) → RepresentsRun state core run → (rest : Client → State T → Outcome T) → (client_of run id >>= λ client. server_of run s >>= λ u. rest client u) ≡ Err fault)
       by (inl (none, fault_is)) = (
         λ m. let e : faults.NoClient ≡ faults.Memory = sym fault_is ∙ m in cc,
         λ run r rest.

@@ -1,13 +1,13 @@
--- What contracts see of the core, and which states of a cluster run it stands for.
+-- What contracts see of the core, and which states of a cluster run it represents.
 use Rattle.std.specs.Prelude.{◌≡◌, Bool, true, false, List, length, Result, Ok, Err}
 use Rattle.std.specs.List.{AllZip}
 use Rattle.dmc_types.specs.declared.ids.ClientId.{ClientId}
 use Rattle.dmc_types.specs.declared.config.Counting.{Counting}
 use Rattle.dmc_tag.specs.Tag.{Tagging}
-use Rattle.dmc_tag.specs.State.{State, StandsFor}
+use Rattle.dmc_tag.specs.State.{State, Represents}
 use Rattle.dmc_tag.specs.declared.reply.Reply.TheVariants.{Refused}
-use Rattle.dmc_tracker.specs.Numbers.{Numbers, Stands}
-use Rattle.dmc_core.specs.Run.{Pair, Client, Run, most_completions}
+use Rattle.dmc_tracker.specs.Numbers.{Numbers, RepresentsEvents}
+use Rattle.dmc_core.specs.Run.{Pair, Client, Run, max_completions}
 use Rattle.dmc_core.specs.Events.{outcome, cluster_step}
 use Rattle.dmc_core.specs.declared.event.CoreEvent.{CoreEvent}
 use Rattle.dmc_core.specs.declared.event.CoreEvent.TheVariants.{Stamp, Arrive, Pull, Respond, Update, Remove, Clean}
@@ -31,19 +31,19 @@ pub record CoreValue (Q : Type 0) : Type 0 where
 pub record Matches (counting : Counting) (h : Held) (c : Client) : Type 0 where
   pub id : h.id ≡ c.id
   pub pairs : h.pairs ≡ c.pairs
-  pub tracker : Stands h.tracker c.list
+  pub tracker : RepresentsEvents h.tracker c.list
   pub form : h.tracker.counting ≡ counting
-  pub most : h.tracker.most ≡ most_completions
+  pub most : h.tracker.most ≡ max_completions
   pub servers : length h.tracker.servers ≡ length h.pairs
 
--- The core stands for the run: each queue for the server's plain state, and each client as above.
-pub record StandsForRun {T Q : Type 0} (state : Q → State T) (core : CoreValue Q) (run : Run T) : Type 0 where
-  pub servers : AllZip (λ q s. StandsFor (state q) s) core.servers run.servers
+-- The core represents the run: each queue represents the server's plain state, and each client is as above.
+pub record RepresentsRun {T Q : Type 0} (state : Q → State T) (core : CoreValue Q) (run : Run T) : Type 0 where
+  pub servers : AllZip (λ q s. Represents (state q) s) core.servers run.servers
   pub clients : AllZip (Matches run.counting) core.clients run.clients
 
--- ---- what a call does, of each run that the core stands for
+-- ---- what a call does, of each run that the core represents
 
--- only these two may want memory
+-- only these two may fail for an allocation
 abbrev pub may_grow : CoreEvent → Bool
 may_grow (Stamp client server token) = true
 may_grow (Arrive client server at) = true
@@ -62,13 +62,13 @@ abbrev pub is_accepted : {X T : Type 0} → Result (X × CoreReply T) CoreFault 
 is_accepted (Ok (next, reply)) = is_accepting reply
 is_accepted (Err fault) = false
 
--- From each run that the core stands for, the answer is that of the rules, and the core stands for the run after. Or memory
--- is wanted, by an event that may want it and that the rules accept, and the core stands for what it stood for.
+-- From each run that the core represents, the answer is that of the rules, and the core represents the run after. Or an
+-- allocation fails, of an event that may allocate and that the rules accept, and the core represents what it did before.
 abbrev pub Follows : {T Q : Type 0} → Tagging T → (Q → State T) → CoreEvent → CoreValue Q → CoreValue Q → Result (CoreReply T) CoreFault → Type 0
 Follows {T} ops state event old new (Err Memory) = (may_grow event ≡ true)
-    × ((run : Run T) → StandsForRun state old run → (is_accepted (outcome ops run event) ≡ true) × StandsForRun state new run)
-Follows {T} ops state event old new answer = (run : Run T) → StandsForRun state old run
-    → (answer ≡ (cluster_step ops run event).1) × StandsForRun state new ((cluster_step ops run event).0)
+    × ((run : Run T) → RepresentsRun state old run → (is_accepted (outcome ops run event) ≡ true) × RepresentsRun state new run)
+Follows {T} ops state event old new answer = (run : Run T) → RepresentsRun state old run
+    → (answer ≡ (cluster_step ops run event).1) × RepresentsRun state new ((cluster_step ops run event).0)
 
 -- ---- the same of one client
 

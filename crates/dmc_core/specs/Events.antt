@@ -1,4 +1,4 @@
--- What each event makes of a cluster run, and what it is answered. A refused event changes nothing.
+-- What each event makes of a cluster run, and its reply. A refused event changes nothing.
 use Rattle.std.specs.Prelude.{ℕ, ◌+◌, ◌-◌, Bool, false, ◌==◌, nat_le, nat_lt, List, [], ◌∷◌, ◌++◌, length, map, drop, replicate, slice_get, Result, Ok, Err}
 use Rattle.std.specs.Option.{ok_or}
 use Rattle.dmc_types.specs.Values.{Rates, Setting}
@@ -27,7 +27,7 @@ use Rattle.dmc_core.specs.declared.event.CoreReply.{CoreReply}
 use Rattle.dmc_core.specs.declared.event.CoreReply.TheVariants.{Stamped, Served, Counted}
 use Rattle.dmc_core.specs.declared.event.CoreFault.{CoreFault}
 use Rattle.dmc_core.specs.declared.event.CoreFault.TheVariants.{FlightFull, TrackFull, NoFlight, GrantsFull, NoGrant}
-use Rattle.dmc_core.specs.Run.{Pair, Client, Run, most_completions, most_in_flight, no_pair, pair_at, with_pair, with_flight, grants, with_grants, change_client, with_client, with_server, client_of, server_of, are_grants_full}
+use Rattle.dmc_core.specs.Run.{Pair, Client, Run, max_completions, max_in_flight, no_pair, pair_at, with_pair, with_flight, grants, with_grants, change_client, with_client, with_server, client_of, server_of, are_grants_full}
 
 -- a run and the reply to an event, or its refusal
 abbrev pub Outcome : Type 0 → Type 0
@@ -53,7 +53,7 @@ server_event ops run s command = do
 -- in `Others`: the delta would take what was sent to s past the most
 abbrev pub is_stamp_full : Counting → ServerId → List TrackerEvent → Bool
 is_stamp_full All s list = false
-is_stamp_full Others s list = nat_lt most_completions ((sent s list).delta + (demanded Others s list).delta)
+is_stamp_full Others s list = nat_lt max_completions ((sent s list).delta + (demanded Others s list).delta)
 
 abbrev pub after_stamp : ServerId → Message → Client → Client
 after_stamp s message client = record client {
@@ -63,7 +63,7 @@ after_stamp s message client = record client {
 
 abbrev pub stamp : {T : Type 0} → Counting → ServerId → Token → Client → Result (Client × CoreReply T) CoreFault
 stamp counting s token client = do
-  _ ← refuse_if (nat_le most_in_flight (length (pair_at s client.pairs).flight)) FlightFull
+  _ ← refuse_if (nat_le max_in_flight (length (pair_at s client.pairs).flight)) FlightFull
   _ ← refuse_if (is_stamp_full counting s client.list) TrackFull
   params ← Ok (demanded counting s client.list)
   Ok (after_stamp s (record { token = token; params = params }) client, Stamped params)
@@ -114,7 +114,7 @@ after_response s phase client = record client {
 abbrev pub response : {T : Type 0} → ServerId → PhaseType → Client → Result (Client × CoreReply T) CoreFault
 response s phase client = do
   _ ← refuse_if (grants phase (pair_at s client.pairs) == 0) NoGrant
-  _ ← refuse_if ((completions client.list).delta == most_completions) TrackFull
+  _ ← refuse_if ((completions client.list).delta == max_completions) TrackFull
   Ok (after_response s phase client, Counted)
 
 -- ---- one event, and whole runs

@@ -9,7 +9,7 @@ use Rattle.dmc_tag.specs.Spacing.{spacings_of}
 use Rattle.dmc_tag.specs.Replay.{state_after}
 use Rattle.dmc_tracker.specs.Numbers.{new_numbers}
 use Rattle.dmc_scene.specs.SceneValue.{SceneValue, ClientValue}
-use Rattle.dmc_core.specs.Run.{Run, most_completions, no_pair}
+use Rattle.dmc_core.specs.Run.{Run, max_completions, no_pair}
 use Rattle.dmc_core.specs.Events.{registration, opening_run}
 use Rattle.dmc_core.specs.Core.{Held}
 
@@ -33,6 +33,6 @@ opening_state ops scene = state_after ops (opening scene.config) (map registrati
 abbrev pub opening_client : Counting → ℕ → ClientValue → Held
 opening_client counting servers c = record {
   id = c.id;
-  tracker = new_numbers counting most_completions servers;
+  tracker = new_numbers counting max_completions servers;
   pairs = replicate servers no_pair;
 }

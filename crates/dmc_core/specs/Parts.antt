@@ -8,7 +8,7 @@ use Rattle.dmc_types.specs.declared.ids.ServerId.{ServerId}
 use Rattle.dmc_types.specs.declared.config.PhaseType.{PhaseType}
 use Rattle.dmc_tag.specs.State.{is_client}
 use Rattle.dmc_tag.specs.Outcome.{◌>>=◌, refuse_if}
-use Rattle.dmc_core.specs.Run.{Pair, pair_at, grants, most_grants}
+use Rattle.dmc_core.specs.Run.{Pair, pair_at, grants, max_grants}
 use Rattle.dmc_core.specs.Core.{Held, CoreValue}
 use Rattle.dmc_core.specs.declared.event.CoreFault.{CoreFault}
 use Rattle.dmc_core.specs.declared.event.CoreFault.TheVariants.{NoClient, NoServer}
@@ -37,7 +37,7 @@ place_of id s core = do
 -- ---- how many counts of a server can't grow
 
 abbrev pub one_if_full : ℕ → ℕ
-one_if_full count = if count == most_grants then 1 else 0
+one_if_full count = if count == max_grants then 1 else 0
 
 abbrev pub full_counts_of : Pair → ℕ
 full_counts_of pair = one_if_full pair.reservation + one_if_full pair.priority

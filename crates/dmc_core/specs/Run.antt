@@ -38,16 +38,16 @@ pub record Run (T : Type 0) : Type 0 where
   pub clients : List Client
 
 -- what a tracker counts at most
-abbrev pub most_completions : ℕ
-most_completions = limits.most_run_completions
+abbrev pub max_completions : ℕ
+max_completions = limits.max_run_completions
 
 -- the most messages in flight of a pair
-abbrev pub most_in_flight : ℕ
-most_in_flight = 2 ^ 20
+abbrev pub max_in_flight : ℕ
+max_in_flight = 2 ^ 20
 
 -- the most grants of a pair and phase that are not yet responded
-abbrev pub most_grants : ℕ
-most_grants = 2 ^ 32 - 1
+abbrev pub max_grants : ℕ
+max_grants = 2 ^ 32 - 1
 
 -- ---- pairs
 
@@ -73,7 +73,7 @@ with_grants Priority count pair = record pair { priority = count }
 
 -- one of its counts can't grow
 abbrev pub has_full_count : Pair → Bool
-has_full_count pair = (pair.reservation == most_grants) || (pair.priority == most_grants)
+has_full_count pair = (pair.reservation == max_grants) || (pair.priority == max_grants)
 
 -- ---- clients and servers by their names
 

@@ -1,11 +1,11 @@
 //! A client of the cluster: its tracker, and what is under way between it and each server.
 ghost use Rattle.std.specs.Prelude.{◌≡◌, ◌≢◌, ◌+◌, ◌-◌, ◌<◌, ◌≤◌, drop, length, map, replicate, slice_get, Err, IfOk, OnOk};
-ghost use Rattle.dmc_types.specs.Limits.{most_servers};
+ghost use Rattle.dmc_types.specs.Limits.{max_servers};
 ghost use Rattle.dmc_tracker.specs.Numbers.{new_numbers};
 ghost use Rattle.dmc_core.specs.Core.{ClientFollows};
 ghost use Rattle.dmc_core.specs.Events.{stamp, response};
 ghost use Rattle.dmc_core.specs.Parts.{pair_of, KeepsGrants};
-ghost use Rattle.dmc_core.specs.Run.{most_completions, no_pair, grants, pair_at, with_pair, with_flight, with_grants, most_grants};
+ghost use Rattle.dmc_core.specs.Run.{max_completions, no_pair, grants, pair_at, with_pair, with_flight, with_grants, max_grants};
 
 use crate::event::{CoreFault, CoreReply, Message};
 use crate::pair::Pairing;
@@ -16,7 +16,7 @@ use std::alloc::{AllocError, Global};
 use std::marker::Model;
 
 /// The most completions of a client.
-const MOST_RUN_COMPLETIONS: u64 = 0xffff_ffff;
+const MAX_RUN_COMPLETIONS: u64 = 0xffff_ffff;
 
 /// A client: its id, its tracker, and what is under way between it and server 0, 1, ..
 #[derive(Drop)]
@@ -46,14 +46,14 @@ impl CoreClient {
         counting: Counting,
     ) -> Result<CoreClient, AllocError>
         requires some { 0 < servers }
-        requires limit { servers ≤ most_servers }
+        requires limit { servers ≤ max_servers }
         ensures { IfOk result (λ client. client ≡ record {
           id = id;
-          tracker = new_numbers counting most_completions servers;
+          tracker = new_numbers counting max_completions servers;
           pairs = replicate servers no_pair;
         }) }
     {
-        let Ok(tracker) = ServiceTracker::new(alloc, servers, MOST_RUN_COMPLETIONS, counting) else {
+        let Ok(tracker) = ServiceTracker::new(alloc, servers, MAX_RUN_COMPLETIONS, counting) else {
             return Err(AllocError);
         };
         Ok(CoreClient {
@@ -137,7 +137,7 @@ impl CoreClient {
     /// Adds one to the grants of a server in a phase that wait for their responses, and answers how many wait then.
     pub fn add_grant(&mut self, server: ServerId, phase: PhaseType) -> u32
         requires within { server.0 < length self.old.pairs }
-        requires room { grants phase (pair_at server self.old.pairs) ≢ most_grants }
+        requires room { grants phase (pair_at server self.old.pairs) ≢ max_grants }
         ensures count { result ≡ grants phase (pair_at server self.old.pairs) + 1 }
         ensures pairs { self.new ≡ record self.old {
           pairs = with_pair server

@@ -12,8 +12,8 @@ ghost use Rattle.dmc_core.specs.declared.event.CoreEvent.TheVariants as events;
 
 use crate::client::CoreClient;
 use crate::event::{CoreEvent, CoreFault, CoreReply};
+use crate::hinted::HintedScheduler;
 use crate::ids::ClientIds;
-use crate::near::NearScheduler;
 use crate::server::CoreServer;
 use dmc_index::index::Indexes;
 use dmc_pull::queue::PullQueue;
@@ -112,7 +112,7 @@ impl<Q> Cluster<Q> {
         at: Moment,
     ) -> Result<CoreReply<T>, CoreFault>
     where
-        Q: NearScheduler<T>,
+        Q: HintedScheduler<T>,
         ensures { Follows T.ops Q.state (events.Arrive client server at) self.old self.new result }
     {
         let place = self.place(client, server)?;
@@ -236,7 +236,7 @@ impl<Q> Cluster<Q> {
     #[inline(always)]
     pub fn step<T: Tag>(&mut self, event: CoreEvent) -> Result<CoreReply<T>, CoreFault>
     where
-        Q: NearScheduler<T>,
+        Q: HintedScheduler<T>,
         ensures { Follows T.ops Q.state event self.old self.new result }
     {
         // Inlined: a caller that names its event keeps that arm alone.

@@ -1,7 +1,7 @@
 //! The cluster core: the cluster over indexed queues with heaps.
 ghost use Rattle.std.specs.Prelude.{◌≡◌, IfOk, length, slice_get};
 ghost use Rattle.std.specs.Option.{option_map};
-ghost use Rattle.dmc_core.specs.Core.{Follows, StandsForRun};
+ghost use Rattle.dmc_core.specs.Core.{Follows, RepresentsRun};
 ghost use Rattle.dmc_core.specs.Opening.{HaveSpacings, opening_of};
 ghost use Rattle.dmc_pull.specs.Queue.{state_of};
 
@@ -20,7 +20,7 @@ use std::marker::Model;
 /// client and a server the messages in flight and the grants that wait for their responses.
 ///
 /// Contracts see each server's queue, and each client with its tracker's numbers, messages and counts. Which states of a
-/// cluster run the core stands for says `StandsForRun` (`specs/Core.antt`); what a run is and what an event makes of it,
+/// cluster run the core represents says `RepresentsRun` (`specs/Core.antt`); what a run is and what an event makes of it,
 /// `specs/Run.antt` and `specs/Events.antt`. A client is found where a table of hints has it, or else by a hash of its id, and
 /// a server by its index. No call walks over clients or servers but inside a queue, as a clean does.
 #[derive(Drop)]
@@ -40,20 +40,20 @@ impl<T: Tag> Model for ClusterCore<T> {
 impl<T: Tag> ClusterCore<T> {
     /// The cluster that a scene opens: each queue has the scene's configuration, every client has registered at every server
     /// at moment 0, in the scene's order, and has a tracker of 2^32-1 completions in the scene's counting form. Each rate of
-    /// the scene has to have a spacing in `T`: in ticks a scene with `tags = "tick"` has them. The error is want of memory.
+    /// the scene has to have a spacing in `T`: in ticks a scene with `tags = "tick"` has them. The error is a failed allocation.
     pub fn new(alloc: Global, scene: &Scene) -> Result<ClusterCore<T>, AllocError>
         requires { HaveSpacings T.ops scene.now }
-        ensures { IfOk result (λ core. StandsForRun state_of core (opening_of T.ops scene.now)) }
+        ensures { IfOk result (λ core. RepresentsRun state_of core (opening_of T.ops scene.now)) }
     {
         Ok(ClusterCore {
             cluster: open_cluster(alloc, scene)?,
         })
     }
 
-    /// Carries out an event. From each run that the core stands for, the answer is that of the rules, and the core then stands
-    /// for the run after the event; a refused event has changed nothing. Of several causes the first is reported, in the order of
+    /// Carries out an event. From each run that the core represents, the answer is that of the rules, and the core then
+    /// represents the run after the event; a refused event has changed nothing. Of several causes the first is reported, in the order of
     /// `CoreFault`. `Memory` comes last, of a stamp or an arrival alone: the rules and the queue would have accepted it, and
-    /// the core stands for what it stood for.
+    /// the core represents what it did before.
     #[inline(always)]
     pub fn step(&mut self, event: CoreEvent) -> Result<CoreReply<T>, CoreFault>
         ensures { Follows T.ops state_of event self.old self.new result }

@@ -1,4 +1,4 @@
-//! What happens in a cluster, and what is answered.
+//! What happens in a cluster, and what the cluster replies.
 ghost use Rattle.std.specs.Prelude.{◌≡◌, ⊤};
 
 use dmc_tag::reply::Reply;
@@ -63,12 +63,12 @@ pub enum CoreEvent {
     },
 }
 
-/// What an event is answered.
+/// The reply to an event.
 #[derive(Copy, Debug, PartialEq, Eq)]
 pub enum CoreReply<T> {
     /// The request is stamped with these counts.
     Stamped(ReqParams),
-    /// What the server's queue answered. Where it refused the command, nothing has changed; a message that it refused is
+    /// What the server's queue replied. Where it refused the command, nothing has changed; a message that it refused is
     /// still the oldest in flight.
     Served(Reply<T>),
     /// The completion is counted.

@@ -7,8 +7,8 @@ use crate::event::Message;
 use std::alloc::{AllocError, Global};
 use std::collections::VecDeque;
 
-/// Messages that were stamped and have not yet arrived. One mostly arrives before the next is sent: so the oldest stands in the
-/// struct itself, and one message alone takes no memory elsewhere.
+/// Messages that were stamped and have not yet arrived. One mostly arrives before the next is sent: so the oldest is kept in the
+/// struct itself, and one message alone needs no allocation.
 #[derive(Drop)]
 pub struct Flight {
     /// The oldest message.

@@ -15,7 +15,7 @@ const SPREAD: u32 = 0x9E37_79B1;
 /// The ids of a scene's clients, in the scene's order.
 ///
 /// Each event of a cluster looks for a client. So a table has for each id, by a product of it, the place of a client that may be
-/// the one: that place is looked at first, and an id is hashed only where another stands there.
+/// the one: that place is looked at first, and an id is hashed only where another is there.
 #[derive(Drop)]
 pub struct ClientIds {
     ids: IndexSet<ClientId>,
@@ -33,7 +33,7 @@ impl Model for ClientIds {
 }
 
 impl ClientIds {
-    /// The ids of these clients. The error is want of memory.
+    /// The ids of these clients. The error is a failed allocation.
     pub fn of_clients(alloc: Global, clients: &[SceneClient]) -> Result<ClientIds, AllocError>
         requires { AllPairs AreApart clients.now }
         ensures { IfOk result (λ ids. ids ≡ map (λ c. c.id) clients.now) }
@@ -98,7 +98,7 @@ fn hint_at(hints: &[u32], client: ClientId) -> usize {
     }
 }
 
-/// The slot of an id among so many.
+/// The slot of an id among this number of slots.
 fn slot_of(client: ClientId, slots: usize) -> usize {
     let spread = u64::from(client.0.wrapping_mul(SPREAD));
     (spread.wrapping_mul(slots as u64) >> 32) as usize

@@ -3,14 +3,14 @@
 ghost use Rattle.std.specs.Prelude.{◌≡◌, IfOk, OnOk, length, map};
 ghost use Rattle.std.specs.List.{AllByRecursion};
 ghost use Rattle.dmc_pull.specs.Queue.{state_of};
-ghost use Rattle.dmc_tag.specs.State.{StandsFor, opening};
-ghost use Rattle.dmc_core.specs.Core.{StandsForRun};
+ghost use Rattle.dmc_tag.specs.State.{Represents, opening};
+ghost use Rattle.dmc_core.specs.Core.{RepresentsRun};
 ghost use Rattle.dmc_core.specs.Opening.{HaveSpacings, opening_state, opening_client, opening_of};
 
 use crate::client::CoreClient;
 use crate::cluster::Cluster;
+use crate::hinted::HintedScheduler;
 use crate::ids::ClientIds;
-use crate::near::NearScheduler;
 use crate::server::CoreServer;
 use dmc_index::index::Indexes;
 use dmc_pull::queue::PullQueue;
@@ -38,7 +38,7 @@ fn open_clients(alloc: Global, scene: &Scene) -> Result<Vec<CoreClient>, AllocEr
 fn register_all<T: Tag, Q: Scheduler<T>>(queue: &mut Q, scene: &Scene) -> Result<(), AllocError>
     requires opens { Q.state queue.old ≡ opening scene.now.config }
     requires spaced { HaveSpacings T.ops scene.now }
-    ensures { OnOk result (StandsFor (Q.state queue.new) (opening_state T.ops scene.now)) }
+    ensures { OnOk result (Represents (Q.state queue.new) (opening_state T.ops scene.now)) }
 {
     for client in scene.clients() {
         match queue.register(client.id(), client.info(), Moment::zero()) {
@@ -51,12 +51,12 @@ fn register_all<T: Tag, Q: Scheduler<T>>(queue: &mut Q, scene: &Scene) -> Result
 }
 
 /// A server at whose queue the clients have registered, and none of whose counts of grants is full.
-fn open_server<T: Tag, Q: NearScheduler<T> + Drop>(
+fn open_server<T: Tag, Q: HintedScheduler<T> + Drop>(
     alloc: Global,
     scene: &Scene,
 ) -> Result<CoreServer<Q>, AllocError>
     requires { HaveSpacings T.ops scene.now }
-    ensures { IfOk result (λ server. StandsFor (Q.state server.queue) (opening_state T.ops scene.now) × (server.full ≡ 0)) }
+    ensures { IfOk result (λ server. Represents (Q.state server.queue) (opening_state T.ops scene.now) × (server.full ≡ 0)) }
 {
     let mut queue = Q::new(alloc, scene.config());
     register_all(&mut queue, scene)?;
@@ -64,13 +64,13 @@ fn open_server<T: Tag, Q: NearScheduler<T> + Drop>(
 }
 
 /// The servers of a scene.
-fn open_servers<T: Tag, Q: NearScheduler<T> + Drop>(
+fn open_servers<T: Tag, Q: HintedScheduler<T> + Drop>(
     alloc: Global,
     scene: &Scene,
 ) -> Result<Vec<CoreServer<Q>>, AllocError>
     requires { HaveSpacings T.ops scene.now }
     ensures as_many { IfOk result (λ servers. length servers.items ≡ scene.now.servers) }
-    ensures each { IfOk result (λ servers. AllByRecursion (λ s. StandsFor (Q.state s.queue) (opening_state T.ops scene.now) × (s.full ≡ 0)) servers.items) }
+    ensures each { IfOk result (λ servers. AllByRecursion (λ s. Represents (Q.state s.queue) (opening_state T.ops scene.now) × (s.full ≡ 0)) servers.items) }
 {
     let mut servers = Vec::with_capacity(alloc, scene.servers() as usize)?;
     for _ in 0..scene.servers() {
@@ -86,7 +86,7 @@ pub fn open_cluster<T: Tag, I: Indexes<T>>(
     scene: &Scene,
 ) -> Result<Cluster<PullQueue<T, I>>, AllocError>
     requires { HaveSpacings T.ops scene.now }
-    ensures { IfOk result (λ cluster. StandsForRun state_of cluster (opening_of T.ops scene.now)) }
+    ensures { IfOk result (λ cluster. RepresentsRun state_of cluster (opening_of T.ops scene.now)) }
 {
     let clients = open_clients(alloc, scene)?;
     let ids = ClientIds::of_clients(alloc, scene.clients())?;

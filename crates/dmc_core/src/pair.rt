@@ -1,7 +1,7 @@
 //! What is under way between a client and a server.
 ghost use Rattle.std.specs.Prelude.{◌≡◌, ◌∷◌, ◌++◌, [], drop, slice_get, nat_le, length, OnOk};
 ghost use Rattle.dmc_core.specs.Parts.{pair_of, HasRoom};
-ghost use Rattle.dmc_core.specs.Run.{no_pair, with_flight, grants, with_grants, most_in_flight};
+ghost use Rattle.dmc_core.specs.Run.{no_pair, with_flight, grants, with_grants, max_in_flight};
 
 use crate::event::Message;
 use crate::flight::Flight;
@@ -9,7 +9,7 @@ use dmc_types::config::PhaseType;
 use std::alloc::{AllocError, Global};
 
 /// The most messages in flight.
-const MOST_IN_FLIGHT: usize = 1 << 20;
+const MAX_IN_FLIGHT: usize = 1 << 20;
 
 /// What is under way between a client and a server.
 #[derive(Drop)]
@@ -36,9 +36,9 @@ impl Pairing {
 
     /// Whether no further message may be sent.
     pub fn is_flight_full(&self) -> bool
-        ensures { result ≡ nat_le most_in_flight (length (pair_of self.now).flight) }
+        ensures { result ≡ nat_le max_in_flight (length (pair_of self.now).flight) }
     {
-        self.flight.len() >= MOST_IN_FLIGHT
+        self.flight.len() >= MAX_IN_FLIGHT
     }
 
     /// Makes room for one more message.

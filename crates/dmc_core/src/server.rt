@@ -5,7 +5,7 @@ ghost use Rattle.dmc_tag.specs.Steps.{Steps};
 ghost use Rattle.dmc_types.specs.declared.command.Command.TheVariants as commands;
 
 use crate::event::Message;
-use crate::near::NearScheduler;
+use crate::hinted::HintedScheduler;
 use dmc_tag::answers;
 use dmc_tag::reply::Reply;
 use dmc_tag::scheduler::Scheduler;
@@ -23,24 +23,24 @@ pub struct CoreServer<Q> {
 }
 
 impl<Q> CoreServer<Q> {
-    /// A message arrives at the queue, of a client that may be the one that was the `near`-th to register. An error is want of
-    /// memory.
+    /// A message arrives at the queue, of a client that may be the one that was the `hint`-th to register. An error is a
+    /// failed allocation.
     pub fn add<T: Tag>(
         &mut self,
-        near: usize,
+        hint: usize,
         client: ClientId,
         message: Message,
         at: Moment,
     ) -> Result<Reply<T>, AllocError>
     where
-        Q: NearScheduler<T>,
+        Q: HintedScheduler<T>,
         ensures full { self.new.full ≡ self.old.full }
         ensures steps { Steps T.ops (Q.state self.old.queue) (Q.state self.new.queue)
             (commands.Add client message.token message.params at) (result_ok result) }
     {
         answers::tagged(
             self.queue
-                .add_request_near(near, client, message.token, message.params, at),
+                .add_request_with_hint(hint, client, message.token, message.params, at),
         )
     }
 

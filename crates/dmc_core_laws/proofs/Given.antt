@@ -20,7 +20,7 @@ use Rattle.dmc_core.specs.declared.event.CoreReply.{CoreReply}
 use Rattle.dmc_core.specs.declared.event.CoreReply.TheVariants.{Stamped, Served, Counted}
 use Rattle.dmc_core.specs.declared.event.CoreFault.{CoreFault}
 use Rattle.dmc_core.specs.declared.event.CoreFault.TheVariants.{FlightFull, TrackFull, GrantsFull, NoGrant}
-use Rattle.dmc_core.specs.Run.{Client, Run, pair_at, grants, most_in_flight, most_completions, with_client, with_server, client_of, server_of, are_grants_full}
+use Rattle.dmc_core.specs.Run.{Client, Run, pair_at, grants, max_in_flight, max_completions, with_client, with_server, client_of, server_of, are_grants_full}
 use Rattle.dmc_core.specs.Events.{Outcome, outcome, conclusion, cluster_step, is_stamp_full, stamp, after_stamp, client_after_arrival, after_pull, response, after_response}
 use Rattle.dmc_core_laws.specs.Histories.{Answer, client_in}
 
@@ -38,7 +38,7 @@ module _ {T : Type 0} (ops : Tagging T) (run : Run T) (e : CoreEvent) where
 module _ {T : Type 0} where
   stamp_gives : (counting : Counting) (s : ServerId) (token : Token) (c : Client) (x : Client × CoreReply T) → stamp counting s token c ≡ Ok x
       → x ≡ (after_stamp s (record { token = token; params = demanded counting s c.list }) c, Stamped (demanded counting s c.list))
-  stamp_gives counting s token c x e = by (nat_le most_in_flight (length (pair_at s c.pairs).flight)) (is_stamp_full counting s c.list) e where
+  stamp_gives counting s token c x e = by (nat_le max_in_flight (length (pair_at s c.pairs).flight)) (is_stamp_full counting s c.list) e where
     given : Client × CoreReply T
     given = (after_stamp s (record { token = token; params = demanded counting s c.list }) c, Stamped (demanded counting s c.list))
 
@@ -48,7 +48,7 @@ module _ {T : Type 0} where
     by false false e = cc
 
   response_gives : (s : ServerId) (phase : PhaseType) (c : Client) (x : Client × CoreReply T) → response s phase c ≡ Ok x → x ≡ (after_response s phase c, Counted)
-  response_gives s phase c x e = by (grants phase (pair_at s c.pairs) == 0) ((completions c.list).delta == most_completions) e where
+  response_gives s phase c x e = by (grants phase (pair_at s c.pairs) == 0) ((completions c.list).delta == max_completions) e where
     given : Client × CoreReply T
     given = (after_response s phase c, Counted)
 

@@ -55,8 +55,8 @@ commands_of events = map (λ e. e.command) events
 
 module _ {T : Type 0} (ops : Tagging T) where
   -- what was recorded of s from the state u on replays, and gives the plain state of s in the run
-  pub record Told (s : ServerId) (u : State T) (told : List (Event T)) (next : Run T) : Type 0 where
-    pub replays_told : replays_from ops u told
+  pub record Recorded (s : ServerId) (u : State T) (told : List (Event T)) (next : Run T) : Type 0 where
+    pub replays_recorded : replays_from ops u told
     pub state_is : slice_get next.servers s.0 ≡ Some (state_after ops u (commands_of told))
 
   pub replays_both : (u : State T) (xs ys : List (Event T)) → replays_from ops u xs → replays_from ops (state_after ops u (commands_of xs)) ys → replays_from ops u (xs ++ ys)
@@ -68,28 +68,28 @@ module _ {T : Type 0} (ops : Tagging T) where
   state_both u (x ∷ xs) ys = state_both ((step ops u x.command).0) xs ys
 
   module _ (s : ServerId) (u : State T) (run : Run T) (here : slice_get run.servers s.0 ≡ Some u) where
-    quiet : (told : List (Event T)) (next : Run T) → told ≡ [] → next.servers ≡ run.servers → Told s u told next
-    quiet told next none same = rw none (record { replays_told = tt; state_is = ap (λ us. slice_get us s.0) same ∙ here })
+    quiet : (told : List (Event T)) (next : Run T) → told ≡ [] → next.servers ≡ run.servers → Recorded s u told next
+    quiet told next none same = rw none (record { replays_recorded = tt; state_is = ap (λ us. slice_get us s.0) same ∙ here })
 
     -- a command to the queue of a server
     served : (server : ServerId) (command : Command) (old : State T) (handed_is : Option Command) (next : Run T) (reply : Reply T) → slice_get run.servers server.0 ≡ Some old → handed_is ≡ Some command
-        → reply ≡ (step ops old command).1 → next.servers ≡ set run.servers server.0 ((step ops old command).0) → Told s u (recorded_events (is_server s server) handed_is (Ok (Served reply))) next
+        → reply ≡ (step ops old command).1 → next.servers ≡ set run.servers server.0 ((step ops old command).0) → Recorded s u (recorded_events (is_server s server) handed_is (Ok (Served reply))) next
     served server command old handed_is next reply found asked reply_is servers_are = by (is_server s server) refl where
-      by : (b : Bool) → is_server s server ≡ b → Told s u (recorded_events b handed_is (Ok (Served reply))) next
+      by : (b : Bool) → is_server s server ≡ b → Recorded s u (recorded_events b handed_is (Ok (Served reply))) next
       by true e =
           let place : server.0 ≡ s.0 = eqb-true server.0 s.0 e in
           let same : old ≡ u = same_Some old u (sym found ∙ ap (slice_get run.servers) place ∙ here) in
           rw asked (record {
-            replays_told = (reply_is ∙ ap (λ (v : State T). (step ops v command).1) same, tt);
+            replays_recorded = (reply_is ∙ ap (λ (v : State T). (step ops v command).1) same, tt);
             state_is =
                 ap (λ us. slice_get us s.0) servers_are ∙ ap (slice_get (set run.servers server.0 _)) (sym place) ∙ slice_get-set_same run.servers server.0 _ (slice_get_within run.servers server.0 old found)
                 ∙ ap (λ (v : State T). Some ((step ops v command).0)) same;
           })
-      by false e = record { replays_told = tt; state_is = ap (λ us. slice_get us s.0) servers_are ∙ slice_get-set_other run.servers server.0 s.0 _ (λ same. eqb-false server.0 s.0 e (sym same)) ∙ here }
+      by false e = record { replays_recorded = tt; state_is = ap (λ us. slice_get us s.0) servers_are ∙ slice_get-set_other run.servers server.0 s.0 _ (λ same. eqb-false server.0 s.0 e (sym same)) ∙ here }
 
   -- one event
   pub accepted : (s : ServerId) (u : State T) (run : Run T) → slice_get run.servers s.0 ≡ Some u → (e : CoreEvent) (x : Run T × CoreReply T) → Gives ops run e x
-      → Told s u (recorded_events (is_server s (server_named e)) (queue_command run e) (Ok x.1)) x.0
+      → Recorded s u (recorded_events (is_server s (server_named e)) (queue_command run e) (Ok x.1)) x.0
   accepted s u run here (Stamp id server token) x g = quiet s u run here _ x.0 (nothing_handed (is_server s server) (Ok x.1)) (ap (λ (y : Run T × CoreReply T). y.0.servers) g.is)
   accepted s u run here (Respond id server phase) x g = quiet s u run here _ x.0 (nothing_handed (is_server s server) (Ok x.1)) (ap (λ (y : Run T × CoreReply T). y.0.servers) g.is)
   accepted s u run here (Arrive id server at) x g =
@@ -102,20 +102,20 @@ module _ {T : Type 0} (ops : Tagging T) where
   accepted s u run here (Clean server at) x g = rw g.is (served s u run here server (commands.Clean at) g.state (Some (commands.Clean at)) _ _ g.state_is refl refl refl)
 
   told : (s : ServerId) (u : State T) (run : Run T) (e : CoreEvent) → slice_get run.servers s.0 ≡ Some u
-      → Told s u (recorded_events (is_server s (server_named e)) (queue_command run e) ((cluster_step ops run e).1)) ((cluster_step ops run e).0)
-  told s u run e here = step_goes ops run e (λ p. Told s u (recorded_events (is_server s (server_named e)) (queue_command run e) p.1) p.0)
+      → Recorded s u (recorded_events (is_server s (server_named e)) (queue_command run e) ((cluster_step ops run e).1)) ((cluster_step ops run e).0)
+  told s u run e here = step_goes ops run e (λ p. Recorded s u (recorded_events (is_server s (server_named e)) (queue_command run e) p.1) p.0)
       (λ fault. quiet s u run here _ run (nothing_refused (is_server s (server_named e)) (queue_command run e) fault) refl)
       (λ x is. accepted s u run here e x (gives ops run e x is))
 
   -- all events from a run on
-  pub all_told : (s : ServerId) (u : State T) (run : Run T) (es : List CoreEvent) → slice_get run.servers s.0 ≡ Some u → Told s u (history_from ops s run es) (run_after ops run es)
-  all_told s u run [] here = record { replays_told = tt; state_is = here }
-  all_told s u run (e ∷ es) here =
+  pub all_recorded : (s : ServerId) (u : State T) (run : Run T) (es : List CoreEvent) → slice_get run.servers s.0 ≡ Some u → Recorded s u (history_from ops s run es) (run_after ops run es)
+  all_recorded s u run [] here = record { replays_recorded = tt; state_is = here }
+  all_recorded s u run (e ∷ es) here =
       let now = recorded_events (is_server s (server_named e)) (queue_command run e) ((cluster_step ops run e).1) in
       let one = told s u run e here in
-      let rest = all_told s (state_after ops u (commands_of now)) ((cluster_step ops run e).0) es one.state_is in
+      let rest = all_recorded s (state_after ops u (commands_of now)) ((cluster_step ops run e).0) es one.state_is in
       record {
-        replays_told = replays_both u now _ one.replays_told rest.replays_told;
+        replays_recorded = replays_both u now _ one.replays_recorded rest.replays_recorded;
         state_is = rest.state_is ∙ ap (λ (v : State T). Some v) (sym (state_both u now _));
       }
 
@@ -133,8 +133,8 @@ module _ {T : Type 0} (ops : Tagging T) where
       let cs = map named_rates scene.clients in
       let registered = registrations ops u cs in
       let opened = at_replicate scene.servers s.0 (state_after ops u (map registration cs)) within ∙ ap (λ xs. Some (state_after ops u xs)) (sym (registrations_are u cs)) in
-      let all = all_told s (state_after ops u (commands_of registered)) (opening_of ops scene) events opened in
+      let all = all_recorded s (state_after ops u (commands_of registered)) (opening_of ops scene) events opened in
       record {
-        replays_all = replays_both u registered _ (registrations_replay u cs) all.replays_told;
+        replays_all = replays_both u registered _ (registrations_replay u cs) all.replays_recorded;
         state_is = all.state_is ∙ ap (λ (v : State T). Some v) (sym (state_both u registered _));
       }

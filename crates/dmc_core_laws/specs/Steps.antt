@@ -19,7 +19,7 @@ use Rattle.dmc_core.specs.declared.event.CoreReply.TheVariants.{Served}
 use Rattle.dmc_core.specs.declared.event.CoreFault.TheVariants.{Memory}
 use Rattle.dmc_core.specs.Run.{Run}
 use Rattle.dmc_core.specs.Events.{answers_of, run_after}
-use Rattle.dmc_core.specs.Core.{CoreValue, StandsForRun, Follows}
+use Rattle.dmc_core.specs.Core.{CoreValue, RepresentsRun, Follows}
 use Rattle.dmc_core.specs.Opening.{opening_of}
 use Rattle.dmc_core_laws.specs.Histories.{Answer, history, history_from}
 use Rattle.dmc_core_laws.specs.Bounds.{NotUpdated, Parts, run_of, tracker_list, counted_since}
@@ -41,18 +41,18 @@ heard (x ∷ xs) = if wants_memory x.1 then heard xs else x ∷ heard xs
 -- The replies are those of the rules to these events, and the core represents the run after them.
 pub record IsRunOf {T Q : Type 0} (ops : Tagging T) (state : Q → State T) (run : Run T) (steps : List (CoreEvent × Answer T)) (new : CoreValue Q) : Type 0 where
   pub answers : map (λ x. x.1) (heard steps) ≡ answers_of ops run (map (λ x. x.0) (heard steps))
-  pub stands : StandsForRun state new (run_after ops run (map (λ x. x.0) (heard steps)))
+  pub represents : RepresentsRun state new (run_after ops run (map (λ x. x.0) (heard steps)))
 
 -- This holds from each run that a core represents.
 abbrev pub StepsAreRuns : {T Q : Type 0} → Tagging T → (Q → State T) → Type 0
 StepsAreRuns {T} {Q} ops state =
-    (run : Run T) (old new : CoreValue Q) (steps : List (CoreEvent × Answer T)) → StandsForRun state old run → Steps ops state old steps new → IsRunOf ops state run steps new
+    (run : Run T) (old new : CoreValue Q) (steps : List (CoreEvent × Answer T)) → RepresentsRun state old run → Steps ops state old steps new → IsRunOf ops state run steps new
 
 -- ---- a core's replies in parts
 
 -- the events that have replies
-abbrev pub answered_events : {T : Type 0} → List (CoreEvent × Answer T) → List CoreEvent
-answered_events steps = map (λ x. x.0) (heard steps)
+abbrev pub replied_events : {T : Type 0} → List (CoreEvent × Answer T) → List CoreEvent
+replied_events steps = map (λ x. x.0) (heard steps)
 
 -- no Update of the client at s is accepted
 abbrev pub NoneAccepted : {T : Type 0} → ClientId → ServerId → List (CoreEvent × Answer T) → Type 0
@@ -70,7 +70,7 @@ pub record CoreParts {T Q : Type 0} (ops : Tagging T) (state : Q → State T) (s
   pub pulled : ℕ
   pub token : Token
   pub within : s.0 < scene.servers
-  pub opens : StandsForRun state opened (opening_of ops scene)
+  pub opens : RepresentsRun state opened (opening_of ops scene)
   pub steps : Steps ops state opened (before ++ (Arrive id s arrived, Ok (Served (Tagged tags))) ∷ (second ++ (Pull s pulled, Ok (Served (Granted id token phase false))) ∷ [])) new
   pub kept : NoneAccepted id s second
 
@@ -78,21 +78,21 @@ pub record CoreParts {T Q : Type 0} (ops : Tagging T) (state : Q → State T) (s
 abbrev pub AnswersArePartsOfRuns : {T Q : Type 0} → Tagging T → (Q → State T) → Type 0
 AnswersArePartsOfRuns ops state =
     (scene : SceneValue) (id : ClientId) (s : ServerId) (phase : PhaseType) (k : CoreParts ops state scene id s phase)
-    → (p : Parts ops scene id s phase) × (p.before ≡ answered_events k.before) × (p.arrived ≡ k.arrived) × (p.second ≡ answered_events k.second) × (p.pulled ≡ k.pulled) × (p.token ≡ k.token)
+    → (p : Parts ops scene id s phase) × (p.before ≡ replied_events k.before) × (p.arrived ≡ k.arrived) × (p.second ≡ replied_events k.second) × (p.pulled ≡ k.pulled) × (p.token ≡ k.token)
 
 -- ---- the bounds of a core's replies
 
 module _ {T Q : Type 0} {ops : Tagging T} {state : Q → State T} {scene : SceneValue} {id : ClientId} {s : ServerId} {phase : PhaseType} (k : CoreParts ops state scene id s phase) where
   -- the history of s up to a_i, and from there to the grant
   abbrev pub core_first : List (Event T)
-  core_first = history ops scene s (answered_events k.before ++ Arrive id s k.arrived ∷ [])
+  core_first = history ops scene s (replied_events k.before ++ Arrive id s k.arrived ∷ [])
 
   abbrev pub core_second : List (Event T)
-  core_second = history_from ops s (run_of ops scene (answered_events k.before ++ Arrive id s k.arrived ∷ [])) (answered_events k.second)
+  core_second = history_from ops s (run_of ops scene (replied_events k.before ++ Arrive id s k.arrived ∷ [])) (replied_events k.second)
 
   -- the run before the pull
   abbrev pub core_run : Run T
-  core_run = run_of ops scene ((answered_events k.before ++ Arrive id s k.arrived ∷ []) ++ answered_events k.second)
+  core_run = run_of ops scene ((replied_events k.before ++ Arrive id s k.arrived ∷ []) ++ replied_events k.second)
 
 abbrev pub LimitOfCores : {T Q : Type 0} → Tagging T → (Q → State T) → Type 0
 LimitOfCores ops state =

@@ -1,6 +1,6 @@
 -- What is promised of a run, however it ends.
 use Rattle.std.specs.Prelude.{◌≡◌, ◌≤◌, ℕ, ⊤, Result, Ok, Err, List, Some, length, slice_get, All, Any}
-use Rattle.dmc_types.specs.Limits.{most_events, most_run_completions}
+use Rattle.dmc_types.specs.Limits.{max_events, max_run_completions}
 use Rattle.dmc_tag.specs.Tag.{Tagging}
 use Rattle.dmc_tracker.specs.TrackerList.{completions}
 use Rattle.dmc_scene.specs.SceneValue.{SceneValue, ClientValue}
@@ -19,7 +19,7 @@ use Rattle.dmc_driver.specs.declared.fault.DriveFault.TheVariants.{Memory, Torn,
 
 -- the widest limits
 abbrev pub widest : LimitsValue
-widest = record { events = most_events; completions = most_run_completions }
+widest = record { events = max_events; completions = max_run_completions }
 
 -- ---- what the threads left
 

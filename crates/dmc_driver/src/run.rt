@@ -1,6 +1,6 @@
 //! A run of a scene's cluster.
 ghost use Rattle.std.specs.Prelude.{◌≡◌, ◌<◌, ◌≤◌, All, IfOk};
-ghost use Rattle.dmc_types.specs.Limits.{most_books};
+ghost use Rattle.dmc_types.specs.Limits.{max_books};
 ghost use Rattle.dmc_driver_threads.specs.Opened.{IsRegistered};
 ghost use Rattle.dmc_driver.specs.Ending.{EndsSo, IsSettledReport, Reports, widest};
 
@@ -27,7 +27,7 @@ use std::marker::Brand;
 use std::sync::Wait;
 use std::thread::Threads;
 
-/// Runs the cluster of a scene in threads, one for each client and for each worker of a server, and tells what came of it. It
+/// Runs the cluster of a scene in threads, one for each client and for each worker of a server, and reports the result. It
 /// returns when all of them have ended.
 ///
 /// Each client's worker sends its requests to the servers that its plan names, with at most its window outstanding. Each worker of
@@ -76,7 +76,7 @@ where
 /// How many books a run opens: five of each client at each server, and five of each worker that a server enrols.
 fn books_of(scene: &Scene) -> u64
     ensures some { 0 < result }
-    ensures limit { result ≤ most_books }
+    ensures limit { result ≤ max_books }
 {
     let clients = scene.clients().len() as u64;
     let servers = u64::from(scene.servers());

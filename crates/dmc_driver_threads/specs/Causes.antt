@@ -1,4 +1,4 @@
--- What a worker that is refused tells as the cause of its stop. A lock's refusal that its callers rule out is a stray one.
+-- What a worker that is refused reports as the cause of its stop. A lock's refusal that its callers rule out is a stray one.
 use Rattle.dmc_types.specs.declared.refusal.Refusal.TheVariants.{Range}
 use Rattle.dmc_tlock.specs.declared.fault.EntryFault.{EntryFault}
 use Rattle.dmc_tlock.specs.declared.fault.EntryFault.TheVariants as entry

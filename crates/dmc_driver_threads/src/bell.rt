@@ -1,4 +1,4 @@
-//! Doorbells: how a client's worker is told that a request was completed, or that it is to end.
+//! Doorbells: how a client's worker learns that a request was completed, or that it is to end.
 ghost use Rattle.std.specs.Prelude.{◌<◌};
 ghost use Rattle.crossbeam_channel.specs.Claims.{IsSeatAt};
 ghost use Rattle.crossbeam_channel.specs.Ends.{sends_on, receives_on};
@@ -8,7 +8,7 @@ use crossbeam_channel::{Pass, RuledReceiver, RuledSender, bounded_with};
 use std::alloc::{AllocError, Global};
 use std::sync::Wait;
 
-/// What a client's worker is told.
+/// What a client's worker learns from a doorbell.
 #[derive(Clone, Copy, Debug, PartialEq, Eq)]
 pub(crate) enum Ring {
     /// One of its requests was completed.
@@ -42,7 +42,7 @@ pub(crate) struct Doorbell {
     ghost seated: { IsSeatAt (receives_on receiver) pass },
 }
 
-/// A doorbell with room for so many rings that were not heard yet.
+/// A doorbell with room for this number of rings that were not heard yet.
 pub(crate) fn hang_bell(alloc: Global, room: usize) -> Result<(Ringer, Doorbell), AllocError>
     requires { 0 < room }
 {
@@ -71,7 +71,7 @@ impl Ringer {
 }
 
 impl Doorbell {
-    /// Waits for a ring. Where nobody can ring any more, it is told to stop.
+    /// Waits for a ring. Where nobody can ring any more, it returns Stop.
     pub(crate) fn hear<R: Wait>(&mut self, rt: &R) -> Ring {
         match self.receiver.recv_as::<Free, R>(rt, &mut self.pass) {
             Ok(ring) => ring,

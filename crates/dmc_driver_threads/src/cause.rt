@@ -1,4 +1,4 @@
-//! What a worker that is refused tells as the cause of its stop.
+//! What a worker that is refused reports as the cause of its stop.
 ghost use Rattle.std.specs.Prelude.{◌≡◌};
 ghost use Rattle.dmc_driver_threads.specs.Causes.{of_entry, of_pull, of_run, of_submit};
 

@@ -1,8 +1,8 @@
 //! How long the histories of a run may grow, and how far its trackers count.
 ghost use Rattle.std.specs.Prelude.{◌≡◌, ◌≤◌, ◌<◌, ◌↔◌, IfSome, IsSome};
-ghost use Rattle.dmc_types.specs.Limits.{most_events, most_run_completions};
+ghost use Rattle.dmc_types.specs.Limits.{max_events, max_run_completions};
 
-use dmc_types::limits::MOST_EVENTS;
+use dmc_types::limits::MAX_EVENTS;
 use std::marker::Model;
 
 /// The most events of a history, 256 to 2^30, and the most completions that a tracker counts, 1 to 2^32-1.
@@ -14,14 +14,14 @@ pub struct Limits {
 
 impl Model for Limits {
     ghost use Rattle.std.specs.Prelude.{◌≤◌};
-    ghost use Rattle.dmc_types.specs.Limits.{most_events};
+    ghost use Rattle.dmc_types.specs.Limits.{max_events};
     ghost use Rattle.dmc_driver_threads.specs.LimitsValue.{LimitsValue};
 
     ghost Value = { LimitsValue };
 
     ghost view = { λ l. record { events = l.events; completions = l.completions } };
 
-    ghost invariant = { λ l. (256 ≤ l.events) × (l.events ≤ most_events) × (1 ≤ l.completions) };
+    ghost invariant = { λ l. (256 ≤ l.events) × (l.events ≤ max_events) × (1 ≤ l.completions) };
 
     ghost inverse = { λ l. record { events = l.events; completions = l.completions } };
 }
@@ -29,10 +29,10 @@ impl Model for Limits {
 impl Limits {
     /// These limits, or `None` where one is out of its own.
     pub fn new(events: u32, completions: u32) -> Option<Limits>
-        ensures some { IsSome result ↔ ((256 ≤ events) × (events ≤ most_events) × (1 ≤ completions)) }
+        ensures some { IsSome result ↔ ((256 ≤ events) × (events ≤ max_events) × (1 ≤ completions)) }
         ensures value { IfSome result (λ limits. limits ≡ record { events = events; completions = completions }) }
     {
-        if events < 256 || events > MOST_EVENTS || completions < 1 {
+        if events < 256 || events > MAX_EVENTS || completions < 1 {
             return None;
         }
         Some(Limits {
@@ -43,10 +43,10 @@ impl Limits {
 
     /// The widest limits: 2^30 events and 2^32-1 completions.
     pub fn widest() -> Limits
-        ensures { result ≡ record { events = most_events; completions = most_run_completions } }
+        ensures { result ≡ record { events = max_events; completions = max_run_completions } }
     {
         Limits {
-            events: MOST_EVENTS,
+            events: MAX_EVENTS,
             completions: u32::MAX,
         }
     }
@@ -55,7 +55,7 @@ impl Limits {
     pub fn events(self) -> u32
         ensures value { result ≡ self.events }
         ensures some { 256 ≤ result }
-        ensures limit { result ≤ most_events }
+        ensures limit { result ≤ max_events }
     {
         self.events
     }

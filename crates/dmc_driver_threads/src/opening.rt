@@ -106,7 +106,7 @@ fn reserve_all<T: Tag, B: Lasting, W: Witness<B>, S: Setup>(
     reserve_of_servers(servers, &mut opened.remains)
 }
 
-/// Makes room for so many trackers and queues.
+/// Makes room for this number of trackers and queues.
 fn reserve_locks<B: Lasting, W: Witness<B>, S: Setup>(
     clients: usize,
     servers: usize,
@@ -135,7 +135,7 @@ fn open_servers<T: Tag, I: Indexes<T>, S: Origin>(
     Ok(())
 }
 
-/// Puts one item more at the end. Where there is no memory for it, it is let go.
+/// Puts one item more at the end. Where there is no memory for it, it is dropped.
 fn push_last<X: Drop>(item: X, items: &mut Vec<X>) -> Result<(), AllocError> {
     items.push(item)?;
     Ok(())

@@ -35,7 +35,7 @@ pub(crate) fn no_remains<T: Tag, B, S: Setup>(alloc: Global) -> Remains<T, B, S>
     }
 }
 
-/// Makes room for what so many clients leave.
+/// Makes room for what this number of clients leaves.
 pub(crate) fn reserve_of_clients<T: Tag, B, S: Setup>(
     clients: usize,
     remains: &mut Remains<T, B, S>,
@@ -46,7 +46,7 @@ pub(crate) fn reserve_of_clients<T: Tag, B, S: Setup>(
     Ok(())
 }
 
-/// Makes room for what so many servers leave beside their books.
+/// Makes room for what this number of servers leaves beside their books.
 pub(crate) fn reserve_of_servers<T: Tag, B, S: Setup>(
     servers: usize,
     remains: &mut Remains<T, B, S>,

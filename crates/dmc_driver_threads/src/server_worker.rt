@@ -1,4 +1,4 @@
-//! A worker of a server: it pulls, has the granted requests served, and tells their clients.
+//! A worker of a server: it pulls, has the granted requests served, and rings their clients.
 
 use crate::bell::{Ring, Ringer};
 use crate::cause::{of_entry, of_pull};
@@ -53,7 +53,7 @@ where
     }
 }
 
-/// Tells every client's worker to end.
+/// Rings every client's worker to end.
 pub(crate) fn stop_all<R: Wait>(rt: &R, ringers: &mut [Ringer]) {
     for ringer in ringers.iter_mut() {
         ringer.ring(rt, Ring::Stop);
@@ -128,7 +128,7 @@ where
     }
 }
 
-/// Has a granted request served, and tells its client.
+/// Has a granted request served, and rings its client.
 fn complete<B: Lasting, W: Witness<B>, S: Setup, V: Service, R: Wait>(
     rt: &R,
     cluster: &Cluster<B, W, S>,
@@ -143,11 +143,11 @@ fn complete<B: Lasting, W: Witness<B>, S: Setup, V: Service, R: Wait>(
     if failed {
         count_failure(&mut job.failures, place);
     }
-    tell_client(rt, &cluster.trackers, place, granted, job)
+    notify_client(rt, &cluster.trackers, place, granted, job)
 }
 
 /// Responds for a granted request to the client at a place, and rings at its door.
-fn tell_client<S: Setup, R: Wait>(
+fn notify_client<S: Setup, R: Wait>(
     rt: &R,
     trackers: &[TrackerLock<S>],
     place: usize,

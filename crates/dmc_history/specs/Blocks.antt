@@ -2,7 +2,7 @@
 use Rattle.std.specs.Prelude.{◌≡◌, ℕ, ◌-◌, ◌*◌, ◌<◌, ◌≤◌, List, [], ◌∷◌, length, min, vec_capacity}
 use Rattle.std.specs.List.{flat_map}
 use Rattle.std.specs.Global.{Vec}
-use Rattle.dmc_types.specs.Limits.{most_events}
+use Rattle.dmc_types.specs.Limits.{max_events}
 use Rattle.dmc_history.specs.Log.{block_size}
 
 module _ {E : Type 0} where
@@ -23,5 +23,5 @@ module _ {E : Type 0} where
 -- the limits of a history
 pub record AreLimits (len most : ℕ) : Type 0 where
   pub some : 0 < most
-  pub greatest : most ≤ most_events
+  pub greatest : most ≤ max_events
   pub within : len ≤ most

@@ -3,11 +3,11 @@
 
 ghost use Rattle.std.specs.Prelude.{◌≡◌, ◌↔◌, ◌+◌, ◌-◌, ◌<◌, ◌≤◌, [], ◌∷◌, ◌++◌, length, IsTrue, OnOk, OnErr, IsErrOf, IsOk, min, option_copied, slice_get, vec_capacity};
 ghost use Rattle.std.specs.Global.{Vec};
-ghost use Rattle.dmc_types.specs.Limits.{most_events};
+ghost use Rattle.dmc_types.specs.Limits.{max_events};
 ghost use Rattle.dmc_history.specs.Log.{block_size};
 
 pub use dmc_tag::event::Event;
-use dmc_types::limits::MOST_EVENTS;
+use dmc_types::limits::MAX_EVENTS;
 use std::alloc::{AllocError, Global};
 use std::marker::Model;
 use std::mem::replace;
@@ -75,10 +75,10 @@ impl<E> Model for History<E> {
 impl<E: Drop> History<E> {
     /// An empty history of at most `most` events. It does not allocate, and is refused `Limit` where `most` is not 1 to 2^30.
     pub fn new(alloc: Global, most: u32) -> Result<History<E>, LimitFault>
-        ensures ok { (0 < most) × (most ≤ most_events) → result ≡ Ok (record { events = []; most = most; room = 0 }) }
-        ensures refused { ((0 < most) × (most ≤ most_events) → ⊥) → result ≡ Err LimitFault.Limit }
+        ensures ok { (0 < most) × (most ≤ max_events) → result ≡ Ok (record { events = []; most = most; room = 0 }) }
+        ensures refused { ((0 < most) × (most ≤ max_events) → ⊥) → result ≡ Err LimitFault.Limit }
     {
-        if most < 1 || most > MOST_EVENTS {
+        if most < 1 || most > MAX_EVENTS {
             return Err(LimitFault::Limit);
         }
         Ok(History {
@@ -108,7 +108,7 @@ impl<E: Drop> History<E> {
     pub fn most(&self) -> u32
         ensures value { result ≡ self.now.most }
         ensures some { 0 < result }
-        ensures limit { result ≤ most_events }
+        ensures limit { result ≤ max_events }
     {
         self.most
     }
@@ -172,7 +172,7 @@ impl<E: Drop> History<E> {
     pub fn take(&mut self) -> History<E>
         ensures value { result ≡ self.old }
         ensures within { length result.events ≤ result.most }
-        ensures limit { result.most ≤ most_events }
+        ensures limit { result.most ≤ max_events }
         ensures empty { self.new ≡ record { events = []; most = self.old.most; room = 0 } }
     {
         let empty = History {

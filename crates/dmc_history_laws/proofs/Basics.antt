@@ -5,7 +5,7 @@ use Rattle.std.specs.Result.{result_ok}
 use Rattle.std.proofs.lemmas.Bool.{eqb-true, eq-eqb, not-false}
 use Rattle.std.specs.Prelude.{List, ◌==◌, ⊤, nat_le}
 use Rattle.std.specs.Option.{ok_or}
-use Rattle.dmc_types.specs.Limits.{most_requests}
+use Rattle.dmc_types.specs.Limits.{max_requests}
 use Rattle.dmc_types.specs.declared.ids.ClientId.{ClientId}
 use Rattle.dmc_types.specs.Values.{Params}
 use Rattle.dmc_types.specs.declared.refusal.Refusal.{Refusal}
@@ -69,7 +69,7 @@ pub record AddGives {T : Type 0} (ops : Tagging T) (s : State T) (id : ClientId)
 pub add_gives : {T : Type 0} (ops : Tagging T) (s : State T) (id : ClientId) (params : Params) (t : T) (x : Option T × Tags T) → can_add ops s id params t ≡ Ok x → AddGives ops s id params t x
 add_gives ops s id params t x e =
     let c = bound (ok_or (client_named id s.clients) Unknown) _ x e in
-    let full = bound (refuse_if (nat_le most_requests (length s.requests)) QueueFull) _ x c.2 in
+    let full = bound (refuse_if (nat_le max_requests (length s.requests)) QueueFull) _ x c.2 in
     let shift = bound (shift_of ops s.requests c.0 t) _ x full.2 in
     let range = bound (refuse_if (not (can_shift_by ops shift.0 s.clients s.requests)) Range) _ x shift.2 in
     let tags = bound (assigned ops s.config.hz c.0 params t) _ x range.2 in

@@ -1,6 +1,6 @@
 //! A book: the total of one quantity.
 ghost use Rattle.std.specs.Prelude.{◌≡◌, ◌≢◌, ◌+◌, ◌-◌, ◌<◌, ◌≤◌, ◌^◌, ◌↔◌, IfOk, OnOk, OnErr, IsErr};
-ghost use Rattle.dmc_types.specs.Limits.{most_open_tills};
+ghost use Rattle.dmc_types.specs.Limits.{max_open_tills};
 ghost use Rattle.dmc_ledger.specs.Accounts.{total_of, new_book, new_till};
 ghost use Rattle.dmc_ledger.specs.Moves.{after_issue, after_opening, with_more};
 
@@ -85,7 +85,7 @@ impl<S: Setup> Book<S> {
 
     /// Opens a till, which holds nothing. It is refused `Full` at 2^32-1 open tills.
     pub fn till(&mut self) -> Result<Till<S>, Full>
-        ensures full { IsErr result ↔ (self.old.open_tills ≡ most_open_tills) }
+        ensures full { IsErr result ↔ (self.old.open_tills ≡ max_open_tills) }
         ensures till { IfOk result (λ till. till ≡ new_till self.old.number) }
         ensures book { OnOk result (self.new ≡ after_opening self.old) }
         ensures kept { OnErr result (self.new ≡ self.old) }

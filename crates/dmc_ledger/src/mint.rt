@@ -1,6 +1,6 @@
 //! A set-up, and its one mint, which opens the books.
 ghost use Rattle.std.specs.Prelude.{◌≡◌, ◌+◌, ◌-◌, ◌<◌, ◌≤◌, ◌↔◌, IfOk, OnOk, OnErr, IsErr, []};
-ghost use Rattle.dmc_types.specs.Limits.{most_books};
+ghost use Rattle.dmc_types.specs.Limits.{max_books};
 
 use crate::book::Book;
 use crate::full::Full;
@@ -18,14 +18,14 @@ pub struct Blank {
 
 impl Model for Blank {
     ghost use Rattle.std.specs.Prelude.{◌≤◌};
-    ghost use Rattle.dmc_types.specs.Limits.{most_books};
+    ghost use Rattle.dmc_types.specs.Limits.{max_books};
     ghost use Rattle.dmc_ledger.specs.Accounts.{Unopened};
 
     ghost Value = { Unopened };
 
     ghost view = { λ b. record { name = b.token.name; books = b.books } };
 
-    ghost invariant = { λ b. b.books ≤ most_books };
+    ghost invariant = { λ b. b.books ≤ max_books };
 }
 
 impl Blank {
@@ -33,7 +33,7 @@ impl Blank {
     /// `std::marker::Brand`, and `open` the set-up there.
     pub fn new(books: u64) -> Blank
         requires some { 0 < books }
-        requires limit { books ≤ most_books }
+        requires limit { books ≤ max_books }
         ensures { result.books ≡ books }
     {
         Blank {
@@ -66,14 +66,14 @@ pub struct Mint<S: Setup> {
 
 impl<S: Setup> Model for Mint<S> {
     ghost use Rattle.std.specs.Prelude.{◌≡◌, ◌+◌, ◌≤◌};
-    ghost use Rattle.dmc_types.specs.Limits.{most_books};
+    ghost use Rattle.dmc_types.specs.Limits.{max_books};
     ghost use Rattle.dmc_ledger.specs.Accounts.{Stock};
 
     ghost Value = { Stock };
 
     ghost view = { λ m. record { opened = m.opened; left = m.left } };
 
-    ghost invariant = { λ m. (m.token.opened ≡ m.opened) × (m.opened + m.left ≤ most_books) };
+    ghost invariant = { λ m. (m.token.opened ≡ m.opened) × (m.opened + m.left ≤ max_books) };
 }
 
 impl<S: Setup> Mint<S> {
@@ -115,7 +115,7 @@ impl<S: Setup> Mint<S> {
     /// The number of books that may still be opened.
     pub fn left(&self) -> u64
         ensures value { result ≡ self.now.left }
-        ensures limit { self.now.opened + result ≤ most_books }
+        ensures limit { self.now.opened + result ≤ max_books }
     {
         self.left
     }

@@ -2,7 +2,7 @@
 use Rattle.std.proofs.Common.{◌≡◌, Bool, not, ◌&&◌, true, false, length, Option, Some, None, is_some, Result, Ok, Err, ap, sym}
 use Rattle.std.specs.Prelude.{nat_le}
 use Rattle.std.specs.Option.{ok_or}
-use Rattle.dmc_types.specs.Limits.{most_clients, most_requests}
+use Rattle.dmc_types.specs.Limits.{max_clients, max_requests}
 use Rattle.dmc_types.specs.Values.{Params, Rates}
 use Rattle.dmc_types.specs.declared.ids.ClientId.{ClientId}
 use Rattle.dmc_types.specs.declared.refusal.Refusal.{Refusal}
@@ -23,10 +23,10 @@ module _ {T : Type 0} (ops : Tagging T) (s : State T) (id : ClientId) where
     add_unknown none = ends _ (ap (λ o. ok_or o Unknown) none)
 
     module _ (client : PlainClient T) (named : client_named id s.clients ≡ Some client) where
-      pub queue_full : nat_le most_requests (length s.requests) ≡ true → Err QueueFull ≡ can_add ops s id params t
+      pub queue_full : nat_le max_requests (length s.requests) ≡ true → Err QueueFull ≡ can_add ops s id params t
       queue_full full = goes_on _ (ap (λ o. ok_or o Unknown) named) (ends _ (ap (λ b. refuse_if b QueueFull) full))
 
-      module _ (room : nat_le most_requests (length s.requests) ≡ false) where
+      module _ (room : nat_le max_requests (length s.requests) ≡ false) where
         pub shift_refused : (refusal : Refusal) → shift_of ops s.requests client t ≡ Err refusal → Err refusal ≡ can_add ops s id params t
         shift_refused refusal is = goes_on _ (ap (λ o. ok_or o Unknown) named) (goes_on _ (ap (λ b. refuse_if b QueueFull) room) (ends _ is))
 
@@ -43,7 +43,7 @@ module _ {T : Type 0} (ops : Tagging T) (s : State T) (id : ClientId) where
   module _ (info : Rates) where
     module _ (new : is_some (client_named id s.clients) ≡ false) where
       -- the count of clients is the last test
-      pub counts_clients : (spacings : Spacings T) → spacings_of ops s.config.hz info ≡ Ok spacings → (full : Bool) → nat_le most_clients (length s.clients) ≡ full → refuse_if full Clients ≡ can_register ops s id info
+      pub counts_clients : (spacings : Spacings T) → spacings_of ops s.config.hz info ≡ Ok spacings → (full : Bool) → nat_le max_clients (length s.clients) ≡ full → refuse_if full Clients ≡ can_register ops s id info
       counts_clients spacings is full e = goes_on _ (ap (λ b. refuse_if b Known) new) (goes_on _ (ap exactly is) (ap (λ b. refuse_if b Clients) (sym e)))
 
     module _ (client : PlainClient T) (named : client_named id s.clients ≡ Some client) where

@@ -1,6 +1,6 @@
 //! The reference queue.
 ghost use Rattle.std.specs.Prelude.{◌≡◌, ◌<◌, ◌&&◌, length, OnOk, ◌==◌};
-ghost use Rattle.dmc_types.specs.Limits.{most_clients};
+ghost use Rattle.dmc_types.specs.Limits.{max_clients};
 ghost use Rattle.dmc_tag.specs.Answers.{call_reply, sure_call_reply, clean_reply};
 ghost use Rattle.dmc_tag.specs.Rules as rules_of;
 ghost use Rattle.dmc_tag.specs.State as state;
@@ -22,7 +22,7 @@ use dmc_tag::tag::Tag;
 use dmc_types::config::QueueConfig;
 use dmc_types::ids::ClientId;
 use dmc_types::info::ClientInfo;
-use dmc_types::limits::MOST_CLIENTS;
+use dmc_types::limits::MAX_CLIENTS;
 use dmc_types::moment::Moment;
 use dmc_types::refusal::{QueueFault, Refusal};
 use std::alloc::Global;
@@ -39,7 +39,7 @@ pub struct PlainQueue<T> {
 
 impl<T> Model for PlainQueue<T> {
     ghost use Rattle.std.specs.Prelude.{◌≤◌, length};
-    ghost use Rattle.dmc_types.specs.Limits.{most_clients, most_requests};
+    ghost use Rattle.dmc_types.specs.Limits.{max_clients, max_requests};
     ghost use Rattle.dmc_tag.specs.State.{State};
     ghost use Rattle.dmc_tag.specs.Queued.{AreActive};
 
@@ -47,7 +47,7 @@ impl<T> Model for PlainQueue<T> {
 
     ghost view = { λ q. record { config = q.config; requests = q.requests.items; clients = q.clients.items; last_moment = q.last_moment } };
 
-    ghost invariant = { λ q. (length q.requests.items ≤ most_requests) × (length q.clients.items ≤ most_clients) × AreActive q.clients.items q.requests.items };
+    ghost invariant = { λ q. (length q.requests.items ≤ max_requests) × (length q.clients.items ≤ max_clients) × AreActive q.clients.items q.requests.items };
 }
 
 impl<T> PlainQueue<T> {
@@ -112,13 +112,13 @@ impl<T: Tag> PlainQueue<T> {
     /// The tests of a registration.
     fn can_register(&self, client: ClientId, info: ClientInfo) -> Result<(), Refusal>
         ensures outcome { result ≡ rules_of.can_register T.ops self.now client info }
-        ensures room { OnOk result (length self.now.clients < most_clients) }
+        ensures room { OnOk result (length self.now.clients < max_clients) }
     {
         if client_named(&self.clients, client).is_some() {
             return Err(Refusal::Known);
         }
         let _exact: Spacings<T> = spacings_for(self.config.hz(), info)?;
-        if self.clients.len() >= MOST_CLIENTS as usize {
+        if self.clients.len() >= MAX_CLIENTS as usize {
             return Err(Refusal::Clients);
         }
         Ok(())

@@ -2,7 +2,7 @@
 use Rattle.std.specs.Prelude.{◌≡◌, ℕ, ◌<◌, ◌==◌, ◌&&◌, true, not, if◌then◌else◌, List, length, map, Option, Some, None, is_some, IfSome, IsSome, Result, Ok, Err}
 use Rattle.std.specs.Option.{option_map}
 use Rattle.std.specs.Ordering.{is_eq}
-use Rattle.dmc_types.specs.Limits.{most_requests}
+use Rattle.dmc_types.specs.Limits.{max_requests}
 use Rattle.dmc_types.specs.Values.{Params}
 use Rattle.dmc_types.specs.declared.ids.ClientId.{ClientId}
 use Rattle.dmc_types.specs.declared.ids.Token.{Token}
@@ -65,7 +65,7 @@ pub record IsAddition {T : Type 0} (ops : Tagging T) (fraction : T → Fraction)
   -- the new P is a value
   pub value : is_value (fraction addition.tags.p)
   -- one more request may be queued
-  pub room : length (state_of q).requests < most_requests
+  pub room : length (state_of q).requests < max_requests
 
 -- the tests of an add passed, and its effect
 pub record IsAllowed {T : Type 0} (ops : Tagging T) (fraction : T → Fraction) (is_value : Fraction → Type 0) (q : Queue T) (client : ClientId) (params : Params) (t : ℕ) (addition : Addition T) : Type 0 where

@@ -13,7 +13,7 @@ use Rattle.dmc_tag.specs.declared.reply.Reply.{Reply}
 use Rattle.dmc_client.specs.Record.{Rec, request_of}
 use Rattle.dmc_roster.specs.Entries.{Entry, entry_keyed, with_record}
 use Rattle.dmc_adjust.specs.Changes.{popped, reduced}
-use Rattle.dmc_pull.specs.Standing.{requests_in}
+use Rattle.dmc_pull.specs.Represented.{requests_in}
 
 -- the first request of the client under the key, and all requests without it
 abbrev pub first_of : {T : Type 0} → List (Entry T) → ℕ → Entry T → Option (PlainRequest T × List (PlainRequest T))

@@ -1,5 +1,5 @@
 -- The clients and requests that the entries of a roster represent in a plain state.
-pub mod Standing
+pub mod Represented
 -- An add: the shift of all records but one, and the results of its tests.
 pub mod Adding
 -- The results of the tests of a registration and of an update.

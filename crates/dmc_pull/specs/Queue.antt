@@ -2,7 +2,7 @@
 use Rattle.std.specs.Prelude.{◌≡◌, ℕ, ◌≤◌, ◌<◌, true, false, List, Option, Some, Result, Ok, Err, ⊤, length, slice_get}
 use Rattle.std.specs.Option.{option_map, option_and_then}
 use Rattle.std.specs.List.{AllByRecursion}
-use Rattle.dmc_types.specs.Limits.{most_requests}
+use Rattle.dmc_types.specs.Limits.{max_requests}
 use Rattle.dmc_types.specs.Values.{Setting}
 use Rattle.dmc_types.specs.declared.ids.ClientId.{ClientId}
 use Rattle.dmc_tag.specs.declared.reply.Tags.{Tags}
@@ -15,7 +15,7 @@ use Rattle.dmc_client.specs.Record.{Rec, IsRecord, share_tags}
 use Rattle.dmc_roster.specs.Entries.{Entry, Listing, entry_keyed, AreDistinct}
 use Rattle.dmc_index.specs.Index.{slot_of_key}
 use Rattle.dmc_head_index.specs.declared.head.Head.{Head}
-use Rattle.dmc_pull.specs.Standing.{clients_in, requests_in}
+use Rattle.dmc_pull.specs.Represented.{clients_in, requests_in}
 
 pub record Queue (T : Type 0) : Type 0 where
   pub config : Setting
@@ -68,7 +68,7 @@ pub record IsQueue {T : Type 0} (ops : Tagging T) (fraction : T → Fraction) (i
   pub heads : AreHeads ops q.last_moment q.roster.entries q.heads
   pub in_room : AllByRecursion (λ e. e.key < length q.heads) q.roster.entries
   pub counted : queued ≡ length (requests_in q.roster.entries)
-  pub bound : queued ≤ most_requests
+  pub bound : queued ≤ max_requests
 
 -- the result of a test, whatever it is
 abbrev pub without_value : {X : Type 0} → Result X Refusal → Result ⊤ Refusal

@@ -1,6 +1,6 @@
 -- The results of the tests of a registration and of an update.
 use Rattle.std.specs.Prelude.{◌≡◌, ℕ, ◌<◌, true, [], None, Ok, length, is_some, IfSome}
-use Rattle.dmc_types.specs.Limits.{most_clients}
+use Rattle.dmc_types.specs.Limits.{max_clients}
 use Rattle.dmc_types.specs.Values.{Rates}
 use Rattle.dmc_types.specs.declared.ids.ClientId.{ClientId}
 use Rattle.dmc_tag.specs.Order.{AreSpacings}
@@ -17,7 +17,7 @@ pub record IsRegistration {T : Type 0} (ops : Tagging T) (q : Queue T) (client :
   pub are : AreSpacings ops info spacings
   -- no client has the id, and one more client may be registered
   pub new : entry_named client q.roster.entries ≡ None
-  pub room : length q.roster.entries < most_clients
+  pub room : length q.roster.entries < max_clients
 
 -- a client, by its key, that may get new rates, with their spacings
 pub record IsUpdate {T : Type 0} (ops : Tagging T) (q : Queue T) (client : ClientId) (info : Rates) (found : ℕ) (spacings : Spacings T) : Type 0 where

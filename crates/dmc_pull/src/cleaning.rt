@@ -1,7 +1,7 @@
 //! A clean: the rules for records that grow old.
 ghost use Rattle.std.specs.Prelude.{◌≡◌, ◌≤◌, not, length, map, filter};
 ghost use Rattle.std.specs.List.{AllByRecursion};
-ghost use Rattle.dmc_types.specs.Limits.{most_clients};
+ghost use Rattle.dmc_types.specs.Limits.{max_clients};
 ghost use Rattle.dmc_client.specs.Record.{IsRecord};
 ghost use Rattle.dmc_pull.specs.Cleaning as cleaning_of;
 ghost use Rattle.dmc_roster.specs.Entries.{with_rec};
@@ -77,7 +77,7 @@ impl<T: Tag> RecordRule<T> for Clean {
 /// The number of clients that become idle.
 pub fn count_idled<T: Tag>(roster: &Roster<T>, at: Moment, idle_age: u64, erase_age: u64) -> usize
     ensures value { result ≡ length (filter (λ e. cleaning_of.is_idled at idle_age erase_age e.rec) roster.now.entries) }
-    ensures bound { result ≤ most_clients }
+    ensures bound { result ≤ max_clients }
 {
     roster.count(&Idled {
         at,
@@ -89,7 +89,7 @@ pub fn count_idled<T: Tag>(roster: &Roster<T>, at: Moment, idle_age: u64, erase_
 /// The number of clients that are erased.
 pub fn count_erased<T: Tag>(roster: &Roster<T>, at: Moment, erase_age: u64) -> usize
     ensures value { result ≡ length (filter (λ e. cleaning_of.is_stale at erase_age e.rec) roster.now.entries) }
-    ensures bound { result ≤ most_clients }
+    ensures bound { result ≤ max_clients }
 {
     roster.count(&Erased { at, erase_age })
 }

@@ -13,9 +13,9 @@ pub trait GrantTest {
     /// Whether a client may get a grant in a phase.
     ghost allows: { Self → Client → Phase → Bool };
 
-    /// Whether the client may get a grant in this phase. `near` is the client's index in order of registration as long as no
+    /// Whether the client may get a grant in this phase. `hint` is the client's index in order of registration as long as no
     /// client is erased: a test that has clients in that order may look there first.
-    fn allows(&self, client: ClientId, phase: PhaseType, near: usize) -> bool
+    fn allows(&self, client: ClientId, phase: PhaseType, hint: usize) -> bool
         ensures { result ≡ allows self.now client phase };
 }
 
@@ -26,7 +26,7 @@ pub struct AllowAll;
 impl GrantTest for AllowAll {
     ghost allows = { λ s client phase. true };
 
-    fn allows(&self, _client: ClientId, _phase: PhaseType, _near: usize) -> bool {
+    fn allows(&self, _client: ClientId, _phase: PhaseType, _hint: usize) -> bool {
         true
     }
 }

@@ -1,4 +1,4 @@
--- What a call through the lock tells its caller: what its own pass holds afterwards.
+-- What a call through the lock shows its caller: what its own pass holds afterwards.
 use Rattle.std.specs.Prelude.{◌≡◌, ℕ, ◌==◌, ◌&&◌, Bool, true, false, not, length, Result, Ok, Err}
 use Rattle.dmc_types.specs.declared.command.Command.{Command}
 use Rattle.dmc_types.specs.declared.command.Command.TheVariants.{Register, Update, Add, Pull, Remove, Clean}
@@ -22,8 +22,8 @@ use Rattle.dmc_book.specs.declared.fault.RunOrRange.TheVariants as pull
 
 -- ---- commands through the lock
 
--- The queue answered: the rules give this reply to the command in some state, and the pass steps with it.
-pub record Answered {T : Type 0} (ops : Tagging T) (before later : PassState) (command : Command) (reply : Reply T) : Type 0 where
+-- The queue replied: the rules give this reply to the command in some state, and the pass steps with it.
+pub record Replied {T : Type 0} (ops : Tagging T) (before later : PassState) (command : Command) (reply : Reply T) : Type 0 where
   pub pass : later ≡ pass_after command reply before
   pub state : State T
   pub reply_is : reply ≡ (step ops state command).1
@@ -37,12 +37,12 @@ registers (Remove client) = false
 registers (Clean at) = false
 
 -- a refusal of the queue is counted, and no other
-abbrev pub SubmitAnswered : {T : Type 0} → Tagging T → PassState → PassState → Command → SubmitCause → Type 0
-SubmitAnswered ops before later command submit.Stranger = later ≡ before
-SubmitAnswered ops before later command submit.Closed = later ≡ before
-SubmitAnswered ops before later command submit.HistoryFull = later ≡ before
-SubmitAnswered ops before later command submit.Memory = later ≡ before
-SubmitAnswered ops before later command (submit.Refused refusal) = Answered ops before later command (Refused refusal)
+abbrev pub SubmitReplied : {T : Type 0} → Tagging T → PassState → PassState → Command → SubmitCause → Type 0
+SubmitReplied ops before later command submit.Stranger = later ≡ before
+SubmitReplied ops before later command submit.Closed = later ≡ before
+SubmitReplied ops before later command submit.HistoryFull = later ≡ before
+SubmitReplied ops before later command submit.Memory = later ≡ before
+SubmitReplied ops before later command (submit.Refused refusal) = Replied ops before later command (Refused refusal)
 
 -- what the pass's five tills hold
 pub record IsStatusOf (tills : WorkerHoldings) (status : Status) : Type 0 where
@@ -54,11 +54,11 @@ pub record IsStatusOf (tills : WorkerHoldings) (status : Status) : Type 0 where
 
 -- ---- pulls through the lock
 
--- The queue answered, if only by Range; or the pull was not handed on, which is never for want of a desk.
-abbrev pub PullAnswered : {T : Type 0} → Tagging T → PassState → PassState → ℕ → Result Pulled RunOrRange → Type 0
-PullAnswered ops before later at (Ok pulled) = Answered ops before later (Pull at) (pull_reply pulled)
-PullAnswered ops before later at (Err pull.Range) = Answered ops before later (Pull at) (Refused Range)
-PullAnswered ops before later at (Err (pull.Run fault)) = (later ≡ before) × (fault ≡ run.NoDesk → ⊥)
+-- The queue returned, if only Range; or the pull was not passed to it, and never because a desk is missing.
+abbrev pub PullReplied : {T : Type 0} → Tagging T → PassState → PassState → ℕ → Result Pulled RunOrRange → Type 0
+PullReplied ops before later at (Ok pulled) = Replied ops before later (Pull at) (pull_reply pulled)
+PullReplied ops before later at (Err pull.Range) = Replied ops before later (Pull at) (Refused Range)
+PullReplied ops before later at (Err (pull.Run fault)) = (later ≡ before) × (fault ≡ run.NoDesk → ⊥)
 
 -- nothing is queued, and the book is open
 abbrev pub must_wait : {T : Type 0} → Tagging T → BookState T → Bool

@@ -1,2 +1,2 @@
-//! Why a pull through the lock grants nothing and tells no moment.
+//! Why a pull through the lock grants nothing and gives no moment.
 pub use dmc_book::fault::RunOrRange;

@@ -8,7 +8,7 @@ ghost use Rattle.dmc_types.specs.declared.command.Command.TheVariants as command
 ghost use Rattle.dmc_book.specs.BookState.{pass_state};
 ghost use Rattle.dmc_book.specs.Calls.{is_add};
 ghost use Rattle.dmc_book.specs.Renewing.{renewed_pass};
-ghost use Rattle.dmc_qlock.specs.Calls.{Answered, PullAnswered, SubmitAnswered, must_wait, registers};
+ghost use Rattle.dmc_qlock.specs.Calls.{Replied, PullReplied, SubmitReplied, must_wait, registers};
 
 use crate::fault::RunOrRange;
 use dmc_book::book::QueueBook;
@@ -94,7 +94,7 @@ impl<T: Tag, I: Indexes<T>, S: Setup, W: Witness<QueueBook<T, I, S>>> Guarded<
         command: Command,
     ) -> Result<Reply<T>, RunFault>
         requires { is_add command ≡ false }
-        ensures answered { IfOk result (λ reply. Answered T.ops (pass_state pass.old) (pass_state pass.new) command reply) }
+        ensures answered { IfOk result (λ reply. Replied T.ops (pass_state pass.old) (pass_state pass.new) command reply) }
         ensures kept { OnErr result (pass_state pass.new ≡ pass_state pass.old) }
         ensures no_desk { IsErrOf result RunFault.NoDesk → registers command ≡ true }
     {
@@ -111,9 +111,9 @@ impl<T: Tag, I: Indexes<T>, S: Setup, W: Witness<QueueBook<T, I, S>>> Guarded<
         at: Moment,
     ) -> Result<Tags<T>, SubmitFault>
         requires { Covers (stamp_holdings tills.old) stamp.params }
-        ensures accepted { IfOk result (λ tags. Answered T.ops (pass_state pass.old) (pass_state pass.new) (commands.Add (record { 0 = stamp.client }) token stamp.params at) (replies.Tagged tags)) }
+        ensures accepted { IfOk result (λ tags. Replied T.ops (pass_state pass.old) (pass_state pass.new) (commands.Add (record { 0 = stamp.client }) token stamp.params at) (replies.Tagged tags)) }
         ensures taken { OnOk result (stamp_holdings tills.new ≡ tills_after_submit stamp.params (stamp_holdings tills.old)) }
-        ensures refused { IfErr result (λ fault. SubmitAnswered T.ops (pass_state pass.old) (pass_state pass.new) (commands.Add (record { 0 = stamp.client }) token stamp.params at) fault.cause) }
+        ensures refused { IfErr result (λ fault. SubmitReplied T.ops (pass_state pass.old) (pass_state pass.new) (commands.Add (record { 0 = stamp.client }) token stamp.params at) fault.cause) }
         ensures handed_back { IfErr result (λ fault. fault.stamp ≡ stamp) }
         ensures tills_kept { OnErr result (stamp_holdings tills.new ≡ stamp_holdings tills.old) }
     {
@@ -126,7 +126,7 @@ impl<T: Tag, I: Indexes<T>, S: Setup, W: Witness<QueueBook<T, I, S>>> Guarded<
         pass: &mut WorkerPass<S>,
         at: Moment,
     ) -> Result<Pulled, RunOrRange>
-        ensures { PullAnswered T.ops (pass_state pass.old) (pass_state pass.new) at result }
+        ensures { PullReplied T.ops (pass_state pass.old) (pass_state pass.new) at result }
     {
         self.book.pull(pass, at)
     }
@@ -138,7 +138,7 @@ impl<T: Tag, I: Indexes<T>, S: Setup, W: Witness<QueueBook<T, I, S>>> Guarded<
         at: Moment,
     ) -> Result<Pulled, RunOrRange>
         requires { must_wait T.ops self.old ≡ false }
-        ensures pulled { PullAnswered T.ops (pass_state pass.old) (pass_state pass.new) at result }
+        ensures pulled { PullReplied T.ops (pass_state pass.old) (pass_state pass.new) at result }
         ensures nothing { IfOk result (λ pulled. pulled ≡ pulls.Nothing → self.old.closed ≡ true) }
     {
         self.book.pull(pass, at)

@@ -7,7 +7,7 @@ ghost use Rattle.dmc_types.specs.declared.command.Command.TheVariants as command
 ghost use Rattle.dmc_book.specs.BookState.{pass_state};
 ghost use Rattle.dmc_book.specs.Calls.{is_add};
 ghost use Rattle.dmc_book.specs.Renewing.{renewed_pass};
-ghost use Rattle.dmc_qlock.specs.Calls.{Answered, IsStatusOf, PullAnswered, SubmitAnswered, registers};
+ghost use Rattle.dmc_qlock.specs.Calls.{Replied, IsStatusOf, PullReplied, SubmitReplied, registers};
 
 use crate::fault::RunOrRange;
 use crate::guarded::Guarded;
@@ -48,7 +48,7 @@ impl<T: Tag, I: Indexes<T>, S: Setup> OfServer for QueueBook<T, I, S> {
 }
 
 /// A book that threads share, and a witness of what it was. Contracts see whose book it is. It is generic in the book, since
-/// generic code may not hand on by value what is generic in indexes, but for what stands behind a type parameter.
+/// generic code may not pass on by value what is generic in indexes, but for what is held behind a type parameter.
 #[derive(Drop)]
 pub struct LockedQueue<B: Lasting, W: Witness<B>> {
     server: ServerId,
@@ -82,7 +82,7 @@ impl<B: OfServer + Lasting> LockedQueue<B, NoWitness> {
 }
 
 impl<B: Lasting> LockedQueue<B, NoWitness> {
-    /// The book, once no thread shares the lock. What it keeps the laws of dmc_book tell.
+    /// The book, once no thread shares the lock. The laws of dmc_book say what holds of it.
     pub fn into_book(self) -> B {
         let (book, _) = self.into_parts();
         book
@@ -137,7 +137,7 @@ impl<T: Tag, I: Indexes<T>, S: Setup, W: Witness<QueueBook<T, I, S>>> LockedQueu
         command: Command,
     ) -> Result<Reply<T>, RunFault>
         requires { is_add command ≡ false }
-        ensures answered { IfOk result (λ reply. Answered T.ops (pass_state pass.old) (pass_state pass.new) command reply) }
+        ensures answered { IfOk result (λ reply. Replied T.ops (pass_state pass.old) (pass_state pass.new) command reply) }
         ensures kept { OnErr result (pass_state pass.new ≡ pass_state pass.old) }
         ensures no_desk { IsErrOf result RunFault.NoDesk → registers command ≡ true }
     {
@@ -160,10 +160,10 @@ impl<T: Tag, I: Indexes<T>, S: Setup, W: Witness<QueueBook<T, I, S>>> LockedQueu
         at: Moment,
     ) -> Result<Tags<T>, SubmitFault>
         requires { Covers (stamp_holdings tills.old) stamp.params }
-        ensures accepted { IfOk result (λ tags. Answered T.ops (pass_state pass.old) (pass_state pass.new) (commands.Add (record { 0 = stamp.client }) token stamp.params at) (replies.Tagged tags)) }
+        ensures accepted { IfOk result (λ tags. Replied T.ops (pass_state pass.old) (pass_state pass.new) (commands.Add (record { 0 = stamp.client }) token stamp.params at) (replies.Tagged tags)) }
         ensures taken { OnOk result (stamp_holdings tills.new ≡ tills_after_submit stamp.params (stamp_holdings tills.old)) }
         ensures its_server { OnOk result (stamp.server ≡ self.now.server) }
-        ensures refused { IfErr result (λ fault. SubmitAnswered T.ops (pass_state pass.old) (pass_state pass.new) (commands.Add (record { 0 = stamp.client }) token stamp.params at) fault.cause) }
+        ensures refused { IfErr result (λ fault. SubmitReplied T.ops (pass_state pass.old) (pass_state pass.new) (commands.Add (record { 0 = stamp.client }) token stamp.params at) fault.cause) }
         ensures handed_back { IfErr result (λ fault. fault.stamp ≡ stamp) }
         ensures tills_kept { OnErr result (stamp_holdings tills.new ≡ stamp_holdings tills.old) }
         ensures stranger { (stamp.server ≡ self.now.server → ⊥) → IsErrAnd result (λ fault. fault.cause ≡ SubmitCause.Stranger) }
@@ -184,7 +184,7 @@ impl<T: Tag, I: Indexes<T>, S: Setup, W: Witness<QueueBook<T, I, S>>> LockedQueu
         answer
     }
 
-    /// Pulls: grants the next request, or tells when one is due, or that nothing is queued. The pass steps as for `run`.
+    /// Pulls: grants the next request, or says when one is due, or that nothing is queued. The pass steps as for `run`.
     ///
     /// Refused `Range` by the rules, which is recorded; and `Stranger`, `HistoryFull` or `Memory`, with nothing recorded.
     pub fn pull<R: Wait>(
@@ -193,7 +193,7 @@ impl<T: Tag, I: Indexes<T>, S: Setup, W: Witness<QueueBook<T, I, S>>> LockedQueu
         pass: &mut WorkerPass<S>,
         at: Moment,
     ) -> Result<Pulled, RunOrRange>
-        ensures { PullAnswered T.ops (pass_state pass.old) (pass_state pass.new) at result }
+        ensures { PullReplied T.ops (pass_state pass.old) (pass_state pass.new) at result }
     {
         self.guarded.lock(rt).pull(pass, at)
     }
@@ -206,7 +206,7 @@ impl<T: Tag, I: Indexes<T>, S: Setup, W: Witness<QueueBook<T, I, S>>> LockedQueu
         pass: &mut WorkerPass<S>,
         at: Moment,
     ) -> Result<Pulled, RunOrRange>
-        ensures { PullAnswered T.ops (pass_state pass.old) (pass_state pass.new) at result }
+        ensures { PullReplied T.ops (pass_state pass.old) (pass_state pass.new) at result }
     {
         let mut free = self.guarded.lock(rt);
         free.begin_waiting();
@@ -223,7 +223,7 @@ impl<T: Tag, I: Indexes<T>, S: Setup, W: Witness<QueueBook<T, I, S>>> LockedQueu
         answer
     }
 
-    /// What the pass holds of the worker's counts, and how the book stands; refused `Stranger` alone.
+    /// What the pass holds of the worker's counts, and the book's numbers; refused `Stranger` alone.
     pub fn status<R: Wait>(&self, rt: &R, pass: &WorkerPass<S>) -> Result<Status, RunFault>
         ensures held { IfOk result (λ status. IsStatusOf (pass_state pass.now).tills status) }
         ensures stranger { IfErr result (λ fault. fault ≡ RunFault.Stranger) }
@@ -231,7 +231,7 @@ impl<T: Tag, I: Indexes<T>, S: Setup, W: Witness<QueueBook<T, I, S>>> LockedQueu
         self.guarded.lock(rt).book.status(pass)
     }
 
-    /// Releases what the queue answered since the last segment. It takes no memory, and a time that does not grow with the
+    /// Releases the events recorded since the last segment. It does not allocate, and takes a time that does not grow with the
     /// number of events. `None`, and nothing changes, exactly where the book's `rotate` returns it.
     ///
     /// Segments of one lock are parts of one history: `Segment::follows` shows which is the next.

@@ -4,7 +4,7 @@ use Rattle.std.specs.Prelude.{is_some, slice_get, option_to_list, option_and_the
 use Rattle.std.specs.List.{AllByRecursion}
 use Rattle.std.proofs.lemmas.Grind.{flat_map-append}
 use Rattle.std.proofs.lemmas.List.{length-append}
-use Rattle.dmc_types.specs.Limits.{most_events}
+use Rattle.dmc_types.specs.Limits.{max_events}
 use Rattle.dmc_tag.specs.declared.event.Event.{Event}
 use Rattle.dmc_tag.specs.Tag.{Tagging}
 use Rattle.dmc_history.specs.Log.{Log}
@@ -98,7 +98,7 @@ module _ {T : Type 0} (ops : Tagging T) where
 
   -- nothing is kept
   pub kept-empty : (lists : Lists T) (places : Log ℕ) → kept_of lists ≡ record { by_weight = []; queued = []; granted = []; others = [] }
-      → HaveMost lists places.most → places.events ≡ [] → places.most ≤ most_events → IsKept ops lists places 0
+      → HaveMost lists places.most → places.events ≡ [] → places.most ≤ max_events → IsKept ops lists places 0
   kept-empty lists places empty most none limit = record {
     found = rw none tt;
     counted = subst (λ (k : Kept T). count k ≡ length places.events) (sym empty) (rw none refl);

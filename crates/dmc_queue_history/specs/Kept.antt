@@ -2,7 +2,7 @@
 -- of the history cite the list of events alone.
 use Rattle.std.specs.Prelude.{◌≡◌, ℕ, ◌+◌, ◌*◌, ◌/◌, ◌%◌, ◌≤◌, ◌==◌, true, min, List, length, Option, Some, None, is_some, option_map, option_to_list, flat_map, slice_get, if◌then◌else◌}
 use Rattle.std.specs.List.{AllByRecursion}
-use Rattle.dmc_types.specs.Limits.{most_events}
+use Rattle.dmc_types.specs.Limits.{max_events}
 use Rattle.dmc_types.specs.declared.command.Command.TheVariants as commands
 use Rattle.dmc_tag.specs.declared.event.Event.{Event}
 use Rattle.dmc_tag.specs.declared.reply.Reply.TheVariants as replies
@@ -91,7 +91,7 @@ least_room lists = min (min lists.by_weight.room lists.queued.room) (min lists.g
 abbrev pub count : {T : Type 0} → Kept T → ℕ
 count kept = length kept.by_weight + length kept.queued + length kept.granted + length kept.others
 
--- each list may have so many events
+-- each list may have this number of events
 pub record HaveMost {T : Type 0} (lists : Lists T) (most : ℕ) : Type 0 where
   pub by_weight : lists.by_weight.most ≡ most
   pub queued : lists.queued.most ≡ most
@@ -106,12 +106,12 @@ pub record Adds {T : Type 0} (ops : Tagging T) (old new : Lists T) (place : ℕ)
   pub most : (most : ℕ) → HaveMost old most → HaveMost new most
   pub room : least_room old ≤ least_room new + 1
 
--- Each place has an event, no list has another, and so many more events have a place, whatever their form.
+-- Each place has an event, no list has another, and this number of events more has a place, whatever their form.
 pub record IsKept {T : Type 0} (ops : Tagging T) (lists : Lists T) (places : Log ℕ) (room : ℕ) : Type 0 where
   pub found : AllByRecursion (λ place. is_some (event_at ops (kept_of lists) place) ≡ true) places.events
   pub counted : count (kept_of lists) ≡ length places.events
   pub most : HaveMost lists places.most
-  pub limit : places.most ≤ most_events
+  pub limit : places.most ≤ max_events
   pub within : length places.events + room ≤ places.most
   pub places_room : room ≤ places.room
   pub lists_room : room ≤ least_room lists

@@ -1,19 +1,19 @@
 -- A history in segments: its first events may have been released.
 use Rattle.std.specs.Prelude.{◌≡◌, ℕ, ◌+◌, ◌<◌, ◌≤◌, ◌^◌, Bool, true, if◌then◌else◌, List, [], ◌∷◌, ◌++◌, flat_map, length}
-use Rattle.dmc_types.specs.Limits.{most_events}
+use Rattle.dmc_types.specs.Limits.{max_events}
 use Rattle.dmc_types.specs.Values.{Setting}
 use Rattle.dmc_tag.specs.declared.event.Event.{Event}
 use Rattle.dmc_history.specs.Log.{Log}
 
--- All events, oldest first, released or not; how many of them were released; how many there may be until more are handed
--- out; and for how many more a place is reserved.
+-- All events, oldest first, released or not; how many of them were released; how many there may be until more are
+-- released; and for how many more a place is reserved.
 pub record Segmented (E : Type 0) : Type 0 where
   pub events : List E
   pub first : ℕ
   pub most : ℕ
   pub room : ℕ
 
--- What contracts see of a segment: the configuration and the server of the queue, what the queue answered up to the segment's
+-- What contracts see of a segment: the configuration and the server of the queue, its history up to the segment's
 -- end, and how many events of that were released before.
 pub record SegmentState (T : Type 0) : Type 0 where
   pub config : Setting
@@ -21,13 +21,13 @@ pub record SegmentState (T : Type 0) : Type 0 where
   pub history : List (Event T)
   pub first : ℕ
 
--- events are released while there are at most so many
-abbrev pub most_released : ℕ
-most_released = 2 ^ 62
+-- events are released while there are at most this many
+abbrev pub max_released : ℕ
+max_released = 2 ^ 62
 
 -- A segment may be released: there are not too many events, and the history was not taken out.
 pub record MayRotate {E : Type 0} (h : Segmented E) : Type 0 where
-  pub long : length h.events ≤ most_released
+  pub long : length h.events ≤ max_released
   pub goes_on : h.first < h.most
 
 -- all events are released, and as many as before may be kept
@@ -45,18 +45,18 @@ abbrev pub events_unless : {E : Type 0} → Bool → List (Log E) → List E
 events_unless taken histories = if taken then [] else events_of histories
 
 -- nor may it keep any more
-abbrev pub most_unless : Bool → ℕ → ℕ
-most_unless taken most = if taken then 0 else most
+abbrev pub max_unless : Bool → ℕ → ℕ
+max_unless taken most = if taken then 0 else most
 
 -- The numbers are those of what was released. A history that was taken out keeps nothing.
 pub record IsSegmented {E : Type 0} (taken : Bool) (released : List (Log E)) (first : ℕ) (kept : Log E) : Type 0 where
   pub number : first ≡ length (events_unless taken released)
-  pub few : first ≤ most_released
-  pub limit : kept.most ≤ most_events
+  pub few : first ≤ max_released
+  pub limit : kept.most ≤ max_events
   pub none : taken ≡ true → kept.events ≡ []
   pub closed : taken ≡ true → kept.room ≡ 0
 
--- The last of these histories is this one, and so many events are in those before it.
+-- The last of these histories is this one, and this number of events is in those before it.
 pub record IsLast {E : Type 0} (histories : List (Log E)) (kept : Log E) (first : ℕ) : Type 0 where
   pub before : List (Log E)
   pub last : histories ≡ before ++ kept ∷ []

@@ -1,6 +1,6 @@
 //! The history of a queue: a list of events that only grows.
 ghost use Rattle.std.specs.Prelude.{◌≡◌, ◌↔◌, ◌+◌, ◌<◌, ◌≤◌, [], ◌∷◌, ◌++◌, length, IsTrue, OnOk, OnErr, IsErrOf, IsOk, slice_get};
-ghost use Rattle.dmc_types.specs.Limits.{most_events};
+ghost use Rattle.dmc_types.specs.Limits.{max_events};
 ghost use Rattle.dmc_types.specs.declared.command.Command.TheVariants as commands;
 ghost use Rattle.dmc_tag.specs.declared.reply.Reply.TheVariants as replies;
 
@@ -46,10 +46,10 @@ impl<T: Tag> Model for EventHistory<T> {
 }
 
 impl<T: Tag> EventHistory<T> {
-    /// An empty history of at most `most` events, which takes no memory; refused `Limit` where `most` is not 1 to 2^30.
+    /// An empty history of at most `most` events, which does not allocate; refused `Limit` where `most` is not 1 to 2^30.
     pub fn new(alloc: Global, most: u32) -> Result<EventHistory<T>, LimitFault>
-        ensures ok { (0 < most) × (most ≤ most_events) → result ≡ Ok (record { events = []; most = most; room = 0 }) }
-        ensures refused { ((0 < most) × (most ≤ most_events) → ⊥) → result ≡ Err LimitFault.Limit }
+        ensures ok { (0 < most) × (most ≤ max_events) → result ≡ Ok (record { events = []; most = most; room = 0 }) }
+        ensures refused { ((0 < most) × (most ≤ max_events) → ⊥) → result ≡ Err LimitFault.Limit }
     {
         let places = History::new(alloc, most)?;
         Ok(EventHistory {
@@ -78,7 +78,7 @@ impl<T: Tag> EventHistory<T> {
     pub fn most(&self) -> u32
         ensures value { result ≡ self.now.most }
         ensures some { 0 < result }
-        ensures limit { result ≤ most_events }
+        ensures limit { result ≤ max_events }
     {
         self.places.most()
     }
@@ -221,7 +221,7 @@ impl<T: Tag> EventHistory<T> {
         }
     }
 
-    /// Puts a command that was answered with tags at the end.
+    /// Puts a command whose reply was tags at the end.
     fn push_tagged(&mut self, worker: WorkerId, command: Command, tags: Tags<T>)
         requires { 0 < self.old.room }
         ensures events { self.new.events ≡ self.old.events
@@ -246,7 +246,7 @@ impl<T: Tag> EventHistory<T> {
         }
     }
 
-    /// Puts a command that was answered with a grant at the end.
+    /// Puts a command whose reply was a grant at the end.
     fn push_grant(
         &mut self,
         worker: WorkerId,
@@ -277,11 +277,11 @@ impl<T: Tag> EventHistory<T> {
         }
     }
 
-    /// Takes out all events, and with them the places that are reserved. It takes no memory.
+    /// Takes out all events, and with them the places that are reserved. It does not allocate.
     pub fn take(&mut self) -> EventHistory<T>
         ensures value { result ≡ self.old }
         ensures within { length result.events ≤ result.most }
-        ensures limit { result.most ≤ most_events }
+        ensures limit { result.most ≤ max_events }
         ensures empty { self.new ≡ record { events = []; most = self.old.most; room = 0 } }
     {
         let taken = EventHistory {

@@ -14,7 +14,7 @@ use dmc_types::params::ReqParams;
 use std::alloc::AllocError;
 
 /// A request that was queued with no tag to keep but that of its weight: the client has no reservation, and the limit's tag is
-/// the moment, as it is of a client without a limit, or within it. The widest fields stand first, so that none of the space
+/// the moment, as it is of a client without a limit, or within it. The widest fields come first, so that none of the space
 /// between them is lost.
 #[derive(Copy)]
 pub(crate) struct QueuedByWeight<T> {

@@ -6,7 +6,7 @@ use crate::segment::Segment;
 use dmc_ledger::setup::Setup;
 use dmc_tag::tag::Tag;
 
-/// What the queue answered up to a segment's end replays.
+/// The history up to a segment's end replays.
 pub fn segment_replays<T: Tag, S: Setup>(segment: &Segment<T, S>)
     ensures { replays T.ops segment.now.config segment.now.history }
 {

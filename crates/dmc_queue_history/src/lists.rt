@@ -1,6 +1,6 @@
 //! The lists of a history, one for each form of event.
 ghost use Rattle.std.specs.Prelude.{◌≡◌, ℕ, ◌<◌, ◌≤◌, [], OnOk, IsErrOf};
-ghost use Rattle.dmc_types.specs.Limits.{most_events};
+ghost use Rattle.dmc_types.specs.Limits.{max_events};
 ghost use Rattle.dmc_types.specs.declared.command.Command.TheVariants as commands;
 ghost use Rattle.dmc_tag.specs.declared.reply.Reply.TheVariants as replies;
 ghost use Rattle.dmc_queue_history.specs.Kept.{Adds, HaveMost, count, event_at, event_of_granted, event_of_queued, event_of_queued_by_weight, kept_of, least_room};
@@ -32,7 +32,7 @@ impl<T: Tag> Lists<T> {
     /// Empty lists, each of at most `most` events.
     pub(crate) fn new(alloc: Global, most: u32) -> Lists<T>
         requires some { 0 < most }
-        requires limit { most ≤ most_events }
+        requires limit { most ≤ max_events }
         ensures empty { kept_of result ≡ record { by_weight = []; queued = []; granted = []; others = [] } }
         ensures most { HaveMost result most }
     {
@@ -90,7 +90,7 @@ impl<T: Tag> Lists<T> {
         tags: Tags<T>,
     ) -> u32
         requires room { 0 < least_room self.old }
-        requires limit { (most : ℕ) × HaveMost self.old most × (most ≤ most_events) }
+        requires limit { (most : ℕ) × HaveMost self.old most × (most ≤ max_events) }
         ensures { Adds T.ops self.old self.new result (record { worker = worker; command = commands.Add client token params at; reply = replies.Tagged tags }) }
     {
         let Tags { r, l, p } = tags;
@@ -121,7 +121,7 @@ impl<T: Tag> Lists<T> {
     #[inline(always)]
     fn push_by_weight(&mut self, queued: QueuedByWeight<T>) -> u32
         requires room { 0 < least_room self.old }
-        requires limit { (most : ℕ) × HaveMost self.old most × (most ≤ most_events) }
+        requires limit { (most : ℕ) × HaveMost self.old most × (most ≤ max_events) }
         ensures { Adds T.ops self.old self.new result (event_of_queued_by_weight T.ops queued) }
     {
         let place = place_in(BY_WEIGHT, self.by_weight.len());
@@ -133,7 +133,7 @@ impl<T: Tag> Lists<T> {
     #[inline(always)]
     fn push_with_tags(&mut self, queued: Queued<T>) -> u32
         requires room { 0 < least_room self.old }
-        requires limit { (most : ℕ) × HaveMost self.old most × (most ≤ most_events) }
+        requires limit { (most : ℕ) × HaveMost self.old most × (most ≤ max_events) }
         ensures { Adds T.ops self.old self.new result (event_of_queued queued) }
     {
         let place = place_in(QUEUED, self.queued.len());
@@ -145,7 +145,7 @@ impl<T: Tag> Lists<T> {
     #[inline(always)]
     pub(crate) fn push_granted(&mut self, granted: Granted) -> u32
         requires room { 0 < least_room self.old }
-        requires limit { (most : ℕ) × HaveMost self.old most × (most ≤ most_events) }
+        requires limit { (most : ℕ) × HaveMost self.old most × (most ≤ max_events) }
         ensures { Adds T.ops self.old self.new result (event_of_granted granted) }
     {
         let place = place_in(GRANTED, self.granted.len());
@@ -156,7 +156,7 @@ impl<T: Tag> Lists<T> {
     /// Keeps an event as it is, and answers its place.
     pub(crate) fn push_other(&mut self, event: Event<T>) -> u32
         requires room { 0 < least_room self.old }
-        requires limit { (most : ℕ) × HaveMost self.old most × (most ≤ most_events) }
+        requires limit { (most : ℕ) × HaveMost self.old most × (most ≤ max_events) }
         ensures { Adds T.ops self.old self.new result event }
     {
         let place = place_in(OTHERS, self.others.len());
@@ -182,7 +182,7 @@ impl<T: Tag> Lists<T> {
 /// An empty list of at most `most` events.
 fn new_list<E: Drop>(alloc: Global, most: u32) -> History<E>
     requires some { 0 < most }
-    requires limit { most ≤ most_events }
+    requires limit { most ≤ max_events }
     ensures { result ≡ record { events = []; most = most; room = 0 } }
 {
     let Ok(list) = History::new(alloc, most) else {

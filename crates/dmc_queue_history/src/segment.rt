@@ -1,7 +1,7 @@
 //! Segments of a queue's history.
 ghost use Rattle.std.specs.Prelude.{◌≡◌, ◌≤◌, ◌+◌, drop, length, take, IsTrue};
 ghost use Rattle.dmc_tag.specs.Replay.{replays};
-ghost use Rattle.dmc_queue_history.specs.Segmented.{IsLast, events_of, most_released};
+ghost use Rattle.dmc_queue_history.specs.Segmented.{IsLast, events_of, max_released};
 
 use crate::history::EventHistory;
 use dmc_ledger::growing::Beginning;
@@ -11,7 +11,7 @@ use dmc_types::config::QueueConfig;
 use dmc_types::ids::ServerId;
 use std::marker::Model;
 
-/// Events that a queue's history released. Contracts see what the queue answered up to the end of the segment, which replays;
+/// Events that a queue's history released. Contracts see the whole history up to the end of the segment, which replays;
 /// the segment has the last of it, from the number `first` on, and knows nothing of the events before at run time.
 ///
 /// It may be sent to another thread.
@@ -28,13 +28,13 @@ pub struct Segment<T: Tag, S: Setup> {
 impl<T: Tag, S: Setup> Model for Segment<T, S> {
     ghost use Rattle.std.specs.Prelude.{◌≡◌, ◌≤◌};
     ghost use Rattle.dmc_tag.specs.Replay.{replays};
-    ghost use Rattle.dmc_queue_history.specs.Segmented.{IsLast, SegmentState, events_of, most_released};
+    ghost use Rattle.dmc_queue_history.specs.Segmented.{IsLast, SegmentState, events_of, max_released};
 
     ghost Value = { SegmentState T };
 
     ghost view = { λ s. record { config = s.config; server = s.server.0; history = events_of s.whole.list; first = s.first } };
 
-    ghost invariant = { λ s. (s.whole.number ≡ s.number) × IsLast s.whole.list s.events s.first × (s.first ≤ most_released)
+    ghost invariant = { λ s. (s.whole.number ≡ s.number) × IsLast s.whole.list s.events s.first × (s.first ≤ max_released)
         × replays T.ops s.config (events_of s.whole.list) };
 }
 
@@ -51,7 +51,7 @@ impl<T: Tag, S: Setup> Segment<T, S> {
     ) -> Segment<T, S>
         requires number { whole.number ≡ number }
         requires last { IsLast whole.list events first }
-        requires few { first ≤ most_released }
+        requires few { first ≤ max_released }
         requires replaying { replays T.ops config (events_of whole.list) }
         ensures { result ≡ record { config = config; server = server.0; history = events_of whole.list; first = first } }
     {
@@ -83,7 +83,7 @@ impl<T: Tag, S: Setup> Segment<T, S> {
     pub fn first(&self) -> u64
         ensures value { result ≡ self.now.first }
         ensures within { result ≤ length self.now.history }
-        ensures few { result ≤ most_released }
+        ensures few { result ≤ max_released }
     {
         self.first
     }

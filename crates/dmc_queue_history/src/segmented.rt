@@ -1,10 +1,10 @@
 //! The history of a queue that runs for long: what was recorded is released from time to time, in segments.
 ghost use Rattle.std.specs.Prelude.{◌≡◌, ◌↔◌, ◌+◌, ◌-◌, ◌<◌, ◌≤◌, [], ◌∷◌, ◌++◌, drop, length, IfNone, IfSome, IsErrOf, IsSome, IsTrue, OnOk};
-ghost use Rattle.dmc_types.specs.Limits.{most_events};
+ghost use Rattle.dmc_types.specs.Limits.{max_events};
 ghost use Rattle.dmc_types.specs.declared.command.Command.TheVariants as commands;
 ghost use Rattle.dmc_tag.specs.Replay.{replays};
 ghost use Rattle.dmc_tag.specs.declared.reply.Reply.TheVariants as replies;
-ghost use Rattle.dmc_queue_history.specs.Segmented.{MayRotate, after_rotating, most_released};
+ghost use Rattle.dmc_queue_history.specs.Segmented.{MayRotate, after_rotating, max_released};
 
 use crate::history::EventHistory;
 use crate::segment::Segment;
@@ -22,7 +22,7 @@ use std::marker::Model;
 use std::mem::replace;
 
 /// The most events after which a segment is still released.
-const MOST_RELEASED: u64 = 1 << 62;
+const MAX_RELEASED: u64 = 1 << 62;
 
 /// A list of events that only grows. The first of them may have been released, in segments, and at most `most` (1 to 2^30)
 /// are kept. Contracts see all events, and how many of them were released.
@@ -41,14 +41,14 @@ pub struct SegmentedHistory<T: Tag, S: Setup> {
 impl<T: Tag, S: Setup> Model for SegmentedHistory<T, S> {
     ghost use Rattle.std.specs.Prelude.{◌≡◌, ◌+◌, ◌++◌};
     ghost use Rattle.dmc_tag.specs.declared.event.Event.{Event};
-    ghost use Rattle.dmc_queue_history.specs.Segmented.{IsSegmented, Segmented, events_unless, most_unless};
+    ghost use Rattle.dmc_queue_history.specs.Segmented.{IsSegmented, Segmented, events_unless, max_unless};
 
     ghost Value = { Segmented (Event T) };
 
     ghost view = { λ h. record {
       events = events_unless h.taken h.released.list ++ h.kept.events;
       first = h.first;
-      most = h.first + most_unless h.taken h.kept.most;
+      most = h.first + max_unless h.taken h.kept.most;
       room = h.kept.room;
     } };
 
@@ -80,7 +80,7 @@ impl<T: Tag, S: Setup> SegmentedHistory<T, S> {
     pub fn first(&self) -> u64
         ensures value { result ≡ self.now.first }
         ensures within { result ≤ length self.now.events }
-        ensures few { result ≤ most_released }
+        ensures few { result ≤ max_released }
     {
         self.first
     }
@@ -95,8 +95,8 @@ impl<T: Tag, S: Setup> SegmentedHistory<T, S> {
     /// How many events it has, released or not.
     pub fn len(&self) -> u64
         ensures value { result ≡ length self.now.events }
-        ensures few { self.now.first ≤ most_released }
-        ensures limit { self.now.most ≤ self.now.first + most_events }
+        ensures few { self.now.first ≤ max_released }
+        ensures limit { self.now.most ≤ self.now.first + max_events }
     {
         self.first + self.kept.len() as u64
     }
@@ -177,8 +177,8 @@ impl<T: Tag, S: Setup> SegmentedHistory<T, S> {
         self.kept.push_reserved(event);
     }
 
-    /// Releases the events that are kept, as a segment of what a queue of this configuration answered at this server. It takes
-    /// no memory. `None`, and nothing changes, where it has more than 2^62 events or was taken out.
+    /// Releases the events that are kept, as a segment of the history of a queue of this configuration at this server. It
+    /// does not allocate. `None`, and nothing changes, where it has more than 2^62 events or was taken out.
     pub fn rotate(&mut self, config: QueueConfig, server: ServerId) -> Option<Segment<T, S>>
         requires { replays T.ops config self.old.events }
         ensures segment { IfSome result (λ segment.
@@ -189,7 +189,7 @@ impl<T: Tag, S: Setup> SegmentedHistory<T, S> {
         ensures kept { IfNone result (self.new ≡ self.old) }
     {
         let end = self.len();
-        if self.taken || end > MOST_RELEASED {
+        if self.taken || end > MAX_RELEASED {
             return None;
         }
         let whole = self.released.push(&self.kept);
@@ -197,10 +197,10 @@ impl<T: Tag, S: Setup> SegmentedHistory<T, S> {
         Some(Segment::new(config, server, self.number, whole, first, self.kept.take()))
     }
 
-    /// Takes out the events that are kept, for good: the history has then no event, and can keep none. It takes no memory.
+    /// Takes out the events that are kept, for good: the history has then no event, and can keep none. It does not allocate.
     pub fn take(&mut self) -> EventHistory<T>
         ensures events { result.events ≡ drop self.old.first self.old.events }
-        ensures few { length result.events ≤ most_events }
+        ensures few { length result.events ≤ max_events }
         ensures taken { self.new ≡ record { events = []; first = 0; most = 0; room = 0 } }
     {
         self.taken = true;

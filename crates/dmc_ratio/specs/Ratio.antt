@@ -12,11 +12,11 @@ use Rattle.dmc_ratio.specs.Gcd.{gcd}
 use Rattle.dmc_ratio.specs.Lowest.{is_lowest, over, whole_lowest, quotients_lowest}
 
 -- the greatest absolute value of a numerator
-abbrev pub greatest_numer : ℕ
-greatest_numer = 2 ^ 90
+abbrev pub max_numer : ℕ
+max_numer = 2 ^ 90
 
-abbrev pub greatest_denom : ℕ
-greatest_denom = 2 ^ 32
+abbrev pub max_denom : ℕ
+max_denom = 2 ^ 32
 
 -- numer/denom in lowest terms, of any size
 pub record Ratio : Type 0 where
@@ -40,7 +40,7 @@ lowest_terms n d = record {
 }
 
 abbrev pub is_small : Ratio → Bool
-is_small r = nat_le (unsigned_abs r.numer) greatest_numer && nat_le r.denom greatest_denom
+is_small r = nat_le (unsigned_abs r.numer) max_numer && nat_le r.denom max_denom
 
 -- n/d in lowest terms, where that is small enough
 abbrev pub reduced : ℤ → ℕ → Option Ratio
@@ -76,5 +76,5 @@ ratio_ops = record {
 -- a fraction n/d is a value where, with g the greatest common divisor of n and d, |n|/g is at most 2^90 and d/g at most 2^32
 pub record IsRatioValue (f : Fraction) : Type 0 where
   pub some : 0 < f.denom
-  pub numer_fits : (g : ℕ) → IsGcd (unsigned_abs f.numer) f.denom g → unsigned_abs f.numer / g ≤ greatest_numer
-  pub denom_fits : (g : ℕ) → IsGcd (unsigned_abs f.numer) f.denom g → f.denom / g ≤ greatest_denom
+  pub numer_fits : (g : ℕ) → IsGcd (unsigned_abs f.numer) f.denom g → unsigned_abs f.numer / g ≤ max_numer
+  pub denom_fits : (g : ℕ) → IsGcd (unsigned_abs f.numer) f.denom g → f.denom / g ≤ max_denom

@@ -8,7 +8,7 @@ use Rattle.std.proofs.lemmas.Int.{ints, by_lt_z, unsigned_abs-mul}
 use Rattle.std.proofs.lemmas.Nat.Gcd.{same_from_IsGcd}
 use Rattle.std.proofs.lemmas.Nat.{div-add-mod'}
 use Rattle.std.proofs.Math.Nat.{div-mul_cancel, mul-le-mul_right, mod-lt, eq-one_of_dvd-one}
-use Rattle.dmc_types.specs.Limits.{greatest_moment}
+use Rattle.dmc_types.specs.Limits.{max_moment}
 use borrow.Author.Differences.{up, down}
 use Rattle.dmc_tag.specs.Tag.{Fraction, Gives, IsExact, IsSame, ratio, sum_of, difference_of, multiple_of}
 use Rattle.dmc_ratio.specs.Gcd.{gcd}
@@ -16,31 +16,31 @@ use Rattle.dmc_ratio.specs.GcdLaws.{gcd_is, same_denom}
 use Rattle.dmc_ratio.specs.Lowest.{over, over_same, unsigned_abs-over, lowest_pos, lowest_apart}
 use Rattle.dmc_ratio.specs.Products.{up_neg, down_neg}
 use Rattle.dmc_tag.proofs.Scaled.{up_scaled, down_scaled, cancelled, scaled_twice}
-use Rattle.dmc_ratio.specs.Ratio.{Ratio, same_ratio, lowest_terms, reduced, ceil_of, ratio_ops, ratio_fraction, from_fraction, IsRatioValue, greatest_numer, greatest_denom}
+use Rattle.dmc_ratio.specs.Ratio.{Ratio, same_ratio, lowest_terms, reduced, ceil_of, ratio_ops, ratio_fraction, from_fraction, IsRatioValue, max_numer, max_denom}
 
 -- ---- a sum, a difference, a multiple, a spacing
-gives_at : (n : ℤ) (d : ℕ) (small big : Bool) → nat_le (unsigned_abs (lowest_terms n d).numer) greatest_numer ≡ small → nat_le (lowest_terms n d).denom greatest_denom ≡ big → Gives ratio_fraction IsRatioValue (cond (small && big) (Some (lowest_terms n d)) None) (record { numer = n; denom = suc d })
+gives_at : (n : ℤ) (d : ℕ) (small big : Bool) → nat_le (unsigned_abs (lowest_terms n d).numer) max_numer ≡ small → nat_le (lowest_terms n d).denom max_denom ≡ big → Gives ratio_fraction IsRatioValue (cond (small && big) (Some (lowest_terms n d)) None) (record { numer = n; denom = suc d })
 gives_at n d true true p q =
     let g = gcd (unsigned_abs n) (suc d) in
     let is = gcd_is (unsigned_abs n) (suc d) in
-    let numer : unsigned_abs n / g ≤ greatest_numer = subst (λ (x : ℕ). x ≤ greatest_numer) (unsigned_abs-over n g) (leb-true _ greatest_numer p) in
-    let denom : suc d / g ≤ greatest_denom = leb-true _ greatest_denom q in (
+    let numer : unsigned_abs n / g ≤ max_numer = subst (λ (x : ℕ). x ≤ max_numer) (unsigned_abs-over n g) (leb-true _ max_numer p) in
+    let denom : suc d / g ≤ max_denom = leb-true _ max_denom q in (
       record {
         some = omega arith;
-        numer_fits = λ k h. subst (λ (x : ℕ). unsigned_abs n / x ≤ greatest_numer) (same_from_IsGcd _ _ g k is h) numer;
-        denom_fits = λ k h. subst (λ (x : ℕ). suc d / x ≤ greatest_denom) (same_from_IsGcd _ _ g k is h) denom;
+        numer_fits = λ k h. subst (λ (x : ℕ). unsigned_abs n / x ≤ max_numer) (same_from_IsGcd _ _ g k is h) numer;
+        denom_fits = λ k h. subst (λ (x : ℕ). suc d / x ≤ max_denom) (same_from_IsGcd _ _ g k is h) denom;
       },
       over_same n (suc d) g (div-mul_cancel g is.0) (div-mul_cancel g is.1),
     )
 gives_at n d false big p q = λ v.
     let g = gcd (unsigned_abs n) (suc d) in
-    let above : greatest_numer < unsigned_abs (over n g) = leb-false _ greatest_numer p in
-    let fits : unsigned_abs n / g ≤ greatest_numer = v.numer_fits g (gcd_is (unsigned_abs n) (suc d)) in
+    let above : max_numer < unsigned_abs (over n g) = leb-false _ max_numer p in
+    let fits : unsigned_abs n / g ≤ max_numer = v.numer_fits g (gcd_is (unsigned_abs n) (suc d)) in
     omega (arith, unsigned_abs-over n g)
 gives_at n d true false p q = λ v.
     let g = gcd (unsigned_abs n) (suc d) in
-    let above : greatest_denom < suc d / g = leb-false _ greatest_denom q in
-    let fits : suc d / g ≤ greatest_denom = v.denom_fits g (gcd_is (unsigned_abs n) (suc d)) in
+    let above : max_denom < suc d / g = leb-false _ max_denom q in
+    let fits : suc d / g ≤ max_denom = v.denom_fits g (gcd_is (unsigned_abs n) (suc d)) in
     omega arith
 
 pub reduced_gives : (n : ℤ) (d : ℕ) → Gives ratio_fraction IsRatioValue (reduced n d) (record { numer = n; denom = d })
@@ -116,24 +116,24 @@ lowest_same n m d e same =
 
 -- the sizes in lowest terms fit
 record Fits (r : Ratio) : Type 0 where
-  numer : unsigned_abs r.numer ≤ greatest_numer
-  denom : r.denom ≤ greatest_denom
+  numer : unsigned_abs r.numer ≤ max_numer
+  denom : r.denom ≤ max_denom
 
 fits_from : (n : ℤ) (d : ℕ) → IsRatioValue (record { numer = n; denom = suc d }) → Fits (lowest_terms n d)
 fits_from n d v =
     let g = gcd (unsigned_abs n) (suc d) in
     let is = gcd_is (unsigned_abs n) (suc d) in
-    record { numer = subst (λ (x : ℕ). x ≤ greatest_numer) (sym (unsigned_abs-over n g)) (v.numer_fits g is); denom = v.denom_fits g is }
+    record { numer = subst (λ (x : ℕ). x ≤ max_numer) (sym (unsigned_abs-over n g)) (v.numer_fits g is); denom = v.denom_fits g is }
 
 fits_to : (n : ℤ) (d : ℕ) → Fits (lowest_terms n d) → IsRatioValue (record { numer = n; denom = suc d })
 fits_to n d h =
     let g = gcd (unsigned_abs n) (suc d) in
     let is = gcd_is (unsigned_abs n) (suc d) in
-    let numer : unsigned_abs n / g ≤ greatest_numer = subst (λ (x : ℕ). x ≤ greatest_numer) (unsigned_abs-over n g) h.numer in
+    let numer : unsigned_abs n / g ≤ max_numer = subst (λ (x : ℕ). x ≤ max_numer) (unsigned_abs-over n g) h.numer in
     record {
       some = omega arith;
-      numer_fits = λ k i. subst (λ (x : ℕ). unsigned_abs n / x ≤ greatest_numer) (same_from_IsGcd _ _ g k is i) numer;
-      denom_fits = λ k i. subst (λ (x : ℕ). suc d / x ≤ greatest_denom) (same_from_IsGcd _ _ g k is i) h.denom;
+      numer_fits = λ k i. subst (λ (x : ℕ). unsigned_abs n / x ≤ max_numer) (same_from_IsGcd _ _ g k is i) numer;
+      denom_fits = λ k i. subst (λ (x : ℕ). suc d / x ≤ max_denom) (same_from_IsGcd _ _ g k is i) h.denom;
     }
 
 ratio_same_value : (f g : Fraction) → 0 < f.denom → 0 < g.denom → IsSame f g → IsRatioValue f → IsRatioValue g
@@ -143,11 +143,11 @@ ratio_same_value f g f_some g_some same v = at f.numer f.denom g.numer g.denom f
   at n (suc d) m zero p q r w = absurd (omega arith)
   at n (suc d) m (suc e) p q r w = fits_to m e (subst Fits (lowest_same n m d e r) (fits_from n d w))
 
-ratio_moments : (n : ℕ) → n ≤ greatest_moment → IsRatioValue (record { numer = pos n; denom = 1 })
+ratio_moments : (n : ℕ) → n ≤ max_moment → IsRatioValue (record { numer = pos n; denom = 1 })
 ratio_moments n h = record {
   some = omega arith;
-  numer_fits = λ g is. let one : g ≡ 1 = eq-one_of_dvd-one is.1 in subst (λ (x : ℕ). n / x ≤ greatest_numer) (sym one) (omega (arith, h));
-  denom_fits = λ g is. let one : g ≡ 1 = eq-one_of_dvd-one is.1 in subst (λ (x : ℕ). 1 / x ≤ greatest_denom) (sym one) (omega arith);
+  numer_fits = λ g is. let one : g ≡ 1 = eq-one_of_dvd-one is.1 in subst (λ (x : ℕ). n / x ≤ max_numer) (sym one) (omega (arith, h));
+  denom_fits = λ g is. let one : g ≡ 1 = eq-one_of_dvd-one is.1 in subst (λ (x : ℕ). 1 / x ≤ max_denom) (sym one) (omega arith);
 }
 
 pub ratio_exact : IsExact ratio_ops ratio_fraction IsRatioValue

@@ -6,7 +6,7 @@ ghost use Rattle.std.specs.Cmp.{partial_order_from_agreeing_total};
 ghost use Rattle.std.specs.Ordering.{as_partial_cmp};
 ghost use Rattle.dmc_tag.specs.Tag.{Gives};
 ghost use Rattle.dmc_ratio.specs.Lowest.{is_lowest, with_sign};
-ghost use Rattle.dmc_ratio.specs.Ratio.{greatest_numer, greatest_denom, reduced, ratio_ops, ratio_fraction, IsRatioValue};
+ghost use Rattle.dmc_ratio.specs.Ratio.{max_numer, max_denom, reduced, ratio_ops, ratio_fraction, IsRatioValue};
 ghost use Rattle.dmc_ratio.specs.RatioExact.{ratio_exact};
 ghost use Rattle.dmc_ratio.specs.RatioOrder.{ratio_total, ratio_matches_eq};
 
@@ -27,7 +27,7 @@ pub struct RatioTag {
 
 impl Model for RatioTag {
     ghost use Rattle.std.specs.Prelude.{◌≤◌, unsigned_abs};
-    ghost use Rattle.dmc_ratio.specs.Ratio.{Ratio, ratio_code, greatest_numer, greatest_denom};
+    ghost use Rattle.dmc_ratio.specs.Ratio.{Ratio, ratio_code, max_numer, max_denom};
 
     ghost Value = { Ratio };
 
@@ -35,16 +35,16 @@ impl Model for RatioTag {
 
     ghost view = { λ a. record { numer = a.numer; denom = a.denom; lowest = a.lowest } };
 
-    ghost invariant = { λ a. (unsigned_abs a.numer ≤ greatest_numer) × (a.denom ≤ greatest_denom) };
+    ghost invariant = { λ a. (unsigned_abs a.numer ≤ max_numer) × (a.denom ≤ max_denom) };
 
     ghost inverse = { λ r. record { numer = r.numer; denom = r.denom; lowest = r.lowest } };
 }
 
 /// The greatest absolute value of a numerator.
-const GREATEST_NUMER: u128 = 1 << 90;
+const MAX_NUMER: u128 = 1 << 90;
 
 /// The greatest denominator.
-const GREATEST_DENOM: u128 = 1 << 32;
+const MAX_DENOM: u128 = 1 << 32;
 
 impl RatioTag {
     /// The tag of a fraction. `None` for the denominator 0, and where the fraction in lowest terms has a numerator above 2^90 or
@@ -59,7 +59,7 @@ impl RatioTag {
     /// The numerator in lowest terms.
     pub fn numer(self) -> i128
         ensures value { result ≡ self.numer }
-        ensures bound { unsigned_abs result ≤ greatest_numer }
+        ensures bound { unsigned_abs result ≤ max_numer }
     {
         self.numer
     }
@@ -68,7 +68,7 @@ impl RatioTag {
     pub fn denom(self) -> u64
         ensures value { result ≡ self.denom }
         ensures positive { 0 < result }
-        ensures bound { result ≤ greatest_denom }
+        ensures bound { result ≤ max_denom }
     {
         self.denom
     }
@@ -84,7 +84,7 @@ impl RatioTag {
         let common = gcd(size, denom);
         let least_size = size / common;
         let least_denom = denom / common;
-        if least_size > GREATEST_NUMER || least_denom > GREATEST_DENOM {
+        if least_size > MAX_NUMER || least_denom > MAX_DENOM {
             return None;
         }
         Some(RatioTag {
@@ -111,7 +111,7 @@ impl RatioTag {
 
 /// The number of this absolute value, below 0 or not.
 fn with_sign(size: u128, negative: bool) -> i128
-    requires { size ≤ greatest_numer }
+    requires { size ≤ max_numer }
     ensures { result ≡ with_sign size negative }
 {
     if negative {

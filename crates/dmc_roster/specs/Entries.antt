@@ -3,7 +3,7 @@ use Rattle.std.specs.Prelude.{◌≡◌, ℕ, ◌+◌, ◌≤◌, Bool, true, fa
 use Rattle.std.specs.Option.{option_map}
 use Rattle.std.specs.List.{find, AllByRecursion}
 use Rattle.std.specs.declared.alloc.AllocError.{AllocError}
-use Rattle.dmc_types.specs.Limits.{most_clients}
+use Rattle.dmc_types.specs.Limits.{max_clients}
 use Rattle.dmc_types.specs.declared.ids.ClientId.{ClientId}
 use Rattle.dmc_tag.specs.State.{is_client}
 use Rattle.dmc_client.specs.Record.{Rec}
@@ -79,4 +79,4 @@ AreApart (p ∷ ids) = AllByRecursion (λ q. (is_client p.0 q.0 ≡ false) × ((
 pub record AreHeld {T : Type 0} (ids : List (ClientId × ℕ)) (slots : List (Option (Rec T))) : Type 0 where
   pub held : AllByRecursion (λ p. is_some (slice_index_or slots p.1 None) ≡ true) ids
   pub apart : AreApart ids
-  pub bound : length ids ≤ most_clients
+  pub bound : length ids ≤ max_clients

@@ -2,7 +2,7 @@
 ghost use Rattle.std.specs.Prelude.{◌≡◌, ◌==◌, ◌≤◌, ◌<◌, ℕ, true, false, length, [], None, IfSome, map, filter, Some, is_some};
 ghost use Rattle.std.specs.Option.{option_map, option_map_or};
 ghost use Rattle.slab.specs.Slab.{get};
-ghost use Rattle.dmc_types.specs.Limits.{most_clients};
+ghost use Rattle.dmc_types.specs.Limits.{max_clients};
 ghost use Rattle.std.specs.List.{AllByRecursion};
 ghost use Rattle.std.specs.Map.{lookup};
 ghost use Rattle.dmc_client.specs.Record.{IsRecord, Rec};
@@ -55,7 +55,7 @@ impl<T: Tag> Roster<T> {
     /// The number of registered clients.
     pub fn len(&self) -> usize
         ensures value { result ≡ length self.now.entries }
-        ensures bound { result ≤ most_clients }
+        ensures bound { result ≤ max_clients }
         ensures distinct { entries.AreDistinct self.now.entries }
     {
         self.ids.len()
@@ -75,18 +75,18 @@ impl<T: Tag> Roster<T> {
         ensures held { IfSome result (λ key. is_some (entries.entry_keyed key self.now.entries) ≡ true) }
         ensures distinct { entries.AreDistinct self.now.entries }
     {
-        self.find_near(id, NOWHERE)
+        self.find_with_hint(id, NOWHERE)
     }
 
-    /// The key of a client's record, with a hint: the client may be the one at the index `near`, in order of registration,
+    /// The key of a client's record, with a hint: the client may be the one at the index `hint`, in order of registration,
     /// counted from 0. That one is looked at first.
-    pub fn find_near(&self, id: ClientId, near: usize) -> Option<usize>
+    pub fn find_with_hint(&self, id: ClientId, hint: usize) -> Option<usize>
         ensures key { result ≡ option_map (λ e. e.key) (entries.entry_named id self.now.entries) }
         ensures entry { IfSome result (λ key. entries.entry_keyed key self.now.entries ≡ entries.entry_named id self.now.entries) }
         ensures held { IfSome result (λ key. is_some (entries.entry_keyed key self.now.entries) ≡ true) }
         ensures distinct { entries.AreDistinct self.now.entries }
     {
-        key_near(&self.ids, id, near)
+        key_with_hint(&self.ids, id, hint)
     }
 
     /// The record under a key.
@@ -111,7 +111,7 @@ impl<T: Tag> Roster<T> {
     /// failure changes nothing.
     pub fn add(&mut self, id: ClientId, rec: ClientRec<T>) -> Result<usize, AllocError>
         requires new { entries.entry_named id self.old.entries ≡ None }
-        requires room { length self.old.entries < most_clients }
+        requires room { length self.old.entries < max_clients }
         ensures { entries.Adds self.old self.new id rec result }
     {
         self.ids.reserve(1)?;
@@ -145,17 +145,17 @@ impl<T: Tag> Roster<T> {
     /// The number of records that pass a test.
     pub fn count<R: RecordTest<T>>(&self, test: &R) -> usize
         ensures value { result ≡ length (filter (λ e. R.passes test.now e.rec) self.now.entries) }
-        ensures bound { result ≤ most_clients }
+        ensures bound { result ≤ max_clients }
     {
         count_passing(&self.ids, &self.records, test)
     }
 }
 
 /// The key of an id. It is looked for at an index first, and else by its hash.
-fn key_near(ids: &IndexMap<ClientId, usize>, id: ClientId, near: usize) -> Option<usize>
+fn key_with_hint(ids: &IndexMap<ClientId, usize>, id: ClientId, hint: usize) -> Option<usize>
     ensures { result ≡ lookup (λ other. id.0 == other.0) ids.now.entries }
 {
-    if let Some((other, key)) = ids.get_index(near) {
+    if let Some((other, key)) = ids.get_index(hint) {
         if *other == id {
             return Some(*key);
         }

@@ -3,7 +3,7 @@ use Rattle.std.specs.Prelude.{ℕ, ◌^◌, ◌-◌, ◌==◌, ◌&&◌, nat_le,
 use Rattle.std.specs.List.{list_any}
 use Rattle.std.specs.Option.{ok_or, option_and_then, option_to_list}
 use Rattle.std.specs.Str.{bytes_eq, is_utf8}
-use Rattle.dmc_types.specs.Limits.{greatest_hz, greatest_moment, greatest_step, greatest_window, most_client_requests, most_pulls, most_scene_bytes, most_scene_clients, most_server_workers, most_servers}
+use Rattle.dmc_types.specs.Limits.{max_hz, max_moment, max_step, max_window, max_client_requests, limit_of_pulls, max_scene_bytes, max_scene_clients, max_server_workers, max_servers}
 use Rattle.dmc_types.specs.declared.config.AtLimit.{AtLimit}
 use Rattle.dmc_types.specs.declared.config.AtLimit.TheVariants.{Wait, Allow}
 use Rattle.dmc_types.specs.declared.config.Counting.{Counting}
@@ -66,7 +66,7 @@ as_tables held = option_and_then tables_alone (as_array held)
 
 -- at least one of them, and at most as many as a scene may have
 abbrev pub some_clients : List Members → Option (List Members)
-some_clients tables = if nat_le 1 (length tables) && nat_le (length tables) most_scene_clients then Some tables else None
+some_clients tables = if nat_le 1 (length tables) && nat_le (length tables) max_scene_clients then Some tables else None
 
 -- the client of a table, after those before it
 abbrev pub client_of : TagKind → ℕ → List ClientValue → Members → Result ClientValue SceneFault
@@ -75,8 +75,8 @@ client_of tags hz before table = do
   reservation ← optional as_integer (rate tags hz) key.Reservation table
   weight ← required as_integer (rate tags hz) key.Weight table
   limit ← optional as_integer (rate tags hz) key.Limit table
-  requests ← required as_integer (number 0 most_client_requests) key.Requests table
-  window ← required as_integer (number 1 greatest_window) key.Window table
+  requests ← required as_integer (number 0 max_client_requests) key.Requests table
+  window ← required as_integer (number 1 max_window) key.Window table
   Ok (record {
     id = record { 0 = id };
     info = record { reservation = reservation; weight = weight; limit = limit };
@@ -93,19 +93,19 @@ clients_of tags hz before (table ∷ tables) =
 -- the ticks a second, and the ages
 abbrev pub ages_of : Members → Result Ages SceneFault
 ages_of table = do
-  hz ← required as_integer (number 1 greatest_hz) key.Hz table
-  idle_age ← defaulted greatest_moment as_integer (number 1 greatest_moment) key.IdleAge table
-  erase_age ← defaulted greatest_moment as_integer (number idle_age greatest_moment) key.EraseAge table
+  hz ← required as_integer (number 1 max_hz) key.Hz table
+  idle_age ← defaulted max_moment as_integer (number 1 max_moment) key.IdleAge table
+  erase_age ← defaulted max_moment as_integer (number idle_age max_moment) key.EraseAge table
   Ok (record { hz = hz; idle_age = idle_age; erase_age = erase_age })
 
 -- the numbers besides those of the configuration and of the clients
 abbrev pub sizes_of : Members → Result Sizes SceneFault
 sizes_of table = do
-  servers ← required as_integer (number 1 most_servers) key.Servers table
-  workers ← required as_integer (number 1 most_server_workers) key.Workers table
-  step ← required as_integer (number 1 greatest_step) key.Step table
+  servers ← required as_integer (number 1 max_servers) key.Servers table
+  workers ← required as_integer (number 1 max_server_workers) key.Workers table
+  step ← required as_integer (number 1 max_step) key.Step table
   seed ← required as_integer (number 0 (2 ^ 63 - 1)) key.Seed table
-  max_pulls ← required as_integer (number 1 most_pulls) key.MaxPulls table
+  max_pulls ← required as_integer (number 1 limit_of_pulls) key.MaxPulls table
   Ok (record { servers = servers; workers = workers; step = step; seed = seed; max_pulls = max_pulls })
 
 -- the scene of a table
@@ -132,7 +132,7 @@ scene_of table = do
 
 -- the table of a text: UTF-8 of at most as many bytes as a scene may have, and TOML
 abbrev pub table_of : List ℕ → Option Members
-table_of text = if nat_le (length text) most_scene_bytes && is_utf8 text then parse_document text else None
+table_of text = if nat_le (length text) max_scene_bytes && is_utf8 text then parse_document text else None
 
 -- the scene of a text
 abbrev pub scene_in : List ℕ → Result SceneValue SceneFault

@@ -1,6 +1,6 @@
 -- What contracts see of a scene, and the limits that each scene is within.
 use Rattle.std.specs.Prelude.{◌≢◌, ℕ, ◌%◌, ◌<◌, ◌≤◌, ◌^◌, ◌==◌, ◌&&◌, nat_le, Bool, IsTrue, IfSome, List, length, All, AllPairs}
-use Rattle.dmc_types.specs.Limits.{greatest_hz, greatest_step, greatest_window, most_client_requests, most_pulls, most_scene_clients, most_server_workers, most_servers}
+use Rattle.dmc_types.specs.Limits.{max_hz, max_step, max_window, max_client_requests, limit_of_pulls, max_scene_clients, max_server_workers, max_servers}
 use Rattle.dmc_types.specs.Values.{Rates, Setting}
 use Rattle.dmc_types.specs.declared.ids.ClientId.{ClientId}
 use Rattle.dmc_types.specs.declared.config.Counting.{Counting}
@@ -41,9 +41,9 @@ pub record AreSpaced (tags : TagKind) (hz : ℕ) (info : Rates) : Type 0 where
 
 -- the limits of a client
 pub record IsClient (requests window : ℕ) : Type 0 where
-  pub requests_limit : requests ≤ most_client_requests
+  pub requests_limit : requests ≤ max_client_requests
   pub some_window : 0 < window
-  pub window_limit : window ≤ greatest_window
+  pub window_limit : window ≤ max_window
 
 -- none of the clients has the id
 abbrev pub IsFresh : List ClientValue → ℕ → Type 0
@@ -56,20 +56,20 @@ AreApart a b = a.id ≢ b.id
 -- the limits of the numbers of a scene
 pub record AreSizes (servers workers step seed max_pulls : ℕ) : Type 0 where
   pub some_servers : 0 < servers
-  pub servers_limit : servers ≤ most_servers
+  pub servers_limit : servers ≤ max_servers
   pub some_workers : 0 < workers
-  pub workers_limit : workers ≤ most_server_workers
+  pub workers_limit : workers ≤ max_server_workers
   pub some_step : 0 < step
-  pub step_limit : step ≤ greatest_step
+  pub step_limit : step ≤ max_step
   pub seed_limit : seed < 2 ^ 63
   pub some_pulls : 0 < max_pulls
-  pub pulls_limit : max_pulls ≤ most_pulls
+  pub pulls_limit : max_pulls ≤ limit_of_pulls
 
 -- the limits of its ticks a second and of its clients
 pub record AreClients (tags : TagKind) (hz : ℕ) (clients : List ClientValue) : Type 0 where
   pub some_hz : 0 < hz
-  pub hz_limit : hz ≤ greatest_hz
+  pub hz_limit : hz ≤ max_hz
   pub some : 0 < length clients
-  pub limit : length clients ≤ most_scene_clients
+  pub limit : length clients ≤ max_scene_clients
   pub apart : AllPairs AreApart clients
   pub spaced : All (λ c. AreSpaced tags hz c.info) clients

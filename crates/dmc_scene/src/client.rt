@@ -1,7 +1,7 @@
 //! The clients of a scene.
 ghost use Rattle.std.specs.Prelude.{◌≡◌, ◌<◌, ◌≤◌, ◌==◌, IfOk, IfSome, false};
 ghost use Rattle.std.specs.List.{list_any};
-ghost use Rattle.dmc_types.specs.Limits.{greatest_window, most_client_requests};
+ghost use Rattle.dmc_types.specs.Limits.{max_window, max_client_requests};
 ghost use Rattle.toml.specs.Data.{as_integer};
 ghost use Rattle.toml.specs.View.{view, table_view};
 ghost use Rattle.dmc_scene.specs.SceneValue.{has_spacing, HasSpacing, AreSpaced, IsFresh};
@@ -18,10 +18,10 @@ use std::marker::Model;
 use toml::{Table, Value};
 
 /// The greatest number of requests of a client.
-const MOST_CLIENT_REQUESTS: u64 = 1_000_000;
+const MAX_CLIENT_REQUESTS: u64 = 1_000_000;
 
 /// The greatest number of a client's requests that are outstanding at once.
-const GREATEST_WINDOW: u64 = 1024;
+const MAX_WINDOW: u64 = 1024;
 
 /// A client of a scene: its id and rates, how many requests it makes (at most 1,000,000), and how many of them may be
 /// outstanding (1 to 1,024).
@@ -63,7 +63,7 @@ impl SceneClient {
     /// How many requests it makes.
     pub fn requests(self) -> u32
         ensures value { result ≡ self.requests }
-        ensures limit { result ≤ most_client_requests }
+        ensures limit { result ≤ max_client_requests }
     {
         self.requests
     }
@@ -72,7 +72,7 @@ impl SceneClient {
     pub fn window(self) -> u32
         ensures value { result ≡ self.window }
         ensures some { 0 < result }
-        ensures limit { result ≤ greatest_window }
+        ensures limit { result ≤ max_window }
     {
         self.window
     }
@@ -174,8 +174,8 @@ pub(crate) fn read_client(
     let reservation = optional_rate(table, Key::Reservation, tags, hz)?;
     let weight = rate(table, Key::Weight, tags, hz)?;
     let limit = optional_rate(table, Key::Limit, tags, hz)?;
-    let requests = integer(table, Key::Requests, 0, MOST_CLIENT_REQUESTS)? as u32;
-    let window = integer(table, Key::Window, 1, GREATEST_WINDOW)? as u32;
+    let requests = integer(table, Key::Requests, 0, MAX_CLIENT_REQUESTS)? as u32;
+    let window = integer(table, Key::Window, 1, MAX_WINDOW)? as u32;
     Ok(SceneClient {
         id: ClientId(id),
         info: ClientInfo::new(reservation, weight, limit).unwrap(),

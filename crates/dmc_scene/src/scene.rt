@@ -2,7 +2,7 @@
 ghost use Rattle.std.specs.Prelude.{◌≡◌, ◌≢◌, ◌<◌, ◌≤◌, ◌^◌, IfOk, IfErr, IsUtf8, Some, None, Ok, Err, true, [], length, All, AllPairs};
 ghost use Rattle.std.specs.Option.{ok_or};
 ghost use Rattle.std.specs.Result.{result_map_both};
-ghost use Rattle.dmc_types.specs.Limits.{greatest_hz, greatest_step, most_pulls, most_scene_bytes, most_scene_clients, most_server_workers, most_servers};
+ghost use Rattle.dmc_types.specs.Limits.{max_hz, max_step, limit_of_pulls, max_scene_bytes, max_scene_clients, max_server_workers, max_servers};
 ghost use Rattle.toml.specs.Data.{as_str, as_array};
 ghost use Rattle.toml.specs.Parse.{parse_document};
 ghost use Rattle.toml.specs.View.{view, items_view, table_view};
@@ -19,25 +19,25 @@ use crate::fault::SceneFault;
 use crate::held::{integer, integer_or, required, text_of, value_at};
 use crate::key::Key;
 use dmc_types::config::{AtLimit, Counting, QueueConfig, TagKind};
-use dmc_types::limits::{GREATEST_AGE, GREATEST_HZ, MOST_SERVERS};
+use dmc_types::limits::{MAX_AGE, MAX_HZ, MAX_SERVERS};
 use std::alloc::Global;
 use std::marker::Model;
 use toml::{Table, Value};
 
 /// The greatest length of a scene in bytes.
-const MOST_SCENE_BYTES: usize = 1 << 20;
+const MAX_SCENE_BYTES: usize = 1 << 20;
 
 /// The greatest number of workers of a server.
-const MOST_SERVER_WORKERS: u64 = 16;
+const MAX_SERVER_WORKERS: u64 = 16;
 
 /// The greatest number of ticks of a step.
-const GREATEST_STEP: u64 = 1_000_000_000;
+const MAX_STEP: u64 = 1_000_000_000;
 
 /// The greatest number of rounds, and of turns of a worker.
-const MOST_PULLS: u64 = 1 << 30;
+const LIMIT_OF_PULLS: u64 = 1 << 30;
 
 /// The greatest number of clients.
-const MOST_SCENE_CLIENTS: usize = 256;
+const MAX_SCENE_CLIENTS: usize = 256;
 
 /// The settings of a run: the queues' configuration, the tags, the numbers of servers and workers, the step of a simulation's
 /// round, the seed of the plans, the greatest number of pulls, the counting form, and the clients.
@@ -90,7 +90,7 @@ impl Scene {
     pub fn tags(&self) -> TagKind
         ensures value { result ≡ self.now.tags }
         ensures some_hz { 0 < self.now.config.hz }
-        ensures hz_limit { self.now.config.hz ≤ greatest_hz }
+        ensures hz_limit { self.now.config.hz ≤ max_hz }
         ensures spaced { All (λ client. AreSpaced result self.now.config.hz client.info) self.now.clients }
     {
         self.tags
@@ -100,7 +100,7 @@ impl Scene {
     pub fn servers(&self) -> u32
         ensures value { result ≡ self.now.servers }
         ensures some { 0 < result }
-        ensures limit { result ≤ most_servers }
+        ensures limit { result ≤ max_servers }
     {
         self.servers
     }
@@ -109,7 +109,7 @@ impl Scene {
     pub fn workers(&self) -> u32
         ensures value { result ≡ self.now.workers }
         ensures some { 0 < result }
-        ensures limit { result ≤ most_server_workers }
+        ensures limit { result ≤ max_server_workers }
     {
         self.workers
     }
@@ -118,7 +118,7 @@ impl Scene {
     pub fn step(&self) -> u64
         ensures value { result ≡ self.now.step }
         ensures some { 0 < result }
-        ensures limit { result ≤ greatest_step }
+        ensures limit { result ≤ max_step }
     {
         self.step
     }
@@ -135,7 +135,7 @@ impl Scene {
     pub fn max_pulls(&self) -> u32
         ensures value { result ≡ self.now.max_pulls }
         ensures some { 0 < result }
-        ensures limit { result ≤ most_pulls }
+        ensures limit { result ≤ limit_of_pulls }
     {
         self.max_pulls
     }
@@ -151,7 +151,7 @@ impl Scene {
     pub fn clients(&self) -> &[SceneClient]
         ensures value { result.now ≡ self.now.clients }
         ensures some { 0 < length result.now }
-        ensures limit { length result.now ≤ most_scene_clients }
+        ensures limit { length result.now ≤ max_scene_clients }
         ensures apart { AllPairs AreApart result.now }
         ensures spaced { All (λ client. AreSpaced self.now.tags self.now.config.hz client.info) result.now }
     {
@@ -164,9 +164,9 @@ impl Scene {
 pub fn read_scene(alloc: Global, text: &[u8]) -> Result<Scene, SceneFault>
     ensures read { result ≢ Err SceneFault.Memory → result ≡ scene_in text.now }
     // nothing is allocated before the text is known to be short enough and UTF-8
-    ensures memory { result ≡ Err SceneFault.Memory → (length text.now ≤ most_scene_bytes) × IsUtf8 text.now }
+    ensures memory { result ≡ Err SceneFault.Memory → (length text.now ≤ max_scene_bytes) × IsUtf8 text.now }
 {
-    if text.len() > MOST_SCENE_BYTES {
+    if text.len() > MAX_SCENE_BYTES {
         return Err(SceneFault::Text);
     }
     match std::str::from_utf8(text) {
@@ -225,9 +225,9 @@ fn read_ages(table: &Table) -> Result<Ages, SceneFault>
     ensures value { result ≡ ages_of (table_view table.now) }
     ensures setting { IfOk result (λ ages. IsSetting ages.hz ages.idle_age ages.erase_age) }
 {
-    let hz = integer(table, Key::Hz, 1, GREATEST_HZ)? as u32;
-    let idle_age = integer_or(table, Key::IdleAge, GREATEST_AGE, 1, GREATEST_AGE)?;
-    let erase_age = integer_or(table, Key::EraseAge, GREATEST_AGE, idle_age, GREATEST_AGE)?;
+    let hz = integer(table, Key::Hz, 1, MAX_HZ)? as u32;
+    let idle_age = integer_or(table, Key::IdleAge, MAX_AGE, 1, MAX_AGE)?;
+    let erase_age = integer_or(table, Key::EraseAge, MAX_AGE, idle_age, MAX_AGE)?;
     Ok(Ages {
         hz,
         idle_age,
@@ -257,11 +257,11 @@ fn read_sizes(table: &Table) -> Result<Sizes, SceneFault>
     ensures value { result ≡ sizes_of (table_view table.now) }
     ensures sizes { IfOk result (λ s. AreSizes s.servers s.workers s.step s.seed s.max_pulls) }
 {
-    let servers = integer(table, Key::Servers, 1, MOST_SERVERS as u64)? as u32;
-    let workers = integer(table, Key::Workers, 1, MOST_SERVER_WORKERS)? as u32;
-    let step = integer(table, Key::Step, 1, GREATEST_STEP)?;
+    let servers = integer(table, Key::Servers, 1, MAX_SERVERS as u64)? as u32;
+    let workers = integer(table, Key::Workers, 1, MAX_SERVER_WORKERS)? as u32;
+    let step = integer(table, Key::Step, 1, MAX_STEP)?;
     let seed = integer(table, Key::Seed, 0, (1 << 63) - 1)?;
-    let max_pulls = integer(table, Key::MaxPulls, 1, MOST_PULLS)? as u32;
+    let max_pulls = integer(table, Key::MaxPulls, 1, LIMIT_OF_PULLS)? as u32;
     Ok(Sizes {
         servers,
         workers,
@@ -363,11 +363,11 @@ fn client_tables(table: &Table) -> Result<&[Value], SceneFault>
     ensures value { result_map_both (λ values. tables_in (items_view values.now)) (λ fault. fault) result
         ≡ required as_tables some_clients Key.Client (table_view table.now) }
     ensures some { IfOk result (λ values. 0 < length values.now) }
-    ensures limit { IfOk result (λ values. length values.now ≤ most_scene_clients) }
+    ensures limit { IfOk result (λ values. length values.now ≤ max_scene_clients) }
     ensures len { IfOk result (λ values. length (tables_in (items_view values.now)) ≡ length values.now) }
 {
     let values = tables_of(required(table, Key::Client)?)?;
-    if values.is_empty() || values.len() > MOST_SCENE_CLIENTS {
+    if values.is_empty() || values.len() > MAX_SCENE_CLIENTS {
         return Err(SceneFault::Value(Key::Client));
     }
     Ok(values)

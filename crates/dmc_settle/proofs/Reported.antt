@@ -41,7 +41,7 @@ use Rattle.dmc_settle.proofs.Sums.{sum_to, sum_places, same_sum, one_of_sum}
 -- what is sent to a server is at most what is due there
 sent_within_due : (b : tracker_book.BookState) (s : ServerId) → s.0 < length b.desks → IsConsistent b → (sent s b.events).delta ≤ (due b.tracker.counting s b.events).delta
 sent_within_due b s within h =
-    let here = ap (λ (x : ServerNumbers). x.sent.delta) (h.stands.each s (omega (arith, within, h.servers))) in
+    let here = ap (λ (x : ServerNumbers). x.sent.delta) (h.represents.each s (omega (arith, within, h.servers))) in
     let sum = ap (λ (x : Params). x.delta) (h.balanced s within) in
     omega (arith, here, sum)
 

@@ -1,6 +1,6 @@
 -- What settling fills into a row.
 use Rattle.std.specs.Prelude.{◌≡◌, ℕ, ◌+◌, ◌<◌, ◌≤◌, ◌^◌, List, [], length, slice_index_or, sum_by}
-use Rattle.dmc_types.specs.Limits.{most_events, most_scene_clients}
+use Rattle.dmc_types.specs.Limits.{max_events, max_scene_clients}
 use Rattle.dmc_types.specs.declared.ids.ServerId.{ServerId}
 use Rattle.dmc_types.specs.declared.config.PhaseType.{PhaseType}
 use Rattle.dmc_types.specs.declared.config.PhaseType.TheVariants.{Reservation, Priority}
@@ -53,7 +53,7 @@ no_server_numbers = record { reservation = 0; priority = 0; left = 0; held = rec
 pub record IsReadyServer {T : Type 0} (book : BookState T) (passes : List PassState) : Type 0 where
   pub own : AreOwn book.workers book.desks passes
   pub whole : book.first ≡ 0
-  pub few : length book.desks ≤ most_scene_clients
+  pub few : length book.desks ≤ max_scene_clients
 
 -- what the passes hold, over all clients
 abbrev pub grants_left : List PassState → GrantsHeld
@@ -104,8 +104,8 @@ pub record AreWithin (n : ℕ) (g : Granted) : Type 0 where
 
 -- the grants of a desk are no more than a history has events
 pub record AreFewGrants (d : ClientSide) : Type 0 where
-  pub reservation : total_of d.books.reservation ≤ most_events
-  pub priority : total_of d.books.priority ≤ most_events
+  pub reservation : total_of d.books.reservation ≤ max_events
+  pub priority : total_of d.books.priority ≤ max_events
 
 -- ---- a client's
 

@@ -11,7 +11,7 @@ use Rattle.dmc_tlock.specs.declared.settled.StampsHeld.{StampsHeld}
 use Rattle.dmc_book.specs.BookState.{BookState, PassState, no_desk, pass_state}
 use Rattle.dmc_book.specs.declared.pass.WorkerPass.{WorkerPass}
 
--- what stands at a place where there is no book
+-- the default of a place without a book
 abbrev pub no_setting : Setting
 no_setting = record { hz = 0; idle_age = 0; erase_age = 0; at_limit = Wait }
 
@@ -23,7 +23,7 @@ no_tracker = record {
   client = 0;
   tracker = record { counting = All; most = 0; completions = no_counts; servers = [] };
   events = [];
-  most_events = 0;
+  max_events = 0;
   desks = [];
 }
 

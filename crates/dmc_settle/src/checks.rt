@@ -4,7 +4,7 @@ ghost use Rattle.dmc_ledger.specs.Bundles.{client_side, server_side};
 ghost use Rattle.dmc_book.specs.BookState.{pass_state};
 ghost use Rattle.dmc_settle.specs.Checks.{AreServerParts, AreClientParts, IsPairAt, ArePairsOf, ArePairs};
 ghost use Rattle.dmc_settle.specs.Places.{pass_states};
-ghost use Rattle.dmc_types.specs.Limits.{most_scene_clients, most_servers};
+ghost use Rattle.dmc_types.specs.Limits.{max_scene_clients, max_servers};
 ghost use Rattle.dmc_settle.specs.Left.{ArePaired, AreTogether, IsClientPart, IsServerPart, IsTillOf, left_of, stops_of};
 ghost use Rattle.dmc_settle.specs.Reports.{AreRows};
 ghost use Rattle.dmc_settle.specs.declared.report.ServerReport.{ServerReport};
@@ -222,8 +222,8 @@ fn are_server_rows<T: Tag>(rows: &[ServerReport<T>]) -> bool
 /// Whether the report's rows are those of the scene, which has at most 64 servers and 256 clients.
 pub(crate) fn are_rows<T: Tag>(scene: &Scene, report: &ClusterReport<T>) -> bool
     ensures rows { IsTrue result ↔ AreRows scene.now report.now }
-    ensures servers { IsTrue result → scene.now.servers ≤ most_servers }
-    ensures clients { IsTrue result → length scene.now.clients ≤ most_scene_clients }
+    ensures servers { IsTrue result → scene.now.servers ≤ max_servers }
+    ensures clients { IsTrue result → length scene.now.clients ≤ max_scene_clients }
 {
     report.servers.len() == scene.servers() as usize
         && are_client_rows(&report.clients, scene.clients())

@@ -1,6 +1,6 @@
 //! Settling the clients' tracker books.
 ghost use Rattle.std.specs.Prelude.{◌≡◌, ◌≤◌, ◌<◌, ◌^◌, ℕ, [], length, map, slice_index_or, sum_by};
-ghost use Rattle.dmc_types.specs.Limits.{most_servers};
+ghost use Rattle.dmc_types.specs.Limits.{max_servers};
 ghost use Rattle.dmc_ledger.specs.Bundles.{client_side, server_side};
 ghost use Rattle.dmc_tlock.specs.BookState.{no_side};
 ghost use Rattle.dmc_tlock.specs.Consistent.{IsConsistent, responded};
@@ -22,7 +22,7 @@ pub(crate) struct TakenIn {
     completed: u64,
 }
 
-/// Changes nothing, and tells that each held till of a pair is all that its book issued beside what was gathered.
+/// Changes nothing, and shows that each held till of a pair is all that its book issued beside what was gathered.
 fn audit_pair<S: Setup>(desk: &ClientDesk<S>, side: &ServerDesk<S>)
     requires { IsClosing (client_side desk.now) (server_side side.now) }
     ensures { IsAudited (client_side desk.now) (server_side side.now) }
@@ -56,7 +56,7 @@ fn audit_pairs<S: Setup>(
     desks: &[Vec<ClientDesk<S>>],
     sides: &[ServerDesk<S>],
 ) -> TakenIn
-    requires few { length desks.now ≤ most_servers }
+    requires few { length desks.now ≤ max_servers }
     requires as_many { length sides.now ≡ length desks.now }
     requires within { (s : ℕ) → s < length desks.now → client < length (slice_index_or (map places.sides desks.now) s []) }
     requires closing { (s : ℕ) → s < length desks.now
@@ -91,7 +91,7 @@ fn add_held(sum: StampsHeld, left: StampsHeld) -> StampsHeld
 
 /// Sums what was left in a pass for each server.
 fn sum_held(held: &[StampsHeld]) -> StampsHeld
-    requires few { length held.now ≤ most_servers }
+    requires few { length held.now ≤ max_servers }
     requires each { (s : ℕ) → s < length held.now → AreHeldWithin (2 ^ 31) (slice_index_or held.now s no_held) }
     ensures { result ≡ all_held held.now }
 {
@@ -111,7 +111,7 @@ fn settle_client<S: Setup>(
     row: &mut ClientReport,
 )
     requires ready { IsReadyClient (map places.sides desks.now) client tracker pass }
-    requires few { length desks.now ≤ most_servers }
+    requires few { length desks.now ≤ max_servers }
     ensures numbers { AreClientNumbers (map places.sides desks.now) client tracker pass (client_numbers row.new) }
     ensures balanced { AreBalanced (map places.sides desks.now) client tracker pass }
     ensures consistent { IsConsistent tracker }
@@ -137,7 +137,7 @@ pub(crate) fn settle_clients<S: Setup>(
 )
     requires passes { length passes.items ≡ length trackers.items }
     requires rows { length rows.old ≡ length trackers.items }
-    requires few { length desks.now ≤ most_servers }
+    requires few { length desks.now ≤ max_servers }
     requires ready { (c : ℕ) → c < length trackers.items
         → IsReadyClient (map places.sides desks.now) c (slice_index_or trackers.items c no_tracker) (slice_index_or passes.items c []) }
     ensures a_row_each { length rows.new ≡ length trackers.items }

@@ -1,4 +1,4 @@
-//! What a run of a cluster tells.
+//! What a run of a cluster reports.
 
 use dmc_book::settled::GrantsHeld;
 use dmc_queue_history::history::EventHistory;
@@ -12,7 +12,7 @@ use dmc_types::refusal::Refusal;
 pub enum StopCause {
     /// A server's worker took its last turn.
     Turns,
-    /// A client's worker was told to end, by a server's worker that had stopped.
+    /// A client's worker was rung to end, by a server's worker that had stopped.
     Rung,
     /// The queue refused a request or a pull by its rules.
     Refused(Refusal),
@@ -36,7 +36,7 @@ pub struct ClientReport {
     pub sent: u64,
     /// Those whose response its tracker counted.
     pub completed: u64,
-    /// Those for which the service answered a fault.
+    /// Those for which the service returned a fault.
     pub failed: u64,
     /// The stamps that were left in its pass, with their deltas and rhos.
     pub held: StampsHeld,
@@ -56,13 +56,13 @@ pub struct ServerReport<T: Tag> {
     pub left: u32,
     /// The units of grants that were left in its workers' passes: granted, and not responded.
     pub held: GrantsHeld,
-    /// All that its queue answered, in order.
+    /// Its queue's history, in order.
     pub history: EventHistory<T>,
     /// Why its workers stopped, those that did.
     pub stops: Vec<StopCause>,
 }
 
-/// What a run of a cluster tells.
+/// What a run of a cluster reports.
 #[derive(Drop)]
 pub struct ClusterReport<T: Tag> {
     /// The clients, in the scene's order.

@@ -23,7 +23,7 @@ impl<S: Setup> Model for SettleRoom<S> {
 }
 
 impl<S: Setup> SettleRoom<S> {
-    /// Room for so many servers.
+    /// Room for this number of servers.
     pub fn new(alloc: Global, servers: u32) -> Result<SettleRoom<S>, AllocError>
         ensures { IfOk result (λ room. servers ≤ room) }
     {

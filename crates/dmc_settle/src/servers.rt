@@ -1,6 +1,6 @@
 //! Settling the servers' books.
 ghost use Rattle.std.specs.Prelude.{◌≡◌, ◌≤◌, ◌<◌, ◌^◌, ℕ, [], length, map, slice_index_or, vec_capacity};
-ghost use Rattle.dmc_types.specs.Limits.{most_scene_clients};
+ghost use Rattle.dmc_types.specs.Limits.{max_scene_clients};
 ghost use Rattle.dmc_ledger.specs.Bundles.{client_side};
 ghost use Rattle.dmc_book.specs.BookState.{no_desk, pass_state};
 ghost use Rattle.dmc_book.specs.Settling.{AreSettledDesks};
@@ -45,7 +45,7 @@ fn add_desk<S: Setup>(granted: Granted, desk: &ClientDesk<S>) -> Granted
 
 /// Sums what the grant books of desks total, and what they have gathered.
 fn sum_grants<S: Setup>(desks: &[ClientDesk<S>]) -> Granted
-    requires few { length desks.now ≤ most_scene_clients }
+    requires few { length desks.now ≤ max_scene_clients }
     requires few_grants { (k : ℕ) → k < length desks.now → AreFewGrants (slice_index_or (map client_side desks.now) k no_desk) }
     ensures { result ≡ granted_at (map client_side desks.now) }
 {
@@ -60,7 +60,7 @@ fn sum_grants<S: Setup>(desks: &[ClientDesk<S>]) -> Granted
     granted
 }
 
-/// Settles a server's book with its passes, and fills in its row. What it hands back are the desks.
+/// Settles a server's book with its passes, and fills in its row. It returns the desks.
 fn settle_server<T: Tag, I: Indexes<T>, S: Setup>(
     alloc: Global,
     book: &mut QueueBook<T, I, S>,

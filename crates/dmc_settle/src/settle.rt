@@ -1,6 +1,6 @@
 //! Settling a cluster.
 ghost use Rattle.std.specs.Prelude.{◌≤◌, ◌↔◌, length, IfOk, OnOk, IsOk, IsTrue};
-ghost use Rattle.dmc_types.specs.Limits.{most_scene_clients, most_servers};
+ghost use Rattle.dmc_types.specs.Limits.{max_scene_clients, max_servers};
 ghost use Rattle.dmc_settle.specs.Left.{AreTogether, left_of, stops_of};
 ghost use Rattle.dmc_settle.specs.Circle.{AreCircles};
 ghost use Rattle.dmc_settle.specs.Reports.{AreRows, IsReport, IsReportOf};
@@ -34,7 +34,7 @@ pub struct Passes<S: Setup> {
 }
 
 /// Settles a cluster once its threads have ended: settles each book with its passes, audits the pair of each client and each
-/// server, and fills in the report. What is in the report of stops and failures stays. It takes no memory.
+/// server, and fills in the report. What is in the report of stops and failures stays. It does not allocate.
 ///
 /// Refused `Torn`, which hands nothing back, where these are not the parts of one cluster that the scene sets up, by their
 /// configurations, their ids and the numbers of their books, or the report's rows are not the scene's.
@@ -77,8 +77,8 @@ fn are_whole<T: Tag, I: Indexes<T>, S: Setup>(
 ) -> bool
     ensures whole { IsTrue result
         ↔ AreTogether scene.now (left_of books.now trackers.now passes.now (stops_of report.now)) × AreRows scene.now report.now }
-    ensures servers { IsTrue result → scene.now.servers ≤ most_servers }
-    ensures clients { IsTrue result → length scene.now.clients ≤ most_scene_clients }
+    ensures servers { IsTrue result → scene.now.servers ≤ max_servers }
+    ensures clients { IsTrue result → length scene.now.clients ≤ max_scene_clients }
 {
     are_together(scene, books, trackers, passes, report) && are_rows(scene, report)
 }

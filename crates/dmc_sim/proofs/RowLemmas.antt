@@ -4,12 +4,12 @@ use Rattle.std.specs.Prelude.{All, option_map, unwrap_or}
 use Rattle.std.specs.List.{AllZip, list_all, range_with_len}
 use Rattle.std.proofs.lemmas.Bool.{and_parts, eqb-true}
 use Rattle.dmc_types.specs.declared.ids.ClientId.{ClientId}
-use Rattle.dmc_tag.specs.State.{State, StandsFor}
+use Rattle.dmc_tag.specs.State.{State, Represents}
 use Rattle.dmc_tag.specs.Tag.{Tagging}
 use Rattle.dmc_tag.specs.Outcome.{◌>>=◌}
 use Rattle.dmc_tag.proofs.ForCallers.{as_many_requests}
 use Rattle.dmc_scene.specs.SceneValue.{SceneValue}
-use Rattle.dmc_core.specs.Core.{CoreValue, StandsForRun}
+use Rattle.dmc_core.specs.Core.{CoreValue, RepresentsRun}
 use Rattle.dmc_sim.specs.Counts.{HaveGranted}
 use Rattle.dmc_sim.specs.Reports.{IsClientRow, IsComplete, ReportValue, client_row, end_of, report_after, report_of, server_row}
 use Rattle.dmc_sim.specs.Rows.{row_of, idle_row, with_left}
@@ -48,7 +48,7 @@ none_granted a (suc n) (suc k) d w = none_granted (a + 1) n k d (omega (arith, w
 
 -- ---- the rows of the simulation
 
-same_left : {T Q : Type 0} (state : Q → State T) (qs : List Q) (us : List (State T)) → AllZip (λ q u. StandsFor (state q) u) qs us → (n : ℕ)
+same_left : {T Q : Type 0} (state : Q → State T) (qs : List Q) (us : List (State T)) → AllZip (λ q u. Represents (state q) u) qs us → (n : ℕ)
     → option_map (λ q. length (state q).requests) (slice_get qs n) ≡ option_map (λ (u : State T). length u.requests) (slice_get us n)
 same_left state [] [] z n = refl
 same_left state [] (u ∷ us) z n = absurd z
@@ -57,13 +57,13 @@ same_left state (q ∷ qs) (u ∷ us) z zero = ap Some (as_many_requests (state 
 same_left state (q ∷ qs) (u ∷ us) z (suc n) = same_left state qs us z.1 n
 
 -- what is left is that of the run, and the grants are those of the trace
-pub left_rows : {T Q : Type 0} (state : Q → State T) (core : CoreValue Q) (sim : Sim T) → StandsForRun state core sim.run → (rows : List ServerReport) → All (AreGrants sim.trace) rows
+pub left_rows : {T Q : Type 0} (state : Q → State T) (core : CoreValue Q) (sim : Sim T) → RepresentsRun state core sim.run → (rows : List ServerReport) → All (AreGrants sim.trace) rows
     → map (with_left state core.servers) rows ≡ map (server_row sim) (map (λ r. r.server) rows)
-left_rows state core sim stands [] all = refl
-left_rows state core sim stands (r ∷ rs) all =
+left_rows state core sim represents [] all = refl
+left_rows state core sim represents (r ∷ rs) all =
     let mine = all 0 r (omega arith) in
-    let left = ap (λ (o : Option ℕ). unwrap_or o 0) (same_left state core.servers sim.run.servers stands.servers r.server.0) in
-    let rest = left_rows state core sim stands rs (λ k d w. all (suc k) d (omega (arith, w))) in
+    let left = ap (λ (o : Option ℕ). unwrap_or o 0) (same_left state core.servers sim.run.servers represents.servers r.server.0) in
+    let rest = left_rows state core sim represents rs (λ k d w. all (suc k) d (omega (arith, w))) in
     let first : with_left state core.servers r ≡ server_row sim r.server = rw (mine.reservation, mine.priority, left) refl in
     ap (λ x. x ∷ map (with_left state core.servers) rs) first ∙ ap (λ xs. server_row sim r.server ∷ xs) rest
 

@@ -11,7 +11,7 @@ use Rattle.dmc_tag.specs.Tag.{Tagging}
 use Rattle.dmc_tag.specs.State.{State, is_client}
 use Rattle.dmc_tag.specs.Outcome.{◌>>=◌}
 use Rattle.dmc_scene.specs.SceneValue.{SceneValue, ClientValue, AreApart}
-use Rattle.dmc_core.specs.Core.{CoreValue, StandsForRun}
+use Rattle.dmc_core.specs.Core.{CoreValue, RepresentsRun}
 use Rattle.dmc_core.specs.declared.event.CoreEvent.TheVariants.{Stamp, Arrive}
 use Rattle.dmc_sim.specs.Simulation.{Entry, Sim, Returned, asked, is_tagged, plan_of, next_server, send_to, client_turn, each_in_turn}
 use Rattle.dmc_sim.specs.Turns.{IsCounted, ClientAt, ClientsAt, Gives, IsAfter, has_next}
@@ -44,8 +44,8 @@ module _ {T : Type 0} (scene : SceneValue) (trace : List (Entry T)) (server : Se
 
 module _ {T Q : Type 0} (ops : Tagging T) (state : Q → State T) (scene : SceneValue) (at : ℕ) (server : ServerId) (first second third : CoreValue Q) (old new : SimClient) (stamped arrived : Returned T) where
   -- where it stamps a request, and the request arrives
-  pub sent_to : ((sim : Sim T) → StandsForRun state first sim.run → Gives (asked ops (Stamp old.scene.id server (record { 0 = old.sent })) sim) (IsAfter ops state (Stamp old.scene.id server (record { 0 = old.sent })) sim second stamped))
-      → ((sim : Sim T) → StandsForRun state second sim.run → Gives (asked ops (Arrive old.scene.id server at) sim) (IsAfter ops state (Arrive old.scene.id server at) sim third arrived))
+  pub sent_to : ((sim : Sim T) → RepresentsRun state first sim.run → Gives (asked ops (Stamp old.scene.id server (record { 0 = old.sent })) sim) (IsAfter ops state (Stamp old.scene.id server (record { 0 = old.sent })) sim second stamped))
+      → ((sim : Sim T) → RepresentsRun state second sim.run → Gives (asked ops (Arrive old.scene.id server at) sim) (IsAfter ops state (Arrive old.scene.id server at) sim third arrived))
       → IsSent arrived old new → (sim : Sim T) → ClientAt state scene first old sim → Gives (send_to ops at old.scene (Some server) sim) (ClientAt state scene third new)
   sent_to stamps arrives is sim h =
       let id = old.scene.id in

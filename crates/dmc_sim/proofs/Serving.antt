@@ -13,7 +13,7 @@ use Rattle.dmc_tag.specs.Tag.{Tagging}
 use Rattle.dmc_tag.specs.State.{State, is_client}
 use Rattle.dmc_tag.specs.Outcome.{◌>>=◌}
 use Rattle.dmc_scene.specs.SceneValue.{SceneValue}
-use Rattle.dmc_core.specs.Core.{CoreValue, StandsForRun}
+use Rattle.dmc_core.specs.Core.{CoreValue, RepresentsRun}
 use Rattle.dmc_core.specs.Events.{cluster_step}
 use Rattle.dmc_core.specs.declared.event.CoreEvent.TheVariants.{Pull, Respond}
 use Rattle.dmc_sim.specs.Simulation.{Entry, Sim, Returned, asked, grant_in, granted_by, is_counted, is_granted_in, is_phase, is_server, respond_to, server_turn, each_in_turn}
@@ -41,7 +41,7 @@ module _ {T : Type 0} (scene : SceneValue) (trace : List (Entry T)) (id : Client
       (omega (arith, reserved_more trace e own, reserved, is.reservation, h.reservation))
 
 module _ {T Q : Type 0} (ops : Tagging T) (state : Q → State T) (scene : SceneValue) (id : ClientId) (server : ServerId) (phase : PhaseType) (core core' : CoreValue Q) (clients : List SimClient) (returned : Returned T)
-    (responds : (sim : Sim T) → StandsForRun state core sim.run → Gives (asked ops (Respond id server phase) sim) (IsAfter ops state (Respond id server phase) sim core' returned)) (sim : Sim T) (h : ClientsAt state scene core clients sim) where
+    (responds : (sim : Sim T) → RepresentsRun state core sim.run → Gives (asked ops (Respond id server phase) sim) (IsAfter ops state (Respond id server phase) sim core' returned)) (sim : Sim T) (h : ClientsAt state scene core clients sim) where
   pub responded_counted : (new : List SimClient) → length new ≡ length clients → is_counted returned ≡ true → CompletesOne id phase clients new → Gives (asked ops (Respond id server phase) sim) (ClientsAt state scene core' new)
   responded_counted new long counted is =
       let given = responds sim h.run in
@@ -64,7 +64,7 @@ pub record IsGranted (phase : PhaseType) (old new : ServerReport) : Type 0 where
   pub priority : new.priority ≡ old.priority + one_if (is_phase Priority phase)
 
 module _ {T Q : Type 0} (ops : Tagging T) (state : Q → State T) (scene : SceneValue) (at : ℕ) (core core' : CoreValue Q) (clients : List SimClient) (row : ServerReport) (returned : Returned T)
-    (pulls : (sim : Sim T) → StandsForRun state core sim.run → Gives (asked ops (Pull row.server at) sim) (IsAfter ops state (Pull row.server at) sim core' returned)) (sim : Sim T) (h : ServerAt state scene core clients row sim) where
+    (pulls : (sim : Sim T) → RepresentsRun state core sim.run → Gives (asked ops (Pull row.server at) sim) (IsAfter ops state (Pull row.server at) sim core' returned)) (sim : Sim T) (h : ServerAt state scene core clients row sim) where
   pulled : Gives (asked ops (Pull row.server at) sim) (IsAfter ops state (Pull row.server at) sim core' returned)
   pulled = pulls sim h.at.run
 

@@ -7,7 +7,7 @@ use Rattle.dmc_types.specs.declared.ids.ServerId.{ServerId}
 use Rattle.dmc_tag.specs.Tag.{Tagging}
 use Rattle.dmc_tag.specs.State.{State}
 use Rattle.dmc_scene.specs.SceneValue.{SceneValue}
-use Rattle.dmc_core.specs.Core.{CoreValue, StandsForRun}
+use Rattle.dmc_core.specs.Core.{CoreValue, RepresentsRun}
 use Rattle.dmc_core.specs.Opening.{opening_of}
 use Rattle.dmc_sim.specs.Counts.{AreDifferent}
 use Rattle.dmc_sim.specs.Rows.{idle_row}
@@ -41,11 +41,11 @@ idle_grants a (suc n) (suc k) d w = idle_grants (a + 1) n k d (omega (arith, w))
 
 -- ---- all at the opening
 
-pub at_opening : {T Q : Type 0} (ops : Tagging T) (state : Q → State T) (scene : SceneValue) (core : CoreValue Q) (clients : List SimClient) (rows : List ServerReport) → StandsForRun state core (opening_of ops scene) → All (IsIdle scene) clients
+pub at_opening : {T Q : Type 0} (ops : Tagging T) (state : Q → State T) (scene : SceneValue) (core : CoreValue Q) (clients : List SimClient) (rows : List ServerReport) → RepresentsRun state core (opening_of ops scene) → All (IsIdle scene) clients
     → rows ≡ map idle_row (range_with_len 0 scene.servers) → AllAt state scene core clients rows (opening_sim ops scene)
-at_opening {T} ops state scene core clients rows stands idle are = record {
+at_opening {T} ops state scene core clients rows represents idle are = record {
   at = record {
-    run = stands;
+    run = represents;
     counted = λ k d w. let h = idle k d w in record { plan = h.plan; sent = h.sent; completed = h.completed; reservation = h.reservation };
   };
   grants = subst (All (AreGrants {T = T} [])) (sym are) (idle_grants 0 scene.servers);

@@ -1,7 +1,7 @@
 -- The simulation of a scene over the cluster run of dmc_core: its rounds, event by event.
 use Rattle.std.specs.Prelude.{ℕ, zero, suc, ◌+◌, ◌*◌, ◌==◌, ◌&&◌, Bool, true, false, if◌then◌else◌, nat_lt, min, List, [], ◌∷◌, ◌++◌, map, count_by, slice_get, Option, Some, None, Result, Ok, Err}
 use Rattle.std.specs.List.{list_all, range_with_len}
-use Rattle.dmc_types.specs.Limits.{greatest_moment}
+use Rattle.dmc_types.specs.Limits.{max_moment}
 use Rattle.dmc_types.specs.declared.ids.ClientId.{ClientId}
 use Rattle.dmc_types.specs.declared.ids.ServerId.{ServerId}
 use Rattle.dmc_types.specs.declared.config.PhaseType.{PhaseType}
@@ -171,7 +171,7 @@ servers_of scene = map (λ n. record { 0 = n }) (range_with_len 0 scene.servers)
 
 -- the moment of round k, counted from 0
 abbrev pub moment_of : SceneValue → ℕ → ℕ
-moment_of scene k = min (k * scene.step) greatest_moment
+moment_of scene k = min (k * scene.step) max_moment
 
 -- each client sends a request, if it may, in the scene's order, and then each server serves, by number
 abbrev pub round : {T : Type 0} → Tagging T → SceneValue → ℕ → Sim T → Result (Sim T) Refusal

@@ -8,7 +8,7 @@ use Rattle.dmc_tag.specs.Tag.{Tagging}
 use Rattle.dmc_tag.specs.State.{State, is_client}
 use Rattle.dmc_tag.specs.declared.reply.Reply.TheVariants as replies
 use Rattle.dmc_scene.specs.SceneValue.{SceneValue}
-use Rattle.dmc_core.specs.Core.{CoreValue, StandsForRun}
+use Rattle.dmc_core.specs.Core.{CoreValue, RepresentsRun}
 use Rattle.dmc_core.specs.declared.event.CoreEvent.{CoreEvent}
 use Rattle.dmc_core.specs.declared.event.CoreReply.TheVariants.{Served}
 use Rattle.dmc_core.specs.declared.event.CoreFault.TheVariants as core
@@ -68,12 +68,12 @@ CompletesOne id phase old new = (k : ℕ) (c : SimClient) → k < length old →
 
 -- the core and one client represent a simulation
 pub record ClientAt {T Q : Type 0} (state : Q → State T) (scene : SceneValue) (core : CoreValue Q) (c : SimClient) (sim : Sim T) : Type 0 where
-  pub run : StandsForRun state core sim.run
+  pub run : RepresentsRun state core sim.run
   pub counted : IsCounted scene sim.trace c
 
 -- the core and all clients represent a simulation
 pub record ClientsAt {T Q : Type 0} (state : Q → State T) (scene : SceneValue) (core : CoreValue Q) (clients : List SimClient) (sim : Sim T) : Type 0 where
-  pub run : StandsForRun state core sim.run
+  pub run : RepresentsRun state core sim.run
   pub counted : All (IsCounted scene sim.trace) clients
 
 -- the core, all clients and one server represent a simulation
@@ -111,7 +111,7 @@ Ends given After (Err Memory) = ⊤
 pub record IsAfter {T Q : Type 0} (ops : Tagging T) (state : Q → State T) (event : CoreEvent) (sim : Sim T) (core : CoreValue Q) (returned : Returned T) (next : Sim T) : Type 0 where
   pub returned_is : (cluster_step ops sim.run event).1 ≡ returned
   pub next_is : next ≡ after_event ops event sim
-  pub run : StandsForRun state core next.run
+  pub run : RepresentsRun state core next.run
 
 -- the simulation after the rounds, and the moment of the last
 pub record HasRun {T Q : Type 0} (state : Q → State T) (scene : SceneValue) (core : CoreValue Q) (clients : List SimClient) (rows : List ServerReport) (end : ℕ) (last : ℕ × Sim T) : Type 0 where

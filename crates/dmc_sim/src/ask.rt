@@ -1,7 +1,7 @@
 //! The events of a simulation, and what the cluster returns for them.
 ghost use Rattle.std.specs.Prelude.{◌≡◌};
 ghost use Rattle.dmc_pull.specs.Queue.{state_of};
-ghost use Rattle.dmc_core.specs.Core.{StandsForRun};
+ghost use Rattle.dmc_core.specs.Core.{RepresentsRun};
 ghost use Rattle.dmc_sim.specs.Simulation.{Sim, asked, grant_in, is_counted, is_tagged};
 ghost use Rattle.dmc_sim.specs.Turns.{Ends, IsAfter, fault_in};
 
@@ -19,7 +19,7 @@ pub fn ask<T: Tag>(
     core: &mut ClusterCore<T>,
     event: CoreEvent,
 ) -> Result<Result<CoreReply<T>, CoreFault>, SimFault>
-    ensures { (sim : Sim T) → StandsForRun state_of core.old sim.run → Ends (asked T.ops event sim) (IsAfter T.ops state_of event sim core.new) result }
+    ensures { (sim : Sim T) → RepresentsRun state_of core.old sim.run → Ends (asked T.ops event sim) (IsAfter T.ops state_of event sim core.new) result }
 {
     let returned = core.step(event);
     match fault_in(&returned) {

@@ -1,6 +1,6 @@
 //! A client of a simulation.
 ghost use Rattle.std.specs.Prelude.{◌≡◌, ◌+◌, ◌<◌, ◌≤◌, ◌^◌, ◌==◌, ◌&&◌, IfOk, IfSome, None, if◌then◌else◌, nat_lt, slice_get, vec_len};
-ghost use Rattle.dmc_types.specs.Limits.{most_client_requests};
+ghost use Rattle.dmc_types.specs.Limits.{max_client_requests};
 ghost use Rattle.dmc_types.specs.declared.config.PhaseType.TheVariants as phases_of;
 ghost use Rattle.dmc_work.specs.Plan.{generator, planned, word};
 ghost use Rattle.dmc_sim.specs.Simulation.{is_phase};
@@ -21,7 +21,7 @@ pub struct SimClient {
     pub sent: u32,
     pub completed: u64,
     pub reservation: u64,
-    ghost few: { scene.requests ≤ most_client_requests },
+    ghost few: { scene.requests ≤ max_client_requests },
     ghost planned: { vec_len plan ≡ scene.requests },
     ghost within: { sent ≤ scene.requests },
     ghost phases: { reservation ≤ completed },

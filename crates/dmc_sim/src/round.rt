@@ -2,7 +2,7 @@
 ghost use Rattle.std.specs.Prelude.{◌≡◌, ◌+◌, ◌-◌, ◌<◌, ◌≤◌, ◌^◌, ℕ, All, AllPairs, OnOk, Some, false, if◌then◌else◌, length, map};
 ghost use Rattle.dmc_pull.specs.Queue.{state_of};
 ghost use Rattle.dmc_scene.specs.SceneValue.{AreApart, SceneValue};
-ghost use Rattle.dmc_types.specs.Limits.{most_pulls, most_servers};
+ghost use Rattle.dmc_types.specs.Limits.{limit_of_pulls, max_servers};
 ghost use Rattle.dmc_types.specs.declared.config.PhaseType.TheVariants as phases_of;
 ghost use Rattle.dmc_core.specs.declared.event.CoreEvent.TheVariants as events;
 ghost use Rattle.dmc_sim.specs.Counts.{AreDifferent, HaveCompleted, HaveGranted, grants_of};
@@ -118,7 +118,7 @@ fn send_all<T: Tag>(
 
 /// Counts a grant of a server.
 fn count_grant(row: &mut ServerReport, phase: PhaseType)
-    requires { grants_of row.old < most_pulls }
+    requires { grants_of row.old < limit_of_pulls }
     ensures server { row.new.server ≡ row.old.server }
     ensures reservation { row.new.reservation ≡ row.old.reservation + (if is_phase phases_of.Reservation phase then 1 else 0) }
     ensures priority { row.new.priority ≡ row.old.priority + (if is_phase phases_of.Priority phase then 1 else 0) }
@@ -201,7 +201,7 @@ fn serve<T: Tag>(
     requires clients { All (λ c. c.completed < 2 ^ 36) clients.old }
     requires marked { AreMarked marks.old clients.old }
     requires apart { AllPairs AreApart (map (λ c. c.scene) clients.old) }
-    requires server { grants_of row.old < most_pulls }
+    requires server { grants_of row.old < limit_of_pulls }
     ensures server { OnOk result (row.new.server ≡ row.old.server) }
     ensures grants { OnOk result (grants_of row.new ≤ grants_of row.old + 1) }
     ensures scenes { OnOk result (map (λ c. c.scene) clients.new ≡ map (λ c. c.scene) clients.old) }
@@ -231,11 +231,11 @@ fn serve_all<T: Tag>(
 ) -> Result<(), SimFault>
     requires marks { length marks.old ≡ length clients.old }
     requires ids { ids.now ≡ map (λ k. k.id) (map (λ c. c.scene) clients.old) }
-    requires some_servers { length servers.old ≤ most_servers }
+    requires some_servers { length servers.old ≤ max_servers }
     requires clients { HaveCompleted (2 ^ 36 - 64) clients.old }
     requires marked { AreMarked marks.old clients.old }
     requires apart { AllPairs AreApart (map (λ c. c.scene) clients.old) }
-    requires servers { HaveGranted (most_pulls - 1) servers.old }
+    requires servers { HaveGranted (limit_of_pulls - 1) servers.old }
     requires different { AllPairs AreDifferent (map (λ r. r.server) servers.old) }
     ensures numbers { OnOk result (map (λ r. r.server) servers.new ≡ map (λ r. r.server) servers.old) }
     ensures grants { OnOk result ((n : ℕ) → HaveGranted n servers.old → HaveGranted (n + 1) servers.new) }
@@ -261,11 +261,11 @@ pub fn make_round<T: Tag>(
 ) -> Result<(), SimFault>
     requires marks { length marks.old ≡ length clients.old }
     requires ids { ids.now ≡ map (λ k. k.id) (map (λ c. c.scene) clients.old) }
-    requires some_servers { length servers.old ≤ most_servers }
+    requires some_servers { length servers.old ≤ max_servers }
     requires clients { HaveCompleted (2 ^ 36 - 64) clients.old }
     requires marked { AreMarked marks.old clients.old }
     requires apart { AllPairs AreApart (map (λ c. c.scene) clients.old) }
-    requires servers { HaveGranted (most_pulls - 1) servers.old }
+    requires servers { HaveGranted (limit_of_pulls - 1) servers.old }
     requires different { AllPairs AreDifferent (map (λ r. r.server) servers.old) }
     ensures numbers { OnOk result (map (λ r. r.server) servers.new ≡ map (λ r. r.server) servers.old) }
     ensures grants { OnOk result ((n : ℕ) → HaveGranted n servers.old → HaveGranted (n + 1) servers.new) }

@@ -1,7 +1,7 @@
 //! The simulation of a scene.
 ghost use Rattle.std.specs.Prelude.{◌≡◌, ◌*◌, ◌≤◌, All, AllPairs, IfOk, OnOk, length, map, min};
 ghost use Rattle.std.specs.List.{list_all, range_with_len};
-ghost use Rattle.dmc_types.specs.Limits.{greatest_moment, greatest_step, most_servers};
+ghost use Rattle.dmc_types.specs.Limits.{max_moment, max_step, max_servers};
 ghost use Rattle.dmc_pull.specs.Queue.{state_of};
 ghost use Rattle.dmc_scene.specs.SceneValue.{AreApart};
 ghost use Rattle.dmc_core.specs.Opening.{HaveSpacings};
@@ -22,7 +22,7 @@ use dmc_scene::scene::Scene;
 use dmc_tag::tag::Tag;
 use dmc_tick::tick::TickTag;
 use dmc_types::config::TagKind;
-use dmc_types::limits::GREATEST_MOMENT;
+use dmc_types::limits::MAX_MOMENT;
 use dmc_types::moment::Moment;
 use std::alloc::{AllocError, Global};
 
@@ -75,7 +75,7 @@ fn run_scene<T: Tag>(
     requires scenes { map (λ c. c.scene) clients.old ≡ scene.now.clients }
     requires clients { All (IsIdle scene.now) clients.old }
     requires servers { servers.old ≡ map idle_row (range_with_len 0 scene.now.servers) }
-    requires some_servers { length servers.old ≤ most_servers }
+    requires some_servers { length servers.old ≤ max_servers }
     ensures scenes { OnOk result (map (λ c. c.scene) clients.new ≡ map (λ c. c.scene) clients.old) }
     ensures last { Ends (simulation T.ops scene.now) (IsLast scene.now clients.new servers.new) result }
 {
@@ -108,11 +108,11 @@ fn are_complete(clients: &[SimClient]) -> bool
 
 /// The moment of a round.
 fn moment_of(round: u32, step: u64) -> Moment
-    requires { step ≤ greatest_step }
-    ensures { result ≡ min (round * step) greatest_moment }
+    requires { step ≤ max_step }
+    ensures { result ≡ min (round * step) max_moment }
 {
     let ticks = u64::from(round) * step;
-    Moment::new(ticks.min(GREATEST_MOMENT)).unwrap()
+    Moment::new(ticks.min(MAX_MOMENT)).unwrap()
 }
 
 /// Makes the rounds and returns the moment of the last, or 0 where there is none. Then each row has what is left.
@@ -131,7 +131,7 @@ fn run<T: Tag>(
     requires scenes { map (λ c. c.scene) clients.old ≡ scene.now.clients }
     requires numbers { map (λ r. r.server) servers.old ≡ servers_of scene.now }
     requires different { AllPairs AreDifferent (map (λ r. r.server) servers.old) }
-    requires some_servers { length servers.old ≤ most_servers }
+    requires some_servers { length servers.old ≤ max_servers }
     requires completed { HaveCompleted 0 clients.old }
     requires grants { HaveGranted 0 servers.old }
     ensures scenes { OnOk result (map (λ c. c.scene) clients.new ≡ map (λ c. c.scene) clients.old) }
@@ -159,7 +159,7 @@ fn make_rounds<T: Tag>(
     requires scenes { map (λ c. c.scene) clients.old ≡ scene.now.clients }
     requires numbers { map (λ r. r.server) servers.old ≡ servers_of scene.now }
     requires different { AllPairs AreDifferent (map (λ r. r.server) servers.old) }
-    requires some_servers { length servers.old ≤ most_servers }
+    requires some_servers { length servers.old ≤ max_servers }
     requires completed { HaveCompleted 0 clients.old }
     requires grants { HaveGranted 0 servers.old }
     ensures scenes { OnOk result (map (λ c. c.scene) clients.new ≡ map (λ c. c.scene) clients.old) }

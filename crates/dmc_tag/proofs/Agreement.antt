@@ -1,6 +1,6 @@
 -- States that agree client by client get the same replies, and still agree.
 use Rattle.std.proofs.Common.{◌≡◌, ℕ, ◌-◌, min, Bool, true, false, not, ◌&&◌, ◌||◌, cond, List, [], ◌∷◌, map, length, Option, Some, None, Result, Ok, Err, refl, sym, ap, ◌∙◌, subst, arith}
-use Rattle.dmc_types.specs.Limits.{most_requests}
+use Rattle.dmc_types.specs.Limits.{max_requests}
 use mathlib.Core.Path.{fun_ext}
 use Rattle.std.specs.Prelude.{filter, fold, nat_le, IsOk}
 use Rattle.std.specs.Option.{ok_or, option_map, unwrap_or}
@@ -16,7 +16,7 @@ use Rattle.dmc_types.specs.declared.command.Command.{Command}
 use Rattle.dmc_types.specs.declared.command.Command.TheVariants.{Register, Update, Add, Pull, Remove, Clean}
 use Rattle.dmc_tag.specs.Tag.{Tagging}
 use Rattle.dmc_tag.specs.Outcome.{◌>>=◌, refuse_if, in_range}
-use Rattle.dmc_tag.specs.State.{State, StandsFor, is_client, has_queued, client_named, is_active}
+use Rattle.dmc_tag.specs.State.{State, Represents, is_client, has_queued, client_named, is_active}
 use Rattle.dmc_tag.specs.Best.{best, by_reservation, by_weight, is_early, is_free, is_any}
 use Rattle.dmc_tag.specs.Rules as rules_of
 use Rattle.dmc_tag.specs.Rules.{Outcome}
@@ -31,8 +31,8 @@ use Rattle.dmc_tag.proofs.Swaps.{Swaps, of_key-swaps, folded-swaps, list_all-swa
 use Rattle.dmc_tag.proofs.Before.{before_order}
 use Rattle.dmc_tag.proofs.BestSwaps.{SameBest, best-swaps}
 
-pub stands_itself : {T : Type 0} (s : State T) → StandsFor s s
-stands_itself s = record { config = refl; requests = λ id. refl; clients = refl; last_moment = refl }
+pub represents_itself : {T : Type 0} (s : State T) → Represents s s
+represents_itself s = record { config = refl; requests = λ id. refl; clients = refl; last_moment = refl }
 
 -- by client
 abbrev pub client_of : {T : Type 0} → PlainRequest T → ℕ
@@ -43,7 +43,7 @@ Agree xs ys = Swaps client_of xs ys
 
 -- the same reply and states that agree, or the same refusal
 abbrev pub SameOutcome : {T : Type 0} → Outcome T → Outcome T → Type 0
-SameOutcome (Ok (s, r)) (Ok (u, q)) = (r ≡ q) × StandsFor s u
+SameOutcome (Ok (s, r)) (Ok (u, q)) = (r ≡ q) × Represents s u
 SameOutcome (Ok a) (Err f) = ⊥
 SameOutcome (Err e) (Ok b) = ⊥
 SameOutcome (Err e) (Err f) = e ≡ f
@@ -63,8 +63,8 @@ module _ {T : Type 0} (ops : Tagging T) (o : IsTotalOrder ops.compare) (config :
   abbrev state_of : List (PlainClient T) → ℕ → List (PlainRequest T) → State T
   state_of clients last requests = record { config = config; requests = requests; clients = clients; last_moment = last }
 
-  stands : (clients : List (PlainClient T)) (last : ℕ) (xs ys : List (PlainRequest T)) → Agree xs ys → StandsFor (state_of clients last xs) (state_of clients last ys)
-  stands clients last xs ys s = record { config = refl; requests = λ id. of_key-swaps client_of id.0 xs ys s; clients = refl; last_moment = refl }
+  represents : (clients : List (PlainClient T)) (last : ℕ) (xs ys : List (PlainRequest T)) → Agree xs ys → Represents (state_of clients last xs) (state_of clients last ys)
+  represents clients last xs ys s = record { config = refl; requests = λ id. of_key-swaps client_of id.0 xs ys s; clients = refl; last_moment = refl }
 
   best_by_weight : (member : PlainRequest T → Bool) (xs ys : List (PlainRequest T)) → Agree xs ys → SameBest client_of (best (by_weight ops) member xs) (best (by_weight ops) member ys)
   best_by_weight member = best-swaps client_of (by_weight ops) (before_order ops o (λ r. Some r.tags.p)) member
@@ -90,7 +90,7 @@ module _ {T : Type 0} (ops : Tagging T) (o : IsTotalOrder ops.compare) (config :
   can_add_same : (clients : List (PlainClient T)) (last : ℕ) (xs ys : List (PlainRequest T)) → Agree xs ys → (id : ClientId) (params : Params) (t : T) → rules_of.can_add ops (state_of clients last xs) id params t ≡ rules_of.can_add ops (state_of clients last ys) id params t
   can_add_same clients last xs ys s id params t =
       bind_same (ok_or (client_named id clients) Unknown) _ _ (λ c. rw (length-swaps client_of xs ys s)
-      (bind_same (refuse_if (nat_le most_requests (length ys)) QueueFull) _ _ (λ _. rw (shift_same xs ys s c t)
+      (bind_same (refuse_if (nat_le max_requests (length ys)) QueueFull) _ _ (λ _. rw (shift_same xs ys s c t)
       (bind_same (rules_of.shift_of ops ys c t) _ _ (λ shift. rw (can_shift_same xs ys s shift clients) refl)))))
 
   key_of_shifted : (amount : T) (r : PlainRequest T) (b : Bool) → client_of (cond b (record r { tags = record (r.tags) { p = rules_of.less ops amount r.tags.p } }) r) ≡ client_of r
@@ -121,11 +121,11 @@ module _ {T : Type 0} (ops : Tagging T) (o : IsTotalOrder ops.compare) (config :
   same_priority : (clients : List (PlainClient T)) (last t : ℕ) (xs ys us vs : List (PlainRequest T)) → Agree us vs → (r q : PlainRequest T) → r ≡ q → (beyond : Bool) → SameOutcome (rules_of.grant_priority ops (state_of clients last xs) t (r, us) beyond) (rules_of.grant_priority ops (state_of clients last ys) t (q, vs) beyond)
   same_priority clients last t xs ys us vs s r q e beyond =
       let grant = λ (zs : List (PlainRequest T)) (others : List (PlainRequest T)) (x : PlainRequest T). rules_of.grant_priority ops (state_of clients last zs) t (x, others) beyond in
-      let at_one : SameOutcome (grant xs us r) (grant ys vs r) = rw (can_grant_same us vs s r.client clients) (same_bind (rules_of.can_grant ops config.hz r.client clients vs) _ _ (λ amount. (refl, stands (rules_of.reduced_clients ops r.client amount clients) t _ _ (reduced_same us vs s r.client amount)))) in
+      let at_one : SameOutcome (grant xs us r) (grant ys vs r) = rw (can_grant_same us vs s r.client clients) (same_bind (rules_of.can_grant ops config.hz r.client clients vs) _ _ (λ amount. (refl, represents (rules_of.reduced_clients ops r.client amount clients) t _ _ (reduced_same us vs s r.client amount)))) in
       subst (λ x. SameOutcome (grant xs us r) (grant ys vs x)) e at_one
 
   same_found : (clients : List (PlainClient T)) (last t : ℕ) (xs ys : List (PlainRequest T)) → Agree xs ys → (beyond : Bool) (a b : Option (PlainRequest T × List (PlainRequest T))) → SameBest client_of a b → SameOutcome (rules_of.grant_found ops (state_of clients last xs) t beyond a) (rules_of.grant_found ops (state_of clients last ys) t beyond b)
-  same_found clients last t xs ys s beyond None None e = (refl, stands clients t xs ys s)
+  same_found clients last t xs ys s beyond None None e = (refl, represents clients t xs ys s)
   same_found clients last t xs ys s beyond None (Some b) e = absurd e
   same_found clients last t xs ys s beyond (Some a) None e = absurd e
   same_found clients last t xs ys s beyond (Some (x, us)) (Some (y, vs)) (p, q) = same_priority clients last t xs ys us vs q x y p beyond
@@ -162,11 +162,11 @@ module _ {T : Type 0} (ops : Tagging T) (o : IsTotalOrder ops.compare) (config :
   -- ---- each command
 
   same_at_limit : (clients : List (PlainClient T)) (last t : ℕ) (mode : AtLimit) (x y : PlainRequest T) (xs ys : List (PlainRequest T)) → Agree (x ∷ xs) (y ∷ ys) → SameOutcome (rules_of.at_limit ops (state_of clients last (x ∷ xs)) t mode x xs) (rules_of.at_limit ops (state_of clients last (y ∷ ys)) t mode y ys)
-  same_at_limit clients last t Wait x y xs ys s = (ap Later (least_due_same x y xs ys s), stands clients t (x ∷ xs) (y ∷ ys) s)
+  same_at_limit clients last t Wait x y xs ys s = (ap Later (least_due_same x y xs ys s), represents clients t (x ∷ xs) (y ∷ ys) s)
   same_at_limit clients last t Allow x y xs ys s = same_found clients last t (x ∷ xs) (y ∷ ys) s true _ _ (best_by_weight is_any (x ∷ xs) (y ∷ ys) s)
 
   same_nothing : (clients : List (PlainClient T)) (last t : ℕ) (xs ys : List (PlainRequest T)) → Agree xs ys → SameOutcome (rules_of.nothing_due ops (state_of clients last xs) t xs) (rules_of.nothing_due ops (state_of clients last ys) t ys)
-  same_nothing clients last t [] [] s = (refl, stands clients t [] [] s)
+  same_nothing clients last t [] [] s = (refl, represents clients t [] [] s)
   same_nothing clients last t [] (y ∷ ys) s = let e = length-swaps client_of [] (y ∷ ys) s in absurd (omega arith)
   same_nothing clients last t (x ∷ xs) [] s = let e = length-swaps client_of (x ∷ xs) [] s in absurd (omega arith)
   same_nothing clients last t (x ∷ xs) (y ∷ ys) s = same_at_limit clients last t config.at_limit x y xs ys s
@@ -181,7 +181,7 @@ module _ {T : Type 0} (ops : Tagging T) (o : IsTotalOrder ops.compare) (config :
   same_early clients last t xs ys s None None e = same_free clients last t xs ys s _ _ (best_by_weight (is_free ops t) xs ys s)
   same_early clients last t xs ys s None (Some b) e = absurd e
   same_early clients last t xs ys s (Some a) None e = absurd e
-  same_early clients last t xs ys s (Some (x, us)) (Some (y, vs)) (p, q) = (ap (λ r. rules_of.granted r phases.Reservation false) p, stands clients t us vs q)
+  same_early clients last t xs ys s (Some (x, us)) (Some (y, vs)) (p, q) = (ap (λ r. rules_of.granted r phases.Reservation false) p, represents clients t us vs q)
 
   same_clean : (clients : List (PlainClient T)) (last t : ℕ) (xs ys : List (PlainRequest T)) → Agree xs ys → SameOutcome (rules_of.cleaned (state_of clients last xs) t) (rules_of.cleaned (state_of clients last ys) t)
   same_clean clients last t xs ys s =
@@ -192,16 +192,16 @@ module _ {T : Type 0} (ops : Tagging T) (o : IsTotalOrder ops.compare) (config :
       (ap told queued, record { config = refl; requests = λ id. of_key-swaps client_of id.0 xs ys s; clients = ap kept queued; last_moment = refl })
 
   same_outcome : (clients : List (PlainClient T)) (last : ℕ) (xs ys : List (PlainRequest T)) → Agree xs ys → (c : Command) → SameOutcome (outcome ops (state_of clients last xs) c) (outcome ops (state_of clients last ys) c)
-  same_outcome clients last xs ys s (Register id info at) = same_bind (rules_of.can_register ops (state_of clients last xs) id info) _ _ (λ _. (refl, stands _ _ xs ys s))
-  same_outcome clients last xs ys s (Update id info at) = rw (list_any-swaps client_of (λ r. is_client id r.client) xs ys s) (same_bind (rules_of.can_update ops (state_of clients last ys) id info) _ _ (λ _. (refl, stands _ _ xs ys s)))
-  same_outcome clients last xs ys s (Add id token params at) = rw (can_add_same clients last xs ys s id params _) (same_bind (rules_of.can_add ops (state_of clients last ys) id params _) _ _ (λ (shift, tags). (refl, stands _ _ _ _ (append-swaps client_of _ _ _ (shifted_same xs ys s shift clients)))))
+  same_outcome clients last xs ys s (Register id info at) = same_bind (rules_of.can_register ops (state_of clients last xs) id info) _ _ (λ _. (refl, represents _ _ xs ys s))
+  same_outcome clients last xs ys s (Update id info at) = rw (list_any-swaps client_of (λ r. is_client id r.client) xs ys s) (same_bind (rules_of.can_update ops (state_of clients last ys) id info) _ _ (λ _. (refl, represents _ _ xs ys s)))
+  same_outcome clients last xs ys s (Add id token params at) = rw (can_add_same clients last xs ys s id params _) (same_bind (rules_of.can_add ops (state_of clients last ys) id params _) _ _ (λ (shift, tags). (refl, represents _ _ _ _ (append-swaps client_of _ _ _ (shifted_same xs ys s shift clients)))))
   same_outcome clients last xs ys s (Pull at) = same_early clients last _ xs ys s _ _ (best_by_reservation (is_early ops _) xs ys s)
-  same_outcome clients last xs ys s (Remove id) = same_bind (rules_of.can_remove (state_of clients last xs) id) _ _ (λ _. (ap (λ zs. Removed (length zs)) (of_key-swaps client_of id.0 xs ys s), stands clients last _ _ (filter-swaps client_of _ xs ys s)))
+  same_outcome clients last xs ys s (Remove id) = same_bind (rules_of.can_remove (state_of clients last xs) id) _ _ (λ _. (ap (λ zs. Removed (length zs)) (of_key-swaps client_of id.0 xs ys s), represents clients last _ _ (filter-swaps client_of _ xs ys s)))
   same_outcome clients last xs ys s (Clean at) = same_clean clients last _ xs ys s
 
 -- ---- one command
 
-same_answer : {T : Type 0} (s u : State T) (a b : Outcome T) → StandsFor s u → SameOutcome a b → ((answer_of s a).1 ≡ (answer_of u b).1) × StandsFor ((answer_of s a).0) ((answer_of u b).0)
+same_answer : {T : Type 0} (s u : State T) (a b : Outcome T) → Represents s u → SameOutcome a b → ((answer_of s a).1 ≡ (answer_of u b).1) × Represents ((answer_of s a).0) ((answer_of u b).0)
 same_answer s u (Ok (v, r)) (Ok (w, q)) h e = e
 same_answer s u (Ok a) (Err f) h e = absurd e
 same_answer s u (Err e') (Ok b) h e = absurd e
@@ -213,36 +213,36 @@ same_ok (Ok a) (Err f) e k = absurd e
 same_ok (Err e') (Ok b) e k = absurd e
 same_ok (Err e') (Err f) e k = k
 
-agreeing : {T : Type 0} (s u : State T) → StandsFor s u → Agree s.requests u.requests
+agreeing : {T : Type 0} (s u : State T) → Represents s u → Agree s.requests u.requests
 agreeing s u h = agree-swaps client_of s.requests u.requests (λ k. h.requests (record { 0 = k }))
 
 -- they have equally many requests and clients
-pub counts_agree : {T : Type 0} (s u : State T) → StandsFor s u → (length s.requests ≡ length u.requests) × (length s.clients ≡ length u.clients)
+pub counts_agree : {T : Type 0} (s u : State T) → Represents s u → (length s.requests ≡ length u.requests) × (length s.clients ≡ length u.clients)
 counts_agree s u h = (length-swaps client_of s.requests u.requests (agreeing s u h), ap length h.clients)
 
 module _ {T : Type 0} (ops : Tagging T) (o : IsTotalOrder ops.compare) where
   -- what a state is, but for its requests
-  aligned : (s u : State T) → StandsFor s u → record s { requests = u.requests } ≡ u
+  aligned : (s u : State T) → Represents s u → record s { requests = u.requests } ≡ u
   aligned s u h = λ i. record { config = h.config i; requests = u.requests; clients = h.clients i; last_moment = h.last_moment i }
 
-  outcomes_agree : (s u : State T) (c : Command) → StandsFor s u → SameOutcome (outcome ops s c) (outcome ops u c)
+  outcomes_agree : (s u : State T) (c : Command) → Represents s u → SameOutcome (outcome ops s c) (outcome ops u c)
   outcomes_agree s u c h = subst (λ v. SameOutcome (outcome ops s c) (outcome ops v c)) (aligned s u h) (same_outcome ops o s.config s.clients s.last_moment s.requests u.requests (agreeing s u h) c)
 
-  pub steps_agree : (s u : State T) (c : Command) → StandsFor s u → SameStep ops s u c
+  pub steps_agree : (s u : State T) (c : Command) → Represents s u → SameStep ops s u c
   steps_agree s u c h = same_answer s u (outcome ops s c) (outcome ops u c) h (outcomes_agree s u c h)
 
   -- a step from one state is the step from each state that it represents
   pub steps_exactly : (old new : State T) (c : Command) (answer : Option (Reply T)) → Exactly ops old new c answer → Steps ops old new c answer
   steps_exactly old new c (Some reply) e = λ s h.
       let same = steps_agree old s c h in
-      (ap (λ p. p.1) e ∙ same.0, subst (λ p. StandsFor p.0 ((step ops s c).0)) (sym e) same.1)
-  steps_exactly old new c None e = (e.0, λ s h. (same_ok (outcome ops old c) (outcome ops s c) (outcomes_agree old s c h) e.1, subst (λ v. StandsFor v s) (sym e.2) h))
+      (ap (λ p. p.1) e ∙ same.0, subst (λ p. Represents p.0 ((step ops s c).0)) (sym e) same.1)
+  steps_exactly old new c None e = (e.0, λ s h. (same_ok (outcome ops old c) (outcome ops s c) (outcomes_agree old s c h) e.1, subst (λ v. Represents v s) (sym e.2) h))
 
   -- a step to a state that agrees with step's is the step from each state that the old one represents
-  pub steps_agreeing : (old new : State T) (c : Command) (reply : Reply T) → reply ≡ (step ops old c).1 → StandsFor new ((step ops old c).0) → Steps ops old new c (Some reply)
+  pub steps_agreeing : (old new : State T) (c : Command) (reply : Reply T) → reply ≡ (step ops old c).1 → Represents new ((step ops old c).0) → Steps ops old new c (Some reply)
   steps_agreeing old new c reply e n = λ s h.
       let same = steps_agree old s c h in
-      (e ∙ same.0, stands_trans new ((step ops old c).0) ((step ops s c).0) n same.1)
+      (e ∙ same.0, represents_trans new ((step ops old c).0) ((step ops s c).0) n same.1)
     where
-      stands_trans : (a b c : State T) → StandsFor a b → StandsFor b c → StandsFor a c
-      stands_trans a b c p q = record { config = p.config ∙ q.config; requests = λ id. p.requests id ∙ q.requests id; clients = p.clients ∙ q.clients; last_moment = p.last_moment ∙ q.last_moment }
+      represents_trans : (a b c : State T) → Represents a b → Represents b c → Represents a c
+      represents_trans a b c p q = record { config = p.config ∙ q.config; requests = λ id. p.requests id ∙ q.requests id; clients = p.clients ∙ q.clients; last_moment = p.last_moment ∙ q.last_moment }

@@ -5,7 +5,7 @@ use Rattle.std.specs.Cmp.{IsTotalOrder}
 use Rattle.dmc_types.specs.Values.{Setting}
 use Rattle.dmc_types.specs.declared.command.Command.TheVariants.{Pull}
 use Rattle.dmc_tag.specs.Tag.{Tagging, Fraction, IsExact}
-use Rattle.dmc_tag.specs.State.{State, StandsFor, opening, effective}
+use Rattle.dmc_tag.specs.State.{State, Represents, opening, effective}
 use Rattle.dmc_tag.specs.Step.{step}
 use Rattle.dmc_tag.specs.Replay.{after, replays}
 use Rattle.dmc_tag.specs.Laws.{Pulls, IsNextDue}
@@ -45,10 +45,10 @@ pub use Rattle.dmc_tag.proofs.TakenOff.{minus_twice, plus_then_minus, between_ha
 pub use Rattle.dmc_tag.proofs.Queued.{only_an_add_queues, grants_what_is_queued, step_keeps_active, queued_clients_are_active}
 
 -- agreeing states have equally many requests, and equally many clients
-pub as_many_requests : {T : Type 0} (s u : State T) → StandsFor s u → length s.requests ≡ length u.requests
+pub as_many_requests : {T : Type 0} (s u : State T) → Represents s u → length s.requests ≡ length u.requests
 as_many_requests s u h = (agreement.counts_agree s u h).0
 
-pub as_many_clients : {T : Type 0} (s u : State T) → StandsFor s u → length s.clients ≡ length u.clients
+pub as_many_clients : {T : Type 0} (s u : State T) → Represents s u → length s.clients ≡ length u.clients
 as_many_clients s u h = (agreement.counts_agree s u h).1
 
 module _ {T : Type 0} (ops : Tagging T) where

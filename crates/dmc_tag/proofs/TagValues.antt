@@ -5,7 +5,7 @@ use Rattle.std.specs.declared.cmp.Ordering.TheVariants.{Equal}
 use Rattle.std.specs.Ordering.{is_lt, ord_max}
 use Rattle.std.specs.Cmp.{int_cmp_is}
 use Rattle.std.proofs.lemmas.Int.{ints}
-use Rattle.dmc_types.specs.Limits.{greatest_moment}
+use Rattle.dmc_types.specs.Limits.{max_moment}
 use Rattle.dmc_types.specs.Values.{Params}
 use Rattle.dmc_tag.specs.Outcome.{in_range}
 use Rattle.dmc_tag.specs.Rules.{next_tag, next_reservation, next_tags}
@@ -23,7 +23,7 @@ module _ {T : Type 0} (ops : Tagging T) (fraction : T → Fraction) (is_value : 
       let same : b ≡ a = cc in
       subst (λ c. is_value (fraction c)) same (exact.same_value f (fraction b) some (exact.denom b) (sym g.1) g.0)
 
-  pub moments_are_values : (n : ℕ) → n ≤ greatest_moment → is_value (fraction (ops.of_moment n))
+  pub moments_are_values : (n : ℕ) → n ≤ max_moment → is_value (fraction (ops.of_moment n))
   moments_are_values n h = exact.same_value (whole n) (fraction (ops.of_moment n)) (omega arith) (exact.denom (ops.of_moment n)) (sym (exact.of_moment n)) (exact.moments n h)
 
   sum_value : (a b c : T) → ops.plus a b ≡ Some c → is_value (fraction c)
@@ -49,7 +49,7 @@ module _ {T : Type 0} (ops : Tagging T) (fraction : T → Fraction) (is_value : 
       let tag_is : ord_max ops.compare sum.0 t ≡ tag = cc (sum.2) in
       subst (λ c. is_value (fraction c)) tag_is (greater_value sum.0 t (is_lt (ops.compare t sum.0)) (sum_value previous step.0 sum.0 (from_range _ _ sum.1)) h)
 
-  pub weights_are_values : (spacings : Spacings T) (previous : Previous T) (params : Params) (n : ℕ) (tags : Tags T) → n ≤ greatest_moment → next_tags ops spacings previous params (ops.of_moment n) ≡ Ok tags → is_value (fraction tags.p)
+  pub weights_are_values : (spacings : Spacings T) (previous : Previous T) (params : Params) (n : ℕ) (tags : Tags T) → n ≤ max_moment → next_tags ops spacings previous params (ops.of_moment n) ≡ Ok tags → is_value (fraction tags.p)
   weights_are_values spacings previous params n tags h e =
       let t = ops.of_moment n in
       let r = bound (next_reservation ops previous.r params.rho spacings.r t) _ tags e in

@@ -10,14 +10,14 @@ use Rattle.dmc_tag.specs.declared.reply.Reply.TheVariants.{Granted, Later, Nothi
 
 -- the reply of a call that returned a value or a refusal, and none where an allocation failed
 abbrev pub call_reply : {T X : Type 0} → (X → Reply T) → Result X QueueFault → Option (Reply T)
-call_reply tell (Ok x) = Some (tell x)
-call_reply tell (Err (faults.Refused refusal)) = Some (Refused refusal)
-call_reply tell (Err faults.Memory) = None
+call_reply reply_of (Ok x) = Some (reply_of x)
+call_reply reply_of (Err (faults.Refused refusal)) = Some (Refused refusal)
+call_reply reply_of (Err faults.Memory) = None
 
 -- the reply of a call that does not allocate
 abbrev pub sure_call_reply : {T X : Type 0} → (X → Reply T) → Result X Refusal → Option (Reply T)
-sure_call_reply tell (Ok x) = Some (tell x)
-sure_call_reply tell (Err refusal) = Some (Refused refusal)
+sure_call_reply reply_of (Ok x) = Some (reply_of x)
+sure_call_reply reply_of (Err refusal) = Some (Refused refusal)
 
 abbrev pub pull_reply : {T : Type 0} → Pulled → Reply T
 pull_reply (pulls.Returning client token phase beyond) = Granted client token phase beyond

@@ -1,6 +1,6 @@
 -- The words of worked examples: settings, commands as the lines of a script, and replies.
 use Rattle.std.specs.Prelude.{ℕ, true, false, Option}
-use Rattle.dmc_types.specs.Limits.{greatest_moment}
+use Rattle.dmc_types.specs.Limits.{max_moment}
 use Rattle.dmc_types.specs.Values.{Setting}
 use Rattle.dmc_types.specs.declared.config.AtLimit.{AtLimit}
 use Rattle.dmc_types.specs.declared.config.AtLimit.TheVariants.{Wait, Allow}
@@ -17,7 +17,7 @@ setting hz idle erase at = record { hz = hz; idle_age = idle; erase_age = erase;
 
 -- this many ticks a second, and ages that no client reaches
 abbrev pub ticks_a_second : ℕ → AtLimit → Setting
-ticks_a_second hz at = setting hz greatest_moment greatest_moment at
+ticks_a_second hz at = setting hz max_moment max_moment at
 
 abbrev pub waiting : Setting
 waiting = ticks_a_second 1000 Wait

@@ -8,7 +8,7 @@ use Rattle.dmc_types.specs.declared.config.PhaseType.TheVariants as phases
 use Rattle.dmc_types.specs.declared.refusal.Refusal.TheVariants.{Range}
 use Rattle.dmc_types.specs.declared.command.Command.{Command}
 use Rattle.dmc_tag.specs.Tag.{Tagging}
-use Rattle.dmc_tag.specs.State.{State, StandsFor}
+use Rattle.dmc_tag.specs.State.{State, Represents}
 use Rattle.dmc_tag.specs.Best.{IsBest, HasNone, is_early, is_free, is_any, by_reservation, by_weight}
 use Rattle.dmc_tag.specs.Rules.{reduction_of, reduced_requests, reduced_clients}
 use Rattle.dmc_tag.specs.Step.{step}
@@ -18,7 +18,7 @@ use Rattle.dmc_tag.specs.declared.reply.Reply.TheVariants.{Registered, Updated, 
 
 -- the same reply, and states that agree client by client
 abbrev pub SameStep : {T : Type 0} → Tagging T → State T → State T → Command → Type 0
-SameStep ops s u command = ((step ops s command).1 ≡ (step ops u command).1) × StandsFor ((step ops s command).0) ((step ops u command).0)
+SameStep ops s u command = ((step ops s command).1 ≡ (step ops u command).1) × Represents ((step ops s command).0) ((step ops u command).0)
 
 -- what a grant takes off the R tags of its client: in the weight phase hz/r, or nothing without a reservation; in the
 -- constraint phase nothing

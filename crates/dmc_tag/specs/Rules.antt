@@ -4,7 +4,7 @@ use Rattle.std.specs.Option.{ok_or, unwrap_or, option_map, option_map_or, option
 use Rattle.std.specs.Result.{result_ok}
 use Rattle.std.specs.List.{list_all}
 use Rattle.std.specs.Ordering.{ord_max}
-use Rattle.dmc_types.specs.Limits.{most_clients, most_requests}
+use Rattle.dmc_types.specs.Limits.{max_clients, max_requests}
 use Rattle.dmc_types.specs.Values.{Rates, Params}
 use Rattle.dmc_types.specs.declared.ids.ClientId.{ClientId}
 use Rattle.dmc_types.specs.declared.ids.Token.{Token}
@@ -47,7 +47,7 @@ abbrev pub can_register : {T : Type 0} → Tagging T → State T → ClientId �
 can_register ops s id info = do
   _ ← refuse_if (is_some (client_named id s.clients)) Known
   _ ← exactly (spacings_of ops s.config.hz info)
-  refuse_if (nat_le most_clients (length s.clients)) Clients
+  refuse_if (nat_le max_clients (length s.clients)) Clients
 
 abbrev pub registered : {T : Type 0} → Tagging T → State T → ClientId → Rates → ℕ → Outcome T
 registered ops s id info t =
@@ -161,7 +161,7 @@ shifted_by ops shift s = record s {
 abbrev pub can_add : {T : Type 0} → Tagging T → State T → ClientId → Params → T → Result (Option T × Tags T) Refusal
 can_add ops s id params t = do
   client ← ok_or (client_named id s.clients) Unknown
-  _ ← refuse_if (nat_le most_requests (length s.requests)) QueueFull
+  _ ← refuse_if (nat_le max_requests (length s.requests)) QueueFull
   shift ← shift_of ops s.requests client t
   _ ← refuse_if (not (can_shift_by ops shift s.clients s.requests)) Range
   tags ← assigned ops s.config.hz client params t

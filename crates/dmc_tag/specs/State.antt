@@ -42,7 +42,7 @@ is_active id clients = list_any (λ c. is_client id c.id && not c.idle) clients
 
 -- Each client's requests, in list order, and all else are equal. A queue that has one of the states represents the other too: no
 -- rule reads the order between requests of different clients.
-pub record StandsFor {T : Type 0} (s u : State T) : Type 0 where
+pub record Represents {T : Type 0} (s u : State T) : Type 0 where
   pub config : s.config ≡ u.config
   pub requests : (id : ClientId) → requests_of id s.requests ≡ requests_of id u.requests
   pub clients : s.clients ≡ u.clients

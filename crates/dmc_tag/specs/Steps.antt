@@ -4,7 +4,7 @@ use Rattle.std.specs.Option.{option_map_or}
 use Rattle.dmc_types.specs.declared.command.Command.{Command}
 use Rattle.dmc_types.specs.declared.command.Command.TheVariants.{Register, Update, Add, Pull, Remove, Clean}
 use Rattle.dmc_tag.specs.Tag.{Tagging}
-use Rattle.dmc_tag.specs.State.{State, StandsFor}
+use Rattle.dmc_tag.specs.State.{State, Represents}
 use Rattle.dmc_tag.specs.Step.{outcome, step}
 use Rattle.dmc_tag.specs.Replay.{replies_of, state_after}
 use Rattle.dmc_tag.specs.declared.reply.Reply.{Reply}
@@ -25,8 +25,8 @@ grows_at commands i = option_map_or may_grow (slice_get commands i) false
 -- From each plain state that the scheduler represents, a call is that step. Or an allocation failed: then the command is one that
 -- may allocate, step refuses nothing, there is no reply, and the scheduler represents what it represented.
 abbrev pub Steps : {T : Type 0} → Tagging T → State T → State T → Command → Option (Reply T) → Type 0
-Steps {T} ops old new command (Some reply) = (s : State T) → StandsFor old s → (reply ≡ (step ops s command).1) × StandsFor new ((step ops s command).0)
-Steps {T} ops old new command None = IsTrue (may_grow command) × ((s : State T) → StandsFor old s → IsOk (outcome ops s command) × StandsFor new s)
+Steps {T} ops old new command (Some reply) = (s : State T) → Represents old s → (reply ≡ (step ops s command).1) × Represents new ((step ops s command).0)
+Steps {T} ops old new command None = IsTrue (may_grow command) × ((s : State T) → Represents old s → IsOk (outcome ops s command) × Represents new s)
 
 -- One step from this very state: its reply and its state. Or an allocation failed: then the command is one that may allocate,
 -- step refuses nothing, there is no reply, and the state is as it was.
@@ -36,8 +36,8 @@ Exactly ops old new command None = IsTrue (may_grow command) × IsOk (outcome op
 
 -- From each plain state that the scheduler represented, the replies are those of step, and it represents the state after.
 abbrev pub Runs : {T : Type 0} → Tagging T → State T → State T → List Command → List (Reply T) → Type 0
-Runs {T} ops old new commands replies = (s : State T) → StandsFor old s → (replies ≡ replies_of ops s commands) × StandsFor new (state_after ops s commands)
+Runs {T} ops old new commands replies = (s : State T) → Represents old s → (replies ≡ replies_of ops s commands) × Represents new (state_after ops s commands)
 
 -- From each plain state that the scheduler represented, it represents the state after.
 abbrev pub Reaches : {T : Type 0} → Tagging T → State T → State T → List Command → Type 0
-Reaches {T} ops old new commands = (s : State T) → StandsFor old s → StandsFor new (state_after ops s commands)
+Reaches {T} ops old new commands = (s : State T) → Represents old s → Represents new (state_after ops s commands)

@@ -3,7 +3,7 @@ use Rattle.std.specs.Prelude.{◌≡◌, ℕ, ◌*◌, ◌<◌, ◌≤◌, ◌�
 use Rattle.std.specs.declared.cmp.Ordering.{Ordering}
 use Rattle.std.specs.declared.cmp.Ordering.TheVariants.{Equal}
 use Rattle.std.specs.Ordering.{int_cmp}
-use Rattle.dmc_types.specs.Limits.{greatest_moment}
+use Rattle.dmc_types.specs.Limits.{max_moment}
 
 -- numer/denom
 pub record Fraction : Type 0 where
@@ -61,7 +61,7 @@ pub record IsExact {T : Type 0} (ops : Tagging T) (fraction : T → Fraction) (i
   -- whether a fraction is a value depends on its value alone
   pub same_value : (f g : Fraction) → 0 < f.denom → 0 < g.denom → IsSame f g → is_value f → is_value g
   -- each moment is a value
-  pub moments : (n : ℕ) → n ≤ greatest_moment → is_value (whole n)
+  pub moments : (n : ℕ) → n ≤ max_moment → is_value (whole n)
   pub of_moment : (n : ℕ) → IsSame (fraction (ops.of_moment n)) (whole n)
   pub spacing : (hz rate : ℕ) → Gives fraction is_value (ops.spacing hz rate) (ratio hz rate)
   pub steps : (a : T) (k : ℕ) → Gives fraction is_value (ops.steps a k) (multiple_of k (fraction a))

@@ -12,7 +12,7 @@ ghost use Rattle.dmc_tag.specs.Order.{AreSpacings, AreNext};
 ghost use Rattle.dmc_tag.specs.Queued.{AreActive, is_add_of};
 ghost use Rattle.dmc_tag.specs.Replay.{after, replays};
 ghost use Rattle.dmc_tag.specs.Rules.{next_tags};
-ghost use Rattle.dmc_tag.specs.State.{State, StandsFor, effective, has_queued, is_active};
+ghost use Rattle.dmc_tag.specs.State.{State, Represents, effective, has_queued, is_active};
 ghost use Rattle.dmc_tag.specs.Step.{outcome, step};
 ghost use Rattle.dmc_tag.specs.Steps.{Exactly, Steps};
 ghost use Rattle.dmc_tag.specs.declared.event.Event.{Event};
@@ -26,7 +26,7 @@ use crate::tag::Tag;
 
 /// Two states that agree client by client get the same reply to a command, and still agree.
 pub fn agreeing_states<T: Tag>()
-    ensures { (s u : State T) (command : Command) → StandsFor s u → SameStep T.ops s u command }
+    ensures { (s u : State T) (command : Command) → Represents s u → SameStep T.ops s u command }
 {}
 
 /// A step from one state is that step from each state that it represents.
@@ -37,7 +37,7 @@ pub fn steps_exactly<T: Tag>()
 
 /// Two states that agree client by client have equally many requests, and equally many clients.
 pub fn agreeing_states_count_alike<T>()
-    ensures { (s u : State T) → StandsFor s u → (length s.requests ≡ length u.requests) × (length s.clients ≡ length u.clients) }
+    ensures { (s u : State T) → Represents s u → (length s.requests ≡ length u.requests) × (length s.clients ≡ length u.clients) }
 {}
 
 /// A history with one event more: the state after it is one step further. It replays exactly where the history does and the

@@ -2,7 +2,7 @@
 ghost use Rattle.std.specs.Prelude.{◌≡◌, length, Some};
 ghost use Rattle.std.specs.Result.{result_ok};
 ghost use Rattle.dmc_tag.specs.Answers.{call_reply, sure_call_reply, pull_reply, clean_reply};
-ghost use Rattle.dmc_tag.specs.State.{State, StandsFor};
+ghost use Rattle.dmc_tag.specs.State.{State, Represents};
 ghost use Rattle.dmc_tag.specs.Steps.{Steps};
 ghost use Rattle.dmc_types.specs.declared.command.Command.TheVariants as commands;
 ghost use Rattle.dmc_tag.specs.declared.reply.Reply.TheVariants as replies;
@@ -60,12 +60,12 @@ pub trait Scheduler<T: Tag> {
     /// The number of registered clients, in each plain state that the scheduler represents.
     fn client_count(&self) -> u32
         ensures state { result ≡ length (state self.now).clients }
-        ensures each { (s : State T) → StandsFor (state self.now) s → result ≡ length s.clients };
+        ensures each { (s : State T) → Represents (state self.now) s → result ≡ length s.clients };
 
     /// The number of queued requests, in each plain state that the scheduler represents.
     fn request_count(&self) -> u32
         ensures state { result ≡ length (state self.now).requests }
-        ensures each { (s : State T) → StandsFor (state self.now) s → result ≡ length s.requests };
+        ensures each { (s : State T) → Represents (state self.now) s → result ≡ length s.requests };
 
     /// The reply to a command. An error is an allocation failure, of a Register or an Add alone, and changes nothing.
     final fn apply(&mut self, command: &Command) -> Result<Reply<T>, AllocError>

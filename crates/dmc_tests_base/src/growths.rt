@@ -2,7 +2,7 @@
 //! its value as it was, and works when it is made again.
 use crate::failures::Failures;
 use crate::kinds::{Example, over_both};
-use crate::runs::{config, let_go};
+use crate::runs::{config, drop_queue};
 use crate::same::assert_same;
 use dmc_index::index::Indexes;
 use dmc_plain::queue::PlainQueue;
@@ -142,7 +142,7 @@ pub fn grown_over<I: Indexes<TickTag>>(rt: &impl Abort, alloc: Global) -> Result
     let config = config()?;
     let mut queue: PullQueue<TickTag, I> = PullQueue::new(alloc, config);
     let answered = grown(rt, alloc, &mut queue);
-    let_go(queue);
+    drop_queue(queue);
     answered
 }
 

@@ -9,7 +9,7 @@ ghost use Rattle.dmc_pull.specs.Queue.{state_of};
 ghost use Rattle.dmc_pull.specs.FirstRequests.{client_at};
 
 use crate::kinds::{Example, over_both};
-use crate::runs::{config, let_go};
+use crate::runs::{config, drop_queue};
 use crate::same::assert_same;
 use dmc_index::index::{Indexes, OrderIndex};
 use dmc_pull::queue::PullQueue;
@@ -103,7 +103,7 @@ pub fn indexed_clients_over<I: Indexes<TickTag>>(
     let config = config()?;
     let mut queue: PullQueue<TickTag, I> = PullQueue::new(alloc, config);
     let indexed = indexed_clients_of(rt, &mut queue);
-    let_go(queue);
+    drop_queue(queue);
     indexed
 }
 

@@ -1,6 +1,6 @@
 //! One client too many, and one request too many.
 use crate::kinds::{Example, Kind, over};
-use crate::runs::{config, let_go};
+use crate::runs::{config, drop_queue};
 use crate::same::assert_same;
 use dmc_index::index::Indexes;
 use dmc_pull::queue::PullQueue;
@@ -91,7 +91,7 @@ pub fn limits_over<I: Indexes<TickTag>>(rt: &impl Abort, alloc: Global) -> Resul
     let config = config()?;
     let mut queue: PullQueue<TickTag, I> = PullQueue::new(alloc, config);
     let refused = refused_at_limits(rt, &mut queue);
-    let_go(queue);
+    drop_queue(queue);
     refused
 }
 

@@ -72,9 +72,9 @@ fn add_new(
 
 /// Registers a new client. Returns whether it has the key that was announced.
 fn takes_next_key(alloc: Global, roster: &mut Roster<TickTag>, id: ClientId) -> Result<bool, Fail> {
-    let told = roster.next_key();
+    let observed = roster.next_key();
     let key = add_new(alloc, roster, id, Moment::zero())?;
-    Ok(key == told)
+    Ok(key == observed)
 }
 
 fn is_registered(roster: &Roster<TickTag>, id: u32) -> bool {

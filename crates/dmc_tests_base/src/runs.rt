@@ -29,7 +29,7 @@ pub fn config() -> Result<QueueConfig, ValueFault> {
 }
 
 /// Drops a queue.
-pub fn let_go<I: Indexes<TickTag>>(queue: PullQueue<TickTag, I>) {
+pub fn drop_queue<I: Indexes<TickTag>>(queue: PullQueue<TickTag, I>) {
     drop(queue);
 }
 
@@ -111,7 +111,7 @@ pub fn five_commands_over<I: Indexes<TickTag>>(rt: &impl Abort, alloc: Global) -
     let config = config()?;
     let mut queue: PullQueue<TickTag, I> = PullQueue::new(alloc, config);
     let answered = five_commands_of(rt, alloc, &mut queue);
-    let_go(queue);
+    drop_queue(queue);
     answered
 }
 

@@ -4,7 +4,7 @@ use dmc_tracker::event::TrackerEvent;
 use dmc_tracker::tracker::{MakeFault, ServiceTracker, TrackFault, is_too_much};
 use dmc_types::config::{Counting, PhaseType};
 use dmc_types::ids::ServerId;
-use dmc_types::limits::{GREATEST_COUNT, MOST_COMPLETIONS};
+use dmc_types::limits::{MAX_COMPLETIONS, MAX_COUNT};
 use std::test::Fail;
 
 const ZERO: ServerId = ServerId(0);
@@ -175,11 +175,11 @@ fn make_limits(rt: HostRuntime) -> Result<(), Fail> {
         let refused = ServiceTracker::new(rt.alloc(), servers, 1, Counting::All);
         assert_same(&rt, &refused.err(), &Some(MakeFault::Limit));
     }
-    for most in [0, MOST_COMPLETIONS + 1, u64::MAX] {
+    for most in [0, MAX_COMPLETIONS + 1, u64::MAX] {
         let refused = ServiceTracker::new(rt.alloc(), 1, most, Counting::All);
         assert_same(&rt, &refused.err(), &Some(MakeFault::Limit));
     }
-    let tracker = ServiceTracker::new(rt.alloc(), 1, MOST_COMPLETIONS, Counting::All)?;
+    let tracker = ServiceTracker::new(rt.alloc(), 1, MAX_COMPLETIONS, Counting::All)?;
     assert_same(&rt, &made_with(&tracker).1, &4_611_686_018_427_387_904);
     Ok(())
 }
@@ -238,16 +238,16 @@ fn skip_never_full(rt: HostRuntime) -> Result<(), Fail> {
 /// A delta may be 2^32-1 and no more; in the form `Others` it may take the sum to `most` and no further.
 #[test]
 fn widest_delta(rt: HostRuntime) -> Result<(), Fail> {
-    let widest = u64::from(GREATEST_COUNT);
+    let widest = u64::from(MAX_COUNT);
     assert_same(&rt, &widest, &4_294_967_295);
     for counting in [Counting::All, Counting::Others] {
         for (sent, delta, refused) in [
             (0, widest, false),
             (0, widest + 1, true),
-            (MOST_COMPLETIONS - widest, widest, false),
-            (0, MOST_COMPLETIONS, true),
+            (MAX_COMPLETIONS - widest, widest, false),
+            (0, MAX_COMPLETIONS, true),
         ] {
-            let answer = is_too_much(counting, MOST_COMPLETIONS, sent, delta);
+            let answer = is_too_much(counting, MAX_COMPLETIONS, sent, delta);
             assert_same(&rt, &answer, &refused);
         }
     }

@@ -1,5 +1,5 @@
 //! The worked examples of event texts, each under its name.
-use crate::runs::{FailingReader, FailingWriter, ROOM, lines, runs, tells};
+use crate::runs::{FailingReader, FailingWriter, ROOM, lines, runs, status_with_fault};
 use crate::same::assert_same;
 use std::process::Abort;
 use std::sync::Wait;
@@ -123,7 +123,7 @@ fn failing_reader_of_events(rt: HostRuntime) -> Result<(), Fail> {
         let mut reader = FailingReader::new(PULLS, left);
         let mut written = Vec::with_capacity(rt.alloc(), ROOM)?;
         let words = ["check"];
-        let status = tells(
+        let status = status_with_fault(
             &rt,
             words.as_slice(),
             &mut reader,
@@ -142,7 +142,7 @@ fn failing_writer_of_a_verdict(rt: HostRuntime) -> Result<(), Fail> {
         let mut reader = PULLS;
         let mut writer = FailingWriter::new(rt.alloc(), left)?;
         let words = ["check"];
-        let status = tells(
+        let status = status_with_fault(
             &rt,
             words.as_slice(),
             &mut reader,
@@ -159,7 +159,7 @@ fn failing_writer_of_a_verdict(rt: HostRuntime) -> Result<(), Fail> {
 fn events_byte_by_byte(rt: HostRuntime) -> Result<(), Fail> {
     let mut reader = FailingReader::new(PULLS, PULLS.len() + 1);
     let mut writer = FailingWriter::new(rt.alloc(), PULLS_VERDICT.len())?;
-    let status = tells(&rt, ["check"].as_slice(), &mut reader, &mut writer, b"")?;
+    let status = status_with_fault(&rt, ["check"].as_slice(), &mut reader, &mut writer, b"")?;
     assert_same(&rt, &writer.written(), &PULLS_VERDICT);
     assert_same(&rt, &status, &0);
     Ok(())

@@ -1,5 +1,5 @@
 //! The worked examples of runs in threads, each under its name. Lines are separated by `; `.
-use crate::runs::{ROOM, lines, runs, tells};
+use crate::runs::{ROOM, lines, runs, status_with_fault};
 use crate::same::assert_same;
 use std::alloc::{AllocError, Global};
 use std::process::Abort;
@@ -58,7 +58,7 @@ fn turns_out_run(rt: HostRuntime) -> Result<(), Fail> {
     let mut reader = scene.as_slice();
     let mut written = Vec::with_capacity(rt.alloc(), ROOM)?;
     let fault = b"dmclock: turns out\n";
-    let status = tells(&rt, ["run"].as_slice(), &mut reader, &mut written, fault)?;
+    let status = status_with_fault(&rt, ["run"].as_slice(), &mut reader, &mut written, fault)?;
     assert_same(&rt, &status, &4);
     assert!(rt; written.starts_with(b"client 1 sent "));
     for words in [

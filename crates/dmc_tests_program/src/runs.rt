@@ -52,19 +52,19 @@ fn status_of<T: AllocGlobal + Threads + Wait + Sync, S: AsStr, R: Read, W: Write
 }
 
 /// Runs the program on these words, checks the text of its fault, and returns its status. An allocation failure is an error.
-pub fn tells<T: AllocGlobal + Threads + Wait + Sync + Abort, R: Read, W: Write>(
+pub fn status_with_fault<T: AllocGlobal + Threads + Wait + Sync + Abort, R: Read, W: Write>(
     rt: &T,
     words: &[&str],
     reader: &mut R,
     writer: &mut W,
     fault: &[u8],
 ) -> Result<u8, Fail> {
-    let mut told = Vec::with_capacity(rt.alloc(), ROOM)?;
-    let status = status_of(rt, words, reader, writer, &mut told);
-    if told.as_slice() == b"dmclock: memory\n".as_slice() {
+    let mut observed = Vec::with_capacity(rt.alloc(), ROOM)?;
+    let status = status_of(rt, words, reader, writer, &mut observed);
+    if observed.as_slice() == b"dmclock: memory\n".as_slice() {
         return Err(AllocError.into());
     }
-    assert_same(rt, &told.as_slice(), &fault);
+    assert_same(rt, &observed.as_slice(), &fault);
     Ok(status)
 }
 
@@ -79,7 +79,7 @@ pub fn runs<T: AllocGlobal + Threads + Wait + Sync + Abort>(
 ) -> Result<(), Fail> {
     let mut reader = input;
     let mut written = Vec::with_capacity(rt.alloc(), ROOM)?;
-    let ended = tells(rt, words, &mut reader, &mut written, fault)?;
+    let ended = status_with_fault(rt, words, &mut reader, &mut written, fault)?;
     assert_same(rt, &written.as_slice(), &output);
     assert_same(rt, &ended, &status);
     Ok(())

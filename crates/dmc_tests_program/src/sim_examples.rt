@@ -1,5 +1,5 @@
 //! The worked examples of simulations, each under its name. Lines are separated by `; `.
-use crate::runs::{FailingReader, FailingWriter, lines, runs, tells};
+use crate::runs::{FailingReader, FailingWriter, lines, runs, status_with_fault};
 use crate::same::assert_same;
 use std::alloc::{AllocError, Global};
 use std::process::Abort;
@@ -187,7 +187,7 @@ fn long_scene(rt: HostRuntime) -> Result<(), Fail> {
     let mut written = Vec::new(rt.alloc());
     let words = ["sim"];
     let fault = b"dmclock: scene text\n";
-    let status = tells(&rt, words.as_slice(), &mut reader, &mut written, fault)?;
+    let status = status_with_fault(&rt, words.as_slice(), &mut reader, &mut written, fault)?;
     assert_same(&rt, &status, &1);
     assert_same(&rt, &reader.len(), &3);
     assert_same(&rt, &written.len(), &0);
@@ -216,7 +216,7 @@ fn sim_streams(rt: HostRuntime) -> Result<(), Fail> {
     let mut reader = FailingReader::new(&input, 40);
     let mut writer = FailingWriter::new(rt.alloc(), output.len())?;
     let fault = b"dmclock: read\n";
-    let status = tells(&rt, words.as_slice(), &mut reader, &mut writer, fault)?;
+    let status = status_with_fault(&rt, words.as_slice(), &mut reader, &mut writer, fault)?;
     assert_same(&rt, &status, &1);
     assert_same(&rt, &writer.written().len(), &0);
     Ok(())
@@ -231,7 +231,7 @@ fn sim_writes(rt: HostRuntime) -> Result<(), Fail> {
     let mut reader = input.as_slice();
     let mut writer = FailingWriter::new(rt.alloc(), 60)?;
     let fault = b"dmclock: write\n";
-    let status = tells(&rt, words.as_slice(), &mut reader, &mut writer, fault)?;
+    let status = status_with_fault(&rt, words.as_slice(), &mut reader, &mut writer, fault)?;
     assert_same(&rt, &status, &1);
     assert_same(&rt, &writer.written(), &first);
     Ok(())

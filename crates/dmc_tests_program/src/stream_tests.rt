@@ -1,7 +1,7 @@
 //! How failing streams end a run, for both commands, and that words which ask for no tool leave the streams alone.
 use crate::event_examples::{PULLS, PULLS_VERDICT};
 use crate::examples::{AT_LIMIT, AT_LIMIT_OUT};
-use crate::runs::{FailingReader, FailingWriter, Interrupted, ROOM, tells};
+use crate::runs::{FailingReader, FailingWriter, Interrupted, ROOM, status_with_fault};
 use crate::same::assert_same;
 use dmc_text::watched::Watched;
 use std::process::Abort;
@@ -21,7 +21,7 @@ fn failing_flush(rt: HostRuntime) -> Result<(), Fail> {
         let mut reader = input;
         let mut writer = FailingWriter::unflushed(rt.alloc())?;
         let words = [command];
-        let status = tells(
+        let status = status_with_fault(
             &rt,
             words.as_slice(),
             &mut reader,
@@ -40,7 +40,7 @@ fn interrupted_streams(rt: HostRuntime) -> Result<(), Fail> {
         let mut reader = Interrupted::new(FailingReader::new(input, input.len() + 1));
         let mut writer = Interrupted::new(FailingWriter::new(rt.alloc(), output.len())?);
         let words = [command];
-        let status = tells(&rt, words.as_slice(), &mut reader, &mut writer, b"")?;
+        let status = status_with_fault(&rt, words.as_slice(), &mut reader, &mut writer, b"")?;
         assert_same(&rt, &writer.stream().written(), &output);
         assert_same(&rt, &status, &0);
     }
@@ -99,7 +99,7 @@ fn refuses<T: AllocGlobal + Threads + Wait + Sync + Abort>(
     let mut reader = AT_LIMIT;
     let mut written = Vec::with_capacity(rt.alloc(), ROOM)?;
     let usage = b"usage: dmclock script|check [--tags tick|ratio] | sim | run\n";
-    let status = tells(rt, words, &mut reader, &mut written, usage)?;
+    let status = status_with_fault(rt, words, &mut reader, &mut written, usage)?;
     assert_same(rt, &status, &2);
     assert_same(rt, &reader.len(), &AT_LIMIT.len());
     assert_same(rt, &written.len(), &0);

@@ -5,7 +5,7 @@ use dmc_scene::key::Key;
 use dmc_text::cause::LineCause;
 use dmc_text::watched::Watched;
 use dmc_tool::fault::Fault;
-use dmc_tool::telling::tell;
+use dmc_tool::fault_line::write_fault;
 use dmc_tool::words::{Tool, ToolCommand, WordsFault, read_words};
 use dmc_types::config::TagKind;
 use std::alloc::Global;
@@ -159,9 +159,9 @@ fn fault_texts(rt: HostRuntime) -> Result<(), Fail> {
     ];
     for (fault, text, status) in faults {
         let line = format!(in alloc; "{text}\n")?;
-        let mut told = Watched::new(Vec::with_capacity(alloc, ROOM)?);
-        assert_same(&rt, &tell(fault, &mut told), &status);
-        assert_same(&rt, &told.stream().as_slice(), &line.as_bytes());
+        let mut observed = Watched::new(Vec::with_capacity(alloc, ROOM)?);
+        assert_same(&rt, &write_fault(fault, &mut observed), &status);
+        assert_same(&rt, &observed.stream().as_slice(), &line.as_bytes());
     }
     Ok(())
 }

@@ -2,7 +2,7 @@
 ghost use Rattle.std.specs.Prelude.{◌≡◌};
 
 use crate::calls::{carried, must_enroll, pull, respond, stamp, status, submit};
-use crate::opening::{Book, ONE, Opened, ZERO, let_all_go, open};
+use crate::opening::{Book, ONE, Opened, ZERO, drop_opened, open};
 use dmc_book::pass::WorkerPass;
 use dmc_book::status::Status;
 use dmc_ledger::bundle::StampTills;
@@ -23,7 +23,7 @@ use std::test::Fail;
 
 /// What a circle reports, from the registration to the second stamp.
 #[derive(Clone, Copy, PartialEq, Eq)]
-pub(crate) struct Told {
+pub(crate) struct Observed {
     stamped: (u32, u32),
     tags: Tags<TickTag>,
     submitted: Status,
@@ -36,7 +36,7 @@ pub(crate) struct Told {
 }
 
 /// What it has to report.
-fn circle_told() -> Told {
+fn circle_observed() -> Observed {
     let submitted = Status {
         calls: 2,
         misses: 0,
@@ -49,7 +49,7 @@ fn circle_told() -> Told {
         closed: false,
     };
     let zero = TickTag::of_moment(Moment::zero());
-    Told {
+    Observed {
         stamped: (0, 0),
         tags: Tags {
             r: None,
@@ -91,7 +91,7 @@ fn circle_in_hand<S: Setup>(
     pass: &mut WorkerPass<S>,
     tracker: &mut TrackerBook<S>,
     tills: &mut StampTills<S>,
-) -> Result<Told, Fail> {
+) -> Result<Observed, Fail> {
     must_enroll(book, pass)?;
     let (stamped, tags) = submit(book, pass, tracker, tills)?;
     let submitted = status(book, pass)?;
@@ -100,7 +100,7 @@ fn circle_in_hand<S: Setup>(
     respond(pass, tracker, ZERO, ONE, PhaseType::Priority)?;
     let next = carried(&stamp(tracker, ZERO, tills)?);
     let tracked = tracker_status(tracker, tills)?;
-    Ok(Told {
+    Ok(Observed {
         stamped,
         tags,
         submitted,
@@ -114,7 +114,7 @@ fn circle_in_hand<S: Setup>(
 }
 
 /// A circle of the books that were opened.
-pub(crate) fn play<S: Setup>(opened: &mut Opened<S>) -> Result<Told, Fail> {
+pub(crate) fn play<S: Setup>(opened: &mut Opened<S>) -> Result<Observed, Fail> {
     let Some(tills) = opened.tills.tills(ZERO) else {
         return Err(Fail::new("tills for the server"));
     };
@@ -126,20 +126,20 @@ pub(crate) fn play<S: Setup>(opened: &mut Opened<S>) -> Result<Told, Fail> {
     )
 }
 
-fn circle<S: Setup>(alloc: Global, blank: Blank) -> Result<Told, Fail>
+fn circle<S: Setup>(alloc: Global, blank: Blank) -> Result<Observed, Fail>
     requires { blank.name ≡ S.name }
 {
     let mut mint = blank.open::<S>();
     let mut opened = open(alloc, &mut mint, 8)?;
-    let told = play(&mut opened);
-    let_all_go(opened);
-    told
+    let observed = play(&mut opened);
+    drop_opened(opened);
+    observed
 }
 
 #[test]
 fn one_circle(rt: HostRuntime) -> Result<(), Fail> {
-    let told = circle::<Brand>(rt.alloc(), Blank::new(14))?;
-    assert_eq!(rt; told.tags.r, None);
-    assert!(rt; told == circle_told());
+    let observed = circle::<Brand>(rt.alloc(), Blank::new(14))?;
+    assert_eq!(rt; observed.tags.r, None);
+    assert!(rt; observed == circle_observed());
     Ok(())
 }

@@ -93,19 +93,19 @@ pub(crate) struct Opened<S: Setup> {
 }
 
 /// Drops a book.
-pub(crate) fn let_go<S: Setup>(book: Book<S>) {
+pub(crate) fn drop_book<S: Setup>(book: Book<S>) {
     drop(book);
 }
 
 /// Drops the books and their passes.
-pub(crate) fn let_all_go<S: Setup>(opened: Opened<S>) {
+pub(crate) fn drop_opened<S: Setup>(opened: Opened<S>) {
     let Opened {
         book,
         pass,
         tracker,
         tills,
     } = opened;
-    let_go(book);
+    drop_book(book);
     drop(pass);
     drop((tracker, tills));
 }
@@ -164,7 +164,7 @@ fn open_seven<S: Setup>(
     match pass {
         Some(pass) => Ok((book, pass)),
         None => {
-            let_go(book);
+            drop_book(book);
             Err(Fail::new("a pass for the worker"))
         }
     }
@@ -196,7 +196,7 @@ pub(crate) fn open_other<S: Setup>(
     mint: &mut Mint<S>,
 ) -> Result<WorkerPass<S>, Fail> {
     let (book, pass) = open_queue(alloc, mint)?;
-    let_go(book);
+    drop_book(book);
     Ok(pass)
 }
 

@@ -5,7 +5,7 @@ ghost use Rattle.dmc_book.specs.Opening.{IsNewDesk};
 
 use crate::calls::{close, enroll, must_enroll, pull, status, submit, try_submit};
 use crate::opening::{
-    Book, LONG, ONE, Opened, SEVEN, ZERO, let_all_go, let_go, only, open, open_book,
+    Book, LONG, ONE, Opened, SEVEN, ZERO, drop_book, drop_opened, only, open, open_book,
     open_client_desks, open_other, open_queue, wait_config,
 };
 use crate::same::assert_same;
@@ -57,7 +57,7 @@ fn fill_opened<S: Setup>(alloc: Global, mint: &mut Mint<S>) -> Result<Answers, F
     let mut other = open_other(alloc, mint)?;
     let (mut book, mut pass) = open_queue(alloc, mint)?;
     let answers = fill(&mut book, &mut pass, &mut other);
-    let_go(book);
+    drop_book(book);
     drop((pass, other));
     answers
 }
@@ -111,9 +111,9 @@ fn closed<S: Setup>(alloc: Global, blank: Blank) -> Result<(ClientId, SubmitCaus
 {
     let mut mint = blank.open::<S>();
     let mut opened = open(alloc, &mut mint, 8)?;
-    let told = close_opened(&mut opened);
-    let_all_go(opened);
-    told
+    let observed = close_opened(&mut opened);
+    drop_opened(opened);
+    observed
 }
 
 /// Two workers of one number are refused.
@@ -126,7 +126,7 @@ fn twice<S: Setup>(alloc: Global, blank: Blank) -> Result<Option<NewFault>, Fail
     match open_book(alloc, config, ZERO, &mut mint, desks, &[SEVEN, SEVEN], 8) {
         Ok((book, passes)) => {
             drop(passes);
-            let_go(book);
+            drop_book(book);
             Ok(None)
         }
         Err(NewFault::Memory) => Err(NewFault::Memory.into()),
@@ -156,7 +156,7 @@ fn pass_of<S: Setup>(
     let config = wait_config(LONG)?;
     let desks = desks_at(alloc, mint, server)?;
     let (book, mut passes) = open_book(alloc, config, server, mint, desks, &[worker], 8)?;
-    let_go(book);
+    drop_book(book);
     let pass = passes.pop();
     drop(passes);
     match pass {
@@ -173,7 +173,7 @@ fn refused_pull<S: Setup>(
 ) -> Result<Option<RunFault>, Fail> {
     let (mut book, pass) = open_queue(alloc, mint)?;
     let refused = pull(&mut book, other).err();
-    let_go(book);
+    drop_book(book);
     drop(pass);
     Ok(refused)
 }

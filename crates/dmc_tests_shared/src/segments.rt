@@ -3,7 +3,7 @@ ghost use Rattle.std.specs.Prelude.{◌≡◌};
 
 use crate::books::play;
 use crate::calls::{must_enroll, pull, status};
-use crate::opening::{Book, Opened, let_all_go, let_go, open, open_queue};
+use crate::opening::{Book, Opened, drop_book, drop_opened, open, open_queue};
 use dmc_book::fault::RunFault;
 use dmc_book::pass::WorkerPass;
 use dmc_ledger::mint::Blank;
@@ -84,8 +84,8 @@ fn rotate_twice<S: Setup>(alloc: Global, blank: Blank) -> Result<Rotated, Fail>
     let empty = rotate(&mut other)?;
     let (mut book, mut pass) = open_queue(alloc, &mut mint)?;
     let rotated = rotate_book(&mut book, &mut pass, &empty);
-    let_go(book);
-    let_go(other);
+    drop_book(book);
+    drop_book(other);
     drop((pass, other_pass, empty));
     rotated
 }
@@ -135,8 +135,8 @@ fn renew_circle<S: Setup>(alloc: Global, blank: Blank) -> Result<(Renewed, bool)
     let (mut other, other_pass) = open_queue(alloc, &mut mint)?;
     let mut opened = open(alloc, &mut mint, 8)?;
     let answer = renew_played(&mut opened, &mut other);
-    let_go(other);
-    let_all_go(opened);
+    drop_book(other);
+    drop_opened(opened);
     drop(other_pass);
     answer
 }

@@ -2,7 +2,7 @@ ghost use Rattle.std.specs.Prelude.{◌≡◌, IsTrue};
 ghost use Rattle.dmc_ledger.specs.Bundles.{IsOnlyTill, IsPair, client_side, server_side};
 
 use crate::books::play;
-use crate::opening::{Book, Opened, let_all_go, let_go, only, open, open_other, open_queue};
+use crate::opening::{Book, Opened, drop_book, drop_opened, only, open, open_other, open_queue};
 use dmc_book::pass::WorkerPass;
 use dmc_book::seat::Seat;
 use dmc_book::settled::Settled;
@@ -164,7 +164,7 @@ fn settle_opened<S: Setup>(alloc: Global, opened: Opened<S>) -> Result<Left, Fai
         tills,
     } = opened;
     let left = settle_both(alloc, &mut book, pass, tracker, tills);
-    let_go(book);
+    drop_book(book);
     left
 }
 
@@ -177,7 +177,7 @@ fn settle_all<S: Setup>(alloc: Global, blank: Blank) -> Result<Left, Fail>
     match play(&mut opened) {
         Ok(_) => settle_opened(alloc, opened),
         Err(fail) => {
-            let_all_go(opened);
+            drop_opened(opened);
             Err(fail)
         }
     }
@@ -234,7 +234,7 @@ fn settle_in_turn<S: Setup>(alloc: Global, blank: Blank) -> Result<[Option<usize
     let other = open_other(alloc, &mut mint)?;
     let (mut book, own) = open_queue(alloc, &mut mint)?;
     let handed = hand_in(alloc, &mut book, own, other);
-    let_go(book);
+    drop_book(book);
     handed
 }
 

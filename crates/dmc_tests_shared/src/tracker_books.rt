@@ -31,15 +31,15 @@ use std::thread::Threads;
 
 /// The results of stamp, respond, stamp, status and one stamp too many.
 #[derive(Clone, Copy, Debug, PartialEq, Eq)]
-struct Told {
+struct Observed {
     first: (u32, u32),
     next: (u32, u32),
     status: TrackStatus,
     refused: Option<EntryFault>,
 }
 
-const TOLD: [Told; 2] = [
-    Told {
+const TOLD: [Observed; 2] = [
+    Observed {
         first: (0, 0),
         next: (1, 0),
         status: TrackStatus {
@@ -53,7 +53,7 @@ const TOLD: [Told; 2] = [
         },
         refused: Some(EntryFault::HistoryFull),
     },
-    Told {
+    Observed {
         first: (1, 1),
         next: (1, 1),
         status: TrackStatus {
@@ -69,17 +69,17 @@ const TOLD: [Told; 2] = [
     },
 ];
 
-fn told_in_hand<S: Setup>(
+fn observed_in_hand<S: Setup>(
     book: &mut TrackerBook<S>,
     tills: &mut StampTills<S>,
     grants: &mut Till<S>,
-) -> Result<Told, EntryFault> {
+) -> Result<Observed, EntryFault> {
     let first = stamp(book, ZERO, tills)?;
     respond(book, ZERO, grants)?;
     let next = stamp(book, ZERO, tills)?;
     let status = status(book, ZERO, tills)?;
     let refused = stamp(book, ZERO, tills).err();
-    Ok(Told {
+    Ok(Observed {
         first,
         next,
         status,
@@ -87,18 +87,18 @@ fn told_in_hand<S: Setup>(
     })
 }
 
-fn told_at_lock<S: Setup, R: Wait>(
+fn observed_at_lock<S: Setup, R: Wait>(
     rt: &R,
     lock: &TrackerLock<S>,
     tills: &mut StampTills<S>,
     grants: &mut Till<S>,
-) -> Result<Told, EntryFault> {
+) -> Result<Observed, EntryFault> {
     let first = stamp_at_lock(rt, lock, ZERO, tills)?;
     respond_at_lock(rt, lock, ZERO, grants)?;
     let next = stamp_at_lock(rt, lock, ZERO, tills)?;
     let status = status_at_lock(rt, lock, ZERO, tills)?;
     let refused = stamp_at_lock(rt, lock, ZERO, tills).err();
-    Ok(Told {
+    Ok(Observed {
         first,
         next,
         status,
@@ -116,11 +116,14 @@ fn balanced_book<S: Setup>(lock: TrackerLock<S>) -> TrackerBook<S>
 }
 
 /// The circle of an opened book in one hand.
-fn told_of_opened<S: Setup>(rt: &impl Abort, opened: &mut Opened<S>) -> Result<Told, EntryFault> {
+fn observed_of_opened<S: Setup>(
+    rt: &impl Abort,
+    opened: &mut Opened<S>,
+) -> Result<Observed, EntryFault> {
     let Some(tills) = opened.pass.tills(ZERO) else {
         panic!(rt; "server 0")
     };
-    told_in_hand(&mut opened.book, tills, &mut opened.grants)
+    observed_in_hand(&mut opened.book, tills, &mut opened.grants)
 }
 
 fn circle_in_hand<S: Setup>(
@@ -128,30 +131,30 @@ fn circle_in_hand<S: Setup>(
     alloc: Global,
     blank: Blank,
     counting: Counting,
-) -> Result<Told, Fail>
+) -> Result<Observed, Fail>
     requires { blank.name ≡ S.name }
 {
     let mut mint = blank.open::<S>();
     let mut opened = open_book(alloc, &mut mint, ClientId(1), (9, 3), counting)?;
-    let told = told_of_opened(rt, &mut opened);
+    let observed = observed_of_opened(rt, &mut opened);
     drop(opened);
-    Ok(told?)
+    Ok(observed?)
 }
 
 /// What a pass holds: its stamps, and their counts.
 type Held = Option<(u64, u64, u64)>;
 
 /// The circle through the lock, with the client's pass.
-fn told_with_pass<S: Setup, R: Abort + Wait>(
+fn observed_with_pass<S: Setup, R: Abort + Wait>(
     rt: &R,
     lock: &TrackerLock<S>,
     pass: &mut ClientPass<S>,
     grants: &mut Till<S>,
-) -> Result<Told, EntryFault> {
+) -> Result<Observed, EntryFault> {
     let Some(tills) = pass.tills(ZERO) else {
         panic!(rt; "server 0")
     };
-    told_at_lock(rt, lock, tills, grants)
+    observed_at_lock(rt, lock, tills, grants)
 }
 
 /// Settles the book of the lock, whose list has three events. Returns what the pass held.
@@ -166,10 +169,10 @@ fn settle<S: Setup>(rt: &impl Abort, lock: TrackerLock<S>, pass: ClientPass<S>) 
 }
 
 /// The circle of an opened book through its lock, and what the pass then holds.
-fn told_and_held<S: Setup, R: Abort + Wait>(
+fn observed_and_held<S: Setup, R: Abort + Wait>(
     rt: &R,
     opened: Opened<S>,
-) -> Result<(Told, Held), EntryFault> {
+) -> Result<(Observed, Held), EntryFault> {
     let Opened {
         book,
         mut pass,
@@ -177,10 +180,10 @@ fn told_and_held<S: Setup, R: Abort + Wait>(
         mut grants,
     } = opened;
     let lock = TrackerLock::new(book);
-    let told = told_with_pass(rt, &lock, &mut pass, &mut grants);
+    let observed = observed_with_pass(rt, &lock, &mut pass, &mut grants);
     drop((desk, grants));
-    match told {
-        Ok(told) => Ok((told, settle(rt, lock, pass))),
+    match observed {
+        Ok(observed) => Ok((observed, settle(rt, lock, pass))),
         Err(fault) => {
             drop((lock, pass));
             Err(fault)
@@ -194,28 +197,28 @@ fn circle_at_lock<S: Setup, R: Abort + Wait>(
     alloc: Global,
     blank: Blank,
     counting: Counting,
-) -> Result<(Told, Held), Fail>
+) -> Result<(Observed, Held), Fail>
     requires { blank.name ≡ S.name }
 {
     let mut mint = blank.open::<S>();
     let opened = open_book(alloc, &mut mint, ClientId(1), (9, 3), counting)?;
-    Ok(told_and_held(rt, opened)?)
+    Ok(observed_and_held(rt, opened)?)
 }
 
 #[test]
 fn one_circle(rt: HostRuntime) -> Result<(), Fail> {
-    for told in TOLD {
-        let counting = told.status.counting;
+    for observed in TOLD {
+        let counting = observed.status.counting;
         let answer = circle_in_hand::<Brand>(&rt, rt.alloc(), Blank::new(5), counting)?;
-        assert_same(&rt, &answer, &told);
+        assert_same(&rt, &answer, &observed);
         let (answer, held) = circle_at_lock::<Brand, HostRuntime>(
             &rt,
             rt.alloc(),
             Blank::new(5),
             counting,
         )?;
-        assert_same(&rt, &answer, &told);
-        let (delta, rho) = told.status.sent;
+        assert_same(&rt, &answer, &observed);
+        let (delta, rho) = observed.status.sent;
         let wanted = Some((2, delta, rho));
         assert_same(&rt, &held, &wanted);
     }
@@ -268,7 +271,7 @@ fn work_at_once<S: Setup + Send + Sync, R: Threads + Wait + Sync>(
 }
 
 /// The report after the joins.
-fn told_after<S: Setup + Send + Sync, R: Threads + Wait + Sync>(
+fn observed_after<S: Setup + Send + Sync, R: Threads + Wait + Sync>(
     rt: &R,
     lock: &TrackerLock<S>,
     pass: &mut ClientPass<S>,
@@ -294,9 +297,9 @@ fn share_opened<S: Setup + Send + Sync, R: Threads + Wait + Sync>(
         mut grants,
     } = opened;
     let lock = TrackerLock::new(book);
-    let told = told_after(rt, &lock, &mut pass, &mut grants, &mut desk);
+    let observed = observed_after(rt, &lock, &mut pass, &mut grants, &mut desk);
     drop((lock, pass, grants, desk));
-    told
+    observed
 }
 
 /// Two threads share a lock. Returns the report after the joins.

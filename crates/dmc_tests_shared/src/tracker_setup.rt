@@ -68,8 +68,8 @@ pub(crate) fn open_tracker_of<S: Setup>(
 ) -> Result<(TrackerBook<S>, ClientPass<S>), Fail>
     requires { AreNew client.0 (map server_side sides.items) }
 {
-    let (most, most_events) = limits;
-    match TrackerBook::new(alloc, client, sides, most, most_events, counting) {
+    let (most, max_events) = limits;
+    match TrackerBook::new(alloc, client, sides, most, max_events, counting) {
         Ok(made) => Ok(made),
         Err(fault) => Err(fault.cause.into()),
     }

@@ -4,7 +4,7 @@ pub mod TextLemmas
 pub mod ReplyLemmas
 pub mod ReadingLemmas
 pub mod PieceLemmas
-pub mod Tellable
+pub mod Writable
 pub mod RunLemmas
 pub mod WalkReading
 pub mod WalkLemmas

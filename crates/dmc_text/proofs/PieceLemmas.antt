@@ -7,8 +7,8 @@ use Rattle.std.proofs.lemmas.List.{take-take, take_at, drop_at, drop-take, lengt
 use Rattle.std.proofs.lemmas.Result.{Ok-from_Ok_iff}
 
 -- the most that may be read, where it fits the type that it is turned into
-pub most_kept : {E : Type 0} (r : Result ℕ E) (P : Type 0) (most room n : ℕ) → OkIff r P most → P → n ≡ result_unwrap_or r room → n ≡ most
-most_kept r P most room n turned fits is = is ∙ ap (λ r. result_unwrap_or r room) (Ok-from_Ok_iff r P most turned fits)
+pub max_kept : {E : Type 0} (r : Result ℕ E) (P : Type 0) (most room n : ℕ) → OkIff r P most → P → n ≡ result_unwrap_or r room → n ≡ most
+max_kept r P most room n turned fits is = is ∙ ap (λ r. result_unwrap_or r room) (Ok-from_Ok_iff r P most turned fits)
 
 -- the buffer from its front on, with a piece of it replaced
 abbrev pub with_piece : List ℕ → List ℕ → List ℕ → List ℕ → ℕ → ℕ → List ℕ

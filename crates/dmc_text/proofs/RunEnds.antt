@@ -12,13 +12,13 @@ use Rattle.dmc_text.specs.declared.script.ScriptFault.{ScriptFault}
 use Rattle.dmc_text.specs.declared.script.ScriptFault.TheVariants as ends
 use Rattle.dmc_text.specs.declared.walk.Walk.{Walk}
 use Rattle.dmc_text.specs.Lines.{line_of}
-use Rattle.dmc_text.specs.Reading.{most_bytes}
+use Rattle.dmc_text.specs.Reading.{max_bytes}
 use Rattle.dmc_text.specs.Texts.{and_on, fault_or, headed_by, lines_of, commands, written, first_fault, fault_of, whole_lines, out, AppendsSome, ReadsWithin, RunsPartly, RunsAs}
 use Rattle.dmc_text.specs.LineLaws.{whole_on}
 use Rattle.dmc_text.specs.Walks.{GoesThrough, IsFault, Ending, Halt, EndsAs}
 use Rattle.dmc_text.specs.Runs.{Answers, settled_of}
 
-pub nothing_read : (r : Option (List ℕ)) → (read : List ℕ) × ReadsWithin most_bytes r r read
+pub nothing_read : (r : Option (List ℕ)) → (read : List ℕ) × ReadsWithin max_bytes r r read
 nothing_read r = ([], (Consumes-nil r, omega arith))
 
 -- what holds of what was read, however it goes on, holds of the text
@@ -117,8 +117,8 @@ module _ {T S : Type 0} (ops : Tagging T) (text : T → List ℕ) (seen : S → 
             out_behind (e.read ++ more) e.lines others e.answers last split e.goes ∙ ap (λ w. e.answers ++ w) left.1 ∙ append-nil e.answers ∙ sym e.out,
           )
 
-      told_read : {fault : Option (ℕ × LineCause)} (e : Ending takes refuses headed fault first input output last r w pending) → Told fault (e.sent ++ pending) e.read
-      told_read {fault} e = of_read r e.read (Told fault (e.sent ++ pending)) (told e)
+      writable_read : {fault : Option (ℕ × LineCause)} (e : Ending takes refuses headed fault first input output last r w pending) → Told fault (e.sent ++ pending) e.read
+      writable_read {fault} e = of_read r e.read (Told fault (e.sent ++ pending)) (told e)
 
       -- what is pending is written
       all_sent : {fault : Option (ℕ × LineCause)} (w' : Option (List ℕ)) (e : Ending takes refuses headed fault first input output last r w pending) (bytes : List ℕ)
@@ -129,7 +129,7 @@ module _ {T S : Type 0} (ops : Tagging T) (text : T → List ℕ) (seen : S → 
       some_sent : {fault : Option (ℕ × LineCause)} (w' : Option (List ℕ)) → Ending takes refuses headed fault first input output last r w pending → AppendsSome w w' pending
           → RunsPartly ops text input r output w'
       some_sent w' e app =
-          (e.read, e.reads, more_sent output w w' e.sent pending [] (out ops text e.read) e.sends app (ap (λ o. e.sent ++ o) (append-nil pending) ∙ sym (told_read e).1))
+          (e.read, e.reads, more_sent output w w' e.sent pending [] (out ops text e.read) e.sends app (ap (λ o. e.sent ++ o) (append-nil pending) ∙ sym (writable_read e).1))
 
     -- what is written for the lines that were taken, and for more
     halt_sent : {most : ℕ} {input output r w : Option (List ℕ)} {pending : List ℕ} (w' : Option (List ℕ)) (h : Halt takes most first input output r w pending) (more : List ℕ)
@@ -145,11 +145,11 @@ module _ {T S : Type 0} (ops : Tagging T) (text : T → List ℕ) (seen : S → 
     pub runs_as : (input output r w w' : Option (List ℕ)) (last : S) (walk : Walk) (result : Result ⊤ ScriptFault) (b : Bool) → EndsAs takes refuses headed first input output last r w walk result
         → (b ≡ true → Appends w w' walk.out.items) → AppendsSome w w' walk.out.items → RunsAs ops text input r output w' (settled_of result b)
     runs_as input output r w w' last walk (Ok x) true (end, e) all some =
-        let sent = all_sent w' e e.read (told_read e) (all refl) in
+        let sent = all_sent w' e e.read (writable_read e) (all refl) in
         (end, Consumes-whole input r e.read _ e.reads.0 end (e.reads.1, sent.0, sent.1))
     runs_as input output r w w' last walk (Ok x) false (end, e) all some = some_sent w' e some
     runs_as input output r w w' last walk (Err (ends.Line n cause)) true e all some =
-        ((e.read, e.reads, (told_read e).0), of_text input r e.read e.reads.0 _ (λ more end. all_sent w' e (e.read ++ more) (told e more end) (all refl)))
+        ((e.read, e.reads, (writable_read e).0), of_text input r e.read e.reads.0 _ (λ more end. all_sent w' e (e.read ++ more) (told e more end) (all refl)))
     runs_as input output r w w' last walk (Err (ends.Line n cause)) false e all some = some_sent w' e some
     runs_as input output r w w' last walk (Err ends.Read) b h all some =
         (h.done ++ h.rest, h.reads, subst (λ i. AppendsSome output w' (out ops text i)) (sym (whole_on h.done h.rest h.took.whole)) (halt_sent w' h (whole_lines h.rest) some))

@@ -4,20 +4,20 @@ use Rattle.std.specs.Prelude.{⊤}
 use Rattle.std.specs.Io.KnownBytes.{Consumes, Appends, IsAtEnd}
 use Rattle.std.proofs.KnownBytes.{Consumes-nil, Consumes-trans, Appends-nil, Appends-trans}
 use Rattle.std.proofs.lemmas.List.{append_assoc}
-use Rattle.dmc_types.specs.Limits.{most_line_bytes}
+use Rattle.dmc_types.specs.Limits.{max_line_bytes}
 use Rattle.dmc_text.specs.declared.cause.LineCause.{LineCause}
 use Rattle.dmc_text.specs.declared.cause.LineCause.TheVariants.{Bytes, Hz}
 use Rattle.dmc_text.specs.declared.script.ScriptFault.{ScriptFault}
 use Rattle.dmc_text.specs.declared.script.ScriptFault.TheVariants as faults
 use Rattle.dmc_text.specs.declared.walk.Walk.{Walk}
-use Rattle.dmc_text.specs.Reading.{Reading, most_bytes, next_line}
+use Rattle.dmc_text.specs.Reading.{Reading, max_bytes, next_line}
 use Rattle.dmc_text.specs.Texts.{lines_of, has_end}
 use Rattle.dmc_text.specs.Walks.{GoesThrough, TakesWhole, IsCut, Starts, Feeds, Fails, Finds, FindsLine, TakesLine, Takes, TakesRest, TakesLast, end_result, IsFault, Ending, Halt, EndsAs}
 use Rattle.dmc_text.specs.LineLaws.{first_line, no_line, line_first, lines_behind, leads, last_line, whole_on, ends_whole, behind_line, line_and_more, shorter}
 
 -- how much is left to do at most: what may still be read counts twice, and what is read and not yet returned once
 abbrev pub work_left : Walk → ℕ
-work_left walk = 2 * (most_bytes - walk.lines.taken) + length walk.lines.rest
+work_left walk = 2 * (max_bytes - walk.lines.taken) + length walk.lines.rest
 
 -- Whole lines are taken, from the first state on. What is to be written for them is written, or is left to be.
 pub record Progress {S : Type 0} (takes : S → List ℕ → List ℕ → S → Type 0) (first : S) (input output r w : Option (List ℕ)) (walk : Walk) (s : S) : Type 0 where
@@ -26,7 +26,7 @@ pub record Progress {S : Type 0} (takes : S → List ℕ → List ℕ → S → 
   pub sent : List ℕ
   pub reads : Consumes input r (done ++ walk.lines.rest)
   pub taken : length (done ++ walk.lines.rest) ≡ walk.lines.taken
-  pub within : walk.lines.taken ≤ most_bytes
+  pub within : walk.lines.taken ≤ max_bytes
   pub sends : Appends output w sent
   pub out : sent ++ walk.out.items ≡ took.answers
   pub number : walk.number ≡ suc (length took.lines)
@@ -105,8 +105,8 @@ begins takes s r w walk h =
     }
 
 -- the line that begins is too long
-too_long : {S : Type 0} (refuses : S → List ℕ → LineCause → Type 0) (long : (s : S) (line : List ℕ) → most_line_bytes < length line → refuses s line Bytes) (s : S) (rest more : List ℕ)
-    → next_line rest ≡ None → most_line_bytes < length rest → (line : List ℕ) × (others : List (List ℕ)) × (lines_of (rest ++ more) ≡ line ∷ others) × refuses s line Bytes
+too_long : {S : Type 0} (refuses : S → List ℕ → LineCause → Type 0) (long : (s : S) (line : List ℕ) → max_line_bytes < length line → refuses s line Bytes) (s : S) (rest more : List ℕ)
+    → next_line rest ≡ None → max_line_bytes < length rest → (line : List ℕ) × (others : List (List ℕ)) × (lines_of (rest ++ more) ≡ line ∷ others) × refuses s line Bytes
 too_long refuses long s [] more none h = absurd (omega (arith, h))
 too_long refuses long s (b ∷ bs) more none h =
     let l = leads b bs (lines_of more) in
@@ -184,13 +184,13 @@ module _ {S : Type 0} {takes : S → List ℕ → List ℕ → S → Type 0} {fi
       → (halt : Halt takes most first input output r' w' new.out.items) × (length halt.took.answers ≡ length p.sent + length old.out.items)
   failed {new = new} {most} p f = halts most new.out.items f.bytes f.sent f.unsent p f.reads f.sends f.within (ap (λ o. f.sent ++ (o ++ f.unsent)) f.out ∙ f.parts)
 
-  no_memory : {s : S} {r w : Option (List ℕ)} {old : Walk} (new : List ℕ) → Progress takes first input output r w old s → IsCut old.out.items new → Halt takes most_bytes first input output r w new
+  no_memory : {s : S} {r w : Option (List ℕ)} {old : Walk} (new : List ℕ) → Progress takes first input output r w old s → IsCut old.out.items new → Halt takes max_bytes first input output r w new
   no_memory {r = r} {w} {old} new p cut = by_cut cut
     where
-      halted : (dropped : List ℕ) → new ++ dropped ≡ old.out.items → Halt takes most_bytes first input output r w new
-      halted dropped parts = (halts most_bytes new [] [] dropped p (Consumes-nil r) (Appends-nil w) (omega (arith, p.within)) parts).0
+      halted : (dropped : List ℕ) → new ++ dropped ≡ old.out.items → Halt takes max_bytes first input output r w new
+      halted dropped parts = (halts max_bytes new [] [] dropped p (Consumes-nil r) (Appends-nil w) (omega (arith, p.within)) parts).0
 
-      by_cut : IsCut old.out.items new → Halt takes most_bytes first input output r w new
+      by_cut : IsCut old.out.items new → Halt takes max_bytes first input output r w new
       by_cut (inl same) = halted [] (append-nil new ∙ same)
       by_cut (inr none) = halted old.out.items (ap (λ o. o ++ old.out.items) none)
 
@@ -208,7 +208,7 @@ module _ {S : Type 0} {takes : S → List ℕ → List ℕ → S → Type 0} {fi
       answers = p.took.answers ++ answers;
       sent = p.sent;
       goes = goes_both takes first s t p.took.lines lines p.took.answers answers p.took.goes goes;
-      reads = (p.reads, subst (λ n. n ≤ most_bytes) (sym p.taken) p.within);
+      reads = (p.reads, subst (λ n. n ≤ max_bytes) (sym p.taken) p.within);
       sends = p.sends;
       out = ap (λ o. p.sent ++ o) out-is ∙ sym (append_assoc p.sent old.out.items answers) ∙ ap (λ w. w ++ answers) p.out;
       ends = λ more end.
@@ -230,7 +230,7 @@ module _ {S : Type 0} {takes : S → List ℕ → List ℕ → S → Type 0} {fi
         (line ∷ others, split, (omega (arith, number-is), subst (λ x. refuses x line cause) (sym same) refused)))
 
     -- no line was found
-    pub find_ends : ((s : S) (line : List ℕ) → most_line_bytes < length line → refuses s line Bytes)
+    pub find_ends : ((s : S) (line : List ℕ) → max_line_bytes < length line → refuses s line Bytes)
         → {s : S} {r w : Option (List ℕ)} {old : Walk} (r' w' : Option (List ℕ)) (new : Walk) (fault : ScriptFault) → Progress takes first input output r w old s → Finds r w old r' w' new (Err fault)
         → EndsAs takes refuses headed first input output s r' w' new (Err fault)
     find_ends long {s} r' w' new (faults.Line n cause) p (feeds, none, length-is, number-is, cause-is) =

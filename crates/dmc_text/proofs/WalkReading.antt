@@ -9,7 +9,7 @@ use Rattle.dmc_text.specs.declared.script.ScriptFault.TheVariants as faults
 use Rattle.dmc_text.specs.declared.walk.Walk.{Walk}
 use Rattle.dmc_text.specs.declared.watched.Watched.{Watched}
 use Rattle.dmc_text.specs.Watching.{stream_of, IsCalm, IsNoted, FailsToRead, EndsNoted}
-use Rattle.dmc_text.specs.Reading.{Reading, most_bytes, next_line, Filled, Fills}
+use Rattle.dmc_text.specs.Reading.{Reading, max_bytes, next_line, Filled, Fills}
 use Rattle.dmc_text.specs.Texts.{AppendsSome}
 use Rattle.dmc_text.specs.Walks.{Feeds, Fails}
 use Rattle.dmc_text.specs.LineLaws.{none_taken}
@@ -51,7 +51,7 @@ ends_later X Y left taken later bytes before between after old middle new faults
 
 -- ---- from what was read before to what is read next
 
-pub fed_nothing : (r w : Option (List ℕ)) (walk : Walk) → walk.lines.taken ≤ most_bytes → Feeds r w walk r w walk
+pub fed_nothing : (r w : Option (List ℕ)) (walk : Walk) → walk.lines.taken ≤ max_bytes → Feeds r w walk r w walk
 fed_nothing r w walk within = record {
   bytes = [];
   sent = [];
@@ -65,7 +65,7 @@ fed_nothing r w walk within = record {
 }
 
 module _ {r0 w0 r w : Option (List ℕ)} {old walk : Walk} (f : Feeds r0 w0 old r w walk) (r' w' : Option (List ℕ)) (new : Walk) where
-  fed_by : (bytes : List ℕ) → Appends w w' walk.out.items → new.out.items ≡ [] → new.number ≡ walk.number → new.lines.taken ≤ most_bytes
+  fed_by : (bytes : List ℕ) → Appends w w' walk.out.items → new.out.items ≡ [] → new.number ≡ walk.number → new.lines.taken ≤ max_bytes
       → Consumes r r' bytes → new.lines.rest ≡ walk.lines.rest ++ bytes → new.lines.taken ≡ walk.lines.taken + length bytes → Feeds r0 w0 old r' w' new
   fed_by bytes sends empty number-is within reads rest-is taken-is = record {
     bytes = f.bytes ++ bytes;
@@ -80,13 +80,13 @@ module _ {r0 w0 r w : Option (List ℕ)} {old walk : Walk} (f : Feeds r0 w0 old 
   }
 
   -- what was to be written is written, and then more is read
-  pub fed_more : (lines : Reading) → lines ≡ walk.lines → Appends w w' walk.out.items → new.out.items ≡ [] → new.number ≡ walk.number → new.lines.taken ≤ most_bytes
+  pub fed_more : (lines : Reading) → lines ≡ walk.lines → Appends w w' walk.out.items → new.out.items ≡ [] → new.number ≡ walk.number → new.lines.taken ≤ max_bytes
       → Filled r r' lines new.lines true → Feeds r0 w0 old r' w' new
   fed_more lines same sends empty number-is within (bytes, reads, rest-is, some, taken-is) =
       fed_by bytes sends empty number-is within reads (rest-is ∙ ap (λ l. l.rest ++ bytes) same) (taken-is ∙ ap (λ l. l.taken + length bytes) same)
 
   -- or the reader is at its end
-  pub fed_end : (lines : Reading) → next_line walk.lines.rest ≡ None → lines ≡ walk.lines → Appends w w' walk.out.items → new.out.items ≡ [] → new.number ≡ walk.number → new.lines.taken ≤ most_bytes
+  pub fed_end : (lines : Reading) → next_line walk.lines.rest ≡ None → lines ≡ walk.lines → Appends w w' walk.out.items → new.out.items ≡ [] → new.number ≡ walk.number → new.lines.taken ≤ max_bytes
       → Filled r r' lines new.lines false → Feeds r0 w0 old r' w' new × IsAtEnd r' × (next_line new.lines.rest ≡ None)
   fed_end lines none same sends empty number-is within (end, keeps, rest-is, taken-is) =
       let rest-too : new.lines.rest ≡ walk.lines.rest = rest-is ∙ ap (λ l. l.rest) same in
@@ -110,11 +110,11 @@ module _ {r0 w0 r w : Option (List ℕ)} {old walk : Walk} (f : Feeds r0 w0 old 
 
   -- or the reader failed
   pub fails_read : {E : Type 0} (lines : Reading) (e : E) → lines ≡ walk.lines → Appends w w' walk.out.items → new.out.items ≡ [] → Fills r r' lines new.lines (Err e)
-      → Fails (suc most_bytes) r0 w0 old r' w' new
+      → Fails (suc max_bytes) r0 w0 old r' w' new
   fails_read lines e same sends empty (bytes, reads, rest-is, taken-is, within) =
-      fails_by (suc most_bytes) bytes reads (walk.out.items, [], sends, append-nil walk.out.items) (subst (λ l. l.taken + length bytes ≤ suc most_bytes) same within) empty
+      fails_by (suc max_bytes) bytes reads (walk.out.items, [], sends, append-nil walk.out.items) (subst (λ l. l.taken + length bytes ≤ suc max_bytes) same within) empty
 
   -- or the writer, for which there was something
-  pub fails_write : Keeps r r' → AppendsSome w w' walk.out.items → 0 < length walk.out.items → new.out.items ≡ [] → Fails most_bytes r0 w0 old r' w' new × (0 < length old.out.items)
+  pub fails_write : Keeps r r' → AppendsSome w w' walk.out.items → 0 < length walk.out.items → new.out.items ≡ [] → Fails max_bytes r0 w0 old r' w' new × (0 < length old.out.items)
   fails_write keeps sends some empty =
-      (fails_by most_bytes [] (none_taken r r' keeps) sends (omega (arith, f.within)) empty, omega (arith, some, length-append f.sent walk.out.items, ap length f.out))
+      (fails_by max_bytes [] (none_taken r r' keeps) sends (omega (arith, f.within)) empty, omega (arith, some, length-append f.sent walk.out.items, ap length f.out))

@@ -108,7 +108,7 @@ a_word xs i j e j-is =
     found p xs i true b-is h = (ltb-true _ _ b-is, let some : Some (position_or_len p xs) ≡ Some i = ap (λ b. cond b (Some (position_or_len p xs)) None) (sym b-is) ∙ h in cc)
     found p xs i false b-is h = let none : None ≡ Some i = ap (λ b. cond b (Some (position_or_len p xs)) None) (sym b-is) ∙ h in cc
 
--- the same, where what stands behind the spaces is ys, cut in two at j
+-- the same, where what follows the spaces is ys, cut in two at j
 pub a_word_at : (xs : List ℕ) (i j : ℕ) (ys front back : List ℕ) → Some i ≡ position (λ b. not (is_space b)) xs → ys ≡ drop i xs → j ≡ unwrap_or (position is_space ys) (length ys)
     → front ≡ take j ys → back ≡ drop j ys → words xs ≡ front ∷ words back
 a_word_at xs i j ys front back e ys-is j-is front-is back-is =

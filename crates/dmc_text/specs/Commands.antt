@@ -2,7 +2,7 @@
 use Rattle.std.specs.Prelude.{ℕ, ◌^◌, Bool, true, ◌&&◌, List, [], ◌∷◌, Option, Some, None, Result, Ok, Err, nat_lt, nat_le, if◌then◌else◌, codes}
 use Rattle.std.specs.Option.{ok_or}
 use Rattle.std.specs.Str.{bytes_eq}
-use Rattle.dmc_types.specs.Limits.{greatest_moment}
+use Rattle.dmc_types.specs.Limits.{max_moment}
 use Rattle.dmc_types.specs.Values.{Params, Rates}
 use Rattle.dmc_types.specs.declared.ids.ClientId.{ClientId}
 use Rattle.dmc_types.specs.declared.refusal.ValueFault.TheVariants as faults
@@ -79,7 +79,7 @@ unfoldable pub optional : List ℕ → Result (Option ℕ) CommandFault
 optional word = if bytes_eq word (codes "-") then Ok None else (small word >>= λ n. Ok (Some n))
 
 unfoldable pub moment : ℕ → Result ℕ CommandFault
-moment t = if nat_le t greatest_moment then Ok t else Err (Value faults.Moment)
+moment t = if nat_le t max_moment then Ok t else Err (Value faults.Moment)
 
 unfoldable pub params : ℕ → ℕ → Result Params CommandFault
 params delta rho = if nat_le rho delta then Ok (record { delta = delta; rho = rho }) else Err (Value faults.Params)

@@ -9,7 +9,7 @@ use Rattle.std.proofs.lemmas.List.{take_all, take-append-drop, append_assoc}
 use Rattle.std.proofs.lemmas.List.Sums.{passes_at_first}
 use Rattle.std.proofs.lemmas.List.Folds.{list_any-append}
 use Rattle.std.specs.Io.KnownBytes.{Keeps, Consumes}
-use Rattle.dmc_types.specs.Limits.{most_line_bytes}
+use Rattle.dmc_types.specs.Limits.{max_line_bytes}
 use Rattle.dmc_text.specs.declared.cause.LineCause.TheVariants.{Bytes}
 use Rattle.dmc_text.specs.Answers.{◌>>=◌}
 use Rattle.dmc_text.specs.Words.{words}
@@ -148,15 +148,15 @@ shorter rest l found =
 
 -- ---- a line that is too long
 
-unclean : (line : List ℕ) → most_line_bytes < length line → is_clean line ≡ false
+unclean : (line : List ℕ) → max_line_bytes < length line → is_clean line ≡ false
 unfolding is_clean
-unclean line h = ap (λ b. b && list_all is_line_byte line) (lt-leb (length line) most_line_bytes h)
+unclean line h = ap (λ b. b && list_all is_line_byte line) (lt-leb (length line) max_line_bytes h)
 
-pub long_kind : (headed : Bool) (line : List ℕ) → most_line_bytes < length line → kind_of headed line ≡ Err Bytes
+pub long_kind : (headed : Bool) (line : List ℕ) → max_line_bytes < length line → kind_of headed line ≡ Err Bytes
 long_kind headed line h = ap (λ b. cond b (kind headed (words line)) (Err Bytes)) (unclean line h)
 
 -- so a line of a script is faulty
-pub long_line : (headed : Bool) (line : List ℕ) → most_line_bytes < length line → line_of headed line ≡ Err Bytes
+pub long_line : (headed : Bool) (line : List ℕ) → max_line_bytes < length line → line_of headed line ≡ Err Bytes
 long_line headed line h = ap (λ k. k >>= λ x. said x (words line)) (long_kind headed line h)
 
 -- ---- bytes

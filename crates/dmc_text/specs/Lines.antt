@@ -2,7 +2,7 @@
 use Rattle.std.specs.Prelude.{ℕ, ◌^◌, ◌==◌, Bool, false, ◌&&◌, List, [], ◌∷◌, length, Option, Some, None, Result, Ok, Err, nat_lt, nat_le, if◌then◌else◌, codes}
 use Rattle.std.specs.List.{list_all}
 use Rattle.std.specs.Option.{ok_or, option_map}
-use Rattle.dmc_types.specs.Limits.{greatest_hz, greatest_moment, most_line_bytes}
+use Rattle.dmc_types.specs.Limits.{max_hz, max_moment, max_line_bytes}
 use denote.Ref.{Bor}
 use Rattle.dmc_text.specs.declared.line.ConfigWords.{ConfigWords}
 use Rattle.std.specs.Str.{bytes_eq}
@@ -30,7 +30,7 @@ is_line_byte b = nat_le 32 b && nat_le b 126
 
 -- at most as many bytes as a line may have, each 32 to 126
 unfoldable pub is_clean : List ℕ → Bool
-is_clean line = nat_le (length line) most_line_bytes && list_all is_line_byte line
+is_clean line = nat_le (length line) max_line_bytes && list_all is_line_byte line
 
 -- ---- the hz line
 
@@ -61,7 +61,7 @@ figure word = ok_or (number (2 ^ 64) word) Number
 
 -- the ages that are given, or otherwise the greatest
 abbrev pub ages_of : Option (List ℕ × List ℕ) → Result (ℕ × ℕ) LineCause
-ages_of None = Ok (greatest_moment, greatest_moment)
+ages_of None = Ok (max_moment, max_moment)
 ages_of (Some words) = do
   idle ← figure words.0
   erase ← figure words.1
@@ -70,7 +70,7 @@ ages_of (Some words) = do
 -- a configuration within its limits
 unfoldable pub configured : ℕ → ℕ → ℕ → AtLimit → Result Setting LineCause
 configured hz idle erase at_limit =
-    if nat_lt 0 hz && nat_le hz greatest_hz && nat_lt 0 idle && nat_le idle erase && nat_le erase greatest_moment
+    if nat_lt 0 hz && nat_le hz max_hz && nat_lt 0 idle && nat_le idle erase && nat_le erase max_moment
     then Ok (record { hz = hz; idle_age = idle; erase_age = erase; at_limit = at_limit })
     else Err Hz
 

@@ -6,7 +6,7 @@ use Rattle.std.proofs.lemmas.Bool.{eqb-true, eq-eqb, le-leb}
 use Rattle.dmc_ratio.specs.Gcd.{gcd}
 use Rattle.dmc_ratio.specs.GcdLaws.{gcd_is}
 use Rattle.dmc_ratio.specs.Lowest.{is_lowest, over, lowest_apart}
-use Rattle.dmc_ratio.specs.Ratio.{Ratio, same_ratio, lowest_terms, reduced, is_small, greatest_numer, greatest_denom}
+use Rattle.dmc_ratio.specs.Ratio.{Ratio, same_ratio, lowest_terms, reduced, is_small, max_numer, max_denom}
 use Rattle.std.proofs.lemmas.Option.{same_Some}
 
 -- the ratio of n/d, where these are in lowest terms already
@@ -72,9 +72,9 @@ pub ratio_if_lowest_again : (a : Ratio) → is_small a ≡ true → ratio_if_low
 ratio_if_lowest_again a small = again a.numer a.denom a.lowest small
 
 -- a ratio whose two numbers are within their bounds is the ratio of these two numbers
-pub made_again : (a : Ratio) (n : ℤ) (d : ℕ) → n ≡ a.numer → d ≡ a.denom → unsigned_abs n ≤ greatest_numer → d ≤ greatest_denom → ratio_if_lowest n d ≡ Some a
+pub made_again : (a : Ratio) (n : ℤ) (d : ℕ) → n ≡ a.numer → d ≡ a.denom → unsigned_abs n ≤ max_numer → d ≤ max_denom → ratio_if_lowest n d ≡ Some a
 made_again a n d n-is d-is over under =
-    let small : is_small a ≡ true = ap (λ z. nat_le (unsigned_abs z) greatest_numer && nat_le a.denom greatest_denom) (sym n-is)
-    ∙ ap (λ k. nat_le (unsigned_abs n) greatest_numer && nat_le k greatest_denom) (sym d-is)
-    ∙ ap (λ b. b && nat_le d greatest_denom) (le-leb (unsigned_abs n) greatest_numer over) ∙ le-leb d greatest_denom under in
+    let small : is_small a ≡ true = ap (λ z. nat_le (unsigned_abs z) max_numer && nat_le a.denom max_denom) (sym n-is)
+    ∙ ap (λ k. nat_le (unsigned_abs n) max_numer && nat_le k max_denom) (sym d-is)
+    ∙ ap (λ b. b && nat_le d max_denom) (le-leb (unsigned_abs n) max_numer over) ∙ le-leb d max_denom under in
     ap (λ z. ratio_if_lowest z d) n-is ∙ ap (ratio_if_lowest a.numer) d-is ∙ ratio_if_lowest_again a small

@@ -8,8 +8,8 @@ abbrev pub buffer_size : ℕ
 buffer_size = 2 ^ 16
 
 -- the most bytes of a text
-abbrev pub most_bytes : ℕ
-most_bytes = 2 ^ 32
+abbrev pub max_bytes : ℕ
+max_bytes = 2 ^ 32
 
 abbrev pub is_end : ℕ → Bool
 is_end b = b == 10
@@ -44,4 +44,4 @@ Filled before after old new false = IsAtEnd after × Keeps before after × (new.
 -- Or the reader failed, or the text has more than the most bytes, which one more byte shows. The rest stays.
 abbrev pub Fills : {E : Type 0} → Option (List ℕ) → Option (List ℕ) → Reading → Reading → Result Bool E → Type 0
 Fills before after old new (Ok more) = Filled before after old new more
-Fills before after old new (Err e) = (bytes : List ℕ) × Consumes before after bytes × (new.rest ≡ old.rest) × (new.taken ≡ old.taken) × (old.taken + length bytes ≤ suc most_bytes)
+Fills before after old new (Err e) = (bytes : List ℕ) × Consumes before after bytes × (new.rest ≡ old.rest) × (new.taken ≡ old.taken) × (old.taken + length bytes ≤ suc max_bytes)

@@ -82,9 +82,9 @@ abbrev pub IsPhase : PhaseType → Bool → Type 0
 IsPhase phases.Reservation beyond = beyond ≡ false
 IsPhase phases.Priority beyond = Unit {0}
 
-abbrev pub IsTellable : {T : Type 0} → Reply T → Type 0
-IsTellable (Granted client token phase beyond) = IsPhase phase beyond
-IsTellable reply = Unit {0}
+abbrev pub IsWritable : {T : Type 0} → Reply T → Type 0
+IsWritable (Granted client token phase beyond) = IsPhase phase beyond
+IsWritable reply = Unit {0}
 
 -- ---- reading: words
 

@@ -14,7 +14,7 @@ use Rattle.dmc_text.specs.declared.line.Line.TheVariants.{Skip, Config, Ask, Val
 use Rattle.dmc_text.specs.declared.script.ScriptFault.{ScriptFault}
 use Rattle.dmc_text.specs.declared.script.ScriptFault.TheVariants as ends
 use Rattle.dmc_text.specs.Lines.{line_of}
-use Rattle.dmc_text.specs.Reading.{most_bytes}
+use Rattle.dmc_text.specs.Reading.{max_bytes}
 use Rattle.dmc_text.specs.Replies.{reply_text}
 
 -- ---- lines
@@ -113,22 +113,22 @@ ReadsWithin most before after read = Consumes before after read × (length read 
 -- What a run reads and writes, where the bytes are known. Ok: all of the text is read, it has at most as many bytes as a text may
 -- have, no line is faulty, and what is written is the text of the replies.
 abbrev pub RunsToEnd : {T : Type 0} → Tagging T → (T → List ℕ) → (before after old new : Option (List ℕ)) → Type 0
-RunsToEnd ops text before after old new = IsAtEnd after × IfSome before (λ input. (length input ≤ most_bytes) × (fault_of input ≡ None) × Appends old new (out ops text input))
+RunsToEnd ops text before after old new = IsAtEnd after × IfSome before (λ input. (length input ≤ max_bytes) × (fault_of input ≡ None) × Appends old new (out ops text input))
 
 -- A line fault: it is the first of the text and is in what was read, and what is written is the text of the replies up to it.
 abbrev pub RunsToFault : {T : Type 0} → Tagging T → (T → List ℕ) → (before after old new : Option (List ℕ)) → ℕ → LineCause → Type 0
 RunsToFault ops text before after old new n cause =
-    ((read : List ℕ) × ReadsWithin most_bytes before after read × (fault_of read ≡ Some (n, cause)))
+    ((read : List ℕ) × ReadsWithin max_bytes before after read × (fault_of read ≡ Some (n, cause)))
     × IfSome before (λ input. (fault_of input ≡ Some (n, cause)) × Appends old new (out ops text input))
 
 -- The writer failed, or an allocation: a first part of what was read was carried out, and a first part of its replies written.
 abbrev pub RunsPartly : {T : Type 0} → Tagging T → (T → List ℕ) → (before after old new : Option (List ℕ)) → Type 0
-RunsPartly ops text before after old new = (read : List ℕ) × ReadsWithin most_bytes before after read × AppendsSome old new (out ops text read)
+RunsPartly ops text before after old new = (read : List ℕ) × ReadsWithin max_bytes before after read × AppendsSome old new (out ops text read)
 
 -- The reader failed, or the text has more than the most bytes, which one more byte shows: of the replies to the whole lines that
 -- were read, a first part is written.
 abbrev pub RunsWholeLines : {T : Type 0} → Tagging T → (T → List ℕ) → (before after old new : Option (List ℕ)) → Type 0
-RunsWholeLines ops text before after old new = (read : List ℕ) × ReadsWithin (suc most_bytes) before after read × AppendsSome old new (out ops text (whole_lines read))
+RunsWholeLines ops text before after old new = (read : List ℕ) × ReadsWithin (suc max_bytes) before after read × AppendsSome old new (out ops text (whole_lines read))
 
 -- What a script reads and writes, by its result.
 abbrev pub RunsAs : {T : Type 0} → Tagging T → (T → List ℕ) → (before after old new : Option (List ℕ)) → Result ⊤ ScriptFault → Type 0

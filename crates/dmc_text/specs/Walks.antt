@@ -1,13 +1,13 @@
 -- The loop over the lines of a text.
 use Rattle.std.specs.Prelude.{◌≡◌, ◌⊎◌, ℕ, suc, ◌+◌, ◌<◌, ◌≤◌, length, Bool, true, false, List, [], ◌∷◌, ◌++◌, Option, Some, None, Result, Ok, Err, ⊤, if◌then◌else◌}
 use Rattle.std.specs.Io.KnownBytes.{Consumes, Appends, IsAtEnd}
-use Rattle.dmc_types.specs.Limits.{most_line_bytes}
+use Rattle.dmc_types.specs.Limits.{max_line_bytes}
 use Rattle.dmc_text.specs.declared.cause.LineCause.{LineCause}
 use Rattle.dmc_text.specs.declared.cause.LineCause.TheVariants.{Hz, Bytes}
 use Rattle.dmc_text.specs.declared.script.ScriptFault.{ScriptFault}
 use Rattle.dmc_text.specs.declared.script.ScriptFault.TheVariants as faults
 use Rattle.dmc_text.specs.declared.walk.Walk.{Walk}
-use Rattle.dmc_text.specs.Reading.{most_bytes, next_line}
+use Rattle.dmc_text.specs.Reading.{max_bytes, next_line}
 use Rattle.dmc_text.specs.Texts.{lines_of, whole_lines, ReadsWithin}
 
 -- In each of these, takes relates a state, a line, what is to be written for it and the next state; refuses says for which cause
@@ -58,7 +58,7 @@ pub record Feeds (r w : Option (List ℕ)) (old : Walk) (r' w' : Option (List �
   pub sends : Appends w w' sent
   pub rest : new.lines.rest ≡ old.lines.rest ++ bytes
   pub taken : new.lines.taken ≡ old.lines.taken + length bytes
-  pub within : new.lines.taken ≤ most_bytes
+  pub within : new.lines.taken ≤ max_bytes
   pub out : sent ++ new.out.items ≡ old.out.items
   pub number : new.number ≡ old.number
 
@@ -87,9 +87,9 @@ abbrev pub Finds : (r w : Option (List ℕ)) → Walk → (r' w' : Option (List 
 Finds r w old r' w' new (Ok true) = FindsLine r w old r' w' new
 Finds r w old r' w' new (Ok false) = Feeds r w old r' w' new × IsAtEnd r' × (next_line new.lines.rest ≡ None)
 Finds r w old r' w' new (Err (faults.Line n cause)) =
-    Feeds r w old r' w' new × (next_line new.lines.rest ≡ None) × (most_line_bytes < length new.lines.rest) × (n ≡ new.number) × (cause ≡ Bytes)
-Finds r w old r' w' new (Err faults.Read) = Fails (suc most_bytes) r w old r' w' new
-Finds r w old r' w' new (Err faults.Write) = Fails most_bytes r w old r' w' new × (0 < length old.out.items)
+    Feeds r w old r' w' new × (next_line new.lines.rest ≡ None) × (max_line_bytes < length new.lines.rest) × (n ≡ new.number) × (cause ≡ Bytes)
+Finds r w old r' w' new (Err faults.Read) = Fails (suc max_bytes) r w old r' w' new
+Finds r w old r' w' new (Err faults.Write) = Fails max_bytes r w old r' w' new × (0 < length old.out.items)
 Finds r w old r' w' new (Err faults.Memory) = ⊥
 
 -- the line that was found last is taken
@@ -146,7 +146,7 @@ pub record Ending {S : Type 0} (takes : S → List ℕ → List ℕ → S → Ty
   pub answers : List ℕ
   pub sent : List ℕ
   pub goes : GoesThrough takes first lines answers last
-  pub reads : ReadsWithin most_bytes input before read
+  pub reads : ReadsWithin max_bytes input before read
   pub sends : Appends output after sent
   pub out : sent ++ pending ≡ answers
   pub ends : (more : List ℕ) → (IsAtEnd before → more ≡ []) →
@@ -171,7 +171,7 @@ abbrev pub EndsAs : {S : Type 0} → (takes : S → List ℕ → List ℕ → S 
     → S → (input output : Option (List ℕ)) → S → (before after : Option (List ℕ)) → Walk → Result ⊤ ScriptFault → Type 0
 EndsAs takes refuses headed s input output t before after walk (Ok x) = IsAtEnd before × Ending takes refuses headed None s input output t before after walk.out.items
 EndsAs takes refuses headed s input output t before after walk (Err (faults.Line n cause)) = Ending takes refuses headed (Some (n, cause)) s input output t before after walk.out.items
-EndsAs takes refuses headed s input output t before after walk (Err faults.Read) = Halt takes (suc most_bytes) s input output before after walk.out.items
+EndsAs takes refuses headed s input output t before after walk (Err faults.Read) = Halt takes (suc max_bytes) s input output before after walk.out.items
 EndsAs takes refuses headed s input output t before after walk (Err faults.Write) =
-    (halt : Halt takes most_bytes s input output before after walk.out.items) × (0 < length halt.took.answers)
-EndsAs takes refuses headed s input output t before after walk (Err faults.Memory) = Halt takes most_bytes s input output before after walk.out.items
+    (halt : Halt takes max_bytes s input output before after walk.out.items) × (0 < length halt.took.answers)
+EndsAs takes refuses headed s input output t before after walk (Err faults.Memory) = Halt takes max_bytes s input output before after walk.out.items

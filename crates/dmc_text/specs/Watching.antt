@@ -4,7 +4,7 @@ use Rattle.std.specs.Io.KnownBytes.{Consumes}
 use Rattle.dmc_text.specs.declared.script.ScriptFault.{ScriptFault}
 use Rattle.dmc_text.specs.declared.script.ScriptFault.TheVariants as ends
 use Rattle.dmc_text.specs.declared.watched.Watched.{Watched}
-use Rattle.dmc_text.specs.Reading.{most_bytes}
+use Rattle.dmc_text.specs.Reading.{max_bytes}
 
 -- ---- a stream and its note
 
@@ -38,7 +38,7 @@ IsNotedBy old new false = failed new ≡ true
 
 -- One more byte is read than a text may have. The first argument is how many were read before.
 abbrev pub ReadsPast : (taken : ℕ) → (before after : Option (List ℕ)) → Type 0
-ReadsPast taken before after = (bytes : List ℕ) × Consumes before after bytes × (taken + length bytes ≡ suc most_bytes)
+ReadsPast taken before after = (bytes : List ℕ) × Consumes before after bytes × (taken + length bytes ≡ suc max_bytes)
 
 -- Reading a text fails: the reader failed, or it did not and the text has more than its most bytes. The first argument says which
 -- bytes a reader has left.

@@ -12,7 +12,7 @@ use crate::number::read_u64;
 use crate::word::{first_word, spells};
 use dmc_types::command::Command;
 use dmc_types::config::{AtLimit, QueueConfig};
-use dmc_types::limits::GREATEST_AGE;
+use dmc_types::limits::MAX_AGE;
 use dmc_types::refusal::ValueFault;
 
 /// The meaning of a line.
@@ -40,7 +40,7 @@ pub enum LineKind {
 }
 
 /// The greatest length of a line in bytes, without its LF.
-pub(crate) const MOST_LINE_BYTES: usize = 256;
+pub(crate) const MAX_LINE_BYTES: usize = 256;
 
 /// The words after `hz`.
 #[derive(Clone, Copy)]
@@ -69,7 +69,7 @@ fn are_line_bytes(line: &[u8]) -> bool
 fn is_clean(line: &[u8]) -> bool
     ensures { result ≡ is_clean line.now }
 {
-    line.len() <= MOST_LINE_BYTES && are_line_bytes(line)
+    line.len() <= MAX_LINE_BYTES && are_line_bytes(line)
 }
 
 /// Whether a line's first word makes it a comment.
@@ -168,7 +168,7 @@ fn ages_of(ages: Option<(&[u8], &[u8])>) -> Result<(u64, u64), LineCause>
     ensures { result ≡ ages_of (seen_ages ages.entry) }
 {
     let Some((idle, erase)) = ages else {
-        return Ok((GREATEST_AGE, GREATEST_AGE));
+        return Ok((MAX_AGE, MAX_AGE));
     };
     Ok((figure(idle)?, figure(erase)?))
 }

@@ -2,11 +2,11 @@
 ghost use Rattle.std.specs.Prelude.{◌≡◌, ◌≢◌, ℕ, List, false, ◌+◌, ◌-◌, ◌<◌, ◌≤◌, [], length, take, drop, slice_range, IfOk, IfErr, OnErr, MatchResult, vec_len, nat_lt};
 ghost use Rattle.std.specs.Io.KnownBytes.{Keeps, Consumes, IsAtEnd, ReadConsumes};
 ghost use Rattle.std.specs.IoError.{error_kind};
-ghost use Rattle.dmc_types.specs.Limits.{most_line_bytes};
-ghost use Rattle.dmc_text.specs.Reading.{Reading, buffer_size, most_bytes, Finds, FindsLast, Fills};
+ghost use Rattle.dmc_types.specs.Limits.{max_line_bytes};
+ghost use Rattle.dmc_text.specs.Reading.{Reading, buffer_size, max_bytes, Finds, FindsLast, Fills};
 ghost use Rattle.dmc_text.specs.Watching.{stream_of, IsNoted, FillsNoted};
 
-use crate::line::MOST_LINE_BYTES;
+use crate::line::MAX_LINE_BYTES;
 use crate::watched::Watched;
 use crate::word::first_of;
 use std::alloc::{AllocError, Global};
@@ -33,13 +33,13 @@ pub struct LineReader {
 
 impl Model for LineReader {
     ghost use Rattle.std.specs.Prelude.{◌≡◌, ◌≤◌, ◌-◌, length, slice_range};
-    ghost use Rattle.dmc_text.specs.Reading.{Reading, buffer_size, most_bytes};
+    ghost use Rattle.dmc_text.specs.Reading.{Reading, buffer_size, max_bytes};
 
     ghost Value = { Reading };
 
     ghost view = { λ r. record { line = slice_range r.buffer.items r.line_start r.line_end; rest = slice_range r.buffer.items r.start r.end; room = buffer_size - r.end; taken = r.taken } };
 
-    ghost invariant = { λ r. (length r.buffer.items ≡ buffer_size) × (r.line_start ≤ r.line_end) × (r.line_end ≤ buffer_size) × (r.start ≤ r.end) × (r.end ≤ buffer_size) × (r.taken ≤ most_bytes) };
+    ghost invariant = { λ r. (length r.buffer.items ≡ buffer_size) × (r.line_start ≤ r.line_end) × (r.line_end ≤ buffer_size) × (r.start ≤ r.end) × (r.end ≤ buffer_size) × (r.taken ≤ max_bytes) };
 }
 
 /// A buffer of zeros.
@@ -108,9 +108,9 @@ impl LineReader {
 
     /// Whether what is left has more bytes than a line may have.
     pub fn is_long(&self) -> bool
-        ensures value { result ≡ nat_lt most_line_bytes (length self.now.rest) }
+        ensures value { result ≡ nat_lt max_line_bytes (length self.now.rest) }
     {
-        self.end - self.start > MOST_LINE_BYTES
+        self.end - self.start > MAX_LINE_BYTES
     }
 
     /// Moves what is left to the front of the buffer.
@@ -129,9 +129,9 @@ impl LineReader {
     /// Reads more of the text after what is left. Returns false at its end. A text of more than 2^32 bytes is an error once they
     /// are read. The line that was found last is not kept.
     pub fn fill<R: Read>(&mut self, reader: &mut Watched<R>) -> io::Result<bool>
-        requires { length self.old.rest ≤ most_line_bytes }
+        requires { length self.old.rest ≤ max_line_bytes }
         ensures bytes { Fills (R.remaining (stream_of reader.old)) (R.remaining (stream_of reader.new)) self.old self.new result }
-        ensures taken { self.new.taken ≤ most_bytes }
+        ensures taken { self.new.taken ≤ max_bytes }
         ensures retried { IfErr result (λ e. error_kind e ≢ ErrorKind.Interrupted) }
         ensures note { FillsNoted R.remaining self.old.taken reader.old reader.new result }
     {
@@ -200,7 +200,7 @@ fn reads_too_much<R: Read>(reader: &mut Watched<R>) -> io::Result<bool>
     ensures bytes { MatchResult result (λ more. (more ≡ false) × IsAtEnd (R.remaining (stream_of reader.new)) × Keeps (R.remaining (stream_of reader.old)) (R.remaining (stream_of reader.new)))
         (λ _. (bytes : List ℕ) × Consumes (R.remaining (stream_of reader.old)) (R.remaining (stream_of reader.new)) bytes × (length bytes ≤ 1)) }
     ensures retried { IfErr result (λ e. error_kind e ≢ ErrorKind.Interrupted) }
-    ensures note { FillsNoted R.remaining most_bytes reader.old reader.new result }
+    ensures note { FillsNoted R.remaining max_bytes reader.old reader.new result }
 {
     let mut one = [0];
     if reader.read(&mut one)? > 0 {

@@ -1,10 +1,10 @@
 //! Scripts: each line's command is carried out, and its reply written.
 ghost use Rattle.std.specs.Prelude.{◌≡◌, ◌++◌, ◌∷◌, List, OnOk, OnErr, Err, is_some};
 ghost use Rattle.std.specs.Option.{option_map};
-ghost use Rattle.dmc_tag.specs.State.{StandsFor, opening};
+ghost use Rattle.dmc_tag.specs.State.{Represents, opening};
 ghost use Rattle.dmc_tag.specs.Step.{step};
 ghost use Rattle.dmc_text.specs.Lines.{line_of};
-ghost use Rattle.dmc_text.specs.Replies.{IsTellable, reply_text, tag_text};
+ghost use Rattle.dmc_text.specs.Replies.{IsWritable, reply_text, tag_text};
 ghost use Rattle.dmc_text.specs.Texts.{with_line_end, value_text, headed_by, written, RunsAs};
 ghost use Rattle.dmc_text.specs.Walks.{IsCut};
 ghost use Rattle.dmc_text.specs.Watching.{stream_of, SendsNoted};
@@ -35,7 +35,7 @@ pub trait QueueMaker<T: Tag> {
 
     /// A queue in the opening state of a configuration.
     fn make(&mut self, config: QueueConfig) -> Self::Queue
-        ensures { StandsFor (Self.Queue.state result) (opening config) };
+        ensures { Represents (Self.Queue.state result) (opening config) };
 }
 
 /// The text of a refused value.
@@ -64,7 +64,7 @@ fn put_line(text: &[u8], out: &mut Vec<u8>) -> Result<(), AllocError>
 
 /// Adds the line of a reply. Where the allocation fails, nothing is left to write.
 fn put_reply<T: TagText>(reply: &Reply<T>, out: &mut Vec<u8>) -> Result<(), AllocError>
-    requires { IsTellable reply.now }
+    requires { IsWritable reply.now }
     ensures ok { OnOk result (out.new.items ≡ out.old.items ++ with_line_end (reply_text (tag_text T.numerator T.denominator) reply.now)) }
     ensures err { OnErr result (IsCut out.old.items out.new.items) }
 {
@@ -82,7 +82,7 @@ fn ask<T: TagText, Q: Scheduler<T>>(
     out: &mut Vec<u8>,
 ) -> Result<(), AllocError>
     ensures reply { OnOk result (out.new.items ≡ out.old.items ++ with_line_end (reply_text (tag_text T.numerator T.denominator) ((step T.ops (Q.state queue.old) command.now).1))) }
-    ensures state { OnOk result (StandsFor (Q.state queue.new) ((step T.ops (Q.state queue.old) command.now).0)) }
+    ensures state { OnOk result (Represents (Q.state queue.new) ((step T.ops (Q.state queue.old) command.now).0)) }
     ensures err { OnErr result (IsCut out.old.items out.new.items) }
 {
     let reply = queue.apply(command)?;

@@ -1,9 +1,9 @@
 //! The loop over the lines of a text.
 ghost use Rattle.std.specs.Prelude.{◌≡◌, ◌≤◌, ◌<◌, ◌-◌, ◌^◌, ℕ, Bool, List, None, length, IfOk};
-ghost use Rattle.dmc_types.specs.Limits.{most_line_bytes};
+ghost use Rattle.dmc_types.specs.Limits.{max_line_bytes};
 ghost use Rattle.dmc_text.specs.declared.cause.LineCause.{LineCause};
 ghost use Rattle.dmc_text.specs.declared.cause.LineCause.TheVariants.{Bytes};
-ghost use Rattle.dmc_text.specs.Reading.{most_bytes, next_line};
+ghost use Rattle.dmc_text.specs.Reading.{max_bytes, next_line};
 ghost use Rattle.dmc_text.specs.Watching.{stream_of, EndsNoted};
 ghost use Rattle.dmc_text.specs.Walks.{IsAnswer, Starts, Finds, Takes, TakesLast, end_result, EndsAs};
 
@@ -44,7 +44,7 @@ pub trait TakesLines {
         ensures { IsAnswer takes refuses self.old line.now self.new out.old.items out.new.items result };
 
     /// A line that is too long is faulty.
-    ghost long: { (state : Self) (line : List ℕ) → most_line_bytes < length line → refuses state line Bytes };
+    ghost long: { (state : Self) (line : List ℕ) → max_line_bytes < length line → refuses state line Bytes };
 }
 
 /// The lines of a text, as far as they have been taken, and what is to be written for them.
@@ -76,7 +76,7 @@ impl Walk {
         reader: &mut Watched<R>,
         writer: &mut Watched<W>,
     ) -> Result<bool, ScriptFault>
-        requires { self.old.lines.taken ≤ most_bytes }
+        requires { self.old.lines.taken ≤ max_bytes }
         ensures bytes { Finds (R.remaining (stream_of reader.old)) (W.contents (stream_of writer.old)) self.old (R.remaining (stream_of reader.new)) (W.contents (stream_of writer.new)) self.new result }
         ensures notes { EndsNoted R.remaining self.old.lines.taken reader.old reader.new writer.old writer.new result }
     {

@@ -2,7 +2,7 @@
 ghost use Rattle.std.specs.Prelude.{◌≡◌, ◌∷◌, [], ◌<◌, ◌^◌, Some, OnOk, codes};
 ghost use Rattle.std.specs.List.{join_with_byte};
 ghost use Rattle.std.specs.Io.KnownBytes.{Appends};
-ghost use Rattle.dmc_text.specs.Replies.{refusal_words, tag_text, reply_text, IsTellable, IsPhase, word_text, tag_word as word_of, grant_words};
+ghost use Rattle.dmc_text.specs.Replies.{refusal_words, tag_text, reply_text, IsWritable, IsPhase, word_text, tag_word as word_of, grant_words};
 ghost use Rattle.dmc_text.specs.RoundTrip.{ReadsAgain, ReadsEach, IsReadBack};
 ghost use Rattle.dmc_tag.specs.declared.reply.Reply.TheVariants.{Tagged};
 ghost use Rattle.std.specs.Fmt.{decimal};
@@ -139,7 +139,7 @@ fn write_cleaned<W: io::Write>(idled: u32, erased: u32, out: &mut W) -> io::Resu
 
 /// Writes the text of a reply, without its LF. Where the writer fails, a part of it may have been written.
 pub fn write_reply<T: TagText, W: io::Write>(reply: &Reply<T>, out: &mut W) -> io::Result<()>
-    requires { IsTellable reply.now }
+    requires { IsWritable reply.now }
     ensures text { OnOk result
         (Appends (W.contents out.old) (W.contents out.new) (reply_text (tag_text T.numerator T.denominator) reply.now)) }
     ensures again { IsReadBack T.made (tag_text T.numerator T.denominator) reply.now }

@@ -12,8 +12,8 @@ use Rattle.dmc_types.specs.declared.config.PhaseType.TheVariants.{Reservation, P
 use Rattle.dmc_tracker.specs.declared.event.TrackerEvent.{TrackerEvent}
 use Rattle.dmc_tracker.specs.declared.event.TrackerEvent.TheVariants.{Stamp, Skip, Response}
 use Rattle.dmc_tracker.specs.TrackerList.{completed_by, plus, completions, sent, skipped, pending, IsTracked}
-use Rattle.dmc_tracker.specs.Numbers.{ServerNumbers, Stands, next_params}
-use Rattle.dmc_tracker.proofs.ForCallers.{completions-stamp, completions-skip, completions-response, Stands-stamp, Stands-skip, Stands-response, next_params-stands, IsTracked-stamp, IsTracked-skip, IsTracked-response, sums-all, sums-others, completions-by_server, stamps-le-length, length-servers_grown}
+use Rattle.dmc_tracker.specs.Numbers.{ServerNumbers, RepresentsEvents, next_params}
+use Rattle.dmc_tracker.proofs.ForCallers.{completions-stamp, completions-skip, completions-response, RepresentsEvents-stamp, RepresentsEvents-skip, RepresentsEvents-response, next_params-represents, IsTracked-stamp, IsTracked-skip, IsTracked-response, sums-all, sums-others, completions-by_server, stamps-le-length, length-servers_grown}
 use Rattle.dmc_ledger.specs.Accounts.{total_of}
 use Rattle.dmc_ledger.specs.Bundles.{ServerSide, StampAccounts}
 use Rattle.dmc_tlock.specs.BookState.{BookState, no_side, desk_at}
@@ -27,11 +27,11 @@ sum_due All s events h = sums-all s events h
 sum_due Others s events h = sums-others s events h
 
 -- the two sums follow from the list
-pub balanced : (b : BookState) → Stands b.tracker b.events → IsTracked b.tracker.counting b.events
+pub balanced : (b : BookState) → RepresentsEvents b.tracker b.events → IsTracked b.tracker.counting b.events
     → length b.desks ≡ length b.tracker.servers → IsBalanced b
-balanced b stands tracked servers = λ s within.
+balanced b represents tracked servers = λ s within.
     let inside : s.0 < length b.tracker.servers = omega (arith, servers) in
-    rw (stands.each s inside) (sum_due b.tracker.counting s b.events tracked)
+    rw (represents.each s inside) (sum_due b.tracker.counting s b.events tracked)
 
 -- the responses of all desks, after a write at one
 responded_set : (desks : List ServerSide) (s : ServerId) (desk : ServerSide) (n : ℕ) → s.0 < length desks
@@ -49,18 +49,18 @@ one_completed : (s : ServerId) (phase : PhaseType) (events : List TrackerEvent)
 one_completed s Reservation events = ap (λ (x : Params). x.delta) (completions-response events s Reservation)
 one_completed s Priority events = ap (λ (x : Params). x.delta) (completions-response events s Priority)
 
-pub IsConsistent-stamp : (b : BookState) (s : ServerId) → s.0 < length b.desks → length b.events < b.most_events → IsConsistent b
+pub IsConsistent-stamp : (b : BookState) (s : ServerId) → s.0 < length b.desks → length b.events < b.max_events → IsConsistent b
     → IsConsistent (book_after_stamp s b)
 IsConsistent-stamp b s within room h =
     let params = next_params b.tracker s in
     let inside : s.0 < length b.tracker.servers = omega (arith, h.servers) in
-    let stands = Stands-stamp b.tracker b.events s inside h.stands in
-    let tracked = IsTracked-stamp b.tracker.counting b.events s params (next_params-stands b.tracker b.events s inside h.stands) h.tracked in
+    let represents = RepresentsEvents-stamp b.tracker b.events s inside h.represents in
+    let tracked = IsTracked-stamp b.tracker.counting b.events s params (next_params-represents b.tracker b.events s inside h.represents) h.tracked in
     let servers = length-set b.desks s.0 (side_after_stamp params (desk_at b.desks s)) ∙ h.servers ∙ sym (length-set b.tracker.servers s.0 _) in
     record {
-      balanced = balanced (book_after_stamp s b) stands tracked servers;
+      balanced = balanced (book_after_stamp s b) represents tracked servers;
       tracked = tracked;
-      stands = stands;
+      represents = represents;
       desks = at_set (IsDesk b.client b.events) (IsDesk b.client (b.events ++ Stamp s params ∷ [])) b.desks s
           (side_after_stamp params (desk_at b.desks s)) within h.desks
           (IsDesk-stamp_same b.client b.events s params (desk_at b.desks s) (h.desks s within))
@@ -74,17 +74,17 @@ IsConsistent-stamp b s within room h =
       limit = h.limit;
     }
 
-pub IsConsistent-skip : (b : BookState) (s : ServerId) → s.0 < length b.desks → length b.events < b.most_events → IsConsistent b
+pub IsConsistent-skip : (b : BookState) (s : ServerId) → s.0 < length b.desks → length b.events < b.max_events → IsConsistent b
     → IsConsistent (book_after_skip s b)
 IsConsistent-skip b s within room h =
     let inside : s.0 < length b.tracker.servers = omega (arith, h.servers) in
-    let stands = Stands-skip b.tracker b.events s inside h.stands in
+    let represents = RepresentsEvents-skip b.tracker b.events s inside h.represents in
     let tracked = IsTracked-skip b.tracker.counting b.events s h.tracked in
     let servers = h.servers ∙ sym (length-set b.tracker.servers s.0 _) in
     record {
-      balanced = balanced (book_after_skip s b) stands tracked servers;
+      balanced = balanced (book_after_skip s b) represents tracked servers;
       tracked = tracked;
-      stands = stands;
+      represents = represents;
       desks = λ q q_in. IsDesk-skip b.client b.events q s (desk_at b.desks q) (h.desks q q_in);
       servers = servers;
       completed = ap (λ (x : Params). x.delta) (completions-skip b.events s) ∙ h.completed;
@@ -92,16 +92,16 @@ IsConsistent-skip b s within room h =
       limit = h.limit;
     }
 
-pub IsConsistent-response : (b : BookState) (s : ServerId) (phase : PhaseType) → s.0 < length b.desks → length b.events < b.most_events
+pub IsConsistent-response : (b : BookState) (s : ServerId) (phase : PhaseType) → s.0 < length b.desks → length b.events < b.max_events
     → IsConsistent b → IsConsistent (book_after_response s phase b)
 IsConsistent-response b s phase within room h =
-    let stands = Stands-response b.tracker b.events s phase h.stands in
+    let represents = RepresentsEvents-response b.tracker b.events s phase h.represents in
     let tracked = IsTracked-response b.tracker.counting b.events s phase h.tracked in
     let servers = length-set b.desks s.0 (side_after_response phase (desk_at b.desks s)) ∙ h.servers ∙ sym (length-servers_grown b.tracker.counting s phase b.tracker.servers) in
     record {
-      balanced = balanced (book_after_response s phase b) stands tracked servers;
+      balanced = balanced (book_after_response s phase b) represents tracked servers;
       tracked = tracked;
-      stands = stands;
+      represents = represents;
       desks = at_set (IsDesk b.client b.events) (IsDesk b.client (b.events ++ Response s phase ∷ [])) b.desks s
           (side_after_response phase (desk_at b.desks s)) within h.desks
           (IsDesk-response_same b.client b.events s phase (desk_at b.desks s) (h.desks s within))
@@ -151,7 +151,7 @@ pub record HasRoom (books : StampAccounts) : Type 0 where
 pub has_room : (b : BookState) (s : ServerId) → s.0 < length b.desks → IsConsistent b → HasRoom (desk_at b.desks s).books
 has_room b s within h =
     let d = h.desks s within in
-    let there = h.stands.each s (omega (arith, h.servers)) in
+    let there = h.represents.each s (omega (arith, h.servers)) in
     let delta_sent = ap (λ (x : ServerNumbers). x.sent.delta) there in
     let rho_sent = ap (λ (x : ServerNumbers). x.sent.rho) there in
     let sum = h.balanced s within in

@@ -15,33 +15,33 @@ seen_kept f (y ∷ ys) zero x d h = ap (λ z. z ∷ map f ys) h
 seen_kept f (y ∷ ys) (suc i) x d h = ap (λ zs. f y ∷ zs) (seen_kept f ys i x d h)
 
 pub later_same : (b : BookState) → IsLater b b
-later_same b = record { client = refl; counting = refl; most = refl; most_events = refl; desks = refl }
+later_same b = record { client = refl; counting = refl; most = refl; max_events = refl; desks = refl }
 
 pub later_stamp : (s : ServerId) (b : BookState) → IsLater b (book_after_stamp s b)
 later_stamp s b = record {
   client = refl;
   counting = refl;
   most = refl;
-  most_events = refl;
+  max_events = refl;
   desks = seen_kept side_numbers b.desks s.0 _ no_side refl;
 }
 
 pub later_skip : (s : ServerId) (b : BookState) → IsLater b (book_after_skip s b)
-later_skip s b = record { client = refl; counting = refl; most = refl; most_events = refl; desks = refl }
+later_skip s b = record { client = refl; counting = refl; most = refl; max_events = refl; desks = refl }
 
 pub later_response : (s : ServerId) (phase : PhaseType) (b : BookState) → IsLater b (book_after_response s phase b)
 later_response s Reservation b = record {
   client = refl;
   counting = refl;
   most = refl;
-  most_events = refl;
+  max_events = refl;
   desks = seen_kept side_numbers b.desks s.0 _ no_side refl;
 }
 later_response s Priority b = record {
   client = refl;
   counting = refl;
   most = refl;
-  most_events = refl;
+  max_events = refl;
   desks = seen_kept side_numbers b.desks s.0 _ no_side refl;
 }
 

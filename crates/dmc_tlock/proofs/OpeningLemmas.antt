@@ -5,7 +5,7 @@ use Rattle.std.proofs.lemmas.List.Sums.{sum_by-cons}
 use Rattle.std.proofs.lemmas.List.{get_or-map, length-map, length-replicate}
 use Rattle.dmc_types.specs.declared.ids.ServerId.{ServerId}
 use Rattle.dmc_types.specs.declared.config.Counting.{Counting}
-use Rattle.dmc_tracker.specs.Numbers.{no_numbers, new_numbers, Stands}
+use Rattle.dmc_tracker.specs.Numbers.{no_numbers, new_numbers, RepresentsEvents}
 use Rattle.dmc_tracker.proofs.ForCallers.{IsTracked-nil}
 use Rattle.dmc_ledger.specs.Bundles.{ServerSide, new_server_side}
 use Rattle.dmc_tlock.specs.BookState.{no_side, desk_at}
@@ -38,18 +38,18 @@ none_responded (d ∷ ds) none =
     let first = none zero (omega arith) in
     omega (arith, sum_by-cons responded d ds, first, rest)
 
-pub IsConsistent-new : (client : ℕ) (counting : Counting) (most most_events : ℕ) (desks : List ServerSide) → AreNew client desks
-    → Stands (new_numbers counting most (length desks)) [] → most_events ≤ 2 ^ 30
-    → IsConsistent (new_book_state client counting most most_events desks)
-IsConsistent-new client counting most most_events desks new stands limit =
+pub IsConsistent-new : (client : ℕ) (counting : Counting) (most max_events : ℕ) (desks : List ServerSide) → AreNew client desks
+    → RepresentsEvents (new_numbers counting most (length desks)) [] → max_events ≤ 2 ^ 30
+    → IsConsistent (new_book_state client counting most max_events desks)
+IsConsistent-new client counting most max_events desks new represents limit =
     let opened : List ServerSide = map side_after_opening desks in
     let tracked = IsTracked-nil counting in
     let servers : length opened ≡ length (new_numbers counting most (length desks)).servers =
     length-map desks side_after_opening ∙ sym (length-replicate (length desks) no_numbers) in
     record {
-      balanced = balanced (new_book_state client counting most most_events desks) stands tracked servers;
+      balanced = balanced (new_book_state client counting most max_events desks) represents tracked servers;
       tracked = tracked;
-      stands = stands;
+      represents = represents;
       desks = λ s within.
           let inside : s.0 < length desks = omega (arith, length-map desks side_after_opening) in
           let made = new s inside in

@@ -31,8 +31,8 @@ module _ (b : BookState) (s : ServerId) (within : s.0 < length b.desks) (h : IsC
       let by_server = completions-by_server b.events s in
       let all = ap (λ (x : Params). x.delta) (by_server) in
       let constraint = ap (λ (x : Params). x.rho) (by_server) in
-      let all_now = ap (λ (x : Params). x.delta) h.stands.completed in
-      let constraint_now = ap (λ (x : Params). x.rho) h.stands.completed in
+      let all_now = ap (λ (x : Params). x.delta) h.represents.completed in
+      let constraint_now = ap (λ (x : Params). x.rho) h.represents.completed in
       record {
         within = omega (arith, h.servers);
         all = omega (arith, all, all_now, d.held.reservation, d.held.priority);
@@ -45,8 +45,8 @@ module _ (b : BookState) (s : ServerId) (within : s.0 < length b.desks) (h : IsC
       let by_server = completions-by_server b.events s in
       let all = ap (λ (x : Params). x.delta) (by_server) in
       let constraint = ap (λ (x : Params). x.rho) (by_server) in
-      let all_now = ap (λ (x : Params). x.delta) h.stands.completed in
-      let constraint_now = ap (λ (x : Params). x.rho) h.stands.completed in
+      let all_now = ap (λ (x : Params). x.delta) h.represents.completed in
+      let constraint_now = ap (λ (x : Params). x.rho) h.represents.completed in
       record {
         sent = t.sent;
         skipped = t.skipped;
@@ -63,7 +63,7 @@ module _ (b : BookState) (s : ServerId) (within : s.0 < length b.desks) (h : IsC
       → AreWithin tills (desk_at b.desks s).books → IsWithin tills status
   IsWithin-read tills status t few =
       let d = h.desks s within in
-      let there = h.stands.each s (omega (arith, h.servers)) in
+      let there = h.represents.each s (omega (arith, h.servers)) in
       let sent = ap (λ (x : ServerNumbers). x.sent) there in
       let delta = ap (λ (p : ℕ × ℕ). p.0) t.sent ∙ ap (λ (x : Params). x.delta) sent in
       let rho = ap (λ (p : ℕ × ℕ). p.1) t.sent ∙ ap (λ (x : Params). x.rho) sent in
@@ -91,4 +91,4 @@ pub AreSums-status : (b : BookState) (s : ServerId) → s.0 < length b.desks →
     → AreSums status
 AreSums-status b s within h status is =
     sums_read b.tracker.counting s b.events (numbers_at b.tracker s).sent (numbers_at b.tracker s).skipped (numbers_at b.tracker s).pending
-    status is.counting (h.balanced s within) is.sent is.skipped is.pending (is.completions ∙ ap pair_of h.stands.completed) is.stamps is.others
+    status is.counting (h.balanced s within) is.sent is.skipped is.pending (is.completions ∙ ap pair_of h.represents.completed) is.stamps is.others

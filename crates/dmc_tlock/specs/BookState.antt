@@ -14,7 +14,7 @@ pub record BookState : Type 0 where
   pub client : ℕ
   pub tracker : Numbers
   pub events : List TrackerEvent
-  pub most_events : ℕ
+  pub max_events : ℕ
   pub desks : List ServerSide
 
 -- the state of a book of these parts
@@ -23,7 +23,7 @@ state_of client tracker history desks = record {
   client = client;
   tracker = tracker;
   events = history.events;
-  most_events = history.most;
+  max_events = history.most;
   desks = desks;
 }
 
@@ -37,7 +37,7 @@ pub record StampValue : Type 0 where
 pub record LockValue : Type 0 where
   pub client : ℕ
 
--- what stands at a place where there is no desk
+-- the default of a place without a desk
 abbrev pub no_account : Account
 no_account = record { number = 0; gathered = 0; held = 0; open_tills = 0 }
 

@@ -1,6 +1,6 @@
 -- What holds of every tracker book: the invariant of its type.
 use Rattle.std.specs.Prelude.{◌≡◌, ℕ, ◌+◌, ◌<◌, ◌≤◌, List, length, sum_by}
-use Rattle.dmc_types.specs.Limits.{most_events}
+use Rattle.dmc_types.specs.Limits.{max_events}
 use Rattle.dmc_types.specs.Values.{Params}
 use Rattle.dmc_types.specs.declared.ids.ServerId.{ServerId}
 use Rattle.dmc_types.specs.declared.config.Counting.{Counting}
@@ -8,7 +8,7 @@ use Rattle.dmc_types.specs.declared.config.Counting.TheVariants.{All, Others}
 use Rattle.dmc_types.specs.declared.config.PhaseType.TheVariants.{Reservation, Priority}
 use Rattle.dmc_tracker.specs.declared.event.TrackerEvent.{TrackerEvent}
 use Rattle.dmc_tracker.specs.TrackerList.{plus, completions, others, stamps, sent, responses, IsTracked}
-use Rattle.dmc_tracker.specs.Numbers.{numbers_at, Stands}
+use Rattle.dmc_tracker.specs.Numbers.{numbers_at, RepresentsEvents}
 use Rattle.dmc_ledger.specs.Accounts.{Account, total_of}
 use Rattle.dmc_ledger.specs.Bundles.{ServerSide, StampAccounts, GrantHoldings}
 use Rattle.dmc_tlock.specs.BookState.{BookState, desk_at}
@@ -25,7 +25,7 @@ IsBalanced b = (s : ServerId) → s.0 < length b.desks
     → plus (plus (numbers_at b.tracker s).sent (numbers_at b.tracker s).skipped) (numbers_at b.tracker s).pending
     ≡ due b.tracker.counting s b.events
 
--- the book totals n, of which so much is gathered, and so many of its tills are open
+-- the book totals n, of which this amount is gathered, and this number of its tills is open
 pub record IsBook (n back tills : ℕ) (book : Account) : Type 0 where
   pub total : total_of book ≡ n
   pub gathered : book.gathered ≡ back
@@ -59,9 +59,9 @@ responded desk = desk.held.reservation.amount + desk.held.priority.amount
 pub record IsConsistent (b : BookState) : Type 0 where
   pub balanced : IsBalanced b
   pub tracked : IsTracked b.tracker.counting b.events
-  pub stands : Stands b.tracker b.events
+  pub represents : RepresentsEvents b.tracker b.events
   pub desks : (s : ServerId) → s.0 < length b.desks → IsDesk b.client b.events s (desk_at b.desks s)
   pub servers : length b.desks ≡ length b.tracker.servers
   pub completed : (completions b.events).delta ≡ sum_by responded b.desks
-  pub within : length b.events ≤ b.most_events
-  pub limit : b.most_events ≤ most_events
+  pub within : length b.events ≤ b.max_events
+  pub limit : b.max_events ≤ max_events

@@ -29,5 +29,5 @@ pub record IsLater (old new : BookState) : Type 0 where
   pub client : new.client ≡ old.client
   pub counting : new.tracker.counting ≡ old.tracker.counting
   pub most : new.tracker.most ≡ old.tracker.most
-  pub most_events : new.most_events ≡ old.most_events
+  pub max_events : new.max_events ≡ old.max_events
   pub desks : map side_numbers new.desks ≡ map side_numbers old.desks

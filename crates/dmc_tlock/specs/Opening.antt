@@ -13,10 +13,10 @@ abbrev pub AreNew : ℕ → List ServerSide → Type 0
 AreNew client desks = (s : ServerId) → s.0 < length desks → ((n : ℕ) × (desk_at desks s ≡ new_server_side client s.0 n))
 
 -- the limits of a tracker and of a history
-pub record AreBookLimits (servers most most_events : ℕ) : Type 0 where
+pub record AreBookLimits (servers most max_events : ℕ) : Type 0 where
   pub tracker : AreLimits servers most
-  pub some_events : 0 < most_events
-  pub events_limit : most_events ≤ limits.most_events
+  pub some_events : 0 < max_events
+  pub events_limit : max_events ≤ limits.max_events
 
 -- the client's pass opens a till of each stamp book of a desk
 abbrev pub side_after_opening : ServerSide → ServerSide
@@ -27,11 +27,11 @@ new_pass desks = map (λ desk. new_tills desk.books) desks
 
 -- a book of an empty list, with a server for each desk
 abbrev pub new_book_state : ℕ → Counting → ℕ → ℕ → List ServerSide → BookState
-new_book_state client counting most most_events desks = record {
+new_book_state client counting most max_events desks = record {
   client = client;
   tracker = new_numbers counting most (length desks);
   events = [];
-  most_events = most_events;
+  max_events = max_events;
   desks = map side_after_opening desks;
 }
 

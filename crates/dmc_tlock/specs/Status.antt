@@ -1,4 +1,4 @@
--- What `status` tells.
+-- What `status` returns.
 use Rattle.std.specs.Prelude.{◌≡◌, ℕ, ◌+◌, ◌≤◌}
 use Rattle.dmc_types.specs.Values.{Params}
 use Rattle.dmc_types.specs.declared.ids.ServerId.{ServerId}

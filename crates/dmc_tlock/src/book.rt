@@ -34,7 +34,7 @@ use std::marker::Model;
 
 /// A client's tracker with the list of its stamps, skips and responses, and its desk for each server.
 ///
-/// What holds of every book is the invariant of its type (`IsConsistent`; `laws::book_is_consistent` tells it): for each
+/// What holds of every book is the invariant of its type (`IsConsistent`; `laws::book_is_consistent` gives it): for each
 /// server the two sums hold, the stamp books total what the list sent there, and the held grant tills are its responses of
 /// each phase.
 #[derive(Drop)]
@@ -77,27 +77,27 @@ pub struct Unsettled<S: Setup> {
 
 impl<S: Setup> TrackerBook<S> {
     /// A client's book of an empty list, and the client's pass, which holds nothing. The desks are the client's for the
-    /// servers 0, 1, .. in order, as `open_pair` gave them. `most` is the tracker's (1 to 2^62), `most_events` the list's
+    /// servers 0, 1, .. in order, as `open_pair` gave them. `most` is the tracker's (1 to 2^62), `max_events` the list's
     /// (1 to 2^30). Refused `Limit` where these or the number of desks (1 to 64) are past their limits, then `Memory`; the
-    /// desks are handed back. The room that `settle` needs is made here.
+    /// desks are returned. The room that `settle` needs is made here.
     pub fn new(
         alloc: Global,
         client: ClientId,
         desks: Vec<ServerDesk<S>>,
         most: u64,
-        most_events: u32,
+        max_events: u32,
         counting: Counting,
     ) -> Result<(TrackerBook<S>, ClientPass<S>), TrackerFault<S>>
         requires { AreNew client.0 (map server_side desks.items) }
-        ensures book { IfOk result (λ made. made.0 ≡ new_book_state client.0 counting most most_events (map server_side desks.items)) }
+        ensures book { IfOk result (λ made. made.0 ≡ new_book_state client.0 counting most max_events (map server_side desks.items)) }
         ensures pass { IfOk result (λ made. made.1 ≡ new_pass (map server_side desks.items)) }
         ensures back { IfErr result (λ fault. fault.desks ≡ desks) }
-        ensures limit { (AreBookLimits (length desks.items) most most_events → ⊥)
+        ensures limit { (AreBookLimits (length desks.items) most max_events → ⊥)
             → IsErrAnd result (λ fault. fault.cause ≡ MakeFault.Limit) }
-        ensures memory { AreBookLimits (length desks.items) most most_events
+        ensures memory { AreBookLimits (length desks.items) most max_events
             → IfErr result (λ fault. fault.cause ≡ MakeFault.Memory) }
     {
-        let parts = match make_parts(alloc, desks.len(), most, most_events, counting) {
+        let parts = match make_parts(alloc, desks.len(), most, max_events, counting) {
             Ok(parts) => parts,
             Err(cause) => return Err(TrackerFault { desks, cause }),
         };
@@ -143,7 +143,7 @@ impl<S: Setup> TrackerBook<S> {
         ensures history_full { IsErrOf result EntryFault.HistoryFull
             ↔ (AreTillsOf self.old server (stamp_holdings tills.old)
             × (IsFullAt self.old.tracker server → ⊥)
-            × (length self.old.events ≡ self.old.most_events)) }
+            × (length self.old.events ≡ self.old.max_events)) }
     {
         let params = self.stamp_params(server, tills)?;
         Ok(Stamp::new(self.client, server, params))
@@ -169,7 +169,7 @@ impl<S: Setup> TrackerBook<S> {
         ensures history_full { IsErrOf result EntryFault.HistoryFull
             ↔ (AreTillsOf self.old server (stamp_holdings tills.old)
             × (IsFullAt self.old.tracker server → ⊥)
-            × (length self.old.events ≡ self.old.most_events)) }
+            × (length self.old.events ≡ self.old.max_events)) }
     {
         let index = find_desk(&self.desks, server, tills)?;
         self.tracker.can_stamp(server)?;
@@ -188,7 +188,7 @@ impl<S: Setup> TrackerBook<S> {
         ensures kept { OnErr result (self.new ≡ self.old) }
         ensures no_server { IsErrOf result EntryFault.NoServer ↔ (length self.old.desks ≤ server.0) }
         ensures history_full { IsErrOf result EntryFault.HistoryFull
-            ↔ ((server.0 < length self.old.desks) × (length self.old.events ≡ self.old.most_events)) }
+            ↔ ((server.0 < length self.old.desks) × (length self.old.events ≡ self.old.max_events)) }
         ensures its { result ≢ Err EntryFault.Stranger }
         ensures never_full { result ≢ Err EntryFault.TrackFull }
     {
@@ -224,7 +224,7 @@ impl<S: Setup> TrackerBook<S> {
         ensures history_full { IsErrOf result EntryFault.HistoryFull
             ↔ (IsTillOf self.old server phase till.old
             × (self.old.tracker.completions.delta ≡ self.old.tracker.most → ⊥)
-            × (length self.old.events ≡ self.old.most_events)) }
+            × (length self.old.events ≡ self.old.max_events)) }
     {
         let index = find_grants(&self.desks, server, phase, till)?;
         self.tracker.can_respond(server)?;
@@ -251,8 +251,8 @@ impl<S: Setup> TrackerBook<S> {
     }
 
     /// Ends the book: gathers its own pass, and answers the list, what was left in the pass, and the desks. In these each
-    /// stamp book has one till open, that of the queue's desk. A pass that is not its own is handed back with the book. It
-    /// takes no memory.
+    /// stamp book has one till open, that of the queue's desk. A pass that is not its own is returned with the book. It
+    /// does not allocate.
     pub fn settle(self, pass: ClientPass<S>) -> Result<TrackerSettled<S>, Unsettled<S>>
         ensures own { IsOk result ↔ IsOwn pass self.desks }
         ensures back { IfErr result (λ fault. (fault.book ≡ self) × (fault.pass ≡ pass)) }

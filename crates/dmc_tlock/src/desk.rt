@@ -120,7 +120,7 @@ pub(crate) fn take_unit<S: Setup>(desk: &mut ServerDesk<S>, phase: PhaseType, ti
     }
 }
 
-/// Changes nothing, and tells that the tills hold no more than their books do.
+/// Changes nothing, and shows that the tills hold no more than their books do.
 pub(crate) fn audit_tills<S: Setup>(desk: &ServerDesk<S>, tills: &StampTills<S>)
     requires { AreOf (stamp_holdings tills.now) (server_side desk.now).books }
     ensures { AreWithin (stamp_holdings tills.now) (server_side desk.now).books }

@@ -101,7 +101,7 @@ impl<S: Setup> LockedTracker<TrackerBook<S>, NoWitness> {
         LockedTracker::with_witness(book, NoWitness)
     }
 
-    /// The book, once no thread shares the lock. What it keeps `laws::book_is_consistent` tells.
+    /// The book, once no thread shares the lock. `laws::book_is_consistent` says what holds of it.
     pub fn into_book(self) -> TrackerBook<S> {
         let (book, _) = self.into_parts();
         book

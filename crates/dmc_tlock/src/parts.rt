@@ -1,6 +1,6 @@
 //! What a tracker book is made of.
 ghost use Rattle.std.specs.Prelude.{◌≡◌, ◌<◌, ◌≤◌, [], length, IfOk, OnOk, IsOkUnless, vec_capacity};
-ghost use Rattle.dmc_tracker.specs.Numbers.{Stands, new_numbers};
+ghost use Rattle.dmc_tracker.specs.Numbers.{RepresentsEvents, new_numbers};
 ghost use Rattle.dmc_tlock.specs.Opening.{AreBookLimits};
 
 use crate::settled::StampsHeld;
@@ -10,7 +10,7 @@ use dmc_ledger::setup::Setup;
 use dmc_tracker::event::TrackerEvent;
 use dmc_tracker::tracker::{MakeFault, ServiceTracker};
 use dmc_types::config::Counting;
-use dmc_types::limits::MOST_SERVERS;
+use dmc_types::limits::MAX_SERVERS;
 use std::alloc::Global;
 
 /// An empty tracker and an empty list, room for the client's pass, and room for what it holds when the book is settled.
@@ -22,26 +22,26 @@ pub(crate) struct Parts<S: Setup> {
     pub(crate) held: Vec<StampsHeld>,
 }
 
-/// The parts of a book, for so many servers: refused `Limit`, then `Memory`.
+/// The parts of a book, for this number of servers: refused `Limit`, then `Memory`.
 pub(crate) fn make_parts<S: Setup>(
     alloc: Global,
     servers: usize,
     most: u64,
-    most_events: u32,
+    max_events: u32,
     counting: Counting,
 ) -> Result<Parts<S>, MakeFault>
-    ensures tracker { IfOk result (λ parts. (parts.tracker ≡ new_numbers counting most servers) × Stands parts.tracker []) }
-    ensures history { IfOk result (λ parts. (parts.history.events ≡ []) × (parts.history.most ≡ most_events)) }
-    ensures limits { OnOk result (AreBookLimits servers most most_events) }
+    ensures tracker { IfOk result (λ parts. (parts.tracker ≡ new_numbers counting most servers) × RepresentsEvents parts.tracker []) }
+    ensures history { IfOk result (λ parts. (parts.history.events ≡ []) × (parts.history.most ≡ max_events)) }
+    ensures limits { OnOk result (AreBookLimits servers most max_events) }
     ensures tills { IfOk result (λ parts. (length parts.tills.items ≡ 0) × (servers ≤ vec_capacity parts.tills)) }
     ensures held { IfOk result (λ parts. length parts.held.items ≡ servers) }
-    ensures limit { (AreBookLimits servers most most_events → ⊥) → result ≡ Err MakeFault.Limit }
-    ensures memory { AreBookLimits servers most most_events → IsOkUnless result MakeFault.Memory }
+    ensures limit { (AreBookLimits servers most max_events → ⊥) → result ≡ Err MakeFault.Limit }
+    ensures memory { AreBookLimits servers most max_events → IsOkUnless result MakeFault.Memory }
 {
-    if servers > MOST_SERVERS as usize {
+    if servers > MAX_SERVERS as usize {
         return Err(MakeFault::Limit);
     }
-    let Ok(history) = History::new(alloc, most_events) else {
+    let Ok(history) = History::new(alloc, max_events) else {
         return Err(MakeFault::Limit);
     };
     let tracker = ServiceTracker::new(alloc, servers as u32, most, counting)?;

@@ -44,7 +44,7 @@ pub(crate) fn is_own<S: Setup>(desks: &[ServerDesk<S>], tills: &[StampTills<S>])
     true
 }
 
-/// Gathers a till, and tells what it held.
+/// Gathers a till, and returns what it held.
 fn gather_till<S: Setup>(book: &mut Book<S>, till: Till<S>) -> u64
     requires { till.number ≡ book.old.number }
     ensures book { book.new ≡ after_gather till book.old }
@@ -56,7 +56,7 @@ fn gather_till<S: Setup>(book: &mut Book<S>, till: Till<S>) -> u64
     held
 }
 
-/// Gathers the tills of a server, and tells what they held.
+/// Gathers the tills of a server, and returns what they held.
 fn gather_desk<S: Setup>(desk: &mut ServerDesk<S>, tills: StampTills<S>) -> StampsHeld
     requires { AreOf (stamp_holdings tills) (server_side desk.old).books }
     ensures desk { server_side desk.new ≡ side_after_gather (stamp_holdings tills) (server_side desk.old) }

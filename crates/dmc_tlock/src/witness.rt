@@ -1,7 +1,7 @@
 //! What a lock's book keeps of the book that was put behind the lock.
 ghost use Rattle.std.specs.Prelude.{⊤};
 
-/// A book that can stand behind a lock. `later` is what each state of it keeps of an earlier one, whatever calls came between.
+/// A book that can be behind a lock. `later` is what each state of it keeps of an earlier one, whatever calls came between.
 pub trait Lasting {
     ghost later: { Self → Self → Type 0 };
 }

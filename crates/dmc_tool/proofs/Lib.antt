@@ -3,5 +3,5 @@ pub mod RunLemmas
 pub mod RunEnds
 pub mod SimLemmas
 pub mod NoteLemmas
-pub mod TellLemmas
+pub mod FaultLineLemmas
 pub mod VerdictRows

@@ -8,40 +8,40 @@ use Rattle.dmc_driver.specs.Done.{IsDone, RanOut}
 use Rattle.dmc_driver.specs.Ending.{EndsSo, IsRunReport, Reports, widest}
 use Rattle.dmc_driver.specs.declared.fault.DriveFault.{DriveFault}
 use Rattle.dmc_driver.specs.declared.fault.DriveFault.TheVariants as drive
-use Rattle.dmc_tool.specs.RunReports.{RunsOn, Tells, TellsFault, TellsThen}
+use Rattle.dmc_tool.specs.RunReports.{RunsOn, WritesReport, WritesFaultReport, WritesReportThen}
 use Rattle.dmc_tool.specs.declared.run_scene.RunSceneFault.{RunSceneFault}
 use Rattle.dmc_tool.specs.declared.run_scene.RunSceneFault.TheVariants.{Memory, Torn, Write, TurnsOut, Stopped}
 
-pub told_done : {T : Type 0} (ops : Tagging T) (scene : SceneValue) (r : ClusterReport T) (old new : Option (List ℕ)) (end : Result ⊤ RunSceneFault)
-    → IsRunReport ops scene widest r → IsDone scene r → Tells ops scene.config r old new end → RunsOn ops scene old new end
-told_done ops scene r old new (Ok x) is done told = (r, told.0, is, told.1, told.2, done)
-told_done ops scene r old new (Err Write) is done told = (r, told.0, is, told.1, told.2)
-told_done ops scene r old new (Err Memory) is done told = told
-told_done ops scene r old new (Err Torn) is done told = absurd told
-told_done ops scene r old new (Err TurnsOut) is done told = absurd told
-told_done ops scene r old new (Err Stopped) is done told = absurd told
+pub written_done : {T : Type 0} (ops : Tagging T) (scene : SceneValue) (r : ClusterReport T) (old new : Option (List ℕ)) (end : Result ⊤ RunSceneFault)
+    → IsRunReport ops scene widest r → IsDone scene r → WritesReport ops scene.config r old new end → RunsOn ops scene old new end
+written_done ops scene r old new (Ok x) is done written = (r, written.0, is, written.1, written.2, done)
+written_done ops scene r old new (Err Write) is done written = (r, written.0, is, written.1, written.2)
+written_done ops scene r old new (Err Memory) is done written = written
+written_done ops scene r old new (Err Torn) is done written = absurd written
+written_done ops scene r old new (Err TurnsOut) is done written = absurd written
+written_done ops scene r old new (Err Stopped) is done written = absurd written
 
-told_turns_out : {T : Type 0} (ops : Tagging T) (scene : SceneValue) (r : ClusterReport T) (old new : Option (List ℕ)) (end : Result ⊤ RunSceneFault)
-    → IsRunReport ops scene widest r → (IsDone scene r → ⊥) × RanOut r → TellsThen ops scene.config r TurnsOut old new end → RunsOn ops scene old new end
-told_turns_out ops scene r old new (Ok x) is why told = absurd told
-told_turns_out ops scene r old new (Err Write) is why told = (r, told.0, is, told.1, told.2)
-told_turns_out ops scene r old new (Err Memory) is why told = told
-told_turns_out ops scene r old new (Err Torn) is why told = absurd told
-told_turns_out ops scene r old new (Err TurnsOut) is why told = (r, told.1.0, is, told.1.1, told.1.2, why)
-told_turns_out ops scene r old new (Err Stopped) is why told = let other = told.0 in absurd cc
+written_turns_out : {T : Type 0} (ops : Tagging T) (scene : SceneValue) (r : ClusterReport T) (old new : Option (List ℕ)) (end : Result ⊤ RunSceneFault)
+    → IsRunReport ops scene widest r → (IsDone scene r → ⊥) × RanOut r → WritesReportThen ops scene.config r TurnsOut old new end → RunsOn ops scene old new end
+written_turns_out ops scene r old new (Ok x) is why written = absurd written
+written_turns_out ops scene r old new (Err Write) is why written = (r, written.0, is, written.1, written.2)
+written_turns_out ops scene r old new (Err Memory) is why written = written
+written_turns_out ops scene r old new (Err Torn) is why written = absurd written
+written_turns_out ops scene r old new (Err TurnsOut) is why written = (r, written.1.0, is, written.1.1, written.1.2, why)
+written_turns_out ops scene r old new (Err Stopped) is why written = let other = written.0 in absurd cc
 
-told_stopped : {T : Type 0} (ops : Tagging T) (scene : SceneValue) (r : ClusterReport T) (old new : Option (List ℕ)) (end : Result ⊤ RunSceneFault)
-    → IsRunReport ops scene widest r → (IsDone scene r → ⊥) × (RanOut r → ⊥) → TellsThen ops scene.config r Stopped old new end → RunsOn ops scene old new end
-told_stopped ops scene r old new (Ok x) is why told = absurd told
-told_stopped ops scene r old new (Err Write) is why told = (r, told.0, is, told.1, told.2)
-told_stopped ops scene r old new (Err Memory) is why told = told
-told_stopped ops scene r old new (Err Torn) is why told = absurd told
-told_stopped ops scene r old new (Err TurnsOut) is why told = let other = told.0 in absurd cc
-told_stopped ops scene r old new (Err Stopped) is why told = (r, told.1.0, is, told.1.1, told.1.2, why)
+written_stopped : {T : Type 0} (ops : Tagging T) (scene : SceneValue) (r : ClusterReport T) (old new : Option (List ℕ)) (end : Result ⊤ RunSceneFault)
+    → IsRunReport ops scene widest r → (IsDone scene r → ⊥) × (RanOut r → ⊥) → WritesReportThen ops scene.config r Stopped old new end → RunsOn ops scene old new end
+written_stopped ops scene r old new (Ok x) is why written = absurd written
+written_stopped ops scene r old new (Err Write) is why written = (r, written.0, is, written.1, written.2)
+written_stopped ops scene r old new (Err Memory) is why written = written
+written_stopped ops scene r old new (Err Torn) is why written = absurd written
+written_stopped ops scene r old new (Err TurnsOut) is why written = let other = written.0 in absurd cc
+written_stopped ops scene r old new (Err Stopped) is why written = (r, written.1.0, is, written.1.1, written.1.2, why)
 
-pub told_fault : {T : Type 0} (ops : Tagging T) (scene : SceneValue) (f : DriveFault T) (old new : Option (List ℕ)) (end : Result ⊤ RunSceneFault)
-    → Reports ops scene widest (Err f) → EndsSo scene (Err f) → TellsFault ops scene.config f old new end → RunsOn ops scene old new end
-told_fault ops scene drive.Memory old new end is why told = subst (RunsOn ops scene old new) (sym told.0) told.1
-told_fault ops scene drive.Torn old new end is why told = subst (RunsOn ops scene old new) (sym told.0) told.1
-told_fault ops scene (drive.TurnsOut r) old new end is why told = told_turns_out ops scene r old new end is why told
-told_fault ops scene (drive.Stopped r) old new end is why told = told_stopped ops scene r old new end is why told
+pub written_fault : {T : Type 0} (ops : Tagging T) (scene : SceneValue) (f : DriveFault T) (old new : Option (List ℕ)) (end : Result ⊤ RunSceneFault)
+    → Reports ops scene widest (Err f) → EndsSo scene (Err f) → WritesFaultReport ops scene.config f old new end → RunsOn ops scene old new end
+written_fault ops scene drive.Memory old new end is why written = subst (RunsOn ops scene old new) (sym written.0) written.1
+written_fault ops scene drive.Torn old new end is why written = subst (RunsOn ops scene old new) (sym written.0) written.1
+written_fault ops scene (drive.TurnsOut r) old new end is why written = written_turns_out ops scene r old new end is why written
+written_fault ops scene (drive.Stopped r) old new end is why written = written_stopped ops scene r old new end is why written

@@ -13,8 +13,8 @@ use Rattle.dmc_sim.specs.declared.report.SimFault.TheVariants as sim
 use Rattle.dmc_text.specs.Texts.{ReadsWithin}
 use Rattle.std.proofs.KnownBytes.{Consumes-nil, Keeps-refl}
 use Rattle.dmc_tool.specs.Faults.{fault_of_scene, fault_of_sim}
-use Rattle.dmc_tool.specs.Scenes.{ReadsScene, ReadsSome, most_bytes}
-use Rattle.dmc_tool.specs.Sims.{RunsSim, TellsAll}
+use Rattle.dmc_tool.specs.Scenes.{ReadsScene, ReadsSome, max_bytes}
+use Rattle.dmc_tool.specs.Sims.{RunsSim, WritesAll}
 use Rattle.dmc_tool.specs.declared.fault.Fault.{Fault}
 use Rattle.dmc_tool.specs.declared.fault.Fault.TheVariants as fault
 use Rattle.dmc_tool.specs.declared.outcome.Outcome.{Outcome}
@@ -24,8 +24,8 @@ pub none_yet : (r : Option (List ℕ)) → ReadsSome r r
 none_yet r = ([], (Consumes-nil r, omega arith))
 
 -- the first n bytes of a buffer are read
-pub read_front : (before after : Option (List ℕ)) (items : List ℕ) (n : ℕ) → n ≤ most_bytes → length items ≡ most_bytes → Consumes before after (take n items) → (n < most_bytes → IsAtEnd after)
-    → ReadsWithin most_bytes before after (take n items) × (length (take n items) < most_bytes → IsAtEnd after)
+pub read_front : (before after : Option (List ℕ)) (items : List ℕ) (n : ℕ) → n ≤ max_bytes → length items ≡ max_bytes → Consumes before after (take n items) → (n < max_bytes → IsAtEnd after)
+    → ReadsWithin max_bytes before after (take n items) × (length (take n items) < max_bytes → IsAtEnd after)
 read_front before after items n most size read end =
     let len : length (take n items) ≡ n = length-take-le n items (omega (arith, most, size)) in
     ((read, omega (arith, len, most)), λ h. end (omega (arith, len, h)))
@@ -34,7 +34,7 @@ abbrev failed : SceneFault → Result SceneValue SceneFault
 failed cause = Err cause
 
 -- a text that is no scene
-refused : (before after : Option (List ℕ)) (text : List ℕ) (cause : SceneFault) → ReadsWithin most_bytes before after text → (length text < most_bytes → IsAtEnd after)
+refused : (before after : Option (List ℕ)) (text : List ℕ) (cause : SceneFault) → ReadsWithin max_bytes before after text → (length text < max_bytes → IsAtEnd after)
     → (failed cause ≢ failed scene.Memory → failed cause ≡ scene_in text) → ReadsScene before after (Err (fault_of_scene cause))
 refused before after text scene.Text read end is = (text, read, end, sym (is (λ e. cc)))
 refused before after text (scene.Missing key) read end is = (text, read, end, sym (is (λ e. cc)))
@@ -42,7 +42,7 @@ refused before after text (scene.Kind key) read end is = (text, read, end, sym (
 refused before after text (scene.Value key) read end is = (text, read, end, sym (is (λ e. cc)))
 refused before after text scene.Memory read end is = (text, read)
 
-pub refused_as : (before after : Option (List ℕ)) (text : List ℕ) (cause : SceneFault) (result : Result SceneValue Fault) → (ReadsWithin most_bytes before after text × (length text < most_bytes → IsAtEnd after))
+pub refused_as : (before after : Option (List ℕ)) (text : List ℕ) (cause : SceneFault) (result : Result SceneValue Fault) → (ReadsWithin max_bytes before after text × (length text < max_bytes → IsAtEnd after))
     → (failed cause ≢ failed scene.Memory → failed cause ≡ scene_in text) → IsErrAnd result (λ told. told ≡ fault_of_scene cause) → ReadsScene before after result
 refused_as before after text cause (Ok s) read is e = absurd e
 refused_as before after text cause (Err f) read is e = subst (λ x. ReadsScene before after (Err x)) (sym e) (refused before after text cause read.0 read.1 is)
@@ -58,7 +58,7 @@ unreported_as before after old s f (Ok outcome) h is e = absurd e
 unreported_as before after old s f (Err told) h is e = subst (λ x. RunsSim before after old old (Err x)) (sym e) (unreported before after old s f h is)
 
 -- the report is written
-pub reported : (before after old new : Option (List ℕ)) (b : Bool) (end : Result Outcome Fault) → end ≡ (if b then Err fault.TurnsOut else Ok Done) → TellsAll before after old new end
+pub reported : (before after old new : Option (List ℕ)) (b : Bool) (end : Result Outcome Fault) → end ≡ (if b then Err fault.TurnsOut else Ok Done) → WritesAll before after old new end
     → RunsSim before after old new end
-reported before after old new true end e h = subst (λ x. TellsAll before after old new x → RunsSim before after old new x) (sym e) (λ t. t) h
-reported before after old new false end e h = subst (λ x. TellsAll before after old new x → RunsSim before after old new x) (sym e) (λ t. t) h
+reported before after old new true end e h = subst (λ x. WritesAll before after old new x → RunsSim before after old new x) (sym e) (λ t. t) h
+reported before after old new false end e h = subst (λ x. WritesAll before after old new x → RunsSim before after old new x) (sym e) (λ t. t) h

@@ -17,7 +17,7 @@ pub mod Scenes
 -- What a simulation reads and writes.
 pub mod Sims
 -- What is written to the fault writer.
-pub mod Telling
+pub mod FaultLine
 -- Verdicts on the histories of a report.
 pub mod Verdicts
 -- What the words of the command line ask for, as clap matches them.

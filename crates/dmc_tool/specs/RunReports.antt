@@ -29,29 +29,29 @@ pub record IsTextOf {T : Type 0} (ops : Tagging T) (config : Setting) (r : Clust
   pub text_is : text ≡ report_text r verdicts
 
 -- writing a report: all of its text is written, or a first part where the writer fails, or nothing where an allocation failed
-abbrev pub Tells : {T : Type 0} → Tagging T → Setting → ClusterReport T → (old new : Option (List ℕ)) → Result ⊤ RunSceneFault → Type 0
-Tells ops config r old new (Ok x) = (text : List ℕ) × IsTextOf ops config r text × Appends old new text
-Tells ops config r old new (Err Write) = (text : List ℕ) × IsTextOf ops config r text × AppendsSome old new text
-Tells ops config r old new (Err Memory) = Keeps old new
-Tells ops config r old new (Err Torn) = ⊥
-Tells ops config r old new (Err TurnsOut) = ⊥
-Tells ops config r old new (Err Stopped) = ⊥
+abbrev pub WritesReport : {T : Type 0} → Tagging T → Setting → ClusterReport T → (old new : Option (List ℕ)) → Result ⊤ RunSceneFault → Type 0
+WritesReport ops config r old new (Ok x) = (text : List ℕ) × IsTextOf ops config r text × Appends old new text
+WritesReport ops config r old new (Err Write) = (text : List ℕ) × IsTextOf ops config r text × AppendsSome old new text
+WritesReport ops config r old new (Err Memory) = Keeps old new
+WritesReport ops config r old new (Err Torn) = ⊥
+WritesReport ops config r old new (Err TurnsOut) = ⊥
+WritesReport ops config r old new (Err Stopped) = ⊥
 
 -- the report is written, and then the fault is this one; or it can't be written
-abbrev pub TellsThen : {T : Type 0} → Tagging T → Setting → ClusterReport T → RunSceneFault → (old new : Option (List ℕ)) → Result ⊤ RunSceneFault → Type 0
-TellsThen ops config r fault old new (Ok x) = ⊥
-TellsThen ops config r fault old new (Err Write) = Tells ops config r old new (Err Write)
-TellsThen ops config r fault old new (Err Memory) = Keeps old new
-TellsThen ops config r fault old new (Err Torn) = ⊥
-TellsThen ops config r fault old new (Err TurnsOut) = (fault ≡ TurnsOut) × ((text : List ℕ) × IsTextOf ops config r text × Appends old new text)
-TellsThen ops config r fault old new (Err Stopped) = (fault ≡ Stopped) × ((text : List ℕ) × IsTextOf ops config r text × Appends old new text)
+abbrev pub WritesReportThen : {T : Type 0} → Tagging T → Setting → ClusterReport T → RunSceneFault → (old new : Option (List ℕ)) → Result ⊤ RunSceneFault → Type 0
+WritesReportThen ops config r fault old new (Ok x) = ⊥
+WritesReportThen ops config r fault old new (Err Write) = WritesReport ops config r old new (Err Write)
+WritesReportThen ops config r fault old new (Err Memory) = Keeps old new
+WritesReportThen ops config r fault old new (Err Torn) = ⊥
+WritesReportThen ops config r fault old new (Err TurnsOut) = (fault ≡ TurnsOut) × ((text : List ℕ) × IsTextOf ops config r text × Appends old new text)
+WritesReportThen ops config r fault old new (Err Stopped) = (fault ≡ Stopped) × ((text : List ℕ) × IsTextOf ops config r text × Appends old new text)
 
 -- the report of a run that was not done is written, if it has one
-abbrev pub TellsFault : {T : Type 0} → Tagging T → Setting → DriveFault T → (old new : Option (List ℕ)) → Result ⊤ RunSceneFault → Type 0
-TellsFault ops config drive.Memory old new end = (end ≡ Err Memory) × Keeps old new
-TellsFault ops config drive.Torn old new end = (end ≡ Err Torn) × Keeps old new
-TellsFault ops config (drive.TurnsOut r) old new end = TellsThen ops config r TurnsOut old new end
-TellsFault ops config (drive.Stopped r) old new end = TellsThen ops config r Stopped old new end
+abbrev pub WritesFaultReport : {T : Type 0} → Tagging T → Setting → DriveFault T → (old new : Option (List ℕ)) → Result ⊤ RunSceneFault → Type 0
+WritesFaultReport ops config drive.Memory old new end = (end ≡ Err Memory) × Keeps old new
+WritesFaultReport ops config drive.Torn old new end = (end ≡ Err Torn) × Keeps old new
+WritesFaultReport ops config (drive.TurnsOut r) old new end = WritesReportThen ops config r TurnsOut old new end
+WritesFaultReport ops config (drive.Stopped r) old new end = WritesReportThen ops config r Stopped old new end
 
 -- the report of a run of the scene is written, and P holds of it
 abbrev pub Reported : {T : Type 0} → Tagging T → SceneValue → (old new : Option (List ℕ)) → (ClusterReport T → Type 0) → Type 0

@@ -25,7 +25,7 @@ use Rattle.dmc_tool.specs.Outcomes as outcomes
 use Rattle.dmc_tool.specs.Notes.{WordsNoted}
 use Rattle.dmc_tool.specs.SceneRuns.{RunsRun}
 use Rattle.dmc_tool.specs.Sims.{RunsSim}
-use Rattle.dmc_tool.specs.Telling.{TellsEnd}
+use Rattle.dmc_tool.specs.FaultLine.{WritesEnd}
 
 -- ---- tags of a kind
 
@@ -78,10 +78,10 @@ RunsWords (Some tool) before after old new end = RunsCommand tool.command tool.t
 
 -- A run, by its exit status: what it reads and writes, whether its streams fail, and what it writes of its fault. The first
 -- arguments say which bytes the reader has left, and which the writer and the fault writer have taken.
-pub record RunsTool {R W E : Type 0} (left : R → Option (List ℕ)) (held : W → Option (List ℕ)) (told : E → Option (List ℕ)) (tool : Option Tool)
+pub record RunsTool {R W E : Type 0} (left : R → Option (List ℕ)) (held : W → Option (List ℕ)) (heard : E → Option (List ℕ)) (tool : Option Tool)
     (before after : Watched R) (old new : Watched W) (quiet loud : Watched E) (status : ℕ) : Type 0 where
   pub end : Result Outcome Fault
   pub runs : RunsWords tool (left (stream_of before)) (left (stream_of after)) (held (stream_of old)) (held (stream_of new)) end
   pub notes : WordsNoted left tool before after old new end
-  pub tells : TellsEnd told end quiet loud
+  pub faults : WritesEnd heard end quiet loud
   pub status_is : status ≡ exit_status end

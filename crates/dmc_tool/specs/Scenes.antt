@@ -1,7 +1,7 @@
 -- What reading a scene takes from the reader, and its result.
 use Rattle.std.specs.Prelude.{◌≡◌, ◌+◌, ◌<◌, ℕ, List, length, Option, Result, Ok, Err}
 use Rattle.std.specs.Io.KnownBytes.{IsAtEnd}
-use Rattle.dmc_types.specs.Limits.{most_scene_bytes}
+use Rattle.dmc_types.specs.Limits.{max_scene_bytes}
 use Rattle.dmc_text.specs.Texts.{ReadsWithin}
 use Rattle.dmc_scene.specs.declared.fault.SceneFault.{SceneFault}
 use Rattle.dmc_scene.specs.declared.fault.SceneFault.TheVariants as scene
@@ -11,16 +11,16 @@ use Rattle.dmc_tool.specs.declared.fault.Fault.{Fault}
 use Rattle.dmc_tool.specs.declared.fault.Fault.TheVariants.{Read, Memory, SceneText, SceneMissing, SceneKind, SceneValue as SceneValueOf}
 
 -- one more byte than a scene may have
-abbrev pub most_bytes : ℕ
-most_bytes = most_scene_bytes + 1
+abbrev pub max_bytes : ℕ
+max_bytes = max_scene_bytes + 1
 
 -- All of a text is read, or enough to show that it is too long, and this is its scene, or the reason why it is none.
 abbrev pub ReadsAs : (before after : Option (List ℕ)) → Result SceneValue SceneFault → Type 0
-ReadsAs before after result = (text : List ℕ) × ReadsWithin most_bytes before after text × (length text < most_bytes → IsAtEnd after) × (scene_in text ≡ result)
+ReadsAs before after result = (text : List ℕ) × ReadsWithin max_bytes before after text × (length text < max_bytes → IsAtEnd after) × (scene_in text ≡ result)
 
 -- no more than that is read
 abbrev pub ReadsSome : (before after : Option (List ℕ)) → Type 0
-ReadsSome before after = (text : List ℕ) × ReadsWithin most_bytes before after text
+ReadsSome before after = (text : List ℕ) × ReadsWithin max_bytes before after text
 
 -- a scene, or a fault of the text; otherwise the reader failed or an allocation did
 abbrev pub ReadsScene : (before after : Option (List ℕ)) → Result SceneValue Fault → Type 0

@@ -23,8 +23,8 @@ abbrev pub Reports : (before after : Option (List ℕ)) → (SimReport → Type 
 Reports before after P = (scene : SceneValue) × (report : SimReport) × ReadsScene before after (Ok scene) × Simulates scene (Ok report) × IsReportOf scene report × P report
 
 -- the whole report is written, and this is how the simulation ends
-abbrev pub TellsAll : (before after old new : Option (List ℕ)) → Result Outcome Fault → Type 0
-TellsAll before after old new end = Reports before after (λ report. Appends old new (report_text report) × (end ≡ end_of_sim report))
+abbrev pub WritesAll : (before after old new : Option (List ℕ)) → Result Outcome Fault → Type 0
+WritesAll before after old new end = Reports before after (λ report. Appends old new (report_text report) × (end ≡ end_of_sim report))
 
 -- a scene is read, and a queue's refusal ends its simulation
 abbrev pub IsRefused : (before after : Option (List ℕ)) → Type 0
@@ -33,8 +33,8 @@ IsRefused before after = (scene : SceneValue) × (refusal : Refusal) × ReadsSce
 -- By how a simulation ends: the report of the scene that is read is written, all of it, or a first part where the writer fails;
 -- otherwise nothing is.
 abbrev pub RunsSim : (before after old new : Option (List ℕ)) → Result Outcome Fault → Type 0
-RunsSim before after old new (Ok outcome) = TellsAll before after old new (Ok outcome)
-RunsSim before after old new (Err TurnsOut) = TellsAll before after old new (Err TurnsOut)
+RunsSim before after old new (Ok outcome) = WritesAll before after old new (Ok outcome)
+RunsSim before after old new (Err TurnsOut) = WritesAll before after old new (Err TurnsOut)
 RunsSim before after old new (Err Write) = Reports before after (λ report. AppendsSome old new (report_text report))
 RunsSim before after old new (Err Range) = IsRefused before after × Keeps old new
 RunsSim before after old new (Err fault) = ReadsScene before after (Err fault) × Keeps old new

@@ -3,7 +3,7 @@ ghost use Rattle.std.specs.Prelude.{◌≡◌, ◌++◌, codes};
 ghost use Rattle.dmc_scene.specs.Keys.{name_of};
 ghost use Rattle.dmc_text.specs.Texts.{with_line_end};
 ghost use Rattle.dmc_tool.specs.Faults.{cause_word, fault_of_words, status_of};
-ghost use Rattle.dmc_tool.specs.Telling.{fault_text, line_of};
+ghost use Rattle.dmc_tool.specs.FaultLine.{fault_text, line_of};
 
 use crate::words::WordsFault;
 use dmc_scene::key::Key;

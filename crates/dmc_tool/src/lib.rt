@@ -3,6 +3,7 @@
 
 mod check;
 pub mod fault;
+pub mod fault_line;
 mod makers;
 mod outcome;
 mod run;
@@ -11,7 +12,6 @@ mod run_scene;
 mod scenes;
 mod script;
 mod sim;
-pub mod telling;
 pub mod tool;
 pub mod verdicts;
 pub mod words;

@@ -1,7 +1,7 @@
 //! A scene that is run in threads, and its report.
 ghost use Rattle.std.specs.Prelude.{◌≡◌};
 ghost use Rattle.dmc_text.specs.Watching.{stream_of};
-ghost use Rattle.dmc_tool.specs.RunReports.{ReportNoted, RunsOn, RunsScene, Tells, TellsFault};
+ghost use Rattle.dmc_tool.specs.RunReports.{ReportNoted, RunsOn, RunsScene, WritesReport, WritesFaultReport};
 ghost use Rattle.dmc_tool.specs.declared.run_scene.RunSceneFault.TheVariants.{Memory};
 
 use crate::run_report::report_text;
@@ -83,45 +83,45 @@ fn run_on<T: Tag + Send + Sync, R: Threads + Wait + Sync, W: Write>(
 {
     let clock = StepClock::new(scene.step());
     match run_cluster::<T, R, NoService, StepClock>(rt, alloc, scene, &NoService, &clock) {
-        Ok(report) => tell(rt, alloc, scene.config(), &report, writer),
-        Err(fault) => tell_fault(rt, alloc, scene.config(), fault, writer),
+        Ok(report) => write_report(rt, alloc, scene.config(), &report, writer),
+        Err(fault) => write_fault_report(rt, alloc, scene.config(), fault, writer),
     }
 }
 
 /// Writes the report of a run that was not done, if it has one, and returns why it was not.
-fn tell_fault<T: Tag + Sync, R: Threads + Sync, W: Write>(
+fn write_fault_report<T: Tag + Sync, R: Threads + Sync, W: Write>(
     rt: &R,
     alloc: Global,
     config: QueueConfig,
     fault: DriveFault<T>,
     writer: &mut Watched<W>,
 ) -> Result<(), RunSceneFault>
-    ensures bytes { TellsFault T.ops config fault (W.contents (stream_of writer.old)) (W.contents (stream_of writer.new)) result }
+    ensures bytes { WritesFaultReport T.ops config fault (W.contents (stream_of writer.old)) (W.contents (stream_of writer.new)) result }
     ensures note { ReportNoted writer.old writer.new result }
 {
     match fault {
         DriveFault::Memory => Err(RunSceneFault::Memory),
         DriveFault::Torn => Err(RunSceneFault::Torn),
         DriveFault::TurnsOut(report) => {
-            tell(rt, alloc, config, &report, writer)?;
+            write_report(rt, alloc, config, &report, writer)?;
             Err(RunSceneFault::TurnsOut)
         }
         DriveFault::Stopped(report) => {
-            tell(rt, alloc, config, &report, writer)?;
+            write_report(rt, alloc, config, &report, writer)?;
             Err(RunSceneFault::Stopped)
         }
     }
 }
 
 /// Writes the text of a report.
-fn tell<T: Tag + Sync, R: Threads + Sync, W: Write>(
+fn write_report<T: Tag + Sync, R: Threads + Sync, W: Write>(
     rt: &R,
     alloc: Global,
     config: QueueConfig,
     report: &ClusterReport<T>,
     writer: &mut Watched<W>,
 ) -> Result<(), RunSceneFault>
-    ensures bytes { Tells T.ops config report.now (W.contents (stream_of writer.old)) (W.contents (stream_of writer.new)) result }
+    ensures bytes { WritesReport T.ops config report.now (W.contents (stream_of writer.old)) (W.contents (stream_of writer.new)) result }
     ensures note { ReportNoted writer.old writer.new result }
 {
     let verdicts = check_all(rt, alloc, config, &report.servers)?;

@@ -14,7 +14,7 @@ use std::alloc::{AllocError, Global};
 use std::io::Read;
 
 /// The greatest number of bytes that are read: one more than a scene may have, which shows that it has too many.
-const MOST_BYTES: usize = (1 << 20) + 1;
+const MAX_BYTES: usize = (1 << 20) + 1;
 
 impl From<AllocError> for Fault {
     ghost use Rattle.dmc_tool.specs.declared.fault.Fault.TheVariants.{Memory};
@@ -45,7 +45,7 @@ pub fn scene_of<R: Read>(alloc: Global, reader: &mut Watched<R>) -> Result<Scene
     ensures bytes { ReadsScene (R.remaining (stream_of reader.old)) (R.remaining (stream_of reader.new)) result }
     ensures note { SceneNoted reader.old reader.new result }
 {
-    let mut text = vec![in alloc; 0; MOST_BYTES]?;
+    let mut text = vec![in alloc; 0; MAX_BYTES]?;
     let Ok(len) = read_text(reader, &mut text) else {
         return Err(Fault::Read);
     };

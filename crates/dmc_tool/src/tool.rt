@@ -7,8 +7,8 @@ ghost use Rattle.dmc_tool.specs.Words.{tool_of_words};
 ghost use Rattle.dmc_tool.specs.declared.words.ToolCommand.TheVariants.{Check, Script};
 
 use crate::fault::Fault;
+use crate::fault_line::write_fault;
 use crate::outcome::Outcome;
-use crate::telling::tell;
 use crate::words::{Tool, ToolCommand, WRITTEN, read_words};
 use crate::{check, run, script, sim};
 use dmc_text::watched::Watched;
@@ -35,7 +35,7 @@ pub fn run_tool<T: AllocGlobal + Threads + Wait + Sync, S: AsStr, R: Read, W: Wr
 {
     match run_words(rt, words, reader, writer) {
         Ok(outcome) => outcome.status(),
-        Err(fault) => tell(fault, fault_writer),
+        Err(fault) => write_fault(fault, fault_writer),
     }
 }
 

@@ -2,10 +2,10 @@
 
 -- the empty list is tracked, and a list stays tracked by a stamp that carries what it demands, by a skip and by a response
 pub use Rattle.dmc_tracker.proofs.LawLemmas.{IsTracked-nil, IsTracked-stamp, IsTracked-skip, IsTracked-response, IsTracked-front}
--- a new tracker stands for the empty list; what a stamp carries; what a tracker stands for after a stamp, a skip, a response
-pub use Rattle.dmc_tracker.proofs.StandsLemmas.{Stands-new, next_params-stands, Stands-stamp, Stands-skip, Stands-response}
+-- a new tracker represents the empty list; what a stamp carries; what a tracker represents after a stamp, a skip, a response
+pub use Rattle.dmc_tracker.proofs.RepresentsLemmas.{RepresentsEvents-new, next_params-represents, RepresentsEvents-stamp, RepresentsEvents-skip, RepresentsEvents-response}
 -- a server with the number of another is that one; a response leaves as many servers
-pub use Rattle.dmc_tracker.proofs.StandsLemmas.{same_server, length-servers_grown}
+pub use Rattle.dmc_tracker.proofs.RepresentsLemmas.{same_server, length-servers_grown}
 -- what was sent to a server, what was skipped and what is pending there, in `All` and in `Others`
 pub use Rattle.dmc_tracker.proofs.LawLemmas.{sums-all, sums-others}
 -- in `All` what was sent, with what is demanded, is at most the completions; what was sent between two stamps

@@ -11,7 +11,7 @@ use Rattle.dmc_types.specs.declared.config.PhaseType.{PhaseType}
 use Rattle.dmc_tracker.specs.declared.event.TrackerEvent.{TrackerEvent}
 use Rattle.dmc_tracker.specs.declared.event.TrackerEvent.TheVariants.{Stamp, Skip, Response}
 use Rattle.dmc_tracker.specs.TrackerList.{plus, total, one_in, completed_by, counted_by, sent_by, is_stamp_to, own_share, completions, others, stamps, sent, skipped, skipped_after, pending, demanded, IsTracked}
-use Rattle.dmc_tracker.proofs.StandsLemmas.{same_server}
+use Rattle.dmc_tracker.proofs.RepresentsLemmas.{same_server}
 use Rattle.dmc_tracker.proofs.ListLemmas.{same_params, plus-none, none-plus, total-push, snoc, completions-stamp, completions-skip, completions-response, sent-response, sent-stamp_same, sent-stamp_other, sent-skip, pending-response, pending-stamp_same, pending-stamp_other, pending-skip_same, pending-skip_other, skipped-append, skipped-stamp, skipped-response, skipped-skip_same, skipped-skip_other}
 
 -- the front of a tracked list is tracked

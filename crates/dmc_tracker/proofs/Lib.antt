@@ -4,5 +4,5 @@ pub mod ForCallers
 pub mod LawLemmas
 pub mod ListLemmas
 pub mod ServerLemmas
-pub mod StandsLemmas
+pub mod RepresentsLemmas
 mod Steps

@@ -42,7 +42,7 @@ cut xs x n false h =
     let e : length (xs ++ x ∷ []) - (1 + n) ≡ length xs - n = omega (arith, length-append xs (x ∷ [])) in
     rw e (drop-append-le (length xs - n) xs (x ∷ []) (omega arith))
 
--- one more element ends what stands after the last that passes, or belongs to it
+-- one more element ends what comes after the last that passes, or belongs to it
 pub after_last-push : {X : Type 0} (p : X → Bool) (xs : List X) (x : X)
     → after_last p (xs ++ x ∷ []) ≡ cond (p x) [] (after_last p xs ++ x ∷ [])
 after_last-push {X} p xs x =

@@ -16,7 +16,7 @@ use Rattle.dmc_tracker.specs.TrackerList.{plus, one_in, own_share}
 use Rattle.dmc_tracker.specs.Numbers.{Numbers, ServerNumbers, no_numbers, new_numbers, numbers_at, next_params, after_stamp, after_skip, after_response, grown, servers_grown, AreLimits}
 use Rattle.dmc_tracker.specs.Server.{minus, IsPart, counted_at, numbers_now, view_of, IsKept, AreKept}
 use Rattle.dmc_tracker.proofs.ListLemmas.{same_params}
-use Rattle.dmc_tracker.proofs.StandsLemmas.{same_numbers}
+use Rattle.dmc_tracker.proofs.RepresentsLemmas.{same_numbers}
 
 minus_self : (a : Params) → minus a a ≡ no_counts
 minus_self a = same_params _ _ (omega arith) (omega arith)
@@ -178,7 +178,7 @@ AreKept-stamp counting most comps params servers s x kept within at e bound =
     let before : IsKept counting most comps x = rw at (kept.each s.0 x within) in
     record {
       some_most = kept.some_most;
-      most_limit = kept.most_limit;
+      max_limit = kept.max_limit;
       some_servers = omega (arith, length-set servers s.0 new, kept.some_servers);
       servers_limit = omega (arith, length-set servers s.0 new, kept.servers_limit);
       completions_rho = kept.completions_rho;
@@ -194,7 +194,7 @@ AreKept-skip counting most comps servers s x kept within at =
     let before : IsKept counting most comps x = rw at (kept.each s.0 x within) in
     record {
       some_most = kept.some_most;
-      most_limit = kept.most_limit;
+      max_limit = kept.max_limit;
       some_servers = omega (arith, length-set servers s.0 new, kept.some_servers);
       servers_limit = omega (arith, length-set servers s.0 new, kept.servers_limit);
       completions_rho = kept.completions_rho;
@@ -267,7 +267,7 @@ AreKept-response counting most comps servers s x phase kept within at fewer =
     } in
     record {
       some_most = kept.some_most;
-      most_limit = kept.most_limit;
+      max_limit = kept.max_limit;
       some_servers = omega (arith, length-set servers s.0 new, kept.some_servers);
       servers_limit = omega (arith, length-set servers s.0 new, kept.servers_limit);
       completions_rho = omega (arith, kept.completions_rho, one_rho phase);
@@ -339,7 +339,7 @@ AreKept-new counting most n limits =
     let none : ServerCounts = record { sent = no_counts; skipped = no_counts; own = no_counts; mark = no_counts } in
     record {
       some_most = limits.some_most;
-      most_limit = limits.most_limit;
+      max_limit = limits.max_limit;
       some_servers = rw length-replicate limits.some_servers;
       servers_limit = rw length-replicate limits.servers_limit;
       completions_rho = omega arith;

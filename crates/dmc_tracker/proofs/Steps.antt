@@ -5,7 +5,7 @@ use Rattle.std.specs.Option.{option_map}
 use Rattle.std.proofs.lemmas.Bool.{cases_lt}
 use Rattle.std.proofs.lemmas.Option.{slice_get-map, slice_get-get_or, slice_get_past}
 use Rattle.std.proofs.lemmas.List.{length-map, length-set}
-use Rattle.dmc_types.specs.Limits.{greatest_count}
+use Rattle.dmc_types.specs.Limits.{max_count}
 use Rattle.dmc_types.specs.Values.{Params}
 use Rattle.dmc_types.specs.declared.ids.ServerId.{ServerId}
 use Rattle.dmc_types.specs.declared.config.Counting.{Counting}
@@ -16,10 +16,10 @@ use Rattle.dmc_tracker.specs.declared.tracker.TrackFault.TheVariants.{NoServer, 
 use Rattle.dmc_tracker.specs.declared.event.TrackerEvent.{TrackerEvent}
 use Rattle.dmc_tracker.specs.declared.event.TrackerEvent.TheVariants.{Stamp, Skip, Response}
 use Rattle.dmc_tracker.specs.TrackerList.{plus, one_in, own_share, demanded, IsComplete, IsStampFull, IsTooMuch}
-use Rattle.dmc_tracker.specs.Numbers.{Numbers, ServerNumbers, pending_pair, numbers_at, next_params, after_stamp, after_skip, after_response, IsFullAt, Stands, Keeps}
+use Rattle.dmc_tracker.specs.Numbers.{Numbers, ServerNumbers, pending_pair, numbers_at, next_params, after_stamp, after_skip, after_response, IsFullAt, RepresentsEvents, Keeps}
 use Rattle.dmc_tracker.specs.Server.{minus, IsPart, counted_at, numbers_now, view_of, IsKept, AreKept}
 use Rattle.dmc_tracker.proofs.ServerLemmas.{seen_at, next_params-view, view-stamp, AreKept-stamp, view-skip, AreKept-skip, AreKept-response, view-response, one_delta, one_rho}
-use Rattle.dmc_tracker.proofs.StandsLemmas.{next_params-stands, Stands-stamp, Stands-skip, Stands-response}
+use Rattle.dmc_tracker.proofs.RepresentsLemmas.{next_params-represents, RepresentsEvents-stamp, RepresentsEvents-skip, RepresentsEvents-response}
 
 -- a number is below another where not being so is an error, and there is none
 pub below_if_ok : {X E : Type 0} {x : X} {e : E} (a b : ℕ) → (b ≤ a → ◌≡◌ {A = Result X E} (Ok x) (Err e)) → a < b
@@ -66,8 +66,8 @@ module _ {counting : Counting} {most : ℕ} {comps : Params} {items : List Serve
     all_counted =
         sym (ap (λ (n : Numbers). n.completions.delta) view) ∙ full ∙ ap (λ (n : Numbers). n.most) view
 
-    pub all_counted_by_list : {events : List TrackerEvent} → Stands now events → IsComplete now.most events
-    all_counted_by_list stands = ap (λ (p : Params). p.delta) (sym stands.completed) ∙ all_counted
+    pub all_counted_by_list : {events : List TrackerEvent} → RepresentsEvents now events → IsComplete now.most events
+    all_counted_by_list represents = ap (λ (p : Params). p.delta) (sym represents.completed) ∙ all_counted
 
   module _ (fewer : comps.delta ≢ most) where
     pub more_to_count : now.completions.delta < now.most
@@ -77,8 +77,8 @@ module _ {counting : Counting} {most : ℕ} {comps : Params} {items : List Serve
     pub not_all_counted : now.completions.delta ≡ now.most → ⊥
     not_all_counted all = omega (arith, more_to_count, all)
 
-    pub not_complete : {events : List TrackerEvent} → Stands now events → IsComplete now.most events → ⊥
-    not_complete stands all = omega (arith, more_to_count, all, ap (λ (p : Params). p.delta) stands.completed)
+    pub not_complete : {events : List TrackerEvent} → RepresentsEvents now events → IsComplete now.most events → ⊥
+    not_complete represents all = omega (arith, more_to_count, all, ap (λ (p : Params). p.delta) represents.completed)
 
   -- what contracts see of the server at a place
   read_server : (i : ℕ) {found : Option ServerCounts} → slice_get items i ≡ found → slice_get now.servers i ≡ option_map (numbers_now counting comps) found
@@ -130,7 +130,7 @@ module _ {counting : Counting} {most : ℕ} {comps : Params} {items : List Serve
 
       comps_fit : (comps.delta + one.delta < 2 ^ 64) × (comps.rho + one.rho < 2 ^ 64)
       comps_fit =
-          (omega (arith, room_for_one, ones.0, kept.most_limit), omega (arith, room_for_one, ones.1, kept.completions_rho, kept.most_limit))
+          (omega (arith, room_for_one, ones.0, kept.max_limit), omega (arith, room_for_one, ones.1, kept.completions_rho, kept.max_limit))
 
       pub own_fits : (x.own.delta + one.delta < 2 ^ 64) × (x.own.rho + one.rho < 2 ^ 64)
       own_fits =
@@ -168,8 +168,8 @@ module _ {counting : Counting} {most : ℕ} {comps : Params} {items : List Serve
 
       pub skipped_fits : (x.skipped.delta + left.delta < 2 ^ 64) × (x.skipped.rho + left.rho < 2 ^ 64)
       skipped_fits = (
-        omega (arith, left_most, kept.most_limit),
-        omega (arith, left_most, left_rho, kept_at.skipped_rho, kept.most_limit),
+        omega (arith, left_most, kept.max_limit),
+        omega (arith, left_most, left_rho, kept_at.skipped_rho, kept.max_limit),
       )
 
       module _ {skipped' : Params} (skipped_is : skipped' ≡ plus x.skipped left) where
@@ -196,8 +196,8 @@ module _ {counting : Counting} {most : ℕ} {comps : Params} {items : List Serve
 
         pub params_fit : (left.delta + own.delta < 2 ^ 64) × (left.rho + own.rho < 2 ^ 64)
         params_fit = (
-          omega (arith, left_most, share, kept.most_limit),
-          omega (arith, left_most, left_rho, share, kept.most_limit),
+          omega (arith, left_most, share, kept.max_limit),
+          omega (arith, left_most, left_rho, share, kept.max_limit),
         )
 
         module _ {params : Params} (params_is : params ≡ plus left own) where
@@ -220,7 +220,7 @@ module _ {counting : Counting} {most : ℕ} {comps : Params} {items : List Serve
 
           -- the test of a stamp: its sum fits, and what it says
           pub sum_fits : x.sent.delta + params.delta < 2 ^ 64
-          sum_fits = omega (arith, params_delta, left_most, share, kept_at.sent_most, kept.most_limit)
+          sum_fits = omega (arith, params_delta, left_most, share, kept_at.sent_most, kept.max_limit)
 
           seen_full : IsTooMuch counting most x.sent.delta params.delta ≡ IsTooMuch now.counting now.most (numbers_at now s).sent.delta (next_params now s).delta
           seen_full =
@@ -235,19 +235,19 @@ module _ {counting : Counting} {most : ℕ} {comps : Params} {items : List Serve
           is_not_full none h = none (subst (λ (t : Type 0). t) (sym seen_full) h.past)
 
           module _ (fits : IsTooMuch counting most x.sent.delta params.delta → ⊥) where
-            bounds : (params.delta ≤ greatest_count) × (x.sent.delta + params.delta ≤ most)
+            bounds : (params.delta ≤ max_count) × (x.sent.delta + params.delta ≤ most)
             bounds = by counting kept_at.sent_all own_is fits where
               by : (form : Counting) → (form ≡ All → plus x.sent x.skipped ≡ x.mark) → own ≡ own_share form
-                  → (IsTooMuch form most x.sent.delta params.delta → ⊥) → (params.delta ≤ greatest_count) × (x.sent.delta + params.delta ≤ most)
+                  → (IsTooMuch form most x.sent.delta params.delta → ⊥) → (params.delta ≤ max_count) × (x.sent.delta + params.delta ≤ most)
               by All sums none fits =
                   let sum = ap (λ (p : Params). p.delta) (sums refl) in
                   let zero = ap (λ (p : Params). p.delta) none in
                   let is = ap (λ (p : Params). p.delta) left_is in (
-                    elim (cases_lt greatest_count params.delta) [ inl l ↦ absurd (fits l) | inr l ↦ l ],
+                    elim (cases_lt max_count params.delta) [ inl l ↦ absurd (fits l) | inr l ↦ l ],
                     omega (arith, params_delta, is, zero, sum, part.delta, counted_comps, kept.completions_most),
                   )
               by Others sums none fits = (
-                elim (cases_lt greatest_count params.delta) [ inl l ↦ absurd (fits (inl l)) | inr l ↦ l ],
+                elim (cases_lt max_count params.delta) [ inl l ↦ absurd (fits (inl l)) | inr l ↦ l ],
                 elim (cases_lt most (x.sent.delta + params.delta)) [ inl l ↦ absurd (fits (inr l)) | inr l ↦ l ],
               )
 
@@ -255,18 +255,18 @@ module _ {counting : Counting} {most : ℕ} {comps : Params} {items : List Serve
             sent_bound =
                 omega (arith, bounds.1, sent_now, ap (λ (p : Params). p.delta) carried, ap (λ (n : Numbers). n.most) view)
 
-            pub count_bound : (next_params now s).delta ≤ greatest_count
+            pub count_bound : (next_params now s).delta ≤ max_count
             count_bound = omega (arith, bounds.0, ap (λ (p : Params). p.delta) carried)
 
           -- ---- what the test let through
 
-          module _ (bound : (numbers_at now s).sent.delta + (next_params now s).delta ≤ now.most) (narrow : (next_params now s).delta ≤ greatest_count) where
+          module _ (bound : (numbers_at now s).sent.delta + (next_params now s).delta ≤ now.most) (narrow : (next_params now s).delta ≤ max_count) where
             room : x.sent.delta + params.delta ≤ most
             room = omega (arith, bound, sent_now, ap (λ (p : Params). p.delta) carried, ap (λ (n : Numbers). n.most) view)
 
             pub sent_fits : (x.sent.delta + params.delta < 2 ^ 64) × (x.sent.rho + params.rho < 2 ^ 64)
             sent_fits =
-                (omega (arith, room, kept.most_limit), omega (arith, room, is_params, kept_at.sent_rho, kept.most_limit))
+                (omega (arith, room, kept.max_limit), omega (arith, room, is_params, kept_at.sent_rho, kept.max_limit))
 
             pub narrow_counts : (params.delta < 2 ^ 32) × (params.rho < 2 ^ 32)
             narrow_counts =
@@ -294,24 +294,24 @@ module _ {counting : Counting} {most : ℕ} {comps : Params} {items : List Serve
               handed_out {given} h = let same : ◌≡◌ {A = Result Params E} (Ok given) (Ok params) = sym h ∙ made_is e ok in cc (carried)
 
 -- the list after a stamp
-pub stands_after : {now new : Numbers} {s : ServerId} {params : Params} → s.0 < length now.servers → new ≡ after_stamp s now → params ≡ next_params now s
-    → (events : List TrackerEvent) → Stands now events → (params ≡ demanded now.counting s events) × Stands new (events ++ Stamp s params ∷ [])
-stands_after {now} {s = s} within e p events stands =
-    (p ∙ next_params-stands now events s within stands, rw (e, p) (Stands-stamp now events s within stands))
+pub represents_after : {now new : Numbers} {s : ServerId} {params : Params} → s.0 < length now.servers → new ≡ after_stamp s now → params ≡ next_params now s
+    → (events : List TrackerEvent) → RepresentsEvents now events → (params ≡ demanded now.counting s events) × RepresentsEvents new (events ++ Stamp s params ∷ [])
+represents_after {now} {s = s} within e p events represents =
+    (p ∙ next_params-represents now events s within represents, rw (e, p) (RepresentsEvents-stamp now events s within represents))
 
 -- the list after a skip
-pub stands_after_skip : {now new : Numbers} {s : ServerId} → s.0 < length now.servers → new ≡ after_skip s now → (events : List TrackerEvent) → Stands now events → Stands new (events ++ Skip s ∷ [])
-stands_after_skip {now} {s = s} within e events stands = rw e (Stands-skip now events s within stands)
+pub represents_after_skip : {now new : Numbers} {s : ServerId} → s.0 < length now.servers → new ≡ after_skip s now → (events : List TrackerEvent) → RepresentsEvents now events → RepresentsEvents new (events ++ Skip s ∷ [])
+represents_after_skip {now} {s = s} within e events represents = rw e (RepresentsEvents-skip now events s within represents)
 
 -- the list after a response
-pub stands_after_response : {now new : Numbers} (s : ServerId) (phase : PhaseType) → new ≡ after_response s phase now → (events : List TrackerEvent) → Stands now events → Stands new (events ++ Response s phase ∷ [])
-stands_after_response {now} s phase e events stands = rw e (Stands-response now events s phase stands)
+pub represents_after_response : {now new : Numbers} (s : ServerId) (phase : PhaseType) → new ≡ after_response s phase now → (events : List TrackerEvent) → RepresentsEvents now events → RepresentsEvents new (events ++ Response s phase ∷ [])
+represents_after_response {now} s phase e events represents = rw e (RepresentsEvents-response now events s phase represents)
 
 -- what is full by the numbers is so by the list
-module _ {now : Numbers} {s : ServerId} {events : List TrackerEvent} (stands : Stands now events) where
+module _ {now : Numbers} {s : ServerId} {events : List TrackerEvent} (represents : RepresentsEvents now events) where
   same_test : s.0 < length now.servers → IsTooMuch now.counting now.most (numbers_at now s).sent.delta (next_params now s).delta ≡ IsStampFull now.counting now.most s events
   same_test within =
-      ap (λ (n : ServerNumbers). IsTooMuch now.counting now.most n.sent.delta (plus n.pending (own_share now.counting)).delta) (stands.each s within)
+      ap (λ (n : ServerNumbers). IsTooMuch now.counting now.most n.sent.delta (plus n.pending (own_share now.counting)).delta) (represents.each s within)
 
   pub full_by_list : {A : Type 0} → A ↔ IsFullAt now s → A ↔ ((s.0 < length now.servers) × IsStampFull now.counting now.most s events)
   full_by_list is = (

@@ -1,6 +1,6 @@
 -- What contracts see of a tracker: the numbers of a tracker list, and no list.
 use Rattle.std.specs.Prelude.{◌≡◌, ℕ, ◌<◌, ◌≤◌, List, length, map, replicate, slice_set, slice_index_or}
-use Rattle.dmc_types.specs.Limits.{most_completions, most_servers}
+use Rattle.dmc_types.specs.Limits.{max_completions, max_servers}
 use Rattle.dmc_types.specs.Values.{Params, no_counts}
 use Rattle.dmc_types.specs.declared.ids.ServerId.{ServerId}
 use Rattle.dmc_types.specs.declared.config.Counting.{Counting}
@@ -27,9 +27,9 @@ no_numbers = record { sent = no_counts; skipped = no_counts; pending = no_counts
 -- the limits of a tracker
 pub record AreLimits (servers most : ℕ) : Type 0 where
   pub some_servers : 0 < servers
-  pub servers_limit : servers ≤ most_servers
+  pub servers_limit : servers ≤ max_servers
   pub some_most : 0 < most
-  pub most_limit : most ≤ most_completions
+  pub max_limit : most ≤ max_completions
 
 -- no entry yet
 abbrev pub new_numbers : Counting → ℕ → ℕ → Numbers
@@ -106,7 +106,7 @@ numbers_of counting s events = record {
 }
 
 -- the numbers are those of the list
-pub record Stands (numbers : Numbers) (events : List TrackerEvent) : Type 0 where
+pub record RepresentsEvents (numbers : Numbers) (events : List TrackerEvent) : Type 0 where
   pub completed : numbers.completions ≡ completions events
   pub each : (s : ServerId) → s.0 < length numbers.servers
       → numbers_at numbers s ≡ numbers_of numbers.counting s events

@@ -1,6 +1,6 @@
 -- What a tracker keeps for a server, in the place of a list. No public clause cites this module.
 use Rattle.std.specs.Prelude.{◌≡◌, ℕ, ◌+◌, ◌-◌, ◌<◌, ◌≤◌, List, length, map, All as Each}
-use Rattle.dmc_types.specs.Limits.{most_completions, most_servers}
+use Rattle.dmc_types.specs.Limits.{max_completions, max_servers}
 use Rattle.dmc_types.specs.Values.{Params}
 use Rattle.dmc_types.specs.declared.config.Counting.{Counting}
 use Rattle.dmc_types.specs.declared.config.Counting.TheVariants.{All, Others}
@@ -50,9 +50,9 @@ pub record IsKept (counting : Counting) (most : ℕ) (completions : Params) (ser
 
 pub record AreKept (counting : Counting) (most : ℕ) (completions : Params) (servers : List ServerCounts) : Type 0 where
   pub some_most : 0 < most
-  pub most_limit : most ≤ most_completions
+  pub max_limit : most ≤ max_completions
   pub some_servers : 0 < length servers
-  pub servers_limit : length servers ≤ most_servers
+  pub servers_limit : length servers ≤ max_servers
   pub completions_rho : completions.rho ≤ completions.delta
   pub completions_most : completions.delta ≤ most
   pub each : Each (IsKept counting most completions) servers

@@ -2,7 +2,7 @@
 -- delta, of all responses, and rho, of those of them in the constraint phase.
 use Rattle.std.specs.Prelude.{◌≡◌, ℕ, ◌+◌, ◌<◌, ◌⊎◌, ◌==◌, Bool, false, if◌then◌else◌, List, [], ◌∷◌, ◌++◌, sum_by, count_by}
 use Rattle.std.specs.List.{after_last}
-use Rattle.dmc_types.specs.Limits.{greatest_count}
+use Rattle.dmc_types.specs.Limits.{max_count}
 use Rattle.dmc_types.specs.Values.{Params, no_counts}
 use Rattle.dmc_types.specs.declared.ids.ServerId.{ServerId}
 use Rattle.dmc_types.specs.declared.config.Counting.{Counting}
@@ -137,8 +137,8 @@ IsComplete most events = (completions events).delta ≡ most
 -- A delta that no stamp may carry, where the deltas stamped to its server sum to `sent`: it is past the greatest count (a
 -- rho is no more than its delta), or, in `Others`, it would take the sum past `most`.
 abbrev pub IsTooMuch : Counting → (most sent delta : ℕ) → Type 0
-IsTooMuch All most sent delta = greatest_count < delta
-IsTooMuch Others most sent delta = (greatest_count < delta) ⊎ (most < sent + delta)
+IsTooMuch All most sent delta = max_count < delta
+IsTooMuch Others most sent delta = (max_count < delta) ⊎ (most < sent + delta)
 
 -- the delta that the next stamp to s must carry is too much
 abbrev pub IsStampFull : Counting → ℕ → ServerId → List TrackerEvent → Type 0

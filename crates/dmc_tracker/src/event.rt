@@ -10,6 +10,6 @@ pub enum TrackerEvent {
     Stamp { server: ServerId, params: ReqParams },
     /// The completions that a stamp to a server would count were skipped: no request was sent.
     Skip { server: ServerId },
-    /// A server answered a request, which it granted in a phase.
+    /// A server completed a request, which it granted in a phase.
     Response { server: ServerId, phase: PhaseType },
 }

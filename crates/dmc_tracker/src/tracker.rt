@@ -1,17 +1,17 @@
 //! The tracker.
 ghost use Rattle.std.specs.Prelude.{◌≡◌, ◌<◌, ◌≤◌, ◌+◌, ◌^◌, ◌↔◌, Option, List, [], ◌∷◌, ◌++◌, length, IfOk, OnOk, OnErr, IsOk, IsErrOf, IsOkUnless, IsTrue, slice_get, option_map};
-ghost use Rattle.dmc_types.specs.Limits.{greatest_count, most_completions, most_servers};
+ghost use Rattle.dmc_types.specs.Limits.{max_count, max_completions, max_servers};
 ghost use Rattle.dmc_types.specs.declared.config.Counting.{Counting};
 ghost use Rattle.dmc_tracker.specs.declared.event.TrackerEvent.{TrackerEvent};
 ghost use Rattle.dmc_tracker.specs.TrackerList.{demanded, IsComplete, IsStampFull, IsTooMuch};
-ghost use Rattle.dmc_tracker.specs.Numbers.{Numbers, new_numbers, numbers_at, next_params, after_stamp, after_skip, after_response, sent_pair, skipped_pair, pending_pair, AreLimits, IsFullAt, Keeps, Stands};
+ghost use Rattle.dmc_tracker.specs.Numbers.{Numbers, new_numbers, numbers_at, next_params, after_stamp, after_skip, after_response, sent_pair, skipped_pair, pending_pair, AreLimits, IsFullAt, Keeps, RepresentsEvents};
 
 use crate::counts::Counts;
 use crate::event::TrackerEvent;
 use crate::server::ServerCounts;
 use dmc_types::config::{Counting, PhaseType};
 use dmc_types::ids::ServerId;
-use dmc_types::limits::{GREATEST_COUNT, MOST_COMPLETIONS, MOST_SERVERS};
+use dmc_types::limits::{MAX_COMPLETIONS, MAX_COUNT, MAX_SERVERS};
 use dmc_types::params::ReqParams;
 use std::alloc::{AllocError, Global};
 use std::marker::Model;
@@ -86,11 +86,11 @@ impl ServiceTracker {
         counting: Counting,
     ) -> Result<ServiceTracker, MakeFault>
         ensures ok { IfOk result (λ tracker. tracker ≡ new_numbers counting most servers) }
-        ensures stands { IfOk result (λ tracker. Stands tracker []) }
+        ensures represents { IfOk result (λ tracker. RepresentsEvents tracker []) }
         ensures limit { (AreLimits servers most → ⊥) → result ≡ Err MakeFault.Limit }
         ensures memory { AreLimits servers most → IsOkUnless result MakeFault.Memory }
     {
-        if servers < 1 || servers > MOST_SERVERS || most < 1 || most > MOST_COMPLETIONS {
+        if servers < 1 || servers > MAX_SERVERS || most < 1 || most > MAX_COMPLETIONS {
             return Err(MakeFault::Limit);
         }
         let servers = vec![in alloc; ServerCounts::none(); servers as usize]?;
@@ -108,13 +108,13 @@ impl ServiceTracker {
     pub fn can_stamp(&self, server: ServerId) -> Result<(), TrackFault>
         ensures within { OnOk result
             ((numbers_at self.now server).sent.delta + (next_params self.now server).delta ≤ self.now.most) }
-        ensures carried { OnOk result ((next_params self.now server).delta ≤ greatest_count) }
+        ensures carried { OnOk result ((next_params self.now server).delta ≤ max_count) }
         ensures counted { self.now.completions.delta ≤ self.now.most }
         ensures no_server { IsErrOf result TrackFault.NoServer ↔ (length self.now.servers ≤ server.0) }
         ensures full { IsErrOf result TrackFault.TrackFull ↔ IsFullAt self.now server }
 
         // The same in words of each list that the tracker represents.
-        ensures full_by_list { (events : List TrackerEvent) → Stands self.now events
+        ensures full_by_list { (events : List TrackerEvent) → RepresentsEvents self.now events
             → (IsErrOf result TrackFault.TrackFull ↔ ((server.0 < length self.now.servers)
             × IsStampFull self.now.counting self.now.most server events)) }
     {
@@ -140,12 +140,12 @@ impl ServiceTracker {
 
         // Of each list that the tracker represents, it takes the numbers to those of the list with this stamp, which
         // carries what the list demands.
-        ensures stands { IfOk result (λ params. (events : List TrackerEvent) → Stands self.old events
-            → (params ≡ demanded self.old.counting server events) × Stands self.new (events ++ TrackerEvent.Stamp server params ∷ [])) }
+        ensures represents { IfOk result (λ params. (events : List TrackerEvent) → RepresentsEvents self.old events
+            → (params ≡ demanded self.old.counting server events) × RepresentsEvents self.new (events ++ TrackerEvent.Stamp server params ∷ [])) }
 
         ensures no_server { IsErrOf result TrackFault.NoServer ↔ (length self.old.servers ≤ server.0) }
         ensures full { IsErrOf result TrackFault.TrackFull ↔ IsFullAt self.old server }
-        ensures full_by_list { (events : List TrackerEvent) → Stands self.old events
+        ensures full_by_list { (events : List TrackerEvent) → RepresentsEvents self.old events
             → (IsErrOf result TrackFault.TrackFull ↔ ((server.0 < length self.old.servers)
             × IsStampFull self.old.counting self.old.most server events)) }
         ensures err { OnErr result (self.new ≡ self.old) }
@@ -172,8 +172,8 @@ impl ServiceTracker {
         ensures after { OnOk result (self.new ≡ after_skip server self.old) }
 
         // Of each list that the tracker represents, it takes the numbers to those of the list with this skip.
-        ensures stands { OnOk result ((events : List TrackerEvent) → Stands self.old events
-            → Stands self.new (events ++ TrackerEvent.Skip server ∷ [])) }
+        ensures represents { OnOk result ((events : List TrackerEvent) → RepresentsEvents self.old events
+            → RepresentsEvents self.new (events ++ TrackerEvent.Skip server ∷ [])) }
 
         ensures ok { IsOk result ↔ (server.0 < length self.old.servers) }
         ensures no_server { IsErrOf result TrackFault.NoServer ↔ (length self.old.servers ≤ server.0) }
@@ -204,7 +204,7 @@ impl ServiceTracker {
             ↔ ((server.0 < length self.now.servers) × (self.now.completions.delta ≡ self.now.most)) }
 
         // The same in words of each list that the tracker represents.
-        ensures full_by_list { (events : List TrackerEvent) → Stands self.now events
+        ensures full_by_list { (events : List TrackerEvent) → RepresentsEvents self.now events
             → (IsErrOf result TrackFault.TrackFull ↔ ((server.0 < length self.now.servers) × IsComplete self.now.most events)) }
     {
         if server.0 as usize >= self.servers.len() {
@@ -216,18 +216,18 @@ impl ServiceTracker {
         Ok(())
     }
 
-    /// Counts a completion: a server answered a request that it granted in a phase. Refused as `can_respond` says.
+    /// Counts a completion: a server completed a request that it granted in a phase. Refused as `can_respond` says.
     pub fn track_resp(&mut self, server: ServerId, phase: PhaseType) -> Result<(), TrackFault>
         ensures after { OnOk result (self.new ≡ after_response server phase self.old) }
 
         // Of each list that the tracker represents, it takes the numbers to those of the list with this response.
-        ensures stands { OnOk result ((events : List TrackerEvent) → Stands self.old events
-            → Stands self.new (events ++ TrackerEvent.Response server phase ∷ [])) }
+        ensures represents { OnOk result ((events : List TrackerEvent) → RepresentsEvents self.old events
+            → RepresentsEvents self.new (events ++ TrackerEvent.Response server phase ∷ [])) }
 
         ensures no_server { IsErrOf result TrackFault.NoServer ↔ (length self.old.servers ≤ server.0) }
         ensures full { IsErrOf result TrackFault.TrackFull
             ↔ ((server.0 < length self.old.servers) × (self.old.completions.delta ≡ self.old.most)) }
-        ensures full_by_list { (events : List TrackerEvent) → Stands self.old events
+        ensures full_by_list { (events : List TrackerEvent) → RepresentsEvents self.old events
             → (IsErrOf result TrackFault.TrackFull ↔ ((server.0 < length self.old.servers) × IsComplete self.old.most events)) }
         ensures err { OnErr result (self.new ≡ self.old) }
         ensures kept { Keeps self.old self.new }
@@ -286,7 +286,7 @@ impl ServiceTracker {
     pub fn servers(&self) -> u32
         ensures value { result ≡ length self.now.servers }
         ensures some { 0 < result }
-        ensures limit { result ≤ most_servers }
+        ensures limit { result ≤ max_servers }
     {
         self.servers.len() as u32
     }
@@ -295,7 +295,7 @@ impl ServiceTracker {
     pub fn most(&self) -> u64
         ensures value { result ≡ self.now.most }
         ensures some { 0 < result }
-        ensures limit { result ≤ most_completions }
+        ensures limit { result ≤ max_completions }
     {
         self.most
     }
@@ -314,7 +314,7 @@ pub fn is_too_much(counting: Counting, most: u64, sent: u64, delta: u64) -> bool
     requires { sent + delta < 2 ^ 64 }
     ensures { IsTrue result ↔ IsTooMuch counting most sent delta }
 {
-    let is_wide = delta > u64::from(GREATEST_COUNT);
+    let is_wide = delta > u64::from(MAX_COUNT);
     match counting {
         Counting::All => is_wide,
         Counting::Others => is_wide || sent + delta > most,

@@ -1,13 +1,13 @@
 -- A clock that counts nanoseconds, and moments in ticks.
 use Rattle.std.specs.Prelude.{ℕ, ◌*◌, ◌/◌, ◌<◌, ◌≤◌}
-use Rattle.dmc_types.specs.Limits.{greatest_hz}
+use Rattle.dmc_types.specs.Limits.{max_hz}
 
 abbrev pub nanos_per_second : ℕ
 nanos_per_second = 1000000000
 
 -- a configuration may have this hz
 abbrev pub IsHz : ℕ → Type 0
-IsHz hz = (0 < hz) × (hz ≤ greatest_hz)
+IsHz hz = (0 < hz) × (hz ≤ max_hz)
 
 -- the whole ticks that have passed after this many nanoseconds
 abbrev pub ticks_after : ℕ → ℕ → ℕ

@@ -1,6 +1,6 @@
 -- What contracts see of the checked values.
 use Rattle.std.specs.Prelude.{ℕ, ◌≤◌, ◌<◌, Option, IfSome}
-use Rattle.dmc_types.specs.Limits.{greatest_hz, greatest_moment}
+use Rattle.dmc_types.specs.Limits.{max_hz, max_moment}
 use Rattle.dmc_types.specs.declared.config.AtLimit.{AtLimit}
 
 -- the two counts of a stamp
@@ -37,7 +37,7 @@ pub record AreRates (reservation : Option ℕ) (weight : ℕ) (limit : Option �
 -- the limits of a configuration
 pub record IsSetting (hz idle_age erase_age : ℕ) : Type 0 where
   pub some_hz : 0 < hz
-  pub hz_limit : hz ≤ greatest_hz
+  pub hz_limit : hz ≤ max_hz
   pub some_age : 0 < idle_age
   pub in_order : idle_age ≤ erase_age
-  pub age_limit : erase_age ≤ greatest_moment
+  pub age_limit : erase_age ≤ max_moment

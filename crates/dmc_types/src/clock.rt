@@ -1,9 +1,9 @@
 //! A real clock: moments from nanoseconds, and back.
 ghost use Rattle.std.specs.Prelude.{◌≡◌, ℕ, ◌*◌, ◌/◌, ◌^◌, ◌<◌, ◌≤◌, ◌↔◌, ◌⊎◌, IsNone, IsTrue, IfSome};
 ghost use Rattle.dmc_types.specs.Clock.{IsHz, IsLeastNanos, ticks_after};
-ghost use Rattle.dmc_types.specs.Limits.{greatest_moment};
+ghost use Rattle.dmc_types.specs.Limits.{max_moment};
 
-use crate::limits::{GREATEST_HZ, GREATEST_MOMENT};
+use crate::limits::{MAX_HZ, MAX_MOMENT};
 use crate::moment::Moment;
 
 /// The nanoseconds in a second.
@@ -13,7 +13,7 @@ const NANOS_PER_SECOND: u128 = 1_000_000_000;
 fn is_hz(hz: u32) -> bool
     ensures { IsTrue result ↔ IsHz hz }
 {
-    hz > 0 && u64::from(hz) <= GREATEST_HZ
+    hz > 0 && u64::from(hz) <= MAX_HZ
 }
 
 impl Moment {
@@ -21,13 +21,13 @@ impl Moment {
     /// `None` where that is above 2^62, and where `hz` is not 1 to 1,000,000,000.
     pub fn from_nanos(hz: u32, nanos: u64) -> Option<Moment>
         ensures value { IfSome result (λ moment. moment ≡ ticks_after hz nanos) }
-        ensures none { IsNone result ↔ (IsHz hz → ⊥) ⊎ (greatest_moment < ticks_after hz nanos) }
+        ensures none { IsNone result ↔ (IsHz hz → ⊥) ⊎ (max_moment < ticks_after hz nanos) }
     {
         if !is_hz(hz) {
             return None;
         }
         let ticks = u128::from(nanos) * u128::from(hz) / NANOS_PER_SECOND;
-        if ticks > u128::from(GREATEST_MOMENT) {
+        if ticks > u128::from(MAX_MOMENT) {
             return None;
         }
         Moment::new(ticks as u64).ok()

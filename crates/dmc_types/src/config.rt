@@ -1,11 +1,11 @@
 //! The settings of a queue.
 ghost use Rattle.std.specs.Prelude.{◌≡◌, ◌<◌, ◌≤◌, ◌↔◌, ◌⊎◌, IsNone, IfSome};
-ghost use Rattle.dmc_types.specs.Limits.{greatest_hz, greatest_moment};
+ghost use Rattle.dmc_types.specs.Limits.{max_hz, max_moment};
 ghost use Rattle.dmc_types.specs.Rates.{IsGreatestAtMost, IsLeastAtLeast};
 ghost use Rattle.dmc_types.specs.Values.{IsSetting};
 ghost use Rattle.dmc_types.specs.declared.refusal.ValueFault.{ValueFault};
 
-use crate::limits::{GREATEST_AGE, GREATEST_HZ};
+use crate::limits::{MAX_AGE, MAX_HZ};
 use crate::rates;
 use crate::refusal::ValueFault;
 use std::marker::Model;
@@ -80,8 +80,8 @@ impl QueueConfig {
             result ≡ Ok (record { hz = hz; idle_age = idle_age; erase_age = erase_age; at_limit = at_limit }) }
         ensures refused { (IsSetting hz idle_age erase_age → ⊥) → result ≡ Err ValueFault.Config }
     {
-        let in_order = 1 <= idle_age && idle_age <= erase_age && erase_age <= GREATEST_AGE;
-        if hz < 1 || hz > GREATEST_HZ || !in_order {
+        let in_order = 1 <= idle_age && idle_age <= erase_age && erase_age <= MAX_AGE;
+        if hz < 1 || hz > MAX_HZ || !in_order {
             return Err(ValueFault::Config);
         }
         Ok(QueueConfig {
@@ -96,7 +96,7 @@ impl QueueConfig {
     pub fn hz(self) -> u32
         ensures value { result ≡ self.hz }
         ensures some { 0 < result }
-        ensures limit { result ≤ greatest_hz }
+        ensures limit { result ≤ max_hz }
     {
         self.hz
     }
@@ -131,7 +131,7 @@ impl QueueConfig {
     /// The age in ticks from which a clean erases a client.
     pub fn erase_age(self) -> u64
         ensures value { result ≡ self.erase_age }
-        ensures limit { result ≤ greatest_moment }
+        ensures limit { result ≤ max_moment }
     {
         self.erase_age
     }

@@ -1,28 +1,28 @@
 //! The limits that a back end meets, by name (`docs/RULES.md` has them as a table).
 
 /// The last moment, in ticks.
-pub const GREATEST_MOMENT: u64 = 1 << 62;
+pub const MAX_MOMENT: u64 = 1 << 62;
 
 /// The greatest age of a configuration, in ticks.
-pub const GREATEST_AGE: u64 = GREATEST_MOMENT;
+pub const MAX_AGE: u64 = MAX_MOMENT;
 
 /// The most ticks a second.
-pub const GREATEST_HZ: u64 = 1_000_000_000;
+pub const MAX_HZ: u64 = 1_000_000_000;
 
 /// The most clients of a queue.
-pub const MOST_CLIENTS: u32 = 65_536;
+pub const MAX_CLIENTS: u32 = 65_536;
 
 /// The most queued requests of a queue.
-pub const MOST_REQUESTS: u32 = 1 << 20;
+pub const MAX_REQUESTS: u32 = 1 << 20;
 
 /// The most servers of a tracker, and of a scene.
-pub const MOST_SERVERS: u32 = 64;
+pub const MAX_SERVERS: u32 = 64;
 
 /// The most completions that a tracker counts.
-pub const MOST_COMPLETIONS: u64 = 1 << 62;
+pub const MAX_COMPLETIONS: u64 = 1 << 62;
 
 /// The greatest delta and the greatest rho that a stamp carries.
-pub const GREATEST_COUNT: u32 = u32::MAX;
+pub const MAX_COUNT: u32 = u32::MAX;
 
 /// The most events of a history.
-pub const MOST_EVENTS: u32 = 1 << 30;
+pub const MAX_EVENTS: u32 = 1 << 30;

@@ -1,9 +1,9 @@
 //! Time, which the caller passes in.
 ghost use Rattle.std.specs.Prelude.{◌≡◌, ◌<◌, ◌≤◌, max};
-ghost use Rattle.dmc_types.specs.Limits.{greatest_moment};
+ghost use Rattle.dmc_types.specs.Limits.{max_moment};
 ghost use Rattle.dmc_types.specs.declared.refusal.ValueFault.{ValueFault};
 
-use crate::limits::GREATEST_MOMENT;
+use crate::limits::MAX_MOMENT;
 use crate::refusal::ValueFault;
 use std::marker::Model;
 
@@ -15,13 +15,13 @@ pub struct Moment {
 
 impl Model for Moment {
     ghost use Rattle.std.specs.Prelude.{ℕ, ◌≤◌};
-    ghost use Rattle.dmc_types.specs.Limits.{greatest_moment};
+    ghost use Rattle.dmc_types.specs.Limits.{max_moment};
 
     ghost Value = { ℕ };
 
     ghost view = { λ m. m.ticks };
 
-    ghost invariant = { λ m. m.ticks ≤ greatest_moment };
+    ghost invariant = { λ m. m.ticks ≤ max_moment };
 
     ghost inverse = { λ n. record { ticks = n } };
 }
@@ -29,10 +29,10 @@ impl Model for Moment {
 impl Moment {
     /// The moment of this many ticks. It is refused `Moment` above 2^62.
     pub fn new(ticks: u64) -> Result<Moment, ValueFault>
-        ensures ok { ticks ≤ greatest_moment → result ≡ Ok ticks }
-        ensures refused { greatest_moment < ticks → result ≡ Err ValueFault.Moment }
+        ensures ok { ticks ≤ max_moment → result ≡ Ok ticks }
+        ensures refused { max_moment < ticks → result ≡ Err ValueFault.Moment }
     {
-        if ticks > GREATEST_MOMENT {
+        if ticks > MAX_MOMENT {
             return Err(ValueFault::Moment);
         }
         Ok(Moment { ticks })
@@ -59,7 +59,7 @@ impl Moment {
     /// The number of ticks.
     pub fn ticks(self) -> u64
         ensures value { result ≡ self }
-        ensures bound { result ≤ greatest_moment }
+        ensures bound { result ≤ max_moment }
     {
         self.ticks
     }
@@ -68,12 +68,12 @@ impl Moment {
 /// The moment of this many ticks, as a `Future` has them. It is refused `Moment` above 2^62.
 impl TryFrom<u128> for Moment {
     ghost use Rattle.std.specs.Prelude.{◌≡◌, ◌≤◌, ◌<◌, Ok, Err};
-    ghost use Rattle.dmc_types.specs.Limits.{greatest_moment};
+    ghost use Rattle.dmc_types.specs.Limits.{max_moment};
     ghost use Rattle.dmc_types.specs.declared.refusal.ValueFault.{ValueFault};
 
     type Error = ValueFault;
 
-    ghost try_from_gives = { λ ticks moment. (ticks ≤ greatest_moment → moment ≡ Ok ticks) × (greatest_moment < ticks → moment ≡ Err ValueFault.Moment) };
+    ghost try_from_gives = { λ ticks moment. (ticks ≤ max_moment → moment ≡ Ok ticks) × (max_moment < ticks → moment ≡ Err ValueFault.Moment) };
 
     fn try_from(ticks: u128) -> Result<Moment, ValueFault> {
         match u64::try_from(ticks) {

@@ -3,7 +3,7 @@ ghost use Rattle.std.specs.Prelude.{◌≡◌, ◌<◌, ◌≤◌, ◌↔◌, �
 ghost use Rattle.dmc_types.specs.Clock.{IsHz};
 ghost use Rattle.dmc_types.specs.Rates.{IsGreatestAtMost, IsLeastAtLeast};
 
-use crate::limits::GREATEST_HZ;
+use crate::limits::MAX_HZ;
 
 /// An hz with 1,344 divisors, for rates that an operator typed. Every rate from 1 to 18 divides it, and of two divisors that
 /// follow each other the greater is at most 9.1% above the less from 20 on, 5% from 100 on, and 2.2% from 1,000 on (up to
@@ -11,7 +11,7 @@ use crate::limits::GREATEST_HZ;
 pub const FINE_HZ: u32 = 735_134_400;
 
 /// One more than the greatest whole number whose square is below 2^32.
-const MOST_ROOT: u32 = 1 << 16;
+const MAX_ROOT: u32 = 1 << 16;
 
 /// The greatest divisor of `hz` that is at most `rate`, in requests a second: the rate to take for a limit and for a weight.
 /// `None` for a rate of 0, and where `hz` is not 1 to 1,000,000,000. It makes at most 31,623 divisions.
@@ -22,7 +22,7 @@ pub fn rate_at_most(hz: u32, rate: u32) -> Option<u32>
     ensures found { IfSome result (IsGreatestAtMost hz rate) }
     ensures none { IsNone result ↔ (rate ≡ 0) ⊎ (IsHz hz → ⊥) }
 {
-    if rate == 0 || hz == 0 || u64::from(hz) > GREATEST_HZ {
+    if rate == 0 || hz == 0 || u64::from(hz) > MAX_HZ {
         return None;
     }
     Some(greatest_divisor(hz, rate))
@@ -48,7 +48,7 @@ fn greatest_divisor(hz: u32, most: u32) -> u32
     ensures { IsGreatestAtMost hz most result }
 {
     let mut best = 1;
-    for divisor in 1..=MOST_ROOT {
+    for divisor in 1..=MAX_ROOT {
         let counterpart = hz / divisor;
         if counterpart < divisor {
             break;

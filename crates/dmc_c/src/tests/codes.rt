@@ -89,9 +89,9 @@ fn refused_values(rt: HostRuntime) -> Result<(), Fail> {
         Add(1, 1, 0, 0, 0),
         Pull(1 << 62),
     ];
-    let told = replies(rt.alloc(), TICKS, &lines)?;
+    let written = replies(rt.alloc(), TICKS, &lines)?;
     assert_eq!(rt;
-        told.as_str(),
+        written.as_str(),
         "ok; code 10; code 12; code 20; code 22; code 23; code 24; code 10; code 12; code 21; code 10; code 11; code 21; code 10; code 10; code 21; tags - 0 0; grant 1 1 priority"
     );
     Ok(())
@@ -110,15 +110,15 @@ fn far_future(rt: HostRuntime) -> Result<(), Fail> {
         hz: 1_000_000_000,
         ..RATIOS
     };
-    let told = replies(rt.alloc(), setting, &far)?;
+    let written = replies(rt.alloc(), setting, &far)?;
     assert_eq!(rt;
-        told.as_str(),
+        written.as_str(),
         "ok; tags - 4294967295000000000 4294967295000000000; tags - 8589934590000000000 8589934590000000000; future 4294967295000000000"
     );
     Ok(())
 }
 
-/// The code of want of memory, which a test with ample memory does not meet.
+/// The code of a failed allocation, which a test with ample memory does not meet.
 #[test]
 fn memory_code(rt: HostRuntime) -> Result<(), Fail> {
     let refused: Result<(), Fault> = Err(Fault::Memory);

@@ -5,12 +5,12 @@ use std::test::Fail;
 
 #[test]
 fn granted_by_reservation(rt: HostRuntime) -> Result<(), Fail> {
-    let told = replies(
+    let written = replies(
         rt.alloc(),
         TICKS,
         &[Client(1, 10, 1, 0, 0), Add(1, 9, 0, 0, 0), Pull(0)],
     )?;
-    assert_eq!(rt; told.as_str(), "ok; tags 0 0 0; grant 1 9 reservation");
+    assert_eq!(rt; written.as_str(), "ok; tags 0 0 0; grant 1 9 reservation");
     Ok(())
 }
 
@@ -23,9 +23,9 @@ fn granted_at_limit(rt: HostRuntime) -> Result<(), Fail> {
         Pull(50),
         Pull(50),
     ];
-    let told = replies(rt.alloc(), TICKS, &lines)?;
+    let written = replies(rt.alloc(), TICKS, &lines)?;
     assert_eq!(rt;
-        told.as_str(),
+        written.as_str(),
         "ok; tags 100 50 1000; future 50; grant 1 7 priority; none"
     );
     Ok(())
@@ -42,9 +42,9 @@ fn allowed_beyond(rt: HostRuntime) -> Result<(), Fail> {
         Pull(100),
         Pull(100),
     ];
-    let told = replies(rt.alloc(), allow, &lines)?;
+    let written = replies(rt.alloc(), allow, &lines)?;
     assert_eq!(rt;
-        told.as_str(),
+        written.as_str(),
         "ok; tags 100 50 1000; tags 200 100 2000; grant 1 1 priority beyond; grant 1 2 reservation; none"
     );
     Ok(())
@@ -64,10 +64,10 @@ fn updates(rt: HostRuntime) -> Result<(), Fail> {
         Update(1, 0, 3, 0, 0),
         Update(2, 0, 1, 0, 0),
     ];
-    let told = replies(rt.alloc(), TICKS, &lines)?;
+    let written = replies(rt.alloc(), TICKS, &lines)?;
     // Busy; then inexact weight, unknown.
     assert_eq!(rt;
-        told.as_str(),
+        written.as_str(),
         "ok; tags - 0 1000; updated; tags - 0 1500; code 28; dropped 2; updated; tags 100 0 2000; code 23; code 21"
     );
     Ok(())
@@ -81,9 +81,9 @@ fn exact_thirds(rt: HostRuntime) -> Result<(), Fail> {
         Add(1, 2, 1, 0, 0),
         Add(1, 3, 1, 0, 0),
     ];
-    let told = replies(rt.alloc(), RATIOS, &lines)?;
+    let written = replies(rt.alloc(), RATIOS, &lines)?;
     assert_eq!(rt;
-        told.as_str(),
+        written.as_str(),
         "ok; tags - 0 1000/3; tags - 0 2000/3; tags - 0 1000"
     );
     Ok(())
@@ -107,10 +107,10 @@ fn idle_then_erased(rt: HostRuntime) -> Result<(), Fail> {
         Clean(1100),
         Add(1, 2, 0, 0, 1100),
     ];
-    let told = replies(rt.alloc(), aged, &lines)?;
+    let written = replies(rt.alloc(), aged, &lines)?;
     // The last is unknown.
     assert_eq!(rt;
-        told.as_str(),
+        written.as_str(),
         "ok; cleaned 0 0; tags - 100 100; grant 1 1 priority; cleaned 0 0; cleaned 1 0; cleaned 0 0; cleaned 0 1; code 21"
     );
     Ok(())
@@ -128,9 +128,9 @@ fn reduction_out_of_range(rt: HostRuntime) -> Result<(), Fail> {
         Pull(1),
         Pull(1),
     ];
-    let told = replies(rt.alloc(), second, &lines)?;
+    let written = replies(rt.alloc(), second, &lines)?;
     assert_eq!(rt;
-        told.as_str(),
+        written.as_str(),
         "ok; tags 1/65537 0 1; tags 2/65537 0 2; updated; code 27; grant 1 1 reservation; grant 1 2 reservation"
     );
     Ok(())

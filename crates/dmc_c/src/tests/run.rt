@@ -1,10 +1,10 @@
 //! Runs of a queue through its exports, with their replies as texts.
 use crate::handle::Handle;
+use crate::outputs::{DmcPulled, DmcTag, DmcTags};
 use crate::queue::{
     dmc_queue_add, dmc_queue_clean, dmc_queue_free, dmc_queue_new, dmc_queue_pull,
     dmc_queue_register, dmc_queue_remove, dmc_queue_update,
 };
-use crate::telling::{DmcPulled, DmcTag, DmcTags};
 use std::alloc::{AllocError, Global};
 
 /// What `dmc_queue_new` is asked.
@@ -73,10 +73,10 @@ pub fn no_pull() -> DmcPulled {
 /// The texts of the replies to a script at a new queue, which ends after it.
 pub fn replies(alloc: Global, setting: Setting, lines: &[Line]) -> Result<String, AllocError> {
     let mut queue = Handle::none();
-    let told = run_all(&mut queue, setting, lines, alloc);
+    let written = run_all(&mut queue, setting, lines, alloc);
     dmc_queue_free(&mut queue, alloc);
     queue.end(alloc);
-    told
+    written
 }
 
 /// Makes the queue, and runs the lines.
@@ -98,15 +98,15 @@ fn run_all(
     if not_memory(code)? != 0 {
         return format!(in alloc; "code {code}");
     }
-    let mut told = String::new(alloc);
+    let mut written = String::new(alloc);
     for line in lines {
         let reply = run_line(queue, *line, alloc)?;
-        if !told.is_empty() {
-            told.push_str("; ")?;
+        if !written.is_empty() {
+            written.push_str("; ")?;
         }
-        told.push_str(reply.as_str())?;
+        written.push_str(reply.as_str())?;
     }
-    Ok(told)
+    Ok(written)
 }
 
 /// The text of one reply.

@@ -1,6 +1,6 @@
 //! The worked examples of trackers, through the exports.
 use crate::handle::Handle;
-use crate::telling::{DmcStamp, DmcTrack};
+use crate::outputs::{DmcStamp, DmcTrack};
 use crate::tests::run::not_memory;
 use crate::tracker::{
     dmc_tracker_free, dmc_tracker_new, dmc_tracker_respond, dmc_tracker_skip, dmc_tracker_stamp,
@@ -33,7 +33,7 @@ fn stamp(tracker: &mut Handle, server: u32, alloc: Global) -> (u32, u32, u32) {
 fn status(tracker: &mut Handle, server: u32, alloc: Global) -> (u32, [u64; 6]) {
     let mut track = NO_TRACK;
     let code = dmc_tracker_status(tracker, server, &mut track, alloc);
-    let told = [
+    let written = [
         track.sent_delta,
         track.sent_rho,
         track.pending_delta,
@@ -41,10 +41,10 @@ fn status(tracker: &mut Handle, server: u32, alloc: Global) -> (u32, [u64; 6]) {
         track.completions,
         track.reservation,
     ];
-    (code, told)
+    (code, written)
 }
 
-/// Stamp 0, response 0 reservation, stamp 1, response 1 priority, stamp 0, and what is told of both servers.
+/// Stamp 0, response 0 reservation, stamp 1, response 1 priority, stamp 0, and what is reported of both servers.
 fn three_stamps(
     counting: u32,
     alloc: Global,
@@ -56,23 +56,23 @@ fn three_stamps(
     let second = stamp(&mut tracker, 1, alloc);
     let two = dmc_tracker_respond(&mut tracker, 1, 1, alloc);
     let third = stamp(&mut tracker, 0, alloc);
-    let told = [
+    let written = [
         status(&mut tracker, 0, alloc),
         status(&mut tracker, 1, alloc),
     ];
     dmc_tracker_free(&mut tracker, alloc);
     tracker.end(alloc);
-    ([made, one, two], [first, second, third], told)
+    ([made, one, two], [first, second, third], written)
 }
 
 #[test]
 fn two_server_tracker(rt: HostRuntime) -> Result<(), Fail> {
-    let (codes, stamps, told) = three_stamps(0, rt.alloc());
+    let (codes, stamps, written) = three_stamps(0, rt.alloc());
     not_memory(codes[0])?;
     assert_eq!(rt; codes, [0, 0, 0]);
     assert_eq!(rt; stamps, [(0, 0, 0), (0, 1, 1), (0, 2, 1)]);
-    assert_eq!(rt; told[0], (0, [2, 1, 0, 0, 2, 1]));
-    assert_eq!(rt; told[1], (0, [1, 1, 1, 0, 2, 1]));
+    assert_eq!(rt; written[0], (0, [2, 1, 0, 0, 2, 1]));
+    assert_eq!(rt; written[1], (0, [1, 1, 1, 0, 2, 1]));
     Ok(())
 }
 
@@ -88,12 +88,12 @@ fn two_of_one(alloc: Global) -> (u32, [(u32, u32, u32); 2]) {
 
 #[test]
 fn others_tracker(rt: HostRuntime) -> Result<(), Fail> {
-    let (codes, stamps, told) = three_stamps(1, rt.alloc());
+    let (codes, stamps, written) = three_stamps(1, rt.alloc());
     not_memory(codes[0])?;
     assert_eq!(rt; codes, [0, 0, 0]);
     assert_eq!(rt; stamps, [(0, 1, 1), (0, 2, 2), (0, 2, 1)]);
-    assert_eq!(rt; told[0], (0, [3, 2, 0, 0, 2, 1]));
-    assert_eq!(rt; told[1], (0, [2, 2, 0, 0, 2, 1]));
+    assert_eq!(rt; written[0], (0, [3, 2, 0, 0, 2, 1]));
+    assert_eq!(rt; written[1], (0, [2, 2, 0, 0, 2, 1]));
     let (made, stamps) = two_of_one(rt.alloc());
     assert_eq!(rt; (not_memory(made)?, stamps), (0, [(0, 1, 1), (31, 9, 9)]));
     Ok(())

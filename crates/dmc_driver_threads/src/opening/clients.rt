@@ -34,7 +34,7 @@ pub(crate) fn no_senders<S: Setup>(alloc: Global) -> Senders<S> {
     }
 }
 
-/// Makes room for the workers of so many clients.
+/// Makes room for the workers of this number of clients.
 pub(crate) fn reserve_senders<S: Setup>(
     clients: usize,
     senders: &mut Senders<S>,
@@ -133,7 +133,7 @@ fn open_sender<S: Setup>(
     push_last(job, &mut senders.jobs)
 }
 
-/// A doorbell with room for so many rings, and one ringer more, at its door.
+/// A doorbell with room for this number of rings, and one ringer more, at its door.
 fn open_bell(alloc: Global, room: usize, ringers: &mut Vec<Ringer>) -> Result<Doorbell, AllocError>
     requires { 0 < room }
 {

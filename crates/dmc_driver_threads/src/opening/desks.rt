@@ -36,7 +36,7 @@ impl<S: Setup> Model for QueueDesks<S> {
 }
 
 impl<S: Setup> QueueDesks<S> {
-    /// None yet, and room for so many.
+    /// None yet, and room for this number.
     fn new(alloc: Global, server: ServerId, room: usize) -> Result<QueueDesks<S>, AllocError>
         ensures { IfOk result (λ made. made ≡ record { server = server.0; desks = [] }) }
     {
@@ -75,7 +75,7 @@ impl<S: Setup> Model for TrackerDesks<S> {
 }
 
 impl<S: Setup> TrackerDesks<S> {
-    /// None yet, and room for so many.
+    /// None yet, and room for this number.
     fn new(alloc: Global, client: ClientId, room: usize) -> Result<TrackerDesks<S>, AllocError>
         ensures { IfOk result (λ made. made ≡ record { client = client.0; desks = [] }) }
     {

@@ -1,7 +1,7 @@
 //! The servers of a run, opened: their queues, at which every client is registered, and their workers.
 ghost use Rattle.std.specs.Prelude.{◌≡◌, ◌++◌, ◌∷◌, [], ◌*◌, ◌≤◌, map, IfOk, OnOk};
 ghost use Rattle.dmc_driver_threads.specs.Opened.{IsOpenedBook, commands_of, registration};
-ghost use Rattle.dmc_types.specs.Limits.{most_server_workers, most_servers};
+ghost use Rattle.dmc_types.specs.Limits.{max_server_workers, max_servers};
 
 use super::desks::QueueDesks;
 use super::{Opened, push_last};
@@ -32,11 +32,11 @@ use dmc_types::moment::Moment;
 use std::alloc::{AllocError, Global};
 
 /// The most workers that a server opens with.
-const MOST_WORKERS: usize = 65_536;
+const MAX_WORKERS: usize = 65_536;
 
 /// How many workers the servers have.
 pub(crate) fn server_workers(scene: &Scene) -> usize
-    ensures { result ≤ most_servers * most_server_workers }
+    ensures { result ≤ max_servers * max_server_workers }
 {
     (scene.servers() * scene.workers()) as usize
 }
@@ -199,7 +199,7 @@ fn book_of<T: Tag, I: Indexes<T>, S: Setup>(
     ensures most { IfOk result (λ made. made.0.most ≡ limits.events) }
     ensures history { IfOk result (λ made. made.0.history ≡ []) }
 {
-    if workers.len() > MOST_WORKERS {
+    if workers.len() > MAX_WORKERS {
         return Err(OpenFault::Torn);
     }
     let QueueDesks { server, desks } = desks;

@@ -1,6 +1,6 @@
 //! An add to the reference queue.
 ghost use Rattle.std.specs.Prelude.{◌≡◌, ◌<◌, ◌≤◌, ◌++◌, length, Some, true, is_some, OnOk, OnErr, IsOkUnless, take, drop, vec_len};
-ghost use Rattle.dmc_types.specs.Limits.{most_requests};
+ghost use Rattle.dmc_types.specs.Limits.{max_requests};
 ghost use Rattle.dmc_tag.specs.Answers.{call_reply};
 ghost use Rattle.dmc_tag.specs.Rules as rules_of;
 ghost use Rattle.dmc_tag.specs.State.{client_named};
@@ -20,7 +20,7 @@ use dmc_tag::reply::Tags;
 use dmc_tag::spacing::spacings_for;
 use dmc_tag::tag::Tag;
 use dmc_types::ids::{ClientId, Token};
-use dmc_types::limits::MOST_REQUESTS;
+use dmc_types::limits::MAX_REQUESTS;
 use dmc_types::moment::Moment;
 use dmc_types::params::ReqParams;
 use dmc_types::refusal::{QueueFault, Refusal};
@@ -47,13 +47,13 @@ impl<T: Tag> PlainQueue<T> {
         t: T,
     ) -> Result<(Option<T>, Tags<T>), Refusal>
         ensures outcome { result ≡ rules_of.can_add T.ops self.now client params t }
-        ensures room { OnOk result (length self.now.requests < most_requests) }
+        ensures room { OnOk result (length self.now.requests < max_requests) }
         ensures known { OnOk result (is_some (client_named client self.now.clients) ≡ true) }
     {
         let Some(arriving) = client_named(&self.clients, client) else {
             return Err(Refusal::Unknown);
         };
-        if self.requests.len() >= MOST_REQUESTS as usize {
+        if self.requests.len() >= MAX_REQUESTS as usize {
             return Err(Refusal::QueueFull);
         }
         let shift = shift_of(&self.requests, &arriving, t)?;
@@ -71,7 +71,7 @@ impl<T: Tag> PlainQueue<T> {
         shift: Option<T>,
         at: Moment,
     ) -> Result<(), QueueFault>
-        requires room { length self.old.requests < most_requests }
+        requires room { length self.old.requests < max_requests }
         requires known { is_some (client_named request.client self.old.clients) ≡ true }
         ensures ok { OnOk result (self.new ≡ rules_of.queued (rules_of.shifted_by T.ops shift self.old) request at) }
         ensures err { OnErr result (self.new ≡ self.old) }

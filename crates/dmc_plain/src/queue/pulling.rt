@@ -153,12 +153,12 @@ impl<T: Tag> PlainQueue<T> {
     {
         match self.config.at_limit() {
             AtLimit::Allow => self.pull_beyond(at),
-            AtLimit::Wait => Ok(self.tell_due(at)),
+            AtLimit::Wait => Ok(self.report_due(at)),
         }
     }
 
     /// The moment at which the next request is due, as a pull returns it.
-    fn tell_due(&mut self, at: Moment) -> Pulled
+    fn report_due(&mut self, at: Moment) -> Pulled
         ensures now { self.new ≡ rules_of.without self.old at self.old.requests }
         ensures answer { result ≡ option_map_or pulls.Future (least_due T.ops self.old.requests) pulls.Nothing }
     {

@@ -5,7 +5,7 @@ use Rattle.std.specs.Option.{option_map, ok_or}
 use Rattle.std.specs.List.{AllByRecursion}
 use Rattle.std.specs.declared.cmp.Ordering.TheVariants.{Equal}
 use Rattle.std.specs.Cmp.{IsTotalOrder}
-use Rattle.dmc_types.specs.Limits.{most_requests}
+use Rattle.dmc_types.specs.Limits.{max_requests}
 use Rattle.dmc_types.specs.Values.{Params}
 use Rattle.dmc_types.specs.declared.ids.ClientId.{ClientId}
 use Rattle.dmc_types.specs.declared.refusal.Refusal.{Refusal}
@@ -24,7 +24,7 @@ use Rattle.dmc_head_index.specs.declared.head.Head.{Head}
 use Rattle.dmc_head_index.specs.Heads.{IsLeastShare}
 use Rattle.dmc_pull.specs.Adding.{needed_shift, unless_nothing}
 use Rattle.dmc_pull.specs.Queue.{AreHeads}
-use Rattle.dmc_pull.specs.Standing.{clients_in, requests_in}
+use Rattle.dmc_pull.specs.Represented.{clients_in, requests_in}
 use Rattle.dmc_pull.proofs.Common.Entries.{named}
 use Rattle.dmc_tag.proofs.Lists.{all_at}
 use Rattle.dmc_pull.proofs.Add.LeastShare.{best_share, has_least}
@@ -108,7 +108,7 @@ module _ {T : Type 0} (ops : Tagging T) where
     with_shift client shift = refuse_if (not (can_shift_by ops shift s.clients s.requests)) Range >>= λ _. (assigned ops s.config.hz client params t >>= λ tags. Ok (shift, tags))
 
     abbrev with_client : PlainClient T → Result (Option T × Tags T) Refusal
-    with_client client = refuse_if (nat_le most_requests (length s.requests)) QueueFull >>= λ _. (shift_of ops s.requests client t >>= with_shift client)
+    with_client client = refuse_if (nat_le max_requests (length s.requests)) QueueFull >>= λ _. (shift_of ops s.requests client t >>= with_shift client)
 
     pub unknown : client_named id s.clients ≡ None → can_add ops s id params t ≡ Err Unknown
     unknown e = ap (λ o. ok_or o Unknown >>= with_client) e
@@ -117,10 +117,10 @@ module _ {T : Type 0} (ops : Tagging T) where
       known : can_add ops s id params t ≡ with_client client
       known = ap (λ o. ok_or o Unknown >>= with_client) named
 
-      pub full : nat_le most_requests (length s.requests) ≡ true → can_add ops s id params t ≡ Err QueueFull
+      pub full : nat_le max_requests (length s.requests) ≡ true → can_add ops s id params t ≡ Err QueueFull
       full e = known ∙ ap (λ b. refuse_if b QueueFull >>= λ _. (shift_of ops s.requests client t >>= with_shift client)) e
 
-      module _ (room : nat_le most_requests (length s.requests) ≡ false) where
+      module _ (room : nat_le max_requests (length s.requests) ≡ false) where
         roomy : can_add ops s id params t ≡ (shift_of ops s.requests client t >>= with_shift client)
         roomy = known ∙ ap (λ b. refuse_if b QueueFull >>= λ _. (shift_of ops s.requests client t >>= with_shift client)) room
 

@@ -6,12 +6,12 @@ use Rattle.std.specs.Option.{option_map, option_and_then}
 use Rattle.std.specs.List.{AllByRecursion}
 use Rattle.std.proofs.lemmas.Bool.{eqb-true, eqb-false, ne_eqb}
 use Rattle.std.proofs.lemmas.List.{length-map, length-set, get_or-set_same, get_or-set_other}
-use Rattle.dmc_types.specs.Limits.{most_requests}
+use Rattle.dmc_types.specs.Limits.{max_requests}
 use Rattle.dmc_types.specs.Values.{Setting}
 use Rattle.dmc_types.specs.declared.ids.ClientId.{ClientId}
 use Rattle.dmc_tag.specs.Tag.{Fraction, Tagging}
 use Rattle.dmc_tag.specs.Best.{is_due}
-use Rattle.dmc_tag.specs.State.{StandsFor, is_client, requests_of}
+use Rattle.dmc_tag.specs.State.{Represents, is_client, requests_of}
 use Rattle.dmc_tag.specs.Rules.{moment_of, can_shift_by, shifted_requests, shifted_request, shifted_by, change_client, after_arrival, queued}
 use Rattle.dmc_client.specs.declared.request.QueuedRequest.{QueuedRequest}
 use Rattle.dmc_client.specs.Record.{Rec, IsRecord, request_of, pushed}
@@ -21,7 +21,7 @@ use Rattle.dmc_index.specs.Index.{slot_of_key}
 use Rattle.dmc_head_index.specs.declared.head.Head.{Head}
 use Rattle.dmc_head_index.specs.Heads.{CanShift, IsOthers}
 use Rattle.dmc_pull.specs.Queue.{Queue, IsQueue, IsKept, AreHeads, head_of, head_at, unready}
-use Rattle.dmc_pull.specs.Standing.{clients_in, requests_in}
+use Rattle.dmc_pull.specs.Represented.{clients_in, requests_in}
 use Rattle.dmc_pull.proofs.Common.Kept.{due_later}
 use Rattle.dmc_pull.proofs.Common.Parts.{all_as, all_both, all_append, found_holds, found_passes}
 use Rattle.dmc_pull.proofs.Common.Entries.{Differs, split, name_is, all_changed}
@@ -139,7 +139,7 @@ module _ {T : Type 0} {ops : Tagging T} (fraction : T → Fraction) (is_value : 
       ∙ ap (λ rs. suc (length rs)) after.moved.requests
       ∙ ap suc (length_shifted shift)
 
-  module _ (n : ℕ) (count : n ≡ length (requests_in es)) (room : length (requests_in es) < most_requests) (v : value request.tags.p) where
+  module _ (n : ℕ) (count : n ≡ length (requests_in es)) (room : length (requests_in es) < max_requests) (v : value request.tags.p) where
     pub is_queue : (new : List (Option (Head T))) → AreHeads ops at (with_record key (pushed request at e.rec) after.entries) new → length new ≡ length heads → IsQueue ops fraction is_value (record { config = config; roster = roster; heads = new; last_moment = at }) (n + 1)
     is_queue new are same =
         let came = all_changed after.moved.here (λ f. f.key < length heads) (pushed request at e.rec) after.moved.in_room (found_holds (λ f. f.key < length heads) (λ f. f.key == key) after.entries e after.moved.in_room (split_keyed after.moved.here)) in
@@ -160,8 +160,8 @@ module _ {T : Type 0} {ops : Tagging T} (fraction : T → Fraction) (is_value : 
       with_first none = is_queue _ (heads_first after later due_from none) (length-set heads key (Some (head_at ops at e.id request.tags)))
 
   -- the plain state of the queue, and of one that keeps its requests in order of arrival
-  pub stands : (last : ℕ) → StandsFor (record { config = config; requests = requests_in roster.entries; clients = clients_in roster.entries; last_moment = at }) (queued (shifted_by ops shift (record { config = config; requests = requests_in es; clients = clients_in es; last_moment = last })) (record { client = e.id; token = request.token; tags = request.tags }) at)
-  stands last = record {
+  pub represents : (last : ℕ) → Represents (record { config = config; requests = requests_in roster.entries; clients = clients_in roster.entries; last_moment = at }) (queued (shifted_by ops shift (record { config = config; requests = requests_in es; clients = clients_in es; last_moment = last })) (record { client = e.id; token = request.token; tags = request.tags }) at)
+  represents last = record {
     config = refl;
     requests = λ id. ap (λ xs. requests_of id (requests_in xs)) after.whole ∙ pushed_requests after.moved.here request at id ∙ ap (λ rs. requests_of id (rs ++ request_of e.id request ∷ [])) after.moved.requests;
     clients = ap clients_in after.whole ∙ pushed_clients after.moved.here request at ∙ ap (change_client e.id (after_arrival request.tags at)) after.moved.clients;

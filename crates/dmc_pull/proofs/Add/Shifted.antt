@@ -16,7 +16,7 @@ use Rattle.dmc_client.specs.declared.request.QueuedRequest.{QueuedRequest}
 use Rattle.dmc_client.specs.Record.{Rec, client_of, request_of, requests_of_record, pushed, less_share, less_shares}
 use Rattle.dmc_adjust.specs.Changes.{shifted, is_shiftable}
 use Rattle.dmc_roster.specs.Entries.{Entry, with_rec, with_record, AreDistinct}
-use Rattle.dmc_pull.specs.Standing.{clients_in, requests_in}
+use Rattle.dmc_pull.specs.Represented.{clients_in, requests_in}
 use Rattle.dmc_pull.proofs.Common.Parts.{all_as, all_mapped, map_agree}
 use Rattle.dmc_pull.proofs.Common.Entries.{Split, Differs, key_is, all_split, split_changed, with_record_split, requests_whole, all_filtered_out, is_active_as, changed_client, length_whole, length_as}
 

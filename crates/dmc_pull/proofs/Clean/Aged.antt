@@ -15,7 +15,7 @@ use Rattle.dmc_client.specs.Record.{IsRecord, share_tags}
 use Rattle.dmc_roster.specs.Entries.{Entry, Listing, entry_keyed, with_rec, AreDistinct}
 use Rattle.dmc_pull.specs.Cleaning.{is_stale, is_idled, with_idle_mark}
 use Rattle.dmc_pull.specs.Range.{HasSharesIn, AreWithin}
-use Rattle.dmc_pull.specs.Standing.{requests_in}
+use Rattle.dmc_pull.specs.Represented.{requests_in}
 use Rattle.dmc_pull.specs.declared.range.ShareRange.{ShareRange}
 use Rattle.dmc_pull.specs.Queue.{Queue, state_of, IsQueue, IsKept, AreHeads, head_of, unready_head}
 use Rattle.dmc_pull.proofs.Common.Parts.{all_as, all_both, all_filtered, all_mapped}

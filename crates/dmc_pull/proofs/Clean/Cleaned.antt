@@ -8,7 +8,7 @@ use Rattle.dmc_tag.specs.State.{State}
 use Rattle.dmc_tag.specs.Rules.{is_stale, is_erased, is_idled, with_idle_mark}
 use Rattle.dmc_client.specs.Record.{Rec, client_of, request_of, requests_of_record}
 use Rattle.dmc_roster.specs.Entries.{Entry, with_rec, AreDistinct}
-use Rattle.dmc_pull.specs.Standing.{clients_in, requests_in}
+use Rattle.dmc_pull.specs.Represented.{clients_in, requests_in}
 use Rattle.dmc_pull.proofs.Common.Parts.{all_as}
 use Rattle.dmc_pull.proofs.Common.Entries.{Split, all_split, is_queued}
 

@@ -5,7 +5,7 @@ use Rattle.std.specs.Option.{option_map, is_some}
 use Rattle.std.specs.List.{AllByRecursion}
 use Rattle.std.proofs.lemmas.Bool.{le-leb, lt-leb}
 use Rattle.std.proofs.lemmas.List.{length-append, length-replicate}
-use Rattle.dmc_types.specs.Limits.{most_clients}
+use Rattle.dmc_types.specs.Limits.{max_clients}
 use Rattle.dmc_types.specs.Values.{Rates}
 use Rattle.dmc_types.specs.declared.ids.ClientId.{ClientId}
 use Rattle.dmc_types.specs.declared.refusal.Field.{Field}
@@ -19,7 +19,7 @@ use Rattle.dmc_client.specs.Record.{Rec, client_of}
 use Rattle.dmc_roster.specs.Entries.{Entry, Listing, entry_named, Adds, AreDistinct}
 use Rattle.dmc_index.specs.Index.{slot_of_key}
 use Rattle.dmc_head_index.specs.declared.head.Head.{Head}
-use Rattle.dmc_pull.specs.Standing.{clients_in, requests_in}
+use Rattle.dmc_pull.specs.Represented.{clients_in, requests_in}
 use Rattle.dmc_pull.specs.Queue.{Queue, state_of, IsQueue, IsKept, AreHeads, head_of}
 use Rattle.dmc_pull.proofs.Common.Parts.{all_as, all_next}
 use Rattle.dmc_pull.proofs.Common.Entries.{named, registered_clients, registered_requests}
@@ -37,11 +37,11 @@ module _ {T : Type 0} where
     at (Some x) = refl
 
 module _ {T : Type 0} (ops : Tagging T) (s : State T) (id : ClientId) (info : Rates) where
-  pub refused_clients : (spacings : Spacings T) → is_some (client_named id s.clients) ≡ false → spacings_of ops s.config.hz info ≡ Ok spacings → most_clients ≤ length s.clients → Err Clients ≡ can_register ops s id info
-  refused_clients spacings known exact full = rw (known, exact, le-leb most_clients (length s.clients) full) refl
+  pub refused_clients : (spacings : Spacings T) → is_some (client_named id s.clients) ≡ false → spacings_of ops s.config.hz info ≡ Ok spacings → max_clients ≤ length s.clients → Err Clients ≡ can_register ops s id info
+  refused_clients spacings known exact full = rw (known, exact, le-leb max_clients (length s.clients) full) refl
 
-  pub may_register : (spacings : Spacings T) → is_some (client_named id s.clients) ≡ false → spacings_of ops s.config.hz info ≡ Ok spacings → length s.clients < most_clients → Ok tt ≡ can_register ops s id info
-  may_register spacings known exact room = rw (known, exact, lt-leb most_clients (length s.clients) room) refl
+  pub may_register : (spacings : Spacings T) → is_some (client_named id s.clients) ≡ false → spacings_of ops s.config.hz info ≡ Ok spacings → length s.clients < max_clients → Ok tt ≡ can_register ops s id info
+  may_register spacings known exact room = rw (known, exact, lt-leb max_clients (length s.clients) room) refl
 
 -- the result on the spacings, at the rate of the clock that was read no client has the id, where no key was found
 pub not_named : {T : Type 0} (id : ClientId) (es : List (Entry T)) (found : Option ℕ) → found ≡ option_map (λ e. e.key) (entry_named id es) → is_some found ≡ false → entry_named id es ≡ None

@@ -18,7 +18,7 @@ use Rattle.dmc_tag.specs.declared.plain.PlainClient.{PlainClient}
 use Rattle.dmc_tag.specs.declared.reply.Reply.TheVariants.{Updated}
 use Rattle.dmc_client.specs.Record.{Rec, IsRecord, client_of}
 use Rattle.dmc_roster.specs.Entries.{Entry, Listing, entry_named, entry_keyed, record_at, with_record, with_record_at, AreDistinct}
-use Rattle.dmc_pull.specs.Standing.{clients_in, requests_in}
+use Rattle.dmc_pull.specs.Represented.{clients_in, requests_in}
 use Rattle.dmc_pull.specs.Queue.{Queue, state_of, IsQueue, IsKept, head_of}
 use Rattle.dmc_pull.proofs.Common.Parts.{found_holds}
 use Rattle.dmc_pull.proofs.Common.Entries.{Split, split, named, name_is, is_queued, all_changed, changed_client, same_requests}

@@ -15,7 +15,7 @@ use Rattle.dmc_tag.specs.declared.plain.PlainClient.{PlainClient}
 use Rattle.dmc_client.specs.declared.request.QueuedRequest.{QueuedRequest}
 use Rattle.dmc_client.specs.Record.{Rec, client_of, request_of, requests_of_record}
 use Rattle.dmc_roster.specs.Entries.{Entry, entry_named, entry_keyed, with_rec, with_record, AreDistinct}
-use Rattle.dmc_pull.specs.Standing.{clients_in, requests_in}
+use Rattle.dmc_pull.specs.Represented.{clients_in, requests_in}
 use Rattle.dmc_pull.proofs.Common.Parts.{eqb_turned, all_as, all_both, all_append, all_front, all_back, map_unmoved, any_is, map_cond, found_holds, found_passes}
 use Rattle.dmc_pull.proofs.Common.Firsts.{requests_append}
 use Rattle.dmc_tag.proofs.Ids.{itself_id, client_turned}

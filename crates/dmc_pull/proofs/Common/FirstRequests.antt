@@ -4,7 +4,7 @@ use Rattle.std.specs.Prelude.{◌==◌, ◌↔◌, slice_get}
 use Rattle.std.specs.Option.{option_map, option_map_or}
 use Rattle.dmc_types.specs.declared.ids.ClientId.{ClientId}
 use Rattle.dmc_tag.specs.Tag.{Fraction, Tagging}
-use Rattle.dmc_tag.specs.State.{State, StandsFor, is_client, requests_of, has_queued}
+use Rattle.dmc_tag.specs.State.{State, Represents, is_client, requests_of, has_queued}
 use Rattle.dmc_tag.specs.Best.{is_due}
 use Rattle.dmc_tag.specs.declared.plain.PlainRequest.{PlainRequest}
 use Rattle.dmc_tag.specs.declared.reply.Tags.{Tags}
@@ -14,7 +14,7 @@ use Rattle.dmc_roster.specs.Entries.{Entry, entry_named, entry_keyed, AreDistinc
 use Rattle.dmc_index.specs.Index.{slot_of_key}
 use Rattle.dmc_head_index.specs.declared.head.Head.{Head}
 use Rattle.dmc_head_index.specs.Heads.{Ranks}
-use Rattle.dmc_pull.specs.Standing.{requests_in}
+use Rattle.dmc_pull.specs.Represented.{requests_in}
 use Rattle.dmc_pull.specs.Queue.{Queue, IsQueue, AreHeads, state_of}
 use Rattle.dmc_pull.specs.FirstRequests.{first_request, client_at, head_client, AreFirstRequests}
 use Rattle.dmc_pull.proofs.Common.Parts.{any_is, positive, found_holds}
@@ -79,7 +79,7 @@ first_requests ops fraction is_value q queued is =
     }
 
 -- the same of each plain state that it represents
-pub first_requests_alike : {T : Type 0} (ops : Tagging T) (s u : State T) (heads : List (Option (Head T))) → StandsFor s u → AreFirstRequests ops s heads → AreFirstRequests ops u heads
+pub first_requests_alike : {T : Type 0} (ops : Tagging T) (s u : State T) (heads : List (Option (Head T))) → Represents s u → AreFirstRequests ops s heads → AreFirstRequests ops u heads
 first_requests_alike ops s u heads agree are = record {
   tags = λ key head h. ap (λ rs. option_map (λ r. r.tags) (slice_get rs 0)) (sym (agree.requests head.client)) ∙ are.tags key head h;
   has_key = λ id has. are.has_key id (any_is (λ r. is_client id r.client) s.requests ∙ ap (λ rs. not (length rs == 0)) (agree.requests id) ∙ sym (any_is (λ r. is_client id r.client) u.requests) ∙ has);

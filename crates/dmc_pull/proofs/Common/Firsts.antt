@@ -21,7 +21,7 @@ use Rattle.dmc_client.specs.Record.{Rec, request_of, requests_of_record}
 use Rattle.dmc_client.specs.declared.request.QueuedRequest.{QueuedRequest}
 use Rattle.dmc_roster.specs.Entries.{Entry, entry_keyed, record_at, with_record, with_rec, AreDistinct}
 use Rattle.dmc_adjust.specs.Changes.{popped}
-use Rattle.dmc_pull.specs.Standing.{requests_in}
+use Rattle.dmc_pull.specs.Represented.{requests_in}
 use Rattle.dmc_roster.proofs.Held.{named_first}
 use Rattle.dmc_pull.proofs.Common.Ordered.{less_upto, not_behind, FirstIsLeast, FirstIsMember}
 pub use Rattle.dmc_tag.proofs.Lists.{all_as, all_append, found_holds, found_later}

@@ -11,7 +11,7 @@ use Rattle.dmc_types.specs.declared.ids.ClientId.{ClientId}
 use Rattle.dmc_tag.specs.State.{is_client, requests_of}
 use Rattle.dmc_client.specs.Record.{Rec, requests_of_record}
 use Rattle.dmc_roster.specs.Entries.{Entry, entry_named, entry_keyed, record_at, with_rec, with_record, AreDistinct}
-use Rattle.dmc_pull.specs.Standing.{requests_in}
+use Rattle.dmc_pull.specs.Represented.{requests_in}
 use Rattle.dmc_pull.proofs.Common.Parts.{all_as, all_filtered, map_cond, found_holds, found_passes}
 use Rattle.dmc_pull.proofs.Common.Entries.{Split, Differs, differs_from, split_changed, record_filtered, all_filtered_out}
 pub use Rattle.dmc_tag.proofs.Active.{same_client}

@@ -20,7 +20,7 @@ use Rattle.dmc_head_index.specs.Heads as heads_of
 use Rattle.dmc_head_index.specs.Heads.{CanShift}
 use Rattle.dmc_pull.specs.Adding.{shifted_but}
 use Rattle.dmc_pull.specs.Queue.{AreHeads, head_of, unready}
-use Rattle.dmc_pull.specs.Standing.{clients_in, requests_in}
+use Rattle.dmc_pull.specs.Represented.{clients_in, requests_in}
 use Rattle.dmc_pull.proofs.Common.Parts.{true_not_false, all_as, all_mapped, each_passes, map_agree, found_holds}
 use Rattle.dmc_pull.proofs.Common.Entries.{Split, split, all_changed}
 use Rattle.dmc_pull.proofs.Common.Keyed.{keyed_with, distinct_with}

@@ -17,7 +17,7 @@ use Rattle.dmc_roster.specs.Entries.{Entry, Listing, entry_keyed, record_at, wit
 use Rattle.dmc_adjust.specs.Changes.{popped, reduced}
 use Rattle.dmc_index.specs.Index.{slot_of_key}
 use Rattle.dmc_head_index.specs.declared.head.Head.{Head}
-use Rattle.dmc_pull.specs.Standing.{requests_in}
+use Rattle.dmc_pull.specs.Represented.{requests_in}
 use Rattle.dmc_pull.specs.Queue.{Queue, IsQueue, IsKept, AreHeads, head_of, unready, unready_head, head_at}
 use Rattle.dmc_pull.specs.Choice.{first_of, first_at, after_grant, IsFirstOf}
 use Rattle.dmc_pull.proofs.Common.Kept.{length_map}

@@ -5,7 +5,7 @@ use Rattle.std.specs.Option.{option_map}
 use Rattle.std.specs.List.{AllByRecursion}
 use Rattle.std.specs.declared.cmp.Ordering.TheVariants.{Equal}
 use Rattle.std.proofs.lemmas.Bool.Decides.{nat_tests}
-use Rattle.dmc_types.specs.Limits.{most_requests}
+use Rattle.dmc_types.specs.Limits.{max_requests}
 use Rattle.dmc_types.specs.Values.{Params}
 use Rattle.dmc_types.specs.declared.ids.ClientId.{ClientId}
 use Rattle.dmc_types.specs.declared.ids.Token.{Token}
@@ -27,7 +27,7 @@ use Rattle.dmc_client.specs.Record.{Rec, client_of, share_tags}
 use Rattle.dmc_roster.specs.Entries.{Entry, entry_named, entry_keyed, record_at}
 use Rattle.dmc_pull.specs.Adding.{needed_shift, unless_nothing, Allows, IsAllowed}
 use Rattle.dmc_pull.specs.Queue.{Queue, IsQueue, IsKept, state_of}
-use Rattle.dmc_pull.specs.Standing.{clients_in, requests_in}
+use Rattle.dmc_pull.specs.Represented.{clients_in, requests_in}
 use Rattle.dmc_pull.specs.declared.adding.Addition.{Addition}
 use Rattle.dmc_pull.proofs.Common.Parts.{all_as, found_holds}
 use Rattle.dmc_pull.proofs.Common.Entries.{named}
@@ -70,14 +70,14 @@ module _ {T : Type 0} (ops : Tagging T) (fraction : T → Fraction) (is_value : 
       known : client_named id (clients_in entries) ≡ Some (client_of found.0.id found.0.rec)
       known = named id entries ∙ ap (option_map (λ e. client_of e.id e.rec)) (sym entry ∙ found.1)
 
-      pub queue_full : most_requests ≤ queued → test ≡ Err QueueFull
+      pub queue_full : max_requests ≤ queued → test ≡ Err QueueFull
       queue_full h =
           let counted = is.counted in
-          let le : nat_le most_requests (length (requests_in entries)) ≡ true = grind (arith, nat_tests) in
+          let le : nat_le max_requests (length (requests_in entries)) ≡ true = grind (arith, nat_tests) in
           full ops (state_of q) id params (ops.of_moment at) (client_of found.0.id found.0.rec) known le
 
-      module _ (below : queued < most_requests) (r : Result (Option T) Refusal) (t : T) (moment : t ≡ ops.of_moment at) (value : IfSome (entry_keyed key entries) (λ e. r ≡ needed_shift ops (requests_in entries) (client_of e.id e.rec) t)) where
-        room : nat_le most_requests (length (requests_in entries)) ≡ false
+      module _ (below : queued < max_requests) (r : Result (Option T) Refusal) (t : T) (moment : t ≡ ops.of_moment at) (value : IfSome (entry_keyed key entries) (λ e. r ≡ needed_shift ops (requests_in entries) (client_of e.id e.rec) t)) where
+        room : nat_le max_requests (length (requests_in entries)) ≡ false
         room = let counted = is.counted in grind (arith, nat_tests)
 
         shift_is : r ≡ needed_shift ops (requests_in entries) (client_of found.0.id found.0.rec) (ops.of_moment at)
@@ -135,6 +135,6 @@ module _ {T : Type 0} (ops : Tagging T) (fraction : T → Fraction) (is_value : 
                     idle = λ some. of_key (λ rec. rec.idle ≡ true) (ap (λ rec. rec.idle) (sym same) ∙ comes some);
                     shiftable = can;
                     value = value;
-                    room = subst (λ n. n < most_requests) counted below;
+                    room = subst (λ n. n < max_requests) counted below;
                   };
                 }

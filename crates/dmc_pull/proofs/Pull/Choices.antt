@@ -21,7 +21,7 @@ use Rattle.dmc_index.specs.Index.{slot_of_key, IsEmpty}
 use Rattle.dmc_head_index.specs.declared.head.Head.{Head}
 use Rattle.dmc_tag.proofs.Lists.{all_both}
 use Rattle.dmc_tag.proofs.Orderings.{IsUpto}
-use Rattle.dmc_pull.specs.Standing.{requests_in}
+use Rattle.dmc_pull.specs.Represented.{requests_in}
 use Rattle.dmc_pull.specs.Queue.{unready, head_of, AreHeads}
 use Rattle.dmc_pull.proofs.Common.Ordered.{FirstIsLeast, FirstIsMember}
 use Rattle.dmc_pull.proofs.Common.Firsts.{is_at, all_found, found_holds, first_is_best, none_are, IsOther, IsBehind, FirstIsNone}

@@ -30,7 +30,7 @@ use Rattle.dmc_head_index.specs.declared.head.Head.{Head}
 use Rattle.dmc_head_index.specs.Heads.{IsFirst, tag_rank, limit_rank}
 use Rattle.dmc_tag.proofs.Lists.{all_at}
 use Rattle.dmc_tag.proofs.Orderings.{IsUpto, due_before}
-use Rattle.dmc_pull.specs.Standing.{requests_in}
+use Rattle.dmc_pull.specs.Represented.{requests_in}
 use Rattle.dmc_pull.specs.Queue.{AreHeads}
 use Rattle.dmc_pull.proofs.Common.Parts.{true_not_false}
 use Rattle.dmc_pull.proofs.Common.Ordered.{due_members, limit_first, FirstIsLeast, FirstIsMember}

@@ -24,7 +24,7 @@ use Rattle.dmc_pull.specs.declared.granting.PullFault.TheVariants as faults
 use Rattle.dmc_client.specs.Record.{Rec, client_of, request_of, requests_of_record}
 use Rattle.dmc_roster.specs.Entries.{Entry, record_at, with_record, with_record_at, AreDistinct}
 use Rattle.dmc_adjust.specs.Changes.{popped, reduced}
-use Rattle.dmc_pull.specs.Standing.{clients_in, requests_in}
+use Rattle.dmc_pull.specs.Represented.{clients_in, requests_in}
 use Rattle.dmc_pull.specs.Queue.{Queue, IsQueue, IsKept, state_of}
 use Rattle.dmc_pull.proofs.Common.Parts.{found_holds}
 use Rattle.dmc_pull.specs.Choice.{first_at, after_grant, IsGrantable, Settles}

@@ -19,7 +19,7 @@ use Rattle.dmc_adjust.specs.Changes.{popped}
 use Rattle.dmc_index.specs.Index.{slot_of_key, IsEmpty}
 use Rattle.dmc_head_index.specs.declared.head.Head.{Head}
 use Rattle.dmc_head_index.specs.Heads.{IsFirst, tag_rank, ready_rank}
-use Rattle.dmc_pull.specs.Standing.{requests_in}
+use Rattle.dmc_pull.specs.Represented.{requests_in}
 use Rattle.dmc_pull.specs.Queue.{IsKept, AreHeads}
 use Rattle.dmc_pull.specs.Choice.{first_of, first_at, IsFirstOf, Early, ByWeight}
 use Rattle.dmc_pull.proofs.Pull.Choices.{IsChosen, none_queued}

@@ -18,7 +18,7 @@ use Rattle.dmc_roster.specs.Entries.{Entry, AreDistinct}
 use Rattle.dmc_index.specs.Index.{slot_of_key, IsEmpty}
 use Rattle.dmc_head_index.specs.declared.head.Head.{Head}
 use Rattle.dmc_head_index.specs.Heads.{IsFirst, tag_rank, ready_rank}
-use Rattle.dmc_pull.specs.Standing.{requests_in}
+use Rattle.dmc_pull.specs.Represented.{requests_in}
 use Rattle.dmc_pull.specs.Queue.{AreHeads}
 use Rattle.dmc_pull.proofs.Common.Parts.{true_not_false}
 use Rattle.dmc_pull.proofs.Common.Ordered.{due_members, reservation_first, limit_first, share_first, any_members, FirstIsLeast, FirstIsMember}

@@ -15,7 +15,7 @@ use Rattle.dmc_client.specs.declared.request.QueuedRequest.{QueuedRequest}
 use Rattle.dmc_client.specs.Record.{client_of, request_of, requests_of_record, less_reservation, less_reservations}
 use Rattle.dmc_adjust.specs.Changes.{popped, reduced}
 use Rattle.dmc_roster.specs.Entries.{Entry, with_record}
-use Rattle.dmc_pull.specs.Standing.{clients_in, requests_in}
+use Rattle.dmc_pull.specs.Represented.{clients_in, requests_in}
 use Rattle.dmc_pull.proofs.Common.Parts.{and-true}
 use Rattle.dmc_pull.proofs.Common.Entries.{Split, Differs, split_changed, clients_whole, requests_whole, changed_client}
 use Rattle.dmc_tag.proofs.Ids.{itself_id}

@@ -19,7 +19,7 @@ use Rattle.dmc_tag.specs.declared.reply.Reply.TheVariants.{Registered, Updated, 
 use Rattle.dmc_roster.specs.Entries.{Entry}
 use Rattle.dmc_pull.specs.Allowed.{SettlesIf, is_allowed}
 use Rattle.dmc_pull.specs.Choice.{first_at, IsFirstOf, ByWeight, Settles}
-use Rattle.dmc_pull.specs.Standing.{requests_in}
+use Rattle.dmc_pull.specs.Represented.{requests_in}
 use Rattle.dmc_pull.specs.declared.granting.PullFault.{PullFault}
 
 -- ---- the client that is named

@@ -18,7 +18,7 @@ use Rattle.dmc_client.specs.declared.request.QueuedRequest.{QueuedRequest}
 use Rattle.dmc_roster.specs.Entries.{Entry, Listing, entry_keyed, with_record, with_record_at}
 use Rattle.dmc_index.specs.Index.{slot_of_key}
 use Rattle.dmc_head_index.specs.declared.head.Head.{Head}
-use Rattle.dmc_pull.specs.Standing.{clients_in, requests_in}
+use Rattle.dmc_pull.specs.Represented.{clients_in, requests_in}
 use Rattle.dmc_pull.specs.Queue.{Queue, state_of, IsQueue, IsKept, AreHeads, head_of, unready, unready_head}
 use Rattle.dmc_pull.proofs.Common.Parts.{all_back, found_holds}
 use Rattle.dmc_pull.proofs.Common.Entries.{split_changed, clients_whole, all_changed, drained, length_drained, length_of_client}

@@ -9,7 +9,7 @@ ghost use Rattle.dmc_pull.specs.Queue.{state_of};
 ghost use Rattle.dmc_roster.specs.Entries.{entry_keyed};
 ghost use Rattle.dmc_tag.specs.Answers.{call_reply};
 ghost use Rattle.dmc_tag.specs.Rules as rules_of;
-ghost use Rattle.dmc_tag.specs.State.{StandsFor};
+ghost use Rattle.dmc_tag.specs.State.{Represents};
 ghost use Rattle.dmc_tag.specs.Steps.{Steps};
 ghost use Rattle.dmc_tag.specs.declared.reply.Reply.TheVariants as replies;
 ghost use Rattle.dmc_types.specs.declared.command.Command.TheVariants as commands;
@@ -27,7 +27,7 @@ use dmc_index::index::Indexes;
 use dmc_tag::reply::Tags;
 use dmc_tag::tag::Tag;
 use dmc_types::ids::{ClientId, Token};
-use dmc_types::limits::MOST_REQUESTS;
+use dmc_types::limits::MAX_REQUESTS;
 use dmc_types::moment::Moment;
 use dmc_types::params::ReqParams;
 use dmc_types::refusal::{QueueFault, Refusal};
@@ -74,21 +74,21 @@ impl<T: Tag, I: Indexes<T>> PullQueue<T, I> {
     }
 
     /// The tests of an add, and its effect: the key of the client, the shift of all others and the new tags. The client is looked
-    /// for at the index `near` first.
+    /// for at the index `hint` first.
     fn can_add(
         &mut self,
         client: ClientId,
-        near: usize,
+        hint: usize,
         params: ReqParams,
         at: Moment,
     ) -> Result<Addition<T>, Refusal>
         ensures outcome { CanAdd T.ops T.fraction T.is_value self.old client params at result }
         ensures same { self.new ≡ self.old }
     {
-        let Some(key) = self.roster.find_near(client, near) else {
+        let Some(key) = self.roster.find_with_hint(client, hint) else {
             return Err(Refusal::Unknown);
         };
-        if self.queued >= MOST_REQUESTS as usize {
+        if self.queued >= MAX_REQUESTS as usize {
             return Err(Refusal::QueueFull);
         }
         let t = T::of_moment(at);
@@ -112,7 +112,7 @@ impl<T: Tag, I: Indexes<T>> PullQueue<T, I> {
     ) -> Result<(), QueueFault>
         requires addition { IsAddition T.ops T.fraction T.is_value self.old client addition }
         requires later { self.old.last_moment ≤ at }
-        ensures ok { OnOk result (StandsFor (state_of self.new)
+        ensures ok { OnOk result (Represents (state_of self.new)
             (rules_of.queued (rules_of.shifted_by T.ops addition.shift (state_of self.old)) (record { client = client; token = token; tags = addition.tags }) at)) }
         ensures err { OnErr result (self.new ≡ self.old) }
         ensures memory { IsOkUnless result QueueFault.Memory }
@@ -142,15 +142,15 @@ impl<T: Tag, I: Indexes<T>> PullQueue<T, I> {
     ) -> Result<Tags<T>, QueueFault>
         ensures { Steps T.ops (state_of self.old) (state_of self.new) (commands.Add client token params at) (call_reply replies.Tagged result) }
     {
-        self.add_request_near(NOWHERE, client, token, params, at)
+        self.add_request_with_hint(NOWHERE, client, token, params, at)
     }
 
-    /// Queues a request as `add_request` does, with a hint: the client may be the one at the index `near`, in order of
+    /// Queues a request as `add_request` does, with a hint: the client may be the one at the index `hint`, in order of
     /// registration, counted from 0. That one is looked at first, so a caller that knows the order finds the client without a
     /// hash (extension).
-    pub fn add_request_near(
+    pub fn add_request_with_hint(
         &mut self,
-        near: usize,
+        hint: usize,
         client: ClientId,
         token: Token,
         params: ReqParams,
@@ -159,7 +159,7 @@ impl<T: Tag, I: Indexes<T>> PullQueue<T, I> {
         ensures { Steps T.ops (state_of self.old) (state_of self.new) (commands.Add client token params at) (call_reply replies.Tagged result) }
     {
         let at = self.effective(at);
-        let addition = self.can_add(client, near, params, at)?;
+        let addition = self.can_add(client, hint, params, at)?;
         let tags = addition.tags;
         self.queue(client, token, addition, at)?;
         Ok(tags)

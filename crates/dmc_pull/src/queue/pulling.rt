@@ -5,7 +5,7 @@ ghost use Rattle.dmc_adjust.specs.Changes as changes;
 ghost use Rattle.dmc_pull.specs.Allowed.{PullsIf, SettlesIf};
 ghost use Rattle.dmc_pull.specs.Choice.{first_at, after_grant, IsFirstOf, Early, ByWeight, IsGrantable, Settles};
 ghost use Rattle.dmc_pull.specs.Queue.{state_of, IsMarked};
-ghost use Rattle.dmc_pull.specs.Standing.{requests_in};
+ghost use Rattle.dmc_pull.specs.Represented.{requests_in};
 ghost use Rattle.dmc_roster.specs.Entries.{record_at, with_record_at, AreDistinct};
 ghost use Rattle.dmc_tag.specs.Answers.{sure_call_reply, pull_reply};
 ghost use Rattle.dmc_tag.specs.Best.{best, by_reservation, by_weight, is_early, is_free};

@@ -1,6 +1,6 @@
 //! A registration, and an update of rates.
 ghost use Rattle.std.specs.Prelude.{◌≡◌, ◌≤◌, ◌<◌, [], ◌∷◌, ◌++◌, Some, None, Ok, length, is_some, IfOk, OnOk, OnErr, IsOkUnless};
-ghost use Rattle.dmc_types.specs.Limits.{most_clients};
+ghost use Rattle.dmc_types.specs.Limits.{max_clients};
 ghost use Rattle.dmc_client.specs.Record.{client_of};
 ghost use Rattle.dmc_pull.specs.Queue.{state_of, without_value, IsKept};
 ghost use Rattle.dmc_pull.specs.Registering.{IsRegistration, IsUpdate};
@@ -19,7 +19,7 @@ use dmc_tag::spacing::{Spacings, spacings_for};
 use dmc_tag::tag::Tag;
 use dmc_types::ids::ClientId;
 use dmc_types::info::ClientInfo;
-use dmc_types::limits::MOST_CLIENTS;
+use dmc_types::limits::MAX_CLIENTS;
 use dmc_types::moment::Moment;
 use dmc_types::refusal::{QueueFault, Refusal};
 
@@ -36,7 +36,7 @@ impl<T: Tag, I: Indexes<T>> PullQueue<T, I> {
             Ok(spacings) => spacings,
             Err(field) => return Err(Refusal::Inexact(field)),
         };
-        if self.roster.len() >= MOST_CLIENTS as usize {
+        if self.roster.len() >= MAX_CLIENTS as usize {
             return Err(Refusal::Clients);
         }
         Ok(spacings)
@@ -45,7 +45,7 @@ impl<T: Tag, I: Indexes<T>> PullQueue<T, I> {
     /// Adds a new client, and reserves capacity for it in all indexes.
     fn admit(&mut self, client: ClientId, rec: ClientRec<T>, at: Moment) -> Result<(), QueueFault>
         requires new { entry_named client self.old.roster.entries ≡ None }
-        requires room { length self.old.roster.entries < most_clients }
+        requires room { length self.old.roster.entries < max_clients }
         requires kept { IsKept T.ops T.fraction T.is_value self.old.config.hz rec }
         requires nothing { rec.requests ≡ [] }
         requires zero { rec.previous.p ≡ T.ops.of_moment 0 }

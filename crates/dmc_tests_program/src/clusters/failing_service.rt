@@ -35,7 +35,7 @@ fn count(words: &[AtomicU64], index: u32) {
     }
 }
 
-fn told(words: &[AtomicU64], index: u32) -> Option<u64> {
+fn observed(words: &[AtomicU64], index: u32) -> Option<u64> {
     words
         .get(index as usize)
         .map(|word| word.load(Ordering::SeqCst))
@@ -64,13 +64,13 @@ fn failing_service(rt: HostRuntime) -> Result<(), Fail> {
     is_whole(&rt, &report, 100);
     for row in &report.servers {
         let server = row.server.0;
-        let reserved = told(&tally.reservation, server);
+        let reserved = observed(&tally.reservation, server);
         assert_same(&rt, &reserved, &Some(row.reservation));
-        assert_same(&rt, &told(&tally.priority, server), &Some(row.priority));
+        assert_same(&rt, &observed(&tally.priority, server), &Some(row.priority));
     }
     for row in &report.clients {
         let index = row.client.0.wrapping_sub(1);
-        assert_same(&rt, &told(&tally.clients, index), &Some(row.completed));
+        assert_same(&rt, &observed(&tally.clients, index), &Some(row.completed));
     }
     Ok(())
 }

@@ -1,6 +1,6 @@
 //! Scripts over streams that fail.
 use super::{AT_LIMIT, AT_LIMIT_OUT};
-use crate::runs::{FailingReader, FailingWriter, ROOM, tells};
+use crate::runs::{FailingReader, FailingWriter, ROOM, status_with_fault};
 use crate::same::assert_same;
 use std::test::Fail;
 
@@ -10,7 +10,7 @@ fn failing_reader(rt: HostRuntime) -> Result<(), Fail> {
     let mut reader = FailingReader::new(input, input.len());
     let mut written = Vec::with_capacity(rt.alloc(), ROOM)?;
     let words = ["script"];
-    let status = tells(
+    let status = status_with_fault(
         &rt,
         words.as_slice(),
         &mut reader,
@@ -49,7 +49,7 @@ fn failing_reads(rt: HostRuntime) -> Result<(), Fail> {
         let mut reader = FailingReader::new(AT_LIMIT, left);
         let mut written = Vec::with_capacity(rt.alloc(), ROOM)?;
         let words = ["script"];
-        let status = tells(
+        let status = status_with_fault(
             &rt,
             words.as_slice(),
             &mut reader,
@@ -68,7 +68,7 @@ fn failing_writer(rt: HostRuntime) -> Result<(), Fail> {
         let mut reader = AT_LIMIT;
         let mut writer = FailingWriter::new(rt.alloc(), left)?;
         let words = ["script"];
-        let status = tells(
+        let status = status_with_fault(
             &rt,
             words.as_slice(),
             &mut reader,
@@ -85,7 +85,7 @@ fn failing_writer(rt: HostRuntime) -> Result<(), Fail> {
 fn byte_by_byte(rt: HostRuntime) -> Result<(), Fail> {
     let mut reader = FailingReader::new(AT_LIMIT, AT_LIMIT.len() + 1);
     let mut writer = FailingWriter::new(rt.alloc(), AT_LIMIT_OUT.len())?;
-    let status = tells(&rt, ["script"].as_slice(), &mut reader, &mut writer, b"")?;
+    let status = status_with_fault(&rt, ["script"].as_slice(), &mut reader, &mut writer, b"")?;
     assert_same(&rt, &writer.written(), &AT_LIMIT_OUT);
     assert_same(&rt, &status, &0);
     Ok(())

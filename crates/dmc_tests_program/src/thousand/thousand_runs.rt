@@ -42,7 +42,7 @@ fn lacked_memory(report: &Report) -> bool {
 }
 
 /// The report of a run, and whether all was done. Where it was not, a worker took its last turn.
-fn told(answer: Result<Report, DriveFault<TickTag>>) -> Result<(Report, bool), Fail> {
+fn observed(answer: Result<Report, DriveFault<TickTag>>) -> Result<(Report, bool), Fail> {
     match answer {
         Ok(report) => Ok((report, true)),
         Err(DriveFault::TurnsOut(report)) => Ok((report, false)),
@@ -62,7 +62,7 @@ fn run_once<R: Threads + Wait + Sync>(
 ) -> Result<(Totals, bool), Fail> {
     let clock = JumpingClock::new(seed);
     let answer = run_cluster(rt, alloc, scene, &Fickle, &clock);
-    let (report, done) = told(answer)?;
+    let (report, done) = observed(answer)?;
     must_replay(rt, alloc, scene, &report)?;
     Ok((totals_of(&report), done))
 }

@@ -22,7 +22,7 @@ use std::process::Abort;
 use std::test::Fail;
 
 /// The numbers of a server: its grants in each phase, what is queued, and the units left in each phase.
-type Told = (u64, u64, u32, u64, u64);
+type Observed = (u64, u64, u32, u64, u64);
 
 /// A row of a client that is not settled yet.
 fn client_row(client: u32, failed: u64, stop: Option<StopCause>) -> ClientReport {
@@ -141,7 +141,7 @@ fn settle_in<S: Setup>(
     settle_changed(alloc, &mut mint, &mut other, &mut cluster, change)
 }
 
-fn told(row: &ServerReport<TickTag>) -> Told {
+fn observed(row: &ServerReport<TickTag>) -> Observed {
     let held = row.held;
     (
         row.reservation,
@@ -172,8 +172,8 @@ fn played_rows() -> [ClientReport; 2] {
 }
 
 /// A server's row has these numbers, four events were recorded, and its worker's turns were used up.
-fn assert_row(rt: &impl Abort, row: &ServerReport<TickTag>, wanted: Told) {
-    assert_same(rt, &told(row), &wanted);
+fn assert_row(rt: &impl Abort, row: &ServerReport<TickTag>, wanted: Observed) {
+    assert_same(rt, &observed(row), &wanted);
     assert_same(rt, &row.history.len(), &4);
     assert_same(rt, &row.stops.as_slice(), &[StopCause::Turns].as_slice());
 }

@@ -6,7 +6,7 @@ ghost use Rattle.dmc_tlock.specs.Opening.{AreNew};
 ghost use Rattle.dmc_book.specs.Opening.{IsNewDesk};
 
 use crate::calls::run;
-use crate::opening::{Book, SEVEN, both, let_go, open_book, open_tracker, push};
+use crate::opening::{Book, SEVEN, both, drop_book, open_book, open_tracker, push};
 use dmc_book::fault::RunFault;
 use dmc_book::pass::WorkerPass;
 use dmc_ledger::desk::{ClientDesk, ServerDesk, open_pair};
@@ -157,7 +157,7 @@ fn add_book<S: Setup>(
 ) -> Result<(), Fail> {
     let (mut book, mut passes) = (book, passes);
     if let Err(fail) = register_all(&mut book, &mut passes, scene) {
-        let_go(book);
+        drop_book(book);
         drop(passes);
         return Err(fail);
     }

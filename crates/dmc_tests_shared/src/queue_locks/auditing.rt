@@ -2,7 +2,7 @@
 ghost use Rattle.std.specs.Prelude.{◌≡◌};
 
 use super::settling::settle;
-use super::setup::{Lock, let_go};
+use super::setup::{Lock, drop_lock};
 use super::threads::{Job, open_two, pass_of, register_both, submit_both};
 use crate::same::assert_same;
 use dmc_check::check::Verdict;
@@ -100,7 +100,7 @@ fn audited<S: Setup + Send + Sync, R: Threads + Wait + Sync>(
         }
         Err(fail) => {
             drop((first, second));
-            let_go(lock);
+            drop_lock(lock);
             Err(fail)
         }
     }

@@ -7,7 +7,7 @@ ghost use Rattle.dmc_book.specs.Counts.{count, grants_added, phase_grants};
 use super::calls::{must_register, pull_or_wait, status, submit_stamped};
 use super::setup::{Client, Lock, grant, open_one};
 use crate::calls::carried;
-use crate::opening::{Book, ONE, ZERO, let_go as let_book_go};
+use crate::opening::{Book, ONE, ZERO, drop_book};
 use crate::tracker_setup::{stamp_at_lock, status_at_lock};
 use dmc_book::laws::{grants_are_of_desks, history_replays};
 use dmc_book::pass::WorkerPass;
@@ -44,7 +44,7 @@ fn book_of<S: Setup>(lock: Lock<S>) -> Book<S>
 fn events_of<S: Setup>(lock: Lock<S>) -> usize {
     let book = book_of(lock);
     let events = book.history().len();
-    let_book_go(book);
+    drop_book(book);
     events
 }
 
@@ -131,21 +131,21 @@ fn next_stamp<S: Setup, R: Wait>(
 
 /// What a circle reports, step by step.
 #[derive(Clone, Copy, Debug, PartialEq, Eq)]
-struct Told {
+struct Observed {
     queued: Queued,
     pulled: (Pulled, (u64, u64, u64)),
     next: Next,
 }
 
 /// What it has to report.
-fn circle_told() -> Told {
+fn circle_observed() -> Observed {
     let zero = TickTag::of_moment(Moment::zero());
     let tags = Tags {
         r: None,
         l: zero,
         p: zero,
     };
-    Told {
+    Observed {
         queued: ((0, 0), tags, (2, 9, 0)),
         pulled: (grant(ONE, 9), (3, 1, 9)),
         next: ((1, 0), (1, 0), (0, 0), (1, 0)),
@@ -159,13 +159,13 @@ fn circle_at_locks<S: Setup, R: Wait>(
     pass: &mut WorkerPass<S>,
     tracker: &TrackerLock<S>,
     tills: &mut StampTills<S>,
-) -> Result<Told, Fail> {
+) -> Result<Observed, Fail> {
     must_register(rt, lock, pass, ONE, None)?;
     let queued = queue_request(rt, lock, pass, tracker, tills)?;
     let pulled = pull_request(rt, lock, pass)?;
     give_back(rt, pass, tracker)?;
     let next = next_stamp(rt, tracker, tills)?;
-    Ok(Told {
+    Ok(Observed {
         queued,
         pulled,
         next,
@@ -177,16 +177,16 @@ fn circle<S: Setup, R: Wait>(
     rt: &R,
     alloc: Global,
     blank: Blank,
-) -> Result<(Told, ServerId, usize), Fail>
+) -> Result<(Observed, ServerId, usize), Fail>
     requires { blank.name ≡ S.name }
 {
     let mut mint = blank.open::<S>();
     let (lock, mut pass, client) = open_one(alloc, &mut mint, 8)?;
-    let told = circle_of_client(rt, &lock, &mut pass, client);
+    let observed = circle_of_client(rt, &lock, &mut pass, client);
     drop(pass);
     let server = lock.server();
     let events = events_of(lock);
-    Ok((told?, server, events))
+    Ok((observed?, server, events))
 }
 
 /// The circle with the client, whose tracker is behind its lock.
@@ -195,16 +195,16 @@ fn circle_of_client<S: Setup, R: Wait>(
     lock: &Lock<S>,
     pass: &mut WorkerPass<S>,
     client: Client<S>,
-) -> Result<Told, Fail> {
+) -> Result<Observed, Fail> {
     let Client {
         tracker,
         mut tills,
         ..
     } = client;
     let tracker = TrackerLock::new(tracker);
-    let told = circle_of(rt, lock, pass, &tracker, &mut tills);
+    let observed = circle_of(rt, lock, pass, &tracker, &mut tills);
     drop((tracker, tills));
-    told
+    observed
 }
 
 /// The circle with the client's pass.
@@ -214,7 +214,7 @@ fn circle_of<S: Setup, R: Wait>(
     pass: &mut WorkerPass<S>,
     tracker: &TrackerLock<S>,
     tills: &mut ClientPass<S>,
-) -> Result<Told, Fail> {
+) -> Result<Observed, Fail> {
     match tills.tills(ZERO) {
         Some(tills) => circle_at_locks(rt, lock, pass, tracker, tills),
         None => Err(Fail::new("tills for the server")),
@@ -224,6 +224,6 @@ fn circle_of<S: Setup, R: Wait>(
 #[test]
 fn one_circle(rt: HostRuntime) -> Result<(), Fail> {
     let answer = circle::<Brand, HostRuntime>(&rt, rt.alloc(), Blank::new(19))?;
-    assert_eq!(rt; answer, (circle_told(), ZERO, 3));
+    assert_eq!(rt; answer, (circle_observed(), ZERO, 3));
     Ok(())
 }

@@ -7,7 +7,7 @@ use super::calls::{
     Stop, close, must_register, pull, pull_or_wait, run_register, status, submit, submit_stamped,
 };
 use super::setup::{
-    Client, Clients, Lock, Opened, grant, let_go, open, open_clients, open_lock, open_one,
+    Client, Clients, Lock, Opened, drop_lock, grant, open, open_clients, open_lock, open_one,
     open_other,
 };
 use crate::opening::{LONG, ONE, ZERO, wait_config};
@@ -47,7 +47,7 @@ fn pull_twice<S: Setup, R: Wait>(
     Ok((first, pull(rt, lock, pass).err()))
 }
 
-fn full_told<S: Setup, R: Wait>(
+fn full_observed<S: Setup, R: Wait>(
     rt: &R,
     lock: &Lock<S>,
     pass: &mut WorkerPass<S>,
@@ -64,10 +64,10 @@ fn full<S: Setup, R: Wait>(rt: &R, alloc: Global, blank: Blank) -> Result<Full, 
 {
     let mut mint = blank.open::<S>();
     let (lock, mut pass, client) = open_one(alloc, &mut mint, 2)?;
-    let told = full_told(rt, &lock, &mut pass);
+    let observed = full_observed(rt, &lock, &mut pass);
     drop((pass, client));
-    let_go(lock);
-    told
+    drop_lock(lock);
+    observed
 }
 
 /// The report of a closed queue: a submit, and two pulls that might wait.
@@ -95,7 +95,7 @@ fn wait_twice<S: Setup, R: Wait>(
     Ok((first, second))
 }
 
-fn closed_told<S: Setup, R: Wait>(
+fn closed_observed<S: Setup, R: Wait>(
     rt: &R,
     lock: &Lock<S>,
     pass: &mut WorkerPass<S>,
@@ -112,10 +112,10 @@ fn closed<S: Setup, R: Wait>(rt: &R, alloc: Global, blank: Blank) -> Result<Clos
 {
     let mut mint = blank.open::<S>();
     let (lock, mut pass, mut client) = open_one(alloc, &mut mint, 8)?;
-    let told = closed_told(rt, &lock, &mut pass, &mut client);
+    let observed = closed_observed(rt, &lock, &mut pass, &mut client);
     drop((pass, client));
-    let_go(lock);
-    told
+    drop_lock(lock);
+    observed
 }
 
 /// The refusal of another book's pass.
@@ -140,7 +140,7 @@ fn submit_refused<S: Setup, R: Wait>(
     }
 }
 
-fn strange_told<S: Setup, R: Wait>(
+fn strange_observed<S: Setup, R: Wait>(
     rt: &R,
     lock: &Lock<S>,
     pass: &mut WorkerPass<S>,
@@ -159,10 +159,10 @@ fn strange<S: Setup, R: Wait>(rt: &R, alloc: Global, blank: Blank) -> Result<Str
     let mut mint = blank.open::<S>();
     let mut other = open_other(alloc, &mut mint)?;
     let (lock, pass, mut client) = open_one(alloc, &mut mint, 8)?;
-    let told = strange_told(rt, &lock, &mut other, &mut client);
+    let observed = strange_observed(rt, &lock, &mut other, &mut client);
     drop((pass, client));
-    let_go(lock);
-    told
+    drop_lock(lock);
+    observed
 }
 
 /// Two workers of one number are refused.
@@ -177,7 +177,7 @@ fn twice<S: Setup>(alloc: Global, blank: Blank) -> Result<Option<NewFault>, Fail
     match open_lock(alloc, config, &mut mint, desks, &workers, 8) {
         Ok((lock, passes)) => {
             drop(passes);
-            let_go(lock);
+            drop_lock(lock);
             Ok(None)
         }
         Err(NewFault::Memory) => Err(NewFault::Memory.into()),
@@ -227,7 +227,7 @@ fn submit_own<S: Setup, R: Wait>(
 /// The refusals of the tills of client 2, by the lock of client 1's tracker and by the queue's lock.
 type Others = (Option<EntryFault>, (ClientId, SubmitCause));
 
-fn others_told<S: Setup, R: Wait>(
+fn others_observed<S: Setup, R: Wait>(
     rt: &R,
     lock: &Lock<S>,
     pass: &mut WorkerPass<S>,
@@ -257,12 +257,12 @@ fn others_locked<S: Setup, R: Wait>(
         ..
     } = one;
     let one = TrackerLock::new(tracker);
-    let told = match passes.first_mut() {
-        Some(pass) => others_told(rt, lock, pass, &one, &mut tills, two),
+    let observed = match passes.first_mut() {
+        Some(pass) => others_observed(rt, lock, pass, &one, &mut tills, two),
         None => Err(Fail::new("a pass for the worker")),
     };
     drop((one, tills));
-    told
+    observed
 }
 
 /// The refusals of the tills of client 2 with the lock and the clients that were opened.
@@ -273,10 +273,10 @@ fn others_opened<S: Setup, R: Wait>(rt: &R, opened: Opened<S>) -> Result<Others,
         mut two,
         mut passes,
     } = opened;
-    let told = others_locked(rt, &lock, &mut passes, one, &mut two);
+    let observed = others_locked(rt, &lock, &mut passes, one, &mut two);
     drop((two, passes));
-    let_go(lock);
-    told
+    drop_lock(lock);
+    observed
 }
 
 fn others<S: Setup, R: Wait>(rt: &R, alloc: Global, blank: Blank) -> Result<Others, Fail>

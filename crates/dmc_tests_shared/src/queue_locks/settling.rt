@@ -1,6 +1,6 @@
 //! What the book of a lock leaves, once no thread shares the lock.
 use super::setup::Lock;
-use crate::opening::{Book, both, let_go as let_book_go};
+use crate::opening::{Book, both, drop_book};
 use dmc_book::pass::WorkerPass;
 use dmc_book::seat::Seat;
 use dmc_book::settled::Settled;
@@ -76,6 +76,6 @@ pub(super) fn settle<S: Setup>(
 ) -> Result<Remains, Fail> {
     let mut book = lock.into_book();
     let remains = settle_pair(alloc, &mut book, first, second);
-    let_book_go(book);
+    drop_book(book);
     remains
 }

@@ -4,7 +4,7 @@ ghost use Rattle.std.specs.List.{AllByRecursion};
 ghost use Rattle.dmc_ledger.specs.Bundles.{client_side, new_server_side, server_side};
 ghost use Rattle.dmc_book.specs.Opening.{IsNewDesk};
 
-use crate::opening::{LONG, ONE, ZERO, both, let_go as let_book_go, open_book, wait_config};
+use crate::opening::{LONG, ONE, ZERO, both, drop_book, open_book, wait_config};
 use crate::tracker_setup::{open_tracker_of, tracker_desks};
 use dmc_book::fault::NewFault;
 use dmc_book::pass::WorkerPass;
@@ -112,8 +112,8 @@ pub(super) fn open_lock<S: Setup>(
 }
 
 /// Drops a lock.
-pub(super) fn let_go<S: Setup>(lock: Lock<S>) {
-    let_book_go(lock.into_book());
+pub(super) fn drop_lock<S: Setup>(lock: Lock<S>) {
+    drop_book(lock.into_book());
 }
 
 /// A server's lock with clients 1 and 2, and the passes of its workers.
@@ -184,7 +184,7 @@ pub(super) fn open_one<S: Setup>(
         Ok(pass) => Ok((lock, pass, one)),
         Err(fail) => {
             drop(one);
-            let_go(lock);
+            drop_lock(lock);
             Err(fail)
         }
     }
@@ -197,6 +197,6 @@ pub(super) fn open_other<S: Setup>(
 ) -> Result<WorkerPass<S>, Fail> {
     let (lock, pass, client) = open_one(alloc, mint, 8)?;
     drop(client);
-    let_go(lock);
+    drop_lock(lock);
     Ok(pass)
 }

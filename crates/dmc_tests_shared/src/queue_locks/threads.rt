@@ -3,7 +3,7 @@ ghost use Rattle.std.specs.Prelude.{◌≡◌};
 
 use super::calls::{Stop, close, must_register, pull, status, submit, was_closed};
 use super::settling::{Numbers, Remains, settle};
-use super::setup::{Client, Lock, Opened, TWO, grant, last_two, let_go, open};
+use super::setup::{Client, Lock, Opened, TWO, drop_lock, grant, last_two, open};
 use crate::opening::{ONE, ZERO};
 use crate::same::assert_same;
 use dmc_book::pass::WorkerPass;
@@ -99,7 +99,7 @@ pub(super) fn open_two<S: Setup>(
         }
         Err(fail) => {
             drop((one, two));
-            let_go(lock);
+            drop_lock(lock);
             Err(fail)
         }
     }
@@ -194,7 +194,7 @@ fn two_at_once<S: Setup + Send + Sync, R: Threads + Wait + Sync>(
         }
         Err(fail) => {
             drop((first, second));
-            let_go(lock);
+            drop_lock(lock);
             Err(fail)
         }
     }
@@ -265,7 +265,7 @@ fn calls_once_closed<S: Setup, R: Wait>(
 /// the clients' passes.
 type Amid = ((u64, u64), (u64, u64));
 
-fn amid_told<S: Setup + Send + Sync, R: Threads + Wait + Sync>(
+fn amid_observed<S: Setup + Send + Sync, R: Threads + Wait + Sync>(
     rt: &R,
     lock: &Lock<S>,
     first: &mut Job<S>,
@@ -286,10 +286,10 @@ fn closed_at_once<S: Setup + Send + Sync, R: Threads + Wait + Sync>(
 {
     let mut mint = blank.open::<S>();
     let (lock, mut first, mut second) = open_two(alloc, &mut mint)?;
-    let told = amid_told(rt, &lock, &mut first, &mut second);
+    let observed = amid_observed(rt, &lock, &mut first, &mut second);
     drop((first, second));
-    let_go(lock);
-    told
+    drop_lock(lock);
+    observed
 }
 
 #[test]

@@ -2,7 +2,7 @@
 ghost use Rattle.std.specs.Prelude.{◌≡◌};
 
 use super::calls::{close, must_register, pull, pull_or_wait, respond, submit};
-use super::setup::{Client, Lock, Opened, last_pass, last_two, let_go, open};
+use super::setup::{Client, Lock, Opened, drop_lock, last_pass, last_two, open};
 use crate::opening::ONE;
 use crate::same::assert_same;
 use dmc_book::pass::WorkerPass;
@@ -80,7 +80,7 @@ fn open_three<S: Setup>(
         Ok((waiting, pass)) => Ok((lock, waiting, Third { pass, client: one })),
         Err(fail) => {
             drop(one);
-            let_go(lock);
+            drop_lock(lock);
             Err(fail)
         }
     }
@@ -123,19 +123,19 @@ fn wait_for_close<S: Setup + Send + Sync, R: Threads + Wait + Sync>(
 }
 
 /// The results of two workers that wait for a request, and, once it is granted, for another one or a close.
-fn woken_told<S: Setup + Send + Sync, R: Threads + Wait + Sync>(
+fn woken_observed<S: Setup + Send + Sync, R: Threads + Wait + Sync>(
     rt: &R,
     lock: &Lock<S>,
     waiting: &mut Waiting<S>,
     third: &mut Third<S>,
 ) -> Result<(Answers, Answers), Fail> {
     spend(rt, lock, third)?;
-    let (told, accepted) = wait_for_request(rt, lock, waiting, third);
+    let (observed, accepted) = wait_for_request(rt, lock, waiting, third);
     if !accepted {
         return Err(Fail::new("an accepted request"));
     }
     lock.run(rt, &mut third.pass, Command::Remove { client: ONE })?;
-    Ok((told, wait_for_close(rt, lock, waiting)))
+    Ok((observed, wait_for_close(rt, lock, waiting)))
 }
 
 fn woken<S: Setup + Send + Sync, R: Threads + Wait + Sync>(
@@ -147,17 +147,17 @@ fn woken<S: Setup + Send + Sync, R: Threads + Wait + Sync>(
 {
     let mut mint = blank.open::<S>();
     let (lock, mut waiting, mut third) = open_three(alloc, &mut mint)?;
-    let told = woken_told(rt, &lock, &mut waiting, &mut third);
+    let observed = woken_observed(rt, &lock, &mut waiting, &mut third);
     drop((waiting, third));
-    let_go(lock);
-    told
+    drop_lock(lock);
+    observed
 }
 
 #[test]
 fn all_who_wait_are_woken(rt: HostRuntime) -> Result<(), Fail> {
-    let (told, ended) = woken::<Brand, HostRuntime>(&rt, rt.alloc(), Blank::new(29))?;
+    let (observed, ended) = woken::<Brand, HostRuntime>(&rt, rt.alloc(), Blank::new(29))?;
     let future = Ok(Pulled::Future(50));
-    assert_same(&rt, &told, &(future, future));
+    assert_same(&rt, &observed, &(future, future));
     let nothing = Ok(Pulled::Nothing);
     assert_same(&rt, &ended, &(nothing, nothing));
     Ok(())

@@ -26,18 +26,18 @@ pub hand_out_at-requires-clause-here : goal.hand_out_at-requires-clause-here
 hand_out_at-requires-clause-here g c =
     let grant : grant_in c.args.event.now.reply ≡ Some (c.in-Some.client, c.in-Some.phase) = search rules in
     let allowed : takes (map client_side c.args.desks.now.items) c.args.names.now.keys (map grant_holdings c.args.units.now.items) c.in-Some.client c.in-Some.phase ≡ true = allowed_grant _ _ c.in-Some.client c.in-Some.phase grant c.requires.its in
-    let named : place_of c.in-Some.client.0 c.args.names.now.keys ≡ Some c.in-Some-place_near.place = search rules in
-    (named_there c.in-Some.phase (map client_side c.args.desks.now.items) (map grant_holdings c.args.units.now.items) (desk_place c.in-Some.client.0 (map client_side c.args.desks.now.items)) (place_of c.in-Some.client.0 c.args.names.now.keys) c.in-Some-place_near.place named allowed).0
+    let named : place_of c.in-Some.client.0 c.args.names.now.keys ≡ Some c.in-Some-place_with_hint.place = search rules in
+    (named_there c.in-Some.phase (map client_side c.args.desks.now.items) (map grant_holdings c.args.units.now.items) (desk_place c.in-Some.client.0 (map client_side c.args.desks.now.items)) (place_of c.in-Some.client.0 c.args.names.now.keys) c.in-Some-place_with_hint.place named allowed).0
 
 pub hand_out_at-requires-clause-its : goal.hand_out_at-requires-clause-its
 hand_out_at-requires-clause-its g c =
     let grant : grant_in c.args.event.now.reply ≡ Some (c.in-Some.client, c.in-Some.phase) = search rules in
     let allowed : takes (map client_side c.args.desks.now.items) c.args.names.now.keys (map grant_holdings c.args.units.now.items) c.in-Some.client c.in-Some.phase ≡ true = allowed_grant _ _ c.in-Some.client c.in-Some.phase grant c.requires.its in
-    let named : place_of c.in-Some.client.0 c.args.names.now.keys ≡ Some c.in-Some-place_near.place = search rules in
-    (named_there c.in-Some.phase (map client_side c.args.desks.now.items) (map grant_holdings c.args.units.now.items) (desk_place c.in-Some.client.0 (map client_side c.args.desks.now.items)) (place_of c.in-Some.client.0 c.args.names.now.keys) c.in-Some-place_near.place named allowed).1
+    let named : place_of c.in-Some.client.0 c.args.names.now.keys ≡ Some c.in-Some-place_with_hint.place = search rules in
+    (named_there c.in-Some.phase (map client_side c.args.desks.now.items) (map grant_holdings c.args.units.now.items) (desk_place c.in-Some.client.0 (map client_side c.args.desks.now.items)) (place_of c.in-Some.client.0 c.args.names.now.keys) c.in-Some-place_with_hint.place named allowed).1
 
 pub returns-clause-units : goal.returns-clause-units
 returns-clause-units g c =
     let grant : grant_in c.args.event.now.reply ≡ Some (c.in-Some.client, c.in-Some.phase) = search rules in
-    let named : place_of c.in-Some.client.0 c.args.names.now.keys ≡ Some c.in-Some-place_near.place = search rules in
+    let named : place_of c.in-Some.client.0 c.args.names.now.keys ≡ Some c.in-Some-place_with_hint.place = search rules in
     rw (grant, named) c.hand_out_at.ensures.units

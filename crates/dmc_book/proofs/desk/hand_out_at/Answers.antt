@@ -2,7 +2,7 @@ use Rattle.std.proofs.Common.{rules, ◌≡◌, ◌<◌, ◌≤◌, ◌∙◌, l
 use Rattle.dmc_ledger.specs.Accounts.{total_of}
 use Rattle.dmc_ledger.specs.Bundles.{client_side, grant_accounts, grant_holdings}
 use Rattle.dmc_ledger.specs.Moves.{book_in, till_in}
-use Rattle.dmc_book.specs.Consistent.{most_before}
+use Rattle.dmc_book.specs.Consistent.{max_before}
 use Rattle.dmc_book.proofs.DeskLemmas.{placed, desk_within, grants_fit, phase_fits, names_stay, unit_within, unit_of, unit_set, written, grant_idle, grant_issued}
 use Rattle.dmc_book.proofs.desk.hand_out_at.Goals as goal
 
@@ -36,8 +36,8 @@ issue_unit-requires-clause-fits g c =
     let d = c.index_mut.result.now in
     let d_is : slice_index_or ds c.args.place d ≡ d = search rules in
     let within = desk_within ds c.args.place (placed c.args.client.0 _ c.args.place c.requires.here).0 in
-    let fit = phase_fits most_before c.args.phase _ (grants_fit most_before ds c.args.place d c.requires.fits within) in
-    subst (λ y. total_of (book_in c.args.phase (grant_accounts y.books)) ≤ most_before) d_is fit
+    let fit = phase_fits max_before c.args.phase _ (grants_fit max_before ds c.args.place d c.requires.fits within) in
+    subst (λ y. total_of (book_in c.args.phase (grant_accounts y.books)) ≤ max_before) d_is fit
 
 pub returns-clause-desks : goal.returns-clause-desks
 returns-clause-desks g c =

@@ -6,5 +6,5 @@ use Rattle.dmc_book.proofs.laws.limit_index.Goals as goal
 pub returns : goal.returns
 returns g c =
     let here = c.book.inside in
-    let heads = first_requests_alike g.T.Tag.ops (state_of here.queue.0) (after g.T.Tag.ops here.config here.accounts.history) here.queue.0.heads c.book.invariant.stands c.limit_index.ensures.heads in
+    let heads = first_requests_alike g.T.Tag.ops (state_of here.queue.0) (after g.T.Tag.ops here.config here.accounts.history) here.queue.0.heads c.book.invariant.represents c.limit_index.ensures.heads in
     rw (← c.book.view_is) (here.queue.0.heads, heads, c.limit_index.ensures.ranks)

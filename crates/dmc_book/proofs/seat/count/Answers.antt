@@ -1,6 +1,6 @@
 use Rattle.std.proofs.Common.{rules, refl, ◌≡◌, ap, sym, subst, slice_index_or}
 use Rattle.dmc_book.specs.BookState.{worker_accounts}
-use Rattle.dmc_book.specs.Consistent.{AreWithin, most_before}
+use Rattle.dmc_book.specs.Consistent.{AreWithin, max_before}
 use Rattle.dmc_book.proofs.WorkerLemmas.{counted_workers, fits_at}
 use Rattle.dmc_book.proofs.seat.count.Goals as goal
 
@@ -14,4 +14,4 @@ pub credit_all-requires-clause-fits : goal.credit_all-requires-clause-fits
 credit_all-requires-clause-fits g c =
     let x = c.index_mut.result.now in
     let is : slice_index_or c.args.workers.now.items c.args.place x ≡ x = search rules in
-    subst (λ y. AreWithin most_before (worker_accounts y.books)) is (fits_at most_before c.args.workers.now.items c.args.place x c.requires.fits c.requires.within)
+    subst (λ y. AreWithin max_before (worker_accounts y.books)) is (fits_at max_before c.args.workers.now.items c.args.place x c.requires.fits c.requires.within)

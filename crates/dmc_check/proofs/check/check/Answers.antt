@@ -1,8 +1,8 @@
 -- No event yet, one more, and the end of the history.
 use Rattle.std.proofs.Common.{rules, ◌≡◌, ◌≤◌, ◌+◌, length, take, sym, subst, arith, Some, None}
 use Rattle.std.specs.Prelude.{slice_get}
-use Rattle.dmc_check.specs.Verdicts.{IsVerdict, Stands}
-use Rattle.dmc_check.proofs.VerdictLemmas.{none_within, stands_next, verdict_is, replays_exactly}
+use Rattle.dmc_check.specs.Verdicts.{IsVerdict, RepresentsEvents}
+use Rattle.dmc_check.proofs.VerdictLemmas.{none_within, represents_next, verdict_is, replays_exactly}
 use Rattle.dmc_check.proofs.check.check.Goals.{in-Some+in_ok-add, in_default}
 use Rattle.dmc_check.proofs.check.check.Goals as goal
 
@@ -19,7 +19,7 @@ loop-index-preserved g c =
       | in-Some+in_ok-add w ↦
           let at : slice_get all i ≡ Some w.in-Some.event = sym w.in-Some.ensures in
           let next = w.in_ok-add.ensures.added config (take i all) c.loop-index.invariant in
-          subst (Stands ops config (take (i + 1) all)) (sym w.replay-is) (stands_next ops config all i w.in-Some.event w.add.new.self at next)
+          subst (RepresentsEvents ops config (take (i + 1) all)) (sym w.replay-is) (represents_next ops config all i w.in-Some.event w.add.new.self at next)
       | in_default w ↦
           let at : None ≡ slice_get all i = w.in_default.ensures in
           absurd (none_within all i (omega arith) (sym at))

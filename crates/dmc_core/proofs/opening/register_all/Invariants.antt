@@ -1,9 +1,9 @@
-use Rattle.dmc_tag.specs.State.{StandsFor}
+use Rattle.dmc_tag.specs.State.{Represents}
 use Rattle.dmc_core.proofs.Opened.{after_first, HaveRegistered}
 use Rattle.dmc_core.proofs.opening.register_all.Given as goal
 
 abbrev pub invariant-loop-client : goal.invariant-loop-client
 invariant-loop-client g l = record {
-  stands : StandsFor (g.Q.Scheduler.state l.queue) (after_first g.T.Tag.ops l.fn.scene l.client-index);
+  represents : Represents (g.Q.Scheduler.state l.queue) (after_first g.T.Tag.ops l.fn.scene l.client-index);
   registered : HaveRegistered g.T.Tag.ops l.fn.scene l.client-index;
 }

@@ -1,6 +1,6 @@
 use Rattle.std.proofs.Common.{◌≡◌, ℕ, ◌+◌, ◌-◌, ◌*◌, ◌≤◌, get_or, length, min, sym, ap, ◌∙◌, arith}
 use Rattle.std.specs.Prelude.{⊤}
-use Rattle.dmc_types.specs.Limits.{greatest_moment}
+use Rattle.dmc_types.specs.Limits.{max_moment}
 use Rattle.dmc_pull.specs.Queue.{state_of}
 use Rattle.dmc_sim.specs.Simulation.{moment_of, round, rounds}
 use Rattle.dmc_sim.specs.Turns.{AllAt, HasRun}
@@ -32,7 +32,7 @@ returns-in_err-make_round-clause-rounds g c = λ sim h.
     let whole = rounds ops scene scene.max_pulls 0 sim in
     let here = AllAt state_of scene c.loop-round.core c.loop-round.clients c.loop-round.servers in
     let incomplete = sym (all_complete_is scene r.value.trace c.loop-round.clients (inv.scenes ∙ c.requires.scenes) r.holds.at.counted) ∙ sym c.are_complete.ensures ∙ c.if-are_complete.false in
-    let at_is : c.moment_of-end.result ≡ moment_of scene k = c.moment_of-end.ensures ∙ ap (λ (step : ℕ). min (k * step) greatest_moment) c.step.ensures.value in
+    let at_is : c.moment_of-end.result ≡ moment_of scene k = c.moment_of-end.ensures ∙ ap (λ (step : ℕ). min (k * step) max_moment) c.step.ensures.value in
     passed_up (round ops scene k r.value) whole (λ (x : ⊤). AllAt state_of scene c.make_round.new.core c.make_round.new.clients c.make_round.new.servers) (HasRun state_of scene c.make_round.new.core c.make_round.new.clients c.make_round.new.servers)
     c.in_err-make_round.field-0.0 c.from_residual.result c.from_residual.ensures.1 (round_refused ops scene scene.max_pulls k (omega (arith, c.max_pulls-round-end.ensures.value)) whole here r incomplete)
     (c.in_err-make_round.ensures.round scene k r.value at_is (inv.scenes ∙ c.requires.scenes) (inv.numbers ∙ c.requires.numbers) r.holds)
@@ -45,7 +45,7 @@ loop-round-preserved g c =
     let inv = c.loop-round.invariant in
     let made = c.in_ok-make_round.ensures in
     let servers : length c.loop-round.servers ≤ 64 = omega (arith, c.requires.some_servers) in
-    let at_is : c.moment_of-end.result ≡ moment_of scene k = c.moment_of-end.ensures ∙ ap (λ (step : ℕ). min (k * step) greatest_moment) c.step.ensures.value in
+    let at_is : c.moment_of-end.result ≡ moment_of scene k = c.moment_of-end.ensures ∙ ap (λ (step : ℕ). min (k * step) max_moment) c.step.ensures.value in
     record {
       marks = omega arith;
       marked = made.marked;

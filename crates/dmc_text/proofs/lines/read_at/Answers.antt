@@ -1,7 +1,7 @@
 -- The read is given the piece from the index on, which is as long as what may be read.
 use Rattle.std.proofs.Common.{◌≡◌, ◌+◌, ◌≤◌, length, take, ap, ◌∙◌, arith}
 use Rattle.std.proofs.lemmas.Result.{IfOk-weaker}
-use Rattle.dmc_text.proofs.PieceLemmas.{most_kept, length_of_piece, before_piece, read_in_piece, end_in_piece}
+use Rattle.dmc_text.proofs.PieceLemmas.{max_kept, length_of_piece, before_piece, read_in_piece, end_in_piece}
 use Rattle.dmc_text.proofs.lines.read_at.Goals as goal
 
 pub overflow_add-at : goal.overflow_add-at
@@ -15,7 +15,7 @@ returns-clause-front g c =
 pub returns-clause-bound : goal.returns-clause-bound
 returns-clause-bound g c =
     let n = c.min-most.result in
-    let most-is : c.unwrap_or.result ≡ c.args.most = most_kept _ _ _ _ _ c.try_from.ensures c.ranges.most.fits c.unwrap_or.ensures in
+    let most-is : c.unwrap_or.result ≡ c.args.most = max_kept _ _ _ _ _ c.try_from.ensures c.ranges.most.fits c.unwrap_or.ensures in
     let fits : c.args.at + n ≤ length c.deref_mut.result.now = omega (arith, c.min-most.ensures, c.len.ensures, c.requires, c.deref_mut.ensures.len) in
     let len : length c.read.new.buffer ≡ n = c.read.ensures.len ∙ length_of_piece c.deref_mut.result.now c.args.at n fits in
     IfOk-weaker c.read.result _ _ (λ k short. (omega (arith, c.min-most.ensures), omega (arith, c.deref_mut.ensures.len))) c.read.ensures.bound
@@ -33,7 +33,7 @@ returns-clause-bytes g c =
 pub returns-clause-end : goal.returns-clause-end
 returns-clause-end g c =
     let n = c.min-most.result in
-    let most-is : c.unwrap_or.result ≡ c.args.most = most_kept _ _ _ _ _ c.try_from.ensures c.ranges.most.fits c.unwrap_or.ensures in
+    let most-is : c.unwrap_or.result ≡ c.args.most = max_kept _ _ _ _ _ c.try_from.ensures c.ranges.most.fits c.unwrap_or.ensures in
     let fits : c.args.at + n ≤ length c.deref_mut.result.now = omega (arith, c.min-most.ensures, c.len.ensures, c.requires, c.deref_mut.ensures.len) in
     let len : length c.read.new.buffer ≡ n = c.read.ensures.len ∙ length_of_piece c.deref_mut.result.now c.args.at n fits in
     end_in_piece _ _ c.read.result _ (λ room some. omega (arith, len, c.min-most.ensures, c.len.ensures, most-is)) c.read.ensures.bytes

@@ -8,5 +8,5 @@ use Rattle.dmc_book.proofs.book.QueueBook.is_empty.Goals as goal
 pub returns : goal.returns
 returns g c =
     let here = c.self.inside in
-    let requests = as_many_requests (state_of here.queue.0) (after g.T.Tag.ops here.config here.accounts.history) c.self.invariant.stands in
+    let requests = as_many_requests (state_of here.queue.0) (after g.T.Tag.ops here.config here.accounts.history) c.self.invariant.represents in
     rw (← c.self.view_is) (c.empty.ensures ∙ ap (λ n. n == 0) requests)

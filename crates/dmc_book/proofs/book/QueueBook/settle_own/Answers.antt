@@ -14,5 +14,5 @@ invariant_of-self g c =
 pub returns-clause-left : goal.returns-clause-left
 returns-clause-left g c =
     let here = c.self.inside in
-    let requests = as_many_requests (state_of here.queue.0) (after g.T.Tag.ops here.config here.accounts.history) c.self.invariant.stands in
+    let requests = as_many_requests (state_of here.queue.0) (after g.T.Tag.ops here.config here.accounts.history) c.self.invariant.represents in
     rw (← c.self.view_is) (c.settle.ensures.left ∙ c.request_count-left.ensures ∙ requests)

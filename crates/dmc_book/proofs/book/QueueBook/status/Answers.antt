@@ -8,8 +8,8 @@ pub returns-clause-status : goal.returns-clause-status
 returns-clause-status g c =
     let here = c.self.inside in
     let state = after g.T.Tag.ops here.config here.accounts.history in
-    let clients = as_many_clients (state_of here.queue.0) state c.self.invariant.stands in
-    let requests = as_many_requests (state_of here.queue.0) state c.self.invariant.stands in
+    let clients = as_many_clients (state_of here.queue.0) state c.self.invariant.represents in
+    let requests = as_many_requests (state_of here.queue.0) state c.self.invariant.represents in
     rw (← c.self.view_is) (record {
       calls = search rules;
       misses = search rules;

@@ -16,6 +16,6 @@ none_spec 𝓤 𝓛 𝓜 𝓡 wired =
     enter ! 𝓣.C 𝓣.Λ code.function [] Post $ alloc_all ! (λ l. pass_all ! refl tt $
     sets ! (agg ! (and_then ! (lit ! tt) (and_then ! (lit ! tt) (no_more !)))) refl (handle_good null_ptr 0 (lit< tt)) $
     feq_i ! ℕ 0 0 refl $ handle_in ! null_ptr 0 (lit< tt) None $ use0 𝓛 (raw (fact 𝓤 Told)) (fact_i 𝓤 Told (emp 𝓤) refl) $
-    -- [what is told; the handle; the tokens; no parameter]
+    -- [what is written; the handle; the tokens; no parameter]
     returns ! (look_at ! 0 refl) $ free_all ! refl $ keep ! (2 ∷ 3 ∷ 1 ∷ 0 ∷ []) $
     by ! (leaves 𝓛 ended tt c z (handle_val null_ptr 0) (record { at = null_ptr; held = 0; value = None }) tt tt)))

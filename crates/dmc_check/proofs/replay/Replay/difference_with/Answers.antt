@@ -2,7 +2,7 @@
 use Rattle.std.proofs.Common.{refl}
 use Rattle.dmc_pull.specs.Queue.{state_of}
 use Rattle.dmc_tag.proofs.Options.{of_err}
-use Rattle.dmc_check.proofs.VerdictLemmas.{later_event, none_yet, same_event, stands_kept, other_event}
+use Rattle.dmc_check.proofs.VerdictLemmas.{later_event, none_yet, same_event, represents_kept, other_event}
 use Rattle.dmc_check.proofs.replay.Replay.difference_with.Goals as goal
 
 pub returns-then-is_some-clause-so_far : goal.returns-then-is_some-clause-so_far
@@ -26,4 +26,4 @@ returns-clause-so_far g c =
 
 pub returns-in_err-replays_next-clause-kept : goal.returns-in_err-replays_next-clause-kept
 returns-in_err-replays_next-clause-kept g c =
-    λ config events h. of_err c.from_residual.result (stands_kept g.T.Tag.ops config events c.args.self.now _ refl refl c.in_err-replays_next.ensures.kept h)
+    λ config events h. of_err c.from_residual.result (represents_kept g.T.Tag.ops config events c.args.self.now _ refl refl c.in_err-replays_next.ensures.kept h)

@@ -1,5 +1,5 @@
 use Rattle.std.proofs.Common.{◌≢◌, ℕ, ◌<◌, ◌+◌, length, map, refl, ap, sym, ◌∙◌, arith, List}
-use Rattle.dmc_core.specs.Run.{Pair, pair_at, grants, with_grants, most_grants}
+use Rattle.dmc_core.specs.Run.{Pair, pair_at, grants, with_grants, max_grants}
 use Rattle.dmc_core.specs.Core.{Held}
 use Rattle.dmc_core.specs.Parts.{pair_of}
 use Rattle.dmc_core.proofs.Pairs.{pair_seen, pair_changed}
@@ -11,8 +11,8 @@ overflow_add-count c =
     let x = c.index_mut-pair.result.now in
     let within : c.args.server.0 < length (map pair_of items) = rw (← c.self.view_is) at c.requires.within in
     let seen = pair_seen items c.args.server x within c.index_mut-pair.ensures.value in
-    let room : grants c.args.phase (pair_at c.args.server (map pair_of items)) ≢ most_grants = rw (← c.self.view_is) at c.requires.room in
-    let small : c.grants-count.result ≢ most_grants = λ e. room (ap (grants c.args.phase) seen ∙ sym c.grants-count.ensures ∙ e) in
+    let room : grants c.args.phase (pair_at c.args.server (map pair_of items)) ≢ max_grants = rw (← c.self.view_is) at c.requires.room in
+    let small : c.grants-count.result ≢ max_grants = λ e. room (ap (grants c.args.phase) seen ∙ sym c.grants-count.ensures ∙ e) in
     omega arith
 
 pub returns-clause-count : goal.returns-clause-count

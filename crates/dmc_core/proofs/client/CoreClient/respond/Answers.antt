@@ -20,7 +20,7 @@ returns-clause-follows g c =
     (rw (seen, ← c.grants-count.ensures) (false_from_ne_true _ (λ e. absurd (omega (arith, eqb-true _ _ e)))))
     c.track_resp.result c.in_ok-track_resp.was within c.track_resp.ensures.full_by_list
     c.track_resp.new.self _
-    c.in_ok-track_resp.ensures.stands c.track_resp.ensures.kept
+    c.in_ok-track_resp.ensures.represents c.track_resp.ensures.kept
     (pair_changed items s x within c.index_mut-pair.ensures.value c.set_grants.new.self (λ (pair : Pair). with_grants phase (grants phase pair - 1) pair)
     (c.set_grants.ensures ∙ ap (λ (k : ℕ). with_grants phase (k - 1) (pair_of x)) c.grants-count.ensures)))
 

@@ -44,7 +44,7 @@ returns-clause-follows g c =
     (rw (seen, ← c.is_flight_full.ensures) c.if-is_flight_full.false)
     c.can_stamp.result c.in_ok-can_stamp.was within c.can_stamp.ensures.full_by_list
     c.in_ok-params.params c.get_req_params.new.self _
-    c.in_ok-params.ensures.stands c.in_ok-params.ensures.kept
+    c.in_ok-params.ensures.represents c.in_ok-params.ensures.kept
     (pair_changed items s x within c.index_mut-pair.ensures.value c.send.new.self (λ (pair : Pair). with_flight (pair.flight ++ record { token = c.args.token; params = c.in_ok-params.params } ∷ []) pair)
     (c.send.ensures ∙ ap (λ (pair : Pair). with_flight (pair.flight ++ record { token = c.args.token; params = c.in_ok-params.params } ∷ []) pair) c.reserve.ensures.same)))
 

@@ -5,7 +5,7 @@ use Rattle.std.proofs.lemmas.Option.{get_or_from_slice_get, slice_get_read}
 use Rattle.dmc_core.specs.Core.{Held, ClientFollows}
 use Rattle.dmc_core.specs.Events.{response}
 use Rattle.dmc_core.specs.Parts.{one_if_full}
-use Rattle.dmc_core.specs.Run.{pair_at, grants, most_grants}
+use Rattle.dmc_core.specs.Run.{pair_at, grants, max_grants}
 use Rattle.dmc_core.specs.declared.event.CoreEvent.TheVariants as events
 use Rattle.dmc_core.specs.declared.server.CoreServer.{CoreServer}
 use Rattle.dmc_core.proofs.Kept.{known, count_kept, count_changed, full_gone, full_not}
@@ -65,7 +65,7 @@ invariant_of-self-then-is_full g c =
     let inside : i < length hs = rw (← c.self.view_is) at c.in_ok-place.ensures.within in
     let knows = known c.self.inside.ids hs servers c.self.invariant s x (slice_get_read servers (length servers) s.0 x refl within c.index_mut-then-is_full.ensures.value) in
     let same : c.index.result.now ≡ h = c.index.ensures ∙ get_or_from_slice_get hs i h c.index.result.now (slice_get_read hs (length hs) i h refl inside c.index_mut.ensures.value) in
-    let count : grants phase (pair_at s h.pairs) ≡ most_grants = ap (λ (z : Held). grants phase (pair_at s z.pairs)) (sym same) ∙ sym c.grants-is_full.ensures ∙ c.if-is_full.true in
+    let count : grants phase (pair_at s h.pairs) ≡ max_grants = ap (λ (z : Held). grants phase (pair_at s z.pairs)) (sym same) ∙ sym c.grants-is_full.ensures ∙ c.if-is_full.true in
     let full : one_if_full (grants phase (pair_at s h.pairs)) ≡ 1 = ap one_if_full count in
     let less : one_if_full (grants phase (pair_at s h.pairs) - 1) ≡ 0 = ap (λ (n : ℕ). one_if_full (n - 1)) count in
     let at = slice_get_read hs (length hs) i h refl inside c.index_mut.ensures.value in

@@ -2,7 +2,7 @@ use Rattle.std.proofs.Common.{◌≡◌, ◌∙◌, ◌<◌, true, false, length
 use Rattle.std.specs.Prelude.{is_some, nat_le}
 use Rattle.std.proofs.lemmas.Bool.{le-leb, lt-leb}
 use Rattle.std.proofs.lemmas.Result.{IfOk-from_err}
-use Rattle.dmc_types.specs.Limits.{most_requests}
+use Rattle.dmc_types.specs.Limits.{max_requests}
 use Rattle.dmc_tag.specs.Rules.{shift_of, assigned}
 use Rattle.dmc_tag.specs.State.{client_named}
 use Rattle.dmc_tag.proofs.Options.{err_is}
@@ -18,14 +18,14 @@ pub returns-then-len-clause-outcome : goal.returns-then-len-clause-outcome
 returns-then-len-clause-outcome g c =
     let clients = c.deref.ensures.value ∙ ap (λ s. s.clients) c.self.view_is in
     let named = ap (client_named c.args.client) (sym clients) ∙ sym c.client_named.ensures ∙ c.in-Some.is in
-    let full = subst (λ s. nat_le most_requests (length s.requests) ≡ true) c.self.view_is (le-leb most_requests (length c.self.inside.requests.items) (omega arith)) in
+    let full = subst (λ s. nat_le max_requests (length s.requests) ≡ true) c.self.view_is (le-leb max_requests (length c.self.inside.requests.items) (omega arith)) in
     queue_full g.T.Tag.ops c.args.self.now c.args.client c.args.params c.args.t c.in-Some.arriving named full
 
 pub returns-in_err-shift-clause-outcome : goal.returns-in_err-shift-clause-outcome
 returns-in_err-shift-clause-outcome g c =
     let clients = c.deref.ensures.value ∙ ap (λ s. s.clients) c.self.view_is in
     let named = ap (client_named c.args.client) (sym clients) ∙ sym c.client_named.ensures ∙ c.in-Some.is in
-    let room = subst (λ s. nat_le most_requests (length s.requests) ≡ false) c.self.view_is (lt-leb most_requests (length c.self.inside.requests.items) (omega arith)) in
+    let room = subst (λ s. nat_le max_requests (length s.requests) ≡ false) c.self.view_is (lt-leb max_requests (length c.self.inside.requests.items) (omega arith)) in
     let requests = c.deref-2.ensures.value ∙ ap (λ s. s.requests) c.self.view_is in
     let is = subst (λ rs. shift_of g.T.Tag.ops rs c.in-Some.arriving c.args.t ≡ Err c.in_err-shift.field-0.0) requests (sym c.shift_of.ensures ∙ c.in_err-shift.was) in
     err_is c.from_residual.result c.in_err-shift.field-0.0 c.from_residual.ensures.1
@@ -35,7 +35,7 @@ pub returns-then-not-can_shift_by-clause-outcome : goal.returns-then-not-can_shi
 returns-then-not-can_shift_by-clause-outcome g c =
     let clients = c.deref.ensures.value ∙ ap (λ s. s.clients) c.self.view_is in
     let named = ap (client_named c.args.client) (sym clients) ∙ sym c.client_named.ensures ∙ c.in-Some.is in
-    let room = subst (λ s. nat_le most_requests (length s.requests) ≡ false) c.self.view_is (lt-leb most_requests (length c.self.inside.requests.items) (omega arith)) in
+    let room = subst (λ s. nat_le max_requests (length s.requests) ≡ false) c.self.view_is (lt-leb max_requests (length c.self.inside.requests.items) (omega arith)) in
     let requests = c.deref-2.ensures.value ∙ ap (λ s. s.requests) c.self.view_is in
     let is = subst (λ rs. shift_of g.T.Tag.ops rs c.in-Some.arriving c.args.t ≡ Ok c.in_ok-shift.shift) requests (sym c.shift_of.ensures ∙ c.in_ok-shift.was) in
     out_of_range g.T.Tag.ops c.args.self.now c.args.client c.args.params c.args.t c.in-Some.arriving named room c.in_ok-shift.shift is (sym c.can_shift_by.ensures ∙ c.if-not-can_shift_by.true)
@@ -44,7 +44,7 @@ pub returns-in_err-tags-clause-outcome : goal.returns-in_err-tags-clause-outcome
 returns-in_err-tags-clause-outcome g c =
     let clients = c.deref.ensures.value ∙ ap (λ s. s.clients) c.self.view_is in
     let named = ap (client_named c.args.client) (sym clients) ∙ sym c.client_named.ensures ∙ c.in-Some.is in
-    let room = subst (λ s. nat_le most_requests (length s.requests) ≡ false) c.self.view_is (lt-leb most_requests (length c.self.inside.requests.items) (omega arith)) in
+    let room = subst (λ s. nat_le max_requests (length s.requests) ≡ false) c.self.view_is (lt-leb max_requests (length c.self.inside.requests.items) (omega arith)) in
     let requests = c.deref-2.ensures.value ∙ ap (λ s. s.requests) c.self.view_is in
     let is = subst (λ rs. shift_of g.T.Tag.ops rs c.in-Some.arriving c.args.t ≡ Ok c.in_ok-shift.shift) requests (sym c.shift_of.ensures ∙ c.in_ok-shift.was) in
     let hz = c.hz.ensures.value ∙ ap (λ s. s.config.hz) c.self.view_is in
@@ -56,7 +56,7 @@ pub returns-clause-outcome : goal.returns-clause-outcome
 returns-clause-outcome g c =
     let clients = c.deref.ensures.value ∙ ap (λ s. s.clients) c.self.view_is in
     let named = ap (client_named c.args.client) (sym clients) ∙ sym c.client_named.ensures ∙ c.in-Some.is in
-    let room = subst (λ s. nat_le most_requests (length s.requests) ≡ false) c.self.view_is (lt-leb most_requests (length c.self.inside.requests.items) (omega arith)) in
+    let room = subst (λ s. nat_le max_requests (length s.requests) ≡ false) c.self.view_is (lt-leb max_requests (length c.self.inside.requests.items) (omega arith)) in
     let requests = c.deref-2.ensures.value ∙ ap (λ s. s.requests) c.self.view_is in
     let is = subst (λ rs. shift_of g.T.Tag.ops rs c.in-Some.arriving c.args.t ≡ Ok c.in_ok-shift.shift) requests (sym c.shift_of.ensures ∙ c.in_ok-shift.was) in
     let hz = c.hz.ensures.value ∙ ap (λ s. s.config.hz) c.self.view_is in
@@ -64,7 +64,7 @@ returns-clause-outcome g c =
     assigns g.T.Tag.ops c.args.self.now c.args.client c.args.params c.args.t c.in-Some.arriving named room c.in_ok-shift.shift is (sym c.can_shift_by.ensures ∙ c.if-not-can_shift_by.false) (Ok c.in_ok-tags.tags) tags
 
 pub returns-clause-room : goal.returns-clause-room
-returns-clause-room g c = subst (λ s. length s.requests < most_requests) c.self.view_is (omega arith)
+returns-clause-room g c = subst (λ s. length s.requests < max_requests) c.self.view_is (omega arith)
 
 pub returns-clause-known : goal.returns-clause-known
 returns-clause-known g c =

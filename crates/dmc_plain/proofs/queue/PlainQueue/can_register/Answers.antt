@@ -2,7 +2,7 @@ use Rattle.std.proofs.Common.{◌≡◌, ◌∙◌, ◌<◌, true, false, length
 use Rattle.std.specs.Prelude.{is_some, nat_le}
 use Rattle.std.proofs.lemmas.Bool.{le-leb, lt-leb}
 use Rattle.std.proofs.lemmas.Result.{IfOk-from_err}
-use Rattle.dmc_types.specs.Limits.{most_clients}
+use Rattle.dmc_types.specs.Limits.{max_clients}
 use Rattle.dmc_types.specs.declared.refusal.Refusal.TheVariants.{Inexact}
 use Rattle.dmc_tag.specs.Spacing.{spacings_of}
 use Rattle.dmc_tag.specs.State.{client_named}
@@ -32,7 +32,7 @@ returns-then-len-clause-outcome g c =
     let named = ap (λ cs. is_some (client_named c.args.client cs)) (sym clients) ∙ ap is_some (sym c.client_named.ensures) ∙ sym c.is_some.ensures in
     let hz = c.hz.ensures.value ∙ ap (λ s. s.config.hz) c.self.view_is in
     let exact = ap (λ n. spacings_of g.T.Tag.ops n c.args.info) (sym hz) ∙ sym c.spacings_for.ensures.value ∙ c.in_ok-_exact.was in
-    let full = subst (λ s. nat_le most_clients (length s.clients) ≡ true) c.self.view_is (le-leb most_clients (length c.self.inside.clients.items) (omega arith)) in
+    let full = subst (λ s. nat_le max_clients (length s.clients) ≡ true) c.self.view_is (le-leb max_clients (length c.self.inside.clients.items) (omega arith)) in
     counts_clients g.T.Tag.ops c.args.self.now c.args.client c.args.info (named ∙ c.if-is_some.false) c.in_ok-_exact._exact exact true full
 
 pub returns-clause-outcome : goal.returns-clause-outcome
@@ -41,11 +41,11 @@ returns-clause-outcome g c =
     let named = ap (λ cs. is_some (client_named c.args.client cs)) (sym clients) ∙ ap is_some (sym c.client_named.ensures) ∙ sym c.is_some.ensures in
     let hz = c.hz.ensures.value ∙ ap (λ s. s.config.hz) c.self.view_is in
     let exact = ap (λ n. spacings_of g.T.Tag.ops n c.args.info) (sym hz) ∙ sym c.spacings_for.ensures.value ∙ c.in_ok-_exact.was in
-    let room = subst (λ s. nat_le most_clients (length s.clients) ≡ false) c.self.view_is (lt-leb most_clients (length c.self.inside.clients.items) (omega arith)) in
+    let room = subst (λ s. nat_le max_clients (length s.clients) ≡ false) c.self.view_is (lt-leb max_clients (length c.self.inside.clients.items) (omega arith)) in
     counts_clients g.T.Tag.ops c.args.self.now c.args.client c.args.info (named ∙ c.if-is_some.false) c.in_ok-_exact._exact exact false room
 
 pub returns-clause-room : goal.returns-clause-room
-returns-clause-room g c = subst (λ s. length s.clients < most_clients) c.self.view_is (omega arith)
+returns-clause-room g c = subst (λ s. length s.clients < max_clients) c.self.view_is (omega arith)
 
 pub returns-in_err-_exact-clause-room : goal.returns-in_err-_exact-clause-room
 returns-in_err-_exact-clause-room g c = IfOk-from_err c.from_residual.result _ c.from_residual.ensures.0

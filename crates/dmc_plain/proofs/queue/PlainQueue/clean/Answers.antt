@@ -1,4 +1,4 @@
-use Rattle.dmc_types.specs.Limits.{most_clients, most_requests}
+use Rattle.dmc_types.specs.Limits.{max_clients, max_requests}
 use Rattle.dmc_plain.proofs.Views.{cleaned_view, cleaned_kept}
 use Rattle.dmc_plain.proofs.queue.PlainQueue.clean.Goals as goal
 
@@ -11,6 +11,6 @@ returns g c =
 
 pub invariant_of-self : goal.invariant_of-self
 invariant_of-self g c =
-    cleaned_kept most_requests most_clients c.self.inside.clients.items c.self.inside.requests.items c.self.invariant
+    cleaned_kept max_requests max_clients c.self.inside.clients.items c.self.inside.requests.items c.self.invariant
     c.effective-at.result c.idle_age-idle_age.result c.erase_age-erase_age.result _ _ _
     c.as_slice-requests.ensures.value c.erase.ensures.items c.change_all.ensures.items

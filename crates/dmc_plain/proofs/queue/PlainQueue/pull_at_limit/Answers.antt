@@ -15,4 +15,4 @@ pub returns-in-Wait : goal.returns-in-Wait
 returns-in-Wait g c =
     let old = c.args.self.now in
     let is = subst (λ s. s.config.at_limit ≡ Wait) c.self.view_is (sym c.at_limit.ensures ∙ c.in-Wait.is) in
-    rw (c.tell_due.ensures.now, c.tell_due.ensures.answer) (waits g.T.Tag.ops old c.args.at old.requests is)
+    rw (c.report_due.ensures.now, c.report_due.ensures.answer) (waits g.T.Tag.ops old c.args.at old.requests is)

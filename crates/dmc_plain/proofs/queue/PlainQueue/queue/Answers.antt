@@ -1,6 +1,6 @@
 use Rattle.std.proofs.Common.{◌≡◌, ◌∙◌, ◌<◌, length, true, sym, subst}
 use Rattle.std.specs.Prelude.{is_some}
-use Rattle.dmc_types.specs.Limits.{most_clients, most_requests}
+use Rattle.dmc_types.specs.Limits.{max_clients, max_requests}
 use Rattle.dmc_tag.specs.State.{client_named}
 use Rattle.dmc_plain.proofs.Shares.{queued_as}
 use Rattle.dmc_plain.proofs.Views.{IsKept, pushed_if, kept_if, room_if, unqueued_view, queued_view, queued_kept}
@@ -18,9 +18,9 @@ invariant_of-self-2 g c =
     let pushed = pushed_if _ c.self.inside.requests.items c.push.new.self.items c.args.request c.push.ensures.items c.if-is_err.ensures.negation in
     let requests = queued_as g.T.Tag.ops c.args.shift c.self.inside.clients.items c.self.inside.requests.items c.self.invariant.2 c.args.request c.len-others.result
     (sym (c.len-others.ensures ∙ c.self.inside.requests.ok.0)) c.push.new.self.items c.shift_others.new.requests.items pushed c.shift_others.ensures.requests in
-    let room = subst (λ s. length s.requests < most_requests) (sym c.self.view_is) c.requires.room in
+    let room = subst (λ s. length s.requests < max_requests) (sym c.self.view_is) c.requires.room in
     let known = subst (λ s. is_some (client_named c.args.request.client s.clients) ≡ true) (sym c.self.view_is) c.requires.known in
-    queued_kept g.T.Tag.ops most_requests most_clients c.self.inside.clients.items c.self.inside.requests.items c.self.invariant c.args.shift c.args.request c.args.at _ _ _
+    queued_kept g.T.Tag.ops max_requests max_clients c.self.inside.clients.items c.self.inside.requests.items c.self.invariant c.args.shift c.args.request c.args.at _ _ _
     requests c.shift_others.ensures.clients c.change_all.ensures.items room known
 
 pub shift_others-requires : goal.shift_others-requires
@@ -29,7 +29,7 @@ shift_others-requires g c = room_if _ _ _ _ c.len-others.ensures c.push.ensures.
 pub invariant_of-self : goal.invariant_of-self
 invariant_of-self g c =
     let kept = kept_if _ c.self.inside.requests.items c.push.new.self.items c.args.request c.push.ensures.items c.if-is_err.ensures.negation in
-    subst (IsKept most_requests most_clients c.self.inside.clients.items) (sym kept) c.self.invariant
+    subst (IsKept max_requests max_clients c.self.inside.clients.items) (sym kept) c.self.invariant
 
 pub returns-then-is_err-clause-err : goal.returns-then-is_err-clause-err
 returns-then-is_err-clause-err g c =

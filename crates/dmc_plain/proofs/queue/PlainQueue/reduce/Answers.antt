@@ -1,5 +1,5 @@
 use Rattle.std.proofs.Common.{ap, sym}
-use Rattle.dmc_types.specs.Limits.{most_clients, most_requests}
+use Rattle.dmc_types.specs.Limits.{max_clients, max_requests}
 use Rattle.dmc_tag.specs.Rules.{reduced_by}
 use Rattle.dmc_plain.proofs.Views.{reduced_view, reduced_kept}
 use Rattle.dmc_plain.proofs.queue.PlainQueue.reduce.Goals as goal
@@ -11,7 +11,7 @@ returns-in-Some g c =
 
 pub invariant_of-self : goal.invariant_of-self
 invariant_of-self g c =
-    reduced_kept g.T.Tag.ops most_requests most_clients c.self.inside.clients.items c.self.inside.requests.items c.self.invariant c.args.client c.in-Some.amount _ _
+    reduced_kept g.T.Tag.ops max_requests max_clients c.self.inside.clients.items c.self.inside.requests.items c.self.invariant c.args.client c.in-Some.amount _ _
     c.change_all.ensures.items c.change_all-in-Some.ensures.items
 
 pub returns-in_default : goal.returns-in_default

@@ -1,5 +1,5 @@
 use Rattle.std.proofs.Common.{◌∙◌, ◌<◌, length, refl, sym, subst}
-use Rattle.dmc_types.specs.Limits.{most_clients, most_requests}
+use Rattle.dmc_types.specs.Limits.{max_clients, max_requests}
 use Rattle.dmc_types.specs.declared.refusal.QueueFault.TheVariants as faults
 use Rattle.dmc_tag.proofs.Options.{err_is}
 use Rattle.dmc_plain.proofs.Grants.{registered_as}
@@ -9,8 +9,8 @@ use Rattle.dmc_plain.proofs.queue.PlainQueue.register.Goals as goal
 pub invariant_of-self-2 : goal.invariant_of-self-2
 invariant_of-self-2 g c =
     let pushed = pushed_if _ c.self.inside.clients.items c.push.new.self.items c.newcomer.result c.push.ensures.items c.if-is_err.ensures.negation in
-    let room = subst (λ s. length s.clients < most_clients) (sym c.self.view_is) c.in_ok-can_register.ensures.room in
-    registered_kept most_requests most_clients c.self.inside.clients.items c.self.inside.requests.items c.self.invariant c.newcomer.result _ pushed room
+    let room = subst (λ s. length s.clients < max_clients) (sym c.self.view_is) c.in_ok-can_register.ensures.room in
+    registered_kept max_requests max_clients c.self.inside.clients.items c.self.inside.requests.items c.self.invariant c.newcomer.result _ pushed room
 
 pub returns : goal.returns
 returns g c =
@@ -28,7 +28,7 @@ returns-in_err-can_register g c =
 pub invariant_of-self : goal.invariant_of-self
 invariant_of-self g c =
     let kept = kept_if _ c.self.inside.clients.items c.push.new.self.items c.newcomer.result c.push.ensures.items c.if-is_err.ensures.negation in
-    subst (λ clients. IsKept most_requests most_clients clients c.self.inside.requests.items) (sym kept) c.self.invariant
+    subst (λ clients. IsKept max_requests max_clients clients c.self.inside.requests.items) (sym kept) c.self.invariant
 
 pub returns-then-is_err : goal.returns-then-is_err
 returns-then-is_err g c =

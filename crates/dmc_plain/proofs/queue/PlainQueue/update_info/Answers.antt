@@ -1,12 +1,12 @@
 use Rattle.std.proofs.Common.{sym, ◌∙◌}
-use Rattle.dmc_types.specs.Limits.{most_clients, most_requests}
+use Rattle.dmc_types.specs.Limits.{max_clients, max_requests}
 use Rattle.dmc_plain.proofs.Grants.{updated_as}
 use Rattle.dmc_plain.proofs.Views.{updated_view, updated_kept}
 use Rattle.dmc_plain.proofs.queue.PlainQueue.update_info.Goals as goal
 
 pub invariant_of-self : goal.invariant_of-self
 invariant_of-self g c =
-    updated_kept most_requests most_clients c.self.inside.clients.items c.self.inside.requests.items c.self.invariant c.args.client c.args.info _ c.change_all.ensures.items
+    updated_kept max_requests max_clients c.self.inside.clients.items c.self.inside.requests.items c.self.invariant c.args.client c.args.info _ c.change_all.ensures.items
 
 pub returns : goal.returns
 returns g c =

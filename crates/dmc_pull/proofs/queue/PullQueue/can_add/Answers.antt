@@ -2,7 +2,7 @@ use Rattle.std.proofs.Common.{rules, ◌≡◌, sym, ◌∙◌, subst, Some, Non
 use Rattle.std.specs.Prelude.{is_some, true}
 use Rattle.dmc_tag.specs.Rules.{can_shift_by}
 use Rattle.dmc_tag.proofs.ForCallers.{minus_nothing, weights_are_values}
-use Rattle.dmc_pull.specs.Standing.{clients_in, requests_in}
+use Rattle.dmc_pull.specs.Represented.{clients_in, requests_in}
 use Rattle.dmc_roster.specs.Entries.{entry_keyed, entry_named, record_at}
 use Rattle.dmc_pull.specs.Adding.{CanAdd}
 use Rattle.dmc_pull.specs.Queue.{IsQueue, state_of}
@@ -13,7 +13,7 @@ use Rattle.dmc_tag.proofs.Options.{err_is}
 
 pub returns-in_default-clause-outcome : goal.returns-in_default-clause-outcome
 returns-in_default-clause-outcome g c =
-    let none = subst (λ q. entry_named c.args.client q.roster.entries ≡ None) c.self.view_is (adds.no_entry c.args.client c.self.inside.roster.entries (sym c.find_near.ensures.key ∙ c.in_default.is)) in
+    let none = subst (λ q. entry_named c.args.client q.roster.entries ≡ None) c.self.view_is (adds.no_entry c.args.client c.self.inside.roster.entries (sym c.find_with_hint.ensures.key ∙ c.in_default.is)) in
     adds.unknown g.T.Tag.ops (state_of c.args.self.now) c.args.client c.args.params (g.T.Tag.ops.of_moment c.args.at) (adds.unnamed c.args.client c.args.self.now.roster.entries none)
 
 pub returns-then-self-clause-outcome : goal.returns-then-self-clause-outcome

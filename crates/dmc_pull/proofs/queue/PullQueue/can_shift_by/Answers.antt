@@ -3,7 +3,7 @@ use Rattle.std.specs.List.{list_all}
 use Rattle.dmc_adjust.specs.Changes.{is_shiftable}
 use Rattle.dmc_roster.specs.Entries.{Entry}
 use Rattle.dmc_tag.specs.Rules.{can_shift_by}
-use Rattle.dmc_pull.specs.Standing.{clients_in, requests_in}
+use Rattle.dmc_pull.specs.Represented.{clients_in, requests_in}
 use Rattle.dmc_pull.proofs.Add.InRange.{all_can_shift}
 use Rattle.dmc_pull.proofs.Add.Shifted.{shiftable}
 use Rattle.dmc_pull.proofs.queue.PullQueue.can_shift_by.Goals as goal

@@ -6,7 +6,7 @@ use Rattle.dmc_tag.specs.Outcome.{◌>>=◌, in_range}
 use Rattle.dmc_tag.proofs.ForCallers.{found_is_best, not_found_has_none}
 use Rattle.dmc_pull.specs.Adding.{needed_shift, unless_nothing}
 use Rattle.dmc_pull.specs.Queue.{IsKept}
-use Rattle.dmc_pull.specs.Standing.{requests_in}
+use Rattle.dmc_pull.specs.Represented.{requests_in}
 use Rattle.dmc_pull.proofs.Common.Parts.{all_as}
 use Rattle.dmc_pull.proofs.Pull.Choices.{none_queued}
 use Rattle.dmc_pull.proofs.Common.Keyed.{record_is}

@@ -3,7 +3,7 @@ use Rattle.std.specs.Option.{option_map}
 use Rattle.dmc_tag.specs.Best.{best, by_reservation, by_weight, is_early, is_free}
 use Rattle.dmc_tag.specs.Rules.{moment_of, earlier}
 use Rattle.dmc_tag.proofs.ForCallers.{due_from_ceil, future_is_exact, not_found_has_none}
-use Rattle.dmc_pull.specs.Standing.{requests_in}
+use Rattle.dmc_pull.specs.Represented.{requests_in}
 use Rattle.dmc_pull.proofs.Pull.Picks.{tag_order, records_of}
 use Rattle.dmc_pull.proofs.Pull.Choices.{none_queued}
 use Rattle.dmc_pull.proofs.Pull.Due.{due_told, not_nothing}

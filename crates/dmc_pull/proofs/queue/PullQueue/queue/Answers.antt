@@ -3,15 +3,15 @@ use Rattle.std.specs.Prelude.{◌==◌, ◌≤◌, ◌+◌, slice_set, length}
 use Rattle.dmc_client.specs.declared.request.QueuedRequest.{QueuedRequest}
 use Rattle.dmc_head_index.specs.declared.head.Head.{Head}
 use Rattle.dmc_head_index.specs.Heads.{IsOthers}
-use Rattle.dmc_tag.specs.State.{StandsFor}
+use Rattle.dmc_tag.specs.State.{Represents}
 use Rattle.dmc_tag.specs.Rules.{shifted_by, queued}
 use Rattle.dmc_tag.proofs.ForCallers.{differences_are_values, due_from_ceil, tag_order}
 use Rattle.dmc_pull.specs.Adding.{IsAddition}
 use Rattle.dmc_pull.specs.Queue.{Queue, IsQueue, head_at, state_of}
 use Rattle.dmc_pull.specs.Range.{AreWithin}
-use Rattle.dmc_pull.specs.Standing.{clients_in, requests_in}
+use Rattle.dmc_pull.specs.Represented.{clients_in, requests_in}
 use Rattle.dmc_pull.proofs.Common.Keyed.{record_is}
-use Rattle.dmc_pull.proofs.Add.Arrived.{of_client, heads_can_shift, after_calls, within, vacant, apart, with_first, with_more, stands}
+use Rattle.dmc_pull.proofs.Add.Arrived.{of_client, heads_can_shift, after_calls, within, vacant, apart, with_first, with_more, represents}
 use Rattle.dmc_pull.proofs.Add.InRange.{arrived_within}
 use Rattle.dmc_pull.proofs.queue.PullQueue.queue.Goals as goal
 use Rattle.dmc_pull.proofs.queue.PullQueue.queue.Goals.{then-is_first, else-is_first}
@@ -111,6 +111,6 @@ returns-clause-ok g c =
     let at = c.args.at in
     let config : c.if-is_first.self-inside.config ≡ inside.config = elim c.if-is_first.branch [ then-is_first w ↦ ap (λ i. i.config) w.self-inside-is | else-is_first w ↦ ap (λ i. i.config) w.self-inside-is ] in
     let same_roster : c.if-is_first.self-inside.roster ≡ roster = elim c.if-is_first.branch [ then-is_first w ↦ ap (λ i. i.roster) w.self-inside-is | else-is_first w ↦ ap (λ i. i.roster) w.self-inside-is ] in
-    let stood = stands g.T.Tag.fraction g.T.Tag.is_value inside.config roster after inside.last_moment in
-    let named = subst (λ id. StandsFor (record { config = inside.config; requests = requests_in roster.entries; clients = clients_in roster.entries; last_moment = at }) (queued (shifted_by ops shift (state_of q)) (record { client = id; token = request.token; tags = request.tags }) at)) of.id stood in
-    rw (config, same_roster) (subst (λ q. StandsFor (record { config = inside.config; requests = requests_in roster.entries; clients = clients_in roster.entries; last_moment = at }) (queued (shifted_by ops shift (state_of q)) (record { client = c.args.client; token = request.token; tags = request.tags }) at)) c.self.view_is named)
+    let stood = represents g.T.Tag.fraction g.T.Tag.is_value inside.config roster after inside.last_moment in
+    let named = subst (λ id. Represents (record { config = inside.config; requests = requests_in roster.entries; clients = clients_in roster.entries; last_moment = at }) (queued (shifted_by ops shift (state_of q)) (record { client = id; token = request.token; tags = request.tags }) at)) of.id stood in
+    rw (config, same_roster) (subst (λ q. Represents (record { config = inside.config; requests = requests_in roster.entries; clients = clients_in roster.entries; last_moment = at }) (queued (shifted_by ops shift (state_of q)) (record { client = c.args.client; token = request.token; tags = request.tags }) at)) c.self.view_is named)

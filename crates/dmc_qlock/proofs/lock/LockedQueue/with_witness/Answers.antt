@@ -1,4 +1,4 @@
--- Answered here, so that a wrong body fails here.
+-- Replied here, so that a wrong body fails here.
 use Rattle.std.proofs.Common.{rules}
 use Rattle.dmc_qlock.proofs.lock.LockedQueue.with_witness.Goals as goal
 

@@ -1,5 +1,5 @@
 use Rattle.std.proofs.Common.{◌≡◌, ◌≤◌, ℕ, length, arith, ap, sym, subst}
-use Rattle.dmc_types.specs.Limits.{most_events}
+use Rattle.dmc_types.specs.Limits.{max_events}
 use Rattle.dmc_queue_history.specs.Kept.{HaveMost, kept_of}
 use Rattle.dmc_queue_history.proofs.Adding.{length-events_at, kept-empty}
 use Rattle.dmc_queue_history.proofs.history.EventHistory.take.Goals as goal
@@ -11,7 +11,7 @@ invariant_of-self g c =
     kept-empty g.T.Tag.ops c.take-2.new.self c.take.new.self c.take-2.ensures.empty
     (subst (λ (n : ℕ). HaveMost c.take-2.new.self n) (sym most) (c.take-2.ensures.most c.self.inside.places.most kept.most))
     (ap (λ log. log.events) c.take.ensures.empty)
-    (subst (λ (n : ℕ). n ≤ most_events) (sym most) kept.limit)
+    (subst (λ (n : ℕ). n ≤ max_events) (sym most) kept.limit)
 
 pub returns-clause-within : goal.returns-clause-within
 returns-clause-within g c =

@@ -3,13 +3,13 @@ use Rattle.std.specs.Prelude.{unsigned_abs}
 use Rattle.std.proofs.lemmas.Int.{to_z-of_z}
 use Rattle.std.proofs.Math.Nat.{div-le_self}
 use Rattle.dmc_ratio.specs.Lowest.{lowest_pos}
-use Rattle.dmc_ratio.specs.Ratio.{Ratio, ratio_fraction, IsRatioValue, greatest_numer, greatest_denom}
+use Rattle.dmc_ratio.specs.Ratio.{Ratio, ratio_fraction, IsRatioValue, max_numer, max_denom}
 use Rattle.dmc_ratio.proofs.ratio.RatioTagTag.plus.Goals as goal
 
 pub returns-clause-sum : goal.returns-clause-sum
 returns-clause-sum c = grind (arith, to_z-of_z, c.reduce.ensures)
 
-value_within : (r : Ratio) → unsigned_abs r.numer ≤ greatest_numer → r.denom ≤ greatest_denom → IsRatioValue (ratio_fraction r)
+value_within : (r : Ratio) → unsigned_abs r.numer ≤ max_numer → r.denom ≤ max_denom → IsRatioValue (ratio_fraction r)
 value_within r h k = record {
   some = lowest_pos r.numer r.denom r.lowest;
   numer_fits = λ g _. omega (arith, div-le_self (unsigned_abs r.numer) g, h);

@@ -2,7 +2,7 @@
 use Rattle.std.proofs.Common.{length, refl, sym, ap, subst, ◌∙◌, arith}
 use Rattle.std.proofs.KnownBytes.{Keeps-refl}
 use Rattle.std.proofs.lemmas.Bool.{ltb-true}
-use Rattle.dmc_types.specs.Limits.{most_line_bytes}
+use Rattle.dmc_types.specs.Limits.{max_line_bytes}
 use Rattle.dmc_text.specs.Reading.{next_line}
 use Rattle.dmc_text.specs.Walks.{Feeds}
 use Rattle.dmc_text.proofs.WalkReading.{calm_ok, fails_later, given_err, given_ok, fed_nothing, fed_more, fed_end, fails_read, fails_write}
@@ -23,7 +23,7 @@ returns-then-is_long-clause-bytes g c =
     let same = c.loop-self-test.ensures.1 in (
       subst (λ l. Feeds (r c.args.reader.now.stream) (w c.args.writer.now.stream) c.args.self.now (r c.loop-self.reader.stream) (w c.loop-self.writer.stream) (record walk { lines = l })) (sym same) c.loop-self.invariant.feeds,
       ap (λ l. next_line l.rest) same ∙ c.loop-self-test.ensures.0,
-      ltb-true most_line_bytes (length c.find.new.self.rest) (sym c.if-is_long.ensures.value),
+      ltb-true max_line_bytes (length c.find.new.self.rest) (sym c.if-is_long.ensures.value),
       refl,
       refl,
     )

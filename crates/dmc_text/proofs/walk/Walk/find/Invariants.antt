@@ -1,6 +1,6 @@
 -- What was read so far is fed, and no call failed.
 use Rattle.std.proofs.Common.{◌-◌}
-use Rattle.dmc_text.specs.Reading.{most_bytes}
+use Rattle.dmc_text.specs.Reading.{max_bytes}
 use Rattle.dmc_text.specs.Walks.{Feeds}
 use Rattle.dmc_text.specs.Watching.{IsCalm}
 use Rattle.dmc_text.proofs.walk.Walk.find.Given as goal
@@ -13,4 +13,4 @@ invariant-loop-self g l = record {
 }
 
 abbrev pub decreases-loop-self : goal.decreases-loop-self
-decreases-loop-self g l = most_bytes - l.self.lines.taken
+decreases-loop-self g l = max_bytes - l.self.lines.taken

@@ -1,6 +1,6 @@
 use Rattle.std.proofs.Common.{◌≡◌, List, [], length, map, drop, sym, ap, ◌∙◌, subst, arith}
 use Rattle.std.proofs.lemmas.List.{length-map}
-use Rattle.dmc_tracker.specs.Numbers.{Numbers, new_numbers, Stands}
+use Rattle.dmc_tracker.specs.Numbers.{Numbers, new_numbers, RepresentsEvents}
 use Rattle.dmc_ledger.specs.Bundles.{ServerSide, server_side}
 use Rattle.dmc_ledger.specs.declared.desk.ServerDesk.{ServerDesk}
 use Rattle.dmc_tlock.specs.Opening.{side_after_opening}
@@ -29,8 +29,8 @@ invariant_of-book g c =
     let servers : c.len.result ≡ length start = c.len.ensures ∙ c.args.desks.ok.0 ∙ sym (length-map items f) in
     let numbers : c.in-Ok.parts.tracker ≡ new_numbers c.args.counting c.args.most (length start) =
     c.in-Ok.ensures.tracker.0 ∙ ap (new_numbers c.args.counting c.args.most) servers in
-    let stands = subst (λ (t : Numbers). Stands t []) numbers c.in-Ok.ensures.tracker.1 in
+    let represents = subst (λ (t : Numbers). RepresentsEvents t []) numbers c.in-Ok.ensures.tracker.1 in
     rw (back, opened, numbers, c.in-Ok.ensures.history.0, c.in-Ok.ensures.history.1) (
-      IsConsistent-new c.args.client.0 c.args.counting c.args.most c.args.most_events start c.requires stands c.in-Ok.ensures.limits.events_limit,
+      IsConsistent-new c.args.client.0 c.args.counting c.args.most c.args.max_events start c.requires represents c.in-Ok.ensures.limits.events_limit,
       c.in-Ok.ensures.held ∙ servers ∙ length-map items f ∙ sym as_many,
     )

@@ -17,7 +17,7 @@ returns-then-server-len-clause-full c =
 pub returns-then-server-len-clause-full_by_list : goal.returns-then-server-len-clause-full_by_list
 returns-then-server-len-clause-full_by_list c =
     let past : length c.args.self.now.servers ≤ c.args.server.0 = past_all c.self.invariant c.self.view_is (subst (λ (i : Inside). c.len.result ≡ vec_len i.servers) c.self-inside.view_is c.len.ensures ∙ c.self.inside.servers.ok.0) c.if-server-len.true in
-    λ events stands. refused_otherwise no_server_is_not_full (λ h. not_past h.0 past)
+    λ events represents. refused_otherwise no_server_is_not_full (λ h. not_past h.0 past)
 
 pub returns-then-self-clause-no_server : goal.returns-then-self-clause-no_server
 returns-then-self-clause-no_server c =
@@ -34,7 +34,7 @@ pub returns-then-self-clause-full_by_list : goal.returns-then-self-clause-full_b
 returns-then-self-clause-full_by_list c =
     let within : c.args.server.0 < length c.args.self.now.servers = within_all c.self.invariant c.self.view_is (subst (λ (i : Inside). c.len.result ≡ vec_len i.servers) c.self-inside.view_is c.len.ensures ∙ c.self.inside.servers.ok.0) c.if-server-len.false in
     let full : c.self.inside.completions.delta ≡ c.self.inside.most = subst (λ (i : Inside). i.completions.delta ≡ i.most) c.self-inside.view_is c.if-self.true in
-    λ events stands. refused (within, all_counted_by_list c.self.invariant c.self.view_is full stands)
+    λ events represents. refused (within, all_counted_by_list c.self.invariant c.self.view_is full represents)
 
 pub returns-clause-fewer : goal.returns-clause-fewer
 returns-clause-fewer c =
@@ -54,4 +54,4 @@ returns-clause-full c =
 pub returns-clause-full_by_list : goal.returns-clause-full_by_list
 returns-clause-full_by_list c =
     let fewer : c.self.inside.completions.delta ≢ c.self.inside.most = subst (λ (i : Inside). i.completions.delta ≢ i.most) c.self-inside.view_is c.if-self.false in
-    λ events stands. not_refused (λ h. not_complete c.self.invariant c.self.view_is fewer stands h.1)
+    λ events represents. not_refused (λ h. not_complete c.self.invariant c.self.view_is fewer represents h.1)

@@ -17,7 +17,7 @@ returns-then-index-len-clause-full c =
 pub returns-then-index-len-clause-full_by_list : goal.returns-then-index-len-clause-full_by_list
 returns-then-index-len-clause-full_by_list c =
     let past : length c.args.self.now.servers ≤ c.args.server.0 = past_all c.self.invariant c.self.view_is (c.len.ensures ∙ c.self.inside.servers.ok.0) c.if-index-len.true in
-    λ events stands. refused_otherwise no_server_is_not_full (λ h. not_past h.0 past)
+    λ events represents. refused_otherwise no_server_is_not_full (λ h. not_past h.0 past)
 
 pub index-requires : goal.index-requires
 index-requires c =

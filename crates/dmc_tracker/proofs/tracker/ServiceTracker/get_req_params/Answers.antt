@@ -1,5 +1,5 @@
 use Rattle.std.proofs.Common.{arith}
-use Rattle.dmc_tracker.proofs.Steps.{below_if_ok, as_many, keeps_all, own_part, mark_part, params_fit, sent_fits, stamp_kept, stamp_seen, is_made, handed_out, stands_after}
+use Rattle.dmc_tracker.proofs.Steps.{below_if_ok, as_many, keeps_all, own_part, mark_part, params_fit, sent_fits, stamp_kept, stamp_seen, is_made, handed_out, represents_after}
 use Rattle.dmc_tracker.proofs.tracker.ServiceTracker.get_req_params.Goals as goal
 
 pub index-requires : goal.index-requires
@@ -58,6 +58,6 @@ pub returns-clause-params : goal.returns-clause-params
 returns-clause-params c =
     handed_out c.self.invariant c.self.view_is (below_if_ok _ _ c.in_ok-can_stamp.ensures.no_server.1) c.index.ensures c.counted-counted.ensures c.minus.ensures c.own_share.ensures c.plus-params.ensures c.in_ok-can_stamp.ensures.within c.in_ok-can_stamp.ensures.carried c.params.view_is c.new.ensures.ok c.unwrap.ensures
 
-pub returns-clause-stands : goal.returns-clause-stands
-returns-clause-stands c =
-    stands_after (below_if_ok _ _ c.in_ok-can_stamp.ensures.no_server.1) (returns-clause-after c) (returns-clause-params c)
+pub returns-clause-represents : goal.returns-clause-represents
+returns-clause-represents c =
+    represents_after (below_if_ok _ _ c.in_ok-can_stamp.ensures.no_server.1) (returns-clause-after c) (returns-clause-params c)

@@ -1,5 +1,5 @@
 use Rattle.std.proofs.Common.{arith}
-use Rattle.dmc_tracker.proofs.Steps.{below_if_ok, as_many, keeps_all, own_fits, response_kept, response_seen, stands_after_response}
+use Rattle.dmc_tracker.proofs.Steps.{below_if_ok, as_many, keeps_all, own_fits, response_kept, response_seen, represents_after_response}
 use Rattle.dmc_tracker.proofs.tracker.ServiceTracker.track_resp.Goals as goal
 
 pub index-counts-requires : goal.index-counts-requires
@@ -26,9 +26,9 @@ pub returns-clause-after : goal.returns-clause-after
 returns-clause-after c =
     response_seen c.self.invariant c.self.view_is (below_if_ok _ _ c.in_ok-can_respond.ensures.no_server.1) c.index-counts.ensures c.args.phase c.one-one.ensures c.in_ok-can_respond.ensures.fewer c.plus-self-inside.ensures c.plus.ensures
 
-pub returns-clause-stands : goal.returns-clause-stands
-returns-clause-stands c =
-    stands_after_response c.args.server c.args.phase (returns-clause-after c)
+pub returns-clause-represents : goal.returns-clause-represents
+returns-clause-represents c =
+    represents_after_response c.args.server c.args.phase (returns-clause-after c)
 
 pub returns-clause-kept : goal.returns-clause-kept
 returns-clause-kept c =

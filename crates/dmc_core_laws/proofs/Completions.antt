@@ -1,17 +1,21 @@
 -- In the form `All` the deltas between two arrivals sum to the completions between their stamps.
-use Rattle.std.proofs.Common.{◌≡◌, ℕ, zero, suc, ◌+◌, ◌-◌, ◌<◌, ◌≤◌, Bool, true, false, cond, ◌==◌, List, [], ◌∷◌, ◌++◌, map, length, drop, take, refl, sym, ap, ◌∙◌, arith, append_assoc, length-append}
-use Rattle.std.specs.Prelude.{sum_by, if◌then◌else◌}
+use Rattle.std.proofs.Common.{◌≡◌, ℕ, zero, suc, ◌+◌, ◌-◌, ◌<◌, ◌≤◌, Bool, true, false, cond, ◌==◌, List, [], ◌∷◌, ◌++◌, map, length, drop, take, Some, refl, sym, ap, ◌∙◌, subst, arith, append_assoc, length-append}
+use Rattle.std.specs.Prelude.{slice_get, sum_by, if◌then◌else◌}
 use Rattle.std.proofs.lemmas.List.Sums.{sum_by-cons, sum_by_push}
-use Rattle.std.proofs.lemmas.List.{append-nil, length-map, take-append-le}
-use Rattle.dmc_tag.proofs.Lists.{lent_back}
+use Rattle.std.proofs.lemmas.List.{append-nil, length-map, take-append-drop, take-append-le}
+use Rattle.std.proofs.lemmas.Option.{slice_get_within}
 use Rattle.dmc_types.specs.Values.{Params, no_counts}
 use Rattle.dmc_types.specs.declared.ids.ClientId.{ClientId}
 use Rattle.dmc_types.specs.declared.ids.ServerId.{ServerId}
-use Rattle.dmc_types.specs.declared.ids.Token.{Token}
+use Rattle.dmc_types.specs.declared.command.Command.{Command}
+use Rattle.dmc_types.specs.declared.command.Command.TheVariants.{Add}
 use Rattle.dmc_types.specs.declared.config.Counting.TheVariants.{All}
 use Rattle.dmc_types.specs.declared.config.PhaseType.{PhaseType}
 use Rattle.dmc_tag.specs.declared.event.Event.{Event}
-use Rattle.dmc_history_laws.specs.Bounds.{Arrival, arrivals, departures, sum_since, IsNext}
+use Rattle.dmc_tag.specs.declared.reply.Reply.{Reply}
+use Rattle.dmc_tag.specs.declared.reply.Reply.TheVariants.{Tagged}
+use Rattle.dmc_history_laws.specs.Bounds.{Arrival, Arrives, IsOf, Span, arrival_of, arrivals, departures, sum_of}
+use Rattle.dmc_history_laws.proofs.ForCallers.{arrivals-append, take_one}
 use Rattle.dmc_tracker.specs.declared.event.TrackerEvent.{TrackerEvent}
 use Rattle.dmc_tracker.specs.declared.event.TrackerEvent.TheVariants.{Stamp, Skip, Response}
 use Rattle.dmc_tracker.specs.TrackerList.{plus, is_skip_of, completions, skips, sent, skipped, pending, IsTracked}
@@ -104,29 +108,13 @@ module _ (s : ServerId) where
       by true e (suc i) w more = at_later before es q params e i (more i (omega (arith, w)))
       by false e i w more = at_other before es q params e i (more i w)
 
-  pub completed_is : (list : List TrackerEvent) (j : ℕ) → IsTracked All list → skips s list ≡ 0 → j < length (stamps_to s list) → completed_at s j list ≡ deltas (take (suc j) (stamps_to s list))
+  pub completed_is : (list : List TrackerEvent) (j : ℕ) → IsTracked All list → skips s list ≡ 0 → j < length (stamps_to s list) → completed_at s (suc j) list ≡ deltas (take (suc j) (stamps_to s list))
   completed_is list j tracked unskipped within = completed_from list [] j tracked refl unskipped within ∙ none_before (deltas (take (suc j) (stamps_to s list)))
     where
       none_before : (n : ℕ) → 0 + n ≡ n
       none_before n = omega arith
 
--- ---- sums over the front of a list
-
-sum_parted : (xs ys : List Params) (m : ℕ) → deltas (take m (xs ++ ys)) - deltas xs ≡ deltas (take (m - length xs) ys)
-sum_parted [] ys m =
-    let e : m - 0 ≡ m = omega arith in
-    let none : deltas [] ≡ 0 = refl in
-    rw e (omega (arith, none))
-sum_parted (x ∷ xs) ys zero =
-    let e : 0 - length (x ∷ xs) ≡ 0 = omega arith in
-    let none : deltas [] ≡ 0 = refl in
-    rw e (omega (arith, none))
-sum_parted (x ∷ xs) ys (suc m) =
-    let e : suc m - length (x ∷ xs) ≡ m - length xs = omega arith in
-    let a = sum_by-cons (λ (p : Params). p.delta) x (take m (xs ++ ys)) in
-    let b = sum_by-cons (λ (p : Params). p.delta) x xs in
-    let rest = sum_parted xs ys m in
-    rw e (omega (arith, a, b, rest))
+-- ---- sums over a part of a list
 
 sum_of_params : (qs : List Arrival) (j : ℕ) → deltas (take j (params_of qs)) ≡ sum_by (λ a. a.params.delta) (take j qs)
 sum_of_params qs zero = refl
@@ -137,39 +125,59 @@ sum_of_params (q ∷ qs) (suc j) =
     let rest = sum_of_params qs j in
     omega (arith, a, b, rest)
 
-no_none : {X : Type 0} (n : ℕ) (xs : List X) (x : X) (rest : List X) → drop n xs ≡ x ∷ rest → n < length xs
-no_none zero [] x rest e = cc
-no_none zero (y ∷ ys) x rest e = omega arith
-no_none (suc n) [] x rest e = cc
-no_none (suc n) (y ∷ ys) x rest e = let more = no_none n ys x rest e in omega arith
+sum_between : {X : Type 0} (f : X → ℕ) (xs : List X) (i k : ℕ) → sum_by f (take k xs) - sum_by f (take i xs) ≡ sum_by f (drop i (take k xs))
+sum_between f xs zero k = let none : sum_by f [] ≡ 0 = refl in omega (arith, none)
+sum_between f [] (suc i) zero = refl
+sum_between f [] (suc i) (suc k) = refl
+sum_between f (x ∷ xs) (suc i) zero = let none : sum_by f [] ≡ 0 = refl in omega (arith, none)
+sum_between f (x ∷ xs) (suc i) (suc k) =
+    let a = sum_by-cons f x (take k xs) in
+    let b = sum_by-cons f x (take i xs) in
+    let rest = sum_between f xs i k in
+    omega (arith, a, b, rest)
 
 -- ---- the completions between the stamps of two arrivals
 
--- a_i is the last of the first part, and a_k the first that has not left; the arrivals follow the stamps, and more are in flight
-pub completed_between : {T : Type 0} (id : ClientId) (s : ServerId) (token : Token) (first second : List (Event T)) (list : List TrackerEvent) (flight : List Params)
-    → IsTracked All list → skips s list ≡ 0 → (params_of (arrivals id first) ++ params_of (arrivals id second)) ++ flight ≡ stamps_to s list → 0 < length (arrivals id first)
-    → IsNext id token (first ++ second) → length (arrivals id (first ++ second)) ≡ length (arrivals id first) + length (arrivals id second)
-    → completed_at s (departures id (first ++ second)) list - completed_at s (length (arrivals id first) - 1) list ≡ sum_since (λ p. p.delta) id first second
-completed_between id s token first second list flight tracked unskipped follows some next joined =
-    let came = params_of (arrivals id first) in
-    let later = params_of (arrivals id second) in
-    let n = length (arrivals id first) in
-    let d = departures id (first ++ second) in
-    let came_long : length came ≡ n = length-map (arrivals id first) (λ (a : Arrival). a.params) in
-    let later_long : length later ≡ length (arrivals id second) = length-map (arrivals id second) (λ (a : Arrival). a.params) in
-    let all_long : length (map (λ (a : Arrival). a.token) (arrivals id (first ++ second))) ≡ length (arrivals id (first ++ second)) = length-map (arrivals id (first ++ second)) (λ (a : Arrival). a.token) in
-    let more = no_none d (map (λ (a : Arrival). a.token) (arrivals id (first ++ second))) token next.others next.first in
-    let left : d < n + length (arrivals id second) = omega (arith, more, all_long, joined) in
-    let whole : came ++ (later ++ flight) ≡ stamps_to s list = sym (append_assoc came later flight) ∙ follows in
-    let size : length (came ++ (later ++ flight)) ≡ n + (length (arrivals id second) + length flight) = omega (arith, length-append came (later ++ flight), length-append later flight, came_long, later_long) in
-    let long : length (stamps_to s list) ≡ n + (length (arrivals id second) + length flight) = ap length (sym whole) ∙ size in
-    let at_k : completed_at s d list ≡ deltas (take (suc d) (came ++ (later ++ flight))) = completed_is s list d tracked unskipped (omega (arith, left, long)) ∙ ap (λ ps. deltas (take (suc d) ps)) (sym whole) in
-    let up_to_i : take (suc (n - 1)) (came ++ (later ++ flight)) ≡ came = lent_back came (later ++ flight) (suc (n - 1)) (omega (arith, some, came_long)) in
-    let at_i : completed_at s (n - 1) list ≡ deltas came = completed_is s list (n - 1) tracked unskipped (omega (arith, some, long)) ∙ ap (λ ps. deltas (take (suc (n - 1)) ps)) (sym whole) ∙ ap deltas up_to_i in
-    let within : suc d - length came ≤ length later = omega (arith, left, came_long, later_long) in
-    let steps : suc d - length came ≡ d + 1 - n = omega (arith, came_long) in
-    ap (λ m. m - completed_at s (n - 1) list) at_k ∙ ap (λ m. deltas (take (suc d) (came ++ (later ++ flight))) - m) at_i
-    ∙ sum_parted came (later ++ flight) (suc d)
-    ∙ ap deltas (take-append-le (suc d - length came) later flight within)
-    ∙ sum_of_params (arrivals id second) (suc d - length came)
-    ∙ ap (λ m. sum_by (λ (a : Arrival). a.params.delta) (take m (arrivals id second))) steps
+module _ {T : Type 0} (id : ClientId) where
+  one_arrival : (command : Command) (reply : Reply T) → Arrives id command reply → length (arrival_of id command reply) ≡ 1
+  one_arrival (Add client token params at) (Tagged tags) own = rw own refl
+
+  -- an accepted add is an arrival, and those up to it are among all
+  some_arrival : (history : List (Event T)) (n : ℕ) (add : Event T) → slice_get history n ≡ Some add → Arrives id add.command add.reply
+      → (0 < length (arrivals id (take (suc n) history))) × (length (arrivals id (take (suc n) history)) ≤ length (arrivals id history))
+  some_arrival history n add is arrives =
+      let up_to = take (suc n) history in
+      let last = ap (arrivals id) (take_one n history add is) ∙ arrivals-append id (take n history) (add ∷ []) in
+      let all = ap (arrivals id) (sym (take-append-drop (suc n) history)) ∙ arrivals-append id up_to (drop (suc n) history) in
+      let one = one_arrival add.command add.reply arrives in
+      let here = append-nil (arrival_of id add.command add.reply) in (
+        omega (arith, ap length last, length-append (arrivals id (take n history)) (arrivals id (add ∷ [])), one, ap length here),
+        omega (arith, ap length all, length-append (arrivals id up_to) (arrivals id (drop (suc n) history))),
+      )
+
+-- the arrivals follow the stamps, and more are in flight
+pub completed_between : {T : Type 0} (id : ClientId) (s : ServerId) (phase : PhaseType) (history : List (Event T)) (span : Span id phase history) (list : List TrackerEvent) (flight : List Params)
+    → IsTracked All list → skips s list ≡ 0 → params_of (arrivals id history) ++ flight ≡ stamps_to s list → IsOf span.token span.k (arrivals id history)
+    → completed_at s span.k list - completed_at s span.i list ≡ sum_of (λ p. p.delta) span.i span.k (arrivals id history)
+completed_between id s phase history span list flight tracked unskipped follows granted =
+    let came = arrivals id history in
+    let params = params_of came in
+    let left = departures id (take span.granted history) in
+    let before = length (arrivals id (take (suc span.arrived) history)) - 1 in
+    let long : length params ≡ length came = length-map came (λ (a : Arrival). a.params) in
+    let sent : length (stamps_to s list) ≡ length params + length flight = ap length (sym follows) ∙ length-append params flight in
+    let some = some_arrival id history span.arrived span.add span.add_is span.arrives in
+    let i_is : span.i ≡ suc before = omega (arith, span.i_is, some.0) in
+    let here : left < length came = slice_get_within came left granted.arrival (subst (λ n. slice_get came n ≡ Some granted.arrival) (ap (λ n. n - 1) span.k_is) granted.here) in
+    let up_to : (j : ℕ) → j < length came → completed_at s (suc j) list ≡ sum_by (λ (a : Arrival). a.params.delta) (take (suc j) came) = (λ j within.
+    completed_is s list j tracked unskipped (omega (arith, within, long, sent))
+    ∙ ap (λ ps. deltas (take (suc j) ps)) (sym follows)
+    ∙ ap deltas (take-append-le (suc j) params flight (omega (arith, within, long)))
+    ∙ sum_of_params came (suc j)) in
+    ap (λ n. completed_at s n list - completed_at s span.i list) span.k_is
+    ∙ ap (λ n. completed_at s (suc left) list - completed_at s n list) i_is
+    ∙ ap (λ n. n - completed_at s (suc before) list) (up_to left here)
+    ∙ ap (λ n. sum_by (λ (a : Arrival). a.params.delta) (take (suc left) came) - n) (up_to before (omega (arith, i_is, span.i_is, some.1)))
+    ∙ sum_between (λ (a : Arrival). a.params.delta) came (suc before) (suc left)
+    ∙ ap (λ n. sum_of (λ p. p.delta) n (suc left) came) (sym i_is)
+    ∙ ap (λ n. sum_of (λ p. p.delta) span.i n came) (sym span.k_is)

@@ -1,6 +1,5 @@
 pub mod Given
 pub mod Histories
-pub mod Parted
 pub mod Clients
 pub mod Stamped
 pub mod Completions

@@ -17,6 +17,7 @@ use Rattle.dmc_tag.specs.declared.event.Event.{Event}
 use Rattle.dmc_tag.specs.declared.reply.Reply.{Reply}
 use Rattle.dmc_tag.specs.declared.reply.Reply.TheVariants as replies
 use Rattle.dmc_history_laws.specs.Bounds.{Arrival, arrival_of, arrivals}
+use Rattle.dmc_history_laws.proofs.ForCallers.{arrivals-append}
 use Rattle.dmc_scene.specs.SceneValue.{SceneValue}
 use Rattle.dmc_tracker.specs.TrackerList.{demanded, skips, IsTracked}
 use Rattle.dmc_tracker.proofs.ForCallers.{IsTracked-nil}
@@ -36,10 +37,6 @@ use Rattle.dmc_core_laws.proofs.Clients.{found_changed, found_same, params_of, I
 use Rattle.std.proofs.lemmas.Option.{same_Some}
 use Rattle.dmc_tag.proofs.ForCallers.{same_client}
 use Rattle.dmc_tag.proofs.Lists.{found_passes}
-
-pub arrivals_both : {T : Type 0} (id : ClientId) (xs ys : List (Event T)) → arrivals id (xs ++ ys) ≡ arrivals id xs ++ arrivals id ys
-arrivals_both id [] ys = refl
-arrivals_both id (x ∷ xs) ys = ap (λ qs. arrival_of id x.command x.reply ++ qs) (arrivals_both id xs ys) ∙ sym (append_assoc (arrival_of id x.command x.reply) _ _)
 
 module _ {T : Type 0} (ops : Tagging T) (counting : Counting) (id : ClientId) (s : ServerId) where
   -- so it is of the client, where there is one
@@ -172,7 +169,7 @@ module _ {T : Type 0} (ops : Tagging T) (counting : Counting) (id : ClientId) (s
       let rest = events_follow (more arrived now) next es (event_follows arrived run e is) in
       let joined : more (more arrived now) later ≡ more arrived (now ++ later) =
       append_assoc arrived (params_of (arrivals id now)) (params_of (arrivals id later))
-      ∙ ap (λ ps. arrived ++ ps) (sym (ap params_of (arrivals_both id now later) ∙ map-append (λ (a : Arrival). a.params) (arrivals id now) (arrivals id later))) in
+      ∙ ap (λ ps. arrived ++ ps) (sym (ap params_of (arrivals-append id now later) ∙ map-append (λ (a : Arrival). a.params) (arrivals id now) (arrivals id later))) in
       subst (λ ps. AreFollowed ps (run_after ops next es)) joined rest
 
 -- ---- from the opening
@@ -214,7 +211,7 @@ module _ {T : Type 0} (ops : Tagging T) (scene : SceneValue) (id : ClientId) (s 
   follows events =
       let later = history_from ops s (opening_of ops scene) events in
       let same : arrivals id (history ops scene s events) ≡ arrivals id later =
-      arrivals_both id (registrations ops (opening scene.config) (map named_rates scene.clients)) later
+      arrivals-append id (registrations ops (opening scene.config) (map named_rates scene.clients)) later
       ∙ ap (λ qs. qs ++ arrivals id later) (registered_none (opening scene.config) (map named_rates scene.clients)) in
       subst (λ qs. AreFollowed ops scene.counting id s (params_of qs) (run_of ops scene events)) (sym same) (events_follow ops scene.counting id s [] (opening_of ops scene) events opening_follows)
 

@@ -1,6 +1,6 @@
 -- Small runs on which the bounds are computed: one server, client 1 of weight 1, 1,000 ticks a second, whole ticks as tags, all
 -- completions counted.
-use Rattle.std.specs.Prelude.{ℤ, ℕ, List, [], ◌∷◌, ◌++◌, Option}
+use Rattle.std.specs.Prelude.{ℤ, ℕ, List, [], ◌∷◌, ◌++◌, Option, slice_get}
 use Rattle.dmc_types.specs.Values.{Setting}
 use Rattle.dmc_types.specs.declared.ids.ServerId.{ServerId}
 use Rattle.dmc_types.specs.declared.config.Counting.TheVariants.{All}
@@ -12,9 +12,11 @@ use Rattle.dmc_history_laws.specs.Examples.{first_client}
 use Rattle.dmc_scene.specs.SceneValue.{SceneValue}
 use Rattle.dmc_core.specs.declared.event.CoreEvent.{CoreEvent}
 use Rattle.dmc_core.specs.declared.event.CoreEvent.TheVariants.{Stamp, Arrive, Pull, Respond}
-use Rattle.dmc_core.specs.Events.{cluster_step}
-use Rattle.dmc_core_laws.specs.Histories.{Answer, history, history_from}
-use Rattle.dmc_core_laws.specs.Bounds.{run_of}
+use Rattle.dmc_core.specs.Events.{answers_of}
+use Rattle.dmc_core.specs.Opening.{opening_of}
+use Rattle.dmc_tracker.specs.declared.event.TrackerEvent.{TrackerEvent}
+use Rattle.dmc_core_laws.specs.Histories.{Answer, history}
+use Rattle.dmc_core_laws.specs.Bounds.{run_of, tracker_list}
 
 abbrev pub only_server : ServerId
 only_server = record { 0 = 0 }
@@ -47,13 +49,24 @@ waits = at_limit ++ Pull only_server 0 ∷ []
 abbrev pub at_reservation : List CoreEvent
 at_reservation = Pull only_server 0 ∷ Respond first_client only_server Reservation ∷ sent 2
 
--- ---- the history up to a_1, and from there on; and the reply to a pull then
+-- ---- each is granted by a pull: at 50 by weight, at 0 beyond the limit, at 100 by its reservation
 
-abbrev pub up_to : SceneValue → List (Event ℤ)
-up_to scene = history tick_ops scene only_server (sent 1)
+abbrev pub limit_events : List CoreEvent
+limit_events = sent 1 ++ (waits ++ Pull only_server 50 ∷ [])
 
-abbrev pub from_there : SceneValue → List CoreEvent → List (Event ℤ)
-from_there scene events = history_from tick_ops only_server (run_of tick_ops scene (sent 1)) events
+abbrev pub beyond_events : List CoreEvent
+beyond_events = sent 1 ++ (at_limit ++ Pull only_server 0 ∷ [])
 
-abbrev pub answer : SceneValue → List CoreEvent → ℕ → Answer ℤ
-answer scene events at = (cluster_step tick_ops (run_of tick_ops scene (sent 1 ++ events)) (Pull only_server at)).1
+abbrev pub reservation_events : List CoreEvent
+reservation_events = sent 1 ++ (at_reservation ++ Pull only_server 100 ∷ [])
+
+-- the history of the server, and the client's list, after events
+abbrev pub history_after : SceneValue → List CoreEvent → List (Event ℤ)
+history_after scene events = history tick_ops scene only_server events
+
+abbrev pub list_after : SceneValue → List CoreEvent → List TrackerEvent
+list_after scene events = tracker_list (run_of tick_ops scene events) first_client
+
+-- the reply to the event of a number, from 0
+abbrev pub reply_at : SceneValue → ℕ → List CoreEvent → Option (Answer ℤ)
+reply_at scene n events = slice_get (answers_of tick_ops (opening_of tick_ops scene) events) n

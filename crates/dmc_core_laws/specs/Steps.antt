@@ -1,28 +1,20 @@
 -- The events that a cluster core was called with, one after the other, and the replies of its step.
-use Rattle.std.specs.Prelude.{◌≡◌, ℕ, ◌+◌, ◌*◌, ◌≤◌, ◌<◌, Some, Bool, true, false, if◌then◌else◌, List, [], ◌∷◌, ◌++◌, map, Ok, Err, ⊤}
+use Rattle.std.specs.Prelude.{◌≡◌, ◌<◌, Bool, true, false, if◌then◌else◌, List, [], ◌∷◌, ◌++◌, map, Err}
 use Rattle.dmc_types.specs.declared.ids.ClientId.{ClientId}
 use Rattle.dmc_types.specs.declared.ids.ServerId.{ServerId}
-use Rattle.dmc_types.specs.declared.ids.Token.{Token}
-use Rattle.dmc_types.specs.declared.config.PhaseType.{PhaseType}
-use Rattle.dmc_types.specs.declared.config.PhaseType.TheVariants.{Reservation, Priority}
 use Rattle.dmc_tag.specs.Tag.{Tagging}
-use Rattle.dmc_tag.specs.State.{State}
-use Rattle.dmc_tag.specs.Replay.{after}
+use Rattle.dmc_tag.specs.State.{State, opening}
 use Rattle.dmc_tag.specs.declared.event.Event.{Event}
-use Rattle.dmc_tag.specs.declared.reply.Tags.{Tags}
-use Rattle.dmc_tag.specs.declared.reply.Reply.TheVariants.{Tagged, Granted}
-use Rattle.dmc_history_laws.specs.Bounds.{limit_of, reservation_of, sum_since, ticks_since, priorities, IsNext}
+use Rattle.dmc_history_laws.specs.Bounds.{KeepsToReservations}
 use Rattle.dmc_scene.specs.SceneValue.{SceneValue}
 use Rattle.dmc_core.specs.declared.event.CoreEvent.{CoreEvent}
-use Rattle.dmc_core.specs.declared.event.CoreEvent.TheVariants.{Arrive, Pull}
-use Rattle.dmc_core.specs.declared.event.CoreReply.TheVariants.{Served}
 use Rattle.dmc_core.specs.declared.event.CoreFault.TheVariants.{Memory}
 use Rattle.dmc_core.specs.Run.{Run}
-use Rattle.dmc_core.specs.Events.{answers_of, run_after}
+use Rattle.dmc_core.specs.Events.{answers_of, cluster_step, run_after}
 use Rattle.dmc_core.specs.Core.{CoreValue, RepresentsRun, Follows}
-use Rattle.dmc_core.specs.Opening.{opening_of}
-use Rattle.dmc_core_laws.specs.Histories.{Answer, history, history_from}
-use Rattle.dmc_core_laws.specs.Bounds.{NotUpdated, Parts, run_of, tracker_list, counted_since}
+use Rattle.dmc_core.specs.Opening.{named_rates, opening_of}
+use Rattle.dmc_core_laws.specs.Histories.{Answer, is_server, queue_command, recorded_events, registrations, server_named}
+use Rattle.dmc_core_laws.specs.Bounds.{KeepsToLimitAt, run_of, tracker_list}
 
 -- each reply is as the contract of step says, from the core after the event before
 abbrev pub Steps : {T Q : Type 0} → Tagging T → (Q → State T) → CoreValue Q → List (CoreEvent × Answer T) → CoreValue Q → Type 0
@@ -48,64 +40,30 @@ abbrev pub StepsAreRuns : {T Q : Type 0} → Tagging T → (Q → State T) → T
 StepsAreRuns {T} {Q} ops state =
     (run : Run T) (old new : CoreValue Q) (steps : List (CoreEvent × Answer T)) → RepresentsRun state old run → Steps ops state old steps new → IsRunOf ops state run steps new
 
--- ---- a core's replies in parts
+-- ---- the bounds of a core's replies
 
 -- the events that have replies
 abbrev pub replied_events : {T : Type 0} → List (CoreEvent × Answer T) → List CoreEvent
 replied_events steps = map (λ x. x.0) (heard steps)
 
--- no Update of the client at s is accepted
-abbrev pub NoneAccepted : {T : Type 0} → ClientId → ServerId → List (CoreEvent × Answer T) → Type 0
-NoneAccepted id s [] = ⊤
-NoneAccepted id s (x ∷ xs) = NotUpdated id s x.0 x.1 × NoneAccepted id s xs
+-- the events of a server's history, with the core's replies
+abbrev pub replied_from : {T : Type 0} → Tagging T → ServerId → Run T → List (CoreEvent × Answer T) → List (Event T)
+replied_from ops s run [] = []
+replied_from ops s run (x ∷ xs) = recorded_events (is_server s (server_named x.0)) (queue_command run x.0) x.1 ++ replied_from ops s ((cluster_step ops run x.0).0) xs
 
--- The replies of a core that opened for a scene, up to a grant, in the parts of `Parts`.
-pub record CoreParts {T Q : Type 0} (ops : Tagging T) (state : Q → State T) (scene : SceneValue) (id : ClientId) (s : ServerId) (phase : PhaseType) : Type 0 where
-  pub opened : CoreValue Q
-  pub new : CoreValue Q
-  pub before : List (CoreEvent × Answer T)
-  pub arrived : ℕ
-  pub tags : Tags T
-  pub second : List (CoreEvent × Answer T)
-  pub pulled : ℕ
-  pub token : Token
-  pub within : s.0 < scene.servers
-  pub opens : RepresentsRun state opened (opening_of ops scene)
-  pub steps : Steps ops state opened (before ++ (Arrive id s arrived, Ok (Served (Tagged tags))) ∷ (second ++ (Pull s pulled, Ok (Served (Granted id token phase false))) ∷ [])) new
-  pub kept : NoneAccepted id s second
+-- the history of a server, with the core's replies
+abbrev pub replied_history : {T : Type 0} → Tagging T → SceneValue → ServerId → List (CoreEvent × Answer T) → List (Event T)
+replied_history ops scene s steps = registrations ops (opening scene.config) (map named_rates scene.clients) ++ replied_from ops s (opening_of ops scene) (heard steps)
 
--- They are the parts of a cluster run with these events.
-abbrev pub AnswersArePartsOfRuns : {T Q : Type 0} → Tagging T → (Q → State T) → Type 0
-AnswersArePartsOfRuns ops state =
-    (scene : SceneValue) (id : ClientId) (s : ServerId) (phase : PhaseType) (k : CoreParts ops state scene id s phase)
-    → (p : Parts ops scene id s phase) × (p.before ≡ replied_events k.before) × (p.arrived ≡ k.arrived) × (p.second ≡ replied_events k.second) × (p.pulled ≡ k.pulled) × (p.token ≡ k.token)
-
--- ---- the bounds of a core's replies
-
-module _ {T Q : Type 0} {ops : Tagging T} {state : Q → State T} {scene : SceneValue} {id : ClientId} {s : ServerId} {phase : PhaseType} (k : CoreParts ops state scene id s phase) where
-  -- the history of s up to a_i, and from there to the grant
-  abbrev pub core_first : List (Event T)
-  core_first = history ops scene s (replied_events k.before ++ Arrive id s k.arrived ∷ [])
-
-  abbrev pub core_second : List (Event T)
-  core_second = history_from ops s (run_of ops scene (replied_events k.before ++ Arrive id s k.arrived ∷ [])) (replied_events k.second)
-
-  -- the run before the pull
-  abbrev pub core_run : Run T
-  core_run = run_of ops scene ((replied_events k.before ++ Arrive id s k.arrived ∷ []) ++ replied_events k.second)
-
+-- of each core that opened for a scene and was called with these events
 abbrev pub LimitOfCores : {T Q : Type 0} → Tagging T → (Q → State T) → Type 0
-LimitOfCores ops state =
-    (scene : SceneValue) (id : ClientId) (s : ServerId) (l : ℕ) (k : CoreParts ops state scene id s Priority) → 0 < scene.config.hz
-    → limit_of id (after ops scene.config (core_first k)) ≡ Some l
-    → IsNext id k.token (core_first k ++ core_second k)
-    × (scene.config.hz * counted_since scene.counting id s (tracker_list (core_run k) id) (core_first k) (core_second k)
-    ≤ l * ticks_since ops scene.config (core_first k) (core_second k) k.pulled)
+LimitOfCores {T} {Q} ops state =
+    (scene : SceneValue) (opened new : CoreValue Q) (steps : List (CoreEvent × Answer T)) (id : ClientId) (s : ServerId) → 0 < scene.config.hz → s.0 < scene.servers
+    → RepresentsRun state opened (opening_of ops scene) → Steps ops state opened steps new
+    → KeepsToLimitAt ops scene.config scene.counting id s (tracker_list (run_of ops scene (replied_events steps)) id) (replied_history ops scene s steps)
 
 abbrev pub ReservationOfCores : {T Q : Type 0} → Tagging T → (Q → State T) → Type 0
-ReservationOfCores ops state =
-    (scene : SceneValue) (id : ClientId) (s : ServerId) (r : ℕ) (k : CoreParts ops state scene id s Reservation) → 0 < scene.config.hz
-    → reservation_of id (after ops scene.config (core_first k)) ≡ Some r
-    → IsNext id k.token (core_first k ++ core_second k)
-    × (scene.config.hz * sum_since (λ q. q.rho) id (core_first k) (core_second k)
-    ≤ r * ticks_since ops scene.config (core_first k) (core_second k) k.pulled + scene.config.hz * priorities id (core_second k))
+ReservationOfCores {T} {Q} ops state =
+    (scene : SceneValue) (opened new : CoreValue Q) (steps : List (CoreEvent × Answer T)) (s : ServerId) → 0 < scene.config.hz → s.0 < scene.servers
+    → RepresentsRun state opened (opening_of ops scene) → Steps ops state opened steps new
+    → KeepsToReservations ops scene.config (replied_history ops scene s steps)

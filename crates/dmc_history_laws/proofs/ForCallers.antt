@@ -2,4 +2,6 @@
 -- a client's queued requests are its arrivals without the first ones, as many as left
 pub use Rattle.dmc_history_laws.proofs.Histories.{in_order_of_arrival}
 -- the bounds of the limit and of the reservation
-pub use Rattle.dmc_history_laws.proofs.Numbered.{holds_limit, holds_reservation}
+pub use Rattle.dmc_history_laws.proofs.Spans.{holds_limit, holds_reservation}
+-- the arrivals of two parts of a history; the front of a list up to an element
+pub use Rattle.dmc_history_laws.proofs.Spans.{arrivals-append, take_one}

@@ -9,5 +9,7 @@ pub mod Own
 pub mod Reducing
 pub mod Pacing
 pub mod Histories
+pub mod InParts
 pub mod Numbered
+pub mod Spans
 pub mod ForCallers

@@ -17,7 +17,8 @@ use Rattle.dmc_tag.specs.declared.reply.Tags.{Tags}
 use Rattle.dmc_tag.specs.declared.reply.Reply.{Reply}
 use Rattle.dmc_tag.proofs.Active.{either}
 use Rattle.dmc_tag.proofs.Lists.{all_as, all_both, all_mapped}
-use Rattle.dmc_history_laws.specs.Bounds.{Arrives, Arrival, arrival_of, arrivals, departed, departures, prioritized, priorities, AllKeep, IsNext, sum_since, ticks_since, LimitBound, ReservationBound}
+use Rattle.dmc_history_laws.specs.Bounds.{Arrives, Arrival, arrival_of, arrivals, departed, departures, prioritized, priorities, AllKeep}
+use Rattle.dmc_history_laws.proofs.InParts.{IsNext, sum_since, ticks_since}
 use Rattle.dmc_history_laws.proofs.Basics.{add_gives, bind_goes, both_id, named_same}
 use Rattle.dmc_history_laws.proofs.Histories.{IsSound, after_from, after-append, replays_split, departures-append, drop-more, longer, sound_step, sound_after, sound_opening, queued, event_moves, tokens_after, queued_is, front, Takes}
 use Rattle.dmc_history_laws.proofs.Pace.{NotBelow, next_from}
@@ -141,7 +142,7 @@ module _ (side : Side) where
     at reservations = omega arith
 
 -- the phase of the grants that are bounded
-abbrev phase_of : Side → PhaseType
+abbrev pub phase_of : Side → PhaseType
 phase_of limits = Priority
 phase_of reservations = Reservation
 
@@ -248,16 +249,3 @@ module _ {T : Type 0} (ops : Tagging T) (fraction : T → Fraction) (is_value : 
       let sum = sum_past side (requests_of id s1.requests) (arrivals id second) (departures id second) within.granted within.others within.first in
       let sum_is : within.granted ≡ sum_since (count_in side) id up_to second = sum ∙ ap (λ n. sum_by (λ (a : Arrival). count_in side a.params) (take n (arrivals id second))) (sym parted) in
       (record { others = next.0; first = sym tokens.0 ∙ next.1 }, subst (λ n. config.hz * n ≤ q * ticks_since ops config up_to second at + config.hz * taken_in side (priorities id second)) sum_is (subst (λ n. config.hz * within.granted ≤ q * ticks_since ops config up_to second at + config.hz * n) none within.within))
-
-module _ {T : Type 0} (ops : Tagging T) (fraction : T → Fraction) (is_value : Fraction → Type 0) (exact : IsExact ops fraction is_value) (order : IsTotalOrder ops.compare) (config : Setting) (some : 0 < config.hz) where
-  pub holds_limit : LimitBound ops config
-  holds_limit = λ id token l at before second rest add grant replay arrives limited keeps pulls grants.
-      let is = bounded ops fraction is_value exact order config some id limits l token at before second rest add grant replay arrives limited keeps pulls grants in
-      (is.0, nothing_taken _ _ config.hz is.1)
-    where
-      nothing_taken : (a b hz : ℕ) → a ≤ b + hz * 0 → a ≤ b
-      nothing_taken a b hz h = omega arith
-
-  pub holds_reservation : ReservationBound ops config
-  holds_reservation = λ id token r at before second rest add grant replay arrives reserved keeps pulls grants.
-      bounded ops fraction is_value exact order config some id reservations r token at before second rest add grant replay arrives reserved keeps pulls grants

@@ -1,9 +1,10 @@
 -- Bounds of a client's grants over whole histories: of its limit and of its reservation.
-use Rattle.std.specs.Prelude.{◌≡◌, ℕ, ◌+◌, ◌*◌, ◌-◌, ◌≤◌, true, false, List, [], ◌∷◌, ◌++◌, map, drop, take, length, sum_by, Option, Some, if◌then◌else◌, ⊤}
+use Rattle.std.specs.Prelude.{◌≡◌, ℕ, suc, ◌+◌, ◌*◌, ◌-◌, ◌<◌, ◌≤◌, true, false, List, [], ◌∷◌, ◌++◌, map, drop, take, length, slice_get, sum_by, Option, Some, if◌then◌else◌, ⊤}
 use Rattle.std.specs.Option.{option_and_then}
 use Rattle.dmc_types.specs.Values.{Params, Setting}
 use Rattle.dmc_types.specs.declared.ids.ClientId.{ClientId}
 use Rattle.dmc_types.specs.declared.ids.Token.{Token}
+use Rattle.dmc_types.specs.declared.config.PhaseType.{PhaseType}
 use Rattle.dmc_types.specs.declared.config.PhaseType.TheVariants.{Reservation, Priority}
 use Rattle.dmc_types.specs.declared.command.Command.{Command}
 use Rattle.dmc_types.specs.declared.command.Command.TheVariants.{Register, Update, Add, Pull, Remove}
@@ -78,67 +79,71 @@ limit_of id s = option_and_then (λ c. c.info.limit) (client_named id s.clients)
 abbrev pub reservation_of : {T : Type 0} → ClientId → State T → Option ℕ
 reservation_of id s = option_and_then (λ c. c.info.reservation) (client_named id s.clients)
 
--- ---- the bounds
--- A history in parts. The first part ends with an accepted add of the client, a_i. In the second no Register and no Update of the
--- client is accepted. Then a_k is granted, the first of the client's arrivals that was not removed.
+-- ---- from an arrival to a grant
+-- A client's arrivals a_1, a_2, .. are numbered from 1; the events of a history are numbered from 0.
 
--- the sum over a_(i+1) .. a_k; i is the number of arrivals in the first part, and k is one more than the number removed in both
-abbrev pub sum_since : {T : Type 0} → (Params → ℕ) → ClientId → List (Event T) → List (Event T) → ℕ
-sum_since part id first second = sum_by (λ a. part a.params) (take (departures id (first ++ second) + 1 - length (arrivals id first)) (arrivals id second))
+-- the events behind number n and before number m
+abbrev pub between : {E : Type 0} → (n m : ℕ) → List E → List E
+between n m events = drop (suc n) (take m events)
 
--- the ticks from a_i to a pull
-abbrev pub ticks_since : {T : Type 0} → Tagging T → Setting → List (Event T) → List (Event T) → ℕ → ℕ
-ticks_since ops config first second at = effective (after ops config (first ++ second)) at - (after ops config first).last_moment
+-- A span of a client's requests, from a_i to a_k. The event `arrived` is the add of a_i. The event `granted` is a pull, which grants
+-- a_k in this phase, not beyond: k is one more than the number of arrivals that had left by then. No Register and no Update of the
+-- client is accepted in between.
+pub record Span {T : Type 0} (id : ClientId) (phase : PhaseType) (history : List (Event T)) : Type 0 where
+  pub i : ℕ
+  pub k : ℕ
+  pub arrived : ℕ
+  pub granted : ℕ
+  pub later : arrived < granted
+  pub add : Event T
+  pub add_is : slice_get history arrived ≡ Some add
+  pub arrives : Arrives id add.command add.reply
+  pub i_is : i ≡ length (arrivals id (take (suc arrived) history))
+  pub grant : Event T
+  pub grant_is : slice_get history granted ≡ Some grant
+  pub moment : ℕ
+  pub pulls : grant.command ≡ Pull moment
+  pub token : Token
+  pub grants : grant.reply ≡ Granted id token phase false
+  pub k_is : k ≡ suc (departures id (take granted history))
+  pub kept : AllKeep id (between arrived granted history)
 
--- the token is that of a_k
-pub record IsNext {T : Type 0} (id : ClientId) (token : Token) (events : List (Event T)) : Type 0 where
-  pub others : List Token
-  pub first : drop (departures id events) (map (λ a. a.token) (arrivals id events)) ≡ token ∷ others
+-- the ticks from the add with this number to the pull with this number, at this moment
+abbrev pub ticks : {T : Type 0} → Tagging T → Setting → List (Event T) → (arrived granted moment : ℕ) → ℕ
+ticks ops config history arrived granted moment = effective (after ops config (take granted history)) moment - (after ops config (take (suc arrived) history)).last_moment
 
--- Limit: a grant in phase Priority, not beyond
-abbrev pub KeepsToLimit : {T : Type 0} → Tagging T → Setting → ClientId → Token → (l at : ℕ) → (before second : List (Event T)) → (add grant : Event T) → Type 0
-KeepsToLimit ops config id token l at before second add grant =
-    Arrives id add.command add.reply
-    → limit_of id (after ops config (before ++ add ∷ [])) ≡ Some l
-    → AllKeep id second
-    → grant.command ≡ Pull at
-    → grant.reply ≡ Granted id token Priority false
-    → IsNext id token ((before ++ add ∷ []) ++ second)
-    × (config.hz * sum_since (λ p. p.delta) id (before ++ add ∷ []) second ≤ l * ticks_since ops config (before ++ add ∷ []) second at)
+-- the sum over a_(i+1) .. a_k
+abbrev pub sum_of : (Params → ℕ) → (i k : ℕ) → List Arrival → ℕ
+sum_of part i k arrivals = sum_by (λ a. part a.params) (drop i (take k arrivals))
 
--- Reservation: a grant in phase Reservation; each Priority grant of the client after a_i counts against the rhos
-abbrev pub KeepsToReservation : {T : Type 0} → Tagging T → Setting → ClientId → Token → (r at : ℕ) → (before second : List (Event T)) → (add grant : Event T) → Type 0
-KeepsToReservation ops config id token r at before second add grant =
-    Arrives id add.command add.reply
-    → reservation_of id (after ops config (before ++ add ∷ [])) ≡ Some r
-    → AllKeep id second
-    → grant.command ≡ Pull at
-    → grant.reply ≡ Granted id token Reservation false
-    → IsNext id token ((before ++ add ∷ []) ++ second)
-    × (config.hz * sum_since (λ p. p.rho) id (before ++ add ∷ []) second ≤ r * ticks_since ops config (before ++ add ∷ []) second at + config.hz * priorities id second)
+-- the granted request is a_k
+pub record IsOf (token : Token) (k : ℕ) (arrivals : List Arrival) : Type 0 where
+  pub arrival : Arrival
+  pub here : slice_get arrivals (k - 1) ≡ Some arrival
+  pub same : arrival.token ≡ token
+
+-- ---- the bounds of a history
+
+-- Limit: up to a grant in phase Priority, not beyond
+abbrev pub KeepsToLimits : {T : Type 0} → Tagging T → Setting → List (Event T) → Type 0
+KeepsToLimits ops config history =
+    (id : ClientId) (l : ℕ) (span : Span id Priority history)
+    → limit_of id (after ops config (take (suc span.arrived) history)) ≡ Some l
+    → IsOf span.token span.k (arrivals id history)
+    × (config.hz * sum_of (λ p. p.delta) span.i span.k (arrivals id history) ≤ l * ticks ops config history span.arrived span.granted span.moment)
+
+-- Reservation: up to a grant in phase Reservation; each Priority grant of the client after a_i counts against the rhos
+abbrev pub KeepsToReservations : {T : Type 0} → Tagging T → Setting → List (Event T) → Type 0
+KeepsToReservations ops config history =
+    (id : ClientId) (r : ℕ) (span : Span id Reservation history)
+    → reservation_of id (after ops config (take (suc span.arrived) history)) ≡ Some r
+    → IsOf span.token span.k (arrivals id history)
+    × (config.hz * sum_of (λ p. p.rho) span.i span.k (arrivals id history)
+    ≤ r * ticks ops config history span.arrived span.granted span.moment + config.hz * priorities id (between span.arrived span.granted history))
 
 -- of each history that replays
 abbrev pub LimitBound : {T : Type 0} → Tagging T → Setting → Type 0
-LimitBound {T} ops config =
-    (id : ClientId) (token : Token) (l at : ℕ) (before second rest : List (Event T)) (add grant : Event T)
-    → replays ops config ((before ++ add ∷ []) ++ (second ++ grant ∷ rest))
-    → KeepsToLimit ops config id token l at before second add grant
+LimitBound {T} ops config = (history : List (Event T)) → replays ops config history → KeepsToLimits ops config history
 
 abbrev pub ReservationBound : {T : Type 0} → Tagging T → Setting → Type 0
-ReservationBound {T} ops config =
-    (id : ClientId) (token : Token) (r at : ℕ) (before second rest : List (Event T)) (add grant : Event T)
-    → replays ops config ((before ++ add ∷ []) ++ (second ++ grant ∷ rest))
-    → KeepsToReservation ops config id token r at before second add grant
-
--- of this history
-abbrev pub KeepsToLimits : {T : Type 0} → Tagging T → Setting → List (Event T) → Type 0
-KeepsToLimits {T} ops config history =
-    (id : ClientId) (token : Token) (l at : ℕ) (before second rest : List (Event T)) (add grant : Event T)
-    → history ≡ (before ++ add ∷ []) ++ (second ++ grant ∷ rest)
-    → KeepsToLimit ops config id token l at before second add grant
-
-abbrev pub KeepsToReservations : {T : Type 0} → Tagging T → Setting → List (Event T) → Type 0
-KeepsToReservations {T} ops config history =
-    (id : ClientId) (token : Token) (r at : ℕ) (before second rest : List (Event T)) (add grant : Event T)
-    → history ≡ (before ++ add ∷ []) ++ (second ++ grant ∷ rest)
-    → KeepsToReservation ops config id token r at before second add grant
+ReservationBound {T} ops config = (history : List (Event T)) → replays ops config history → KeepsToReservations ops config history

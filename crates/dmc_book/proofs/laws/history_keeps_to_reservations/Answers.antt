@@ -1,5 +1,4 @@
-use Rattle.std.proofs.Common.{◌<◌, subst}
-use Rattle.dmc_tag.specs.Replay.{replays}
+use Rattle.std.proofs.Common.{◌<◌}
 use Rattle.dmc_tag.proofs.ForCallers.{tag_order}
 use Rattle.dmc_history_laws.proofs.ForCallers.{holds_reservation}
 use Rattle.dmc_book.proofs.laws.history_keeps_to_reservations.Goals as goal
@@ -9,6 +8,4 @@ returns g c =
     let order = tag_order g.T.Ord.cmp g.T.Tag.ops.compare g.met.T.Ord.total g.met.T.Tag.compares in
     let here = c.book.inside in
     let some : 0 < here.config.hz = rw c.hz.ensures.value at c.hz.ensures.some in
-    rw (← c.book.view_is) (λ id token rate at before second rest add grant is.
-    holds_reservation g.T.Tag.ops g.T.Tag.fraction g.T.Tag.is_value g.met.T.Tag.exact order here.config some id token rate at before second rest add grant
-    (subst (λ h. replays g.T.Tag.ops here.config h) is c.book.invariant.replaying))
+    rw (← c.book.view_is) (holds_reservation g.T.Tag.ops g.T.Tag.fraction g.T.Tag.is_value g.met.T.Tag.exact order here.config some _ c.book.invariant.replaying)

@@ -11,7 +11,7 @@ use std::alloc::Global;
 use std::process::Abort;
 use std::test::Fail;
 
-fn rank(tag: u64, client: u32) -> TagRank<u64>
+pub fn rank(tag: u64, client: u32) -> TagRank<u64>
     ensures { result ≡ record { tag = Some tag; client = record { 0 = client } } }
 {
     TagRank {

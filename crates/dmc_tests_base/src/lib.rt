@@ -27,6 +27,7 @@ mod limits;
 #[cfg(test)]
 mod lines;
 #[cfg(test)]
+mod part_growths;
 mod plans;
 #[cfg(test)]
 mod rates;

@@ -149,7 +149,7 @@ pub(crate) fn open_book<S: Setup>(
 }
 
 /// A book of worker 7 and the desks, and the worker's pass.
-fn open_seven<S: Setup>(
+pub(crate) fn open_seven<S: Setup>(
     alloc: Global,
     mint: &mut Mint<S>,
     desks: Vec<ClientDesk<S>>,

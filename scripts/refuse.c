@@ -43,7 +43,7 @@ int pthread_create(pthread_t *thread, const pthread_attr_t *attr, void *(*start)
     return next(thread, attr, start, arg);
 }
 
-__attribute__((destructor)) static void tell(void)
+__attribute__((destructor)) static void report(void)
 {
     const char *path = getenv("REFUSE_COUNT");
     unsigned long made = atomic_load(&allocations), started = atomic_load(&threads);

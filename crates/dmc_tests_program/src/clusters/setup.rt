@@ -77,13 +77,30 @@ pub(super) fn stopped_for(report: &ClusterReport<TickTag>, cause: StopCause) -> 
             .any(|row| row.stops.iter().any(|other| *other == cause))
 }
 
-/// The end of a test at a report that it did not expect. Where a worker had an allocation failure, also of its thread, the test
-/// ends with that.
+/// The end of a test at a report whose workers had an allocation failure, or whose thread could not be started, with the causes
+/// of their stops. `None` where no worker had.
+fn shortage(report: &ClusterReport<TickTag>) -> Option<Fail> {
+    let rung = stopped_for(report, StopCause::Rung);
+    if stopped_for(report, StopCause::Memory) {
+        return Some(Fail::new(match rung {
+            true => "out of memory: Memory, Rung",
+            false => "out of memory: Memory",
+        }));
+    }
+    if stopped_for(report, StopCause::Spawn) {
+        return Some(Fail::new(match rung {
+            true => "out of memory: Spawn, Rung",
+            false => "out of memory: Spawn",
+        }));
+    }
+    None
+}
+
+/// The end of a test at a report that it did not expect.
 fn unwanted(report: &ClusterReport<TickTag>, what: &'static str) -> Fail {
-    if stopped_for(report, StopCause::Memory) || stopped_for(report, StopCause::Spawn) {
-        AllocError.into()
-    } else {
-        Fail::new(what)
+    match shortage(report) {
+        Some(fail) => fail,
+        None => Fail::new(what),
     }
 }
 

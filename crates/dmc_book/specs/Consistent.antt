@@ -10,7 +10,7 @@ use Rattle.dmc_tag.specs.Tag.{Tagging}
 use Rattle.dmc_tag.specs.State.{State, Represents}
 use Rattle.dmc_tag.specs.Replay.{after, replays}
 use Rattle.dmc_tag.specs.declared.event.Event.{Event}
-use Rattle.dmc_queue_history.specs.Segmented.{max_released}
+use Rattle.dmc_history.specs.Segments.{max_released}
 use Rattle.dmc_ledger.specs.Accounts.{Account, total_of}
 use Rattle.dmc_ledger.specs.Bundles.{ClientSide, GrantAccounts}
 use Rattle.dmc_book.specs.BookState.{AccountsState, WorkerAccounts, WorkerSide}

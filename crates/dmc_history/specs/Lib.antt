@@ -2,3 +2,5 @@
 pub mod Blocks
 -- What contracts see of a history.
 pub mod Log
+-- A list that is released in segments.
+pub mod Segments

@@ -4,16 +4,16 @@ use seplogic.Ra.Ura.{Ura}
 use base.Fraction.{full_share, left, right}
 use base.Share
 use base.Stored.{Coded, coded_ℕ, coded×}
-use base.Logic.{SProp, ent, sep, emp, ex, guard, upd, upd_i, via}
-use base.Fml.{Share, Fml, ftrue, fex, finv}
+use base.Logic.{SProp, ent, sep, emp, guard, upd, upd_i, via}
+use base.Fml.{Share, Fml, ftrue, fex, fsep, finv}
 use types.Logic.{Logic, sem}
 use types.Owned.{basic}
-use types.Keyed.{entry, entries_from, entries_new, entries_take}
+use types.Keyed.{entry, entries_new, entries_take}
 use types.Kit.{‵, raw, ◌⊛◌, some, given, later, ◌$◌, ◌∵◌, !, qed, by, move, keep, drop, split, join, fsplit, fjoin, fpick, fpack, pick, learn, check, suffices, settle, frame, assume, rewrite, done, use0, use1, use2, use3, updating, await, now}
 use denote.Steps.{nothing}
 use Rattle.std.proofs.lemmas.Bool.{cases_eq}
 use Rattle.core.proofs.ledger.Sums.{HasRow, Backed}
-use Rattle.dmc_ledger.specs.Rows.{row_shares, name_shares, known, part, roster, AddsUp, state, Rule, knows, mint_owns, book_owns, till_owns, row, owns}
+use Rattle.dmc_ledger.specs.Rows.{row_shares, name_shares, named, known, unnamed, unlisted, part, roster, AddsUp, state, Rule, knows, mint_owns, book_owns, till_owns, row, owns}
 use Rattle.dmc_ledger.proofs.Agreed.{cuts, agrees, joins, excludes, sets}
 use Rattle.dmc_ledger.proofs.Rows.{finds, puts, adds}
 use Rattle.dmc_ledger.proofs.Sums.{Seen, seen_row, adds_up_set, adds_up_append}
@@ -36,17 +36,27 @@ module _ {M : Type 1} {𝓤 : Ura M} (𝓛 : Logic 𝓤) where
   infix 26 ◌⊢◌
   infixr 35 ◌∗◌
   module _ (γ n : ℕ) where
-    pub known_in : (q : Share) (δ : ℕ) → ⟦ entry name_shares γ n (q, δ) ⟧ ⊢ ⟦ known γ n δ ⟧
-    known_in q δ = qed 𝓛 (‵ (entry name_shares γ n (q, δ)) ∷ []) ∵ fpack ! Share (λ r. entry name_shares γ n (r, δ)) q $ done !
+    pub named_in : (q : Share) (δ : ℕ) → ⟦ entry name_shares γ n (q, δ) ⟧ ⊢ ⟦ named γ n δ ⟧
+    named_in q δ = qed 𝓛 (‵ (entry name_shares γ n (q, δ)) ∷ []) ∵ fpack ! Share (λ r. entry name_shares γ n (r, δ)) q $ done !
 
-    pub known_twice : (δ : ℕ) → ⟦ known γ n δ ⟧ ⊢ ⟦ known γ n δ ⟧ ∗ ⟦ known γ n δ ⟧
-    known_twice δ = qed 𝓛 (‵ (known γ n δ) ∷ []) ∵ fpick ! (λ q. use1 𝓛 (‵ (entry name_shares γ n (left q, δ)) ⊛ ‵ (entry name_shares γ n (right q, δ))) (cuts coded_ℕ 𝓛 γ n δ q (left q) (right q) (Share.halves q)) $ split ! $
-        use1 𝓛 (‵ (known γ n δ)) (known_in (left q) δ) $ move ! (1 ∷ []) $ use1 𝓛 (‵ (known γ n δ)) (known_in (right q) δ) $ done !)
+    pub named_twice : (δ : ℕ) → ⟦ named γ n δ ⟧ ⊢ ⟦ named γ n δ ⟧ ∗ ⟦ named γ n δ ⟧
+    named_twice δ = qed 𝓛 (‵ (named γ n δ) ∷ []) ∵ fpick ! (λ q. use1 𝓛 (‵ (entry name_shares γ n (left q, δ)) ⊛ ‵ (entry name_shares γ n (right q, δ))) (cuts coded_ℕ 𝓛 γ n δ q (left q) (right q) (Share.halves q)) $ split ! $
+        use1 𝓛 (‵ (named γ n δ)) (named_in (left q) δ) $ move ! (1 ∷ []) $ use1 𝓛 (‵ (named γ n δ)) (named_in (right q) δ) $ done !)
 
-    pub known_agree : (δ ε : ℕ) → ⟦ known γ n δ ⟧ ∗ ⟦ known γ n ε ⟧ ⊢ guard 𝓤 (δ ≡ ε) (⟦ known γ n δ ⟧ ∗ ⟦ known γ n ε ⟧)
-    known_agree δ ε = qed 𝓛 (‵ (known γ n δ) ∷ ‵ (known γ n ε) ∷ []) ∵ fpick ! (λ q. move ! (1 ∷ []) $ fpick ! (λ r. move ! (1 ∷ 0 ∷ []) $
+    pub named_agree : (δ ε : ℕ) → ⟦ named γ n δ ⟧ ∗ ⟦ named γ n ε ⟧ ⊢ guard 𝓤 (δ ≡ ε) (⟦ named γ n δ ⟧ ∗ ⟦ named γ n ε ⟧)
+    named_agree δ ε = qed 𝓛 (‵ (named γ n δ) ∷ ‵ (named γ n ε) ∷ []) ∵ fpick ! (λ q. move ! (1 ∷ []) $ fpick ! (λ r. move ! (1 ∷ 0 ∷ []) $
         use2 𝓛 (given (δ ≡ ε) (‵ (entry name_shares γ n (q, δ)) ⊛ ‵ (entry name_shares γ n (r, ε)))) (agrees coded_ℕ 𝓛 γ n q r δ ε) $ learn ! (λ same. check ! same $ split ! $
-        use1 𝓛 (‵ (known γ n δ)) (known_in q δ) $ move ! (1 ∷ []) $ use1 𝓛 (‵ (known γ n ε)) (known_in r ε) $ move ! (1 ∷ 0 ∷ []) $ done !)))
+        use1 𝓛 (‵ (named γ n δ)) (named_in q δ) $ move ! (1 ∷ []) $ use1 𝓛 (‵ (named γ n ε)) (named_in r ε) $ move ! (1 ∷ 0 ∷ []) $ done !)))
+
+  module _ (γ n : ℕ) where
+    pub known_in : (q : Share) (δ : ℕ) → ⟦ entry name_shares γ (suc n) (q, δ) ⟧ ⊢ ⟦ known γ n δ ⟧
+    known_in = named_in γ (suc n)
+
+    known_twice : (δ : ℕ) → ⟦ known γ n δ ⟧ ⊢ ⟦ known γ n δ ⟧ ∗ ⟦ known γ n δ ⟧
+    known_twice = named_twice γ (suc n)
+
+    known_agree : (δ ε : ℕ) → ⟦ known γ n δ ⟧ ∗ ⟦ known γ n ε ⟧ ⊢ guard 𝓤 (δ ≡ ε) (⟦ known γ n δ ⟧ ∗ ⟦ known γ n ε ⟧)
+    known_agree = named_agree γ (suc n)
 
     pub knows_twice : (δ : ℕ) → ⟦ knows γ n δ ⟧ ⊢ ⟦ knows γ n δ ⟧ ∗ ⟦ knows γ n δ ⟧
     knows_twice δ = qed 𝓛 (‵ (knows γ n δ) ∷ []) ∵ fsplit ! $ use1 𝓛 (‵ (known γ n δ) ⊛ ‵ (known γ n δ)) (known_twice δ) $ split ! $ move ! (2 ∷ []) $
@@ -197,15 +207,15 @@ module _ {M : Type 1} {𝓤 : Ura M} (𝓛 : Logic 𝓤) where
         fpick ! (λ j. move ! (2 ∷ 0 ∷ []) $ fjoin ! $ fpack ! ℕ (λ k. owns γ n δ (suc k) (1, 0)) j $ now ! $ move ! (1 ∷ 0 ∷ []) $ done !)
 
     -- the next number gets its rows: the book's own, with no till
-    pub opens_book : ⟦ mint_owns γ n ⟧ ⊢ H.⇛ (⟦ mint_owns γ (suc n) ⟧ ∗ ⟦ fex ℕ (λ δ. book_owns γ n δ 0 0) ⟧)
+    pub opens_book : (m : ℕ) → ⟦ mint_owns γ n m ⟧ ⊢ H.⇛ (⟦ mint_owns γ (suc n) m ⟧ ∗ ⟦ fex ℕ (λ δ. book_owns γ n δ 0 0) ⟧)
     unfolding mint_owns book_owns
-    opens_book = let Rest : ℕ → Fml = λ k. entries_from name_shares γ k (λ _. (full_share, 0)) in let Name : ℕ → Fml = λ d. entry name_shares γ n (full_share, d) in
-        qed 𝓛 (‵ (Rest n) ∷ []) ∵ updating ! $ use1 𝓛 (‵ (Name 0) ⊛ ‵ (Rest (suc n))) (entries_take name_shares 𝓛 γ n (λ _. (full_share, 0))) $ split ! $
+    opens_book m = let Name : ℕ → Fml = λ d. entry name_shares γ (suc n) (full_share, d) in
+        qed 𝓛 (‵ (fsep (unnamed γ (suc n)) (unlisted γ m)) ∷ []) ∵ updating ! $ fsplit ! $ use1 𝓛 (‵ (Name 0) ⊛ ‵ (unnamed γ (suc (suc n)))) (entries_take name_shares 𝓛 γ (suc n) (λ _. (full_share, 0))) $ split ! $
         use0 𝓛 (later (some (λ (δ : ℕ). ‵ (roster δ 0 [])))) (via 𝓤 _ (entries_new row_shares 𝓛 0 (λ _. (full_share, (0, 0)))) (basic 𝓛 _)) $ await ! tt $ pick ! (λ δ.
         use1 𝓛 (later (‵ (roster δ 0 ((0, 0) ∷ [])) ⊛ ‵ (row δ 0 (0, 0) full_share))) (via 𝓤 _ (adds 𝓛 δ [] 0 0 refl (0, 0)) (basic 𝓛 _)) $ await ! tt $ split ! $
         use1 𝓛 (‵ (Rule δ)) (kept δ (0, 0) [] ((refl, refl, tt), omega arith)) $ use1 𝓛 (later (‵ (finv (Rule δ)))) (𝓛.invs.inv_new (Rule δ)) $ await ! tt $ move ! (2 ∷ []) $
-        use1 𝓛 (later (‵ (Name δ))) (via 𝓤 _ (sets coded_ℕ 𝓛 γ n 0 δ) (basic 𝓛 _)) $ await ! tt $ use1 𝓛 (‵ (known γ n δ)) (known_in γ n full_share δ) $ move ! (0 ∷ 1 ∷ []) $ fjoin ! $ move ! (0 ∷ 1 ∷ []) $ fjoin ! $
-        fpack ! ℕ (λ d. owns γ n d 0 (0, 0)) δ $ now ! $ move ! (1 ∷ 0 ∷ []) $ done !)
+        use1 𝓛 (later (‵ (Name δ))) (via 𝓤 _ (sets coded_ℕ 𝓛 γ (suc n) 0 δ) (basic 𝓛 _)) $ await ! tt $ use1 𝓛 (‵ (known γ n δ)) (known_in γ n full_share δ) $ move ! (0 ∷ 1 ∷ []) $ fjoin ! $ move ! (0 ∷ 1 ∷ []) $ fjoin ! $
+        fpack ! ℕ (λ d. owns γ n d 0 (0, 0)) δ $ now ! $ move ! (1 ∷ 2 ∷ []) $ fjoin ! $ done !)
 
   -- so two books have different numbers
   pub differs : (γ n m δ ε tills held : ℕ) (c : ℕ × ℕ) (q : Share) → ⟦ book_owns γ n δ tills held ⟧ ∗ ⟦ knows γ m ε ⟧ ∗ ⟦ row ε 0 c q ⟧
@@ -217,6 +227,12 @@ module _ {M : Type 1} {𝓤 : Ura M} (𝓛 : Logic 𝓤) where
     | inr apart ↦ qed 𝓛 (‵ Mine ∷ ‵ (knows γ m ε) ∷ ‵ Theirs ∷ []) ∵ updating ! $ now ! $ check ! apart $ keep ! (0 ∷ 2 ∷ []) $ done !
   ]
 
-  pub begins : emp 𝓤 ⊢ H.⇛ (ex 𝓤 (λ (γ : ℕ). ⟦ mint_owns γ 0 ⟧))
+  -- the entries of all numbers, and those that the first of them names
+  pub begins : emp 𝓤 ⊢ H.⇛ ⟦ fex ℕ (λ γ. mint_owns γ 0 0) ⟧
   unfolding mint_owns
-  begins = via 𝓤 _ (entries_new name_shares 𝓛 0 (λ _. (full_share, 0))) (basic 𝓛 _)
+  begins = let Free : ℕ → Fml = λ γ. unnamed γ 0 in let free : emp 𝓤 ⊢ H.⇛ ⟦ fex ℕ Free ⟧ = via 𝓤 _ (entries_new name_shares 𝓛 0 (λ _. (full_share, 0))) (basic 𝓛 _) in
+      qed 𝓛 [] ∵ updating ! $ use0 𝓛 (later (‵ (fex ℕ Free))) free $ await ! tt $ fpick ! (λ l. use0 𝓛 (later (‵ (fex ℕ Free))) free $ await ! tt $ fpick ! (λ γ.
+      let Name : ℕ → Fml = λ d. entry name_shares γ 0 (full_share, d) in
+      use1 𝓛 (‵ (Name 0) ⊛ ‵ (unnamed γ 1)) (entries_take name_shares 𝓛 γ 0 (λ _. (full_share, 0))) $ split ! $
+      use1 𝓛 (later (‵ (Name l))) (via 𝓤 _ (sets coded_ℕ 𝓛 γ 0 0 l) (basic 𝓛 _)) $ await ! tt $ use1 𝓛 (‵ (named γ 0 l)) (named_in γ 0 full_share l) $ move ! (0 ∷ 2 ∷ []) $ fjoin ! $
+      fpack ! ℕ (λ d. fsep (named γ 0 d) (unnamed d 0)) l $ move ! (1 ∷ 0 ∷ []) $ fjoin ! $ fpack ! ℕ (λ d. fsep (unnamed d 1) (unlisted d 0)) γ $ now ! $ done !))

@@ -16,7 +16,7 @@ use types.Tokens.{bor_fracture}
 use denote.Sharing.{ShrLaws, said, one}
 use denote.SharingLaws.{beside_shr_laws, one_shr_laws}
 use denote.Struct.Lending.{Lends, Lends-both}
-use Rattle.dmc_ledger.specs.Rows.{row_shares, name_shares, roster, knows, row, owns, shows, mint_owns, book_owns, book_shares, till_owns, till_shares}
+use Rattle.dmc_ledger.specs.Rows.{row_shares, name_shares, named, unnamed, roster, knows, row, owns, shows, mint_owns, book_owns, book_shares, till_owns, till_shares}
 use Rattle.dmc_ledger.proofs.Agreed.{cuts, joins}
 use Rattle.dmc_ledger.proofs.Ledger.{knows_twice}
 
@@ -80,12 +80,18 @@ roster_keyless : (δ k : ℕ) (xs : List (ℕ × ℕ)) → Keyless (roster δ k 
 roster_keyless δ k [] = entries_keyless row_shares δ k (λ _. (full_share, (0, 0)))
 roster_keyless δ k (x ∷ xs) = (entry_keyless row_shares δ k (right full_share, x), roster_keyless δ (suc k) xs)
 
-knows_keyless : (γ n δ : ℕ) → Keyless (knows γ n δ)
-knows_keyless γ n δ = ((λ q. entry_keyless name_shares γ n (q, δ)), λ s. (roster_keyless δ 0 (s.0 ∷ s.1), λ _. tt))
+pub named_keyless : (γ k δ : ℕ) → Keyless (named γ k δ)
+named_keyless γ k δ = λ q. entry_keyless name_shares γ k (q, δ)
 
-pub mint_keyless : (γ n : ℕ) → Keyless (mint_owns γ n)
+knows_keyless : (γ n δ : ℕ) → Keyless (knows γ n δ)
+knows_keyless γ n δ = (named_keyless γ (suc n) δ, λ s. (roster_keyless δ 0 (s.0 ∷ s.1), λ _. tt))
+
+unnamed_keyless : (γ k : ℕ) → Keyless (unnamed γ k)
+unnamed_keyless γ k = entries_keyless name_shares γ k (λ _. (full_share, 0))
+
+pub mint_keyless : (γ n m : ℕ) → Keyless (mint_owns γ n m)
 unfolding mint_owns
-mint_keyless γ n = entries_keyless name_shares γ n (λ _. (full_share, 0))
+mint_keyless γ n m = (unnamed_keyless γ (suc n), λ l. (named_keyless γ 0 l, unnamed_keyless l m))
 
 pub book_keyless : (γ n δ tills held : ℕ) → Keyless (book_owns γ n δ tills held)
 unfolding book_owns

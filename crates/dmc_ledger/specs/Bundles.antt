@@ -1,5 +1,6 @@
 -- What contracts see of tills, books and desks that belong together.
-use Rattle.std.specs.Prelude.{◌≡◌, ℕ, ◌+◌, ◌<◌, ◌≤◌}
+use Rattle.std.specs.Prelude.{◌≡◌, ℕ, ◌+◌, ◌<◌, ◌≤◌, Option, Some}
+use Rattle.std.specs.Option.{option_map}
 use Rattle.dmc_types.specs.Values.{Params}
 use Rattle.dmc_ledger.specs.Accounts.{Account, Holding, after_closing, new_book, new_till}
 use Rattle.dmc_ledger.specs.declared.bundle.StampTills.{StampTills}
@@ -29,7 +30,7 @@ pub record GrantAccounts : Type 0 where
   pub reservation : Account
   pub priority : Account
 
--- the queue's side of a pair, and the tracker's
+-- The queue's side of a pair, and the tracker's, which has the number of its list as long as it has one.
 pub record ClientSide : Type 0 where
   pub client : ℕ
   pub server : ℕ
@@ -41,6 +42,7 @@ pub record ServerSide : Type 0 where
   pub server : ℕ
   pub books : StampAccounts
   pub held : GrantHoldings
+  pub list : Option ℕ
 
 -- each as plain data, whatever its set-up
 module _ {S : Type 0} where
@@ -60,7 +62,13 @@ module _ {S : Type 0} where
   client_side d = record { client = d.client.0; server = d.server.0; held = stamp_holdings d.held; books = grant_accounts d.books }
 
   abbrev pub server_side : ServerDesk S → ServerSide
-  server_side d = record { client = d.client.0; server = d.server.0; books = stamp_accounts d.books; held = grant_holdings d.held }
+  server_side d = record {
+    client = d.client.0;
+    server = d.server.0;
+    books = stamp_accounts d.books;
+    held = grant_holdings d.held;
+    list = option_map (λ l. l.number) d.list;
+  }
 
 -- the tills hold at least one stamp, and at least these params
 pub record Covers (tills : StampHoldings) (params : Params) : Type 0 where
@@ -68,7 +76,8 @@ pub record Covers (tills : StampHoldings) (params : Params) : Type 0 where
   pub its_delta : params.delta ≤ tills.delta.amount
   pub its_rho : params.rho ≤ tills.rho.amount
 
--- the pair of a client and a server, as it is opened with the five books from the n-th on
+-- The pair of a client and a server, as it is opened with the five books from the n-th on. The list has the number of the
+-- book of stamps.
 abbrev pub new_client_side : ℕ → ℕ → ℕ → ClientSide
 new_client_side client server n = record {
   client = client;
@@ -83,6 +92,7 @@ new_server_side client server n = record {
   server = server;
   books = record { stamps = new_book n; delta = new_book (n + 1); rho = new_book (n + 2) };
   held = record { reservation = new_till (n + 3); priority = new_till (n + 4) };
+  list = Some n;
 }
 
 -- the till is the only open one of the book

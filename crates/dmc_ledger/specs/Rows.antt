@@ -1,5 +1,6 @@
 -- The ghost resource that the tokens of books and tills own. A set-up's name has an entry for each number, which says for good
--- what names the rows of that book, once the book is open. A book's rows are numbered too. Row 0 is the book's own: how many
+-- what names the rows of that book, once the book is open. Before them it has one that names as many entries again: each says
+-- for good what names the items of the list of its number. A book's rows are numbered too. Row 0 is the book's own: how many
 -- tills are open, and what they hold together. Each other row is a till's: one part and its amount, or nothing once the till is
 -- gathered. A rule has one half of each row and says that they add up, and the token has the other half. A `&` to a token shows
 -- some share of that half.
@@ -25,9 +26,17 @@ name_shares = both shares (agreed (coded coded_ℕ))
 abbrev pub part : ℕ → ℕ → Share → ℕ × ℕ → Fml
 part rows k q x = entry row_shares rows k (q, x)
 
+-- this entry names that, for good
+abbrev pub named : ℕ → ℕ → ℕ → Fml
+named name k that = fex Share (λ q. entry name_shares name k (q, that))
+
 -- the book of this number has these rows, for good
 abbrev pub known : ℕ → ℕ → ℕ → Fml
-known name number rows = fex Share (λ q. entry name_shares name number (q, rows))
+known name number rows = named name (suc number) rows
+
+-- the list of this number has these items, for good
+abbrev pub listed : ℕ → ℕ → ℕ → Fml
+listed name number items = fex ℕ (λ lists. fsep (named name 0 lists) (named lists number items))
 
 -- the rule's half of each row from the k-th on; nobody has the rows behind them yet
 abbrev pub roster : ℕ → ℕ → List (ℕ × ℕ) → Fml
@@ -49,9 +58,17 @@ Rule rows = fex ((ℕ × ℕ) × List (ℕ × ℕ)) (state rows)
 abbrev pub knows : ℕ → ℕ → ℕ → Fml
 knows name number rows = fsep (known name number rows) (finv (Rule rows))
 
--- the books from this number on are still to be opened
-unfoldable pub mint_owns : ℕ → ℕ → Fml
-mint_owns name opened = entries_from name_shares name opened (λ _. (full_share, 0))
+-- the entries from this one on name nothing yet
+abbrev pub unnamed : ℕ → ℕ → Fml
+unnamed name k = entries_from name_shares name k (λ _. (full_share, 0))
+
+-- the lists from this number on are still to be opened
+abbrev pub unlisted : ℕ → ℕ → Fml
+unlisted name number = fex ℕ (λ lists. fsep (named name 0 lists) (unnamed lists number))
+
+-- the books from one number on are still to be opened, and the lists from another on
+unfoldable pub mint_owns : ℕ → ℕ → ℕ → Fml
+mint_owns name books lists = fsep (unnamed name (suc books)) (unlisted name lists)
 
 -- a row of the book, of which a share q of the token's half is had
 abbrev pub row : ℕ → ℕ → ℕ × ℕ → Share → Fml

@@ -7,6 +7,7 @@ ghost use Rattle.dmc_ledger.specs.Bundles.{IsOnlyTill, IsPair, client_side, serv
 use crate::book::Book;
 use crate::bundle::{GrantBooks, GrantTills, StampBooks, StampTills};
 use crate::full::Full;
+use crate::growing::BlankList;
 use crate::mint::Mint;
 use crate::setup::Setup;
 use crate::till::Till;
@@ -21,13 +22,15 @@ pub struct ClientDesk<S: Setup> {
     pub books: GrantBooks<S>,
 }
 
-/// The tracker's desk for a server: the books of the stamps that it made, and the grants that it counted.
+/// The tracker's desk for a server: the books of the stamps that it made, and the grants that it counted. Until a tracker has
+/// it, it also has an empty list that only grows, of the number of the book of stamps.
 #[derive(Drop)]
 pub struct ServerDesk<S: Setup> {
     pub client: ClientId,
     pub server: ServerId,
     pub books: StampBooks<S>,
     pub held: GrantTills<S>,
+    pub list: Option<BlankList<S>>,
 }
 
 /// The desks of a client at a server, with five new books. Each book has one open till, at the other desk. It is refused `Full`
@@ -46,7 +49,7 @@ pub fn open_pair<S: Setup>(
     if mint.left() < 5 {
         return Err(Full);
     }
-    let (stamps, stamp_till) = open_one(mint);
+    let ((stamps, list), stamp_till) = open_first(mint);
     let (delta, delta_till) = open_one(mint);
     let (rho, rho_till) = open_one(mint);
     let (reservation, reservation_till) = open_one(mint);
@@ -72,8 +75,26 @@ pub fn open_pair<S: Setup>(
             reservation: reservation_till,
             priority: priority_till,
         },
+        list: Some(list),
     };
     Ok((client_desk, server_desk))
+}
+
+/// A new book with a list of its number, and its first till.
+fn open_first<S: Setup>(mint: &mut Mint<S>) -> ((Book<S>, BlankList<S>), Till<S>)
+    requires { 0 < mint.old.left }
+    ensures book { result.0.0 ≡ new_book mint.old.opened }
+    ensures list { result.0.1.number ≡ mint.old.opened }
+    ensures till { result.1 ≡ new_till mint.old.opened }
+    ensures mint { mint.new ≡ record { opened = mint.old.opened + 1; left = mint.old.left - 1 } }
+{
+    let Ok((mut book, list)) = mint.open_with_list() else {
+        unreachable!()
+    };
+    let Ok(till) = book.till() else {
+        unreachable!()
+    };
+    ((book, list), till)
 }
 
 /// A new book and its first till.
@@ -83,12 +104,7 @@ fn open_one<S: Setup>(mint: &mut Mint<S>) -> (Book<S>, Till<S>)
     ensures till { result.1 ≡ new_till mint.old.opened }
     ensures mint { mint.new ≡ record { opened = mint.old.opened + 1; left = mint.old.left - 1 } }
 {
-    let Ok(mut book) = mint.open() else {
-        unreachable!()
-    };
-    let Ok(till) = book.till() else {
-        unreachable!()
-    };
+    let ((book, _), till) = open_first(mint);
     (book, till)
 }
 
@@ -112,6 +128,7 @@ pub fn close_pair<S: Setup>(
         server: _,
         books: stamp_books,
         held: grant_tills,
+        list: _,
     } = server;
     (
         gather_stamps(stamp_books, stamps),

@@ -4,11 +4,23 @@ ghost use Rattle.std.specs.Prelude.{◌≡◌, ◌⊎◌, ◌+◌, ℕ, List, []
 ghost use mathlib.Core.List.{IsPrefix};
 ghost use base.Stored.{coded_list};
 ghost use denote.Sharing.{said};
-ghost use Rattle.dmc_ledger.specs.Growing.{list_owns, beginning_owns};
+ghost use Rattle.dmc_ledger.specs.Growing.{blank_owns, list_owns, beginning_owns};
 
 use crate::setup::Setup;
 use crate::token::MintToken;
 use std::marker::{Model, PhantomData};
+
+/// A list that only grows, which has no item and no type yet. It has a number of the set-up, which no other list has.
+#[derive(Drop)]
+pub struct BlankList<S: Setup> {
+    marker: PhantomData<S>,
+    pub ghost number: { ℕ },
+    ghost rows: { ℕ },
+}
+
+impl<S: Setup> Model for BlankList<S> {
+    ghost also_owns = { λ l. blank_owns S.name l.number l.rows };
+}
 
 /// A list that only grows, of a number of the set-up. Its owner alone adds to it.
 #[derive(Drop)]
@@ -38,14 +50,27 @@ impl<E, S: Setup> Model for Beginning<E, S> {
     ghost also_shares = { λ b _ κ. said (beginning_owns E.row.coded.code S.name b.number b.rows b.list) κ };
 }
 
-/// The list of the mint's next number. It is empty.
-pub(crate) fn open_list<E, S: Setup>(mint: &mut MintToken<S>) -> GrowingList<E, S>
-    ensures number { result.number ≡ mint.old.opened }
-    ensures next { mint.new.opened ≡ mint.old.opened + 1 }
-    ensures empty { result.list ≡ [] }
-{
-    GrowingList {
-        marker: PhantomData,
+impl<S: Setup> BlankList<S> {
+    /// The list of the mint's next number.
+    pub(crate) fn new(mint: &mut MintToken<S>) -> BlankList<S>
+        ensures number { result.number ≡ mint.old.listed }
+        ensures next { mint.new.listed ≡ mint.old.listed + 1 }
+        ensures opened { mint.new.opened ≡ mint.old.opened }
+    {
+        BlankList {
+            marker: PhantomData,
+        }
+    }
+
+    /// The list, of items of a type. It is empty.
+    pub fn open<E>(self) -> GrowingList<E, S>
+        ensures number { result.number ≡ self.number }
+        ensures empty { result.list ≡ [] }
+    {
+        let BlankList { marker: _ } = self;
+        GrowingList {
+            marker: PhantomData,
+        }
     }
 }
 
@@ -70,6 +95,8 @@ impl<E, S: Setup> Beginning<E, S> {
         ensures { IsPrefix self.now.list other.now.list ⊎ IsPrefix other.now.list self.now.list }
     {}
 }
+
+unsafe impl<S: Setup> Send for BlankList<S> {}
 
 unsafe impl<E, S: Setup> Send for GrowingList<E, S> {}
 

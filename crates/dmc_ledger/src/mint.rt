@@ -4,7 +4,7 @@ ghost use Rattle.dmc_types.specs.Limits.{max_books};
 
 use crate::book::Book;
 use crate::full::Full;
-use crate::growing::{GrowingList, open_list};
+use crate::growing::{BlankList, GrowingList};
 use crate::setup::Setup;
 use crate::token::{BlankToken, MintToken};
 use std::marker::Model;
@@ -73,7 +73,7 @@ impl<S: Setup> Model for Mint<S> {
 
     ghost view = { λ m. record { opened = m.opened; left = m.left } };
 
-    ghost invariant = { λ m. (m.token.opened ≡ m.opened) × (m.opened + m.left ≤ max_books) };
+    ghost invariant = { λ m. (m.token.opened ≡ m.opened) × (m.token.listed ≡ m.opened) × (m.opened + m.left ≤ max_books) };
 }
 
 impl<S: Setup> Mint<S> {
@@ -85,13 +85,27 @@ impl<S: Setup> Mint<S> {
         ensures mint { OnOk result (self.new ≡ record { opened = self.old.opened + 1; left = self.old.left - 1 }) }
         ensures kept { OnErr result (self.new ≡ self.old) }
     {
+        let (book, _) = self.open_with_list()?;
+        Ok(book)
+    }
+
+    /// The next book, and an empty list that only grows, of the same number. `Full` as for a book.
+    pub fn open_with_list(&mut self) -> Result<(Book<S>, BlankList<S>), Full>
+        ensures full { IsErr result ↔ (self.old.left ≡ 0) }
+        ensures book { IfOk result (λ opened.
+            opened.0 ≡ record { number = self.old.opened; gathered = 0; held = 0; open_tills = 0 }) }
+        ensures list { IfOk result (λ opened. opened.1.number ≡ self.old.opened) }
+        ensures mint { OnOk result (self.new ≡ record { opened = self.old.opened + 1; left = self.old.left - 1 }) }
+        ensures kept { OnErr result (self.new ≡ self.old) }
+    {
         if self.left == 0 {
             return Err(Full);
         }
+        let list = BlankList::new(&mut self.token);
         let book = Book::new(self.opened as u32, self.token.open());
         self.opened += 1;
         self.left -= 1;
-        Ok(book)
+        Ok((book, list))
     }
 
     /// An empty list that only grows, of the next number, with that number. `Full` as for a book.
@@ -102,14 +116,8 @@ impl<S: Setup> Mint<S> {
         ensures mint { OnOk result (self.new ≡ record { opened = self.old.opened + 1; left = self.old.left - 1 }) }
         ensures kept { OnErr result (self.new ≡ self.old) }
     {
-        if self.left == 0 {
-            return Err(Full);
-        }
-        let list = open_list(&mut self.token);
-        let number = self.opened as u32;
-        self.opened += 1;
-        self.left -= 1;
-        Ok((number, list))
+        let (book, list) = self.open_with_list()?;
+        Ok((book.number(), list.open()))
     }
 
     /// The number of books that may still be opened.

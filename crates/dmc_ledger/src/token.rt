@@ -14,18 +14,19 @@ pub(crate) struct BlankToken {
 }
 
 impl Model for BlankToken {
-    ghost also_owns = { λ b. mint_owns b.name 0 };
+    ghost also_owns = { λ b. mint_owns b.name 0 0 };
 }
 
-/// The right to open the books with the numbers from `opened` on.
+/// The right to open the books with the numbers from `opened` on, and the lists with those from `listed` on.
 #[derive(Drop)]
 pub(crate) struct MintToken<S: Setup> {
     marker: PhantomData<S>,
     pub(crate) ghost opened: { ℕ },
+    pub(crate) ghost listed: { ℕ },
 }
 
 impl<S: Setup> Model for MintToken<S> {
-    ghost also_owns = { λ m. mint_owns S.name m.opened };
+    ghost also_owns = { λ m. mint_owns S.name m.opened m.listed };
 }
 
 /// The book of this number: `tills` tills are open, and hold `held` together. `rows` names its ledger.
@@ -71,7 +72,8 @@ impl BlankToken {
     /// The set-up's mint, once a type names the set-up.
     pub(crate) fn open<S: Setup>(self) -> MintToken<S>
         requires { self.name ≡ S.name }
-        ensures { result.opened ≡ 0 }
+        ensures opened { result.opened ≡ 0 }
+        ensures listed { result.listed ≡ 0 }
     {
         let BlankToken { marker: _ } = self;
         MintToken {
@@ -85,6 +87,7 @@ impl<S: Setup> MintToken<S> {
     pub(crate) fn open(&mut self) -> BookToken<S>
         ensures number { result.number ≡ self.old.opened }
         ensures next { self.new.opened ≡ self.old.opened + 1 }
+        ensures listed { self.new.listed ≡ self.old.listed }
         ensures tills { result.tills ≡ 0 }
         ensures held { result.held ≡ 0 }
     {

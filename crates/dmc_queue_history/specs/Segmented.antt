@@ -1,9 +1,10 @@
 -- A history in segments: its first events may have been released.
-use Rattle.std.specs.Prelude.{◌≡◌, ℕ, ◌+◌, ◌<◌, ◌≤◌, ◌^◌, Bool, true, if◌then◌else◌, List, [], ◌∷◌, ◌++◌, flat_map, length}
+use Rattle.std.specs.Prelude.{◌≡◌, ℕ, ◌+◌, ◌<◌, ◌≤◌, Bool, true, if◌then◌else◌, List, [], length}
 use Rattle.dmc_types.specs.Limits.{max_events}
 use Rattle.dmc_types.specs.Values.{Setting}
 use Rattle.dmc_tag.specs.declared.event.Event.{Event}
 use Rattle.dmc_history.specs.Log.{Log}
+use Rattle.dmc_history.specs.Segments.{events_of, max_released}
 
 -- All events, oldest first, released or not; how many of them were released; how many there may be until more are
 -- released; and for how many more a place is reserved.
@@ -21,10 +22,6 @@ pub record SegmentState (T : Type 0) : Type 0 where
   pub history : List (Event T)
   pub first : ℕ
 
--- events are released while there are at most this many
-abbrev pub max_released : ℕ
-max_released = 2 ^ 62
-
 -- A segment may be released: there are not too many events, and the history was not taken out.
 pub record MayRotate {E : Type 0} (h : Segmented E) : Type 0 where
   pub long : length h.events ≤ max_released
@@ -35,10 +32,6 @@ abbrev pub after_rotating : {E : Type 0} → Segmented E → (kept : ℕ) → Se
 after_rotating h kept = record { events = h.events; first = length h.events; most = length h.events + kept; room = 0 }
 
 -- ---- how it is kept
-
--- the events of these histories, one after the other
-abbrev pub events_of : {E : Type 0} → List (Log E) → List E
-events_of histories = flat_map (λ h. h.events) histories
 
 -- none of a history that was taken out
 abbrev pub events_unless : {E : Type 0} → Bool → List (Log E) → List E
@@ -55,9 +48,3 @@ pub record IsSegmented {E : Type 0} (taken : Bool) (released : List (Log E)) (fi
   pub limit : kept.most ≤ max_events
   pub none : taken ≡ true → kept.events ≡ []
   pub closed : taken ≡ true → kept.room ≡ 0
-
--- The last of these histories is this one, and this number of events is in those before it.
-pub record IsLast {E : Type 0} (histories : List (Log E)) (kept : Log E) (first : ℕ) : Type 0 where
-  pub before : List (Log E)
-  pub last : histories ≡ before ++ kept ∷ []
-  pub number : first ≡ length (events_of before)

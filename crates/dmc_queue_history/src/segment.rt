@@ -1,7 +1,7 @@
 //! Segments of a queue's history.
 ghost use Rattle.std.specs.Prelude.{◌≡◌, ◌≤◌, ◌+◌, drop, length, take, IsTrue};
 ghost use Rattle.dmc_tag.specs.Replay.{replays};
-ghost use Rattle.dmc_queue_history.specs.Segmented.{IsLast, events_of, max_released};
+ghost use Rattle.dmc_history.specs.Segments.{IsLast, events_of, max_released};
 
 use crate::history::EventHistory;
 use dmc_ledger::growing::Beginning;
@@ -28,7 +28,8 @@ pub struct Segment<T: Tag, S: Setup> {
 impl<T: Tag, S: Setup> Model for Segment<T, S> {
     ghost use Rattle.std.specs.Prelude.{◌≡◌, ◌≤◌};
     ghost use Rattle.dmc_tag.specs.Replay.{replays};
-    ghost use Rattle.dmc_queue_history.specs.Segmented.{IsLast, SegmentState, events_of, max_released};
+    ghost use Rattle.dmc_history.specs.Segments.{IsLast, events_of, max_released};
+    ghost use Rattle.dmc_queue_history.specs.Segmented.{SegmentState};
 
     ghost Value = { SegmentState T };
 

@@ -4,7 +4,8 @@ ghost use Rattle.dmc_types.specs.Limits.{max_events};
 ghost use Rattle.dmc_types.specs.declared.command.Command.TheVariants as commands;
 ghost use Rattle.dmc_tag.specs.Replay.{replays};
 ghost use Rattle.dmc_tag.specs.declared.reply.Reply.TheVariants as replies;
-ghost use Rattle.dmc_queue_history.specs.Segmented.{MayRotate, after_rotating, max_released};
+ghost use Rattle.dmc_history.specs.Segments.{max_released};
+ghost use Rattle.dmc_queue_history.specs.Segmented.{MayRotate, after_rotating};
 
 use crate::history::EventHistory;
 use crate::segment::Segment;

@@ -61,8 +61,8 @@ module _ (b : BookState) (pass : List StampHoldings) (settled : List ServerSide)
         stamps = now.books.stamps.open_tills;
         delta = now.books.delta.open_tills;
         rho = now.books.rho.open_tills;
-        few_stamps = omega (arith, few, now.books.stamps.total, consistent.within, consistent.limit);
-        few_responses = omega (arith, reservations, priorities, now.held.reservation, now.held.priority, consistent.within, consistent.limit);
+        few_stamps = omega (arith, few, now.books.stamps.total, ready.whole, consistent.within, consistent.limit);
+        few_responses = omega (arith, reservations, priorities, now.held.reservation, now.held.priority, ready.whole, consistent.within, consistent.limit);
       }
 
   pub is_balanced : (d : ClientSide) (s : ℕ) → s < length b.desks → IsAudited d (get_or settled s no_side) → IsBalancedPair d (record { 0 = s }) b.events (tills_at pass (record { 0 = s }))
@@ -76,16 +76,16 @@ module _ (b : BookState) (pass : List StampHoldings) (settled : List ServerSide)
         priority = omega (arith, h.priority, now.held.priority);
       }
 
-  pub held_few : length pass ≡ length b.desks → (s : ℕ) → s < length pass → AreHeldWithin 2147483648 (get_or (map held_of pass) s no_held)
-  held_few as_many s within =
+  pub held_few : length pass ≡ length b.desks → b.first ≡ 0 → (s : ℕ) → s < length pass → AreHeldWithin 2147483648 (get_or (map held_of pass) s no_held)
+  held_few as_many whole s within =
       let id : ServerId = record { 0 = s } in
       let inside : s < length b.desks = omega (arith, within, as_many) in
       let room = has_room b id inside consistent in
       let held = gathered.within id inside in
       subst (AreHeldWithin 2147483648) (sym (get_or-map held_of pass s no_tills no_held within)) (record {
-        stamps = omega (arith, room.stamps, held.stamps);
-        delta = omega (arith, room.delta, held.delta);
-        rho = omega (arith, room.rho, held.rho);
+        stamps = omega (arith, room.stamps, held.stamps, whole, consistent.within, consistent.limit);
+        delta = omega (arith, room.delta, held.delta, whole, consistent.within, consistent.limit);
+        rho = omega (arith, room.rho, held.rho, whole, consistent.within, consistent.limit);
       })
 
   pub completed_is : sum_by responded settled ≡ (completions b.events).delta

@@ -55,6 +55,7 @@ module _ {T : Type 0} (scene : SceneValue) (r : Left T) (h : AreTogether scene r
       let part = client_at c _ (slice_get-get_or scene.clients c no_client in_clients) in
       record {
         own = part.own;
+        whole = part.whole;
         as_many = part.desks ∙ sym h.books ∙ sym desks_each;
         within = λ s in_desks. (
             let in_servers : s < scene.servers = omega (arith, in_desks, desks_each, h.books) in

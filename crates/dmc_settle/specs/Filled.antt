@@ -126,9 +126,10 @@ pub record IsLastPair (d : ClientSide) (t : ServerSide) : Type 0 where
   pub reservation : d.books.reservation.open_tills ≡ 1
   pub priority : d.books.priority.open_tills ≡ 1
 
--- a tracker book and its own pass, and the settled desks of its client
+-- a tracker book that released nothing and its own pass, and the settled desks of its client
 pub record IsReadyClient (desks : List (List ClientSide)) (c : ℕ) (tracker : tracker_book.BookState) (pass : List StampHoldings) : Type 0 where
   pub own : tracker_settling.IsOwn pass tracker.desks
+  pub whole : tracker.first ≡ 0
   pub as_many : length tracker.desks ≡ length desks
   pub within : (s : ℕ) → s < length desks → c < length (slice_index_or desks s [])
   pub pairs : (s : ℕ) → s < length desks → IsLastPair (desk_of desks s c) (slice_index_or tracker.desks s no_side)

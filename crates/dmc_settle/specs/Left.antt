@@ -48,11 +48,13 @@ pub record IsServerPart {T : Type 0} (scene : SceneValue) (server : ℕ) (book :
   pub whole : book.first ≡ 0
   pub own : book_settling.AreOwn book.workers book.desks passes
 
--- a client's tracker book: in the scene's counting form, with a desk for each server; and the pass is its own
+-- a client's tracker book, which released no entry: in the scene's counting form, with a desk for each server; and the pass is
+-- its own
 pub record IsClientPart (scene : SceneValue) (client : ClientValue) (book : tracker_book.BookState) (pass : List StampHoldings) : Type 0 where
   pub counting : book.tracker.counting ≡ scene.counting
   pub its_client : book.client ≡ client.id.0
   pub desks : length book.desks ≡ scene.servers
+  pub whole : book.first ≡ 0
   pub own : tracker_settling.IsOwn pass book.desks
 
 -- The parts are those of one cluster, set up as the scene says: configurations, ids and the numbers of books agree.

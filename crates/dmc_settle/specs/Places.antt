@@ -23,6 +23,7 @@ no_tracker = record {
   client = 0;
   tracker = record { counting = All; most = 0; completions = no_counts; servers = [] };
   events = [];
+  first = 0;
   max_events = 0;
   desks = [];
 }

@@ -87,6 +87,7 @@ fn is_client_part<S: Setup>(
     tracker.counting() == scene.counting()
         && tracker.client() == client.id()
         && tracker.desks().len() == scene.servers() as usize
+        && tracker.first() == 0
         && tracker.owns(pass)
 }
 

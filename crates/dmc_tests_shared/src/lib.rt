@@ -27,6 +27,8 @@ mod tracker_books;
 #[cfg(test)]
 mod tracker_refusals;
 #[cfg(test)]
+mod tracker_segments;
+#[cfg(test)]
 mod tracker_setup;
 #[cfg(test)]
 mod tracker_skips;

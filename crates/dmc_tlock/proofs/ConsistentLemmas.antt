@@ -1,6 +1,6 @@
 -- A stamp, a skip and a response keep a tracker book consistent.
-use Rattle.std.proofs.Common.{◌≡◌, ℕ, ◌+◌, ◌<◌, ◌≤◌, ◌^◌, List, [], ◌∷◌, ◌++◌, length, sym, ap, ◌∙◌, arith}
-use Rattle.std.specs.Prelude.{slice_set, sum_by}
+use Rattle.std.proofs.Common.{◌≡◌, ℕ, ◌+◌, ◌<◌, ◌≤◌, List, [], ◌∷◌, ◌++◌, length, Bool, true, false, cond, sym, ap, ◌∙◌, arith}
+use Rattle.std.specs.Prelude.{◌==◌, slice_set, sum_by}
 use Rattle.std.proofs.lemmas.List.Sums.{sum_by-cons, sum_by-set}
 use Rattle.std.proofs.lemmas.List.{length-append, length-set}
 use Rattle.dmc_types.specs.Values.{Params}
@@ -11,14 +11,16 @@ use Rattle.dmc_types.specs.declared.config.PhaseType.{PhaseType}
 use Rattle.dmc_types.specs.declared.config.PhaseType.TheVariants.{Reservation, Priority}
 use Rattle.dmc_tracker.specs.declared.event.TrackerEvent.{TrackerEvent}
 use Rattle.dmc_tracker.specs.declared.event.TrackerEvent.TheVariants.{Stamp, Skip, Response}
-use Rattle.dmc_tracker.specs.TrackerList.{completed_by, plus, completions, sent, skipped, pending, IsTracked}
+use Rattle.dmc_tracker.specs.TrackerList.{completed_by, is_stamp_to, plus, completions, stamps, sent, skipped, pending, IsTracked}
 use Rattle.dmc_tracker.specs.Numbers.{ServerNumbers, RepresentsEvents, next_params}
 use Rattle.dmc_tracker.proofs.ForCallers.{completions-stamp, completions-skip, completions-response, RepresentsEvents-stamp, RepresentsEvents-skip, RepresentsEvents-response, next_params-represents, IsTracked-stamp, IsTracked-skip, IsTracked-response, sums-all, sums-others, completions-by_server, stamps-le-length, length-servers_grown}
+use Rattle.dmc_history.specs.Segments.{max_released}
 use Rattle.dmc_ledger.specs.Accounts.{total_of}
 use Rattle.dmc_ledger.specs.Bundles.{ServerSide, StampAccounts}
 use Rattle.dmc_tlock.specs.BookState.{BookState, no_side, desk_at}
 use Rattle.dmc_tlock.specs.Consistent.{due, responded, IsBalanced, IsDesk, IsConsistent}
 use Rattle.dmc_tlock.specs.Entries.{side_after_stamp, side_after_response, book_after_stamp, book_after_skip, book_after_response}
+use Rattle.dmc_tlock.specs.Segments.{after_rotating}
 use Rattle.dmc_tlock.proofs.DeskLemmas.{IsDesk-stamp_same, IsDesk-stamp_other, IsDesk-skip, IsDesk-response_same, IsDesk-response_other, at_set}
 
 sum_due : (counting : Counting) (s : ServerId) (events : List TrackerEvent) → IsTracked counting events
@@ -49,7 +51,7 @@ one_completed : (s : ServerId) (phase : PhaseType) (events : List TrackerEvent)
 one_completed s Reservation events = ap (λ (x : Params). x.delta) (completions-response events s Reservation)
 one_completed s Priority events = ap (λ (x : Params). x.delta) (completions-response events s Priority)
 
-pub IsConsistent-stamp : (b : BookState) (s : ServerId) → s.0 < length b.desks → length b.events < b.max_events → IsConsistent b
+pub IsConsistent-stamp : (b : BookState) (s : ServerId) → s.0 < length b.desks → length b.events < b.first + b.max_events → IsConsistent b
     → IsConsistent (book_after_stamp s b)
 IsConsistent-stamp b s within room h =
     let params = next_params b.tracker s in
@@ -70,11 +72,13 @@ IsConsistent-stamp b s within room h =
           let kept = ap (λ (x : Params). x.delta) (completions-stamp b.events s params) in
           let sums = responded_set b.desks s (side_after_stamp params (desk_at b.desks s)) 0 within (omega arith) in
           omega (arith, kept, sums, h.completed);
+      released = omega (arith, h.released, length-append b.events (Stamp s params ∷ []));
+      few = h.few;
       within = omega (arith, length-append b.events (Stamp s params ∷ []));
       limit = h.limit;
     }
 
-pub IsConsistent-skip : (b : BookState) (s : ServerId) → s.0 < length b.desks → length b.events < b.max_events → IsConsistent b
+pub IsConsistent-skip : (b : BookState) (s : ServerId) → s.0 < length b.desks → length b.events < b.first + b.max_events → IsConsistent b
     → IsConsistent (book_after_skip s b)
 IsConsistent-skip b s within room h =
     let inside : s.0 < length b.tracker.servers = omega (arith, h.servers) in
@@ -88,11 +92,13 @@ IsConsistent-skip b s within room h =
       desks = λ q q_in. IsDesk-skip b.client b.events q s (desk_at b.desks q) (h.desks q q_in);
       servers = servers;
       completed = ap (λ (x : Params). x.delta) (completions-skip b.events s) ∙ h.completed;
+      released = omega (arith, h.released, length-append b.events (Skip s ∷ []));
+      few = h.few;
       within = omega (arith, length-append b.events (Skip s ∷ []));
       limit = h.limit;
     }
 
-pub IsConsistent-response : (b : BookState) (s : ServerId) (phase : PhaseType) → s.0 < length b.desks → length b.events < b.max_events
+pub IsConsistent-response : (b : BookState) (s : ServerId) (phase : PhaseType) → s.0 < length b.desks → length b.events < b.first + b.max_events
     → IsConsistent b → IsConsistent (book_after_response s phase b)
 IsConsistent-response b s phase within room h =
     let represents = RepresentsEvents-response b.tracker b.events s phase h.represents in
@@ -111,44 +117,52 @@ IsConsistent-response b s phase within room h =
           let more = one_completed s phase b.events in
           let sums = responded_set b.desks s (side_after_response phase (desk_at b.desks s)) 1 within (one_response phase (desk_at b.desks s)) in
           omega (arith, more, sums, h.completed);
+      released = omega (arith, h.released, length-append b.events (Response s phase ∷ []));
+      few = h.few;
       within = omega (arith, length-append b.events (Response s phase ∷ []));
       limit = h.limit;
     }
 
--- no list completes more than one of each count an entry
-few_completed : (e : TrackerEvent) → ((completed_by e).delta ≤ 1) × ((completed_by e).rho ≤ 1)
-few_completed (Stamp q params) = (omega arith, omega arith)
-few_completed (Skip q) = (omega arith, omega arith)
-few_completed (Response q Reservation) = (omega arith, omega arith)
-few_completed (Response q Priority) = (omega arith, omega arith)
+one_at_most : (b : Bool) → cond b 1 0 + 0 ≤ 1
+one_at_most true = omega arith
+one_at_most false = omega arith
 
-completions-le-length : (events : List TrackerEvent) → ((completions events).delta ≤ length events) × ((completions events).rho ≤ length events)
-completions-le-length [] = (omega arith, omega arith)
-completions-le-length (e ∷ es) =
-    let few = few_completed e in
-    let rest = completions-le-length es in (
-      omega (arith, few, rest, sum_by-cons (λ (x : TrackerEvent). (completed_by x).delta) e es),
-      omega (arith, few, rest, sum_by-cons (λ (x : TrackerEvent). (completed_by x).rho) e es),
+-- an entry is a stamp or completes at most one of each count
+few_each : (s : ServerId) (e : TrackerEvent) → (cond (is_stamp_to s e) 1 0 + (completed_by e).delta ≤ 1) × (cond (is_stamp_to s e) 1 0 + (completed_by e).rho ≤ 1)
+few_each s (Stamp q params) = (one_at_most (q.0 == s.0), one_at_most (q.0 == s.0))
+few_each s (Skip q) = (omega arith, omega arith)
+few_each s (Response q Reservation) = (omega arith, omega arith)
+few_each s (Response q Priority) = (omega arith, omega arith)
+
+-- no list has more stamps and completions together than entries
+stamps_and_completions : (s : ServerId) (events : List TrackerEvent)
+    → (stamps s events + (completions events).delta ≤ length events) × (stamps s events + (completions events).rho ≤ length events)
+stamps_and_completions s [] = (omega arith, omega arith)
+stamps_and_completions s (e ∷ es) =
+    let few = few_each s e in
+    let rest = stamps_and_completions s es in
+    let counted = sum_by-cons (λ (x : TrackerEvent). cond (is_stamp_to s x) 1 0) e es in (
+      omega (arith, few, rest, counted, sum_by-cons (λ (x : TrackerEvent). (completed_by x).delta) e es),
+      omega (arith, few, rest, counted, sum_by-cons (λ (x : TrackerEvent). (completed_by x).rho) e es),
     )
 
 due-le : (counting : Counting) (s : ServerId) (events : List TrackerEvent)
-    → ((due counting s events).delta ≤ length events + length events) × ((due counting s events).rho ≤ length events + length events)
-due-le All s events = (let few = completions-le-length events in (omega (arith, few), omega (arith, few)))
+    → ((due counting s events).delta ≤ length events) × ((due counting s events).rho ≤ length events)
+due-le All s events = (let few = stamps_and_completions s events in (omega (arith, few), omega (arith, few)))
 due-le Others s events =
-    let few = completions-le-length events in
-    let n = stamps-le-length s events in
+    let few = stamps_and_completions s events in
     let by_server = completions-by_server events s in
     let all = ap (λ (x : Params). x.delta) by_server in
     let constraint = ap (λ (x : Params). x.rho) by_server in
-    (omega (arith, few, n, all), omega (arith, few, n, constraint))
+    (omega (arith, few, all), omega (arith, few, constraint))
 
--- what the stamp books of a server total is far from their limit
-pub record HasRoom (books : StampAccounts) : Type 0 where
-  pub stamps : total_of books.stamps ≤ 2 ^ 31
-  pub delta : total_of books.delta ≤ 2 ^ 31
-  pub rho : total_of books.rho ≤ 2 ^ 31
+-- what the stamp books of a server total is at most n
+pub record HasRoom (n : ℕ) (books : StampAccounts) : Type 0 where
+  pub stamps : total_of books.stamps ≤ n
+  pub delta : total_of books.delta ≤ n
+  pub rho : total_of books.rho ≤ n
 
-pub has_room : (b : BookState) (s : ServerId) → s.0 < length b.desks → IsConsistent b → HasRoom (desk_at b.desks s).books
+pub has_room : (b : BookState) (s : ServerId) → s.0 < length b.desks → IsConsistent b → HasRoom (length b.events) (desk_at b.desks s).books
 has_room b s within h =
     let d = h.desks s within in
     let there = h.represents.each s (omega (arith, h.servers)) in
@@ -160,7 +174,22 @@ has_room b s within h =
     let few = due-le b.tracker.counting s b.events in
     let n = stamps-le-length s b.events in
     record {
-      stamps = omega (arith, n, d.books.stamps.total, h.within, h.limit);
-      delta = omega (arith, delta_sent, delta_sum, few, d.books.delta.total, h.within, h.limit);
-      rho = omega (arith, rho_sent, rho_sum, few, d.books.rho.total, h.within, h.limit);
+      stamps = omega (arith, n, d.books.stamps.total);
+      delta = omega (arith, delta_sent, delta_sum, few, d.books.delta.total);
+      rho = omega (arith, rho_sent, rho_sum, few, d.books.rho.total);
     }
+
+-- all entries of a list are released
+pub IsConsistent-rotated : (b : BookState) → length b.events ≤ max_released → IsConsistent b → IsConsistent (after_rotating b)
+IsConsistent-rotated b few h = record {
+  balanced = h.balanced;
+  tracked = h.tracked;
+  represents = h.represents;
+  desks = h.desks;
+  servers = h.servers;
+  completed = h.completed;
+  released = omega arith;
+  few = few;
+  within = omega arith;
+  limit = h.limit;
+}

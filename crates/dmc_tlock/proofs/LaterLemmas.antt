@@ -1,11 +1,12 @@
 -- What no call changes, call by call.
 use Rattle.std.proofs.Common.{◌≡◌, ℕ, zero, suc, List, [], ◌∷◌, map, set, get_or, refl, sym, ap, subst}
-use Rattle.std.specs.Prelude.{Result, Ok, Err, OnOk, OnErr}
+use Rattle.std.specs.Prelude.{Option, Some, None, IfSome, IfNone, Result, Ok, Err, OnOk, OnErr}
 use Rattle.dmc_types.specs.declared.ids.ServerId.{ServerId}
 use Rattle.dmc_types.specs.declared.config.PhaseType.{PhaseType}
 use Rattle.dmc_types.specs.declared.config.PhaseType.TheVariants.{Reservation, Priority}
 use Rattle.dmc_tlock.specs.BookState.{BookState, no_side}
 use Rattle.dmc_tlock.specs.Entries.{book_after_response, book_after_skip, book_after_stamp}
+use Rattle.dmc_tlock.specs.Segments.{after_rotating}
 use Rattle.dmc_tlock.specs.Later.{IsLater, side_numbers}
 
 -- a write that is seen as what was there
@@ -49,3 +50,11 @@ later_response s Priority b = record {
 pub later_by : {X E : Type 0} (old new next : BookState) (answer : Result X E) → IsLater old next → OnOk answer (new ≡ next) → OnErr answer (new ≡ old) → IsLater old new
 later_by old new next (Ok x) later ok err = subst (IsLater old) (sym ok) later
 later_by old new next (Err e) later ok err = subst (IsLater old) (sym err) (later_same old)
+
+pub later_rotated : (b : BookState) → IsLater b (after_rotating b)
+later_rotated b = record { client = refl; counting = refl; most = refl; max_events = refl; desks = refl }
+
+-- nor one that returns nothing
+pub later_if : {X : Type 0} (old new next : BookState) (answer : Option X) → IsLater old next → IfSome answer (λ _. new ≡ next) → IfNone answer (new ≡ old) → IsLater old new
+later_if old new next (Some x) later some none = subst (IsLater old) (sym some) later
+later_if old new next None later some none = subst (IsLater old) (sym none) (later_same old)

@@ -1,5 +1,5 @@
 -- A new tracker book is consistent.
-use Rattle.std.proofs.Common.{◌≡◌, ℕ, ◌<◌, ◌≤◌, ◌^◌, List, [], ◌∷◌, length, map, get_or, zero, suc, refl, sym, ap, ◌∙◌, subst, arith}
+use Rattle.std.proofs.Common.{◌≡◌, ℕ, ◌<◌, ◌≤◌, ◌^◌, List, [], ◌∷◌, None, length, map, set, get_or, zero, suc, refl, sym, ap, ◌∙◌, subst, arith}
 use Rattle.std.specs.Prelude.{sum_by}
 use Rattle.std.proofs.lemmas.List.Sums.{sum_by-cons}
 use Rattle.std.proofs.lemmas.List.{get_or-map, length-map, length-replicate}
@@ -10,7 +10,7 @@ use Rattle.dmc_tracker.proofs.ForCallers.{IsTracked-nil}
 use Rattle.dmc_ledger.specs.Bundles.{ServerSide, new_server_side}
 use Rattle.dmc_tlock.specs.BookState.{no_side, desk_at}
 use Rattle.dmc_tlock.specs.Consistent.{responded, IsDesk, IsConsistent}
-use Rattle.dmc_tlock.specs.Opening.{AreNew, IsOneTill, side_after_opening, new_book_state}
+use Rattle.dmc_tlock.specs.Opening.{AreNew, HasList, IsOneTill, side_after_opening, new_book_state}
 use Rattle.dmc_tlock.proofs.ConsistentLemmas.{balanced}
 
 pub one_till : (client : ℕ) (desks : List ServerSide) → AreNew client desks → (k : ℕ) → k < length desks → IsOneTill (get_or desks k no_side).books
@@ -18,6 +18,22 @@ one_till client desks new k within =
     let s : ServerId = record { 0 = k } in
     let made = new s within in
     subst (λ (d : ServerSide). IsOneTill d.books) (sym made.1) (record { stamps = refl; delta = refl; rho = refl })
+
+pub has_list : (client : ℕ) (desks : List ServerSide) → AreNew client desks → 0 < length desks → HasList (get_or desks 0 no_side)
+has_list client desks new some = let made = new (record { 0 = 0 }) some in subst HasList (sym made.1) refl
+
+-- the first desk's list is taken: nothing else changes
+module _ {D : Type 0} (side : D → ServerSide) where
+  pub books_kept : (desks : List D) (d e : D) → side d ≡ record (side (get_or desks 0 e)) { list = None } → (k : ℕ)
+      → (get_or (map side (set desks 0 d)) k no_side).books ≡ (get_or (map side desks) k no_side).books
+  books_kept [] d e taken k = refl
+  books_kept (y ∷ ys) d e taken zero = ap (λ (x : ServerSide). x.books) taken
+  books_kept (y ∷ ys) d e taken (suc k) = refl
+
+  pub seen_without : {Y : Type 0} (f : ServerSide → Y) → ((x : ServerSide) → f (record x { list = None }) ≡ f x) → (desks : List D) (d e : D)
+      → side d ≡ record (side (get_or desks 0 e)) { list = None } → map f (map side (set desks 0 d)) ≡ map f (map side desks)
+  seen_without f blind [] d e taken = refl
+  seen_without f blind (y ∷ ys) d e taken = ap (λ z. z ∷ map f (map side ys)) (ap f taken ∙ blind (side y))
 
 opened_desk : (client : ℕ) (s : ServerId) (n : ℕ) → IsDesk client [] s (side_after_opening (new_server_side client s.0 n))
 opened_desk client s n = record {
@@ -61,6 +77,8 @@ IsConsistent-new client counting most max_events desks new represents limit =
           let made = new (record { 0 = k }) inside in
           let at : desk_at opened (record { 0 = k }) ≡ side_after_opening (desk_at desks (record { 0 = k })) = get_or-map side_after_opening desks k no_side no_side inside in
           ap responded (at ∙ ap side_after_opening made.1)));
+      released = omega arith;
+      few = omega arith;
       within = omega arith;
       limit = limit;
     }

@@ -1,29 +1,38 @@
 -- What contracts see of a tracker book, of a stamp, and of a book behind its lock.
-use Rattle.std.specs.Prelude.{ℕ, List, slice_index_or}
+use Rattle.std.specs.Prelude.{ℕ, List, None, slice_index_or}
 use Rattle.dmc_types.specs.Values.{Params}
 use Rattle.dmc_types.specs.declared.ids.ServerId.{ServerId}
 use Rattle.dmc_tracker.specs.declared.event.TrackerEvent.{TrackerEvent}
 use Rattle.dmc_tracker.specs.Numbers.{Numbers}
-use Rattle.dmc_history.specs.Log.{Log}
 use Rattle.dmc_ledger.specs.Accounts.{Account, Holding}
 use Rattle.dmc_ledger.specs.Bundles.{ServerSide, StampHoldings}
 
--- the client, the numbers of its tracker, the list of its stamps, skips and responses, how long the list may become, and
--- the desk of each server
+-- the list of stamps, skips and responses, released or not; how many of them were released; how many may be kept; and for
+-- how many more a place is reserved
+pub record Entries : Type 0 where
+  pub events : List TrackerEvent
+  pub first : ℕ
+  pub most : ℕ
+  pub room : ℕ
+
+-- the client, the numbers of its tracker, the list of its stamps, skips and responses, how many of them were released, how many
+-- may be kept, and the desk of each server
 pub record BookState : Type 0 where
   pub client : ℕ
   pub tracker : Numbers
   pub events : List TrackerEvent
+  pub first : ℕ
   pub max_events : ℕ
   pub desks : List ServerSide
 
 -- the state of a book of these parts
-abbrev pub state_of : ℕ → Numbers → Log TrackerEvent → List ServerSide → BookState
-state_of client tracker history desks = record {
+abbrev pub state_of : ℕ → Numbers → Entries → List ServerSide → BookState
+state_of client tracker list desks = record {
   client = client;
   tracker = tracker;
-  events = history.events;
-  max_events = history.most;
+  events = list.events;
+  first = list.first;
+  max_events = list.most;
   desks = desks;
 }
 
@@ -53,6 +62,7 @@ no_side = record {
   server = 0;
   books = record { stamps = no_account; delta = no_account; rho = no_account };
   held = record { reservation = no_holding; priority = no_holding };
+  list = None;
 }
 
 -- the desk of s, and a pass's tills for s

@@ -10,6 +10,8 @@ pub mod Entries
 pub mod Later
 -- A tracker's book as it is made.
 pub mod Opening
+-- A tracker's list that is released in segments.
+pub mod Segments
 -- A tracker's book as it is settled.
 pub mod Settling
 -- What `status` returns.

@@ -1,5 +1,5 @@
 -- A tracker book that is made.
-use Rattle.std.specs.Prelude.{◌≡◌, ℕ, ◌<◌, ◌≤◌, List, [], length, map}
+use Rattle.std.specs.Prelude.{◌≡◌, ℕ, ◌<◌, ◌≤◌, List, [], None, Some, length, map}
 use Rattle.dmc_types.specs.Limits as limits
 use Rattle.dmc_types.specs.declared.ids.ServerId.{ServerId}
 use Rattle.dmc_types.specs.declared.config.Counting.{Counting}
@@ -18,9 +18,9 @@ pub record AreBookLimits (servers most max_events : ℕ) : Type 0 where
   pub some_events : 0 < max_events
   pub events_limit : max_events ≤ limits.max_events
 
--- the client's pass opens a till of each stamp book of a desk
+-- the client's pass opens a till of each stamp book of a desk, whose list is taken
 abbrev pub side_after_opening : ServerSide → ServerSide
-side_after_opening desk = record desk { books = books_after_opening desk.books }
+side_after_opening desk = record desk { books = books_after_opening desk.books; list = None }
 
 abbrev pub new_pass : List ServerSide → List StampHoldings
 new_pass desks = map (λ desk. new_tills desk.books) desks
@@ -31,6 +31,7 @@ new_book_state client counting most max_events desks = record {
   client = client;
   tracker = new_numbers counting most (length desks);
   events = [];
+  first = 0;
   max_events = max_events;
   desks = map side_after_opening desks;
 }
@@ -40,3 +41,7 @@ pub record IsOneTill (books : StampAccounts) : Type 0 where
   pub stamps : books.stamps.open_tills ≡ 1
   pub delta : books.delta.open_tills ≡ 1
   pub rho : books.rho.open_tills ≡ 1
+
+-- the desk has a list of the number of its book of stamps
+abbrev pub HasList : ServerSide → Type 0
+HasList desk = desk.list ≡ Some desk.books.stamps.number

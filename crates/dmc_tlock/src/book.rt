@@ -1,30 +1,32 @@
 //! The tracker book.
-ghost use Rattle.std.specs.Prelude.{◌≡◌, ◌≢◌, ◌<◌, ◌≤◌, ◌↔◌, length, map, IfOk, IfErr, OnOk, OnErr, IsOk, IsErrAnd, IsErrOf, IsTrue};
+ghost use Rattle.std.specs.Prelude.{◌≡◌, ◌≢◌, ◌+◌, ◌<◌, ◌≤◌, ◌↔◌, drop, length, map, IfNone, IfOk, IfErr, IfSome, IsSome, OnOk, OnErr, IsOk, IsErrAnd, IsErrOf, IsTrue};
 ghost use Rattle.dmc_types.specs.declared.ids.ServerId.{ServerId};
 ghost use Rattle.dmc_tracker.specs.Numbers.{IsFullAt, next_params};
+ghost use Rattle.dmc_history.specs.Segments.{max_released};
 ghost use Rattle.dmc_ledger.specs.Bundles.{stamp_holdings, server_side};
 ghost use Rattle.dmc_ledger.specs.Moves.{AreOf, tills_after_stamp, till_in, with_less};
 ghost use Rattle.dmc_tlock.specs.BookState.{desk_at, tills_at};
 ghost use Rattle.dmc_tlock.specs.Consistent.{IsConsistent};
 ghost use Rattle.dmc_tlock.specs.Entries.{book_after_stamp, book_after_skip, book_after_response, AreTillsOf, IsTillOf};
 ghost use Rattle.dmc_tlock.specs.Opening.{AreNew, AreBookLimits, new_book_state, new_pass};
+ghost use Rattle.dmc_tlock.specs.Segments.{after_rotating, segment_of};
 ghost use Rattle.dmc_tlock.specs.Settling.{IsOwn, AreGathered, IsSettledDesk, held_of};
 ghost use Rattle.dmc_tlock.specs.Status.{IsStatusOf, IsWithin, AreSums};
 
 use crate::desk::{audit_tills, find_desk, find_grants, issue_stamp, take_unit};
 use crate::entry::{record_response, record_skip, record_stamp};
 use crate::fault::{EntryFault, TillFault};
+use crate::list::EntryList;
 use crate::parts::{Parts, make_parts};
-use crate::pass::{ClientPass, open_pass};
+use crate::pass::{ClientPass, open_desks};
+use crate::segment::TrackerSegment;
 use crate::settled::{StampsHeld, TrackerSettled, gather_pass, is_own};
 use crate::stamp::Stamp;
 use crate::status::{TrackStatus, read_status};
-use dmc_history::History;
 use dmc_ledger::bundle::StampTills;
 use dmc_ledger::desk::ServerDesk;
 use dmc_ledger::setup::Setup;
 use dmc_ledger::till::Till;
-use dmc_tracker::event::TrackerEvent;
 use dmc_tracker::tracker::{MakeFault, ServiceTracker};
 use dmc_types::config::{Counting, PhaseType};
 use dmc_types::ids::{ClientId, ServerId};
@@ -41,7 +43,7 @@ use std::marker::Model;
 pub struct TrackerBook<S: Setup> {
     client: ClientId,
     pub(crate) tracker: ServiceTracker,
-    pub(crate) history: History<TrackerEvent>,
+    pub(crate) list: EntryList<S>,
     desks: Vec<ServerDesk<S>>,
     held: Vec<StampsHeld>,
 }
@@ -55,9 +57,9 @@ impl<S: Setup> Model for TrackerBook<S> {
 
     ghost use Rattle.dmc_tlock.specs.Consistent.{IsConsistent};
 
-    ghost view = { λ b. state_of b.client.0 b.tracker b.history (map server_side b.desks.items) };
+    ghost view = { λ b. state_of b.client.0 b.tracker b.list (map server_side b.desks.items) };
 
-    ghost invariant = { λ b. IsConsistent (state_of b.client.0 b.tracker b.history (map server_side b.desks.items))
+    ghost invariant = { λ b. IsConsistent (state_of b.client.0 b.tracker b.list (map server_side b.desks.items))
         × (length b.held.items ≡ length b.desks.items) };
 }
 
@@ -77,8 +79,8 @@ pub struct Unsettled<S: Setup> {
 
 impl<S: Setup> TrackerBook<S> {
     /// A client's book of an empty list, and the client's pass, which holds nothing. The desks are the client's for the
-    /// servers 0, 1, .. in order, as `open_pair` gave them. `most` is the tracker's (1 to 2^62), `max_events` the list's
-    /// (1 to 2^30). Refused `Limit` where these or the number of desks (1 to 64) are past their limits, then `Memory`; the
+    /// servers 0, 1, .. in order, as `open_pair` gave them: the book's list is that of the first. `most` is the tracker's
+    /// (1 to 2^62), `max_events` how many entries the list keeps (1 to 2^30). Refused `Limit` where these or the number of desks (1 to 64) are past their limits, then `Memory`; the
     /// desks are returned. The room that `settle` needs is made here.
     pub fn new(
         alloc: Global,
@@ -108,11 +110,11 @@ impl<S: Setup> TrackerBook<S> {
             held,
         } = parts;
         let mut desks = desks;
-        open_pass(&mut desks, &mut tills);
+        let (number, list) = open_desks(&mut desks, &mut tills);
         let book = TrackerBook {
             client,
             tracker,
-            history,
+            list: EntryList::new(number, list, history),
             desks,
             held,
         };
@@ -143,7 +145,7 @@ impl<S: Setup> TrackerBook<S> {
         ensures history_full { IsErrOf result EntryFault.HistoryFull
             ↔ (AreTillsOf self.old server (stamp_holdings tills.old)
             × (IsFullAt self.old.tracker server → ⊥)
-            × (length self.old.events ≡ self.old.max_events)) }
+            × (length self.old.events ≡ self.old.first + self.old.max_events)) }
     {
         let params = self.stamp_params(server, tills)?;
         Ok(Stamp::new(self.client, server, params))
@@ -169,12 +171,12 @@ impl<S: Setup> TrackerBook<S> {
         ensures history_full { IsErrOf result EntryFault.HistoryFull
             ↔ (AreTillsOf self.old server (stamp_holdings tills.old)
             × (IsFullAt self.old.tracker server → ⊥)
-            × (length self.old.events ≡ self.old.max_events)) }
+            × (length self.old.events ≡ self.old.first + self.old.max_events)) }
     {
         let index = find_desk(&self.desks, server, tills)?;
         self.tracker.can_stamp(server)?;
-        self.history.reserve_one()?;
-        let params = record_stamp(&mut self.tracker, &mut self.history, server);
+        self.list.reserve_one()?;
+        let params = record_stamp(&mut self.tracker, &mut self.list, server);
         issue_stamp(&mut self.desks[index], tills, params);
         Ok(params)
     }
@@ -188,15 +190,15 @@ impl<S: Setup> TrackerBook<S> {
         ensures kept { OnErr result (self.new ≡ self.old) }
         ensures no_server { IsErrOf result EntryFault.NoServer ↔ (length self.old.desks ≤ server.0) }
         ensures history_full { IsErrOf result EntryFault.HistoryFull
-            ↔ ((server.0 < length self.old.desks) × (length self.old.events ≡ self.old.max_events)) }
+            ↔ ((server.0 < length self.old.desks) × (length self.old.events ≡ self.old.first + self.old.max_events)) }
         ensures its { result ≢ Err EntryFault.Stranger }
         ensures never_full { result ≢ Err EntryFault.TrackFull }
     {
         if server.0 as usize >= self.desks.len() {
             return Err(EntryFault::NoServer);
         }
-        self.history.reserve_one()?;
-        record_skip(&mut self.tracker, &mut self.history, server);
+        self.list.reserve_one()?;
+        record_skip(&mut self.tracker, &mut self.list, server);
         Ok(())
     }
 
@@ -224,12 +226,12 @@ impl<S: Setup> TrackerBook<S> {
         ensures history_full { IsErrOf result EntryFault.HistoryFull
             ↔ (IsTillOf self.old server phase till.old
             × (self.old.tracker.completions.delta ≡ self.old.tracker.most → ⊥)
-            × (length self.old.events ≡ self.old.max_events)) }
+            × (length self.old.events ≡ self.old.first + self.old.max_events)) }
     {
         let index = find_grants(&self.desks, server, phase, till)?;
         self.tracker.can_respond(server)?;
-        self.history.reserve_one()?;
-        record_response(&mut self.tracker, &mut self.history, server, phase);
+        self.list.reserve_one()?;
+        record_response(&mut self.tracker, &mut self.list, server, phase);
         take_unit(&mut self.desks[index], phase, till);
         Ok(())
     }
@@ -250,13 +252,26 @@ impl<S: Setup> TrackerBook<S> {
         Ok(read_status(&self.tracker, desk, server))
     }
 
-    /// Ends the book: gathers its own pass, and answers the list, what was left in the pass, and the desks. In these each
-    /// stamp book has one till open, that of the queue's desk. A pass that is not its own is returned with the book. It
-    /// does not allocate.
+    /// Releases the entries of the list since some were last released, in a time that does not grow with their number. It takes
+    /// no memory. The book goes on with none of them kept, and can keep `max_events` again. It is an extension.
+    ///
+    /// `None`, and nothing changes, exactly where more than 2^62 entries were recorded.
+    pub fn rotate(&mut self) -> Option<TrackerSegment<S>>
+        ensures segment { IfSome result (λ segment. segment ≡ segment_of self.old) }
+        ensures some { IsSome result ↔ (length self.old.events ≤ max_released) }
+        ensures rotated { IfSome result (λ _. self.new ≡ after_rotating self.old) }
+        ensures kept { IfNone result (self.new ≡ self.old) }
+    {
+        self.list.rotate(self.client, self.tracker.counting())
+    }
+
+    /// Ends the book: gathers its own pass, and answers the entries of the list that are kept, what was left in the pass, and
+    /// the desks. In these each stamp book has one till open, that of the queue's desk. A pass that is not its own is handed
+    /// back with the book. It takes no memory.
     pub fn settle(self, pass: ClientPass<S>) -> Result<TrackerSettled<S>, Unsettled<S>>
         ensures own { IsOk result ↔ IsOwn pass self.desks }
         ensures back { IfErr result (λ fault. (fault.book ≡ self) × (fault.pass ≡ pass)) }
-        ensures events { IfOk result (λ settled. settled.events.events ≡ self.events) }
+        ensures events { IfOk result (λ settled. settled.events.events ≡ drop self.first self.events) }
         ensures held { IfOk result (λ settled. settled.held.items ≡ map held_of pass) }
         ensures gathered { IfOk result (λ settled. AreGathered pass self.desks (map server_side settled.desks.items)) }
         ensures desks { IfOk result (λ settled. (s : ServerId) → s.0 < length self.desks
@@ -271,14 +286,14 @@ impl<S: Setup> TrackerBook<S> {
         let TrackerBook {
             client: _,
             tracker: _,
-            history,
+            list,
             mut desks,
             mut held,
         } = self;
         let ClientPass { tills } = pass;
         gather_pass(&mut desks, tills, &mut held);
         Ok(TrackerSettled {
-            events: history,
+            events: list.into_kept(),
             held,
             desks,
         })
@@ -289,6 +304,15 @@ impl<S: Setup> TrackerBook<S> {
         ensures { result ≡ self.now.tracker.counting }
     {
         self.tracker.counting()
+    }
+
+    /// How many entries were released, which is the number of the first that is kept.
+    pub fn first(&self) -> u64
+        ensures value { result ≡ self.now.first }
+        ensures within { result ≤ length self.now.events }
+        ensures few { result ≤ max_released }
+    {
+        self.list.first()
     }
 
     /// Whose book it is.

@@ -3,7 +3,8 @@ ghost use Rattle.std.specs.Prelude.{◌≡◌, ◌<◌, [], ◌∷◌, ◌++◌,
 ghost use Rattle.dmc_tracker.specs.declared.event.TrackerEvent.{TrackerEvent};
 ghost use Rattle.dmc_tracker.specs.Numbers.{IsFullAt, next_params, after_stamp, after_skip, after_response};
 
-use dmc_history::History;
+use crate::list::EntryList;
+use dmc_ledger::setup::Setup;
 use dmc_tracker::event::TrackerEvent;
 use dmc_tracker::tracker::ServiceTracker;
 use dmc_types::config::PhaseType;
@@ -11,60 +12,63 @@ use dmc_types::ids::ServerId;
 use dmc_types::params::ReqParams;
 
 /// Stamps a request, and puts the stamp into the list.
-pub(crate) fn record_stamp(
+pub(crate) fn record_stamp<S: Setup>(
     tracker: &mut ServiceTracker,
-    history: &mut History<TrackerEvent>,
+    list: &mut EntryList<S>,
     server: ServerId,
 ) -> ReqParams
     requires within { server.0 < length tracker.old.servers }
     requires not_full { IsFullAt tracker.old server → ⊥ }
-    requires place { 0 < history.old.room }
+    requires place { 0 < list.old.room }
     ensures params { result ≡ next_params tracker.old server }
     ensures tracker { tracker.new ≡ after_stamp server tracker.old }
-    ensures events { history.new.events ≡ history.old.events ++ TrackerEvent.Stamp server (next_params tracker.old server) ∷ [] }
-    ensures most { history.new.most ≡ history.old.most }
+    ensures events { list.new.events ≡ list.old.events ++ TrackerEvent.Stamp server (next_params tracker.old server) ∷ [] }
+    ensures first { list.new.first ≡ list.old.first }
+    ensures most { list.new.most ≡ list.old.most }
 {
     let Ok(params) = tracker.get_req_params(server) else {
         unreachable!()
     };
-    history.push_reserved(TrackerEvent::Stamp { server, params });
+    list.push_reserved(TrackerEvent::Stamp { server, params });
     params
 }
 
 /// Skips what is pending at a server, and puts the skip into the list.
-pub(crate) fn record_skip(
+pub(crate) fn record_skip<S: Setup>(
     tracker: &mut ServiceTracker,
-    history: &mut History<TrackerEvent>,
+    list: &mut EntryList<S>,
     server: ServerId,
 )
     requires within { server.0 < length tracker.old.servers }
-    requires place { 0 < history.old.room }
+    requires place { 0 < list.old.room }
     ensures tracker { tracker.new ≡ after_skip server tracker.old }
-    ensures events { history.new.events ≡ history.old.events ++ TrackerEvent.Skip server ∷ [] }
-    ensures most { history.new.most ≡ history.old.most }
+    ensures events { list.new.events ≡ list.old.events ++ TrackerEvent.Skip server ∷ [] }
+    ensures first { list.new.first ≡ list.old.first }
+    ensures most { list.new.most ≡ list.old.most }
 {
     let Ok(()) = tracker.skip(server) else {
         unreachable!()
     };
-    history.push_reserved(TrackerEvent::Skip { server });
+    list.push_reserved(TrackerEvent::Skip { server });
 }
 
 /// Counts a response, and puts it into the list.
-pub(crate) fn record_response(
+pub(crate) fn record_response<S: Setup>(
     tracker: &mut ServiceTracker,
-    history: &mut History<TrackerEvent>,
+    list: &mut EntryList<S>,
     server: ServerId,
     phase: PhaseType,
 )
     requires within { server.0 < length tracker.old.servers }
     requires not_full { tracker.old.completions.delta ≡ tracker.old.most → ⊥ }
-    requires place { 0 < history.old.room }
+    requires place { 0 < list.old.room }
     ensures tracker { tracker.new ≡ after_response server phase tracker.old }
-    ensures events { history.new.events ≡ history.old.events ++ TrackerEvent.Response server phase ∷ [] }
-    ensures most { history.new.most ≡ history.old.most }
+    ensures events { list.new.events ≡ list.old.events ++ TrackerEvent.Response server phase ∷ [] }
+    ensures first { list.new.first ≡ list.old.first }
+    ensures most { list.new.most ≡ list.old.most }
 {
     let Ok(()) = tracker.track_resp(server, phase) else {
         unreachable!()
     };
-    history.push_reserved(TrackerEvent::Response { server, phase });
+    list.push_reserved(TrackerEvent::Response { server, phase });
 }

@@ -26,7 +26,7 @@ pub enum EntryFault {
     /// The call would take a count past the tracker's `most`, or a stamp's delta past 2^32-1.
     #[error("a count would pass the tracker's most, or a stamp's 2^32-1")]
     TrackFull,
-    /// The list has its `max_events` entries.
+    /// The list keeps its `max_events` entries.
     #[error("the history is full")]
     HistoryFull,
     /// The allocator refused a growth of the list.

@@ -7,6 +7,7 @@ ghost use Rattle.dmc_tlock.specs.Status.{IsWithin, AreSums};
 
 use crate::book::TrackerBook;
 use crate::fault::{EntryFault, TillFault};
+use crate::segment::TrackerSegment;
 use crate::stamp::Stamp;
 use crate::status::TrackStatus;
 use crate::witness::{Lasting, NoWitness, Witness};
@@ -71,6 +72,11 @@ impl<S: Setup, W: Witness<TrackerBook<S>>> Guarded<TrackerBook<S>, W> {
         ensures kept { OnErr result (till.new ≡ till.old) }
     {
         self.book.respond(server, phase, till)
+    }
+
+    /// Releases the entries since the last segment, as the book does.
+    fn rotate(&mut self) -> Option<TrackerSegment<S>> {
+        self.book.rotate()
     }
 }
 
@@ -170,6 +176,14 @@ impl<S: Setup, W: Witness<TrackerBook<S>>> LockedTracker<TrackerBook<S>, W> {
         ensures sums { IfOk result (λ status. AreSums status) }
     {
         self.guarded.lock(rt).book.status(server, tills)
+    }
+
+    /// Releases the entries of the list since the last segment. It takes no memory, and a time that does not grow with the
+    /// number of entries. `None`, and nothing changes, exactly where the book's `rotate` returns it.
+    ///
+    /// Segments of one lock are parts of one list: `TrackerSegment::follows` shows which is the next.
+    pub fn rotate<R: Wait>(&self, rt: &R) -> Option<TrackerSegment<S>> {
+        self.guarded.lock(rt).rotate()
     }
 }
 

@@ -1,15 +1,16 @@
 //! The tills of a client.
-ghost use Rattle.std.specs.Prelude.{◌≡◌, ◌<◌, ◌≤◌, ℕ, length, map, vec_capacity, slice_index_or, slice_set, IfSome, IsSome, ◌↔◌};
+ghost use Rattle.std.specs.Prelude.{◌≡◌, ◌<◌, ◌≤◌, ℕ, None, length, map, vec_capacity, slice_index_or, slice_set, IfSome, IsSome, ◌↔◌};
 ghost use Rattle.std.specs.Borrow.{sem, LendsIf};
 ghost use Rattle.dmc_ledger.specs.Bundles.{stamp_holdings, stamp_accounts, server_side};
 ghost use Rattle.dmc_ledger.specs.Moves.{books_after_opening, new_tills};
 ghost use Rattle.dmc_ledger.specs.contracts.bundle.StampTills.{the_row as tills_row};
 ghost use Rattle.dmc_tlock.specs.BookState.{no_side, tills_at};
-ghost use Rattle.dmc_tlock.specs.Opening.{IsOneTill, side_after_opening, new_pass};
+ghost use Rattle.dmc_tlock.specs.Opening.{HasList, IsOneTill, side_after_opening, new_pass};
 ghost use Rattle.dmc_tlock.specs.contracts.pass.ClientPass.{the_row};
 
 use dmc_ledger::bundle::{StampBooks, StampTills};
 use dmc_ledger::desk::ServerDesk;
+use dmc_ledger::growing::BlankList;
 use dmc_ledger::setup::Setup;
 use dmc_types::ids::ServerId;
 use std::marker::Model;
@@ -63,17 +64,18 @@ fn open_tills<S: Setup>(books: &mut StampBooks<S>) -> StampTills<S>
     StampTills { stamps, delta, rho }
 }
 
-/// Opens a till of each stamp book of a desk.
+/// Opens a till of each stamp book of a desk, which then has no list.
 fn open_desk<S: Setup>(desk: &mut ServerDesk<S>) -> StampTills<S>
     requires { IsOneTill (server_side desk.old).books }
     ensures desk { server_side desk.new ≡ side_after_opening (server_side desk.old) }
     ensures tills { stamp_holdings result ≡ new_tills (server_side desk.old).books }
 {
+    desk.list = None;
     open_tills(&mut desk.books)
 }
 
 /// Opens a till of each stamp book of each desk, in room that was made.
-pub(crate) fn open_pass<S: Setup>(desks: &mut [ServerDesk<S>], tills: &mut Vec<StampTills<S>>)
+fn open_pass<S: Setup>(desks: &mut [ServerDesk<S>], tills: &mut Vec<StampTills<S>>)
     requires one { (k : ℕ) → k < length desks.old → IsOneTill (slice_index_or (map server_side desks.old) k no_side).books }
     requires empty { length tills.old.items ≡ 0 }
     requires room { length desks.old ≤ vec_capacity tills.old }
@@ -84,4 +86,36 @@ pub(crate) fn open_pass<S: Setup>(desks: &mut [ServerDesk<S>], tills: &mut Vec<S
         let opened = open_desk(&mut desks[i]);
         tills.push(opened).unwrap();
     }
+}
+
+/// Takes the list of a desk, with its number.
+fn take_list<S: Setup>(desk: &mut ServerDesk<S>) -> (u32, BlankList<S>)
+    requires { HasList (server_side desk.old) }
+    ensures number { result.1.number ≡ result.0 }
+    ensures desk { server_side desk.new ≡ record (server_side desk.old) { list = None } }
+{
+    let Some(list) = desk.list.take() else {
+        unreachable!()
+    };
+    (desk.books.stamps.number(), list)
+}
+
+/// Takes the list of the first desk, with its number, and opens a till of each stamp book of each desk, in room that was made.
+/// No desk has a list then.
+pub(crate) fn open_desks<S: Setup>(
+    desks: &mut [ServerDesk<S>],
+    tills: &mut Vec<StampTills<S>>,
+) -> (u32, BlankList<S>)
+    requires some { 0 < length desks.old }
+    requires list { HasList (slice_index_or (map server_side desks.old) 0 no_side) }
+    requires one { (k : ℕ) → k < length desks.old → IsOneTill (slice_index_or (map server_side desks.old) k no_side).books }
+    requires empty { length tills.old.items ≡ 0 }
+    requires room { length desks.old ≤ vec_capacity tills.old }
+    ensures number { result.1.number ≡ result.0 }
+    ensures desks { map server_side desks.new ≡ map side_after_opening (map server_side desks.old) }
+    ensures tills { map stamp_holdings tills.new.items ≡ new_pass (map server_side desks.old) }
+{
+    let list = take_list(&mut desks[0]);
+    open_pass(desks, tills);
+    list
 }

@@ -21,7 +21,7 @@ pub struct StampsHeld {
     pub rho: u64,
 }
 
-/// What a tracker book leaves: its list, what was left in the pass for each server, and the desks.
+/// What a tracker book leaves: the entries that its list kept, what was left in the pass for each server, and the desks.
 #[derive(Drop)]
 pub struct TrackerSettled<S: Setup> {
     pub events: History<TrackerEvent>,

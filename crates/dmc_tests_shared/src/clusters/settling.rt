@@ -87,7 +87,7 @@ fn settle<S: Setup>(
     Ok(settle_cluster(alloc, scene, books, trackers, passes, report, room).ok())
 }
 
-/// Whether the passes are from another cluster or are left out, and whose.
+/// Whether the passes are from another cluster or are left out, or a book released something, and whose.
 #[derive(Clone, Copy, Debug, PartialEq, Eq)]
 enum Change {
     Nothing,
@@ -95,12 +95,14 @@ enum Change {
     OtherClients,
     LackingWorker,
     LackingClient,
+    RotatedQueue,
+    RotatedTracker,
 }
 
 /// Changes the passes of a cluster. `others` are those of another.
 fn change_passes<S: Setup>(passes: &mut Passes<S>, others: &mut Passes<S>, change: Change) {
     match change {
-        Change::Nothing => {}
+        Change::Nothing | Change::RotatedQueue | Change::RotatedTracker => {}
         Change::OtherWorkers => swap(&mut passes.workers, &mut others.workers),
         Change::OtherClients => swap(&mut passes.clients, &mut others.clients),
         Change::LackingWorker => {
@@ -112,7 +114,26 @@ fn change_passes<S: Setup>(passes: &mut Passes<S>, others: &mut Passes<S>, chang
     }
 }
 
-/// Sets up two clusters, plays in the second, and settles it with some of its passes changed.
+/// Releases what the first queue or the first tracker recorded.
+fn rotate_first<S: Setup>(cluster: &mut Cluster<S>, change: Change) {
+    match change {
+        Change::RotatedQueue => {
+            let _ = cluster
+                .books
+                .first_mut()
+                .map(|book| book.rotate().is_some());
+        }
+        Change::RotatedTracker => {
+            let _ = cluster
+                .trackers
+                .first_mut()
+                .map(|book| book.rotate().is_some());
+        }
+        _ => {}
+    }
+}
+
+/// Sets up two clusters, plays in the second, and settles it with some of its parts changed.
 fn settle_changed<S: Setup>(
     alloc: Global,
     mint: &mut Mint<S>,
@@ -125,6 +146,7 @@ fn settle_changed<S: Setup>(
     fill(alloc, mint, cluster, &scene)?;
     play(cluster)?;
     change_passes(&mut cluster.passes, &mut other.passes, change);
+    rotate_first(cluster, change);
     settle(alloc, &scene, cluster)
 }
 
@@ -205,6 +227,15 @@ fn torn_by_other_passes(rt: HostRuntime) -> Result<(), Fail> {
 #[test]
 fn torn_by_a_pass_left_out(rt: HostRuntime) -> Result<(), Fail> {
     for change in [Change::LackingWorker, Change::LackingClient] {
+        let blank = Blank::new(2 * BOOKS);
+        assert!(rt; settle_in::<Brand>(rt.alloc(), blank, change)?.is_none());
+    }
+    Ok(())
+}
+
+#[test]
+fn torn_by_a_release(rt: HostRuntime) -> Result<(), Fail> {
+    for change in [Change::RotatedQueue, Change::RotatedTracker] {
         let blank = Blank::new(2 * BOOKS);
         assert!(rt; settle_in::<Brand>(rt.alloc(), blank, change)?.is_none());
     }

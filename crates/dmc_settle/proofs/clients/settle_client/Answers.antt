@@ -34,7 +34,7 @@ sum_held-row-requires-clause-each g c =
     let known = c.in-Ok.ensures in
     let same : c.deref.result.now ≡ c.in-Ok.settled.desks.items = c.deref.ensures.value in
     let held : c.deref-2.result.now ≡ map held_of c.args.pass = c.deref-2.ensures.value ∙ known.held in
-    rw held (λ s within. held_few c.args.tracker c.args.pass settled known.consistent known.gathered known.desks c.requires.ready.own.as_many s
+    rw held (λ s within. held_few c.args.tracker c.args.pass settled known.consistent known.gathered known.desks c.requires.ready.own.as_many c.requires.ready.whole s
     (omega (arith, within, ap length held, length-map c.args.pass held_of)))
 
 pub returns-clause-numbers : goal.returns-clause-numbers

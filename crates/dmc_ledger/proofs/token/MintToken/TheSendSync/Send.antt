@@ -5,4 +5,4 @@ use Rattle.dmc_ledger.specs.contracts.token.MintToken.{the_row}
 use Rattle.dmc_ledger.proofs.Shared.{mint_keyless}
 
 pub send : (S : RattleType) (g : Ghosts S.Denot) → IsSend (the_row S g)
-send S g = record { owned = λ d vs. ((λ vss. (tt, ((λ uss. (tt, tt)), tt))), mint_keyless g.name d.opened); leaving = λ k f vs. tt }
+send S g = record { owned = λ d vs. ((λ vss. (tt, ((λ uss. (tt, tt)), tt))), mint_keyless g.name d.opened d.listed); leaving = λ k f vs. tt }

@@ -19,9 +19,9 @@ open_spec 𝓤 𝓛 𝓜 𝓡 wired S _ g d _ =
     let y : (walk_of 𝓛 En hs c).Ghost = ((κs, qs, bounds, a, (u ∷ [], tt)), gh) in let old' : A.Denot = record old { opened = suc old.opened } in
     qed 𝓛 (((‵ (flft κs.0 qs.0) ⊛ ‵ (flft κs.1.0 qs.1.0) ⊛ ‵ ftrue) ⊛ ‵ (owns (types_at En.signature.params κs) a y.0.4)) ∷ raw ((c κs a).requires gh) ∷ []) ∵ split ! $ split ! $ move ! (2 ∷ []) $ fsplit ! $ fsplit3 ! $ keep ! (1 ∷ 2 ∷ 4 ∷ 5 ∷ []) $
     enter ! 𝓣.C 𝓣.Λ fn (u ∷ []) _ $ alloc_all ! (λ l. pass_all ! refl ((tt, tt), tt) $ opens ! tt A r.ref_ptr.0 r.ref_ptr.1 (λ cs. move ! (1 ∷ []) $ fsplit ! $ move ! (1 ∷ []) $
-    use1 𝓛 (later (‵ (mint_owns g.name (suc old.opened)) ⊛ ‵ (fex ℕ (λ k. book_owns g.name old.opened k 0 0)))) (opens_book 𝓛 g.name old.opened) $ await ! tt $ split ! $ move ! (1 ∷ []) $ fpick ! (λ k. let new : N.Denot = record { marker = record {}; number = old.opened; rows = k; tills = 0; held = 0 } in
+    use1 𝓛 (later (‵ (mint_owns g.name (suc old.opened) old.listed) ⊛ ‵ (fex ℕ (λ k. book_owns g.name old.opened k 0 0)))) (opens_book 𝓛 g.name old.opened old.listed) $ await ! tt $ split ! $ move ! (1 ∷ []) $ fpick ! (λ k. let new : N.Denot = record { marker = record {}; number = old.opened; rows = k; tills = 0; held = 0 } in
     move ! (2 ∷ 1 ∷ []) $ fjoin ! $ move ! (2 ∷ 0 ∷ 3 ∷ 4 ∷ 5 ∷ []) $ closes ! tt A old' cs r.ref_ptr.0 r.ref_ptr.1 $
     sets ! (agg ! (no_more !)) refl (tt, tt) $ sets ! (agg ! (and_then ! (get ! refl) (no_more !))) refl (tt, (tt, tt)) $ returns ! (look_at ! 0 refl) $ free_all ! refl $ suffices ! _ (ends_at 𝓛 En hs c y token new (old', tt) (tt, tt)) $
     feq_i ! (List Val) (u ∷ []) (u ∷ []) refl $ fjoin3 ! $ nothing ! $ move ! (1 ∷ 0 ∷ []) $ fjoin ! $ move ! (2 ∷ []) $
     use0 𝓛 (‵ ((Mark (Book.the_type (param 0 S) g).name (param 0 S ∷ []) (param 0 S)).own_val (tt, tt) (token ∷ []))) (made (Book.the_type (param 0 S) g).name (param 0 S ∷ []) (param 0 S) 𝓛) $ fjoin ! $
-    move ! (1 ∷ 0 ∷ []) $ join ! $ move ! (1 ∷ 2 ∷ []) $ join ! $ join ! $ frame ! $ by ! (tells_all 𝓤 ((old.opened ≡ old.opened) ∷ (suc old.opened ≡ old.opened + 1) ∷ (zero ≡ zero) ∷ (zero ≡ zero) ∷ []) (refl, (omega arith, (refl, refl))))))))
+    move ! (1 ∷ 0 ∷ []) $ join ! $ move ! (1 ∷ 2 ∷ []) $ join ! $ join ! $ frame ! $ by ! (tells_all 𝓤 ((old.opened ≡ old.opened) ∷ (suc old.opened ≡ old.opened + 1) ∷ (old.listed ≡ old.listed) ∷ (zero ≡ zero) ∷ (zero ≡ zero) ∷ []) (refl, (omega arith, (refl, (refl, refl)))))))))

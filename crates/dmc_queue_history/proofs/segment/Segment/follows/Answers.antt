@@ -1,6 +1,6 @@
 -- The two are beginnings of one list, and the numbers are compared.
 use Rattle.std.proofs.Common.{◌≡◌, ◌+◌, length, rules}
-use Rattle.dmc_queue_history.proofs.SegmentLemmas.{is_next}
+use Rattle.dmc_history.proofs.SegmentLemmas.{is_next}
 use Rattle.dmc_queue_history.proofs.segment.Segment.follows.Goals as goal
 
 pub returns-then-next-self : goal.returns-then-next-self

@@ -1,4 +1,4 @@
-use Rattle.std.proofs.Common.{◌≡◌, ◌<◌, length, set, refl, sym, ap, ◌∙◌, arith, rules, subst}
+use Rattle.std.proofs.Common.{◌≡◌, ◌+◌, ◌<◌, length, set, refl, sym, ap, ◌∙◌, arith, rules, subst}
 use Rattle.std.proofs.lemmas.Grind.{common_steps}
 use Rattle.std.proofs.lemmas.List.{length-map, length-set}
 use Rattle.dmc_types.specs.Values.{Params}
@@ -16,8 +16,9 @@ issue_stamp-requires-clause-delta g c =
     let within : c.in_ok-index.index < length here.desks.items = search rules in
     let at = found here.desks.items c.args.server c.in_ok-index.index c.index_mut.result.now
     c.in_ok-index.ensures.place within c.index_mut.ensures.value in
-    let room = subst (λ (d : ServerSide). HasRoom d.books) at.seen (has_room _ c.args.server at.within c.self.invariant.0) in
-    omega (arith, room.delta)
+    let room = subst (λ (d : ServerSide). HasRoom (length here.list.events) d.books) at.seen (has_room _ c.args.server at.within c.self.invariant.0) in
+    let few = c.self.invariant.0 in
+    omega (arith, room.delta, few.few, few.within, few.limit)
 
 pub issue_stamp-requires-clause-rho : goal.issue_stamp-requires-clause-rho
 issue_stamp-requires-clause-rho g c =
@@ -25,8 +26,9 @@ issue_stamp-requires-clause-rho g c =
     let within : c.in_ok-index.index < length here.desks.items = search rules in
     let at = found here.desks.items c.args.server c.in_ok-index.index c.index_mut.result.now
     c.in_ok-index.ensures.place within c.index_mut.ensures.value in
-    let room = subst (λ (d : ServerSide). HasRoom d.books) at.seen (has_room _ c.args.server at.within c.self.invariant.0) in
-    omega (arith, room.rho)
+    let room = subst (λ (d : ServerSide). HasRoom (length here.list.events) d.books) at.seen (has_room _ c.args.server at.within c.self.invariant.0) in
+    let few = c.self.invariant.0 in
+    omega (arith, room.rho, few.few, few.within, few.limit)
 
 pub returns-clause-book : goal.returns-clause-book
 returns-clause-book g c =
@@ -35,13 +37,13 @@ returns-clause-book g c =
     let desks = desks-set (side_after_stamp (next_params here.tracker c.args.server)) here.desks.items c.args.server c.in_ok-index.index
     c.index_mut.result.now c.issue_stamp.new.desk c.in_ok-index.ensures.place within c.index_mut.ensures.value
     (c.issue_stamp.ensures.desk ∙ ap (λ (p : Params). side_after_stamp p (server_side c.index_mut.result.now)) c.record_stamp-params.ensures.params) in
-    rw (← c.self.view_is, c.record_stamp-params.ensures.tracker, c.record_stamp-params.ensures.events, c.record_stamp-params.ensures.most, c.in_ok-reserve_one.ensures.events, c.in_ok-reserve_one.ensures.most, desks) refl
+    rw (← c.self.view_is, c.record_stamp-params.ensures.tracker, c.record_stamp-params.ensures.events, c.record_stamp-params.ensures.first, c.record_stamp-params.ensures.most, c.in_ok-reserve_one.ensures.events, c.in_ok-reserve_one.ensures.first, c.in_ok-reserve_one.ensures.most, desks) refl
 
 pub invariant_of-self-2 : goal.invariant_of-self-2
 invariant_of-self-2 g c =
     let here = c.self.inside in
     let within : c.args.server.0 < length here.desks.items = search rules in
-    let room : length here.history.events < here.history.most = search rules in
+    let room : length here.list.events < here.list.first + here.list.most = search rules in
     let as_many : length c.self.inside.held.items ≡ length (set here.desks.items c.in_ok-index.index c.issue_stamp.new.desk) = c.self.invariant.1 ∙ sym (length-set here.desks.items c.in_ok-index.index c.issue_stamp.new.desk) in (
       subst IsConsistent (sym (returns-clause-book g c))
           (rw (← c.self.view_is) (IsConsistent-stamp _ c.args.server (omega (arith, within, length-map here.desks.items (server_side {S = g.row.S.Denot}))) room c.self.invariant.0)),

@@ -1,6 +1,6 @@
 -- Answered here, so that a wrong body fails here.
 use Rattle.std.proofs.Common.{rules}
-use Rattle.dmc_ledger.proofs.mint.Mint.open.Goals as goal
+use Rattle.dmc_ledger.proofs.mint.Mint.open_with_list.Goals as goal
 
 pub new-book-requires-clause-number : goal.new-book-requires-clause-number
 new-book-requires-clause-number g c = search rules

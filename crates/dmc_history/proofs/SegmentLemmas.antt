@@ -1,12 +1,12 @@
 -- A segment that is the next of another.
-use Rattle.std.proofs.Common.{◌≡◌, ℕ, ◌+◌, ◌≤◌, List, [], ◌∷◌, ◌++◌, length, length-append, take, sym, ap, ◌∙◌, inl, inr, refl, arith}
+use Rattle.std.proofs.Common.{◌≡◌, ℕ, ◌+◌, List, [], ◌∷◌, ◌++◌, length, length-append, take, sym, ap, ◌∙◌, inl, inr, arith}
 use Rattle.std.specs.Prelude.{◌⊎◌}
 use Rattle.std.proofs.lemmas.Grind.{flat_map-append}
 use Rattle.std.proofs.lemmas.List.{append-nil, nil_from_length}
 use Rattle.std.proofs.Math.Seq.{take-append_seam, take-length}
 use mathlib.Core.List.{IsPrefix}
 use Rattle.dmc_history.specs.Log.{Log}
-use Rattle.dmc_queue_history.specs.Segmented.{IsLast, events_of}
+use Rattle.dmc_history.specs.Segments.{IsLast, events_of}
 
 module _ {E : Type 0} where
   events_joined : (xs ys : List (Log E)) → events_of (xs ++ ys) ≡ events_of xs ++ events_of ys

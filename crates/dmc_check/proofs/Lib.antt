@@ -1,3 +1,4 @@
 pub mod VerdictLemmas
 pub mod TextEnds
 pub mod NoteLemmas
+pub mod SegmentLemmas

@@ -12,17 +12,17 @@ use Rattle.dmc_text.specs.declared.cause.LineCause.TheVariants.{Hz}
 use Rattle.dmc_text.specs.declared.script.ScriptFault.{ScriptFault}
 use Rattle.dmc_text.specs.declared.script.ScriptFault.TheVariants as faults
 use Rattle.dmc_text.specs.declared.walk.Walk.{Walk}
+use Rattle.dmc_text.specs.declared.event_line.EventLine.{EventLine}
+use Rattle.dmc_text.specs.declared.event_line.EventLine.TheVariants as event_lines
 use Rattle.dmc_text.specs.Reading.{max_bytes}
 use Rattle.dmc_text.specs.Walks.{GoesThrough, IsFault, Ending, Halt, EndsAs}
 use Rattle.dmc_text.proofs.RunEnds.{of_text, of_read}
 use Rattle.dmc_check.specs.declared.check.Verdict.{Verdict}
 use Rattle.dmc_check.specs.declared.replay.Replay.{Replay}
-use Rattle.dmc_check.specs.declared.line.EventLine.TheVariants as event_lines
 use Rattle.dmc_check.specs.declared.text.Checking.{Checking}
 use Rattle.dmc_check.specs.declared.text.Checked.{Checked}
-use Rattle.dmc_check.specs.EventLines.{event_of}
-use Rattle.dmc_check.specs.EventTexts.{Recorded, with_line, or_fault, with_lines, record_of, verdict_text, HasVerdict, ChecksAs}
-use Rattle.dmc_check.specs.Checking.{Holds, Follows, IsChecked, WritesVerdict}
+use Rattle.dmc_check.specs.EventTexts.{Recorded, with_line, count_of, line_behind, or_fault, with_lines, record_of, verdict_text, HasVerdict, ChecksAs}
+use Rattle.dmc_check.specs.Checking.{Holds, Follows, next_line, IsChecked, WritesVerdict}
 use Rattle.dmc_check.specs.Verdicts.{RepresentsEvents, IsVerdict}
 use Rattle.dmc_check.proofs.VerdictLemmas.{verdict_by}
 
@@ -68,7 +68,7 @@ module _ {T : Type 0} (ops : Tagging T) (made : ℤ → ℕ → Option T) where
   takes s line answer t = Follows ops made s.replay line answer t.replay
 
   abbrev refuses : Checking T → List ℕ → LineCause → Type 0
-  refuses s line cause = event_of made (is_some s.replay) line ≡ Err cause
+  refuses s line cause = next_line made s.replay line ≡ Err cause
 
   abbrev headed : Checking T → Bool
   headed s = is_some s.replay
@@ -79,6 +79,13 @@ module _ {T : Type 0} (ops : Tagging T) (made : ℤ → ℕ → Option T) where
   same_head None (Some replay) h = absurd h
   same_head (Some r) None h = absurd h
   same_head (Some r) (Some replay) h = refl
+
+  -- and how many events were replayed
+  same_line : (recorded : Option (Recorded T)) (replay : Option (Replay T)) (line : List ℕ) → Holds ops recorded replay → line_behind made (is_some recorded) (count_of recorded) line ≡ next_line made replay line
+  same_line None None line h = refl
+  same_line None (Some replay) line h = absurd h
+  same_line (Some r) None line h = absurd h
+  same_line (Some r) (Some replay) line h = ap (λ n. line_behind made true n line) (sym h.count)
 
   -- lines that are not faulty are recorded, and the rest goes on from there
   record Behind (recorded : Option (Recorded T)) (n : ℕ) (lines : List (List ℕ)) (answers : List ℕ) (t : Checking T) : Type 0 where
@@ -99,7 +106,7 @@ module _ {T : Type 0} (ops : Tagging T) (made : ℤ → ℕ → Option T) where
       }
   behind recorded n s t (line ∷ lines) answers (next, answer, others, f, g, parts) h =
       let number : suc n + length lines ≡ n + suc (length lines) = omega arith in
-      let says : event_of made (is_some recorded) line ≡ Ok f.line = ap (λ b. event_of made b line) (same_head recorded s.replay h) ∙ f.is_line in
+      let says : line_behind made (is_some recorded) (count_of recorded) line ≡ Ok f.line = same_line recorded s.replay line h ∙ f.is_line in
       let b = behind (with_line recorded f.line) (suc n) next t lines others g (f.holds recorded h) in
       record {
         after = b.after;
@@ -125,7 +132,7 @@ module _ {T : Type 0} (ops : Tagging T) (made : ℤ → ℕ → Option T) where
   found_left (Some r) n t [] (Some (m, cause)) h (number, hz, e) = absurd (let some = same_head (Some r) t.replay h ∙ e in cc)
   found_left after n t (line ∷ others) None h e = absurd e
   found_left after n t (line ∷ others) (Some (m, cause)) h (number, e) =
-      ap (λ o. or_fault n o (λ k. with_lines made (with_line after k) (suc n) others)) (ap (λ b. event_of made b line) (same_head after t.replay h) ∙ e)
+      ap (λ o. or_fault n o (λ k. with_lines made (with_line after k) (suc n) others)) (same_line after t.replay line h ∙ e)
       ∙ ap (λ k. Err (k, cause)) (sym number)
 
   -- ---- the verdict

@@ -1,24 +1,25 @@
 -- A check of an event text, line by line.
-use Rattle.std.specs.Prelude.{◌≡◌, ℕ, ℤ, Bool, true, ◌<◌, length, List, [], Option, Some, None, is_some, Result, Ok, Err, ⊤}
+use Rattle.std.specs.Prelude.{◌≡◌, ℕ, ℤ, true, ◌<◌, length, List, [], Option, Some, None, is_some, Result, Ok, Err, ⊤}
 use Rattle.std.proofs.Common.{ap}
 use Rattle.std.specs.Io.KnownBytes.{Appends, Keeps}
 use Rattle.dmc_types.specs.Limits.{max_line_bytes}
 use Rattle.dmc_tag.specs.Tag.{Tagging}
+use Rattle.dmc_text.specs.declared.cause.LineCause.{LineCause}
 use Rattle.dmc_text.specs.declared.cause.LineCause.TheVariants.{Bytes}
 use Rattle.dmc_text.specs.declared.script.ScriptFault.{ScriptFault}
 use Rattle.dmc_text.specs.declared.script.ScriptFault.TheVariants as faults
+use Rattle.dmc_text.specs.declared.event_line.EventLine.{EventLine}
 use Rattle.dmc_text.specs.Answers.{◌>>=◌}
+use Rattle.dmc_text.specs.EventLines.{event_line_of_kind}
 use Rattle.dmc_text.specs.Words.{words}
 use Rattle.dmc_text.specs.LineLaws.{long_kind}
 use Rattle.dmc_text.specs.Texts.{AppendsSome}
 use Rattle.dmc_text.specs.Watching.{failed, IsCalm}
 use Rattle.dmc_text.specs.declared.watched.Watched.{Watched}
 use Rattle.dmc_check.specs.declared.check.Verdict.{Verdict}
-use Rattle.dmc_check.specs.declared.line.EventLine.{EventLine}
 use Rattle.dmc_check.specs.declared.replay.Replay.{Replay}
 use Rattle.dmc_check.specs.declared.text.Checked.{Checked}
-use Rattle.dmc_check.specs.EventLines.{event_of, event_line_of_kind}
-use Rattle.dmc_check.specs.EventTexts.{Recorded, with_line, verdict_text}
+use Rattle.dmc_check.specs.EventTexts.{Recorded, with_line, placed, line_behind, verdict_text}
 use Rattle.dmc_check.specs.Verdicts.{RepresentsEvents, verdict_of}
 
 -- the replay is that of the lines up to now
@@ -28,16 +29,26 @@ Holds ops None (Some replay) = ⊥
 Holds ops (Some r) None = ⊥
 Holds ops (Some r) (Some replay) = RepresentsEvents ops r.config r.events replay
 
+-- how many events were replayed
+abbrev pub replayed : {T : Type 0} → Option (Replay T) → ℕ
+replayed None = 0
+replayed (Some replay) = replay.events
+
+-- the meaning of the next line of a replay
+abbrev pub next_line : {T : Type 0} → (ℤ → ℕ → Option T) → Option (Replay T) → List ℕ → Result (EventLine T) LineCause
+next_line made replay line = line_behind made (is_some replay) (replayed replay) line
+
 -- a line is taken in: its meaning, and that the replay includes it; nothing is to be written for it
 pub record Follows {T : Type 0} (ops : Tagging T) (made : ℤ → ℕ → Option T) (old : Option (Replay T)) (bytes answer : List ℕ) (new : Option (Replay T)) : Type 0 where
   pub line : EventLine T
-  pub is_line : event_of made (is_some old) bytes ≡ Ok line
+  pub is_line : next_line made old bytes ≡ Ok line
   pub holds : (recorded : Option (Recorded T)) → Holds ops recorded old → Holds ops (with_line recorded line) new
   pub silent : answer ≡ []
 
 -- a line that is too long is faulty
-pub long_event : {T : Type 0} (made : ℤ → ℕ → Option T) (headed : Bool) (line : List ℕ) → max_line_bytes < length line → event_of made headed line ≡ Err Bytes
-long_event made headed line h = ap (λ k. k >>= λ x. event_line_of_kind made x (words line)) (long_kind headed line h)
+pub long_event : {T : Type 0} (made : ℤ → ℕ → Option T) (replay : Option (Replay T)) (line : List ℕ) → max_line_bytes < length line → next_line made replay line ≡ Err Bytes
+long_event made replay line h =
+    ap (λ k. (k >>= λ x. event_line_of_kind made (is_some replay) x (words line)) >>= placed (replayed replay)) (long_kind (is_some replay) line h)
 
 -- the result of a replay
 abbrev pub IsChecked : {T : Type 0} → Option (Replay T) → Checked → Type 0

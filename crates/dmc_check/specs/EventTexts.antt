@@ -1,5 +1,5 @@
 -- Whole event texts: what their lines record, and what is written about it.
-use Rattle.std.specs.Prelude.{◌≡◌, ◌≤◌, ℕ, suc, ℤ, List, [], ◌∷◌, ◌++◌, length, IfSome, Option, Some, None, is_some, Result, Ok, Err, codes}
+use Rattle.std.specs.Prelude.{◌≡◌, ◌≤◌, ◌==◌, ℕ, suc, ℤ, Bool, List, [], ◌∷◌, ◌++◌, length, IfSome, Option, Some, None, is_some, Result, Ok, Err, if◌then◌else◌, codes}
 use Rattle.std.specs.Option.{ok_or}
 use Rattle.std.specs.List.{join_with_byte}
 use Rattle.std.specs.Fmt.{decimal}
@@ -8,17 +8,18 @@ use Rattle.dmc_types.specs.Values.{Setting}
 use Rattle.dmc_tag.specs.Tag.{Tagging}
 use Rattle.dmc_tag.specs.declared.event.Event.{Event}
 use Rattle.dmc_text.specs.declared.cause.LineCause.{LineCause}
-use Rattle.dmc_text.specs.declared.cause.LineCause.TheVariants.{Hz}
+use Rattle.dmc_text.specs.declared.cause.LineCause.TheVariants.{Hz, Number}
 use Rattle.dmc_text.specs.declared.script.ScriptFault.{ScriptFault}
 use Rattle.dmc_text.specs.declared.script.ScriptFault.TheVariants as faults
+use Rattle.dmc_text.specs.declared.event_line.EventLine.{EventLine}
+use Rattle.dmc_text.specs.declared.event_line.EventLine.TheVariants.{Skip, Config}
+use Rattle.dmc_text.specs.declared.event_line.EventLine.TheVariants as event_lines
+use Rattle.dmc_text.specs.Answers.{◌>>=◌}
+use Rattle.dmc_text.specs.EventLines.{event_of}
 use Rattle.dmc_text.specs.Reading.{max_bytes}
 use Rattle.dmc_text.specs.Texts.{lines_of, with_line_end, AppendsSome, ReadsWithin}
 use Rattle.dmc_check.specs.declared.check.Verdict.{Verdict}
 use Rattle.dmc_check.specs.declared.check.Verdict.TheVariants.{Replays, Differs}
-use Rattle.dmc_check.specs.declared.line.EventLine.{EventLine}
-use Rattle.dmc_check.specs.declared.line.EventLine.TheVariants.{Skip, Config}
-use Rattle.dmc_check.specs.declared.line.EventLine.TheVariants as event_lines
-use Rattle.dmc_check.specs.EventLines.{event_of}
 use Rattle.dmc_check.specs.Verdicts.{IsVerdict}
 
 -- ---- what a text records
@@ -32,8 +33,25 @@ pub record Recorded (T : Type 0) : Type 0 where
 abbrev pub with_line : {T : Type 0} → Option (Recorded T) → EventLine T → Option (Recorded T)
 with_line r Skip = r
 with_line r (Config config) = Some (record { config = config; events = [] })
+with_line r (event_lines.Segment server first) = r
 with_line None (event_lines.Event event) = None
 with_line (Some r) (event_lines.Event event) = Some (record { config = r.config; events = r.events ++ event ∷ [] })
+
+-- how many events are recorded
+abbrev pub count_of : {T : Type 0} → Option (Recorded T) → ℕ
+count_of None = 0
+count_of (Some r) = length r.events
+
+-- a segment's header comes after as many events as it says
+abbrev pub placed : {T : Type 0} → ℕ → EventLine T → Result (EventLine T) LineCause
+placed count Skip = Ok Skip
+placed count (Config config) = Ok (Config config)
+placed count (event_lines.Segment server first) = if first == count then Ok (event_lines.Segment server first) else Err Number
+placed count (event_lines.Event event) = Ok (event_lines.Event event)
+
+-- the meaning of a line behind this many events; headed: an hz line was read before
+abbrev pub line_behind : {T : Type 0} → (ℤ → ℕ → Option T) → Bool → ℕ → List ℕ → Result (EventLine T) LineCause
+line_behind made headed count line = event_of made headed line >>= placed count
 
 abbrev pub or_fault : {T X : Type 0} → ℕ → Result T LineCause → (T → Result X (ℕ × LineCause)) → Result X (ℕ × LineCause)
 or_fault n (Err cause) more = Err (n, cause)
@@ -43,7 +61,7 @@ or_fault n (Ok line) more = more line
 -- line is faulty after its last line.
 abbrev pub with_lines : {T : Type 0} → (ℤ → ℕ → Option T) → Option (Recorded T) → ℕ → List (List ℕ) → Result (Recorded T) (ℕ × LineCause)
 with_lines made r n [] = ok_or r (n, Hz)
-with_lines made r n (line ∷ lines) = or_fault n (event_of made (is_some r) line) (λ l. with_lines made (with_line r l) (suc n) lines)
+with_lines made r n (line ∷ lines) = or_fault n (line_behind made (is_some r) (count_of r) line) (λ l. with_lines made (with_line r l) (suc n) lines)
 
 -- what a text records; its lines are numbered from 1
 abbrev pub record_of : {T : Type 0} → (ℤ → ℕ → Option T) → List ℕ → Result (Recorded T) (ℕ × LineCause)

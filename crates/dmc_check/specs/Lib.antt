@@ -2,9 +2,9 @@
 pub mod Replaying
 -- Whether recorded events replay.
 pub mod Verdicts
--- The lines of an event text.
-pub mod EventLines
 -- Whole event texts: what their lines record, and what is written about it.
 pub mod EventTexts
 -- A check of an event text, line by line.
 pub mod Checking
+-- The texts of events and of segments, and what they add to what an event text records.
+pub mod SegmentTexts

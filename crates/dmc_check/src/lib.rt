@@ -3,8 +3,8 @@
 
 pub mod check;
 mod ghost_list;
-pub mod line;
 mod replay;
 pub mod replayer;
 mod same;
 pub mod text;
+pub mod write;

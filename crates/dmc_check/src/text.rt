@@ -2,15 +2,14 @@
 ghost use Rattle.std.specs.Prelude.{◌≡◌, Option, None, Some, [], Err, IfOk, OnOk, IsTrue, is_some};
 ghost use Rattle.dmc_text.specs.declared.cause.LineCause.{LineCause};
 ghost use Rattle.dmc_text.specs.Watching.{stream_of, EndsNoted};
-ghost use Rattle.dmc_check.specs.EventLines.{event_of};
-ghost use Rattle.dmc_check.specs.EventTexts.{Recorded, with_line, verdict_text, ChecksAs};
-ghost use Rattle.dmc_check.specs.Checking.{Holds, Follows, IsChecked, WritesVerdict, VerdictNoted, long_event};
+ghost use Rattle.dmc_check.specs.EventTexts.{Recorded, placed, with_line, verdict_text, ChecksAs};
+ghost use Rattle.dmc_check.specs.Checking.{Holds, Follows, IsChecked, WritesVerdict, VerdictNoted, long_event, next_line, replayed};
 
 use crate::check::Verdict;
-use crate::line::{EventLine, read_event_line};
 use crate::replay::Replay;
 use dmc_tag::tag::Tag;
 use dmc_text::cause::LineCause;
+use dmc_text::event_line::{EventLine, read_event_line};
 use dmc_text::script::ScriptFault;
 use dmc_text::send::send;
 use dmc_text::tag::TagText;
@@ -33,6 +32,34 @@ struct Checked {
     events: usize,
 }
 
+/// How many events were replayed.
+fn replayed<T: Tag>(replay: &Option<Replay<T>>) -> usize
+    ensures { result ≡ replayed replay.now }
+{
+    match replay {
+        None => 0,
+        Some(replay) => replay.events(),
+    }
+}
+
+/// A line that comes after this many events. A segment's header has to say so.
+fn placed<T: Copy>(events: usize, line: EventLine<T>) -> Result<EventLine<T>, LineCause>
+    ensures { result ≡ placed events line }
+{
+    match line {
+        EventLine::Segment { first, .. } if first != events as u64 => Err(LineCause::Number),
+        line => Ok(line),
+    }
+}
+
+/// The meaning of the next line.
+fn read_next<T: TagText>(replay: &Option<Replay<T>>, line: &[u8]) -> Result<EventLine<T>, LineCause>
+    ensures { result ≡ next_line T.made replay.now line.now }
+{
+    let line = read_event_line(line, replay.is_some())?;
+    placed(replayed(replay), line)
+}
+
 /// Begins a new replay.
 fn begin<T: TagText>(alloc: Global, replay: &mut Option<Replay<T>>, config: QueueConfig)
     ensures { Holds T.ops (Some (record { config = config; events = [] })) replay.new }
@@ -50,6 +77,7 @@ fn carry_out<T: TagText>(
 {
     match line {
         EventLine::Skip => Ok(()),
+        EventLine::Segment { .. } => Ok(()),
         EventLine::Config(config) => {
             begin(alloc, replay, config);
             Ok(())
@@ -68,7 +96,7 @@ impl<T: TagText> TakesLines for Checking<T> {
 
     ghost takes = { λ s line answer t. Follows T.ops T.made s.replay line answer t.replay };
 
-    ghost refuses = { λ s line cause. event_of T.made (is_some s.replay) line ≡ Err cause };
+    ghost refuses = { λ s line cause. next_line T.made s.replay line ≡ Err cause };
 
     fn is_headed(&self) -> bool {
         self.replay.is_some()
@@ -80,7 +108,7 @@ impl<T: TagText> TakesLines for Checking<T> {
         line: &[u8],
         _out: &mut Vec<u8>,
     ) -> Result<Option<LineCause>, AllocError> {
-        let line = match read_event_line(line, self.replay.is_some()) {
+        let line = match read_next(&self.replay, line) {
             Ok(line) => line,
             Err(cause) => return Ok(Some(cause)),
         };
@@ -88,7 +116,7 @@ impl<T: TagText> TakesLines for Checking<T> {
         Ok(None)
     }
 
-    ghost long = { λ s line. long_event T.made (is_some s.replay) line };
+    ghost long = { λ s line. long_event T.made s.replay line };
 }
 
 impl<T: TagText> Checking<T> {
@@ -161,6 +189,9 @@ fn check_lines<T: TagText, R: Read, W: Write>(
 
 /// Checks an event text. Each event is replayed over an indexed queue, and the verdict is written as a line, `replays N` of N
 /// events, or `differs I`. All of the text is read, also after a difference. No event is kept.
+///
+/// The header of a segment, `# server S first N`, that comes before or after the event N is faulty, for the cause `Number`; so a
+/// text that lacks a segment is.
 pub fn check_text<T: TagText, R: Read, W: Write>(
     alloc: Global,
     reader: &mut Watched<R>,

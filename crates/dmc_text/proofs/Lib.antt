@@ -1,7 +1,9 @@
 pub mod WordLemmas
 pub mod NumberLemmas
 pub mod TextLemmas
+pub mod LineWords
 pub mod ReplyLemmas
+pub mod WrittenLemmas
 pub mod ReadingLemmas
 pub mod PieceLemmas
 pub mod Writable

@@ -8,11 +8,15 @@ pub mod Answers
 pub mod Commands
 -- The lines of a script.
 pub mod Lines
+-- The lines of an event text.
+pub mod EventLines
 -- The texts of tags: a fraction N, or N/D.
 pub mod Tags
 -- The texts of replies: words, separated by one space each.
 pub mod Replies
--- What was written of a reply is read as that reply.
+-- The lines that are written of a configuration, a command, an event and a segment.
+pub mod Written
+-- What was written of a reply, a configuration, a command, an event or a segment's header is read as that.
 pub mod RoundTrip
 -- Whole texts: their lines, what they mean, and what is written for them.
 pub mod Texts

@@ -1,8 +1,9 @@
-//! The texts of scripts and replies: their words and numbers, lines, and the text of each reply.
+//! The texts of scripts, replies and events: their words and numbers, their lines, read and written.
 #![tactic(auto)]
 
 pub mod cause;
 pub mod command;
+pub mod event_line;
 pub mod examples;
 pub mod line;
 pub mod lines;
@@ -16,3 +17,4 @@ pub mod walk;
 pub mod watched;
 pub mod word;
 pub mod write;
+pub mod write_line;

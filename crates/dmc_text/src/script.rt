@@ -4,7 +4,7 @@ ghost use Rattle.std.specs.Option.{option_map};
 ghost use Rattle.dmc_tag.specs.State.{Represents, opening};
 ghost use Rattle.dmc_tag.specs.Step.{step};
 ghost use Rattle.dmc_text.specs.Lines.{line_of};
-ghost use Rattle.dmc_text.specs.Replies.{IsWritable, reply_text, tag_text};
+ghost use Rattle.dmc_text.specs.Replies.{reply_text, tag_text};
 ghost use Rattle.dmc_text.specs.Texts.{with_line_end, value_text, headed_by, written, RunsAs};
 ghost use Rattle.dmc_text.specs.Walks.{IsCut};
 ghost use Rattle.dmc_text.specs.Watching.{stream_of, SendsNoted};
@@ -64,7 +64,6 @@ fn put_line(text: &[u8], out: &mut Vec<u8>) -> Result<(), AllocError>
 
 /// Adds the line of a reply. Where the allocation fails, nothing is left to write.
 fn put_reply<T: TagText>(reply: &Reply<T>, out: &mut Vec<u8>) -> Result<(), AllocError>
-    requires { IsWritable reply.now }
     ensures ok { OnOk result (out.new.items ≡ out.old.items ++ with_line_end (reply_text (tag_text T.numerator T.denominator) reply.now)) }
     ensures err { OnErr result (IsCut out.old.items out.new.items) }
 {

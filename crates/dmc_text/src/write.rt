@@ -2,7 +2,7 @@
 ghost use Rattle.std.specs.Prelude.{◌≡◌, ◌∷◌, [], ◌<◌, ◌^◌, Some, OnOk, codes};
 ghost use Rattle.std.specs.List.{join_with_byte};
 ghost use Rattle.std.specs.Io.KnownBytes.{Appends};
-ghost use Rattle.dmc_text.specs.Replies.{refusal_words, tag_text, reply_text, IsWritable, IsPhase, word_text, tag_word as word_of, grant_words};
+ghost use Rattle.dmc_text.specs.Replies.{refusal_words, tag_text, reply_text, IsWritable, word_text, tag_word as word_of, grant_words};
 ghost use Rattle.dmc_text.specs.RoundTrip.{ReadsAgain, ReadsEach, IsReadBack};
 ghost use Rattle.dmc_tag.specs.declared.reply.Reply.TheVariants.{Tagged};
 ghost use Rattle.std.specs.Fmt.{decimal};
@@ -81,7 +81,6 @@ fn write_tags<T: TagText, W: io::Write>(tags: Tags<T>, out: &mut W) -> io::Resul
 
 /// The end of a grant's text.
 fn phase_text(phase: PhaseType, beyond: bool) -> &'static str
-    requires { IsPhase phase beyond }
     ensures { result.now ≡ join_with_byte 32 (grant_words phase beyond) }
 {
     match phase {
@@ -104,7 +103,6 @@ fn write_grant<W: io::Write>(
     beyond: bool,
     out: &mut W,
 ) -> io::Result<()>
-    requires { IsPhase phase beyond }
     ensures text { OnOk result (Appends (W.contents out.old) (W.contents out.new)
         (join_with_byte 32 (codes "grant" ∷ decimal client.0 ∷ decimal token.0 ∷ grant_words phase beyond))) }
     ensures ids { (client.0 < 2 ^ 32) × (token.0 < 2 ^ 32) }
@@ -138,11 +136,12 @@ fn write_cleaned<W: io::Write>(idled: u32, erased: u32, out: &mut W) -> io::Resu
 }
 
 /// Writes the text of a reply, without its LF. Where the writer fails, a part of it may have been written.
+///
+/// A grant by reservation is never beyond its limit. One that says so is written without it.
 pub fn write_reply<T: TagText, W: io::Write>(reply: &Reply<T>, out: &mut W) -> io::Result<()>
-    requires { IsWritable reply.now }
     ensures text { OnOk result
         (Appends (W.contents out.old) (W.contents out.new) (reply_text (tag_text T.numerator T.denominator) reply.now)) }
-    ensures again { IsReadBack T.made (tag_text T.numerator T.denominator) reply.now }
+    ensures again { IsWritable reply.now → IsReadBack T.made (tag_text T.numerator T.denominator) reply.now }
 {
     match *reply {
         Reply::Registered => out.write_all(b"ok"),

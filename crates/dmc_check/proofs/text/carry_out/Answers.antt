@@ -5,6 +5,9 @@ use Rattle.dmc_check.proofs.text.carry_out.Goals as goal
 pub returns-in-Skip : goal.returns-in-Skip
 returns-in-Skip g c = rw (c.in-Skip.is) (λ recorded h. h)
 
+pub returns-in-Segment : goal.returns-in-Segment
+returns-in-Segment g c = rw (c.in-Segment.is) (λ recorded h. h)
+
 pub returns-in-Config : goal.returns-in-Config
 returns-in-Config g c = rw (c.in-Config.is) (λ recorded h. c.begin.ensures)
 

@@ -1,5 +1,5 @@
 -- What a command that is handed to the queue gives.
-use Rattle.std.proofs.Common.{◌≡◌, ℕ, Bool, true, true≢false, List, map, ap, ◌∙◌, refl, sym, subst, Some, Result, Ok, Err}
+use Rattle.std.proofs.Common.{◌≡◌, ℕ, Bool, true, true≢false, List, ap, ◌∙◌, refl, sym, subst, Some, Result, Ok, Err}
 use Rattle.std.specs.Prelude.{⊤, Option, None, is_some}
 use Rattle.std.specs.Cmp.{IsTotalOrder}
 use Rattle.dmc_types.specs.declared.ids.ClientId.{ClientId}
@@ -21,13 +21,12 @@ use Rattle.dmc_tag.specs.declared.reply.Reply.{Reply}
 use Rattle.dmc_tag.specs.declared.reply.Reply.TheVariants.{Registered, Updated, Tagged, Granted, Later, Nothing, Removed, Cleaned, Refused}
 use Rattle.dmc_tag.proofs.Agreement.{represents_itself}
 use Rattle.dmc_tag.proofs.ForCallers.{pull_grants, steps_exactly, steps_agree}
-use Rattle.dmc_ledger.specs.Bundles.{ClientSide, GrantHoldings, client_side}
-use Rattle.dmc_ledger.specs.declared.desk.ClientDesk.{ClientDesk}
+use Rattle.dmc_ledger.specs.Bundles.{ClientSide, GrantHoldings}
 use Rattle.dmc_pull.specs.Allowed.{is_allowed, PullsIf}
 use Rattle.dmc_pull.specs.declared.granting.PullFault.TheVariants as pull
 use Rattle.dmc_book.specs.declared.fault.RunFault.{RunFault}
 use Rattle.dmc_book.specs.declared.fault.RunFault.TheVariants as run
-use Rattle.dmc_book.specs.Calls.{Asks, Strays}
+use Rattle.dmc_book.specs.Calls.{IsOfDeclined, Asks, Strays}
 use Rattle.dmc_types.specs.Values.{Setting}
 use Rattle.dmc_tag.specs.declared.event.Event.{Event}
 use Rattle.dmc_book.specs.Consistent.{HasDesk, IsReplayed}
@@ -38,12 +37,21 @@ use Rattle.dmc_book.specs.Moves.{desk_place, takes, takes_at, place_of, same_pla
 
 -- ---- a pull
 
-module _ {T : Type 0} (ops : Tagging T) (order : IsTotalOrder ops.compare) (allows : ClientId → PhaseType → Bool) (old new : State T) (at : ℕ) where
-  pub pull_answers : (pulled : Pulled) → PullsIf allows ops old new at (Ok pulled) → Asks ops allows old new (Pull at) (Ok (pull_reply pulled))
+module _ {T : Type 0} (ops : Tagging T) (order : IsTotalOrder ops.compare) (behind : Type 0) (allows : ClientId → PhaseType → Bool) (old new : State T) (at : ℕ) where
+  pub pull_answers : (pulled : Pulled) → PullsIf allows ops old new at (Ok pulled) → Asks ops behind allows old new (Pull at) (Ok (pull_reply pulled))
   pull_answers pulled h = (steps_exactly ops order old new (Pull at) (Some (pull_reply pulled)) h.0, h.1, λ s. true≢false (sym h.1 ∙ s))
 
-  pull_refused : (refusal : Refusal) → PullsIf allows ops old new at (Err (pull.Refused refusal)) → Asks ops allows old new (Pull at) (Ok (Refused refusal))
+  pull_refused : (refusal : Refusal) → PullsIf allows ops old new at (Err (pull.Refused refusal)) → Asks ops behind allows old new (Pull at) (Ok (Refused refusal))
   pull_refused refusal h = (steps_exactly ops order old new (Pull at) (Some (Refused refusal)) h, refl, λ s. true≢false s)
+
+-- a pull that the units can't take
+pub pull_declined : {T : Type 0} (ops : Tagging T) (behind : Type 0) (allows : ClientId → PhaseType → Bool) (old new : State T) (at : ℕ) (fault : RunFault)
+    → PullsIf allows ops old new at (Err pull.Declined) → IsOfDeclined behind fault → Asks ops behind allows old new (Pull at) (Err fault)
+pull_declined ops behind allows old new at run.Stranger h why = (h.0, h.1, why)
+pull_declined ops behind allows old new at run.Behind h why = (h.0, h.1, why)
+pull_declined ops behind allows old new at run.NoDesk h why = absurd why
+pull_declined ops behind allows old new at run.HistoryFull h why = absurd why
+pull_declined ops behind allows old new at run.Memory h why = absurd why
 
 -- a pull is refused for Range alone
 
@@ -58,16 +66,16 @@ is_range ops t old new (Removed count) h refusal e = absurd h
 is_range ops t old new (Cleaned idled erased) h refusal e = absurd h
 is_range ops t old new (Refused other) h refusal e = let same : other ≡ refusal = cc in sym same ∙ h.0
 
-module _ {T : Type 0} (ops : Tagging T) (fraction : T → Fraction) (is_value : Fraction → Type 0) (exact : IsExact ops fraction is_value) (order : IsTotalOrder ops.compare) (allows : ClientId → PhaseType → Bool) (old new : State T) (at : ℕ) where
-  pub pull_out_of_range : (refusal : Refusal) → PullsIf allows ops old new at (Err (pull.Refused refusal)) → Asks ops allows old new (Pull at) (Ok (Refused Range))
+module _ {T : Type 0} (ops : Tagging T) (fraction : T → Fraction) (is_value : Fraction → Type 0) (exact : IsExact ops fraction is_value) (order : IsTotalOrder ops.compare) (behind : Type 0) (allows : ClientId → PhaseType → Bool) (old new : State T) (at : ℕ) where
+  pub pull_out_of_range : (refusal : Refusal) → PullsIf allows ops old new at (Err (pull.Refused refusal)) → Asks ops behind allows old new (Pull at) (Ok (Refused Range))
   pull_out_of_range refusal h =
       let reply : (step ops old (Pull at)).1 ≡ Refused refusal = ap (λ p. p.1) (sym h) in
-      subst (λ r. Asks ops allows old new (Pull at) (Ok (Refused r))) (is_range ops (effective old at) old _ _ (pull_grants ops fraction is_value exact order old at) refusal reply)
-      (pull_refused ops order allows old new at refusal h)
+      subst (λ r. Asks ops behind allows old new (Pull at) (Ok (Refused r))) (is_range ops (effective old at) old _ _ (pull_grants ops fraction is_value exact order old at) refusal reply)
+      (pull_refused ops order behind allows old new at refusal h)
 
 -- ---- a command that is no pull grants nothing
 
-module _ {T : Type 0} (ops : Tagging T) (allows : ClientId → PhaseType → Bool) (s : State T) where
+module _ {T : Type 0} (ops : Tagging T) (behind : Type 0) (allows : ClientId → PhaseType → Bool) (s : State T) where
   abbrev Passes : Outcome T → Type 0
   Passes o = is_allowed allows ((answer_of s o).1) ≡ true
 
@@ -91,7 +99,7 @@ module _ {T : Type 0} (ops : Tagging T) (allows : ClientId → PhaseType → Boo
   passes (Remove client) other = after_test (can_remove s client) _ (λ x. refl)
   passes (Clean at) other = refl
 
-  pub no_pull : (new : State T) (command : Command) (reply : Reply T) → ((at : ℕ) → command ≡ Pull at → ⊥) → Steps ops s new command (Some reply) → Asks ops allows s new command (Ok reply)
+  pub no_pull : (new : State T) (command : Command) (reply : Reply T) → ((at : ℕ) → command ≡ Pull at → ⊥) → Steps ops s new command (Some reply) → Asks ops behind allows s new command (Ok reply)
   no_pull new (Register client info at) reply other steps = (steps, ap (is_allowed allows) (steps s (represents_itself s)).0 ∙ passes (Register client info at) tt, λ x. x)
   no_pull new (Update client info at) reply other steps = (steps, ap (is_allowed allows) (steps s (represents_itself s)).0 ∙ passes (Update client info at) tt, λ x. x)
   no_pull new (Add client token params at) reply other steps = (steps, ap (is_allowed allows) (steps s (represents_itself s)).0 ∙ passes (Add client token params at) tt, λ x. x)
@@ -101,9 +109,10 @@ module _ {T : Type 0} (ops : Tagging T) (allows : ClientId → PhaseType → Boo
 
 -- ---- what a book keeps where nothing is answered
 
-module _ {T : Type 0} (ops : Tagging T) (order : IsTotalOrder ops.compare) (allows : ClientId → PhaseType → Bool) (q p : State T) (config : Setting) (history : List (Event T)) (command : Command) (h : IsReplayed ops q config history) where
-  pub replayed_unasked : (fault : RunFault) → Asks ops allows q p command (Err fault) → IsReplayed ops p config history
+module _ {T : Type 0} (ops : Tagging T) (order : IsTotalOrder ops.compare) (behind : Type 0) (allows : ClientId → PhaseType → Bool) (q p : State T) (config : Setting) (history : List (Event T)) (command : Command) (h : IsReplayed ops q config history) where
+  pub replayed_unasked : (fault : RunFault) → Asks ops behind allows q p command (Err fault) → IsReplayed ops p config history
   replayed_unasked run.Stranger a = subst (λ s. IsReplayed ops s config history) (sym a.0) h
+  replayed_unasked run.Behind a = subst (λ s. IsReplayed ops s config history) (sym a.0) h
   replayed_unasked run.NoDesk a = absurd a
   replayed_unasked run.HistoryFull a = absurd a
   replayed_unasked run.Memory a = replayed_memory ops q p config history h command a
@@ -111,10 +120,10 @@ module _ {T : Type 0} (ops : Tagging T) (order : IsTotalOrder ops.compare) (allo
   abbrev reply : Reply T
   reply = (step ops (after ops config history) command).1
 
-  pub strays_by_history : Asks ops allows q p command (Err run.Stranger) → Strays allows command reply
-  strays_by_history a = subst (Strays allows command) (steps_agree ops order q (after ops config history) command h.represents).0 a.1
+  pub strays_by_history : Strays allows command ((step ops q command).1) → Strays allows command reply
+  strays_by_history strays = subst (Strays allows command) (steps_agree ops order q (after ops config history) command h.represents).0 strays
 
-  pub granted_by_history : (answer : Reply T) → Asks ops allows q p command (Ok answer) → Strays allows command reply → ⊥
+  pub granted_by_history : (answer : Reply T) → Asks ops behind allows q p command (Ok answer) → Strays allows command reply → ⊥
   granted_by_history answer a s = a.2 (subst (Strays allows command) (sym (reply_after ops q p config history h command answer a.0)) s)
 
 -- ---- who is granted has a desk

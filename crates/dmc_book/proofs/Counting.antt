@@ -1,8 +1,8 @@
 -- What accounts and a book keep, one event later.
-use Rattle.std.proofs.Common.{◌≡◌, ℕ, ◌+◌, ◌*◌, ◌≤◌, ◌<◌, ◌^◌, Bool, true, false, List, [], ◌∷◌, ◌++◌, map, drop, length, length-append, ap, ◌∙◌, refl, sym, subst, Option, Some, None, arith}
-use Rattle.std.specs.Prelude.{◌==◌, if◌then◌else◌, is_some}
-use Rattle.std.specs.List.{AllByRecursion}
-use Rattle.std.proofs.lemmas.List.{drop-append-le, length-map}
+use Rattle.std.proofs.Common.{◌≡◌, ℕ, ◌+◌, ◌*◌, ◌≤◌, ◌<◌, ◌^◌, Bool, true, false, List, [], ◌∷◌, ◌++◌, map, drop, length, length-append, ap, ◌∙◌, refl, sym, subst, zero, suc, Option, Some, None, slice_index_or, arith}
+use Rattle.std.specs.Prelude.{◌==◌, ◌||◌, nat_lt, if◌then◌else◌, is_some}
+use Rattle.std.specs.List.{AllByRecursion, list_any}
+use Rattle.std.proofs.lemmas.List.{drop-append-le, get_or-map, length-map}
 use Rattle.dmc_types.specs.declared.ids.ClientId.{ClientId}
 use Rattle.dmc_types.specs.declared.config.PhaseType.{PhaseType}
 use Rattle.dmc_types.specs.declared.config.PhaseType.TheVariants.{Reservation, Priority}
@@ -21,11 +21,11 @@ use Rattle.dmc_ledger.specs.Accounts.{Account, total_of}
 use Rattle.dmc_ledger.specs.Bundles.{ClientSide}
 use Rattle.dmc_ledger.specs.Moves.{after_issue}
 use Rattle.dmc_book.specs.declared.counts.Numbers.{Numbers}
-use Rattle.dmc_book.specs.Counts.{count, numbers_of, no_numbers, worker_adds, stamps_added, delta_added, rho_added, grants_added, units_for, grant_in, is_miss, one_if, IsSmall}
-use Rattle.dmc_book.specs.BookState.{AccountsState, WorkerSide, accounts_of, state_of}
-use Rattle.dmc_book.specs.Consistent.{AreConsistent, AreTokensFit, IsCounted, IsReplayed, IsWorker, IsDesk, AreWorkersApart, AreClientsApart, AreWithin, AreGrantsWithin, HasDesk, max_before}
+use Rattle.dmc_book.specs.Counts.{accepted, count, numbers_of, no_numbers, worker_adds, stamps_added, delta_added, rho_added, grants_added, units_for, grant_in, is_miss, one_if, IsSmall}
+use Rattle.dmc_book.specs.BookState.{AccountsState, WorkerSide, accounts_of, no_desk, state_of}
+use Rattle.dmc_book.specs.Consistent.{AreConsistent, AreTokensFit, IsCounted, IsReplayed, IsWorker, IsDesk, AreWorkersApart, AreClientsApart, AreDesks, AreWithin, AreGrantsWithin, HasDesk, IsSeated, max_before, reaching}
 use Rattle.dmc_book.specs.Moves.{accounts_after, book_after, worker_after, desk_after}
-use Rattle.dmc_tag.proofs.Lists.{all_as, all_mapped, position_map}
+use Rattle.dmc_tag.proofs.Lists.{all_as, all_mapped, all_next, position_map}
 
 -- ---- the counts
 
@@ -33,7 +33,7 @@ small_adds : (n : Numbers) → IsSmall n → (b : Bool) → IsSmall (if b then n
 small_adds n h true = h
 small_adds n h false = record { calls = omega arith; misses = omega arith; tokens = omega arith; grants = omega arith; granted = omega arith }
 
-one_at_most : (b : Bool) → one_if b ≤ 1
+pub one_at_most : (b : Bool) → one_if b ≤ 1
 one_at_most true = omega arith
 one_at_most false = omega arith
 
@@ -74,8 +74,8 @@ module _ {T : Type 0} where
     granted = since_more (λ e. (worker_adds w.worker e).granted) es e w.renewed 1 w.books.granted h.renewed h.granted;
   }
 
-  desk_more : (es : List (Event T)) (e : Event T) (server workers : ℕ) (d : ClientSide) → IsDesk es server workers d → IsDesk (es ++ e ∷ []) server workers (desk_after e d)
-  desk_more es e server workers d h = record {
+  desk_more : (es : List (Event T)) (e : Event T) (server passes : ℕ) (d : ClientSide) → IsDesk es server passes d → IsDesk (es ++ e ∷ []) server passes (desk_after e d)
+  desk_more es e server passes d h = record {
     its_server = h.its_server;
     stamps = amount_more (stamps_added d.client) es e _ h.stamps;
     delta = amount_more (delta_added d.client) es e _ h.delta;
@@ -83,6 +83,16 @@ module _ {T : Type 0} where
     reservation = counted_more (grants_added d.client Reservation) es e _ d.books.reservation h.reservation;
     priority = counted_more (grants_added d.client Priority) es e _ d.books.priority h.priority;
   }
+
+  -- an event leaves what a pass reaches
+  reaching_same : (e : Event T) (k : ℕ) (ws : List WorkerSide) → reaching k (map (worker_after e) ws) ≡ reaching k ws
+  reaching_same e k [] = refl
+  reaching_same e k (w ∷ ws) = ap (λ n. one_if (nat_lt k w.reach) + n) (reaching_same e k ws)
+
+  desks_more : (es : List (Event T)) (e : Event T) (server : ℕ) (ws : List WorkerSide) (ds : List ClientSide) → AreDesks es server ws ds → AreDesks (es ++ e ∷ []) server (map (worker_after e) ws) (map (desk_after e) ds)
+  desks_more es e server ws ds h k l =
+      let within : k < length ds = omega (arith, l, length-map ds (desk_after e)) in
+      rw (reaching_same e k ws, get_or-map (desk_after e) ds k no_desk no_desk within) (desk_more es e server (reaching k ws) (slice_index_or ds k no_desk) (h k within))
 
   -- ---- no total can pass a book's 2^63
 
@@ -96,6 +106,11 @@ module _ {T : Type 0} where
 
   one_each : (worker : ℕ) (e : Event T) → ((worker_adds worker e).calls ≤ 1) × ((worker_adds worker e).misses ≤ 1) × ((worker_adds worker e).grants ≤ 1)
   one_each worker e = one_of (numbers_of e.command e.reply) (omega arith) (one_at_most (is_miss e.reply)) (one_at_most (is_some (grant_in e.reply))) (e.worker.0 == worker)
+
+-- what holds of the desk at each place holds of all
+all_of : (P : ClientSide → Type 0) (ds : List ClientSide) → ((k : ℕ) → k < length ds → P (slice_index_or ds k no_desk)) → AllByRecursion P ds
+all_of P [] h = tt
+all_of P (d ∷ ds) h = (h zero (omega arith), all_of P ds (λ k l. h (suc k) (omega (arith, l))))
 
 module _ {T : Type 0} (a : AccountsState T) (h : AreConsistent a) (fewer : length a.history < a.most) where
   short : length a.history ≤ 2 ^ 62 + 2 ^ 30
@@ -120,11 +135,14 @@ module _ {T : Type 0} (a : AccountsState T) (h : AreConsistent a) (fewer : lengt
   pub workers_fit : AllByRecursion (λ w. AreWithin max_before w.books) a.workers
   workers_fit = all_fit a.workers h.workers h.tokens_fit
 
-  pub desks_fit : AllByRecursion (λ d. AreGrantsWithin max_before d.books) a.desks
-  desks_fit = all_as _ _ (λ d is. record {
+  desk_fits : (passes : ℕ) (d : ClientSide) → IsDesk a.history a.server passes d → AreGrantsWithin max_before d.books
+  desk_fits passes d is = record {
     reservation = few_fit _ (λ e. unit_at_most d.client Reservation (grant_in e.reply)) a.history _ d.books.reservation short is.reservation;
     priority = few_fit _ (λ e. unit_at_most d.client Priority (grant_in e.reply)) a.history _ d.books.priority short is.priority;
-  }) a.desks h.desks
+  }
+
+  pub desks_fit : AllByRecursion (λ d. AreGrantsWithin max_before d.books) a.desks
+  desks_fit = all_of (λ d. AreGrantsWithin max_before d.books) a.desks (λ k l. desk_fits (reaching k a.workers) (slice_index_or a.desks k no_desk) (h.desks k l))
 
 module _ {T : Type 0} where
   -- ---- who is who
@@ -137,15 +155,19 @@ module _ {T : Type 0} where
   clients_apart e [] h = tt
   clients_apart e (d ∷ ds) h = (all_mapped _ _ (desk_after e) (λ o a. a) ds h.0, clients_apart e ds h.1)
 
-  -- ---- who is granted has a desk, which stays
+  -- ---- who has a desk keeps it, and who is enrolled stays so
 
-  desk_stays : (e : Event T) (ds : List ClientSide) (o : Option (ClientId × PhaseType)) → HasDesk ds o → HasDesk (map (desk_after e) ds) o
+  desk_stays : {X : Type 0} (e : Event T) (ds : List ClientSide) (o : Option (ClientId × X)) → HasDesk ds o → HasDesk (map (desk_after e) ds) o
   desk_stays e ds None h = tt
-  desk_stays e ds (Some grant) h = ap (λ place. is_some place) (position_map (desk_after e) (λ d. grant.0.0 == d.client) ds) ∙ h
+  desk_stays e ds (Some its) h = ap (λ place. is_some place) (position_map (desk_after e) (λ d. its.0.0 == d.client) ds) ∙ h
 
-  granted_more : (e : Event T) (ds : List ClientSide) (es : List (Event T)) → AllByRecursion (λ e. HasDesk ds (grant_in e.reply)) es → HasDesk ds (grant_in e.reply) → AllByRecursion (λ x. HasDesk (map (desk_after e) ds) (grant_in x.reply)) (es ++ e ∷ [])
-  granted_more e ds [] h last = (desk_stays e ds (grant_in e.reply) last, tt)
-  granted_more e ds (x ∷ es) h last = (desk_stays e ds (grant_in x.reply) h.0, granted_more e ds es h.1 last)
+  seat_stays : (e : Event T) (n : ℕ) (ws : List WorkerSide) → list_any (λ w. n == w.worker) (map (worker_after e) ws) ≡ list_any (λ w. n == w.worker) ws
+  seat_stays e n [] = refl
+  seat_stays e n (w ∷ ws) = ap (λ b. (n == w.worker) || b) (seat_stays e n ws)
+
+  -- what holds of each event, and stays, holds of one more
+  each_more : (P Q : Event T → Type 0) → ((x : Event T) → P x → Q x) → (es : List (Event T)) (e : Event T) → AllByRecursion P es → P e → AllByRecursion Q (es ++ e ∷ [])
+  each_more P Q stays es e h last = all_next Q es e (all_as P Q stays es h) (stays e last)
 
 -- ---- one event more
 
@@ -158,22 +180,40 @@ module _ {T : Type 0} (e : Event T) where
   -- what was written to the parts of accounts is consistent
   pub consistent_recorded : (a : AccountsState T) (h : Segmented (Event T)) (workers : List WorkerSide) (desks : List ClientSide)
       → h.events ≡ a.history ++ e ∷ [] → h.first ≡ a.first → h.most ≡ a.most → workers ≡ map (worker_after e) a.workers → desks ≡ map (desk_after e) a.desks
-      → IsSmall (numbers_of e.command e.reply) → HasDesk a.desks (grant_in e.reply) → AreConsistent a → AreConsistent (accounts_of a.server h workers desks)
-  consistent_recorded a h workers desks events first most ws ds small granted was =
+      → IsSmall (numbers_of e.command e.reply) → HasDesk a.desks (grant_in e.reply) → HasDesk a.desks (accepted e) → IsSeated a.workers e.worker.0 → AreConsistent a → AreConsistent (accounts_of a.server h workers desks)
+  consistent_recorded a h workers desks events first most ws ds small granted queued seated was =
       let long : length (a.history ++ e ∷ []) ≡ length a.history + 1 = length-append a.history (e ∷ []) in
       let as_many : length (map (worker_after e) a.workers) ≡ length a.workers = length-map a.workers (worker_after e) in
       let same : AreConsistent (accounts_after e a) = record {
         workers = all_mapped _ _ (worker_after e) (worker_more a.history e) a.workers was.workers;
-        desks = subst (λ (n : ℕ). AllByRecursion (IsDesk (a.history ++ e ∷ []) a.server n) (map (desk_after e) a.desks)) (sym as_many) (all_mapped _ _ (desk_after e) (desk_more a.history e a.server (length a.workers)) a.desks was.desks);
+        desks = desks_more a.history e a.server a.workers a.desks was.desks;
+        reach = all_mapped _ _ (worker_after e) (λ w l. omega (arith, l, length-map a.desks (desk_after e))) a.workers was.reach;
         workers_apart = workers_apart e a.workers was.workers_apart;
         clients_apart = clients_apart e a.desks was.clients_apart;
-        granted = granted_more e a.desks a.history was.granted granted;
+        granted = each_more _ _ (λ x. desk_stays e a.desks (grant_in x.reply)) a.history e was.granted granted;
+        queued = each_more _ _ (λ x. desk_stays e a.desks (accepted x)) a.history e was.queued queued;
+        seated = each_more _ _ (λ x is. seat_stays e x.worker.0 a.workers ∙ is) a.history e was.seated seated;
         tokens_fit = subst (λ (n : ℕ). AllByRecursion (λ w. AreTokensFit a.first n w.books) (map (worker_after e) a.workers)) (sym long) (all_mapped _ _ (worker_after e) (λ w. tokens_more a.first (length a.history) w small) a.workers was.tokens_fit);
         within = omega (arith, was.within, long);
         few = was.few;
         limit = was.limit;
+        few_workers = omega (arith, was.few_workers, as_many);
       } in
-      rw (events, first, most, ws, ds) (record { workers = same.workers; desks = same.desks; workers_apart = same.workers_apart; clients_apart = same.clients_apart; granted = same.granted; tokens_fit = same.tokens_fit; within = same.within; few = same.few; limit = same.limit })
+      rw (events, first, most, ws, ds) (record {
+        workers = same.workers;
+        desks = same.desks;
+        reach = same.reach;
+        workers_apart = same.workers_apart;
+        clients_apart = same.clients_apart;
+        granted = same.granted;
+        queued = same.queued;
+        seated = same.seated;
+        tokens_fit = same.tokens_fit;
+        within = same.within;
+        few = same.few;
+        limit = same.limit;
+        few_workers = same.few_workers;
+      })
 
 -- ---- the queue
 

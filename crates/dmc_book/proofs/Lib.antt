@@ -2,7 +2,10 @@ mod AskLemmas
 mod Causes
 mod Counting
 mod DeskLemmas
+mod EnrollingLemmas
+mod ExtendingLemmas
 mod GrantLemmas
+mod JoiningLemmas
 mod OpeningLemmas
 mod RenewingLemmas
 mod RotatingLemmas

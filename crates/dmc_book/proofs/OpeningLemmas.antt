@@ -1,8 +1,9 @@
 -- A queue's book that is made is consistent, and what opens it worker by worker.
 use Rattle.std.proofs.Common.{◌≡◌, ℕ, zero, suc, ◌+◌, ◌*◌, ◌<◌, ◌≤◌, ◌^◌, ◌||◌, Bool, true, false, true≢false, List, [], ◌∷◌, ◌++◌, length, map, take, drop, get_or, refl, sym, ap, ◌∙◌, subst, arith}
-use Rattle.std.specs.Prelude.{◌==◌}
+use Rattle.std.specs.Prelude.{◌==◌, nat_lt, slice_index_or}
 use Rattle.std.specs.List.{AllByRecursion, list_any}
-use Rattle.std.proofs.lemmas.List.{length-map, length-take-le, map-append, take_more, take-append-drop}
+use Rattle.std.proofs.lemmas.Bool.{lt-ltb}
+use Rattle.std.proofs.lemmas.List.{get_or-map, length-map, length-take-le, map-append, take_more, take-append-drop}
 use Rattle.indexmap.specs.IndexSet.{insert_key}
 use Rattle.dmc_types.specs.Values.{Setting}
 use Rattle.dmc_types.specs.declared.ids.ClientId.{ClientId}
@@ -15,7 +16,9 @@ use Rattle.dmc_ledger.specs.Accounts.{Account, new_book}
 use Rattle.dmc_ledger.specs.Bundles.{ClientSide, client_side, new_client_side}
 use Rattle.dmc_ledger.specs.declared.desk.ClientDesk.{ClientDesk}
 use Rattle.dmc_book.specs.BookState.{PassState, WorkerSide, no_desk}
-use Rattle.dmc_book.specs.Consistent.{AreConsistent, AreTokensFit, IsCounted, IsReplayed, IsWorker, IsDesk, AreWorkersApart, AreClientsApart}
+use Rattle.dmc_book.specs.Counts.{one_if}
+use Rattle.dmc_book.specs.Consistent.{AreConsistent, AreTokensFit, IsCounted, IsReplayed, IsWorker, IsDesk, AreDesks, AreWorkersApart, AreClientsApart, reaching}
+use Rattle.dmc_book.specs.Joining.{id_of}
 use Rattle.dmc_book.specs.Opening.{AreApart, AreNamedOnce, HaveRoom, IsNewDesk, desk_with_tills, with_tills, new_unit, new_worker, new_workers, new_pass, new_passes, new_accounts_state}
 use Rattle.std.proofs.lemmas.Bool.{or_parts}
 
@@ -113,9 +116,9 @@ module _ {T : Type 0} where
   desk_counted : (server k : ℕ) (d : ClientSide) → IsNewDesk server d → IsDesk {T = T} [] server k (desk_with_tills k d)
   desk_counted server k d h = subst (λ (x : ClientSide). IsDesk {T = T} [] server k (desk_with_tills k x)) (sym h.1) (opened_desk d.client server h.0 k)
 
-workers_counted : (T : Type 0) (n : ℕ) (ws : List WorkerId) → AllByRecursion (IsWorker {T = T} []) (new_workers n ws)
-workers_counted T n [] = tt
-workers_counted T n (w ∷ ws) = (
+workers_counted : (T : Type 0) (r n : ℕ) (ws : List WorkerId) → AllByRecursion (IsWorker {T = T} []) (new_workers r n ws)
+workers_counted T r n [] = tt
+workers_counted T r n (w ∷ ws) = (
   record {
     calls = new_counted _ n;
     misses = new_counted _ (n + 1);
@@ -124,55 +127,86 @@ workers_counted T n (w ∷ ws) = (
     grants = new_counted _ (n + 3);
     granted = new_counted _ (n + 4);
   },
-  workers_counted T (n + 5) ws,
+  workers_counted T r (n + 5) ws,
 )
 
-others_apart : (n : ℕ) (w : WorkerId) (ws : List WorkerId) → AllByRecursion (λ (o : WorkerId). (o.0 == w.0) ≡ false) ws → AllByRecursion (λ (o : WorkerSide). (o.worker == w.0) ≡ false) (new_workers n ws)
-others_apart n w [] h = tt
-others_apart n w (v ∷ ws) h = (h.0, others_apart (n + 5) w ws h.1)
+others_apart : (r n : ℕ) (w : WorkerId) (ws : List WorkerId) → AllByRecursion (λ (o : WorkerId). (o.0 == w.0) ≡ false) ws → AllByRecursion (λ (o : WorkerSide). (o.worker == w.0) ≡ false) (new_workers r n ws)
+others_apart r n w [] h = tt
+others_apart r n w (v ∷ ws) h = (h.0, others_apart r (n + 5) w ws h.1)
 
-opened_workers_apart : (n : ℕ) (ws : List WorkerId) → AreApart (λ (w : WorkerId). w.0) ws → AreWorkersApart (new_workers n ws)
-opened_workers_apart n [] h = tt
-opened_workers_apart n (w ∷ ws) h = (others_apart (n + 5) w ws h.0, opened_workers_apart (n + 5) ws h.1)
+opened_workers_apart : (r n : ℕ) (ws : List WorkerId) → AreApart (λ (w : WorkerId). w.0) ws → AreWorkersApart (new_workers r n ws)
+opened_workers_apart r n [] h = tt
+opened_workers_apart r n (w ∷ ws) h = (others_apart r (n + 5) w ws h.0, opened_workers_apart r (n + 5) ws h.1)
 
 opened_clients_apart : (k : ℕ) (ds : List ClientSide) → AreApart (λ (d : ClientSide). d.client) ds → AreClientsApart (map (desk_with_tills k) ds)
 opened_clients_apart k [] h = tt
 opened_clients_apart k (d ∷ ds) h = (all_mapped _ _ (desk_with_tills k) (λ o a. a) ds h.0, opened_clients_apart k ds h.1)
 
-pub as_many_workers : (n : ℕ) (ws : List WorkerId) → length (new_workers n ws) ≡ length ws
-as_many_workers n [] = refl
-as_many_workers n (w ∷ ws) = ap suc (as_many_workers (n + 5) ws)
+as_many_workers : (r n : ℕ) (ws : List WorkerId) → length (new_workers r n ws) ≡ length ws
+as_many_workers r n [] = refl
+as_many_workers r n (w ∷ ws) = ap suc (as_many_workers r (n + 5) ws)
 
-tokens_low : (n : ℕ) (ws : List WorkerId) → AllByRecursion (λ w. AreTokensFit 0 0 w.books) (new_workers n ws)
-tokens_low n [] = tt
-tokens_low n (w ∷ ws) = (record { tokens = omega arith; granted = omega arith }, tokens_low (n + 5) ws)
+-- each pass has tills of each desk
+all_reaching : (k r n : ℕ) (ws : List WorkerId) → k < r → reaching k (new_workers r n ws) ≡ length ws
+all_reaching k r n [] below = refl
+all_reaching k r n (w ∷ ws) below =
+    let here : one_if (nat_lt k r) ≡ 1 = ap one_if (lt-ltb k r below) in
+    let rest = all_reaching k r (n + 5) ws below in
+    omega (arith, here, rest)
+
+all_in_reach : (r n : ℕ) (ws : List WorkerId) → AllByRecursion (λ w. w.reach ≤ r) (new_workers r n ws)
+all_in_reach r n [] = tt
+all_in_reach r n (w ∷ ws) = (omega arith, all_in_reach r (n + 5) ws)
+
+tokens_low : (r n : ℕ) (ws : List WorkerId) → AllByRecursion (λ w. AreTokensFit 0 0 w.books) (new_workers r n ws)
+tokens_low r n [] = tt
+tokens_low r n (w ∷ ws) = (record { tokens = omega arith; granted = omega arith }, tokens_low r (n + 5) ws)
+
+new_desk_at : (server : ℕ) (ds : List ClientSide) (k : ℕ) → AllByRecursion (IsNewDesk server) ds → k < length ds → IsNewDesk server (slice_index_or ds k no_desk)
+new_desk_at server [] k new l = absurd (omega (arith, l))
+new_desk_at server (d ∷ ds) zero new l = new.0
+new_desk_at server (d ∷ ds) (suc k) new l = new_desk_at server ds k new.1 (omega (arith, l))
 
 module _ {T : Type 0} where
   -- accounts of no worker, no desk and no event
   pub consistent_empty : (server : ℕ) → AreConsistent {T = T} (record { server = server; history = []; first = 0; most = 0; room = 0; workers = []; desks = [] })
   consistent_empty server = record {
     workers = tt;
-    desks = tt;
+    desks = λ k l. absurd (omega (arith, l));
+    reach = tt;
     workers_apart = tt;
     clients_apart = tt;
     granted = tt;
+    queued = tt;
+    seated = tt;
     tokens_fit = tt;
     within = omega arith;
     few = omega arith;
     limit = omega arith;
+    few_workers = omega arith;
   }
 
-  pub consistent_new : (server most n : ℕ) (ws : List WorkerId) (ds : List ClientSide) → AllByRecursion (IsNewDesk server) ds → AreNamedOnce ws ds → most ≤ 2 ^ 30 → AreConsistent {T = T} (new_accounts_state server most n ws ds)
-  consistent_new server most n ws ds new once limit = record {
-    workers = workers_counted T n ws;
-    desks = subst (λ (k : ℕ). AllByRecursion (IsDesk {T = T} [] server k) (map (desk_with_tills (length ws)) ds)) (sym (as_many_workers n ws)) (all_mapped _ _ (desk_with_tills (length ws)) (desk_counted server (length ws)) ds new);
-    workers_apart = opened_workers_apart n ws once.workers_once;
+  opened_desks : (server n : ℕ) (ws : List WorkerId) (ds : List ClientSide) → AllByRecursion (IsNewDesk server) ds → AreDesks {T = T} [] server (new_workers (length ds) n ws) (map (desk_with_tills (length ws)) ds)
+  opened_desks server n ws ds new k l =
+      let within : k < length ds = omega (arith, l, length-map ds (desk_with_tills (length ws))) in
+      rw (all_reaching k (length ds) n ws within, get_or-map (desk_with_tills (length ws)) ds k no_desk no_desk within)
+      (desk_counted server (length ws) (slice_index_or ds k no_desk) (new_desk_at server ds k new within))
+
+  pub consistent_new : (server most n : ℕ) (ws : List WorkerId) (ds : List ClientSide) → AllByRecursion (IsNewDesk server) ds → AreNamedOnce ws ds → most ≤ 2 ^ 30 → length ws ≤ 4294967294 → AreConsistent {T = T} (new_accounts_state server most n ws ds)
+  consistent_new server most n ws ds new once limit few = record {
+    workers = workers_counted T (length ds) n ws;
+    desks = opened_desks server n ws ds new;
+    reach = (let as_many = length-map ds (desk_with_tills (length ws)) in subst (λ (r : ℕ). AllByRecursion (λ w. w.reach ≤ r) (new_workers (length ds) n ws)) (sym as_many) (all_in_reach (length ds) n ws));
+    workers_apart = opened_workers_apart (length ds) n ws once.workers_once;
     clients_apart = opened_clients_apart (length ws) ds once.clients_once;
     granted = tt;
-    tokens_fit = tokens_low n ws;
+    queued = tt;
+    seated = tt;
+    tokens_fit = tokens_low (length ds) n ws;
     within = omega arith;
     few = omega arith;
     limit = omega (arith, limit);
+    few_workers = (let as_many = as_many_workers (length ds) n ws in omega (arith, few, as_many));
   }
 
 -- the queue of an empty history
@@ -184,11 +218,11 @@ replayed_new ops q config is = record {
 
 -- ---- one worker more
 
-pub workers_more : (n : ℕ) (ws : List WorkerId) (w : WorkerId) → new_workers n (ws ++ w ∷ []) ≡ new_workers n ws ++ new_worker (n + 5 * length ws) w ∷ []
-workers_more n [] w = let e : n ≡ n + 5 * 0 = omega arith in ap (λ k. new_worker k w ∷ []) e
-workers_more n (v ∷ ws) w =
+pub workers_more : (r n : ℕ) (ws : List WorkerId) (w : WorkerId) → new_workers r n (ws ++ w ∷ []) ≡ new_workers r n ws ++ new_worker r (n + 5 * length ws) w ∷ []
+workers_more r n [] w = let e : n ≡ n + 5 * 0 = omega arith in ap (λ k. new_worker r k w ∷ []) e
+workers_more r n (v ∷ ws) w =
     let e : (n + 5) + 5 * length ws ≡ n + 5 * suc (length ws) = omega arith in
-    ap (λ xs. new_worker n v ∷ xs) (workers_more (n + 5) ws w ∙ ap (λ k. new_workers (n + 5) ws ++ new_worker k w ∷ []) e)
+    ap (λ xs. new_worker r n v ∷ xs) (workers_more r (n + 5) ws w ∙ ap (λ k. new_workers r (n + 5) ws ++ new_worker r k w ∷ []) e)
 
 module _ (clients : List ClientId) (ds : List ClientSide) where
   pub passes_more : (place n : ℕ) (ws : List WorkerId) (w : WorkerId) → new_passes place n clients ds (ws ++ w ∷ []) ≡ new_passes place n clients ds ws ++ new_pass (place + length ws) (n + 5 * length ws) clients ds w ∷ []
@@ -210,12 +244,12 @@ module _ (ws : List WorkerId) (i : ℕ) (w : WorkerId) (within : i < length ws) 
   so_many : length (take i ws) ≡ i
   so_many = length-take-le i ws (omega (arith, within))
 
-  pub workers_next : (old : List WorkerSide) (s : WorkerSide) → old ≡ new_workers n (take i ws) → s ≡ new_worker (n + 5 * i) w → old ++ s ∷ [] ≡ new_workers n (take (i + 1) ws)
-  workers_next old s so_far this =
+  pub workers_next : (r : ℕ) (old : List WorkerSide) (s : WorkerSide) → old ≡ new_workers r n (take i ws) → s ≡ new_worker r (n + 5 * i) w → old ++ s ∷ [] ≡ new_workers r n (take (i + 1) ws)
+  workers_next r old s so_far this =
       ap (λ xs. xs ++ s ∷ []) so_far
-      ∙ ap (λ x. new_workers n (take i ws) ++ x ∷ []) (this ∙ ap (λ k. new_worker (n + 5 * k) w) (sym so_many))
-      ∙ sym (workers_more n (take i ws) w)
-      ∙ ap (new_workers n) (sym (taken ws i w within is))
+      ∙ ap (λ x. new_workers r n (take i ws) ++ x ∷ []) (this ∙ ap (λ k. new_worker r (n + 5 * k) w) (sym so_many))
+      ∙ sym (workers_more r n (take i ws) w)
+      ∙ ap (new_workers r n) (sym (taken ws i w within is))
 
   pub passes_next : (clients : List ClientId) (ds : List ClientSide) (old : List PassState) (s : PassState) → old ≡ new_passes 0 n clients ds (take i ws) → s ≡ new_pass i (n + 5 * i) clients ds w → old ++ s ∷ [] ≡ new_passes 0 n clients ds (take (i + 1) ws)
   passes_next clients ds old s so_far this =
@@ -265,15 +299,12 @@ all_popped P (y ∷ ys) x h = (let rest = all_popped P ys x h.1 in ((h.0, rest.0
 
 -- ---- the names of desks
 
-abbrev id_of : ClientSide → ClientId
-id_of d = record { 0 = d.client }
-
 ids_stay : (k : ℕ) (ds : List ClientSide) → map id_of (map (desk_with_tills k) ds) ≡ map id_of ds
 ids_stay k [] = refl
 ids_stay k (d ∷ ds) = ap (λ ks. id_of d ∷ ks) (ids_stay k ds)
 
 module _ {S : Type 0} where
-  names_by_sides : (ds : List (ClientDesk S)) → map (λ d. d.client) ds ≡ map id_of (map client_side ds)
+  pub names_by_sides : (ds : List (ClientDesk S)) → map (λ d. d.client) ds ≡ map id_of (map client_side ds)
   names_by_sides [] = refl
   names_by_sides (d ∷ ds) = ap (λ ks. d.client ∷ ks) (names_by_sides ds)
 

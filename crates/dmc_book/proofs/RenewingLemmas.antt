@@ -1,33 +1,45 @@
 -- Accounts whose sums of a worker's tokens begin anew.
 use Rattle.std.proofs.Common.{◌≡◌, ℕ, zero, suc, ◌+◌, ◌<◌, ◌≤◌, List, [], ◌∷◌, drop, length, refl, sym, ap, ◌∙◌, subst, slice_index_or, slice_set, arith}
-use Rattle.std.specs.Prelude.{◌==◌, false}
-use Rattle.std.specs.List.{AllByRecursion}
+use Rattle.std.specs.Prelude.{◌==◌, ◌||◌, false, nat_lt}
+use Rattle.std.specs.List.{AllByRecursion, list_any}
 use Rattle.std.proofs.lemmas.List.{length-set}
 use Rattle.dmc_tag.specs.declared.event.Event.{Event}
 use Rattle.dmc_ledger.specs.Accounts.{new_book}
-use Rattle.dmc_book.specs.BookState.{AccountsState, WorkerSide, no_worker}
-use Rattle.dmc_book.specs.Consistent.{AreConsistent, AreTokensFit, AreWorkersApart, IsCounted, IsDesk, IsWorker}
-use Rattle.dmc_book.specs.Counts.{count}
+use Rattle.dmc_book.specs.BookState.{AccountsState, WorkerSide, no_desk, no_worker}
+use Rattle.dmc_tag.proofs.Lists.{all_as}
+use Rattle.dmc_book.specs.Consistent.{AreConsistent, AreTokensFit, AreWorkersApart, IsCounted, IsDesk, IsWorker, reaching}
+use Rattle.dmc_book.specs.Counts.{one_if}
 use Rattle.dmc_book.specs.Renewing.{accounts_renewed, renewed_worker}
 
 module _ (P : WorkerSide → Type 0) where
-  all_there : (ws : List WorkerSide) (i : ℕ) → i < length ws → AllByRecursion P ws → P (slice_index_or ws i no_worker)
+  pub all_there : (ws : List WorkerSide) (i : ℕ) → i < length ws → AllByRecursion P ws → P (slice_index_or ws i no_worker)
   all_there [] i within h = absurd (omega (arith, within))
   all_there (w ∷ ws) zero within h = h.0
   all_there (w ∷ ws) (suc i) within h = all_there ws i (omega (arith, within)) h.1
 
-  all_set : (ws : List WorkerSide) (i : ℕ) (v : WorkerSide) → AllByRecursion P ws → P v → AllByRecursion P (slice_set ws i v)
+  pub all_set : (ws : List WorkerSide) (i : ℕ) (v : WorkerSide) → AllByRecursion P ws → P v → AllByRecursion P (slice_set ws i v)
   all_set [] i v h new = tt
   all_set (w ∷ ws) zero v h new = (new, h.1)
   all_set (w ∷ ws) (suc i) v h new = (h.0, all_set ws i v h.1 new)
 
-apart_set : (ws : List WorkerSide) (i : ℕ) (v : WorkerSide) → i < length ws → v.worker ≡ (slice_index_or ws i no_worker).worker → AreWorkersApart ws → AreWorkersApart (slice_set ws i v)
+pub apart_set : (ws : List WorkerSide) (i : ℕ) (v : WorkerSide) → i < length ws → v.worker ≡ (slice_index_or ws i no_worker).worker → AreWorkersApart ws → AreWorkersApart (slice_set ws i v)
 apart_set [] i v within same h = absurd (omega (arith, within))
 apart_set (w ∷ ws) zero v within same h = (subst (λ (n : ℕ). AllByRecursion (λ (o : WorkerSide). (o.worker == n) ≡ false) ws) (sym same) h.0, h.1)
 apart_set (w ∷ ws) (suc i) v within same h =
     let inside : i < length ws = omega (arith, within) in
     let P : WorkerSide → Type 0 = λ o. (o.worker == w.worker) ≡ false in
     (all_set P ws i v h.0 (subst (λ (n : ℕ). (n == w.worker) ≡ false) (sym same) (all_there P ws i inside h.0)), apart_set ws i v inside same h.1)
+
+-- what the passes reach, and who is enrolled, are seen in the numbers and the reach of the workers
+pub reaching_set : (k : ℕ) (ws : List WorkerSide) (i : ℕ) (v : WorkerSide) → v.reach ≡ (slice_index_or ws i no_worker).reach → reaching k (slice_set ws i v) ≡ reaching k ws
+reaching_set k [] i v same = refl
+reaching_set k (w ∷ ws) zero v same = ap (λ n. one_if (nat_lt k n) + reaching k ws) same
+reaching_set k (w ∷ ws) (suc i) v same = ap (λ n. one_if (nat_lt k w.reach) + n) (reaching_set k ws i v same)
+
+pub seated_set : (n : ℕ) (ws : List WorkerSide) (i : ℕ) (v : WorkerSide) → v.worker ≡ (slice_index_or ws i no_worker).worker → list_any (λ w. n == w.worker) (slice_set ws i v) ≡ list_any (λ w. n == w.worker) ws
+seated_set n [] i v same = refl
+seated_set n (w ∷ ws) zero v same = ap (λ m. (n == m) || list_any (λ (x : WorkerSide). n == x.worker) ws) same
+seated_set n (w ∷ ws) (suc i) v same = ap (λ b. (n == w.worker) || b) (seated_set n ws i v same)
 
 module _ {T : Type 0} where
   none_left : (es : List (Event T)) → drop (length es) es ≡ []
@@ -54,14 +66,18 @@ module _ {T : Type 0} where
       let as_many : length (slice_set a.workers place v) ≡ length a.workers = length-set a.workers place v in
       record {
         workers = all_set (IsWorker a.history) a.workers place v h.workers (renewed_counts a.history w (all_there (IsWorker a.history) a.workers place within h.workers));
-        desks = subst (λ (n : ℕ). AllByRecursion (IsDesk a.history a.server n) a.desks) (sym as_many) h.desks;
+        desks = λ k l. subst (λ (n : ℕ). IsDesk a.history a.server n (slice_index_or a.desks k no_desk)) (sym (reaching_set k a.workers place v refl)) (h.desks k l);
+        reach = all_set (λ x. x.reach ≤ length a.desks) a.workers place v h.reach (all_there (λ x. x.reach ≤ length a.desks) a.workers place within h.reach);
         workers_apart = apart_set a.workers place v within refl h.workers_apart;
         clients_apart = h.clients_apart;
         granted = h.granted;
+        queued = h.queued;
+        seated = all_as _ _ (λ e is. seated_set e.worker.0 a.workers place v refl ∙ is) a.history h.seated;
         tokens_fit = all_set (λ x. AreTokensFit a.first (length a.history) x.books) a.workers place v h.tokens_fit (record { tokens = omega (arith, h.within); granted = omega (arith, h.within) });
         within = h.within;
         few = h.few;
         limit = h.limit;
+        few_workers = omega (arith, h.few_workers, as_many);
       }
 
   pub worker_there : (a : AccountsState T) (place : ℕ) → place < length a.workers → AreConsistent a → IsWorker a.history (slice_index_or a.workers place no_worker)

@@ -1,5 +1,5 @@
 -- Accounts that release their events.
-use Rattle.std.proofs.Common.{◌≡◌, ℕ, ◌+◌, ◌-◌, ◌≤◌, List, [], ◌∷◌, length, refl, sym, subst, Option, Some, None, arith}
+use Rattle.std.proofs.Common.{◌≡◌, ℕ, ◌-◌, List, [], ◌∷◌, length, refl, sym, subst, Option, Some, None, arith}
 use Rattle.std.specs.Prelude.{IfNone, IfSome, IsSome}
 use Rattle.std.specs.List.{AllByRecursion}
 use Rattle.dmc_tag.specs.declared.event.Event.{Event}
@@ -18,13 +18,17 @@ module _ {T : Type 0} (server : ℕ) (old : Segmented (Event T)) (ws : List Work
   rotated may = record {
     workers = was.workers;
     desks = was.desks;
+    reach = was.reach;
     workers_apart = was.workers_apart;
     clients_apart = was.clients_apart;
     granted = was.granted;
+    queued = was.queued;
+    seated = was.seated;
     tokens_fit = tokens_rotated (length old.events) ws low;
     within = omega arith;
     few = may.long;
     limit = omega (arith, was.limit);
+    few_workers = was.few_workers;
   }
 
   -- whether they do or not

@@ -1,9 +1,9 @@
 -- What was answered or refused, of a command that is no Add.
-use Rattle.std.proofs.Common.{ℕ, ◌≡◌, ◌<◌, Bool, true, false, true≢false, List, map, length, Option, None, refl, sym, subst, ◌∙◌, Result, Ok, Err, arith}
-use Rattle.std.specs.Prelude.{◌↔◌, OnOk, OnErr, IfOk, if◌then◌else◌}
+use Rattle.std.proofs.Common.{ℕ, zero, suc, ap, ◌≡◌, [], ◌∷◌, slice_index_or, ◌<◌, Bool, true, false, true≢false, List, length, Option, None, refl, sym, subst, ◌∙◌, Result, Ok, Err, arith}
+use Rattle.std.specs.Prelude.{◌==◌, ◌||◌, ◌↔◌, OnOk, OnErr, IfOk, if◌then◌else◌}
 use Rattle.std.specs.Cmp.{IsTotalOrder}
-use Rattle.std.proofs.lemmas.Bool.{true_from_ne_false}
-use Rattle.std.proofs.lemmas.List.{length-map}
+use Rattle.std.specs.List.{list_any}
+use Rattle.std.proofs.lemmas.Bool.{eq-eqb, true_from_ne_false}
 use Rattle.dmc_types.specs.declared.ids.ClientId.{ClientId}
 use Rattle.dmc_types.specs.declared.ids.WorkerId.{WorkerId}
 use Rattle.dmc_types.specs.Values.{Params}
@@ -20,12 +20,12 @@ use Rattle.dmc_book.specs.declared.fault.RunFault.{RunFault}
 use Rattle.dmc_book.specs.declared.fault.RunFault.TheVariants as run
 use Rattle.dmc_book.specs.declared.fault.RunOrRange.{RunOrRange}
 use Rattle.dmc_book.specs.declared.fault.RunOrRange.TheVariants as pull
-use Rattle.dmc_book.specs.BookState.{BookState, PassState}
+use Rattle.dmc_book.specs.BookState.{BookState, PassState, WorkerSide, no_worker}
 use Rattle.dmc_book.specs.Calls.{Asks, Ran, WasPulled, asked, lacks_desk, reply_to, run_cause}
-use Rattle.dmc_book.specs.Consistent.{IsReplayed}
+use Rattle.dmc_book.specs.Consistent.{IsReplayed, IsSeated}
 use Rattle.dmc_book.specs.Counts.{accepted, is_tagged}
 use Rattle.dmc_book.specs.Moves.{IsEnrolled, takes}
-use Rattle.dmc_book.specs.Runs.{IsFull, Runs, StraysHere}
+use Rattle.dmc_book.specs.Runs.{IsBehind, IsFull, Runs, StraysHere}
 use Rattle.dmc_book.proofs.AskLemmas.{strays_by_history}
 use Rattle.dmc_book.proofs.Causes.{memory_is_not_full}
 
@@ -36,6 +36,18 @@ no_stamp_in_pull worker at reply = either_none (is_tagged reply) where
   either_none true = refl
   either_none false = refl
 
+-- whose pass it is, is enrolled
+pub seated_pass : (ws : List WorkerSide) (p : PassState) → IsEnrolled ws p → IsSeated ws p.worker
+seated_pass ws p h = subst (IsSeated ws) h.its_worker (there ws p.place h.within) where
+  later : (b c : Bool) → c ≡ true → (b || c) ≡ true
+  later true c h = refl
+  later false c h = h
+
+  there : (ws : List WorkerSide) (i : ℕ) → i < length ws → IsSeated ws (slice_index_or ws i no_worker).worker
+  there [] i within = absurd (omega (arith, within))
+  there (w ∷ ws) zero within = ap (λ b. b || list_any (λ (x : WorkerSide). w.worker == x.worker) ws) (eq-eqb w.worker w.worker refl)
+  there (w ∷ ws) (suc i) within = later _ _ (there ws i (omega (arith, within)))
+
 module _ {T : Type 0} (ops : Tagging T) (old : BookState T) (before : PassState) (command : Command) (enrolled : IsEnrolled old.workers before) (has_desk : lacks_desk old.desks command ≡ false) where
   -- no place was reserved
   pub unreserved : (x : ReserveFault) → (x ≡ reserve.HistoryFull) ↔ IsFull ops old before command → Runs ops old before command old before (Err (run_cause x))
@@ -44,8 +56,9 @@ module _ {T : Type 0} (ops : Tagging T) (old : BookState T) (before : PassState)
 
   -- the queue was not asked, or answered nothing
   pub unasked : (order : IsTotalOrder ops.compare) (q p : State T) → IsReplayed ops q old.config old.history → length old.history < old.most → (e : RunFault)
-      → Asks ops (takes old.desks before.clients before.units) q p command (Err e) → Runs ops old before command old before (Err e)
-  unasked order q p known fewer run.Stranger a = (refl, refl, λ k. (has_desk, (λ full. omega (arith, fewer, full)), strays_by_history ops order (takes old.desks before.clients before.units) q p old.config old.history command known a))
+      → Asks ops (IsBehind ops old before command) (takes old.desks before.clients before.units) q p command (Err e) → Runs ops old before command old before (Err e)
+  unasked order q p known fewer run.Stranger a = (refl, refl, λ k. (has_desk, (λ full. omega (arith, fewer, full)), strays_by_history ops order (IsBehind ops old before command) (takes old.desks before.clients before.units) q p old.config old.history command known a.1, a.2))
+  unasked order q p known fewer run.Behind a = (refl, refl, enrolled, has_desk, (λ full. omega (arith, fewer, full)), strays_by_history ops order (IsBehind ops old before command) (takes old.desks before.clients before.units) q p old.config old.history command known a.1, a.2)
   unasked order q p known fewer run.NoDesk a = absurd a
   unasked order q p known fewer run.HistoryFull a = absurd a
   unasked order q p known fewer run.Memory a = (refl, refl, enrolled, has_desk, λ full. omega (arith, fewer, full))
@@ -58,6 +71,7 @@ module _ {T : Type 0} (ops : Tagging T) (old new : BookState T) (before later : 
   pub book_kept : (r : Result (Reply T) RunFault) → Runs ops old before command new later r → OnErr r (new ≡ old)
   book_kept (Ok reply) h = tt
   book_kept (Err run.Stranger) h = h.0
+  book_kept (Err run.Behind) h = h.0
   book_kept (Err run.NoDesk) h = h.0
   book_kept (Err run.HistoryFull) h = h.0
   book_kept (Err run.Memory) h = h.0
@@ -65,6 +79,7 @@ module _ {T : Type 0} (ops : Tagging T) (old new : BookState T) (before later : 
   pub pass_kept : (r : Result (Reply T) RunFault) → Runs ops old before command new later r → OnErr r (later ≡ before)
   pass_kept (Ok reply) h = tt
   pass_kept (Err run.Stranger) h = h.1
+  pass_kept (Err run.Behind) h = h.1
   pass_kept (Err run.NoDesk) h = h.1
   pass_kept (Err run.HistoryFull) h = h.1
   pass_kept (Err run.Memory) h = h.1
@@ -72,6 +87,7 @@ module _ {T : Type 0} (ops : Tagging T) (old new : BookState T) (before later : 
   pub told_stranger : (r : Result (Reply T) RunFault) → Runs ops old before command new later r → (IsEnrolled old.workers before → ⊥) → r ≡ Err run.Stranger
   told_stranger (Ok reply) h none = absurd (none h.1)
   told_stranger (Err run.Stranger) h none = refl
+  told_stranger (Err run.Behind) h none = absurd (none h.2)
   told_stranger (Err run.NoDesk) h none = absurd (none h.2)
   told_stranger (Err run.HistoryFull) h none = absurd (none h.2)
   told_stranger (Err run.Memory) h none = absurd (none h.2)
@@ -79,6 +95,7 @@ module _ {T : Type 0} (ops : Tagging T) (old new : BookState T) (before later : 
   pub strays_if_told : (r : Result (Reply T) RunFault) → Runs ops old before command new later r → r ≡ Err run.Stranger → IsEnrolled old.workers before → StraysHere ops old before command
   strays_if_told (Ok reply) h e enrolled = absurd cc
   strays_if_told (Err run.Stranger) h e enrolled = (h.2 enrolled).2
+  strays_if_told (Err run.Behind) h e enrolled = absurd cc
   strays_if_told (Err run.NoDesk) h e enrolled = absurd cc
   strays_if_told (Err run.HistoryFull) h e enrolled = absurd cc
   strays_if_told (Err run.Memory) h e enrolled = absurd cc
@@ -87,10 +104,28 @@ module _ {T : Type 0} (ops : Tagging T) (old new : BookState T) (before later : 
   stays_if_ok (Ok reply) h = h.4
   stays_if_ok (Err e) h = tt
 
+  pub not_behind : (r : Result (Reply T) RunFault) → Runs ops old before command new later r → r ≡ Err run.Stranger → IsEnrolled old.workers before → IsBehind ops old before command → ⊥
+  not_behind (Ok reply) h e enrolled = absurd cc
+  not_behind (Err run.Stranger) h e enrolled = (h.2 enrolled).3
+  not_behind (Err run.Behind) h e enrolled = absurd cc
+  not_behind (Err run.NoDesk) h e enrolled = absurd cc
+  not_behind (Err run.HistoryFull) h e enrolled = absurd cc
+  not_behind (Err run.Memory) h e enrolled = absurd cc
+
+  pub behind_if_told : (r : Result (Reply T) RunFault) → Runs ops old before command new later r → r ≡ Err run.Behind
+      → IsEnrolled old.workers before × IsBehind ops old before command × StraysHere ops old before command
+  behind_if_told (Ok reply) h e = absurd cc
+  behind_if_told (Err run.Stranger) h e = absurd cc
+  behind_if_told (Err run.Behind) h e = (h.2, h.6, h.5)
+  behind_if_told (Err run.NoDesk) h e = absurd cc
+  behind_if_told (Err run.HistoryFull) h e = absurd cc
+  behind_if_told (Err run.Memory) h e = absurd cc
+
   pub told_no_desk : (r : Result (Reply T) RunFault) → Runs ops old before command new later r
       → (r ≡ Err run.NoDesk) ↔ (IsEnrolled old.workers before × (lacks_desk old.desks command ≡ true))
   told_no_desk (Ok reply) h = (λ e. absurd cc, λ k. absurd (true≢false (sym k.1 ∙ h.2)))
   told_no_desk (Err run.Stranger) h = (λ e. absurd cc, λ k. absurd (true≢false (sym k.1 ∙ (h.2 k.0).0)))
+  told_no_desk (Err run.Behind) h = (λ e. absurd cc, λ k. absurd (true≢false (sym k.1 ∙ h.3)))
   told_no_desk (Err run.NoDesk) h = (λ e. (h.2, h.3), λ k. refl)
   told_no_desk (Err run.HistoryFull) h = (λ e. absurd cc, λ k. absurd (true≢false (sym k.1 ∙ h.3)))
   told_no_desk (Err run.Memory) h = (λ e. absurd cc, λ k. absurd (true≢false (sym k.1 ∙ h.3)))
@@ -99,6 +134,7 @@ module _ {T : Type 0} (ops : Tagging T) (old new : BookState T) (before later : 
       → (r ≡ Err run.HistoryFull) ↔ (IsEnrolled old.workers before × (lacks_desk old.desks command ≡ false) × IsFull ops old before command)
   told_full (Ok reply) h = (λ e. absurd cc, λ k. absurd (h.3 k.2))
   told_full (Err run.Stranger) h = (λ e. absurd cc, λ k. absurd ((h.2 k.0).1 k.2))
+  told_full (Err run.Behind) h = (λ e. absurd cc, λ k. absurd (h.4 k.2))
   told_full (Err run.NoDesk) h = (λ e. absurd cc, λ k. absurd (true≢false (sym h.3 ∙ k.1)))
   told_full (Err run.HistoryFull) h = (λ e. (h.2, h.3, h.4), λ k. refl)
   told_full (Err run.Memory) h = (λ e. absurd cc, λ k. absurd (h.4 k.2))
@@ -114,6 +150,7 @@ module _ {T : Type 0} (ops : Tagging T) (old new : BookState T) (before later : 
   was_pulled (Ok pulled) h = h.0
   was_pulled (Err pull.Range) h = h.0
   was_pulled (Err (pull.Run run.Stranger)) h = (h.0, h.1, λ e. absurd cc)
+  was_pulled (Err (pull.Run run.Behind)) h = (h.0, h.1, λ e. absurd cc)
   was_pulled (Err (pull.Run run.NoDesk)) h = absurd (true≢false (sym h.3))
   was_pulled (Err (pull.Run run.HistoryFull)) h = (h.0, h.1, λ e. absurd cc)
   was_pulled (Err (pull.Run run.Memory)) h = (h.0, h.1, λ e. absurd cc)
@@ -122,6 +159,7 @@ module _ {T : Type 0} (ops : Tagging T) (old new : BookState T) (before later : 
   pull_told_stranger (Ok pulled) h none = absurd (none h.1)
   pull_told_stranger (Err pull.Range) h none = absurd (none h.1)
   pull_told_stranger (Err (pull.Run run.Stranger)) h none = refl
+  pull_told_stranger (Err (pull.Run run.Behind)) h none = absurd (none h.2)
   pull_told_stranger (Err (pull.Run run.NoDesk)) h none = absurd (none h.2)
   pull_told_stranger (Err (pull.Run run.HistoryFull)) h none = absurd (none h.2)
   pull_told_stranger (Err (pull.Run run.Memory)) h none = absurd (none h.2)
@@ -130,9 +168,17 @@ module _ {T : Type 0} (ops : Tagging T) (old new : BookState T) (before later : 
   pull_strays (Ok pulled) h e enrolled = absurd cc
   pull_strays (Err pull.Range) h e enrolled = absurd cc
   pull_strays (Err (pull.Run run.Stranger)) h e enrolled = (h.2 enrolled).2
+  pull_strays (Err (pull.Run run.Behind)) h e enrolled = absurd cc
   pull_strays (Err (pull.Run run.NoDesk)) h e enrolled = absurd cc
   pull_strays (Err (pull.Run run.HistoryFull)) h e enrolled = absurd cc
   pull_strays (Err (pull.Run run.Memory)) h e enrolled = absurd cc
+
+  pub pull_not_behind : (r : Result Pulled RunOrRange) → Pulls r → r ≡ Err (pull.Run run.Stranger) → IsEnrolled old.workers before → IsBehind ops old before (Pull at) → ⊥
+  pull_not_behind r h e = not_behind ops old new before later (Pull at) (asked r) h (ap asked e)
+
+  pub pull_behind : (r : Result Pulled RunOrRange) → Pulls r → r ≡ Err (pull.Run run.Behind)
+      → IsEnrolled old.workers before × IsBehind ops old before (Pull at) × StraysHere ops old before (Pull at)
+  pull_behind r h e = behind_if_told ops old new before later (Pull at) (asked r) h (ap asked e)
 
   pub pull_allowed : (r : Result Pulled RunOrRange) → Pulls r → OnOk r (is_allowed (takes old.desks before.clients before.units) (reply_to ops old (Pull at)) ≡ true)
   pull_allowed (Ok pulled) h = true_from_ne_false (is_allowed (takes old.desks before.clients before.units) (reply_to ops old (Pull at))) h.4
@@ -142,6 +188,7 @@ module _ {T : Type 0} (ops : Tagging T) (old new : BookState T) (before later : 
   pull_told_full (Ok pulled) h = (λ e. absurd cc, λ k. absurd (h.3 k.1))
   pull_told_full (Err pull.Range) h = (λ e. absurd cc, λ k. absurd (h.3 k.1))
   pull_told_full (Err (pull.Run run.Stranger)) h = (λ e. absurd cc, λ k. absurd ((h.2 k.0).1 k.1))
+  pull_told_full (Err (pull.Run run.Behind)) h = (λ e. absurd cc, λ k. absurd (h.4 k.1))
   pull_told_full (Err (pull.Run run.NoDesk)) h = absurd (true≢false (sym h.3))
   pull_told_full (Err (pull.Run run.HistoryFull)) h = (λ e. (h.2, h.4), λ k. refl)
   pull_told_full (Err (pull.Run run.Memory)) h = (λ e. absurd cc, λ k. absurd (h.4 k.1))

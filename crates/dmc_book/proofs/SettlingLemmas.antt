@@ -1,16 +1,18 @@
 -- Passes that are gathered one after the other, and what a settled book's parts are then.
-use Rattle.std.proofs.Common.{◌≡◌, ℕ, zero, suc, ◌+◌, ◌<◌, List, [], ◌∷◌, ◌++◌, length, map, refl, sym, ap, ◌∙◌, subst, take, drop, get_or, slice_index_or, slice_set, inl, inr, ◌⊎◌, arith}
-use Rattle.std.specs.Prelude.{⊤}
+use Rattle.std.proofs.Common.{◌≡◌, ℕ, zero, suc, ◌+◌, ◌<◌, ◌≤◌, List, [], ◌∷◌, ◌++◌, length, map, refl, sym, ap, ◌∙◌, subst, take, drop, get_or, slice_index_or, slice_set, inl, inr, ◌⊎◌, arith}
+use Rattle.std.specs.Prelude.{⊤, nat_lt}
 use Rattle.std.specs.List.{AllByRecursion}
-use Rattle.std.proofs.lemmas.List.{map-append}
+use Rattle.std.proofs.lemmas.Bool.{le-ltb}
+use Rattle.std.proofs.lemmas.List.{get_or_past, map-append}
 use Rattle.dmc_types.specs.declared.config.PhaseType.TheVariants.{Reservation, Priority}
 use Rattle.dmc_tag.specs.declared.event.Event.{Event}
 use Rattle.dmc_ledger.specs.Accounts.{Account, after_closing}
 use Rattle.dmc_ledger.specs.Bundles.{ClientSide, GrantHoldings}
 use Rattle.dmc_book.specs.BookState.{PassState, WorkerSide, WorkerHoldings, no_desk, no_unit, no_worker}
-use Rattle.dmc_book.specs.Consistent.{IsCounted, IsDesk, IsWorker}
+use Rattle.dmc_book.specs.Consistent.{AreDesks, IsCounted, IsWorker, reaching}
+use Rattle.dmc_book.specs.Counts.{one_if}
 use Rattle.dmc_book.specs.Moves.{AreOf, IsEnrolled}
-use Rattle.dmc_book.specs.Settling.{AreDeskUnits, AreOneOpen, ArePassesTakenIn, AreSettledDesks, AreUnitsTakenIn, IsDeskTakenIn, IsGathered, IsSettledBook, IsSettledWorker, IsTakenIn, closed_worker, left_in}
+use Rattle.dmc_book.specs.Settling.{AreDeskUnits, AreOneOpen, ArePassesTakenIn, AreSettledDesks, AreUnitsTakenIn, IsDeskTakenIn, IsGathered, IsSettledBook, IsSettledWorker, IsTakenIn, closed_worker, having, left_in}
 use Rattle.dmc_tag.proofs.Lists.{all_append, all_as, all_at, all_mapped}
 use Rattle.dmc_book.proofs.OpeningLemmas.{all_popped, seam, split, taken}
 
@@ -122,13 +124,47 @@ partly_end (w ∷ ws) [] h one none = absurd h
 partly_end (w ∷ ws) (v ∷ vs) h one none =
     ap (λ x. x ∷ vs) (all_shut w v h.0 one.0.calls (omega (arith, none))) ∙ ap (λ xs. closed_worker w ∷ xs) (partly_end ws vs h.1 one.1 (omega (arith, none)))
 
+-- ---- which desks the workers reach whose till is still open
+
+abbrev if_open : ℕ → ℕ → ℕ
+if_open zero n = 0
+if_open (suc tills) n = n
+
+abbrev pub still_reaching : ℕ → List WorkerSide → ℕ
+still_reaching k [] = 0
+still_reaching k (w ∷ ws) = if_open w.books.calls.open_tills (one_if (nat_lt k w.reach)) + still_reaching k ws
+
+pub reaching_start : (k : ℕ) (ws : List WorkerSide) → AllByRecursion (λ w. AreOneOpen w.books) ws → still_reaching k ws ≡ reaching k ws
+reaching_start k [] h = refl
+reaching_start k (w ∷ ws) h =
+    let here = ap (λ n. if_open n (one_if (nat_lt k w.reach))) h.0.calls in
+    let rest = reaching_start k ws h.1 in
+    omega (arith, here, rest)
+
+pub reaching_less : (k : ℕ) (vs : List WorkerSide) (i : ℕ) (v : WorkerSide) → i < length vs → v.books.calls.open_tills ≡ 0 → (slice_index_or vs i no_worker).books.calls.open_tills ≡ 1
+    → one_if (nat_lt k (slice_index_or vs i no_worker).reach) + still_reaching k (slice_set vs i v) ≡ still_reaching k vs
+reaching_less k [] i v l none one = absurd (omega (arith, l))
+reaching_less k (w ∷ vs) zero v l none one =
+    let gone = ap (λ n. if_open n (one_if (nat_lt k v.reach))) none in
+    let was = ap (λ n. if_open n (one_if (nat_lt k w.reach))) one in
+    omega (arith, gone, was)
+reaching_less k (w ∷ vs) (suc i) v l none one = let rest = reaching_less k vs i v (omega (arith, l)) none one in omega (arith, rest)
+
+pub reaching_end : (k : ℕ) (vs : List WorkerSide) → open_calls vs ≡ 0 → still_reaching k vs ≡ 0
+reaching_end k [] none = refl
+reaching_end k (v ∷ vs) none =
+    let shut : v.books.calls.open_tills ≡ 0 = omega (arith, none) in
+    let here = ap (λ n. if_open n (one_if (nat_lt k v.reach))) shut in
+    let rest = reaching_end k vs (omega (arith, none)) in
+    omega (arith, here, rest)
+
 -- ---- the desks
 
 taken_none : (a : Account) → IsTakenIn 0 0 a a
 taken_none a = record { number = refl; gathered = omega arith; total = refl; open_tills = omega arith }
 
-taken_more : (n u v : ℕ) (a b c : Account) → IsTakenIn n u a b → IsTakenIn 1 v b c → IsTakenIn (suc n) (v + u) a c
-taken_more n u v a b c h j = record {
+taken_more : (n m u v : ℕ) (a b c : Account) → IsTakenIn n u a b → IsTakenIn m v b c → IsTakenIn (m + n) (v + u) a c
+taken_more n m u v a b c h j = record {
   number = j.number ∙ h.number;
   gathered = omega (arith, h.gathered, j.gathered);
   total = j.total ∙ h.total;
@@ -141,26 +177,32 @@ passes_none ds = record {
   each = λ k l. record { its = refl; reservations = taken_none _; priorities = taken_none _ };
 }
 
-desk_more : (n r s : ℕ) (u : GrantHoldings) (a b c : ClientSide) → IsDeskTakenIn n r s a b → IsDeskTakenIn 1 u.reservation.amount u.priority.amount b c → IsDeskTakenIn (suc n) (u.reservation.amount + r) (u.priority.amount + s) a c
-desk_more n r s u a b c h j = record {
+-- beyond the tills there is none to gather
+pub unit_past : (units : List GrantHoldings) (k : ℕ) (d : ClientSide) → length units ≤ k → IsDeskTakenIn (one_if (nat_lt k (length units))) (slice_index_or units k no_unit).reservation.amount (slice_index_or units k no_unit).priority.amount d d
+unit_past units k d past =
+    let none : one_if (nat_lt k (length units)) ≡ 0 = ap one_if (le-ltb k (length units) past) in
+    rw (none, get_or_past units k no_unit past) (record { its = refl; reservations = taken_none d.books.reservation; priorities = taken_none d.books.priority })
+
+desk_more : (n m r s : ℕ) (u : GrantHoldings) (a b c : ClientSide) → IsDeskTakenIn n r s a b → IsDeskTakenIn m u.reservation.amount u.priority.amount b c → IsDeskTakenIn (m + n) (u.reservation.amount + r) (u.priority.amount + s) a c
+desk_more n m r s u a b c h j = record {
   its = j.its ∙ ap (λ (x : ClientSide). record x { books = c.books }) h.its;
-  reservations = taken_more n r u.reservation.amount a.books.reservation b.books.reservation c.books.reservation h.reservations j.reservations;
-  priorities = taken_more n s u.priority.amount a.books.priority b.books.priority c.books.priority h.priorities j.priorities;
+  reservations = taken_more n m r u.reservation.amount a.books.reservation b.books.reservation c.books.reservation h.reservations j.reservations;
+  priorities = taken_more n m s u.priority.amount a.books.priority b.books.priority c.books.priority h.priorities j.priorities;
 }
 
 pub passes_more : (p : PassState) (ps : List PassState) (ds es fs : List ClientSide) → ArePassesTakenIn ps ds es → AreUnitsTakenIn p.units es fs → ArePassesTakenIn (p ∷ ps) ds fs
 passes_more p ps ds es fs h j = record {
   as_many = j.as_many ∙ h.as_many;
-  each = λ k l. desk_more (length ps) (left_in Reservation k ps) (left_in Priority k ps) (slice_index_or p.units k no_unit) (slice_index_or ds k no_desk) (slice_index_or es k no_desk) (slice_index_or fs k no_desk) (h.each k l) (j.each k (omega (arith, h.as_many, l)));
+  each = λ k l. desk_more (having k ps) (one_if (nat_lt k (length p.units))) (left_in Reservation k ps) (left_in Priority k ps) (slice_index_or p.units k no_unit) (slice_index_or ds k no_desk) (slice_index_or es k no_desk) (slice_index_or fs k no_desk) (h.each k l) (j.each k (omega (arith, h.as_many, l)));
 }
 
 -- the tills of a pass are of the desks, whatever these gathered
 pub units_at : (units : List GrantHoldings) (ps : List PassState) (ds es : List ClientSide) → ArePassesTakenIn ps ds es → AreDeskUnits ds units → AreDeskUnits es units
 units_at units ps ds es h own = record {
-  as_many = own.as_many ∙ sym h.as_many;
-  each = λ k l. (let inside : k < length ds = omega (arith, h.as_many, l) in record {
-    reservation = (own.each k inside).reservation ∙ sym ((h.each k inside).reservations.number);
-    priority = (own.each k inside).priority ∙ sym ((h.each k inside).priorities.number);
+  within = omega (arith, own.within, h.as_many);
+  each = λ k l. (let inside : k < length ds = omega (arith, own.within, l) in record {
+    reservation = (own.each k l).reservation ∙ sym ((h.each k inside).reservations.number);
+    priority = (own.each k l).priority ∙ sym ((h.each k inside).priorities.number);
   });
 }
 
@@ -199,25 +241,20 @@ module _ {T : Type 0} where
     open_tills = omega (arith, same, h.open_tills, j.open_tills);
   }
 
-  desk_at : (es : List (Event T)) (server m : ℕ) (ds : List ClientSide) (k : ℕ) → AllByRecursion (IsDesk es server m) ds → k < length ds → IsDesk es server m (slice_index_or ds k no_desk)
-  desk_at es server m [] k h l = absurd (omega (arith, l))
-  desk_at es server m (d ∷ ds) zero h l = h.0
-  desk_at es server m (d ∷ ds) (suc k) h l = desk_at es server m ds k h.1 (omega (arith, l))
-
-  pub settled_desks : (es : List (Event T)) (server m : ℕ) (ps : List PassState) (ds fs : List ClientSide) → length ps ≡ m → AllByRecursion (IsDesk es server m) ds → ArePassesTakenIn ps ds fs → AreSettledDesks es ps ds fs
-  settled_desks es server m ps ds fs same all h = record {
+  pub settled_desks : (es : List (Event T)) (server : ℕ) (ws : List WorkerSide) (ps : List PassState) (ds fs : List ClientSide) → ((k : ℕ) → having k ps ≡ reaching k ws) → AreDesks es server ws ds → ArePassesTakenIn ps ds fs → AreSettledDesks es ps ds fs
+  settled_desks es server ws ps ds fs same all h = record {
     as_many = h.as_many;
     each = λ k l. (
         let d = slice_index_or ds k no_desk in
         let f = slice_index_or fs k no_desk in
-        let was = desk_at es server m ds k all l in
+        let was = all k l in
         let now = h.each k l in
         record {
           its = now.its;
           stamps = ap (λ (x : ClientSide). x.held.stamps.amount) now.its ∙ was.stamps;
           delta = ap (λ (x : ClientSide). x.held.delta.amount) now.its ∙ was.delta;
           rho = ap (λ (x : ClientSide). x.held.rho.amount) now.its ∙ was.rho;
-          reservations = settled_book _ es (length ps) m _ d.books.reservation f.books.reservation same was.reservation now.reservations;
-          priorities = settled_book _ es (length ps) m _ d.books.priority f.books.priority same was.priority now.priorities;
+          reservations = settled_book _ es (having k ps) (reaching k ws) _ d.books.reservation f.books.reservation (same k) was.reservation now.reservations;
+          priorities = settled_book _ es (having k ps) (reaching k ws) _ d.books.priority f.books.priority (same k) was.priority now.priorities;
         });
   }

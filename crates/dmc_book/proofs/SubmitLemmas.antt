@@ -1,18 +1,16 @@
 -- Why a submit was refused.
-use Rattle.std.proofs.Common.{ℕ, ◌≡◌, ◌<◌, false, List, map, length, refl, subst₂, Option, Some, Err, arith}
+use Rattle.std.proofs.Common.{ℕ, ◌≡◌, ◌<◌, false, length, refl, Some, Err, arith}
 use Rattle.std.specs.Prelude.{◌↔◌}
 use Rattle.dmc_types.specs.declared.ids.Token.{Token}
 use Rattle.dmc_tag.specs.Tag.{Tagging}
 use Rattle.dmc_history.specs.declared.ReserveFault.{ReserveFault}
 use Rattle.dmc_history.specs.declared.ReserveFault.TheVariants as reserve
-use Rattle.dmc_ledger.specs.Bundles.{StampHoldings, client_side}
-use Rattle.dmc_ledger.specs.declared.desk.ClientDesk.{ClientDesk}
+use Rattle.dmc_ledger.specs.Bundles.{StampHoldings}
 use Rattle.dmc_tlock.specs.BookState.{StampValue}
-use Rattle.dmc_book.specs.BookState.{BookState, PassState, worker_side}
+use Rattle.dmc_book.specs.BookState.{BookState, PassState}
 use Rattle.dmc_book.specs.Calls.{IsForDesk, submit_cause}
 use Rattle.dmc_book.specs.Moves.{IsEnrolled}
 use Rattle.dmc_book.specs.Submits.{FindsDesk, IsAsked, Submits}
-use Rattle.dmc_book.specs.declared.seat.Seat.{Seat}
 use Rattle.dmc_book.proofs.Causes.{memory_is_not_full}
 
 module _ {T : Type 0} (b : BookState T) (p : PassState) (stamp : StampValue) (tills : StampHoldings) where

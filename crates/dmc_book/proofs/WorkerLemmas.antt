@@ -33,14 +33,14 @@ module _ {T : Type 0} (e : Event T) where
   others x (y ∷ ys) (suc i) w h here = others x ys i (omega (arith, w)) h.1 here
 
   module _ {S : Type 0} where
-    pub counted_workers : (ss : List (Seat S)) (i : ℕ) (d new : Seat S) → i < length ss → (slice_index_or (map worker_side ss) i no_worker).worker ≡ e.worker.0 → AreWorkersApart (map worker_side ss) → new.worker ≡ (slice_index_or ss i d).worker → new.renewed ≡ (slice_index_or ss i d).renewed → worker_accounts new.books ≡ books_after (numbers_of e.command e.reply) (worker_accounts ((slice_index_or ss i d).books)) → map worker_side (slice_set ss i new) ≡ map (worker_after e) (map worker_side ss)
-    counted_workers [] i d new l here apart w r b = absurd (omega (arith, l))
-    counted_workers (x ∷ xs) zero d new l here apart w r b =
+    pub counted_workers : (ss : List (Seat S)) (i : ℕ) (d new : Seat S) → i < length ss → (slice_index_or (map worker_side ss) i no_worker).worker ≡ e.worker.0 → AreWorkersApart (map worker_side ss) → new.worker ≡ (slice_index_or ss i d).worker → new.renewed ≡ (slice_index_or ss i d).renewed → new.reach ≡ (slice_index_or ss i d).reach → worker_accounts new.books ≡ books_after (numbers_of e.command e.reply) (worker_accounts ((slice_index_or ss i d).books)) → map worker_side (slice_set ss i new) ≡ map (worker_after e) (map worker_side ss)
+    counted_workers [] i d new l here apart w r n b = absurd (omega (arith, l))
+    counted_workers (x ∷ xs) zero d new l here apart w r n b =
         let is : (e.worker.0 == x.worker.0) ≡ true = eq-eqb e.worker.0 x.worker.0 (sym here) in
-        let first : worker_side new ≡ worker_after e (worker_side x) = rw (is, w, r, b) refl in
+        let first : worker_side new ≡ worker_after e (worker_side x) = rw (is, w, r, n, b) refl in
         ap (λ y. y ∷ map worker_side xs) first ∙ ap (λ ys. worker_after e (worker_side x) ∷ ys) (sym (map_unmoved (worker_after e) (map worker_side xs) (all_as _ _ (λ o h. unmoved x.worker.0 here o h) (map worker_side xs) apart.0)))
-    counted_workers (x ∷ xs) (suc i) d new l here apart w r b =
-        let rest = counted_workers xs i d new (omega (arith, l)) here apart.1 w r b in
+    counted_workers (x ∷ xs) (suc i) d new l here apart w r n b =
+        let rest = counted_workers xs i d new (omega (arith, l)) here apart.1 w r n b in
         let within : i < length (map worker_side xs) = at_map xs i (omega (arith, l)) in
         let first : worker_after e (worker_side x) ≡ worker_side x = unmoved_at (worker_side x) _ refl (others (worker_side x) (map worker_side xs) i within apart.0 here) in
         ap (λ ys. worker_side x ∷ ys) rest ∙ ap (λ y. y ∷ map (worker_after e) (map worker_side xs)) (sym first)

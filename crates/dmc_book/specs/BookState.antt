@@ -28,10 +28,12 @@ pub record WorkerHoldings : Type 0 where
   pub grants : Holding
   pub granted : Holding
 
--- an enrolled worker; how many events were recorded when its sums of tokens were last renewed; and its books
+-- An enrolled worker; how many events were recorded when its sums of tokens were last renewed; of how many desks its pass has
+-- tills, which are the first ones; and its books.
 pub record WorkerSide : Type 0 where
   pub worker : ℕ
   pub renewed : ℕ
+  pub reach : ℕ
   pub books : WorkerAccounts
 
 -- The number of the server; the history, how many of its events were released, how many there may be until more
@@ -56,7 +58,7 @@ pub record BookState (T : Type 0) : Type 0 where
   pub desks : List ClientSide
   pub closed : Bool
 
--- a worker's pass: the worker and its place in the book, its five tills, and for each desk a till of each phase
+-- a worker's pass: the worker and its place in the book, its five tills, and for each desk that it reaches a till of each phase
 pub record PassState : Type 0 where
   pub worker : ℕ
   pub place : ℕ
@@ -72,7 +74,7 @@ module _ {S : Type 0} where
   worker_holdings t = record { calls = t.calls; misses = t.misses; tokens = t.tokens; grants = t.grants; granted = t.granted }
 
   abbrev pub worker_side : Seat S → WorkerSide
-  worker_side s = record { worker = s.worker.0; renewed = s.renewed; books = worker_accounts s.books }
+  worker_side s = record { worker = s.worker.0; renewed = s.renewed; reach = s.reach; books = worker_accounts s.books }
 
   abbrev pub pass_state : WorkerPass S → PassState
   pass_state p = record {
@@ -113,6 +115,7 @@ abbrev pub no_worker : WorkerSide
 no_worker = record {
   worker = 0;
   renewed = 0;
+  reach = 0;
   books = record { calls = no_account; misses = no_account; tokens = no_account; grants = no_account; granted = no_account };
 }
 

@@ -1,5 +1,5 @@
 -- What a call does to a book and a pass, and what it is refused for.
-use Rattle.std.specs.Prelude.{◌≡◌, ℕ, ◌==◌, Bool, true, false, not, List, Option, Some, None, Result, Ok, Err, is_some, slice_index_or}
+use Rattle.std.specs.Prelude.{◌≡◌, ℕ, Bool, true, false, not, List, Option, Some, None, Result, Ok, Err, is_some, slice_index_or}
 use Rattle.dmc_types.specs.declared.ids.ClientId.{ClientId}
 use Rattle.dmc_types.specs.declared.config.PhaseType.{PhaseType}
 use Rattle.dmc_types.specs.declared.command.Command.{Command}
@@ -112,13 +112,22 @@ submit_cause reserve.Memory = submit.Memory
 
 -- ---- what the queue makes of a command
 
--- a step whose grant the units can take; or no step, since they can't; or no step, since an allocation failed
-abbrev pub Asks : {T : Type 0} → Tagging T → (ClientId → PhaseType → Bool) → State T → State T → Command → Result (Reply T) RunFault → Type 0
-Asks ops takes old new command (Ok reply) = Steps ops old new command (Some reply) × (is_allowed takes reply ≡ true) × (Strays takes command reply → ⊥)
-Asks ops takes old new command (Err run.Stranger) = (new ≡ old) × Strays takes command ((step ops old command).1)
-Asks ops takes old new command (Err run.NoDesk) = ⊥
-Asks ops takes old new command (Err run.HistoryFull) = ⊥
-Asks ops takes old new command (Err run.Memory) = Steps ops old new command None
+-- what a grant that the units can't take is refused for, of a pass that has tills of fewer desks than there are, or of all
+abbrev pub IsOfDeclined : Type 0 → RunFault → Type 0
+IsOfDeclined behind run.Stranger = behind → ⊥
+IsOfDeclined behind run.Behind = behind
+IsOfDeclined behind run.NoDesk = ⊥
+IsOfDeclined behind run.HistoryFull = ⊥
+IsOfDeclined behind run.Memory = ⊥
+
+-- a step whose grant the units can take; or no step, since they can't; or no step since memory is refused
+abbrev pub Asks : {T : Type 0} → Tagging T → Type 0 → (ClientId → PhaseType → Bool) → State T → State T → Command → Result (Reply T) RunFault → Type 0
+Asks ops behind takes old new command (Ok reply) = Steps ops old new command (Some reply) × (is_allowed takes reply ≡ true) × (Strays takes command reply → ⊥)
+Asks ops behind takes old new command (Err run.Stranger) = (new ≡ old) × Strays takes command ((step ops old command).1) × (behind → ⊥)
+Asks ops behind takes old new command (Err run.Behind) = (new ≡ old) × Strays takes command ((step ops old command).1) × behind
+Asks ops behind takes old new command (Err run.NoDesk) = ⊥
+Asks ops behind takes old new command (Err run.HistoryFull) = ⊥
+Asks ops behind takes old new command (Err run.Memory) = Steps ops old new command None
 
 -- what the queue makes of a pull, as a reply
 abbrev pub asked : {T : Type 0} → Result Pulled RunOrRange → Result (Reply T) RunFault

@@ -1,10 +1,9 @@
 -- What holds of all accounts, and of every queue's book: the invariants of their types.
-use Rattle.std.specs.Prelude.{◌≡◌, ℕ, ◌+◌, ◌-◌, ◌*◌, ◌^◌, ◌≤◌, ◌==◌, true, false, List, [], ◌∷◌, drop, length, Option, Some, None, is_some, ⊤}
-use Rattle.std.specs.List.{AllByRecursion}
-use Rattle.dmc_types.specs.Limits.{max_events}
+use Rattle.std.specs.Prelude.{◌≡◌, ℕ, ◌+◌, ◌-◌, ◌*◌, ◌^◌, ◌<◌, ◌≤◌, ◌==◌, nat_lt, true, false, List, [], ◌∷◌, drop, length, Option, Some, None, is_some, slice_index_or, ⊤}
+use Rattle.std.specs.List.{AllByRecursion, list_any}
+use Rattle.dmc_types.specs.Limits.{max_events, max_workers}
 use Rattle.dmc_types.specs.Values.{Setting}
 use Rattle.dmc_types.specs.declared.ids.ClientId.{ClientId}
-use Rattle.dmc_types.specs.declared.config.PhaseType.{PhaseType}
 use Rattle.dmc_types.specs.declared.config.PhaseType.TheVariants.{Reservation, Priority}
 use Rattle.dmc_tag.specs.Tag.{Tagging}
 use Rattle.dmc_tag.specs.State.{State, Represents}
@@ -13,8 +12,8 @@ use Rattle.dmc_tag.specs.declared.event.Event.{Event}
 use Rattle.dmc_history.specs.Segments.{max_released}
 use Rattle.dmc_ledger.specs.Accounts.{Account, total_of}
 use Rattle.dmc_ledger.specs.Bundles.{ClientSide, GrantAccounts}
-use Rattle.dmc_book.specs.BookState.{AccountsState, WorkerAccounts, WorkerSide}
-use Rattle.dmc_book.specs.Counts.{max_added, count, worker_adds, stamps_added, delta_added, rho_added, grant_in, grants_added}
+use Rattle.dmc_book.specs.BookState.{AccountsState, WorkerAccounts, WorkerSide, no_desk}
+use Rattle.dmc_book.specs.Counts.{accepted, max_added, one_if, count, worker_adds, stamps_added, delta_added, rho_added, grant_in, grants_added}
 use Rattle.dmc_book.specs.Moves.{desk_place}
 
 -- The book totals what the events add. Nothing of it is gathered, and this number of its tills is open.
@@ -33,14 +32,23 @@ pub record IsWorker {T : Type 0} (history : List (Event T)) (w : WorkerSide) : T
   pub granted : IsCounted (λ e. (worker_adds w.worker e).granted) (drop w.renewed history) 1 w.books.granted
 
 -- the desk of a client: the stamps, deltas and rhos of its accepted adds, and the books of its grants, of which the held
--- till of the tracker's desk is open and one in each worker's pass
-pub record IsDesk {T : Type 0} (history : List (Event T)) (server workers : ℕ) (d : ClientSide) : Type 0 where
+-- till of the tracker's desk is open and one in each of these passes
+pub record IsDesk {T : Type 0} (history : List (Event T)) (server passes : ℕ) (d : ClientSide) : Type 0 where
   pub its_server : d.server ≡ server
   pub stamps : d.held.stamps.amount ≡ count (stamps_added d.client) history
   pub delta : d.held.delta.amount ≡ count (delta_added d.client) history
   pub rho : d.held.rho.amount ≡ count (rho_added d.client) history
-  pub reservation : IsCounted (grants_added d.client Reservation) history (1 + workers) d.books.reservation
-  pub priority : IsCounted (grants_added d.client Priority) history (1 + workers) d.books.priority
+  pub reservation : IsCounted (grants_added d.client Reservation) history (1 + passes) d.books.reservation
+  pub priority : IsCounted (grants_added d.client Priority) history (1 + passes) d.books.priority
+
+-- how many workers' passes have tills of the desk at a place
+abbrev pub reaching : ℕ → List WorkerSide → ℕ
+reaching k [] = 0
+reaching k (w ∷ ws) = one_if (nat_lt k w.reach) + reaching k ws
+
+-- each is the desk of its client
+abbrev pub AreDesks : {T : Type 0} → List (Event T) → ℕ → List WorkerSide → List ClientSide → Type 0
+AreDesks history server workers desks = (k : ℕ) → k < length desks → IsDesk history server (reaching k workers) (slice_index_or desks k no_desk)
 
 -- no two workers, and no two desks, of one number
 abbrev pub AreWorkersApart : List WorkerSide → Type 0
@@ -51,10 +59,14 @@ abbrev pub AreClientsApart : List ClientSide → Type 0
 AreClientsApart [] = ⊤
 AreClientsApart (d ∷ ds) = AllByRecursion (λ other. (other.client == d.client) ≡ false) ds × AreClientsApart ds
 
--- who is granted, if anyone is, has a desk
-abbrev pub HasDesk : List ClientSide → Option (ClientId × PhaseType) → Type 0
+-- who is granted, or whose request is queued, if anyone's is, has a desk
+abbrev pub HasDesk : {X : Type 0} → List ClientSide → Option (ClientId × X) → Type 0
 HasDesk desks None = ⊤
-HasDesk desks (Some grant) = is_some (desk_place grant.0.0 desks) ≡ true
+HasDesk desks (Some its) = is_some (desk_place its.0.0 desks) ≡ true
+
+-- the worker of this number is enrolled
+abbrev pub IsSeated : List WorkerSide → ℕ → Type 0
+IsSeated workers worker = list_any (λ w. worker == w.worker) workers ≡ true
 
 -- Sums of tokens grow faster than a history, since a token is any number up to 2^32-1. What they had grown to when events were
 -- last released leaves them room for the events that are kept.
@@ -62,18 +74,22 @@ pub record AreTokensFit (first events : ℕ) (books : WorkerAccounts) : Type 0 w
   pub tokens : total_of books.tokens + first * max_added ≤ 2 ^ 62 + events * max_added
   pub granted : total_of books.granted + first * max_added ≤ 2 ^ 62 + events * max_added
 
--- Workers and desks count the history, and each client that it grants a request of has a desk. No total can pass the 2^63 of a
--- book.
+-- Workers and desks count the history. Each client that it queues or grants a request of has a desk, and each worker whose call
+-- it answers is enrolled. No total can pass the 2^63 of a book.
 pub record AreConsistent {T : Type 0} (a : AccountsState T) : Type 0 where
   pub workers : AllByRecursion (IsWorker a.history) a.workers
-  pub desks : AllByRecursion (IsDesk a.history a.server (length a.workers)) a.desks
+  pub desks : AreDesks a.history a.server a.workers a.desks
+  pub reach : AllByRecursion (λ w. w.reach ≤ length a.desks) a.workers
   pub workers_apart : AreWorkersApart a.workers
   pub clients_apart : AreClientsApart a.desks
   pub granted : AllByRecursion (λ e. HasDesk a.desks (grant_in e.reply)) a.history
+  pub queued : AllByRecursion (λ e. HasDesk a.desks (accepted e)) a.history
+  pub seated : AllByRecursion (λ e. IsSeated a.workers e.worker.0) a.history
   pub tokens_fit : AllByRecursion (λ w. AreTokensFit a.first (length a.history) w.books) a.workers
   pub within : a.first ≤ length a.history
   pub few : a.first ≤ max_released
   pub limit : a.most ≤ a.first + max_events
+  pub few_workers : length a.workers ≤ max_workers
 
 -- The history replays, and the queue represents the state after it.
 pub record IsReplayed {T : Type 0} (ops : Tagging T) (queue : State T) (config : Setting) (history : List (Event T)) : Type 0 where

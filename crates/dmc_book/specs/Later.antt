@@ -1,4 +1,4 @@
--- What no call of a queue's book changes.
+-- What no call of a queue's book changes, but for those that a lock with a witness does not offer: `admit` and `enrol`.
 use Rattle.std.specs.Prelude.{◌≡◌, ◌≤◌, ℕ, ◌+◌, List, ◌++◌, map}
 use Rattle.dmc_tag.specs.declared.event.Event.{Event}
 use Rattle.dmc_ledger.specs.Bundles.{ClientSide}

@@ -6,7 +6,11 @@ pub mod Calls
 pub mod Consistent
 -- Counts over a queue's history: what each event adds to a count, and the sums.
 pub mod Counts
--- What no call of a queue's book changes.
+-- Workers that come later.
+pub mod Enrolling
+-- Clients that come later, and passes that are extended to their desks.
+pub mod Joining
+-- What no call through a lock with a witness changes in a queue's book.
 pub mod Later
 -- What a pass lends, and what the pass is once that was given back.
 pub mod Lending

@@ -49,13 +49,14 @@ new_holdings n = record {
   granted = new_till (n + 4);
 }
 
-abbrev pub new_worker : ℕ → WorkerId → WorkerSide
-new_worker n w = record { worker = w.0; renewed = 0; books = new_accounts n }
+-- a worker whose pass reaches this many desks
+abbrev pub new_worker : ℕ → ℕ → WorkerId → WorkerSide
+new_worker reach n w = record { worker = w.0; renewed = 0; reach = reach; books = new_accounts n }
 
 -- the workers, whose books are the next of the mint
-abbrev pub new_workers : ℕ → List WorkerId → List WorkerSide
-new_workers n [] = []
-new_workers n (w ∷ ws) = new_worker n w ∷ new_workers (n + 5) ws
+abbrev pub new_workers : ℕ → ℕ → List WorkerId → List WorkerSide
+new_workers reach n [] = []
+new_workers reach n (w ∷ ws) = new_worker reach n w ∷ new_workers reach (n + 5) ws
 
 -- this number of tills more is open of a desk's grant books
 abbrev pub with_tills : ℕ → Account → Account
@@ -93,7 +94,7 @@ new_accounts_state server most n workers desks = record {
   first = 0;
   most = most;
   room = 0;
-  workers = new_workers n workers;
+  workers = new_workers (length desks) n workers;
   desks = map (desk_with_tills (length workers)) desks;
 }
 

@@ -1,5 +1,5 @@
 -- A queue's book that releases events.
-use Rattle.std.specs.Prelude.{◌≡◌, ℕ, ◌+◌, ◌-◌, ◌<◌, ◌≤◌, ◌^◌, List, length}
+use Rattle.std.specs.Prelude.{ℕ, ◌+◌, ◌-◌, ◌<◌, ◌≤◌, ◌^◌, List, length}
 use Rattle.std.specs.List.{AllByRecursion}
 use Rattle.dmc_history.specs.Segments.{max_released}
 use Rattle.dmc_queue_history.specs.Segmented.{SegmentState}

@@ -1,5 +1,5 @@
 -- A queue's book that is settled.
-use Rattle.std.specs.Prelude.{◌≡◌, ℕ, ◌+◌, ◌<◌, List, [], ◌∷◌, drop, length, slice_index_or, sum_by}
+use Rattle.std.specs.Prelude.{◌≡◌, ℕ, ◌+◌, ◌<◌, ◌≤◌, nat_lt, List, [], ◌∷◌, drop, length, slice_index_or, sum_by}
 use Rattle.std.specs.List.{AllByRecursion}
 use Rattle.dmc_types.specs.declared.config.PhaseType.{PhaseType}
 use Rattle.dmc_types.specs.declared.config.PhaseType.TheVariants.{Reservation, Priority}
@@ -7,8 +7,8 @@ use Rattle.dmc_tag.specs.declared.event.Event.{Event}
 use Rattle.dmc_ledger.specs.Accounts.{Account, after_closing, total_of}
 use Rattle.dmc_ledger.specs.Bundles.{ClientSide, GrantAccounts, GrantHoldings}
 use Rattle.dmc_ledger.specs.Moves.{till_in}
-use Rattle.dmc_book.specs.BookState.{AccountsState, BookState, PassState, WorkerAccounts, WorkerSide, no_desk, no_unit}
-use Rattle.dmc_book.specs.Counts.{count, worker_adds, stamps_added, delta_added, rho_added, grants_added, phase_grants}
+use Rattle.dmc_book.specs.BookState.{AccountsState, BookState, PassState, WorkerAccounts, WorkerSide, no_desk, no_unit, no_worker}
+use Rattle.dmc_book.specs.Counts.{count, one_if, worker_adds, stamps_added, delta_added, rho_added, grants_added, phase_grants}
 use Rattle.dmc_book.specs.Moves.{IsEnrolled}
 
 -- ---- whose passes they are
@@ -18,14 +18,15 @@ pub record AreUnitsOf (tills : GrantHoldings) (books : GrantAccounts) : Type 0 w
   pub reservation : tills.reservation.number ≡ books.reservation.number
   pub priority : tills.priority.number ≡ books.priority.number
 
--- tills of each desk's grant books, in the order of the desks
+-- tills of the first desks' grant books, in the order of the desks
 pub record AreDeskUnits (desks : List ClientSide) (units : List GrantHoldings) : Type 0 where
-  pub as_many : length units ≡ length desks
-  pub each : (k : ℕ) → k < length desks → AreUnitsOf (slice_index_or units k no_unit) (slice_index_or desks k no_desk).books
+  pub within : length units ≤ length desks
+  pub each : (k : ℕ) → k < length units → AreUnitsOf (slice_index_or units k no_unit) (slice_index_or desks k no_desk).books
 
--- the pass is of a worker here, and has tills of each desk's grant books
+-- the pass is of a worker here, and has tills of the grant books of each desk that the worker reaches
 pub record IsOwn (workers : List WorkerSide) (desks : List ClientSide) (p : PassState) : Type 0 where
   pub enrolled : IsEnrolled workers p
+  pub reach : length p.units ≡ (slice_index_or workers p.place no_worker).reach
   pub units : AreDeskUnits desks p.units
 
 -- As many passes as workers, each of a worker here. One till of each worker's books is open, so none is there twice.
@@ -98,18 +99,23 @@ pub record IsDeskTakenIn (tills reservation priority : ℕ) (old new : ClientSid
   pub reservations : IsTakenIn tills reservation old.books.reservation new.books.reservation
   pub priorities : IsTakenIn tills priority old.books.priority new.books.priority
 
--- each desk gathered its tills of these
+-- each desk gathered its tills of these, where there are some
 pub record AreUnitsTakenIn (units : List GrantHoldings) (old new : List ClientSide) : Type 0 where
   pub as_many : length new ≡ length old
   pub each : (k : ℕ) → k < length old
-      → IsDeskTakenIn 1 (slice_index_or units k no_unit).reservation.amount (slice_index_or units k no_unit).priority.amount
+      → IsDeskTakenIn (one_if (nat_lt k (length units))) (slice_index_or units k no_unit).reservation.amount (slice_index_or units k no_unit).priority.amount
       (slice_index_or old k no_desk) (slice_index_or new k no_desk)
+
+-- how many of the passes have tills of the desk at a place
+abbrev pub having : ℕ → List PassState → ℕ
+having k [] = 0
+having k (p ∷ ps) = one_if (nat_lt k (length p.units)) + having k ps
 
 -- each desk gathered its tills of these passes
 pub record ArePassesTakenIn (passes : List PassState) (old new : List ClientSide) : Type 0 where
   pub as_many : length new ≡ length old
   pub each : (k : ℕ) → k < length old
-      → IsDeskTakenIn (length passes) (left_in Reservation k passes) (left_in Priority k passes)
+      → IsDeskTakenIn (having k passes) (left_in Reservation k passes) (left_in Priority k passes)
       (slice_index_or old k no_desk) (slice_index_or new k no_desk)
 
 -- the grant book totals what it did; what the passes held is gathered, and the held till of its pair alone is open

@@ -1,10 +1,10 @@
 //! Commands passed to the queue.
-ghost use Rattle.std.specs.Prelude.{◌≡◌, false, ⊤};
+ghost use Rattle.std.specs.Prelude.{◌≡◌, ◌<◌, false, length, ⊤};
 ghost use Rattle.dmc_tag.specs.Steps.{Steps};
 ghost use Rattle.dmc_types.specs.declared.command.Command.TheVariants as commands;
 ghost use Rattle.dmc_pull.specs.Queue.{state_of};
 ghost use Rattle.dmc_book.specs.BookState.{pass_state};
-ghost use Rattle.dmc_book.specs.Calls.{Asks, added_reply, asked, is_add};
+ghost use Rattle.dmc_book.specs.Calls.{Asks, IsOfDeclined, added_reply, asked, is_add};
 ghost use Rattle.dmc_book.specs.Moves.{takes};
 
 use crate::accounts::Accounts;
@@ -63,6 +63,16 @@ pub(crate) fn ask_to_add<T: Tag, I: Indexes<T>>(
     }
 }
 
+/// Why a pull is refused whose grant the pass has no till for.
+fn fault_of_declined<T: Tag, S: Setup>(accounts: &Accounts<T, S>, pass: &WorkerPass<S>) -> RunFault
+    ensures { IsOfDeclined (length (pass_state pass.now).units < length accounts.now.desks) result }
+{
+    if pass.units.len() < accounts.desks.len() {
+        return RunFault::Behind;
+    }
+    RunFault::Stranger
+}
+
 /// Pulls, where the pass has a till for the grant. The pass keeps the place of a granted client's desk.
 #[inline(always)]
 pub(crate) fn ask_to_pull<T: Tag, I: Indexes<T>, S: Setup>(
@@ -71,13 +81,13 @@ pub(crate) fn ask_to_pull<T: Tag, I: Indexes<T>, S: Setup>(
     pass: &WorkerPass<S>,
     at: Moment,
 ) -> Result<Pulled, RunOrRange>
-    ensures { Asks T.ops (takes accounts.now.desks (pass_state pass.now).clients (pass_state pass.now).units) (state_of queue.old) (state_of queue.new) (commands.Pull at) (asked result) }
+    ensures { Asks T.ops (length (pass_state pass.now).units < length accounts.now.desks) (takes accounts.now.desks (pass_state pass.now).clients (pass_state pass.now).units) (state_of queue.old) (state_of queue.new) (commands.Pull at) (asked result) }
 {
     let test = UnitTest { accounts, pass };
     match queue.pull_allowed(at, &test) {
         Ok(pulled) => Ok(pulled),
         Err(PullFault::Refused(refusal)) => Err(RunOrRange::Range),
-        Err(PullFault::Declined) => Err(RunOrRange::Run(RunFault::Stranger)),
+        Err(PullFault::Declined) => Err(RunOrRange::Run(fault_of_declined(accounts, pass))),
     }
 }
 
@@ -100,7 +110,7 @@ pub(crate) fn ask<T: Tag, I: Indexes<T>, S: Setup>(
     command: &Command,
 ) -> Result<Reply<T>, RunFault>
     requires plain { is_add command.now ≡ false }
-    ensures { Asks T.ops (takes accounts.now.desks (pass_state pass.now).clients (pass_state pass.now).units) (state_of queue.old) (state_of queue.new) command.now result }
+    ensures { Asks T.ops (length (pass_state pass.now).units < length accounts.now.desks) (takes accounts.now.desks (pass_state pass.now).clients (pass_state pass.now).units) (state_of queue.old) (state_of queue.new) command.now result }
 {
     if let Command::Pull { at } = *command {
         return reply_of(ask_to_pull(queue, accounts, pass, at));

@@ -1,5 +1,5 @@
 //! The queue's book.
-ghost use Rattle.std.specs.Prelude.{◌≡◌, ◌≤◌, ◌+◌, ◌*◌, ◌↔◌, drop, length, map, true, false, IfNone, IfSome, OnSome, IfOk, IfErr, IsOk, IsSome, OnOk, OnErr, IsErrOf, IsErrAnd};
+ghost use Rattle.std.specs.Prelude.{◌≡◌, ◌<◌, ◌≤◌, ◌+◌, ◌*◌, ◌↔◌, drop, length, map, true, false, IfNone, IfSome, OnSome, IfOk, IfErr, IsOk, IsSome, OnOk, OnErr, IsErrOf, IsErrAnd};
 ghost use Rattle.std.specs.List.{AllByRecursion};
 ghost use Rattle.dmc_types.specs.Limits.{max_events, max_workers};
 ghost use Rattle.dmc_ledger.specs.Bundles.{client_side};
@@ -152,8 +152,9 @@ impl<T: Tag, I: Indexes<T>, S: Setup> QueueBook<T, I, S> {
     /// one to the worker's calls, one to its misses where the reply is Later, Nothing or Refused, and of a grant one unit of
     /// its client and phase to the pass.
     ///
-    /// Refused, with nothing recorded: `Stranger`, `NoDesk`, `HistoryFull`, `Memory`. A pull that would grant a request whose
-    /// unit the pass has no till for is `Stranger` too; that is seen once the place of the event is made.
+    /// Refused, with nothing recorded: `Stranger`, `Behind`, `NoDesk`, `HistoryFull`, `Memory`. A pull that would grant a request
+    /// whose unit the pass has no till for is `Behind` where desks came after the pass, else `Stranger`; that is seen once the
+    /// place of the event is made.
     pub fn run(&mut self, pass: &mut WorkerPass<S>, command: Command) -> Result<Reply<T>, RunFault>
         requires { is_add command ≡ false }
         ensures ran { IfOk result (λ reply. Ran T.ops self.old self.new (pass_state pass.old) (pass_state pass.new) command reply) }
@@ -162,6 +163,11 @@ impl<T: Tag, I: Indexes<T>, S: Setup> QueueBook<T, I, S> {
         ensures stranger { (IsEnrolled self.old.workers (pass_state pass.old) → ⊥) → result ≡ Err RunFault.Stranger }
         ensures strays { IsErrOf result RunFault.Stranger → IsEnrolled self.old.workers (pass_state pass.old)
             → Strays (takes self.old.desks (pass_state pass.old).clients (pass_state pass.old).units) command (reply_to T.ops self.old command) }
+        ensures behind { IsErrOf result RunFault.Behind → IsEnrolled self.old.workers (pass_state pass.old)
+            × (length (pass_state pass.old).units < length self.old.desks)
+            × Strays (takes self.old.desks (pass_state pass.old).clients (pass_state pass.old).units) command (reply_to T.ops self.old command) }
+        ensures not_behind { IsErrOf result RunFault.Stranger → IsEnrolled self.old.workers (pass_state pass.old)
+            → length (pass_state pass.old).units < length self.old.desks → ⊥ }
         ensures granted { OnOk result
             (Strays (takes self.old.desks (pass_state pass.old).clients (pass_state pass.old).units) command (reply_to T.ops self.old command) → ⊥) }
         ensures no_desk { IsErrOf result RunFault.NoDesk

@@ -11,9 +11,12 @@ use thiserror::Error;
 #[derive(Clone, Copy, Debug, PartialEq, Eq, Error)]
 pub enum RunFault {
     /// The pass is of no worker that is enrolled here, or its tills are not of that worker's books; or the rules would
-    /// grant a request whose unit the pass has no till for.
+    /// grant a request whose unit the pass has no till for, though it has tills of as many desks as there are.
     #[error("the pass or a till is of other books")]
     Stranger,
+    /// The rules would grant a request whose unit the pass has no till for, and desks came after the pass: `extend` it.
+    #[error("the pass has no tills of the desks that came later")]
+    Behind,
     /// A client is to be registered that has no desk.
     #[error("the client has no desk")]
     NoDesk,
@@ -120,4 +123,54 @@ impl From<AllocError> for NewFault {
 pub struct BookFault<S: Setup> {
     pub desks: Vec<ClientDesk<S>>,
     pub cause: NewFault,
+}
+
+/// Why a client was not admitted. Nothing has changed.
+#[derive(Clone, Copy, Debug, PartialEq, Eq, Error)]
+pub enum AdmitCause {
+    /// The desk is another server's, or was used: it holds a stamp, or issued a grant.
+    #[error("the desk is of another server, or was used")]
+    Stranger,
+    /// The client has a desk here.
+    #[error("the client has a desk")]
+    Known,
+    /// There are 65,536 desks.
+    #[error("there are as many desks as there may be")]
+    Clients,
+    /// The allocator refused a growth.
+    #[error("out of memory")]
+    Memory,
+}
+
+/// Why a client was not admitted, with its desk as it was.
+#[derive(Drop)]
+pub struct AdmitFault<S: Setup> {
+    pub desk: ClientDesk<S>,
+    pub cause: AdmitCause,
+}
+
+/// Why a pass was not extended. Nothing has changed.
+#[derive(Clone, Copy, Debug, PartialEq, Eq, Error)]
+pub enum ExtendFault {
+    /// The pass is of no worker that is enrolled here, its tills are not of that worker's books, or it has tills of more or of
+    /// fewer desks than the book opened for it.
+    #[error("the pass or a till is of other books")]
+    Stranger,
+    /// The allocator refused a growth.
+    #[error("out of memory")]
+    Memory,
+}
+
+/// Why a worker was not enrolled. Nothing has changed.
+#[derive(Clone, Copy, Debug, PartialEq, Eq, Error)]
+pub enum EnrolFault {
+    /// A worker of this number is enrolled, or was.
+    #[error("the worker is enrolled, or was")]
+    Known,
+    /// There are 2^32-2 workers, or the mint has fewer than five books left.
+    #[error("the workers or the books are past their limits")]
+    Limit,
+    /// The allocator refused a growth.
+    #[error("out of memory")]
+    Memory,
 }

@@ -1,5 +1,5 @@
 //! What a queue's book opens with.
-ghost use Rattle.std.specs.Prelude.{◌≡◌, ◌+◌, ◌-◌, ◌*◌, ◌<◌, ◌≤◌, ◌↔◌, ℕ, [], length, map, vec_capacity, slice_index_or, IfOk, OnOk, IfSome, IsSome, IsTrue, IsErrOf};
+ghost use Rattle.std.specs.Prelude.{◌≡◌, ◌+◌, ◌-◌, ◌*◌, ◌<◌, ◌≤◌, ◌++◌, ◌↔◌, ℕ, [], length, map, vec_capacity, slice_index_or, IfOk, OnOk, IfSome, IsSome, IsTrue, IsErrOf};
 ghost use Rattle.std.specs.List.{AllByRecursion};
 ghost use Rattle.std.specs.Arc.{arc_value};
 ghost use Rattle.dmc_types.specs.Limits.{max_events, max_workers};
@@ -30,10 +30,10 @@ use std::cell::Cell;
 use std::sync::Arc;
 
 /// The most desks that a book has.
-const MAX_DESKS: usize = 65_536;
+pub(crate) const MAX_DESKS: usize = 65_536;
 
 /// The clients of the desks, in order, or `None` where one is named twice.
-fn name_clients<S: Setup>(
+pub(crate) fn name_clients<S: Setup>(
     alloc: Global,
     desks: &[ClientDesk<S>],
 ) -> Result<Option<IndexSet<ClientId>>, AllocError>
@@ -69,7 +69,7 @@ pub(crate) struct PassRoom<S: Setup> {
     pub(crate) units: Vec<GrantTills<S>>,
 }
 
-fn room_for<S: Setup>(
+pub(crate) fn room_for<S: Setup>(
     alloc: Global,
     clients: &Arc<IndexSet<ClientId>, Global>,
 ) -> Result<PassRoom<S>, AllocError>
@@ -261,13 +261,12 @@ fn open_unit<S: Setup>(desk: &mut ClientDesk<S>) -> GrantTills<S>
     }
 }
 
-/// A till of each grant book of each desk, in room that was made.
-fn open_units<S: Setup>(desks: &mut [ClientDesk<S>], units: &mut Vec<GrantTills<S>>)
+/// A till of each grant book of each desk, behind those that are there, in room that was made.
+pub(crate) fn open_units<S: Setup>(desks: &mut [ClientDesk<S>], units: &mut Vec<GrantTills<S>>)
     requires some_left { (k : ℕ) → k < length desks.old → HaveRoom (slice_index_or (map client_side desks.old) k no_desk).books }
-    requires empty { length units.old.items ≡ 0 }
-    requires room { length desks.old ≤ vec_capacity units.old }
+    requires room { length units.old.items + length desks.old ≤ vec_capacity units.old }
     ensures desks { map client_side desks.new ≡ map (desk_with_tills 1) (map client_side desks.old) }
-    ensures units { map grant_holdings units.new.items ≡ map new_unit (map client_side desks.old) }
+    ensures units { map grant_holdings units.new.items ≡ map grant_holdings units.old.items ++ map new_unit (map client_side desks.old) }
 {
     for i in 0..desks.len() {
         let unit = open_unit(&mut desks[i]);
@@ -276,7 +275,7 @@ fn open_units<S: Setup>(desks: &mut [ClientDesk<S>], units: &mut Vec<GrantTills<
 }
 
 /// Opens the books of a worker, and its pass, in room that was made.
-fn open_one<S: Setup>(
+pub(crate) fn open_one<S: Setup>(
     mint: &mut Mint<S>,
     worker: WorkerId,
     place: usize,
@@ -287,7 +286,7 @@ fn open_one<S: Setup>(
     requires some_left { (k : ℕ) → k < length desks.old → HaveRoom (slice_index_or (map client_side desks.old) k no_desk).books }
     requires empty { length room.units.items ≡ 0 }
     requires room { length desks.old ≤ vec_capacity room.units }
-    ensures seat { worker_side result.0 ≡ new_worker mint.old.opened worker }
+    ensures seat { worker_side result.0 ≡ new_worker (length desks.old) mint.old.opened worker }
     ensures pass { pass_state result.1 ≡ new_pass place mint.old.opened (arc_value room.clients).keys (map client_side desks.old) worker }
     ensures desks { map client_side desks.new ≡ map (desk_with_tills 1) (map client_side desks.old) }
     ensures mint { mint.new ≡ record { opened = mint.old.opened + 5; left = mint.old.left - 5 } }
@@ -306,6 +305,7 @@ fn open_one<S: Setup>(
     let seat = Seat {
         worker,
         renewed: 0,
+        reach: desks.len(),
         books,
     };
     (seat, pass)
@@ -327,7 +327,7 @@ pub(crate) fn open_workers<S: Setup>(
     requires as_many { length rooms.items ≡ length workers.now }
     requires seats { (seats.old.items ≡ []) × (length workers.now ≤ vec_capacity seats.old) }
     requires passes { (passes.old.items ≡ []) × (length workers.now ≤ vec_capacity passes.old) }
-    ensures seats { map worker_side seats.new.items ≡ new_workers mint.old.opened workers.now }
+    ensures seats { map worker_side seats.new.items ≡ new_workers (length (map client_side desks.old)) mint.old.opened workers.now }
     ensures passes { map pass_state passes.new.items
         ≡ new_passes 0 mint.old.opened (map (λ d. d.client) desks.old) (map client_side desks.old) workers.now }
     ensures desks { map client_side desks.new ≡ map (desk_with_tills (length workers.now)) (map client_side desks.old) }

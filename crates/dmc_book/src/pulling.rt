@@ -1,5 +1,5 @@
 //! A pull from the queue's book.
-ghost use Rattle.std.specs.Prelude.{◌≡◌, ◌↔◌, true, false, length, OnOk, IsErrOf};
+ghost use Rattle.std.specs.Prelude.{◌≡◌, ◌<◌, ◌↔◌, true, false, length, OnOk, IsErrOf};
 ghost use Rattle.dmc_types.specs.declared.command.Command.TheVariants as commands;
 ghost use Rattle.dmc_pull.specs.Allowed.{is_allowed};
 ghost use Rattle.dmc_book.specs.BookState.{pass_state};
@@ -22,13 +22,19 @@ impl<T: Tag, I: Indexes<T>, S: Setup> QueueBook<T, I, S> {
     /// Pulls: grants the next request, or says when one is due, or that nothing is queued. It records and counts as `run` does
     /// for a Pull, and takes less time.
     ///
-    /// Refused `Range` by the rules, which is recorded; and with nothing recorded `Stranger`, `HistoryFull`, `Memory`, as for
-    /// `run`.
+    /// Refused `Range` by the rules, which is recorded; and with nothing recorded `Stranger`, `Behind`, `HistoryFull`, `Memory`,
+    /// as for `run`. A pass that is behind still pulls the requests of all clients that it has tills for: where the pull is
+    /// `Behind`, `extend` the pass and pull again.
     pub fn pull(&mut self, pass: &mut WorkerPass<S>, at: Moment) -> Result<Pulled, RunOrRange>
         ensures pulled { WasPulled T.ops self.old self.new (pass_state pass.old) (pass_state pass.new) at result }
         ensures stranger { (IsEnrolled self.old.workers (pass_state pass.old) → ⊥) → result ≡ Err (RunOrRange.Run RunFault.Stranger) }
         ensures strays { IsErrOf result (RunOrRange.Run RunFault.Stranger) → IsEnrolled self.old.workers (pass_state pass.old)
             → is_allowed (takes self.old.desks (pass_state pass.old).clients (pass_state pass.old).units) (reply_to T.ops self.old (commands.Pull at)) ≡ false }
+        ensures behind { IsErrOf result (RunOrRange.Run RunFault.Behind) → IsEnrolled self.old.workers (pass_state pass.old)
+            × (length (pass_state pass.old).units < length self.old.desks)
+            × (is_allowed (takes self.old.desks (pass_state pass.old).clients (pass_state pass.old).units) (reply_to T.ops self.old (commands.Pull at)) ≡ false) }
+        ensures not_behind { IsErrOf result (RunOrRange.Run RunFault.Stranger) → IsEnrolled self.old.workers (pass_state pass.old)
+            → length (pass_state pass.old).units < length self.old.desks → ⊥ }
         ensures granted { OnOk result
             (is_allowed (takes self.old.desks (pass_state pass.old).clients (pass_state pass.old).units) (reply_to T.ops self.old (commands.Pull at)) ≡ true) }
         ensures history_full { IsErrOf result (RunOrRange.Run RunFault.HistoryFull)

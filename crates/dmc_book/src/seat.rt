@@ -38,13 +38,15 @@ pub(crate) struct WorkerTills<S: Setup> {
     pub(crate) granted: Till<S>,
 }
 
-/// An enrolled worker, with the books of its counts. A settled book hands it back: what was gathered of its pass is then all
+/// An enrolled worker, with the books of its counts. A settled book returns it: what was gathered of its pass is then all
 /// that was counted of the worker.
 #[derive(Drop)]
 pub struct Seat<S: Setup> {
     pub(crate) worker: WorkerId,
     // How many events were recorded when the sums of its tokens were last renewed.
     pub(crate) renewed: u64,
+    // Of how many desks, the first ones, its pass has tills.
+    pub(crate) reach: usize,
     pub(crate) books: WorkerBooks<S>,
 }
 

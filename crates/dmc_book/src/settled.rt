@@ -1,12 +1,13 @@
 //! What a queue's book leaves.
-ghost use Rattle.std.specs.Prelude.{◌≡◌, ◌≤◌, ◌<◌, ◌↔◌, drop, length, map, IfSome, IsSome, IsTrue, slice_index_or, slice_set};
+ghost use Rattle.std.specs.Prelude.{ℕ, ◌≡◌, ◌≤◌, ◌<◌, ◌↔◌, drop, length, map, IfSome, IsSome, IsTrue, slice_index_or, slice_set};
 ghost use Rattle.std.specs.List.{AllByRecursion};
 ghost use Rattle.dmc_types.specs.Limits.{max_events};
 ghost use Rattle.dmc_ledger.specs.Accounts.{after_closing};
 ghost use Rattle.dmc_ledger.specs.Bundles.{client_side, grant_accounts, grant_holdings};
 ghost use Rattle.dmc_book.specs.BookState.{pass_state, worker_accounts, worker_holdings, worker_side, no_desk, no_worker};
+ghost use Rattle.dmc_book.specs.Consistent.{reaching};
 ghost use Rattle.dmc_book.specs.Moves.{AreOf};
-ghost use Rattle.dmc_book.specs.Settling.{AreDeskUnits, AreGrantsOfDesks, AreOneOpen, AreOwn, AreSettledDesks, AreUnitsOf, AreUnitsTakenIn, ArePassesTakenIn, IsDeskTakenIn, IsOwn, IsSettledWorker, IsTakenIn, accounts_settled, closed_accounts, closed_worker};
+ghost use Rattle.dmc_book.specs.Settling.{AreDeskUnits, AreGrantsOfDesks, AreOneOpen, AreOwn, AreSettledDesks, AreUnitsOf, AreUnitsTakenIn, ArePassesTakenIn, IsDeskTakenIn, IsOwn, IsSettledWorker, IsTakenIn, accounts_settled, closed_accounts, closed_worker, having};
 
 use crate::accounts::Accounts;
 use crate::pass::WorkerPass;
@@ -63,14 +64,14 @@ fn are_units_of<S: Setup>(tills: &GrantTills<S>, books: &GrantBooks<S>) -> bool
         && tills.priority.number() == books.priority.number()
 }
 
-/// Whether the tills are of the desks' grant books, in the order of the desks.
+/// Whether the tills are of the first desks' grant books, in the order of the desks.
 fn are_desk_units<S: Setup>(desks: &[ClientDesk<S>], units: &[GrantTills<S>]) -> bool
     ensures { IsTrue result ↔ AreDeskUnits (map client_side desks.now) (map grant_holdings units.now) }
 {
-    if units.len() != desks.len() {
+    if units.len() > desks.len() {
         return false;
     }
-    for i in 0..desks.len() {
+    for i in 0..units.len() {
         if !are_units_of(&units[i], &desks[i].books) {
             return false;
         }
@@ -78,11 +79,13 @@ fn are_desk_units<S: Setup>(desks: &[ClientDesk<S>], units: &[GrantTills<S>]) ->
     true
 }
 
-/// Whether the pass is of a worker here, and has tills of each desk.
+/// Whether the pass is of a worker here, and has tills of each desk that the worker reaches.
 fn is_own<S: Setup>(workers: &[Seat<S>], desks: &[ClientDesk<S>], pass: &WorkerPass<S>) -> bool
     ensures { IsTrue result ↔ IsOwn (map worker_side workers.now) (map client_side desks.now) (pass_state pass.now) }
 {
-    is_enrolled(workers, pass) && are_desk_units(desks, &pass.units)
+    is_enrolled(workers, pass)
+        && pass.units.len() == workers[pass.place].reach
+        && are_desk_units(desks, &pass.units)
 }
 
 /// Whether these are as many passes as workers, each of a worker here.
@@ -158,7 +161,7 @@ fn take_unit<S: Setup>(desk: &mut ClientDesk<S>, unit: GrantTills<S>)
     take_till(&mut desk.books.priority, priority);
 }
 
-/// Gathers the tills of each desk, from the last on.
+/// Gathers the tills of the first desks, from the last on.
 fn take_units<S: Setup>(desks: &mut [ClientDesk<S>], units: Vec<GrantTills<S>>)
     requires { AreDeskUnits (map client_side desks.old) (map grant_holdings units.items) }
     ensures { AreUnitsTakenIn (map grant_holdings units.items) (map client_side desks.old) (map client_side desks.new) }
@@ -180,6 +183,7 @@ pub(crate) fn take_passes<S: Setup>(
     requires one_open { AllByRecursion (λ w. AreOneOpen w.books) (map worker_side workers.old) }
     ensures workers { map worker_side workers.new ≡ map closed_worker (map worker_side workers.old) }
     ensures desks { ArePassesTakenIn (map pass_state passes.items) (map client_side desks.old) (map client_side desks.new) }
+    ensures tills { (k : ℕ) → having k (map pass_state passes.items) ≡ reaching k (map worker_side workers.old) }
 {
     let mut passes = passes;
     while let Some(pass) = passes.pop() {

@@ -27,6 +27,7 @@ of_submit (submit.Refused refusal) = Refused refusal
 
 abbrev pub of_run : RunFault → StopCause
 of_run run.Stranger = Stray
+of_run run.Behind = Stray
 of_run run.NoDesk = Stray
 of_run run.HistoryFull = HistoryFull
 of_run run.Memory = Memory

@@ -39,7 +39,7 @@ pub(crate) fn of_run(fault: RunFault) -> StopCause
     match fault {
         RunFault::HistoryFull => StopCause::HistoryFull,
         RunFault::Memory => StopCause::Memory,
-        RunFault::Stranger | RunFault::NoDesk => StopCause::Stray,
+        RunFault::Stranger | RunFault::Behind | RunFault::NoDesk => StopCause::Stray,
     }
 }
 

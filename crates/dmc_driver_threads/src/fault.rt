@@ -65,6 +65,8 @@ pub(crate) fn of_make(fault: MakeFault) -> OpenFault {
 pub(crate) fn of_register(fault: RunFault) -> OpenFault {
     match fault {
         RunFault::Memory => OpenFault::Memory,
-        RunFault::Stranger | RunFault::NoDesk | RunFault::HistoryFull => OpenFault::Torn,
+        RunFault::Stranger | RunFault::Behind | RunFault::NoDesk | RunFault::HistoryFull => {
+            OpenFault::Torn
+        }
     }
 }

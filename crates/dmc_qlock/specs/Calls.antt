@@ -1,6 +1,7 @@
 -- What a call through the lock shows its caller: what its own pass holds afterwards.
-use Rattle.std.specs.Prelude.{◌≡◌, ℕ, ◌==◌, ◌&&◌, Bool, true, false, not, length, Result, Ok, Err}
+use Rattle.std.specs.Prelude.{◌≡◌, ℕ, ◌==◌, ◌&&◌, Bool, true, false, not, List, length, map, Result, Ok, Err}
 use Rattle.dmc_types.specs.declared.command.Command.{Command}
+use Rattle.dmc_types.specs.declared.ids.WorkerId.{WorkerId}
 use Rattle.dmc_types.specs.declared.command.Command.TheVariants.{Register, Update, Add, Pull, Remove, Clean}
 use Rattle.dmc_types.specs.declared.refusal.Refusal.TheVariants.{Range}
 use Rattle.dmc_tag.specs.Tag.{Tagging}
@@ -11,7 +12,10 @@ use Rattle.dmc_tag.specs.Answers.{pull_reply}
 use Rattle.dmc_tag.specs.declared.reply.Pulled.{Pulled}
 use Rattle.dmc_tag.specs.declared.reply.Reply.{Reply}
 use Rattle.dmc_tag.specs.declared.reply.Reply.TheVariants.{Refused}
+use Rattle.dmc_ledger.specs.Bundles.{ClientSide}
 use Rattle.dmc_book.specs.BookState.{BookState, PassState, WorkerHoldings}
+use Rattle.dmc_book.specs.Joining.{id_of, pass_extended}
+use Rattle.dmc_book.specs.Opening.{new_pass}
 use Rattle.dmc_book.specs.Moves.{pass_after}
 use Rattle.dmc_book.specs.declared.fault.RunFault.TheVariants as run
 use Rattle.dmc_book.specs.declared.fault.SubmitCause.{SubmitCause}
@@ -59,6 +63,19 @@ abbrev pub PullReplied : {T : Type 0} → Tagging T → PassState → PassState 
 PullReplied ops before later at (Ok pulled) = Replied ops before later (Pull at) (pull_reply pulled)
 PullReplied ops before later at (Err pull.Range) = Replied ops before later (Pull at) (Refused Range)
 PullReplied ops before later at (Err (pull.Run fault)) = (later ≡ before) × (fault ≡ run.NoDesk → ⊥)
+
+-- ---- passes that are extended, and new ones
+
+-- the pass has empty tills of more desks, and is else as it was
+pub record IsExtended (before later : PassState) : Type 0 where
+  pub desks : List ClientSide
+  pub pass : later ≡ pass_extended desks before
+
+-- the pass of a worker whose five books are the next of the mint: it holds nothing, and has tills of each desk
+pub record IsNewPass (n : ℕ) (worker : WorkerId) (pass : PassState) : Type 0 where
+  pub place : ℕ
+  pub desks : List ClientSide
+  pub is_new : pass ≡ new_pass place n (map id_of desks) desks worker
 
 -- nothing is queued, and the book is open
 abbrev pub must_wait : {T : Type 0} → Tagging T → BookState T → Bool

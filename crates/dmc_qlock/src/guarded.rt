@@ -1,30 +1,34 @@
 //! What a queue's lock guards: the book, a witness of what it was, and how many threads are in a pull that waits.
-ghost use Rattle.std.specs.Prelude.{◌≡◌, true, false, IfOk, IfErr, OnOk, OnErr, IsErrOf, IsErrAnd};
-ghost use Rattle.dmc_ledger.specs.Bundles.{Covers, stamp_holdings};
+ghost use Rattle.std.specs.Prelude.{◌≡◌, ◌+◌, ◌-◌, true, false, IfOk, IfErr, OnOk, OnErr, IsErrOf, IsErrAnd};
+ghost use Rattle.dmc_ledger.specs.Bundles.{Covers, client_side, stamp_holdings};
 ghost use Rattle.dmc_ledger.specs.Moves.{tills_after_submit};
 ghost use Rattle.dmc_tag.specs.declared.reply.Pulled.TheVariants as pulls;
 ghost use Rattle.dmc_tag.specs.declared.reply.Reply.TheVariants as replies;
 ghost use Rattle.dmc_types.specs.declared.command.Command.TheVariants as commands;
 ghost use Rattle.dmc_book.specs.BookState.{pass_state};
 ghost use Rattle.dmc_book.specs.Calls.{is_add};
+ghost use Rattle.dmc_book.specs.Joining.{IsUnused};
 ghost use Rattle.dmc_book.specs.Renewing.{renewed_pass};
-ghost use Rattle.dmc_qlock.specs.Calls.{Replied, PullReplied, SubmitReplied, must_wait, registers};
+ghost use Rattle.dmc_qlock.specs.Calls.{Replied, IsExtended, IsNewPass, PullReplied, SubmitReplied, must_wait, registers};
 
 use crate::fault::RunOrRange;
 use dmc_book::book::QueueBook;
-use dmc_book::fault::{RunFault, SubmitFault};
+use dmc_book::fault::{AdmitFault, EnrolFault, ExtendFault, RunFault, SubmitFault};
 use dmc_book::pass::WorkerPass;
 use dmc_index::index::Indexes;
 use dmc_ledger::bundle::StampTills;
+use dmc_ledger::desk::ClientDesk;
+use dmc_ledger::mint::Mint;
 use dmc_ledger::setup::Setup;
 use dmc_queue_history::segment::Segment;
 use dmc_tag::reply::{Pulled, Reply, Tags};
 use dmc_tag::tag::Tag;
 use dmc_tlock::stamp::Stamp;
-use dmc_tlock::witness::{Lasting, Witness};
+use dmc_tlock::witness::{Lasting, NoWitness, Witness};
 use dmc_types::command::Command;
-use dmc_types::ids::Token;
+use dmc_types::ids::{Token, WorkerId};
 use dmc_types::moment::Moment;
+use std::alloc::Global;
 use std::marker::Model;
 
 /// A book with its witness. Contracts see the book.
@@ -163,5 +167,41 @@ impl<T: Tag, I: Indexes<T>, S: Setup, W: Witness<QueueBook<T, I, S>>> Guarded<
     /// Takes no more requests from now on.
     pub(crate) fn close(&mut self) {
         self.book.close();
+    }
+}
+
+impl<T: Tag, I: Indexes<T>, S: Setup> Guarded<QueueBook<T, I, S>, NoWitness> {
+    /// Admits a client, as the book does.
+    pub(crate) fn admit(&mut self, desk: ClientDesk<S>) -> Result<(), AdmitFault<S>>
+        ensures unused { OnOk result (IsUnused desk.server.0 (client_side desk)) }
+        ensures back { IfErr result (λ fault. fault.desk ≡ desk) }
+    {
+        self.book.admit(desk)
+    }
+
+    /// Extends a pass, as the book does.
+    pub(crate) fn extend(
+        &mut self,
+        alloc: Global,
+        pass: &mut WorkerPass<S>,
+    ) -> Result<(), ExtendFault>
+        ensures extended { OnOk result (IsExtended (pass_state pass.old) (pass_state pass.new)) }
+        ensures kept { OnErr result (pass_state pass.new ≡ pass_state pass.old) }
+    {
+        self.book.extend(alloc, pass)
+    }
+
+    /// Enrols a worker, as the book does.
+    pub(crate) fn enrol(
+        &mut self,
+        alloc: Global,
+        worker: WorkerId,
+        mint: &mut Mint<S>,
+    ) -> Result<WorkerPass<S>, EnrolFault>
+        ensures pass { IfOk result (λ pass. IsNewPass mint.old.opened worker (pass_state pass)) }
+        ensures mint { OnOk result (mint.new ≡ record { opened = mint.old.opened + 5; left = mint.old.left - 5 }) }
+        ensures kept { OnErr result (mint.new ≡ mint.old) }
+    {
+        self.book.enrol(alloc, worker, mint)
     }
 }

@@ -1,22 +1,27 @@
 //! A queue's book behind a lock. Each time that the lock is taken the book is consistent: that is the invariant of its type.
-ghost use Rattle.std.specs.Prelude.{◌≡◌, ℕ, true, false, IfOk, IfErr, OnOk, OnErr, IsErrOf, IsErrAnd};
-ghost use Rattle.dmc_ledger.specs.Bundles.{Covers, stamp_holdings};
+ghost use Rattle.std.specs.Prelude.{◌≡◌, ◌+◌, ◌-◌, ℕ, true, false, IfOk, IfErr, OnOk, OnErr, IsErrOf, IsErrAnd};
+ghost use Rattle.dmc_ledger.specs.Bundles.{Covers, client_side, stamp_holdings};
 ghost use Rattle.dmc_ledger.specs.Moves.{tills_after_submit};
 ghost use Rattle.dmc_tag.specs.declared.reply.Reply.TheVariants as replies;
 ghost use Rattle.dmc_types.specs.declared.command.Command.TheVariants as commands;
 ghost use Rattle.dmc_book.specs.BookState.{pass_state};
 ghost use Rattle.dmc_book.specs.Calls.{is_add};
+ghost use Rattle.dmc_book.specs.Joining.{IsUnused};
 ghost use Rattle.dmc_book.specs.Renewing.{renewed_pass};
-ghost use Rattle.dmc_qlock.specs.Calls.{Replied, IsStatusOf, PullReplied, SubmitReplied, registers};
+ghost use Rattle.dmc_qlock.specs.Calls.{Replied, IsExtended, IsNewPass, IsStatusOf, PullReplied, SubmitReplied, registers};
 
 use crate::fault::RunOrRange;
 use crate::guarded::Guarded;
 use dmc_book::book::QueueBook;
-use dmc_book::fault::{RunFault, SubmitCause, SubmitFault};
+use dmc_book::fault::{
+    AdmitCause, AdmitFault, EnrolFault, ExtendFault, RunFault, SubmitCause, SubmitFault,
+};
 use dmc_book::pass::WorkerPass;
 use dmc_book::status::Status;
 use dmc_index::index::Indexes;
 use dmc_ledger::bundle::StampTills;
+use dmc_ledger::desk::ClientDesk;
+use dmc_ledger::mint::Mint;
 use dmc_ledger::setup::Setup;
 use dmc_queue_history::segment::Segment;
 use dmc_tag::reply::{Pulled, Reply, Tags};
@@ -24,8 +29,9 @@ use dmc_tag::tag::Tag;
 use dmc_tlock::stamp::Stamp;
 use dmc_tlock::witness::{Lasting, NoWitness, Witness};
 use dmc_types::command::Command;
-use dmc_types::ids::{ServerId, Token};
+use dmc_types::ids::{ServerId, Token, WorkerId};
 use dmc_types::moment::Moment;
+use std::alloc::Global;
 use std::marker::Model;
 use std::sync::{Condvar, Mutex, Wait};
 
@@ -129,7 +135,8 @@ impl<T: Tag, I: Indexes<T>, S: Setup, W: Witness<QueueBook<T, I, S>>> LockedQueu
     /// more where the reply is Later, Nothing or Refused, and of a grant one grant, its token, and one unit of its client and
     /// phase.
     ///
-    /// Refused, with nothing recorded: `Stranger`, `NoDesk` (of a Register alone), `HistoryFull`, `Memory`.
+    /// Refused, with nothing recorded: `Stranger`, `Behind` (of a Pull alone), `NoDesk` (of a Register alone), `HistoryFull`,
+    /// `Memory`.
     pub fn run<R: Wait>(
         &self,
         rt: &R,
@@ -186,7 +193,8 @@ impl<T: Tag, I: Indexes<T>, S: Setup, W: Witness<QueueBook<T, I, S>>> LockedQueu
 
     /// Pulls: grants the next request, or says when one is due, or that nothing is queued. The pass steps as for `run`.
     ///
-    /// Refused `Range` by the rules, which is recorded; and `Stranger`, `HistoryFull` or `Memory`, with nothing recorded.
+    /// Refused `Range` by the rules, which is recorded; and `Stranger`, `Behind`, `HistoryFull` or `Memory`, with nothing
+    /// recorded.
     pub fn pull<R: Wait>(
         &self,
         rt: &R,
@@ -257,5 +265,61 @@ impl<T: Tag, I: Indexes<T>, S: Setup, W: Witness<QueueBook<T, I, S>>> LockedQueu
     pub fn close<R: Wait>(&self, rt: &R) {
         self.guarded.lock(rt).close();
         self.changed.notify_all();
+    }
+}
+
+// A witness may say who has a desk and who is enrolled, so a lock with one admits and enrols nobody.
+impl<T: Tag, I: Indexes<T>, S: Setup> LockedQueue<QueueBook<T, I, S>, NoWitness> {
+    /// Admits a client that has no desk here yet: from now on it can register. The desk is this server's, as `open_pair` gave it.
+    /// A pull that would grant the client is refused `Behind` until the worker's pass is extended.
+    ///
+    /// Refused `Stranger` (where the desk is another server's, before the lock is taken), `Known`, `Clients`, `Memory`. Each
+    /// refusal returns the desk.
+    pub fn admit<R: Wait>(&self, rt: &R, desk: ClientDesk<S>) -> Result<(), AdmitFault<S>>
+        ensures unused { OnOk result (IsUnused self.now.server (client_side desk)) }
+        ensures back { IfErr result (λ fault. fault.desk ≡ desk) }
+        ensures stranger { (desk.server.0 ≡ self.now.server → ⊥) → IsErrAnd result (λ fault. fault.cause ≡ AdmitCause.Stranger) }
+    {
+        if desk.server != self.server {
+            return Err(AdmitFault {
+                desk,
+                cause: AdmitCause::Stranger,
+            });
+        }
+        self.guarded.lock(rt).admit(desk)
+    }
+
+    /// Opens tills of the desks that came after the pass, which has then tills of each desk. A worker calls it where its pull is
+    /// refused `Behind`, and pulls again. The lock is held for a time that grows with the number of desks.
+    ///
+    /// Refused `Stranger`, `Memory`, with nothing changed.
+    pub fn extend<R: Wait>(
+        &self,
+        rt: &R,
+        alloc: Global,
+        pass: &mut WorkerPass<S>,
+    ) -> Result<(), ExtendFault>
+        ensures extended { OnOk result (IsExtended (pass_state pass.old) (pass_state pass.new)) }
+        ensures kept { OnErr result (pass_state pass.new ≡ pass_state pass.old) }
+    {
+        self.guarded.lock(rt).extend(alloc, pass)
+    }
+
+    /// Enrols a worker that was not enrolled here before: its pass holds nothing, and has tills of each desk. The mint gives it
+    /// five numbers. The lock is held for a time that grows with the numbers of workers and of desks.
+    ///
+    /// Refused `Known`, `Limit`, `Memory`, with the mint as it was.
+    pub fn enrol<R: Wait>(
+        &self,
+        rt: &R,
+        alloc: Global,
+        worker: WorkerId,
+        mint: &mut Mint<S>,
+    ) -> Result<WorkerPass<S>, EnrolFault>
+        ensures pass { IfOk result (λ pass. IsNewPass mint.old.opened worker (pass_state pass)) }
+        ensures mint { OnOk result (mint.new ≡ record { opened = mint.old.opened + 5; left = mint.old.left - 5 }) }
+        ensures kept { OnErr result (mint.new ≡ mint.old) }
+    {
+        self.guarded.lock(rt).enrol(alloc, worker, mint)
     }
 }

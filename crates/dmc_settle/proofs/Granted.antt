@@ -15,7 +15,7 @@ use Rattle.dmc_book.specs.Counts.{count, grant_in, grants_added, one_if, units_f
 use Rattle.dmc_book.specs.Settling.{AreSettledDesks, IsOwn, left_in}
 use Rattle.dmc_settle.specs.Filled.{AreFewGrants, granted_at, grants_left}
 use Rattle.dmc_settle.specs.Reports.{units_left}
-use Rattle.dmc_settle.proofs.Sums.{sum_to, sum_places, same_sum, no_sum, sum_plus}
+use Rattle.dmc_settle.proofs.Sums.{sum_to, sum_places, sum_places_within, same_sum, no_sum, sum_plus}
 
 -- no event grants more than one unit
 few_if : (b : Bool) → one_if b ≤ 1
@@ -33,6 +33,10 @@ few_counted client phase (e ∷ es) =
     let rest = few_counted client phase es in
     omega (arith, first, rest)
 
+none_in : (phase : PhaseType) → (till_in phase no_unit).amount ≡ 0
+none_in Reservation = refl
+none_in Priority = refl
+
 -- the units that are left in passes, desk by desk
 pub left_at_all : (phase : PhaseType) (workers : List WorkerSide) (desks : List ClientSide) (passes : List PassState) → AllByRecursion (IsOwn workers desks) passes
     → sum_to (length desks) (λ k. left_in phase k passes) ≡ units_left phase passes
@@ -41,7 +45,7 @@ left_at_all phase workers desks (p ∷ ps) own =
     let f : GrantHoldings → ℕ = (λ u. (till_in phase u).amount) in
     let held : PassState → ℕ = (λ q. sum_by f q.units) in
     let here : sum_by f p.units ≡ sum_to (length desks) (λ k. f (get_or p.units k no_unit)) =
-    sum_places f p.units no_unit ∙ ap (λ n. sum_to n (λ k. f (get_or p.units k no_unit))) own.0.units.as_many in
+    sum_places_within f p.units no_unit (length desks) own.0.units.within (none_in phase) in
     let rest = left_at_all phase workers desks ps own.1 in
     sum_plus (length desks) (λ k. f (get_or p.units k no_unit)) (λ k. left_in phase k ps)
     ∙ ap (λ n. n + sum_to (length desks) (λ k. left_in phase k ps)) (sym here) ∙ ap (λ n. held p + n) rest ∙ sym (sum_by-cons held p ps)

@@ -23,6 +23,12 @@ pub no_sum : (n : ℕ) → sum_to n (λ k. 0) ≡ 0
 no_sum zero = refl
 no_sum (suc n) = let rest = no_sum n in omega (arith, rest)
 
+-- beyond the last of them there is nothing
+pub sum_places_within : {X : Type 0} (f : X → ℕ) (xs : List X) (d : X) (n : ℕ) → length xs ≤ n → f d ≡ 0 → sum_by f xs ≡ sum_to n (λ k. f (get_or xs k d))
+sum_places_within f [] d n within none = sym (same_sum n (λ k. f d) (λ k. 0) (λ k l. none) ∙ no_sum n)
+sum_places_within f (x ∷ xs) d zero within none = absurd (omega (arith, within))
+sum_places_within f (x ∷ xs) d (suc n) within none = sum_by-cons f x xs ∙ ap (λ m. f x + m) (sum_places_within f xs d n (omega (arith, within)) none)
+
 pub sum_plus : (n : ℕ) (f g : ℕ → ℕ) → sum_to n (λ k. f k + g k) ≡ sum_to n f + sum_to n g
 sum_plus zero f g = refl
 sum_plus (suc n) f g = let rest = sum_plus n (λ k. f (suc k)) (λ k. g (suc k)) in omega (arith, rest)

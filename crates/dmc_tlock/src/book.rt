@@ -252,8 +252,8 @@ impl<S: Setup> TrackerBook<S> {
         Ok(read_status(&self.tracker, desk, server))
     }
 
-    /// Releases the entries of the list since some were last released, in a time that does not grow with their number. It takes
-    /// no memory. The book goes on with none of them kept, and can keep `max_events` again. It is an extension.
+    /// Releases the entries of the list since some were last released, in a time that does not grow with their number. It does
+    /// not allocate. The book goes on with none of them kept, and can keep `max_events` again. It is an extension.
     ///
     /// `None`, and nothing changes, exactly where more than 2^62 entries were recorded.
     pub fn rotate(&mut self) -> Option<TrackerSegment<S>>
@@ -266,8 +266,8 @@ impl<S: Setup> TrackerBook<S> {
     }
 
     /// Ends the book: gathers its own pass, and answers the entries of the list that are kept, what was left in the pass, and
-    /// the desks. In these each stamp book has one till open, that of the queue's desk. A pass that is not its own is handed
-    /// back with the book. It takes no memory.
+    /// the desks. In these each stamp book has one till open, that of the queue's desk. A pass that is not its own is returned
+    /// with the book. It does not allocate.
     pub fn settle(self, pass: ClientPass<S>) -> Result<TrackerSettled<S>, Unsettled<S>>
         ensures own { IsOk result ↔ IsOwn pass self.desks }
         ensures back { IfErr result (λ fault. (fault.book ≡ self) × (fault.pass ≡ pass)) }

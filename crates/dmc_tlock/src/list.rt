@@ -97,8 +97,8 @@ impl<S: Setup> EntryList<S> {
         self.kept.push_reserved(entry);
     }
 
-    /// Releases the entries that are kept, as a segment of the list of a client's tracker in this counting form. It takes no
-    /// memory. `None`, and nothing changes, where it has more than 2^62 entries.
+    /// Releases the entries that are kept, as a segment of the list of a client's tracker in this counting form. It does not
+    /// allocate. `None`, and nothing changes, where it has more than 2^62 entries.
     pub(crate) fn rotate(
         &mut self,
         client: ClientId,

@@ -178,7 +178,7 @@ impl<S: Setup, W: Witness<TrackerBook<S>>> LockedTracker<TrackerBook<S>, W> {
         self.guarded.lock(rt).book.status(server, tills)
     }
 
-    /// Releases the entries of the list since the last segment. It takes no memory, and a time that does not grow with the
+    /// Releases the entries of the list since the last segment. It does not allocate, and takes a time that does not grow with the
     /// number of entries. `None`, and nothing changes, exactly where the book's `rotate` returns it.
     ///
     /// Segments of one lock are parts of one list: `TrackerSegment::follows` shows which is the next.

@@ -1,9 +1,9 @@
-use Rattle.std.proofs.Common.{◌≡◌, List, length, map, drop, sym, subst, ap, ◌∙◌, rules}
+use Rattle.std.proofs.Common.{◌≡◌, List, length, map, drop, sym, subst, ap, ◌∙◌}
 use Rattle.std.specs.List.{AllByRecursion}
 use Rattle.dmc_ledger.specs.Bundles.{ClientSide, client_side}
 use Rattle.dmc_ledger.specs.declared.desk.ClientDesk.{ClientDesk}
 use Rattle.dmc_tag.proofs.Lists.{lent_back}
-use Rattle.dmc_book.specs.Opening.{AreNamedOnce, IsNewDesk, desk_with_tills}
+use Rattle.dmc_book.specs.Opening.{IsNewDesk, desk_with_tills, new_workers}
 use Rattle.dmc_book.proofs.OpeningLemmas.{as_many_desks, consistent_new, names_stay}
 use Rattle.dmc_book.proofs.opening.open_accounts.Goals as goal
 
@@ -25,7 +25,8 @@ invariant_of-accounts g c =
     c.open_workers.ensures.desks ∙ ap (λ (xs : List (ClientDesk g.row.S.Denot)). map (desk_with_tills n) (map f xs)) same in
     let as_many : length new ≡ length items = as_many_desks n new items opened in
     let back = lent_back new (drop (length new) items) c.args.desks.len (as_many ∙ sym c.args.desks.ok.0) in
-    rw (back, opened, c.open_workers.ensures.seats, c.new.ensures, c.requires.no_room) (
-      consistent_new c.args.server.0 c.args.parts.history.most c.args.mint.now.opened c.args.workers.now start c.requires.new c.requires.once c.requires.limit,
+    let seats = c.open_workers.ensures.seats ∙ ap (λ (xs : List (ClientDesk g.row.S.Denot)). new_workers (length (map f xs)) c.args.mint.now.opened c.args.workers.now) same in
+    rw (back, opened, seats, c.new.ensures, c.requires.no_room) (
+      consistent_new c.args.server.0 c.args.parts.history.most c.args.mint.now.opened c.args.workers.now start c.requires.new c.requires.once c.requires.limit c.requires.few,
       c.requires.clients ∙ sym (names_stay n new items opened),
     )

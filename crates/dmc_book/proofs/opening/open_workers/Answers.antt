@@ -33,6 +33,8 @@ loop-place-preserved g c =
     let names = map (λ d. d.client) c.args.desks.now in
     let start : List ClientSide = map client_side c.args.desks.now in
     let inv = c.loop-place.invariant in
+    let r = length start in
+    let all : length c.loop-place.desks ≡ r = as_many_desks i c.loop-place.desks c.args.desks.now inv.desks ∙ sym (length-map c.args.desks.now (client_side {S = g.row.S.Denot})) in
     let within : i < length ws = omega arith in
     let w : WorkerId = get_or ws i (record { 0 = 0 }) in
     let w_is = get_or_default ws i (record { 0 = 0 }) w within in
@@ -41,8 +43,8 @@ loop-place-preserved g c =
     let fewer : length c.loop-place.rooms.items ≡ length c.pop.new.self.items + 1 = rw popped (length-append c.pop.new.self.items (c.in-Some.room ∷ [])) in
     let seated : c.push.new.self.items ≡ c.loop-place.seats.items ++ c.open_one-seat.result.0 ∷ [] = search rules in
     let passed : c.push-in-loop-place.new.self.items ≡ c.loop-place.passes.items ++ c.open_one-seat.result.1 ∷ [] = search rules in
-    let seat : worker_side c.open_one-seat.result.0 ≡ new_worker (c.args.mint.now.opened + 5 * i) w =
-    c.open_one-seat.ensures.seat ∙ ap (λ n. new_worker n w) inv.opened in
+    let seat : worker_side c.open_one-seat.result.0 ≡ new_worker r (c.args.mint.now.opened + 5 * i) w =
+    c.open_one-seat.ensures.seat ∙ ap (λ n. new_worker (length c.loop-place.desks) n w) inv.opened ∙ ap (λ n. new_worker n (c.args.mint.now.opened + 5 * i) w) all in
     let pass : pass_state c.open_one-seat.result.1 ≡ new_pass i (c.args.mint.now.opened + 5 * i) names start w =
     c.open_one-seat.ensures.pass ∙ ap (λ n. new_pass i n (arc_value c.in-Some.room.clients).keys (map client_side c.loop-place.desks) w) inv.opened
     ∙ pass_as i (c.args.mint.now.opened + 5 * i) i (arc_value c.in-Some.room.clients).keys names (map client_side c.loop-place.desks) start w left.1.named inv.desks in
@@ -54,7 +56,7 @@ loop-place-preserved g c =
       a_seat_each = search rules;
       a_pass_each = search rules;
       seats = ap (map worker_side) seated ∙ map-append worker_side c.loop-place.seats.items (c.open_one-seat.result.0 ∷ [])
-          ∙ workers_next ws i w within w_is c.args.mint.now.opened _ _ inv.seats seat;
+          ∙ workers_next ws i w within w_is c.args.mint.now.opened r _ _ inv.seats seat;
       passes = ap (map pass_state) passed ∙ map-append pass_state c.loop-place.passes.items (c.open_one-seat.result.1 ∷ [])
           ∙ passes_next ws i w within w_is c.args.mint.now.opened names start _ _ inv.passes pass;
       desks = c.open_one-seat.ensures.desks ∙ ap (map (desk_with_tills 1)) inv.desks ∙ desks_more i start;
@@ -89,7 +91,7 @@ open_one-seat-requires-clause-room g c =
 pub returns-clause-seats : goal.returns-clause-seats
 returns-clause-seats g c =
     let all = take_all c.loop-place.place c.args.workers.now (omega arith) in
-    c.loop-place.invariant.seats ∙ ap (new_workers c.args.mint.now.opened) all
+    c.loop-place.invariant.seats ∙ ap (new_workers (length (map (client_side {S = g.row.S.Denot}) c.args.desks.now)) c.args.mint.now.opened) all
 
 pub returns-clause-passes : goal.returns-clause-passes
 returns-clause-passes g c =

@@ -15,7 +15,7 @@ invariant-loop-place g l = record {
   passes_room : length l.fn.workers ≤ vec_capacity l.passes;
   a_seat_each : length l.seats.items ≡ l.place;
   a_pass_each : length l.passes.items ≡ l.place;
-  seats : map worker_side l.seats.items ≡ new_workers l.fn.mint.opened (take l.place l.fn.workers);
+  seats : map worker_side l.seats.items ≡ new_workers (length (map client_side l.fn.desks)) l.fn.mint.opened (take l.place l.fn.workers);
   passes : map pass_state l.passes.items ≡ new_passes 0 l.fn.mint.opened (map (λ d. d.client) l.fn.desks) (map client_side l.fn.desks) (take l.place l.fn.workers);
   desks : map client_side l.desks ≡ map (desk_with_tills l.place) (map client_side l.fn.desks);
   opened : l.mint.opened ≡ l.fn.mint.opened + 5 * l.place;

@@ -1,4 +1,4 @@
-use Rattle.std.proofs.Common.{◌≡◌, List, map, subst, refl, arith, rules}
+use Rattle.std.proofs.Common.{List, map, subst, refl, arith, rules}
 use Rattle.std.specs.List.{AllByRecursion}
 use Rattle.std.proofs.lemmas.List.{take_all}
 use Rattle.dmc_book.specs.BookState.{WorkerSide, worker_side}

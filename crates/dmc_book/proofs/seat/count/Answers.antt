@@ -8,7 +8,7 @@ pub returns-clause-workers : goal.returns-clause-workers
 returns-clause-workers g c =
     let x = c.index_mut.result.now in
     let is : slice_index_or c.args.workers.now.items c.args.place x ≡ x = search rules in
-    counted_workers c.args.event.now c.args.workers.now.items c.args.place x (record { worker = x.worker; renewed = x.renewed; books = c.credit_all.new.books }) c.requires.within c.requires.its_worker c.requires.apart (ap (λ s. s.worker) (sym is)) (ap (λ s. s.renewed) (sym is)) (rw (is, c.credit_all.ensures.books, c.numbers_of-numbers.ensures.value) refl)
+    counted_workers c.args.event.now c.args.workers.now.items c.args.place x (record { worker = x.worker; renewed = x.renewed; reach = x.reach; books = c.credit_all.new.books }) c.requires.within c.requires.its_worker c.requires.apart (ap (λ s. s.worker) (sym is)) (ap (λ s. s.renewed) (sym is)) (ap (λ s. s.reach) (sym is)) (rw (is, c.credit_all.ensures.books, c.numbers_of-numbers.ensures.value) refl)
 
 pub credit_all-requires-clause-fits : goal.credit_all-requires-clause-fits
 credit_all-requires-clause-fits g c =

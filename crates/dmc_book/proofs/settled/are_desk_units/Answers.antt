@@ -13,7 +13,7 @@ returns-then-not-are_units_of g c =
     let t = get_or-map grant_holdings units i c.index-units-i.result no_unit (omega arith) in
     let d = get_or-map client_side desks i c.index-desks-i.result no_desk (omega arith) in
     let others : AreUnitsOf (grant_holdings (get_or units i c.index-units-i.result)) (client_side (get_or desks i c.index-desks-i.result)).books → ⊥ = search rules in
-    let within : i < length (map (client_side {S = g.row.S.Denot}) desks) = omega (arith, length-map desks (client_side {S = g.row.S.Denot})) in
+    let within : i < length (map (grant_holdings {S = g.row.S.Denot}) units) = omega (arith, length-map units (grant_holdings {S = g.row.S.Denot})) in
     ((λ e. cc), λ (own : AreDeskUnits (map client_side desks) (map grant_holdings units)). absurd (others (rw (t, d) at (own.each i within))))
 
 pub loop-i-preserved : goal.loop-i-preserved

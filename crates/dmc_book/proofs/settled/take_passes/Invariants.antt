@@ -1,9 +1,10 @@
-use Rattle.std.proofs.Common.{◌≡◌, List, ◌++◌, length, map}
+use Rattle.std.proofs.Common.{◌≡◌, ℕ, ◌+◌, List, ◌++◌, length, map}
 use Rattle.std.specs.List.{AllByRecursion}
 use Rattle.dmc_ledger.specs.Bundles.{client_side}
 use Rattle.dmc_book.specs.BookState.{PassState, pass_state, worker_side}
-use Rattle.dmc_book.specs.Settling.{ArePassesTakenIn, IsOwn}
-use Rattle.dmc_book.proofs.SettlingLemmas.{ArePartly, open_calls}
+use Rattle.dmc_book.specs.Consistent.{reaching}
+use Rattle.dmc_book.specs.Settling.{ArePassesTakenIn, IsOwn, having}
+use Rattle.dmc_book.proofs.SettlingLemmas.{ArePartly, open_calls, still_reaching}
 use Rattle.dmc_book.proofs.settled.take_passes.Given as goal
 
 abbrev pub invariant-loop-pass : goal.invariant-loop-pass
@@ -13,6 +14,7 @@ invariant-loop-pass g l = record {
   own : AllByRecursion (IsOwn (map worker_side l.fn.workers) (map client_side l.fn.desks)) (map pass_state l.passes.items);
   taken : List PassState;
   all : map pass_state l.fn.passes.items ≡ map pass_state l.passes.items ++ taken;
+  tills : (k : ℕ) → having k taken + still_reaching k (map worker_side l.workers) ≡ reaching k (map worker_side l.fn.workers);
   desks : ArePassesTakenIn taken (map client_side l.fn.desks) (map client_side l.desks);
 }
 

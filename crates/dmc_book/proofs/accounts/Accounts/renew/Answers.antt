@@ -2,9 +2,8 @@
 use Rattle.std.proofs.Common.{◌≡◌, ℕ, ◌<◌, ◌∙◌, List, ap, refl, sym, subst, map, length, get_or, slice_index_or, slice_set, rules}
 use Rattle.std.proofs.lemmas.List.{get_or-map, length-map, map-set}
 use Rattle.dmc_ledger.specs.Bundles.{client_side}
-use Rattle.dmc_book.specs.BookState.{AccountsState, WorkerSide, accounts_of, no_worker, worker_side}
-use Rattle.dmc_book.specs.Consistent.{AreConsistent}
-use Rattle.dmc_book.specs.Renewing.{accounts_renewed, renewed_worker}
+use Rattle.dmc_book.specs.BookState.{AccountsState, accounts_of, no_worker, worker_side}
+use Rattle.dmc_book.specs.Renewing.{renewed_worker}
 use Rattle.dmc_book.specs.declared.seat.Seat.{Seat}
 use Rattle.dmc_book.proofs.RenewingLemmas.{consistent_renewed}
 use Rattle.dmc_book.proofs.accounts.Accounts.renew.Goals as goal

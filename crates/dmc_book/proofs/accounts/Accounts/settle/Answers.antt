@@ -1,15 +1,14 @@
-use Rattle.std.proofs.Common.{◌≡◌, List, length, map, drop, refl, sym, subst, ap, ◌∙◌, arith, rules}
-use Rattle.std.specs.List.{AllByRecursion}
+use Rattle.std.proofs.Common.{◌≡◌, ℕ, List, length, map, drop, sym, subst, ap, ◌∙◌, rules}
 use Rattle.std.proofs.lemmas.List.{length-map}
 use Rattle.dmc_ledger.specs.Bundles.{ClientSide, client_side}
 use Rattle.dmc_ledger.specs.declared.desk.ClientDesk.{ClientDesk}
-use Rattle.dmc_book.specs.BookState.{AccountsState, WorkerSide, pass_state, worker_side}
-use Rattle.dmc_book.specs.Settling.{AreOneOpen, AreOwn, ArePassesTakenIn, closed_worker}
+use Rattle.dmc_book.specs.BookState.{WorkerSide, pass_state, worker_side}
+use Rattle.dmc_book.specs.Consistent.{reaching}
+use Rattle.dmc_book.specs.Settling.{ArePassesTakenIn, closed_worker, having}
 use Rattle.dmc_book.specs.declared.seat.Seat.{Seat}
 use Rattle.dmc_book.proofs.GrantLemmas.{grants_of_desks}
-use Rattle.dmc_book.proofs.OpeningLemmas.{consistent_empty}
 use Rattle.dmc_tag.proofs.Lists.{lent_back}
-use Rattle.dmc_book.proofs.SettlingLemmas.{one_open, settled_desks, settled_workers}
+use Rattle.dmc_book.proofs.SettlingLemmas.{settled_desks, settled_workers}
 use Rattle.dmc_book.proofs.accounts.Accounts.settle.Goals as goal
 
 pub returns-clause-few : goal.returns-clause-few
@@ -32,13 +31,13 @@ returns-clause-desks g c =
     let f : ClientDesk g.row.S.Denot → ClientSide = client_side in
     let passes = map (pass_state {S = g.row.S.Denot}) c.args.passes.items in
     let workers = map (worker_side {S = g.row.S.Denot}) here.workers.items in
-    let passes_many : length passes ≡ length workers = c.requires.own.as_many ∙ ap (λ (a : AccountsState g.row.T.Denot). length a.workers) (sym c.self.view_is) in
+    let tills : (k : ℕ) → having k passes ≡ reaching k workers = λ k. c.take_passes.ensures.tills k ∙ ap (λ (ws : List (Seat g.row.S.Denot)). reaching k (map worker_side ws)) c.deref_mut.ensures.value in
     let new = c.take_passes.new.desks in
     let same : c.deref_mut-2.result.now ≡ here.desks.items = c.deref_mut-2.ensures.value in
     let as_many : length new ≡ length here.desks.items = search rules in
     let back = lent_back new (drop (length new) here.desks.items) here.desks.len (as_many ∙ sym here.desks.ok.0) in
     let taken = subst (λ (ds : List (ClientDesk g.row.S.Denot)). ArePassesTakenIn passes (map f ds) (map f new)) same c.take_passes.ensures.desks in
-    rw (← c.self.view_is, c.replace-2.ensures.value, back) (settled_desks here.history.events here.server.0 (length workers) passes (map f here.desks.items) (map f new) passes_many c.self.invariant.0.desks taken)
+    rw (← c.self.view_is, c.replace-2.ensures.value, back) (settled_desks here.history.events here.server.0 workers passes (map f here.desks.items) (map f new) tills c.self.invariant.0.desks taken)
 
 pub returns-clause-grants : goal.returns-clause-grants
 returns-clause-grants g c =

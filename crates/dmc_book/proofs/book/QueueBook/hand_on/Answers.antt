@@ -1,4 +1,4 @@
-use Rattle.std.proofs.Common.{◌≡◌, ◌∙◌, ap, subst, sym, false, Err}
+use Rattle.std.proofs.Common.{◌≡◌, ◌<◌, length, ◌∙◌, ap, subst, sym, false, Err}
 use Rattle.dmc_pull.specs.Queue as queue
 use Rattle.dmc_tag.proofs.ForCallers.{tag_order}
 use Rattle.dmc_tag.proofs.Options.{err_is}
@@ -19,7 +19,7 @@ invariant_of-self-in_err-reply g c =
     let order = tag_order g.T.Ord.cmp g.T.Tag.ops.compare g.met.T.Ord.total g.met.T.Tag.compares in
     let allows = takes c.reserve.new.self.desks pass.clients pass.units in
     subst (IsReplayed g.T.Tag.ops (queue.state_of c.ask.new.queue) here.config) (sym (ap (λ (a : AccountsState g.row.T.Denot). a.history) c.reserve.ensures.kept))
-    (replayed_unasked g.T.Tag.ops order allows (queue.state_of here.queue.0) (queue.state_of c.ask.new.queue) here.config here.accounts.history c.args.command c.self.invariant c.in_err-reply.field-0.0 c.in_err-reply.ensures)
+    (replayed_unasked g.T.Tag.ops order (length pass.units < length c.reserve.new.self.desks) allows (queue.state_of here.queue.0) (queue.state_of c.ask.new.queue) here.config here.accounts.history c.args.command c.self.invariant c.in_err-reply.field-0.0 c.in_err-reply.ensures)
 
 pub returns-in_err-reply : goal.returns-in_err-reply
 returns-in_err-reply g c =
@@ -34,7 +34,7 @@ returns-in_err-reply g c =
     let same : r ≡ b = book_reserved here.config here.closed here.accounts c.reserve.new.self c.reserve.ensures.kept in
     let enrolled = c.is_enrolled.ensures.0 c.if-not-is_enrolled.false in
     let has_desk : lacks_desk b.desks c.args.command ≡ false = sym c.lacks_desk_for.ensures ∙ c.if-lacks_desk_for.false in
-    let asked = subst (λ (a : AccountsState g.row.T.Denot). Asks g.T.Tag.ops (takes a.desks pass.clients pass.units) q p c.args.command (Err fault)) c.reserve.ensures.kept c.in_err-reply.ensures in
+    let asked = subst (λ (a : AccountsState g.row.T.Denot). Asks g.T.Tag.ops (length pass.units < length a.desks) (takes a.desks pass.clients pass.units) q p c.args.command (Err fault)) c.reserve.ensures.kept c.in_err-reply.ensures in
     let is = err_is c.from_residual-in_err-reply.result _ c.from_residual-in_err-reply.ensures.1 in
     subst (λ (a : BookState g.row.T.Denot). Runs g.T.Tag.ops a pass c.args.command r pass c.from_residual-in_err-reply.result) c.self.view_is
     (subst (λ n. Runs g.T.Tag.ops b pass c.args.command n pass c.from_residual-in_err-reply.result) (sym same)

@@ -16,3 +16,9 @@ returns-clause-granted g c = lemma.pull_allowed g.T.Tag.ops c.args.self.now c.pu
 
 pub returns-clause-history_full : goal.returns-clause-history_full
 returns-clause-history_full g c = lemma.pull_told_full g.T.Tag.ops c.args.self.now c.pull_next.new.self (pass_state c.args.pass.now) (pass_state c.pull_next.new.pass) c.args.at c.pull_next.result c.pull_next.ensures
+
+pub returns-clause-behind : goal.returns-clause-behind
+returns-clause-behind g c = lemma.pull_behind g.T.Tag.ops c.args.self.now c.pull_next.new.self (pass_state c.args.pass.now) (pass_state c.pull_next.new.pass) c.args.at c.pull_next.result c.pull_next.ensures
+
+pub returns-clause-not_behind : goal.returns-clause-not_behind
+returns-clause-not_behind g c = lemma.pull_not_behind g.T.Tag.ops c.args.self.now c.pull_next.new.self (pass_state c.args.pass.now) (pass_state c.pull_next.new.pass) c.args.at c.pull_next.result c.pull_next.ensures

@@ -1,4 +1,4 @@
-use Rattle.std.proofs.Common.{◌≡◌, ◌∙◌, ap, refl, subst, sym, Ok, Err}
+use Rattle.std.proofs.Common.{◌≡◌, ◌<◌, length, ◌∙◌, refl, subst, sym, Err}
 use Rattle.dmc_types.specs.declared.command.Command.TheVariants.{Pull}
 use Rattle.dmc_pull.specs.Queue as queue
 use Rattle.dmc_tag.proofs.ForCallers.{tag_order}
@@ -24,8 +24,8 @@ returns-in-Err-reply_of g c =
     let same : r ≡ b = book_reserved here.config here.closed here.accounts c.reserve.new.self c.reserve.ensures.kept in
     let enrolled = c.is_enrolled.ensures.0 c.if-not-is_enrolled.false in
     let told : asked c.ask_to_pull-answer.result ≡ Err fault = sym c.reply_of.ensures ∙ c.in-Err-reply_of.is in
-    let answer = subst (Asks g.T.Tag.ops (takes c.reserve.new.self.desks pass.clients pass.units) q p (Pull c.args.at)) told c.ask_to_pull-answer.ensures in
-    let asks = subst (λ (a : AccountsState g.row.T.Denot). Asks g.T.Tag.ops (takes a.desks pass.clients pass.units) q p (Pull c.args.at) (Err fault)) c.reserve.ensures.kept answer in
+    let answer = subst (Asks g.T.Tag.ops (length pass.units < length c.reserve.new.self.desks) (takes c.reserve.new.self.desks pass.clients pass.units) q p (Pull c.args.at)) told c.ask_to_pull-answer.ensures in
+    let asks = subst (λ (a : AccountsState g.row.T.Denot). Asks g.T.Tag.ops (length pass.units < length a.desks) (takes a.desks pass.clients pass.units) q p (Pull c.args.at) (Err fault)) c.reserve.ensures.kept answer in
     subst (λ (a : BookState g.row.T.Denot). Runs g.T.Tag.ops a pass (Pull c.args.at) r pass (Err fault)) c.self.view_is
     (subst (λ n. Runs g.T.Tag.ops b pass (Pull c.args.at) n pass (Err fault)) (sym same)
     (unasked g.T.Tag.ops b pass (Pull c.args.at) enrolled refl order q p c.self.invariant c.in_default.ensures.fewer fault asks))
@@ -38,5 +38,5 @@ invariant_of-self-2 g c =
     let p = queue.state_of c.ask_to_pull-answer.new.queue in
     let e = event_of c.args.pass.now.worker.0 (Pull c.args.at) c.in-Ok.reply in
     let history = history_recorded here.config here.closed here.accounts c.reserve.new.self c.reserve.ensures.kept e c.record.new.self c.record.ensures.accounts in
-    let answer = subst (Asks g.T.Tag.ops (takes c.reserve.new.self.desks pass.clients pass.units) q p (Pull c.args.at)) (sym c.reply_of.ensures ∙ c.in-Ok.is) c.ask_to_pull-answer.ensures in
+    let answer = subst (Asks g.T.Tag.ops (length pass.units < length c.reserve.new.self.desks) (takes c.reserve.new.self.desks pass.clients pass.units) q p (Pull c.args.at)) (sym c.reply_of.ensures ∙ c.in-Ok.is) c.ask_to_pull-answer.ensures in
     subst (IsReplayed g.T.Tag.ops p here.config) (sym history) (replayed_more g.T.Tag.ops q p here.config here.accounts.history c.self.invariant e answer.0)

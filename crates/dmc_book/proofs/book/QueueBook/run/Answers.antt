@@ -25,3 +25,9 @@ returns-clause-no_desk g c = lemma.told_no_desk g.T.Tag.ops c.args.self.now c.ha
 
 pub returns-clause-history_full : goal.returns-clause-history_full
 returns-clause-history_full g c = lemma.told_full g.T.Tag.ops c.args.self.now c.hand_on.new.self (pass_state c.args.pass.now) (pass_state c.hand_on.new.pass) c.args.command c.hand_on.result c.hand_on.ensures
+
+pub returns-clause-behind : goal.returns-clause-behind
+returns-clause-behind g c = lemma.behind_if_told g.T.Tag.ops c.args.self.now c.hand_on.new.self (pass_state c.args.pass.now) (pass_state c.hand_on.new.pass) c.args.command c.hand_on.result c.hand_on.ensures
+
+pub returns-clause-not_behind : goal.returns-clause-not_behind
+returns-clause-not_behind g c = lemma.not_behind g.T.Tag.ops c.args.self.now c.hand_on.new.self (pass_state c.args.pass.now) (pass_state c.hand_on.new.pass) c.args.command c.hand_on.result c.hand_on.ensures

@@ -22,6 +22,7 @@ pub use dmc_tlock::book::{TrackerBook, TrackerFault};
 pub use dmc_tlock::fault::{EntryFault, TillFault};
 pub use dmc_tlock::lock::TrackerLock;
 pub use dmc_tlock::pass::ClientPass;
+pub use dmc_tlock::segment::TrackerSegment;
 pub use dmc_tlock::settled::{StampsHeld, TrackerSettled};
 pub use dmc_tlock::stamp::Stamp;
 pub use dmc_tlock::status::TrackStatus;

@@ -1,92 +1,102 @@
-//! A server that runs for long: two threads make and serve requests at one queue behind its lock. A third takes the events out of
-//! the lock, segment by segment, and replays them, so that the memory of a server does not grow with its events.
+//! A server that runs for long: threads make and serve requests at one queue behind its lock. One more thread takes what was
+//! recorded out of the queue and the trackers, segment by segment, and replays it, so that the memory of the server does not
+//! grow with its requests. Half of the clients come later.
+//!
+//! `example_server [REQUESTS [SECONDS]]` serves this many requests of each client. With a number of seconds it writes to standard
+//! error, as often as that, how many events were replayed.
 #![tactic(auto)]
 
 mod auditing;
 mod opening;
+mod progress;
 mod serving;
 
 ghost use Rattle.std.specs.Prelude.{◌≡◌};
 
 use crate::auditing::Auditor;
-use crate::opening::{Opened, SERVER, config, open};
-use crate::serving::{REQUESTS, Worker, serve_requests};
-use anyhow::Result;
-use dmclock::locks::{Blank, Setup, TickLock, TrackerLock};
+use crate::opening::{CLIENTS, Opened, open};
+use crate::progress::Progress;
+use crate::serving::serve_all;
+use anyhow::{Result, bail};
+use dmclock::locks::{Blank, Setup};
 use std::alloc::Global;
+use std::env;
 use std::marker::Brand;
+use std::io::Eprint;
 use std::rt::Clock;
 use std::sync::Wait;
-use std::sync::atomic::{AtomicBool, Ordering};
 use std::thread;
 use std::thread::Threads;
 
-/// The books that the mint opens: five for each client, five for each worker, and the list of the queue's segments.
-const BOOKS: u64 = 21;
+/// The books that the mint opens: five for each client and five for each worker, and the list of the queue's segments.
+const BOOKS: u64 = 10 * CLIENTS as u64 + 1;
 
-/// Serves all requests of both workers, and notes when the last is served.
-fn serve_both<S: Setup + Send + Sync, R: Threads + Wait + Clock + Sync>(
-    rt: &R,
-    queue: &TickLock<S>,
-    trackers: &[TrackerLock<S>],
-    first: &mut Worker<S>,
-    second: &mut Worker<S>,
-    ended: &AtomicBool,
-) -> Result<()> {
-    let (one, two) = thread::join(
-        rt,
-        move || serve_requests(rt, queue, trackers, first),
-        move || serve_requests(rt, queue, trackers, second),
-    );
-    ended.store(true, Ordering::Release);
-    one?;
-    two
+/// How many requests each client makes where no word says it.
+const REQUESTS: u32 = 5_000;
+
+/// What the words ask for: how many requests each client makes, and after how many seconds a line of progress is written.
+#[derive(Drop)]
+struct Run {
+    requests: u32,
+    seconds: Option<u64>,
+}
+
+fn read_words(rt: &HostRuntime) -> Result<Run> {
+    let words: Vec<String> = env::args(rt)?.skip(1).collect(rt.alloc())?;
+    let (requests, seconds) = match words.as_slice() {
+        [] => (REQUESTS, None),
+        [requests] => (requests.as_str().parse()?, None),
+        [requests, seconds] => (
+            requests.as_str().parse()?,
+            Some(seconds.as_str().parse()?),
+        ),
+        _ => bail!("usage: example_server [REQUESTS [SECONDS]]"),
+    };
+    Ok(Run { requests, seconds })
 }
 
 /// Serves all requests while the auditor replays. Returns the number of events.
-fn serve_audited<S: Setup + Send + Sync, R: Threads + Wait + Clock + Sync>(
+fn serve_audited<S: Setup + Send + Sync, R: Threads + Wait + Clock + Eprint + Sync>(
     rt: &R,
     alloc: Global,
+    run: &Run,
     opened: &mut Opened<S>,
 ) -> Result<u64> {
-    let Opened {
-        queue,
-        trackers,
-        first,
-        second,
-    } = opened;
-    let (queue, trackers) = (&*queue, trackers.as_slice());
-    let mut auditor = Auditor::new(alloc, config()?, SERVER);
-    let ended = AtomicBool::new(false);
-    let (lent, ending) = (&mut auditor, &ended);
+    let Opened { shared, workers } = opened;
+    let shared = &*shared;
+    let progress = Progress::new();
+    let mut auditor = Auditor::new(alloc, shared)?;
+    let (lent, noted) = (&mut auditor, &progress);
     let (served, audited) = thread::join(
         rt,
-        move || serve_both(rt, queue, trackers, first, second, ending),
-        move || lent.audit_until(rt, queue, ending),
+        move || serve_all(rt, shared, noted, workers.as_mut_slice()),
+        move || lent.audit_until_end(rt, shared, noted, run.seconds),
     );
     served?;
     audited?;
-    auditor.audit_next(rt, queue)?;
+    auditor.audit_next(rt, shared, &progress)?;
     Ok(auditor.event_count())
 }
 
 /// Runs the server. Returns the number of events.
-fn run<S: Setup + Send + Sync, R: Threads + Wait + Clock + Sync>(
+fn serve<S: Setup + Send + Sync, R: Threads + Wait + Clock + Eprint + Sync>(
     rt: &R,
     alloc: Global,
+    run: &Run,
     blank: Blank,
 ) -> Result<u64>
     requires { blank.name ≡ S.name }
 {
-    let mut opened = open::<S, R>(rt, alloc, &mut blank.open::<S>())?;
-    let events = serve_audited(rt, alloc, &mut opened);
+    let mut opened = open::<S>(alloc, &mut blank.open::<S>(), run.requests)?;
+    let events = serve_audited(rt, alloc, run, &mut opened);
     drop(opened);
     events
 }
 
 fn main(rt: HostRuntime) -> Result<()> {
-    let events = run::<Brand, HostRuntime>(&rt, rt.alloc(), Blank::new(BOOKS))?;
-    println!(&rt; "{REQUESTS} requests of each client are served")?;
+    let run = read_words(&rt)?;
+    let events = serve::<Brand, HostRuntime>(&rt, rt.alloc(), &run, Blank::new(BOOKS))?;
+    println!(&rt; "{CLIENTS} clients, {} requests of each", run.requests)?;
     println!(&rt; "{events} events replay")?;
     Ok(())
 }

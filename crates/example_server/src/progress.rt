@@ -5,7 +5,7 @@ use std::thread;
 use std::time::Duration;
 
 /// How many events may be waiting to be released before the workers wait for the auditor.
-const MAX_WAITING: u64 = 1 << 19;
+const MAX_WAITING: u64 = 81_920;
 
 /// What the threads note for each other.
 #[derive(Drop)]

@@ -90,7 +90,7 @@ impl<S: Setup> Auditor<S> {
         Ok(())
     }
 
-    /// Audits until all requests are served. Every so many seconds it writes how many events were replayed.
+    /// Audits until all requests are served. After each such number of seconds it writes how many events were replayed.
     pub fn audit_until_end<R: Wait + Clock + Eprint>(
         &mut self,
         rt: &R,

@@ -1,5 +1,5 @@
 -- The text of a segment is read as its header and its events.
-use Rattle.std.proofs.Common.{◌≡◌, ℕ, zero, suc, ◌+◌, ℤ, Bool, true, false, ◌&&◌, cond, leb, eqb, List, [], ◌∷◌, ◌++◌, length, drop, take, append-nil, append_assoc, refl, sym, ap, subst, ◌∙◌, arith, Option, Some, None, Result, Ok, Err, option_and_then}
+use Rattle.std.proofs.Common.{◌≡◌, ℕ, zero, suc, ◌+◌, ℤ, Bool, true, false, cond, leb, eqb, List, [], ◌∷◌, ◌++◌, length, drop, take, append-nil, append_assoc, refl, sym, ap, subst, ◌∙◌, arith, Option, Some, Result, Ok, Err}
 use Rattle.std.specs.Prelude.{OnOk, slice_get}
 use Rattle.std.specs.List.{AllByRecursion, list_all}
 use Rattle.std.specs.Io.KnownBytes.{Appends}
@@ -18,21 +18,20 @@ use Rattle.dmc_tag.proofs.Lists.{all_append}
 use Rattle.dmc_queue_history.specs.Segmented.{SegmentState}
 use Rattle.dmc_text.specs.declared.cause.LineCause.{LineCause}
 use Rattle.dmc_text.specs.declared.cause.LineCause.TheVariants.{Bytes, Number}
-use Rattle.dmc_text.specs.declared.line.LineKind.TheVariants as kinds
 use Rattle.dmc_text.specs.declared.event_line.EventLine.{EventLine}
 use Rattle.dmc_text.specs.declared.event_line.EventLine.TheVariants as event_lines
 use Rattle.dmc_text.specs.Answers.{◌>>=◌}
 use Rattle.dmc_text.specs.Words.{words}
 use Rattle.dmc_text.specs.Lines.{is_clean, is_line_byte, kind, kind_of}
 use Rattle.dmc_text.specs.LineLaws.{line_first}
-use Rattle.dmc_text.specs.EventLines.{comment, event_of, event_line_of_kind, header_of}
-use Rattle.dmc_text.specs.Replies.{IsTellable}
+use Rattle.dmc_text.specs.EventLines.{comment, event_of, event_line_of_kind}
+use Rattle.dmc_text.specs.Replies.{IsWritable}
 use Rattle.dmc_text.specs.RoundTrip.{IsHeaderAgain}
 use Rattle.dmc_text.specs.Texts.{has_end, lines_of, with_line_end}
 use Rattle.dmc_text.specs.Written.{event_text, header_text}
 use Rattle.dmc_text.proofs.TextLemmas.{and_parts}
-use Rattle.dmc_text.proofs.Tellable.{tellable}
-use Rattle.dmc_check.specs.EventTexts.{Recorded, with_line, count_of, placed, line_behind, or_fault, with_lines}
+use Rattle.dmc_text.proofs.Writable.{writable}
+use Rattle.dmc_check.specs.EventTexts.{Recorded, with_line, placed, line_behind, or_fault, with_lines}
 use Rattle.dmc_check.specs.SegmentTexts.{IsEventAgain, IsSegmentAgain, events_in, events_text, segment_text}
 use Rattle.dmc_check.proofs.VerdictLemmas.{taken_next}
 
@@ -50,9 +49,9 @@ all_met P Q (x ∷ xs) h k = (h.0 k.0, all_met P Q xs h.1 k.1)
 
 -- ---- events that a queue recorded
 
-tellable_from : {T : Type 0} (ops : Tagging T) (s : State T) (events : List (Event T)) → replays_from ops s events → AllByRecursion (λ e. IsTellable e.reply) events
+tellable_from : {T : Type 0} (ops : Tagging T) (s : State T) (events : List (Event T)) → replays_from ops s events → AllByRecursion (λ e. IsWritable e.reply) events
 tellable_from ops s [] h = tt
-tellable_from ops s (e ∷ es) h = (subst IsTellable (sym h.0) (tellable ops s e.command), tellable_from ops ((step ops s e.command).0) es h.1)
+tellable_from ops s (e ∷ es) h = (subst IsWritable (sym h.0) (writable ops s e.command), tellable_from ops ((step ops s e.command).0) es h.1)
 
 -- ---- lines
 
@@ -126,12 +125,23 @@ module _ {T : Type 0} (made : ℤ → ℕ → Option T) where
           ∙ ap (λ n. with_lines made (Some (record { config = config; events = before ++ es })) n (lines_of more)) next;
     }
 
+    -- it is written piece by piece
+    pub segment_written : {X E : Type 0} (result : Result X E) (a b c : Option (List ℕ)) (segment : SegmentState T) (server : ServerId) (first : ℕ) (events : List (Event T)) → server.0 ≡ segment.server → first ≡ segment.first
+        → events ≡ events_in segment → Appends a b (with_line_end (header_text server.0 first)) → OnOk result (Appends b c (events_text text events)) → OnOk result (Appends a c (segment_text text segment))
+    segment_written (Ok x) a b c segment server first events same number all header lines =
+        let whole : with_line_end (header_text server.0 first) ++ events_text text events ≡ segment_text text segment =
+        ap (λ s. with_line_end (header_text s first) ++ events_text text events) same
+        ∙ ap (λ n. with_line_end (header_text segment.server n) ++ events_text text events) number
+        ∙ ap (λ es. with_line_end (header_text segment.server segment.first) ++ events_text text es) all in
+        subst (Appends a c) whole (Appends-trans a b c (with_line_end (header_text server.0 first)) (events_text text events) header lines)
+    segment_written (Err e) a b c segment server first events same number all header lines = tt
+
     -- by the history up to its end, which replays
     pub segment_by : {X E : Type 0} (result : Result X E) (ops : Tagging T) (segment : SegmentState T) (server : ServerId) → replays ops segment.config segment.history → server.0 ≡ segment.server
         → IsHeaderAgain server segment.first → OnOk result (AllByRecursion (IsEventAgain made text) (events_in segment)) → OnOk result (IsSegmentAgain made text segment)
     segment_by (Ok x) ops segment server h same header events =
-        let told = all_drop (λ e. IsTellable e.reply) segment.first segment.history (tellable_from ops (opening segment.config) segment.history h) in
-        segment_again segment server same header (all_met (λ e. IsTellable e.reply) Again (events_in segment) events told)
+        let told = all_drop (λ e. IsWritable e.reply) segment.first segment.history (tellable_from ops (opening segment.config) segment.history h) in
+        segment_again segment server same header (all_met (λ e. IsWritable e.reply) Again (events_in segment) events told)
     segment_by (Err e) ops segment server h same header events = tt
 
     -- ---- events, one after the other

@@ -12,7 +12,6 @@ use Rattle.dmc_text.specs.declared.cause.LineCause.TheVariants.{Hz}
 use Rattle.dmc_text.specs.declared.script.ScriptFault.{ScriptFault}
 use Rattle.dmc_text.specs.declared.script.ScriptFault.TheVariants as faults
 use Rattle.dmc_text.specs.declared.walk.Walk.{Walk}
-use Rattle.dmc_text.specs.declared.event_line.EventLine.{EventLine}
 use Rattle.dmc_text.specs.declared.event_line.EventLine.TheVariants as event_lines
 use Rattle.dmc_text.specs.Reading.{max_bytes}
 use Rattle.dmc_text.specs.Walks.{GoesThrough, IsFault, Ending, Halt, EndsAs}

@@ -5,7 +5,7 @@ use Rattle.dmc_tag.specs.declared.event.Event.{Event}
 use Rattle.dmc_queue_history.specs.Segmented.{SegmentState}
 use Rattle.dmc_text.specs.declared.event_line.EventLine.TheVariants as event_lines
 use Rattle.dmc_text.specs.EventLines.{event_of}
-use Rattle.dmc_text.specs.Replies.{IsTellable}
+use Rattle.dmc_text.specs.Replies.{IsWritable}
 use Rattle.dmc_text.specs.Texts.{lines_of, with_line_end}
 use Rattle.dmc_text.specs.Written.{event_text, header_text}
 use Rattle.dmc_check.specs.EventTexts.{with_lines}
@@ -28,7 +28,7 @@ segment_text text segment = with_line_end (header_text segment.server segment.fi
 
 -- an event that a queue may have recorded is read from its line
 abbrev pub IsEventAgain : {T : Type 0} → (ℤ → ℕ → Option T) → (T → List ℕ) → Event T → Type 0
-IsEventAgain made text event = IsTellable event.reply → event_of made true (event_text text event) ≡ Ok (event_lines.Event event)
+IsEventAgain made text event = IsWritable event.reply → event_of made true (event_text text event) ≡ Ok (event_lines.Event event)
 
 -- Behind as many events as were recorded before it, the text of a segment adds its events, whatever follows.
 pub record IsSegmentAgain {T : Type 0} (made : ℤ → ℕ → Option T) (text : T → List ℕ) (segment : SegmentState T) : Type 0 where

@@ -1,5 +1,5 @@
 //! Checks of event texts.
-ghost use Rattle.std.specs.Prelude.{◌≡◌, Option, None, Some, [], Err, IfOk, OnOk, IsTrue, is_some};
+ghost use Rattle.std.specs.Prelude.{◌≡◌, ◌==◌, Option, None, Some, [], Err, IfOk, OnOk, IsTrue, is_some};
 ghost use Rattle.dmc_text.specs.declared.cause.LineCause.{LineCause};
 ghost use Rattle.dmc_text.specs.Watching.{stream_of, EndsNoted};
 ghost use Rattle.dmc_check.specs.EventTexts.{Recorded, placed, with_line, verdict_text, ChecksAs};
@@ -42,12 +42,19 @@ fn replayed<T: Tag>(replay: &Option<Replay<T>>) -> usize
     }
 }
 
+/// Whether a segment whose first event has this number may come after this many events.
+fn comes_after(events: usize, first: u64) -> bool
+    ensures { result ≡ (first == events) }
+{
+    first == events as u64
+}
+
 /// A line that comes after this many events. A segment's header has to say so.
 fn placed<T: Copy>(events: usize, line: EventLine<T>) -> Result<EventLine<T>, LineCause>
     ensures { result ≡ placed events line }
 {
     match line {
-        EventLine::Segment { first, .. } if first != events as u64 => Err(LineCause::Number),
+        EventLine::Segment { first, .. } if !comes_after(events, first) => Err(LineCause::Number),
         line => Ok(line),
     }
 }

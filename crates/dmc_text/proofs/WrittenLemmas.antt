@@ -1,5 +1,5 @@
 -- The lines that are written of a configuration, a command, an event and a segment's header are read again.
-use Rattle.std.proofs.Common.{◌≡◌, ℕ, ◌+◌, ◌^◌, ◌<◌, ◌≤◌, ℤ, Bool, true, false, cond, ltb, leb, List, [], ◌∷◌, ◌++◌, length, length-append, append-nil, append_assoc, refl, sym, ap, subst, ◌∙◌, arith, Option, Some, None, Result, Ok, Err}
+use Rattle.std.proofs.Common.{◌≡◌, ℕ, ◌^◌, ◌<◌, ◌≤◌, ℤ, Bool, true, false, cond, ltb, leb, List, [], ◌∷◌, ◌++◌, length, length-append, append-nil, append_assoc, refl, sym, ap, subst, ◌∙◌, arith, Option, Some, None, Result, Ok, Err}
 use Rattle.std.specs.Prelude.{codes, IfSome, OnOk}
 use Rattle.std.specs.Io.KnownBytes.{Appends}
 use Rattle.std.proofs.KnownBytes.{Appends-trans}
@@ -22,22 +22,19 @@ use Rattle.dmc_types.specs.declared.command.Command.TheVariants.{Register, Updat
 use Rattle.dmc_tag.specs.declared.reply.Reply.{Reply}
 use Rattle.dmc_tag.specs.declared.reply.Reply.TheVariants.{Registered, Updated, Tagged, Granted, Later, Nothing, Removed, Cleaned, Refused}
 use Rattle.dmc_tag.specs.declared.event.Event.{Event}
-use Rattle.dmc_text.specs.declared.cause.LineCause.{LineCause}
 use Rattle.dmc_text.specs.declared.cause.LineCause.TheVariants as causes
 use Rattle.dmc_text.specs.declared.command.CommandFault.TheVariants as faults
 use Rattle.dmc_text.specs.declared.line.Line.TheVariants.{Ask}
-use Rattle.dmc_text.specs.declared.line.LineKind.{LineKind}
 use Rattle.dmc_text.specs.declared.line.LineKind.TheVariants as kinds
 use Rattle.dmc_text.specs.declared.event_line.EventLine.TheVariants as event_lines
 use Rattle.dmc_text.specs.Answers.{◌>>=◌}
 use Rattle.dmc_text.specs.Words.{words}
-use Rattle.dmc_text.specs.Numbers.{number}
-use Rattle.dmc_text.specs.Lines.{kind, kind_of, said, line_of, line_of_words, line_of_command, alone, is_comment, heading, setting, figure, configured}
-use Rattle.dmc_text.specs.Commands.{Phrase, registering, updating, adding, pulling, dropping, cleaning, phrase, command, small, long, optional, moment, params, rates, is_rate, with_info, with_params}
-use Rattle.dmc_text.specs.Replies.{Saying, saying, reply_said, reply_words, reply_text, reply_of}
-use Rattle.dmc_text.specs.EventLines.{answer_words, event_words as words_of_event, event_said, event_line_of_kind, event_of, sure, header_words as words_of_header, header_said, header_of}
+use Rattle.dmc_text.specs.Lines.{kind, kind_of, said, line_of, line_of_words, line_of_command, alone, heading, setting, figure, configured}
+use Rattle.dmc_text.specs.Commands.{registering, updating, adding, pulling, dropping, cleaning, phrase, command, small, long, optional, moment, params, rates, is_rate}
+use Rattle.dmc_text.specs.Replies.{saying, reply_said, reply_words, reply_text, reply_of}
+use Rattle.dmc_text.specs.EventLines.{answer_words, event_words as words_of_event, event_said, event_line_of_kind, event_of, header_words as words_of_header, header_said, header_of}
 use Rattle.dmc_text.specs.RoundTrip.{AreWords, IsReadBack, IsInfoAgain, IsAskedAgain, IsHeaderAgain}
-use Rattle.dmc_text.specs.Written.{limit_words, config_words, config_text, rate_word, info_words, command_words, command_text, event_words, event_text, header_words, header_text}
+use Rattle.dmc_text.specs.Written.{config_words, config_text, rate_word, command_words, command_text, event_words, event_text, header_words}
 use Rattle.dmc_text.proofs.TextLemmas.{words_joined, number_again}
 use Rattle.dmc_text.proofs.LineWords.{given, shorter, and_more, and_some, both_some, join_some, number_word, small_word, apart, decimal_means, is_line}
 

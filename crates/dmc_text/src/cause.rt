@@ -9,13 +9,13 @@ pub enum LineCause {
     #[error("bytes")]
     Bytes,
     /// It is the first line that is not ignored and is no `hz` line, or a later `hz` line; or an `hz` line that is out of a
-    /// limit.
+    /// limit. In an event text a segment's header is not ignored.
     #[error("hz")]
     Hz,
     /// Its first word is unknown, or it has too few words or too many.
     #[error("words")]
     Words,
-    /// A word that has to be a number is not one of its type.
+    /// A word that has to be a number is not one of its type; or a segment's header comes at another event than it says.
     #[error("number")]
     Number,
 }

@@ -3,7 +3,7 @@ ghost use Rattle.std.specs.Prelude.{◌≡◌, ◌∷◌, [], true, false, codes
 ghost use Rattle.dmc_types.specs.declared.config.AtLimit.TheVariants.{Allow};
 ghost use Rattle.dmc_types.specs.declared.config.PhaseType.TheVariants.{Priority};
 ghost use Rattle.dmc_types.specs.declared.refusal.ValueFault.TheVariants as faults;
-ghost use Rattle.dmc_types.specs.declared.command.Command.TheVariants.{Pull, Remove};
+ghost use Rattle.dmc_types.specs.declared.command.Command.TheVariants.{Pull, Register, Remove};
 ghost use Rattle.dmc_tag.specs.declared.reply.Reply.TheVariants.{Tagged, Granted, Later};
 ghost use Rattle.dmc_text.specs.declared.cause.LineCause.TheVariants as causes;
 ghost use Rattle.dmc_text.specs.declared.line.Line.TheVariants.{Skip, Config, Ask, Value};
@@ -11,7 +11,9 @@ ghost use Rattle.dmc_text.specs.Words.{words};
 ghost use Rattle.dmc_text.specs.Numbers.{number};
 ghost use Rattle.dmc_text.specs.Tags.{fraction_of, fraction_text};
 ghost use Rattle.dmc_text.specs.Lines.{line_of};
+ghost use Rattle.dmc_text.specs.EventLines.{header_of};
 ghost use Rattle.dmc_text.specs.Replies.{reply_text, in_ticks};
+ghost use Rattle.dmc_text.specs.Written.{command_text, config_text, event_text, header_text};
 
 /// Words are separated by one or more spaces, and spaces at either end are ignored.
 pub fn words_of_a_line()
@@ -62,4 +64,22 @@ pub fn texts_of_replies()
     ensures tags { reply_text in_ticks (Tagged (record { r = None; l = pos 0; p = negsuc 999 })) ≡ codes "tags - 0 -1000" }
     ensures thirds { fraction_text (pos 1000) 3 ≡ codes "1000/3" }
     ensures grant { reply_text in_ticks (Granted (record { 0 = 1 }) (record { 0 = 7 }) Priority true) ≡ codes "grant 1 7 priority beyond" }
+{}
+
+/// The text of each kind of line is its words, separated by one space each.
+pub fn texts_of_lines()
+    ensures config { config_text (record { hz = 1000; idle_age = 1; erase_age = 2; at_limit = Allow }) ≡ codes "hz 1000 1 2 allow" }
+    ensures register { command_text (Register (record { 0 = 7 }) (record { reservation = Some 10; weight = 2; limit = None }) 5) ≡ codes "client 7 10 2 - 5" }
+    ensures event { event_text in_ticks (record { worker = record { 0 = 3 }; command = Pull 5; reply = Later 50 }) ≡ codes "3 pull 5 = future 50" }
+    ensures header { header_text 3 12 ≡ codes "# server 3 first 12" }
+{}
+
+/// A header has five words and two numbers. Other words make none.
+#[tactic(auto, unfolding(crate::specs::EventLines::header_words, crate::specs::EventLines::header_said))]
+pub fn headers_of_segments()
+    ensures header { header_of (words (codes "# server 3 first 12")) ≡ Some (record { 0 = 3 }, 12) }
+    ensures short { header_of (words (codes "# server 3 first")) ≡ None }
+    ensures long { header_of (words (codes "# server 3 first 12 on")) ≡ None }
+    ensures number { header_of (words (codes "# server 3 first 012")) ≡ None }
+    ensures joined { header_of (words (codes "#server 3 first 12")) ≡ None }
 {}

@@ -1,5 +1,5 @@
-use Rattle.std.proofs.Common.{◌≡◌, ◌∙◌, sym, subst, ap, Option, Some, None, refl}
-use Rattle.std.specs.Prelude.{IfSome, IsSome, ◌↔◌}
+use Rattle.std.proofs.Common.{◌≡◌, sym, subst, Option, Some, None, refl}
+use Rattle.std.specs.Prelude.{IfSome, IsSome}
 use Rattle.dmc_tag.specs.State.{Represents}
 use Rattle.dmc_tag.specs.Replay.{after}
 use Rattle.dmc_pull.specs.Queue.{state_of}

@@ -1,0 +1,20 @@
+-- The digits are computed.
+use Rattle.std.proofs.Common.{refl}
+use Rattle.std.specs.Fmt.{digits}
+use Rattle.dmc_text.proofs.examples.texts_of_lines.Goals as goal
+
+pub returns-clause-config : goal.returns-clause-config
+unfolding digits
+returns-clause-config c = refl
+
+pub returns-clause-register : goal.returns-clause-register
+unfolding digits
+returns-clause-register c = refl
+
+pub returns-clause-event : goal.returns-clause-event
+unfolding digits
+returns-clause-event c = refl
+
+pub returns-clause-header : goal.returns-clause-header
+unfolding digits
+returns-clause-header c = refl

@@ -1,5 +1,5 @@
 -- What accounts and a book keep, one event later.
-use Rattle.std.proofs.Common.{◌≡◌, ℕ, ◌+◌, ◌*◌, ◌≤◌, ◌<◌, ◌^◌, Bool, true, false, List, [], ◌∷◌, ◌++◌, map, drop, length, length-append, ap, ◌∙◌, refl, sym, subst, zero, suc, Option, Some, None, slice_index_or, arith}
+use Rattle.std.proofs.Common.{◌≡◌, ℕ, ◌+◌, ◌*◌, ◌≤◌, ◌<◌, ◌^◌, Bool, true, false, List, [], ◌∷◌, ◌++◌, map, drop, length, length-append, ap, ◌∙◌, refl, sym, subst, zero, suc, Option, Some, None, slice_index_or, arith, inl, inr, ◌⊎◌}
 use Rattle.std.specs.Prelude.{◌==◌, ◌||◌, nat_lt, if◌then◌else◌, is_some}
 use Rattle.std.specs.List.{AllByRecursion, list_any}
 use Rattle.std.proofs.lemmas.List.{drop-append-le, get_or-map, length-map}
@@ -22,10 +22,13 @@ use Rattle.dmc_ledger.specs.Bundles.{ClientSide}
 use Rattle.dmc_ledger.specs.Moves.{after_issue}
 use Rattle.dmc_book.specs.declared.counts.Numbers.{Numbers}
 use Rattle.dmc_book.specs.Counts.{accepted, count, numbers_of, no_numbers, worker_adds, stamps_added, delta_added, rho_added, grants_added, units_for, grant_in, is_miss, one_if, IsSmall}
-use Rattle.dmc_book.specs.BookState.{AccountsState, WorkerSide, accounts_of, no_desk, state_of}
-use Rattle.dmc_book.specs.Consistent.{AreConsistent, AreTokensFit, IsCounted, IsReplayed, IsWorker, IsDesk, AreWorkersApart, AreClientsApart, AreDesks, AreWithin, AreGrantsWithin, HasDesk, IsSeated, max_before, reaching}
-use Rattle.dmc_book.specs.Moves.{accounts_after, book_after, worker_after, desk_after}
-use Rattle.dmc_tag.proofs.Lists.{all_as, all_mapped, all_next, position_map}
+use Rattle.dmc_book.specs.BookState.{AccountsState, PassState, WorkerSide, accounts_of, no_desk, no_worker, state_of}
+use Rattle.dmc_book.specs.Consistent.{AreConsistent, AreTokensFit, IsCounted, IsReplayed, IsWorker, IsDesk, AreWorkersApart, AreClientsApart, AreDesks, AreWithin, AreGrantsWithin, HasDesk, HasLeft, IsSeated, max_before, reaching}
+use Rattle.dmc_book.specs.Settling.{IsGathered}
+use Rattle.dmc_book.proofs.RenewingLemmas.{all_there, worker_there}
+use Rattle.dmc_book.proofs.WorkerLemmas.{unmoved_at}
+use Rattle.dmc_book.specs.Moves.{IsEnrolled, IsOpen, accounts_after, book_after, worker_after, desk_after}
+use Rattle.dmc_tag.proofs.Lists.{all_as, all_both, all_mapped, all_next, position_map}
 
 -- ---- the counts
 
@@ -73,6 +76,34 @@ module _ {T : Type 0} where
     grants = counted_more (λ e. (worker_adds w.worker e).grants) es e 1 w.books.grants h.grants;
     granted = since_more (λ e. (worker_adds w.worker e).granted) es e w.renewed 1 w.books.granted h.renewed h.granted;
   }
+
+  gathered_more : (adds : Event T → ℕ) (es : List (Event T)) (e : Event T) (book : Account) → adds e ≡ 0 → IsGathered adds es book → IsGathered adds (es ++ e ∷ []) book
+  gathered_more adds es e book none h = record { gathered = (let more = count_more adds es e in omega (arith, more, none, h.gathered)); held = h.held; open_tills = h.open_tills }
+
+  -- an event of another worker leaves one that was dismissed
+  left_more : (es : List (Event T)) (e : Event T) (w : WorkerSide) → (e.worker.0 == w.worker) ≡ false → HasLeft es w → HasLeft (es ++ e ∷ []) w
+  left_more es e w other h =
+      let none : worker_adds w.worker e ≡ no_numbers = ap (λ b. if b then numbers_of e.command e.reply else no_numbers) other in
+      let since : drop w.renewed (es ++ e ∷ []) ≡ drop w.renewed es ++ e ∷ [] = drop-append-le w.renewed es (e ∷ []) h.renewed in
+      let long : length (es ++ e ∷ []) ≡ length es + 1 = length-append es (e ∷ []) in
+      record {
+        settled = record {
+          calls = gathered_more _ es e w.books.calls (ap (λ (n : Numbers). n.calls) none) h.settled.calls;
+          misses = gathered_more _ es e w.books.misses (ap (λ (n : Numbers). n.misses) none) h.settled.misses;
+          tokens = subst (λ (xs : List (Event T)). IsGathered (λ x. (worker_adds w.worker x).tokens) xs w.books.tokens) (sym since) (gathered_more _ (drop w.renewed es) e w.books.tokens (ap (λ (n : Numbers). n.tokens) none) h.settled.tokens);
+          grants = gathered_more _ es e w.books.grants (ap (λ (n : Numbers). n.grants) none) h.settled.grants;
+          granted = subst (λ (xs : List (Event T)). IsGathered (λ x. (worker_adds w.worker x).granted) xs w.books.granted) (sym since) (gathered_more _ (drop w.renewed es) e w.books.granted (ap (λ (n : Numbers). n.granted) none) h.settled.granted);
+        };
+        renewed = omega (arith, h.renewed, long);
+        reach = h.reach;
+      }
+
+  either_more : (es : List (Event T)) (e : Event T) (w : WorkerSide) → (w.books.calls.open_tills ≡ 0 → (e.worker.0 == w.worker) ≡ false) → IsWorker es w ⊎ HasLeft es w
+      → IsWorker (es ++ e ∷ []) (worker_after e w) ⊎ HasLeft (es ++ e ∷ []) (worker_after e w)
+  either_more es e w others (inl h) = inl (worker_more es e w h)
+  either_more es e w others (inr h) =
+      let other = others h.settled.calls.open_tills in
+      inr (subst (HasLeft (es ++ e ∷ [])) (sym (unmoved_at e w _ refl other)) (left_more es e w other h))
 
   desk_more : (es : List (Event T)) (e : Event T) (server passes : ℕ) (d : ClientSide) → IsDesk es server passes d → IsDesk (es ++ e ∷ []) server passes (desk_after e d)
   desk_more es e server passes d h = record {
@@ -128,12 +159,10 @@ module _ {T : Type 0} (a : AccountsState T) (h : AreConsistent a) (fewer : lengt
     granted = tokens_below (total_of w.books.granted) fit.granted;
   }
 
-  all_fit : (ws : List WorkerSide) → AllByRecursion (IsWorker a.history) ws → AllByRecursion (λ w. AreTokensFit a.first (length a.history) w.books) ws → AllByRecursion (λ w. AreWithin max_before w.books) ws
-  all_fit [] is fit = tt
-  all_fit (w ∷ ws) is fit = (worker_fits w is.0 fit.0, all_fit ws is.1 fit.1)
-
-  pub workers_fit : AllByRecursion (λ w. AreWithin max_before w.books) a.workers
-  workers_fit = all_fit a.workers h.workers h.tokens_fit
+  -- the books of a worker that is enrolled can count one event more
+  pub workers_fit : (p : PassState) → IsEnrolled a.workers p → AreWithin max_before (slice_index_or a.workers p.place no_worker).books
+  workers_fit p its = worker_fits (slice_index_or a.workers p.place no_worker) (worker_there a p.place its.within its.still h)
+      (all_there (λ w. IsOpen w → AreTokensFit a.first (length a.history) w.books) a.workers p.place its.within h.tokens_fit its.still)
 
   desk_fits : (passes : ℕ) (d : ClientSide) → IsDesk a.history a.server passes d → AreGrantsWithin max_before d.books
   desk_fits passes d is = record {
@@ -180,12 +209,13 @@ module _ {T : Type 0} (e : Event T) where
   -- what was written to the parts of accounts is consistent
   pub consistent_recorded : (a : AccountsState T) (h : Segmented (Event T)) (workers : List WorkerSide) (desks : List ClientSide)
       → h.events ≡ a.history ++ e ∷ [] → h.first ≡ a.first → h.most ≡ a.most → workers ≡ map (worker_after e) a.workers → desks ≡ map (desk_after e) a.desks
-      → IsSmall (numbers_of e.command e.reply) → HasDesk a.desks (grant_in e.reply) → HasDesk a.desks (accepted e) → IsSeated a.workers e.worker.0 → AreConsistent a → AreConsistent (accounts_of a.server h workers desks)
-  consistent_recorded a h workers desks events first most ws ds small granted queued seated was =
+      → IsSmall (numbers_of e.command e.reply) → HasDesk a.desks (grant_in e.reply) → HasDesk a.desks (accepted e) → IsSeated a.workers e.worker.0
+      → AllByRecursion (λ w. w.books.calls.open_tills ≡ 0 → (e.worker.0 == w.worker) ≡ false) a.workers → AreConsistent a → AreConsistent (accounts_of a.server h workers desks)
+  consistent_recorded a h workers desks events first most ws ds small granted queued seated others was =
       let long : length (a.history ++ e ∷ []) ≡ length a.history + 1 = length-append a.history (e ∷ []) in
       let as_many : length (map (worker_after e) a.workers) ≡ length a.workers = length-map a.workers (worker_after e) in
       let same : AreConsistent (accounts_after e a) = record {
-        workers = all_mapped _ _ (worker_after e) (worker_more a.history e) a.workers was.workers;
+        workers = all_mapped _ _ (worker_after e) (λ w both. either_more a.history e w both.0 both.1) a.workers (all_both _ _ a.workers others was.workers);
         desks = desks_more a.history e a.server a.workers a.desks was.desks;
         reach = all_mapped _ _ (worker_after e) (λ w l. omega (arith, l, length-map a.desks (desk_after e))) a.workers was.reach;
         workers_apart = workers_apart e a.workers was.workers_apart;
@@ -193,7 +223,7 @@ module _ {T : Type 0} (e : Event T) where
         granted = each_more _ _ (λ x. desk_stays e a.desks (grant_in x.reply)) a.history e was.granted granted;
         queued = each_more _ _ (λ x. desk_stays e a.desks (accepted x)) a.history e was.queued queued;
         seated = each_more _ _ (λ x is. seat_stays e x.worker.0 a.workers ∙ is) a.history e was.seated seated;
-        tokens_fit = subst (λ (n : ℕ). AllByRecursion (λ w. AreTokensFit a.first n w.books) (map (worker_after e) a.workers)) (sym long) (all_mapped _ _ (worker_after e) (λ w. tokens_more a.first (length a.history) w small) a.workers was.tokens_fit);
+        tokens_fit = subst (λ (n : ℕ). AllByRecursion (λ w. IsOpen w → AreTokensFit a.first n w.books) (map (worker_after e) a.workers)) (sym long) (all_mapped _ _ (worker_after e) (λ w fit still. tokens_more a.first (length a.history) w small (fit still)) a.workers was.tokens_fit);
         within = omega (arith, was.within, long);
         few = was.few;
         limit = was.limit;

@@ -1,5 +1,5 @@
 -- Accounts with a worker more are consistent.
-use Rattle.std.proofs.Common.{◌≡◌, ℕ, ◌+◌, ◌<◌, Bool, true, false, List, [], ◌∷◌, ◌++◌, map, length, length-append, refl, sym, ap, ◌∙◌, subst, arith}
+use Rattle.std.proofs.Common.{◌≡◌, ℕ, ◌+◌, ◌<◌, Bool, true, false, List, [], ◌∷◌, ◌++◌, map, length, length-append, refl, sym, ap, ◌∙◌, subst, arith, inl, ◌⊎◌}
 use Rattle.std.specs.Prelude.{◌==◌, ◌||◌, nat_lt, if◌then◌else◌, slice_index_or}
 use Rattle.std.specs.List.{AllByRecursion, list_any}
 use Rattle.std.proofs.lemmas.Bool.{eqb-true, lt-ltb, or_parts}
@@ -10,9 +10,10 @@ use Rattle.dmc_tag.specs.declared.event.Event.{Event}
 use Rattle.dmc_tag.proofs.Lists.{all_as, all_next}
 use Rattle.dmc_ledger.specs.Accounts.{new_book}
 use Rattle.dmc_book.specs.BookState.{AccountsState, WorkerSide, no_desk}
-use Rattle.dmc_book.specs.Consistent.{AreConsistent, AreDesks, AreTokensFit, AreWorkersApart, IsCounted, IsSeated, IsWorker, reaching}
+use Rattle.dmc_book.specs.Consistent.{AreConsistent, AreDesks, AreTokensFit, AreWorkersApart, HasLeft, IsCounted, IsSeated, IsWorker, reaching}
 use Rattle.dmc_book.specs.Counts.{accepted, count, grant_in, no_numbers, numbers_of, one_if, worker_adds}
 use Rattle.dmc_book.specs.Enrolling.{accounts_enrolled}
+use Rattle.dmc_book.specs.Moves.{IsOpen}
 use Rattle.dmc_book.specs.Opening.{HaveRoom, desk_with_tills, new_worker}
 use Rattle.dmc_book.specs.declared.counts.Numbers.{Numbers}
 use Rattle.dmc_book.proofs.ExtendingLemmas.{apart_from, desk_opened, has_from, reached_at_most}
@@ -80,7 +81,7 @@ module _ {T : Type 0} (a : AccountsState T) (h : AreConsistent a) (few : length 
 
     pub consistent_enrolled : AreConsistent (accounts_enrolled n w a)
     consistent_enrolled = record {
-      workers = all_next (IsWorker a.history) a.workers seat h.workers (begins_all a.workers w.0 unknown a.history h.seated (length a.desks) n);
+      workers = all_next (λ v. IsWorker a.history v ⊎ HasLeft a.history v) a.workers seat h.workers (inl (begins_all a.workers w.0 unknown a.history h.seated (length a.desks) n));
       desks = desks_reached;
       reach = all_next _ a.workers seat (all_as _ _ (λ v l. omega (arith, l, length-map a.desks (desk_with_tills 1))) a.workers h.reach) (omega (arith, length-map a.desks (desk_with_tills 1)));
       workers_apart = apart_more a.workers seat h.workers_apart (either_false (list_any (λ v. w.0 == v.worker) a.workers) unknown);
@@ -88,7 +89,7 @@ module _ {T : Type 0} (a : AccountsState T) (h : AreConsistent a) (few : length 
       granted = all_as _ _ (λ e. has_from 0 a.desks (grant_in e.reply)) a.history h.granted;
       queued = all_as _ _ (λ e. has_from 0 a.desks (accepted e)) a.history h.queued;
       seated = all_as _ _ (λ e. still_seated e.worker.0) a.history h.seated;
-      tokens_fit = all_next (λ v. AreTokensFit a.first (length a.history) v.books) a.workers seat h.tokens_fit (record { tokens = omega (arith, h.within); granted = omega (arith, h.within) });
+      tokens_fit = all_next (λ v. IsOpen v → AreTokensFit a.first (length a.history) v.books) a.workers seat h.tokens_fit (λ still. record { tokens = omega (arith, h.within); granted = omega (arith, h.within) });
       within = h.within;
       few = h.few;
       limit = h.limit;

@@ -1,5 +1,5 @@
 -- Accounts where one pass has tills of each desk are consistent.
-use Rattle.std.proofs.Common.{◌≡◌, ℕ, zero, suc, ◌+◌, ◌<◌, ◌≤◌, Bool, false, List, [], ◌∷◌, map, length, refl, sym, ap, ◌∙◌, Option, Some, None, inl, inr, ◌⊎◌, arith}
+use Rattle.std.proofs.Common.{◌≡◌, ℕ, zero, suc, ◌+◌, ◌<◌, ◌≤◌, Bool, false, List, [], ◌∷◌, map, length, refl, sym, ap, ◌∙◌, Option, Some, None, inl, inr, ◌⊎◌, arith, subst}
 use Rattle.std.specs.Prelude.{◌==◌, nat_lt, is_some, slice_index_or}
 use Rattle.std.specs.List.{AllByRecursion, position}
 use Rattle.std.proofs.lemmas.Bool.{cases_lt, le-ltb, lt-ltb}
@@ -10,13 +10,14 @@ use Rattle.dmc_tag.proofs.Lists.{all_as, all_mapped, position_map}
 use Rattle.dmc_ledger.specs.Bundles.{ClientSide, client_side}
 use Rattle.dmc_ledger.specs.declared.desk.ClientDesk.{ClientDesk}
 use Rattle.dmc_book.specs.BookState.{AccountsState, WorkerSide, no_desk, no_worker}
-use Rattle.dmc_book.specs.Consistent.{AreClientsApart, AreConsistent, AreDesks, AreTokensFit, HasDesk, IsDesk, IsWorker, reaching}
+use Rattle.dmc_book.specs.Consistent.{AreClientsApart, AreConsistent, AreDesks, AreTokensFit, HasDesk, HasLeft, IsDesk, IsWorker, reaching}
 use Rattle.dmc_book.specs.Counts.{accepted, grant_in, one_if}
 use Rattle.dmc_book.specs.Joining.{accounts_extended, desks_from, id_of, reach_at, with_reach}
+use Rattle.dmc_book.specs.Moves.{IsOpen}
 use Rattle.dmc_book.specs.Opening.{AreApart, HaveRoom, desk_with_tills}
 use Rattle.dmc_book.proofs.Counting.{one_at_most}
 use Rattle.dmc_book.proofs.OpeningLemmas.{names_by_sides}
-use Rattle.dmc_book.proofs.RenewingLemmas.{all_set, all_there, apart_set, seated_set}
+use Rattle.dmc_book.proofs.RenewingLemmas.{all_set, all_there, apart_set, seated_set, worker_there}
 
 -- ---- desks, of which those from a place on have a till more
 
@@ -46,22 +47,36 @@ ids_from (suc n) (d ∷ ds) = ap (λ ks. id_of d ∷ ks) (ids_from n ds)
 pub names_from : {S : Type 0} (n : ℕ) (new old : List (ClientDesk S)) → map client_side new ≡ desks_from n (map client_side old) → map (λ d. d.client) new ≡ map (λ d. d.client) old
 names_from n new old h = names_by_sides new ∙ ap (map id_of) h ∙ ids_from n (map client_side old) ∙ sym (names_by_sides old)
 
-others_from : (c n : ℕ) (ds : List ClientSide) → AllByRecursion (λ o. (o.client == c) ≡ false) ds → AllByRecursion (λ o. (o.client == c) ≡ false) (desks_from n ds)
-others_from c zero ds h = all_mapped _ _ (desk_with_tills 1) (λ o is. is) ds h
-others_from c (suc n) [] h = tt
-others_from c (suc n) (d ∷ ds) h = (h.0, others_from c n ds h.1)
+-- desks of the same clients are apart, and the same clients have one
+abbrev number : ClientId → ℕ
+number id = id.0
+
+ids_apart : (ds : List ClientSide) → AreClientsApart ds → AreApart number (map id_of ds)
+ids_apart [] h = tt
+ids_apart (d ∷ ds) h = (all_mapped _ _ id_of (λ o is. is) ds h.0, ids_apart ds h.1)
+
+all_named : (c : ℕ) (ds : List ClientSide) → AllByRecursion (λ (id : ClientId). (id.0 == c) ≡ false) (map id_of ds) → AllByRecursion (λ (d : ClientSide). (d.client == c) ≡ false) ds
+all_named c [] h = tt
+all_named c (d ∷ ds) h = (h.0, all_named c ds h.1)
+
+apart_by_ids : (ds : List ClientSide) → AreApart number (map id_of ds) → AreClientsApart ds
+apart_by_ids [] h = tt
+apart_by_ids (d ∷ ds) h = (all_named d.client ds h.0, apart_by_ids ds h.1)
+
+pub apart_as : (ds es : List ClientSide) → map id_of es ≡ map id_of ds → AreClientsApart ds → AreClientsApart es
+apart_as ds es same h = apart_by_ids es (subst (AreApart number) (sym same) (ids_apart ds h))
+
+pub has_as : {X : Type 0} (ds es : List ClientSide) → map id_of es ≡ map id_of ds → (o : Option (ClientId × X)) → HasDesk ds o → HasDesk es o
+has_as ds es same None has = tt
+has_as ds es same (Some its) has =
+    let is_its : ClientId → Bool = λ id. its.0.0 == id.0 in
+    ap is_some (sym (position_map id_of is_its es) ∙ ap (position is_its) same ∙ position_map id_of is_its ds) ∙ has
 
 pub apart_from : (n : ℕ) (ds : List ClientSide) → AreClientsApart ds → AreClientsApart (desks_from n ds)
-apart_from zero [] h = tt
-apart_from zero (d ∷ ds) h = (others_from d.client zero ds h.0, apart_from zero ds h.1)
-apart_from (suc n) [] h = tt
-apart_from (suc n) (d ∷ ds) h = (others_from d.client n ds h.0, apart_from n ds h.1)
+apart_from n ds h = apart_as ds (desks_from n ds) (ids_from n ds) h
 
 pub has_from : {X : Type 0} (n : ℕ) (ds : List ClientSide) (o : Option (ClientId × X)) → HasDesk ds o → HasDesk (desks_from n ds) o
-has_from n ds None has = tt
-has_from n ds (Some its) has =
-    let is_its : ClientId → Bool = λ id. its.0.0 == id.0 in
-    ap is_some (sym (position_map id_of is_its (desks_from n ds)) ∙ ap (position is_its) (ids_from n ds) ∙ position_map id_of is_its ds) ∙ has
+has_from n ds o has = has_as ds (desks_from n ds) (ids_from n ds) o has
 
 -- two ways to say that no two desks are of one client
 pub apart_by_number : (ds : List ClientSide) → AreClientsApart ds → AreApart (λ (d : ClientSide). d.client) ds
@@ -135,14 +150,14 @@ module _ {T : Type 0} (a : AccountsState T) (place : ℕ) (within : place < leng
         rw (reached_by_one_more k (length a.desks) inside a.workers place within past, desk_behind from a.desks k past inside)
         (desk_opened a.history a.server (reaching k a.workers) (slice_index_or a.desks k no_desk) (h.desks k inside))
 
-  pub consistent_extended : AreConsistent (accounts_extended place a)
-  consistent_extended =
+  pub consistent_extended : IsOpen (slice_index_or a.workers place no_worker) → AreConsistent (accounts_extended place a)
+  consistent_extended still =
       let w = slice_index_or a.workers place no_worker in
       let v : WorkerSide = record w { reach = length a.desks } in
-      let counted = all_there (IsWorker a.history) a.workers place within h.workers in
+      let counted = worker_there a place within still h in
       let many = as_many_from from a.desks in
       record {
-        workers = all_set (IsWorker a.history) a.workers place v h.workers (record { calls = counted.calls; misses = counted.misses; renewed = counted.renewed; tokens = counted.tokens; grants = counted.grants; granted = counted.granted });
+        workers = all_set (λ x. IsWorker a.history x ⊎ HasLeft a.history x) a.workers place v h.workers (inl (record { calls = counted.calls; misses = counted.misses; renewed = counted.renewed; tokens = counted.tokens; grants = counted.grants; granted = counted.granted }));
         desks = extended_desks;
         reach = all_set (λ x. x.reach ≤ length (desks_from from a.desks)) a.workers place v (all_as _ _ (λ x l. omega (arith, l, many)) a.workers h.reach) (omega (arith, many));
         workers_apart = apart_set a.workers place v within refl h.workers_apart;
@@ -150,7 +165,7 @@ module _ {T : Type 0} (a : AccountsState T) (place : ℕ) (within : place < leng
         granted = all_as _ _ (λ e. has_from from a.desks (grant_in e.reply)) a.history h.granted;
         queued = all_as _ _ (λ e. has_from from a.desks (accepted e)) a.history h.queued;
         seated = all_as _ _ (λ e is. seated_set e.worker.0 a.workers place v refl ∙ is) a.history h.seated;
-        tokens_fit = all_set (λ x. AreTokensFit a.first (length a.history) x.books) a.workers place v h.tokens_fit (all_there (λ x. AreTokensFit a.first (length a.history) x.books) a.workers place within h.tokens_fit);
+        tokens_fit = all_set (λ x. IsOpen x → AreTokensFit a.first (length a.history) x.books) a.workers place v h.tokens_fit (all_there (λ x. IsOpen x → AreTokensFit a.first (length a.history) x.books) a.workers place within h.tokens_fit);
         within = h.within;
         few = h.few;
         limit = h.limit;

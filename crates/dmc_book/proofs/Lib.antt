@@ -6,6 +6,7 @@ mod EnrollingLemmas
 mod ExtendingLemmas
 mod GrantLemmas
 mod JoiningLemmas
+mod LeavingLemmas
 mod OpeningLemmas
 mod RenewingLemmas
 mod RotatingLemmas

@@ -1,5 +1,5 @@
 -- A queue's book that is made is consistent, and what opens it worker by worker.
-use Rattle.std.proofs.Common.{◌≡◌, ℕ, zero, suc, ◌+◌, ◌*◌, ◌<◌, ◌≤◌, ◌^◌, ◌||◌, Bool, true, false, true≢false, List, [], ◌∷◌, ◌++◌, length, map, take, drop, get_or, refl, sym, ap, ◌∙◌, subst, arith}
+use Rattle.std.proofs.Common.{◌≡◌, ℕ, zero, suc, ◌+◌, ◌*◌, ◌<◌, ◌≤◌, ◌^◌, ◌||◌, Bool, true, false, true≢false, List, [], ◌∷◌, ◌++◌, length, map, take, drop, get_or, refl, sym, ap, ◌∙◌, subst, arith, inl, ◌⊎◌}
 use Rattle.std.specs.Prelude.{◌==◌, nat_lt, slice_index_or}
 use Rattle.std.specs.List.{AllByRecursion, list_any}
 use Rattle.std.proofs.lemmas.Bool.{lt-ltb}
@@ -17,8 +17,9 @@ use Rattle.dmc_ledger.specs.Bundles.{ClientSide, client_side, new_client_side}
 use Rattle.dmc_ledger.specs.declared.desk.ClientDesk.{ClientDesk}
 use Rattle.dmc_book.specs.BookState.{PassState, WorkerSide, no_desk}
 use Rattle.dmc_book.specs.Counts.{one_if}
-use Rattle.dmc_book.specs.Consistent.{AreConsistent, AreTokensFit, IsCounted, IsReplayed, IsWorker, IsDesk, AreDesks, AreWorkersApart, AreClientsApart, reaching}
+use Rattle.dmc_book.specs.Consistent.{AreConsistent, AreTokensFit, HasLeft, IsCounted, IsReplayed, IsWorker, IsDesk, AreDesks, AreWorkersApart, AreClientsApart, reaching}
 use Rattle.dmc_book.specs.Joining.{id_of}
+use Rattle.dmc_book.specs.Moves.{IsOpen}
 use Rattle.dmc_book.specs.Opening.{AreApart, AreNamedOnce, HaveRoom, IsNewDesk, desk_with_tills, with_tills, new_unit, new_worker, new_workers, new_pass, new_passes, new_accounts_state}
 use Rattle.std.proofs.lemmas.Bool.{or_parts}
 
@@ -116,17 +117,17 @@ module _ {T : Type 0} where
   desk_counted : (server k : ℕ) (d : ClientSide) → IsNewDesk server d → IsDesk {T = T} [] server k (desk_with_tills k d)
   desk_counted server k d h = subst (λ (x : ClientSide). IsDesk {T = T} [] server k (desk_with_tills k x)) (sym h.1) (opened_desk d.client server h.0 k)
 
-workers_counted : (T : Type 0) (r n : ℕ) (ws : List WorkerId) → AllByRecursion (IsWorker {T = T} []) (new_workers r n ws)
+workers_counted : (T : Type 0) (r n : ℕ) (ws : List WorkerId) → AllByRecursion (λ w. IsWorker {T = T} [] w ⊎ HasLeft {T = T} [] w) (new_workers r n ws)
 workers_counted T r n [] = tt
 workers_counted T r n (w ∷ ws) = (
-  record {
+  inl (record {
     calls = new_counted _ n;
     misses = new_counted _ (n + 1);
     renewed = omega arith;
     tokens = new_counted _ (n + 2);
     grants = new_counted _ (n + 3);
     granted = new_counted _ (n + 4);
-  },
+  }),
   workers_counted T r (n + 5) ws,
 )
 
@@ -158,9 +159,9 @@ all_in_reach : (r n : ℕ) (ws : List WorkerId) → AllByRecursion (λ w. w.reac
 all_in_reach r n [] = tt
 all_in_reach r n (w ∷ ws) = (omega arith, all_in_reach r (n + 5) ws)
 
-tokens_low : (r n : ℕ) (ws : List WorkerId) → AllByRecursion (λ w. AreTokensFit 0 0 w.books) (new_workers r n ws)
+tokens_low : (r n : ℕ) (ws : List WorkerId) → AllByRecursion (λ w. IsOpen w → AreTokensFit 0 0 w.books) (new_workers r n ws)
 tokens_low r n [] = tt
-tokens_low r n (w ∷ ws) = (record { tokens = omega arith; granted = omega arith }, tokens_low r (n + 5) ws)
+tokens_low r n (w ∷ ws) = (λ still. record { tokens = omega arith; granted = omega arith }, tokens_low r (n + 5) ws)
 
 new_desk_at : (server : ℕ) (ds : List ClientSide) (k : ℕ) → AllByRecursion (IsNewDesk server) ds → k < length ds → IsNewDesk server (slice_index_or ds k no_desk)
 new_desk_at server [] k new l = absurd (omega (arith, l))

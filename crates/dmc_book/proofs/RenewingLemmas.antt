@@ -1,5 +1,5 @@
 -- Accounts whose sums of a worker's tokens begin anew.
-use Rattle.std.proofs.Common.{◌≡◌, ℕ, zero, suc, ◌+◌, ◌<◌, ◌≤◌, List, [], ◌∷◌, drop, length, refl, sym, ap, ◌∙◌, subst, slice_index_or, slice_set, arith}
+use Rattle.std.proofs.Common.{◌≡◌, ℕ, zero, suc, ◌+◌, ◌<◌, ◌≤◌, List, [], ◌∷◌, drop, length, refl, sym, ap, ◌∙◌, subst, slice_index_or, slice_set, arith, inl, inr, ◌⊎◌}
 use Rattle.std.specs.Prelude.{◌==◌, ◌||◌, false, nat_lt}
 use Rattle.std.specs.List.{AllByRecursion, list_any}
 use Rattle.std.proofs.lemmas.List.{length-set}
@@ -7,8 +7,9 @@ use Rattle.dmc_tag.specs.declared.event.Event.{Event}
 use Rattle.dmc_ledger.specs.Accounts.{new_book}
 use Rattle.dmc_book.specs.BookState.{AccountsState, WorkerSide, no_desk, no_worker}
 use Rattle.dmc_tag.proofs.Lists.{all_as}
-use Rattle.dmc_book.specs.Consistent.{AreConsistent, AreTokensFit, AreWorkersApart, IsCounted, IsDesk, IsWorker, reaching}
+use Rattle.dmc_book.specs.Consistent.{AreConsistent, AreTokensFit, AreWorkersApart, HasLeft, IsCounted, IsDesk, IsWorker, reaching}
 use Rattle.dmc_book.specs.Counts.{one_if}
+use Rattle.dmc_book.specs.Moves.{IsOpen}
 use Rattle.dmc_book.specs.Renewing.{accounts_renewed, renewed_worker}
 
 module _ (P : WorkerSide → Type 0) where
@@ -59,13 +60,20 @@ module _ {T : Type 0} where
     granted = begun _ es w.books.granted.number;
   }
 
-  pub consistent_renewed : (a : AccountsState T) (place : ℕ) → place < length a.workers → AreConsistent a → AreConsistent (accounts_renewed place a)
-  consistent_renewed a place within h =
+  -- the worker at a place is counted, where it was not dismissed
+  pub worker_there : (a : AccountsState T) (place : ℕ) → place < length a.workers → IsOpen (slice_index_or a.workers place no_worker) → AreConsistent a → IsWorker a.history (slice_index_or a.workers place no_worker)
+  worker_there a place within still h = counted (slice_index_or a.workers place no_worker) still (all_there (λ w. IsWorker a.history w ⊎ HasLeft a.history w) a.workers place within h.workers) where
+    counted : (w : WorkerSide) → IsOpen w → IsWorker a.history w ⊎ HasLeft a.history w → IsWorker a.history w
+    counted w still (inl is) = is
+    counted w still (inr left) = absurd (omega (arith, still, left.settled.calls.open_tills))
+
+  pub consistent_renewed : (a : AccountsState T) (place : ℕ) → place < length a.workers → IsOpen (slice_index_or a.workers place no_worker) → AreConsistent a → AreConsistent (accounts_renewed place a)
+  consistent_renewed a place within still h =
       let w = slice_index_or a.workers place no_worker in
       let v = renewed_worker (length a.history) w in
       let as_many : length (slice_set a.workers place v) ≡ length a.workers = length-set a.workers place v in
       record {
-        workers = all_set (IsWorker a.history) a.workers place v h.workers (renewed_counts a.history w (all_there (IsWorker a.history) a.workers place within h.workers));
+        workers = all_set (λ x. IsWorker a.history x ⊎ HasLeft a.history x) a.workers place v h.workers (inl (renewed_counts a.history w (worker_there a place within still h)));
         desks = λ k l. subst (λ (n : ℕ). IsDesk a.history a.server n (slice_index_or a.desks k no_desk)) (sym (reaching_set k a.workers place v refl)) (h.desks k l);
         reach = all_set (λ x. x.reach ≤ length a.desks) a.workers place v h.reach (all_there (λ x. x.reach ≤ length a.desks) a.workers place within h.reach);
         workers_apart = apart_set a.workers place v within refl h.workers_apart;
@@ -73,12 +81,9 @@ module _ {T : Type 0} where
         granted = h.granted;
         queued = h.queued;
         seated = all_as _ _ (λ e is. seated_set e.worker.0 a.workers place v refl ∙ is) a.history h.seated;
-        tokens_fit = all_set (λ x. AreTokensFit a.first (length a.history) x.books) a.workers place v h.tokens_fit (record { tokens = omega (arith, h.within); granted = omega (arith, h.within) });
+        tokens_fit = all_set (λ x. IsOpen x → AreTokensFit a.first (length a.history) x.books) a.workers place v h.tokens_fit (λ still. record { tokens = omega (arith, h.within); granted = omega (arith, h.within) });
         within = h.within;
         few = h.few;
         limit = h.limit;
         few_workers = omega (arith, h.few_workers, as_many);
       }
-
-  pub worker_there : (a : AccountsState T) (place : ℕ) → place < length a.workers → AreConsistent a → IsWorker a.history (slice_index_or a.workers place no_worker)
-  worker_there a place within h = all_there (IsWorker a.history) a.workers place within h.workers

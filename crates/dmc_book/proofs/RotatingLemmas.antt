@@ -7,13 +7,14 @@ use Rattle.dmc_queue_history.specs.Segmented.{MayRotate, Segmented, after_rotati
 use Rattle.dmc_ledger.specs.Bundles.{ClientSide}
 use Rattle.dmc_book.specs.BookState.{WorkerSide, accounts_of}
 use Rattle.dmc_book.specs.Consistent.{AreConsistent, AreTokensFit}
+use Rattle.dmc_book.specs.Moves.{IsOpen}
 use Rattle.dmc_book.specs.Rotating.{AreTokensLow}
 
-tokens_rotated : (n : ℕ) (ws : List WorkerSide) → AllByRecursion (λ w. AreTokensLow w.books) ws → AllByRecursion (λ w. AreTokensFit n n w.books) ws
+tokens_rotated : (n : ℕ) (ws : List WorkerSide) → AllByRecursion (λ w. IsOpen w → AreTokensLow w.books) ws → AllByRecursion (λ w. IsOpen w → AreTokensFit n n w.books) ws
 tokens_rotated n [] low = tt
-tokens_rotated n (w ∷ ws) low = (record { tokens = omega (arith, low.0.tokens); granted = omega (arith, low.0.granted) }, tokens_rotated n ws low.1)
+tokens_rotated n (w ∷ ws) low = (λ still. record { tokens = omega (arith, (low.0 still).tokens); granted = omega (arith, (low.0 still).granted) }, tokens_rotated n ws low.1)
 
-module _ {T : Type 0} (server : ℕ) (old : Segmented (Event T)) (ws : List WorkerSide) (ds : List ClientSide) (low : AllByRecursion (λ w. AreTokensLow w.books) ws) (was : AreConsistent (accounts_of server old ws ds)) where
+module _ {T : Type 0} (server : ℕ) (old : Segmented (Event T)) (ws : List WorkerSide) (ds : List ClientSide) (low : AllByRecursion (λ w. IsOpen w → AreTokensLow w.books) ws) (was : AreConsistent (accounts_of server old ws ds)) where
   rotated : MayRotate old → AreConsistent (accounts_of server (after_rotating old (old.most - old.first)) ws ds)
   rotated may = record {
     workers = was.workers;

@@ -2,7 +2,7 @@
 use Rattle.std.proofs.Common.{ℕ, zero, suc, ap, ◌≡◌, [], ◌∷◌, slice_index_or, ◌<◌, Bool, true, false, true≢false, List, length, Option, None, refl, sym, subst, ◌∙◌, Result, Ok, Err, arith}
 use Rattle.std.specs.Prelude.{◌==◌, ◌||◌, ◌↔◌, OnOk, OnErr, IfOk, if◌then◌else◌}
 use Rattle.std.specs.Cmp.{IsTotalOrder}
-use Rattle.std.specs.List.{list_any}
+use Rattle.std.specs.List.{AllByRecursion, list_any}
 use Rattle.std.proofs.lemmas.Bool.{eq-eqb, true_from_ne_false}
 use Rattle.dmc_types.specs.declared.ids.ClientId.{ClientId}
 use Rattle.dmc_types.specs.declared.ids.WorkerId.{WorkerId}
@@ -22,7 +22,10 @@ use Rattle.dmc_book.specs.declared.fault.RunOrRange.{RunOrRange}
 use Rattle.dmc_book.specs.declared.fault.RunOrRange.TheVariants as pull
 use Rattle.dmc_book.specs.BookState.{BookState, PassState, WorkerSide, no_worker}
 use Rattle.dmc_book.specs.Calls.{Asks, Ran, WasPulled, asked, lacks_desk, reply_to, run_cause}
-use Rattle.dmc_book.specs.Consistent.{IsReplayed, IsSeated}
+use Rattle.dmc_book.specs.Consistent.{AreWorkersApart, IsReplayed, IsSeated}
+use Rattle.dmc_tag.proofs.Booleans.{eqb_turned}
+use Rattle.dmc_tag.proofs.Lists.{all_as}
+use Rattle.dmc_book.proofs.RenewingLemmas.{all_there}
 use Rattle.dmc_book.specs.Counts.{accepted, is_tagged}
 use Rattle.dmc_book.specs.Moves.{IsEnrolled, takes}
 use Rattle.dmc_book.specs.Runs.{IsBehind, IsFull, Runs, StraysHere}
@@ -47,6 +50,18 @@ seated_pass ws p h = subst (IsSeated ws) h.its_worker (there ws p.place h.within
   there [] i within = absurd (omega (arith, within))
   there (w ∷ ws) zero within = ap (λ b. b || list_any (λ (x : WorkerSide). w.worker == x.worker) ws) (eq-eqb w.worker w.worker refl)
   there (w ∷ ws) (suc i) within = later _ _ (there ws i (omega (arith, within)))
+
+-- and no worker that was dismissed
+pub other_than_left : (ws : List WorkerSide) (p : PassState) → AreWorkersApart ws → IsEnrolled ws p → AllByRecursion (λ w. w.books.calls.open_tills ≡ 0 → (p.worker == w.worker) ≡ false) ws
+other_than_left ws p apart its = each ws p.place its.within its.its_worker its.still apart where
+  each : (ws : List WorkerSide) (i : ℕ) → i < length ws → (slice_index_or ws i no_worker).worker ≡ p.worker → 0 < (slice_index_or ws i no_worker).books.calls.open_tills
+      → AreWorkersApart ws → AllByRecursion (λ w. w.books.calls.open_tills ≡ 0 → (p.worker == w.worker) ≡ false) ws
+  each [] i within is still apart = absurd (omega (arith, within))
+  each (w ∷ ws) zero within is still apart =
+      (λ shut. absurd (omega (arith, shut, still)), all_as (λ (o : WorkerSide). (o.worker == w.worker) ≡ false) (λ (o : WorkerSide). o.books.calls.open_tills ≡ 0 → (p.worker == o.worker) ≡ false) (λ o other shut. eqb_turned p.worker o.worker false (ap (λ (n : ℕ). o.worker == n) (sym is) ∙ other)) ws apart.0)
+  each (w ∷ ws) (suc i) within is still apart =
+      let inside : i < length ws = omega (arith, within) in
+      (λ shut. ap (λ (n : ℕ). n == w.worker) (sym is) ∙ all_there (λ (o : WorkerSide). (o.worker == w.worker) ≡ false) ws i inside apart.0, each ws i inside is still apart.1)
 
 module _ {T : Type 0} (ops : Tagging T) (old : BookState T) (before : PassState) (command : Command) (enrolled : IsEnrolled old.workers before) (has_desk : lacks_desk old.desks command ≡ false) where
   -- no place was reserved

@@ -2,17 +2,17 @@
 use Rattle.std.proofs.Common.{◌≡◌, ℕ, zero, suc, ◌+◌, ◌<◌, ◌≤◌, List, [], ◌∷◌, ◌++◌, length, map, refl, sym, ap, ◌∙◌, subst, take, drop, get_or, slice_index_or, slice_set, inl, inr, ◌⊎◌, arith}
 use Rattle.std.specs.Prelude.{⊤, nat_lt}
 use Rattle.std.specs.List.{AllByRecursion}
-use Rattle.std.proofs.lemmas.Bool.{le-ltb}
+use Rattle.std.proofs.lemmas.Bool.{cases_lt, le-ltb, lt-ltb}
 use Rattle.std.proofs.lemmas.List.{get_or_past, map-append}
 use Rattle.dmc_types.specs.declared.config.PhaseType.TheVariants.{Reservation, Priority}
 use Rattle.dmc_tag.specs.declared.event.Event.{Event}
 use Rattle.dmc_ledger.specs.Accounts.{Account, after_closing}
 use Rattle.dmc_ledger.specs.Bundles.{ClientSide, GrantHoldings}
-use Rattle.dmc_book.specs.BookState.{PassState, WorkerSide, WorkerHoldings, no_desk, no_unit, no_worker}
-use Rattle.dmc_book.specs.Consistent.{AreDesks, IsCounted, IsWorker, reaching}
+use Rattle.dmc_book.specs.BookState.{PassState, WorkerAccounts, WorkerSide, WorkerHoldings, no_desk, no_unit, no_worker}
+use Rattle.dmc_book.specs.Consistent.{AreDesks, HasLeft, IsCounted, IsWorker, reaching}
 use Rattle.dmc_book.specs.Counts.{one_if}
 use Rattle.dmc_book.specs.Moves.{AreOf, IsEnrolled}
-use Rattle.dmc_book.specs.Settling.{AreDeskUnits, AreOneOpen, ArePassesTakenIn, AreSettledDesks, AreUnitsTakenIn, IsDeskTakenIn, IsGathered, IsSettledBook, IsSettledWorker, IsTakenIn, closed_worker, having, left_in}
+use Rattle.dmc_book.specs.Settling.{AreDeskUnits, AreOneOpen, ArePassesTakenIn, AreSettledDesks, AreUnitsTakenIn, IsDeskTakenIn, IsGathered, IsOpenOrShut, IsSettledBook, IsSettledWorker, IsShut, IsTakenIn, closed_accounts, closed_worker, having, left_in, open_passes}
 use Rattle.dmc_tag.proofs.Lists.{all_append, all_as, all_at, all_mapped}
 use Rattle.dmc_book.proofs.OpeningLemmas.{all_popped, seam, split, taken}
 
@@ -42,10 +42,6 @@ all_gone f (x ∷ xs) all gone none h = absurd (omega (arith, none))
 
 -- ---- the workers, some of them closed
 
-abbrev pub open_calls : List WorkerSide → ℕ
-open_calls [] = 0
-open_calls (w ∷ ws) = w.books.calls.open_tills + open_calls ws
-
 -- each worker is as it was, or closed
 abbrev pub ArePartly : List WorkerSide → List WorkerSide → Type 0
 ArePartly [] [] = ⊤
@@ -56,10 +52,6 @@ ArePartly (w ∷ ws) (v ∷ vs) = ((v ≡ w) ⊎ (v ≡ closed_worker w)) × Are
 pub partly_start : (ws : List WorkerSide) → ArePartly ws ws
 partly_start [] = tt
 partly_start (w ∷ ws) = (inl refl, partly_start ws)
-
-pub open_start : (ws : List WorkerSide) → AllByRecursion (λ w. AreOneOpen w.books) ws → open_calls ws ≡ length ws
-open_start [] h = refl
-open_start (w ∷ ws) h = let rest = open_start ws h.1 in omega (arith, rest, h.0.calls)
 
 pub partly_long : (ws vs : List WorkerSide) → ArePartly ws vs → length vs ≡ length ws
 partly_long [] [] h = refl
@@ -73,7 +65,7 @@ partly_at (w ∷ ws) [] i h l = absurd h
 partly_at (w ∷ ws) (v ∷ vs) zero h l = h.0
 partly_at (w ∷ ws) (v ∷ vs) (suc i) h l = partly_at ws vs i h.1 (omega (arith, l))
 
-one_at : (ws : List WorkerSide) (i : ℕ) → AllByRecursion (λ w. AreOneOpen w.books) ws → i < length ws → AreOneOpen (slice_index_or ws i no_worker).books
+one_at : (ws : List WorkerSide) (i : ℕ) → AllByRecursion IsOpenOrShut ws → i < length ws → IsOpenOrShut (slice_index_or ws i no_worker)
 one_at [] i h l = absurd (omega (arith, l))
 one_at (w ∷ ws) zero h l = h.0
 one_at (w ∷ ws) (suc i) h l = one_at ws i h.1 (omega (arith, l))
@@ -94,8 +86,15 @@ still_open w v (inr shut) some = (let none : v.books.calls.open_tills ≡ 0 = ap
 pub open_at : (ws vs : List WorkerSide) (i : ℕ) → ArePartly ws vs → i < length ws → 0 < (slice_index_or vs i no_worker).books.calls.open_tills → slice_index_or vs i no_worker ≡ slice_index_or ws i no_worker
 open_at ws vs i h l some = still_open _ _ (partly_at ws vs i h l) some
 
-pub one_open_at : (ws vs : List WorkerSide) (i : ℕ) → ArePartly ws vs → AllByRecursion (λ w. AreOneOpen w.books) ws → i < length ws → 0 < (slice_index_or vs i no_worker).books.calls.open_tills → AreOneOpen (slice_index_or vs i no_worker).books
-one_open_at ws vs i h one l some = subst (λ (x : WorkerSide). AreOneOpen x.books) (sym (open_at ws vs i h l some)) (one_at ws i one l)
+one_if_open : (w : WorkerSide) → IsOpenOrShut w → 0 < w.books.calls.open_tills → AreOneOpen w.books
+one_if_open w (inl one) some = one
+one_if_open w (inr shut) some = absurd (omega (arith, some, shut.none_open))
+
+pub one_open_at : (ws vs : List WorkerSide) (i : ℕ) → ArePartly ws vs → AllByRecursion IsOpenOrShut ws → i < length ws → 0 < (slice_index_or vs i no_worker).books.calls.open_tills → AreOneOpen (slice_index_or vs i no_worker).books
+one_open_at ws vs i h one l some =
+    let same = open_at ws vs i h l some in
+    subst (λ (x : WorkerSide). AreOneOpen x.books) (sym same)
+    (one_if_open (slice_index_or ws i no_worker) (one_at ws i one l) (subst (λ (x : WorkerSide). 0 < x.books.calls.open_tills) same some))
 
 -- one more is closed
 partly_set : (ws vs : List WorkerSide) (i : ℕ) → ArePartly ws vs → i < length ws → ArePartly ws (slice_set vs i (closed_worker (slice_index_or ws i no_worker)))
@@ -107,22 +106,42 @@ partly_set (w ∷ ws) (v ∷ vs) (suc i) h l = (h.0, partly_set ws vs i h.1 (ome
 pub partly_more : (ws vs : List WorkerSide) (i : ℕ) → ArePartly ws vs → i < length ws → 0 < (slice_index_or vs i no_worker).books.calls.open_tills → ArePartly ws (slice_set vs i (closed_worker (slice_index_or vs i no_worker)))
 partly_more ws vs i h l some = subst (λ (x : WorkerSide). ArePartly ws (slice_set vs i (closed_worker x))) (sym (open_at ws vs i h l some)) (partly_set ws vs i h l)
 
-pub open_less : (vs : List WorkerSide) (i : ℕ) (v : WorkerSide) → i < length vs → v.books.calls.open_tills ≡ 0 → (slice_index_or vs i no_worker).books.calls.open_tills ≡ 1 → open_calls (slice_set vs i v) + 1 ≡ open_calls vs
+pub open_less : (vs : List WorkerSide) (i : ℕ) (v : WorkerSide) → i < length vs → v.books.calls.open_tills ≡ 0 → (slice_index_or vs i no_worker).books.calls.open_tills ≡ 1 → open_passes (slice_set vs i v) + 1 ≡ open_passes vs
 open_less [] i v l none one = absurd (omega (arith, l))
-open_less (w ∷ vs) zero v l none one = omega (arith, none, one)
+open_less (w ∷ vs) zero v l none one =
+    let gone = ap (λ n. one_if (nat_lt 0 n)) none in
+    let was = ap (λ n. one_if (nat_lt 0 n)) one in
+    omega (arith, gone, was)
 open_less (w ∷ vs) (suc i) v l none one = let rest = open_less vs i v (omega (arith, l)) none one in omega (arith, rest)
 
+none_open : (n : ℕ) → one_if (nat_lt 0 n) ≡ 0 → n ≡ 0
+none_open n h = by_case (cases_lt 0 n) where
+  by_case : (0 < n) ⊎ (n ≤ 0) → n ≡ 0
+  by_case (inl some) = (let one : one_if (nat_lt 0 n) ≡ 1 = ap one_if (lt-ltb 0 n some) in absurd (omega (arith, h, one)))
+  by_case (inr most) = omega (arith, most)
+
 -- and where none is open, all are
-all_shut : (w v : WorkerSide) → (v ≡ w) ⊎ (v ≡ closed_worker w) → w.books.calls.open_tills ≡ 1 → v.books.calls.open_tills ≡ 0 → v ≡ closed_worker w
-all_shut w v (inl same) one none = (let e : v.books.calls.open_tills ≡ w.books.calls.open_tills = ap (λ (x : WorkerSide). x.books.calls.open_tills) same in absurd (omega (arith, one, none, e)))
+all_shut : (w v : WorkerSide) → (v ≡ w) ⊎ (v ≡ closed_worker w) → IsOpenOrShut w → v.books.calls.open_tills ≡ 0 → v ≡ closed_worker w
+all_shut w v (inl same) (inl one) none = (let e : v.books.calls.open_tills ≡ w.books.calls.open_tills = ap (λ (x : WorkerSide). x.books.calls.open_tills) same in absurd (omega (arith, one.calls, none, e)))
+all_shut w v (inl same) (inr shut) none = same ∙ sym shut.closed
 all_shut w v (inr shut) one none = shut
 
-pub partly_end : (ws vs : List WorkerSide) → ArePartly ws vs → AllByRecursion (λ w. AreOneOpen w.books) ws → open_calls vs ≡ 0 → vs ≡ map closed_worker ws
+pub partly_end : (ws vs : List WorkerSide) → ArePartly ws vs → AllByRecursion IsOpenOrShut ws → open_passes vs ≡ 0 → vs ≡ map closed_worker ws
 partly_end [] [] h one none = refl
 partly_end [] (v ∷ vs) h one none = absurd h
 partly_end (w ∷ ws) [] h one none = absurd h
 partly_end (w ∷ ws) (v ∷ vs) h one none =
-    ap (λ x. x ∷ vs) (all_shut w v h.0 one.0.calls (omega (arith, none))) ∙ ap (λ xs. closed_worker w ∷ xs) (partly_end ws vs h.1 one.1 (omega (arith, none)))
+    ap (λ x. x ∷ vs) (all_shut w v h.0 one.0 (none_open v.books.calls.open_tills (omega (arith, none)))) ∙ ap (λ xs. closed_worker w ∷ xs) (partly_end ws vs h.1 one.1 (omega (arith, none)))
+
+open_append : (ws vs : List WorkerSide) → open_passes (ws ++ vs) ≡ open_passes ws + open_passes vs
+open_append [] vs = omega arith
+open_append (w ∷ ws) vs = let rest = open_append ws vs in omega (arith, rest)
+
+-- one worker more is counted
+pub open_more : {X : Type 0} (f : X → WorkerSide) (xs : List X) (i : ℕ) (x : X) → i < length xs → x ≡ get_or xs i x → open_passes (map f (take (i + 1) xs)) ≡ open_passes (map f (take i xs)) + one_if (nat_lt 0 (f x).books.calls.open_tills)
+open_more f xs i x within is =
+    let last : open_passes (f x ∷ []) ≡ one_if (nat_lt 0 (f x).books.calls.open_tills) = omega arith in
+    ap open_passes (ap (map f) (taken xs i x within is) ∙ map-append f (take i xs) (x ∷ [])) ∙ open_append (map f (take i xs)) (f x ∷ []) ∙ ap (λ n. open_passes (map f (take i xs)) + n) last
 
 -- ---- which desks the workers reach whose till is still open
 
@@ -134,10 +153,14 @@ abbrev pub still_reaching : ℕ → List WorkerSide → ℕ
 still_reaching k [] = 0
 still_reaching k (w ∷ ws) = if_open w.books.calls.open_tills (one_if (nat_lt k w.reach)) + still_reaching k ws
 
-pub reaching_start : (k : ℕ) (ws : List WorkerSide) → AllByRecursion (λ w. AreOneOpen w.books) ws → still_reaching k ws ≡ reaching k ws
+reached_before : (k : ℕ) (w : WorkerSide) → IsOpenOrShut w → if_open w.books.calls.open_tills (one_if (nat_lt k w.reach)) ≡ one_if (nat_lt k w.reach)
+reached_before k w (inl one) = ap (λ n. if_open n (one_if (nat_lt k w.reach))) one.calls
+reached_before k w (inr shut) = ap (λ n. if_open n (one_if (nat_lt k w.reach))) shut.none_open ∙ sym (ap one_if (le-ltb k w.reach (omega (arith, shut.reach))))
+
+pub reaching_start : (k : ℕ) (ws : List WorkerSide) → AllByRecursion IsOpenOrShut ws → still_reaching k ws ≡ reaching k ws
 reaching_start k [] h = refl
 reaching_start k (w ∷ ws) h =
-    let here = ap (λ n. if_open n (one_if (nat_lt k w.reach))) h.0.calls in
+    let here = reached_before k w h.0 in
     let rest = reaching_start k ws h.1 in
     omega (arith, here, rest)
 
@@ -150,10 +173,10 @@ reaching_less k (w ∷ vs) zero v l none one =
     omega (arith, gone, was)
 reaching_less k (w ∷ vs) (suc i) v l none one = let rest = reaching_less k vs i v (omega (arith, l)) none one in omega (arith, rest)
 
-pub reaching_end : (k : ℕ) (vs : List WorkerSide) → open_calls vs ≡ 0 → still_reaching k vs ≡ 0
+pub reaching_end : (k : ℕ) (vs : List WorkerSide) → open_passes vs ≡ 0 → still_reaching k vs ≡ 0
 reaching_end k [] none = refl
 reaching_end k (v ∷ vs) none =
-    let shut : v.books.calls.open_tills ≡ 0 = omega (arith, none) in
+    let shut : v.books.calls.open_tills ≡ 0 = none_open v.books.calls.open_tills (omega (arith, none)) in
     let here = ap (λ n. if_open n (one_if (nat_lt k v.reach))) shut in
     let rest = reaching_end k vs (omega (arith, none)) in
     omega (arith, here, rest)
@@ -206,13 +229,27 @@ units_at units ps ds es h own = record {
   });
 }
 
+-- ---- books that were gathered before
+
+account_closed : (b : Account) → b.held ≡ 0 → b.open_tills ≡ 0 → after_closing b ≡ b
+account_closed b none shut =
+    let total : b.gathered + b.held ≡ b.gathered = omega (arith, none) in
+    ap (λ (n : ℕ). let a : Account = record { number = b.number; gathered = n; held = 0; open_tills = 0 } in a) total
+    ∙ ap (λ (n : ℕ). let a : Account = record { number = b.number; gathered = b.gathered; held = n; open_tills = 0 } in a) (sym none)
+    ∙ ap (λ (n : ℕ). let a : Account = record { number = b.number; gathered = b.gathered; held = b.held; open_tills = n } in a) (sym shut)
+
+closed_before : (b : WorkerAccounts) → b.calls.held ≡ 0 → b.calls.open_tills ≡ 0 → b.misses.held ≡ 0 → b.misses.open_tills ≡ 0 → b.tokens.held ≡ 0 → b.tokens.open_tills ≡ 0
+    → b.grants.held ≡ 0 → b.grants.open_tills ≡ 0 → b.granted.held ≡ 0 → b.granted.open_tills ≡ 0 → closed_accounts b ≡ b
+closed_before b c1 c2 m1 m2 t1 t2 g1 g2 s1 s2 =
+    rw (account_closed b.calls c1 c2, account_closed b.misses m1 m2, account_closed b.tokens t1 t2, account_closed b.grants g1 g2, account_closed b.granted s1 s2) refl
+
 -- ---- a consistent book's workers and desks, once its passes are gathered
 
 module _ {T : Type 0} where
   gathered_all : (adds : Event T → ℕ) (es : List (Event T)) (b : Account) → IsCounted adds es 1 b → IsGathered adds es (after_closing b)
   gathered_all adds es b h = record { gathered = h.total; held = refl; open_tills = refl }
 
-  settled_worker : (es : List (Event T)) (w : WorkerSide) → IsWorker es w → IsSettledWorker es (closed_worker w)
+  pub settled_worker : (es : List (Event T)) (w : WorkerSide) → IsWorker es w → IsSettledWorker es (closed_worker w)
   settled_worker es w h = record {
     calls = gathered_all _ es w.books.calls h.calls;
     misses = gathered_all _ es w.books.misses h.misses;
@@ -221,17 +258,37 @@ module _ {T : Type 0} where
     granted = gathered_all _ (drop w.renewed es) w.books.granted h.granted;
   }
 
-  pub settled_workers : (es : List (Event T)) (ws : List WorkerSide) → AllByRecursion (IsWorker es) ws → AllByRecursion (IsSettledWorker es) (map closed_worker ws)
-  settled_workers es ws h = all_mapped (IsWorker es) (IsSettledWorker es) closed_worker (settled_worker es) ws h
+  -- one that was dismissed is closed before
+  left_is_shut : (es : List (Event T)) (w : WorkerSide) → HasLeft es w → IsShut w
+  left_is_shut es w h = record {
+    closed = ap (λ (bs : WorkerAccounts). let v : WorkerSide = record w { reach = 0; books = bs } in v) (closed_before w.books h.settled.calls.held h.settled.calls.open_tills h.settled.misses.held h.settled.misses.open_tills h.settled.tokens.held h.settled.tokens.open_tills h.settled.grants.held h.settled.grants.open_tills h.settled.granted.held h.settled.granted.open_tills)
+        ∙ ap (λ (n : ℕ). let v : WorkerSide = record w { reach = n } in v) (sym h.reach);
+    none_open = h.settled.calls.open_tills;
+    reach = h.reach;
+  }
 
-  pub one_open : (es : List (Event T)) (ws : List WorkerSide) → AllByRecursion (IsWorker es) ws → AllByRecursion (λ w. AreOneOpen w.books) ws
-  one_open es ws h = all_as _ _ (λ w j. record {
-    calls = j.calls.open_tills;
-    misses = j.misses.open_tills;
-    tokens = j.tokens.open_tills;
-    grants = j.grants.open_tills;
-    granted = j.granted.open_tills;
-  }) ws h
+  settled_either : (es : List (Event T)) (w : WorkerSide) → IsWorker es w ⊎ HasLeft es w → IsSettledWorker es (closed_worker w)
+  settled_either es w (inl is) = settled_worker es w is
+  settled_either es w (inr left) = subst (IsSettledWorker es) (sym (left_is_shut es w left).closed) left.settled
+
+  pub settled_workers : (es : List (Event T)) (ws : List WorkerSide) → AllByRecursion (λ w. IsWorker es w ⊎ HasLeft es w) ws → AllByRecursion (IsSettledWorker es) (map closed_worker ws)
+  settled_workers es ws h = all_mapped (λ w. IsWorker es w ⊎ HasLeft es w) (IsSettledWorker es) closed_worker (settled_either es) ws h
+
+  pub one_open : (es : List (Event T)) (w : WorkerSide) → IsWorker es w → AreOneOpen w.books
+  one_open es w is = record {
+    calls = is.calls.open_tills;
+    misses = is.misses.open_tills;
+    tokens = is.tokens.open_tills;
+    grants = is.grants.open_tills;
+    granted = is.granted.open_tills;
+  }
+
+  open_or_shut : (es : List (Event T)) (w : WorkerSide) → IsWorker es w ⊎ HasLeft es w → IsOpenOrShut w
+  open_or_shut es w (inl is) = inl (one_open es w is)
+  open_or_shut es w (inr left) = inr (left_is_shut es w left)
+
+  pub all_open_or_shut : (es : List (Event T)) (ws : List WorkerSide) → AllByRecursion (λ w. IsWorker es w ⊎ HasLeft es w) ws → AllByRecursion IsOpenOrShut ws
+  all_open_or_shut es ws h = all_as _ _ (open_or_shut es) ws h
 
   settled_book : (adds : Event T → ℕ) (es : List (Event T)) (n m u : ℕ) (a b : Account) → n ≡ m → IsCounted adds es (1 + m) a → IsTakenIn n u a b → IsSettledBook adds es u a b
   settled_book adds es n m u a b same h j = record {

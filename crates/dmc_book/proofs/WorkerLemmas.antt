@@ -8,7 +8,7 @@ use Rattle.dmc_ledger.specs.Accounts.{Account}
 use Rattle.dmc_ledger.specs.Moves.{after_issue}
 use Rattle.dmc_book.specs.Counts.{numbers_of, no_numbers}
 use Rattle.dmc_book.specs.BookState.{WorkerAccounts, WorkerSide, worker_side, worker_accounts, no_worker}
-use Rattle.dmc_book.specs.Consistent.{AreWorkersApart, AreWithin}
+use Rattle.dmc_book.specs.Consistent.{AreWorkersApart}
 use Rattle.dmc_book.specs.Moves.{worker_after, books_after}
 use Rattle.dmc_book.specs.declared.seat.Seat.{Seat}
 use Rattle.dmc_tag.proofs.Lists.{map_unmoved, all_as}
@@ -21,7 +21,7 @@ books_none : (b : WorkerAccounts) → books_after no_numbers b ≡ b
 books_none b = rw (issue_none b.calls, issue_none b.misses, issue_none b.tokens, issue_none b.grants, issue_none b.granted) refl
 
 module _ {T : Type 0} (e : Event T) where
-  unmoved_at : (w : WorkerSide) (b : Bool) → (e.worker.0 == w.worker) ≡ b → b ≡ false → worker_after e w ≡ w
+  pub unmoved_at : (w : WorkerSide) (b : Bool) → (e.worker.0 == w.worker) ≡ b → b ≡ false → worker_after e w ≡ w
   unmoved_at w b is none = rw (is ∙ none) (ap (λ (bs : WorkerAccounts). record w { books = bs }) (books_none w.books))
 
   unmoved : (n : ℕ) → n ≡ e.worker.0 → (other : WorkerSide) → (other.worker == n) ≡ false → worker_after e other ≡ other
@@ -49,9 +49,3 @@ module _ {T : Type 0} (e : Event T) where
         at_map [] j h = absurd (omega (arith, h))
         at_map (y ∷ ys) zero h = omega arith
         at_map (y ∷ ys) (suc j) h = let rest = at_map ys j (omega (arith, h)) in omega arith
-
-module _ {S : Type 0} where
-  pub fits_at : (n : ℕ) (ss : List (Seat S)) (i : ℕ) (d : Seat S) → AllByRecursion (λ w. AreWithin n w.books) (map worker_side ss) → i < length ss → AreWithin n (worker_accounts ((slice_index_or ss i d).books))
-  fits_at n [] i d h l = absurd (omega (arith, l))
-  fits_at n (x ∷ xs) zero d h l = h.0
-  fits_at n (x ∷ xs) (suc i) d h l = fits_at n xs i d h.1 (omega (arith, l))

@@ -1,5 +1,5 @@
 -- What holds of all accounts, and of every queue's book: the invariants of their types.
-use Rattle.std.specs.Prelude.{◌≡◌, ℕ, ◌+◌, ◌-◌, ◌*◌, ◌^◌, ◌<◌, ◌≤◌, ◌==◌, nat_lt, true, false, List, [], ◌∷◌, drop, length, Option, Some, None, is_some, slice_index_or, ⊤}
+use Rattle.std.specs.Prelude.{◌≡◌, ℕ, ◌+◌, ◌-◌, ◌*◌, ◌^◌, ◌<◌, ◌≤◌, ◌==◌, ◌⊎◌, nat_lt, true, false, List, [], ◌∷◌, drop, length, Option, Some, None, is_some, slice_index_or, ⊤}
 use Rattle.std.specs.List.{AllByRecursion, list_any}
 use Rattle.dmc_types.specs.Limits.{max_events, max_workers}
 use Rattle.dmc_types.specs.Values.{Setting}
@@ -14,7 +14,8 @@ use Rattle.dmc_ledger.specs.Accounts.{Account, total_of}
 use Rattle.dmc_ledger.specs.Bundles.{ClientSide, GrantAccounts}
 use Rattle.dmc_book.specs.BookState.{AccountsState, WorkerAccounts, WorkerSide, no_desk}
 use Rattle.dmc_book.specs.Counts.{accepted, max_added, one_if, count, worker_adds, stamps_added, delta_added, rho_added, grant_in, grants_added}
-use Rattle.dmc_book.specs.Moves.{desk_place}
+use Rattle.dmc_book.specs.Moves.{IsOpen, desk_place}
+use Rattle.dmc_book.specs.Settling.{IsSettledWorker}
 
 -- The book totals what the events add. Nothing of it is gathered, and this number of its tills is open.
 pub record IsCounted {T : Type 0} (adds : Event T → ℕ) (history : List (Event T)) (tills : ℕ) (book : Account) : Type 0 where
@@ -30,6 +31,12 @@ pub record IsWorker {T : Type 0} (history : List (Event T)) (w : WorkerSide) : T
   pub tokens : IsCounted (λ e. (worker_adds w.worker e).tokens) (drop w.renewed history) 1 w.books.tokens
   pub grants : IsCounted (λ e. (worker_adds w.worker e).grants) history 1 w.books.grants
   pub granted : IsCounted (λ e. (worker_adds w.worker e).granted) (drop w.renewed history) 1 w.books.granted
+
+-- A worker that was dismissed: what was gathered of its pass is all that was counted of it, and the pass reaches no desk.
+pub record HasLeft {T : Type 0} (history : List (Event T)) (w : WorkerSide) : Type 0 where
+  pub settled : IsSettledWorker history w
+  pub renewed : w.renewed ≤ length history
+  pub reach : w.reach ≡ 0
 
 -- the desk of a client: the stamps, deltas and rhos of its accepted adds, and the books of its grants, of which the held
 -- till of the tracker's desk is open and one in each of these passes
@@ -77,7 +84,7 @@ pub record AreTokensFit (first events : ℕ) (books : WorkerAccounts) : Type 0 w
 -- Workers and desks count the history. Each client that it queues or grants a request of has a desk, and each worker whose call
 -- it answers is enrolled. No total can pass the 2^63 of a book.
 pub record AreConsistent {T : Type 0} (a : AccountsState T) : Type 0 where
-  pub workers : AllByRecursion (IsWorker a.history) a.workers
+  pub workers : AllByRecursion (λ w. IsWorker a.history w ⊎ HasLeft a.history w) a.workers
   pub desks : AreDesks a.history a.server a.workers a.desks
   pub reach : AllByRecursion (λ w. w.reach ≤ length a.desks) a.workers
   pub workers_apart : AreWorkersApart a.workers
@@ -85,7 +92,7 @@ pub record AreConsistent {T : Type 0} (a : AccountsState T) : Type 0 where
   pub granted : AllByRecursion (λ e. HasDesk a.desks (grant_in e.reply)) a.history
   pub queued : AllByRecursion (λ e. HasDesk a.desks (accepted e)) a.history
   pub seated : AllByRecursion (λ e. IsSeated a.workers e.worker.0) a.history
-  pub tokens_fit : AllByRecursion (λ w. AreTokensFit a.first (length a.history) w.books) a.workers
+  pub tokens_fit : AllByRecursion (λ w. IsOpen w → AreTokensFit a.first (length a.history) w.books) a.workers
   pub within : a.first ≤ length a.history
   pub few : a.first ≤ max_released
   pub limit : a.most ≤ a.first + max_events

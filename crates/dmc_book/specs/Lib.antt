@@ -12,6 +12,8 @@ pub mod Enrolling
 pub mod Joining
 -- What no call through a lock with a witness changes in a queue's book.
 pub mod Later
+-- Workers that leave.
+pub mod Leaving
 -- What a pass lends, and what the pass is once that was given back.
 pub mod Lending
 -- What an event changes in a book and in its worker's pass.

@@ -100,11 +100,16 @@ pub record AreOf (tills : WorkerHoldings) (books : WorkerAccounts) : Type 0 wher
   pub grants : tills.grants.number ≡ books.grants.number
   pub granted : tills.granted.number ≡ books.granted.number
 
+-- a till of the worker's books is open: it was not dismissed
+abbrev pub IsOpen : WorkerSide → Type 0
+IsOpen w = 0 < w.books.calls.open_tills
+
 -- the pass is of a worker that is enrolled, and its five tills are of that worker's books
 pub record IsEnrolled (workers : List WorkerSide) (p : PassState) : Type 0 where
   pub within : p.place < length workers
   pub its_worker : (slice_index_or workers p.place no_worker).worker ≡ p.worker
   pub its_tills : AreOf p.tills (slice_index_or workers p.place no_worker).books
+  pub still : IsOpen (slice_index_or workers p.place no_worker)
 
 -- the till of the phase is of the desk's book
 abbrev pub is_unit_of : PhaseType → Option ClientSide → Option GrantHoldings → Bool

@@ -5,16 +5,18 @@ use Rattle.dmc_history.specs.Segments.{max_released}
 use Rattle.dmc_queue_history.specs.Segmented.{SegmentState}
 use Rattle.dmc_ledger.specs.Accounts.{total_of}
 use Rattle.dmc_book.specs.BookState.{AccountsState, BookState, WorkerAccounts, WorkerSide}
+use Rattle.dmc_book.specs.Moves.{IsOpen}
 
 -- the sums of tokens leave room for the events that may be kept next
 pub record AreTokensLow (books : WorkerAccounts) : Type 0 where
   pub tokens : total_of books.tokens ≤ 2 ^ 62
   pub granted : total_of books.granted ≤ 2 ^ 62
 
--- A segment is released: not too many events were recorded, the tokens of each worker are low, and nothing is settled.
+-- A segment is released: not too many events were recorded, the tokens of each worker that was not dismissed are low, and
+-- nothing is settled.
 pub record MayRotate {E : Type 0} (history : List E) (first most : ℕ) (workers : List WorkerSide) : Type 0 where
   pub long : length history ≤ max_released
-  pub low : AllByRecursion (λ w. AreTokensLow w.books) workers
+  pub low : AllByRecursion (λ w. IsOpen w → AreTokensLow w.books) workers
   pub goes_on : first < most
 
 -- the segment: the history so far, of which it has the last events, from the number `first` on

@@ -1,5 +1,5 @@
 -- A queue's book that is settled.
-use Rattle.std.specs.Prelude.{◌≡◌, ℕ, ◌+◌, ◌<◌, ◌≤◌, nat_lt, List, [], ◌∷◌, drop, length, slice_index_or, sum_by}
+use Rattle.std.specs.Prelude.{◌≡◌, ℕ, ◌+◌, ◌<◌, ◌≤◌, ◌⊎◌, nat_lt, List, [], ◌∷◌, drop, length, slice_index_or, sum_by}
 use Rattle.std.specs.List.{AllByRecursion}
 use Rattle.dmc_types.specs.declared.config.PhaseType.{PhaseType}
 use Rattle.dmc_types.specs.declared.config.PhaseType.TheVariants.{Reservation, Priority}
@@ -29,9 +29,14 @@ pub record IsOwn (workers : List WorkerSide) (desks : List ClientSide) (p : Pass
   pub reach : length p.units ≡ (slice_index_or workers p.place no_worker).reach
   pub units : AreDeskUnits desks p.units
 
--- As many passes as workers, each of a worker here. One till of each worker's books is open, so none is there twice.
+-- how many passes are open: one of each worker that was not dismissed
+abbrev pub open_passes : List WorkerSide → ℕ
+open_passes [] = 0
+open_passes (w ∷ ws) = one_if (nat_lt 0 w.books.calls.open_tills) + open_passes ws
+
+-- As many passes as are open, each of a worker here. One till of its worker's books is open, so none is there twice.
 pub record AreOwn (workers : List WorkerSide) (desks : List ClientSide) (passes : List PassState) : Type 0 where
-  pub as_many : length passes ≡ length workers
+  pub as_many : length passes ≡ open_passes workers
   pub each : AllByRecursion (IsOwn workers desks) passes
 
 -- ---- the grants
@@ -52,7 +57,7 @@ pub record AreOneOpen (books : WorkerAccounts) : Type 0 where
   pub grants : books.grants.open_tills ≡ 1
   pub granted : books.granted.open_tills ≡ 1
 
--- a worker whose pass is gathered
+-- a worker whose pass is gathered, and reaches no desk
 abbrev pub closed_accounts : WorkerAccounts → WorkerAccounts
 closed_accounts books = record {
   calls = after_closing books.calls;
@@ -63,7 +68,17 @@ closed_accounts books = record {
 }
 
 abbrev pub closed_worker : WorkerSide → WorkerSide
-closed_worker w = record w { books = closed_accounts w.books }
+closed_worker w = record w { reach = 0; books = closed_accounts w.books }
+
+-- the worker's pass was gathered before: that changes nothing more of it
+pub record IsShut (w : WorkerSide) : Type 0 where
+  pub closed : closed_worker w ≡ w
+  pub none_open : w.books.calls.open_tills ≡ 0
+  pub reach : w.reach ≡ 0
+
+-- the worker's pass is open, or was gathered
+abbrev pub IsOpenOrShut : WorkerSide → Type 0
+IsOpenOrShut w = AreOneOpen w.books ⊎ IsShut w
 
 -- what was gathered is what the events add, and no till is open
 pub record IsGathered {T : Type 0} (adds : Event T → ℕ) (history : List (Event T)) (book : Account) : Type 0 where

@@ -196,7 +196,7 @@ impl<T: Tag, I: Indexes<T>, S: Setup> QueueBook<T, I, S> {
         Ok(reply)
     }
 
-    /// Settles the book with exactly the passes that `new` gave, in any order. It gathers them, and returns the events that were
+    /// Settles the book with exactly the passes that `new` and `enrol` gave and that were not dismissed, in any order. It gathers them, and returns the events that were
     /// not released, how many requests are queued, the workers with what their passes held, and the desks: of each grant book
     /// what was gathered is what the passes held, and the held till of its pair alone is open. The book is then empty: it has
     /// no worker, no desk and no event, so nothing is counted twice. Other passes are returned, and the book is as it was.

@@ -1,6 +1,6 @@
 //! What holds of every queue's book, by its type, wherever the book came from: out of a lock that was opened, for one. Each
 //! law is the contract of a function that changes nothing: a caller that calls it knows the law.
-ghost use Rattle.std.specs.Prelude.{List, Option};
+ghost use Rattle.std.specs.Prelude.{◌⊎◌, List, Option};
 ghost use Rattle.std.specs.List.{AllByRecursion};
 ghost use Rattle.dmc_head_index.specs.Heads as heads_of;
 ghost use Rattle.dmc_head_index.specs.Heads.{Ranks};
@@ -8,7 +8,7 @@ ghost use Rattle.dmc_head_index.specs.declared.head.Head.{Head};
 ghost use Rattle.dmc_pull.specs.FirstRequests.{AreFirstRequests};
 ghost use Rattle.dmc_tag.specs.Replay.{after, replays};
 ghost use Rattle.dmc_history_laws.specs.Bounds.{KeepsToLimits, KeepsToReservations};
-ghost use Rattle.dmc_book.specs.Consistent.{AreDesks, IsWorker};
+ghost use Rattle.dmc_book.specs.Consistent.{AreDesks, HasLeft, IsWorker};
 ghost use Rattle.dmc_book.specs.Settling.{AreGrantsOfDesks};
 
 use crate::book::QueueBook;
@@ -23,10 +23,11 @@ pub fn history_replays<T: Tag, I: Indexes<T>, S: Setup>(book: &QueueBook<T, I, S
     let _ = &book.queue;
 }
 
-/// The counts: the five books of each worker total its counts over the history, and each desk holds the stamps, deltas and
+/// The counts: the five books of each worker total its counts over the history, or were gathered at them where it was
+/// dismissed; and each desk holds the stamps, deltas and
 /// rhos of its client's accepted adds and totals its grants of each phase.
 pub fn history_is_counted<T: Tag, I: Indexes<T>, S: Setup>(book: &QueueBook<T, I, S>)
-    ensures workers { AllByRecursion (IsWorker book.now.history) book.now.workers }
+    ensures workers { AllByRecursion (λ w. IsWorker book.now.history w ⊎ HasLeft book.now.history w) book.now.workers }
     ensures desks { AreDesks book.now.history book.now.server book.now.workers book.now.desks }
 {
     let accounts = &book.accounts;

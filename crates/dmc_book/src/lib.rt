@@ -11,6 +11,7 @@ mod extending;
 pub mod fault;
 mod joining;
 pub mod laws;
+mod leaving;
 mod names;
 mod opening;
 mod parts;

@@ -8,7 +8,7 @@ ghost use Rattle.dmc_book.specs.Consistent.{AreWorkersApart, AreWithin, max_befo
 ghost use Rattle.dmc_book.specs.Renewing.{renewed_tills, renewed_worker};
 ghost use Rattle.dmc_book.specs.Rotating.{AreTokensLow};
 ghost use Rattle.dmc_book.specs.Counts as counts;
-ghost use Rattle.dmc_book.specs.Moves.{AreOf, IsEnrolled, books_after, tills_after, worker_after};
+ghost use Rattle.dmc_book.specs.Moves.{AreOf, IsEnrolled, IsOpen, books_after, tills_after, worker_after};
 
 use crate::counts::{Numbers, numbers_of};
 use crate::pass::WorkerPass;
@@ -124,10 +124,15 @@ fn credit_all<S: Setup>(books: &mut WorkerBooks<S>, tills: &mut WorkerTills<S>, 
 
 /// Whether the tills are of these books.
 pub(crate) fn are_of<S: Setup>(tills: &WorkerTills<S>, books: &WorkerBooks<S>) -> bool
-    ensures { IsTrue result ↔ AreOf (worker_holdings tills.now) (worker_accounts books.now) }
+    ensures of { IsTrue result ↔ AreOf (worker_holdings tills.now) (worker_accounts books.now) }
+    ensures some_open { IsTrue result → 0 < (worker_accounts books.now).calls.open_tills }
 {
-    tills.calls.number() == books.calls.number()
-        && tills.misses.number() == books.misses.number()
+    if tills.calls.number() != books.calls.number() {
+        return false;
+    }
+    // It does nothing when it runs: a till that is here is open.
+    books.calls.audit(&tills.calls);
+    tills.misses.number() == books.misses.number()
         && tills.tokens.number() == books.tokens.number()
         && tills.grants.number() == books.grants.number()
         && tills.granted.number() == books.granted.number()
@@ -155,7 +160,7 @@ pub(crate) fn count<T: Copy, S: Setup>(
     requires within { place < length workers.old.items }
     requires its_worker { (slice_index_or (map worker_side workers.old.items) place no_worker).worker ≡ event.now.worker.0 }
     requires its_tills { AreOf (worker_holdings tills.old) (slice_index_or (map worker_side workers.old.items) place no_worker).books }
-    requires fits { AllByRecursion (λ w. AreWithin max_before w.books) (map worker_side workers.old.items) }
+    requires fits { AreWithin max_before (slice_index_or (map worker_side workers.old.items) place no_worker).books }
     requires apart { AreWorkersApart (map worker_side workers.old.items) }
     ensures workers { map worker_side workers.new.items ≡ map (worker_after event.now) (map worker_side workers.old.items) }
     ensures small { counts.IsSmall (counts.numbers_of event.now.command event.now.reply) }
@@ -188,16 +193,17 @@ pub(crate) fn renew_seat<S: Setup>(
 /// The most that a sum of tokens may be when events are released.
 const MAX_TOKENS: u64 = 1 << 62;
 
-/// Whether a worker's sums of tokens leave room for the events that may be kept next.
+/// Whether a worker's sums of tokens leave room for the events that may be kept next. A worker that was dismissed adds no more.
 fn is_low<S: Setup>(seat: &Seat<S>) -> bool
-    ensures { IsTrue result ↔ AreTokensLow (worker_side seat.now).books }
+    ensures { IsTrue result ↔ (IsOpen (worker_side seat.now) → AreTokensLow (worker_side seat.now).books) }
 {
-    seat.books.tokens.total() <= MAX_TOKENS && seat.books.granted.total() <= MAX_TOKENS
+    seat.books.calls.open_tills() == 0
+        || (seat.books.tokens.total() <= MAX_TOKENS && seat.books.granted.total() <= MAX_TOKENS)
 }
 
 /// Whether each worker's do.
 pub(crate) fn are_low<S: Setup>(workers: &[Seat<S>]) -> bool
-    ensures { IsTrue result ↔ AllByRecursion (λ w. AreTokensLow w.books) (map worker_side workers.now) }
+    ensures { IsTrue result ↔ AllByRecursion (λ w. IsOpen w → AreTokensLow w.books) (map worker_side workers.now) }
 {
     for seat in workers {
         if !is_low(seat) {

@@ -7,7 +7,7 @@ ghost use Rattle.dmc_ledger.specs.Bundles.{client_side, grant_accounts, grant_ho
 ghost use Rattle.dmc_book.specs.BookState.{pass_state, worker_accounts, worker_holdings, worker_side, no_desk, no_worker};
 ghost use Rattle.dmc_book.specs.Consistent.{reaching};
 ghost use Rattle.dmc_book.specs.Moves.{AreOf};
-ghost use Rattle.dmc_book.specs.Settling.{AreDeskUnits, AreGrantsOfDesks, AreOneOpen, AreOwn, AreSettledDesks, AreUnitsOf, AreUnitsTakenIn, ArePassesTakenIn, IsDeskTakenIn, IsOwn, IsSettledWorker, IsTakenIn, accounts_settled, closed_accounts, closed_worker, having};
+ghost use Rattle.dmc_book.specs.Settling.{AreDeskUnits, AreGrantsOfDesks, AreOneOpen, AreOwn, AreSettledDesks, AreUnitsOf, AreUnitsTakenIn, ArePassesTakenIn, IsDeskTakenIn, IsOpenOrShut, IsOwn, IsSettledWorker, IsTakenIn, accounts_settled, closed_accounts, closed_worker, having, open_passes};
 
 use crate::accounts::Accounts;
 use crate::pass::WorkerPass;
@@ -80,7 +80,11 @@ fn are_desk_units<S: Setup>(desks: &[ClientDesk<S>], units: &[GrantTills<S>]) ->
 }
 
 /// Whether the pass is of a worker here, and has tills of each desk that the worker reaches.
-fn is_own<S: Setup>(workers: &[Seat<S>], desks: &[ClientDesk<S>], pass: &WorkerPass<S>) -> bool
+pub(crate) fn is_own<S: Setup>(
+    workers: &[Seat<S>],
+    desks: &[ClientDesk<S>],
+    pass: &WorkerPass<S>,
+) -> bool
     ensures { IsTrue result ↔ IsOwn (map worker_side workers.now) (map client_side desks.now) (pass_state pass.now) }
 {
     is_enrolled(workers, pass)
@@ -88,7 +92,18 @@ fn is_own<S: Setup>(workers: &[Seat<S>], desks: &[ClientDesk<S>], pass: &WorkerP
         && are_desk_units(desks, &pass.units)
 }
 
-/// Whether these are as many passes as workers, each of a worker here.
+/// How many passes are open: one of each worker that was not dismissed.
+fn open_passes<S: Setup>(workers: &[Seat<S>]) -> usize
+    ensures { result ≡ open_passes (map worker_side workers.now) }
+{
+    let mut count = 0;
+    for seat in workers {
+        count += usize::from(seat.books.calls.open_tills() > 0);
+    }
+    count
+}
+
+/// Whether these are as many passes as are open, each of a worker here.
 pub(crate) fn are_own<S: Setup>(
     workers: &[Seat<S>],
     desks: &[ClientDesk<S>],
@@ -96,7 +111,7 @@ pub(crate) fn are_own<S: Setup>(
 ) -> bool
     ensures { IsTrue result ↔ AreOwn (map worker_side workers.now) (map client_side desks.now) (map pass_state passes.now) }
 {
-    if passes.len() != workers.len() {
+    if passes.len() != open_passes(workers) {
         return false;
     }
     for pass in passes {
@@ -137,7 +152,7 @@ fn take_tills<S: Setup>(books: &mut WorkerBooks<S>, tills: WorkerTills<S>)
 }
 
 /// Gathers the tills of the worker at a place.
-fn take_seat<S: Setup>(workers: &mut [Seat<S>], place: usize, tills: WorkerTills<S>)
+pub(crate) fn take_seat<S: Setup>(workers: &mut [Seat<S>], place: usize, tills: WorkerTills<S>)
     requires within { place < length workers.old }
     requires its { AreOf (worker_holdings tills) (slice_index_or (map worker_side workers.old) place no_worker).books }
     ensures some { 0 < (slice_index_or (map worker_side workers.old) place no_worker).books.calls.open_tills }
@@ -145,7 +160,9 @@ fn take_seat<S: Setup>(workers: &mut [Seat<S>], place: usize, tills: WorkerTills
         → map worker_side workers.new
         ≡ slice_set (map worker_side workers.old) place (closed_worker (slice_index_or (map worker_side workers.old) place no_worker)) }
 {
-    take_tills(&mut workers[place].books, tills);
+    let seat = &mut workers[place];
+    seat.reach = 0;
+    take_tills(&mut seat.books, tills);
 }
 
 /// Gathers the tills of a desk.
@@ -162,7 +179,7 @@ fn take_unit<S: Setup>(desk: &mut ClientDesk<S>, unit: GrantTills<S>)
 }
 
 /// Gathers the tills of the first desks, from the last on.
-fn take_units<S: Setup>(desks: &mut [ClientDesk<S>], units: Vec<GrantTills<S>>)
+pub(crate) fn take_units<S: Setup>(desks: &mut [ClientDesk<S>], units: Vec<GrantTills<S>>)
     requires { AreDeskUnits (map client_side desks.old) (map grant_holdings units.items) }
     ensures { AreUnitsTakenIn (map grant_holdings units.items) (map client_side desks.old) (map client_side desks.new) }
 {
@@ -180,7 +197,7 @@ pub(crate) fn take_passes<S: Setup>(
     passes: Vec<WorkerPass<S>>,
 )
     requires own { AreOwn (map worker_side workers.old) (map client_side desks.old) (map pass_state passes.items) }
-    requires one_open { AllByRecursion (λ w. AreOneOpen w.books) (map worker_side workers.old) }
+    requires one_open { AllByRecursion IsOpenOrShut (map worker_side workers.old) }
     ensures workers { map worker_side workers.new ≡ map closed_worker (map worker_side workers.old) }
     ensures desks { ArePassesTakenIn (map pass_state passes.items) (map client_side desks.old) (map client_side desks.new) }
     ensures tills { (k : ℕ) → having k (map pass_state passes.items) ≡ reaching k (map worker_side workers.old) }

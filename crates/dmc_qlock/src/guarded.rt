@@ -1,5 +1,6 @@
 //! What a queue's lock guards: the book, a witness of what it was, and how many threads are in a pull that waits.
 ghost use Rattle.std.specs.Prelude.{◌≡◌, ◌+◌, ◌-◌, true, false, IfOk, IfErr, OnOk, OnErr, IsErrOf, IsErrAnd};
+ghost use Rattle.std.specs.List.{AllByRecursion};
 ghost use Rattle.dmc_ledger.specs.Bundles.{Covers, client_side, stamp_holdings};
 ghost use Rattle.dmc_ledger.specs.Moves.{tills_after_submit};
 ghost use Rattle.dmc_tag.specs.declared.reply.Pulled.TheVariants as pulls;
@@ -8,6 +9,7 @@ ghost use Rattle.dmc_types.specs.declared.command.Command.TheVariants as command
 ghost use Rattle.dmc_book.specs.BookState.{pass_state};
 ghost use Rattle.dmc_book.specs.Calls.{is_add};
 ghost use Rattle.dmc_book.specs.Joining.{IsUnused};
+ghost use Rattle.dmc_book.specs.Leaving.{HoldsNothing};
 ghost use Rattle.dmc_book.specs.Renewing.{renewed_pass};
 ghost use Rattle.dmc_qlock.specs.Calls.{Replied, IsExtended, IsNewPass, PullReplied, SubmitReplied, must_wait, registers};
 
@@ -203,5 +205,13 @@ impl<T: Tag, I: Indexes<T>, S: Setup> Guarded<QueueBook<T, I, S>, NoWitness> {
         ensures kept { OnErr result (mint.new ≡ mint.old) }
     {
         self.book.enrol(alloc, worker, mint)
+    }
+
+    /// Dismisses a worker, as the book does.
+    pub(crate) fn dismiss(&mut self, pass: WorkerPass<S>) -> Result<(), WorkerPass<S>>
+        ensures responded { OnOk result (AllByRecursion HoldsNothing (pass_state pass).units) }
+        ensures back { IfErr result (λ back. back ≡ pass) }
+    {
+        self.book.dismiss(pass)
     }
 }

@@ -1,5 +1,6 @@
 //! A queue's book behind a lock. Each time that the lock is taken the book is consistent: that is the invariant of its type.
 ghost use Rattle.std.specs.Prelude.{◌≡◌, ◌+◌, ◌-◌, ℕ, true, false, IfOk, IfErr, OnOk, OnErr, IsErrOf, IsErrAnd};
+ghost use Rattle.std.specs.List.{AllByRecursion};
 ghost use Rattle.dmc_ledger.specs.Bundles.{Covers, client_side, stamp_holdings};
 ghost use Rattle.dmc_ledger.specs.Moves.{tills_after_submit};
 ghost use Rattle.dmc_tag.specs.declared.reply.Reply.TheVariants as replies;
@@ -7,6 +8,7 @@ ghost use Rattle.dmc_types.specs.declared.command.Command.TheVariants as command
 ghost use Rattle.dmc_book.specs.BookState.{pass_state};
 ghost use Rattle.dmc_book.specs.Calls.{is_add};
 ghost use Rattle.dmc_book.specs.Joining.{IsUnused};
+ghost use Rattle.dmc_book.specs.Leaving.{HoldsNothing};
 ghost use Rattle.dmc_book.specs.Renewing.{renewed_pass};
 ghost use Rattle.dmc_qlock.specs.Calls.{Replied, IsExtended, IsNewPass, IsStatusOf, PullReplied, SubmitReplied, registers};
 
@@ -321,5 +323,16 @@ impl<T: Tag, I: Indexes<T>, S: Setup> LockedQueue<QueueBook<T, I, S>, NoWitness>
         ensures kept { OnErr result (mint.new ≡ mint.old) }
     {
         self.guarded.lock(rt).enrol(alloc, worker, mint)
+    }
+
+    /// Dismisses a worker: its pass is gathered. Its counts stay in what the book's `settle` returns, and its sums of tokens no
+    /// longer keep events from being released. The lock is held for a time that grows with the number of desks.
+    ///
+    /// The pass is returned exactly where the book's `dismiss` returns it.
+    pub fn dismiss<R: Wait>(&self, rt: &R, pass: WorkerPass<S>) -> Result<(), WorkerPass<S>>
+        ensures responded { OnOk result (AllByRecursion HoldsNothing (pass_state pass).units) }
+        ensures back { IfErr result (λ back. back ≡ pass) }
+    {
+        self.guarded.lock(rt).dismiss(pass)
     }
 }

@@ -2,13 +2,14 @@ use Rattle.std.proofs.Common.{List, map, subst, refl, arith, rules}
 use Rattle.std.specs.List.{AllByRecursion}
 use Rattle.std.proofs.lemmas.List.{take_all}
 use Rattle.dmc_book.specs.BookState.{WorkerSide, worker_side}
+use Rattle.dmc_book.specs.Moves.{IsOpen}
 use Rattle.dmc_book.specs.Rotating.{AreTokensLow}
 use Rattle.dmc_book.specs.declared.seat.Seat.{Seat}
 use Rattle.dmc_book.proofs.SettlingLemmas.{all_more, all_there}
 use Rattle.dmc_book.proofs.seat.are_low.Goals as goal
 
 abbrev IsLow : WorkerSide → Type 0
-IsLow w = AreTokensLow w.books
+IsLow w = IsOpen w → AreTokensLow w.books
 
 pub returns-then-not-is_low : goal.returns-then-not-is_low
 returns-then-not-is_low g c =

@@ -1,7 +1,8 @@
-use Rattle.std.proofs.Common.{rules, refl, ◌≡◌, ap, sym, subst, slice_index_or}
-use Rattle.dmc_book.specs.BookState.{worker_accounts}
+use Rattle.std.proofs.Common.{rules, refl, ◌≡◌, ◌∙◌, ap, sym, subst, slice_index_or}
+use Rattle.std.proofs.lemmas.List.{get_or-map}
+use Rattle.dmc_book.specs.BookState.{WorkerSide, no_worker, worker_side}
 use Rattle.dmc_book.specs.Consistent.{AreWithin, max_before}
-use Rattle.dmc_book.proofs.WorkerLemmas.{counted_workers, fits_at}
+use Rattle.dmc_book.proofs.WorkerLemmas.{counted_workers}
 use Rattle.dmc_book.proofs.seat.count.Goals as goal
 
 pub returns-clause-workers : goal.returns-clause-workers
@@ -14,4 +15,4 @@ pub credit_all-requires-clause-fits : goal.credit_all-requires-clause-fits
 credit_all-requires-clause-fits g c =
     let x = c.index_mut.result.now in
     let is : slice_index_or c.args.workers.now.items c.args.place x ≡ x = search rules in
-    subst (λ y. AreWithin max_before (worker_accounts y.books)) is (fits_at max_before c.args.workers.now.items c.args.place x c.requires.fits c.requires.within)
+    subst (λ (w : WorkerSide). AreWithin max_before w.books) (get_or-map worker_side c.args.workers.now.items c.args.place x no_worker c.requires.within ∙ ap worker_side is) c.requires.fits

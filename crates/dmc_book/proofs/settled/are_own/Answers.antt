@@ -1,9 +1,9 @@
-use Rattle.std.proofs.Common.{◌≡◌, ◌∙◌, List, length, map, sym, subst, refl, arith, rules}
+use Rattle.std.proofs.Common.{◌≡◌, ◌∙◌, List, length, map, subst, refl, arith, rules}
 use Rattle.std.specs.List.{AllByRecursion}
 use Rattle.std.proofs.lemmas.List.{take_all, length-map}
 use Rattle.dmc_ledger.specs.Bundles.{client_side}
 use Rattle.dmc_book.specs.BookState.{PassState, pass_state, worker_side}
-use Rattle.dmc_book.specs.Settling.{AreOwn, IsOwn}
+use Rattle.dmc_book.specs.Settling.{AreOwn, IsOwn, open_passes}
 use Rattle.dmc_book.specs.declared.pass.WorkerPass.{WorkerPass}
 use Rattle.dmc_book.proofs.SettlingLemmas.{all_more, all_there}
 use Rattle.dmc_book.proofs.settled.are_own.Goals as goal
@@ -30,7 +30,7 @@ returns g c =
     let P : PassState → Type 0 = IsOwn (map worker_side c.args.workers.now) (map client_side c.args.desks.now) in
     let all = take_all c.loop-pass.pass-index c.args.passes.now (omega arith) in
     let each = subst (λ (ps : List (WorkerPass g.row.S.Denot)). AllByRecursion P (map pass_state ps)) all c.loop-pass.invariant in
-    let as_many : length c.args.passes.now ≡ length c.args.workers.now = search rules in (
-      (λ e. record { as_many = length-map c.args.passes.now (pass_state {S = g.row.S.Denot}) ∙ as_many ∙ sym (length-map c.args.workers.now (worker_side {S = g.row.S.Denot})); each = each }),
+    let as_many : length c.args.passes.now ≡ open_passes (map worker_side c.args.workers.now) = search rules in (
+      (λ e. record { as_many = length-map c.args.passes.now (pass_state {S = g.row.S.Denot}) ∙ as_many; each = each }),
       (λ own. refl),
     )

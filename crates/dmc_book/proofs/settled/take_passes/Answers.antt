@@ -5,14 +5,14 @@ use Rattle.dmc_ledger.specs.Bundles.{ClientSide, client_side}
 use Rattle.dmc_book.specs.BookState.{PassState, WorkerSide, no_worker, pass_state, worker_side}
 use Rattle.dmc_book.specs.Consistent.{reaching}
 use Rattle.dmc_book.specs.Counts.{one_if}
-use Rattle.dmc_book.specs.Settling.{ArePassesTakenIn, IsOwn, closed_worker, having}
-use Rattle.dmc_book.proofs.SettlingLemmas.{ArePartly, all_after, all_gone, all_left, one_open_at, open_at, open_calls, open_less, open_start, partly_end, partly_long, partly_more, partly_start, passes_more, passes_none, reaching_end, reaching_less, reaching_start, still_reaching, tills_at, units_at}
+use Rattle.dmc_book.specs.Settling.{ArePassesTakenIn, IsOwn, closed_worker, having, open_passes}
+use Rattle.dmc_book.proofs.SettlingLemmas.{ArePartly, all_after, all_gone, all_left, one_open_at, open_at, open_less, partly_end, partly_long, partly_more, partly_start, passes_more, passes_none, reaching_end, reaching_less, reaching_start, still_reaching, tills_at, units_at}
 use Rattle.dmc_book.proofs.settled.take_passes.Goals as goal
 
 pub loop-pass-init : goal.loop-pass-init
 loop-pass-init g c = record {
   workers = partly_start (map worker_side c.args.workers.now);
-  still_open = open_start (map worker_side c.args.workers.now) c.requires.one_open ∙ sym c.requires.own.as_many ∙ length-map c.args.passes.items (pass_state {S = g.row.S.Denot});
+  still_open = sym c.requires.own.as_many ∙ length-map c.args.passes.items (pass_state {S = g.row.S.Denot});
   own = c.requires.own.each;
   taken = [];
   all = sym (append-nil (map pass_state c.args.passes.items));
@@ -64,7 +64,7 @@ loop-pass-preserved g c =
     let less = open_less vs p.place (closed_worker (slice_index_or vs p.place no_worker)) inside refl one.calls in
     record {
       workers = subst (ArePartly ws) (sym closed) (partly_more ws vs p.place inv.workers within some);
-      still_open = ap open_calls closed ∙ omega (arith, less, inv.still_open, fewer);
+      still_open = ap open_passes closed ∙ omega (arith, less, inv.still_open, fewer);
       own = left.0;
       taken = p ∷ inv.taken;
       all = all_after (IsOwn ws ds) pass_state c.loop-pass.passes.items c.pop.new.self.items c.in-Some.pass popped (map pass_state c.args.passes.items) inv.taken inv.all;

@@ -3,14 +3,14 @@ use Rattle.std.specs.List.{AllByRecursion}
 use Rattle.dmc_ledger.specs.Bundles.{client_side}
 use Rattle.dmc_book.specs.BookState.{PassState, pass_state, worker_side}
 use Rattle.dmc_book.specs.Consistent.{reaching}
-use Rattle.dmc_book.specs.Settling.{ArePassesTakenIn, IsOwn, having}
-use Rattle.dmc_book.proofs.SettlingLemmas.{ArePartly, open_calls, still_reaching}
+use Rattle.dmc_book.specs.Settling.{ArePassesTakenIn, IsOwn, having, open_passes}
+use Rattle.dmc_book.proofs.SettlingLemmas.{ArePartly, still_reaching}
 use Rattle.dmc_book.proofs.settled.take_passes.Given as goal
 
 abbrev pub invariant-loop-pass : goal.invariant-loop-pass
 invariant-loop-pass g l = record {
   workers : ArePartly (map worker_side l.fn.workers) (map worker_side l.workers);
-  still_open : open_calls (map worker_side l.workers) ≡ length l.passes.items;
+  still_open : open_passes (map worker_side l.workers) ≡ length l.passes.items;
   own : AllByRecursion (IsOwn (map worker_side l.fn.workers) (map client_side l.fn.desks)) (map pass_state l.passes.items);
   taken : List PassState;
   all : map pass_state l.fn.passes.items ≡ map pass_state l.passes.items ++ taken;

@@ -21,7 +21,7 @@ returns-clause-only g c = λ one. (
     let x = get_or ws c.args.place c.index-workers-place.result in
     let here = get_or-map worker_side ws c.args.place c.index-workers-place.result no_worker c.requires.within in
     let closed = c.take_tills.ensures.only (subst (λ (w : WorkerSide). AreOneOpen w.books) here one) in
-    let side : worker_side (record { worker = x.worker; renewed = x.renewed; reach = x.reach; books = c.take_tills.new.books }) ≡ closed_worker (worker_side x) =
-    ap (λ (bs : WorkerAccounts). let w : WorkerSide = record { worker = x.worker.0; renewed = x.renewed; reach = x.reach; books = bs } in w) closed in
-    map-set worker_side ws c.args.place (record { worker = x.worker; renewed = x.renewed; reach = x.reach; books = c.take_tills.new.books })
+    let side : worker_side (record { worker = x.worker; renewed = x.renewed; reach = 0; books = c.take_tills.new.books }) ≡ closed_worker (worker_side x) =
+    ap (λ (bs : WorkerAccounts). let w : WorkerSide = record { worker = x.worker.0; renewed = x.renewed; reach = 0; books = bs } in w) closed in
+    map-set worker_side ws c.args.place (record { worker = x.worker; renewed = x.renewed; reach = 0; books = c.take_tills.new.books })
     ∙ ap (slice_set (map worker_side ws) c.args.place) (side ∙ ap closed_worker (sym here)))

@@ -26,7 +26,7 @@ invariant_of-self g c =
     let is : c.index_mut.result.now ≡ get_or seats place c.index_mut.result.now = search rules in
     let a : AccountsState g.row.T.Denot = accounts_of here.server.0 here.history (map worker_side seats) (map client_side here.desks.items) in
     let now = written seats place c.len-events.result c.index_mut.result.now c.renew_seat.new.seat within is c.renew_seat.ensures.seat in
-    rw (now, c.len-events.ensures.value) (consistent_renewed a place enrolled c.self.invariant.0, c.self.invariant.1)
+    rw (now, c.len-events.ensures.value) (consistent_renewed a place enrolled (rw (← c.self.view_is) at c.requires.enrolled.still) c.self.invariant.0, c.self.invariant.1)
 
 pub returns-clause-accounts : goal.returns-clause-accounts
 returns-clause-accounts g c =

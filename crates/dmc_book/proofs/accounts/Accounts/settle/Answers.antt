@@ -1,15 +1,22 @@
 use Rattle.std.proofs.Common.{◌≡◌, ℕ, List, length, map, drop, sym, subst, ap, ◌∙◌, rules}
+use Rattle.std.specs.List.{AllByRecursion}
 use Rattle.std.proofs.lemmas.List.{length-map}
 use Rattle.dmc_ledger.specs.Bundles.{ClientSide, client_side}
 use Rattle.dmc_ledger.specs.declared.desk.ClientDesk.{ClientDesk}
 use Rattle.dmc_book.specs.BookState.{WorkerSide, pass_state, worker_side}
 use Rattle.dmc_book.specs.Consistent.{reaching}
-use Rattle.dmc_book.specs.Settling.{ArePassesTakenIn, closed_worker, having}
+use Rattle.dmc_book.specs.Settling.{ArePassesTakenIn, IsOpenOrShut, closed_worker, having}
 use Rattle.dmc_book.specs.declared.seat.Seat.{Seat}
 use Rattle.dmc_book.proofs.GrantLemmas.{grants_of_desks}
 use Rattle.dmc_tag.proofs.Lists.{lent_back}
-use Rattle.dmc_book.proofs.SettlingLemmas.{settled_desks, settled_workers}
+use Rattle.dmc_book.proofs.SettlingLemmas.{all_open_or_shut, settled_desks, settled_workers}
 use Rattle.dmc_book.proofs.accounts.Accounts.settle.Goals as goal
+
+pub take_passes-requires-clause-one_open : goal.take_passes-requires-clause-one_open
+take_passes-requires-clause-one_open g c =
+    let here = c.self.inside in
+    subst (λ (seats : List (Seat g.row.S.Denot)). AllByRecursion IsOpenOrShut (map worker_side seats)) (sym c.deref_mut.ensures.value)
+    (all_open_or_shut here.history.events (map worker_side here.workers.items) c.self.invariant.0.workers)
 
 pub returns-clause-few : goal.returns-clause-few
 returns-clause-few g c = c.take.ensures.few

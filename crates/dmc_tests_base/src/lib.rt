@@ -28,6 +28,7 @@ mod limits;
 mod lines;
 #[cfg(test)]
 mod part_growths;
+#[cfg(test)]
 mod plans;
 #[cfg(test)]
 mod rates;

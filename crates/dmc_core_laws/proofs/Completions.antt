@@ -8,12 +8,12 @@ use Rattle.dmc_types.specs.Values.{Params, no_counts}
 use Rattle.dmc_types.specs.declared.ids.ClientId.{ClientId}
 use Rattle.dmc_types.specs.declared.ids.ServerId.{ServerId}
 use Rattle.dmc_types.specs.declared.command.Command.{Command}
-use Rattle.dmc_types.specs.declared.command.Command.TheVariants.{Add}
+use Rattle.dmc_types.specs.declared.command.Command.TheVariants.{Register, Update, Add, Pull, Remove, Clean}
 use Rattle.dmc_types.specs.declared.config.Counting.TheVariants.{All}
 use Rattle.dmc_types.specs.declared.config.PhaseType.{PhaseType}
 use Rattle.dmc_tag.specs.declared.event.Event.{Event}
 use Rattle.dmc_tag.specs.declared.reply.Reply.{Reply}
-use Rattle.dmc_tag.specs.declared.reply.Reply.TheVariants.{Tagged}
+use Rattle.dmc_tag.specs.declared.reply.Reply.TheVariants.{Registered, Updated, Tagged, Granted, Later, Nothing, Removed, Cleaned, Refused}
 use Rattle.dmc_history_laws.specs.Bounds.{Arrival, Arrives, IsOf, Span, arrival_of, arrivals, departures, sum_of}
 use Rattle.dmc_history_laws.proofs.ForCallers.{arrivals-append, take_one}
 use Rattle.dmc_tracker.specs.declared.event.TrackerEvent.{TrackerEvent}
@@ -109,7 +109,10 @@ module _ (s : ServerId) where
       by false e i w more = at_other before es q params e i (more i w)
 
   pub completed_is : (list : List TrackerEvent) (j : ℕ) → IsTracked All list → skips s list ≡ 0 → j < length (stamps_to s list) → completed_at s (suc j) list ≡ deltas (take (suc j) (stamps_to s list))
-  completed_is list j tracked unskipped within = completed_from list [] j tracked refl unskipped within ∙ none_before (deltas (take (suc j) (stamps_to s list)))
+  completed_is list j tracked unskipped within =
+      let same : j ≡ suc j - 1 = omega arith in
+      subst (λ n. (completions (before_stamp s n list)).delta ≡ deltas (take (suc j) (stamps_to s list))) same
+      (completed_from list [] j tracked refl unskipped within ∙ none_before (deltas (take (suc j) (stamps_to s list))))
     where
       none_before : (n : ℕ) → 0 + n ≡ n
       none_before n = omega arith
@@ -141,6 +144,19 @@ sum_between f (x ∷ xs) (suc i) (suc k) =
 module _ {T : Type 0} (id : ClientId) where
   one_arrival : (command : Command) (reply : Reply T) → Arrives id command reply → length (arrival_of id command reply) ≡ 1
   one_arrival (Add client token params at) (Tagged tags) own = rw own refl
+  one_arrival (Add client token params at) Registered own = absurd own
+  one_arrival (Add client token params at) Updated own = absurd own
+  one_arrival (Add client token params at) (Granted granted its phase beyond) own = absurd own
+  one_arrival (Add client token params at) (Later due) own = absurd own
+  one_arrival (Add client token params at) Nothing own = absurd own
+  one_arrival (Add client token params at) (Removed count) own = absurd own
+  one_arrival (Add client token params at) (Cleaned idled erased) own = absurd own
+  one_arrival (Add client token params at) (Refused refusal) own = absurd own
+  one_arrival (Register client info at) reply own = absurd own
+  one_arrival (Update client info at) reply own = absurd own
+  one_arrival (Pull at) reply own = absurd own
+  one_arrival (Remove client) reply own = absurd own
+  one_arrival (Clean at) reply own = absurd own
 
   -- an accepted add is an arrival, and those up to it are among all
   some_arrival : (history : List (Event T)) (n : ℕ) (add : Event T) → slice_get history n ≡ Some add → Arrives id add.command add.reply
@@ -168,7 +184,8 @@ completed_between id s phase history span list flight tracked unskipped follows 
     let sent : length (stamps_to s list) ≡ length params + length flight = ap length (sym follows) ∙ length-append params flight in
     let some = some_arrival id history span.arrived span.add span.add_is span.arrives in
     let i_is : span.i ≡ suc before = omega (arith, span.i_is, some.0) in
-    let here : left < length came = slice_get_within came left granted.arrival (subst (λ n. slice_get came n ≡ Some granted.arrival) (ap (λ n. n - 1) span.k_is) granted.here) in
+    let number : span.k - 1 ≡ left = omega (arith, span.k_is) in
+    let here : left < length came = slice_get_within came left granted.arrival (subst (λ n. slice_get came n ≡ Some granted.arrival) number granted.here) in
     let up_to : (j : ℕ) → j < length came → completed_at s (suc j) list ≡ sum_by (λ (a : Arrival). a.params.delta) (take (suc j) came) = (λ j within.
     completed_is s list j tracked unskipped (omega (arith, within, long, sent))
     ∙ ap (λ ps. deltas (take (suc j) ps)) (sym follows)

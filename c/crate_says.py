@@ -29,7 +29,7 @@ def c_type(rust, handle):
 
 def structs():
     """The fields of each struct that C reads, and of the two that it holds."""
-    for name, body in re.findall(r"#\[repr\(C\)\]\s*(?:#\[.*\]\s*)?pub struct (\w+) \{\n(.*?)\n\}", read("telling.rt"), re.S):
+    for name, body in re.findall(r"#\[repr\(C\)\]\s*(?:#\[.*\]\s*)?pub struct (\w+) \{\n(.*?)\n\}", read("outputs.rt"), re.S):
         yield snake(name), re.findall(r"pub (\w+): ([^,]+),", body)
     body = re.search(r"pub struct Handle \{\n(.*?)\n\}", read("handle.rt"), re.S).group(1)
     fields = re.findall(r"^    (\w+): ([^,]+),", body, re.M)

@@ -16,6 +16,7 @@ pub use Rattle.dmc_tag.specs.Rules
 pub use Rattle.dmc_tag.specs.State
 pub use Rattle.dmc_tag.specs.Step
 pub use Rattle.dmc_tag.specs.Steps
+pub use Rattle.dmc_tlock.specs.Segments
 pub use Rattle.dmc_tracker.specs.Numbers
 pub use Rattle.dmc_tracker.specs.TrackerList
 pub use Rattle.dmc_types.specs.Clock

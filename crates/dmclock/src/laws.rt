@@ -11,7 +11,8 @@ pub use dmc_queue_history::laws as segments;
 /// Of the rules themselves: the granted request is the best of its set, the moment of a Future is exact, a refusal changes
 /// nothing, and states that agree client by client get the same replies.
 pub use dmc_tag::laws as rules;
-/// Of every tracker's book: what was sent to a server and what is pending there are what the client's completions demand.
+/// Of every tracker's book: what was sent to a server and what is pending there are what the client's completions demand. Of
+/// every segment of its list: the stamps up to its end carry what the list demands.
 pub use dmc_tlock::laws as tracker_books;
 /// Of the list of a tracker's stamps and responses alone.
 pub use dmc_tracker::laws as trackers;

@@ -83,6 +83,51 @@ fn check_texts(rt: HostRuntime) -> Result<(), Fail> {
 }
 
 #[test]
+fn segments_of_a_text(rt: HostRuntime) -> Result<(), Fail> {
+    checks(
+        &rt,
+        b"hz 1000\n# server 3 first 0\n1 pull 0 = none\n# server 3 first 1\n1 pull 5 = none\n  #  server  3 first 2",
+        b"replays 2\n",
+        Ok(Verdict::Replays),
+    )?;
+    // A segment is missing, or comes twice, or before the hz line.
+    checks(
+        &rt,
+        b"hz 1000\n# server 3 first 1\n1 pull 0 = none\n",
+        b"",
+        Err(ScriptFault::Line(2, LineCause::Number)),
+    )?;
+    checks(
+        &rt,
+        b"hz 1000\n# server 3 first 0\n1 pull 0 = none\n# server 3 first 0\n1 pull 0 = none\n",
+        b"",
+        Err(ScriptFault::Line(4, LineCause::Number)),
+    )?;
+    checks(
+        &rt,
+        b"# server 3 first 0\nhz 1000\n",
+        b"",
+        Err(ScriptFault::Line(1, LineCause::Hz)),
+    )
+}
+
+#[test]
+fn comments_of_a_text(rt: HostRuntime) -> Result<(), Fail> {
+    checks(
+        &rt,
+        b"# server 3\nhz 1000\n# server 3 first\n#server 3 first 7\n# server x first 7\n# server 3 first 7 on\n",
+        b"replays 0\n",
+        Ok(Verdict::Replays),
+    )?;
+    checks(
+        &rt,
+        b"hz 1000\n# server 3 first 07\n# server 4294967296 first 7\n# server 3 last 7\n## server 3 first 7\n",
+        b"replays 0\n",
+        Ok(Verdict::Replays),
+    )
+}
+
+#[test]
 fn beyond_not_recorded(rt: HostRuntime) -> Result<(), Fail> {
     checks(
         &rt,

@@ -50,3 +50,5 @@ mod standbys;
 mod tags;
 #[cfg(test)]
 mod trackers;
+#[cfg(test)]
+mod written;

@@ -8,3 +8,4 @@ mod histories;
 mod refused_rates;
 mod runs;
 mod setup;
+mod written;

@@ -23,6 +23,8 @@ mod segments;
 #[cfg(test)]
 mod settling;
 #[cfg(test)]
+mod standbys;
+#[cfg(test)]
 mod tracker_books;
 #[cfg(test)]
 mod tracker_refusals;

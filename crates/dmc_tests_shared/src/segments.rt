@@ -15,7 +15,7 @@ use std::marker::Brand;
 use std::test::Fail;
 
 /// The next segment of a book.
-fn rotate<S: Setup>(book: &mut Book<S>) -> Result<Segment<TickTag, S>, Fail> {
+pub(crate) fn rotate<S: Setup>(book: &mut Book<S>) -> Result<Segment<TickTag, S>, Fail> {
     match book.rotate() {
         Some(segment) => Ok(segment),
         None => Err(Fail::new("a segment")),

@@ -2,6 +2,7 @@
 mod auditing;
 mod calls;
 mod circle;
+mod joining;
 mod refusals;
 mod settling;
 mod setup;

@@ -41,7 +41,7 @@ fn remains<S: Setup>(settled: &Settled<TickTag, S>) -> Result<Remains, Fail> {
     }
 }
 
-fn settle_book<S: Setup>(
+pub(super) fn settle_book<S: Setup>(
     alloc: Global,
     book: &mut Book<S>,
     passes: Vec<WorkerPass<S>>,

@@ -54,7 +54,7 @@ fn client_of<S: Setup>(alloc: Global, id: ClientId, side: ServerDesk<S>) -> Resu
 }
 
 /// A client of server 0, and its desk there.
-fn open_client<S: Setup>(
+pub(super) fn open_client<S: Setup>(
     alloc: Global,
     mint: &mut Mint<S>,
     id: ClientId,

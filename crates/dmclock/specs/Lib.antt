@@ -2,9 +2,11 @@
 pub use Rattle.dmc_book.specs.BookState
 pub use Rattle.dmc_book.specs.Consistent
 pub use Rattle.dmc_book.specs.Counts
+pub use Rattle.dmc_book.specs.Opening
 pub use Rattle.dmc_history_laws.specs.Bounds
 pub use Rattle.dmc_head_index.specs.Heads
 pub use Rattle.dmc_index.specs.Index
+pub use Rattle.dmc_ledger.specs.Bundles
 pub use Rattle.dmc_pull.specs.FirstRequests
 pub use Rattle.dmc_pull.specs.Queue
 pub use Rattle.dmc_queue_history.specs.Segmented

@@ -1,8 +1,8 @@
 //! The server's queue behind its lock, and the clients, with a tracker and a worker's thread each.
 ghost use Rattle.std.specs.Prelude.{◌≡◌, ◌∷◌, [], map, IfOk, OnOk};
 ghost use Rattle.std.specs.List.{AllByRecursion};
-ghost use Rattle.dmc_ledger.specs.Bundles.{client_side};
-ghost use Rattle.dmc_book.specs.Opening.{IsNewDesk};
+ghost use Rattle.dmclock.specs.Bundles.{client_side};
+ghost use Rattle.dmclock.specs.Opening.{IsNewDesk};
 
 use crate::serving::Worker;
 use anyhow::{Result, bail};

@@ -1,6 +1,6 @@
 //! A worker's thread: it makes the requests of one client, and serves what the queue grants.
 ghost use Rattle.std.specs.Prelude.{IfOk};
-ghost use Rattle.dmc_ledger.specs.Bundles.{Covers, stamp_holdings};
+ghost use Rattle.dmclock.specs.Bundles.{Covers, stamp_holdings};
 
 use crate::opening::{CLIENTS, SERVER, Shared};
 use crate::progress::Progress;

@@ -140,15 +140,6 @@ fn events_written(rt: HostRuntime) -> Result<(), Fail> {
     is_event(&rt, pull, Reply::Later(50), b"7 pull 5 = future 50")
 }
 
-/// The server and the number of a segment's header.
-fn header_of(line: &[u8], headed: bool) -> Result<Option<(ServerId, u64)>, LineCause> {
-    let line: EventLine<TickTag> = read_event_line(line, headed)?;
-    match line {
-        EventLine::Segment { server, first } => Ok(Some((server, first))),
-        _ => Ok(None),
-    }
-}
-
 #[test]
 fn a_header_written(rt: HostRuntime) -> Result<(), Fail> {
     let mut out = Vec::with_capacity(rt.alloc(), ROOM)?;
@@ -156,9 +147,6 @@ fn a_header_written(rt: HostRuntime) -> Result<(), Fail> {
     assert_same(&rt, &out.pop(), &Some(b'\n'));
     let line = b"# server 3 first 4611686018427387904".as_slice();
     assert_same(&rt, &out.as_slice(), &line);
-    let header = Some((ServerId(3), 1 << 62));
-    assert_same(&rt, &header_of(line, true), &Ok(header));
-    assert_same(&rt, &header_of(line, false), &Err(LineCause::Hz));
     assert_same(&rt, &read_line(line, true), &Ok(Line::Skip));
     Ok(())
 }

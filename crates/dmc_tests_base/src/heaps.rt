@@ -11,6 +11,7 @@ use std::alloc::Global;
 use std::process::Abort;
 use std::test::Fail;
 
+/// The rank of a tag of a client.
 pub fn rank(tag: u64, client: u32) -> TagRank<u64>
     ensures { result ≡ record { tag = Some tag; client = record { 0 = client } } }
 {

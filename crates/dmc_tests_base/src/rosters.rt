@@ -45,6 +45,7 @@ impl RecordTest<TickTag> for Arrived {
     }
 }
 
+/// The record of a client that registers at a moment.
 pub fn new_record(alloc: Global, at: Moment) -> Result<ClientRec<TickTag>, Fail> {
     let info = ClientInfo::new(None, 1, None)?;
     let spacings = spacings_for::<TickTag>(1000, info)
@@ -77,6 +78,7 @@ fn takes_next_key(alloc: Global, roster: &mut Roster<TickTag>, id: ClientId) -> 
     Ok(key == observed)
 }
 
+/// Whether a client is registered.
 pub fn is_registered(roster: &Roster<TickTag>, id: u32) -> bool {
     roster.find(ClientId(id)).is_some()
 }

@@ -12,7 +12,7 @@ use Rattle.dmc_tag.specs.Rules.{less, has_less}
 use Rattle.dmc_tag.proofs.ForCallers.{minus_twice, plus_then_minus}
 use Rattle.dmc_client.specs.declared.request.QueuedRequest.{QueuedRequest}
 use Rattle.dmc_client.specs.Record.{less_share, less_reservation}
-use Rattle.dmc_client.specs.Deferred.{tag_less_deferred, tag_has_deferred, less_deferred, all_less_deferred, reservation_has_less, has_deferred, IsDeferred, deferred_with}
+use Rattle.dmc_client.specs.internal.Deferred.{tag_less_deferred, tag_has_deferred, less_deferred, all_less_deferred, reservation_has_less, has_deferred, IsDeferred, deferred_with}
 use Rattle.dmc_client.proofs.Records.{all_rest}
 use Rattle.dmc_tag.proofs.Lists.{all_next}
 

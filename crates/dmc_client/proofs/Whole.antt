@@ -9,7 +9,7 @@ use Rattle.dmc_tag.specs.Rules.{has_less}
 use Rattle.dmc_tag.proofs.Lists.{all_at}
 use Rattle.dmc_client.specs.declared.request.QueuedRequest.{QueuedRequest}
 use Rattle.dmc_client.specs.Order.{InOrder}
-use Rattle.dmc_client.specs.Deferred.{reservation_has_less}
+use Rattle.dmc_client.specs.internal.Deferred.{reservation_has_less}
 use Rattle.dmc_client.proofs.Records.{all_filter_map, rest_reservations}
 
 -- what lies between two tags that have so much to lose has it too

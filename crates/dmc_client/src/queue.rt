@@ -2,7 +2,7 @@
 ghost use Rattle.std.specs.Prelude.{◌≡◌, ◌==◌, ◌++◌, ◌∷◌, [], true, drop, length, map, slice_get, if◌then◌else◌, OnOk, OnErr, IfSome, Some};
 ghost use Rattle.std.specs.List.{list_all};
 ghost use Rattle.std.specs.Option.{option_map_or};
-ghost use Rattle.dmc_client.specs.Deferred as deferred_of;
+ghost use Rattle.dmc_client.specs.internal.Deferred as deferred_of;
 ghost use Rattle.dmc_client.specs.Record as record_of;
 ghost use Rattle.dmc_tag.specs.Rules as rules_of;
 
@@ -27,7 +27,7 @@ pub struct RequestQueue<T: Tag> {
 impl<T: Tag> Model for RequestQueue<T> {
     ghost use Rattle.std.specs.Prelude.{List};
     ghost use Rattle.dmc_client.specs.declared.request.QueuedRequest.{QueuedRequest};
-    ghost use Rattle.dmc_client.specs.Deferred.{all_less_deferred, IsDeferred};
+    ghost use Rattle.dmc_client.specs.internal.Deferred.{all_less_deferred, IsDeferred};
 
     ghost Value = { List (QueuedRequest T) };
 

@@ -1,6 +1,6 @@
 //! An amount taken off each tag of one kind, in place, and whether the results are values.
 ghost use Rattle.std.specs.Prelude.{◌≡◌, map, is_some, IfSome};
-ghost use Rattle.dmc_client.specs.Deferred as deferred_of;
+ghost use Rattle.dmc_client.specs.internal.Deferred as deferred_of;
 ghost use Rattle.dmc_client.specs.Record as record_of;
 ghost use Rattle.dmc_tag.specs.Rules as rules_of;
 ghost use Rattle.std.specs.List.{list_all};

@@ -15,7 +15,7 @@ use Rattle.dmc_tag.specs.declared.rank.ReadyRank.{ReadyRank}
 use Rattle.dmc_index.specs.Index.{slot_of_key, IsEmpty}
 use Rattle.dmc_head_index.specs.declared.head.Head.{Head}
 use Rattle.dmc_head_index.specs.Heads.{ready_rank, Ranks, IsLeastShare}
-use Rattle.dmc_head_index.specs.Least.{least_of_two, least_with, least_without, least_after, IsLeastTag, FindsLeast}
+use Rattle.dmc_head_index.specs.internal.Least.{least_of_two, least_with, least_without, least_after, IsLeastTag, FindsLeast}
 use Rattle.dmc_head_index.proofs.Slots.{some_if_mapped, none_if_mapped, within, slot_of_key-set_same, slot_of_key-set_other}
 
 not_equal : (r : Ordering) → is_eq r ≡ false → r ≢ Equal

@@ -16,7 +16,7 @@ use Rattle.dmc_tag.specs.declared.rank.LimitRank.{LimitRank}
 use Rattle.dmc_index.specs.Index.{slot_of_key, IsEmpty}
 use Rattle.dmc_head_index.specs.declared.head.Head.{Head}
 use Rattle.dmc_head_index.specs.Heads.{limit_rank, IsFirst, with_ready_mark, set_back}
-use Rattle.dmc_head_index.specs.Marks.{with_ready, is_past, CanMark}
+use Rattle.dmc_head_index.specs.internal.Marks.{with_ready, is_past, CanMark}
 use Rattle.dmc_head_index.proofs.Slots.{map_set, set-slot_of_key, slot_of_key-map}
 use Rattle.dmc_tag.proofs.Orderings.{then_less}
 

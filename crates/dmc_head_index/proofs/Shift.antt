@@ -12,7 +12,8 @@ use Rattle.dmc_tag.specs.declared.rank.LimitRank.{LimitRank}
 use Rattle.dmc_tag.specs.declared.rank.ReadyRank.{ReadyRank}
 use Rattle.dmc_index.specs.Index.{slot_of_key, IsMapped}
 use Rattle.dmc_head_index.specs.declared.head.Head.{Head}
-use Rattle.dmc_head_index.specs.Heads.{tag_rank, limit_rank, ready_rank, Ranks, head_from, heads_from, AreApart, IsLeastShare, IsSound, CanShift, shifted, less_rank}
+use Rattle.dmc_head_index.specs.Heads.{tag_rank, limit_rank, ready_rank, Ranks, head_from, heads_from, AreApart, IsLeastShare, IsSound, CanShift, shifted}
+use Rattle.dmc_head_index.specs.internal.Heads.{less_rank}
 use Rattle.dmc_head_index.proofs.Slots.{some_if_mapped, same_slots, slot_of_key-map}
 
 -- an amount off each of two tags keeps their order

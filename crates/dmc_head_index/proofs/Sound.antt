@@ -10,8 +10,8 @@ use Rattle.dmc_tag.specs.declared.rank.ReadyRank.{ReadyRank}
 use Rattle.dmc_index.specs.Index.{slot_of_key, IsEmpty}
 use Rattle.dmc_head_index.specs.declared.head.Head.{Head}
 use Rattle.dmc_head_index.specs.Heads.{tag_rank, limit_rank, ready_rank, Ranks, heads_from, IsOthers, AreApart, IsLeastShare, IsSound}
-use Rattle.dmc_head_index.specs.Marks.{with_ready}
-use Rattle.dmc_head_index.specs.Least.{least_with, least_without, least_after}
+use Rattle.dmc_head_index.specs.internal.Marks.{with_ready}
+use Rattle.dmc_head_index.specs.internal.Least.{least_with, least_without, least_after}
 use Rattle.dmc_head_index.proofs.Slots.{none_if_count_zero, set-slot_of_key}
 use Rattle.dmc_head_index.proofs.HeadsFrom.{head_from_ranks, heads_from-set, length-heads_from, ranks_set}
 use Rattle.dmc_head_index.proofs.Clients.{apart_set, is_empty, rank_held}

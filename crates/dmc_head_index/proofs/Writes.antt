@@ -13,8 +13,8 @@ use Rattle.dmc_tag.proofs.Orderings.{then_equal}
 use Rattle.dmc_index.specs.Index.{slot_of_key, IsApart, IsApartFromOthers}
 use Rattle.dmc_head_index.specs.declared.head.Head.{Head}
 use Rattle.dmc_head_index.specs.Heads.{tag_rank, limit_rank, ready_rank, Ranks, heads_from, IsOthers, AreApart, IsSound}
-use Rattle.dmc_head_index.specs.Marks.{with_ready}
-use Rattle.dmc_head_index.specs.Least.{least_with, least_without, least_after}
+use Rattle.dmc_head_index.specs.internal.Marks.{with_ready}
+use Rattle.dmc_head_index.specs.internal.Least.{least_with, least_without, least_after}
 use Rattle.dmc_head_index.proofs.Slots.{some_of, some_if_mapped, is_some_mapped, within}
 use Rattle.dmc_head_index.proofs.Clients.{rank_held, is_held, is_vacant, rank_read, rank_apart, apart_from_all}
 use Rattle.dmc_head_index.proofs.Sound.{room_of, heads_set, same_heads_from, same_sound, empty_if, inserted, changed, removed, marked_heads, marked_sound}

@@ -1,5 +1,5 @@
 -- The clients' first requests, as a finite map from keys, and what an index over them holds.
-use Rattle.std.specs.Prelude.{◌≡◌, ◌≢◌, ℕ, ◌&&◌, ◌||◌, List, [], ◌∷◌, length, Option, Some, None, true, false, IfSome}
+use Rattle.std.specs.Prelude.{[], ◌≡◌, ◌≢◌, ℕ, ◌&&◌, ◌||◌, List, ◌∷◌, length, Option, Some, None, true, false, IfSome}
 use Rattle.std.specs.Option.{option_map}
 use Rattle.std.specs.declared.cmp.Ordering.{Ordering}
 use Rattle.std.specs.declared.cmp.Ordering.TheVariants.{Less}
@@ -14,8 +14,6 @@ use Rattle.dmc_tag.specs.declared.rank.LimitRank.{LimitRank}
 use Rattle.dmc_tag.specs.declared.rank.ReadyRank.{ReadyRank}
 use Rattle.dmc_index.specs.Index.{slot_of_key}
 use Rattle.dmc_head_index.specs.declared.head.Head.{Head}
-
--- ---- the ranks of a head
 
 abbrev pub tag_rank : {T : Type 0} → Head T → TagRank T
 tag_rank h = record { tag = h.tags.r; client = h.client }
@@ -85,10 +83,6 @@ pub record IsFirst {T R : Type 0} (rank : Head T → R) (compare : R → R → O
 -- its P less an amount
 abbrev pub shifted : {T : Type 0} → Tagging T → T → Head T → Head T
 shifted ops amount h = record h { tags = record (h.tags) { p = less ops amount h.tags.p } }
-
--- an amount off the tag of a rank
-abbrev pub less_rank : {T : Type 0} → Tagging T → T → ReadyRank T → ReadyRank T
-less_rank ops amount rank = record rank { tag = less ops amount rank.tag }
 
 -- each of these is a value
 abbrev pub CanShift : {T : Type 0} → Tagging T → T → List (Option (Head T)) → Type 0

@@ -4,8 +4,9 @@ ghost use Rattle.std.specs.Option.{option_map, option_map_or};
 ghost use Rattle.dmc_index.specs.Index.{slot_of_key, IsEmpty};
 ghost use Rattle.dmc_tag.specs.Rank.{tag_rank_cmp, limit_rank_cmp, ready_rank_cmp};
 ghost use Rattle.dmc_head_index.specs.Heads as heads_of;
-ghost use Rattle.dmc_head_index.specs.Marks as marks_of;
-ghost use Rattle.dmc_head_index.specs.Marks.{CanMark};
+ghost use Rattle.dmc_head_index.specs.internal.Heads.{less_rank};
+ghost use Rattle.dmc_head_index.specs.internal.Marks as marks_of;
+ghost use Rattle.dmc_head_index.specs.internal.Marks.{CanMark};
 ghost use Rattle.dmc_head_index.specs.Heads.{Ranks, IsOthers, IsFirst, IsLeastShare, CanShift};
 
 use crate::head::Head;
@@ -164,7 +165,7 @@ impl<T: Tag, I: Indexes<T>> Heads<T, I> {
     {
         self.weight.map_ranks(
             |rank: ReadyRank<T>| -> ReadyRank<T>
-                ensures { result ≡ heads_of.less_rank T.ops amount rank }
+                ensures { result ≡ less_rank T.ops amount rank }
             { less_rank(rank, amount) },
         );
         self.least = match self.least {

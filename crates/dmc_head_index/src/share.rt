@@ -2,9 +2,10 @@
 ghost use Rattle.std.specs.Prelude.{◌≡◌, Some};
 ghost use Rattle.std.specs.Option.{option_map};
 ghost use Rattle.dmc_index.specs.Index.{slot_of_key};
-ghost use Rattle.dmc_head_index.specs.Heads as heads_of;
+ghost use Rattle.dmc_head_index.specs.internal.Heads as heads_of;
 ghost use Rattle.dmc_head_index.specs.Least as least_share;
-ghost use Rattle.dmc_head_index.specs.Least.{FindsLeast};
+ghost use Rattle.dmc_head_index.specs.internal.Least as least_among;
+ghost use Rattle.dmc_head_index.specs.internal.Least.{FindsLeast};
 
 use dmc_index::index::OrderIndex;
 use dmc_tag::rank::ReadyRank;
@@ -20,7 +21,7 @@ pub fn lesser<T: Tag>(a: T, b: T) -> T
 
 /// The lesser of two tags, of which each may be absent.
 fn least_of_two<T: Tag>(a: Option<T>, b: Option<T>) -> Option<T>
-    ensures { result ≡ least_share.least_of_two T.ops a b }
+    ensures { result ≡ least_among.least_of_two T.ops a b }
 {
     match (a, b) {
         (None, b) => b,
@@ -31,7 +32,7 @@ fn least_of_two<T: Tag>(a: Option<T>, b: Option<T>) -> Option<T>
 
 /// The least when a head is added: known where it is the first, or where it was known.
 pub fn least_with<T: Tag>(is_first: bool, least: Option<T>, share: T) -> Option<T>
-    ensures { result ≡ least_share.least_with T.ops is_first least share }
+    ensures { result ≡ least_among.least_with T.ops is_first least share }
 {
     if is_first {
         return Some(share);
@@ -44,7 +45,7 @@ pub fn least_with<T: Tag>(is_first: bool, least: Option<T>, share: T) -> Option<
 
 /// The least when a head is removed: no longer known if the head had it.
 pub fn least_without<T: Tag>(least: Option<T>, share: T) -> Option<T>
-    ensures { result ≡ least_share.least_without T.ops least share }
+    ensures { result ≡ least_among.least_without T.ops least share }
 {
     let known = least?;
     if share.cmp(&known).is_eq() {
@@ -56,7 +57,7 @@ pub fn least_without<T: Tag>(least: Option<T>, share: T) -> Option<T>
 /// The least when the P of a head changes: the new one where that is at most the old least, and no longer known if the head had
 /// the least.
 pub fn least_after<T: Tag>(least: Option<T>, old: T, new: T) -> Option<T>
-    ensures { result ≡ least_share.least_after T.ops least old new }
+    ensures { result ≡ least_among.least_after T.ops least old new }
 {
     let known = least?;
     if new.cmp(&known).is_gt() {

@@ -10,7 +10,8 @@ use Rattle.std.proofs.lemmas.List.{length-set}
 use Rattle.std.proofs.lemmas.Option.{slice_get_within, slice_get_read, get_or_from_slice_get, same_Some}
 use Rattle.std.proofs.Math.Nat.{add-zero}
 use mir.Val.{bool_byte}
-use Rattle.dmc_heap.specs.Heap.{parent_of, IsUpto, IsHeap, IsHole, IsLinked, IsMoved, IsUnderParent, IsOverChildren, IsLowerChild, IsSettled}
+use Rattle.dmc_heap.specs.Heap.{parent_of, IsUpto, IsHeap, IsLinked}
+use Rattle.dmc_heap.specs.internal.Heap.{IsHole, IsMoved, IsUnderParent, IsOverChildren, IsLowerChild, IsSettled}
 use Rattle.dmc_heap.specs.declared.indexed_heap.Entry.{Entry}
 use Rattle.dmc_tag.proofs.Lists.{slice_get-set_same, slice_get-set_other}
 use Rattle.dmc_heap.proofs.LinkLemmas.{IsLinked-move, rank_of-move}

@@ -9,7 +9,8 @@ use Rattle.std.proofs.lemmas.List.{length-set, length-map, length-append, get_or
 use Rattle.std.proofs.lemmas.List.Sums.{sum_by-set}
 use Rattle.std.proofs.lemmas.Option.{slice_get_within, slice_get_past, slice_get_read, same_Some}
 use Rattle.dmc_index.specs.Index.{slot_of_key, IsApartFromOthers, AreApart}
-use Rattle.dmc_heap.specs.Heap.{rank_at, rank_of, slots_of, parent_of, IsLinked, IsHeap, IsHole}
+use Rattle.dmc_heap.specs.Heap.{rank_at, slots_of, parent_of, IsLinked, IsHeap}
+use Rattle.dmc_heap.specs.internal.Heap.{rank_of, IsHole}
 use Rattle.dmc_heap.specs.declared.indexed_heap.Entry.{Entry}
 use Rattle.dmc_heap.specs.declared.indexed_heap.TheConstants.{VACANT}
 use Rattle.dmc_tag.proofs.Lists.{slice_get-set_same, slice_get-set_other, slice_get-append, slice_get-push}

@@ -11,7 +11,8 @@ use Rattle.std.proofs.lemmas.List.Sums.{sum_by-append, sum_by-cons, count_by-le-
 use Rattle.std.proofs.lemmas.List.Folds.{sum_by-replicate}
 use Rattle.std.proofs.lemmas.Option.{slice_get_within, slice_get_past, slice_get-get_or, get_or_from_slice_get, same_Some}
 use Rattle.dmc_index.specs.Index.{slot_of_key, IsApart, IsApartFromOthers, AreApart, IsEmpty, IsLeast, KeepsOrder, IsMapped}
-use Rattle.dmc_heap.specs.Heap.{rank_at, rank_of, slots_of, parent_of, IsLinked, IsUpto, IsHeap, IsHole, IsSettled, IsSound, MapsEntries}
+use Rattle.dmc_heap.specs.Heap.{rank_at, slots_of, parent_of, IsLinked, IsUpto, IsHeap, IsSound}
+use Rattle.dmc_heap.specs.internal.Heap.{rank_of, IsHole, IsSettled, MapsEntries}
 use Rattle.dmc_heap.specs.declared.indexed_heap.Entry.{Entry}
 use Rattle.dmc_heap.specs.declared.indexed_heap.TheConstants.{VACANT}
 use Rattle.dmc_heap.proofs.LinkLemmas.{option_cases, rank_of_some, rank_of_none}

@@ -1,7 +1,8 @@
 //! An index as a binary heap that also stores the heap index of each key.
 ghost use Rattle.std.specs.Prelude.{◌≡◌, ◌≢◌, ◌<◌, ◌≤◌, ◌/◌, length, slice_set, ⊤};
 ghost use Rattle.std.specs.List.{All};
-ghost use Rattle.dmc_heap.specs.Heap.{IsHole, IsMoved, IsUnderParent, IsOverChildren, IsLowerChild, IsSettled, MapsEntries};
+ghost use Rattle.dmc_heap.specs.declared.indexed_heap.Entry.{Entry};
+ghost use Rattle.dmc_heap.specs.internal.Heap.{IsHole, IsMoved, IsUnderParent, IsOverChildren, IsLowerChild, IsSettled, MapsEntries};
 
 use dmc_index::index::{Indexes, OrderIndex};
 use dmc_tag::rank::{LimitRank, Rank, ReadyRank, TagRank};
@@ -99,16 +100,12 @@ fn lower_child<R: Rank>(heap: &[Entry<R>], at: usize) -> usize
     left
 }
 
-// Moves the hole for an entry down to a leaf, past the child with the lower rank each time.
-fn descend<R: Rank>(
-    heap: &mut [Entry<R>],
-    places: &mut [usize],
-    mut at: usize,
-    entry: Entry<R>,
-) -> usize
-    requires { IsHole R.cmp heap.old places.old at entry }
-    ensures hole { IsHole R.cmp heap.new places.new result entry }
-    ensures moved { IsMoved heap.old places.old at entry heap.new places.new result }
+// Moves a hole down to a leaf, past the child with the lower rank each time. Whichever entry the hole is for, it is for that one
+// still.
+fn descend<R: Rank>(heap: &mut [Entry<R>], places: &mut [usize], mut at: usize) -> usize
+    requires { (entry : Entry R) × IsHole R.cmp heap.old places.old at entry }
+    ensures hole { (entry : Entry R) → IsHole R.cmp heap.old places.old at entry → IsHole R.cmp heap.new places.new result entry }
+    ensures moved { (entry : Entry R) → IsHole R.cmp heap.old places.old at entry → IsMoved heap.old places.old at entry heap.new places.new result }
     ensures leaf { length heap.new / 2 ≤ result }
 {
     let leaves = heap.len() / 2;
@@ -127,7 +124,7 @@ fn settle<R: Rank>(heap: &mut [Entry<R>], places: &mut [usize], at: usize, entry
     requires { IsHole R.cmp heap.old places.old at entry }
     ensures { IsSettled R.cmp heap.old places.old at entry heap.new places.new }
 {
-    let leaf = descend(heap, places, at, entry);
+    let leaf = descend(heap, places, at);
     let place = rise(heap, places, leaf, entry);
     put(heap, places, place, entry);
 }

@@ -16,7 +16,8 @@ use Rattle.std.proofs.lemmas.List.Sums.{count_by-le-length, prefix_len_passes}
 use Rattle.std.proofs.lemmas.List.Folds.{sum_by-replicate}
 use Rattle.std.proofs.lemmas.List.Quantifiers.{position-Some, all_pairs_remove}
 use Rattle.dmc_index.specs.Index.{slot_of_key, IsEmpty, IsApart, AreApart, IsLeast, KeepsOrder, IsMapped}
-use Rattle.dmc_index.specs.Entries.{slots_of, IsRising, IsSound, MapsEntries}
+use Rattle.dmc_index.specs.Entries.{slots_of, IsRising, IsSound}
+use Rattle.dmc_index.specs.internal.Entries.{MapsEntries}
 use Rattle.dmc_index.specs.declared.list_index.Entry.{Entry}
 pub use Rattle.dmc_tag.proofs.Orderings.{less_if_lt}
 use Rattle.dmc_tag.proofs.Options.{option_cases}

@@ -1,5 +1,5 @@
 -- The invariant of a sorted vector of entries, and the map that it represents.
-use Rattle.std.specs.Prelude.{◌≡◌, ◌≢◌, ℕ, ◌<◌, ◌≤◌, List, [], ◌∷◌, Option, Some, None, length, replicate, slice_set, slice_index_or}
+use Rattle.std.specs.Prelude.{[], ◌≡◌, ◌≢◌, ℕ, ◌<◌, ◌≤◌, List, ◌∷◌, Option, Some, None, replicate, slice_set}
 use Rattle.std.specs.List.{All, AllPairs}
 use Rattle.std.specs.declared.cmp.Ordering.{Ordering}
 use Rattle.std.specs.declared.cmp.Ordering.TheVariants.{Less}
@@ -20,9 +20,3 @@ pub record IsSound {R : Type 0} (compare : R → R → Ordering) (room capacity 
   pub distinct : AllPairs (λ a b. a.key ≢ b.key) entries
   pub in_room : All (λ entry. entry.key < room) entries
   pub memory : room ≤ capacity
-
--- each entry has its key, and the rank that f returns for its rank
-pub record MapsEntries {R : Type 0} (gives : R → R → Type 0) (old new : List (Entry R)) : Type 0 where
-  pub size : length new ≡ length old
-  pub keys : (k : ℕ) (d : Entry R) → k < length old → (slice_index_or new k d).key ≡ (slice_index_or old k d).key
-  pub ranks : (k : ℕ) (d : Entry R) → k < length old → gives (slice_index_or old k d).rank (slice_index_or new k d).rank

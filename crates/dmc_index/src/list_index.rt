@@ -3,7 +3,8 @@ ghost use Rattle.std.specs.Prelude.{◌≡◌, ◌≢◌, ◌-◌, ◌≤◌, �
 ghost use Rattle.std.specs.List.Sorted.{IsPartitionPoint};
 ghost use Rattle.std.specs.declared.cmp.Ordering.TheVariants.{Less};
 ghost use Rattle.std.specs.List.{All};
-ghost use Rattle.dmc_index.specs.Entries.{IsRising, MapsEntries};
+ghost use Rattle.dmc_index.specs.Entries.{IsRising};
+ghost use Rattle.dmc_index.specs.internal.Entries.{MapsEntries};
 
 use crate::index::{Indexes, OrderIndex};
 use dmc_tag::rank::{LimitRank, Rank, ReadyRank, TagRank};

@@ -14,7 +14,8 @@ use Rattle.std.proofs.lemmas.Bool.{eqb-true, eqb-false, eq-eqb, ne_eqb}
 use Rattle.dmc_types.specs.declared.ids.ClientId.{ClientId}
 use Rattle.dmc_tag.specs.State.{is_client}
 use Rattle.dmc_client.specs.Record.{Rec}
-use Rattle.dmc_roster.specs.Entries.{Entry, entry_named, entry_keyed, record_at, with_rec, with_record, entry_of, entries_of, after_retain, slots_after_retain, AreApart, AreHeld, AreDistinct}
+use Rattle.dmc_roster.specs.Entries.{Entry, entry_named, entry_keyed, record_at, with_rec, with_record, entry_of, entries_of, AreApart, AreHeld, AreDistinct}
+use Rattle.dmc_roster.specs.internal.Entries.{after_retain, slots_after_retain}
 use Rattle.dmc_tag.proofs.Options.{map_cond}
 pub use Rattle.dmc_tag.proofs.Options.{is_some_mapped}
 use Rattle.dmc_tag.proofs.Lists.{all_filtered, found_holds, found_later}

@@ -1,5 +1,5 @@
 -- What contracts see of a roster: its clients in order of registration.
-use Rattle.std.specs.Prelude.{◌≡◌, ℕ, ◌+◌, ◌≤◌, Bool, true, false, List, [], ◌∷◌, ◌++◌, map, length, Option, Some, None, is_some, ◌==◌, filter_map, slice_index_or, Result, Ok, Err, if◌then◌else◌, ⊤}
+use Rattle.std.specs.Prelude.{[], ◌≡◌, ℕ, ◌≤◌, true, false, List, ◌∷◌, ◌++◌, map, length, Option, None, is_some, ◌==◌, filter_map, slice_index_or, Result, Ok, Err, if◌then◌else◌, ⊤}
 use Rattle.std.specs.Option.{option_map}
 use Rattle.std.specs.List.{find, AllByRecursion}
 use Rattle.std.specs.declared.alloc.AllocError.{AllocError}
@@ -60,16 +60,6 @@ entry_of slots p = option_map (λ rec. record { id = p.0; key = p.1; rec = rec }
 
 abbrev pub entries_of : {T : Type 0} → List (ClientId × ℕ) → List (Option (Rec T)) → List (Entry T)
 entries_of ids slots = filter_map (entry_of slots) ids
-
--- a record that stays and is changed, or is removed
-abbrev pub after_retain : {T : Type 0} → (Rec T → Bool) → (Rec T → Rec T) → Option (Rec T) → Option (Rec T)
-after_retain keeps changed None = None
-after_retain keeps changed (Some rec) = if keeps rec then Some (changed rec) else None
-
--- the slots from a key on: each record stays and is changed, or is removed
-abbrev pub slots_after_retain : {T : Type 0} → (ℕ → Rec T → Bool) → (ℕ → Rec T → Rec T) → ℕ → List (Option (Rec T)) → List (Option (Rec T))
-slots_after_retain keeps changed key [] = []
-slots_after_retain keeps changed key (o ∷ slots) = after_retain (keeps key) (changed key) o ∷ slots_after_retain keeps changed (key + 1) slots
 
 -- no id and no key is there twice
 abbrev pub AreApart : List (ClientId × ℕ) → Type 0

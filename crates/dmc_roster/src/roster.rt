@@ -7,6 +7,7 @@ ghost use Rattle.std.specs.List.{AllByRecursion};
 ghost use Rattle.std.specs.Map.{lookup};
 ghost use Rattle.dmc_client.specs.Record.{IsRecord, Rec};
 ghost use Rattle.dmc_roster.specs.Entries as entries;
+ghost use Rattle.dmc_roster.specs.internal.Entries.{slots_after_retain};
 ghost use Rattle.dmc_roster.specs.contracts.roster.Roster.{the_row};
 ghost use Rattle.dmc_client.specs.contracts.record.ClientRec.{the_row as record_row};
 ghost use Rattle.std.specs.Borrow.{Lends, sem};
@@ -165,7 +166,7 @@ fn key_with_hint(ids: &IndexMap<ClientId, usize>, id: ClientId, hint: usize) -> 
 
 /// Applies the rule to each record.
 fn apply_to_each<T: Tag, R: RecordRule<T>>(records: &mut Slab<ClientRec<T>>, rule: &R)
-    ensures slots { records.new.slots ≡ entries.slots_after_retain (R.keeps rule.now) (R.changed rule.now) 0 records.old.slots }
+    ensures slots { records.new.slots ≡ slots_after_retain (R.keeps rule.now) (R.changed rule.now) 0 records.old.slots }
     ensures kept { AllByRecursion (λ o. IfSome o (IsRecord T.ops)) records.new.slots }
 {
     records.retain(

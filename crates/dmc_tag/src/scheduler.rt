@@ -44,6 +44,22 @@ pub trait Scheduler<T: Tag> {
         ensures { Steps T.ops (state self.old) (state self.new) (commands.Add client token params at)
             (call_reply replies.Tagged result) };
 
+    /// Queues a request as `add_request` does, with a hint: the client may be the one at the index `hint`, in order of
+    /// registration, counted from 0. A queue that can looks there first, and so finds the client without a hash (extension).
+    fn add_request_with_hint(
+        &mut self,
+        _hint: usize,
+        client: ClientId,
+        token: Token,
+        params: ReqParams,
+        at: Moment,
+    ) -> Result<Tags<T>, QueueFault>
+        ensures { Steps T.ops (state self.old) (state self.new) (commands.Add client token params at)
+            (call_reply replies.Tagged result) }
+    {
+        self.add_request(client, token, params, at)
+    }
+
     /// Grants the next request, or returns the moment at which one is due. It is refused `Range`.
     fn pull_request(&mut self, at: Moment) -> Result<Pulled, Refusal>
         ensures { Steps T.ops (state self.old) (state self.new) (commands.Pull at) (sure_call_reply pull_reply result) };

@@ -1,5 +1,5 @@
 use Rattle.std.proofs.Common.{ap, ◌∙◌, sym, arith}
-use Rattle.dmc_client.specs.Deferred.{less_deferred, reservation_has_less}
+use Rattle.dmc_client.specs.internal.Deferred.{less_deferred, reservation_has_less}
 use Rattle.dmc_client.proofs.Places.{fails_at, passes_at}
 use Rattle.dmc_client.proofs.queue.others_have_less.Goals as goal
 

@@ -1,6 +1,6 @@
 use Rattle.std.proofs.Common.{◌≡◌, drop}
 use Rattle.std.specs.List.{list_all}
-use Rattle.dmc_client.specs.Deferred.{less_deferred, reservation_has_less}
+use Rattle.dmc_client.specs.internal.Deferred.{less_deferred, reservation_has_less}
 use Rattle.dmc_client.proofs.queue.others_have_less.Given as goal
 
 -- those before have it

@@ -1,4 +1,4 @@
-use Rattle.dmc_head_index.specs.Least.{FindsLeast}
+use Rattle.dmc_head_index.specs.internal.Least.{FindsLeast}
 use Rattle.dmc_head_index.proofs.share.find_least.Given as goal
 
 -- it is the least of the keys before this one

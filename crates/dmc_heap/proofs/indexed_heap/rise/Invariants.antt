@@ -1,5 +1,5 @@
 use Rattle.std.proofs.Common.{◌≢◌}
-use Rattle.dmc_heap.specs.Heap.{IsHole, IsMoved, IsOverChildren}
+use Rattle.dmc_heap.specs.internal.Heap.{IsHole, IsMoved, IsOverChildren}
 use Rattle.dmc_heap.proofs.indexed_heap.rise.Given as goal
 
 -- the hole was moved, and what is above the entry's rank was moved below the hole

@@ -1,6 +1,6 @@
 use Rattle.std.proofs.Common.{arith, inl, inr}
 use Rattle.std.proofs.lemmas.Bool.{cases_eq}
-use Rattle.dmc_heap.specs.Heap.{IsOverChildren}
+use Rattle.dmc_heap.specs.internal.Heap.{IsOverChildren}
 use Rattle.dmc_heap.proofs.OrderLemmas.{IsSettled-fill, IsMoved-trans, IsOverChildren-leaf, key_in_room}
 use Rattle.dmc_heap.proofs.indexed_heap.settle.Goals as goal
 
@@ -15,4 +15,4 @@ returns g c =
       | inl s ↦ IsOverChildren-leaf g.R.Rank.cmp g.met.R.Rank.total _ _ _ c.args.entry up.hole (omega (arith, s, down.leaf, up.moved.size))
       | inr n ↦ up.over_children n
     ] in
-    rw (c.put.ensures.heap, c.put.ensures.places) (IsSettled-fill g.R.Rank.cmp g.met.R.Rank.total _ _ _ _ _ _ c.args.entry up.hole (IsMoved-trans _ _ _ _ _ _ _ _ _ c.args.entry down.moved up.moved) up.under_parent over)
+    rw (c.put.ensures.heap, c.put.ensures.places) (IsSettled-fill g.R.Rank.cmp g.met.R.Rank.total _ _ _ _ _ _ c.args.entry up.hole (IsMoved-trans _ _ _ _ _ _ _ _ _ c.args.entry (down.moved c.args.entry c.requires) up.moved) up.under_parent over)

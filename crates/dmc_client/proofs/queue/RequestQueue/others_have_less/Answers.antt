@@ -1,6 +1,6 @@
 use Rattle.std.proofs.Common.{drop, ap, ◌∙◌}
 use Rattle.std.specs.List.{list_all}
-use Rattle.dmc_client.specs.Deferred.{less_deferred, reservation_has_less}
+use Rattle.dmc_client.specs.internal.Deferred.{less_deferred, reservation_has_less}
 use Rattle.dmc_client.proofs.Deferred.{others_tested}
 use Rattle.dmc_client.proofs.queue.RequestQueue.others_have_less.Goals as goal
 

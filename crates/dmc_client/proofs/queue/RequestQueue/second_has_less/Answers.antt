@@ -1,6 +1,6 @@
 use Rattle.std.proofs.Common.{true, ap, ◌∙◌}
 use Rattle.std.specs.Option.{option_map_or}
-use Rattle.dmc_client.specs.Deferred.{reservation_has_less}
+use Rattle.dmc_client.specs.internal.Deferred.{reservation_has_less}
 use Rattle.dmc_client.proofs.Deferred.{read_less}
 use Rattle.dmc_client.proofs.queue.RequestQueue.second_has_less.Goals as goal
 

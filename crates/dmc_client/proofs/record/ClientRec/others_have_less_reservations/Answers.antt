@@ -4,7 +4,7 @@ use Rattle.std.specs.Prelude.{is_some}
 use Rattle.std.proofs.Math.Bool.{and-true}
 use Rattle.dmc_tag.specs.Rules.{has_less}
 use Rattle.dmc_tag.proofs.ForCallers.{between_has_less}
-use Rattle.dmc_client.specs.Deferred.{reservation_has_less}
+use Rattle.dmc_client.specs.internal.Deferred.{reservation_has_less}
 use Rattle.dmc_client.specs.Record.{has_less_reservations}
 use Rattle.dmc_client.proofs.Whole.{second_says}
 use Rattle.dmc_client.proofs.record.ClientRec.others_have_less_reservations.Goals as goal

@@ -3,7 +3,8 @@ use Rattle.std.specs.Option.{option_map}
 use Rattle.std.specs.declared.cmp.Ordering.TheVariants.{Less}
 use Rattle.dmc_tag.specs.Rules.{less}
 use Rattle.dmc_tag.specs.Rank.{ready_rank_cmp}
-use Rattle.dmc_head_index.specs.Heads.{heads_from, CanShift, shifted, less_rank}
+use Rattle.dmc_head_index.specs.Heads.{heads_from, CanShift, shifted}
+use Rattle.dmc_head_index.specs.internal.Heads.{less_rank}
 use Rattle.dmc_tag.proofs.ForCallers.{minus_keeps_order}
 use Rattle.dmc_head_index.proofs.Clients.{same_compare}
 use Rattle.dmc_head_index.proofs.Shift.{keeps_order, mapped_slots, heads_shifted, shifted_sound}

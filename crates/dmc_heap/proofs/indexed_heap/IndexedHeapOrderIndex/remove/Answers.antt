@@ -3,7 +3,8 @@ use Rattle.std.proofs.Common.{◌≡◌, ◌∷◌, [], ◌++◌, ◌<◌, ◌�
 use Rattle.std.proofs.lemmas.List.{take_at, length-set}
 use Rattle.std.proofs.lemmas.Option.{slice_get_read, slice_get_within}
 use Rattle.dmc_index.specs.Index.{slot_of_key}
-use Rattle.dmc_heap.specs.Heap.{IsSettled, IsSound, slots_of}
+use Rattle.dmc_heap.specs.Heap.{IsSound, slots_of}
+use Rattle.dmc_heap.specs.internal.Heap.{IsSettled}
 use Rattle.dmc_heap.specs.declared.indexed_heap.TheConstants.{VACANT}
 use Rattle.dmc_heap.proofs.SoundLemmas.{key_in_room_if_held, some_entry_if_held, found, held_entry, hole_to_remove, removed_inner, removed_last}
 use Rattle.dmc_heap.proofs.indexed_heap.IndexedHeapOrderIndex.remove.Given.{Over}

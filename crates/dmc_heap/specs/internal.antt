@@ -1,0 +1,2 @@
+-- A hole in the heap that is moved and filled, and entries whose ranks are mapped.
+pub mod Heap

@@ -1,0 +1,2 @@
+-- Entries whose ranks are mapped.
+pub mod Entries

@@ -1,0 +1,2 @@
+-- The entries after a rule was applied to each.
+pub mod Entries

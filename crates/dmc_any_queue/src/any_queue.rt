@@ -10,7 +10,7 @@ use dmc_index::index::Indexes;
 use dmc_pull::queue::PullQueue;
 use dmc_ratio::ratio::RatioTag;
 use dmc_tag::reply::Reply;
-use dmc_tag::scheduler::apply_to;
+use dmc_tag::scheduler::{Scheduler, apply_to};
 use dmc_tag::tag::Tag;
 use dmc_tick::tick::TickTag;
 use dmc_types::command::Command;

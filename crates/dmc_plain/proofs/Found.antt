@@ -6,7 +6,7 @@ use Rattle.std.specs.List.{remove}
 use Rattle.std.proofs.lemmas.List.{get_or-drop}
 use Rattle.std.proofs.lemmas.Option.{slice_get-get_or}
 use Rattle.dmc_tag.specs.Best.{best}
-use Rattle.dmc_plain.specs.Sets.{found_at, beats}
+use Rattle.dmc_plain.specs.internal.Sets.{found_at, beats}
 
 module _ {R : Type 0} (before : R → R → Bool) (member : R → Bool) where
   -- the best of ys, which begin at index i

@@ -13,7 +13,7 @@ use Rattle.dmc_types.specs.declared.command.Command.TheVariants.{Register, Remov
 use Rattle.dmc_types.specs.Values.{Rates, Params}
 use Rattle.std.specs.Prelude.{filter, slice_get, remove, ⊤}
 use Rattle.std.specs.Option.{option_map}
-use Rattle.dmc_plain.specs.Sets.{found_at}
+use Rattle.dmc_plain.specs.internal.Sets.{found_at}
 use Rattle.dmc_tag.specs.Rules.{can_grant, without, grant_priority, grant_found, reduced_by, granted, can_register, newcomer, can_remove, can_update}
 use Rattle.dmc_tag.specs.Rules.{change_client, with_info, can_add, queued, shifted_by}
 use Rattle.dmc_tag.specs.Outcome.{◌>>=◌}

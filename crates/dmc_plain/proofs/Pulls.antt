@@ -12,7 +12,7 @@ use Rattle.dmc_tag.specs.Tag.{Tagging}
 use Rattle.dmc_tag.specs.declared.plain.PlainRequest.{PlainRequest}
 use Rattle.dmc_tag.specs.declared.reply.Pulled.TheVariants as pulls
 use Rattle.dmc_tag.specs.declared.reply.Reply.{Reply}
-use Rattle.dmc_plain.specs.Sets.{found_at, grants_early, least_due, Settles}
+use Rattle.dmc_plain.specs.internal.Sets.{found_at, grants_early, least_due, Settles}
 
 element_at : {R : Type 0} (xs : List R) (i : ℕ) → i < length xs → (r : R) × (slice_get xs i ≡ Some r)
 element_at [] i within = absurd (omega arith)

@@ -8,7 +8,7 @@ use Rattle.dmc_tag.specs.Queued.{AreActive}
 use Rattle.dmc_tag.specs.Rules.{requests_can_shift, has_less, shifted_request, shifted_requests}
 use Rattle.dmc_tag.specs.declared.plain.PlainRequest.{PlainRequest}
 use Rattle.dmc_tag.specs.declared.plain.PlainClient.{PlainClient}
-use Rattle.dmc_plain.specs.Shares.{less_share, less_shares}
+use Rattle.dmc_plain.specs.internal.Shares.{less_share, less_shares}
 
 module _ {T : Type 0} (ops : Tagging T) where
   pub can_shift_all : (amount : T) (clients : List (PlainClient T)) (requests : List (PlainRequest T)) → AreActive clients requests → requests_can_shift ops amount clients requests ≡ list_all (λ r. has_less ops amount r.tags.p) requests

@@ -1,4 +1,2 @@
--- An adjustment may shift every request: a client with a queued request is not idle.
-pub mod Shares
--- The sets of requests that the queue searches.
-pub mod Sets
+-- What only contracts of private functions and proofs cite.
+pub mod internal

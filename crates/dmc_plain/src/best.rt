@@ -1,7 +1,7 @@
 //! The best of a set of requests.
 ghost use Rattle.std.specs.Prelude.{◌≡◌, ◌<◌, length, IfSome, Some};
 ghost use Rattle.dmc_tag.specs.Best.{best};
-ghost use Rattle.dmc_plain.specs.Sets.{members, order, rank_of, found_at, beats, better_at};
+ghost use Rattle.dmc_plain.specs.internal.Sets.{members, order, rank_of, found_at, beats, better_at};
 
 use dmc_tag::due::is_due;
 use dmc_tag::plain::PlainRequest;

@@ -2,7 +2,7 @@
 ghost use Rattle.std.specs.Prelude.{◌≡◌, ◌≤◌, ◌++◌, ◌||◌, map, take, drop, if◌then◌else◌, vec_len};
 ghost use Rattle.dmc_tag.specs.State.{is_client};
 ghost use Rattle.dmc_tag.specs.Rules as rules_of;
-ghost use Rattle.dmc_plain.specs.Shares.{less_share};
+ghost use Rattle.dmc_plain.specs.internal.Shares.{less_share};
 
 use crate::requests::has_queued;
 use dmc_tag::assignment::previous_after;

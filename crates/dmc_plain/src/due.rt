@@ -1,7 +1,7 @@
 //! When a request is due.
 ghost use Rattle.std.specs.Prelude.{◌≡◌};
 ghost use Rattle.dmc_tag.specs.Rules as rules_of;
-ghost use Rattle.dmc_plain.specs.Sets.{least_due};
+ghost use Rattle.dmc_plain.specs.internal.Sets.{least_due};
 
 use dmc_tag::plain::PlainRequest;
 use dmc_tag::tag::Tag;

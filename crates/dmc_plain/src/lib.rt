@@ -8,4 +8,3 @@ mod clients;
 mod due;
 pub mod queue;
 mod requests;
-mod scheduler;

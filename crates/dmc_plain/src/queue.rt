@@ -1,7 +1,7 @@
 //! The reference queue.
 ghost use Rattle.std.specs.Prelude.{◌≡◌, ◌<◌, ◌&&◌, length, OnOk, ◌==◌};
 ghost use Rattle.dmc_types.specs.Limits.{max_clients};
-ghost use Rattle.dmc_tag.specs.Answers.{call_reply, sure_call_reply, clean_reply};
+ghost use Rattle.dmc_tag.specs.Answers.{call_reply, sure_call_reply, pull_reply, clean_reply};
 ghost use Rattle.dmc_tag.specs.Rules as rules_of;
 ghost use Rattle.dmc_tag.specs.State as state;
 ghost use Rattle.dmc_tag.specs.State.{opening, effective};
@@ -12,18 +12,22 @@ ghost use Rattle.dmc_tag.specs.declared.reply.Reply.TheVariants as replies;
 mod adding;
 mod pulling;
 
+use crate::best::{Set, best_index};
 use crate::changes::{Mark, Update, change_all};
 use crate::cleaning::{count_erased, count_idled, erase};
 use crate::clients::client_named;
 use crate::requests::{self, has_queued};
 use dmc_tag::plain::{PlainClient, PlainRequest, Previous};
+use dmc_tag::reply::{Pulled, Tags};
+use dmc_tag::scheduler::Scheduler;
 use dmc_tag::spacing::{Spacings, spacings_for};
 use dmc_tag::tag::Tag;
 use dmc_types::config::QueueConfig;
-use dmc_types::ids::ClientId;
+use dmc_types::ids::{ClientId, Token};
 use dmc_types::info::ClientInfo;
 use dmc_types::limits::MAX_CLIENTS;
 use dmc_types::moment::Moment;
+use dmc_types::params::ReqParams;
 use dmc_types::refusal::{QueueFault, Refusal};
 use std::alloc::Global;
 use std::marker::Model;
@@ -124,24 +128,6 @@ impl<T: Tag> PlainQueue<T> {
         Ok(())
     }
 
-    /// Registers a client. It is refused `Known`, `Inexact`, `Clients`, in this order, and `Memory` last.
-    pub fn register(
-        &mut self,
-        client: ClientId,
-        info: ClientInfo,
-        at: Moment,
-    ) -> Result<(), QueueFault>
-        ensures { Exactly T.ops self.old self.new (commands.Register client info at) (call_reply (λ _. replies.Registered) result) }
-    {
-        let at = self.effective(at);
-        self.can_register(client, info)?;
-        if self.clients.push(newcomer(client, info, at)).is_err() {
-            return Err(QueueFault::Memory);
-        }
-        self.last_moment = at;
-        Ok(())
-    }
-
     /// The tests of an update.
     fn can_update(&self, client: ClientId, info: ClientInfo) -> Result<(), Refusal>
         ensures { result ≡ rules_of.can_update T.ops self.now client info }
@@ -156,22 +142,6 @@ impl<T: Tag> PlainQueue<T> {
         Ok(())
     }
 
-    /// Replaces a client's rates. It is refused `Unknown`, `Inexact`, `Busy`, in this order.
-    pub fn update_info(
-        &mut self,
-        client: ClientId,
-        info: ClientInfo,
-        at: Moment,
-    ) -> Result<(), Refusal>
-        ensures { Exactly T.ops self.old self.new (commands.Update client info at) (sure_call_reply (λ _. replies.Updated) result) }
-    {
-        let at = self.effective(at);
-        self.can_update(client, info)?;
-        change_all(&mut self.clients, &Update { client, info });
-        self.last_moment = at;
-        Ok(())
-    }
-
     /// The test of a removal.
     fn can_remove(&self, client: ClientId) -> Result<(), Refusal>
         ensures { result ≡ rules_of.can_remove self.now client }
@@ -182,8 +152,70 @@ impl<T: Tag> PlainQueue<T> {
         Ok(())
     }
 
-    /// Removes a client's queued requests, and returns how many. It is refused `Unknown`.
-    pub fn remove_by_client(&mut self, client: ClientId) -> Result<u32, Refusal>
+    /// Whether nothing is queued.
+    pub fn empty(&self) -> bool
+        ensures { result ≡ (length self.now.requests == 0) }
+    {
+        self.requests.is_empty()
+    }
+}
+
+impl<T: Tag> Scheduler<T> for PlainQueue<T> {
+    ghost state = { λ q. q };
+
+    fn register(&mut self, client: ClientId, info: ClientInfo, at: Moment) -> Result<(), QueueFault>
+        ensures { Exactly T.ops self.old self.new (commands.Register client info at) (call_reply (λ _. replies.Registered) result) }
+    {
+        let at = self.effective(at);
+        self.can_register(client, info)?;
+        if self.clients.push(newcomer(client, info, at)).is_err() {
+            return Err(QueueFault::Memory);
+        }
+        self.last_moment = at;
+        Ok(())
+    }
+
+    fn update_info(&mut self, client: ClientId, info: ClientInfo, at: Moment) -> Result<(), Refusal>
+        ensures { Exactly T.ops self.old self.new (commands.Update client info at) (sure_call_reply (λ _. replies.Updated) result) }
+    {
+        let at = self.effective(at);
+        self.can_update(client, info)?;
+        change_all(&mut self.clients, &Update { client, info });
+        self.last_moment = at;
+        Ok(())
+    }
+
+    fn add_request(
+        &mut self,
+        client: ClientId,
+        token: Token,
+        params: ReqParams,
+        at: Moment,
+    ) -> Result<Tags<T>, QueueFault>
+        ensures { Exactly T.ops self.old self.new (commands.Add client token params at) (call_reply replies.Tagged result) }
+    {
+        let at = self.effective(at);
+        let (shift, tags) = self.can_add(client, params, T::of_moment(at))?;
+        let request = PlainRequest {
+            client,
+            token,
+            tags,
+        };
+        self.queue(request, shift, at)?;
+        Ok(tags)
+    }
+
+    fn pull_request(&mut self, at: Moment) -> Result<Pulled, Refusal>
+        ensures { Exactly T.ops self.old self.new (commands.Pull at) (sure_call_reply pull_reply result) }
+    {
+        let at = self.effective(at);
+        if let Some(index) = best_index(&self.requests, &Set::Early(at)) {
+            return Ok(self.grant_early(index, at));
+        }
+        self.pull_free(at)
+    }
+
+    fn remove_by_client(&mut self, client: ClientId) -> Result<u32, Refusal>
         ensures { Exactly T.ops self.old self.new (commands.Remove client) (sure_call_reply replies.Removed result) }
     {
         self.can_remove(client)?;
@@ -192,8 +224,7 @@ impl<T: Tag> PlainQueue<T> {
         Ok(count as u32)
     }
 
-    /// Marks idle clients and erases old ones. Returns how many became idle and how many were erased.
-    pub fn clean(&mut self, at: Moment) -> (u32, u32)
+    fn clean(&mut self, at: Moment) -> (u32, u32)
         ensures { Exactly T.ops self.old self.new (commands.Clean at) (Some (clean_reply result)) }
     {
         let at = self.effective(at);
@@ -215,24 +246,15 @@ impl<T: Tag> PlainQueue<T> {
         (idled as u32, erased as u32)
     }
 
-    /// The number of registered clients.
-    pub fn client_count(&self) -> u32
+    fn client_count(&self) -> u32
         ensures { result ≡ length self.now.clients }
     {
         self.clients.len() as u32
     }
 
-    /// The number of queued requests.
-    pub fn request_count(&self) -> u32
+    fn request_count(&self) -> u32
         ensures { result ≡ length self.now.requests }
     {
         self.requests.len() as u32
-    }
-
-    /// Whether nothing is queued.
-    pub fn empty(&self) -> bool
-        ensures { result ≡ (length self.now.requests == 0) }
-    {
-        self.requests.is_empty()
     }
 }

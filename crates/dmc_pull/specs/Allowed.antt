@@ -4,15 +4,13 @@ use Rattle.dmc_types.specs.declared.command.Command.TheVariants.{Pull}
 use Rattle.dmc_types.specs.declared.config.PhaseType.{PhaseType}
 use Rattle.dmc_types.specs.declared.ids.ClientId.{ClientId}
 use Rattle.dmc_tag.specs.Answers.{pull_reply}
-use Rattle.dmc_tag.specs.Rules.{Outcome}
 use Rattle.dmc_tag.specs.State.{State}
-use Rattle.dmc_tag.specs.Step.{answer_of, step}
+use Rattle.dmc_tag.specs.Step.{step}
 use Rattle.dmc_tag.specs.Steps.{Exactly}
 use Rattle.dmc_tag.specs.Tag.{Tagging}
 use Rattle.dmc_tag.specs.declared.reply.Pulled.{Pulled}
 use Rattle.dmc_tag.specs.declared.reply.Reply.{Reply}
 use Rattle.dmc_tag.specs.declared.reply.Reply.TheVariants.{Registered, Updated, Tagged, Granted, Later, Nothing, Removed, Cleaned, Refused}
-use Rattle.dmc_pull.specs.Choice.{Settles}
 use Rattle.dmc_pull.specs.declared.granting.PullFault.{PullFault}
 use Rattle.dmc_pull.specs.declared.granting.PullFault.TheVariants as faults
 
@@ -33,9 +31,3 @@ abbrev pub PullsIf : {T : Type 0} → (ClientId → PhaseType → Bool) → Tagg
 PullsIf {T} allows ops old new at (Ok pulled) = Exactly ops old new (Pull at) (Some (pull_reply pulled)) × (is_allowed {T = T} allows (pull_reply pulled) ≡ true)
 PullsIf allows ops old new at (Err (faults.Refused refusal)) = Exactly ops old new (Pull at) (Some (Refused refusal))
 PullsIf allows ops old new at (Err faults.Declined) = (new ≡ old) × (is_allowed allows ((step ops old (Pull at)).1) ≡ false)
-
--- the outcome of such a pull, in the same way
-abbrev pub SettlesIf : {T : Type 0} → (ClientId → PhaseType → Bool) → State T → State T → Outcome T → Result Pulled PullFault → Type 0
-SettlesIf {T} allows old new outcome (Ok pulled) = Settles old new outcome (Some (pull_reply pulled)) × (is_allowed {T = T} allows (pull_reply pulled) ≡ true)
-SettlesIf allows old new outcome (Err (faults.Refused refusal)) = Settles old new outcome (Some (Refused refusal))
-SettlesIf allows old new outcome (Err faults.Declined) = (new ≡ old) × (is_allowed allows ((answer_of old outcome).1) ≡ false)

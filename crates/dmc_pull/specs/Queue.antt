@@ -1,12 +1,11 @@
 -- What contracts see of the indexed queue, the plain state that it represents, and its invariant.
-use Rattle.std.specs.Prelude.{◌≡◌, ℕ, ◌≤◌, ◌<◌, true, false, List, Option, Some, Result, Ok, Err, ⊤, length, slice_get}
+use Rattle.std.specs.Prelude.{◌≡◌, ℕ, ◌≤◌, ◌<◌, true, false, List, Option, Some, Ok, length, slice_get}
 use Rattle.std.specs.Option.{option_map, option_and_then}
 use Rattle.std.specs.List.{AllByRecursion}
 use Rattle.dmc_types.specs.Limits.{max_requests}
 use Rattle.dmc_types.specs.Values.{Setting}
 use Rattle.dmc_types.specs.declared.ids.ClientId.{ClientId}
 use Rattle.dmc_tag.specs.declared.reply.Tags.{Tags}
-use Rattle.dmc_types.specs.declared.refusal.Refusal.{Refusal}
 use Rattle.dmc_tag.specs.Tag.{Fraction, Tagging}
 use Rattle.dmc_tag.specs.State.{State}
 use Rattle.dmc_tag.specs.Best.{is_due}
@@ -36,10 +35,6 @@ unready h = record h { ready = false }
 abbrev pub unready_head : {T : Type 0} → ClientId → Tags T → Head T
 unready_head client tags = record { client = client; tags = tags; ready = false }
 
--- marked ready where its L is at most the moment
-abbrev pub head_at : {T : Type 0} → Tagging T → ℕ → ClientId → Tags T → Head T
-head_at ops t client tags = record { client = client; tags = tags; ready = is_due ops t (Some tags.l) }
-
 -- the client's first request, unready
 abbrev pub head_of : {T : Type 0} → Entry T → Option (Head T)
 head_of e = option_map (λ r. unready_head e.id r.tags) (slice_get e.rec.requests 0)
@@ -49,10 +44,6 @@ head_of e = option_map (λ r. unready_head e.id r.tags) (slice_get e.rec.request
 pub record AreHeads {T : Type 0} (ops : Tagging T) (t : ℕ) (entries : List (Entry T)) (heads : List (Option (Head T))) : Type 0 where
   pub here : (key : ℕ) → option_map unready (slot_of_key heads key) ≡ option_and_then head_of (entry_keyed key entries)
   pub marks : (key : ℕ) (head : Head T) → slot_of_key heads key ≡ Some head → head.ready ≡ true → is_due ops t (Some head.tags.l) ≡ true
-
--- each head that is free is marked ready
-abbrev pub IsMarked : {T : Type 0} → Tagging T → Queue T → Type 0
-IsMarked {T} ops q = (key : ℕ) (head : Head T) → slot_of_key q.heads key ≡ Some head → head.ready ≡ false → is_due ops q.last_moment (Some head.tags.l) ≡ false
 
 -- ---- the invariant of each queue
 
@@ -69,8 +60,3 @@ pub record IsQueue {T : Type 0} (ops : Tagging T) (fraction : T → Fraction) (i
   pub in_room : AllByRecursion (λ e. e.key < length q.heads) q.roster.entries
   pub counted : queued ≡ length (requests_in q.roster.entries)
   pub bound : queued ≤ max_requests
-
--- the result of a test, whatever it is
-abbrev pub without_value : {X : Type 0} → Result X Refusal → Result ⊤ Refusal
-without_value (Ok x) = Ok tt
-without_value (Err refusal) = Err refusal

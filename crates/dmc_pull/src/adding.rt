@@ -4,7 +4,7 @@ ghost use Rattle.std.specs.List.{AllByRecursion};
 ghost use Rattle.dmc_adjust.specs.Changes as changes;
 ghost use Rattle.dmc_client.specs.Record.{IsRecord};
 ghost use Rattle.dmc_head_index.specs.Heads.{CanShift};
-ghost use Rattle.dmc_pull.specs.Adding as adding_of;
+ghost use Rattle.dmc_pull.specs.internal.Adding as adding_of;
 
 use dmc_adjust::adjustment::{can_shift, shift};
 use dmc_client::record::ClientRec;

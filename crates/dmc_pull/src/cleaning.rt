@@ -3,7 +3,7 @@ ghost use Rattle.std.specs.Prelude.{◌≡◌, ◌≤◌, not, length, map, filt
 ghost use Rattle.std.specs.List.{AllByRecursion};
 ghost use Rattle.dmc_types.specs.Limits.{max_clients};
 ghost use Rattle.dmc_client.specs.Record.{IsRecord};
-ghost use Rattle.dmc_pull.specs.Cleaning as cleaning_of;
+ghost use Rattle.dmc_pull.specs.internal.Cleaning as cleaning_of;
 ghost use Rattle.dmc_roster.specs.Entries.{with_rec};
 
 use dmc_client::record::ClientRec;

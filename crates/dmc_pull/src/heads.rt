@@ -2,7 +2,7 @@
 ghost use Rattle.std.specs.Prelude.{◌≡◌, ◌==◌, not, None, Some, slice_set, is_some};
 ghost use Rattle.std.specs.Option.{option_map};
 ghost use Rattle.dmc_index.specs.Index.{slot_of_key};
-ghost use Rattle.dmc_pull.specs.Queue as queue_of;
+ghost use Rattle.dmc_pull.specs.internal.Queue as queue_of;
 ghost use Rattle.dmc_tag.specs.Rules as rules_of;
 
 use dmc_head_index::head::Head;

@@ -8,4 +8,3 @@ mod heads;
 pub mod queue;
 mod range;
 mod records;
-pub mod scheduler;

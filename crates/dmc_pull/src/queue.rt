@@ -4,7 +4,7 @@ ghost use Rattle.dmc_head_index.specs.Heads as heads_of;
 ghost use Rattle.dmc_head_index.specs.Heads.{Ranks};
 ghost use Rattle.dmc_pull.specs.FirstRequests.{AreFirstRequests};
 ghost use Rattle.dmc_pull.specs.Queue.{state_of};
-ghost use Rattle.dmc_tag.specs.Answers.{sure_call_reply, clean_reply};
+ghost use Rattle.dmc_tag.specs.Answers.{call_reply, sure_call_reply, pull_reply, clean_reply};
 ghost use Rattle.dmc_tag.specs.State.{opening, effective};
 ghost use Rattle.dmc_tag.specs.Steps.{Exactly};
 ghost use Rattle.dmc_tag.specs.declared.reply.Reply.TheVariants as replies;
@@ -15,19 +15,27 @@ mod pulling;
 mod registering;
 
 use crate::cleaning::{age_all, count_erased, count_idled};
+use crate::granting::{AllowAll, PullFault};
 use crate::heads::clear;
 use crate::range::{ShareRange, first_range};
-use crate::records::drain_at;
+use dmc_client::record::ClientRec;
 use dmc_head_index::heads::Heads;
 use dmc_index::index::Indexes;
 use dmc_roster::roster::Roster;
+use dmc_tag::reply::{Pulled, Tags};
+use dmc_tag::scheduler::Scheduler;
 use dmc_tag::tag::Tag;
 use dmc_types::config::QueueConfig;
-use dmc_types::ids::ClientId;
+use dmc_types::ids::{ClientId, Token};
+use dmc_types::info::ClientInfo;
 use dmc_types::moment::Moment;
-use dmc_types::refusal::Refusal;
+use dmc_types::params::ReqParams;
+use dmc_types::refusal::{QueueFault, Refusal};
 use std::alloc::Global;
 use std::marker::Model;
+
+/// An index at which no client is registered.
+const NOWHERE: usize = usize::MAX;
 
 /// A part of a queue. In generic code a struct that is generic in indexes can be dropped only where such a part is behind a type
 /// parameter.
@@ -83,20 +91,6 @@ impl<T: Tag, I: Indexes<T>> PullQueue<T, I> {
         self.config
     }
 
-    /// The number of registered clients.
-    pub fn client_count(&self) -> u32
-        ensures { result ≡ length (state_of self.now).clients }
-    {
-        self.roster.len() as u32
-    }
-
-    /// The number of queued requests.
-    pub fn request_count(&self) -> u32
-        ensures { result ≡ length (state_of self.now).requests }
-    {
-        self.queued as u32
-    }
-
     /// Whether nothing is queued, under Ceph's name.
     pub fn empty(&self) -> bool
         ensures { result ≡ (length (state_of self.now).requests == 0) }
@@ -150,22 +144,78 @@ impl<T: Tag, I: Indexes<T>> PullQueue<T, I> {
     {
         self.last_moment
     }
+}
 
-    /// Removes a client's queued requests, and returns how many. It is refused `Unknown`.
-    pub fn remove_by_client(&mut self, client: ClientId) -> Result<u32, Refusal>
+impl<T: Tag, I: Indexes<T>> Scheduler<T> for PullQueue<T, I> {
+    ghost state = { λ q. state_of q };
+
+    fn register(&mut self, client: ClientId, info: ClientInfo, at: Moment) -> Result<(), QueueFault>
+        ensures { Exactly T.ops (state_of self.old) (state_of self.new) (commands.Register client info at) (call_reply (λ _. replies.Registered) result) }
+    {
+        let at = self.effective(at);
+        let spacings = self.can_register(client, info)?;
+        let rec = ClientRec::new(self.alloc, info, spacings, at);
+        self.admit(client, rec, at)
+    }
+
+    fn update_info(&mut self, client: ClientId, info: ClientInfo, at: Moment) -> Result<(), Refusal>
+        ensures { Exactly T.ops (state_of self.old) (state_of self.new) (commands.Update client info at) (sure_call_reply (λ _. replies.Updated) result) }
+    {
+        let at = self.effective(at);
+        let (key, spacings) = self.can_update(client, info)?;
+        self.roster.at_mut(key).set_info(info, spacings);
+        self.last_moment = at;
+        Ok(())
+    }
+
+    fn add_request(
+        &mut self,
+        client: ClientId,
+        token: Token,
+        params: ReqParams,
+        at: Moment,
+    ) -> Result<Tags<T>, QueueFault> {
+        self.add_request_with_hint(NOWHERE, client, token, params, at)
+    }
+
+    fn add_request_with_hint(
+        &mut self,
+        hint: usize,
+        client: ClientId,
+        token: Token,
+        params: ReqParams,
+        at: Moment,
+    ) -> Result<Tags<T>, QueueFault> {
+        let at = self.effective(at);
+        let addition = self.can_add(client, hint, params, at)?;
+        let tags = addition.tags;
+        self.queue(client, token, addition, at)?;
+        Ok(tags)
+    }
+
+    fn pull_request(&mut self, at: Moment) -> Result<Pulled, Refusal>
+        ensures { Exactly T.ops (state_of self.old) (state_of self.new) (commands.Pull at) (sure_call_reply pull_reply result) }
+    {
+        match self.pull_allowed(at, &AllowAll) {
+            Ok(pulled) => Ok(pulled),
+            Err(PullFault::Refused(refusal)) => Err(refusal),
+            Err(PullFault::Declined) => unreachable!(),
+        }
+    }
+
+    fn remove_by_client(&mut self, client: ClientId) -> Result<u32, Refusal>
         ensures { Exactly T.ops (state_of self.old) (state_of self.new) (commands.Remove client) (sure_call_reply replies.Removed result) }
     {
         let Some(key) = self.roster.find(client) else {
             return Err(Refusal::Unknown);
         };
-        let count = drain_at(&mut self.roster, key);
+        let count = self.roster.at_mut(key).drain();
         clear(&mut self.heads.0, key, count);
         self.queued -= count;
         Ok(count as u32)
     }
 
-    /// Marks idle clients and erases old ones. Returns how many became idle and how many were erased.
-    pub fn clean(&mut self, at: Moment) -> (u32, u32)
+    fn clean(&mut self, at: Moment) -> (u32, u32)
         ensures { Exactly T.ops (state_of self.old) (state_of self.new) (commands.Clean at) (Some (clean_reply result)) }
     {
         let at = self.effective(at);
@@ -175,5 +225,17 @@ impl<T: Tag, I: Indexes<T>> PullQueue<T, I> {
         age_all(&mut self.roster, at, idle_age, erase_age);
         self.last_moment = at;
         (idled as u32, erased as u32)
+    }
+
+    fn client_count(&self) -> u32
+        ensures { result ≡ length (state_of self.now).clients }
+    {
+        self.roster.len() as u32
+    }
+
+    fn request_count(&self) -> u32
+        ensures { result ≡ length (state_of self.now).requests }
+    {
+        self.queued as u32
     }
 }

@@ -1,6 +1,6 @@
 //! Between which two tags the P tags of a queue lie.
 ghost use Rattle.std.specs.Prelude.{◌≡◌, ⊤};
-ghost use Rattle.dmc_pull.specs.Range as range_of;
+ghost use Rattle.dmc_pull.specs.internal.Range as range_of;
 ghost use Rattle.dmc_pull.specs.Range.{IsWithin};
 
 use dmc_tag::shifting::has_less;

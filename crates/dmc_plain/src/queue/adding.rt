@@ -1,13 +1,9 @@
 //! An add to the reference queue.
 ghost use Rattle.std.specs.Prelude.{◌≡◌, ◌<◌, ◌≤◌, ◌++◌, length, Some, true, is_some, OnOk, OnErr, IsOkUnless, take, drop, vec_len};
 ghost use Rattle.dmc_types.specs.Limits.{max_requests};
-ghost use Rattle.dmc_tag.specs.Answers.{call_reply};
 ghost use Rattle.dmc_tag.specs.Rules as rules_of;
 ghost use Rattle.dmc_tag.specs.State.{client_named};
-ghost use Rattle.dmc_tag.specs.Steps.{Exactly};
-ghost use Rattle.dmc_plain.specs.Shares.{less_shares};
-ghost use Rattle.dmc_types.specs.declared.command.Command.TheVariants as commands;
-ghost use Rattle.dmc_tag.specs.declared.reply.Reply.TheVariants as replies;
+ghost use Rattle.dmc_plain.specs.internal.Shares.{less_shares};
 
 use crate::best::{Set, best_index};
 use crate::changes::{Arrival, ClientShift, RequestShift, change_all, change_first};
@@ -19,7 +15,7 @@ use dmc_tag::plain::{PlainClient, PlainRequest};
 use dmc_tag::reply::Tags;
 use dmc_tag::spacing::spacings_for;
 use dmc_tag::tag::Tag;
-use dmc_types::ids::{ClientId, Token};
+use dmc_types::ids::ClientId;
 use dmc_types::limits::MAX_REQUESTS;
 use dmc_types::moment::Moment;
 use dmc_types::params::ReqParams;
@@ -40,7 +36,7 @@ impl<T: Tag> PlainQueue<T> {
     }
 
     /// The tests of an add, and its effect: the shift of the others and the new tags.
-    fn can_add(
+    pub(super) fn can_add(
         &self,
         client: ClientId,
         params: ReqParams,
@@ -65,7 +61,7 @@ impl<T: Tag> PlainQueue<T> {
     }
 
     /// Queues a request, shifts all others, and records the arrival.
-    fn queue(
+    pub(super) fn queue(
         &mut self,
         request: PlainRequest<T>,
         shift: Option<T>,
@@ -92,27 +88,6 @@ impl<T: Tag> PlainQueue<T> {
         );
         self.last_moment = at;
         Ok(())
-    }
-
-    /// Queues a request, and returns its tags. It is refused `Unknown`, `QueueFull`, `Range`, in this order, and `Memory` last.
-    pub fn add_request(
-        &mut self,
-        client: ClientId,
-        token: Token,
-        params: ReqParams,
-        at: Moment,
-    ) -> Result<Tags<T>, QueueFault>
-        ensures { Exactly T.ops self.old self.new (commands.Add client token params at) (call_reply replies.Tagged result) }
-    {
-        let at = self.effective(at);
-        let (shift, tags) = self.can_add(client, params, T::of_moment(at))?;
-        let request = PlainRequest {
-            client,
-            token,
-            tags,
-        };
-        self.queue(request, shift, at)?;
-        Ok(tags)
     }
 }
 

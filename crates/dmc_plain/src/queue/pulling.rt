@@ -5,9 +5,7 @@ ghost use Rattle.dmc_tag.specs.declared.reply.Pulled.TheVariants as pulls;
 ghost use Rattle.dmc_tag.specs.Best.{best, by_weight, is_any, is_free};
 ghost use Rattle.dmc_tag.specs.Answers.{sure_call_reply, pull_reply};
 ghost use Rattle.dmc_tag.specs.Rules as rules_of;
-ghost use Rattle.dmc_tag.specs.Steps.{Exactly};
-ghost use Rattle.dmc_plain.specs.Sets.{found_at, grants_early, least_due, Settles};
-ghost use Rattle.dmc_types.specs.declared.command.Command.TheVariants as commands;
+ghost use Rattle.dmc_plain.specs.internal.Sets.{found_at, grants_early, least_due, Settles};
 
 use crate::best::{Set, best_index};
 use crate::changes::{ClientReduction, RequestReduction, change_all};
@@ -42,7 +40,7 @@ impl<T: Tag> PlainQueue<T> {
     }
 
     /// Grants a request in the constraint phase.
-    fn grant_early(&mut self, index: usize, at: Moment) -> Pulled
+    pub(super) fn grant_early(&mut self, index: usize, at: Moment) -> Pulled
         requires { index < length self.old.requests }
         ensures { (self.new, pull_reply result) ≡ grants_early self.old at (found_at self.old.requests (Some index)) }
     {
@@ -109,19 +107,8 @@ impl<T: Tag> PlainQueue<T> {
         })
     }
 
-    /// Grants the next request, or returns the moment at which one is due. It is refused `Range`.
-    pub fn pull_request(&mut self, at: Moment) -> Result<Pulled, Refusal>
-        ensures { Exactly T.ops self.old self.new (commands.Pull at) (sure_call_reply pull_reply result) }
-    {
-        let at = self.effective(at);
-        if let Some(index) = best_index(&self.requests, &Set::Early(at)) {
-            return Ok(self.grant_early(index, at));
-        }
-        self.pull_free(at)
-    }
-
     /// Grants the next request in the weight phase, where none is due by its reservation. It is refused `Range`.
-    fn pull_free(&mut self, at: Moment) -> Result<Pulled, Refusal>
+    pub(super) fn pull_free(&mut self, at: Moment) -> Result<Pulled, Refusal>
         ensures { Settles self.old self.new
             (rules_of.pulled_free T.ops self.old at (best (by_weight T.ops) (is_free T.ops at) self.old.requests))
             (sure_call_reply pull_reply result) }

@@ -22,7 +22,7 @@ use Rattle.dmc_client.specs.Record.{IsRecord, client_of}
 use Rattle.dmc_roster.specs.Entries.{Entry, entry_named, AreDistinct}
 use Rattle.dmc_head_index.specs.declared.head.Head.{Head}
 use Rattle.dmc_head_index.specs.Heads.{IsLeastShare}
-use Rattle.dmc_pull.specs.Adding.{needed_shift, unless_nothing}
+use Rattle.dmc_pull.specs.internal.Adding.{needed_shift, unless_nothing}
 use Rattle.dmc_pull.specs.Queue.{AreHeads}
 use Rattle.dmc_pull.specs.Represented.{clients_in, requests_in}
 use Rattle.dmc_pull.proofs.Common.Entries.{named}

@@ -1,6 +1,6 @@
 -- What an arrival makes of the entries and the heads.
-use Rattle.std.proofs.Common.{◌≡◌, ℕ, suc, ◌+◌, ◌≤◌, ◌<◌, Bool, true, false, List, [], ◌∷◌, ◌++◌, map, length, Option, Some, None, Result, Ok, Err, refl, sym, ap, ◌∙◌, subst, arith}
-use Rattle.std.specs.Prelude.{◌==◌, IfSome, IsSome, OnOk, slice_get, slice_set, is_some, nat_le}
+use Rattle.std.proofs.Common.{◌≡◌, ℕ, suc, ◌+◌, ◌≤◌, ◌<◌, Bool, true, false, List, [], ◌∷◌, ◌++◌, map, length, Option, Some, None, Result, refl, sym, ap, ◌∙◌, subst, arith}
+use Rattle.std.specs.Prelude.{◌==◌, IfSome, IsSome, OnOk, slice_get, slice_set, nat_le}
 use Rattle.std.specs.Result.{is_err}
 use Rattle.std.specs.Option.{option_map, option_and_then}
 use Rattle.std.specs.List.{AllByRecursion}
@@ -16,13 +16,15 @@ use Rattle.dmc_tag.specs.Rules.{moment_of, can_shift_by, shifted_requests, shift
 use Rattle.dmc_client.specs.declared.request.QueuedRequest.{QueuedRequest}
 use Rattle.dmc_client.specs.Record.{Rec, IsRecord, request_of, pushed}
 use Rattle.dmc_adjust.specs.Changes.{shifted}
-use Rattle.dmc_roster.specs.Entries.{Entry, Listing, entry_named, entry_keyed, record_at, with_rec, with_record, with_record_at, AreDistinct}
+use Rattle.dmc_roster.specs.Entries.{Entry, Listing, entry_keyed, record_at, with_rec, with_record, AreDistinct}
 use Rattle.dmc_index.specs.Index.{slot_of_key}
 use Rattle.dmc_head_index.specs.declared.head.Head.{Head}
 use Rattle.dmc_head_index.specs.Heads.{CanShift, IsOthers}
-use Rattle.dmc_pull.specs.Queue.{Queue, IsQueue, IsKept, AreHeads, head_of, head_at, unready}
+use Rattle.dmc_pull.specs.Queue.{Queue, IsQueue, IsKept, AreHeads, head_of, unready}
+use Rattle.dmc_pull.specs.internal.Queue.{head_at}
 use Rattle.dmc_pull.specs.Represented.{clients_in, requests_in}
 use Rattle.dmc_pull.proofs.Common.Kept.{due_later}
+use Rattle.dmc_pull.proofs.Common.Lent.{changed_as}
 use Rattle.dmc_pull.proofs.Common.Parts.{all_as, all_both, all_append, found_holds, found_passes}
 use Rattle.dmc_pull.proofs.Common.Entries.{Differs, split, name_is, all_changed}
 use Rattle.dmc_pull.proofs.Common.Keyed.{same_client, split_keyed, distinct_changed, read_changed, read_other, read_kept}
@@ -30,7 +32,8 @@ use Rattle.dmc_pull.proofs.Add.Shifted.{pushed_clients, pushed_requests, length_
 use Rattle.dmc_pull.proofs.Pull.Choices.{entry_at}
 use Rattle.dmc_pull.proofs.Add.Adds.{held_entry, if_holds}
 use Rattle.dmc_pull.proofs.Common.Moved.{HasRest, pushed_values, Moved, unmoved, moved, can_shift, all_shiftable, arrived_others}
-use Rattle.dmc_pull.specs.Adding.{others_shifted, heads_shifted}
+use Rattle.dmc_pull.specs.internal.Adding.{IsAddition, others_shifted, heads_shifted}
+use Rattle.dmc_pull.specs.declared.adding.Addition.{Addition}
 
 empty_list : {X : Type 0} (xs : List X) → (length xs == 0) ≡ true → xs ≡ []
 empty_list [] h = refl
@@ -178,15 +181,10 @@ pub record IsOf {T : Type 0} (ops : Tagging T) (fraction : T → Fraction) (is_v
   pub distinct : AreDistinct q.roster.entries
   pub is : IsQueue ops fraction is_value q n
 
-pub of_client : {T : Type 0} (ops : Tagging T) (fraction : T → Fraction) (is_value : Fraction → Type 0) (q : Queue T) (n key : ℕ) (client : ClientId) → IsQueue ops fraction is_value q n → AreDistinct q.roster.entries → entry_keyed key q.roster.entries ≡ entry_named client q.roster.entries → is_some (entry_keyed key q.roster.entries) ≡ true → IsOf ops fraction is_value q n key client
-of_client ops fraction is_value q n key client is d same slot_of_key =
-    let x = held_entry (entry_keyed key q.roster.entries) slot_of_key in
-    record { entry = x.0; found = x.1; id = same_client client x.0.id (name_is client q.roster.entries x.0 (sym same ∙ x.1)); distinct = d; is = is }
-
--- what a push that did not fail says of the client's record
-pub did : {T A E : Type 0} (r : Result A E) (P : Rec T → Type 0) (key : ℕ) (es : List (Entry T)) (e : Entry T) → is_err r ≡ false → entry_keyed key es ≡ Some e → OnOk r (IfSome (record_at key es) P) → P e.rec
-did (Ok x) P key es e ok f h = if_holds P (record_at key es) e.rec (ap (option_map (λ e. e.rec)) f) h
-did (Err fault) P key es e ok f h = cc
+pub of_addition : {T : Type 0} {ops : Tagging T} {fraction : T → Fraction} {is_value : Fraction → Type 0} {q : Queue T} {n : ℕ} {client : ClientId} {addition : Addition T} → IsQueue ops fraction is_value q n → IsAddition ops fraction is_value q client addition → IsOf ops fraction is_value q n addition.key client
+of_addition {q = q} {client = client} {addition = addition} is adds =
+    let x = held_entry (entry_keyed addition.key q.roster.entries) adds.held in
+    record { entry = x.0; found = x.1; id = same_client client x.0.id (name_is client q.roster.entries x.0 (sym adds.key ∙ x.1)); distinct = is.distinct; is = is }
 
 module _ {T : Type 0} {ops : Tagging T} {fraction : T → Fraction} {is_value : Fraction → Type 0} {q : Queue T} {n key : ℕ} {client : ClientId} (of : IsOf ops fraction is_value q n key client) where
   abbrev known : List (Entry T)
@@ -219,16 +217,15 @@ module _ {T : Type 0} {ops : Tagging T} {fraction : T → Fraction} {is_value : 
     }
 
     -- after a push that did not fail, and the shift of the others
-    pub after_calls : {A E : Type 0} (result : Result A E) → is_err result ≡ false → (pushed_roster : Listing T) → OnOk result (IfSome (record_at key known) (λ rec. pushed_roster ≡ with_record_at q.roster key (pushed request at rec))) → OnOk result (IfSome (record_at key known) (λ rec. IsRecord ops (pushed request at rec)))
+    pub after_calls : {A E : Type 0} (result : Result A E) → is_err result ≡ false → (lent new : Rec T) → record_at key known ≡ Some lent → OnOk result (new ≡ pushed request at lent) → IsRecord ops new
         → (shift : Option T) → (IsSome shift → IfSome (record_at key known) (λ rec. rec.idle ≡ true)) → can_shift_by ops shift (clients_in known) (requests_in known) ≡ true
-        → (now : List (Entry T)) → now ≡ others_shifted ops shift key pushed_roster.entries → (AllByRecursion (λ f. IsRecord ops f.rec) pushed_roster.entries → AllByRecursion (λ f. IsRecord ops f.rec) now)
+        → (now : List (Entry T)) → now ≡ others_shifted ops shift key (with_record key new known) → (AllByRecursion (λ f. IsRecord ops f.rec) (with_record key new known) → AllByRecursion (λ f. IsRecord ops f.rec) now)
         → (heads : List (Option (Head T))) → heads ≡ heads_shifted ops shift q.heads
         → After ops (λ tag. is_value (fraction tag)) q.config.hz q.last_moment shift key of.entry known request at now heads
-    after_calls result ok pushed_roster came kept shift idle can now same keeps heads moves =
-        let roster = did result (λ rec. pushed_roster ≡ with_record_at q.roster key (pushed request at rec)) key known of.entry ok of.found came in
-        let entries = ap (λ r. r.entries) roster in
-        let is = did result (λ rec. IsRecord ops (pushed request at rec)) key known of.entry ok of.found kept in
-        let records = all_changed (split key known of.entry of.found of.distinct) (λ f. IsRecord ops f.rec) (pushed request at of.entry.rec) records_of is in
+    after_calls result ok lent new found came kept shift idle can now same keeps heads moves =
+        let is = changed_as result (pushed request at) key known of.entry lent new ok of.found found came in
+        let entries = ap (λ rec. with_record key rec known) is in
+        let records = all_changed (split key known of.entry of.found of.distinct) (λ f. IsRecord ops f.rec) (pushed request at of.entry.rec) records_of (subst (IsRecord ops) is kept) in
         let is_idle = λ (some : IsSome shift). if_holds (λ rec. rec.idle ≡ true) (record_at key known) of.entry.rec (ap (option_map (λ e. e.rec)) of.found) (idle some) in
         subst (After ops (λ tag. is_value (fraction tag)) q.config.hz q.last_moment shift key of.entry known request at now) (sym moves)
         (after_shift shift is_idle can now (same ∙ ap (others_shifted ops shift key) entries) (keeps (subst (AllByRecursion (λ f. IsRecord ops f.rec)) (sym entries) records)))

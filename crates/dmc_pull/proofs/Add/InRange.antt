@@ -1,6 +1,6 @@
 -- The P tags stay in their range where a request comes and all others are shifted; and a shift is tested at the range.
 use Rattle.std.proofs.Common.{◌≡◌, ℕ, Bool, true, false, not, ◌&&◌, ◌||◌, List, [], ◌∷◌, ◌++◌, map, Option, Some, None, Result, refl, sym, ap, ◌∙◌, subst}
-use Rattle.std.specs.Prelude.{◌==◌, if◌then◌else◌, IfSome, OnOk}
+use Rattle.std.specs.Prelude.{◌==◌, if◌then◌else◌, OnOk}
 use Rattle.std.specs.Option.{option_map, option_and_then, unwrap_or}
 use Rattle.std.specs.Ordering.{is_gt}
 use Rattle.std.specs.List.{list_all, AllByRecursion}
@@ -16,16 +16,18 @@ use Rattle.dmc_tag.proofs.Orderings.{at_most_itself, at_most_turned}
 use Rattle.dmc_client.specs.declared.request.QueuedRequest.{QueuedRequest}
 use Rattle.dmc_client.specs.Record.{Rec, pushed, less_share, less_shares}
 use Rattle.dmc_adjust.specs.Changes.{shifted, is_shiftable}
-use Rattle.dmc_roster.specs.Entries.{Entry, Listing, record_at, with_rec, with_record_at}
+use Rattle.dmc_roster.specs.Entries.{Entry, record_at, with_rec, with_record, with_record_at}
 use Rattle.dmc_head_index.specs.Least.{lesser}
-use Rattle.dmc_pull.specs.Adding.{shifted_but, others_shifted}
+use Rattle.dmc_pull.specs.internal.Adding.{shifted_but, others_shifted}
 use Rattle.dmc_pull.specs.Queue.{Queue}
-use Rattle.dmc_pull.specs.Range.{IsWithin, HasSharesIn, AreWithin, greater, with_share, with_less, after_shift, range_after, all_have_less}
+use Rattle.dmc_pull.specs.Range.{IsWithin, HasSharesIn, AreWithin}
+use Rattle.dmc_pull.specs.internal.Range.{greater, with_share, with_less, after_shift, range_after, all_have_less}
 use Rattle.dmc_pull.specs.declared.range.ShareRange.{ShareRange}
+use Rattle.dmc_pull.proofs.Common.Lent.{changed_as}
 use Rattle.dmc_pull.proofs.Common.Parts.{all_as, all_mapped, all_pass, found_holds}
 use Rattle.dmc_pull.proofs.Common.Entries.{split, all_changed}
 use Rattle.dmc_pull.proofs.Common.Moved.{pushed_values}
-use Rattle.dmc_pull.proofs.Add.Arrived.{IsOf, did}
+use Rattle.dmc_pull.proofs.Add.Arrived.{IsOf}
 
 module _ {T : Type 0} (ops : Tagging T) (order : IsTotalOrder ops.compare) where
   below_both : (a b : T) → AtMost ops (lesser ops a b) a × AtMost ops (lesser ops a b) b
@@ -148,13 +150,14 @@ module _ {T : Type 0} (ops : Tagging T) (order : IsTotalOrder ops.compare) where
     after_by (Some amount) es h = others_within fraction is_value exact amount came key es h
 
     -- after a push that did not fail, and the shift of the others
-    pub arrived_within : {A E : Type 0} (result : Result A E) → is_err result ≡ false → (pushed_roster : Listing T) → OnOk result (IfSome (record_at key q.roster.entries) (λ rec. pushed_roster ≡ with_record_at q.roster key (pushed request at rec)))
-        → (shift : Option T) (now : List (Entry T)) → now ≡ others_shifted ops shift key pushed_roster.entries → AreWithin ops (range_after ops range request.tags.p shift) now
-    arrived_within result ok pushed_roster came_to shift now same =
-        let roster = did result (λ rec. pushed_roster ≡ with_record_at q.roster key (pushed request at rec)) key q.roster.entries of.entry ok of.found came_to in
-        let here = pushed_within pushed_roster.entries (ap (λ r. r.entries) roster) in
+    pub arrived_within : {A E : Type 0} (result : Result A E) → is_err result ≡ false → (lent new : Rec T) → record_at key q.roster.entries ≡ Some lent → OnOk result (new ≡ pushed request at lent)
+        → (shift : Option T) (now : List (Entry T)) → now ≡ others_shifted ops shift key (with_record key new q.roster.entries) → AreWithin ops (range_after ops range request.tags.p shift) now
+    arrived_within result ok lent new found came_to shift now same =
+        let entries = with_record key new q.roster.entries in
+        let is = changed_as result (pushed request at) key q.roster.entries of.entry lent new ok of.found found came_to in
+        let here = pushed_within entries (ap (λ rec. with_record key rec q.roster.entries) is) in
         subst (AreWithin ops (range_after ops range request.tags.p shift)) (sym same)
-        (subst (λ r. AreWithin ops r (others_shifted ops shift key pushed_roster.entries)) (sym (shifted_range request.tags.p shift range)) (after_by shift pushed_roster.entries here))
+        (subst (λ r. AreWithin ops r (others_shifted ops shift key entries)) (sym (shifted_range request.tags.p shift range)) (after_by shift entries here))
 
 -- ---- a shift is tested
 

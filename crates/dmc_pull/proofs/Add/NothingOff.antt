@@ -15,7 +15,7 @@ use Rattle.dmc_tag.specs.declared.plain.PlainClient.{PlainClient}
 use Rattle.dmc_client.specs.declared.request.QueuedRequest.{QueuedRequest}
 use Rattle.dmc_client.specs.Record.{request_of, requests_of_record, share_tags}
 use Rattle.dmc_roster.specs.Entries.{Entry}
-use Rattle.dmc_pull.specs.Adding.{unless_nothing}
+use Rattle.dmc_pull.specs.internal.Adding.{unless_nothing}
 use Rattle.dmc_pull.specs.Represented.{clients_in, requests_in}
 use Rattle.dmc_pull.proofs.Common.Parts.{all_as, all_at, all_append, all_pass, map_unmoved}
 use Rattle.std.proofs.Math.Bool.{or-true}

@@ -13,7 +13,7 @@ use Rattle.dmc_tag.specs.Answers.{clean_reply}
 use Rattle.dmc_client.specs.declared.request.QueuedRequest.{QueuedRequest}
 use Rattle.dmc_client.specs.Record.{IsRecord, share_tags}
 use Rattle.dmc_roster.specs.Entries.{Entry, Listing, entry_keyed, with_rec, AreDistinct}
-use Rattle.dmc_pull.specs.Cleaning.{is_stale, is_idled, with_idle_mark}
+use Rattle.dmc_pull.specs.internal.Cleaning.{is_stale, is_idled, with_idle_mark}
 use Rattle.dmc_pull.specs.Range.{HasSharesIn, AreWithin}
 use Rattle.dmc_pull.specs.Represented.{requests_in}
 use Rattle.dmc_pull.specs.declared.range.ShareRange.{ShareRange}

@@ -49,6 +49,10 @@ module _ {T : Type 0} where
   pub of_record : (P : Rec T → Type 0) (key : ℕ) (es : List (Entry T)) (e : Entry T) → entry_keyed key es ≡ Some e → IfSome (record_at key es) P → P e.rec
   of_record P key es e keyed h = subst (λ o. IfSome (option_map (λ x. x.rec) o) P) keyed h
 
+  -- what is said of the record that is lent
+  pub of_lent : (P : Rec T → Type 0) (key : ℕ) (es : List (Entry T)) (e : Entry T) → entry_keyed key es ≡ Some e → (rec : Rec T) → record_at key es ≡ Some rec → P rec → P e.rec
+  of_lent P key es e keyed rec found h = of_record P key es e keyed (subst (λ o. IfSome o P) (sym found) h)
+
   pub said_of : (P : Rec T → Type 0) (key : ℕ) (es : List (Entry T)) (rec : Rec T) → record_at key es ≡ Some rec → P rec → IfSome (record_at key es) P
   said_of P key es rec found h = subst (λ o. IfSome o P) (sym found) h
 

@@ -21,8 +21,9 @@ use Rattle.dmc_tag.specs.declared.reply.Reply.{Reply}
 use Rattle.dmc_tag.specs.declared.reply.Reply.TheVariants.{Refused}
 use Rattle.dmc_types.specs.declared.config.PhaseType.{PhaseType}
 use Rattle.dmc_types.specs.declared.ids.ClientId.{ClientId}
-use Rattle.dmc_pull.specs.Allowed.{PullsIf, SettlesIf, is_allowed}
-use Rattle.dmc_pull.specs.Choice.{Settles}
+use Rattle.dmc_pull.specs.Allowed.{PullsIf, is_allowed}
+use Rattle.dmc_pull.specs.internal.Allowed.{SettlesIf}
+use Rattle.dmc_pull.specs.internal.Choice.{Settles}
 use Rattle.dmc_pull.specs.declared.granting.PullFault.{PullFault}
 use Rattle.dmc_pull.specs.declared.granting.PullFault.TheVariants as faults
 

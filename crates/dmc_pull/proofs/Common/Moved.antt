@@ -18,7 +18,7 @@ use Rattle.dmc_index.proofs.Slots.{slot_of_key-map}
 use Rattle.dmc_head_index.specs.declared.head.Head.{Head}
 use Rattle.dmc_head_index.specs.Heads as heads_of
 use Rattle.dmc_head_index.specs.Heads.{CanShift}
-use Rattle.dmc_pull.specs.Adding.{shifted_but}
+use Rattle.dmc_pull.specs.internal.Adding.{shifted_but}
 use Rattle.dmc_pull.specs.Queue.{AreHeads, head_of, unready}
 use Rattle.dmc_pull.specs.Represented.{clients_in, requests_in}
 use Rattle.dmc_pull.proofs.Common.Parts.{true_not_false, all_as, all_mapped, each_passes, map_agree, found_holds}

@@ -1,6 +1,6 @@
 -- One client's record and head replaced.
 use Rattle.std.proofs.Common.{◌≡◌, ℕ, zero, suc, ◌-◌, ◌≤◌, ◌<◌, Bool, true, false, List, [], ◌∷◌, ◌++◌, map, length, Option, Some, None, refl, sym, ap, ◌∙◌, subst, arith}
-use Rattle.std.specs.Prelude.{◌==◌, slice_set, slice_get, is_some, IfSome, drop, nat_le, Ok}
+use Rattle.std.specs.Prelude.{◌==◌, slice_set, slice_get, is_some, drop, nat_le, Ok}
 use Rattle.std.specs.Option.{option_map, option_map_or, option_and_then}
 use Rattle.std.specs.List.{AllByRecursion}
 use Rattle.std.proofs.lemmas.Bool.{eqb-true, eqb-false}
@@ -13,16 +13,17 @@ use Rattle.dmc_tag.specs.declared.reply.Tags.{Tags}
 use Rattle.dmc_tag.specs.declared.plain.PlainRequest.{PlainRequest}
 use Rattle.dmc_client.specs.Record.{Rec, request_of, IsRecord, share_tags, less_reservations, less_reservation}
 use Rattle.dmc_client.specs.declared.request.QueuedRequest.{QueuedRequest}
-use Rattle.dmc_roster.specs.Entries.{Entry, Listing, entry_keyed, record_at, with_record, with_record_at, AreDistinct}
+use Rattle.dmc_roster.specs.Entries.{Entry, entry_keyed, record_at, with_record, with_record_at, AreDistinct}
 use Rattle.dmc_adjust.specs.Changes.{popped, reduced}
 use Rattle.dmc_index.specs.Index.{slot_of_key}
 use Rattle.dmc_head_index.specs.declared.head.Head.{Head}
 use Rattle.dmc_pull.specs.Represented.{requests_in}
-use Rattle.dmc_pull.specs.Queue.{Queue, IsQueue, IsKept, AreHeads, head_of, unready, unready_head, head_at}
-use Rattle.dmc_pull.specs.Choice.{first_of, first_at, after_grant, IsFirstOf}
+use Rattle.dmc_pull.specs.Queue.{Queue, IsQueue, IsKept, AreHeads, head_of, unready, unready_head}
+use Rattle.dmc_pull.specs.internal.Queue.{head_at}
+use Rattle.dmc_pull.specs.internal.Choice.{first_of, first_at, after_grant, IsFirstOf}
 use Rattle.dmc_pull.proofs.Common.Kept.{length_map}
 use Rattle.dmc_pull.proofs.Common.Entries.{Split, split, key_is, all_changed, length_whole, length_as}
-use Rattle.dmc_pull.proofs.Common.Keyed.{keyed_changed, distinct_changed, read_changed, read_other}
+use Rattle.dmc_pull.proofs.Common.Keyed.{distinct_changed, read_changed, read_other}
 use Rattle.dmc_pull.proofs.Common.Parts.{found_holds}
 use Rattle.dmc_tag.specs.Rules.{moment_of}
 use Rattle.dmc_pull.proofs.Common.Kept.{marks_later}
@@ -91,6 +92,14 @@ module _ {T : Type 0} where
 
   pub waits : (es : List (Entry T)) (key : ℕ) (client : ClientId) → IsFirstOf es key client → Waits es key client
   waits es key client h = found_waits es key client (entry_keyed key es) refl h
+
+  named : (o : Option (PlainRequest T × List (PlainRequest T))) → is_some o ≡ true → (client : ClientId) × (option_map (λ found. found.0.client) o ≡ Some client)
+  named None h = cc
+  named (Some found) h = (found.0.client, refl)
+
+  -- the client of a first request
+  pub first_named : (es : List (Entry T)) (key : ℕ) → is_some (first_at key es) ≡ true → (client : ClientId) × IsFirstOf es key client
+  first_named es key h = named (first_at key es) h
 
 -- what is read as the first request
 pub request_is : {T : Type 0} {es : List (Entry T)} {key : ℕ} {client : ClientId} → (w : Waits es key client)
@@ -211,18 +220,11 @@ module _ {T : Type 0} (ops : Tagging T) (fraction : T → Fraction) (is_value : 
       bound = omega (arith, is.bound);
     })
 
-    left_at : record_at key (with_record key left q.roster.entries) ≡ Some left
-    left_at = ap (option_map (λ e. e.rec)) (keyed_changed split_of left)
+    -- what was lent became what a grant leaves
+    pub left_as : (lent rec : Rec T) → record_at key q.roster.entries ≡ Some lent → rec ≡ after_grant ops reduces lent → rec ≡ left
+    left_as lent rec found is = let same : lent ≡ waiting.entry.rec = cc (found, own_record) in is ∙ ap (after_grant ops reduces) same
 
-    pub roster_after : (roster : Listing T) → IfSome (record_at key q.roster.entries) (λ rec. roster ≡ with_record_at q.roster key (after_grant ops reduces rec)) → roster ≡ with_record_at q.roster key left
-    roster_after roster h = subst (λ o. IfSome o (λ rec. roster ≡ with_record_at q.roster key (after_grant ops reduces rec))) own_record h
-
-    pub held_after : (roster : Listing T) → IfSome (record_at key q.roster.entries) (λ rec. roster ≡ with_record_at q.roster key (after_grant ops reduces rec)) → is_some (entry_keyed key roster.entries) ≡ true
-    held_after roster h = subst (λ r. is_some (entry_keyed key r.entries) ≡ true) (sym (roster_after roster h)) (ap is_some (keyed_changed split_of left))
-
-    pub granted : q.last_moment ≤ at → (roster : Listing T) → IfSome (record_at key q.roster.entries) (λ rec. roster ≡ with_record_at q.roster key (after_grant ops reduces rec)) → IfSome (record_at key q.roster.entries) (λ rec. IsRecord ops (after_grant ops reduces rec)) → (tags : Option (Tags T)) → tags ≡ option_and_then (λ rec. option_map (λ r. r.tags) (slice_get rec.requests 0)) (record_at key roster.entries) → (heads : List (Option (Head T))) → heads ≡ slice_set q.heads key (option_map (head_at ops at client) tags) → IsQueue ops fraction is_value (record { config = q.config; roster = roster; heads = heads; last_moment = at }) (queued - 1)
-    granted later roster r whole tags t heads h =
-        let same = roster_after roster r in
-        let kept : IsRecord ops left = subst (λ o. IfSome o (λ rec. IsRecord ops (after_grant ops reduces rec))) own_record whole in
-        let own : tags ≡ option_map (λ r. r.tags) (slice_get left.requests 0) = t ∙ ap (λ x. option_and_then (λ rec. option_map (λ r. r.tags) (slice_get rec.requests 0)) (record_at key x.entries)) same ∙ ap (option_and_then (λ rec. option_map (λ r. r.tags) (slice_get rec.requests 0))) left_at in
-        subst (λ x. IsQueue ops fraction is_value (record { config = q.config; roster = x; heads = heads; last_moment = at }) (queued - 1)) (sym same) (granted_to later kept heads (h ∙ ap (λ o. slice_set q.heads key (option_map (head_at ops at client) o)) own))
+    pub granted : q.last_moment ≤ at → (rec : Rec T) → rec ≡ left → IsRecord ops rec → (tags : Option (Tags T)) → tags ≡ option_map (λ r. r.tags) (slice_get rec.requests 0) → (heads : List (Option (Head T))) → heads ≡ slice_set q.heads key (option_map (head_at ops at client) tags) → IsQueue ops fraction is_value (record { config = q.config; roster = with_record_at q.roster key rec; heads = heads; last_moment = at }) (queued - 1)
+    granted later rec same whole tags t heads h =
+        let own : tags ≡ option_map (λ r. r.tags) (slice_get left.requests 0) = t ∙ ap (λ x. option_map (λ r. r.tags) (slice_get x.requests 0)) same in
+        subst (λ x. IsQueue ops fraction is_value (record { config = q.config; roster = with_record_at q.roster key x; heads = heads; last_moment = at }) (queued - 1)) (sym same) (granted_to later (subst (IsRecord ops) same whole) heads (h ∙ ap (λ o. slice_set q.heads key (option_map (head_at ops at client) o)) own))

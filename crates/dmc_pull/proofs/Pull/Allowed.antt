@@ -25,7 +25,7 @@ use Rattle.dmc_tag.specs.declared.reply.Tags.{Tags}
 use Rattle.dmc_tag.specs.Order.{AreNext}
 use Rattle.dmc_client.specs.Record.{Rec, client_of, share_tags}
 use Rattle.dmc_roster.specs.Entries.{Entry, entry_named, entry_keyed, record_at}
-use Rattle.dmc_pull.specs.Adding.{needed_shift, unless_nothing, Allows, IsAllowed}
+use Rattle.dmc_pull.specs.internal.Adding.{needed_shift, unless_nothing, Allows, IsAllowed}
 use Rattle.dmc_pull.specs.Queue.{Queue, IsQueue, IsKept, state_of}
 use Rattle.dmc_pull.specs.Represented.{clients_in, requests_in}
 use Rattle.dmc_pull.specs.declared.adding.Addition.{Addition}

@@ -19,7 +19,8 @@ use Rattle.dmc_tag.specs.declared.reply.Reply.TheVariants.{Granted}
 use Rattle.dmc_tag.specs.State.{State}
 use Rattle.dmc_tag.specs.declared.reply.Reply.TheVariants as replies
 use Rattle.dmc_tag.specs.declared.reply.Pulled.TheVariants as pulls
-use Rattle.dmc_pull.specs.Allowed.{is_allowed, SettlesIf}
+use Rattle.dmc_pull.specs.Allowed.{is_allowed}
+use Rattle.dmc_pull.specs.internal.Allowed.{SettlesIf}
 use Rattle.dmc_pull.specs.declared.granting.PullFault.TheVariants as faults
 use Rattle.dmc_client.specs.Record.{Rec, client_of, request_of, requests_of_record}
 use Rattle.dmc_roster.specs.Entries.{Entry, record_at, with_record, with_record_at, AreDistinct}
@@ -27,7 +28,7 @@ use Rattle.dmc_adjust.specs.Changes.{popped, reduced}
 use Rattle.dmc_pull.specs.Represented.{clients_in, requests_in}
 use Rattle.dmc_pull.specs.Queue.{Queue, IsQueue, IsKept, state_of}
 use Rattle.dmc_pull.proofs.Common.Parts.{found_holds}
-use Rattle.dmc_pull.specs.Choice.{first_at, after_grant, IsGrantable, Settles}
+use Rattle.dmc_pull.specs.internal.Choice.{first_at, after_grant, IsGrantable, Settles}
 use Rattle.dmc_pull.proofs.Common.Entries.{Split, split, named, clients_whole, changed_client, change_whole}
 use Rattle.dmc_pull.proofs.Common.Keyed.{split_named}
 use Rattle.dmc_pull.proofs.Pull.Reduced.{reducible, reduced_clients_in, reduced_requests_in}
@@ -52,7 +53,7 @@ module _ {T : Type 0} (ops : Tagging T) where
     others = requests_in (with_record key (popped w.entry.rec) es)
 
     pub first_is : first_at key es ≡ Some (request_of w.entry.id w.request, others)
-    first_is = first_chosen ops es key w.entry w.request w.rest w.found w.requests
+    first_is = first_chosen es key w.entry w.request w.rest w.found w.requests
 
     same_roster : (reduces : Bool) → After old new key reduces t → new.roster ≡ with_record_at old.roster key (after_grant ops reduces w.entry.rec)
     same_roster reduces a = subst (λ o. IfSome o (λ rec. new.roster ≡ with_record_at old.roster key (after_grant ops reduces rec))) (ap (option_map (λ e. e.rec)) w.found) a.roster

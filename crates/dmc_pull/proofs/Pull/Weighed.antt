@@ -17,8 +17,9 @@ use Rattle.dmc_tag.specs.declared.reply.Pulled.{Pulled}
 use Rattle.dmc_tag.specs.declared.reply.Reply.{Reply}
 use Rattle.dmc_tag.specs.declared.reply.Reply.TheVariants.{Registered, Updated, Tagged, Granted, Later, Nothing, Removed, Cleaned, Refused}
 use Rattle.dmc_roster.specs.Entries.{Entry}
-use Rattle.dmc_pull.specs.Allowed.{SettlesIf, is_allowed}
-use Rattle.dmc_pull.specs.Choice.{first_at, IsFirstOf, ByWeight, Settles}
+use Rattle.dmc_pull.specs.Allowed.{is_allowed}
+use Rattle.dmc_pull.specs.internal.Allowed.{SettlesIf}
+use Rattle.dmc_pull.specs.internal.Choice.{first_at, IsFirstOf, ByWeight, Settles}
 use Rattle.dmc_pull.specs.Represented.{requests_in}
 use Rattle.dmc_pull.specs.declared.granting.PullFault.{PullFault}
 

@@ -3,23 +3,19 @@ ghost use Rattle.std.specs.Prelude.{◌≡◌, ◌≤◌, ◌<◌, ◌==◌, tru
 ghost use Rattle.std.specs.List.{list_all};
 ghost use Rattle.dmc_adjust.specs.Changes.{is_shiftable};
 ghost use Rattle.dmc_client.specs.Record.{client_of};
-ghost use Rattle.dmc_pull.specs.Adding as adding_of;
-ghost use Rattle.dmc_pull.specs.Adding.{CanAdd, IsAddition};
+ghost use Rattle.dmc_pull.specs.internal.Adding as adding_of;
+ghost use Rattle.dmc_pull.specs.internal.Adding.{CanAdd, IsAddition};
 ghost use Rattle.dmc_pull.specs.Queue.{state_of};
 ghost use Rattle.dmc_roster.specs.Entries.{entry_keyed};
-ghost use Rattle.dmc_tag.specs.Answers.{call_reply};
 ghost use Rattle.dmc_tag.specs.Rules as rules_of;
 ghost use Rattle.dmc_tag.specs.State.{Represents};
-ghost use Rattle.dmc_tag.specs.Steps.{Steps};
-ghost use Rattle.dmc_tag.specs.declared.reply.Reply.TheVariants as replies;
-ghost use Rattle.dmc_types.specs.declared.command.Command.TheVariants as commands;
+ghost use Rattle.dmc_tag.specs.declared.plain.PlainClient.{PlainClient};
 ghost use Rattle.dmc_types.specs.declared.ids.Token.{Token};
 
 use crate::adding::{Addition, Shiftable, shift_others, unless_nothing};
 use crate::heads::head_at;
 use crate::queue::PullQueue;
 use crate::range::{all_have_less, widen};
-use crate::records::push_at;
 use dmc_adjust::adjustment::shift_for;
 use dmc_assign::assignment::tags_for;
 use dmc_client::request::QueuedRequest;
@@ -32,19 +28,14 @@ use dmc_types::moment::Moment;
 use dmc_types::params::ReqParams;
 use dmc_types::refusal::{QueueFault, Refusal};
 
-/// An index at which no client is registered.
-const NOWHERE: usize = usize::MAX;
-
 impl<T: Tag, I: Indexes<T>> PullQueue<T, I> {
-    /// The amount by which all others are shifted for a client that arrives at t. `None` where it is not idle, where nothing is
-    /// queued, or where the amount is 0.
-    fn needed_shift(&mut self, key: usize, t: T) -> Result<Option<T>, Refusal>
-        requires { is_some (entry_keyed key self.old.roster.entries) ≡ true }
-        ensures value { IfSome (entry_keyed key self.old.roster.entries) (λ e.
-            result ≡ adding_of.needed_shift T.ops (state_of self.old).requests (client_of e.id e.rec) t) }
+    /// The amount by which all others are shifted for a client that arrives at t, and is idle or not. `None` where it is not idle,
+    /// where nothing is queued, or where the amount is 0.
+    fn needed_shift(&mut self, idle: bool, t: T) -> Result<Option<T>, Refusal>
+        ensures value { (arriving : PlainClient T) → arriving.idle ≡ idle → result ≡ adding_of.needed_shift T.ops (state_of self.old).requests arriving t }
         ensures same { self.new ≡ self.old }
     {
-        if !self.roster.at(key).is_idle() {
+        if !idle {
             return Ok(None);
         }
         let Some(least) = self.heads.0.least_share() else {
@@ -75,7 +66,7 @@ impl<T: Tag, I: Indexes<T>> PullQueue<T, I> {
 
     /// The tests of an add, and its effect: the key of the client, the shift of all others and the new tags. The client is looked
     /// for at the index `hint` first.
-    fn can_add(
+    pub(super) fn can_add(
         &mut self,
         client: ClientId,
         hint: usize,
@@ -92,18 +83,21 @@ impl<T: Tag, I: Indexes<T>> PullQueue<T, I> {
             return Err(Refusal::QueueFull);
         }
         let t = T::of_moment(at);
-        let shift = self.needed_shift(key, t)?;
+        let rec = self.roster.at(key);
+        let idle = rec.is_idle();
+        let assigned = tags_for(rec, params, t);
+        let shift = self.needed_shift(idle, t)?;
         if !self.can_shift_by(shift) {
             return Err(Refusal::Range);
         }
-        let Some(tags) = tags_for(self.roster.at(key), params, t) else {
+        let Some(tags) = assigned else {
             return Err(Refusal::Range);
         };
         Ok(Addition { key, shift, tags })
     }
 
     /// Queues a request, and shifts all others.
-    fn queue(
+    pub(super) fn queue(
         &mut self,
         client: ClientId,
         token: Token,
@@ -118,8 +112,9 @@ impl<T: Tag, I: Indexes<T>> PullQueue<T, I> {
         ensures memory { IsOkUnless result QueueFault.Memory }
     {
         let Addition { key, shift, tags } = addition;
-        let is_first = self.roster.at(key).is_empty();
-        if push_at(&mut self.roster, key, QueuedRequest { token, tags }, at).is_err() {
+        let rec = self.roster.at_mut(key);
+        let is_first = rec.is_empty();
+        if rec.push(QueuedRequest { token, tags }, at).is_err() {
             return Err(QueueFault::Memory);
         }
         shift_others(&mut self.roster, &mut self.heads.0, shift, key);
@@ -130,38 +125,5 @@ impl<T: Tag, I: Indexes<T>> PullQueue<T, I> {
         self.queued += 1;
         self.last_moment = at;
         Ok(())
-    }
-
-    /// Queues a request, and returns its tags. It is refused `Unknown`, `QueueFull`, `Range`, in this order, and `Memory` last.
-    pub fn add_request(
-        &mut self,
-        client: ClientId,
-        token: Token,
-        params: ReqParams,
-        at: Moment,
-    ) -> Result<Tags<T>, QueueFault>
-        ensures { Steps T.ops (state_of self.old) (state_of self.new) (commands.Add client token params at) (call_reply replies.Tagged result) }
-    {
-        self.add_request_with_hint(NOWHERE, client, token, params, at)
-    }
-
-    /// Queues a request as `add_request` does, with a hint: the client may be the one at the index `hint`, in order of
-    /// registration, counted from 0. That one is looked at first, so a caller that knows the order finds the client without a
-    /// hash (extension).
-    pub fn add_request_with_hint(
-        &mut self,
-        hint: usize,
-        client: ClientId,
-        token: Token,
-        params: ReqParams,
-        at: Moment,
-    ) -> Result<Tags<T>, QueueFault>
-        ensures { Steps T.ops (state_of self.old) (state_of self.new) (commands.Add client token params at) (call_reply replies.Tagged result) }
-    {
-        let at = self.effective(at);
-        let addition = self.can_add(client, hint, params, at)?;
-        let tags = addition.tags;
-        self.queue(client, token, addition, at)?;
-        Ok(tags)
     }
 }

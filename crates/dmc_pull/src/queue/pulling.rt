@@ -1,22 +1,22 @@
 //! A pull of the indexed queue.
-ghost use Rattle.std.specs.Prelude.{◌≡◌, ◌≤◌, List, ◌∷◌, false, true, Some, None, Ok, IfSome};
+ghost use Rattle.std.specs.Prelude.{◌≡◌, ◌≤◌, List, ◌∷◌, false, true, Some, None, Ok, is_some, IfSome};
 ghost use Rattle.std.specs.Option.{option_map};
 ghost use Rattle.dmc_adjust.specs.Changes as changes;
-ghost use Rattle.dmc_pull.specs.Allowed.{PullsIf, SettlesIf};
-ghost use Rattle.dmc_pull.specs.Choice.{first_at, after_grant, IsFirstOf, Early, ByWeight, IsGrantable, Settles};
-ghost use Rattle.dmc_pull.specs.Queue.{state_of, IsMarked};
+ghost use Rattle.dmc_pull.specs.Allowed.{PullsIf};
+ghost use Rattle.dmc_pull.specs.internal.Allowed.{SettlesIf};
+ghost use Rattle.dmc_pull.specs.internal.Choice.{first_at, after_grant, IsFirstOf, Early, ByWeight, IsGrantable, Settles};
+ghost use Rattle.dmc_pull.specs.Queue.{state_of};
+ghost use Rattle.dmc_pull.specs.internal.Queue.{IsMarked};
 ghost use Rattle.dmc_pull.specs.Represented.{requests_in};
 ghost use Rattle.dmc_roster.specs.Entries.{record_at, with_record_at, AreDistinct};
-ghost use Rattle.dmc_tag.specs.Answers.{sure_call_reply, pull_reply};
+ghost use Rattle.dmc_tag.specs.Answers.{pull_reply};
 ghost use Rattle.dmc_tag.specs.Best.{best, by_reservation, by_weight, is_early, is_free};
 ghost use Rattle.dmc_tag.specs.Rules as rules_of;
-ghost use Rattle.dmc_tag.specs.Steps.{Exactly};
 ghost use Rattle.dmc_tag.specs.declared.plain.PlainRequest.{PlainRequest};
-ghost use Rattle.dmc_types.specs.declared.command.Command.TheVariants as commands;
 ghost use Rattle.dmc_types.specs.declared.ids.Token.{Token};
 ghost use Rattle.dmc_types.specs.declared.config.PhaseType.TheVariants as phases;
 
-use crate::granting::{AllowAll, GrantTest, PullFault};
+use crate::granting::{GrantTest, PullFault};
 use crate::heads::{due_moment, renew};
 use crate::queue::PullQueue;
 use crate::records::{first_tags, grant_first};
@@ -109,8 +109,9 @@ impl<T: Tag, I: Indexes<T>> PullQueue<T, I> {
         ensures config { self.new.config ≡ self.old.config }
         ensures moment { self.new.last_moment ≡ at }
     {
-        let request = grant_first(&mut self.roster, key, reduces).unwrap();
-        let tags = first_tags(&self.roster, key);
+        let rec = self.roster.at_mut(key);
+        let request = grant_first(rec, reduces).unwrap();
+        let tags = first_tags(rec);
         renew(&mut self.heads.0, key, client, tags, at);
         self.queued -= 1;
         self.last_moment = at;
@@ -134,8 +135,8 @@ impl<T: Tag, I: Indexes<T>> PullQueue<T, I> {
     }
 
     /// Whether a grant in the weight phase keeps each tag of the client a value.
-    fn can_grant(&self, key: usize, client: ClientId) -> bool
-        requires { IsFirstOf self.now.roster.entries key client }
+    fn can_grant(&self, key: usize) -> bool
+        requires { is_some (first_at key self.now.roster.entries) ≡ true }
         ensures distinct { AreDistinct self.now.roster.entries }
         ensures reducible { result ≡ true → IfSome (record_at key self.now.roster.entries) (λ rec. changes.is_reducible T.ops (changes.popped rec) ≡ true) }
         ensures value { IfSome (first_at key self.now.roster.entries) (λ found.
@@ -157,7 +158,7 @@ impl<T: Tag, I: Indexes<T>> PullQueue<T, I> {
         ensures { IfSome (first_at key self.old.roster.entries) (λ found.
             SettlesIf (A.allows test.now) (state_of self.old) (state_of self.new) (rules_of.grant_priority T.ops (state_of self.old) self.old.last_moment found beyond) result) }
     {
-        if !self.can_grant(key, client) {
+        if !self.can_grant(key) {
             return Err(PullFault::Refused(Refusal::Range));
         }
         if !test.allows(client, PhaseType::Priority, key) {
@@ -190,18 +191,6 @@ impl<T: Tag, I: Indexes<T>> PullQueue<T, I> {
         match self.config.at_limit() {
             AtLimit::Allow => self.grant_priority(key, client, true, test),
             AtLimit::Wait => Ok(Pulled::Future(self.next_due())),
-        }
-    }
-
-    /// Grants the next request, or returns the moment at which one is due. It is refused `Range` (mClock's Algorithm 1; the
-    /// moment is an extension).
-    pub fn pull_request(&mut self, at: Moment) -> Result<Pulled, Refusal>
-        ensures { Exactly T.ops (state_of self.old) (state_of self.new) (commands.Pull at) (sure_call_reply pull_reply result) }
-    {
-        match self.pull_allowed(at, &AllowAll) {
-            Ok(pulled) => Ok(pulled),
-            Err(PullFault::Refused(refusal)) => Err(refusal),
-            Err(PullFault::Declined) => unreachable!(),
         }
     }
 

@@ -1,7 +1,7 @@
 use Rattle.std.proofs.Common.{◌≡◌, ◌<◌, ◌-◌, suc, length, drop, ap, subst, arith}
 use Rattle.std.proofs.Math.Seq.{drop-length}
 use Rattle.dmc_tag.specs.Best.{best}
-use Rattle.dmc_plain.specs.Sets.{members, order}
+use Rattle.dmc_plain.specs.internal.Sets.{members, order}
 use Rattle.dmc_plain.proofs.Found.{Found, found_more, found_all, found_bound}
 use Rattle.dmc_plain.proofs.best.best_index.Goals as goal
 

@@ -1,5 +1,5 @@
 use Rattle.std.proofs.Common.{drop}
-use Rattle.dmc_plain.specs.Sets.{members, order}
+use Rattle.dmc_plain.specs.internal.Sets.{members, order}
 use Rattle.dmc_plain.proofs.Found.{Found}
 use Rattle.dmc_plain.proofs.best.best_index.Given as goal
 

@@ -1,6 +1,6 @@
 use Rattle.std.proofs.Common.{◌≡◌, ◌∙◌, not, ◌&&◌, true, false, Some, sym, ap}
 use Rattle.std.specs.Prelude.{if◌then◌else◌}
-use Rattle.dmc_plain.specs.Sets.{members, order, beats}
+use Rattle.dmc_plain.specs.internal.Sets.{members, order, beats}
 use Rattle.dmc_plain.proofs.best.better_index.Goals as goal
 use Rattle.dmc_plain.proofs.best.better_index.Goals.{else-contains-via-then-contains+else-not-is_beaten, else-contains-via-else-contains}
 

@@ -1,6 +1,6 @@
 use Rattle.std.proofs.Common.{◌∙◌, ◌<◌, length, refl, ap, arith}
 use Rattle.std.proofs.lemmas.List.{get_or_read}
-use Rattle.dmc_plain.specs.Sets.{order}
+use Rattle.dmc_plain.specs.internal.Sets.{order}
 use Rattle.dmc_plain.proofs.best.is_beaten.Goals as goal
 
 pub returns-in-None : goal.returns-in-None

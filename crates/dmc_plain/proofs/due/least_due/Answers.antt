@@ -5,7 +5,7 @@ use Rattle.std.proofs.lemmas.List.Sums.{fold_more}
 use Rattle.dmc_tag.specs.Rules.{due_moment}
 use Rattle.dmc_tag.specs.Tag.{Tagging}
 use Rattle.dmc_tag.specs.declared.plain.PlainRequest.{PlainRequest}
-use Rattle.dmc_plain.specs.Sets.{least_due}
+use Rattle.dmc_plain.specs.internal.Sets.{least_due}
 use Rattle.dmc_plain.proofs.due.least_due.Goals as goal
 
 abbrev earlier : {T : Type 0} → Tagging T → ℕ → PlainRequest T → ℕ

@@ -2,8 +2,8 @@
 use Rattle.std.proofs.Common.{◌≡◌, Option, Some, None, ap, ◌∙◌}
 use Rattle.std.specs.Option.{option_map, option_and_then}
 use Rattle.dmc_tag.specs.Tag.{Tagging}
-use Rattle.dmc_pull.specs.Range as range_of
-use Rattle.dmc_pull.specs.Range.{with_share}
+use Rattle.dmc_pull.specs.internal.Range as range_of
+use Rattle.dmc_pull.specs.internal.Range.{with_share}
 use Rattle.dmc_pull.specs.declared.range.ShareRange.{ShareRange}
 use Rattle.dmc_pull.proofs.range.with_less.Goals as goal
 

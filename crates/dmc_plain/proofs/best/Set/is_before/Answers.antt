@@ -5,7 +5,7 @@ use Rattle.dmc_tag.specs.Tag.{Tagging}
 use Rattle.dmc_tag.specs.declared.plain.PlainRequest.{PlainRequest}
 use Rattle.dmc_tag.specs.declared.rank.TagRank.{TagRank}
 use Rattle.dmc_tag.proofs.Orderings.{same_compare}
-use Rattle.dmc_plain.specs.Sets.{rank_of, order}
+use Rattle.dmc_plain.specs.internal.Sets.{rank_of, order}
 use Rattle.dmc_plain.specs.declared.best.Set.{Set}
 use Rattle.dmc_plain.specs.declared.best.Set.TheVariants.{Early, Free, All}
 use Rattle.dmc_plain.proofs.best.Set.is_before.Goals as goal

@@ -1,7 +1,7 @@
 use Rattle.std.proofs.Common.{◌≡◌, ◌∙◌, sym, subst}
 use Rattle.dmc_types.specs.declared.config.AtLimit.TheVariants.{Allow, Wait}
 use Rattle.dmc_tag.specs.Answers.{sure_call_reply, pull_reply}
-use Rattle.dmc_plain.specs.Sets.{Settles}
+use Rattle.dmc_plain.specs.internal.Sets.{Settles}
 use Rattle.dmc_plain.proofs.Pulls.{allowed, waits}
 use Rattle.dmc_plain.proofs.queue.PlainQueue.pull_at_limit.Goals as goal
 

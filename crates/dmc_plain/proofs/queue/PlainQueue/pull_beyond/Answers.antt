@@ -2,7 +2,7 @@ use Rattle.std.proofs.Common.{◌≡◌, ◌∙◌, ◌<◌, length, true, Some,
 use Rattle.dmc_tag.specs.Answers.{sure_call_reply, pull_reply}
 use Rattle.dmc_tag.specs.Best.{best, by_weight, is_any}
 use Rattle.dmc_tag.specs.Rules.{grant_found}
-use Rattle.dmc_plain.specs.Sets.{found_at, Settles}
+use Rattle.dmc_plain.specs.internal.Sets.{found_at, Settles}
 use Rattle.dmc_plain.proofs.queue.PlainQueue.pull_beyond.Goals as goal
 
 pub returns-in-None : goal.returns-in-None

@@ -2,7 +2,7 @@ use Rattle.std.proofs.Common.{◌≡◌, ◌∙◌, ◌<◌, Some, None, length,
 use Rattle.dmc_tag.specs.Answers.{sure_call_reply, pull_reply}
 use Rattle.dmc_tag.specs.Best.{best, by_weight, is_free}
 use Rattle.dmc_tag.specs.Rules.{pulled_free}
-use Rattle.dmc_plain.specs.Sets.{found_at, Settles}
+use Rattle.dmc_plain.specs.internal.Sets.{found_at, Settles}
 use Rattle.dmc_plain.proofs.Pulls.{free_found}
 use Rattle.dmc_plain.proofs.queue.PlainQueue.pull_free.Goals as goal
 

@@ -1,7 +1,7 @@
 use Rattle.std.proofs.Common.{◌∙◌, ap}
 use Rattle.std.specs.Option.{option_map_or}
 use Rattle.dmc_tag.specs.declared.reply.Pulled.TheVariants as pulls
-use Rattle.dmc_plain.specs.Sets.{least_due}
+use Rattle.dmc_plain.specs.internal.Sets.{least_due}
 use Rattle.dmc_plain.proofs.queue.PlainQueue.report_due.Goals as goal
 
 pub returns-clause-answer : goal.returns-clause-answer

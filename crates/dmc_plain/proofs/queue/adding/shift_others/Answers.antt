@@ -1,7 +1,7 @@
 use Rattle.std.proofs.Common.{◌∙◌, ◌++◌, take, drop, ap, sym}
 use Rattle.std.proofs.lemmas.List.{take-append-drop}
 use Rattle.dmc_tag.specs.Rules.{shifted_clients}
-use Rattle.dmc_plain.specs.Shares.{less_shares}
+use Rattle.dmc_plain.specs.internal.Shares.{less_shares}
 use Rattle.dmc_plain.proofs.queue.adding.shift_others.Goals as goal
 
 pub returns-in-Some-clause-requests : goal.returns-in-Some-clause-requests

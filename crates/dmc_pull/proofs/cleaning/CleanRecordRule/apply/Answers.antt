@@ -1,7 +1,7 @@
 -- A record is marked idle where it is that stale, and was not.
 use Rattle.std.proofs.Common.{◌≡◌, ℕ, Bool, true, false, not, ◌||◌, refl, sym, ap, ◌∙◌, subst}
 use Rattle.dmc_client.specs.Record.{Rec, IsRecord}
-use Rattle.dmc_pull.specs.Cleaning.{is_stale, with_idle_mark}
+use Rattle.dmc_pull.specs.internal.Cleaning.{is_stale, with_idle_mark}
 use Rattle.dmc_pull.proofs.cleaning.CleanRecordRule.apply.Goals as goal
 use Rattle.dmc_pull.proofs.cleaning.CleanRecordRule.apply.Goals.{then-not-is_idle+then-is_stale, else-not-is_idle}
 use Rattle.dmc_pull.proofs.cleaning.CleanRecordRule.apply.Goals.{else-not-is_idle-via-then-not-is_idle+else-is_stale, else-not-is_idle-via-else-not-is_idle}

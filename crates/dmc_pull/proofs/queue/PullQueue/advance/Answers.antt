@@ -3,7 +3,8 @@ use Rattle.std.specs.Prelude.{◌≤◌, map}
 use Rattle.std.specs.Option.{option_map}
 use Rattle.dmc_head_index.specs.Heads.{with_ready_mark}
 use Rattle.dmc_tag.proofs.ForCallers.{due_from_ceil}
-use Rattle.dmc_pull.specs.Queue.{IsQueue, IsMarked}
+use Rattle.dmc_pull.specs.Queue.{IsQueue}
+use Rattle.dmc_pull.specs.internal.Queue.{IsMarked}
 use Rattle.dmc_pull.proofs.Common.Kept.{same_roster, length_map, promoted, all_marked}
 use Rattle.dmc_pull.proofs.queue.PullQueue.advance.Goals as goal
 

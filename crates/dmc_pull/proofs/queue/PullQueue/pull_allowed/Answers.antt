@@ -2,7 +2,7 @@
 use Rattle.std.proofs.Common.{rules, ◌≡◌, true, refl, ◌∙◌, sym, ap}
 use Rattle.dmc_types.specs.declared.config.PhaseType.TheVariants.{Reservation}
 use Rattle.dmc_tag.specs.Answers.{pull_reply}
-use Rattle.dmc_pull.specs.Choice.{first_at}
+use Rattle.dmc_pull.specs.internal.Choice.{first_at}
 use Rattle.dmc_pull.specs.Queue.{state_of}
 use Rattle.dmc_pull.proofs.Common.Answered.{pulled_if, back_if}
 use Rattle.dmc_pull.proofs.Pull.Weighed.{early_answers, early_declined}

@@ -1,7 +1,7 @@
 -- Each case is that of the client that is named; where a body is wrong, what the lemmas need is not there.
 use Rattle.std.proofs.Common.{◌≡◌, true, false, refl, sym, ap, ◌∙◌}
 use Rattle.dmc_types.specs.declared.config.AtLimit.TheVariants.{Wait, Allow}
-use Rattle.dmc_pull.specs.Choice.{first_at}
+use Rattle.dmc_pull.specs.internal.Choice.{first_at}
 use Rattle.dmc_pull.specs.Queue.{state_of}
 use Rattle.dmc_pull.proofs.Pull.Weighed.{has_first, free_is, none_is_free, any_is, nothing_answers, free_answers, any_answers, later_answers}
 use Rattle.dmc_pull.proofs.queue.PullQueue.pull_by_weight.Goals as goal

@@ -1,21 +1,20 @@
 -- The client that is named has a first request, which is the one that is taken out.
 use Rattle.std.proofs.Common.{◌≡◌, ◌≤◌, sym, ap, ◌∙◌, subst}
-use Rattle.std.specs.Prelude.{is_some, IfSome}
-use Rattle.std.specs.Option.{option_map}
+use Rattle.std.specs.Prelude.{is_some, true, slice_get, IfSome}
+use Rattle.std.specs.Option.{option_map, option_and_then}
 use Rattle.dmc_tag.proofs.ForCallers.{due_from_ceil}
+use Rattle.dmc_adjust.specs.Changes.{is_reducible, popped}
 use Rattle.dmc_roster.specs.Entries.{record_at, with_record_at, AreDistinct}
-use Rattle.dmc_pull.specs.Choice.{IsFirstOf, first_at, after_grant}
-use Rattle.dmc_pull.proofs.Common.Replaced.{waits, request_is, first_token, roster_after, held_after, one_at_least, granted}
+use Rattle.dmc_pull.specs.internal.Choice.{IsFirstOf, first_at, after_grant}
+use Rattle.dmc_pull.proofs.Common.Replaced.{waits, request_is, first_token, left_as, one_at_least, granted}
+use Rattle.dmc_pull.proofs.Clients.Updating.{said_of}
 use Rattle.dmc_pull.proofs.Common.Within.{granted_within}
 use Rattle.dmc_pull.proofs.queue.PullQueue.take_out.Goals as goal
 
-pub first_tags-tags-requires : goal.first_tags-tags-requires
-first_tags-tags-requires g c =
-    let ops = g.T.Tag.ops in
-    let q = c.self.inside in
-    let d = c.self.invariant.0.distinct in
-    let first : IsFirstOf q.roster.entries c.args.key c.args.client = subst (λ v. IsFirstOf v.roster.entries c.args.key c.args.client) (sym c.self.view_is) c.requires.first in
-    held_after ops g.T.Tag.fraction g.T.Tag.is_value (due_from_ceil g.T.Tag.ops g.T.Tag.fraction g.T.Tag.is_value g.met.T.Tag.exact) _ q.queued c.args.key c.args.client c.args.reduces c.args.at d c.self.invariant.0 (waits q.roster.entries c.args.key c.args.client first) c.grant_first.new.roster c.grant_first.ensures.rest
+pub grant_first-requires : goal.grant_first-requires
+grant_first-requires g c = λ reduces.
+    let found = ap (λ v. record_at c.args.key v.roster.entries) (sym c.self.view_is) ∙ c.at_mut-rec.ensures.value in
+    subst (λ o. IfSome o (λ rec. is_reducible g.T.Tag.ops (popped rec) ≡ true)) found (c.requires.reducible reduces)
 
 pub overflow_sub-self : goal.overflow_sub-self
 overflow_sub-self g c =
@@ -34,30 +33,35 @@ invariant_of-self g c =
     let later : q.last_moment ≤ c.args.at = subst (λ v. v.last_moment ≤ c.args.at) (sym c.self.view_is) c.requires.later in
     let waiting = waits q.roster.entries c.args.key c.args.client first in
     let due_from = due_from_ceil g.T.Tag.ops g.T.Tag.fraction g.T.Tag.is_value g.met.T.Tag.exact in
-    let roster = roster_after ops g.T.Tag.fraction g.T.Tag.is_value due_from _ q.queued c.args.key c.args.client c.args.reduces c.args.at d c.self.invariant.0 waiting c.grant_first.new.roster c.grant_first.ensures.rest in (
-      granted ops g.T.Tag.fraction g.T.Tag.is_value (due_from_ceil g.T.Tag.ops g.T.Tag.fraction g.T.Tag.is_value g.met.T.Tag.exact) _ q.queued c.args.key c.args.client c.args.reduces c.args.at d c.self.invariant.0 (waits q.roster.entries c.args.key c.args.client first) later c.grant_first.new.roster c.grant_first.ensures.rest c.grant_first.ensures.kept c.first_tags-tags.result c.first_tags-tags.ensures c.renew.new.heads c.renew.ensures,
-      granted_within c.self.invariant.1 d waiting c.args.reduces c.grant_first.new.roster.entries (ap (λ r. r.entries) roster),
+    let rec = c.grant_first.new.rec in
+    let same = left_as ops g.T.Tag.fraction g.T.Tag.is_value due_from _ q.queued c.args.key c.args.client c.args.reduces c.args.at d c.self.invariant.0 waiting c.at_mut-rec.result.now rec c.at_mut-rec.ensures.value c.grant_first.ensures.rest in (
+      granted ops g.T.Tag.fraction g.T.Tag.is_value due_from _ q.queued c.args.key c.args.client c.args.reduces c.args.at d c.self.invariant.0 waiting later rec same c.grant_first.ensures.kept c.first_tags-tags.result c.first_tags-tags.ensures c.renew.new.heads c.renew.ensures,
+      granted_within c.self.invariant.1 d waiting c.args.reduces (with_record_at q.roster c.args.key rec).entries (ap (λ r. (with_record_at q.roster c.args.key r).entries) same),
     )
 
 pub unwrap-request-requires : goal.unwrap-request-requires
 unwrap-request-requires g c =
     let first : IsFirstOf c.self.inside.roster.entries c.args.key c.args.client =
     subst (λ v. IsFirstOf v.roster.entries c.args.key c.args.client) (sym c.self.view_is) c.requires.first in
-    ap is_some (c.grant_first.ensures.value ∙ request_is (waits c.self.inside.roster.entries c.args.key c.args.client first))
+    let read = ap (option_and_then (λ rec. slice_get rec.requests 0)) c.at_mut-rec.ensures.value in
+    ap is_some (c.grant_first.ensures.value ∙ sym read ∙ request_is (waits c.self.inside.roster.entries c.args.key c.args.client first))
 
 pub returns-clause-distinct : goal.returns-clause-distinct
 returns-clause-distinct g c = subst (λ v. AreDistinct v.roster.entries) c.self.view_is c.self.invariant.0.distinct
 
 pub returns-clause-token : goal.returns-clause-token
 returns-clause-token g c =
-    ap (option_map (λ r. r.token)) (sym c.unwrap-request.ensures ∙ c.grant_first.ensures.value)
+    let read = ap (option_and_then (λ rec. slice_get rec.requests 0)) c.at_mut-rec.ensures.value in
+    ap (option_map (λ r. r.token)) (sym c.unwrap-request.ensures ∙ c.grant_first.ensures.value ∙ sym read)
     ∙ first_token c.self.inside.roster.entries c.args.key
     ∙ ap (λ v. option_map (λ found. found.0.token) (first_at c.args.key v.roster.entries)) c.self.view_is
 
 pub returns-clause-roster : goal.returns-clause-roster
 returns-clause-roster g c =
-    subst (λ v. IfSome (record_at c.args.key v.roster.entries) (λ rec. c.grant_first.new.roster ≡ with_record_at v.roster c.args.key (after_grant g.T.Tag.ops c.args.reduces rec)))
-    c.self.view_is c.grant_first.ensures.rest
+    let q = c.self.inside in
+    let roster = with_record_at q.roster c.args.key c.grant_first.new.rec in
+    subst (λ v. IfSome (record_at c.args.key v.roster.entries) (λ rec. roster ≡ with_record_at v.roster c.args.key (after_grant g.T.Tag.ops c.args.reduces rec)))
+    c.self.view_is (said_of (λ rec. roster ≡ with_record_at q.roster c.args.key (after_grant g.T.Tag.ops c.args.reduces rec)) c.args.key q.roster.entries c.at_mut-rec.result.now c.at_mut-rec.ensures.value (ap (with_record_at q.roster c.args.key) c.grant_first.ensures.rest))
 
 pub returns-clause-config : goal.returns-clause-config
 returns-clause-config g c = ap (λ v. v.config) c.self.view_is

@@ -10,7 +10,8 @@ use Rattle.dmc_tracker.proofs.ForCallers.{IsTracked-nil}
 use Rattle.dmc_ledger.specs.Bundles.{ServerSide, new_server_side}
 use Rattle.dmc_tlock.specs.BookState.{no_side, desk_at}
 use Rattle.dmc_tlock.specs.Consistent.{responded, IsDesk, IsConsistent}
-use Rattle.dmc_tlock.specs.Opening.{AreNew, HasList, IsOneTill, side_after_opening, new_book_state}
+use Rattle.dmc_tlock.specs.Opening.{AreNew, side_after_opening, new_book_state}
+use Rattle.dmc_tlock.specs.internal.Opening.{HasList, IsOneTill}
 use Rattle.dmc_tlock.proofs.ConsistentLemmas.{balanced}
 
 pub one_till : (client : ℕ) (desks : List ServerSide) → AreNew client desks → (k : ℕ) → k < length desks → IsOneTill (get_or desks k no_side).books

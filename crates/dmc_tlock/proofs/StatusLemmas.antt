@@ -12,7 +12,8 @@ use Rattle.dmc_ledger.specs.Bundles.{ServerSide, StampHoldings}
 use Rattle.dmc_ledger.specs.Moves.{AreWithin}
 use Rattle.dmc_tlock.specs.BookState.{BookState, desk_at}
 use Rattle.dmc_tlock.specs.Consistent.{due, IsConsistent}
-use Rattle.dmc_tlock.specs.Status.{pair_of, IsReadOff, IsStatusOf, IsWithin, AreSums}
+use Rattle.dmc_tlock.specs.Status.{pair_of, IsStatusOf, IsWithin, AreSums}
+use Rattle.dmc_tlock.specs.internal.Status.{IsReadOff}
 use Rattle.dmc_tlock.specs.declared.status.TrackStatus.{TrackStatus}
 
 same_pair : (p q : ℕ × ℕ) → p.0 ≡ q.0 → p.1 ≡ q.1 → p ≡ q

@@ -16,3 +16,5 @@ pub mod Segments
 pub mod Settling
 -- What `status` returns.
 pub mod Status
+-- What only contracts of private functions and proofs cite.
+pub mod internal

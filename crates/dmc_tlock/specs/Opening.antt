@@ -1,10 +1,10 @@
 -- A tracker book that is made.
-use Rattle.std.specs.Prelude.{◌≡◌, ℕ, ◌<◌, ◌≤◌, List, [], None, Some, length, map}
+use Rattle.std.specs.Prelude.{◌≡◌, ℕ, ◌<◌, ◌≤◌, List, [], None, length, map}
 use Rattle.dmc_types.specs.Limits as limits
 use Rattle.dmc_types.specs.declared.ids.ServerId.{ServerId}
 use Rattle.dmc_types.specs.declared.config.Counting.{Counting}
 use Rattle.dmc_tracker.specs.Numbers.{AreLimits, new_numbers}
-use Rattle.dmc_ledger.specs.Bundles.{ServerSide, StampHoldings, StampAccounts, new_server_side}
+use Rattle.dmc_ledger.specs.Bundles.{ServerSide, StampHoldings, new_server_side}
 use Rattle.dmc_ledger.specs.Moves.{books_after_opening, new_tills}
 use Rattle.dmc_tlock.specs.BookState.{BookState, desk_at}
 
@@ -35,13 +35,3 @@ new_book_state client counting most max_events desks = record {
   max_events = max_events;
   desks = map side_after_opening desks;
 }
-
--- one till of each book is open
-pub record IsOneTill (books : StampAccounts) : Type 0 where
-  pub stamps : books.stamps.open_tills ≡ 1
-  pub delta : books.delta.open_tills ≡ 1
-  pub rho : books.rho.open_tills ≡ 1
-
--- the desk has a list of the number of its book of stamps
-abbrev pub HasList : ServerSide → Type 0
-HasList desk = desk.list ≡ Some desk.books.stamps.number

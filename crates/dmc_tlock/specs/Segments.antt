@@ -2,7 +2,7 @@
 use Rattle.std.specs.Prelude.{ℕ, List, length}
 use Rattle.dmc_types.specs.declared.config.Counting.{Counting}
 use Rattle.dmc_tracker.specs.declared.event.TrackerEvent.{TrackerEvent}
-use Rattle.dmc_tlock.specs.BookState.{BookState, Entries}
+use Rattle.dmc_tlock.specs.BookState.{BookState}
 
 -- What contracts see of a segment: whose list it is of, in which counting form, the list up to the segment's end, and how many
 -- entries of that were released before.
@@ -19,7 +19,3 @@ segment_of b = record { client = b.client; counting = b.tracker.counting; histor
 -- all entries are released
 abbrev pub after_rotating : BookState → BookState
 after_rotating b = record b { first = length b.events }
-
--- the same of the list
-abbrev pub list_rotated : Entries → Entries
-list_rotated l = record { events = l.events; first = length l.events; most = l.most; room = 0 }

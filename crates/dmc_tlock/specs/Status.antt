@@ -5,9 +5,8 @@ use Rattle.dmc_types.specs.declared.ids.ServerId.{ServerId}
 use Rattle.dmc_types.specs.declared.config.Counting.{Counting}
 use Rattle.dmc_types.specs.declared.config.Counting.TheVariants.{All, Others}
 use Rattle.dmc_tracker.specs.TrackerList.{others, stamps}
-use Rattle.dmc_tracker.specs.Numbers.{Numbers, numbers_at}
-use Rattle.dmc_ledger.specs.Accounts.{total_of}
-use Rattle.dmc_ledger.specs.Bundles.{ServerSide, StampHoldings}
+use Rattle.dmc_tracker.specs.Numbers.{numbers_at}
+use Rattle.dmc_ledger.specs.Bundles.{StampHoldings}
 use Rattle.dmc_tlock.specs.BookState.{BookState}
 use Rattle.dmc_tlock.specs.declared.status.TrackStatus.{TrackStatus}
 
@@ -39,14 +38,3 @@ due_by status Others = (status.stamps + status.others.0, status.stamps + status.
 pub record AreSums (status : TrackStatus) : Type 0 where
   pub all : status.sent.0 + status.skipped.0 + status.pending.0 ≡ (due_by status status.counting).0
   pub constraint : status.sent.1 + status.skipped.1 + status.pending.1 ≡ (due_by status status.counting).1
-
--- how a status is read off the tracker and the desk of s, without the list
-pub record IsReadOff (tracker : Numbers) (desk : ServerSide) (s : ServerId) (status : TrackStatus) : Type 0 where
-  pub sent : status.sent ≡ pair_of (numbers_at tracker s).sent
-  pub skipped : status.skipped ≡ pair_of (numbers_at tracker s).skipped
-  pub pending : status.pending ≡ pair_of (numbers_at tracker s).pending
-  pub completions : status.completions ≡ pair_of tracker.completions
-  pub counting : status.counting ≡ tracker.counting
-  pub stamps : status.stamps ≡ total_of desk.books.stamps
-  pub others_all : status.others.0 + (desk.held.reservation.amount + desk.held.priority.amount) ≡ tracker.completions.delta
-  pub others_constraint : status.others.1 + desk.held.reservation.amount ≡ tracker.completions.rho

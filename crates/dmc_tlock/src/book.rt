@@ -30,7 +30,6 @@ use dmc_ledger::till::Till;
 use dmc_tracker::tracker::{MakeFault, ServiceTracker};
 use dmc_types::config::{Counting, PhaseType};
 use dmc_types::ids::{ClientId, ServerId};
-use dmc_types::params::ReqParams;
 use std::alloc::Global;
 use std::marker::Model;
 
@@ -147,38 +146,12 @@ impl<S: Setup> TrackerBook<S> {
             × (IsFullAt self.old.tracker server → ⊥)
             × (length self.old.events ≡ self.old.first + self.old.max_events)) }
     {
-        let params = self.stamp_params(server, tills)?;
-        Ok(Stamp::new(self.client, server, params))
-    }
-
-    /// As `stamp`, and answers what the stamp carries.
-    pub(crate) fn stamp_params(
-        &mut self,
-        server: ServerId,
-        tills: &mut StampTills<S>,
-    ) -> Result<ReqParams, EntryFault>
-        ensures params { IfOk result (λ params. params ≡ next_params self.old.tracker server) }
-        ensures book { OnOk result (self.new ≡ book_after_stamp server self.old) }
-        ensures tills { OnOk result
-            (stamp_holdings tills.new ≡ tills_after_stamp (next_params self.old.tracker server) (stamp_holdings tills.old)) }
-        ensures kept { OnErr result (self.new ≡ self.old) }
-        ensures tills_kept { OnErr result (tills.new ≡ tills.old) }
-        ensures no_server { IsErrOf result EntryFault.NoServer ↔ (length self.old.desks ≤ server.0) }
-        ensures stranger { IsErrOf result EntryFault.Stranger ↔ ((server.0 < length self.old.desks)
-            × (AreOf (stamp_holdings tills.old) (desk_at self.old.desks server).books → ⊥)) }
-        ensures track_full { IsErrOf result EntryFault.TrackFull
-            ↔ (AreTillsOf self.old server (stamp_holdings tills.old) × IsFullAt self.old.tracker server) }
-        ensures history_full { IsErrOf result EntryFault.HistoryFull
-            ↔ (AreTillsOf self.old server (stamp_holdings tills.old)
-            × (IsFullAt self.old.tracker server → ⊥)
-            × (length self.old.events ≡ self.old.first + self.old.max_events)) }
-    {
         let index = find_desk(&self.desks, server, tills)?;
         self.tracker.can_stamp(server)?;
         self.list.reserve_one()?;
         let params = record_stamp(&mut self.tracker, &mut self.list, server);
         issue_stamp(&mut self.desks[index], tills, params);
-        Ok(params)
+        Ok(Stamp::new(self.client, server, params))
     }
 
     /// Skips what is pending at a server, as the tracker does: the next stamp to it counts only later completions. It is an

@@ -26,9 +26,7 @@ pub(crate) fn record_stamp<S: Setup>(
     ensures first { list.new.first ≡ list.old.first }
     ensures most { list.new.most ≡ list.old.most }
 {
-    let Ok(params) = tracker.get_req_params(server) else {
-        unreachable!()
-    };
+    let params = tracker.stamp_checked(server);
     list.push_reserved(TrackerEvent::Stamp { server, params });
     params
 }
@@ -67,8 +65,6 @@ pub(crate) fn record_response<S: Setup>(
     ensures first { list.new.first ≡ list.old.first }
     ensures most { list.new.most ≡ list.old.most }
 {
-    let Ok(()) = tracker.track_resp(server, phase) else {
-        unreachable!()
-    };
+    tracker.track_checked(server, phase);
     list.push_reserved(TrackerEvent::Response { server, phase });
 }

@@ -3,7 +3,7 @@ ghost use Rattle.std.specs.Prelude.{◌≡◌, ◌↔◌, ◌+◌, ◌<◌, ◌�
 ghost use Rattle.dmc_types.specs.Limits.{max_events};
 ghost use Rattle.dmc_tracker.specs.TrackerList.{IsTracked};
 ghost use Rattle.dmc_history.specs.Segments.{max_released};
-ghost use Rattle.dmc_tlock.specs.Segments.{list_rotated};
+ghost use Rattle.dmc_tlock.specs.internal.Segments.{list_rotated};
 
 use crate::segment::TrackerSegment;
 use dmc_history::{History, ReserveFault};

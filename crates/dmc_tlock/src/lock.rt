@@ -49,7 +49,7 @@ impl<S: Setup, W: Witness<TrackerBook<S>>> Guarded<TrackerBook<S>, W> {
         ensures tills { IfOk result (λ params. stamp_holdings tills.new ≡ tills_after_stamp params (stamp_holdings tills.old)) }
         ensures kept { OnErr result (tills.new ≡ tills.old) }
     {
-        self.book.stamp_params(server, tills)
+        Ok(self.book.stamp(server, tills)?.params())
     }
 
     /// Skips what is pending at a server, as the book does.

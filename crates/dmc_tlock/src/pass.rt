@@ -5,7 +5,8 @@ ghost use Rattle.dmc_ledger.specs.Bundles.{stamp_holdings, stamp_accounts, serve
 ghost use Rattle.dmc_ledger.specs.Moves.{books_after_opening, new_tills};
 ghost use Rattle.dmc_ledger.specs.contracts.bundle.StampTills.{the_row as tills_row};
 ghost use Rattle.dmc_tlock.specs.BookState.{no_side, tills_at};
-ghost use Rattle.dmc_tlock.specs.Opening.{HasList, IsOneTill, side_after_opening, new_pass};
+ghost use Rattle.dmc_tlock.specs.Opening.{side_after_opening, new_pass};
+ghost use Rattle.dmc_tlock.specs.internal.Opening.{HasList, IsOneTill};
 ghost use Rattle.dmc_tlock.specs.contracts.pass.ClientPass.{the_row};
 
 use dmc_ledger::bundle::{StampBooks, StampTills};

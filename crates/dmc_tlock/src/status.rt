@@ -1,7 +1,7 @@
 //! What a tracker book reports.
 ghost use Rattle.std.specs.Prelude.{◌≡◌, ◌+◌, ◌<◌, ◌≤◌, length};
 ghost use Rattle.dmc_ledger.specs.Bundles.{server_side};
-ghost use Rattle.dmc_tlock.specs.Status.{IsReadOff};
+ghost use Rattle.dmc_tlock.specs.internal.Status.{IsReadOff};
 
 use dmc_ledger::desk::ServerDesk;
 use dmc_ledger::setup::Setup;

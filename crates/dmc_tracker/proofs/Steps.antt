@@ -21,11 +21,6 @@ use Rattle.dmc_tracker.specs.Server.{minus, IsPart, counted_at, numbers_now, vie
 use Rattle.dmc_tracker.proofs.ServerLemmas.{seen_at, next_params-view, view-stamp, AreKept-stamp, view-skip, AreKept-skip, AreKept-response, view-response, one_delta, one_rho}
 use Rattle.dmc_tracker.proofs.RepresentsLemmas.{next_params-represents, RepresentsEvents-stamp, RepresentsEvents-skip, RepresentsEvents-response}
 
--- a number is below another where not being so is an error, and there is none
-pub below_if_ok : {X E : Type 0} {x : X} {e : E} (a b : ℕ) → (b ≤ a → ◌≡◌ {A = Result X E} (Ok x) (Err e)) → a < b
-below_if_ok {X} {E} {x} {e} a b h =
-    elim (cases_lt a b) [ inl l ↦ l | inr l ↦ let no : ◌≡◌ {A = Result X E} (Ok x) (Err e) = h l in cc ]
-
 -- ---- what the result says of a refusal
 
 module _ {X E : Type 0} where
@@ -121,9 +116,9 @@ module _ {counting : Counting} {most : ℕ} {comps : Params} {items : List Serve
 
     -- ---- a response
 
-    module _ (phase : PhaseType) {one : Params} (one_is : one ≡ one_in phase) (fewer : now.completions.delta < now.most) where
+    module _ (phase : PhaseType) {one : Params} (one_is : one ≡ one_in phase) (not_full : now.completions.delta ≢ now.most) where
       room_for_one : comps.delta < most
-      room_for_one = omega (arith, fewer, ap (λ (n : Numbers). n.completions.delta) view, ap (λ (n : Numbers). n.most) view)
+      room_for_one = omega (arith, not_full, kept.completions_most, ap (λ (n : Numbers). n.completions.delta) view, ap (λ (n : Numbers). n.most) view)
 
       ones : (one.delta ≡ 1) × (one.rho ≤ 1)
       ones = rw one_is (one_delta phase, omega (arith, one_delta phase, one_rho phase))
@@ -260,9 +255,12 @@ module _ {counting : Counting} {most : ℕ} {comps : Params} {items : List Serve
 
           -- ---- what the test let through
 
-          module _ (bound : (numbers_at now s).sent.delta + (next_params now s).delta ≤ now.most) (narrow : (next_params now s).delta ≤ max_count) where
+          module _ (not_full : IsFullAt now s → ⊥) where
+            limits : (params.delta ≤ max_count) × (x.sent.delta + params.delta ≤ most)
+            limits = bounds (λ h. not_full (is_full h))
+
             room : x.sent.delta + params.delta ≤ most
-            room = omega (arith, bound, sent_now, ap (λ (p : Params). p.delta) carried, ap (λ (n : Numbers). n.most) view)
+            room = limits.1
 
             pub sent_fits : (x.sent.delta + params.delta < 2 ^ 64) × (x.sent.rho + params.rho < 2 ^ 64)
             sent_fits =
@@ -270,7 +268,7 @@ module _ {counting : Counting} {most : ℕ} {comps : Params} {items : List Serve
 
             pub narrow_counts : (params.delta < 2 ^ 32) × (params.rho < 2 ^ 32)
             narrow_counts =
-                let d : params.delta < 2 ^ 32 = omega (arith, narrow, ap (λ (p : Params). p.delta) carried) in
+                let d : params.delta < 2 ^ 32 = omega (arith, limits.0) in
                 (d, omega (arith, d, is_params))
 
             pub stamp_kept : {sent' : Params} → sent' ≡ plus x.sent params → AreKept counting most comps (set items s.0 (record { sent = sent'; skipped = x.skipped; own = x.own; mark = counted }))

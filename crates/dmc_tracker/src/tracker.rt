@@ -152,6 +152,24 @@ impl ServiceTracker {
         ensures kept { Keeps self.old self.new }
     {
         self.can_stamp(server)?;
+        Ok(self.stamp_checked(server))
+    }
+
+    /// Stamps a request to a server where `can_stamp` returns Ok: it needs no further test. For a caller that has to do more
+    /// between the test and the stamp; otherwise `get_req_params` does both.
+    pub fn stamp_checked(&mut self, server: ServerId) -> ReqParams
+        requires within { server.0 < length self.old.servers }
+        requires not_full { IsFullAt self.old server → ⊥ }
+        ensures params { result ≡ next_params self.old server }
+        ensures after { self.new ≡ after_stamp server self.old }
+
+        // Of each list that the tracker represents, it takes the numbers to those of the list with this stamp, which
+        // carries what the list demands.
+        ensures represents { (events : List TrackerEvent) → RepresentsEvents self.old events
+            → (result ≡ demanded self.old.counting server events) × RepresentsEvents self.new (events ++ TrackerEvent.Stamp server result ∷ []) }
+
+        ensures kept { Keeps self.old self.new }
+    {
         let index = server.0 as usize;
         let counts = self.servers[index];
         let counted = counts.counted(self.counting, self.completions);
@@ -163,7 +181,7 @@ impl ServiceTracker {
             mark: counted,
             ..counts
         };
-        Ok(ReqParams::new(params.delta as u32, params.rho as u32).unwrap())
+        ReqParams::new(params.delta as u32, params.rho as u32).unwrap()
     }
 
     /// Skips what is pending at a server: the next stamp to it counts only later completions. It sends nothing. Where a stamp
@@ -233,6 +251,23 @@ impl ServiceTracker {
         ensures kept { Keeps self.old self.new }
     {
         self.can_respond(server)?;
+        self.track_checked(server, phase);
+        Ok(())
+    }
+
+    /// Counts a completion where `can_respond` returns Ok: it needs no further test. For a caller that has to do more
+    /// between the test and the count; otherwise `track_resp` does both.
+    pub fn track_checked(&mut self, server: ServerId, phase: PhaseType)
+        requires within { server.0 < length self.old.servers }
+        requires not_full { self.old.completions.delta ≡ self.old.most → ⊥ }
+        ensures after { self.new ≡ after_response server phase self.old }
+
+        // Of each list that the tracker represents, it takes the numbers to those of the list with this response.
+        ensures represents { (events : List TrackerEvent) → RepresentsEvents self.old events
+            → RepresentsEvents self.new (events ++ TrackerEvent.Response server phase ∷ []) }
+
+        ensures kept { Keeps self.old self.new }
+    {
         let one = Counts::one(phase);
         self.completions = self.completions.plus(one);
         let index = server.0 as usize;
@@ -241,7 +276,6 @@ impl ServiceTracker {
             own: counts.own.plus(one),
             ..counts
         };
-        Ok(())
     }
 
     /// The sums of the deltas and of the rhos stamped to a server, or `None` where the tracker has no such server.

@@ -3,7 +3,8 @@ use Rattle.std.proofs.lemmas.List.{length-set}
 use Rattle.dmc_ledger.specs.Bundles.{ServerSide, StampHoldings, server_side}
 use Rattle.dmc_ledger.specs.Moves.{new_tills}
 use Rattle.dmc_ledger.specs.declared.desk.ServerDesk.{ServerDesk}
-use Rattle.dmc_tlock.specs.Opening.{IsOneTill, side_after_opening}
+use Rattle.dmc_tlock.specs.Opening.{side_after_opening}
+use Rattle.dmc_tlock.specs.internal.Opening.{IsOneTill}
 use Rattle.dmc_tlock.proofs.OpeningLemmas.{books_kept, seen_without}
 use Rattle.dmc_tlock.proofs.pass.open_desks.Goals as goal
 

@@ -2,7 +2,7 @@ use Rattle.std.proofs.Common.{arith, ◌<◌, length, sym, subst, rules}
 use Rattle.std.proofs.lemmas.Grind.{common_steps}
 use Rattle.dmc_ledger.specs.Bundles.{ServerSide, stamp_holdings}
 use Rattle.dmc_ledger.specs.Moves.{AreWithin}
-use Rattle.dmc_tlock.specs.Status.{IsReadOff}
+use Rattle.dmc_tlock.specs.internal.Status.{IsReadOff}
 use Rattle.dmc_tlock.proofs.DeskLemmas.{found}
 use Rattle.dmc_tlock.proofs.StatusLemmas.{IsReadable, readable, IsStatusOf-read, IsWithin-read, AreSums-status}
 use Rattle.dmc_tlock.proofs.book.TrackerBook.status.Goals as goal

@@ -8,7 +8,7 @@ use Rattle.dmc_tlock.specs.Entries.{side_after_stamp}
 use Rattle.dmc_tlock.specs.Consistent.{IsConsistent}
 use Rattle.dmc_tlock.proofs.DeskLemmas.{found, desks-set}
 use Rattle.dmc_tlock.proofs.ConsistentLemmas.{IsConsistent-stamp, HasRoom, has_room}
-use Rattle.dmc_tlock.proofs.book.TrackerBook.stamp_params.Goals as goal
+use Rattle.dmc_tlock.proofs.book.TrackerBook.stamp.Goals as goal
 
 pub issue_stamp-requires-clause-delta : goal.issue_stamp-requires-clause-delta
 issue_stamp-requires-clause-delta g c =

@@ -1,0 +1,6 @@
+-- A tracker's book while it is opened.
+pub mod Opening
+-- How a status is read.
+pub mod Status
+-- The list after a rotation.
+pub mod Segments

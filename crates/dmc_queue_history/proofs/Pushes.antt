@@ -11,7 +11,8 @@ use Rattle.dmc_queue_history.specs.declared.kept.QueuedByWeight.{QueuedByWeight}
 use Rattle.dmc_queue_history.specs.declared.kept.Queued.{Queued}
 use Rattle.dmc_queue_history.specs.declared.kept.Granted.{Granted}
 use Rattle.dmc_queue_history.specs.declared.lists.Lists.{Lists}
-use Rattle.dmc_queue_history.specs.Kept.{Adds, Kept, event_at, event_in, event_of_granted, event_of_queued, event_of_queued_by_weight, index_of, list_of, place_in}
+use Rattle.dmc_queue_history.specs.Kept.{Adds, Kept, event_at, event_in, event_of_granted, event_of_queued, event_of_queued_by_weight, index_of, list_of}
+use Rattle.dmc_queue_history.specs.internal.Kept.{place_in}
 
 -- what stays where one list is read, and the others as before
 stays_then : {E : Type 0} (b : Bool) (old new rest : Option E) → (is_some old ≡ true → new ≡ old)

@@ -1,6 +1,6 @@
 -- How a queue's history keeps its events: each in the list of those of its form, and the places of all in order. Contracts
 -- of the history cite the list of events alone.
-use Rattle.std.specs.Prelude.{◌≡◌, ℕ, ◌+◌, ◌*◌, ◌/◌, ◌%◌, ◌≤◌, ◌==◌, true, min, List, length, Option, Some, None, is_some, option_map, option_to_list, flat_map, slice_get, if◌then◌else◌}
+use Rattle.std.specs.Prelude.{◌≡◌, ℕ, ◌+◌, ◌/◌, ◌%◌, ◌≤◌, ◌==◌, true, min, List, length, Option, Some, None, is_some, option_map, option_to_list, flat_map, slice_get, if◌then◌else◌}
 use Rattle.std.specs.List.{AllByRecursion}
 use Rattle.dmc_types.specs.Limits.{max_events}
 use Rattle.dmc_types.specs.declared.command.Command.TheVariants as commands
@@ -41,9 +41,6 @@ event_of_granted g = record {
 
 abbrev pub list_count : ℕ
 list_count = 4
-
-abbrev pub place_in : ℕ → ℕ → ℕ
-place_in list index = list_count * index + list
 
 abbrev pub list_of : ℕ → ℕ
 list_of place = place % list_count

@@ -182,6 +182,7 @@ impl<T: Tag> EventHistory<T> {
     }
 
     /// Puts an event at the end as it is, in a reserved place.
+    #[inline(never)]
     fn push_other(&mut self, event: Event<T>)
         requires { 0 < self.old.room }
         ensures events { self.new.events ≡ self.old.events ++ event ∷ [] }
@@ -194,6 +195,7 @@ impl<T: Tag> EventHistory<T> {
     }
 
     /// Puts an event at the end, in a reserved place.
+    #[inline(always)]
     pub fn push_reserved(&mut self, event: Event<T>)
         requires { 0 < self.old.room }
         ensures events { self.new.events ≡ self.old.events ++ event ∷ [] }
@@ -222,6 +224,7 @@ impl<T: Tag> EventHistory<T> {
     }
 
     /// Puts a command whose reply was tags at the end.
+    #[inline(never)]
     fn push_tagged(&mut self, worker: WorkerId, command: Command, tags: Tags<T>)
         requires { 0 < self.old.room }
         ensures events { self.new.events ≡ self.old.events
@@ -247,6 +250,7 @@ impl<T: Tag> EventHistory<T> {
     }
 
     /// Puts a command whose reply was a grant at the end.
+    #[inline(always)]
     fn push_grant(
         &mut self,
         worker: WorkerId,

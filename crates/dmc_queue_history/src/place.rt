@@ -1,6 +1,7 @@
 //! Where an event is: in which list, and at which index there.
 ghost use Rattle.std.specs.Prelude.{◌≡◌, ◌<◌, ◌^◌};
-ghost use Rattle.dmc_queue_history.specs.Kept.{index_of, list_count, list_of, place_in};
+ghost use Rattle.dmc_queue_history.specs.Kept.{index_of, list_count, list_of};
+ghost use Rattle.dmc_queue_history.specs.internal.Kept.{place_in};
 
 /// The numbers of the lists.
 pub(crate) const BY_WEIGHT: u32 = 0;

@@ -168,6 +168,7 @@ impl<T: Tag, S: Setup> SegmentedHistory<T, S> {
     }
 
     /// Puts an event at the end, in a reserved place.
+    #[inline(always)]
     pub fn push_reserved(&mut self, event: Event<T>)
         requires { 0 < self.old.room }
         ensures events { self.new.events ≡ self.old.events ++ event ∷ [] }

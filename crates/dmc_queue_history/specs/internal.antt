@@ -1,0 +1,2 @@
+-- Where a list stores an event.
+pub mod Kept

@@ -26,7 +26,8 @@ use Rattle.dmc_pull.specs.Allowed.{is_allowed, PullsIf}
 use Rattle.dmc_pull.specs.declared.granting.PullFault.TheVariants as pull
 use Rattle.dmc_book.specs.declared.fault.RunFault.{RunFault}
 use Rattle.dmc_book.specs.declared.fault.RunFault.TheVariants as run
-use Rattle.dmc_book.specs.Calls.{IsOfDeclined, Asks, Strays}
+use Rattle.dmc_book.specs.Calls.{Asks, Strays}
+use Rattle.dmc_book.specs.internal.Calls.{IsOfDeclined}
 use Rattle.dmc_types.specs.Values.{Setting}
 use Rattle.dmc_tag.specs.declared.event.Event.{Event}
 use Rattle.dmc_book.specs.Consistent.{HasDesk, IsReplayed}

@@ -21,13 +21,16 @@ use Rattle.dmc_ledger.specs.Accounts.{Account, total_of}
 use Rattle.dmc_ledger.specs.Bundles.{ClientSide}
 use Rattle.dmc_ledger.specs.Moves.{after_issue}
 use Rattle.dmc_book.specs.declared.counts.Numbers.{Numbers}
-use Rattle.dmc_book.specs.Counts.{accepted, count, numbers_of, no_numbers, worker_adds, stamps_added, delta_added, rho_added, grants_added, units_for, grant_in, is_miss, one_if, IsSmall}
+use Rattle.dmc_book.specs.Counts.{accepted, count, numbers_of, no_numbers, worker_adds, stamps_added, delta_added, rho_added, grants_added, units_for, grant_in, is_miss, one_if}
+use Rattle.dmc_book.specs.internal.Counts.{IsSmall}
 use Rattle.dmc_book.specs.BookState.{AccountsState, PassState, WorkerSide, accounts_of, no_desk, no_worker, state_of}
-use Rattle.dmc_book.specs.Consistent.{AreConsistent, AreTokensFit, IsCounted, IsReplayed, IsWorker, IsDesk, AreWorkersApart, AreClientsApart, AreDesks, AreWithin, AreGrantsWithin, HasDesk, HasLeft, IsSeated, max_before, reaching}
+use Rattle.dmc_book.specs.Consistent.{AreConsistent, AreTokensFit, IsCounted, IsReplayed, IsWorker, IsDesk, AreWorkersApart, AreClientsApart, AreDesks, AreWithin, HasDesk, HasLeft, IsSeated, reaching}
+use Rattle.dmc_book.specs.internal.Consistent.{AreGrantsWithin, max_before}
 use Rattle.dmc_book.specs.Settling.{IsGathered}
 use Rattle.dmc_book.proofs.RenewingLemmas.{all_there, worker_there}
 use Rattle.dmc_book.proofs.WorkerLemmas.{unmoved_at}
-use Rattle.dmc_book.specs.Moves.{IsEnrolled, IsOpen, accounts_after, book_after, worker_after, desk_after}
+use Rattle.dmc_book.specs.Moves.{IsEnrolled, IsOpen, book_after, worker_after, desk_after}
+use Rattle.dmc_book.specs.internal.Moves.{accounts_after}
 use Rattle.dmc_tag.proofs.Lists.{all_as, all_both, all_mapped, all_next, position_map}
 
 -- ---- the counts

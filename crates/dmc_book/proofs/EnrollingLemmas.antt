@@ -12,9 +12,10 @@ use Rattle.dmc_ledger.specs.Accounts.{new_book}
 use Rattle.dmc_book.specs.BookState.{AccountsState, WorkerSide, no_desk}
 use Rattle.dmc_book.specs.Consistent.{AreConsistent, AreDesks, AreTokensFit, AreWorkersApart, HasLeft, IsCounted, IsSeated, IsWorker, reaching}
 use Rattle.dmc_book.specs.Counts.{accepted, count, grant_in, no_numbers, numbers_of, one_if, worker_adds}
-use Rattle.dmc_book.specs.Enrolling.{accounts_enrolled}
+use Rattle.dmc_book.specs.internal.Enrolling.{accounts_enrolled}
 use Rattle.dmc_book.specs.Moves.{IsOpen}
-use Rattle.dmc_book.specs.Opening.{HaveRoom, desk_with_tills, new_worker}
+use Rattle.dmc_book.specs.Opening.{desk_with_tills, new_worker}
+use Rattle.dmc_book.specs.internal.Opening.{HaveRoom}
 use Rattle.dmc_book.specs.declared.counts.Numbers.{Numbers}
 use Rattle.dmc_book.proofs.ExtendingLemmas.{apart_from, desk_opened, has_from, reached_at_most}
 use Rattle.dmc_book.proofs.JoiningLemmas.{nothing_counted}

@@ -12,9 +12,11 @@ use Rattle.dmc_ledger.specs.declared.desk.ClientDesk.{ClientDesk}
 use Rattle.dmc_book.specs.BookState.{AccountsState, WorkerSide, no_desk, no_worker}
 use Rattle.dmc_book.specs.Consistent.{AreClientsApart, AreConsistent, AreDesks, AreTokensFit, HasDesk, HasLeft, IsDesk, IsWorker, reaching}
 use Rattle.dmc_book.specs.Counts.{accepted, grant_in, one_if}
-use Rattle.dmc_book.specs.Joining.{accounts_extended, desks_from, id_of, reach_at, with_reach}
+use Rattle.dmc_book.specs.Joining.{desks_from, id_of, reach_at, with_reach}
+use Rattle.dmc_book.specs.internal.Joining.{accounts_extended}
 use Rattle.dmc_book.specs.Moves.{IsOpen}
-use Rattle.dmc_book.specs.Opening.{AreApart, HaveRoom, desk_with_tills}
+use Rattle.dmc_book.specs.Opening.{AreApart, desk_with_tills}
+use Rattle.dmc_book.specs.internal.Opening.{HaveRoom}
 use Rattle.dmc_book.proofs.Counting.{one_at_most}
 use Rattle.dmc_book.proofs.OpeningLemmas.{names_by_sides}
 use Rattle.dmc_book.proofs.RenewingLemmas.{all_set, all_there, apart_set, seated_set, worker_there}

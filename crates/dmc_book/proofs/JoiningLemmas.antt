@@ -19,7 +19,8 @@ use Rattle.dmc_queue_history.specs.Segmented.{Segmented}
 use Rattle.dmc_book.specs.BookState.{AccountsState, WorkerSide, accounts_of, no_desk}
 use Rattle.dmc_book.specs.Consistent.{AreClientsApart, AreConsistent, AreDesks, HasDesk, IsCounted, IsDesk, reaching}
 use Rattle.dmc_book.specs.Counts.{accepted, count, delta_added, grant_in, grants_added, is_phase, one_if, params_for, rho_added, stamps_added, stamps_for, units_for}
-use Rattle.dmc_book.specs.Joining.{IsUnissued, IsUnused, accounts_admitted}
+use Rattle.dmc_book.specs.Joining.{IsUnissued, IsUnused}
+use Rattle.dmc_book.specs.internal.Joining.{accounts_admitted}
 use Rattle.dmc_book.specs.Moves.{desk_place}
 use Rattle.dmc_book.proofs.OpeningLemmas.{named_as}
 

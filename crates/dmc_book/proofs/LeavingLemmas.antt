@@ -15,7 +15,8 @@ use Rattle.dmc_book.specs.Counts.{accepted, grant_in, one_if}
 use Rattle.dmc_book.specs.Joining.{id_of}
 use Rattle.dmc_book.specs.Leaving.{HoldsNothing, MayLeave}
 use Rattle.dmc_book.specs.Moves.{IsOpen}
-use Rattle.dmc_book.specs.Settling.{AreOneOpen, AreUnitsTakenIn, IsDeskTakenIn, IsTakenIn, closed_worker}
+use Rattle.dmc_book.specs.Settling.{AreUnitsTakenIn, IsDeskTakenIn, IsTakenIn, closed_worker}
+use Rattle.dmc_book.specs.internal.Settling.{AreOneOpen}
 use Rattle.dmc_book.proofs.ExtendingLemmas.{apart_as, has_as}
 use Rattle.dmc_book.proofs.OpeningLemmas.{names_by_sides}
 use Rattle.dmc_book.proofs.RenewingLemmas.{all_set, apart_set, seated_set, worker_there}

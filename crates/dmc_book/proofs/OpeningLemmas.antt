@@ -20,7 +20,8 @@ use Rattle.dmc_book.specs.Counts.{one_if}
 use Rattle.dmc_book.specs.Consistent.{AreConsistent, AreTokensFit, HasLeft, IsCounted, IsReplayed, IsWorker, IsDesk, AreDesks, AreWorkersApart, AreClientsApart, reaching}
 use Rattle.dmc_book.specs.Joining.{id_of}
 use Rattle.dmc_book.specs.Moves.{IsOpen}
-use Rattle.dmc_book.specs.Opening.{AreApart, AreNamedOnce, HaveRoom, IsNewDesk, desk_with_tills, with_tills, new_unit, new_worker, new_workers, new_pass, new_passes, new_accounts_state}
+use Rattle.dmc_book.specs.Opening.{AreApart, AreNamedOnce, IsNewDesk, desk_with_tills, with_tills, new_unit, new_worker, new_workers, new_pass, new_passes, new_accounts_state}
+use Rattle.dmc_book.specs.internal.Opening.{HaveRoom}
 use Rattle.std.proofs.lemmas.Bool.{or_parts}
 
 -- ---- no number is named twice

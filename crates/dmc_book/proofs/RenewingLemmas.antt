@@ -10,7 +10,8 @@ use Rattle.dmc_tag.proofs.Lists.{all_as}
 use Rattle.dmc_book.specs.Consistent.{AreConsistent, AreTokensFit, AreWorkersApart, HasLeft, IsCounted, IsDesk, IsWorker, reaching}
 use Rattle.dmc_book.specs.Counts.{one_if}
 use Rattle.dmc_book.specs.Moves.{IsOpen}
-use Rattle.dmc_book.specs.Renewing.{accounts_renewed, renewed_worker}
+use Rattle.dmc_book.specs.Renewing.{renewed_worker}
+use Rattle.dmc_book.specs.internal.Renewing.{accounts_renewed}
 
 module _ (P : WorkerSide → Type 0) where
   pub all_there : (ws : List WorkerSide) (i : ℕ) → i < length ws → AllByRecursion P ws → P (slice_index_or ws i no_worker)

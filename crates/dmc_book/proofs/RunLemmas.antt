@@ -28,7 +28,7 @@ use Rattle.dmc_tag.proofs.Lists.{all_as}
 use Rattle.dmc_book.proofs.RenewingLemmas.{all_there}
 use Rattle.dmc_book.specs.Counts.{accepted, is_tagged}
 use Rattle.dmc_book.specs.Moves.{IsEnrolled, takes}
-use Rattle.dmc_book.specs.Runs.{IsBehind, IsFull, Runs, StraysHere}
+use Rattle.dmc_book.specs.internal.Runs.{IsBehind, IsFull, Runs, StraysHere}
 use Rattle.dmc_book.proofs.AskLemmas.{strays_by_history}
 use Rattle.dmc_book.proofs.Causes.{memory_is_not_full}
 

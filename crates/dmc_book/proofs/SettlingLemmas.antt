@@ -12,7 +12,8 @@ use Rattle.dmc_book.specs.BookState.{PassState, WorkerAccounts, WorkerSide, Work
 use Rattle.dmc_book.specs.Consistent.{AreDesks, HasLeft, IsCounted, IsWorker, reaching}
 use Rattle.dmc_book.specs.Counts.{one_if}
 use Rattle.dmc_book.specs.Moves.{AreOf, IsEnrolled}
-use Rattle.dmc_book.specs.Settling.{AreDeskUnits, AreOneOpen, ArePassesTakenIn, AreSettledDesks, AreUnitsTakenIn, IsDeskTakenIn, IsGathered, IsOpenOrShut, IsSettledBook, IsSettledWorker, IsShut, IsTakenIn, closed_accounts, closed_worker, having, left_in, open_passes}
+use Rattle.dmc_book.specs.Settling.{AreDeskUnits, AreSettledDesks, AreUnitsTakenIn, IsDeskTakenIn, IsGathered, IsSettledBook, IsSettledWorker, IsTakenIn, closed_accounts, closed_worker, left_in, open_passes}
+use Rattle.dmc_book.specs.internal.Settling.{AreOneOpen, ArePassesTakenIn, IsOpenOrShut, IsShut, having}
 use Rattle.dmc_tag.proofs.Lists.{all_append, all_as, all_at, all_mapped}
 use Rattle.dmc_book.proofs.OpeningLemmas.{all_popped, seam, split, taken}
 

@@ -10,7 +10,7 @@ use Rattle.dmc_tlock.specs.BookState.{StampValue}
 use Rattle.dmc_book.specs.BookState.{BookState, PassState}
 use Rattle.dmc_book.specs.Calls.{IsForDesk, submit_cause}
 use Rattle.dmc_book.specs.Moves.{IsEnrolled}
-use Rattle.dmc_book.specs.Submits.{FindsDesk, IsAsked, Submits}
+use Rattle.dmc_book.specs.internal.Submits.{FindsDesk, IsAsked, Submits}
 use Rattle.dmc_book.proofs.Causes.{memory_is_not_full}
 
 module _ {T : Type 0} (b : BookState T) (p : PassState) (stamp : StampValue) (tills : StampHoldings) where

@@ -1,5 +1,5 @@
 -- What a call does to a book and a pass, and what it is refused for.
-use Rattle.std.specs.Prelude.{◌≡◌, ℕ, Bool, true, false, not, List, Option, Some, None, Result, Ok, Err, is_some, slice_index_or}
+use Rattle.std.specs.Prelude.{◌≡◌, ℕ, Bool, true, false, not, List, Some, None, Result, Ok, Err, is_some, slice_index_or}
 use Rattle.dmc_types.specs.declared.ids.ClientId.{ClientId}
 use Rattle.dmc_types.specs.declared.config.PhaseType.{PhaseType}
 use Rattle.dmc_types.specs.declared.command.Command.{Command}
@@ -14,9 +14,7 @@ use Rattle.dmc_tag.specs.Answers.{pull_reply}
 use Rattle.dmc_tag.specs.declared.reply.Pulled.{Pulled}
 use Rattle.dmc_tag.specs.declared.event.Event.{Event}
 use Rattle.dmc_tag.specs.declared.reply.Reply.{Reply}
-use Rattle.dmc_tag.specs.declared.reply.Reply.TheVariants.{Tagged, Refused}
-use Rattle.dmc_book.specs.declared.asking.Added.{Added}
-use Rattle.dmc_book.specs.declared.asking.Added.TheVariants as added
+use Rattle.dmc_tag.specs.declared.reply.Reply.TheVariants.{Refused}
 use Rattle.dmc_history.specs.declared.ReserveFault.{ReserveFault}
 use Rattle.dmc_history.specs.declared.ReserveFault.TheVariants as reserve
 use Rattle.dmc_ledger.specs.Bundles.{ClientSide, StampHoldings}
@@ -110,16 +108,6 @@ abbrev pub submit_cause : ReserveFault → SubmitCause
 submit_cause reserve.HistoryFull = submit.HistoryFull
 submit_cause reserve.Memory = submit.Memory
 
--- ---- what the queue makes of a command
-
--- what a grant that the units can't take is refused for, of a pass that has tills of fewer desks than there are, or of all
-abbrev pub IsOfDeclined : Type 0 → RunFault → Type 0
-IsOfDeclined behind run.Stranger = behind → ⊥
-IsOfDeclined behind run.Behind = behind
-IsOfDeclined behind run.NoDesk = ⊥
-IsOfDeclined behind run.HistoryFull = ⊥
-IsOfDeclined behind run.Memory = ⊥
-
 -- a step whose grant the units can take; or no step, since they can't; or no step since memory is refused
 abbrev pub Asks : {T : Type 0} → Tagging T → Type 0 → (ClientId → PhaseType → Bool) → State T → State T → Command → Result (Reply T) RunFault → Type 0
 Asks ops behind takes old new command (Ok reply) = Steps ops old new command (Some reply) × (is_allowed takes reply ≡ true) × (Strays takes command reply → ⊥)
@@ -134,8 +122,3 @@ abbrev pub asked : {T : Type 0} → Result Pulled RunOrRange → Result (Reply T
 asked (Ok pulled) = Ok (pull_reply pulled)
 asked (Err pull.Range) = Ok (Refused Range)
 asked (Err (pull.Run fault)) = Err fault
-
-abbrev pub added_reply : {T : Type 0} → Added T → Option (Reply T)
-added_reply (added.Tagged tags) = Some (Tagged tags)
-added_reply (added.Refused refusal) = Some (Refused refusal)
-added_reply added.Memory = None

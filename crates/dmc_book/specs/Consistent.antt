@@ -11,7 +11,7 @@ use Rattle.dmc_tag.specs.Replay.{after, replays}
 use Rattle.dmc_tag.specs.declared.event.Event.{Event}
 use Rattle.dmc_history.specs.Segments.{max_released}
 use Rattle.dmc_ledger.specs.Accounts.{Account, total_of}
-use Rattle.dmc_ledger.specs.Bundles.{ClientSide, GrantAccounts}
+use Rattle.dmc_ledger.specs.Bundles.{ClientSide}
 use Rattle.dmc_book.specs.BookState.{AccountsState, WorkerAccounts, WorkerSide, no_desk}
 use Rattle.dmc_book.specs.Counts.{accepted, max_added, one_if, count, worker_adds, stamps_added, delta_added, rho_added, grant_in, grants_added}
 use Rattle.dmc_book.specs.Moves.{IsOpen, desk_place}
@@ -103,10 +103,6 @@ pub record IsReplayed {T : Type 0} (ops : Tagging T) (queue : State T) (config :
   pub represents : Represents queue (after ops config history)
   pub replaying : replays ops config history
 
--- a total of at most so much is sure to take what one more event adds
-abbrev pub max_before : ℕ
-max_before = 2 ^ 63 - 2 ^ 32
-
 -- none of the totals is past a bound
 pub record AreWithin (n : ℕ) (books : WorkerAccounts) : Type 0 where
   pub calls : total_of books.calls ≤ n
@@ -114,7 +110,3 @@ pub record AreWithin (n : ℕ) (books : WorkerAccounts) : Type 0 where
   pub tokens : total_of books.tokens ≤ n
   pub grants : total_of books.grants ≤ n
   pub granted : total_of books.granted ≤ n
-
-pub record AreGrantsWithin (n : ℕ) (books : GrantAccounts) : Type 0 where
-  pub reservation : total_of books.reservation ≤ n
-  pub priority : total_of books.priority ≤ n

@@ -1,5 +1,5 @@
 -- Counts over a queue's history: what each event adds to a count, and the sums.
-use Rattle.std.specs.Prelude.{ℕ, ◌+◌, ◌-◌, ◌^◌, ◌≤◌, ◌==◌, ◌&&◌, Bool, true, false, if◌then◌else◌, List, [], ◌∷◌, Option, Some, None, is_some}
+use Rattle.std.specs.Prelude.{ℕ, ◌+◌, ◌-◌, ◌^◌, ◌==◌, ◌&&◌, Bool, true, false, if◌then◌else◌, List, [], ◌∷◌, Option, Some, None, is_some}
 use Rattle.dmc_types.specs.Values.{Params, no_counts}
 use Rattle.dmc_types.specs.declared.ids.ClientId.{ClientId}
 use Rattle.dmc_types.specs.declared.config.PhaseType.{PhaseType}
@@ -156,11 +156,3 @@ phase_grants phase e = units_in phase (grant_in e.reply)
 abbrev pub count : {T : Type 0} → (Event T → ℕ) → List (Event T) → ℕ
 count adds [] = 0
 count adds (e ∷ es) = adds e + count adds es
-
--- each number fits an u32
-pub record IsSmall (n : Numbers) : Type 0 where
-  pub calls : n.calls ≤ max_added
-  pub misses : n.misses ≤ max_added
-  pub tokens : n.tokens ≤ max_added
-  pub grants : n.grants ≤ max_added
-  pub granted : n.granted ≤ max_added

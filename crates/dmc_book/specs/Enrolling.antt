@@ -1,31 +1,14 @@
 -- Workers that come later.
-use Rattle.std.specs.Prelude.{ℕ, ◌<◌, ◌≤◌, ◌++◌, List, [], ◌∷◌, map, length}
+use Rattle.std.specs.Prelude.{ℕ, ◌<◌, ◌≤◌, ◌++◌, [], ◌∷◌, map, length}
 use Rattle.dmc_types.specs.Limits.{max_workers}
 use Rattle.dmc_types.specs.declared.ids.WorkerId.{WorkerId}
-use Rattle.dmc_book.specs.declared.fault.EnrolFault.{EnrolFault}
-use Rattle.dmc_book.specs.declared.fault.EnrolFault.TheVariants as enrol
-use Rattle.dmc_book.specs.BookState.{AccountsState, BookState, WorkerSide}
-use Rattle.dmc_book.specs.Consistent.{IsSeated}
+use Rattle.dmc_book.specs.BookState.{BookState}
 use Rattle.dmc_book.specs.Opening.{desk_with_tills, new_worker}
 
 -- one worker more may be enrolled, and the mint has five books left
 pub record AreSeatLimits (workers left : ℕ) : Type 0 where
   pub few : workers < max_workers
   pub books : 5 ≤ left
-
--- what holds where a worker is not enrolled for a cause
-abbrev pub IsAgainstWorker : List WorkerSide → ℕ → WorkerId → EnrolFault → Type 0
-IsAgainstWorker workers left w enrol.Known = IsSeated workers w.0
-IsAgainstWorker workers left w enrol.Limit = (IsSeated workers w.0 → ⊥) × (AreSeatLimits (length workers) left → ⊥)
-IsAgainstWorker workers left w enrol.Memory = (IsSeated workers w.0 → ⊥) × AreSeatLimits (length workers) left
-
--- the accounts, and the book, with the worker behind the others, whose books are the next of the mint: its pass has a till of
--- each desk
-abbrev pub accounts_enrolled : {T : Type 0} → ℕ → WorkerId → AccountsState T → AccountsState T
-accounts_enrolled n w a = record a {
-  workers = a.workers ++ new_worker (length a.desks) n w ∷ [];
-  desks = map (desk_with_tills 1) a.desks;
-}
 
 abbrev pub book_enrolled : {T : Type 0} → ℕ → WorkerId → BookState T → BookState T
 book_enrolled n w b = record b {

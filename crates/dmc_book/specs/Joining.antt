@@ -1,13 +1,9 @@
 -- Clients that come later, and passes that are extended to their desks.
-use Rattle.std.specs.Prelude.{◌≡◌, ℕ, ◌<◌, ◌≤◌, ◌++◌, List, [], ◌∷◌, map, take, drop, length, None, is_some, true, slice_index_or, slice_set}
-use Rattle.dmc_types.specs.Limits.{max_clients}
+use Rattle.std.specs.Prelude.{◌≡◌, ℕ, ◌++◌, List, [], ◌∷◌, map, take, drop, length, slice_index_or, slice_set}
 use Rattle.dmc_types.specs.declared.ids.ClientId.{ClientId}
 use Rattle.dmc_ledger.specs.Accounts.{Account, total_of}
 use Rattle.dmc_ledger.specs.Bundles.{ClientSide, GrantHoldings}
-use Rattle.dmc_book.specs.declared.fault.AdmitCause.{AdmitCause}
-use Rattle.dmc_book.specs.declared.fault.AdmitCause.TheVariants as admit
-use Rattle.dmc_book.specs.BookState.{AccountsState, BookState, PassState, WorkerSide, no_worker}
-use Rattle.dmc_book.specs.Moves.{desk_place}
+use Rattle.dmc_book.specs.BookState.{BookState, PassState, WorkerSide, no_worker}
 use Rattle.dmc_book.specs.Opening.{desk_with_tills, new_unit}
 
 -- ---- a client more
@@ -25,17 +21,6 @@ pub record IsUnused (server : ℕ) (d : ClientSide) : Type 0 where
   pub rho : d.held.rho.amount ≡ 0
   pub reservation : IsUnissued d.books.reservation
   pub priority : IsUnissued d.books.priority
-
--- what holds where a client is not admitted for a cause
-abbrev pub IsAgainst : ℕ → List ClientSide → ClientSide → AdmitCause → Type 0
-IsAgainst server desks d admit.Stranger = IsUnused server d → ⊥
-IsAgainst server desks d admit.Known = IsUnused server d × (is_some (desk_place d.client desks) ≡ true)
-IsAgainst server desks d admit.Clients = IsUnused server d × (desk_place d.client desks ≡ None) × (max_clients ≤ length desks)
-IsAgainst server desks d admit.Memory = IsUnused server d × (desk_place d.client desks ≡ None) × (length desks < max_clients)
-
--- the accounts, and the book, with the desk behind the others: no pass has tills of it yet
-abbrev pub accounts_admitted : {T : Type 0} → ClientSide → AccountsState T → AccountsState T
-accounts_admitted d a = record a { desks = a.desks ++ d ∷ [] }
 
 abbrev pub book_admitted : {T : Type 0} → ClientSide → BookState T → BookState T
 book_admitted d b = record b { desks = b.desks ++ d ∷ [] }
@@ -59,13 +44,6 @@ units_from us ds = us ++ map new_unit (drop (length us) ds)
 
 abbrev pub id_of : ClientSide → ClientId
 id_of d = record { 0 = d.client }
-
--- the worker at a place reaches each desk, and its pass has tills of each
-abbrev pub accounts_extended : {T : Type 0} → ℕ → AccountsState T → AccountsState T
-accounts_extended place a = record a {
-  workers = with_reach place (length a.desks) a.workers;
-  desks = desks_from (reach_at place a.workers) a.desks;
-}
 
 abbrev pub book_extended : {T : Type 0} → ℕ → BookState T → BookState T
 book_extended place b = record b {

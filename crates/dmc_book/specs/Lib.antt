@@ -22,14 +22,11 @@ pub mod Moves
 pub mod Opening
 -- Capacity that is reserved for a pass.
 pub mod Renewing
-pub mod Rooms
 -- A book that releases events, in segments.
 pub mod Rotating
--- The effect of a command that is no Add.
-pub mod Runs
 -- A queue's book as it is settled.
 pub mod Settling
 -- What `status` returns.
 pub mod Status
--- The effect of a submit, and the desk of its stamp.
-pub mod Submits
+-- What only contracts of private functions and proofs cite.
+pub mod internal

@@ -10,7 +10,7 @@ use Rattle.dmc_tag.specs.declared.reply.Reply.{Reply}
 use Rattle.dmc_ledger.specs.Bundles.{ClientSide, GrantHoldings}
 use Rattle.dmc_ledger.specs.Moves.{after_issue, with_more, till_in, book_in, tills_after_response}
 use Rattle.dmc_book.specs.declared.counts.Numbers.{Numbers}
-use Rattle.dmc_book.specs.BookState.{WorkerAccounts, WorkerHoldings, WorkerSide, AccountsState, BookState, PassState, no_worker, no_unit}
+use Rattle.dmc_book.specs.BookState.{WorkerAccounts, WorkerHoldings, WorkerSide, BookState, PassState, no_worker, no_unit}
 use Rattle.dmc_book.specs.Counts.{numbers_of, worker_adds, stamps_added, delta_added, rho_added, grants_added, grant_in}
 
 -- each of the five books issues its number, into its till
@@ -47,15 +47,6 @@ desk_after e d = record d {
     reservation = after_issue (grants_added d.client Reservation e) d.books.reservation;
     priority = after_issue (grants_added d.client Priority e) d.books.priority;
   };
-}
-
--- the accounts, with the event recorded in a reserved place
-abbrev pub accounts_after : {T : Type 0} → Event T → AccountsState T → AccountsState T
-accounts_after e a = record a {
-  history = a.history ++ e ∷ [];
-  room = a.room - 1;
-  workers = map (worker_after e) a.workers;
-  desks = map (desk_after e) a.desks;
 }
 
 -- the book, with the event recorded

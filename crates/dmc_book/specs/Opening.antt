@@ -1,12 +1,12 @@
 -- A queue's book that is made.
 use Rattle.std.specs.Prelude.{◌≡◌, ℕ, ◌+◌, ◌*◌, ◌<◌, ◌≤◌, ◌==◌, false, List, [], ◌∷◌, map, length, ⊤}
 use Rattle.std.specs.List.{AllByRecursion}
-use Rattle.dmc_types.specs.Limits.{max_clients, max_events, max_open_tills}
+use Rattle.dmc_types.specs.Limits.{max_clients, max_events}
 use Rattle.dmc_types.specs.Values.{Setting}
 use Rattle.dmc_types.specs.declared.ids.ClientId.{ClientId}
 use Rattle.dmc_types.specs.declared.ids.WorkerId.{WorkerId}
 use Rattle.dmc_ledger.specs.Accounts.{Account, new_book, new_till}
-use Rattle.dmc_ledger.specs.Bundles.{ClientSide, GrantAccounts, GrantHoldings, new_client_side}
+use Rattle.dmc_ledger.specs.Bundles.{ClientSide, GrantHoldings, new_client_side}
 use Rattle.dmc_book.specs.BookState.{AccountsState, BookState, PassState, WorkerAccounts, WorkerHoldings, WorkerSide, state_of}
 
 -- the desk is this server's, as `open_pair` gave it
@@ -101,8 +101,3 @@ new_accounts_state server most n workers desks = record {
 -- a book of such accounts, which is open
 abbrev pub new_state : {T : Type 0} → Setting → ℕ → ℕ → ℕ → List WorkerId → List ClientSide → BookState T
 new_state config server most n workers desks = state_of config (new_accounts_state server most n workers desks) false
-
--- one more till of each of the books may be opened
-pub record HaveRoom (books : GrantAccounts) : Type 0 where
-  pub reservation : books.reservation.open_tills < max_open_tills
-  pub priority : books.priority.open_tills < max_open_tills

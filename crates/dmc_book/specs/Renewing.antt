@@ -1,7 +1,7 @@
 -- Sums of tokens that begin anew.
 use Rattle.std.specs.Prelude.{ℕ, length, slice_index_or, slice_set}
 use Rattle.dmc_ledger.specs.Accounts.{new_book, new_till}
-use Rattle.dmc_book.specs.BookState.{AccountsState, BookState, PassState, WorkerHoldings, WorkerSide, no_worker}
+use Rattle.dmc_book.specs.BookState.{BookState, PassState, WorkerHoldings, WorkerSide, no_worker}
 
 -- the worker, whose two sums of tokens begin anew after this number of events
 abbrev pub renewed_worker : ℕ → WorkerSide → WorkerSide
@@ -16,12 +16,6 @@ renewed_tills tills = record tills { tokens = new_till tills.tokens.number; gran
 
 abbrev pub renewed_pass : PassState → PassState
 renewed_pass p = record p { tills = renewed_tills p.tills }
-
--- the sums of the worker at a place begin anew
-abbrev pub accounts_renewed : {T : Type 0} → ℕ → AccountsState T → AccountsState T
-accounts_renewed place a = record a {
-  workers = slice_set a.workers place (renewed_worker (length a.history) (slice_index_or a.workers place no_worker));
-}
 
 abbrev pub book_renewed : {T : Type 0} → ℕ → BookState T → BookState T
 book_renewed place b = record b {

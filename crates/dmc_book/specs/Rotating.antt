@@ -4,7 +4,7 @@ use Rattle.std.specs.List.{AllByRecursion}
 use Rattle.dmc_history.specs.Segments.{max_released}
 use Rattle.dmc_queue_history.specs.Segmented.{SegmentState}
 use Rattle.dmc_ledger.specs.Accounts.{total_of}
-use Rattle.dmc_book.specs.BookState.{AccountsState, BookState, WorkerAccounts, WorkerSide}
+use Rattle.dmc_book.specs.BookState.{BookState, WorkerAccounts, WorkerSide}
 use Rattle.dmc_book.specs.Moves.{IsOpen}
 
 -- the sums of tokens leave room for the events that may be kept next
@@ -26,7 +26,3 @@ segment_of b = record { config = b.config; server = b.server; history = b.histor
 -- all events are released, and as many as before may be kept
 abbrev pub after_rotating : {T : Type 0} → BookState T → BookState T
 after_rotating b = record b { first = length b.history; most = length b.history + (b.most - b.first) }
-
--- the same of accounts
-abbrev pub accounts_rotated : {T : Type 0} → AccountsState T → AccountsState T
-accounts_rotated a = record a { first = length a.history; most = length a.history + (a.most - a.first); room = 0 }

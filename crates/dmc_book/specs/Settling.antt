@@ -1,5 +1,5 @@
 -- A queue's book that is settled.
-use Rattle.std.specs.Prelude.{◌≡◌, ℕ, ◌+◌, ◌<◌, ◌≤◌, ◌⊎◌, nat_lt, List, [], ◌∷◌, drop, length, slice_index_or, sum_by}
+use Rattle.std.specs.Prelude.{◌≡◌, ℕ, ◌+◌, ◌<◌, ◌≤◌, nat_lt, List, [], ◌∷◌, drop, length, slice_index_or, sum_by}
 use Rattle.std.specs.List.{AllByRecursion}
 use Rattle.dmc_types.specs.declared.config.PhaseType.{PhaseType}
 use Rattle.dmc_types.specs.declared.config.PhaseType.TheVariants.{Reservation, Priority}
@@ -7,7 +7,7 @@ use Rattle.dmc_tag.specs.declared.event.Event.{Event}
 use Rattle.dmc_ledger.specs.Accounts.{Account, after_closing, total_of}
 use Rattle.dmc_ledger.specs.Bundles.{ClientSide, GrantAccounts, GrantHoldings}
 use Rattle.dmc_ledger.specs.Moves.{till_in}
-use Rattle.dmc_book.specs.BookState.{AccountsState, BookState, PassState, WorkerAccounts, WorkerSide, no_desk, no_unit, no_worker}
+use Rattle.dmc_book.specs.BookState.{BookState, PassState, WorkerAccounts, WorkerSide, no_desk, no_unit, no_worker}
 use Rattle.dmc_book.specs.Counts.{count, one_if, worker_adds, stamps_added, delta_added, rho_added, grants_added, phase_grants}
 use Rattle.dmc_book.specs.Moves.{IsEnrolled}
 
@@ -47,16 +47,6 @@ abbrev pub AreGrantsOfDesks : {T : Type 0} → List (Event T) → List ClientSid
 AreGrantsOfDesks history desks = (phase : PhaseType) →
     sum_by (λ d. count (grants_added d.client phase) history) desks ≡ count (phase_grants phase) history
 
--- ---- the workers
-
--- each of the five books has one till open
-pub record AreOneOpen (books : WorkerAccounts) : Type 0 where
-  pub calls : books.calls.open_tills ≡ 1
-  pub misses : books.misses.open_tills ≡ 1
-  pub tokens : books.tokens.open_tills ≡ 1
-  pub grants : books.grants.open_tills ≡ 1
-  pub granted : books.granted.open_tills ≡ 1
-
 -- a worker whose pass is gathered, and reaches no desk
 abbrev pub closed_accounts : WorkerAccounts → WorkerAccounts
 closed_accounts books = record {
@@ -69,16 +59,6 @@ closed_accounts books = record {
 
 abbrev pub closed_worker : WorkerSide → WorkerSide
 closed_worker w = record w { reach = 0; books = closed_accounts w.books }
-
--- the worker's pass was gathered before: that changes nothing more of it
-pub record IsShut (w : WorkerSide) : Type 0 where
-  pub closed : closed_worker w ≡ w
-  pub none_open : w.books.calls.open_tills ≡ 0
-  pub reach : w.reach ≡ 0
-
--- the worker's pass is open, or was gathered
-abbrev pub IsOpenOrShut : WorkerSide → Type 0
-IsOpenOrShut w = AreOneOpen w.books ⊎ IsShut w
 
 -- what was gathered is what the events add, and no till is open
 pub record IsGathered {T : Type 0} (adds : Event T → ℕ) (history : List (Event T)) (book : Account) : Type 0 where
@@ -121,18 +101,6 @@ pub record AreUnitsTakenIn (units : List GrantHoldings) (old new : List ClientSi
       → IsDeskTakenIn (one_if (nat_lt k (length units))) (slice_index_or units k no_unit).reservation.amount (slice_index_or units k no_unit).priority.amount
       (slice_index_or old k no_desk) (slice_index_or new k no_desk)
 
--- how many of the passes have tills of the desk at a place
-abbrev pub having : ℕ → List PassState → ℕ
-having k [] = 0
-having k (p ∷ ps) = one_if (nat_lt k (length p.units)) + having k ps
-
--- each desk gathered its tills of these passes
-pub record ArePassesTakenIn (passes : List PassState) (old new : List ClientSide) : Type 0 where
-  pub as_many : length new ≡ length old
-  pub each : (k : ℕ) → k < length old
-      → IsDeskTakenIn (having k passes) (left_in Reservation k passes) (left_in Priority k passes)
-      (slice_index_or old k no_desk) (slice_index_or new k no_desk)
-
 -- the grant book totals what it did; what the passes held is gathered, and the held till of its pair alone is open
 pub record IsSettledBook {T : Type 0} (adds : Event T → ℕ) (history : List (Event T)) (held : ℕ) (old new : Account) : Type 0 where
   pub number : new.number ≡ old.number
@@ -158,7 +126,3 @@ pub record AreSettledDesks {T : Type 0} (history : List (Event T)) (passes : Lis
 -- nothing of the book is left that could be settled again, and nothing more can be recorded
 abbrev pub after_settling : {T : Type 0} → BookState T → BookState T
 after_settling b = record b { history = []; first = 0; most = 0; workers = []; desks = [] }
-
--- the same of accounts
-abbrev pub accounts_settled : {T : Type 0} → AccountsState T → AccountsState T
-accounts_settled a = record a { history = []; first = 0; most = 0; room = 0; workers = []; desks = [] }

@@ -10,12 +10,15 @@ ghost use Rattle.dmc_book.specs.BookState.{pass_state, worker_side};
 ghost use Rattle.dmc_book.specs.Calls.{event_of, lacks_desk};
 ghost use Rattle.dmc_book.specs.Consistent.{AreConsistent};
 ghost use Rattle.dmc_book.specs.Counts as counts;
-ghost use Rattle.dmc_book.specs.Moves.{IsEnrolled, accounts_after, desk_place, pass_after, takes};
-ghost use Rattle.dmc_book.specs.Renewing.{accounts_renewed, renewed_pass};
-ghost use Rattle.dmc_book.specs.Rotating.{MayRotate, accounts_rotated};
-ghost use Rattle.dmc_book.specs.Submits.{FindsDesk};
+ghost use Rattle.dmc_book.specs.Moves.{IsEnrolled, desk_place, pass_after, takes};
+ghost use Rattle.dmc_book.specs.internal.Moves.{accounts_after};
+ghost use Rattle.dmc_book.specs.Renewing.{renewed_pass};
+ghost use Rattle.dmc_book.specs.internal.Renewing.{accounts_renewed};
+ghost use Rattle.dmc_book.specs.Rotating.{MayRotate};
+ghost use Rattle.dmc_book.specs.internal.Rotating.{accounts_rotated};
+ghost use Rattle.dmc_book.specs.internal.Submits.{FindsDesk};
 
-use crate::desk::{find_stamps, hand_out, take_in};
+use crate::desk::{find_stamps, hand_out, take_stamp};
 use crate::names::place_with_hint;
 use crate::pass::WorkerPass;
 use crate::seat::{Seat, are_low, count, is_enrolled, renew_seat};
@@ -193,7 +196,7 @@ impl<T: Tag, S: Setup> Accounts<T, S> {
             reply: Reply::Tagged(tags),
         };
         count(&mut self.workers, pass.place, &mut pass.tills, &event);
-        take_in(&mut self.desks, desk, tills, client, params, &event);
+        take_stamp(&mut self.desks[desk].held, tills, params);
         self.history
             .push_queued(pass.worker, client, token, params, at, tags);
     }

@@ -4,7 +4,8 @@ ghost use Rattle.dmc_tag.specs.Steps.{Steps};
 ghost use Rattle.dmc_types.specs.declared.command.Command.TheVariants as commands;
 ghost use Rattle.dmc_pull.specs.Queue.{state_of};
 ghost use Rattle.dmc_book.specs.BookState.{pass_state};
-ghost use Rattle.dmc_book.specs.Calls.{Asks, IsOfDeclined, added_reply, asked, is_add};
+ghost use Rattle.dmc_book.specs.Calls.{Asks, asked, is_add};
+ghost use Rattle.dmc_book.specs.internal.Calls.{IsOfDeclined, added_reply};
 ghost use Rattle.dmc_book.specs.Moves.{takes};
 
 use crate::accounts::Accounts;

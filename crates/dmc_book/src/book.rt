@@ -11,7 +11,7 @@ ghost use Rattle.dmc_book.specs.Moves.{IsEnrolled, takes};
 ghost use Rattle.dmc_book.specs.Opening.{AreBookLimits, AreNamedOnce, IsNewDesk, new_passes, new_state};
 ghost use Rattle.dmc_book.specs.Renewing.{book_renewed, renewed_pass};
 ghost use Rattle.dmc_book.specs.Rotating.{MayRotate, after_rotating, segment_of};
-ghost use Rattle.dmc_book.specs.Runs.{Runs};
+ghost use Rattle.dmc_book.specs.internal.Runs.{Runs};
 ghost use Rattle.dmc_book.specs.Settling.{AreGrantsOfDesks, AreOwn, AreSettledDesks, IsSettledWorker, after_settling, closed_worker};
 ghost use Rattle.dmc_book.specs.Status.{IsStatusOf};
 
@@ -29,6 +29,7 @@ use dmc_ledger::setup::Setup;
 use dmc_pull::queue::PullQueue;
 use dmc_queue_history::segment::Segment;
 use dmc_tag::reply::Reply;
+use dmc_tag::scheduler::Scheduler;
 use dmc_tag::tag::Tag;
 use dmc_tlock::witness::Lasting;
 use dmc_types::command::Command;

@@ -1,6 +1,7 @@
 //! What an event adds to the counts.
 ghost use Rattle.std.specs.Prelude.{◌≡◌};
 ghost use Rattle.dmc_book.specs.Counts as counts;
+ghost use Rattle.dmc_book.specs.internal.Counts.{IsSmall};
 
 use dmc_tag::reply::Reply;
 use dmc_types::command::Command;
@@ -75,7 +76,7 @@ pub(crate) fn grant_in<T: Copy>(reply: &Reply<T>) -> Option<(ClientId, PhaseType
 #[inline(always)]
 pub(crate) fn numbers_of<T: Copy>(command: &Command, reply: &Reply<T>) -> Numbers
     ensures value { result ≡ counts.numbers_of command.now reply.now }
-    ensures small { counts.IsSmall result }
+    ensures small { IsSmall result }
 {
     Numbers {
         calls: 1,

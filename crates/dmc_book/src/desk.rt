@@ -3,10 +3,12 @@ ghost use Rattle.std.specs.Prelude.{◌≡◌, ◌==◌, ◌≤◌, ◌<◌, ◌
 ghost use Rattle.std.specs.List.{AllByRecursion};
 ghost use Rattle.dmc_ledger.specs.Accounts.{total_of};
 ghost use Rattle.dmc_ledger.specs.Bundles.{Covers, client_side, grant_accounts, grant_holdings, stamp_holdings};
-ghost use Rattle.dmc_ledger.specs.Moves.{book_in, till_in, books_after_grant, tills_after_response, tills_after_stamp, tills_after_submit};
+ghost use Rattle.dmc_ledger.specs.Moves.{book_in, till_in, tills_after_response, tills_after_stamp, tills_after_submit};
+ghost use Rattle.dmc_ledger.specs.internal.Moves.{books_after_grant};
 ghost use Rattle.dmc_pull.specs.Allowed.{is_allowed};
 ghost use Rattle.dmc_book.specs.Calls.{AreAlike, IsForDesk};
-ghost use Rattle.dmc_book.specs.Consistent.{AreClientsApart, AreGrantsWithin, max_before};
+ghost use Rattle.dmc_book.specs.Consistent.{AreClientsApart};
+ghost use Rattle.dmc_book.specs.internal.Consistent.{AreGrantsWithin, max_before};
 ghost use Rattle.dmc_book.specs.Counts as counts;
 ghost use Rattle.dmc_book.specs.Moves.{desk_after, takes, takes_at, desk_place, units_after, unit_at};
 ghost use Rattle.dmc_book.specs.BookState.{no_desk, pass_state};
@@ -126,29 +128,6 @@ pub(crate) fn hand_out<T: Copy, S: Setup>(
     let Some(place) = place_with_hint(names, hint, client) else {
         unreachable!()
     };
-    hand_out_at(desks, units, place, client, phase, event);
-}
-
-/// Issues a unit of a phase at the place of a desk.
-#[inline(always)]
-fn hand_out_at<T: Copy, S: Setup>(
-    desks: &mut Vec<ClientDesk<S>>,
-    units: &mut Vec<GrantTills<S>>,
-    place: usize,
-    client: ClientId,
-    phase: PhaseType,
-    event: &Event<T>,
-)
-    requires here { desk_place client.0 (map client_side desks.old.items) ≡ Some place }
-    requires grant { counts.grant_in event.now.reply ≡ Some (client, phase) }
-    requires no_stamp { counts.accepted event.now ≡ None }
-    requires its { takes_at phase (map client_side desks.old.items) (map grant_holdings units.old.items) (Some place) ≡ true }
-    requires fits { AllByRecursion (λ d. AreGrantsWithin max_before d.books) (map client_side desks.old.items) }
-    requires apart { AreClientsApart (map client_side desks.old.items) }
-    ensures desks { map client_side desks.new.items ≡ map (desk_after event.now) (map client_side desks.old.items) }
-    ensures names { map (λ d. d.client) desks.new.items ≡ map (λ d. d.client) desks.old.items }
-    ensures units { map grant_holdings units.new.items ≡ unit_at phase (Some place) (map grant_holdings units.old.items) }
-{
     issue_unit(&mut desks[place].books, &mut units[place], phase);
 }
 
@@ -192,7 +171,11 @@ pub(crate) fn find_stamps<S: Setup>(
 
 /// Moves a stamp, its delta and its rho into the held tills of a desk.
 #[inline(always)]
-fn take_stamp<S: Setup>(held: &mut StampTills<S>, tills: &mut StampTills<S>, params: ReqParams)
+pub(crate) fn take_stamp<S: Setup>(
+    held: &mut StampTills<S>,
+    tills: &mut StampTills<S>,
+    params: ReqParams,
+)
     requires its { AreAlike (stamp_holdings tills.old) (stamp_holdings held.old) }
     requires covers { Covers (stamp_holdings tills.old) params }
     ensures held { stamp_holdings held.new ≡ tills_after_stamp params (stamp_holdings held.old) }
@@ -203,28 +186,4 @@ fn take_stamp<S: Setup>(held: &mut StampTills<S>, tills: &mut StampTills<S>, par
     shift_till(&mut tills.stamps, &mut held.stamps, 1);
     shift_till(&mut tills.delta, &mut held.delta, delta);
     shift_till(&mut tills.rho, &mut held.rho, rho);
-}
-
-/// Moves the stamp of an accepted add to the desk of its client.
-#[inline(always)]
-pub(crate) fn take_in<T: Copy, S: Setup>(
-    desks: &mut Vec<ClientDesk<S>>,
-    place: usize,
-    tills: &mut StampTills<S>,
-    client: ClientId,
-    params: ReqParams,
-    event: &Event<T>,
-)
-    requires within { place < length desks.old.items }
-    requires its { AreAlike (stamp_holdings tills.old) (slice_index_or (map client_side desks.old.items) place no_desk).held }
-    requires covers { Covers (stamp_holdings tills.old) params }
-    requires here { desk_place client.0 (map client_side desks.old.items) ≡ Some place }
-    requires no_grant { counts.grant_in event.now.reply ≡ None }
-    requires stamp { counts.accepted event.now ≡ Some (client, params) }
-    requires apart { AreClientsApart (map client_side desks.old.items) }
-    ensures desks { map client_side desks.new.items ≡ map (desk_after event.now) (map client_side desks.old.items) }
-    ensures names { map (λ d. d.client) desks.new.items ≡ map (λ d. d.client) desks.old.items }
-    ensures tills { stamp_holdings tills.new ≡ tills_after_submit params (stamp_holdings tills.old) }
-{
-    take_stamp(&mut desks[place].held, tills, params);
 }

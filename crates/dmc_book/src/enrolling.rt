@@ -3,10 +3,12 @@ ghost use Rattle.std.specs.Prelude.{ℕ, ◌≡◌, ◌+◌, ◌-◌, ◌<◌, �
 ghost use Rattle.dmc_ledger.specs.Bundles.{client_side};
 ghost use Rattle.dmc_book.specs.BookState.{no_desk, pass_state, worker_side};
 ghost use Rattle.dmc_book.specs.Consistent.{IsSeated};
-ghost use Rattle.dmc_book.specs.Enrolling.{AreSeatLimits, IsAgainstWorker, accounts_enrolled, book_enrolled};
+ghost use Rattle.dmc_book.specs.Enrolling.{AreSeatLimits, book_enrolled};
+ghost use Rattle.dmc_book.specs.internal.Enrolling.{IsAgainstWorker, accounts_enrolled};
 ghost use Rattle.dmc_book.specs.Joining.{id_of};
-ghost use Rattle.dmc_book.specs.Opening.{AreApart, HaveRoom, desk_with_tills, new_pass, new_worker};
-ghost use Rattle.dmc_book.specs.Rooms.{IsRoom};
+ghost use Rattle.dmc_book.specs.Opening.{AreApart, desk_with_tills, new_pass, new_worker};
+ghost use Rattle.dmc_book.specs.internal.Opening.{HaveRoom};
+ghost use Rattle.dmc_book.specs.internal.Rooms.{IsRoom};
 
 use crate::accounts::Accounts;
 use crate::book::QueueBook;

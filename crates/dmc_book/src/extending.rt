@@ -3,9 +3,11 @@ ghost use Rattle.std.specs.Prelude.{ℕ, ◌≡◌, ◌<◌, ◌≤◌, ◌↔�
 ghost use Rattle.std.specs.Arc.{arc_value};
 ghost use Rattle.dmc_ledger.specs.Bundles.{client_side};
 ghost use Rattle.dmc_book.specs.BookState.{no_desk, pass_state, worker_side};
-ghost use Rattle.dmc_book.specs.Joining.{accounts_extended, book_extended, desks_from, pass_extended, reach_at, with_reach};
+ghost use Rattle.dmc_book.specs.Joining.{book_extended, desks_from, pass_extended, reach_at, with_reach};
+ghost use Rattle.dmc_book.specs.internal.Joining.{accounts_extended};
 ghost use Rattle.dmc_book.specs.Moves.{IsEnrolled};
-ghost use Rattle.dmc_book.specs.Opening.{AreApart, HaveRoom};
+ghost use Rattle.dmc_book.specs.Opening.{AreApart};
+ghost use Rattle.dmc_book.specs.internal.Opening.{HaveRoom};
 
 use crate::accounts::Accounts;
 use crate::book::QueueBook;

@@ -4,7 +4,8 @@ ghost use Rattle.std.specs.Arc.{arc_value};
 ghost use Rattle.dmc_types.specs.Limits.{max_clients};
 ghost use Rattle.dmc_ledger.specs.Bundles.{client_side, grant_holdings, stamp_holdings};
 ghost use Rattle.dmc_book.specs.BookState.{no_desk, pass_state, worker_side};
-ghost use Rattle.dmc_book.specs.Joining.{IsAgainst, IsUnissued, IsUnused, accounts_admitted, book_admitted};
+ghost use Rattle.dmc_book.specs.Joining.{IsUnissued, IsUnused, book_admitted};
+ghost use Rattle.dmc_book.specs.internal.Joining.{IsAgainst, accounts_admitted};
 ghost use Rattle.dmc_book.specs.Moves.{desk_place};
 
 use crate::accounts::Accounts;

@@ -6,8 +6,9 @@ ghost use Rattle.dmc_types.specs.Limits.{max_events, max_workers};
 ghost use Rattle.dmc_ledger.specs.Accounts.{new_book, new_till};
 ghost use Rattle.dmc_ledger.specs.Bundles.{client_side, grant_holdings};
 ghost use Rattle.dmc_book.specs.BookState.{pass_state, worker_accounts, worker_holdings, worker_side, no_desk};
-ghost use Rattle.dmc_book.specs.Opening.{AreApart, AreBookLimits, AreNamedOnce, HaveRoom, IsNewDesk, desk_with_tills, new_accounts, new_accounts_state, new_holdings, new_pass, new_passes, new_unit, new_worker, new_workers};
-ghost use Rattle.dmc_book.specs.Rooms.{IsRoom, IsRoomFor};
+ghost use Rattle.dmc_book.specs.Opening.{AreApart, AreBookLimits, AreNamedOnce, IsNewDesk, desk_with_tills, new_accounts, new_accounts_state, new_holdings, new_pass, new_passes, new_unit, new_worker, new_workers};
+ghost use Rattle.dmc_book.specs.internal.Opening.{HaveRoom};
+ghost use Rattle.dmc_book.specs.internal.Rooms.{IsRoom, IsRoomFor};
 
 use crate::accounts::Accounts;
 use crate::fault::NewFault;

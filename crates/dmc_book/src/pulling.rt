@@ -5,7 +5,7 @@ ghost use Rattle.dmc_pull.specs.Allowed.{is_allowed};
 ghost use Rattle.dmc_book.specs.BookState.{pass_state};
 ghost use Rattle.dmc_book.specs.Calls.{WasPulled, asked, reply_to};
 ghost use Rattle.dmc_book.specs.Moves.{IsEnrolled, takes};
-ghost use Rattle.dmc_book.specs.Runs.{Runs};
+ghost use Rattle.dmc_book.specs.internal.Runs.{Runs};
 
 use crate::asking::{ask_to_pull, reply_of};
 use crate::book::QueueBook;

@@ -4,10 +4,12 @@ ghost use Rattle.std.specs.List.{AllByRecursion};
 ghost use Rattle.dmc_ledger.specs.Accounts.{total_of};
 ghost use Rattle.dmc_ledger.specs.Moves.{after_issue, with_more};
 ghost use Rattle.dmc_book.specs.BookState.{worker_accounts, worker_holdings, worker_side, pass_state, no_worker};
-ghost use Rattle.dmc_book.specs.Consistent.{AreWorkersApart, AreWithin, max_before};
+ghost use Rattle.dmc_book.specs.Consistent.{AreWorkersApart, AreWithin};
+ghost use Rattle.dmc_book.specs.internal.Consistent.{max_before};
 ghost use Rattle.dmc_book.specs.Renewing.{renewed_tills, renewed_worker};
 ghost use Rattle.dmc_book.specs.Rotating.{AreTokensLow};
 ghost use Rattle.dmc_book.specs.Counts as counts;
+ghost use Rattle.dmc_book.specs.internal.Counts.{IsSmall};
 ghost use Rattle.dmc_book.specs.Moves.{AreOf, IsEnrolled, IsOpen, books_after, tills_after, worker_after};
 
 use crate::counts::{Numbers, numbers_of};
@@ -163,7 +165,7 @@ pub(crate) fn count<T: Copy, S: Setup>(
     requires fits { AreWithin max_before (slice_index_or (map worker_side workers.old.items) place no_worker).books }
     requires apart { AreWorkersApart (map worker_side workers.old.items) }
     ensures workers { map worker_side workers.new.items ≡ map (worker_after event.now) (map worker_side workers.old.items) }
-    ensures small { counts.IsSmall (counts.numbers_of event.now.command event.now.reply) }
+    ensures small { IsSmall (counts.numbers_of event.now.command event.now.reply) }
     ensures tills { worker_holdings tills.new ≡ tills_after (counts.numbers_of event.now.command event.now.reply) (worker_holdings tills.old) }
 {
     let numbers = numbers_of(&event.command, &event.reply);

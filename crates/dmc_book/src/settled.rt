@@ -7,7 +7,8 @@ ghost use Rattle.dmc_ledger.specs.Bundles.{client_side, grant_accounts, grant_ho
 ghost use Rattle.dmc_book.specs.BookState.{pass_state, worker_accounts, worker_holdings, worker_side, no_desk, no_worker};
 ghost use Rattle.dmc_book.specs.Consistent.{reaching};
 ghost use Rattle.dmc_book.specs.Moves.{AreOf};
-ghost use Rattle.dmc_book.specs.Settling.{AreDeskUnits, AreGrantsOfDesks, AreOneOpen, AreOwn, AreSettledDesks, AreUnitsOf, AreUnitsTakenIn, ArePassesTakenIn, IsDeskTakenIn, IsOpenOrShut, IsOwn, IsSettledWorker, IsTakenIn, accounts_settled, closed_accounts, closed_worker, having, open_passes};
+ghost use Rattle.dmc_book.specs.Settling.{AreDeskUnits, AreGrantsOfDesks, AreOwn, AreSettledDesks, AreUnitsOf, AreUnitsTakenIn, IsDeskTakenIn, IsOwn, IsSettledWorker, IsTakenIn, closed_accounts, closed_worker, open_passes};
+ghost use Rattle.dmc_book.specs.internal.Settling.{AreOneOpen, ArePassesTakenIn, IsOpenOrShut, accounts_settled, having};
 
 use crate::accounts::Accounts;
 use crate::pass::WorkerPass;

@@ -7,7 +7,7 @@ ghost use Rattle.dmc_types.specs.declared.command.Command.TheVariants as command
 ghost use Rattle.dmc_book.specs.BookState.{pass_state};
 ghost use Rattle.dmc_book.specs.Calls.{IsForDesk, Ran, SubmitRefused};
 ghost use Rattle.dmc_book.specs.Moves.{IsEnrolled};
-ghost use Rattle.dmc_book.specs.Submits.{Submits};
+ghost use Rattle.dmc_book.specs.internal.Submits.{Submits};
 
 use crate::asking::{Added, ask_to_add};
 use crate::book::QueueBook;

@@ -8,3 +8,5 @@ pub mod Growing
 pub mod Moves
 -- The ghost resource that the tokens of books and tills own.
 pub mod Rows
+-- What only contracts of private functions and proofs cite.
+pub mod internal

@@ -93,10 +93,6 @@ abbrev pub book_in : PhaseType → GrantAccounts → Account
 book_in Reservation books = books.reservation
 book_in Priority books = books.priority
 
-abbrev pub books_after_grant : PhaseType → GrantAccounts → GrantAccounts
-books_after_grant Reservation books = record books { reservation = after_issue 1 books.reservation }
-books_after_grant Priority books = record books { priority = after_issue 1 books.priority }
-
 abbrev pub tills_after_response : PhaseType → GrantHoldings → GrantHoldings
 tills_after_response Reservation tills = record tills { reservation = with_more 1 tills.reservation }
 tills_after_response Priority tills = record tills { priority = with_more 1 tills.priority }

@@ -1,5 +1,5 @@
 -- What a call through the lock shows its caller: what its own pass holds afterwards.
-use Rattle.std.specs.Prelude.{◌≡◌, ℕ, ◌==◌, ◌&&◌, Bool, true, false, not, List, length, map, Result, Ok, Err}
+use Rattle.std.specs.Prelude.{◌≡◌, ℕ, Bool, true, false, List, map, Result, Ok, Err}
 use Rattle.dmc_types.specs.declared.command.Command.{Command}
 use Rattle.dmc_types.specs.declared.ids.WorkerId.{WorkerId}
 use Rattle.dmc_types.specs.declared.command.Command.TheVariants.{Register, Update, Add, Pull, Remove, Clean}
@@ -7,13 +7,12 @@ use Rattle.dmc_types.specs.declared.refusal.Refusal.TheVariants.{Range}
 use Rattle.dmc_tag.specs.Tag.{Tagging}
 use Rattle.dmc_tag.specs.State.{State}
 use Rattle.dmc_tag.specs.Step.{step}
-use Rattle.dmc_tag.specs.Replay.{after}
 use Rattle.dmc_tag.specs.Answers.{pull_reply}
 use Rattle.dmc_tag.specs.declared.reply.Pulled.{Pulled}
 use Rattle.dmc_tag.specs.declared.reply.Reply.{Reply}
 use Rattle.dmc_tag.specs.declared.reply.Reply.TheVariants.{Refused}
 use Rattle.dmc_ledger.specs.Bundles.{ClientSide}
-use Rattle.dmc_book.specs.BookState.{BookState, PassState, WorkerHoldings}
+use Rattle.dmc_book.specs.BookState.{PassState, WorkerHoldings}
 use Rattle.dmc_book.specs.Joining.{id_of, pass_extended}
 use Rattle.dmc_book.specs.Opening.{new_pass}
 use Rattle.dmc_book.specs.Moves.{pass_after}
@@ -76,7 +75,3 @@ pub record IsNewPass (n : ℕ) (worker : WorkerId) (pass : PassState) : Type 0 w
   pub place : ℕ
   pub desks : List ClientSide
   pub is_new : pass ≡ new_pass place n (map id_of desks) desks worker
-
--- nothing is queued, and the book is open
-abbrev pub must_wait : {T : Type 0} → Tagging T → BookState T → Bool
-must_wait ops b = (length (after ops b.config b.history).requests == 0) && not b.closed

@@ -2,3 +2,5 @@
 pub mod Calls
 -- What contracts see of a queue's lock.
 pub mod LockState
+-- What only contracts of private functions and proofs cite.
+pub mod internal

@@ -11,7 +11,8 @@ ghost use Rattle.dmc_book.specs.Calls.{is_add};
 ghost use Rattle.dmc_book.specs.Joining.{IsUnused};
 ghost use Rattle.dmc_book.specs.Leaving.{HoldsNothing};
 ghost use Rattle.dmc_book.specs.Renewing.{renewed_pass};
-ghost use Rattle.dmc_qlock.specs.Calls.{Replied, IsExtended, IsNewPass, PullReplied, SubmitReplied, must_wait, registers};
+ghost use Rattle.dmc_qlock.specs.Calls.{Replied, IsExtended, IsNewPass, PullReplied, SubmitReplied, registers};
+ghost use Rattle.dmc_qlock.specs.internal.Calls.{must_wait};
 
 use crate::fault::RunOrRange;
 use dmc_book::book::QueueBook;

@@ -5,7 +5,8 @@ use Rattle.dmc_ledger.specs.Bundles.{ClientSide, client_side, grant_holdings}
 use Rattle.dmc_ledger.specs.declared.desk.ClientDesk.{ClientDesk}
 use Rattle.dmc_tlock.proofs.PlaceLemmas.{done_more, rest_more}
 use Rattle.dmc_book.specs.BookState.{no_desk}
-use Rattle.dmc_book.specs.Opening.{HaveRoom, desk_with_tills, new_unit}
+use Rattle.dmc_book.specs.Opening.{desk_with_tills, new_unit}
+use Rattle.dmc_book.specs.internal.Opening.{HaveRoom}
 use Rattle.dmc_book.proofs.opening.open_units.Goals as goal
 
 pub open_unit-unit-requires : goal.open_unit-unit-requires

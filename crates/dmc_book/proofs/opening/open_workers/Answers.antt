@@ -7,7 +7,7 @@ use Rattle.dmc_ledger.specs.Bundles.{ClientSide, client_side}
 use Rattle.dmc_ledger.specs.declared.desk.ClientDesk.{ClientDesk}
 use Rattle.dmc_book.specs.BookState.{pass_state, worker_side}
 use Rattle.dmc_book.specs.Opening.{desk_with_tills, new_pass, new_passes, new_worker, new_workers}
-use Rattle.dmc_book.specs.Rooms.{IsRoom}
+use Rattle.dmc_book.specs.internal.Rooms.{IsRoom}
 use Rattle.dmc_book.proofs.OpeningLemmas.{all_popped, as_many_desks, desks_more, desks_none, pass_as, passes_next, room_for_one, workers_next}
 use Rattle.dmc_book.proofs.opening.open_workers.Goals as goal
 

@@ -4,7 +4,7 @@ use Rattle.std.specs.List.{AllByRecursion}
 use Rattle.dmc_ledger.specs.Bundles.{client_side}
 use Rattle.dmc_book.specs.BookState.{pass_state, worker_side}
 use Rattle.dmc_book.specs.Opening.{desk_with_tills, new_passes, new_workers}
-use Rattle.dmc_book.specs.Rooms.{IsRoom}
+use Rattle.dmc_book.specs.internal.Rooms.{IsRoom}
 use Rattle.dmc_book.proofs.opening.open_workers.Given as goal
 
 abbrev pub invariant-loop-place : goal.invariant-loop-place

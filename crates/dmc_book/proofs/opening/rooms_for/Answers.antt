@@ -1,7 +1,7 @@
 use Rattle.std.proofs.Common.{◌≡◌, arith, length-append, map, rules, subst}
 use Rattle.std.specs.Arc.{arc_value}
 use Rattle.dmc_tag.proofs.Lists.{all_append}
-use Rattle.dmc_book.specs.Rooms.{IsRoom}
+use Rattle.dmc_book.specs.internal.Rooms.{IsRoom}
 use Rattle.dmc_book.proofs.opening.rooms_for.Goals as goal
 
 pub loop-preserved : goal.loop-preserved

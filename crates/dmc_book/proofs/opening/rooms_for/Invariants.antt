@@ -1,6 +1,6 @@
 use Rattle.std.proofs.Common.{◌≡◌, length, map}
 use Rattle.std.specs.List.{AllByRecursion}
-use Rattle.dmc_book.specs.Rooms.{IsRoom}
+use Rattle.dmc_book.specs.internal.Rooms.{IsRoom}
 use Rattle.dmc_book.proofs.opening.rooms_for.Given as goal
 
 abbrev pub invariant-loop : goal.invariant-loop

@@ -1,7 +1,8 @@
 use Rattle.std.proofs.Common.{rules, refl, ◌≡◌, ◌∙◌, ap, sym, subst, slice_index_or}
 use Rattle.std.proofs.lemmas.List.{get_or-map}
 use Rattle.dmc_book.specs.BookState.{WorkerSide, no_worker, worker_side}
-use Rattle.dmc_book.specs.Consistent.{AreWithin, max_before}
+use Rattle.dmc_book.specs.Consistent.{AreWithin}
+use Rattle.dmc_book.specs.internal.Consistent.{max_before}
 use Rattle.dmc_book.proofs.WorkerLemmas.{counted_workers}
 use Rattle.dmc_book.proofs.seat.count.Goals as goal
 

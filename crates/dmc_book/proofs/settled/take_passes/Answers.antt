@@ -5,7 +5,8 @@ use Rattle.dmc_ledger.specs.Bundles.{ClientSide, client_side}
 use Rattle.dmc_book.specs.BookState.{PassState, WorkerSide, no_worker, pass_state, worker_side}
 use Rattle.dmc_book.specs.Consistent.{reaching}
 use Rattle.dmc_book.specs.Counts.{one_if}
-use Rattle.dmc_book.specs.Settling.{ArePassesTakenIn, IsOwn, closed_worker, having, open_passes}
+use Rattle.dmc_book.specs.Settling.{IsOwn, closed_worker, open_passes}
+use Rattle.dmc_book.specs.internal.Settling.{ArePassesTakenIn, having}
 use Rattle.dmc_book.proofs.SettlingLemmas.{ArePartly, all_after, all_gone, all_left, one_open_at, open_at, open_less, partly_end, partly_long, partly_more, partly_start, passes_more, passes_none, reaching_end, reaching_less, reaching_start, still_reaching, tills_at, units_at}
 use Rattle.dmc_book.proofs.settled.take_passes.Goals as goal
 

@@ -3,7 +3,8 @@ use Rattle.std.specs.List.{AllByRecursion}
 use Rattle.dmc_ledger.specs.Bundles.{client_side}
 use Rattle.dmc_book.specs.BookState.{PassState, pass_state, worker_side}
 use Rattle.dmc_book.specs.Consistent.{reaching}
-use Rattle.dmc_book.specs.Settling.{ArePassesTakenIn, IsOwn, having, open_passes}
+use Rattle.dmc_book.specs.Settling.{IsOwn, open_passes}
+use Rattle.dmc_book.specs.internal.Settling.{ArePassesTakenIn, having}
 use Rattle.dmc_book.proofs.SettlingLemmas.{ArePartly, still_reaching}
 use Rattle.dmc_book.proofs.settled.take_passes.Given as goal
 

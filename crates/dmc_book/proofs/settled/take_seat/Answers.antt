@@ -2,7 +2,8 @@ use Rattle.std.proofs.Common.{◌≡◌, ◌<◌, ◌∙◌, ap, sym, subst, map
 use Rattle.std.proofs.lemmas.List.{get_or-map, map-set}
 use Rattle.dmc_book.specs.BookState.{WorkerAccounts, WorkerSide, worker_holdings, worker_side, no_worker}
 use Rattle.dmc_book.specs.Moves.{AreOf}
-use Rattle.dmc_book.specs.Settling.{AreOneOpen, closed_worker}
+use Rattle.dmc_book.specs.Settling.{closed_worker}
+use Rattle.dmc_book.specs.internal.Settling.{AreOneOpen}
 use Rattle.dmc_book.proofs.settled.take_seat.Goals as goal
 
 pub take_tills-requires : goal.take_tills-requires

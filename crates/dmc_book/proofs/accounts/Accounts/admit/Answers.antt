@@ -1,7 +1,7 @@
 use Rattle.std.proofs.Common.{map, subst, sym}
 use Rattle.dmc_ledger.specs.Bundles.{client_side}
 use Rattle.dmc_book.specs.BookState.{AccountsState, worker_side}
-use Rattle.dmc_book.specs.Joining.{IsAgainst}
+use Rattle.dmc_book.specs.internal.Joining.{IsAgainst}
 use Rattle.dmc_book.specs.declared.fault.AdmitCause.TheVariants.{Memory}
 use Rattle.dmc_book.proofs.JoiningLemmas.{admitted_view, consistent_either}
 use Rattle.dmc_book.proofs.accounts.Accounts.admit.Goals as goal

@@ -4,8 +4,9 @@ use Rattle.dmc_ledger.specs.Bundles.{ClientSide, client_side}
 use Rattle.dmc_ledger.specs.declared.desk.ClientDesk.{ClientDesk}
 use Rattle.dmc_tag.proofs.Lists.{lent_back}
 use Rattle.dmc_book.specs.BookState.{AccountsState, WorkerSide, accounts_of, no_desk, worker_side}
-use Rattle.dmc_book.specs.Enrolling.{IsAgainstWorker}
-use Rattle.dmc_book.specs.Opening.{HaveRoom, desk_with_tills, new_pass, new_worker}
+use Rattle.dmc_book.specs.internal.Enrolling.{IsAgainstWorker}
+use Rattle.dmc_book.specs.Opening.{desk_with_tills, new_pass, new_worker}
+use Rattle.dmc_book.specs.internal.Opening.{HaveRoom}
 use Rattle.dmc_book.specs.declared.fault.EnrolFault.TheVariants.{Memory}
 use Rattle.dmc_book.specs.declared.seat.Seat.{Seat}
 use Rattle.dmc_book.proofs.EnrollingLemmas.{consistent_enrolled, room_for_one_more}

@@ -6,7 +6,7 @@ use Rattle.dmc_tag.proofs.Lists.{lent_back}
 use Rattle.dmc_book.specs.BookState.{AccountsState, accounts_of, no_desk, pass_state, worker_side}
 use Rattle.dmc_book.specs.Joining.{desks_from, reach_at, with_reach}
 use Rattle.dmc_book.specs.Moves.{IsEnrolled}
-use Rattle.dmc_book.specs.Opening.{HaveRoom}
+use Rattle.dmc_book.specs.internal.Opening.{HaveRoom}
 use Rattle.dmc_book.specs.declared.seat.Seat.{Seat}
 use Rattle.dmc_book.proofs.ExtendingLemmas.{apart_by_number, as_many_from, consistent_extended, names_from, reach_within, room_behind}
 use Rattle.dmc_book.proofs.accounts.Accounts.extend.Goals as goal

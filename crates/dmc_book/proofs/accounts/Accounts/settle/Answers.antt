@@ -5,7 +5,8 @@ use Rattle.dmc_ledger.specs.Bundles.{ClientSide, client_side}
 use Rattle.dmc_ledger.specs.declared.desk.ClientDesk.{ClientDesk}
 use Rattle.dmc_book.specs.BookState.{WorkerSide, pass_state, worker_side}
 use Rattle.dmc_book.specs.Consistent.{reaching}
-use Rattle.dmc_book.specs.Settling.{ArePassesTakenIn, IsOpenOrShut, closed_worker, having}
+use Rattle.dmc_book.specs.Settling.{closed_worker}
+use Rattle.dmc_book.specs.internal.Settling.{ArePassesTakenIn, IsOpenOrShut, having}
 use Rattle.dmc_book.specs.declared.seat.Seat.{Seat}
 use Rattle.dmc_book.proofs.GrantLemmas.{grants_of_desks}
 use Rattle.dmc_tag.proofs.Lists.{lent_back}

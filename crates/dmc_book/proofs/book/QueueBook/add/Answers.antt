@@ -8,7 +8,7 @@ use Rattle.dmc_ledger.specs.Bundles.{stamp_holdings}
 use Rattle.dmc_book.specs.BookState.{AccountsState, BookState, pass_state, state_of}
 use Rattle.dmc_book.specs.Calls.{Ran, event_of}
 use Rattle.dmc_book.specs.Consistent.{IsReplayed}
-use Rattle.dmc_book.specs.Submits.{Submits}
+use Rattle.dmc_book.specs.internal.Submits.{Submits}
 use Rattle.dmc_book.specs.declared.fault.SubmitCause.TheVariants as submit
 use Rattle.dmc_book.proofs.Counting.{book_recorded, history_recorded, replayed_memory, replayed_more, reply_after}
 use Rattle.dmc_book.proofs.SubmitLemmas.{asked_at}

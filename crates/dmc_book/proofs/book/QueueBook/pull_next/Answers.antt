@@ -6,7 +6,7 @@ use Rattle.dmc_book.specs.BookState.{AccountsState, BookState, pass_state, state
 use Rattle.dmc_book.specs.Calls.{Asks, asked, event_of}
 use Rattle.dmc_book.specs.Consistent.{IsReplayed}
 use Rattle.dmc_book.specs.Moves.{takes}
-use Rattle.dmc_book.specs.Runs.{Runs}
+use Rattle.dmc_book.specs.internal.Runs.{Runs}
 use Rattle.dmc_book.proofs.Counting.{book_reserved, history_recorded, replayed_more}
 use Rattle.dmc_book.proofs.RunLemmas.{unasked}
 use Rattle.dmc_book.proofs.book.QueueBook.pull_next.Goals as goal

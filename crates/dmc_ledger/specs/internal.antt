@@ -1,0 +1,2 @@
+-- A desk's books after a grant.
+pub mod Moves

@@ -1,0 +1,2 @@
+-- Whether a pull waits.
+pub mod Calls

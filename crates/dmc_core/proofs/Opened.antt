@@ -32,7 +32,8 @@ use Rattle.dmc_core.specs.Run.{no_pair, pair_at, max_completions}
 use Rattle.dmc_core.specs.Events.{registration}
 use Rattle.dmc_core.specs.Core.{Held, Matches}
 use Rattle.dmc_core.specs.Parts.{IsKept, full_counts, full_counts_of}
-use Rattle.dmc_core.specs.Opening.{HaveSpacings, named_rates, opening_client}
+use Rattle.dmc_core.specs.Opening.{HaveSpacings, named_rates}
+use Rattle.dmc_core.specs.internal.Opening.{opening_client}
 use Rattle.dmc_tag.proofs.Agreement.{represents_itself}
 
 -- ---- ids that are apart

@@ -1,6 +1,6 @@
 -- What the rules make of a run that the core represents.
 use Rattle.std.proofs.Common.{◌≡◌, ℕ, ◌<◌, ◌≤◌, Bool, true, false, List, length, set, slice_get, nat_le, Option, Some, None, inl, inr, refl, sym, ap, ◌∙◌, arith, Ok, Err}
-use Rattle.std.specs.Prelude.{Result, ◌⊎◌, position}
+use Rattle.std.specs.Prelude.{Result, IsTrue, ◌⊎◌, position}
 use Rattle.std.specs.List.{AllZip}
 use Rattle.std.specs.Option.{ok_or}
 use Rattle.std.proofs.lemmas.Bool.{leb-true}
@@ -14,6 +14,8 @@ use Rattle.dmc_tag.specs.Tag.{Tagging}
 use Rattle.dmc_tag.specs.State.{State, Represents, is_client}
 use Rattle.dmc_tag.specs.Outcome.{◌>>=◌, refuse_if}
 use Rattle.dmc_tag.specs.Step.{step}
+use Rattle.dmc_types.specs.declared.command.Command.TheVariants as commands
+use Rattle.dmc_tag.specs.Steps as steps_of
 use Rattle.dmc_tag.specs.Steps.{Steps}
 use Rattle.dmc_tag.specs.declared.reply.Reply.{Reply}
 use Rattle.dmc_core.specs.declared.event.CoreEvent.{CoreEvent}
@@ -25,6 +27,7 @@ use Rattle.dmc_core.specs.Run.{Client, Run, change_first, with_client, with_serv
 use Rattle.dmc_core.specs.Events.{Outcome, client_event, server_event, outcome}
 use Rattle.dmc_core.specs.Core.{Held, CoreValue, Matches, RepresentsRun, Follows, ClientFollows, IsRefusal, may_grow, is_accepted}
 use Rattle.dmc_core.specs.Parts.{place_of}
+use Rattle.dmc_core.specs.internal.Serving.{IsServed}
 use Rattle.dmc_core.proofs.Lists.{At, at_place, First, first_of_both, none_of_both, set_same}
 
 -- ---- the client and the server that an event names
@@ -184,3 +187,22 @@ module _ {T Q : Type 0} (ops : Tagging T) (state : Q → State T) (event : CoreE
       let stepped = steps server.x server.at server.y server.related in
       let whole : outcome ops run event ≡ Ok (with_server s ((step ops server.y command).0) run, Served ((step ops server.y command).1)) = event_is run ∙ rw server.found refl in
       rw (whole, stepped.0) (refl, record { servers = server.put q' _ stepped.1; clients = r.clients })
+
+-- ---- the commands that are events of a cluster as they are
+
+pub served_is : {T : Type 0} (ops : Tagging T) (s : ServerId) (command : Command) (event : CoreEvent) → IsServed s command event
+    → (run : Run T) → outcome ops run event ≡ server_event ops run s command
+served_is ops s (commands.Register client info at) event h run = absurd h
+served_is ops s (commands.Update client info at) event h run = rw h refl
+served_is ops s (commands.Add client token params at) event h run = absurd h
+served_is ops s (commands.Pull at) event h run = absurd h
+served_is ops s (commands.Remove client) event h run = rw h refl
+served_is ops s (commands.Clean at) event h run = rw h refl
+
+pub served_takes_none : (s : ServerId) (command : Command) (event : CoreEvent) → IsServed s command event → IsTrue (steps_of.may_grow command) → ⊥
+served_takes_none s (commands.Register client info at) event h grows = h
+served_takes_none s (commands.Update client info at) event h grows = cc
+served_takes_none s (commands.Add client token params at) event h grows = h
+served_takes_none s (commands.Pull at) event h grows = h
+served_takes_none s (commands.Remove client) event h grows = cc
+served_takes_none s (commands.Clean at) event h grows = cc

@@ -10,3 +10,5 @@ pub mod Parts
 pub mod Faults
 -- How a cluster opens for a scene.
 pub mod Opening
+-- What only contracts of private functions and proofs cite.
+pub mod internal

@@ -77,7 +77,7 @@ impl CoreClient {
         }
         self.tracker.can_stamp(server)?;
         pair.reserve()?;
-        let params = self.tracker.get_req_params(server)?;
+        let params = self.tracker.stamp_checked(server);
         pair.send(Message { token, params });
         Ok(CoreReply::Stamped(params))
     }

@@ -6,13 +6,14 @@ ghost use Rattle.dmc_pull.specs.Queue.{state_of};
 ghost use Rattle.dmc_tag.specs.State.{is_client};
 ghost use Rattle.dmc_core.specs.Core.{Held, Matches, Follows};
 ghost use Rattle.dmc_core.specs.Events.{after_grant};
+ghost use Rattle.dmc_core.specs.internal.Serving.{IsServed};
+ghost use Rattle.dmc_core.specs.declared.event.CoreEvent.{CoreEvent};
 ghost use Rattle.dmc_core.specs.Parts.{IsKept, place_of, full_counts};
 ghost use Rattle.dmc_core.specs.Run.{Client, change_first};
 ghost use Rattle.dmc_core.specs.declared.event.CoreEvent.TheVariants as events;
 
 use crate::client::CoreClient;
 use crate::event::{CoreEvent, CoreFault, CoreReply};
-use crate::hinted::HintedScheduler;
 use crate::ids::ClientIds;
 use crate::server::CoreServer;
 use dmc_index::index::Indexes;
@@ -20,9 +21,9 @@ use dmc_pull::queue::PullQueue;
 use dmc_tag::reply::Reply;
 use dmc_tag::scheduler::Scheduler;
 use dmc_tag::tag::Tag;
+use dmc_types::command::Command;
 use dmc_types::config::PhaseType;
 use dmc_types::ids::{ClientId, ServerId, Token};
-use dmc_types::info::ClientInfo;
 use dmc_types::moment::Moment;
 use std::marker::Model;
 
@@ -112,7 +113,7 @@ impl<Q> Cluster<Q> {
         at: Moment,
     ) -> Result<CoreReply<T>, CoreFault>
     where
-        Q: HintedScheduler<T>,
+        Q: Scheduler<T>,
         ensures { Follows T.ops Q.state (events.Arrive client server at) self.old self.new result }
     {
         let place = self.place(client, server)?;
@@ -192,51 +193,26 @@ impl<Q> Cluster<Q> {
         }
     }
 
-    /// A server replaces a client's rates.
-    pub fn update<T: Tag>(
+    /// A server carries out a command that is an event of the cluster as it is: an update, a remove or a clean.
+    fn serve<T: Tag>(
         &mut self,
         server: ServerId,
-        client: ClientId,
-        info: ClientInfo,
-        at: Moment,
+        command: &Command,
     ) -> Result<CoreReply<T>, CoreFault>
     where
         Q: Scheduler<T>,
-        ensures { Follows T.ops Q.state (events.Update server client info at) self.old self.new result }
+        ensures { (event : CoreEvent) → IsServed server command.now event → Follows T.ops Q.state event self.old self.new result }
     {
         let index = self.server(server)?;
-        Ok(CoreReply::Served(self.servers[index].update(client, info, at)))
-    }
-
-    /// A server takes out a client's queued requests.
-    pub fn remove<T: Tag>(
-        &mut self,
-        server: ServerId,
-        client: ClientId,
-    ) -> Result<CoreReply<T>, CoreFault>
-    where
-        Q: Scheduler<T>,
-        ensures { Follows T.ops Q.state (events.Remove server client) self.old self.new result }
-    {
-        let index = self.server(server)?;
-        Ok(CoreReply::Served(self.servers[index].remove(client)))
-    }
-
-    /// A server marks clients idle, and erases old ones.
-    pub fn clean<T: Tag>(&mut self, server: ServerId, at: Moment) -> Result<CoreReply<T>, CoreFault>
-    where
-        Q: Scheduler<T>,
-        ensures { Follows T.ops Q.state (events.Clean server at) self.old self.new result }
-    {
-        let index = self.server(server)?;
-        Ok(CoreReply::Served(self.servers[index].clean(at)))
+        let reply = self.servers[index].serve(command)?;
+        Ok(CoreReply::Served(reply))
     }
 
     /// Carries out an event.
     #[inline(always)]
     pub fn step<T: Tag>(&mut self, event: CoreEvent) -> Result<CoreReply<T>, CoreFault>
     where
-        Q: HintedScheduler<T>,
+        Q: Scheduler<T>,
         ensures { Follows T.ops Q.state event self.old self.new result }
     {
         // Inlined: a caller that names its event keeps that arm alone.
@@ -258,9 +234,9 @@ impl<Q> Cluster<Q> {
                 client,
                 info,
                 at,
-            } => self.update(server, client, info, at),
-            CoreEvent::Remove { server, client } => self.remove(server, client),
-            CoreEvent::Clean { server, at } => self.clean(server, at),
+            } => self.serve(server, &Command::Update { client, info, at }),
+            CoreEvent::Remove { server, client } => self.serve(server, &Command::Remove { client }),
+            CoreEvent::Clean { server, at } => self.serve(server, &Command::Clean { at }),
         }
     }
 }

@@ -11,6 +11,7 @@ use crate::opening::open_cluster;
 use dmc_heap::indexed_heap::HeapIndexes;
 use dmc_pull::queue::PullQueue;
 use dmc_scene::scene::Scene;
+use dmc_tag::scheduler::Scheduler;
 use dmc_tag::tag::Tag;
 use dmc_types::ids::ServerId;
 use std::alloc::{AllocError, Global};

@@ -7,7 +7,6 @@ mod cluster;
 pub mod cluster_core;
 pub mod event;
 mod flight;
-mod hinted;
 pub mod ids;
 mod opening;
 mod pair;

@@ -5,11 +5,11 @@ ghost use Rattle.std.specs.List.{AllByRecursion};
 ghost use Rattle.dmc_pull.specs.Queue.{state_of};
 ghost use Rattle.dmc_tag.specs.State.{Represents, opening};
 ghost use Rattle.dmc_core.specs.Core.{RepresentsRun};
-ghost use Rattle.dmc_core.specs.Opening.{HaveSpacings, opening_state, opening_client, opening_of};
+ghost use Rattle.dmc_core.specs.Opening.{HaveSpacings, opening_of};
+ghost use Rattle.dmc_core.specs.internal.Opening.{opening_state, opening_client};
 
 use crate::client::CoreClient;
 use crate::cluster::Cluster;
-use crate::hinted::HintedScheduler;
 use crate::ids::ClientIds;
 use crate::server::CoreServer;
 use dmc_index::index::Indexes;
@@ -50,31 +50,32 @@ fn register_all<T: Tag, Q: Scheduler<T>>(queue: &mut Q, scene: &Scene) -> Result
     Ok(())
 }
 
-/// A server at whose queue the clients have registered, and none of whose counts of grants is full.
-fn open_server<T: Tag, Q: HintedScheduler<T> + Drop>(
-    alloc: Global,
+/// A server at whose new queue the clients register. None of its counts of grants is full.
+fn open_server<T: Tag, Q: Scheduler<T> + Drop>(
+    mut queue: Q,
     scene: &Scene,
 ) -> Result<CoreServer<Q>, AllocError>
-    requires { HaveSpacings T.ops scene.now }
+    requires opens { Q.state queue ≡ opening scene.now.config }
+    requires spaced { HaveSpacings T.ops scene.now }
     ensures { IfOk result (λ server. Represents (Q.state server.queue) (opening_state T.ops scene.now) × (server.full ≡ 0)) }
 {
-    let mut queue = Q::new(alloc, scene.config());
     register_all(&mut queue, scene)?;
     Ok(CoreServer { queue, full: 0 })
 }
 
 /// The servers of a scene.
-fn open_servers<T: Tag, Q: HintedScheduler<T> + Drop>(
+fn open_servers<T: Tag, I: Indexes<T>>(
     alloc: Global,
     scene: &Scene,
-) -> Result<Vec<CoreServer<Q>>, AllocError>
+) -> Result<Vec<CoreServer<PullQueue<T, I>>>, AllocError>
     requires { HaveSpacings T.ops scene.now }
     ensures as_many { IfOk result (λ servers. length servers.items ≡ scene.now.servers) }
-    ensures each { IfOk result (λ servers. AllByRecursion (λ s. Represents (Q.state s.queue) (opening_state T.ops scene.now) × (s.full ≡ 0)) servers.items) }
+    ensures each { IfOk result (λ servers. AllByRecursion (λ s. Represents (state_of s.queue) (opening_state T.ops scene.now) × (s.full ≡ 0)) servers.items) }
 {
     let mut servers = Vec::with_capacity(alloc, scene.servers() as usize)?;
     for _ in 0..scene.servers() {
-        let server = open_server(alloc, scene)?;
+        let queue = PullQueue::new(alloc, scene.config());
+        let server = open_server(queue, scene)?;
         servers.push(server)?;
     }
     Ok(servers)

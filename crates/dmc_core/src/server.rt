@@ -5,13 +5,12 @@ ghost use Rattle.dmc_tag.specs.Steps.{Steps};
 ghost use Rattle.dmc_types.specs.declared.command.Command.TheVariants as commands;
 
 use crate::event::Message;
-use crate::hinted::HintedScheduler;
 use dmc_tag::answers;
 use dmc_tag::reply::Reply;
-use dmc_tag::scheduler::Scheduler;
+use dmc_tag::scheduler::{Scheduler, apply_to};
 use dmc_tag::tag::Tag;
+use dmc_types::command::Command;
 use dmc_types::ids::ClientId;
-use dmc_types::info::ClientInfo;
 use dmc_types::moment::Moment;
 use std::alloc::AllocError;
 
@@ -33,7 +32,7 @@ impl<Q> CoreServer<Q> {
         at: Moment,
     ) -> Result<Reply<T>, AllocError>
     where
-        Q: HintedScheduler<T>,
+        Q: Scheduler<T>,
         ensures full { self.new.full ≡ self.old.full }
         ensures steps { Steps T.ops (Q.state self.old.queue) (Q.state self.new.queue)
             (commands.Add client message.token message.params at) (result_ok result) }
@@ -54,33 +53,13 @@ impl<Q> CoreServer<Q> {
         answers::pulled(self.queue.pull_request(at))
     }
 
-    /// The queue replaces a client's rates.
-    pub fn update<T: Tag>(&mut self, client: ClientId, info: ClientInfo, at: Moment) -> Reply<T>
+    /// The queue carries out a command. An error is a failed allocation.
+    pub fn serve<T: Tag>(&mut self, command: &Command) -> Result<Reply<T>, AllocError>
     where
         Q: Scheduler<T>,
         ensures full { self.new.full ≡ self.old.full }
-        ensures steps { Steps T.ops (Q.state self.old.queue) (Q.state self.new.queue) (commands.Update client info at) (Some result) }
+        ensures steps { Steps T.ops (Q.state self.old.queue) (Q.state self.new.queue) command.now (result_ok result) }
     {
-        answers::updated(self.queue.update_info(client, info, at))
-    }
-
-    /// The queue takes out a client's requests.
-    pub fn remove<T: Tag>(&mut self, client: ClientId) -> Reply<T>
-    where
-        Q: Scheduler<T>,
-        ensures full { self.new.full ≡ self.old.full }
-        ensures steps { Steps T.ops (Q.state self.old.queue) (Q.state self.new.queue) (commands.Remove client) (Some result) }
-    {
-        answers::removed(self.queue.remove_by_client(client))
-    }
-
-    /// The queue marks clients idle, and erases old ones.
-    pub fn clean<T: Tag>(&mut self, at: Moment) -> Reply<T>
-    where
-        Q: Scheduler<T>,
-        ensures full { self.new.full ≡ self.old.full }
-        ensures steps { Steps T.ops (Q.state self.old.queue) (Q.state self.new.queue) (commands.Clean at) (Some result) }
-    {
-        answers::cleaned(self.queue.clean(at))
+        apply_to(&mut self.queue, command)
     }
 }

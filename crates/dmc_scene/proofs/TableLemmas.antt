@@ -12,7 +12,8 @@ use Rattle.std.proofs.lemmas.List.Elements.{All-push}
 use Rattle.std.proofs.lemmas.List.Quantifiers.{all_pairs_push}
 use Rattle.dmc_types.specs.declared.config.TagKind.{TagKind}
 use Rattle.dmc_scene.specs.declared.fault.SceneFault.{SceneFault}
-use Rattle.dmc_scene.specs.SceneValue.{ClientValue, AreApart, AreSpaced, IsFresh}
+use Rattle.dmc_scene.specs.SceneValue.{ClientValue, AreApart, AreSpaced}
+use Rattle.dmc_scene.specs.internal.SceneValue.{IsFresh}
 use Rattle.dmc_scene.specs.Reading.{are_tables, tables_in, client_of, clients_of}
 
 pub are_tables-view : (vs : List Value) → list_all (λ v. is_some (as_table (view v))) vs ≡ are_tables (items_view vs)

@@ -4,3 +4,5 @@ pub mod SceneValue
 pub mod Keys
 -- The scene of a table, or the first fault, in the order of the keys.
 pub mod Reading
+-- What only contracts of private functions and proofs cite.
+pub mod internal

@@ -45,10 +45,6 @@ pub record IsClient (requests window : ℕ) : Type 0 where
   pub some_window : 0 < window
   pub window_limit : window ≤ max_window
 
--- none of the clients has the id
-abbrev pub IsFresh : List ClientValue → ℕ → Type 0
-IsFresh clients id = All (λ c. c.id.0 ≢ id) clients
-
 -- two clients have different ids
 abbrev pub AreApart : ClientValue → ClientValue → Type 0
 AreApart a b = a.id ≢ b.id

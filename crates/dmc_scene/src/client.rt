@@ -4,7 +4,8 @@ ghost use Rattle.std.specs.List.{list_any};
 ghost use Rattle.dmc_types.specs.Limits.{max_window, max_client_requests};
 ghost use Rattle.toml.specs.Data.{as_integer};
 ghost use Rattle.toml.specs.View.{view, table_view};
-ghost use Rattle.dmc_scene.specs.SceneValue.{has_spacing, HasSpacing, AreSpaced, IsFresh};
+ghost use Rattle.dmc_scene.specs.SceneValue.{has_spacing, HasSpacing, AreSpaced};
+ghost use Rattle.dmc_scene.specs.internal.SceneValue.{IsFresh};
 ghost use Rattle.dmc_scene.specs.Keys.{meaning, required, optional};
 ghost use Rattle.dmc_scene.specs.Reading.{rate, id_beside, client_of};
 

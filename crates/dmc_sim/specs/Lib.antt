@@ -12,3 +12,5 @@ pub mod Counts
 pub mod Rows
 -- The scene of two clients, and its report, computed.
 pub mod Examples
+-- What only contracts of private functions and proofs cite.
+pub mod internal

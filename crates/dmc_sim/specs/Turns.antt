@@ -1,19 +1,14 @@
 -- Which simulations the data of the code represents, and that its calls end as the definition does.
-use Rattle.std.specs.Prelude.{◌≡◌, ℕ, ◌+◌, ◌<◌, ◌==◌, ◌&&◌, Bool, false, ⊤, if◌then◌else◌, nat_lt, List, length, map, All, slice_index_or, Option, Some, None, Result, Ok, Err}
-use Rattle.dmc_types.specs.declared.ids.ClientId.{ClientId}
-use Rattle.dmc_types.specs.declared.config.PhaseType.{PhaseType}
+use Rattle.std.specs.Prelude.{◌≡◌, ℕ, ◌+◌, ◌<◌, ◌==◌, ◌&&◌, Bool, false, ⊤, nat_lt, List, length, map, All, slice_index_or, Result, Ok, Err}
 use Rattle.dmc_types.specs.declared.config.PhaseType.TheVariants.{Reservation, Priority}
 use Rattle.dmc_types.specs.declared.refusal.Refusal.{Refusal}
 use Rattle.dmc_tag.specs.Tag.{Tagging}
-use Rattle.dmc_tag.specs.State.{State, is_client}
-use Rattle.dmc_tag.specs.declared.reply.Reply.TheVariants as replies
+use Rattle.dmc_tag.specs.State.{State}
 use Rattle.dmc_scene.specs.SceneValue.{SceneValue}
 use Rattle.dmc_core.specs.Core.{CoreValue, RepresentsRun}
 use Rattle.dmc_core.specs.declared.event.CoreEvent.{CoreEvent}
-use Rattle.dmc_core.specs.declared.event.CoreReply.TheVariants.{Served}
-use Rattle.dmc_core.specs.declared.event.CoreFault.TheVariants as core
 use Rattle.dmc_core.specs.Events.{cluster_step}
-use Rattle.dmc_sim.specs.Simulation.{Entry, Sim, Returned, after_event, sent_by, completed_by, reserved_by, granted_by, is_phase, plan_of, servers_of}
+use Rattle.dmc_sim.specs.Simulation.{Entry, Sim, Returned, after_event, sent_by, completed_by, reserved_by, granted_by, plan_of, servers_of}
 use Rattle.dmc_sim.specs.Reports.{end_of, server_row}
 use Rattle.dmc_sim.specs.declared.client.SimClient.{SimClient}
 use Rattle.dmc_sim.specs.declared.report.ServerReport.{ServerReport}
@@ -28,13 +23,6 @@ pub record IsCounted {T : Type 0} (scene : SceneValue) (trace : List (Entry T)) 
   pub sent : c.sent ≡ sent_by c.scene.id trace
   pub completed : c.completed ≡ completed_by c.scene.id trace
   pub reservation : c.reservation ≡ reserved_by c.scene.id trace
-
--- a client that has sent nothing
-pub record IsIdle (scene : SceneValue) (c : SimClient) : Type 0 where
-  pub plan : c.plan.items ≡ plan_of scene c.scene
-  pub sent : c.sent ≡ 0
-  pub completed : c.completed ≡ 0
-  pub reservation : c.reservation ≡ 0
 
 -- its grants are those of the trace
 pub record AreGrants {T : Type 0} (trace : List (Entry T)) (row : ServerReport) : Type 0 where
@@ -53,46 +41,17 @@ is_complete c = c.completed == c.scene.requests
 abbrev pub AreMarked : List Bool → List SimClient → Type 0
 AreMarked marks clients = (k : ℕ) (c : SimClient) → k < length clients → slice_index_or marks k false ≡ false → has_next (slice_index_or clients k c) ≡ false
 
--- one more completion is counted where the client has this id
-pub record Completes (id : ClientId) (phase : PhaseType) (old new : SimClient) : Type 0 where
-  pub scene : new.scene ≡ old.scene
-  pub plan : new.plan.items ≡ old.plan.items
-  pub sent : new.sent ≡ old.sent
-  pub completed : new.completed ≡ old.completed + (if is_client old.scene.id id then 1 else 0)
-  pub reservation : new.reservation ≡ old.reservation + (if is_client old.scene.id id && is_phase Reservation phase then 1 else 0)
-
-abbrev pub CompletesOne : ClientId → PhaseType → List SimClient → List SimClient → Type 0
-CompletesOne id phase old new = (k : ℕ) (c : SimClient) → k < length old → Completes id phase (slice_index_or old k c) (slice_index_or new k c)
-
 -- ---- a simulation
-
--- the core and one client represent a simulation
-pub record ClientAt {T Q : Type 0} (state : Q → State T) (scene : SceneValue) (core : CoreValue Q) (c : SimClient) (sim : Sim T) : Type 0 where
-  pub run : RepresentsRun state core sim.run
-  pub counted : IsCounted scene sim.trace c
 
 -- the core and all clients represent a simulation
 pub record ClientsAt {T Q : Type 0} (state : Q → State T) (scene : SceneValue) (core : CoreValue Q) (clients : List SimClient) (sim : Sim T) : Type 0 where
   pub run : RepresentsRun state core sim.run
   pub counted : All (IsCounted scene sim.trace) clients
 
--- the core, all clients and one server represent a simulation
-pub record ServerAt {T Q : Type 0} (state : Q → State T) (scene : SceneValue) (core : CoreValue Q) (clients : List SimClient) (row : ServerReport) (sim : Sim T) : Type 0 where
-  pub at : ClientsAt state scene core clients sim
-  pub grants : AreGrants sim.trace row
-
 -- the core, all clients and all servers represent a simulation
 pub record AllAt {T Q : Type 0} (state : Q → State T) (scene : SceneValue) (core : CoreValue Q) (clients : List SimClient) (rows : List ServerReport) (sim : Sim T) : Type 0 where
   pub at : ClientsAt state scene core clients sim
   pub grants : All (AreGrants sim.trace) rows
-
--- ---- how a call ends
-
--- how a returned value ends the code: with the refusal of a queue, or an allocation failure
-abbrev pub fault_in : {T : Type 0} → Returned T → Option SimFault
-fault_in (Ok (Served (replies.Refused refusal))) = Some (Refused refusal)
-fault_in (Err core.Memory) = Some Memory
-fault_in returned = None
 
 -- the result of the definition is a value, of which P holds
 pub record Gives {X : Type 0} (given : Result X Refusal) (P : X → Type 0) : Type 0 where
@@ -112,11 +71,6 @@ pub record IsAfter {T Q : Type 0} (ops : Tagging T) (state : Q → State T) (eve
   pub returned_is : (cluster_step ops sim.run event).1 ≡ returned
   pub next_is : next ≡ after_event ops event sim
   pub run : RepresentsRun state core next.run
-
--- the simulation after the rounds, and the moment of the last
-pub record HasRun {T Q : Type 0} (state : Q → State T) (scene : SceneValue) (core : CoreValue Q) (clients : List SimClient) (rows : List ServerReport) (end : ℕ) (last : ℕ × Sim T) : Type 0 where
-  pub at : AllAt state scene core clients rows last.1
-  pub end_is : end ≡ end_of scene last.0
 
 -- the end of the simulation: its clients and servers, and the moment of the last round
 pub record IsLast {T : Type 0} (scene : SceneValue) (clients : List SimClient) (rows : List ServerReport) (end : ℕ) (last : ℕ × Sim T) : Type 0 where

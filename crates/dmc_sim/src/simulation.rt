@@ -9,7 +9,8 @@ ghost use Rattle.dmc_sim.specs.Counts.{AreDifferent, HaveCompleted, HaveGranted}
 ghost use Rattle.dmc_sim.specs.Reports.{IsReportOf, Simulates, SimulatesBy};
 ghost use Rattle.dmc_sim.specs.Rows.{idle_row};
 ghost use Rattle.dmc_sim.specs.Simulation.{Sim, rounds, servers_of, simulation};
-ghost use Rattle.dmc_sim.specs.Turns.{AllAt, AreMarked, Ends, HasRun, IsIdle, IsLast, is_complete};
+ghost use Rattle.dmc_sim.specs.Turns.{AllAt, AreMarked, Ends, IsLast, is_complete};
+ghost use Rattle.dmc_sim.specs.internal.Turns.{HasRun, IsIdle};
 
 use crate::client::SimClient;
 use crate::report::{ServerReport, SimFault, SimReport};

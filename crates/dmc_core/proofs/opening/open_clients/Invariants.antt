@@ -1,5 +1,5 @@
 use Rattle.std.proofs.Common.{◌≡◌, map, take}
-use Rattle.dmc_core.specs.Opening.{opening_client}
+use Rattle.dmc_core.specs.internal.Opening.{opening_client}
 use Rattle.dmc_core.proofs.opening.open_clients.Given as goal
 
 abbrev pub invariant-loop-client : goal.invariant-loop-client

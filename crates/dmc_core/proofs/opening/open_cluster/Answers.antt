@@ -2,7 +2,7 @@ use Rattle.std.proofs.Common.{map, ap, ◌∙◌}
 use Rattle.dmc_pull.specs.Queue.{state_of}
 use Rattle.dmc_tag.specs.State.{Represents}
 use Rattle.dmc_scene.specs.SceneValue.{ClientValue}
-use Rattle.dmc_core.specs.Opening.{opening_state}
+use Rattle.dmc_core.specs.internal.Opening.{opening_state}
 use Rattle.dmc_core.proofs.Opened.{opened_servers, opened_clients, opened_kept}
 use Rattle.dmc_core.proofs.opening.open_cluster.Goals as goal
 

@@ -3,7 +3,7 @@ use Rattle.dmc_pull.specs.Queue.{state_of}
 use Rattle.dmc_types.specs.declared.ids.ServerId.{ServerId}
 use Rattle.std.specs.Prelude.{Option}
 use Rattle.dmc_sim.specs.Simulation.{client_turn, send_to}
-use Rattle.dmc_sim.specs.Turns.{ClientAt}
+use Rattle.dmc_sim.specs.internal.Turns.{ClientAt}
 use Rattle.dmc_sim.proofs.Endings.{passed_on}
 use Rattle.dmc_sim.proofs.Sending.{none_next}
 use Rattle.dmc_sim.proofs.round.send_marked.Goals as goal

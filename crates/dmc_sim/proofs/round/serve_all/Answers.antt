@@ -2,7 +2,8 @@ use Rattle.std.proofs.Common.{◌≡◌, ◌≢◌, ◌+◌, ◌<◌, ◌≤◌,
 use Rattle.std.specs.Prelude.{⊤}
 use Rattle.dmc_pull.specs.Queue.{state_of}
 use Rattle.dmc_sim.specs.Simulation.{server_turn, each_in_turn}
-use Rattle.dmc_sim.specs.Turns.{AllAt, ServerAt}
+use Rattle.dmc_sim.specs.Turns.{AllAt}
+use Rattle.dmc_sim.specs.internal.Turns.{ServerAt}
 use Rattle.dmc_sim.proofs.Endings.{passed_up}
 use Rattle.dmc_sim.proofs.Serving.{one_at, one_served, one_unserved}
 use Rattle.std.proofs.Math.Seq.{map-set_same}

@@ -1,6 +1,6 @@
 use Rattle.std.proofs.Common.{◌≡◌, map, take}
 use Rattle.std.specs.Prelude.{All}
-use Rattle.dmc_sim.specs.Turns.{IsIdle}
+use Rattle.dmc_sim.specs.internal.Turns.{IsIdle}
 use Rattle.dmc_sim.proofs.simulation.idle_clients.Given as goal
 
 abbrev pub invariant-loop-client : goal.invariant-loop-client

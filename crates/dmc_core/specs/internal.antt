@@ -1,0 +1,4 @@
+-- A cluster before its first event.
+pub mod Opening
+-- The commands that are events of a cluster as they are.
+pub mod Serving

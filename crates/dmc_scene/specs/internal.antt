@@ -1,0 +1,2 @@
+-- Ids that are not taken.
+pub mod SceneValue

@@ -1,0 +1,2 @@
+-- The turns of a round, one by one.
+pub mod Turns

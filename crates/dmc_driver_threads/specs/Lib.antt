@@ -1,8 +1,8 @@
--- Which refusal a worker reports as the cause of its stop.
-pub mod Causes
 -- What contracts see of the limits of a run.
 pub mod LimitsValue
--- What contracts see of the desks of a cluster while they are opened.
-pub mod Desks
+-- What each server of a run is opened with, and keeps.
 pub mod Opened
+-- The value where no run was opened.
 pub mod Origins
+-- What only the proofs and the contracts of private functions speak of.
+pub mod internal

@@ -1,6 +1,6 @@
 //! What a worker that is refused reports as the cause of its stop.
 ghost use Rattle.std.specs.Prelude.{◌≡◌};
-ghost use Rattle.dmc_driver_threads.specs.Causes.{of_entry, of_pull, of_run, of_submit};
+ghost use Rattle.dmc_driver_threads.specs.internal.Causes.{of_entry, of_pull, of_run, of_submit};
 
 use dmc_book::fault::{RunFault, SubmitCause};
 use dmc_qlock::fault::RunOrRange;

@@ -9,7 +9,7 @@ use crate::server_worker::ServerJob;
 use dmc_book::pass::WorkerPass;
 use dmc_ledger::setup::Setup;
 use dmc_qlock::lock::LockedQueue;
-use dmc_settle::report::{ClientReport, ClusterReport, ServerReport, StopCause};
+use dmc_settle::report::{ClientReport, ServerReport, StopCause};
 use dmc_settle::settle::Passes;
 use dmc_tag::tag::Tag;
 use dmc_tlock::book::TrackerBook;
@@ -30,8 +30,15 @@ pub(crate) fn gather<T: Tag, B: Lasting + Drop, W: Witness<B> + Drop, S: Setup>(
 {
     remains.books = take_books(cluster.queues, room);
     take_trackers(cluster.trackers, &mut remains.trackers);
-    gather_clients(clients, &mut remains.passes, &mut remains.report.clients);
-    gather_servers(servers, &mut remains.passes.workers, &mut remains.report);
+    let rows = &mut remains.report.clients;
+    gather_clients(clients, &mut remains.passes, rows);
+    gather_servers(
+        servers,
+        &mut remains.passes.workers,
+        &mut remains.ends,
+        rows,
+    );
+    add_stops(&remains.ends, &mut remains.report.servers);
 }
 
 /// Takes the books out of their locks. There is room for them.
@@ -93,25 +100,27 @@ fn put_back<S: Setup>(own: Vec<WorkerPass<S>>, passes: &mut [Vec<WorkerPass<S>>]
 }
 
 /// Gathers what the servers' workers leave.
-fn gather_servers<T: Tag, S: Setup>(
+fn gather_servers<S: Setup>(
     jobs: Vec<ServerJob<S>>,
     passes: &mut [Vec<WorkerPass<S>>],
-    report: &mut ClusterReport<T>,
+    ends: &mut [Vec<Option<StopCause>>],
+    rows: &mut [ClientReport],
 ) {
     for job in jobs {
-        gather_server(job, passes, report);
+        gather_server(job, passes, ends, rows);
     }
 }
 
 /// The pass of a server's worker, the failures that it counted, and why it stopped.
-fn gather_server<T: Tag, S: Setup>(
+fn gather_server<S: Setup>(
     job: ServerJob<S>,
     passes: &mut [Vec<WorkerPass<S>>],
-    report: &mut ClusterReport<T>,
+    ends: &mut [Vec<Option<StopCause>>],
+    rows: &mut [ClientReport],
 ) {
     let index = job.server.0 as usize;
-    add_failures(&job.failures, &mut report.clients);
-    add_stop(index, job.stop, &mut report.servers);
+    add_failures(&job.failures, rows);
+    keep_end(index, job.place, job.stop, ends);
     put_pass(index, job.pass, passes);
 }
 
@@ -122,10 +131,38 @@ fn put_pass<S: Setup>(index: usize, pass: WorkerPass<S>, passes: &mut [Vec<Worke
     }
 }
 
-/// Why a worker of the server at a place stopped, if it did.
-fn add_stop<T: Tag>(index: usize, stop: Option<StopCause>, rows: &mut [ServerReport<T>]) {
-    if let (Some(cause), Some(row)) = (stop, rows.get_mut(index)) {
-        let _ = row.stops.push(cause);
+/// Why the worker at a place of a server stopped, if it did.
+fn keep_end(
+    server: usize,
+    place: usize,
+    stop: Option<StopCause>,
+    ends: &mut [Vec<Option<StopCause>>],
+) {
+    if let Some(own) = ends.get_mut(server) {
+        set_end(place, stop, own);
+    }
+}
+
+/// Why the worker at a place stopped, if it did.
+fn set_end(place: usize, stop: Option<StopCause>, ends: &mut [Option<StopCause>]) {
+    if let Some(end) = ends.get_mut(place) {
+        *end = stop;
+    }
+}
+
+/// Why the workers of each server stopped, those that did.
+fn add_stops<T: Tag>(ends: &[Vec<Option<StopCause>>], rows: &mut [ServerReport<T>]) {
+    for (row, own) in rows.iter_mut().zip(ends) {
+        add_own(own, &mut row.stops);
+    }
+}
+
+/// Why the workers of a server stopped, those that did.
+fn add_own(ends: &[Option<StopCause>], stops: &mut Vec<StopCause>) {
+    for end in ends {
+        if let Some(cause) = *end {
+            let _ = stops.push(cause);
+        }
     }
 }
 

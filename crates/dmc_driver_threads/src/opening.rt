@@ -1,5 +1,6 @@
 //! All that a run needs, made before any of its threads.
-ghost use Rattle.std.specs.Prelude.{◌≡◌};
+ghost use Rattle.std.specs.Prelude.{◌≡◌, ◌*◌, ◌≤◌};
+ghost use Rattle.dmc_types.specs.Limits.{max_server_workers, max_servers};
 
 mod clients;
 mod desks;
@@ -12,8 +13,7 @@ use crate::origin::{AsOpened, Origin};
 use crate::remains::{Remains, no_remains, reserve_of_clients, reserve_of_servers};
 use crate::server_worker::ServerJob;
 use crate::threads::Senders;
-use clients::{no_senders, open_clients, reserve_senders};
-use desks::{QueueDesks, no_desks};
+use clients::{no_senders, reserve_senders};
 use dmc_book::book::QueueBook;
 use dmc_index::index::Indexes;
 use dmc_ledger::mint::Mint;
@@ -22,7 +22,6 @@ use dmc_scene::scene::Scene;
 use dmc_tag::tag::Tag;
 use dmc_tlock::witness::{Lasting, Witness};
 use indexmap::IndexSet;
-use servers::{open_server, server_workers};
 use std::alloc::{AllocError, Global};
 
 /// The workers of a run, what they share, and room for what they leave.
@@ -36,6 +35,14 @@ pub(crate) struct Opened<T: Tag, B: Lasting, W: Witness<B>, S: Setup> {
     pub(crate) remains: Remains<T, B, S>,
 }
 
+/// What a run is opened from.
+#[derive(Drop)]
+struct Opening<'a> {
+    alloc: Global,
+    scene: &'a Scene,
+    limits: Limits,
+}
+
 /// Opens the clients and servers of a scene, and registers each client at each server.
 pub(crate) fn open<T: Tag, I: Indexes<T>, S: Origin>(
     alloc: Global,
@@ -46,8 +53,13 @@ pub(crate) fn open<T: Tag, I: Indexes<T>, S: Origin>(
     requires scene { S.scene ≡ scene.now }
     requires limits { S.limits ≡ limits }
 {
-    let mut opened = none_opened(alloc, scene)?;
-    match open_all(alloc, mint, scene, limits, &mut opened) {
+    let opening = Opening {
+        alloc,
+        scene,
+        limits,
+    };
+    let mut opened = opening.none_opened()?;
+    match opening.open_all(mint, &mut opened) {
         Ok(()) => Ok(opened),
         Err(fault) => {
             drop(opened);
@@ -56,54 +68,61 @@ pub(crate) fn open<T: Tag, I: Indexes<T>, S: Origin>(
     }
 }
 
-/// No client and no server yet, with room for the clients' ids.
-fn none_opened<T: Tag, B: Lasting, W: Witness<B>, S: Setup>(
-    alloc: Global,
-    scene: &Scene,
-) -> Result<Opened<T, B, W, S>, AllocError> {
-    let ids = IndexSet::with_capacity(alloc, scene.clients().len())?;
-    Ok(Opened {
-        cluster: Cluster {
-            queues: Vec::new(alloc),
-            trackers: Vec::new(alloc),
-            ids,
-            max_pulls: scene.max_pulls(),
-        },
-        senders: no_senders(alloc),
-        servers: Vec::new(alloc),
-        remains: no_remains(alloc),
-    })
-}
+impl<'a> Opening<'a> {
+    /// No client and no server yet, with room for the clients' ids.
+    fn none_opened<T: Tag, B: Lasting, W: Witness<B>, S: Setup>(
+        &self,
+    ) -> Result<Opened<T, B, W, S>, AllocError> {
+        let alloc = self.alloc;
+        let ids = IndexSet::with_capacity(alloc, self.scene.clients().len())?;
+        Ok(Opened {
+            cluster: Cluster {
+                queues: Vec::new(alloc),
+                trackers: Vec::new(alloc),
+                ids,
+                max_pulls: self.scene.max_pulls(),
+            },
+            senders: no_senders(alloc),
+            servers: Vec::new(alloc),
+            remains: no_remains(alloc),
+        })
+    }
 
-/// Opens the clients of a scene, and then its servers.
-fn open_all<T: Tag, I: Indexes<T>, S: Origin>(
-    alloc: Global,
-    mint: &mut Mint<S>,
-    scene: &Scene,
-    limits: Limits,
-    opened: &mut Opened<T, QueueBook<T, I, S>, AsOpened<S>, S>,
-) -> Result<(), OpenFault>
-    requires scene { S.scene ≡ scene.now }
-    requires limits { S.limits ≡ limits }
-{
-    reserve_all(scene, opened)?;
-    let mut desks = no_desks(alloc, scene)?;
-    open_clients(alloc, mint, scene, limits, &mut desks, opened)?;
-    open_servers(alloc, mint, scene, limits, desks, opened)
-}
+    /// Opens the clients, and then the servers.
+    fn open_all<T: Tag, I: Indexes<T>, S: Origin>(
+        &self,
+        mint: &mut Mint<S>,
+        opened: &mut Opened<T, QueueBook<T, I, S>, AsOpened<S>, S>,
+    ) -> Result<(), OpenFault>
+        requires scene { S.scene ≡ self.now.scene.now }
+        requires limits { S.limits ≡ self.now.limits }
+    {
+        self.reserve_all(opened)?;
+        let mut desks = self.no_desks()?;
+        self.open_clients(mint, &mut desks, opened)?;
+        self.open_servers(mint, desks, opened)
+    }
 
-/// Makes room for the clients and the servers of a scene.
-fn reserve_all<T: Tag, B: Lasting, W: Witness<B>, S: Setup>(
-    scene: &Scene,
-    opened: &mut Opened<T, B, W, S>,
-) -> Result<(), AllocError> {
-    let clients = scene.clients().len();
-    let servers = scene.servers() as usize;
-    reserve_locks(clients, servers, &mut opened.cluster)?;
-    reserve_senders(clients, &mut opened.senders)?;
-    opened.servers.reserve_exact(server_workers(scene))?;
-    reserve_of_clients(clients, &mut opened.remains)?;
-    reserve_of_servers(servers, &mut opened.remains)
+    /// Makes room for the clients and the servers.
+    fn reserve_all<T: Tag, B: Lasting, W: Witness<B>, S: Setup>(
+        &self,
+        opened: &mut Opened<T, B, W, S>,
+    ) -> Result<(), AllocError> {
+        let clients = self.scene.clients().len();
+        let servers = self.scene.servers() as usize;
+        reserve_locks(clients, servers, &mut opened.cluster)?;
+        reserve_senders(clients, &mut opened.senders)?;
+        opened.servers.reserve_exact(self.server_workers())?;
+        reserve_of_clients(clients, &mut opened.remains)?;
+        reserve_of_servers(servers, &mut opened.remains)
+    }
+
+    /// How many workers the servers have.
+    fn server_workers(&self) -> usize
+        ensures { result ≤ max_servers * max_server_workers }
+    {
+        (self.scene.servers() * self.scene.workers()) as usize
+    }
 }
 
 /// Makes room for this number of trackers and queues.
@@ -114,24 +133,6 @@ fn reserve_locks<B: Lasting, W: Witness<B>, S: Setup>(
 ) -> Result<(), AllocError> {
     cluster.trackers.reserve_exact(clients)?;
     cluster.queues.reserve_exact(servers)?;
-    Ok(())
-}
-
-/// Opens the servers with these desks, in order.
-fn open_servers<T: Tag, I: Indexes<T>, S: Origin>(
-    alloc: Global,
-    mint: &mut Mint<S>,
-    scene: &Scene,
-    limits: Limits,
-    desks: Vec<QueueDesks<S>>,
-    opened: &mut Opened<T, QueueBook<T, I, S>, AsOpened<S>, S>,
-) -> Result<(), OpenFault>
-    requires scene { S.scene ≡ scene.now }
-    requires limits { S.limits ≡ limits }
-{
-    for next in desks {
-        open_server(alloc, mint, scene, limits, next, opened)?;
-    }
     Ok(())
 }
 

@@ -1,6 +1,6 @@
 //! What the threads of a run leave, in room that is made before them.
 use dmc_ledger::setup::Setup;
-use dmc_settle::report::ClusterReport;
+use dmc_settle::report::{ClusterReport, StopCause};
 use dmc_settle::settle::Passes;
 use dmc_tag::tag::Tag;
 use dmc_tlock::book::TrackerBook;
@@ -17,6 +17,8 @@ pub struct Remains<T: Tag, B, S: Setup> {
     pub passes: Passes<S>,
     /// With the stops and the failures.
     pub report: ClusterReport<T>,
+    /// Of server 0, 1, ..: why each of its own workers stopped, if it did, in their order.
+    pub ends: Vec<Vec<Option<StopCause>>>,
 }
 
 /// Nothing yet.
@@ -32,6 +34,7 @@ pub(crate) fn no_remains<T: Tag, B, S: Setup>(alloc: Global) -> Remains<T, B, S>
             clients: Vec::new(alloc),
             servers: Vec::new(alloc),
         },
+        ends: Vec::new(alloc),
     }
 }
 
@@ -53,5 +56,6 @@ pub(crate) fn reserve_of_servers<T: Tag, B, S: Setup>(
 ) -> Result<(), AllocError> {
     remains.passes.workers.reserve_exact(servers)?;
     remains.report.servers.reserve_exact(servers)?;
+    remains.ends.reserve_exact(servers)?;
     Ok(())
 }

@@ -22,6 +22,8 @@ use std::sync::Wait;
 #[derive(Drop)]
 pub(crate) struct ServerJob<S: Setup> {
     pub(crate) server: ServerId,
+    /// Its place among the server's own workers.
+    pub(crate) place: usize,
     pub(crate) pass: WorkerPass<S>,
     /// At the clients' doors, in the scene's order.
     pub(crate) ringers: Vec<Ringer>,

@@ -13,8 +13,8 @@ use Rattle.dmc_tlock.specs.Consistent.{IsConsistent, responded}
 use Rattle.dmc_tlock.specs.Settling.{AreGathered, IsSettledDesk, held_of, side_after_gather}
 use Rattle.dmc_tlock.specs.declared.settled.StampsHeld.{StampsHeld}
 use Rattle.dmc_tlock.proofs.ConsistentLemmas.{has_room}
-use Rattle.dmc_settle.specs.Filled.{AreHeldWithin, IsAudited, IsBalancedPair, IsClosing, IsLastPair, IsReadyClient, all_held}
-use Rattle.dmc_settle.specs.Places.{desk_of, no_held}
+use Rattle.dmc_settle.specs.internal.Filled.{AreHeldWithin, IsAudited, IsBalancedPair, IsClosing, IsLastPair, IsReadyClient, all_held}
+use Rattle.dmc_settle.specs.internal.Places.{desk_of, no_held}
 use Rattle.dmc_settle.specs.Reports.{stamps_left}
 use Rattle.dmc_settle.proofs.Sums.{sum_to, sum_places, same_sum}
 

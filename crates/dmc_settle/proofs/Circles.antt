@@ -11,8 +11,8 @@ use Rattle.dmc_book.specs.Counts.{count, stamps_added, delta_added, rho_added, g
 use Rattle.dmc_book.specs.Settling.{AreSettledDesks, left_in}
 use Rattle.dmc_scene.specs.SceneValue.{SceneValue, ClientValue}
 use Rattle.dmc_settle.specs.Circle.{AreCircles, IsCircle}
-use Rattle.dmc_settle.specs.Filled.{AreBalanced, AreClientNumbers, AreServerNumbers, client_numbers, no_client_numbers, no_server_numbers, server_numbers}
-use Rattle.dmc_settle.specs.Places.{no_book, no_tracker}
+use Rattle.dmc_settle.specs.internal.Filled.{AreBalanced, AreClientNumbers, AreServerNumbers, client_numbers, no_client_numbers, no_server_numbers, server_numbers}
+use Rattle.dmc_settle.specs.internal.Places.{no_book, no_tracker}
 use Rattle.dmc_settle.specs.Left.{AreTogether, Left}
 use Rattle.dmc_settle.specs.Reports.{AreRows}
 use Rattle.dmc_settle.specs.declared.report.ClusterReport.{ClusterReport}

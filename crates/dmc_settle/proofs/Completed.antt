@@ -15,9 +15,9 @@ use Rattle.dmc_book.specs.Counts.{count, grants_added, phase_grants}
 use Rattle.dmc_book.specs.Settling.{left_in}
 use Rattle.dmc_book.specs.declared.settled.GrantsHeld.{GrantsHeld}
 use Rattle.dmc_scene.specs.SceneValue.{SceneValue}
-use Rattle.dmc_settle.specs.Filled as filled
-use Rattle.dmc_settle.specs.Filled.{ClientNumbers, client_numbers, no_client_numbers, no_server_numbers, server_numbers}
-use Rattle.dmc_settle.specs.Places.{no_book, no_tracker}
+use Rattle.dmc_settle.specs.internal.Filled as filled
+use Rattle.dmc_settle.specs.internal.Filled.{ClientNumbers, client_numbers, no_client_numbers, no_server_numbers, server_numbers}
+use Rattle.dmc_settle.specs.internal.Places.{no_book, no_tracker}
 use Rattle.dmc_settle.specs.Left.{Left}
 use Rattle.dmc_settle.specs.Reports.{IsReport, units_left}
 use Rattle.dmc_settle.specs.declared.report.ClientReport.{ClientReport}

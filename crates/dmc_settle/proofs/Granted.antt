@@ -13,7 +13,7 @@ use Rattle.dmc_ledger.specs.Moves.{till_in}
 use Rattle.dmc_book.specs.BookState.{PassState, WorkerSide, no_desk, no_unit}
 use Rattle.dmc_book.specs.Counts.{count, grant_in, grants_added, one_if, units_for}
 use Rattle.dmc_book.specs.Settling.{AreSettledDesks, IsOwn, left_in}
-use Rattle.dmc_settle.specs.Filled.{AreFewGrants, granted_at, grants_left}
+use Rattle.dmc_settle.specs.internal.Filled.{AreFewGrants, granted_at, grants_left}
 use Rattle.dmc_settle.specs.Reports.{units_left}
 use Rattle.dmc_settle.proofs.Sums.{sum_to, sum_places, sum_places_within, same_sum, no_sum, sum_plus}
 

@@ -5,7 +5,7 @@ use Rattle.std.proofs.lemmas.List.Sums.{sum_by_push}
 use Rattle.dmc_ledger.specs.Accounts.{total_of}
 use Rattle.dmc_ledger.specs.Bundles.{ClientSide, client_side}
 use Rattle.dmc_ledger.specs.declared.desk.ClientDesk.{ClientDesk}
-use Rattle.dmc_settle.specs.Filled.{AreFewGrants, AreWithin, granted_at, with_desk}
+use Rattle.dmc_settle.specs.internal.Filled.{AreFewGrants, AreWithin, granted_at, with_desk}
 use Rattle.dmc_settle.specs.declared.servers.Granted.{Granted}
 
 pub granted_more : (ds : List ClientSide) (d : ClientSide) → granted_at (ds ++ d ∷ []) ≡ with_desk (granted_at ds) d

@@ -4,7 +4,7 @@ use Rattle.std.specs.Prelude.{sum_by}
 use Rattle.std.proofs.lemmas.List.{map_push, take_more}
 use Rattle.std.proofs.lemmas.List.Sums.{sum_by_push}
 use Rattle.dmc_tlock.specs.declared.settled.StampsHeld.{StampsHeld}
-use Rattle.dmc_settle.specs.Filled.{AreHeldWithin, all_held, with_held}
+use Rattle.dmc_settle.specs.internal.Filled.{AreHeldWithin, all_held, with_held}
 
 held_more : (held : List StampsHeld) (h : StampsHeld) → all_held (held ++ h ∷ []) ≡ with_held (all_held held) h
 held_more held h =

@@ -8,8 +8,8 @@ use Rattle.dmc_book.specs.Settling.{AreSettledDesks, IsSettledDesk}
 use Rattle.dmc_book.specs.BookState.{PassState}
 use Rattle.dmc_tag.specs.declared.event.Event.{Event}
 use Rattle.dmc_scene.specs.SceneValue.{SceneValue, ClientValue}
-use Rattle.dmc_settle.specs.Filled.{IsLastPair, IsReadyClient, IsReadyServer}
-use Rattle.dmc_settle.specs.Places.{desk_of, no_book, no_tracker}
+use Rattle.dmc_settle.specs.internal.Filled.{IsLastPair, IsReadyClient, IsReadyServer}
+use Rattle.dmc_settle.specs.internal.Places.{desk_of, no_book, no_tracker}
 use Rattle.dmc_settle.specs.Left.{AreTogether, ArePaired, IsServerPart, IsClientPart, Left}
 use Rattle.dmc_settle.proofs.Lists.{alike_long}
 

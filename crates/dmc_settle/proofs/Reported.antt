@@ -23,9 +23,9 @@ use Rattle.dmc_tlock.specs.declared.settled.StampsHeld.{StampsHeld}
 use Rattle.dmc_book.specs.BookState.{BookState, no_desk}
 use Rattle.dmc_book.specs.Counts.{count, stamps_added, delta_added}
 use Rattle.dmc_scene.specs.SceneValue.{SceneValue, ClientValue}
-use Rattle.dmc_settle.specs.Filled as filled
-use Rattle.dmc_settle.specs.Filled.{ClientNumbers, client_numbers, no_client_numbers, no_server_numbers, server_numbers, grants_left}
-use Rattle.dmc_settle.specs.Places.{no_book, no_tracker}
+use Rattle.dmc_settle.specs.internal.Filled as filled
+use Rattle.dmc_settle.specs.internal.Filled.{ClientNumbers, client_numbers, no_client_numbers, no_server_numbers, server_numbers, grants_left}
+use Rattle.dmc_settle.specs.internal.Places.{no_book, no_tracker}
 use Rattle.dmc_settle.specs.Left.{Left, stops_of}
 use Rattle.dmc_settle.specs.Reports.{IsServerReport, IsClientReport, IsReportOf, delta_bound, stamps_left}
 use Rattle.dmc_settle.specs.declared.report.ClientReport.{ClientReport}

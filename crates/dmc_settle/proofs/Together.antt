@@ -8,8 +8,8 @@ use Rattle.dmc_tlock.specs.BookState as tracker_book
 use Rattle.dmc_book.specs.BookState.{BookState, PassState, pass_state}
 use Rattle.dmc_book.specs.declared.pass.WorkerPass.{WorkerPass}
 use Rattle.dmc_scene.specs.SceneValue.{SceneValue}
-use Rattle.dmc_settle.specs.Checks.{AreServerParts, AreClientParts, ArePairs}
-use Rattle.dmc_settle.specs.Places.{no_book, no_tracker, pass_states}
+use Rattle.dmc_settle.specs.internal.Checks.{AreServerParts, AreClientParts, ArePairs}
+use Rattle.dmc_settle.specs.internal.Places.{no_book, no_tracker, pass_states}
 use Rattle.dmc_settle.specs.Left.{AreTogether, IsClientPart, IsServerPart, Left}
 
 -- each server's passes, as they are seen

@@ -2,8 +2,8 @@
 ghost use Rattle.std.specs.Prelude.{◌≡◌, ◌≤◌, ◌↔◌, ℕ, Some, length, map, slice_get, IsTrue};
 ghost use Rattle.dmc_ledger.specs.Bundles.{client_side, server_side};
 ghost use Rattle.dmc_book.specs.BookState.{pass_state};
-ghost use Rattle.dmc_settle.specs.Checks.{AreServerParts, AreClientParts, IsPairAt, ArePairsOf, ArePairs};
-ghost use Rattle.dmc_settle.specs.Places.{pass_states};
+ghost use Rattle.dmc_settle.specs.internal.Checks.{AreServerParts, AreClientParts, IsPairAt, ArePairsOf, ArePairs};
+ghost use Rattle.dmc_settle.specs.internal.Places.{pass_states};
 ghost use Rattle.dmc_types.specs.Limits.{max_scene_clients, max_servers};
 ghost use Rattle.dmc_settle.specs.Left.{ArePaired, AreTogether, IsClientPart, IsServerPart, IsTillOf, left_of, stops_of};
 ghost use Rattle.dmc_settle.specs.Reports.{AreRows};

@@ -4,9 +4,9 @@ ghost use Rattle.dmc_types.specs.Limits.{max_servers};
 ghost use Rattle.dmc_ledger.specs.Bundles.{client_side, server_side};
 ghost use Rattle.dmc_tlock.specs.BookState.{no_side};
 ghost use Rattle.dmc_tlock.specs.Consistent.{IsConsistent, responded};
-ghost use Rattle.dmc_settle.specs.Filled.{AreBalanced, AreClientNumbers, AreHeldWithin, IsAudited, IsClosing, IsReadyClient, all_held, client_numbers, no_client_numbers, stamps_taken, with_held, with_pair};
-ghost use Rattle.dmc_settle.specs.Places as places;
-ghost use Rattle.dmc_settle.specs.Places.{desk_of, no_held, no_tracker};
+ghost use Rattle.dmc_settle.specs.internal.Filled.{AreBalanced, AreClientNumbers, AreHeldWithin, IsAudited, IsClosing, IsReadyClient, all_held, client_numbers, no_client_numbers, stamps_taken, with_held, with_pair};
+ghost use Rattle.dmc_settle.specs.internal.Places as places;
+ghost use Rattle.dmc_settle.specs.internal.Places.{desk_of, no_held, no_tracker};
 
 use crate::report::ClientReport;
 use dmc_ledger::desk::{ClientDesk, ServerDesk};

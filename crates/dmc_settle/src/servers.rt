@@ -4,8 +4,8 @@ ghost use Rattle.dmc_types.specs.Limits.{max_scene_clients};
 ghost use Rattle.dmc_ledger.specs.Bundles.{client_side};
 ghost use Rattle.dmc_book.specs.BookState.{no_desk, pass_state};
 ghost use Rattle.dmc_book.specs.Settling.{AreSettledDesks};
-ghost use Rattle.dmc_settle.specs.Filled.{AreFewGrants, AreServerNumbers, AreWithin, IsReadyServer, granted_at, no_server_numbers, server_numbers, with_desk};
-ghost use Rattle.dmc_settle.specs.Places.{no_book, pass_states, sides};
+ghost use Rattle.dmc_settle.specs.internal.Filled.{AreFewGrants, AreServerNumbers, AreWithin, IsReadyServer, granted_at, no_server_numbers, server_numbers, with_desk};
+ghost use Rattle.dmc_settle.specs.internal.Places.{no_book, pass_states, sides};
 
 use crate::report::ServerReport;
 use dmc_book::book::QueueBook;

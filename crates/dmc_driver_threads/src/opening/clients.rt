@@ -2,17 +2,14 @@
 ghost use Rattle.std.specs.Prelude.{◌<◌, ◌≤◌};
 
 use super::desks::{QueueDesks, TrackerDesks, open_pairs};
-use super::servers::server_workers;
-use super::{Opened, push_last};
+use super::{Opened, Opening, push_last};
 use crate::bell::{Doorbell, Ringer, hang_bell};
 use crate::client_worker::ClientJob;
 use crate::fault::{OpenFault, of_make};
-use crate::limits::Limits;
 use crate::threads::Senders;
 use dmc_ledger::mint::Mint;
 use dmc_ledger::setup::Setup;
 use dmc_scene::client::SceneClient;
-use dmc_scene::scene::Scene;
 use dmc_settle::report::{ClientReport, StopCause};
 use dmc_tag::tag::Tag;
 use dmc_tlock::book::TrackerBook;
@@ -20,10 +17,8 @@ use dmc_tlock::lock::TrackerLock;
 use dmc_tlock::pass::ClientPass;
 use dmc_tlock::settled::StampsHeld;
 use dmc_tlock::witness::{Lasting, Witness};
-use dmc_types::config::Counting;
 use dmc_types::ids::ClientId;
 use dmc_work::plan::plan;
-use indexmap::IndexSet;
 use std::alloc::{AllocError, Global};
 
 /// No worker of a client yet.
@@ -44,93 +39,98 @@ pub(crate) fn reserve_senders<S: Setup>(
     Ok(())
 }
 
-/// Opens the clients of a scene, in order, with a desk of each at each of these servers.
-pub(crate) fn open_clients<T: Tag, B: Lasting, W: Witness<B>, S: Setup>(
-    alloc: Global,
-    mint: &mut Mint<S>,
-    scene: &Scene,
-    limits: Limits,
-    queues: &mut [QueueDesks<S>],
-    opened: &mut Opened<T, B, W, S>,
-) -> Result<(), OpenFault> {
-    for client in scene.clients() {
-        open_client(alloc, mint, scene, limits, *client, queues, opened)?;
+impl<'a> Opening<'a> {
+    /// Opens the clients in order, with a desk of each at each of these servers.
+    pub(super) fn open_clients<T: Tag, B: Lasting, W: Witness<B>, S: Setup>(
+        &self,
+        mint: &mut Mint<S>,
+        queues: &mut [QueueDesks<S>],
+        opened: &mut Opened<T, B, W, S>,
+    ) -> Result<(), OpenFault> {
+        for client in self.scene.clients() {
+            self.open_client(mint, *client, queues, opened)?;
+        }
+        Ok(())
     }
-    Ok(())
-}
 
-/// The next client.
-fn open_client<T: Tag, B: Lasting, W: Witness<B>, S: Setup>(
-    alloc: Global,
-    mint: &mut Mint<S>,
-    scene: &Scene,
-    limits: Limits,
-    client: SceneClient,
-    queues: &mut [QueueDesks<S>],
-    opened: &mut Opened<T, B, W, S>,
-) -> Result<(), OpenFault> {
-    let rows = &mut opened.remains.report.clients;
-    name_client(client.id(), &mut opened.cluster.ids, rows)?;
-    let desks = open_pairs(alloc, mint, client.id(), queues)?;
-    let trackers = &mut opened.cluster.trackers;
-    let senders = &mut opened.senders;
-    open_with(alloc, scene, limits, client, desks, trackers, senders)
-}
-
-/// The id and the row of the next client.
-fn name_client(
-    client: ClientId,
-    ids: &mut IndexSet<ClientId>,
-    rows: &mut Vec<ClientReport>,
-) -> Result<(), AllocError> {
-    ids.insert(client)?;
-    push_last(new_row(client), rows)
-}
-
-/// The tracker and the worker of the next client, with its desks.
-fn open_with<S: Setup>(
-    alloc: Global,
-    scene: &Scene,
-    limits: Limits,
-    client: SceneClient,
-    desks: TrackerDesks<S>,
-    trackers: &mut Vec<TrackerLock<S>>,
-    senders: &mut Senders<S>,
-) -> Result<(), OpenFault> {
-    let (book, tills) = open_tracker(alloc, scene.counting(), limits, desks)?;
-    let place = trackers.len();
-    push_last(TrackerLock::new(book), trackers)?;
-    open_sender(alloc, scene, client, place, tills, senders)?;
-    Ok(())
-}
-
-/// A client's tracker book, and the client's pass.
-fn open_tracker<S: Setup>(
-    alloc: Global,
-    counting: Counting,
-    limits: Limits,
-    desks: TrackerDesks<S>,
-) -> Result<(TrackerBook<S>, ClientPass<S>), OpenFault> {
-    let TrackerDesks { client, desks } = desks;
-    let most = u64::from(limits.completions());
-    match TrackerBook::new(alloc, client, desks, most, limits.events(), counting) {
-        Ok(made) => Ok(made),
-        Err(fault) => Err(of_make(fault.cause)),
+    /// The next client: its id and its row, its desks, its tracker and its worker.
+    fn open_client<T: Tag, B: Lasting, W: Witness<B>, S: Setup>(
+        &self,
+        mint: &mut Mint<S>,
+        client: SceneClient,
+        queues: &mut [QueueDesks<S>],
+        opened: &mut Opened<T, B, W, S>,
+    ) -> Result<(), OpenFault> {
+        opened.cluster.ids.insert(client.id())?;
+        push_last(new_row(client.id()), &mut opened.remains.report.clients)?;
+        let desks = open_pairs(self.alloc, mint, client.id(), queues)?;
+        let tills = self.open_tracker(desks, &mut opened.cluster.trackers)?;
+        self.open_sender(client, tills, &mut opened.senders)?;
+        Ok(())
     }
-}
 
-/// The worker of a client, with its doorbell, and a ringer at that door.
-fn open_sender<S: Setup>(
-    alloc: Global,
-    scene: &Scene,
-    client: SceneClient,
-    place: usize,
-    tills: ClientPass<S>,
-    senders: &mut Senders<S>,
-) -> Result<(), AllocError> {
-    let bell = open_bell(alloc, rings_of(scene, client), &mut senders.ringers)?;
-    let job = new_job(alloc, scene, client, place, tills, bell)?;
-    push_last(job, &mut senders.jobs)
+    /// A client's tracker behind its lock, the next one, and the client's pass.
+    fn open_tracker<S: Setup>(
+        &self,
+        desks: TrackerDesks<S>,
+        trackers: &mut Vec<TrackerLock<S>>,
+    ) -> Result<ClientPass<S>, OpenFault> {
+        let TrackerDesks { client, desks } = desks;
+        let most = u64::from(self.limits.completions());
+        let events = self.limits.events();
+        let counting = self.scene.counting();
+        match TrackerBook::new(self.alloc, client, desks, most, events, counting) {
+            Ok((book, tills)) => {
+                push_last(TrackerLock::new(book), trackers)?;
+                Ok(tills)
+            }
+            Err(fault) => Err(of_make(fault.cause)),
+        }
+    }
+
+    /// The worker of the next client, with its doorbell, and a ringer at that door.
+    fn open_sender<S: Setup>(
+        &self,
+        client: SceneClient,
+        tills: ClientPass<S>,
+        senders: &mut Senders<S>,
+    ) -> Result<(), AllocError> {
+        let bell = open_bell(self.alloc, self.rings_of(client), &mut senders.ringers)?;
+        let job = self.client_job(client, senders.jobs.len(), tills, bell)?;
+        push_last(job, &mut senders.jobs)
+    }
+
+    /// The worker of the client at a place, with no pass yet.
+    fn client_job<S: Setup>(
+        &self,
+        client: SceneClient,
+        place: usize,
+        tills: ClientPass<S>,
+        bell: Doorbell,
+    ) -> Result<ClientJob<S>, AllocError> {
+        let scene = self.scene;
+        let servers = scene.servers();
+        let requests = client.requests();
+        let plan = plan(self.alloc, scene.seed(), client.id(), servers, requests)?;
+        let passes = Vec::with_capacity(self.alloc, servers as usize)?;
+        Ok(ClientJob {
+            place,
+            plan,
+            requests,
+            window: client.window(),
+            tills,
+            passes,
+            bell,
+            stop: Some(StopCause::Spawn),
+        })
+    }
+
+    /// How many rings a client's doorbell has room for: its window, and one of each server's worker.
+    fn rings_of(&self, client: SceneClient) -> usize
+        ensures { 1 ≤ result }
+    {
+        client.window() as usize + self.server_workers()
+    }
 }
 
 /// A doorbell with room for this number of rings, and one ringer more, at its door.
@@ -140,38 +140,6 @@ fn open_bell(alloc: Global, room: usize, ringers: &mut Vec<Ringer>) -> Result<Do
     let (ringer, bell) = hang_bell(alloc, room)?;
     push_last(ringer, ringers)?;
     Ok(bell)
-}
-
-/// The worker of a client, with no pass yet.
-fn new_job<S: Setup>(
-    alloc: Global,
-    scene: &Scene,
-    client: SceneClient,
-    place: usize,
-    tills: ClientPass<S>,
-    bell: Doorbell,
-) -> Result<ClientJob<S>, AllocError> {
-    let servers = scene.servers();
-    let requests = client.requests();
-    let plan = plan(alloc, scene.seed(), client.id(), servers, requests)?;
-    let passes = Vec::with_capacity(alloc, servers as usize)?;
-    Ok(ClientJob {
-        place,
-        plan,
-        requests,
-        window: client.window(),
-        tills,
-        passes,
-        bell,
-        stop: Some(StopCause::Spawn),
-    })
-}
-
-/// How many rings a client's doorbell has room for: its window, and one of each server's worker.
-fn rings_of(scene: &Scene, client: SceneClient) -> usize
-    ensures { 1 ≤ result }
-{
-    client.window() as usize + server_workers(scene)
 }
 
 /// A client that did nothing yet.

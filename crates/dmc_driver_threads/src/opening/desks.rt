@@ -5,11 +5,11 @@ ghost use Rattle.dmc_ledger.specs.Bundles.{client_side, server_side, new_server_
 ghost use Rattle.dmc_book.specs.Opening.{IsNewDesk};
 ghost use Rattle.dmc_tlock.specs.Opening.{AreNew};
 
+use super::Opening;
 use crate::fault::OpenFault;
 use dmc_ledger::desk::{ClientDesk, ServerDesk, open_pair};
 use dmc_ledger::mint::Mint;
 use dmc_ledger::setup::Setup;
-use dmc_scene::scene::Scene;
 use dmc_types::ids::{ClientId, ServerId};
 use std::alloc::{AllocError, Global};
 use std::marker::Model;
@@ -26,7 +26,7 @@ impl<S: Setup> Model for QueueDesks<S> {
     ghost use Rattle.std.specs.List.{AllByRecursion};
     ghost use Rattle.dmc_ledger.specs.Bundles.{client_side};
     ghost use Rattle.dmc_book.specs.Opening.{IsNewDesk};
-    ghost use Rattle.dmc_driver_threads.specs.Desks.{QueueDesksValue};
+    ghost use Rattle.dmc_driver_threads.specs.internal.Desks.{QueueDesksValue};
 
     ghost Value = { QueueDesksValue };
 
@@ -65,7 +65,7 @@ impl<S: Setup> Model for TrackerDesks<S> {
     ghost use Rattle.std.specs.Prelude.{map};
     ghost use Rattle.dmc_ledger.specs.Bundles.{server_side};
     ghost use Rattle.dmc_tlock.specs.Opening.{AreNew};
-    ghost use Rattle.dmc_driver_threads.specs.Desks.{TrackerDesksValue};
+    ghost use Rattle.dmc_driver_threads.specs.internal.Desks.{TrackerDesksValue};
 
     ghost Value = { TrackerDesksValue };
 
@@ -93,16 +93,16 @@ impl<S: Setup> TrackerDesks<S> {
     }
 }
 
-/// The desks of each server, none yet, and room for those of all clients.
-pub(crate) fn no_desks<S: Setup>(
-    alloc: Global,
-    scene: &Scene,
-) -> Result<Vec<QueueDesks<S>>, AllocError> {
-    let mut queues = Vec::with_capacity(alloc, scene.servers() as usize)?;
-    for server in 0..scene.servers() {
-        queues.push(QueueDesks::new(alloc, ServerId(server), scene.clients().len())?)?;
+impl<'a> Opening<'a> {
+    /// The desks of each server, none yet, and room for those of all clients.
+    pub(super) fn no_desks<S: Setup>(&self) -> Result<Vec<QueueDesks<S>>, AllocError> {
+        let clients = self.scene.clients().len();
+        let mut queues = Vec::with_capacity(self.alloc, self.scene.servers() as usize)?;
+        for server in 0..self.scene.servers() {
+            queues.push(QueueDesks::new(self.alloc, ServerId(server), clients)?)?;
+        }
+        Ok(queues)
     }
-    Ok(queues)
 }
 
 /// The desks of a client at each server. The servers are 0, 1, .. in order.

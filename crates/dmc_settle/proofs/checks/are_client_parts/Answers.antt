@@ -2,7 +2,7 @@ use Rattle.std.proofs.Common.{◌≡◌, ℕ, ◌<◌, [], Some, length, get_or,
 use Rattle.std.proofs.lemmas.List.{get_or_read}
 use Rattle.std.proofs.lemmas.Option.{get_or_from_slice_get, slice_get_within}
 use Rattle.dmc_scene.specs.SceneValue.{ClientValue}
-use Rattle.dmc_settle.specs.Places.{no_tracker}
+use Rattle.dmc_settle.specs.internal.Places.{no_tracker}
 use Rattle.dmc_settle.specs.Left.{IsClientPart}
 use Rattle.dmc_settle.proofs.checks.are_client_parts.Goals as goal
 

@@ -1,6 +1,6 @@
 use Rattle.std.proofs.Common.{◌≡◌, ℕ, ◌<◌, [], Some, slice_get, slice_index_or}
 use Rattle.dmc_scene.specs.SceneValue.{ClientValue}
-use Rattle.dmc_settle.specs.Places.{no_tracker}
+use Rattle.dmc_settle.specs.internal.Places.{no_tracker}
 use Rattle.dmc_settle.specs.Left.{IsClientPart}
 use Rattle.dmc_settle.proofs.checks.are_client_parts.Given as goal
 

@@ -1,8 +1,8 @@
 use Rattle.std.proofs.Common.{ℕ, get_or, refl, sym, ◌∙◌, arith, below_more}
 use Rattle.std.proofs.lemmas.Bool.{false≢true}
 use Rattle.std.proofs.lemmas.List.{get_or_read}
-use Rattle.dmc_settle.specs.Checks.{ArePairs, ArePairsOf}
-use Rattle.dmc_settle.specs.Places.{no_tracker}
+use Rattle.dmc_settle.specs.internal.Checks.{ArePairs, ArePairsOf}
+use Rattle.dmc_settle.specs.internal.Places.{no_tracker}
 use Rattle.dmc_settle.proofs.checks.are_pairs.Goals as goal
 
 pub returns-then-not-are_pairs_of : goal.returns-then-not-are_pairs_of

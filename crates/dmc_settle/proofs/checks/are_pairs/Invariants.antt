@@ -1,6 +1,6 @@
 use Rattle.std.proofs.Common.{ℕ, ◌<◌, slice_index_or}
-use Rattle.dmc_settle.specs.Checks.{ArePairsOf}
-use Rattle.dmc_settle.specs.Places.{no_tracker}
+use Rattle.dmc_settle.specs.internal.Checks.{ArePairsOf}
+use Rattle.dmc_settle.specs.internal.Places.{no_tracker}
 use Rattle.dmc_settle.proofs.checks.are_pairs.Given as goal
 
 abbrev pub invariant-loop-c : goal.invariant-loop-c

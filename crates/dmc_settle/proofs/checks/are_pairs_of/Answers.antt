@@ -2,8 +2,8 @@ use Rattle.std.proofs.Common.{ℕ, get_or, map, refl, sym, ◌∙◌, arith, bel
 use Rattle.std.proofs.lemmas.Bool.{false≢true}
 use Rattle.std.proofs.lemmas.List.{get_or_read}
 use Rattle.dmc_ledger.specs.Bundles.{client_side, server_side}
-use Rattle.dmc_settle.specs.Checks.{ArePairsOf, IsPairAt}
-use Rattle.dmc_settle.specs.Places.{no_book}
+use Rattle.dmc_settle.specs.internal.Checks.{ArePairsOf, IsPairAt}
+use Rattle.dmc_settle.specs.internal.Places.{no_book}
 use Rattle.dmc_settle.proofs.checks.are_pairs_of.Goals as goal
 
 pub returns-then-not-is_pair_at : goal.returns-then-not-is_pair_at

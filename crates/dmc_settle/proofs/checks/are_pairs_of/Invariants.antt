@@ -1,6 +1,6 @@
 use Rattle.std.proofs.Common.{ℕ, ◌<◌, slice_index_or}
-use Rattle.dmc_settle.specs.Checks.{IsPairAt}
-use Rattle.dmc_settle.specs.Places.{no_book}
+use Rattle.dmc_settle.specs.internal.Checks.{IsPairAt}
+use Rattle.dmc_settle.specs.internal.Places.{no_book}
 use Rattle.dmc_settle.proofs.checks.are_pairs_of.Given as goal
 
 abbrev pub invariant-loop-s : goal.invariant-loop-s

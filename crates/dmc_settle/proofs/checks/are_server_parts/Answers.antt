@@ -3,8 +3,8 @@ use Rattle.std.proofs.lemmas.Bool.{false≢true}
 use Rattle.std.proofs.lemmas.List.{get_or-map, get_or_read, length-map}
 use Rattle.dmc_book.specs.BookState.{BookState, PassState, pass_state}
 use Rattle.dmc_book.specs.declared.pass.WorkerPass.{WorkerPass}
-use Rattle.dmc_settle.specs.Checks.{AreServerParts}
-use Rattle.dmc_settle.specs.Places.{no_book, pass_states}
+use Rattle.dmc_settle.specs.internal.Checks.{AreServerParts}
+use Rattle.dmc_settle.specs.internal.Places.{no_book, pass_states}
 use Rattle.dmc_settle.specs.Left.{IsServerPart}
 use Rattle.dmc_settle.proofs.checks.are_server_parts.Goals as goal
 use Rattle.dmc_settle.proofs.checks.are_server_parts.Goals.{then-books-servers-via-then-books-servers, then-books-servers-via-else-books-servers+then-passes-servers}

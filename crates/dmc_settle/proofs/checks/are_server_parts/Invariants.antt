@@ -1,5 +1,5 @@
 use Rattle.std.proofs.Common.{ℕ, ◌<◌, [], map, slice_index_or}
-use Rattle.dmc_settle.specs.Places.{no_book, pass_states}
+use Rattle.dmc_settle.specs.internal.Places.{no_book, pass_states}
 use Rattle.dmc_settle.specs.Left.{IsServerPart}
 use Rattle.dmc_settle.proofs.checks.are_server_parts.Given as goal
 

@@ -1,7 +1,7 @@
 use Rattle.std.proofs.Common.{List, sym, ◌∙◌, subst}
 use Rattle.std.proofs.lemmas.Bool.{false≢true}
 use Rattle.dmc_book.specs.BookState.{PassState}
-use Rattle.dmc_settle.specs.Checks.{AreServerParts}
+use Rattle.dmc_settle.specs.internal.Checks.{AreServerParts}
 use Rattle.dmc_settle.specs.Left.{AreTogether, Left, left_of, stops_of}
 use Rattle.dmc_settle.proofs.Together.{clients_of, pairs_of, passes_seen, servers_of, together_of}
 use Rattle.dmc_settle.proofs.checks.are_together.Goals as goal

@@ -7,8 +7,8 @@ use Rattle.dmc_ledger.specs.declared.desk.ServerDesk.{ServerDesk}
 use Rattle.dmc_tlock.specs.BookState.{no_side}
 use Rattle.dmc_tlock.specs.Consistent.{responded}
 use Rattle.dmc_book.specs.BookState.{no_desk}
-use Rattle.dmc_settle.specs.Filled.{IsAudited, IsClosing}
-use Rattle.dmc_settle.specs.Places.{desk_of, sides}
+use Rattle.dmc_settle.specs.internal.Filled.{IsAudited, IsClosing}
+use Rattle.dmc_settle.specs.internal.Places.{desk_of, sides}
 use Rattle.dmc_settle.specs.declared.clients.TakenIn.{TakenIn}
 use Rattle.dmc_settle.proofs.Holding.{sum_next}
 use Rattle.dmc_settle.proofs.clients.audit_pairs.Goals as goal

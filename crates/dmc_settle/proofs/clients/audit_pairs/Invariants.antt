@@ -3,8 +3,8 @@ use Rattle.std.specs.Prelude.{sum_by}
 use Rattle.dmc_ledger.specs.Bundles.{server_side}
 use Rattle.dmc_tlock.specs.BookState.{no_side}
 use Rattle.dmc_tlock.specs.Consistent.{responded}
-use Rattle.dmc_settle.specs.Filled.{IsAudited, stamps_taken}
-use Rattle.dmc_settle.specs.Places.{desk_of, sides}
+use Rattle.dmc_settle.specs.internal.Filled.{IsAudited, stamps_taken}
+use Rattle.dmc_settle.specs.internal.Places.{desk_of, sides}
 use Rattle.dmc_settle.proofs.clients.audit_pairs.Given as goal
 
 abbrev pub invariant-loop-s : goal.invariant-loop-s

@@ -8,8 +8,8 @@ use Rattle.dmc_ledger.specs.declared.desk.ServerDesk.{ServerDesk}
 use Rattle.dmc_tlock.specs.BookState.{no_side}
 use Rattle.dmc_tlock.specs.Consistent.{responded}
 use Rattle.dmc_tlock.specs.Settling.{held_of}
-use Rattle.dmc_settle.specs.Filled.{IsAudited, IsClosing, all_held}
-use Rattle.dmc_settle.specs.Places.{desk_of, sides}
+use Rattle.dmc_settle.specs.internal.Filled.{IsAudited, IsClosing, all_held}
+use Rattle.dmc_settle.specs.internal.Places.{desk_of, sides}
 use Rattle.dmc_settle.proofs.Balance.{completed_is, held_few, held_is, is_balanced, is_closing}
 use Rattle.dmc_settle.proofs.clients.settle_client.Goals as goal
 

@@ -1,7 +1,7 @@
 use Rattle.std.proofs.Common.{◌≡◌, ◌≤◌, ◌<◌, ℕ, [], length, map, get_or}
 use Rattle.dmc_tlock.specs.Consistent.{IsConsistent}
-use Rattle.dmc_settle.specs.Filled.{AreBalanced, AreClientNumbers, client_numbers, no_client_numbers}
-use Rattle.dmc_settle.specs.Places.{no_tracker, sides}
+use Rattle.dmc_settle.specs.internal.Filled.{AreBalanced, AreClientNumbers, client_numbers, no_client_numbers}
+use Rattle.dmc_settle.specs.internal.Places.{no_tracker, sides}
 use Rattle.dmc_settle.proofs.clients.settle_clients.Given as goal
 
 abbrev pub invariant-loop-tracker : goal.invariant-loop-tracker

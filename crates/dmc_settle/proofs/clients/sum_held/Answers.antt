@@ -1,7 +1,7 @@
 use Rattle.std.proofs.Common.{◌+◌, ◌*◌, get_or, sym, ap, ◌∙◌, subst, arith}
 use Rattle.dmc_tlock.specs.declared.settled.StampsHeld.{StampsHeld}
-use Rattle.dmc_settle.specs.Filled.{AreHeldWithin, with_held}
-use Rattle.dmc_settle.specs.Places.{no_held}
+use Rattle.dmc_settle.specs.internal.Filled.{AreHeldWithin, with_held}
+use Rattle.dmc_settle.specs.internal.Places.{no_held}
 use Rattle.dmc_settle.proofs.Holding.{held_next, held_far, held_within}
 use Rattle.dmc_settle.proofs.clients.sum_held.Goals as goal
 

@@ -1,5 +1,5 @@
 use Rattle.std.proofs.Common.{◌≡◌, ◌*◌, take}
-use Rattle.dmc_settle.specs.Filled.{AreHeldWithin, all_held}
+use Rattle.dmc_settle.specs.internal.Filled.{AreHeldWithin, all_held}
 use Rattle.dmc_settle.proofs.clients.sum_held.Given as goal
 
 abbrev pub invariant-loop-left : goal.invariant-loop-left

@@ -4,7 +4,7 @@ use Rattle.dmc_types.specs.declared.config.PhaseType.TheVariants.{Reservation, P
 use Rattle.dmc_ledger.specs.Bundles.{ClientSide, client_side}
 use Rattle.dmc_ledger.specs.declared.desk.ClientDesk.{ClientDesk}
 use Rattle.dmc_book.specs.BookState.{PassState, pass_state}
-use Rattle.dmc_settle.specs.Filled.{granted_at}
+use Rattle.dmc_settle.specs.internal.Filled.{granted_at}
 use Rattle.dmc_settle.specs.declared.servers.Granted.{Granted}
 use Rattle.dmc_settle.proofs.Granted.{few_granted, held_granted, reservations_granted, priorities_granted}
 use Rattle.dmc_settle.proofs.servers.settle_server.Goals as goal

@@ -8,8 +8,8 @@ use Rattle.dmc_book.specs.declared.pass.WorkerPass.{WorkerPass}
 use Rattle.dmc_book.specs.Settling.{AreSettledDesks}
 use Rattle.dmc_ledger.specs.Bundles.{ClientSide}
 use Rattle.dmc_ledger.specs.declared.desk.ClientDesk.{ClientDesk}
-use Rattle.dmc_settle.specs.Filled.{AreServerNumbers, IsReadyServer, ServerNumbers, no_server_numbers, server_numbers}
-use Rattle.dmc_settle.specs.Places.{no_book, pass_states, sides}
+use Rattle.dmc_settle.specs.internal.Filled.{AreServerNumbers, IsReadyServer, ServerNumbers, no_server_numbers, server_numbers}
+use Rattle.dmc_settle.specs.internal.Places.{no_book, pass_states, sides}
 use Rattle.dmc_settle.specs.declared.report.ServerReport.{ServerReport}
 use Rattle.dmc_settle.proofs.Lists.{map_kept}
 use Rattle.dmc_settle.proofs.servers.settle_servers.Goals as goal

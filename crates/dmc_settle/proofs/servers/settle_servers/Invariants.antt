@@ -1,8 +1,8 @@
 use Rattle.std.proofs.Common.{◌≡◌, ℕ, ◌<◌, ◌≤◌, [], length, map, get_or}
 use Rattle.std.specs.Prelude.{vec_capacity}
 use Rattle.dmc_book.specs.Settling.{AreSettledDesks}
-use Rattle.dmc_settle.specs.Filled.{AreServerNumbers, no_server_numbers, server_numbers}
-use Rattle.dmc_settle.specs.Places.{no_book, pass_states, sides}
+use Rattle.dmc_settle.specs.internal.Filled.{AreServerNumbers, no_server_numbers, server_numbers}
+use Rattle.dmc_settle.specs.internal.Places.{no_book, pass_states, sides}
 use Rattle.dmc_settle.proofs.servers.settle_servers.Given as goal
 
 abbrev pub invariant-loop-s : goal.invariant-loop-s

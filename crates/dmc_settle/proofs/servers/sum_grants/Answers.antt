@@ -3,7 +3,7 @@ use Rattle.std.proofs.lemmas.List.{get_or-map}
 use Rattle.dmc_ledger.specs.Bundles.{ClientSide, client_side}
 use Rattle.dmc_ledger.specs.declared.desk.ClientDesk.{ClientDesk}
 use Rattle.dmc_book.specs.BookState.{no_desk}
-use Rattle.dmc_settle.specs.Filled.{AreFewGrants, AreWithin, with_desk}
+use Rattle.dmc_settle.specs.internal.Filled.{AreFewGrants, AreWithin, with_desk}
 use Rattle.dmc_settle.specs.declared.servers.Granted.{Granted}
 use Rattle.dmc_settle.proofs.Granting.{granted_next, within_next, within_far}
 use Rattle.dmc_settle.proofs.servers.sum_grants.Goals as goal

@@ -1,6 +1,6 @@
 use Rattle.std.proofs.Common.{◌≡◌, ◌*◌, map, take}
 use Rattle.dmc_ledger.specs.Bundles.{client_side}
-use Rattle.dmc_settle.specs.Filled.{AreWithin, granted_at}
+use Rattle.dmc_settle.specs.internal.Filled.{AreWithin, granted_at}
 use Rattle.dmc_settle.proofs.servers.sum_grants.Given as goal
 
 abbrev pub invariant-loop-desk : goal.invariant-loop-desk

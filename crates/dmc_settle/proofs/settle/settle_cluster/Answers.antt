@@ -8,8 +8,8 @@ use Rattle.dmc_ledger.specs.declared.desk.ClientDesk.{ClientDesk}
 use Rattle.dmc_book.specs.BookState.{PassState}
 use Rattle.dmc_book.specs.Settling.{AreSettledDesks}
 use Rattle.dmc_scene.specs.SceneValue.{ClientValue}
-use Rattle.dmc_settle.specs.Filled.{AreServerNumbers, IsReadyServer, no_server_numbers, server_numbers}
-use Rattle.dmc_settle.specs.Places.{no_book, pass_states, sides}
+use Rattle.dmc_settle.specs.internal.Filled.{AreServerNumbers, IsReadyServer, no_server_numbers, server_numbers}
+use Rattle.dmc_settle.specs.internal.Places.{no_book, pass_states, sides}
 use Rattle.dmc_settle.specs.Left.{AreTogether, Left, left_of, stops_of}
 use Rattle.dmc_settle.specs.Reports.{AreRows}
 use Rattle.dmc_settle.specs.declared.report.ClientReport.{ClientReport}

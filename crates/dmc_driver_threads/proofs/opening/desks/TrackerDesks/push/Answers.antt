@@ -1,7 +1,7 @@
 use Rattle.std.proofs.Common.{◌≡◌, ℕ, sym, subst, map, length}
 use Rattle.dmc_ledger.specs.Bundles.{server_side, new_server_side}
 use Rattle.dmc_tlock.specs.Opening.{AreNew}
-use Rattle.dmc_driver_threads.specs.Desks.{TrackerDesksValue}
+use Rattle.dmc_driver_threads.specs.internal.Desks.{TrackerDesksValue}
 use Rattle.dmc_driver_threads.proofs.DeskLemmas.{are_new_after_push}
 use Rattle.dmc_driver_threads.proofs.opening.desks.TrackerDesks.push.Goals as goal
 

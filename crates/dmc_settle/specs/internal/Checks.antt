@@ -4,7 +4,7 @@ use Rattle.dmc_ledger.specs.Bundles.{ClientSide, ServerSide, StampHoldings}
 use Rattle.dmc_tlock.specs.BookState as tracker_book
 use Rattle.dmc_book.specs.BookState.{BookState, PassState}
 use Rattle.dmc_scene.specs.SceneValue.{SceneValue, ClientValue}
-use Rattle.dmc_settle.specs.Places.{no_book, no_tracker}
+use Rattle.dmc_settle.specs.internal.Places.{no_book, no_tracker}
 use Rattle.dmc_settle.specs.Left.{ArePaired, IsServerPart, IsClientPart}
 
 -- each server's book and passes

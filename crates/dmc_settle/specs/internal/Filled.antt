@@ -20,7 +20,7 @@ use Rattle.dmc_book.specs.BookState.{BookState, PassState, no_desk}
 use Rattle.dmc_book.specs.Counts.{count, grants_added, phase_grants}
 use Rattle.dmc_book.specs.Settling.{AreOwn}
 use Rattle.dmc_book.specs.declared.settled.GrantsHeld.{GrantsHeld}
-use Rattle.dmc_settle.specs.Places.{desk_of}
+use Rattle.dmc_settle.specs.internal.Places.{desk_of}
 use Rattle.dmc_settle.specs.Left.{ArePaired}
 use Rattle.dmc_settle.specs.Reports.{stamps_left, units_left}
 use Rattle.dmc_settle.specs.declared.clients.TakenIn.{TakenIn}

@@ -12,7 +12,9 @@ use Rattle.dmc_driver_threads.specs.LimitsValue.{LimitsValue}
 use Rattle.dmc_settle.specs.declared.report.ClientReport.{ClientReport}
 use Rattle.dmc_settle.specs.declared.report.ServerReport.{ServerReport}
 use Rattle.dmc_settle.specs.declared.report.ClusterReport.{ClusterReport}
-use Rattle.dmc_driver.specs.Ending.{AreRowsWithin, IsRunReport, IsSettledReport}
+use Rattle.dmc_driver.specs.Ending.{IsRunReport}
+use Rattle.dmc_driver.specs.Stops.{AreStops}
+use Rattle.dmc_driver.specs.internal.Settled.{AreRowsWithin, IsSettledReport}
 
 -- what holds of the one list holds of the other, which is seen as the same
 seen_alike : {X Y Z : Type 0} (f : X → Z) (g : Y → Z) (P : Z → Type 0) (xs : List X) (ys : List Y) → map f xs ≡ map g ys
@@ -23,8 +25,8 @@ seen_alike f g P (x ∷ xs) ys same all k d within =
     subst P (sym (get_or-map f (x ∷ xs) k x (f x) inside) ∙ ap (λ zs. get_or zs k (f x)) same ∙ get_or-map g ys k d (f x) within) (all k x inside)
 
 pub run_report : {T : Type 0} (ops : Tagging T) (scene : SceneValue) (limits : LimitsValue) (r : ClusterReport T)
-    → IsSettledReport ops scene r → AreRowsWithin limits r → IsRunReport ops scene limits r
-run_report {T} ops scene limits r h within = record {
+    → IsSettledReport ops scene r → AreRowsWithin limits r → AreStops scene r → IsRunReport ops scene limits r
+run_report {T} ops scene limits r h within stops = record {
   left = h.left;
   run = record {
     together = h.together;
@@ -39,4 +41,5 @@ run_report {T} ops scene limits r h within = record {
   };
   its = h.its;
   report = h.report;
+  stops = stops;
 }

@@ -1,19 +1,17 @@
 -- What is promised of a run, however it ends.
-use Rattle.std.specs.Prelude.{◌≡◌, ◌≤◌, ℕ, ⊤, Result, Ok, Err, List, Some, length, slice_get, All, Any}
+use Rattle.std.specs.Prelude.{◌≤◌, ⊤, Result, Ok, Err, length, All}
 use Rattle.dmc_types.specs.Limits.{max_events, max_run_completions}
 use Rattle.dmc_tag.specs.Tag.{Tagging}
 use Rattle.dmc_tracker.specs.TrackerList.{completions}
-use Rattle.dmc_scene.specs.SceneValue.{SceneValue, ClientValue}
+use Rattle.dmc_scene.specs.SceneValue.{SceneValue}
 use Rattle.dmc_driver_threads.specs.LimitsValue.{LimitsValue}
 use Rattle.dmc_driver_threads.specs.Opened.{IsRegistered}
 use Rattle.dmc_settle.specs.Circle.{AreCircles}
 use Rattle.dmc_settle.specs.Left.{AreTogether, Left}
 use Rattle.dmc_settle.specs.Reports.{IsReport, IsReportOf}
-use Rattle.dmc_settle.specs.declared.report.StopCause.TheVariants.{Turns}
-use Rattle.dmc_settle.specs.declared.report.ClientReport.{ClientReport}
-use Rattle.dmc_settle.specs.declared.report.ServerReport.{ServerReport}
 use Rattle.dmc_settle.specs.declared.report.ClusterReport.{ClusterReport}
-use Rattle.dmc_driver.specs.Done.{IsClientDone, IsDone, RanOut}
+use Rattle.dmc_driver.specs.Done.{IsDone, RanOut}
+use Rattle.dmc_driver.specs.Stops.{AreStops}
 use Rattle.dmc_driver.specs.declared.fault.DriveFault.{DriveFault}
 use Rattle.dmc_driver.specs.declared.fault.DriveFault.TheVariants.{Memory, Torn, TurnsOut, Stopped}
 
@@ -42,13 +40,14 @@ pub record IsRun {T : Type 0} (scene : SceneValue) (limits : LimitsValue) (left 
 
 -- ---- the report
 
--- The report is the one of what the threads left. So `held` is what was left in the passes, `completed` the tracker's completions,
--- and each stop of a thread is in the report, and nothing else is.
+-- The report is the one of what the threads left. So `held` is what was left in the passes, and `completed` the tracker's
+-- completions. The stops are those that the histories explain.
 pub record IsRunReport {T : Type 0} (ops : Tagging T) (scene : SceneValue) (limits : LimitsValue) (r : ClusterReport T) : Type 0 where
   pub left : Left T
   pub run : IsRun scene limits left
   pub its : IsReportOf left r
   pub report : IsReport ops scene r
+  pub stops : AreStops scene r
 
 -- a report, if there is one, is of this kind
 abbrev pub Reports : {T : Type 0} → Tagging T → SceneValue → LimitsValue → Result (ClusterReport T) (DriveFault T) → Type 0
@@ -65,33 +64,3 @@ EndsSo scene (Err Memory) = ⊤
 EndsSo scene (Err Torn) = ⊤
 EndsSo scene (Err (TurnsOut r)) = (IsDone scene r → ⊥) × RanOut r
 EndsSo scene (Err (Stopped r)) = (IsDone scene r → ⊥) × (RanOut r → ⊥)
-
--- ---- on the way there
-
--- the report is the one of what settling took, whatever the limits
-pub record IsSettledReport {T : Type 0} (ops : Tagging T) (scene : SceneValue) (r : ClusterReport T) : Type 0 where
-  pub left : Left T
-  pub together : AreTogether scene left
-  pub circles : AreCircles left
-  pub registered : AreRegistered scene left
-  pub its : IsReportOf left r
-  pub report : IsReport ops scene r
-
--- no history of these rows has more events than this, and no row more completions
-abbrev pub AreHistoriesWithin : {T : Type 0} → ℕ → List (ServerReport T) → Type 0
-AreHistoriesWithin most rows = All (λ s. length s.history.events ≤ most) rows
-
-abbrev pub AreCompletionsWithin : ℕ → List ClientReport → Type 0
-AreCompletionsWithin most rows = All (λ c. c.completed ≤ most) rows
-
-abbrev pub AreRowsWithin : {T : Type 0} → LimitsValue → ClusterReport T → Type 0
-AreRowsWithin limits r = AreHistoriesWithin limits.events r.servers.items × AreCompletionsWithin limits.completions r.clients.items
-
--- each of the clients is done
-abbrev pub AreClientsDone : List ClientValue → List ClientReport → Type 0
-AreClientsDone clients rows = (k : ℕ) (client : ClientValue) (c : ClientReport) → slice_get clients k ≡ Some client
-    → slice_get rows k ≡ Some c → IsClientDone client c
-
--- a worker of the server took its last turn
-abbrev pub RanOutAt : {T : Type 0} → ServerReport T → Type 0
-RanOutAt s = Any (λ cause. cause ≡ Turns) s.stops.items

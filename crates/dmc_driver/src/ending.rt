@@ -1,9 +1,11 @@
 //! How a run ends, by its report.
 ghost use Rattle.std.specs.Prelude.{◌≡◌, ◌↔◌, All, IfOk, IsTrue, length};
 ghost use Rattle.dmc_driver.specs.Done.{IsClientDone, IsDone, IsServerDone, RanOut};
-ghost use Rattle.dmc_driver.specs.Ending.{AreClientsDone, AreCompletionsWithin, AreHistoriesWithin, AreRowsWithin, EndsSo, IsSettledReport, RanOutAt, Reports};
+ghost use Rattle.dmc_driver.specs.Ending.{EndsSo, Reports};
+ghost use Rattle.dmc_driver.specs.internal.Settled.{AreClientsDone, AreCompletionsWithin, AreHistoriesWithin, AreRowsWithin, IsSettledReport, RanOutAt};
 
 use crate::fault::DriveFault;
+use crate::stops::are_stops;
 use dmc_driver_threads::fault::OpenFault;
 use dmc_driver_threads::limits::Limits;
 use dmc_scene::client::SceneClient;
@@ -103,11 +105,19 @@ fn are_within<T: Tag>(report: &ClusterReport<T>, limits: Limits) -> bool
         && are_completions_within(&report.clients, limits.completions())
 }
 
-/// How a run with these limits ends, by its report.
+/// The report of a run, and why each server's own workers stopped, those that did.
+#[derive(Drop)]
+pub(crate) struct Reported<T: Tag> {
+    pub(crate) report: ClusterReport<T>,
+    pub(crate) ends: Vec<Vec<Option<StopCause>>>,
+}
+
+/// How a run with these limits ends, by its report, where the servers' workers ended so.
 fn end<T: Tag>(
     scene: &Scene,
     limits: Limits,
     report: ClusterReport<T>,
+    ends: &[Vec<Option<StopCause>>],
 ) -> Result<ClusterReport<T>, DriveFault<T>>
     requires { IsSettledReport T.ops scene.now report }
     ensures report { Reports T.ops scene.now limits result }
@@ -115,6 +125,10 @@ fn end<T: Tag>(
 {
     if !are_within(&report, limits) {
         // The books were made with these limits.
+        return Err(DriveFault::Torn);
+    }
+    if !are_stops(scene, &report, ends) {
+        // A worker that stopped says why, and its history says the same.
         return Err(DriveFault::Torn);
     }
     if is_done(scene, &report) {
@@ -130,14 +144,17 @@ fn end<T: Tag>(
 pub(crate) fn end_run<T: Tag>(
     scene: &Scene,
     limits: Limits,
-    reported: Result<ClusterReport<T>, OpenFault>,
+    reported: Result<Reported<T>, OpenFault>,
 ) -> Result<ClusterReport<T>, DriveFault<T>>
-    requires { IfOk reported (IsSettledReport T.ops scene.now) }
+    requires { IfOk reported (λ r. IsSettledReport T.ops scene.now r.report) }
     ensures report { Reports T.ops scene.now limits result }
     ensures ending { EndsSo scene.now result }
 {
     match reported {
-        Ok(report) => end(scene, limits, report),
+        Ok(reported) => {
+            let Reported { report, ends } = reported;
+            end(scene, limits, report, &ends)
+        }
         Err(OpenFault::Memory) => Err(DriveFault::Memory),
         Err(OpenFault::Torn) => Err(DriveFault::Torn),
     }

@@ -8,7 +8,7 @@ use dmc_tag::tag::Tag;
 pub enum DriveFault<T: Tag> {
     /// The allocator refused a growth before any thread was started.
     Memory,
-    /// The parts are not those of one cluster.
+    /// The parts are not those of one cluster, or a worker's stop is not one that the histories explain.
     Torn,
     /// A server's worker took its last turn.
     TurnsOut(ClusterReport<T>),

@@ -4,6 +4,7 @@
 mod ending;
 pub mod fault;
 pub mod run;
+mod stops;
 
 /// How long the histories of a run may grow, and how far its trackers count.
 pub mod limits {

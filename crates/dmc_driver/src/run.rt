@@ -2,9 +2,10 @@
 ghost use Rattle.std.specs.Prelude.{◌≡◌, ◌<◌, ◌≤◌, All, IfOk};
 ghost use Rattle.dmc_types.specs.Limits.{max_books};
 ghost use Rattle.dmc_driver_threads.specs.Opened.{IsRegistered};
-ghost use Rattle.dmc_driver.specs.Ending.{EndsSo, IsSettledReport, Reports, widest};
+ghost use Rattle.dmc_driver.specs.Ending.{EndsSo, Reports, widest};
+ghost use Rattle.dmc_driver.specs.internal.Settled.{IsSettledReport};
 
-use crate::ending::end_run;
+use crate::ending::{Reported, end_run};
 use crate::fault::DriveFault;
 use dmc_book::book::QueueBook;
 use dmc_driver_threads::fault::OpenFault;
@@ -93,7 +94,7 @@ fn run_in<T, S, R, V, M>(
     service: &V,
     moments: &M,
     limits: Limits,
-) -> Result<ClusterReport<T>, OpenFault>
+) -> Result<Reported<T>, OpenFault>
 where
     T: Tag + Send + Sync,
     S: Origin + Send + Sync,
@@ -103,7 +104,7 @@ where
     requires name { blank.name ≡ S.name }
     requires scene { S.scene ≡ scene.now }
     requires limits { S.limits ≡ limits }
-    ensures { IfOk result (IsSettledReport T.ops scene.now) }
+    ensures { IfOk result (λ r. IsSettledReport T.ops scene.now r.report) }
 {
     let mut mint = blank.open::<S>();
     let room = SettleRoom::new(alloc, scene.servers())?;
@@ -117,19 +118,20 @@ fn settle_remains<T: Tag, I: Indexes<T>, S: Setup>(
     scene: &Scene,
     remains: Remains<T, QueueBook<T, I, S>, S>,
     room: SettleRoom<S>,
-) -> Result<ClusterReport<T>, OpenFault>
+) -> Result<Reported<T>, OpenFault>
     requires room { scene.now.servers ≤ room }
     requires registered { All (λ book. IsRegistered scene.now.clients book.history) remains.books.items }
-    ensures { IfOk result (IsSettledReport T.ops scene.now) }
+    ensures { IfOk result (λ r. IsSettledReport T.ops scene.now r.report) }
 {
     let Remains {
         mut books,
         trackers,
         passes,
         report,
+        ends,
     } = remains;
     match settle_cluster(alloc, scene, &mut books, trackers, passes, report, room) {
-        Ok(report) => Ok(report),
+        Ok(report) => Ok(Reported { report, ends }),
         Err(_) => Err(OpenFault::Torn),
     }
 }

@@ -1,0 +1,7 @@
+use Rattle.std.proofs.Common.{◌≡◌, ℕ, ◌<◌, Some, slice_get}
+use Rattle.dmc_settle.specs.declared.report.ServerReport.{ServerReport}
+use Rattle.dmc_driver.specs.Stops.{AreServerStops}
+use Rattle.dmc_driver.proofs.stops.are_stops_of_servers.Given as goal
+
+abbrev pub invariant-loop-k : goal.invariant-loop-k
+invariant-loop-k g l = (k : ℕ) (s : ServerReport g.row.T.Denot) → k < l.k → slice_get l.fn.rows k ≡ Some s → AreServerStops l.fn.scene k s

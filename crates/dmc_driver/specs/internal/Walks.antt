@@ -1,0 +1,49 @@
+-- What the walks over a history and over stops have found so far.
+use Rattle.std.specs.Prelude.{◌≡◌, ℕ, ◌+◌, ◌==◌, ◌&&◌, List, ◌++◌, Option, Some, None, slice_get, take}
+use Rattle.std.specs.Option.{option_and_then}
+use Rattle.dmc_tag.specs.declared.event.Event.{Event}
+use Rattle.dmc_book.specs.Counts.{is_miss, one_if}
+use Rattle.dmc_scene.specs.SceneValue.{SceneValue, ClientValue}
+use Rattle.dmc_settle.specs.declared.report.StopCause.{StopCause}
+use Rattle.dmc_settle.specs.declared.report.ClientReport.{ClientReport}
+use Rattle.dmc_settle.specs.declared.report.ServerReport.{ServerReport}
+use Rattle.dmc_driver.specs.Stops.{AreServerStops, IsClientEnd, IsEndAt, calls_of, listed, misses_of, refused}
+use Rattle.dmc_driver.specs.declared.stops.Calls.{Calls}
+
+-- ---- over a history
+
+-- a worker's calls with those of one event more, if there is one
+abbrev pub with_event : {T : Type 0} → ℕ → Calls → Option (Event T) → Calls
+with_event worker calls None = calls
+with_event worker calls (Some e) = record {
+  pulls = calls.pulls + one_if (e.worker.0 == worker);
+  misses = calls.misses + one_if ((e.worker.0 == worker) && is_miss e.reply);
+}
+
+-- the calls that a history has of a worker
+abbrev pub calls_in : {T : Type 0} → ℕ → List (Event T) → Calls
+calls_in worker events = record { pulls = calls_of worker events; misses = misses_of worker events }
+
+-- what was refused at a place, if it was
+abbrev pub refused_at : {T : Type 0} → ℕ → List (Event T) → Option StopCause
+refused_at {T} i events = option_and_then (λ (e : Event T). refused e.reply) (slice_get events i)
+
+-- ---- over stops
+
+-- a place among stops, and the one after a stop that is there, if it is one
+abbrev pub IsPast : ℕ → Option StopCause → List StopCause → ℕ → Type 0
+IsPast place stop stops after = take after stops ≡ take place stops ++ listed stop
+
+-- ---- ends
+
+-- each of a server's workers ended as its history says
+abbrev pub AreEnds : {T : Type 0} → SceneValue → ℕ → List (Event T) → List (Option StopCause) → Type 0
+AreEnds scene server events ends = (k : ℕ) (end : Option StopCause) → slice_get ends k ≡ Some end → IsEndAt scene server events k end
+
+-- the stops of each server, and the end of each client
+abbrev pub AreStopsOfServers : {T : Type 0} → SceneValue → List (ServerReport T) → Type 0
+AreStopsOfServers {T} scene rows = (k : ℕ) (s : ServerReport T) → slice_get rows k ≡ Some s → AreServerStops scene k s
+
+abbrev pub AreClientEnds : List ClientValue → List ClientReport → Type 0
+AreClientEnds clients rows = (k : ℕ) (client : ClientValue) (c : ClientReport) → slice_get clients k ≡ Some client
+    → slice_get rows k ≡ Some c → IsClientEnd client.requests c.sent c.stop

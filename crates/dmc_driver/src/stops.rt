@@ -1,0 +1,289 @@
+//! Whether the stops of a run are those that the servers' histories explain.
+ghost use Rattle.std.specs.Prelude.{◌≡◌, ◌+◌, ◌<◌, ◌≤◌, ◌^◌, ◌++◌, ◌&&◌, ◌==◌, ◌↔◌, IfSome, IsTrue, length, take};
+ghost use Rattle.dmc_book.specs.Counts.{is_miss};
+ghost use Rattle.dmc_types.specs.Limits.{max_servers};
+ghost use Rattle.dmc_driver.specs.Stops.{AreServerStops, AreStops, IsClientEnd, IsEndAt, IsServerEnd, IsServerStop, causes, first_refused, own_worker, refused};
+ghost use Rattle.dmc_driver.specs.internal.Walks.{AreClientEnds, AreEnds, AreStopsOfServers, IsPast, calls_in, refused_at, with_event};
+
+use dmc_queue_history::history::EventHistory;
+use dmc_scene::client::SceneClient;
+use dmc_scene::scene::Scene;
+use dmc_settle::report::{ClientReport, ClusterReport, ServerReport, StopCause};
+use dmc_tag::event::Event;
+use dmc_tag::reply::Reply;
+use dmc_tag::tag::Tag;
+
+/// How many calls of a worker got a reply, and how many of them Later, Nothing or a refusal.
+#[derive(Clone, Copy)]
+pub(crate) struct Calls {
+    pulls: u64,
+    misses: u64,
+}
+
+fn is_miss<T: Tag>(reply: Reply<T>) -> bool
+    ensures { result ≡ is_miss reply }
+{
+    matches!(reply, Reply::Later(_) | Reply::Nothing | Reply::Refused(_))
+}
+
+/// Whether the event is a miss of the worker.
+fn is_miss_of<T: Tag>(worker: u64, event: Event<T>) -> bool
+    ensures { result ≡ ((event.worker.0 == worker) && is_miss event.reply) }
+{
+    u64::from(event.worker.0) == worker && is_miss(event.reply)
+}
+
+/// A worker's calls with those of one event more, if there is one.
+fn add_event<T: Tag>(worker: u64, calls: Calls, event: Option<Event<T>>) -> Calls
+    requires pulls { calls.pulls + 1 < 2 ^ 64 }
+    requires misses { calls.misses + 1 < 2 ^ 64 }
+    ensures { result ≡ with_event worker calls event }
+{
+    let Some(event) = event else {
+        return calls;
+    };
+    let its = u64::from(event.worker.0) == worker;
+    Calls {
+        pulls: calls.pulls + u64::from(its),
+        misses: calls.misses + u64::from(is_miss_of(worker, event)),
+    }
+}
+
+/// The calls that a history has of a worker.
+fn count_calls<T: Tag>(worker: u64, history: &EventHistory<T>) -> Calls
+    ensures { result ≡ calls_in worker history.now.events }
+{
+    let mut calls = Calls {
+        pulls: 0,
+        misses: 0,
+    };
+    for i in 0..history.len() {
+        calls = add_event(worker, calls, history.at(i));
+    }
+    calls
+}
+
+/// Whether a server's worker of these calls stopped for this cause.
+fn is_server_stop(most: u32, calls: Calls, cause: StopCause) -> bool
+    ensures { IsTrue result ↔ IsServerStop most calls.pulls calls.misses cause }
+{
+    let most = u64::from(most);
+    match cause {
+        StopCause::Turns => calls.pulls == most,
+        StopCause::Refused(_) => calls.pulls <= most && calls.misses > 0,
+        StopCause::HistoryFull | StopCause::Memory => calls.pulls <= most,
+        StopCause::TrackFull => calls.pulls <= most && calls.pulls > 0,
+        StopCause::Spawn => calls.pulls == 0,
+        StopCause::Rung | StopCause::Stray => false,
+    }
+}
+
+/// Whether a server's worker of these calls ended so.
+fn is_server_end(most: u32, calls: Calls, end: Option<StopCause>) -> bool
+    ensures { IsTrue result ↔ IsServerEnd most calls.pulls calls.misses end }
+{
+    match end {
+        None => calls.pulls <= u64::from(most) && calls.misses > 0,
+        Some(cause) => is_server_stop(most, calls, cause),
+    }
+}
+
+/// The number of a server's own worker.
+fn own_worker(scene: &Scene, server: u32, place: u32) -> u64
+    requires servers { server < scene.now.servers }
+    requires workers { place < scene.now.workers }
+    ensures { result ≡ own_worker scene.now server place }
+{
+    let clients = scene.clients().len() as u64;
+    let workers = u64::from(scene.workers());
+    clients + u64::from(server) * workers + u64::from(place)
+}
+
+/// Whether the own worker of a server at a place ended so, by the server's history.
+fn is_end_at<T: Tag>(
+    scene: &Scene,
+    server: u32,
+    history: &EventHistory<T>,
+    place: u32,
+    end: Option<StopCause>,
+) -> bool
+    requires servers { server < scene.now.servers }
+    requires workers { place < scene.now.workers }
+    ensures { IsTrue result ↔ IsEndAt scene.now server history.now.events place end }
+{
+    let calls = count_calls(own_worker(scene, server, place), history);
+    is_server_end(scene.max_pulls(), calls, end)
+}
+
+/// Whether each of a server's workers ended as its history says.
+fn are_ends<T: Tag>(
+    scene: &Scene,
+    server: u32,
+    history: &EventHistory<T>,
+    ends: &[Option<StopCause>],
+) -> bool
+    requires servers { server < scene.now.servers }
+    requires an_end_each { length ends.now ≡ scene.now.workers }
+    ensures { IsTrue result → AreEnds scene.now server history.now.events ends.now }
+{
+    for k in 0..scene.workers() {
+        if !is_end_at(scene, server, history, k, ends[k as usize]) {
+            return false;
+        }
+    }
+    true
+}
+
+/// What a reply refused, as the cause of a stop.
+fn refused<T: Tag>(reply: Reply<T>) -> Option<StopCause>
+    ensures { result ≡ refused reply }
+{
+    match reply {
+        Reply::Refused(refusal) => Some(StopCause::Refused(refusal)),
+        _ => None,
+    }
+}
+
+/// What was refused at a place of a history, if it was.
+fn refused_at<T: Tag>(place: usize, history: &EventHistory<T>) -> Option<StopCause>
+    ensures { result ≡ refused_at place history.now.events }
+{
+    match history.at(place) {
+        Some(event) => refused(event.reply),
+        None => None,
+    }
+}
+
+/// The place after a stop, if it is one, where it is the one at this place.
+fn past(place: usize, stop: Option<StopCause>, stops: &[StopCause]) -> Option<usize>
+    ensures { IfSome result (IsPast place stop stops.now) }
+{
+    let Some(cause) = stop else {
+        return Some(place);
+    };
+    if stops.get(place) != Some(&cause) {
+        return None;
+    }
+    Some(place + 1)
+}
+
+/// The place after what was refused of the first commands, where the stops begin with that.
+fn past_refused<T: Tag>(
+    commands: usize,
+    history: &EventHistory<T>,
+    stops: &[StopCause],
+) -> Option<usize>
+    ensures { IfSome result (λ after. take after stops.now ≡ first_refused commands history.now.events) }
+{
+    let mut place = 0;
+    for i in 0..commands {
+        place = past(place, refused_at(i, history), stops)?;
+    }
+    Some(place)
+}
+
+/// The place after those that stopped of these ends, where they are at this place.
+fn past_ends(place: usize, ends: &[Option<StopCause>], stops: &[StopCause]) -> Option<usize>
+    ensures { IfSome result (λ after. take after stops.now ≡ take place stops.now ++ causes ends.now) }
+{
+    let mut after = place;
+    for end in ends {
+        after = past(after, *end, stops)?;
+    }
+    Some(after)
+}
+
+/// Whether a server's stops are what was refused of the first commands and then those of its workers.
+fn are_causes<T: Tag>(
+    commands: usize,
+    history: &EventHistory<T>,
+    ends: &[Option<StopCause>],
+    stops: &[StopCause],
+) -> bool
+    ensures { IsTrue result → stops.now ≡ first_refused commands history.now.events ++ causes ends.now }
+{
+    let Some(place) = past_refused(commands, history, stops) else {
+        return false;
+    };
+    let Some(after) = past_ends(place, ends, stops) else {
+        return false;
+    };
+    after == stops.len()
+}
+
+/// Whether a server's stops are those that its history explains.
+fn are_server_stops<T: Tag>(
+    scene: &Scene,
+    server: u32,
+    row: &ServerReport<T>,
+    ends: &[Option<StopCause>],
+) -> bool
+    requires { server < scene.now.servers }
+    ensures { IsTrue result → AreServerStops scene.now server row.now }
+{
+    if ends.len() != scene.workers() as usize {
+        return false;
+    }
+    are_ends(scene, server, &row.history, ends)
+        && are_causes(scene.clients().len(), &row.history, ends, &row.stops)
+}
+
+/// Whether the stops of each server are.
+fn are_stops_of_servers<T: Tag>(
+    scene: &Scene,
+    rows: &[ServerReport<T>],
+    ends: &[Vec<Option<StopCause>>],
+) -> bool
+    requires { length rows.now ≡ scene.now.servers }
+    ensures { IsTrue result → AreStopsOfServers scene.now rows.now }
+{
+    if ends.len() != rows.len() {
+        return false;
+    }
+    for k in 0..scene.servers() {
+        if !are_server_stops(scene, k, &rows[k as usize], &ends[k as usize]) {
+            return false;
+        }
+    }
+    true
+}
+
+/// Whether a client's worker ended so, by how many of its requests were accepted.
+fn is_client_end(requests: u32, sent: u64, end: Option<StopCause>) -> bool
+    ensures { IsTrue result ↔ IsClientEnd requests sent end }
+{
+    let requests = u64::from(requests);
+    match end {
+        None => sent == requests,
+        Some(StopCause::Spawn) => sent == 0,
+        Some(StopCause::Turns | StopCause::Stray) => false,
+        Some(_) => sent < requests,
+    }
+}
+
+/// Whether each client's worker ended so.
+fn are_client_ends(clients: &[SceneClient], rows: &[ClientReport]) -> bool
+    requires { length rows.now ≡ length clients.now }
+    ensures { IsTrue result ↔ AreClientEnds clients.now rows.now }
+{
+    for i in 0..clients.len() {
+        if !is_client_end(clients[i].requests(), rows[i].sent, rows[i].stop) {
+            return false;
+        }
+    }
+    true
+}
+
+/// Whether the stops of a report are those that its histories explain, where the servers' workers ended so.
+pub(crate) fn are_stops<T: Tag>(
+    scene: &Scene,
+    report: &ClusterReport<T>,
+    ends: &[Vec<Option<StopCause>>],
+) -> bool
+    requires servers { length report.now.servers.items ≡ scene.now.servers }
+    requires clients { length report.now.clients.items ≡ length scene.now.clients }
+    ensures { IsTrue result → AreStops scene.now report.now }
+{
+    are_stops_of_servers(scene, &report.servers, ends)
+        && are_client_ends(scene.clients(), &report.clients)
+}

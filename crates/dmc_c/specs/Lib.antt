@@ -11,3 +11,5 @@ pub mod Ownership
 pub mod Calls
 -- What each call of the header on rates and clocks returns: a number, or the fault.
 pub mod Rates
+-- What only contracts of private functions and proofs cite.
+pub mod internal

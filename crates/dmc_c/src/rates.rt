@@ -1,7 +1,8 @@
 //! The calls on rates and clocks, which hold nothing.
 ghost use Rattle.std.specs.Prelude.{◌≡◌, ℕ, Result};
 ghost use Rattle.dmc_c.specs.Codes.{code_of};
-ghost use Rattle.dmc_c.specs.Rates.{FindsAtLeast, FindsAtMost, ReadsClock, WaitsFor, WaitsForMoment, from_halves, hz_of};
+ghost use Rattle.dmc_c.specs.Rates.{FindsAtLeast, FindsAtMost, ReadsClock, WaitsFor, WaitsForMoment, from_halves};
+ghost use Rattle.dmc_c.specs.internal.Rates.{hz_of};
 ghost use Rattle.dmc_c.specs.Outputs.{value_or_old};
 ghost use Rattle.dmc_c.specs.declared.fault.Fault.{Fault};
 

@@ -11,22 +11,6 @@ use dmc_types::moment::Moment;
 use dmc_types::params::ReqParams;
 use dmc_types::refusal::ValueFault;
 
-/// A moment within its limit.
-#[tactic(auto, unfolding(crate::specs::Reading::moment))]
-fn moment(at: u64) -> Result<Moment, Fault>
-    ensures { result ≡ moment at }
-{
-    Moment::new(at).map_err(Fault::Value)
-}
-
-/// The counts of a stamp.
-#[tactic(auto, unfolding(crate::specs::Reading::params))]
-fn params(delta: u32, rho: u32) -> Result<ReqParams, Fault>
-    ensures { result ≡ params delta rho }
-{
-    ReqParams::new(delta, rho).map_err(Fault::Value)
-}
-
 /// A rate, where 0 is none.
 fn rate_of(rate: u32) -> Option<u32>
     ensures { result ≡ rate_of rate }
@@ -34,15 +18,8 @@ fn rate_of(rate: u32) -> Option<u32>
     if rate == 0 { None } else { Some(rate) }
 }
 
-/// The rates of a client.
-#[tactic(auto, unfolding(crate::specs::Reading::rates))]
-fn rates(reservation: u32, weight: u32, limit: u32) -> Result<ClientInfo, Fault>
-    ensures { result ≡ rates reservation weight limit }
-{
-    ClientInfo::new(rate_of(reservation), weight, rate_of(limit)).map_err(Fault::Value)
-}
-
 /// The registration of a client.
+#[tactic(auto, unfolding(crate::specs::Reading::moment, crate::specs::Reading::rates))]
 pub fn register_command(
     client: u32,
     reservation: u32,
@@ -52,8 +29,8 @@ pub fn register_command(
 ) -> Result<Command, Fault>
     ensures { result ≡ register_command client reservation weight limit at }
 {
-    let at = moment(at)?;
-    let info = rates(reservation, weight, limit)?;
+    let at = Moment::new(at)?;
+    let info = ClientInfo::new(rate_of(reservation), weight, rate_of(limit))?;
     Ok(Command::Register {
         client: ClientId(client),
         info,
@@ -62,6 +39,7 @@ pub fn register_command(
 }
 
 /// An update of a client's rates.
+#[tactic(auto, unfolding(crate::specs::Reading::moment, crate::specs::Reading::rates))]
 pub fn update_command(
     client: u32,
     reservation: u32,
@@ -71,8 +49,8 @@ pub fn update_command(
 ) -> Result<Command, Fault>
     ensures { result ≡ update_command client reservation weight limit at }
 {
-    let at = moment(at)?;
-    let info = rates(reservation, weight, limit)?;
+    let at = Moment::new(at)?;
+    let info = ClientInfo::new(rate_of(reservation), weight, rate_of(limit))?;
     Ok(Command::Update {
         client: ClientId(client),
         info,
@@ -81,11 +59,12 @@ pub fn update_command(
 }
 
 /// A request.
+#[tactic(auto, unfolding(crate::specs::Reading::moment, crate::specs::Reading::params))]
 pub fn add_command(client: u32, token: u32, delta: u32, rho: u32, at: u64) -> Result<Command, Fault>
     ensures { result ≡ add_command client token delta rho at }
 {
-    let at = moment(at)?;
-    let params = params(delta, rho)?;
+    let at = Moment::new(at)?;
+    let params = ReqParams::new(delta, rho)?;
     Ok(Command::Add {
         client: ClientId(client),
         token: Token(token),
@@ -95,17 +74,23 @@ pub fn add_command(client: u32, token: u32, delta: u32, rho: u32, at: u64) -> Re
 }
 
 /// A pull.
+#[tactic(auto, unfolding(crate::specs::Reading::moment))]
 pub fn pull_command(at: u64) -> Result<Command, Fault>
     ensures { result ≡ pull_command at }
 {
-    Ok(Command::Pull { at: moment(at)? })
+    Ok(Command::Pull {
+        at: Moment::new(at)?,
+    })
 }
 
 /// A clean.
+#[tactic(auto, unfolding(crate::specs::Reading::moment))]
 pub fn clean_command(at: u64) -> Result<Command, Fault>
     ensures { result ≡ clean_command at }
 {
-    Ok(Command::Clean { at: moment(at)? })
+    Ok(Command::Clean {
+        at: Moment::new(at)?,
+    })
 }
 
 /// The tags that a number names.

@@ -7,7 +7,7 @@ use Rattle.dmc_text.specs.declared.watched.Watched.{Watched}
 use Rattle.dmc_text.specs.Watching.{IsCalm, EndsNoted}
 use Rattle.dmc_check.specs.declared.check.Verdict.{Verdict}
 use Rattle.dmc_check.specs.declared.text.Checked.{Checked}
-use Rattle.dmc_check.specs.Checking.{WritesVerdict, VerdictNoted}
+use Rattle.dmc_check.specs.internal.Checking.{WritesVerdict, VerdictNoted}
 
 module _ {R W : Type 0} (left : R → Option (List ℕ)) where
   -- the walk failed

@@ -23,7 +23,7 @@ use Rattle.dmc_text.specs.declared.event_line.EventLine.TheVariants as event_lin
 use Rattle.dmc_text.specs.Answers.{◌>>=◌}
 use Rattle.dmc_text.specs.Words.{words}
 use Rattle.dmc_text.specs.Lines.{is_clean, is_line_byte, kind, kind_of}
-use Rattle.dmc_text.specs.LineLaws.{line_first}
+use Rattle.dmc_text.specs.internal.LineLaws.{line_first}
 use Rattle.dmc_text.specs.EventLines.{comment, event_of, event_line_of_kind}
 use Rattle.dmc_text.specs.Replies.{IsWritable}
 use Rattle.dmc_text.specs.RoundTrip.{IsHeaderAgain}

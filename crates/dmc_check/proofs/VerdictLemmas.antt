@@ -12,7 +12,8 @@ use Rattle.dmc_tag.specs.declared.event.Event.{Event}
 use Rattle.dmc_tag.proofs.ForCallers.{after_one_more, replays_one_more}
 use Rattle.dmc_tag.proofs.Lists.{slice_get-append, slice_get-push}
 use Rattle.dmc_pull.specs.Queue.{state_of}
-use Rattle.dmc_check.specs.Verdicts.{DiffersAt, IsVerdict, verdict_of, SoFar, RepresentsEvents}
+use Rattle.dmc_check.specs.Verdicts.{DiffersAt, IsVerdict, SoFar, RepresentsEvents}
+use Rattle.dmc_check.specs.internal.Verdicts.{verdict_of}
 use Rattle.dmc_check.specs.declared.replay.Replay.{Replay}
 use Rattle.dmc_check.specs.declared.check.Verdict.{Verdict}
 use Rattle.dmc_check.specs.declared.check.Verdict.TheVariants.{Replays, Differs}

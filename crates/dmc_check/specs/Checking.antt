@@ -1,26 +1,18 @@
 -- A check of an event text, line by line.
-use Rattle.std.specs.Prelude.{◌≡◌, ℕ, ℤ, true, ◌<◌, length, List, [], Option, Some, None, is_some, Result, Ok, Err, ⊤}
+use Rattle.std.specs.Prelude.{◌≡◌, ℕ, ℤ, ◌<◌, length, List, [], Option, Some, None, is_some, Result, Ok, Err, ⊤}
 use Rattle.std.proofs.Common.{ap}
-use Rattle.std.specs.Io.KnownBytes.{Appends, Keeps}
 use Rattle.dmc_types.specs.Limits.{max_line_bytes}
 use Rattle.dmc_tag.specs.Tag.{Tagging}
 use Rattle.dmc_text.specs.declared.cause.LineCause.{LineCause}
 use Rattle.dmc_text.specs.declared.cause.LineCause.TheVariants.{Bytes}
-use Rattle.dmc_text.specs.declared.script.ScriptFault.{ScriptFault}
-use Rattle.dmc_text.specs.declared.script.ScriptFault.TheVariants as faults
 use Rattle.dmc_text.specs.declared.event_line.EventLine.{EventLine}
 use Rattle.dmc_text.specs.Answers.{◌>>=◌}
 use Rattle.dmc_text.specs.EventLines.{event_line_of_kind}
 use Rattle.dmc_text.specs.Words.{words}
 use Rattle.dmc_text.specs.LineLaws.{long_kind}
-use Rattle.dmc_text.specs.Texts.{AppendsSome}
-use Rattle.dmc_text.specs.Watching.{failed, IsCalm}
-use Rattle.dmc_text.specs.declared.watched.Watched.{Watched}
-use Rattle.dmc_check.specs.declared.check.Verdict.{Verdict}
 use Rattle.dmc_check.specs.declared.replay.Replay.{Replay}
-use Rattle.dmc_check.specs.declared.text.Checked.{Checked}
-use Rattle.dmc_check.specs.EventTexts.{Recorded, with_line, placed, line_behind, verdict_text}
-use Rattle.dmc_check.specs.Verdicts.{RepresentsEvents, verdict_of}
+use Rattle.dmc_check.specs.EventTexts.{Recorded, with_line, placed, line_behind}
+use Rattle.dmc_check.specs.Verdicts.{RepresentsEvents}
 
 -- the replay is that of the lines up to now
 abbrev pub Holds : {T : Type 0} → Tagging T → Option (Recorded T) → Option (Replay T) → Type 0
@@ -49,22 +41,3 @@ pub record Follows {T : Type 0} (ops : Tagging T) (made : ℤ → ℕ → Option
 pub long_event : {T : Type 0} (made : ℤ → ℕ → Option T) (replay : Option (Replay T)) (line : List ℕ) → max_line_bytes < length line → next_line made replay line ≡ Err Bytes
 long_event made replay line h =
     ap (λ k. (k >>= λ x. event_line_of_kind made (is_some replay) x (words line)) >>= placed (replayed replay)) (long_kind (is_some replay) line h)
-
--- the result of a replay
-abbrev pub IsChecked : {T : Type 0} → Option (Replay T) → Checked → Type 0
-IsChecked None checked = ⊥
-IsChecked (Some replay) checked = (checked.verdict ≡ verdict_of replay.difference) × (checked.events ≡ replay.events)
-
--- the line of a verdict is written, or a first part of it, or nothing
-abbrev pub WritesVerdict : (old new : Option (List ℕ)) → Checked → Result Verdict ScriptFault → Type 0
-WritesVerdict old new checked (Ok verdict) = (verdict ≡ checked.verdict) × Appends old new (verdict_text checked.verdict checked.events)
-WritesVerdict old new checked (Err faults.Write) = AppendsSome old new (verdict_text checked.verdict checked.events)
-WritesVerdict old new checked (Err faults.Memory) = Keeps old new
-WritesVerdict old new checked (Err faults.Read) = ⊥
-WritesVerdict old new checked (Err (faults.Line n cause)) = ⊥
-
--- Write is reported exactly where the writer failed.
-abbrev pub VerdictNoted : {W : Type 0} → (old new : Watched W) → Result Verdict ScriptFault → Type 0
-VerdictNoted old new (Ok verdict) = IsCalm old new
-VerdictNoted old new (Err faults.Write) = failed new ≡ true
-VerdictNoted old new (Err fault) = IsCalm old new

@@ -8,3 +8,5 @@ pub mod EventTexts
 pub mod Checking
 -- The texts of events and of segments, and what they add to what an event text records.
 pub mod SegmentTexts
+-- What only contracts of private functions and proofs cite.
+pub mod internal

@@ -23,12 +23,6 @@ abbrev pub IsVerdict : {T : Type 0} → Tagging T → Setting → List (Event T)
 IsVerdict ops config events Replays = replays ops config events
 IsVerdict ops config events (Differs i) = DiffersAt ops config events i
 
--- ---- the replayer
-
-abbrev pub verdict_of : Option ℕ → Verdict
-verdict_of None = Replays
-verdict_of (Some i) = Differs i
-
 -- up to the first difference the queue represents the state after the events
 abbrev pub SoFar : {T : Type 0} → Tagging T → Setting → List (Event T) → State T → Option ℕ → Type 0
 SoFar ops config events s None = replays ops config events × Represents s (after ops config events)

@@ -5,7 +5,8 @@ ghost use Rattle.dmc_tag.specs.State.{State, Represents};
 ghost use Rattle.dmc_tag.specs.Step.{step};
 ghost use Rattle.dmc_tag.specs.declared.event.Event.{Event};
 ghost use Rattle.dmc_pull.specs.Queue.{state_of};
-ghost use Rattle.dmc_check.specs.Verdicts.{RepresentsEvents, SoFar, verdict_of};
+ghost use Rattle.dmc_check.specs.Verdicts.{RepresentsEvents, SoFar};
+ghost use Rattle.dmc_check.specs.internal.Verdicts.{verdict_of};
 
 use crate::check::Verdict;
 use crate::same::is_same_reply;

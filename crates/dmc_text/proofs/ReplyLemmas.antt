@@ -22,7 +22,8 @@ use Rattle.dmc_text.specs.Tags.{fraction_text, fraction_of, signed}
 use Rattle.dmc_text.specs.Replies.{IsPhase, tag, optional_tag, tag_word, tag_text, reply_words, reply_of, saying, reply_said, count, instant}
 use Rattle.std.proofs.lemmas.Fmt.{length-decimal-le_wide}
 use Rattle.dmc_text.specs.Lines.{is_line_byte}
-use Rattle.dmc_text.specs.RoundTrip.{is_plain, AreWords, ReadsAgain, ReadsEach, IsReadBack}
+use Rattle.dmc_text.specs.RoundTrip.{is_plain, AreWords, IsReadBack}
+use Rattle.dmc_text.specs.internal.RoundTrip.{ReadsAgain, ReadsEach}
 use Rattle.dmc_text.proofs.LineWords.{one_word, given, shorter, and_more, number_word, small_word, decimal_clean}
 use Rattle.dmc_text.proofs.TextLemmas.{is_other, and_parts, words_joined, number_again, decimal_plain, Fits128, fraction_again}
 

@@ -14,9 +14,10 @@ use Rattle.dmc_text.specs.declared.walk.Walk.{Walk}
 use Rattle.dmc_text.specs.Lines.{line_of}
 use Rattle.dmc_text.specs.Reading.{max_bytes}
 use Rattle.dmc_text.specs.Texts.{and_on, fault_or, headed_by, lines_of, commands, written, first_fault, fault_of, whole_lines, out, AppendsSome, ReadsWithin, RunsPartly, RunsAs}
-use Rattle.dmc_text.specs.LineLaws.{whole_on}
+use Rattle.dmc_text.specs.internal.LineLaws.{whole_on}
 use Rattle.dmc_text.specs.Walks.{GoesThrough, IsFault, Ending, Halt, EndsAs}
-use Rattle.dmc_text.specs.Runs.{Answers, settled_of}
+use Rattle.dmc_text.specs.Runs.{Answers}
+use Rattle.dmc_text.specs.internal.Runs.{settled_of}
 
 pub nothing_read : (r : Option (List ℕ)) → (read : List ℕ) × ReadsWithin max_bytes r r read
 nothing_read r = ([], (Consumes-nil r, omega arith))

@@ -12,8 +12,9 @@ use Rattle.dmc_text.specs.declared.script.ScriptFault.TheVariants as faults
 use Rattle.dmc_text.specs.declared.walk.Walk.{Walk}
 use Rattle.dmc_text.specs.Reading.{Reading, max_bytes, next_line}
 use Rattle.dmc_text.specs.Texts.{lines_of, has_end}
-use Rattle.dmc_text.specs.Walks.{GoesThrough, TakesWhole, IsCut, Starts, Feeds, Fails, Finds, FindsLine, TakesLine, Takes, TakesRest, TakesLast, end_result, IsFault, Ending, Halt, EndsAs}
-use Rattle.dmc_text.specs.LineLaws.{first_line, no_line, line_first, lines_behind, leads, last_line, whole_on, ends_whole, behind_line, line_and_more, shorter}
+use Rattle.dmc_text.specs.Walks.{GoesThrough, TakesWhole, IsCut, Starts, Feeds, Fails, Finds, FindsLine, IsFault, Ending, Halt, EndsAs}
+use Rattle.dmc_text.specs.internal.Walks.{TakesLine, Takes, TakesRest, TakesLast, end_result}
+use Rattle.dmc_text.specs.internal.LineLaws.{first_line, no_line, line_first, lines_behind, leads, last_line, whole_on, ends_whole, behind_line, line_and_more, shorter}
 
 -- how much is left to do at most: what may still be read counts twice, and what is read and not yet returned once
 abbrev pub work_left : Walk → ℕ

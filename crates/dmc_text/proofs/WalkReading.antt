@@ -12,7 +12,7 @@ use Rattle.dmc_text.specs.Watching.{stream_of, IsCalm, IsNoted, FailsToRead, End
 use Rattle.dmc_text.specs.Reading.{Reading, max_bytes, next_line, Filled, Fills}
 use Rattle.dmc_text.specs.Texts.{AppendsSome}
 use Rattle.dmc_text.specs.Walks.{Feeds, Fails}
-use Rattle.dmc_text.specs.LineLaws.{none_taken}
+use Rattle.dmc_text.specs.internal.LineLaws.{none_taken}
 
 -- ---- results
 

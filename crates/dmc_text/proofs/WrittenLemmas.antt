@@ -33,7 +33,8 @@ use Rattle.dmc_text.specs.Lines.{kind, kind_of, said, line_of, line_of_words, li
 use Rattle.dmc_text.specs.Commands.{registering, updating, adding, pulling, dropping, cleaning, phrase, command, small, long, optional, moment, params, rates, is_rate}
 use Rattle.dmc_text.specs.Replies.{saying, reply_said, reply_words, reply_text, reply_of}
 use Rattle.dmc_text.specs.EventLines.{answer_words, event_words as words_of_event, event_said, event_line_of_kind, event_of, header_words as words_of_header, header_said, header_of}
-use Rattle.dmc_text.specs.RoundTrip.{AreWords, IsReadBack, IsInfoAgain, IsAskedAgain, IsHeaderAgain}
+use Rattle.dmc_text.specs.RoundTrip.{AreWords, IsReadBack, IsAskedAgain, IsHeaderAgain}
+use Rattle.dmc_text.specs.internal.RoundTrip.{IsInfoAgain}
 use Rattle.dmc_text.specs.Written.{config_words, config_text, rate_word, command_words, command_text, event_words, event_text, header_words}
 use Rattle.dmc_text.proofs.TextLemmas.{words_joined, number_again}
 use Rattle.dmc_text.proofs.LineWords.{given, shorter, and_more, and_some, both_some, join_some, number_word, small_word, apart, decimal_means, is_line}

@@ -13,10 +13,9 @@ use Rattle.dmc_text.specs.declared.line.LineKind.TheVariants as kinds
 use Rattle.dmc_text.specs.Answers.{◌>>=◌}
 use Rattle.dmc_text.specs.Words.{words}
 use Rattle.dmc_text.specs.Numbers.{number}
-use Rattle.dmc_text.specs.Commands.{Phrase, phrase, command, seen}
-use Rattle.dmc_text.specs.Replies.{Saying, saying, reply_said, seen_reply}
+use Rattle.dmc_text.specs.Commands.{Phrase, phrase, command}
+use Rattle.dmc_text.specs.Replies.{Saying, saying, reply_said}
 use Rattle.dmc_text.specs.Lines.{kind_of}
-use Rattle.dmc_text.specs.declared.event_line.EventWords.{EventWords}
 use Rattle.dmc_text.specs.declared.event_line.EventLine.{EventLine}
 use Rattle.dmc_text.specs.declared.event_line.EventLine.TheVariants.{Skip, Config}
 use Rattle.dmc_text.specs.declared.event_line.EventLine.TheVariants as event_lines
@@ -88,8 +87,3 @@ event_line_of_kind made headed kinds.Command ws = event_words ws >>= event_said 
 -- the meaning of a line; headed: an hz line was read before
 abbrev pub event_of : {T : Type 0} → (ℤ → ℕ → Option T) → Bool → List ℕ → Result (EventLine T) LineCause
 event_of made headed line = kind_of headed line >>= λ k. event_line_of_kind made headed k (words line)
-
--- ---- the code's words
-
-abbrev pub seen_event : EventWords → Spoken
-seen_event e = record { worker = e.worker.now; command = seen e.command; reply = seen_reply e.reply }

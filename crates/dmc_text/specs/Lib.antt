@@ -32,3 +32,5 @@ pub mod Walks
 pub mod Runs
 -- The text of a ratio tag: a fraction in lowest terms.
 pub mod RatioText
+-- What only contracts of private functions and proofs cite.
+pub mod internal

@@ -1,10 +1,8 @@
 -- The lines of a script.
 use Rattle.std.specs.Prelude.{ℕ, ◌^◌, ◌==◌, Bool, false, ◌&&◌, List, [], ◌∷◌, length, Option, Some, None, Result, Ok, Err, nat_lt, nat_le, if◌then◌else◌, codes}
 use Rattle.std.specs.List.{list_all}
-use Rattle.std.specs.Option.{ok_or, option_map}
+use Rattle.std.specs.Option.{ok_or}
 use Rattle.dmc_types.specs.Limits.{max_hz, max_moment, max_line_bytes}
-use denote.Ref.{Bor}
-use Rattle.dmc_text.specs.declared.line.ConfigWords.{ConfigWords}
 use Rattle.std.specs.Str.{bytes_eq}
 use Rattle.dmc_types.specs.declared.config.AtLimit.{AtLimit}
 use Rattle.dmc_types.specs.declared.config.AtLimit.TheVariants.{Wait, Allow}
@@ -79,13 +77,6 @@ setting h = do
   hz ← figure h.hz
   ages ← ages_of h.ages
   configured hz ages.0 ages.1 h.at_limit
-
--- what the code's words represent
-abbrev pub seen_ages : Option (Bor (List ℕ) × Bor (List ℕ)) → Option (List ℕ × List ℕ)
-seen_ages ages = option_map (λ x. (x.0.now, x.1.now)) ages
-
-abbrev pub seen_heading : ConfigWords → Heading
-seen_heading c = record { hz = c.hz.now; ages = seen_ages c.ages; at_limit = c.at_limit }
 
 -- ---- commands
 

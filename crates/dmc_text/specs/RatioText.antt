@@ -1,12 +1,12 @@
 -- The text of a ratio tag: a fraction in lowest terms.
 use Rattle.std.proofs.Common.{◌≡◌, ℕ, zero, suc, ◌*◌, ◌/◌, Bool, true, false, cond, eqb, ℤ, pos, negsuc, Option, Some, None, refl, sym, ap, ◌∙◌, arith}
-use Rattle.std.specs.Prelude.{◌==◌, if◌then◌else◌, option_and_then, unsigned_abs, T, ◌≤◌, ◌&&◌, nat_le}
+use Rattle.std.specs.Prelude.{◌==◌, if◌then◌else◌, option_and_then, unsigned_abs, T}
 use Rattle.std.proofs.Math.Nat.{div-mul_cancel}
-use Rattle.std.proofs.lemmas.Bool.{eqb-true, eq-eqb, le-leb}
+use Rattle.std.proofs.lemmas.Bool.{eqb-true, eq-eqb}
 use Rattle.dmc_ratio.specs.Gcd.{gcd}
 use Rattle.dmc_ratio.specs.GcdLaws.{gcd_is}
 use Rattle.dmc_ratio.specs.Lowest.{is_lowest, over, lowest_apart}
-use Rattle.dmc_ratio.specs.Ratio.{Ratio, same_ratio, lowest_terms, reduced, is_small, max_numer, max_denom}
+use Rattle.dmc_ratio.specs.Ratio.{Ratio, same_ratio, lowest_terms, reduced, is_small}
 use Rattle.std.proofs.lemmas.Option.{same_Some}
 
 -- the ratio of n/d, where these are in lowest terms already
@@ -57,9 +57,9 @@ ratio_if_lowest_has n (suc d) a e = ratio_if_lowest_by n d a (is_small (lowest_t
 
 -- ---- a ratio stays
 
-again : (n : ℤ) (d : ℕ) (h : T (is_lowest n d)) → is_small (record { numer = n; denom = d; lowest = h }) ≡ true → ratio_if_lowest n d ≡ Some (record { numer = n; denom = d; lowest = h })
-again n zero h small = elim h [ ]
-again n (suc d) h small =
+pub lowest_again : (n : ℤ) (d : ℕ) (h : T (is_lowest n d)) → is_small (record { numer = n; denom = d; lowest = h }) ≡ true → ratio_if_lowest n d ≡ Some (record { numer = n; denom = d; lowest = h })
+lowest_again n zero h small = elim h [ ]
+lowest_again n (suc d) h small =
     let one : gcd (unsigned_abs n) (suc d) ≡ 1 = lowest_apart n (suc d) h in
     let r : Ratio = record { numer = n; denom = suc d; lowest = h } in
     let whole : suc d / 1 ≡ suc d = omega arith in
@@ -67,14 +67,3 @@ again n (suc d) h small =
     ap (λ x. option_and_then (λ y. cond (eqb y.denom (suc d)) (Some y) None) (cond (is_small x) (Some x) None)) same
     ∙ ap (λ b. option_and_then (λ y. cond (eqb y.denom (suc d)) (Some y) None) (cond b (Some r) None)) small
     ∙ ap (λ b. cond b (Some r) None) (eq-eqb (suc d) (suc d) refl)
-
-pub ratio_if_lowest_again : (a : Ratio) → is_small a ≡ true → ratio_if_lowest a.numer a.denom ≡ Some a
-ratio_if_lowest_again a small = again a.numer a.denom a.lowest small
-
--- a ratio whose two numbers are within their bounds is the ratio of these two numbers
-pub made_again : (a : Ratio) (n : ℤ) (d : ℕ) → n ≡ a.numer → d ≡ a.denom → unsigned_abs n ≤ max_numer → d ≤ max_denom → ratio_if_lowest n d ≡ Some a
-made_again a n d n-is d-is over under =
-    let small : is_small a ≡ true = ap (λ z. nat_le (unsigned_abs z) max_numer && nat_le a.denom max_denom) (sym n-is)
-    ∙ ap (λ k. nat_le (unsigned_abs n) max_numer && nat_le k max_denom) (sym d-is)
-    ∙ ap (λ b. b && nat_le d max_denom) (le-leb (unsigned_abs n) max_numer over) ∙ le-leb d max_denom under in
-    ap (λ z. ratio_if_lowest z d) n-is ∙ ap (ratio_if_lowest a.numer) d-is ∙ ratio_if_lowest_again a small

@@ -1,10 +1,6 @@
 -- What was written of a reply, a configuration, a command, an event or a segment's header is read as that.
-use Rattle.std.specs.Prelude.{◌≡◌, ℕ, ◌≤◌, ℤ, Bool, true, false, not, ◌&&◌, List, [], ◌∷◌, ◌++◌, length, Option, Some, None, Ok, codes}
+use Rattle.std.specs.Prelude.{◌≡◌, ℕ, ◌≤◌, ℤ, Bool, true, not, ◌&&◌, List, ◌++◌, length, Option, Some, Ok}
 use Rattle.std.specs.List.{list_all, join_with_byte}
-use Rattle.std.specs.Str.{bytes_eq}
-use Rattle.std.specs.Fmt.{decimal}
-use Rattle.dmc_types.specs.Values.{Rates}
-use Rattle.dmc_types.specs.declared.ids.ClientId.{ClientId}
 use Rattle.dmc_types.specs.declared.ids.ServerId.{ServerId}
 use Rattle.dmc_types.specs.declared.command.Command.{Command}
 use Rattle.dmc_tag.specs.declared.reply.Reply.{Reply}
@@ -12,9 +8,9 @@ use Rattle.dmc_text.specs.declared.line.LineKind.TheVariants as kinds
 use Rattle.dmc_text.specs.Words.{is_space, is_word, words}
 use Rattle.dmc_text.specs.Lines.{is_line_byte, kind_of}
 use Rattle.dmc_text.specs.EventLines.{header_of}
-use Rattle.dmc_text.specs.Commands.{Phrase, phrase, command, with_info}
-use Rattle.dmc_text.specs.Replies.{tag, reply_words, reply_text, reply_of}
-use Rattle.dmc_text.specs.Written.{rate_word, info_words, command_words, header_text}
+use Rattle.dmc_text.specs.Commands.{Phrase, phrase, command}
+use Rattle.dmc_text.specs.Replies.{reply_words, reply_text, reply_of}
+use Rattle.dmc_text.specs.Written.{command_words, header_text}
 
 -- ---- words
 
@@ -29,29 +25,12 @@ pub record AreWords (most : ℕ) (ws : List (List ℕ)) : Type 0 where
   pub bytes : list_all (list_all is_line_byte) ws ≡ true
   pub short : length (join_with_byte 32 ws) ≤ most
 
--- ---- replies
-
--- a tag's text is one word, which is not `-` and is read as the tag
-pub record ReadsAgain {T : Type 0} (made : ℤ → ℕ → Option T) (text : T → List ℕ) (a : T) : Type 0 where
-  pub word : AreWords 51 (text a ∷ [])
-  pub some : bytes_eq (text a) (codes "-") ≡ false
-  pub read : tag made (text a) ≡ Ok a
-
-abbrev pub ReadsEach : {T : Type 0} → (ℤ → ℕ → Option T) → (T → List ℕ) → Option T → Type 0
-ReadsEach made text None = Unit {0}
-ReadsEach made text (Some a) = ReadsAgain made text a
+-- ---- replies and commands
 
 -- the reply is read from its text, which leaves room in a line for a worker and a command
 pub record IsReadBack {T : Type 0} (made : ℤ → ℕ → Option T) (text : T → List ℕ) (reply : Reply T) : Type 0 where
   pub read : reply_of made (words (reply_text text reply)) ≡ Ok reply
   pub of_words : AreWords 160 (reply_words text reply)
-
--- ---- commands
-
--- what follows `client` or `update` is read again
-pub record IsInfoAgain (client : ClientId) (info : Rates) (at : ℕ) : Type 0 where
-  pub read : (make : ClientId → Rates → ℕ → Command) → with_info make (decimal client.0) (rate_word info.reservation) (decimal info.weight) (rate_word info.limit) (decimal at) ≡ Ok (make client info at)
-  pub of_words : AreWords 63 (info_words client info at)
 
 -- the command is read from its words, whatever follows them
 pub record IsAskedAgain (asked : Command) : Type 0 where

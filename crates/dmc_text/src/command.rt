@@ -3,7 +3,7 @@ ghost use Rattle.std.specs.Prelude.{◌≡◌, ℕ, List, ◌∷◌, [], MatchRe
 ghost use Rattle.dmc_text.specs.Words.{words};
 ghost use Rattle.dmc_text.specs.Answers.{Gives};
 ghost use Rattle.dmc_types.specs.Values.{Rates};
-ghost use Rattle.dmc_text.specs.Commands.{phrase_of, Phrase, registering, updating, adding, verb_of, with_five, phrase, small, long, optional, moment, params, rates, with_info, with_params, at_moment, command, seen};
+ghost use Rattle.dmc_text.specs.Commands.{phrase_of, Phrase, registering, updating, adding, verb_of, with_five, phrase, small, long, optional, with_info, with_params, at_moment, command, seen};
 
 use crate::cause::LineCause;
 use crate::number::{read_u32, read_u64};
@@ -64,6 +64,16 @@ pub enum CommandFault {
     Number,
     /// A value is out of its limits: the moment, and then the params or a rate.
     Value(ValueFault),
+}
+
+impl From<ValueFault> for CommandFault {
+    ghost use Rattle.dmc_text.specs.declared.command.CommandFault.TheVariants.{Value};
+
+    ghost from_gives = { λ value fault. fault ≡ Value value };
+
+    fn from(value: ValueFault) -> CommandFault {
+        CommandFault::Value(value)
+    }
 }
 
 /// The command that a word names.
@@ -211,35 +221,8 @@ fn optional(word: &[u8]) -> Result<Option<u32>, CommandFault>
     Ok(Some(small(word)?))
 }
 
-/// A moment within its limit.
-#[tactic(auto, unfolding(crate::specs::Commands::moment))]
-fn moment(ticks: u64) -> Result<Moment, CommandFault>
-    ensures { result ≡ moment ticks }
-{
-    Moment::new(ticks).map_err(CommandFault::Value)
-}
-
-/// The counts of a stamp.
-#[tactic(auto, unfolding(crate::specs::Commands::params))]
-fn params(delta: u32, rho: u32) -> Result<ReqParams, CommandFault>
-    ensures { result ≡ params delta rho }
-{
-    ReqParams::new(delta, rho).map_err(CommandFault::Value)
-}
-
-/// The rates of a client.
-#[tactic(auto, unfolding(crate::specs::Commands::rates))]
-fn rates(
-    reservation: Option<u32>,
-    weight: u32,
-    limit: Option<u32>,
-) -> Result<ClientInfo, CommandFault>
-    ensures { result ≡ rates reservation weight limit }
-{
-    ClientInfo::new(reservation, weight, limit).map_err(CommandFault::Value)
-}
-
 /// The client, the rates and the moment of words.
+#[tactic(auto, unfolding(crate::specs::Commands::moment, crate::specs::Commands::rates))]
 fn read_info(words: InfoWords<'_>) -> Result<(ClientId, ClientInfo, Moment), CommandFault>
     ensures { (make : ClientId → Rates → ℕ → Command) → Gives (λ x. make x.0 x.1 x.2) result
         (with_info make words.entry.client.now words.entry.reservation.now words.entry.weight.now words.entry.limit.now words.entry.at.now) }
@@ -248,11 +231,13 @@ fn read_info(words: InfoWords<'_>) -> Result<(ClientId, ClientInfo, Moment), Com
     let reservation = optional(words.reservation)?;
     let weight = small(words.weight)?;
     let limit = optional(words.limit)?;
-    let at = moment(long(words.at)?)?;
-    Ok((client, rates(reservation, weight, limit)?, at))
+    let at = Moment::new(long(words.at)?)?;
+    let info = ClientInfo::new(reservation, weight, limit)?;
+    Ok((client, info, at))
 }
 
 /// The request of words.
+#[tactic(auto, unfolding(crate::specs::Commands::moment, crate::specs::Commands::params))]
 fn read_add(words: AddWords<'_>) -> Result<Command, CommandFault>
     ensures { result ≡ with_params words.entry.client.now words.entry.token.now words.entry.delta.now words.entry.rho.now words.entry.at.now }
 {
@@ -261,8 +246,8 @@ fn read_add(words: AddWords<'_>) -> Result<Command, CommandFault>
     let delta = small(words.delta)?;
     let rho = small(words.rho)?;
     let ticks = long(words.at)?;
-    let at = moment(ticks)?;
-    let params = params(delta, rho)?;
+    let at = Moment::new(ticks)?;
+    let params = ReqParams::new(delta, rho)?;
     Ok(Command::Add {
         client,
         token,
@@ -272,10 +257,11 @@ fn read_add(words: AddWords<'_>) -> Result<Command, CommandFault>
 }
 
 /// The moment of a word.
+#[tactic(auto, unfolding(crate::specs::Commands::moment))]
 fn read_moment(word: &[u8]) -> Result<Moment, CommandFault>
     ensures { (make : ℕ → Command) → Gives make result (at_moment make word.now) }
 {
-    moment(long(word)?)
+    Ok(Moment::new(long(word)?)?)
 }
 
 /// The command of words: all numbers are read, and then its values are checked.

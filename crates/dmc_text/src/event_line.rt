@@ -5,7 +5,8 @@ ghost use Rattle.dmc_text.specs.Answers.{Gives};
 ghost use Rattle.dmc_text.specs.Commands.{command, seen};
 ghost use Rattle.dmc_text.specs.Words.{words};
 ghost use Rattle.dmc_text.specs.Replies.{seen_reply};
-ghost use Rattle.dmc_text.specs.EventLines.{answer_words, comment, event_words, event_said, event_of, header_of, header_said, header_words, names_header, seen_event, sure};
+ghost use Rattle.dmc_text.specs.EventLines.{answer_words, comment, event_words, event_said, event_of, header_of, header_said, header_words, names_header, sure};
+ghost use Rattle.dmc_text.specs.internal.EventLines.{seen_event};
 
 use crate::cause::LineCause;
 use crate::command::{CommandWords, command_words, next_word, read_command};

@@ -4,7 +4,8 @@ ghost use Rattle.std.specs.List.{list_all};
 ghost use Rattle.dmc_text.specs.Words.{words};
 ghost use Rattle.dmc_text.specs.Commands.{command, seen};
 ghost use Rattle.dmc_text.specs.Answers.{Gives};
-ghost use Rattle.dmc_text.specs.Lines.{is_line_byte, limit_of, seen_ages, seen_heading, is_clean, heading, figure, ages_of, configured, setting, line_of_command, line_of_words, is_comment, kind_of, line_of};
+ghost use Rattle.dmc_text.specs.Lines.{is_line_byte, limit_of, is_clean, heading, figure, ages_of, configured, setting, line_of_command, line_of_words, is_comment, kind_of, line_of};
+ghost use Rattle.dmc_text.specs.internal.Lines.{seen_ages, seen_heading};
 
 use crate::cause::LineCause;
 use crate::command::{CommandFault, CommandWords, command_words, next_word, read_command};

@@ -5,7 +5,8 @@ ghost use Rattle.dmc_text.specs.declared.cause.LineCause.{LineCause};
 ghost use Rattle.dmc_text.specs.declared.cause.LineCause.TheVariants.{Bytes};
 ghost use Rattle.dmc_text.specs.Reading.{max_bytes, next_line};
 ghost use Rattle.dmc_text.specs.Watching.{stream_of, EndsNoted};
-ghost use Rattle.dmc_text.specs.Walks.{IsAnswer, Starts, Finds, Takes, TakesLast, end_result, EndsAs};
+ghost use Rattle.dmc_text.specs.Walks.{IsAnswer, Starts, Finds, EndsAs};
+ghost use Rattle.dmc_text.specs.internal.Walks.{Takes, TakesLast, end_result};
 
 use crate::cause::LineCause;
 use crate::lines::LineReader;

@@ -3,7 +3,8 @@ ghost use Rattle.std.specs.Prelude.{◌≡◌, ◌∷◌, [], ◌<◌, ◌^◌, 
 ghost use Rattle.std.specs.List.{join_with_byte};
 ghost use Rattle.std.specs.Io.KnownBytes.{Appends};
 ghost use Rattle.dmc_text.specs.Replies.{refusal_words, tag_text, reply_text, IsWritable, word_text, tag_word as word_of, grant_words};
-ghost use Rattle.dmc_text.specs.RoundTrip.{ReadsAgain, ReadsEach, IsReadBack};
+ghost use Rattle.dmc_text.specs.RoundTrip.{IsReadBack};
+ghost use Rattle.dmc_text.specs.internal.RoundTrip.{ReadsAgain, ReadsEach};
 ghost use Rattle.dmc_tag.specs.declared.reply.Reply.TheVariants.{Tagged};
 ghost use Rattle.std.specs.Fmt.{decimal};
 

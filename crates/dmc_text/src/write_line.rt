@@ -10,7 +10,8 @@ ghost use Rattle.dmc_types.specs.declared.command.Command.TheVariants.{Add, Pull
 ghost use Rattle.dmc_text.specs.EventLines.{event_of};
 ghost use Rattle.dmc_text.specs.Lines.{kind_of, line_of};
 ghost use Rattle.dmc_text.specs.Replies.{IsWritable, tag_text};
-ghost use Rattle.dmc_text.specs.RoundTrip.{IsAskedAgain, IsHeaderAgain, IsInfoAgain};
+ghost use Rattle.dmc_text.specs.RoundTrip.{IsAskedAgain, IsHeaderAgain};
+ghost use Rattle.dmc_text.specs.internal.RoundTrip.{IsInfoAgain};
 ghost use Rattle.dmc_text.specs.Texts.{with_line_end};
 ghost use Rattle.dmc_text.specs.Written.{command_text, config_text, event_text, header_text, info_words, rate_word as word_of};
 

@@ -8,7 +8,8 @@ use Rattle.dmc_driver.specs.Done.{IsDone, RanOut}
 use Rattle.dmc_driver.specs.Ending.{EndsSo, IsRunReport, Reports, widest}
 use Rattle.dmc_driver.specs.declared.fault.DriveFault.{DriveFault}
 use Rattle.dmc_driver.specs.declared.fault.DriveFault.TheVariants as drive
-use Rattle.dmc_tool.specs.RunReports.{RunsOn, WritesReport, WritesFaultReport, WritesReportThen}
+use Rattle.dmc_tool.specs.RunReports.{RunsOn}
+use Rattle.dmc_tool.specs.internal.RunReports.{WritesReport, WritesFaultReport, WritesReportThen}
 use Rattle.dmc_tool.specs.declared.run_scene.RunSceneFault.{RunSceneFault}
 use Rattle.dmc_tool.specs.declared.run_scene.RunSceneFault.TheVariants.{Memory, Torn, Write, TurnsOut, Stopped}
 

@@ -23,3 +23,5 @@ pub mod Verdicts
 -- What the words of the command line ask for, as clap matches them.
 pub mod Words
 pub use Rattle.clap.specs.Words as ClapWords
+-- What only contracts of private functions and proofs cite.
+pub mod internal

@@ -15,8 +15,6 @@ use Rattle.dmc_scene.specs.SceneValue.{SceneValue}
 use Rattle.dmc_settle.specs.declared.report.ClusterReport.{ClusterReport}
 use Rattle.dmc_driver.specs.Done.{IsDone, RanOut}
 use Rattle.dmc_driver.specs.Ending.{IsRunReport, widest}
-use Rattle.dmc_driver.specs.declared.fault.DriveFault.{DriveFault}
-use Rattle.dmc_driver.specs.declared.fault.DriveFault.TheVariants as drive
 use Rattle.dmc_tool.specs.ReportTexts.{report_text}
 use Rattle.dmc_tool.specs.Verdicts.{AreVerdicts}
 use Rattle.dmc_tool.specs.declared.run_scene.RunSceneFault.{RunSceneFault}
@@ -27,31 +25,6 @@ pub record IsTextOf {T : Type 0} (ops : Tagging T) (config : Setting) (r : Clust
   pub verdicts : List Verdict
   pub theirs : AreVerdicts ops config r.servers.items verdicts
   pub text_is : text ≡ report_text r verdicts
-
--- writing a report: all of its text is written, or a first part where the writer fails, or nothing where an allocation failed
-abbrev pub WritesReport : {T : Type 0} → Tagging T → Setting → ClusterReport T → (old new : Option (List ℕ)) → Result ⊤ RunSceneFault → Type 0
-WritesReport ops config r old new (Ok x) = (text : List ℕ) × IsTextOf ops config r text × Appends old new text
-WritesReport ops config r old new (Err Write) = (text : List ℕ) × IsTextOf ops config r text × AppendsSome old new text
-WritesReport ops config r old new (Err Memory) = Keeps old new
-WritesReport ops config r old new (Err Torn) = ⊥
-WritesReport ops config r old new (Err TurnsOut) = ⊥
-WritesReport ops config r old new (Err Stopped) = ⊥
-
--- the report is written, and then the fault is this one; or it can't be written
-abbrev pub WritesReportThen : {T : Type 0} → Tagging T → Setting → ClusterReport T → RunSceneFault → (old new : Option (List ℕ)) → Result ⊤ RunSceneFault → Type 0
-WritesReportThen ops config r fault old new (Ok x) = ⊥
-WritesReportThen ops config r fault old new (Err Write) = WritesReport ops config r old new (Err Write)
-WritesReportThen ops config r fault old new (Err Memory) = Keeps old new
-WritesReportThen ops config r fault old new (Err Torn) = ⊥
-WritesReportThen ops config r fault old new (Err TurnsOut) = (fault ≡ TurnsOut) × ((text : List ℕ) × IsTextOf ops config r text × Appends old new text)
-WritesReportThen ops config r fault old new (Err Stopped) = (fault ≡ Stopped) × ((text : List ℕ) × IsTextOf ops config r text × Appends old new text)
-
--- the report of a run that was not done is written, if it has one
-abbrev pub WritesFaultReport : {T : Type 0} → Tagging T → Setting → DriveFault T → (old new : Option (List ℕ)) → Result ⊤ RunSceneFault → Type 0
-WritesFaultReport ops config drive.Memory old new end = (end ≡ Err Memory) × Keeps old new
-WritesFaultReport ops config drive.Torn old new end = (end ≡ Err Torn) × Keeps old new
-WritesFaultReport ops config (drive.TurnsOut r) old new end = WritesReportThen ops config r TurnsOut old new end
-WritesFaultReport ops config (drive.Stopped r) old new end = WritesReportThen ops config r Stopped old new end
 
 -- the report of a run of the scene is written, and P holds of it
 abbrev pub Reported : {T : Type 0} → Tagging T → SceneValue → (old new : Option (List ℕ)) → (ClusterReport T → Type 0) → Type 0

@@ -1,5 +1,5 @@
 -- Verdicts on the histories of a report.
-use Rattle.std.specs.Prelude.{ℕ, List, [], ◌∷◌, ⊤, slice_index_or}
+use Rattle.std.specs.Prelude.{List, [], ◌∷◌, ⊤}
 use Rattle.dmc_types.specs.Values.{Setting}
 use Rattle.dmc_tag.specs.Tag.{Tagging}
 use Rattle.dmc_check.specs.Verdicts.{IsVerdict}
@@ -12,7 +12,3 @@ AreVerdicts ops config [] [] = ⊤
 AreVerdicts ops config [] (v ∷ vs) = ⊥
 AreVerdicts ops config (s ∷ ss) [] = ⊥
 AreVerdicts ops config (s ∷ ss) (v ∷ vs) = IsVerdict ops config s.history.events v × AreVerdicts ops config ss vs
-
--- on the history of the server at an index
-abbrev pub IsVerdictAt : {T : Type 0} → Tagging T → Setting → List (ServerReport T) → ℕ → Verdict → Type 0
-IsVerdictAt {T} ops config ss place v = (s : ServerReport T) → IsVerdict ops config (slice_index_or ss place s).history.events v

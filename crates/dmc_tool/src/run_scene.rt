@@ -1,7 +1,8 @@
 //! A scene that is run in threads, and its report.
 ghost use Rattle.std.specs.Prelude.{◌≡◌};
 ghost use Rattle.dmc_text.specs.Watching.{stream_of};
-ghost use Rattle.dmc_tool.specs.RunReports.{ReportNoted, RunsOn, RunsScene, WritesReport, WritesFaultReport};
+ghost use Rattle.dmc_tool.specs.RunReports.{ReportNoted, RunsOn, RunsScene};
+ghost use Rattle.dmc_tool.specs.internal.RunReports.{WritesReport, WritesFaultReport};
 ghost use Rattle.dmc_tool.specs.declared.run_scene.RunSceneFault.TheVariants.{Memory};
 
 use crate::run_report::report_text;

@@ -1,6 +1,7 @@
 //! Verdicts on the histories of a report.
 ghost use Rattle.std.specs.Prelude.{◌<◌, IfOk, length};
-ghost use Rattle.dmc_tool.specs.Verdicts.{AreVerdicts, IsVerdictAt};
+ghost use Rattle.dmc_tool.specs.Verdicts.{AreVerdicts};
+ghost use Rattle.dmc_tool.specs.internal.Verdicts.{IsVerdictAt};
 
 use dmc_check::check::{Verdict, check};
 use dmc_settle::report::ServerReport;

@@ -7,6 +7,7 @@ pub use Rattle.dmc_history_laws.specs.Bounds
 pub use Rattle.dmc_head_index.specs.Heads
 pub use Rattle.dmc_index.specs.Index
 pub use Rattle.dmc_ledger.specs.Bundles
+pub use Rattle.dmc_ledger.specs.Moves
 pub use Rattle.dmc_pull.specs.FirstRequests
 pub use Rattle.dmc_pull.specs.Queue
 pub use Rattle.dmc_queue_history.specs.Segmented

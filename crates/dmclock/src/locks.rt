@@ -1,7 +1,10 @@
 //! Queues and trackers that threads share: each behind a lock, with the books that count what goes between them.
 
 pub use dmc_book::book::QueueBook;
-pub use dmc_book::fault::{BookFault, NewFault, RunFault, SubmitCause, SubmitFault};
+pub use dmc_book::fault::{
+    AdmitCause, AdmitFault, BookFault, EnrolFault, ExtendFault, NewFault, RunFault, SubmitCause,
+    SubmitFault,
+};
 pub use dmc_book::pass::WorkerPass;
 pub use dmc_book::seat::Seat;
 pub use dmc_book::settled::{GrantsHeld, Settled};

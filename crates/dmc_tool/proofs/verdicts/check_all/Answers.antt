@@ -1,5 +1,5 @@
 use Rattle.std.proofs.Common.{rules, ◌<◌, ◌≡◌, length, Ok, slice_index_or}
-use Rattle.dmc_tool.specs.Verdicts.{IsVerdictAt}
+use Rattle.dmc_tool.specs.internal.Verdicts.{IsVerdictAt}
 use Rattle.dmc_tool.proofs.VerdictRows.{verdicts_more}
 use Rattle.dmc_tool.proofs.verdicts.check_all.Goals as goal
 

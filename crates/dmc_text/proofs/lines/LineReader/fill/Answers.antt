@@ -3,7 +3,7 @@ use Rattle.std.proofs.Common.{◌≡◌, ◌+◌, ◌-◌, ◌^◌, ◌<◌, ◌
 use Rattle.std.specs.Prelude.{slice_range, vec_len}
 use Rattle.std.specs.Io.KnownBytes.{Consumes}
 use Rattle.std.proofs.lemmas.List.{length-take-le}
-use Rattle.dmc_text.specs.LineLaws.{none_taken}
+use Rattle.dmc_text.specs.internal.LineLaws.{none_taken}
 use Rattle.dmc_text.proofs.ReadingLemmas.{same_range, range_grown, all_kept}
 use Rattle.dmc_text.proofs.lines.LineReader.fill.Goals as goal
 

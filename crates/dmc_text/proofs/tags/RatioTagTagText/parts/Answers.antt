@@ -1,7 +1,8 @@
 -- A ratio is made again of its two numbers.
 use Rattle.std.proofs.Common.{◌≡◌, Some, arith}
 use Rattle.std.proofs.lemmas.Int.{to_z-of_z}
-use Rattle.dmc_text.specs.RatioText.{ratio_if_lowest, made_again}
+use Rattle.dmc_text.specs.RatioText.{ratio_if_lowest}
+use Rattle.dmc_text.specs.internal.RatioText.{made_again}
 use Rattle.dmc_text.proofs.tags.RatioTagTagText.parts.Goals as goal
 
 pub returns-clause-again : goal.returns-clause-again

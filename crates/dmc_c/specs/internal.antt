@@ -1,0 +1,2 @@
+-- The hz that a caller gave.
+pub mod Rates

@@ -13,6 +13,7 @@ use crate::runs::{config, drop_queue};
 use crate::same::assert_same;
 use dmc_index::index::{Indexes, OrderIndex};
 use dmc_pull::queue::PullQueue;
+use dmc_tag::scheduler::Scheduler;
 use dmc_tag::tag::Tag;
 use dmc_tick::tick::TickTag;
 use dmc_types::ids::{ClientId, Token};

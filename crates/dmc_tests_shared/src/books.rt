@@ -2,17 +2,24 @@
 ghost use Rattle.std.specs.Prelude.{◌≡◌};
 
 use crate::calls::{carried, must_enroll, pull, respond, stamp, status, submit};
-use crate::opening::{Book, ONE, Opened, ZERO, drop_opened, open};
+use crate::opening::{
+    LONG, ONE, Opened, SEVEN, ZERO, drop_opened, open, open_book, open_desks, open_tracker,
+    wait_config,
+};
+use dmc_book::book::QueueBook;
 use dmc_book::pass::WorkerPass;
 use dmc_book::status::Status;
+use dmc_heap::indexed_heap::HeapIndexes;
+use dmc_index::index::Indexes;
 use dmc_ledger::bundle::StampTills;
-use dmc_ledger::mint::Blank;
+use dmc_ledger::mint::{Blank, Mint};
 use dmc_ledger::setup::Setup;
 use dmc_tag::reply::{Reply, Tags};
 use dmc_tag::tag::Tag;
 use dmc_tick::tick::TickTag;
 use dmc_tlock::book::TrackerBook;
 use dmc_tlock::fault::TillFault;
+use dmc_tlock::pass::ClientPass;
 use dmc_tlock::status::TrackStatus;
 use dmc_types::config::PhaseType;
 use dmc_types::ids::Token;
@@ -86,8 +93,8 @@ fn tracker_status<S: Setup>(
     tracker.status(ZERO, tills)
 }
 
-fn circle_in_hand<S: Setup>(
-    book: &mut Book<S>,
+fn circle_in_hand<I: Indexes<TickTag>, S: Setup>(
+    book: &mut QueueBook<TickTag, I, S>,
     pass: &mut WorkerPass<S>,
     tracker: &mut TrackerBook<S>,
     tills: &mut StampTills<S>,
@@ -139,6 +146,51 @@ fn circle<S: Setup>(alloc: Global, blank: Blank) -> Result<Observed, Fail>
 #[test]
 fn one_circle(rt: HostRuntime) -> Result<(), Fail> {
     let observed = circle::<Brand>(rt.alloc(), Blank::new(14))?;
+    assert_eq!(rt; observed.tags.r, None);
+    assert!(rt; observed == circle_observed());
+    Ok(())
+}
+
+/// A book over heaps of worker 7 and client 1, the worker's pass, and the client's tracker with its pass.
+#[derive(Drop)]
+struct OverHeaps<S: Setup> {
+    book: QueueBook<TickTag, HeapIndexes, S>,
+    passes: Vec<WorkerPass<S>>,
+    tracker: TrackerBook<S>,
+    tills: ClientPass<S>,
+}
+
+fn open_over_heaps<S: Setup>(alloc: Global, mint: &mut Mint<S>) -> Result<OverHeaps<S>, Fail> {
+    let config = wait_config(LONG)?;
+    let (desks, sides) = open_desks(alloc, mint)?;
+    let (tracker, tills) = open_tracker(alloc, ONE, sides)?;
+    let (book, passes) = open_book(alloc, config, ZERO, mint, desks, &[SEVEN], 8)?;
+    Ok(OverHeaps {
+        book,
+        passes,
+        tracker,
+        tills,
+    })
+}
+
+fn play_over_heaps<S: Setup>(opened: &mut OverHeaps<S>) -> Result<Observed, Fail> {
+    let (Some(pass), Some(tills)) = (opened.passes.first_mut(), opened.tills.tills(ZERO)) else {
+        return Err(Fail::new("a pass for the worker, and tills for the server"));
+    };
+    circle_in_hand(&mut opened.book, pass, &mut opened.tracker, tills)
+}
+
+fn circle_over_heaps<S: Setup>(alloc: Global, blank: Blank) -> Result<Observed, Fail>
+    requires { blank.name ≡ S.name }
+{
+    let mut mint = blank.open::<S>();
+    let mut opened = open_over_heaps(alloc, &mut mint)?;
+    play_over_heaps(&mut opened)
+}
+
+#[test]
+fn one_circle_over_heaps(rt: HostRuntime) -> Result<(), Fail> {
+    let observed = circle_over_heaps::<Brand>(rt.alloc(), Blank::new(14))?;
     assert_eq!(rt; observed.tags.r, None);
     assert!(rt; observed == circle_observed());
     Ok(())

@@ -4,10 +4,12 @@ ghost use Rattle.std.specs.Prelude.{◌≡◌, false, IfOk};
 ghost use Rattle.dmc_ledger.specs.Bundles.{Covers, stamp_holdings};
 ghost use Rattle.dmc_book.specs.Calls.{is_add};
 
-use crate::opening::{Book, ONE, ZERO};
+use crate::opening::{ONE, ZERO};
+use dmc_book::book::QueueBook;
 use dmc_book::fault::{RunFault, SubmitCause};
 use dmc_book::pass::WorkerPass;
 use dmc_book::status::Status;
+use dmc_index::index::Indexes;
 use dmc_ledger::bundle::StampTills;
 use dmc_ledger::setup::Setup;
 use dmc_ledger::till::Till;
@@ -24,8 +26,8 @@ use dmc_types::moment::Moment;
 use std::test::Fail;
 
 /// Runs a command that submits nothing.
-pub(crate) fn run<S: Setup>(
-    book: &mut Book<S>,
+pub(crate) fn run<I: Indexes<TickTag>, S: Setup>(
+    book: &mut QueueBook<TickTag, I, S>,
     pass: &mut WorkerPass<S>,
     command: Command,
 ) -> Result<Reply<TickTag>, RunFault>
@@ -46,8 +48,8 @@ pub(crate) fn register(client: ClientId, limit: Option<u32>) -> Result<Command, 
 }
 
 /// Registers a client, and returns why it is refused, if it is.
-pub(crate) fn enroll<S: Setup>(
-    book: &mut Book<S>,
+pub(crate) fn enroll<I: Indexes<TickTag>, S: Setup>(
+    book: &mut QueueBook<TickTag, I, S>,
     pass: &mut WorkerPass<S>,
     client: ClientId,
 ) -> Result<Option<RunFault>, Fail> {
@@ -56,8 +58,8 @@ pub(crate) fn enroll<S: Setup>(
 }
 
 /// Registers client 1.
-pub(crate) fn must_enroll<S: Setup>(
-    book: &mut Book<S>,
+pub(crate) fn must_enroll<I: Indexes<TickTag>, S: Setup>(
+    book: &mut QueueBook<TickTag, I, S>,
     pass: &mut WorkerPass<S>,
 ) -> Result<(), Fail> {
     match enroll(book, pass, ONE)? {
@@ -67,20 +69,23 @@ pub(crate) fn must_enroll<S: Setup>(
 }
 
 /// A pull at moment 0.
-pub(crate) fn pull<S: Setup>(
-    book: &mut Book<S>,
+pub(crate) fn pull<I: Indexes<TickTag>, S: Setup>(
+    book: &mut QueueBook<TickTag, I, S>,
     pass: &mut WorkerPass<S>,
 ) -> Result<Reply<TickTag>, RunFault> {
     run(book, pass, Command::Pull { at: Moment::zero() })
 }
 
 /// Closes the book's queue.
-pub(crate) fn close<S: Setup>(book: &mut Book<S>) {
+pub(crate) fn close<I: Indexes<TickTag>, S: Setup>(book: &mut QueueBook<TickTag, I, S>) {
     book.close();
 }
 
 /// What the worker of the pass sees of the book.
-pub(crate) fn status<S: Setup>(book: &Book<S>, pass: &WorkerPass<S>) -> Result<Status, RunFault> {
+pub(crate) fn status<I: Indexes<TickTag>, S: Setup>(
+    book: &QueueBook<TickTag, I, S>,
+    pass: &WorkerPass<S>,
+) -> Result<Status, RunFault> {
     book.status(pass)
 }
 
@@ -105,8 +110,8 @@ pub(crate) fn stamp<S: Setup>(
 pub(crate) type Answer = Result<Tags<TickTag>, (ClientId, SubmitCause)>;
 
 /// Submits a stamped request at moment 0.
-fn submit_stamped<S: Setup>(
-    book: &mut Book<S>,
+fn submit_stamped<I: Indexes<TickTag>, S: Setup>(
+    book: &mut QueueBook<TickTag, I, S>,
     pass: &mut WorkerPass<S>,
     tills: &mut StampTills<S>,
     stamp: Stamp,
@@ -121,8 +126,8 @@ fn submit_stamped<S: Setup>(
 }
 
 /// Stamps a request for a server, and submits it: the counts of the stamp, and the result.
-pub(crate) fn stamp_and_submit<S: Setup>(
-    book: &mut Book<S>,
+pub(crate) fn stamp_and_submit<I: Indexes<TickTag>, S: Setup>(
+    book: &mut QueueBook<TickTag, I, S>,
     pass: &mut WorkerPass<S>,
     tracker: &mut TrackerBook<S>,
     tills: &mut StampTills<S>,
@@ -135,8 +140,8 @@ pub(crate) fn stamp_and_submit<S: Setup>(
 }
 
 /// Stamps and submits token 9: the counts of the stamp, and the result.
-pub(crate) fn try_submit<S: Setup>(
-    book: &mut Book<S>,
+pub(crate) fn try_submit<I: Indexes<TickTag>, S: Setup>(
+    book: &mut QueueBook<TickTag, I, S>,
     pass: &mut WorkerPass<S>,
     tracker: &mut TrackerBook<S>,
     tills: &mut StampTills<S>,
@@ -145,8 +150,8 @@ pub(crate) fn try_submit<S: Setup>(
 }
 
 /// Stamps and submits token 9: the counts of the stamp, and the tags.
-pub(crate) fn submit<S: Setup>(
-    book: &mut Book<S>,
+pub(crate) fn submit<I: Indexes<TickTag>, S: Setup>(
+    book: &mut QueueBook<TickTag, I, S>,
     pass: &mut WorkerPass<S>,
     tracker: &mut TrackerBook<S>,
     tills: &mut StampTills<S>,

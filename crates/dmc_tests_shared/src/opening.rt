@@ -9,6 +9,7 @@ use crate::tracker_setup::{open_tracker_of, tracker_desks};
 use dmc_book::book::QueueBook;
 use dmc_book::fault::NewFault;
 use dmc_book::pass::WorkerPass;
+use dmc_index::index::Indexes;
 use dmc_index::list_index::ListIndexes;
 use dmc_ledger::desk::{ClientDesk, ServerDesk, open_pair};
 use dmc_ledger::mint::Mint;
@@ -130,7 +131,7 @@ pub(crate) fn wait_config(age: u64) -> Result<QueueConfig, NewFault> {
 }
 
 /// A server's book of the desks, and its passes. Its history may have `most` events.
-pub(crate) fn open_book<S: Setup>(
+pub(crate) fn open_book<I: Indexes<TickTag>, S: Setup>(
     alloc: Global,
     config: QueueConfig,
     server: ServerId,
@@ -138,7 +139,7 @@ pub(crate) fn open_book<S: Setup>(
     desks: Vec<ClientDesk<S>>,
     workers: &[WorkerId],
     most: u32,
-) -> Result<(Book<S>, Vec<WorkerPass<S>>), NewFault>
+) -> Result<(QueueBook<TickTag, I, S>, Vec<WorkerPass<S>>), NewFault>
     requires few { length workers.now ≤ 3 }
     requires new { AllByRecursion (IsNewDesk server.0) (map client_side desks.items) }
 {

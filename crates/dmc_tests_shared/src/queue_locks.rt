@@ -1,5 +1,6 @@
 //! Tests of the lock, which threads share.
 mod auditing;
+mod both_indexes;
 mod calls;
 mod circle;
 mod joining;

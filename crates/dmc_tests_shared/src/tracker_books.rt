@@ -38,7 +38,7 @@ struct Observed {
     refused: Option<EntryFault>,
 }
 
-const TOLD: [Observed; 2] = [
+const EXPECTED: [Observed; 2] = [
     Observed {
         first: (0, 0),
         next: (1, 0),
@@ -207,7 +207,7 @@ fn circle_at_lock<S: Setup, R: Abort + Wait>(
 
 #[test]
 fn one_circle(rt: HostRuntime) -> Result<(), Fail> {
-    for observed in TOLD {
+    for observed in EXPECTED {
         let counting = observed.status.counting;
         let answer = circle_in_hand::<Brand>(&rt, rt.alloc(), Blank::new(5), counting)?;
         assert_same(&rt, &answer, &observed);

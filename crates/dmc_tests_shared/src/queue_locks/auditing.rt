@@ -6,7 +6,7 @@ use super::setup::{Lock, drop_lock};
 use super::threads::{Job, open_two, pass_of, register_both, submit_both};
 use crate::same::assert_same;
 use dmc_check::check::Verdict;
-use dmc_check::replayer::Replayer;
+use dmc_check::replayer::{ReplayFault, Replayer};
 use dmc_ledger::mint::Blank;
 use dmc_ledger::setup::Setup;
 use dmc_queue_history::segment::Segment;
@@ -37,22 +37,30 @@ fn rotate<S: Setup, R: Wait>(rt: &R, lock: &Lock<S>) -> Result<Segment<TickTag, 
 }
 
 /// Whether the next segment follows the last one and replays.
-fn audit_next<S: Setup, R: Wait>(rt: &R, lock: &Lock<S>, auditor: &mut Auditor<S>) -> bool {
+fn audit_next<S: Setup, R: Wait>(
+    rt: &R,
+    lock: &Lock<S>,
+    auditor: &mut Auditor<S>,
+) -> Result<bool, ReplayFault> {
     let Some(segment) = lock.rotate(rt) else {
-        return false;
+        return Ok(false);
     };
-    let replays = auditor.replayer.replay(&segment) == Ok(Verdict::Replays);
+    let verdict = auditor.replayer.replay(&segment);
     let follows = auditor.last.follows(&segment);
     auditor.last = segment;
-    replays && follows
+    Ok(verdict? == Verdict::Replays && follows)
 }
 
-fn audit_all<S: Setup, R: Wait>(rt: &R, lock: &Lock<S>, auditor: &mut Auditor<S>) -> bool {
+fn audit_all<S: Setup, R: Wait>(
+    rt: &R,
+    lock: &Lock<S>,
+    auditor: &mut Auditor<S>,
+) -> Result<bool, ReplayFault> {
     let mut sound = true;
     for _ in 0..ROUNDS {
-        sound = audit_next(rt, lock, auditor) && sound;
+        sound = audit_next(rt, lock, auditor)? && sound;
     }
-    sound
+    Ok(sound)
 }
 
 /// Two threads submit 100 requests each while an auditor replays what is released; then it replays the rest. Returns whether all
@@ -79,8 +87,8 @@ fn submit_amid_audit<S: Setup + Send + Sync, R: Threads + Wait + Sync>(
         move || audit_all(rt, lock, lent),
     );
     submitted?;
-    let ended = audit_next(rt, lock, &mut auditor);
-    Ok((begun && sound && ended, auditor.replayer.event_count()))
+    let sound = sound? && audit_next(rt, lock, &mut auditor)?;
+    Ok((begun && sound, auditor.replayer.event_count()))
 }
 
 /// What an audit amid submits finds, and how many events are left to the book.

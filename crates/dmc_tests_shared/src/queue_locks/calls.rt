@@ -3,15 +3,17 @@
 ghost use Rattle.std.specs.Prelude.{IfOk};
 ghost use Rattle.dmc_ledger.specs.Bundles.{Covers, stamp_holdings};
 
-use super::setup::{Client, Lock};
+use super::setup::Client;
 use crate::calls::{self, register};
 use crate::opening::ZERO;
 use dmc_book::fault::{RunFault, SubmitCause};
 use dmc_book::pass::WorkerPass;
 use dmc_book::status::Status;
+use dmc_index::index::Indexes;
 use dmc_ledger::bundle::StampTills;
 use dmc_ledger::setup::Setup;
 use dmc_qlock::fault::RunOrRange;
+use dmc_qlock::lock::QueueLock;
 use dmc_tag::reply::{Pulled, Tags};
 use dmc_tick::tick::TickTag;
 use dmc_tlock::book::TrackerBook;
@@ -24,9 +26,9 @@ use std::sync::Wait;
 use std::test::Fail;
 
 /// Registers a client at the lock, and returns why it is refused, if it is.
-pub(super) fn run_register<S: Setup, R: Wait>(
+pub(super) fn run_register<I: Indexes<TickTag>, S: Setup, R: Wait>(
     rt: &R,
-    lock: &Lock<S>,
+    lock: &QueueLock<TickTag, I, S>,
     pass: &mut WorkerPass<S>,
     client: ClientId,
     limit: Option<u32>,
@@ -36,9 +38,9 @@ pub(super) fn run_register<S: Setup, R: Wait>(
 }
 
 /// Registers a client at the lock.
-pub(super) fn must_register<S: Setup, R: Wait>(
+pub(super) fn must_register<I: Indexes<TickTag>, S: Setup, R: Wait>(
     rt: &R,
-    lock: &Lock<S>,
+    lock: &QueueLock<TickTag, I, S>,
     pass: &mut WorkerPass<S>,
     client: ClientId,
     limit: Option<u32>,
@@ -62,9 +64,9 @@ pub(super) enum Stop {
 }
 
 /// Submits a stamped request at moment 0. Returns its tags, or whose stamp comes back, and the cause.
-pub(super) fn submit_stamped<S: Setup, R: Wait>(
+pub(super) fn submit_stamped<I: Indexes<TickTag>, S: Setup, R: Wait>(
     rt: &R,
-    lock: &Lock<S>,
+    lock: &QueueLock<TickTag, I, S>,
     pass: &mut WorkerPass<S>,
     tills: &mut StampTills<S>,
     stamp: Stamp,
@@ -79,32 +81,35 @@ pub(super) fn submit_stamped<S: Setup, R: Wait>(
 }
 
 /// A pull at moment 0.
-pub(super) fn pull<S: Setup, R: Wait>(
+pub(super) fn pull<I: Indexes<TickTag>, S: Setup, R: Wait>(
     rt: &R,
-    lock: &Lock<S>,
+    lock: &QueueLock<TickTag, I, S>,
     pass: &mut WorkerPass<S>,
 ) -> Result<Pulled, RunOrRange> {
     lock.pull(rt, pass, Moment::zero())
 }
 
 /// What the worker of the pass sees of the queue.
-pub(super) fn status<S: Setup, R: Wait>(
+pub(super) fn status<I: Indexes<TickTag>, S: Setup, R: Wait>(
     rt: &R,
-    lock: &Lock<S>,
+    lock: &QueueLock<TickTag, I, S>,
     pass: &WorkerPass<S>,
 ) -> Result<Status, RunFault> {
     lock.status(rt, pass)
 }
 
 /// Closes the queue.
-pub(super) fn close<S: Setup, R: Wait>(rt: &R, lock: &Lock<S>) {
+pub(super) fn close<I: Indexes<TickTag>, S: Setup, R: Wait>(
+    rt: &R,
+    lock: &QueueLock<TickTag, I, S>,
+) {
     lock.close(rt);
 }
 
 /// A pull at moment 0 that may wait.
-pub(super) fn pull_or_wait<S: Setup, R: Wait>(
+pub(super) fn pull_or_wait<I: Indexes<TickTag>, S: Setup, R: Wait>(
     rt: &R,
-    lock: &Lock<S>,
+    lock: &QueueLock<TickTag, I, S>,
     pass: &mut WorkerPass<S>,
 ) -> Result<Pulled, RunOrRange> {
     lock.pull_or_wait(rt, pass, Moment::zero())
@@ -130,9 +135,9 @@ fn stop_of(client: ClientId, (owner, cause): (ClientId, SubmitCause)) -> Stop {
 }
 
 /// Stamps a request at its client's tracker, and submits it at moment 0.
-pub(super) fn submit<S: Setup, R: Wait>(
+pub(super) fn submit<I: Indexes<TickTag>, S: Setup, R: Wait>(
     rt: &R,
-    lock: &Lock<S>,
+    lock: &QueueLock<TickTag, I, S>,
     pass: &mut WorkerPass<S>,
     client: &mut Client<S>,
     token: u32,

@@ -6,7 +6,7 @@ use super::settling::{Numbers, Remains, settle_book};
 use super::setup::{Client, Lock, drop_lock, grant, open_client, open_one};
 use crate::opening::{Book, both, drop_book, only};
 use crate::same::assert_same;
-use dmc_book::fault::{AdmitCause, AdmitFault, RunFault};
+use dmc_book::fault::{AdmitCause, AdmitFault, ExtendFault, RunFault};
 use dmc_book::pass::WorkerPass;
 use dmc_book::settled::Settled;
 use dmc_ledger::desk::ClientDesk;
@@ -115,10 +115,8 @@ fn join_later<S: Setup, R: Wait>(
     let mut client = admit_new(rt, alloc, lock, mint, THREE)?;
     let again = admit_again(rt, alloc, lock, mint)?;
     must_register(rt, lock, pass, THREE, None)?;
-    let first = submit(rt, lock, pass, &mut client, 5).is_ok();
-    if !first || submit(rt, lock, pass, &mut client, 6).is_err() {
-        return Err(Fail::new("two requests"));
-    }
+    submit(rt, lock, pass, &mut client, 5)?;
+    submit(rt, lock, pass, &mut client, 6)?;
     let mut worker = lock.enrol(rt, alloc, EIGHT, mint)?;
     let (behind, late, extended) = pull_both(rt, alloc, lock, pass, &mut worker)?;
     let leaves = leave(rt, lock, worker, &mut client)?;
@@ -201,24 +199,46 @@ const CLIENTS: u32 = 4;
 
 const REQUESTS: u32 = 10;
 
+/// The reason why a worker pulls no more, though the queue is not closed and empty.
+#[derive(Clone, Copy, Debug, PartialEq, Eq)]
+enum PullStop {
+    Pull(RunOrRange),
+    Extend(ExtendFault),
+    /// It pulled more often than there are requests, or one is due later.
+    Unfinished,
+}
+
+/// Extends a pass that is behind.
+fn extend<S: Setup, R: Wait>(
+    rt: &R,
+    alloc: Global,
+    lock: &Lock<S>,
+    pass: &mut WorkerPass<S>,
+) -> Result<(), PullStop> {
+    match lock.extend(rt, alloc, pass) {
+        Ok(()) => Ok(()),
+        Err(fault) => Err(PullStop::Extend(fault)),
+    }
+}
+
 /// Pulls until the queue is closed and empty, and extends the pass where it is behind. Returns how many grants it got.
 fn pull_all<S: Setup, R: Wait>(
     rt: &R,
     alloc: Global,
     lock: &Lock<S>,
     pass: &mut WorkerPass<S>,
-) -> Option<u32> {
+) -> Result<u32, PullStop> {
     let mut granted: u32 = 0;
     for _ in 0..10_000 {
         match pull_or_wait(rt, lock, pass) {
             Ok(Pulled::Returning { .. }) => granted = granted.saturating_add(1),
-            Ok(Pulled::Nothing) => return Some(granted),
-            Ok(Pulled::Future(_)) => return None,
-            Err(RunOrRange::Run(RunFault::Behind)) => lock.extend(rt, alloc, pass).ok()?,
-            Err(_) => return None,
+            Ok(Pulled::Nothing) => return Ok(granted),
+            Ok(Pulled::Future(_)) => return Err(PullStop::Unfinished),
+            Err(RunOrRange::Run(RunFault::Behind)) => extend(rt, alloc, lock, pass)?,
+            Err(fault) => return Err(PullStop::Pull(fault)),
         }
     }
-    None
+    Err(PullStop::Unfinished)
 }
 
 /// A client comes, registered by a worker that comes and leaves, and submits.
@@ -238,9 +258,7 @@ fn come<S: Setup, R: Wait>(
         return Err(Fail::new("a worker that leaves"));
     }
     for token in 0..REQUESTS {
-        if submit(rt, lock, pass, &mut client, token).is_err() {
-            return Err(Fail::new("a request that is queued"));
-        }
+        submit(rt, lock, pass, &mut client, token)?;
     }
     Ok(())
 }
@@ -280,14 +298,14 @@ fn come_amid_pulls<S: Setup + Send + Sync, R: Threads + Wait + Sync>(
     puller: &mut WorkerPass<S>,
     submitter: &mut WorkerPass<S>,
     mint: &mut Mint<S>,
-) -> Result<Option<u32>, Fail> {
+) -> Result<u32, Fail> {
     let (granted, came) = thread::join(
         rt,
         move || pull_all(rt, alloc, lock, puller),
         move || come_and_close(rt, alloc, lock, submitter, mint),
     );
     came?;
-    Ok(granted)
+    Ok(granted?)
 }
 
 /// What a settled book has of all workers: the requests that are left, the events, and the calls and grants.
@@ -321,7 +339,7 @@ fn come_with<S: Setup + Send + Sync, R: Threads + Wait + Sync>(
     lock: &Lock<S>,
     puller: &mut WorkerPass<S>,
     mint: &mut Mint<S>,
-) -> Result<(Option<u32>, WorkerPass<S>), Fail> {
+) -> Result<(u32, WorkerPass<S>), Fail> {
     let mut submitter = lock.enrol(rt, alloc, EIGHT, mint)?;
     let granted = come_amid_pulls(rt, alloc, lock, puller, &mut submitter, mint)?;
     Ok((granted, submitter))
@@ -345,7 +363,7 @@ fn came<S: Setup + Send + Sync, R: Threads + Wait + Sync>(
     rt: &R,
     alloc: Global,
     blank: Blank,
-) -> Result<(Option<u32>, Totals), Fail>
+) -> Result<(u32, Totals), Fail>
     requires { blank.name ≡ S.name }
 {
     let mut mint = blank.open::<S>();
@@ -365,6 +383,6 @@ fn came<S: Setup + Send + Sync, R: Threads + Wait + Sync>(
 fn come_and_go_amid_pulls(rt: HostRuntime) -> Result<(), Fail> {
     let answer = came::<Brand, HostRuntime>(&rt, rt.alloc(), Blank::new(100))?;
     // 4 registrations, 40 submits, 40 grants and the last pull
-    assert_same(&rt, &answer, &(Some(40), (0, 85, 85, 40)));
+    assert_same(&rt, &answer, &(40, (0, 85, 85, 40)));
     Ok(())
 }

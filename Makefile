@@ -33,6 +33,10 @@ demo:
 examples:
 	scripts/examples
 
+# A server in threads for a million events: whether each replays, and whether its memory grows. bench/soak.sh EVENTS takes more.
+soak:
+	bench/soak.sh 1000000
+
 # Every crate's tests with each allocation refused in turn. It proves nothing.
 refusals:
 	scripts/refusals
@@ -78,4 +82,4 @@ planner:
 picture:
 	scripts/picture examples/three_clients.script > docs/grants.svg
 
-.PHONY: help program test gate check quick demo examples refusals c install uninstall dist packages nbd planner picture
+.PHONY: help program test gate check quick demo examples soak refusals c install uninstall dist packages nbd planner picture

@@ -1,16 +1,22 @@
 /* Preloaded into a program: its Nth call of malloc or realloc fails, where REFUSE_NTH is N, and its Nth thread is not
-   started, where REFUSE_THREAD is N. At a normal end it writes how many such calls there were to the file that REFUSE_COUNT
-   names. */
+   started, where REFUSE_THREAD is N. How many such calls there are is kept in the file that REFUSE_COUNT names, as two numbers of
+   64 bits, however the program ends. */
 #define _GNU_SOURCE
 #include <dlfcn.h>
 #include <errno.h>
+#include <fcntl.h>
 #include <pthread.h>
 #include <stdatomic.h>
 #include <stddef.h>
-#include <stdio.h>
 #include <stdlib.h>
+#include <sys/mman.h>
+#include <unistd.h>
 
-static atomic_ulong allocations, threads;
+struct counts {
+    atomic_ulong allocations, threads;
+};
+
+static struct counts own, *counts = &own;
 
 static unsigned long wanted(const char *name)
 {
@@ -20,7 +26,7 @@ static unsigned long wanted(const char *name)
 
 static int is_refused(void)
 {
-    return atomic_fetch_add(&allocations, 1) + 1 == wanted("REFUSE_NTH");
+    return atomic_fetch_add(&counts->allocations, 1) + 1 == wanted("REFUSE_NTH");
 }
 
 void *malloc(size_t size)
@@ -38,18 +44,21 @@ void *realloc(void *at, size_t size)
 int pthread_create(pthread_t *thread, const pthread_attr_t *attr, void *(*start)(void *), void *arg)
 {
     int (*next)(pthread_t *, const pthread_attr_t *, void *(*)(void *), void *) = dlsym(RTLD_NEXT, "pthread_create");
-    if (atomic_fetch_add(&threads, 1) + 1 == wanted("REFUSE_THREAD"))
+    if (atomic_fetch_add(&counts->threads, 1) + 1 == wanted("REFUSE_THREAD"))
         return EAGAIN;
     return next(thread, attr, start, arg);
 }
 
-__attribute__((destructor)) static void report(void)
+__attribute__((constructor)) static void keep_counts(void)
 {
     const char *path = getenv("REFUSE_COUNT");
-    unsigned long made = atomic_load(&allocations), started = atomic_load(&threads);
-    FILE *file = path ? fopen(path, "w") : NULL;
-    if (file) {
-        fprintf(file, "%lu %lu\n", made, started);
-        fclose(file);
-    }
+    int file = path ? open(path, O_RDWR | O_CREAT, 0600) : -1;
+    if (file < 0 || ftruncate(file, sizeof own) != 0)
+        return;
+    struct counts *kept = mmap(NULL, sizeof own, PROT_READ | PROT_WRITE, MAP_SHARED, file, 0);
+    if (kept == MAP_FAILED)
+        return;
+    atomic_store(&kept->allocations, atomic_load(&own.allocations));
+    atomic_store(&kept->threads, atomic_load(&own.threads));
+    counts = kept;
 }

@@ -40,6 +40,8 @@ pub enum Kind {
     LockedQueue,
     /// Three such loads in one process.
     WarmQueue,
+    /// Such a load, in which the lock's events are released in segments.
+    RotatedQueue,
     /// The lock, shared by threads.
     SharedQueue,
     /// A sorted vector as an index.
@@ -85,6 +87,7 @@ fn kind_of(word: &str) -> Result<Kind, Fault> {
         "alone" => Ok(Kind::LoneQueue),
         "locked" => Ok(Kind::LockedQueue),
         "warm" => Ok(Kind::WarmQueue),
+        "rotated" => Ok(Kind::RotatedQueue),
         "shared" => Ok(Kind::SharedQueue),
         "list-index" => Ok(Kind::ListIndex),
         "heap-index" => Ok(Kind::HeapIndex),
@@ -157,7 +160,7 @@ fn run_any<T: Tag, I: Indexes<T>, R: Wait>(
     load: Load,
 ) -> Result<u64, Fault> {
     match load.kind {
-        Kind::LockedQueue => run_locked::<T, I, R>(rt, waiter, load),
+        Kind::LockedQueue | Kind::RotatedQueue => run_locked::<T, I, R>(rt, waiter, load),
         Kind::WarmQueue => run_warm::<T, I, R>(rt, waiter, load),
         Kind::DeepQueue | Kind::LoneQueue => run_one::<T, I>(rt, load),
         _ => run_indexed::<T, I>(rt, load),

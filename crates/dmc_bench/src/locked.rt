@@ -5,7 +5,7 @@ use crate::cluster::{
     Client, Clients, open_clients, open_lock, pull, register_all, respond, stamp, submit,
 };
 use crate::fault::Fault;
-use crate::load::{Load, mixed};
+use crate::load::{Kind, Load, mixed};
 use crate::queues::pull_all;
 use crate::watch::{add_since, print, start};
 use dmc_book::pass::WorkerPass;
@@ -120,8 +120,28 @@ fn serve_batches<T: Tag, I: Indexes<T>, S: Setup, R: Wait>(
         let at = moment_of(batch)?;
         taken = serve_batch(rt, waiter, lock, pass, clients, at, taken, &mut granted)?;
         granted.clear();
+        if load.kind == Kind::RotatedQueue {
+            release(waiter, lock, load.clients, batch);
+        }
     }
     Ok(taken)
+}
+
+/// How many requests there are about between two releases of events. Each is two events.
+const SEGMENT: u32 = 32_768;
+
+/// Releases the lock's events after a batch, where enough were recorded since the last time.
+#[inline(never)]
+fn release<T: Tag, I: Indexes<T>, S: Setup, R: Wait>(
+    waiter: &R,
+    lock: &QueueLock<T, I, S>,
+    clients: u32,
+    batch: u32,
+) {
+    let batches = SEGMENT.checked_div(clients).unwrap_or(0).max(1);
+    if batch.checked_rem(batches) == Some(0) {
+        drop(lock.rotate(waiter));
+    }
 }
 
 /// One batch.

@@ -27,7 +27,7 @@ fn main(rt: HostRuntime) -> ExitCode {
         Ok(()) => ExitCode::SUCCESS,
         Err(Fault::Usage) => {
             let _ = eprintln!(&rt;
-                "usage: dmc_bench plain|list|heap|deep|alone|locked|warm|shared|list-index|heap-index|ticks|ratios CLIENTS ROUNDS [LIMIT]"
+                "usage: dmc_bench plain|list|heap|deep|alone|locked|warm|rotated|shared|list-index|heap-index|ticks|ratios CLIENTS ROUNDS [LIMIT]"
             );
             ExitCode::from(2)
         }

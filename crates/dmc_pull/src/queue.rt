@@ -34,9 +34,6 @@ use dmc_types::refusal::{QueueFault, Refusal};
 use std::alloc::Global;
 use std::marker::Model;
 
-/// An index at which no client is registered.
-const NOWHERE: usize = usize::MAX;
-
 /// A part of a queue. In generic code a struct that is generic in indexes can be dropped only where such a part is behind a type
 /// parameter.
 #[derive(Drop)]
@@ -175,7 +172,7 @@ impl<T: Tag, I: Indexes<T>> Scheduler<T> for PullQueue<T, I> {
         params: ReqParams,
         at: Moment,
     ) -> Result<Tags<T>, QueueFault> {
-        self.add_request_with_hint(NOWHERE, client, token, params, at)
+        self.add_request_with_hint(client.0 as usize, client, token, params, at)
     }
 
     fn add_request_with_hint(

@@ -21,9 +21,6 @@ use slab::Slab;
 use std::alloc::{AllocError, Global};
 use std::marker::Model;
 
-/// An index at which no client is.
-const NOWHERE: usize = usize::MAX;
-
 /// The registered clients, in order of registration: an id, the key of its record, and the record. No two have one id or
 /// one key, and there are at most 65,536.
 #[derive(Drop)]
@@ -69,14 +66,14 @@ impl<T: Tag> Roster<T> {
         self.records.vacant_key()
     }
 
-    /// The key of a client's record.
+    /// The key of a client's record. Where clients are numbered 0, 1, .. as they register, it is found without a hash.
     pub fn find(&self, id: ClientId) -> Option<usize>
         ensures key { result ≡ option_map (λ e. e.key) (entries.entry_named id self.now.entries) }
         ensures entry { IfSome result (λ key. entries.entry_keyed key self.now.entries ≡ entries.entry_named id self.now.entries) }
         ensures held { IfSome result (λ key. is_some (entries.entry_keyed key self.now.entries) ≡ true) }
         ensures distinct { entries.AreDistinct self.now.entries }
     {
-        self.find_with_hint(id, NOWHERE)
+        self.find_with_hint(id, id.0 as usize)
     }
 
     /// The key of a client's record, with a hint: the client may be the one at the index `hint`, in order of registration,

@@ -5,7 +5,7 @@ ghost use Rattle.dmc_any_queue.specs.AnyState.{opening_with, Shows, AnySteps, cl
 ghost use Rattle.dmc_pull.specs.Queue.{state_of};
 
 use crate::fraction::{AsFraction, TagFraction, in_fractions};
-use dmc_heap::indexed_heap::HeapIndexes;
+use dmc_heap::adaptive_index::HeapIndexes;
 use dmc_index::index::Indexes;
 use dmc_pull::queue::PullQueue;
 use dmc_ratio::ratio::RatioTag;

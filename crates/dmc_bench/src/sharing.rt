@@ -6,7 +6,7 @@ use crate::fault::Fault;
 use crate::load::Load;
 use crate::watch::{add_since, print, start};
 use dmc_book::pass::WorkerPass;
-use dmc_heap::indexed_heap::HeapIndexes;
+use dmc_heap::adaptive_index::HeapIndexes;
 use dmc_index::index::Indexes;
 use dmc_ledger::mint::{Blank, Mint};
 use dmc_ledger::setup::Setup;

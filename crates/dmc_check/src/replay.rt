@@ -10,7 +10,7 @@ ghost use Rattle.dmc_check.specs.internal.Verdicts.{verdict_of};
 
 use crate::check::Verdict;
 use crate::same::is_same_reply;
-use dmc_heap::indexed_heap::HeapIndexes;
+use dmc_heap::adaptive_index::HeapIndexes;
 use dmc_pull::queue::PullQueue;
 use dmc_tag::event::Event;
 use dmc_tag::scheduler::Scheduler;

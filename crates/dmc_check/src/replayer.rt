@@ -9,7 +9,7 @@ ghost use Rattle.dmc_check.specs.Verdicts.{IsVerdict};
 use crate::check::Verdict;
 use crate::ghost_list::GhostList;
 use crate::replay::Replay;
-use dmc_heap::indexed_heap::HeapIndexes;
+use dmc_heap::adaptive_index::HeapIndexes;
 use dmc_ledger::setup::Setup;
 use dmc_pull::queue::PullQueue;
 use dmc_queue_history::list::EventList;

@@ -8,7 +8,7 @@ ghost use Rattle.dmc_pull.specs.Queue.{state_of};
 use crate::cluster::Cluster;
 use crate::event::{CoreEvent, CoreFault, CoreReply};
 use crate::opening::open_cluster;
-use dmc_heap::indexed_heap::HeapIndexes;
+use dmc_heap::adaptive_index::HeapIndexes;
 use dmc_pull::queue::PullQueue;
 use dmc_scene::scene::Scene;
 use dmc_tag::scheduler::Scheduler;

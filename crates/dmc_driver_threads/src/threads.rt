@@ -9,7 +9,7 @@ use crate::origin::{AsOpened, Origin};
 use crate::server_worker::{ServerJob, run_server, stop_all};
 use crate::service::Service;
 use dmc_book::book::QueueBook;
-use dmc_heap::indexed_heap::HeapIndexes;
+use dmc_heap::adaptive_index::HeapIndexes;
 use dmc_ledger::setup::Setup;
 use dmc_tag::tag::Tag;
 use std::sync::Wait;

@@ -12,7 +12,7 @@ use crate::remains::Remains;
 use crate::service::Service;
 use crate::threads::run_all;
 use dmc_book::book::QueueBook;
-use dmc_heap::indexed_heap::HeapIndexes;
+use dmc_heap::adaptive_index::HeapIndexes;
 use dmc_ledger::mint::Mint;
 use dmc_scene::scene::Scene;
 use dmc_tag::tag::Tag;

@@ -4,9 +4,8 @@ ghost use Rattle.std.specs.List.{All};
 ghost use Rattle.dmc_heap.specs.declared.indexed_heap.Entry.{Entry};
 ghost use Rattle.dmc_heap.specs.internal.Heap.{IsHole, IsMoved, IsUnderParent, IsOverChildren, IsLowerChild, IsSettled, MapsEntries};
 
-use dmc_index::index::{Indexes, OrderIndex};
-use dmc_tag::rank::{LimitRank, Rank, ReadyRank, TagRank};
-use dmc_tag::tag::Tag;
+use dmc_index::index::OrderIndex;
+use dmc_tag::rank::Rank;
 use std::alloc::{AllocError, Global};
 use std::marker::Model;
 
@@ -129,6 +128,16 @@ fn settle<R: Rank>(heap: &mut [Entry<R>], places: &mut [usize], at: usize, entry
     put(heap, places, place, entry);
 }
 
+// Fills the hole at a leaf with the entry, once it was moved up as far as the entry belongs.
+fn settle_leaf<R: Rank>(heap: &mut [Entry<R>], places: &mut [usize], at: usize, entry: Entry<R>)
+    requires hole { IsHole R.cmp heap.old places.old at entry }
+    requires leaf { length heap.old / 2 ≤ at }
+    ensures { IsSettled R.cmp heap.old places.old at entry heap.new places.new }
+{
+    let place = rise(heap, places, at, entry);
+    put(heap, places, place, entry);
+}
+
 // Maps each rank.
 fn map_entries<R: Rank, F: Fn(R) -> R>(entries: &mut [Entry<R>], f: F)
     requires { All (λ entry. F.pre f entry.rank) entries.old }
@@ -161,7 +170,7 @@ impl<R: Rank> OrderIndex<R> for IndexedHeap<R> {
         let at = self.heap.len();
         let entry = Entry { rank, key };
         self.heap.push(entry).unwrap();
-        settle(&mut self.heap, &mut self.places, at, entry);
+        settle_leaf(&mut self.heap, &mut self.places, at, entry);
     }
 
     fn change(&mut self, key: usize, rank: R) {
@@ -198,16 +207,4 @@ impl<R: Rank> OrderIndex<R> for IndexedHeap<R> {
     fn len(&self) -> usize {
         self.heap.len()
     }
-}
-
-/// The three indexes of a queue as heaps.
-#[derive(Drop)]
-pub struct HeapIndexes;
-
-impl<T: Tag> Indexes<T> for HeapIndexes {
-    type ReservationIndex = IndexedHeap<TagRank<T>>;
-
-    type LimitIndex = IndexedHeap<LimitRank<T>>;
-
-    type WeightIndex = IndexedHeap<ReadyRank<T>>;
 }

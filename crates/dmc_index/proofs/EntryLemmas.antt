@@ -90,7 +90,7 @@ All-remove P xs i l h k d m =
 
 -- ---- cases
 
-less_from : (r s : Ordering) → s ≡ ordering_reverse r → r ≢ Equal → s ≢ Less → r ≡ Less
+pub less_from : (r s : Ordering) → s ≡ ordering_reverse r → r ≢ Equal → s ≢ Less → r ≡ Less
 less_from Less s e p q = refl
 less_from Equal s e p q = absurd (p refl)
 less_from Greater s e p q = absurd (q e)

@@ -3,3 +3,4 @@
 
 pub mod index;
 pub mod list_index;
+pub mod sliding_index;

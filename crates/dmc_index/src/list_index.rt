@@ -14,9 +14,9 @@ use std::marker::Model;
 
 /// A key and its rank.
 #[derive(Copy)]
-struct Entry<R> {
-    rank: R,
-    key: usize,
+pub(crate) struct Entry<R> {
+    pub(crate) rank: R,
+    pub(crate) key: usize,
 }
 
 impl<R: Copy> Clone for Entry<R> {
@@ -48,7 +48,7 @@ impl<R: Rank> Model for ListIndex<R> {
 }
 
 // The index of a key.
-fn place_of<R>(entries: &[Entry<R>], key: usize) -> Option<usize>
+pub(crate) fn place_of<R>(entries: &[Entry<R>], key: usize) -> Option<usize>
     ensures { result ≡ position (λ entry. entry.key == key) entries.now }
 {
     entries.iter().position(|entry| entry.key == key)
@@ -64,7 +64,7 @@ fn place_for<R: Rank>(entries: &[Entry<R>], rank: R) -> usize
 }
 
 // Maps each rank.
-fn map_entries<R: Rank, F: Fn(R) -> R>(entries: &mut [Entry<R>], f: F)
+pub(crate) fn map_entries<R: Rank, F: Fn(R) -> R>(entries: &mut [Entry<R>], f: F)
     requires { All (λ entry. F.pre f entry.rank) entries.old }
     ensures { MapsEntries (F.post f) entries.old entries.new }
 {

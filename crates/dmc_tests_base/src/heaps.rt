@@ -1,10 +1,12 @@
-//! The worked examples of an index, over the sorted vector and the heap.
+//! The worked examples of an index, over each kind of index.
 ghost use Rattle.std.specs.Prelude.{◌≡◌, [], Some};
 
 use crate::same::assert_same;
+use dmc_heap::adaptive_index::AdaptiveIndex;
 use dmc_heap::indexed_heap::IndexedHeap;
 use dmc_index::index::OrderIndex;
 use dmc_index::list_index::ListIndex;
+use dmc_index::sliding_index::SlidingIndex;
 use dmc_tag::rank::TagRank;
 use dmc_types::ids::ClientId;
 use std::alloc::Global;
@@ -83,11 +85,15 @@ fn order_of<I: OrderIndex<TagRank<u64>>>(rt: &impl Abort, alloc: Global) -> Resu
 #[test]
 fn index_calls(rt: HostRuntime) -> Result<(), Fail> {
     calls_over::<ListIndex<TagRank<u64>>>(&rt, rt.alloc())?;
-    calls_over::<IndexedHeap<TagRank<u64>>>(&rt, rt.alloc())
+    calls_over::<SlidingIndex<TagRank<u64>>>(&rt, rt.alloc())?;
+    calls_over::<IndexedHeap<TagRank<u64>>>(&rt, rt.alloc())?;
+    calls_over::<AdaptiveIndex<TagRank<u64>>>(&rt, rt.alloc())
 }
 
 #[test]
 fn heap_order(rt: HostRuntime) -> Result<(), Fail> {
     order_of::<ListIndex<TagRank<u64>>>(&rt, rt.alloc())?;
-    order_of::<IndexedHeap<TagRank<u64>>>(&rt, rt.alloc())
+    order_of::<SlidingIndex<TagRank<u64>>>(&rt, rt.alloc())?;
+    order_of::<IndexedHeap<TagRank<u64>>>(&rt, rt.alloc())?;
+    order_of::<AdaptiveIndex<TagRank<u64>>>(&rt, rt.alloc())
 }

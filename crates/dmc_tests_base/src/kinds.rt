@@ -4,7 +4,7 @@ use crate::heads::{changes_over, marks_over};
 use crate::indexes::indexed_clients_over;
 use crate::limits::limits_over;
 use crate::runs::five_commands_over;
-use dmc_heap::indexed_heap::HeapIndexes;
+use dmc_heap::adaptive_index::HeapIndexes;
 use dmc_index::index::Indexes;
 use dmc_index::list_index::ListIndexes;
 use dmc_tick::tick::TickTag;

@@ -6,9 +6,11 @@ use crate::failures::Failures;
 use crate::heaps::rank;
 use crate::rosters::{is_registered, new_record};
 use crate::same::assert_same;
+use dmc_heap::adaptive_index::AdaptiveIndex;
 use dmc_heap::indexed_heap::IndexedHeap;
 use dmc_index::index::OrderIndex;
 use dmc_index::list_index::ListIndex;
+use dmc_index::sliding_index::SlidingIndex;
 use dmc_roster::roster::Roster;
 use dmc_tag::rank::TagRank;
 use dmc_tick::tick::TickTag;
@@ -65,7 +67,9 @@ fn grown_over<I: OrderIndex<TagRank<u64>>>(rt: &impl Abort, alloc: Global) -> Re
 #[test]
 fn grown_indexes(rt: HostRuntime) -> Result<(), Fail> {
     grown_over::<ListIndex<TagRank<u64>>>(&rt, rt.alloc())?;
-    grown_over::<IndexedHeap<TagRank<u64>>>(&rt, rt.alloc())
+    grown_over::<SlidingIndex<TagRank<u64>>>(&rt, rt.alloc())?;
+    grown_over::<IndexedHeap<TagRank<u64>>>(&rt, rt.alloc())?;
+    grown_over::<AdaptiveIndex<TagRank<u64>>>(&rt, rt.alloc())
 }
 
 /// Registers a client. Returns whether it is registered, which it is not where an allocation failed.

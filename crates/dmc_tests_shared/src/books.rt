@@ -9,7 +9,7 @@ use crate::opening::{
 use dmc_book::book::QueueBook;
 use dmc_book::pass::WorkerPass;
 use dmc_book::status::Status;
-use dmc_heap::indexed_heap::HeapIndexes;
+use dmc_heap::adaptive_index::HeapIndexes;
 use dmc_index::index::Indexes;
 use dmc_ledger::bundle::StampTills;
 use dmc_ledger::mint::{Blank, Mint};

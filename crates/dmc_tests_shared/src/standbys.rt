@@ -10,7 +10,7 @@ use dmc_check::check::Verdict;
 use dmc_check::replayer::Replayer;
 use dmc_check::text::check_text;
 use dmc_check::write::write_segment;
-use dmc_heap::indexed_heap::HeapIndexes;
+use dmc_heap::adaptive_index::HeapIndexes;
 use dmc_ledger::mint::Blank;
 use dmc_ledger::setup::Setup;
 use dmc_plain::queue::PlainQueue;

@@ -1,5 +1,5 @@
 //! The queue that scripts run on.
-use dmc_heap::indexed_heap::HeapIndexes;
+use dmc_heap::adaptive_index::HeapIndexes;
 use dmc_pull::queue::PullQueue;
 use dmc_tag::tag::Tag;
 use dmc_text::script::QueueMaker;

@@ -6,7 +6,7 @@ pub mod locks;
 
 pub use dmc_check::check::{Verdict, check};
 pub use dmc_check::replayer::{ReplayFault, Replayer};
-use dmc_heap::indexed_heap::HeapIndexes;
+use dmc_heap::adaptive_index::HeapIndexes;
 pub use dmc_history::{History, LimitFault, ReserveFault};
 pub use dmc_index::index::{Indexes, OrderIndex};
 pub use dmc_pull::granting::{GrantTest, PullFault};

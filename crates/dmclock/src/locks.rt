@@ -9,7 +9,7 @@ pub use dmc_book::pass::WorkerPass;
 pub use dmc_book::seat::Seat;
 pub use dmc_book::settled::{GrantsHeld, Settled};
 pub use dmc_book::status::Status;
-use dmc_heap::indexed_heap::HeapIndexes;
+use dmc_heap::adaptive_index::HeapIndexes;
 pub use dmc_ledger::bundle::StampTills;
 pub use dmc_ledger::desk::{ClientDesk, ServerDesk, close_pair, open_pair};
 pub use dmc_ledger::full::Full;

@@ -5,7 +5,7 @@ use super::calls::{must_register, pull, respond, submit};
 use super::setup::{Client, Clients, TWO, open, open_clients};
 use crate::opening::{LONG, ONE, SEVEN, ZERO, open_book, wait_config};
 use dmc_book::pass::WorkerPass;
-use dmc_heap::indexed_heap::HeapIndexes;
+use dmc_heap::adaptive_index::HeapIndexes;
 use dmc_index::index::Indexes;
 use dmc_ledger::mint::{Blank, Mint};
 use dmc_ledger::setup::Setup;

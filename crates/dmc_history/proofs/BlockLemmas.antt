@@ -5,7 +5,7 @@ use Rattle.std.specs.Global.{Vec}
 use Rattle.std.proofs.lemmas.List.{length-append, append-nil, nil_from_length}
 use Rattle.std.proofs.lemmas.Bool.{cases_lt}
 use Rattle.std.proofs.lemmas.Option.{slice_get_past}
-use Rattle.dmc_history.specs.Log.{block_size}
+use Rattle.dmc_history.specs.Log.{EndSlots, block_size}
 use Rattle.dmc_history.specs.Blocks.{events_of, room_of, AreFilled}
 
 -- an element of the first of two lists
@@ -113,11 +113,11 @@ module _ {E : Type 0} where
       let longer : length b.items ≡ length (get_or blocks (len / 1024) d).items + 1 = rw is (length-append _ _) in
       AreFilled-set_in blocks len (len / 1024) (len % 1024) d b h (omega arith) (omega arith) (omega arith) longer holds
 
-  -- a new block, where all are full
-  pub AreFilled-push : (blocks : List (Vec E)) (len : ℕ) (b : Vec E) → AreFilled blocks len → len ≡ 1024 * length blocks
+  -- a new block at the end
+  pub AreFilled-push : (blocks : List (Vec E)) (len : ℕ) (b : Vec E) → AreFilled blocks len → len ≤ 1024 * length blocks
       → b.items ≡ [] → 1024 ≤ vec_capacity b → AreFilled (blocks ++ b ∷ []) len
-  AreFilled-push [] len b h full empty holds = (holds, (rw empty (omega (arith, h))), omega (arith, h))
-  AreFilled-push (a ∷ bs) len b h full empty holds =
+  AreFilled-push [] len b h within empty holds = (holds, (rw empty (omega (arith, h))), omega (arith, h))
+  AreFilled-push (a ∷ bs) len b h within empty holds =
       (h.0, h.1, AreFilled-push bs (len - 1024) b h.2 (omega arith) empty holds)
 
   -- it has no event yet
@@ -125,7 +125,17 @@ module _ {E : Type 0} where
   events_of-push [] b empty = rw empty refl
   events_of-push (a ∷ bs) b empty = ap (λ events. a.items ++ events) (events_of-push bs b empty)
 
-  -- it makes a whole block of slots, or as many as may still be filled
-  pub room_of-push : (blocks : List (Vec E)) (b : Vec E) (len most : ℕ) → len ≡ 1024 * length blocks → len ≤ most
-      → room_of (blocks ++ b ∷ []) len most ≡ min block_size (most - len)
-  room_of-push blocks b len most full within = omega (arith, length-append blocks (b ∷ []))
+  -- where more may be filled, it makes a whole block of slots, or as many as may be
+  pub room_of-push : (blocks : List (Vec E)) (b : Vec E) (len most : ℕ) → len ≤ 1024 * length blocks → len + room_of blocks len most < most
+      → room_of (blocks ++ b ∷ []) len most ≡ min (room_of blocks len most + block_size) (most - len)
+  room_of-push blocks b len most within fewer = omega (arith, length-append blocks (b ∷ []))
+
+  -- the slots end with a block, or at the most events
+  pub slots_end : (blocks : List (Vec E)) (len most : ℕ) → len ≤ 1024 * length blocks → len ≤ most
+      → EndSlots (len + room_of blocks len most) most
+  slots_end blocks len most within fewer = elim (cases_lt most (1024 * length blocks)) [
+    | inl past ↦ inr (omega arith)
+    | inr before ↦
+        (let end : len + room_of blocks len most ≡ 1024 * length blocks = omega arith in
+        inl (rw end (omega arith)))
+  ]

@@ -4,7 +4,7 @@
 ghost use Rattle.std.specs.Prelude.{◌≡◌, ◌↔◌, ◌+◌, ◌-◌, ◌<◌, ◌≤◌, [], ◌∷◌, ◌++◌, length, IsTrue, OnOk, OnErr, IsErrOf, IsOk, min, option_copied, slice_get, vec_capacity};
 ghost use Rattle.std.specs.Global.{Vec};
 ghost use Rattle.dmc_types.specs.Limits.{max_events};
-ghost use Rattle.dmc_history.specs.Log.{block_size};
+ghost use Rattle.dmc_history.specs.Log.{EndSlots, block_size};
 
 pub use dmc_tag::event::Event;
 use dmc_types::limits::MAX_EVENTS;
@@ -13,8 +13,8 @@ use std::marker::Model;
 use std::mem::replace;
 use thiserror::Error;
 
-// The number of slots in a block.
-const BLOCK: usize = 1024;
+/// The number of slots in a block.
+pub const BLOCK: usize = 1024;
 
 /// A history that could not be made: `most` was not 1 to 2^30.
 #[derive(Clone, Copy, Debug, PartialEq, Eq, Error)]
@@ -113,10 +113,11 @@ impl<E: Drop> History<E> {
         self.most
     }
 
-    /// The number of reserved slots.
+    /// The number of reserved slots. They end with a block, or where the history has its `most` events.
     pub fn room(&self) -> usize
         ensures value { result ≡ self.now.room }
         ensures bound { length self.now.events + result ≤ self.now.most }
+        ensures whole { EndSlots (length self.now.events + result) self.now.most }
     {
         let places = self.blocks.len().saturating_mul(BLOCK);
         places.min(self.most as usize) - self.len
@@ -150,6 +151,34 @@ impl<E: Drop> History<E> {
             return Err(ReserveFault::HistoryFull);
         }
         if self.len / BLOCK == self.blocks.len() {
+            add_block(self.alloc, &mut self.blocks)?;
+        }
+        Ok(())
+    }
+
+    /// Makes sure that `n` slots are reserved, at most a block of them, for the next `n` pushes. It is refused `HistoryFull`
+    /// exactly where the history may not have `n` events more, and then `Memory` where an allocation failed. Where `n` slots are
+    /// reserved already, nothing is allocated; where fewer are, one block is.
+    pub fn reserve(&mut self, n: usize) -> Result<(), ReserveFault>
+        requires { n ≤ block_size }
+        ensures ok { OnOk result (n ≤ self.new.room) }
+        ensures fewer { OnOk result (length self.old.events + n ≤ self.old.most) }
+        ensures block { OnOk result (self.old.room < n
+            → self.new.room ≡ min (self.old.room + block_size) (self.old.most - length self.old.events)) }
+        ensures full { IsErrOf result ReserveFault.HistoryFull ↔ (self.old.most < length self.old.events + n) }
+        ensures reserved { n ≤ self.old.room → IsOk result }
+
+        // The events stay, whatever the result, and so do the slots that were reserved.
+        ensures events { self.new.events ≡ self.old.events }
+        ensures most { self.new.most ≡ self.old.most }
+        ensures kept { n ≤ self.old.room → self.new.room ≡ self.old.room }
+        ensures grows { self.old.room ≤ self.new.room }
+        ensures err { OnErr result (self.new.room ≡ self.old.room) }
+    {
+        if n > self.most as usize - self.len {
+            return Err(ReserveFault::HistoryFull);
+        }
+        if self.room() < n {
             add_block(self.alloc, &mut self.blocks)?;
         }
         Ok(())

@@ -12,8 +12,7 @@ returns-then-self-clause-full g c =
 pub invariant_of-self : goal.invariant_of-self
 invariant_of-self g c =
     let (b, added, empty, memory) = c.in_ok-add_block.ensures.ok in
-    let bound = len-le _ _ c.self.invariant.0 in
-    (rw added (AreFilled-push _ _ b c.self.invariant.0 (omega arith) empty memory), c.self.invariant.1)
+    (rw added (AreFilled-push _ _ b c.self.invariant.0 (len-le _ _ c.self.invariant.0) empty memory), c.self.invariant.1)
 
 pub returns-in_err-add_block-clause-full : goal.returns-in_err-add_block-clause-full
 returns-in_err-add_block-clause-full g c =
@@ -41,7 +40,7 @@ returns-in_ok-add_block-clause-block g c =
     let (b, added, empty, memory) = c.in_ok-add_block.ensures.ok in
     let counted = length-events_of _ _ c.self.invariant.0 in
     let bound = len-le _ _ c.self.invariant.0 in
-    rw (← c.self.view_is, added, counted) (λ none. room_of-push _ b _ _ (omega arith) (omega arith))
+    rw (← c.self.view_is, added, counted) (λ none. omega (arith, room_of-push _ b _ c.self.inside.most bound (omega arith)))
 
 pub returns-in_ok-add_block-clause-full : goal.returns-in_ok-add_block-clause-full
 returns-in_ok-add_block-clause-full g c =

@@ -1,13 +1,14 @@
 -- The events at places, and an event more.
-use Rattle.std.proofs.Common.{◌≡◌, ℕ, zero, suc, ◌+◌, ◌-◌, ◌<◌, ◌≤◌, List, [], ◌∷◌, ◌++◌, length, refl, ap, sym, ◌∙◌, arith, subst, Option, Some, None, true}
+use Rattle.std.proofs.Common.{◌≡◌, ℕ, zero, suc, ◌+◌, ◌-◌, ◌<◌, ◌≤◌, List, [], ◌∷◌, ◌++◌, length, refl, ap, sym, ◌∙◌, arith, subst, Option, Some, None, true, inl, inr, min}
 use Rattle.std.specs.Prelude.{is_some, slice_get, option_to_list, option_and_then}
 use Rattle.std.specs.List.{AllByRecursion}
 use Rattle.std.proofs.lemmas.Grind.{flat_map-append}
+use Rattle.std.proofs.lemmas.Bool.{cases_lt}
 use Rattle.std.proofs.lemmas.List.{length-append}
 use Rattle.dmc_types.specs.Limits.{max_events}
 use Rattle.dmc_tag.specs.declared.event.Event.{Event}
 use Rattle.dmc_tag.specs.Tag.{Tagging}
-use Rattle.dmc_history.specs.Log.{Log}
+use Rattle.dmc_history.specs.Log.{EndSlots, FillBlocks, Log, block_size}
 use Rattle.dmc_queue_history.specs.declared.lists.Lists.{Lists}
 use Rattle.dmc_queue_history.specs.Kept.{Adds, HaveMost, IsKept, Kept, count, event_at, events_at, kept_of, least_room}
 
@@ -30,6 +31,27 @@ first None xs h = absurd (grind arith)
 later : {X : Type 0} (o : Option X) (xs : List X) (i : ℕ) → is_some o ≡ true → slice_get (option_to_list o ++ xs) (suc i) ≡ slice_get xs i
 later (Some x) xs i h = refl
 later None xs i h = absurd (grind arith)
+
+-- ---- blocks of places
+
+-- the blocks are filled where no place is reserved, and more events may come
+pub filled : (count room most : ℕ) → EndSlots (count + room) most → room ≡ 0 → (count ≡ most → ⊥) → FillBlocks count
+filled count room most (inl whole) none fewer = omega (arith, whole, none)
+filled count room most (inr full) none fewer = absurd (fewer (omega (arith, full, none)))
+
+-- then the slots of the order are one block, or as many as may be
+pub one_block : (count most slots : ℕ) → FillBlocks count → EndSlots (count + slots) most → count + slots ≤ most → 0 < slots
+    → min slots block_size ≡ min block_size (most - count)
+one_block count most slots whole (inl end) within some = omega (arith, whole, end, within, some)
+one_block count most slots whole (inr end) within some = omega (arith, end)
+
+pub block_ends : (count most : ℕ) → FillBlocks count → count ≤ most → EndSlots (count + min block_size (most - count)) most
+block_ends count most whole within = elim (cases_lt most (count + block_size)) [
+  | inl short ↦ inr (omega arith)
+  | inr long ↦
+      (let end : count + min block_size (most - count) ≡ count + 1024 = omega arith in
+      inl (rw end (omega (arith, whole))))
+]
 
 module _ {T : Type 0} (ops : Tagging T) where
   pub length-events_at : (kept : Kept T) (places : List ℕ) → AreFound ops kept places → length (events_at ops kept places) ≡ length places
@@ -80,13 +102,17 @@ module _ {T : Type 0} (ops : Tagging T) where
         within = omega (arith, kept.within, longer, same, some);
         places_room = omega (arith, kept.places_room, used);
         lists_room = omega (arith, kept.lists_room, adds.room);
+        whole =
+            let end : length after.events + (room - 1) ≡ length before.events + room = omega (arith, longer, some) in
+            rw (end, same) kept.whole;
       }
 
   -- more places are reserved
   pub kept-reserved : (old new : Lists T) (before after : Log ℕ) (room more : ℕ) → IsKept ops old before room → kept_of new ≡ kept_of old
       → ((most : ℕ) → HaveMost old most → HaveMost new most) → after.events ≡ before.events → after.most ≡ before.most
-      → length before.events + more ≤ before.most → more ≤ after.room → more ≤ least_room new → IsKept ops new after more
-  kept-reserved old new before after room more kept same most events same_most within places_room lists_room = record {
+      → length before.events + more ≤ before.most → more ≤ after.room → more ≤ least_room new
+      → EndSlots (length before.events + more) before.most → IsKept ops new after more
+  kept-reserved old new before after room more kept same most events same_most within places_room lists_room whole = record {
     found = subst (λ (k : Kept T). AreFound ops k after.events) (sym same) (subst (λ (places : List ℕ). AreFound ops (kept_of old) places) (sym events) kept.found);
     counted = subst (λ (k : Kept T). count k ≡ length after.events) (sym same) (subst (λ (places : List ℕ). count (kept_of old) ≡ length places) (sym events) kept.counted);
     most = rw same_most (most before.most kept.most);
@@ -94,6 +120,7 @@ module _ {T : Type 0} (ops : Tagging T) where
     within = rw (events, same_most) within;
     places_room = places_room;
     lists_room = lists_room;
+    whole = rw (events, same_most) whole;
   }
 
   -- nothing is kept
@@ -107,4 +134,5 @@ module _ {T : Type 0} (ops : Tagging T) where
     within = rw none (omega arith);
     places_room = omega arith;
     lists_room = omega arith;
+    whole = inl (rw none refl);
   }

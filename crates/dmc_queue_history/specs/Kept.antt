@@ -7,7 +7,7 @@ use Rattle.dmc_types.specs.declared.command.Command.TheVariants as commands
 use Rattle.dmc_tag.specs.declared.event.Event.{Event}
 use Rattle.dmc_tag.specs.declared.reply.Reply.TheVariants as replies
 use Rattle.dmc_tag.specs.Tag.{Tagging}
-use Rattle.dmc_history.specs.Log.{Log}
+use Rattle.dmc_history.specs.Log.{EndSlots, Log}
 use Rattle.dmc_queue_history.specs.declared.kept.QueuedByWeight.{QueuedByWeight}
 use Rattle.dmc_queue_history.specs.declared.kept.Queued.{Queued}
 use Rattle.dmc_queue_history.specs.declared.kept.Granted.{Granted}
@@ -103,7 +103,8 @@ pub record Adds {T : Type 0} (ops : Tagging T) (old new : Lists T) (place : ℕ)
   pub most : (most : ℕ) → HaveMost old most → HaveMost new most
   pub room : least_room old ≤ least_room new + 1
 
--- Each place has an event, no list has another, and this number of events more has a place, whatever their form.
+-- Each place has an event, no list has another, and this number of events more has a place, whatever their form. These places
+-- end with a block, or at the most events.
 pub record IsKept {T : Type 0} (ops : Tagging T) (lists : Lists T) (places : Log ℕ) (room : ℕ) : Type 0 where
   pub found : AllByRecursion (λ place. is_some (event_at ops (kept_of lists) place) ≡ true) places.events
   pub counted : count (kept_of lists) ≡ length places.events
@@ -112,3 +113,4 @@ pub record IsKept {T : Type 0} (ops : Tagging T) (lists : Lists T) (places : Log
   pub within : length places.events + room ≤ places.most
   pub places_room : room ≤ places.room
   pub lists_room : room ≤ least_room lists
+  pub whole : EndSlots (length places.events + room) places.most

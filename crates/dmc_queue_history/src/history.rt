@@ -1,12 +1,13 @@
 //! The history of a queue: a list of events that only grows.
-ghost use Rattle.std.specs.Prelude.{◌≡◌, ◌↔◌, ◌+◌, ◌<◌, ◌≤◌, [], ◌∷◌, ◌++◌, length, IsTrue, OnOk, OnErr, IsErrOf, IsOk, slice_get};
+ghost use Rattle.std.specs.Prelude.{◌≡◌, ◌↔◌, ◌+◌, ◌-◌, ◌<◌, ◌≤◌, [], ◌∷◌, ◌++◌, length, min, IsTrue, OnOk, OnErr, IsErrOf, IsOk, slice_get};
 ghost use Rattle.dmc_types.specs.Limits.{max_events};
+ghost use Rattle.dmc_history.specs.Log.{FillBlocks, block_size};
 ghost use Rattle.dmc_types.specs.declared.command.Command.TheVariants as commands;
 ghost use Rattle.dmc_tag.specs.declared.reply.Reply.TheVariants as replies;
 
 use crate::kept::{Granted, Request, asked_to_add, asked_to_pull};
 use crate::lists::Lists;
-use dmc_history::{History, LimitFault, ReserveFault};
+use dmc_history::{BLOCK, History, LimitFault, ReserveFault};
 use dmc_tag::event::Event;
 use dmc_tag::reply::{Reply, Tags};
 use dmc_tag::tag::Tag;
@@ -92,11 +93,16 @@ impl<T: Tag> EventHistory<T> {
     }
 
     /// Reserves a place, which the next push uses: refused `HistoryFull` exactly where it has its `most` events, then
-    /// `Memory` where the allocator refused a growth. A place that is reserved already serves again, and needs no memory.
+    /// `Memory` where the allocator refused a growth. A place that is reserved already serves again, and needs no memory. Where
+    /// none is, a whole block of places is reserved: 1,024, or as many as it may still have. So `Memory` comes only where the
+    /// events fill their blocks.
     pub fn reserve_one(&mut self) -> Result<(), ReserveFault>
         ensures ok { OnOk result (0 < self.new.room) }
         ensures fewer { OnOk result (length self.old.events < self.old.most) }
+        ensures block { OnOk result (self.old.room ≡ 0
+            → self.new.room ≡ min block_size (self.old.most - length self.old.events)) }
         ensures full { IsErrOf result ReserveFault.HistoryFull ↔ (length self.old.events ≡ self.old.most) }
+        ensures memory { IsErrOf result ReserveFault.Memory → FillBlocks (length self.old.events) }
         ensures reserved { 0 < self.old.room → IsOk result }
 
         // The events stay, whatever the result, and so does a place that was there.
@@ -111,20 +117,23 @@ impl<T: Tag> EventHistory<T> {
         self.reserve_more()
     }
 
-    /// Reserves places, where none is.
+    /// Reserves a block of places, where none is. Each list gets as many: so the places end where those of the order do, at
+    /// every 1,024 events, whatever the forms of the events.
     #[inline(never)]
     fn reserve_more(&mut self) -> Result<(), ReserveFault>
         requires { self.old.room ≡ 0 }
-        ensures ok { OnOk result (0 < self.new.room) }
         ensures fewer { OnOk result (length self.old.events < self.old.most) }
+        ensures block { OnOk result (self.new.room ≡ min block_size (self.old.most - length self.old.events)) }
         ensures full { IsErrOf result ReserveFault.HistoryFull ↔ (length self.old.events ≡ self.old.most) }
+        ensures memory { IsErrOf result ReserveFault.Memory → FillBlocks (length self.old.events) }
         ensures events { self.new.events ≡ self.old.events }
         ensures most { self.new.most ≡ self.old.most }
         ensures err { OnErr result (self.new.room ≡ self.old.room) }
     {
         self.places.reserve_one()?;
-        self.lists.reserve_one()?;
-        self.room = self.places.room().min(self.lists.room());
+        let more = self.places.room().min(BLOCK);
+        self.lists.reserve(more)?;
+        self.room = more;
         Ok(())
     }
 

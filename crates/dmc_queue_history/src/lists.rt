@@ -1,8 +1,9 @@
 //! The lists of a history, one for each form of event.
-ghost use Rattle.std.specs.Prelude.{◌≡◌, ℕ, ◌<◌, ◌≤◌, [], OnOk, IsErrOf};
+ghost use Rattle.std.specs.Prelude.{◌≡◌, ℕ, ◌+◌, ◌<◌, ◌≤◌, [], OnOk, IsErrOf};
 ghost use Rattle.dmc_types.specs.Limits.{max_events};
 ghost use Rattle.dmc_types.specs.declared.command.Command.TheVariants as commands;
 ghost use Rattle.dmc_tag.specs.declared.reply.Reply.TheVariants as replies;
+ghost use Rattle.dmc_history.specs.Log.{block_size};
 ghost use Rattle.dmc_queue_history.specs.Kept.{Adds, HaveMost, count, event_at, event_of_granted, event_of_queued, event_of_queued_by_weight, kept_of, least_room};
 
 use crate::kept::{
@@ -57,25 +58,18 @@ impl<T: Tag> Lists<T> {
         }
     }
 
-    /// Makes sure that each list has a place for one more event.
-    pub(crate) fn reserve_one(&mut self) -> Result<(), ReserveFault>
-        ensures room { OnOk result (0 < least_room self.new) }
+    /// Makes sure that each list has places for `n` more events, at most a block of them.
+    pub(crate) fn reserve(&mut self, n: usize) -> Result<(), ReserveFault>
+        requires { n ≤ block_size }
+        ensures room { OnOk result (n ≤ least_room self.new) }
         ensures kept { kept_of self.new ≡ kept_of self.old }
         ensures most { (most : ℕ) → HaveMost self.old most → HaveMost self.new most }
-        ensures full { (most : ℕ) → HaveMost self.old most → IsErrOf result ReserveFault.HistoryFull → most ≤ count (kept_of self.old) }
+        ensures full { (most : ℕ) → HaveMost self.old most → IsErrOf result ReserveFault.HistoryFull → most < count (kept_of self.old) + n }
     {
-        self.by_weight.reserve_one()?;
-        self.queued.reserve_one()?;
-        self.granted.reserve_one()?;
-        self.others.reserve_one()
-    }
-
-    /// For how many more events each list has a place.
-    pub(crate) fn room(&self) -> usize
-        ensures { result ≡ least_room self.now }
-    {
-        let queued = self.by_weight.room().min(self.queued.room());
-        queued.min(self.granted.room().min(self.others.room()))
+        self.by_weight.reserve(n)?;
+        self.queued.reserve(n)?;
+        self.granted.reserve(n)?;
+        self.others.reserve(n)
     }
 
     /// Keeps a request that was queued, and answers its place.

@@ -4,6 +4,7 @@ ghost use Rattle.dmc_types.specs.Limits.{max_events};
 ghost use Rattle.dmc_types.specs.declared.command.Command.TheVariants as commands;
 ghost use Rattle.dmc_tag.specs.Replay.{replays};
 ghost use Rattle.dmc_tag.specs.declared.reply.Reply.TheVariants as replies;
+ghost use Rattle.dmc_history.specs.Log.{FillBlocks};
 ghost use Rattle.dmc_history.specs.Segments.{max_released};
 ghost use Rattle.dmc_queue_history.specs.Segmented.{MayRotate, after_rotating};
 
@@ -110,11 +111,13 @@ impl<T: Tag, S: Setup> SegmentedHistory<T, S> {
     }
 
     /// Reserves a place, which the next push uses: refused `HistoryFull` exactly where it keeps its `most` events, or was taken
-    /// out, then `Memory` where the allocator refused a growth. A place that is reserved already serves again.
+    /// out, then `Memory` where the allocator refused a growth. A place that is reserved already serves again. So `Memory`
+    /// comes only where the events that are kept fill their blocks of 1,024.
     pub fn reserve_one(&mut self) -> Result<(), ReserveFault>
         ensures ok { OnOk result (0 < self.new.room) }
         ensures fewer { OnOk result (length self.old.events < self.old.most) }
         ensures full { IsErrOf result ReserveFault.HistoryFull ↔ (length self.old.events ≡ self.old.most) }
+        ensures memory { IsErrOf result ReserveFault.Memory → FillBlocks (length self.old.events - self.old.first) }
         ensures kept { self.new ≡ record self.old { room = self.new.room } }
     {
         if self.taken {

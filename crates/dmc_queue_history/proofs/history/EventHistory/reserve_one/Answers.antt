@@ -1,4 +1,4 @@
-use Rattle.std.proofs.Common.{length, arith, rules}
+use Rattle.std.proofs.Common.{arith, rules}
 use Rattle.dmc_queue_history.specs.Kept.{kept_of}
 use Rattle.dmc_queue_history.proofs.Adding.{length-events_at}
 use Rattle.dmc_queue_history.proofs.history.EventHistory.reserve_one.Goals as goal

@@ -1,4 +1,4 @@
-use Rattle.std.proofs.Common.{◌≡◌, ◌≤◌, ℕ, length, arith, ap, sym, subst}
+use Rattle.std.proofs.Common.{◌≡◌, ◌≤◌, ℕ, arith, ap, sym, subst}
 use Rattle.dmc_types.specs.Limits.{max_events}
 use Rattle.dmc_queue_history.specs.Kept.{HaveMost, kept_of}
 use Rattle.dmc_queue_history.proofs.Adding.{length-events_at, kept-empty}

@@ -1,6 +1,6 @@
 -- What was answered or refused, of a command that is no Add.
-use Rattle.std.proofs.Common.{ℕ, zero, suc, ap, ◌≡◌, [], ◌∷◌, slice_index_or, ◌<◌, Bool, true, false, true≢false, List, length, Option, None, refl, sym, subst, ◌∙◌, Result, Ok, Err, arith}
-use Rattle.std.specs.Prelude.{◌==◌, ◌||◌, ◌↔◌, OnOk, OnErr, IfOk, if◌then◌else◌}
+use Rattle.std.proofs.Common.{ℕ, zero, suc, ap, ◌≡◌, [], ◌∷◌, slice_index_or, ◌<◌, Bool, true, false, true≢false, List, length, Option, None, refl, sym, subst, ◌∙◌, Result, Ok, Err, arith, inl, inr}
+use Rattle.std.specs.Prelude.{◌==◌, ◌||◌, ◌↔◌, ◌⊎◌, IsTrue, OnOk, OnErr, IfOk, if◌then◌else◌}
 use Rattle.std.specs.Cmp.{IsTotalOrder}
 use Rattle.std.specs.List.{AllByRecursion, list_any}
 use Rattle.std.proofs.lemmas.Bool.{eq-eqb, true_from_ne_false}
@@ -11,6 +11,7 @@ use Rattle.dmc_types.specs.declared.command.Command.{Command}
 use Rattle.dmc_types.specs.declared.command.Command.TheVariants.{Pull}
 use Rattle.dmc_tag.specs.Tag.{Tagging}
 use Rattle.dmc_tag.specs.State.{State}
+use Rattle.dmc_tag.specs.Steps.{may_grow}
 use Rattle.dmc_tag.specs.declared.reply.Pulled.{Pulled}
 use Rattle.dmc_tag.specs.declared.reply.Reply.{Reply}
 use Rattle.dmc_history.specs.declared.ReserveFault.{ReserveFault}
@@ -21,7 +22,7 @@ use Rattle.dmc_book.specs.declared.fault.RunFault.TheVariants as run
 use Rattle.dmc_book.specs.declared.fault.RunOrRange.{RunOrRange}
 use Rattle.dmc_book.specs.declared.fault.RunOrRange.TheVariants as pull
 use Rattle.dmc_book.specs.BookState.{BookState, PassState, WorkerSide, no_worker}
-use Rattle.dmc_book.specs.Calls.{Asks, Ran, WasPulled, asked, lacks_desk, reply_to, run_cause}
+use Rattle.dmc_book.specs.Calls.{Asks, HasNoPlace, Ran, WasPulled, asked, lacks_desk, reply_to, run_cause}
 use Rattle.dmc_book.specs.Consistent.{AreWorkersApart, IsReplayed, IsSeated}
 use Rattle.dmc_tag.proofs.Booleans.{eqb_turned}
 use Rattle.dmc_tag.proofs.Lists.{all_as}
@@ -65,9 +66,10 @@ other_than_left ws p apart its = each ws p.place its.within its.its_worker its.s
 
 module _ {T : Type 0} (ops : Tagging T) (old : BookState T) (before : PassState) (command : Command) (enrolled : IsEnrolled old.workers before) (has_desk : lacks_desk old.desks command ≡ false) where
   -- no place was reserved
-  pub unreserved : (x : ReserveFault) → (x ≡ reserve.HistoryFull) ↔ IsFull ops old before command → Runs ops old before command old before (Err (run_cause x))
-  unreserved reserve.HistoryFull full = (refl, refl, enrolled, has_desk, full.0 refl)
-  unreserved reserve.Memory full = (refl, refl, enrolled, has_desk, λ f. absurd (memory_is_not_full (full.1 f)))
+  pub unreserved : (x : ReserveFault) → (x ≡ reserve.HistoryFull) ↔ IsFull ops old before command → (x ≡ reserve.Memory → HasNoPlace old)
+      → Runs ops old before command old before (Err (run_cause x))
+  unreserved reserve.HistoryFull full no_place = (refl, refl, enrolled, has_desk, full.0 refl)
+  unreserved reserve.Memory full no_place = (refl, refl, enrolled, has_desk, (λ f. absurd (memory_is_not_full (full.1 f))), inr (no_place refl))
 
   -- the queue was not asked, or answered nothing
   pub unasked : (order : IsTotalOrder ops.compare) (q p : State T) → IsReplayed ops q old.config old.history → length old.history < old.most → (e : RunFault)
@@ -76,7 +78,7 @@ module _ {T : Type 0} (ops : Tagging T) (old : BookState T) (before : PassState)
   unasked order q p known fewer run.Behind a = (refl, refl, enrolled, has_desk, (λ full. omega (arith, fewer, full)), strays_by_history ops order (IsBehind ops old before command) (takes old.desks before.clients before.units) q p old.config old.history command known a.1, a.2)
   unasked order q p known fewer run.NoDesk a = absurd a
   unasked order q p known fewer run.HistoryFull a = absurd a
-  unasked order q p known fewer run.Memory a = (refl, refl, enrolled, has_desk, λ full. omega (arith, fewer, full))
+  unasked order q p known fewer run.Memory a = (refl, refl, enrolled, has_desk, (λ full. omega (arith, fewer, full)), inl a.0)
 
 module _ {T : Type 0} (ops : Tagging T) (old new : BookState T) (before later : PassState) (command : Command) where
   pub ran_if_ok : (r : Result (Reply T) RunFault) → Runs ops old before command new later r → IfOk r (λ reply. Ran ops old new before later command reply)
@@ -154,6 +156,15 @@ module _ {T : Type 0} (ops : Tagging T) (old new : BookState T) (before later : 
   told_full (Err run.HistoryFull) h = (λ e. (h.2, h.3, h.4), λ k. refl)
   told_full (Err run.Memory) h = (λ e. absurd cc, λ k. absurd (h.4 k.2))
 
+  pub memory_if_told : (r : Result (Reply T) RunFault) → Runs ops old before command new later r → r ≡ Err run.Memory
+      → IsTrue (may_grow command) ⊎ HasNoPlace old
+  memory_if_told (Ok reply) h e = absurd cc
+  memory_if_told (Err run.Stranger) h e = absurd cc
+  memory_if_told (Err run.Behind) h e = absurd cc
+  memory_if_told (Err run.NoDesk) h e = absurd cc
+  memory_if_told (Err run.HistoryFull) h e = absurd cc
+  memory_if_told (Err run.Memory) h e = h.5
+
 -- ---- a pull
 
 -- what is not false
@@ -207,3 +218,9 @@ module _ {T : Type 0} (ops : Tagging T) (old new : BookState T) (before later : 
   pull_told_full (Err (pull.Run run.NoDesk)) h = absurd (true≢false (sym h.3))
   pull_told_full (Err (pull.Run run.HistoryFull)) h = (λ e. (h.2, h.4), λ k. refl)
   pull_told_full (Err (pull.Run run.Memory)) h = (λ e. absurd cc, λ k. absurd (h.4 k.1))
+
+  pub pull_memory : (r : Result Pulled RunOrRange) → Pulls r → r ≡ Err (pull.Run run.Memory) → HasNoPlace old
+  pull_memory r h e = elim (memory_if_told ops old new before later (Pull at) (asked r) h (ap asked e)) [
+    | inl grows ↦ absurd (true≢false (sym grows))
+    | inr none ↦ none
+  ]

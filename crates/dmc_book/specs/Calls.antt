@@ -1,5 +1,5 @@
 -- What a call does to a book and a pass, and what it is refused for.
-use Rattle.std.specs.Prelude.{◌≡◌, ℕ, Bool, true, false, not, List, Some, None, Result, Ok, Err, is_some, slice_index_or}
+use Rattle.std.specs.Prelude.{◌≡◌, ℕ, ◌-◌, Bool, true, false, not, List, length, Some, None, Result, Ok, Err, is_some, slice_index_or}
 use Rattle.dmc_types.specs.declared.ids.ClientId.{ClientId}
 use Rattle.dmc_types.specs.declared.config.PhaseType.{PhaseType}
 use Rattle.dmc_types.specs.declared.command.Command.{Command}
@@ -15,6 +15,7 @@ use Rattle.dmc_tag.specs.declared.reply.Pulled.{Pulled}
 use Rattle.dmc_tag.specs.declared.event.Event.{Event}
 use Rattle.dmc_tag.specs.declared.reply.Reply.{Reply}
 use Rattle.dmc_tag.specs.declared.reply.Reply.TheVariants.{Refused}
+use Rattle.dmc_history.specs.Log.{FillBlocks}
 use Rattle.dmc_history.specs.declared.ReserveFault.{ReserveFault}
 use Rattle.dmc_history.specs.declared.ReserveFault.TheVariants as reserve
 use Rattle.dmc_ledger.specs.Bundles.{ClientSide, StampHoldings}
@@ -61,6 +62,11 @@ Strays takes (Add client token params at) reply = ⊥
 Strays takes (Pull at) reply = is_allowed takes reply ≡ false
 Strays takes (Remove client) reply = ⊥
 Strays takes (Clean at) reply = ⊥
+
+-- The history may have no place for the next event: the events that are kept fill their blocks of 1,024, or there are none, so
+-- that the next one needs an allocation.
+abbrev pub HasNoPlace : {T : Type 0} → BookState T → Type 0
+HasNoPlace b = FillBlocks (length b.history - b.first)
 
 -- The reply is that of the rules, and the history has one event more: this worker, this command, this reply. Books and
 -- tills move as the event says.

@@ -1,5 +1,6 @@
 //! A queue's history, and the counts of its events.
-ghost use Rattle.std.specs.Prelude.{◌≡◌, ◌≤◌, ◌<◌, ◌↔◌, ◌∷◌, length, map, true, None, IfNone, IfSome, OnSome, IsErrOf, IsSome, IsTrue, OnOk};
+ghost use Rattle.std.specs.Prelude.{◌≡◌, ◌-◌, ◌≤◌, ◌<◌, ◌↔◌, ◌∷◌, length, map, true, None, IfNone, IfSome, OnSome, IsErrOf, IsSome, IsTrue, OnOk};
+ghost use Rattle.dmc_history.specs.Log.{FillBlocks};
 ghost use Rattle.dmc_ledger.specs.Bundles.{Covers, client_side, stamp_holdings};
 ghost use Rattle.dmc_ledger.specs.Moves.{tills_after_submit};
 ghost use Rattle.dmc_pull.specs.Allowed.{is_allowed};
@@ -124,12 +125,14 @@ impl<T: Tag, S: Setup> Accounts<T, S> {
         self.history.len()
     }
 
-    /// Reserves the place of the next event: refused `HistoryFull` exactly where it keeps as many as it may, then `Memory`.
+    /// Reserves the place of the next event: refused `HistoryFull` exactly where it keeps as many as it may, then `Memory`,
+    /// which comes only where the events that are kept fill their blocks.
     #[inline(always)]
     pub(crate) fn reserve(&mut self) -> Result<(), ReserveFault>
         ensures ok { OnOk result (0 < self.new.room) }
         ensures fewer { OnOk result (length self.old.history < self.old.most) }
         ensures full { IsErrOf result ReserveFault.HistoryFull ↔ (length self.old.history ≡ self.old.most) }
+        ensures memory { IsErrOf result ReserveFault.Memory → FillBlocks (length self.old.history - self.old.first) }
         ensures kept { self.new ≡ record self.old { room = self.new.room } }
     {
         self.history.reserve_one()

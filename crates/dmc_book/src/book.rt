@@ -1,11 +1,12 @@
 //! The queue's book.
-ghost use Rattle.std.specs.Prelude.{◌≡◌, ◌<◌, ◌≤◌, ◌+◌, ◌*◌, ◌↔◌, drop, length, map, true, false, IfNone, IfSome, OnSome, IfOk, IfErr, IsOk, IsSome, OnOk, OnErr, IsErrOf, IsErrAnd};
+ghost use Rattle.std.specs.Prelude.{◌≡◌, ◌<◌, ◌≤◌, ◌+◌, ◌*◌, ◌↔◌, ◌⊎◌, drop, length, map, true, false, IfNone, IfSome, OnSome, IfOk, IfErr, IsOk, IsSome, IsTrue, OnOk, OnErr, IsErrOf, IsErrAnd};
 ghost use Rattle.std.specs.List.{AllByRecursion};
 ghost use Rattle.dmc_types.specs.Limits.{max_events, max_workers};
 ghost use Rattle.dmc_ledger.specs.Bundles.{client_side};
 ghost use Rattle.dmc_tag.specs.Replay.{after, replays};
+ghost use Rattle.dmc_tag.specs.Steps.{may_grow};
 ghost use Rattle.dmc_book.specs.BookState.{pass_state, worker_side};
-ghost use Rattle.dmc_book.specs.Calls.{Ran, Strays, is_add, lacks_desk, reply_to};
+ghost use Rattle.dmc_book.specs.Calls.{HasNoPlace, Ran, Strays, is_add, lacks_desk, reply_to};
 ghost use Rattle.dmc_book.specs.Later.{IsLater};
 ghost use Rattle.dmc_book.specs.Moves.{IsEnrolled, takes};
 ghost use Rattle.dmc_book.specs.Opening.{AreBookLimits, AreNamedOnce, IsNewDesk, new_passes, new_state};
@@ -155,7 +156,8 @@ impl<T: Tag, I: Indexes<T>, S: Setup> QueueBook<T, I, S> {
     ///
     /// Refused, with nothing recorded: `Stranger`, `Behind`, `NoDesk`, `HistoryFull`, `Memory`. A pull that would grant a request
     /// whose unit the pass has no till for is `Behind` where desks came after the pass, else `Stranger`; that is seen once the
-    /// place of the event is made.
+    /// place of the event is made. `Memory` comes only of a Register, or where the events that are kept fill their blocks of
+    /// 1,024, or there are none: else the event has its place already, and needs no allocation.
     pub fn run(&mut self, pass: &mut WorkerPass<S>, command: Command) -> Result<Reply<T>, RunFault>
         requires { is_add command ≡ false }
         ensures ran { IfOk result (λ reply. Ran T.ops self.old self.new (pass_state pass.old) (pass_state pass.new) command reply) }
@@ -176,6 +178,7 @@ impl<T: Tag, I: Indexes<T>, S: Setup> QueueBook<T, I, S> {
         ensures history_full { IsErrOf result RunFault.HistoryFull
             ↔ (IsEnrolled self.old.workers (pass_state pass.old) × (lacks_desk self.old.desks command ≡ false)
             × (length self.old.history ≡ self.old.most)) }
+        ensures memory { IsErrOf result RunFault.Memory → IsTrue (may_grow command) ⊎ HasNoPlace self.old }
     {
         self.hand_on(pass, command)
     }

@@ -3,7 +3,7 @@ ghost use Rattle.std.specs.Prelude.{◌≡◌, ◌<◌, ◌↔◌, true, false, 
 ghost use Rattle.dmc_types.specs.declared.command.Command.TheVariants as commands;
 ghost use Rattle.dmc_pull.specs.Allowed.{is_allowed};
 ghost use Rattle.dmc_book.specs.BookState.{pass_state};
-ghost use Rattle.dmc_book.specs.Calls.{WasPulled, asked, reply_to};
+ghost use Rattle.dmc_book.specs.Calls.{HasNoPlace, WasPulled, asked, reply_to};
 ghost use Rattle.dmc_book.specs.Moves.{IsEnrolled, takes};
 ghost use Rattle.dmc_book.specs.internal.Runs.{Runs};
 
@@ -23,8 +23,9 @@ impl<T: Tag, I: Indexes<T>, S: Setup> QueueBook<T, I, S> {
     /// for a Pull, and takes less time.
     ///
     /// Refused `Range` by the rules, which is recorded; and with nothing recorded `Stranger`, `Behind`, `HistoryFull`, `Memory`,
-    /// as for `run`. A pass that is behind still pulls the requests of all clients that it has tills for: where the pull is
-    /// `Behind`, `extend` the pass and pull again.
+    /// as for `run`: `Memory` only where the events that are kept fill their blocks, or there are none. A pass that is behind
+    /// still pulls the requests of all clients that it has tills for: where the pull is `Behind`, `extend` the pass and pull
+    /// again.
     pub fn pull(&mut self, pass: &mut WorkerPass<S>, at: Moment) -> Result<Pulled, RunOrRange>
         ensures pulled { WasPulled T.ops self.old self.new (pass_state pass.old) (pass_state pass.new) at result }
         ensures stranger { (IsEnrolled self.old.workers (pass_state pass.old) → ⊥) → result ≡ Err (RunOrRange.Run RunFault.Stranger) }
@@ -39,6 +40,7 @@ impl<T: Tag, I: Indexes<T>, S: Setup> QueueBook<T, I, S> {
             (is_allowed (takes self.old.desks (pass_state pass.old).clients (pass_state pass.old).units) (reply_to T.ops self.old (commands.Pull at)) ≡ true) }
         ensures history_full { IsErrOf result (RunOrRange.Run RunFault.HistoryFull)
             ↔ (IsEnrolled self.old.workers (pass_state pass.old) × (length self.old.history ≡ self.old.most)) }
+        ensures memory { IsErrOf result (RunOrRange.Run RunFault.Memory) → HasNoPlace self.old }
     {
         self.pull_next(pass, at)
     }

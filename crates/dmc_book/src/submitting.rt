@@ -28,7 +28,8 @@ impl<T: Tag, I: Indexes<T>, S: Setup> QueueBook<T, I, S> {
     /// to the client's desk, and adds one to the worker's calls, and the token to its tokens.
     ///
     /// Refused `Stranger`, `Closed`, `HistoryFull`, `Memory`, or as the queue refuses an add; this last is recorded, as a call
-    /// and a miss, and nothing else moves. Each refusal hands the stamp back.
+    /// and a miss, and nothing else moves. Each refusal hands the stamp back. `Memory` comes of any submit: the event's place may
+    /// need an allocation, as for `run`, and so may the place of the request in the queue.
     pub fn submit(
         &mut self,
         pass: &mut WorkerPass<S>,

@@ -22,3 +22,6 @@ returns-clause-behind g c = lemma.pull_behind g.T.Tag.ops c.args.self.now c.pull
 
 pub returns-clause-not_behind : goal.returns-clause-not_behind
 returns-clause-not_behind g c = lemma.pull_not_behind g.T.Tag.ops c.args.self.now c.pull_next.new.self (pass_state c.args.pass.now) (pass_state c.pull_next.new.pass) c.args.at c.pull_next.result c.pull_next.ensures
+
+pub returns-clause-memory : goal.returns-clause-memory
+returns-clause-memory g c = lemma.pull_memory g.T.Tag.ops c.args.self.now c.pull_next.new.self (pass_state c.args.pass.now) (pass_state c.pull_next.new.pass) c.args.at c.pull_next.result c.pull_next.ensures

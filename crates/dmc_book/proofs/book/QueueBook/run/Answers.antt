@@ -31,3 +31,6 @@ returns-clause-behind g c = lemma.behind_if_told g.T.Tag.ops c.args.self.now c.h
 
 pub returns-clause-not_behind : goal.returns-clause-not_behind
 returns-clause-not_behind g c = lemma.not_behind g.T.Tag.ops c.args.self.now c.hand_on.new.self (pass_state c.args.pass.now) (pass_state c.hand_on.new.pass) c.args.command c.hand_on.result c.hand_on.ensures
+
+pub returns-clause-memory : goal.returns-clause-memory
+returns-clause-memory g c = lemma.memory_if_told g.T.Tag.ops c.args.self.now c.hand_on.new.self (pass_state c.args.pass.now) (pass_state c.hand_on.new.pass) c.args.command c.hand_on.result c.hand_on.ensures

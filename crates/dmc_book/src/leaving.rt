@@ -8,7 +8,7 @@ ghost use Rattle.dmc_book.specs.Leaving.{HoldsNothing, IsGone, MayLeave};
 use crate::accounts::Accounts;
 use crate::book::QueueBook;
 use crate::pass::WorkerPass;
-use crate::settled::{is_own, take_seat, take_units};
+use crate::settled::{is_own, take_pass};
 use dmc_index::index::Indexes;
 use dmc_ledger::bundle::GrantTills;
 use dmc_ledger::setup::Setup;
@@ -49,16 +49,7 @@ impl<T: Tag, S: Setup> Accounts<T, S> {
         ensures gone { IsGone self.old.workers self.old.desks (pass_state pass) self.new.workers self.new.desks }
         ensures rest { self.new ≡ record self.old { workers = self.new.workers; desks = self.new.desks } }
     {
-        let WorkerPass {
-            worker: _,
-            place,
-            tills,
-            clients: _,
-            units,
-            recent: _,
-        } = pass;
-        take_seat(&mut self.workers, place, tills);
-        take_units(&mut self.desks, units);
+        take_pass(&mut self.workers, &mut self.desks, pass);
     }
 }
 

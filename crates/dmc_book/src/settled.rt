@@ -152,20 +152,6 @@ fn take_tills<S: Setup>(books: &mut WorkerBooks<S>, tills: WorkerTills<S>)
     take_till(&mut books.granted, granted);
 }
 
-/// Gathers the tills of the worker at a place.
-pub(crate) fn take_seat<S: Setup>(workers: &mut [Seat<S>], place: usize, tills: WorkerTills<S>)
-    requires within { place < length workers.old }
-    requires its { AreOf (worker_holdings tills) (slice_index_or (map worker_side workers.old) place no_worker).books }
-    ensures some { 0 < (slice_index_or (map worker_side workers.old) place no_worker).books.calls.open_tills }
-    ensures only { AreOneOpen (slice_index_or (map worker_side workers.old) place no_worker).books
-        → map worker_side workers.new
-        ≡ slice_set (map worker_side workers.old) place (closed_worker (slice_index_or (map worker_side workers.old) place no_worker)) }
-{
-    let seat = &mut workers[place];
-    seat.reach = 0;
-    take_tills(&mut seat.books, tills);
-}
-
 /// Gathers the tills of a desk.
 fn take_unit<S: Setup>(desk: &mut ClientDesk<S>, unit: GrantTills<S>)
     requires { AreUnitsOf (grant_holdings unit) (client_side desk.old).books }
@@ -180,7 +166,7 @@ fn take_unit<S: Setup>(desk: &mut ClientDesk<S>, unit: GrantTills<S>)
 }
 
 /// Gathers the tills of the first desks, from the last on.
-pub(crate) fn take_units<S: Setup>(desks: &mut [ClientDesk<S>], units: Vec<GrantTills<S>>)
+fn take_units<S: Setup>(desks: &mut [ClientDesk<S>], units: Vec<GrantTills<S>>)
     requires { AreDeskUnits (map client_side desks.old) (map grant_holdings units.items) }
     ensures { AreUnitsTakenIn (map grant_holdings units.items) (map client_side desks.old) (map client_side desks.new) }
 {
@@ -189,6 +175,35 @@ pub(crate) fn take_units<S: Setup>(desks: &mut [ClientDesk<S>], units: Vec<Grant
         let i = units.len();
         take_unit(&mut desks[i], unit);
     }
+}
+
+/// Gathers a pass of a worker here: the worker's tills, and those of the desks.
+pub(crate) fn take_pass<S: Setup>(
+    workers: &mut [Seat<S>],
+    desks: &mut [ClientDesk<S>],
+    pass: WorkerPass<S>,
+)
+    requires within { (pass_state pass).place < length workers.old }
+    requires its { AreOf (pass_state pass).tills (slice_index_or (map worker_side workers.old) (pass_state pass).place no_worker).books }
+    requires units { AreDeskUnits (map client_side desks.old) (pass_state pass).units }
+    ensures some { 0 < (slice_index_or (map worker_side workers.old) (pass_state pass).place no_worker).books.calls.open_tills }
+    ensures only { AreOneOpen (slice_index_or (map worker_side workers.old) (pass_state pass).place no_worker).books
+        → map worker_side workers.new
+        ≡ slice_set (map worker_side workers.old) (pass_state pass).place (closed_worker (slice_index_or (map worker_side workers.old) (pass_state pass).place no_worker)) }
+    ensures desks { AreUnitsTakenIn (pass_state pass).units (map client_side desks.old) (map client_side desks.new) }
+{
+    let WorkerPass {
+        worker: _,
+        place,
+        tills,
+        clients: _,
+        units,
+        recent: _,
+    } = pass;
+    let seat = &mut workers[place];
+    seat.reach = 0;
+    take_tills(&mut seat.books, tills);
+    take_units(desks, units);
 }
 
 /// Gathers passes, each of a worker here.
@@ -205,16 +220,7 @@ pub(crate) fn take_passes<S: Setup>(
 {
     let mut passes = passes;
     while let Some(pass) = passes.pop() {
-        let WorkerPass {
-            worker: _,
-            place,
-            tills,
-            clients: _,
-            units,
-            recent: _,
-        } = pass;
-        take_seat(workers, place, tills);
-        take_units(desks, units);
+        take_pass(workers, desks, pass);
     }
 }
 

@@ -5,28 +5,31 @@ use Rattle.std.proofs.lemmas.List.{get_or_default, take_all}
 use Rattle.dmc_types.specs.declared.ids.WorkerId.{WorkerId}
 use Rattle.dmc_book.specs.Opening.{AreApart}
 use Rattle.dmc_book.proofs.OpeningLemmas.{worker_more, worker_twice}
+use Rattle.dmc_book.proofs.opening.are_apart.Goals.{After-insert}
 use Rattle.dmc_book.proofs.opening.are_apart.Goals as goal
+
+-- the worker of this turn
+abbrev named : After-insert → WorkerId
+named c = get_or c.args.workers.now c.loop-worker.worker-index (record { 0 = 0 })
+
+is : (c : After-insert) → named c ≡ get_or c.args.workers.now c.loop-worker.worker-index (named c)
+is c = get_or_default c.args.workers.now c.loop-worker.worker-index (record { 0 = 0 }) (named c) c.loop-worker-test.true
 
 pub loop-worker-preserved : goal.loop-worker-preserved
 loop-worker-preserved c =
-    let ws = c.args.workers.now in
-    let i = c.loop-worker.worker-index in
-    let x : WorkerId = get_or ws i (record { 0 = 0 }) in
-    let is = get_or_default ws i (record { 0 = 0 }) x c.loop-worker-test.true in
-    let keys = c.loop-worker.names.keys in
-    let none : list_any (λ (k : WorkerId). x.0 == k.0) keys ≡ false = search rules in
-    let more = worker_more ws i x c.loop-worker-test.true is keys c.loop-worker.invariant.named _ c.loop-worker.invariant.apart none c.in_ok-insert.ensures.keys in
+    let a = (goal.at.loop-worker-preserved c).After-insert in
+    let none : list_any (λ (k : WorkerId). (named a).0 == k.0) c.loop-worker.names.keys ≡ false = search rules in
+    let more = worker_more c.args.workers.now c.loop-worker.worker-index (named a) c.loop-worker-test.true (is a) c.loop-worker.names.keys c.loop-worker.invariant.named
+    _ c.loop-worker.invariant.apart none c.in_ok-insert.ensures.keys in
     record { named = more.0; apart = more.1 }
 
 pub returns-then-not-branch : goal.returns-then-not-branch
 returns-then-not-branch c =
-    let ws = c.args.workers.now in
-    let i = c.loop-worker.worker-index in
-    let x : WorkerId = get_or ws i (record { 0 = 0 }) in
-    let is = get_or_default ws i (record { 0 = 0 }) x c.loop-worker-test.true in
-    let keys = c.loop-worker.names.keys in
-    let some : list_any (λ (k : WorkerId). x.0 == k.0) keys ≡ true = search rules in
-    ((λ e. absurd (true≢false (sym e))), λ apart. absurd (worker_twice ws i x c.loop-worker-test.true is keys c.loop-worker.invariant.named some apart))
+    let a = (goal.at.returns-then-not-branch c).After-insert in
+    let some : list_any (λ (k : WorkerId). (named a).0 == k.0) c.loop-worker.names.keys ≡ true = search rules in (
+      (λ e. absurd (true≢false (sym e))),
+      λ apart. absurd (worker_twice c.args.workers.now c.loop-worker.worker-index (named a) c.loop-worker-test.true (is a) c.loop-worker.names.keys c.loop-worker.invariant.named some apart),
+    )
 
 pub returns : goal.returns
 returns c =

@@ -21,24 +21,24 @@ loop-pass-init g c = record {
   desks = passes_none (map client_side c.args.desks.now);
 }
 
-pub take_seat-requires-clause-within : goal.take_seat-requires-clause-within
-take_seat-requires-clause-within g c =
+pub take_pass-requires-clause-within : goal.take_pass-requires-clause-within
+take_pass-requires-clause-within g c =
     let ws : List WorkerSide = map worker_side c.args.workers.now in
     let vs : List WorkerSide = map worker_side c.loop-pass.workers in
     let inv = c.loop-pass.invariant in
     let left = all_left (IsOwn ws (map client_side c.args.desks.now)) pass_state c.loop-pass.passes.items c.pop.new.self.items c.in-Some.pass c.in-Some.ensures.items inv.own in
     omega (arith, left.1.enrolled.within, partly_long ws vs inv.workers, length-map c.loop-pass.workers (worker_side {S = g.row.S.Denot}))
 
-pub take_seat-requires-clause-its : goal.take_seat-requires-clause-its
-take_seat-requires-clause-its g c =
+pub take_pass-requires-clause-its : goal.take_pass-requires-clause-its
+take_pass-requires-clause-its g c =
     let ws : List WorkerSide = map worker_side c.args.workers.now in
     let vs : List WorkerSide = map worker_side c.loop-pass.workers in
     let inv = c.loop-pass.invariant in
     let left = all_left (IsOwn ws (map client_side c.args.desks.now)) pass_state c.loop-pass.passes.items c.pop.new.self.items c.in-Some.pass c.in-Some.ensures.items inv.own in
     tills_at (pass_state c.in-Some.pass) ws vs inv.workers left.1.enrolled
 
-pub take_units-requires : goal.take_units-requires
-take_units-requires g c =
+pub take_pass-requires-clause-units : goal.take_pass-requires-clause-units
+take_pass-requires-clause-units g c =
     let ws : List WorkerSide = map worker_side c.args.workers.now in
     let inv = c.loop-pass.invariant in
     let left = all_left (IsOwn ws (map client_side c.args.desks.now)) pass_state c.loop-pass.passes.items c.pop.new.self.items c.in-Some.pass c.in-Some.ensures.items inv.own in
@@ -56,9 +56,9 @@ loop-pass-preserved g c =
     let left = all_left (IsOwn ws ds) pass_state c.loop-pass.passes.items c.pop.new.self.items c.in-Some.pass popped inv.own in
     let within = left.1.enrolled.within in
     let inside : p.place < length vs = omega (arith, within, partly_long ws vs inv.workers) in
-    let some = c.take_seat.ensures.some in
+    let some = c.take_pass.ensures.some in
     let one = one_open_at ws vs p.place inv.workers c.requires.one_open within some in
-    let closed = c.take_seat.ensures.only one in
+    let closed = c.take_pass.ensures.only one in
     let fewer : length c.loop-pass.passes.items ≡ length c.pop.new.self.items + 1 = ap length popped ∙ length-append c.pop.new.self.items (c.in-Some.pass ∷ []) in
     let reach : length p.units ≡ (slice_index_or vs p.place no_worker).reach = left.1.reach ∙ sym (ap (λ (w : WorkerSide). w.reach) (open_at ws vs p.place inv.workers within some)) in
     let reached : (k : ℕ) → one_if (nat_lt k (length p.units)) ≡ one_if (nat_lt k (slice_index_or vs p.place no_worker).reach) = λ k. ap (λ n. one_if (nat_lt k n)) reach in
@@ -70,7 +70,7 @@ loop-pass-preserved g c =
       taken = p ∷ inv.taken;
       all = all_after (IsOwn ws ds) pass_state c.loop-pass.passes.items c.pop.new.self.items c.in-Some.pass popped (map pass_state c.args.passes.items) inv.taken inv.all;
       tills = λ k. subst (λ (xs : List WorkerSide). having k (p ∷ inv.taken) + still_reaching k xs ≡ reaching k ws) (sym closed) (omega (arith, inv.tills k, reached k, reaching_less k vs p.place (closed_worker (slice_index_or vs p.place no_worker)) inside refl one.calls));
-      desks = passes_more p inv.taken ds es (map client_side c.take_units.new.desks) inv.desks c.take_units.ensures;
+      desks = passes_more p inv.taken ds es (map client_side c.take_pass.new.desks) inv.desks c.take_pass.ensures.desks;
     }
 
 pub returns-clause-workers : goal.returns-clause-workers

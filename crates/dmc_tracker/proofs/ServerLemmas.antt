@@ -114,58 +114,76 @@ view-skip counting most comps servers s x within at =
     ∙ ap (λ (n : ServerNumbers). let y : ServerNumbers = record { sent = n.sent; skipped = plus n.skipped n.pending; pending = no_counts } in set (map f servers) s.0 y)
     (sym (seen_at counting most comps servers s x within at)))
 
-IsKept-stamped : (counting : Counting) (most : ℕ) (comps params : Params) (x : ServerCounts) → IsKept counting most comps x
-    → params ≡ plus (numbers_now counting comps x).pending (own_share counting) → x.sent.delta + params.delta ≤ most
-    → IsKept counting most comps (stamped counting comps params x)
-IsKept-stamped All most comps params x h e bound =
+part_itself : (a : Params) → IsPart a a
+part_itself a = record { delta = omega arith; rho = omega arith; rest = omega arith }
+
+-- a mark that is set to what is counted
+mark_itself : (counting : Counting) (comps : Params) (x y : ServerCounts) → x.own ≡ y.own → IsPart (counted_at counting comps x) (counted_at counting comps y)
+mark_itself All comps x y e = part_itself comps
+mark_itself Others comps x y e = rw e (part_itself (minus comps y.own))
+
+own_rho : (counting : Counting) → (own_share counting).rho ≤ (own_share counting).delta
+own_rho All = omega arith
+own_rho Others = omega arith
+
+-- in `All`, what a stamp and a skip pass on is all that is counted
+stamped_all : (counting : Counting) (most : ℕ) (comps params : Params) (x : ServerCounts) → IsKept counting most comps x
+    → params ≡ plus (numbers_now counting comps x).pending (own_share counting) → counting ≡ All → plus (plus x.sent params) x.skipped ≡ counted_at counting comps x
+stamped_all All most comps params x h e form =
     let d = ap (λ (p : Params). p.delta) e in
     let r = ap (λ (p : Params). p.rho) e in
     let sent = ap (λ (p : Params). p.delta) (h.sent_all refl) in
     let sent_rho = ap (λ (p : Params). p.rho) (h.sent_all refl) in
-    record {
-      own = h.own;
-      mark = record { delta = omega arith; rho = omega arith; rest = omega arith };
-      sent_rho = omega (arith, h.mark.rest, h.mark.rho, h.mark.delta, h.sent_rho);
-      sent_most = bound;
-      skipped_rho = h.skipped_rho;
-      skipped_mark = omega (arith, h.skipped_mark, h.mark.delta);
-      sent_all = λ _. same_params _ _ (omega (arith, h.mark.delta)) (omega (arith, h.mark.rho));
-    }
-IsKept-stamped Others most comps params x h e bound =
+    same_params _ _ (omega (arith, h.mark.delta)) (omega (arith, h.mark.rho))
+stamped_all Others most comps params x h e form = absurd (cc)
+
+passed_all : (counting : Counting) (most : ℕ) (comps : Params) (x : ServerCounts) → IsKept counting most comps x
+    → counting ≡ All → plus x.sent (plus x.skipped (numbers_now counting comps x).pending) ≡ counted_at counting comps x
+passed_all All most comps x h form =
+    let sent = ap (λ (p : Params). p.delta) (h.sent_all refl) in
+    let sent_rho = ap (λ (p : Params). p.rho) (h.sent_all refl) in
+    same_params _ _ (omega (arith, sent, h.mark.delta)) (omega (arith, sent_rho, h.mark.rho))
+passed_all Others most comps x h form = absurd (cc)
+
+IsKept-stamped : (counting : Counting) (most : ℕ) (comps params : Params) (x : ServerCounts) → IsKept counting most comps x
+    → params ≡ plus (numbers_now counting comps x).pending (own_share counting) → x.sent.delta + params.delta ≤ most
+    → IsKept counting most comps (stamped counting comps params x)
+IsKept-stamped counting most comps params x h e bound =
     let d = ap (λ (p : Params). p.delta) e in
     let r = ap (λ (p : Params). p.rho) e in
     record {
       own = h.own;
-      mark = record { delta = omega arith; rho = omega arith; rest = omega arith };
-      sent_rho = omega (arith, h.mark.rest, h.mark.rho, h.mark.delta, h.sent_rho);
+      mark = mark_itself counting comps x (stamped counting comps params x) refl;
+      sent_rho = omega (arith, h.mark.rest, h.mark.rho, h.mark.delta, h.sent_rho, own_rho counting);
       sent_most = bound;
       skipped_rho = h.skipped_rho;
       skipped_mark = omega (arith, h.skipped_mark, h.mark.delta);
-      sent_all = λ form. absurd (cc);
+      sent_all = stamped_all counting most comps params x h e;
     }
 
 IsKept-passed : (counting : Counting) (most : ℕ) (comps : Params) (x : ServerCounts) → IsKept counting most comps x
     → IsKept counting most comps (passed counting comps x)
-IsKept-passed All most comps x h =
-    let sent = ap (λ (p : Params). p.delta) (h.sent_all refl) in
-    let sent_rho = ap (λ (p : Params). p.rho) (h.sent_all refl) in
-    record {
-      own = h.own;
-      mark = record { delta = omega arith; rho = omega arith; rest = omega arith };
-      sent_rho = h.sent_rho;
-      sent_most = h.sent_most;
-      skipped_rho = omega (arith, h.mark.rest, h.mark.rho, h.mark.delta, h.skipped_rho);
-      skipped_mark = omega (arith, h.skipped_mark, h.mark.delta);
-      sent_all = λ _. same_params _ _ (omega (arith, sent, h.mark.delta)) (omega (arith, sent_rho, h.mark.rho));
-    }
-IsKept-passed Others most comps x h = record {
+IsKept-passed counting most comps x h = record {
   own = h.own;
-  mark = record { delta = omega arith; rho = omega arith; rest = omega arith };
+  mark = mark_itself counting comps x (passed counting comps x) refl;
   sent_rho = h.sent_rho;
   sent_most = h.sent_most;
   skipped_rho = omega (arith, h.mark.rest, h.mark.rho, h.mark.delta, h.skipped_rho);
   skipped_mark = omega (arith, h.skipped_mark, h.mark.delta);
-  sent_all = λ form. absurd (cc);
+  sent_all = passed_all counting most comps x h;
+}
+
+-- the counts of one server are others
+AreKept-set : (counting : Counting) (most : ℕ) (comps : Params) (servers : List ServerCounts) (s : ServerId) (new : ServerCounts) → AreKept counting most comps servers
+    → IsKept counting most comps new → AreKept counting most comps (set servers s.0 new)
+AreKept-set counting most comps servers s new kept now = record {
+  some_most = kept.some_most;
+  max_limit = kept.max_limit;
+  some_servers = omega (arith, length-set servers s.0 new, kept.some_servers);
+  servers_limit = omega (arith, length-set servers s.0 new, kept.servers_limit);
+  completions_rho = kept.completions_rho;
+  completions_most = kept.completions_most;
+  each = All-set (IsKept counting most comps) servers s.0 new now kept.each;
 }
 
 -- a stamp that takes what is sent to its server no further than `most`
@@ -174,33 +192,13 @@ pub AreKept-stamp : (counting : Counting) (most : ℕ) (comps params : Params) (
     → params ≡ plus (numbers_now counting comps x).pending (own_share counting) → x.sent.delta + params.delta ≤ most
     → AreKept counting most comps (set servers s.0 (stamped counting comps params x))
 AreKept-stamp counting most comps params servers s x kept within at e bound =
-    let new = stamped counting comps params x in
-    let before : IsKept counting most comps x = rw at (kept.each s.0 x within) in
-    record {
-      some_most = kept.some_most;
-      max_limit = kept.max_limit;
-      some_servers = omega (arith, length-set servers s.0 new, kept.some_servers);
-      servers_limit = omega (arith, length-set servers s.0 new, kept.servers_limit);
-      completions_rho = kept.completions_rho;
-      completions_most = kept.completions_most;
-      each = All-set (IsKept counting most comps) servers s.0 new (IsKept-stamped counting most comps params x before e bound) kept.each;
-    }
+    AreKept-set counting most comps servers s (stamped counting comps params x) kept (IsKept-stamped counting most comps params x (rw at (kept.each s.0 x within)) e bound)
 
 pub AreKept-skip : (counting : Counting) (most : ℕ) (comps : Params) (servers : List ServerCounts) (s : ServerId) (x : ServerCounts)
     → AreKept counting most comps servers → s.0 < length servers → x ≡ get_or servers s.0 x
     → AreKept counting most comps (set servers s.0 (passed counting comps x))
 AreKept-skip counting most comps servers s x kept within at =
-    let new = passed counting comps x in
-    let before : IsKept counting most comps x = rw at (kept.each s.0 x within) in
-    record {
-      some_most = kept.some_most;
-      max_limit = kept.max_limit;
-      some_servers = omega (arith, length-set servers s.0 new, kept.some_servers);
-      servers_limit = omega (arith, length-set servers s.0 new, kept.servers_limit);
-      completions_rho = kept.completions_rho;
-      completions_most = kept.completions_most;
-      each = All-set (IsKept counting most comps) servers s.0 new (IsKept-passed counting most comps x before) kept.each;
-    }
+    AreKept-set counting most comps servers s (passed counting comps x) kept (IsKept-passed counting most comps x (rw at (kept.each s.0 x within)))
 
 -- a part stays one where the whole grows, and where both do
 part-grown : (part whole k : Params) → k.rho ≤ k.delta → IsPart part whole → IsPart part (plus whole k)
@@ -313,36 +311,33 @@ view-new counting most n d e =
     ap (λ (ys : List ServerNumbers). let m : Numbers = record view { servers = ys } in m)
     (map-replicate (numbers_now counting no_counts) n d ∙ ap (replicate n) e)
 
-none_kept : (counting : Counting) (most : ℕ) → IsKept counting most no_counts (record { sent = no_counts; skipped = no_counts; own = no_counts; mark = no_counts })
-none_kept All most = record {
-  own = record { delta = omega arith; rho = omega arith; rest = omega arith };
-  mark = record { delta = omega arith; rho = omega arith; rest = omega arith };
+-- no counts
+abbrev none_yet : ServerCounts
+none_yet = record { sent = no_counts; skipped = no_counts; own = no_counts; mark = no_counts }
+
+none_counted : (counting : Counting) → IsPart no_counts (counted_at counting no_counts none_yet)
+none_counted All = part_itself no_counts
+none_counted Others = part_itself no_counts
+
+none_kept : (counting : Counting) (most : ℕ) → IsKept counting most no_counts none_yet
+none_kept counting most = record {
+  own = part_itself no_counts;
+  mark = none_counted counting;
   sent_rho = omega arith;
   sent_most = omega arith;
   skipped_rho = omega arith;
   skipped_mark = omega arith;
-  sent_all = λ _. refl;
-}
-none_kept Others most = record {
-  own = record { delta = omega arith; rho = omega arith; rest = omega arith };
-  mark = record { delta = omega arith; rho = omega arith; rest = omega arith };
-  sent_rho = omega arith;
-  sent_most = omega arith;
-  skipped_rho = omega arith;
-  skipped_mark = omega arith;
-  sent_all = λ _. refl;
+  sent_all = λ form. refl;
 }
 
 -- a new tracker keeps nothing of its servers
-pub AreKept-new : (counting : Counting) (most n : ℕ) → AreLimits n most → AreKept counting most no_counts (replicate n (record { sent = no_counts; skipped = no_counts; own = no_counts; mark = no_counts }))
-AreKept-new counting most n limits =
-    let none : ServerCounts = record { sent = no_counts; skipped = no_counts; own = no_counts; mark = no_counts } in
-    record {
-      some_most = limits.some_most;
-      max_limit = limits.max_limit;
-      some_servers = rw length-replicate limits.some_servers;
-      servers_limit = rw length-replicate limits.servers_limit;
-      completions_rho = omega arith;
-      completions_most = omega arith;
-      each = All-replicate (IsKept counting most no_counts) n none (none_kept counting most);
-    }
+pub AreKept-new : (counting : Counting) (most n : ℕ) → AreLimits n most → AreKept counting most no_counts (replicate n none_yet)
+AreKept-new counting most n limits = record {
+  some_most = limits.some_most;
+  max_limit = limits.max_limit;
+  some_servers = rw length-replicate limits.some_servers;
+  servers_limit = rw length-replicate limits.servers_limit;
+  completions_rho = omega arith;
+  completions_most = omega arith;
+  each = All-replicate (IsKept counting most no_counts) n none_yet (none_kept counting most);
+}

@@ -26,39 +26,33 @@ pub record IsReadable (tracker : Numbers) (desk : ServerSide) (s : ServerId) : T
   pub constraint : desk.held.reservation.amount ≤ tracker.completions.rho
 
 module _ (b : BookState) (s : ServerId) (within : s.0 < length b.desks) (h : IsConsistent b) where
+  -- the completions are those of the other servers and what the desk's tills hold
+  completed_delta : b.tracker.completions.delta ≡ (others s b.events).delta + ((desk_at b.desks s).held.reservation.amount + (desk_at b.desks s).held.priority.amount)
+  completed_delta =
+      let held = (h.desks s within).held in
+      omega (arith, ap (λ (x : Params). x.delta) (completions-by_server b.events s), ap (λ (x : Params). x.delta) h.represents.completed, held.reservation, held.priority)
+
+  completed_rho : b.tracker.completions.rho ≡ (others s b.events).rho + (desk_at b.desks s).held.reservation.amount
+  completed_rho =
+      omega (arith, ap (λ (x : Params). x.rho) (completions-by_server b.events s), ap (λ (x : Params). x.rho) h.represents.completed, (h.desks s within).held.reservation)
+
   pub readable : IsReadable b.tracker (desk_at b.desks s) s
-  readable =
-      let d = h.desks s within in
-      let by_server = completions-by_server b.events s in
-      let all = ap (λ (x : Params). x.delta) (by_server) in
-      let constraint = ap (λ (x : Params). x.rho) (by_server) in
-      let all_now = ap (λ (x : Params). x.delta) h.represents.completed in
-      let constraint_now = ap (λ (x : Params). x.rho) h.represents.completed in
-      record {
-        within = omega (arith, h.servers);
-        all = omega (arith, all, all_now, d.held.reservation, d.held.priority);
-        constraint = omega (arith, constraint, constraint_now, d.held.reservation);
-      }
+  readable = record {
+    within = omega (arith, h.servers);
+    all = omega (arith, completed_delta);
+    constraint = omega (arith, completed_rho);
+  }
 
   pub IsStatusOf-read : (status : TrackStatus) → IsReadOff b.tracker (desk_at b.desks s) s status → IsStatusOf b s status
-  IsStatusOf-read status t =
-      let d = h.desks s within in
-      let by_server = completions-by_server b.events s in
-      let all = ap (λ (x : Params). x.delta) (by_server) in
-      let constraint = ap (λ (x : Params). x.rho) (by_server) in
-      let all_now = ap (λ (x : Params). x.delta) h.represents.completed in
-      let constraint_now = ap (λ (x : Params). x.rho) h.represents.completed in
-      record {
-        sent = t.sent;
-        skipped = t.skipped;
-        pending = t.pending;
-        completions = t.completions;
-        counting = t.counting;
-        stamps = t.stamps ∙ d.books.stamps.total;
-        others = same_pair status.others _
-            (omega (arith, t.others_all, all, all_now, d.held.reservation, d.held.priority))
-            (omega (arith, t.others_constraint, constraint, constraint_now, d.held.reservation));
-      }
+  IsStatusOf-read status t = record {
+    sent = t.sent;
+    skipped = t.skipped;
+    pending = t.pending;
+    completions = t.completions;
+    counting = t.counting;
+    stamps = t.stamps ∙ (h.desks s within).books.stamps.total;
+    others = same_pair status.others _ (omega (arith, t.others_all, completed_delta)) (omega (arith, t.others_constraint, completed_rho));
+  }
 
   pub IsWithin-read : (tills : StampHoldings) (status : TrackStatus) → IsReadOff b.tracker (desk_at b.desks s) s status
       → AreWithin tills (desk_at b.desks s).books → IsWithin tills status

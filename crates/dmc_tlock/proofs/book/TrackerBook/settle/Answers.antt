@@ -1,13 +1,30 @@
-use Rattle.std.proofs.Common.{◌≡◌, length, map, drop, refl, sym, ap, ◌∙◌, subst}
+use Rattle.std.proofs.Common.{◌≡◌, ◌++◌, length, map, take, drop, refl, sym, ap, ◌∙◌, subst}
 use Rattle.std.proofs.lemmas.List.{length-map}
-use Rattle.dmc_ledger.specs.Bundles.{ServerSide, StampHoldings, server_side, stamp_holdings}
-use Rattle.dmc_ledger.specs.declared.desk.ServerDesk.{ServerDesk}
+use Rattle.dmc_ledger.specs.Bundles.{StampHoldings, server_side, stamp_holdings}
 use Rattle.dmc_ledger.specs.declared.bundle.StampTills.{StampTills}
 use Rattle.dmc_tlock.specs.Consistent.{IsConsistent}
-use Rattle.dmc_tlock.specs.Settling.{held_of}
+use Rattle.dmc_tlock.specs.Settling.{AreGathered, held_of}
 use Rattle.dmc_tlock.proofs.SettlingLemmas.{settled_desks}
+use Rattle.dmc_tlock.proofs.book.TrackerBook.settle.Given.{Over}
+use Rattle.dmc_tlock.proofs.book.TrackerBook.settle.Goals.{After-gather_pass}
 use Rattle.dmc_tlock.proofs.book.TrackerBook.settle.Goals as goal
 use Rattle.dmc_tag.proofs.Lists.{lent_back}
+
+-- ---- what the paths share
+
+gathered : (g : Over) (c : After-gather_pass g) → AreGathered (map (stamp_holdings {S = g.row.S.Denot}) c.pass.inside.tills.items)
+    (map (server_side {S = g.row.S.Denot}) c.self.inside.desks.items) (map (server_side {S = g.row.S.Denot}) c.gather_pass.new.desks)
+gathered g c = rw c.deref_mut.ensures.value at c.gather_pass.ensures.desks
+
+-- what was lent is all of the desks
+back : (g : Over) (c : After-gather_pass g) → take c.self.inside.desks.len (c.gather_pass.new.desks ++ drop (length c.gather_pass.new.desks) c.self.inside.desks.items) ≡ c.gather_pass.new.desks
+back g c =
+    let items = c.self.inside.desks.items in
+    let new = c.gather_pass.new.desks in
+    let as_many : length new ≡ length items = sym (length-map new (server_side {S = g.row.S.Denot})) ∙ (gathered g c).as_many ∙ length-map items (server_side {S = g.row.S.Denot}) in
+    lent_back new (drop (length new) items) c.self.inside.desks.len (as_many ∙ sym c.self.inside.desks.ok.0)
+
+-- ---- the goals
 
 pub returns-then-not-is_own-clause-own : goal.returns-then-not-is_own-clause-own
 returns-then-not-is_own-clause-own g c =
@@ -24,25 +41,13 @@ returns-clause-own g c = rw (← c.self.view_is, ← c.pass.view_is, ← c.deref
 
 pub returns-clause-desks : goal.returns-clause-desks
 returns-clause-desks g c =
-    let f : ServerDesk g.row.S.Denot → ServerSide = server_side in
-    let items = c.self.inside.desks.items in
-    let new = c.gather_pass.new.desks in
-    let same : c.deref_mut.result.now ≡ items = c.deref_mut.ensures.value in
-    let gathered = rw same at c.gather_pass.ensures.desks in
-    let as_many : length new ≡ length items = sym (length-map new f) ∙ gathered.as_many ∙ length-map items f in
-    let back = lent_back new (drop (length new) items) c.self.inside.desks.len (as_many ∙ sym c.self.inside.desks.ok.0) in
-    rw (← c.self.view_is, ← c.pass.view_is, back) (settled_desks _ _ _ c.self.invariant.0 gathered)
+    let a = (goal.at.returns-clause-desks g c).After-gather_pass in
+    rw (← c.self.view_is, ← c.pass.view_is, back g a) (settled_desks _ _ _ c.self.invariant.0 (gathered g a))
 
 pub returns-clause-gathered : goal.returns-clause-gathered
 returns-clause-gathered g c =
-    let f : ServerDesk g.row.S.Denot → ServerSide = server_side in
-    let items = c.self.inside.desks.items in
-    let new = c.gather_pass.new.desks in
-    let same : c.deref_mut.result.now ≡ items = c.deref_mut.ensures.value in
-    let gathered = rw same at c.gather_pass.ensures.desks in
-    let as_many : length new ≡ length items = sym (length-map new f) ∙ gathered.as_many ∙ length-map items f in
-    let back = lent_back new (drop (length new) items) c.self.inside.desks.len (as_many ∙ sym c.self.inside.desks.ok.0) in
-    rw (← c.self.view_is, ← c.pass.view_is, back) gathered
+    let a = (goal.at.returns-clause-gathered g c).After-gather_pass in
+    rw (← c.self.view_is, ← c.pass.view_is, back g a) (gathered g a)
 
 pub returns-clause-held : goal.returns-clause-held
 returns-clause-held g c =

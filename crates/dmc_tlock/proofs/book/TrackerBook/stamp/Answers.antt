@@ -8,27 +8,27 @@ use Rattle.dmc_tlock.specs.Entries.{side_after_stamp}
 use Rattle.dmc_tlock.specs.Consistent.{IsConsistent}
 use Rattle.dmc_tlock.proofs.DeskLemmas.{found, desks-set}
 use Rattle.dmc_tlock.proofs.ConsistentLemmas.{IsConsistent-stamp, HasRoom, has_room}
+use Rattle.dmc_tlock.proofs.book.TrackerBook.stamp.Given.{Over}
+use Rattle.dmc_tlock.proofs.book.TrackerBook.stamp.Goals.{After-index_mut}
 use Rattle.dmc_tlock.proofs.book.TrackerBook.stamp.Goals as goal
+
+-- the stamp books of the server total no more than the list has entries
+room : (g : Over) (c : After-index_mut g) → HasRoom (length c.self.inside.list.events) (server_side c.index_mut.result.now).books
+room g c =
+    let here = c.self.inside in
+    let within : c.in_ok-index.index < length here.desks.items = search rules in
+    let at = found here.desks.items c.args.server c.in_ok-index.index c.index_mut.result.now c.in_ok-index.ensures.place within c.index_mut.ensures.value in
+    subst (λ (d : ServerSide). HasRoom (length here.list.events) d.books) at.seen (has_room _ c.args.server at.within c.self.invariant.0)
 
 pub issue_stamp-requires-clause-delta : goal.issue_stamp-requires-clause-delta
 issue_stamp-requires-clause-delta g c =
-    let here = c.self.inside in
-    let within : c.in_ok-index.index < length here.desks.items = search rules in
-    let at = found here.desks.items c.args.server c.in_ok-index.index c.index_mut.result.now
-    c.in_ok-index.ensures.place within c.index_mut.ensures.value in
-    let room = subst (λ (d : ServerSide). HasRoom (length here.list.events) d.books) at.seen (has_room _ c.args.server at.within c.self.invariant.0) in
     let few = c.self.invariant.0 in
-    omega (arith, room.delta, few.few, few.within, few.limit)
+    omega (arith, (room g (goal.at.issue_stamp-requires-clause-delta g c).After-index_mut).delta, few.few, few.within, few.limit)
 
 pub issue_stamp-requires-clause-rho : goal.issue_stamp-requires-clause-rho
 issue_stamp-requires-clause-rho g c =
-    let here = c.self.inside in
-    let within : c.in_ok-index.index < length here.desks.items = search rules in
-    let at = found here.desks.items c.args.server c.in_ok-index.index c.index_mut.result.now
-    c.in_ok-index.ensures.place within c.index_mut.ensures.value in
-    let room = subst (λ (d : ServerSide). HasRoom (length here.list.events) d.books) at.seen (has_room _ c.args.server at.within c.self.invariant.0) in
     let few = c.self.invariant.0 in
-    omega (arith, room.rho, few.few, few.within, few.limit)
+    omega (arith, (room g (goal.at.issue_stamp-requires-clause-rho g c).After-index_mut).rho, few.few, few.within, few.limit)
 
 pub returns-clause-book : goal.returns-clause-book
 returns-clause-book g c =

@@ -51,6 +51,7 @@ impl AsFraction for RatioTag {
 }
 
 /// The fraction of each tag.
+#[inline(always)]
 fn tags_in_fractions<T: AsFraction>(tags: Tags<T>) -> Tags<TagFraction>
     ensures { result ≡ tags_in_fractions T.fraction tags }
 {

@@ -136,6 +136,7 @@ impl DmcPulled {
 }
 
 /// Writes the tags of an accepted request.
+#[inline(always)]
 pub fn write_tags(answer: &Result<Reply<TagFraction>, Fault>, out: &mut DmcTags)
     ensures { TagsWritten answer.now out.old out.new }
 {
@@ -145,6 +146,7 @@ pub fn write_tags(answer: &Result<Reply<TagFraction>, Fault>, out: &mut DmcTags)
 }
 
 /// Writes what an accepted pull returned.
+#[inline(always)]
 pub fn write_pulled(answer: &Result<Reply<TagFraction>, Fault>, out: &mut DmcPulled)
     ensures { out.new ≡ pulled_written answer.now out.old }
 {

@@ -1,5 +1,4 @@
 use Rattle.std.proofs.Common.{◌≡◌, ◌+◌, ◌<◌, length, set, refl, sym, ◌∙◌, arith, rules, subst}
-use Rattle.std.proofs.lemmas.Grind.{common_steps}
 use Rattle.std.proofs.lemmas.List.{length-map, length-set}
 use Rattle.dmc_ledger.specs.Bundles.{server_side}
 use Rattle.dmc_tlock.specs.Entries.{side_after_response}
@@ -27,18 +26,3 @@ invariant_of-self-2 g c =
           (rw (← c.self.view_is) (IsConsistent-response _ c.args.server c.args.phase (omega (arith, within, length-map here.desks.items (server_side {S = g.row.S.Denot}))) room c.self.invariant.0)),
       as_many,
     )
-
-pub returns-in_err-index-clause-no_server : goal.returns-in_err-index-clause-no_server
-returns-in_err-index-clause-no_server g c = grind (arith, common_steps)
-
-pub returns-in_err-index-clause-stranger : goal.returns-in_err-index-clause-stranger
-returns-in_err-index-clause-stranger g c = grind (arith, common_steps)
-
-pub returns-in_err-index-clause-track_full : goal.returns-in_err-index-clause-track_full
-returns-in_err-index-clause-track_full g c = grind (arith, common_steps)
-
-pub returns-in_err-index-clause-history_full : goal.returns-in_err-index-clause-history_full
-returns-in_err-index-clause-history_full g c = grind (arith, common_steps)
-
-pub take_unit-requires-clause-its : goal.take_unit-requires-clause-its
-take_unit-requires-clause-its g c = grind (arith, common_steps)

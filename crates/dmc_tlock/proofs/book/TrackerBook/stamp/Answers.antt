@@ -1,5 +1,4 @@
 use Rattle.std.proofs.Common.{◌≡◌, ◌+◌, ◌<◌, length, set, refl, sym, ap, ◌∙◌, arith, rules, subst}
-use Rattle.std.proofs.lemmas.Grind.{common_steps}
 use Rattle.std.proofs.lemmas.List.{length-map, length-set}
 use Rattle.dmc_types.specs.Values.{Params}
 use Rattle.dmc_ledger.specs.Bundles.{ServerSide, server_side}
@@ -49,21 +48,3 @@ invariant_of-self-2 g c =
           (rw (← c.self.view_is) (IsConsistent-stamp _ c.args.server (omega (arith, within, length-map here.desks.items (server_side {S = g.row.S.Denot}))) room c.self.invariant.0)),
       as_many,
     )
-
-pub returns-in_err-index-clause-no_server : goal.returns-in_err-index-clause-no_server
-returns-in_err-index-clause-no_server g c = grind (arith, common_steps)
-
-pub returns-in_err-index-clause-stranger : goal.returns-in_err-index-clause-stranger
-returns-in_err-index-clause-stranger g c = grind (arith, common_steps)
-
-pub returns-in_err-index-clause-track_full : goal.returns-in_err-index-clause-track_full
-returns-in_err-index-clause-track_full g c = grind (arith, common_steps)
-
-pub returns-in_err-index-clause-history_full : goal.returns-in_err-index-clause-history_full
-returns-in_err-index-clause-history_full g c = grind (arith, common_steps)
-
-pub issue_stamp-requires-clause-its : goal.issue_stamp-requires-clause-its
-issue_stamp-requires-clause-its g c = grind (arith, common_steps)
-
-pub issue_stamp-requires-clause-stamps : goal.issue_stamp-requires-clause-stamps
-issue_stamp-requires-clause-stamps g c = grind (arith, common_steps)

@@ -10,7 +10,7 @@ pub mod Counts
 pub mod Enrolling
 -- Clients that come later, and passes that are extended to their desks.
 pub mod Joining
--- What no call through a lock with a witness changes in a queue's book.
+-- What a call through a lock with a witness leaves as it was in a queue's book.
 pub mod Later
 -- Workers that leave.
 pub mod Leaving

@@ -7,7 +7,7 @@ ghost use Rattle.dmc_tag.specs.Replay.{after, replays};
 ghost use Rattle.dmc_tag.specs.Steps.{may_grow};
 ghost use Rattle.dmc_book.specs.BookState.{pass_state, worker_side};
 ghost use Rattle.dmc_book.specs.Calls.{HasNoPlace, Ran, Strays, is_add, lacks_desk, reply_to};
-ghost use Rattle.dmc_book.specs.Later.{IsLater};
+ghost use Rattle.dmc_book.specs.Later.{IsLater, IsReleased};
 ghost use Rattle.dmc_book.specs.Moves.{IsEnrolled, takes};
 ghost use Rattle.dmc_book.specs.Opening.{AreBookLimits, AreNamedOnce, IsNewDesk, new_passes, new_state};
 ghost use Rattle.dmc_book.specs.Renewing.{book_renewed, renewed_pass};
@@ -71,6 +71,8 @@ impl<T: Tag, I: Indexes<T>, S: Setup> Model for QueueBook<T, I, S> {
 
 impl<T: Tag, I: Indexes<T>, S: Setup> Lasting for QueueBook<T, I, S> {
     ghost later = { IsLater };
+
+    ghost released = { IsReleased };
 }
 
 impl<T: Tag, I: Indexes<T>, S: Setup> QueueBook<T, I, S> {

@@ -1,5 +1,5 @@
--- What no call changes, call by call.
-use Rattle.std.proofs.Common.{◌≡◌, ℕ, zero, suc, ◌+◌, ◌≤◌, ◌<◌, arith, slice_index_or, slice_set, List, [], ◌∷◌, map, refl, sym, ap, ◌∙◌, subst}
+-- What each call leaves as it was.
+use Rattle.std.proofs.Common.{◌≡◌, ℕ, zero, suc, ◌≤◌, ◌<◌, arith, slice_index_or, slice_set, List, [], ◌∷◌, map, refl, sym, ap, ◌∙◌, subst}
 use Rattle.std.specs.Prelude.{Bool, Option, Some, None, Result, Ok, Err, IfErr, IfNone, IfOk, IfSome, IsSome, OnErr, OnOk, OnSome, length}
 use Rattle.std.proofs.lemmas.List.{append-nil}
 use Rattle.dmc_types.specs.declared.command.Command.{Command}
@@ -21,7 +21,7 @@ use Rattle.dmc_book.specs.declared.fault.RunOrRange.TheVariants as pull
 use Rattle.dmc_book.specs.declared.fault.SubmitCause.{SubmitCause}
 use Rattle.dmc_book.specs.declared.fault.SubmitCause.TheVariants as submit
 use Rattle.dmc_book.specs.declared.fault.SubmitFault.{SubmitFault}
-use Rattle.dmc_book.specs.Later.{IsLater, desk_numbers, worker_numbers}
+use Rattle.dmc_book.specs.Later.{IsLater, IsReleased, desk_numbers, worker_numbers}
 
 -- each is seen as what it was
 seen_kept : {X Y : Type 0} (f : X → Y) (g : X → X) (xs : List X) → ((x : X) → f (g x) ≡ f x) → map f (map g xs) ≡ map f xs
@@ -36,16 +36,16 @@ seen_set f (w ∷ ws) (suc i) v same = ap (λ ys. f w ∷ ys) (seen_set f ws i v
 
 module _ {T : Type 0} where
   pub later_same : (b : BookState T) → IsLater b b
-  later_same b = record { config = refl; server = refl; first = omega arith; most = refl; workers = refl; desks = refl; rest = []; grown = sym (append-nil b.history) }
+  later_same b = record { config = refl; server = refl; first = refl; most = refl; workers = refl; desks = refl; rest = []; grown = sym (append-nil b.history) }
 
   pub later_closed : (b : BookState T) (closed : Bool) → IsLater b (record b { closed = closed })
-  later_closed b closed = record { config = refl; server = refl; first = omega arith; most = refl; workers = refl; desks = refl; rest = []; grown = sym (append-nil b.history) }
+  later_closed b closed = record { config = refl; server = refl; first = refl; most = refl; workers = refl; desks = refl; rest = []; grown = sym (append-nil b.history) }
 
   later_event : (e : Event T) (b : BookState T) → IsLater b (book_after e b)
   later_event e b = record {
     config = refl;
     server = refl;
-    first = omega arith;
+    first = refl;
     most = refl;
     workers = seen_kept worker_numbers (worker_after e) b.workers (λ w. refl);
     desks = seen_kept desk_numbers (desk_after e) b.desks (λ d. refl);
@@ -53,28 +53,32 @@ module _ {T : Type 0} where
     grown = refl;
   }
 
-  later_released : (b : BookState T) → b.first ≤ length b.history → b.first < b.most → IsLater b (after_rotating b)
-  later_released b within goes_on = record {
+  released_so : (b : BookState T) → b.first ≤ length b.history → b.first < b.most → IsReleased b (after_rotating b)
+  released_so b within goes_on = record {
     config = refl;
     server = refl;
     first = within;
     most = omega (arith, goes_on);
     workers = refl;
     desks = refl;
-    rest = [];
-    grown = sym (append-nil b.history);
+    history = refl;
+    closed = refl;
   }
 
-  pub later_rotated : {X : Type 0} (old new : BookState T) (segment : Option X) → IfSome segment (λ x. new ≡ after_rotating old)
-      → OnSome segment (old.first ≤ length old.history) → (IsSome segment → old.first < old.most) → IfNone segment (new ≡ old) → IsLater old new
-  later_rotated old new (Some x) rotated within goes_on kept = subst (IsLater old) (sym rotated) (later_released old within (goes_on refl))
-  later_rotated old new None rotated within goes_on kept = subst (IsLater old) (sym kept) (later_same old)
+  released_same : (b : BookState T) → IsReleased b b
+  released_same b = record { config = refl; server = refl; first = omega arith; most = refl; workers = refl; desks = refl; history = refl; closed = refl }
+
+  -- a rotation, which may return nothing
+  pub released_if : {X : Type 0} (old new : BookState T) (segment : Option X) → IfSome segment (λ x. new ≡ after_rotating old)
+      → OnSome segment (old.first ≤ length old.history) → (IsSome segment → old.first < old.most) → IfNone segment (new ≡ old) → IsReleased old new
+  released_if old new (Some x) rotated within goes_on kept = subst (IsReleased old) (sym rotated) (released_so old within (goes_on refl))
+  released_if old new None rotated within goes_on kept = subst (IsReleased old) (sym kept) (released_same old)
 
   later_anew : (b : BookState T) (place : ℕ) → IsLater b (book_renewed place b)
   later_anew b place = record {
     config = refl;
     server = refl;
-    first = omega arith;
+    first = refl;
     most = refl;
     workers = seen_set worker_numbers b.workers place (renewed_worker (length b.history) (slice_index_or b.workers place no_worker)) refl;
     desks = refl;

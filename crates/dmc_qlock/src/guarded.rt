@@ -27,7 +27,7 @@ use dmc_queue_history::segment::Segment;
 use dmc_tag::reply::{Pulled, Reply, Tags};
 use dmc_tag::tag::Tag;
 use dmc_tlock::stamp::Stamp;
-use dmc_tlock::witness::{Lasting, NoWitness, Witness};
+use dmc_tlock::witness::{Lasting, NoWitness, ReleaseWitness, Witness};
 use dmc_types::command::Command;
 use dmc_types::ids::{Token, WorkerId};
 use dmc_types::moment::Moment;
@@ -151,11 +151,6 @@ impl<T: Tag, I: Indexes<T>, S: Setup, W: Witness<QueueBook<T, I, S>>> Guarded<
         self.book.pull(pass, at)
     }
 
-    /// Releases the events since the last segment, as the book does.
-    pub(crate) fn rotate(&mut self) -> Option<Segment<T, S>> {
-        self.book.rotate()
-    }
-
     /// Begins the sums of the worker's tokens anew, as the book does.
     pub(crate) fn renew(&mut self, pass: &mut WorkerPass<S>) -> Result<(u64, u64), RunFault>
         ensures tokens { IfOk result (λ sums. sums.0 ≡ (pass_state pass.old).tills.tokens.amount) }
@@ -170,6 +165,16 @@ impl<T: Tag, I: Indexes<T>, S: Setup, W: Witness<QueueBook<T, I, S>>> Guarded<
     /// Takes no more requests from now on.
     pub(crate) fn close(&mut self) {
         self.book.close();
+    }
+}
+
+impl<T: Tag, I: Indexes<T>, S: Setup, W: ReleaseWitness<QueueBook<T, I, S>>> Guarded<
+    QueueBook<T, I, S>,
+    W,
+> {
+    /// Releases the events since the last segment, as the book does.
+    pub(crate) fn rotate(&mut self) -> Option<Segment<T, S>> {
+        self.book.rotate()
     }
 }
 

@@ -29,7 +29,7 @@ use dmc_queue_history::segment::Segment;
 use dmc_tag::reply::{Pulled, Reply, Tags};
 use dmc_tag::tag::Tag;
 use dmc_tlock::stamp::Stamp;
-use dmc_tlock::witness::{Lasting, NoWitness, Witness};
+use dmc_tlock::witness::{Lasting, NoWitness, ReleaseWitness, Witness};
 use dmc_types::command::Command;
 use dmc_types::ids::{ServerId, Token, WorkerId};
 use dmc_types::moment::Moment;
@@ -241,14 +241,6 @@ impl<T: Tag, I: Indexes<T>, S: Setup, W: Witness<QueueBook<T, I, S>>> LockedQueu
         self.guarded.lock(rt).book.status(pass)
     }
 
-    /// Releases the events recorded since the last segment. It does not allocate, and takes a time that does not grow with the
-    /// number of events. `None`, and nothing changes, exactly where the book's `rotate` returns it.
-    ///
-    /// Segments of one lock are parts of one history: `Segment::follows` shows which is the next.
-    pub fn rotate<R: Wait>(&self, rt: &R) -> Option<Segment<T, S>> {
-        self.guarded.lock(rt).rotate()
-    }
-
     /// Begins the sums of the worker's tokens anew: what they were, which is what the pass held. `WorkerPass::needs_renewal`
     /// shows when it is time.
     ///
@@ -267,6 +259,20 @@ impl<T: Tag, I: Indexes<T>, S: Setup, W: Witness<QueueBook<T, I, S>>> LockedQueu
     pub fn close<R: Wait>(&self, rt: &R) {
         self.guarded.lock(rt).close();
         self.changed.notify_all();
+    }
+}
+
+// A witness may say how many events were released. So a lock rotates only where its witness is still true afterwards.
+impl<T: Tag, I: Indexes<T>, S: Setup, W: ReleaseWitness<QueueBook<T, I, S>>> LockedQueue<
+    QueueBook<T, I, S>,
+    W,
+> {
+    /// Releases the events recorded since the last segment. It does not allocate, and takes a time that does not grow with the
+    /// number of events. `None`, and nothing changes, exactly where the book's `rotate` returns it.
+    ///
+    /// Segments of one lock are parts of one history: `Segment::follows` shows which is the next.
+    pub fn rotate<R: Wait>(&self, rt: &R) -> Option<Segment<T, S>> {
+        self.guarded.lock(rt).rotate()
     }
 }
 

@@ -6,7 +6,7 @@ pub mod Causes
 pub mod Consistent
 -- What a stamp and a response do to a tracker's book.
 pub mod Entries
--- What no call of a tracker's book changes.
+-- What a call of a tracker's book leaves as it was.
 pub mod Later
 -- A tracker's book as it is made.
 pub mod Opening

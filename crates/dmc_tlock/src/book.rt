@@ -1,5 +1,5 @@
 //! The tracker book.
-ghost use Rattle.std.specs.Prelude.{◌≡◌, ◌≢◌, ◌+◌, ◌<◌, ◌≤◌, ◌↔◌, drop, length, map, IfNone, IfOk, IfErr, IfSome, IsSome, OnOk, OnErr, IsOk, IsErrAnd, IsErrOf, IsTrue};
+ghost use Rattle.std.specs.Prelude.{◌≡◌, ◌≢◌, ◌+◌, ◌<◌, ◌≤◌, ◌↔◌, drop, length, map, IfNone, IfOk, IfErr, IfSome, IsSome, OnOk, OnErr, OnSome, IsOk, IsErrAnd, IsErrOf, IsTrue};
 ghost use Rattle.dmc_types.specs.declared.ids.ServerId.{ServerId};
 ghost use Rattle.dmc_tracker.specs.Numbers.{IsFullAt, next_params};
 ghost use Rattle.dmc_history.specs.Segments.{max_released};
@@ -233,6 +233,7 @@ impl<S: Setup> TrackerBook<S> {
         ensures segment { IfSome result (λ segment. segment ≡ segment_of self.old) }
         ensures some { IsSome result ↔ (length self.old.events ≤ max_released) }
         ensures rotated { IfSome result (λ _. self.new ≡ after_rotating self.old) }
+        ensures within { OnSome result (self.old.first ≤ length self.old.events) }
         ensures kept { IfNone result (self.new ≡ self.old) }
     {
         self.list.rotate(self.client, self.tracker.counting())

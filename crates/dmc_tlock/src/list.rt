@@ -1,5 +1,5 @@
 //! The list of a tracker's entries, of which the first may have been released.
-ghost use Rattle.std.specs.Prelude.{◌≡◌, ◌↔◌, ◌+◌, ◌<◌, ◌≤◌, [], ◌∷◌, ◌++◌, drop, length, IfNone, IfSome, IsErrOf, IsSome, OnOk};
+ghost use Rattle.std.specs.Prelude.{◌≡◌, ◌↔◌, ◌+◌, ◌<◌, ◌≤◌, [], ◌∷◌, ◌++◌, drop, length, IfNone, IfSome, IsErrOf, IsSome, OnOk, OnSome};
 ghost use Rattle.dmc_types.specs.Limits.{max_events};
 ghost use Rattle.dmc_tracker.specs.TrackerList.{IsTracked};
 ghost use Rattle.dmc_history.specs.Segments.{max_released};
@@ -109,6 +109,7 @@ impl<S: Setup> EntryList<S> {
             segment ≡ record { client = client.0; counting = counting; history = self.old.events; first = self.old.first }) }
         ensures some { IsSome result ↔ (length self.old.events ≤ max_released) }
         ensures rotated { IfSome result (λ _. self.new ≡ list_rotated self.old) }
+        ensures within { OnSome result (self.old.first ≤ length self.old.events) }
         ensures kept { IfNone result (self.new ≡ self.old) }
     {
         let end = self.first + self.kept.len() as u64;

@@ -2,7 +2,7 @@
 ghost use Rattle.std.specs.Prelude.{◌≡◌, ◌≢◌, ◌<◌, IfOk, OnOk, OnErr};
 ghost use Rattle.dmc_ledger.specs.Bundles.{stamp_holdings};
 ghost use Rattle.dmc_ledger.specs.Moves.{tills_after_stamp, with_less};
-ghost use Rattle.dmc_tlock.specs.Later.{IsLater};
+ghost use Rattle.dmc_tlock.specs.Later.{IsLater, IsReleased};
 ghost use Rattle.dmc_tlock.specs.Status.{IsWithin, AreSums};
 
 use crate::book::TrackerBook;
@@ -10,7 +10,7 @@ use crate::fault::{EntryFault, TillFault};
 use crate::segment::TrackerSegment;
 use crate::stamp::Stamp;
 use crate::status::TrackStatus;
-use crate::witness::{Lasting, NoWitness, Witness};
+use crate::witness::{Lasting, NoWitness, ReleaseWitness, Witness};
 use dmc_ledger::bundle::StampTills;
 use dmc_ledger::setup::Setup;
 use dmc_ledger::till::Till;
@@ -22,6 +22,8 @@ use std::sync::{Mutex, Wait};
 
 impl<S: Setup> Lasting for TrackerBook<S> {
     ghost later = { IsLater };
+
+    ghost released = { IsReleased };
 }
 
 /// A book with its witness.
@@ -73,7 +75,9 @@ impl<S: Setup, W: Witness<TrackerBook<S>>> Guarded<TrackerBook<S>, W> {
     {
         self.book.respond(server, phase, till)
     }
+}
 
+impl<S: Setup, W: ReleaseWitness<TrackerBook<S>>> Guarded<TrackerBook<S>, W> {
     /// Releases the entries since the last segment, as the book does.
     fn rotate(&mut self) -> Option<TrackerSegment<S>> {
         self.book.rotate()
@@ -177,7 +181,10 @@ impl<S: Setup, W: Witness<TrackerBook<S>>> LockedTracker<TrackerBook<S>, W> {
     {
         self.guarded.lock(rt).book.status(server, tills)
     }
+}
 
+// A witness may say how many entries were released. So a lock rotates only where its witness is still true afterwards.
+impl<S: Setup, W: ReleaseWitness<TrackerBook<S>>> LockedTracker<TrackerBook<S>, W> {
     /// Releases the entries of the list since the last segment. It does not allocate, and takes a time that does not grow with the
     /// number of entries. `None`, and nothing changes, exactly where the book's `rotate` returns it.
     ///

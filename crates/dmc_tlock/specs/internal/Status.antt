@@ -1,7 +1,6 @@
 -- How a status is read.
 use Rattle.std.specs.Prelude.{◌≡◌, ◌+◌}
 use Rattle.dmc_types.specs.declared.ids.ServerId.{ServerId}
-use Rattle.dmc_tracker.specs.TrackerList.{others, stamps}
 use Rattle.dmc_tracker.specs.Numbers.{Numbers, numbers_at}
 use Rattle.dmc_ledger.specs.Accounts.{total_of}
 use Rattle.dmc_ledger.specs.Bundles.{ServerSide}

@@ -1,6 +1,6 @@
 -- What contracts see of the limits of a run.
 pub mod LimitsValue
--- What each server of a run is opened with, and keeps.
+-- What each server and each client's tracker of a run is opened with, and keeps.
 pub mod Opened
 -- The value where no run was opened.
 pub mod Origins

@@ -1,10 +1,12 @@
--- What each server of a run is opened with, and keeps.
-use Rattle.std.specs.Prelude.{◌≡◌, ℕ, ◌+◌, ◌≤◌, List, ◌++◌, map}
-use Rattle.std.proofs.Common.{ap, arith, ◌∙◌}
+-- What each server and each client's tracker of a run is opened with, and keeps.
+use Rattle.std.specs.Prelude.{◌≡◌, List, ◌++◌, map}
+use Rattle.std.proofs.Common.{ap, ◌∙◌}
 use Rattle.std.proofs.lemmas.List.{append_assoc, map-append}
 use Rattle.dmc_types.specs.declared.command.Command.{Command}
 use Rattle.dmc_types.specs.declared.command.Command.TheVariants.{Register}
 use Rattle.dmc_tag.specs.declared.event.Event.{Event}
+use Rattle.dmc_tlock.specs.BookState as tracker_book
+use Rattle.dmc_tlock.specs.Later as tracker_later
 use Rattle.dmc_book.specs.BookState.{BookState}
 use Rattle.dmc_book.specs.Later.{IsLater}
 use Rattle.dmc_scene.specs.SceneValue.{ClientValue, SceneValue}
@@ -23,22 +25,31 @@ pub record IsRegistered {T : Type 0} (clients : List ClientValue) (history : Lis
   pub rest : List Command
   pub commands : commands_of history ≡ map registration clients ++ rest
 
--- a server's book: how long its history may become while no event is released, and that the clients were registered before
--- anything else
+-- a server's book: its configuration and how long its history may become, that no event was released, and that the clients were
+-- registered before anything else
 pub record IsOpenedBook {T : Type 0} (scene : SceneValue) (limits : LimitsValue) (book : BookState T) : Type 0 where
-  pub most : book.first ≡ 0 → book.most ≡ limits.events
+  pub config : book.config ≡ scene.config
+  pub first : book.first ≡ 0
+  pub most : book.most ≡ limits.events
   pub registered : IsRegistered scene.clients book.history
 
--- a history that grows begins as before
+-- a client's tracker: which completions it counts, how many of them, and how long its list may become; and that no entry was
+-- released
+pub record IsOpenedTracker (scene : SceneValue) (limits : LimitsValue) (book : tracker_book.BookState) : Type 0 where
+  pub counting : book.tracker.counting ≡ scene.counting
+  pub most : book.tracker.most ≡ limits.completions
+  pub first : book.first ≡ 0
+  pub max_events : book.max_events ≡ limits.events
+
+-- what a lock's calls keep: a history that grows begins as before
 pub opened_stays : {T : Type 0} (scene : SceneValue) (limits : LimitsValue) (old new : BookState T)
     → IsLater old new → IsOpenedBook scene limits old → IsOpenedBook scene limits new
 opened_stays {T} scene limits old new later h =
     let f : Event T → Command = (λ e. e.command) in
     record {
-      most = λ whole. (
-          let was : old.first ≡ 0 = omega (arith, later.first, whole) in
-          let kept = h.most was in
-          omega (arith, later.most, whole, was, kept));
+      config = later.config ∙ h.config;
+      first = later.first ∙ h.first;
+      most = later.most ∙ h.most;
       registered = record {
         rest = h.registered.rest ++ map f later.rest;
         commands = ap (map f) later.grown ∙ map-append f old.history later.rest
@@ -46,6 +57,15 @@ opened_stays {T} scene limits old new later h =
             ∙ append_assoc (map registration scene.clients) h.registered.rest (map f later.rest);
       };
     }
+
+pub tracker_stays : (scene : SceneValue) (limits : LimitsValue) (old new : tracker_book.BookState)
+    → tracker_later.IsLater old new → IsOpenedTracker scene limits old → IsOpenedTracker scene limits new
+tracker_stays scene limits old new later h = record {
+  counting = later.counting ∙ h.counting;
+  most = later.most ∙ h.most;
+  first = later.first ∙ h.first;
+  max_events = later.max_events ∙ h.max_events;
+}
 
 -- some witness says this of the book
 abbrev pub IsWitnessed : {W B : Type 0} → (W → B → Type 0) → B → Type 0

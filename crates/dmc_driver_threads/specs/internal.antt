@@ -1,4 +1,6 @@
 -- Which refusal a worker reports as the cause of its stop.
 pub mod Causes
+-- What a server's book is made with, and keeps while the clients are registered.
+pub mod Books
 -- What contracts see of the desks of a cluster while they are opened.
 pub mod Desks

@@ -4,7 +4,7 @@ use crate::bell::{Doorbell, Ring};
 use crate::cause::{of_entry, of_submit};
 use crate::cluster::Cluster;
 use crate::moments::Moments;
-use crate::origin::{AsOpened, Origin, ServerLock};
+use crate::origin::{AsOpened, ClientLock, Origin, ServerLock};
 use dmc_book::book::QueueBook;
 use dmc_book::pass::WorkerPass;
 use dmc_index::index::Indexes;
@@ -12,7 +12,6 @@ use dmc_ledger::bundle::StampTills;
 use dmc_ledger::setup::Setup;
 use dmc_settle::report::StopCause;
 use dmc_tag::tag::Tag;
-use dmc_tlock::lock::TrackerLock;
 use dmc_tlock::pass::ClientPass;
 use dmc_types::ids::{ServerId, Token};
 use dmc_types::moment::Moment;
@@ -127,7 +126,7 @@ where
 /// Stamps a request at its client's tracker, and submits it at the server's queue.
 fn submit<T: Tag, I: Indexes<T>, S: Origin, R: Wait>(
     rt: &R,
-    tracker: &TrackerLock<S>,
+    tracker: &ClientLock<S>,
     queue: &ServerLock<T, I, S>,
     pass: &mut WorkerPass<S>,
     tills: &mut StampTills<S>,

@@ -1,9 +1,10 @@
 //! Gathers what the threads of a run leave.
 ghost use Rattle.std.specs.Prelude.{◌≡◌, [], All};
-ghost use Rattle.dmc_driver_threads.specs.Opened.{IsWitnessed};
+ghost use Rattle.dmc_driver_threads.specs.Opened.{IsOpenedTracker, IsWitnessed};
 
 use crate::client_worker::ClientJob;
 use crate::cluster::Cluster;
+use crate::origin::{ClientLock, Origin};
 use crate::remains::Remains;
 use crate::server_worker::ServerJob;
 use dmc_book::pass::WorkerPass;
@@ -13,23 +14,31 @@ use dmc_settle::report::{ClientReport, ServerReport, StopCause};
 use dmc_settle::settle::Passes;
 use dmc_tag::tag::Tag;
 use dmc_tlock::book::TrackerBook;
-use dmc_tlock::lock::TrackerLock;
 use dmc_tlock::witness::{Lasting, Witness};
+
+/// Room for the books that are taken out of their locks.
+#[derive(Drop)]
+pub(crate) struct Room<B, S: Setup> {
+    pub(crate) books: Vec<B>,
+    pub(crate) trackers: Vec<TrackerBook<S>>,
+}
 
 /// Gathers what was shared, and what the jobs of the clients' and the servers' workers hold. The books go where there is room
 /// for them.
-pub(crate) fn gather<T: Tag, B: Lasting + Drop, W: Witness<B> + Drop, S: Setup>(
+pub(crate) fn gather<T: Tag, B: Lasting + Drop, W: Witness<B> + Drop, S: Origin>(
     cluster: Cluster<B, W, S>,
     clients: Vec<ClientJob<S>>,
     servers: Vec<ServerJob<S>>,
-    room: Vec<B>,
+    room: Room<B, S>,
     remains: &mut Remains<T, B, S>,
 )
-    requires { room.items ≡ [] }
-    ensures { All (IsWitnessed W.holds) remains.new.books.items }
+    requires books { room.books.items ≡ [] }
+    requires trackers { room.trackers.items ≡ [] }
+    ensures books { All (IsWitnessed W.holds) remains.new.books.items }
+    ensures trackers { All (IsOpenedTracker S.scene S.limits) remains.new.trackers.items }
 {
-    remains.books = take_books(cluster.queues, room);
-    take_trackers(cluster.trackers, &mut remains.trackers);
+    remains.books = take_books(cluster.queues, room.books);
+    remains.trackers = take_trackers(cluster.trackers, room.trackers);
     let rows = &mut remains.report.clients;
     gather_clients(clients, &mut remains.passes, rows);
     gather_servers(
@@ -57,11 +66,20 @@ fn take_books<B: Lasting + Drop, W: Witness<B> + Drop>(
     books
 }
 
-/// Takes the tracker books out of their locks.
-fn take_trackers<S: Setup>(locks: Vec<TrackerLock<S>>, books: &mut Vec<TrackerBook<S>>) {
+/// Takes the tracker books out of their locks. There is room for them.
+fn take_trackers<S: Origin>(
+    locks: Vec<ClientLock<S>>,
+    room: Vec<TrackerBook<S>>,
+) -> Vec<TrackerBook<S>>
+    requires { room.items ≡ [] }
+    ensures { All (IsOpenedTracker S.scene S.limits) result.items }
+{
+    let mut books = room;
     for lock in locks {
-        let _ = books.push(lock.into_book());
+        let (book, _) = lock.into_parts();
+        let _ = books.push(book);
     }
+    books
 }
 
 /// Gathers what the clients' workers leave.

@@ -17,7 +17,6 @@ use clients::{no_senders, reserve_senders};
 use dmc_book::book::QueueBook;
 use dmc_index::index::Indexes;
 use dmc_ledger::mint::Mint;
-use dmc_ledger::setup::Setup;
 use dmc_scene::scene::Scene;
 use dmc_tag::tag::Tag;
 use dmc_tlock::witness::{Lasting, Witness};
@@ -26,7 +25,7 @@ use std::alloc::{AllocError, Global};
 
 /// The workers of a run, what they share, and room for what they leave.
 #[derive(Drop)]
-pub(crate) struct Opened<T: Tag, B: Lasting, W: Witness<B>, S: Setup> {
+pub(crate) struct Opened<T: Tag, B: Lasting, W: Witness<B>, S: Origin> {
     pub(crate) cluster: Cluster<B, W, S>,
     /// The clients' workers.
     pub(crate) senders: Senders<S>,
@@ -70,7 +69,7 @@ pub(crate) fn open<T: Tag, I: Indexes<T>, S: Origin>(
 
 impl<'a> Opening<'a> {
     /// No client and no server yet, with room for the clients' ids.
-    fn none_opened<T: Tag, B: Lasting, W: Witness<B>, S: Setup>(
+    fn none_opened<T: Tag, B: Lasting, W: Witness<B>, S: Origin>(
         &self,
     ) -> Result<Opened<T, B, W, S>, AllocError> {
         let alloc = self.alloc;
@@ -104,7 +103,7 @@ impl<'a> Opening<'a> {
     }
 
     /// Makes room for the clients and the servers.
-    fn reserve_all<T: Tag, B: Lasting, W: Witness<B>, S: Setup>(
+    fn reserve_all<T: Tag, B: Lasting, W: Witness<B>, S: Origin>(
         &self,
         opened: &mut Opened<T, B, W, S>,
     ) -> Result<(), AllocError> {
@@ -126,7 +125,7 @@ impl<'a> Opening<'a> {
 }
 
 /// Makes room for this number of trackers and queues.
-fn reserve_locks<B: Lasting, W: Witness<B>, S: Setup>(
+fn reserve_locks<B: Lasting, W: Witness<B>, S: Origin>(
     clients: usize,
     servers: usize,
     cluster: &mut Cluster<B, W, S>,

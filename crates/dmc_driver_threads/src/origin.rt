@@ -1,7 +1,7 @@
-//! What a run was opened with, which the locks of its servers keep.
+//! What a run was opened with, which the locks of its servers and of its clients' trackers keep.
 ghost use Rattle.dmc_scene.specs.SceneValue.{SceneValue};
 ghost use Rattle.dmc_driver_threads.specs.LimitsValue.{LimitsValue};
-ghost use Rattle.dmc_driver_threads.specs.Opened.{IsOpenedBook, opened_stays};
+ghost use Rattle.dmc_driver_threads.specs.Opened.{IsOpenedBook, IsOpenedTracker, opened_stays, tracker_stays};
 ghost use Rattle.dmc_driver_threads.specs.Origins.{no_limits, no_scene};
 
 use dmc_book::book::QueueBook;
@@ -9,6 +9,8 @@ use dmc_index::index::Indexes;
 use dmc_ledger::setup::Setup;
 use dmc_qlock::lock::LockedQueue;
 use dmc_tag::tag::Tag;
+use dmc_tlock::book::TrackerBook;
+use dmc_tlock::lock::LockedTracker;
 use dmc_tlock::witness::Witness;
 use std::marker::{Brand, PhantomData};
 
@@ -26,7 +28,8 @@ impl Origin for Brand {
     ghost limits = { no_limits };
 }
 
-/// Lies beside a server's book behind its lock, and says what the book was opened with.
+/// Lies beside a server's book or a client's tracker behind its lock, and says what that was opened with: that nothing was
+/// released, too. So these locks have no `rotate`.
 #[derive(Drop)]
 pub(crate) struct AsOpened<S: Origin> {
     of: PhantomData<S>,
@@ -44,5 +47,14 @@ impl<T: Tag, I: Indexes<T>, S: Origin> Witness<QueueBook<T, I, S>> for AsOpened<
     ghost stays = { λ _ old new later held. opened_stays S.scene S.limits old new later held };
 }
 
+impl<S: Origin> Witness<TrackerBook<S>> for AsOpened<S> {
+    ghost holds = { λ _ book. IsOpenedTracker S.scene S.limits book };
+
+    ghost stays = { λ _ old new later held. tracker_stays S.scene S.limits old new later held };
+}
+
 /// A server's book behind its lock.
 pub(crate) type ServerLock<T, I, S> = LockedQueue<QueueBook<T, I, S>, AsOpened<S>>;
+
+/// A client's tracker behind its lock.
+pub(crate) type ClientLock<S> = LockedTracker<TrackerBook<S>, AsOpened<S>>;

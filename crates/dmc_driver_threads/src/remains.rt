@@ -38,12 +38,11 @@ pub(crate) fn no_remains<T: Tag, B, S: Setup>(alloc: Global) -> Remains<T, B, S>
     }
 }
 
-/// Makes room for what this number of clients leaves.
+/// Makes room for what this number of clients leaves beside their trackers' books.
 pub(crate) fn reserve_of_clients<T: Tag, B, S: Setup>(
     clients: usize,
     remains: &mut Remains<T, B, S>,
 ) -> Result<(), AllocError> {
-    remains.trackers.reserve_exact(clients)?;
     remains.passes.clients.reserve_exact(clients)?;
     remains.report.clients.reserve_exact(clients)?;
     Ok(())

@@ -4,7 +4,7 @@ use crate::bell::{Ring, Ringer};
 use crate::cause::{of_entry, of_pull};
 use crate::cluster::Cluster;
 use crate::moments::Moments;
-use crate::origin::{AsOpened, Origin, ServerLock};
+use crate::origin::{AsOpened, ClientLock, Origin, ServerLock};
 use crate::service::{Job, Service};
 use dmc_book::book::QueueBook;
 use dmc_book::pass::WorkerPass;
@@ -13,7 +13,6 @@ use dmc_ledger::setup::Setup;
 use dmc_settle::report::StopCause;
 use dmc_tag::reply::Pulled;
 use dmc_tag::tag::Tag;
-use dmc_tlock::lock::TrackerLock;
 use dmc_tlock::witness::{Lasting, Witness};
 use dmc_types::ids::ServerId;
 use std::sync::Wait;
@@ -131,7 +130,7 @@ where
 }
 
 /// Has a granted request served, and rings its client.
-fn complete<B: Lasting, W: Witness<B>, S: Setup, V: Service, R: Wait>(
+fn complete<B: Lasting, W: Witness<B>, S: Origin, V: Service, R: Wait>(
     rt: &R,
     cluster: &Cluster<B, W, S>,
     service: &V,
@@ -149,9 +148,9 @@ fn complete<B: Lasting, W: Witness<B>, S: Setup, V: Service, R: Wait>(
 }
 
 /// Responds for a granted request to the client at a place, and rings at its door.
-fn notify_client<S: Setup, R: Wait>(
+fn notify_client<S: Origin, R: Wait>(
     rt: &R,
-    trackers: &[TrackerLock<S>],
+    trackers: &[ClientLock<S>],
     place: usize,
     granted: &Job,
     job: &mut ServerJob<S>,
@@ -174,9 +173,9 @@ fn count_failure(failures: &mut [u64], place: usize) {
 }
 
 /// Responds for a granted request at its client's tracker, which takes a unit of the grant.
-fn respond<S: Setup, R: Wait>(
+fn respond<S: Origin, R: Wait>(
     rt: &R,
-    tracker: &TrackerLock<S>,
+    tracker: &ClientLock<S>,
     granted: &Job,
     pass: &mut WorkerPass<S>,
 ) -> Result<(), StopCause> {

@@ -1,9 +1,9 @@
 //! The workers of a scene's cluster, from the first to the last.
 ghost use Rattle.std.specs.Prelude.{◌≡◌, [], All, IfOk};
-ghost use Rattle.dmc_driver_threads.specs.Opened.{IsOpenedBook};
+ghost use Rattle.dmc_driver_threads.specs.Opened.{IsOpenedBook, IsOpenedTracker};
 
 use crate::fault::OpenFault;
-use crate::gathering::gather;
+use crate::gathering::{Room, gather};
 use crate::limits::Limits;
 use crate::moments::Moments;
 use crate::opening::{Opened, open};
@@ -23,8 +23,9 @@ use std::thread::Threads;
 /// Opens the clients and servers of a scene, runs a thread for each of their workers until all of them have ended, and returns
 /// what they leave. A fault comes before any thread is started.
 ///
-/// Every book that they leave begins with the registrations of the scene's clients, and has the limit of its history. Nothing else
-/// is promised of what they leave. `settle_cluster` looks at it all, and proves the report of a run from that.
+/// Every queue's book that they leave begins with the registrations of the scene's clients, and has the scene's configuration and
+/// the limit of its history. Every tracker's counts as the scene says, within its limits. None of them has released anything.
+/// Nothing else is promised of what they leave. `settle_cluster` looks at it all, and proves the report of a run from that.
 pub fn run_workers<T, S, V, M, R>(
     rt: &R,
     alloc: Global,
@@ -42,9 +43,12 @@ where
     R: Threads + Wait + Sync,
     requires scene { S.scene ≡ scene.now }
     requires limits { S.limits ≡ limits }
-    ensures { IfOk result (λ remains. All (IsOpenedBook scene.now limits) remains.books.items) }
+    ensures books { IfOk result (λ remains. All (IsOpenedBook scene.now limits) remains.books.items) }
+    ensures trackers { IfOk result (λ remains. All (IsOpenedTracker scene.now limits) remains.trackers.items) }
 {
-    let room = Vec::with_capacity(alloc, scene.servers() as usize)?;
+    let trackers = Vec::with_capacity(alloc, scene.clients().len())?;
+    let books = Vec::with_capacity(alloc, scene.servers() as usize)?;
+    let room = Room { books, trackers };
     let opened = open::<T, HeapIndexes, S>(alloc, mint, scene, limits)?;
     Ok(run_opened(rt, service, moments, opened, room))
 }
@@ -55,7 +59,7 @@ fn run_opened<T, S, V, M, R>(
     service: &V,
     moments: &M,
     opened: Opened<T, QueueBook<T, HeapIndexes, S>, AsOpened<S>, S>,
-    room: Vec<QueueBook<T, HeapIndexes, S>>,
+    room: Room<QueueBook<T, HeapIndexes, S>, S>,
 ) -> Remains<T, QueueBook<T, HeapIndexes, S>, S>
 where
     T: Tag + Send + Sync,
@@ -63,8 +67,10 @@ where
     V: Service + Sync,
     M: Moments + Sync,
     R: Threads + Wait + Sync,
-    requires { room.items ≡ [] }
-    ensures { All (IsOpenedBook S.scene S.limits) result.books.items }
+    requires books { room.books.items ≡ [] }
+    requires trackers { room.trackers.items ≡ [] }
+    ensures books { All (IsOpenedBook S.scene S.limits) result.books.items }
+    ensures trackers { All (IsOpenedTracker S.scene S.limits) result.trackers.items }
 {
     let Opened {
         cluster,

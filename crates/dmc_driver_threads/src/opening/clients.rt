@@ -1,11 +1,12 @@
 //! The clients of a run, opened: their trackers, doorbells and plans.
-ghost use Rattle.std.specs.Prelude.{◌<◌, ◌≤◌};
+ghost use Rattle.std.specs.Prelude.{◌≡◌, ◌<◌, ◌≤◌};
 
 use super::desks::{QueueDesks, TrackerDesks, open_pairs};
 use super::{Opened, Opening, push_last};
 use crate::bell::{Doorbell, Ringer, hang_bell};
 use crate::client_worker::ClientJob;
 use crate::fault::{OpenFault, of_make};
+use crate::origin::{AsOpened, ClientLock, Origin};
 use crate::threads::Senders;
 use dmc_ledger::mint::Mint;
 use dmc_ledger::setup::Setup;
@@ -13,7 +14,7 @@ use dmc_scene::client::SceneClient;
 use dmc_settle::report::{ClientReport, StopCause};
 use dmc_tag::tag::Tag;
 use dmc_tlock::book::TrackerBook;
-use dmc_tlock::lock::TrackerLock;
+use dmc_tlock::lock::LockedTracker;
 use dmc_tlock::pass::ClientPass;
 use dmc_tlock::settled::StampsHeld;
 use dmc_tlock::witness::{Lasting, Witness};
@@ -41,12 +42,15 @@ pub(crate) fn reserve_senders<S: Setup>(
 
 impl<'a> Opening<'a> {
     /// Opens the clients in order, with a desk of each at each of these servers.
-    pub(super) fn open_clients<T: Tag, B: Lasting, W: Witness<B>, S: Setup>(
+    pub(super) fn open_clients<T: Tag, B: Lasting, W: Witness<B>, S: Origin>(
         &self,
         mint: &mut Mint<S>,
         queues: &mut [QueueDesks<S>],
         opened: &mut Opened<T, B, W, S>,
-    ) -> Result<(), OpenFault> {
+    ) -> Result<(), OpenFault>
+        requires scene { S.scene ≡ self.now.scene.now }
+        requires limits { S.limits ≡ self.now.limits }
+    {
         for client in self.scene.clients() {
             self.open_client(mint, *client, queues, opened)?;
         }
@@ -54,13 +58,16 @@ impl<'a> Opening<'a> {
     }
 
     /// The next client: its id and its row, its desks, its tracker and its worker.
-    fn open_client<T: Tag, B: Lasting, W: Witness<B>, S: Setup>(
+    fn open_client<T: Tag, B: Lasting, W: Witness<B>, S: Origin>(
         &self,
         mint: &mut Mint<S>,
         client: SceneClient,
         queues: &mut [QueueDesks<S>],
         opened: &mut Opened<T, B, W, S>,
-    ) -> Result<(), OpenFault> {
+    ) -> Result<(), OpenFault>
+        requires scene { S.scene ≡ self.now.scene.now }
+        requires limits { S.limits ≡ self.now.limits }
+    {
         opened.cluster.ids.insert(client.id())?;
         push_last(new_row(client.id()), &mut opened.remains.report.clients)?;
         let desks = open_pairs(self.alloc, mint, client.id(), queues)?;
@@ -70,18 +77,21 @@ impl<'a> Opening<'a> {
     }
 
     /// A client's tracker behind its lock, the next one, and the client's pass.
-    fn open_tracker<S: Setup>(
+    fn open_tracker<S: Origin>(
         &self,
         desks: TrackerDesks<S>,
-        trackers: &mut Vec<TrackerLock<S>>,
-    ) -> Result<ClientPass<S>, OpenFault> {
+        trackers: &mut Vec<ClientLock<S>>,
+    ) -> Result<ClientPass<S>, OpenFault>
+        requires scene { S.scene ≡ self.now.scene.now }
+        requires limits { S.limits ≡ self.now.limits }
+    {
         let TrackerDesks { client, desks } = desks;
         let most = u64::from(self.limits.completions());
         let events = self.limits.events();
         let counting = self.scene.counting();
         match TrackerBook::new(self.alloc, client, desks, most, events, counting) {
             Ok((book, tills)) => {
-                push_last(TrackerLock::new(book), trackers)?;
+                push_last(LockedTracker::with_witness(book, AsOpened::new()), trackers)?;
                 Ok(tills)
             }
             Err(fault) => Err(of_make(fault.cause)),

@@ -1,6 +1,7 @@
 //! The servers of a run, opened: their queues, at which every client is registered, and their workers.
 ghost use Rattle.std.specs.Prelude.{◌≡◌, ◌++◌, ◌∷◌, [], map, IfOk, OnOk};
 ghost use Rattle.dmc_driver_threads.specs.Opened.{IsOpenedBook, commands_of, registration};
+ghost use Rattle.dmc_driver_threads.specs.internal.Books.{IsNewBook, IsSetAsBefore};
 
 use super::desks::QueueDesks;
 use super::{Opened, Opening, push_last};
@@ -99,8 +100,7 @@ impl<'a> Opening<'a> {
         mint: &mut Mint<S>,
         desks: QueueDesks<S>,
     ) -> Result<(QueueBook<T, I, S>, Vec<WorkerPass<S>>), OpenFault>
-        ensures most { IfOk result (λ made. made.0.most ≡ self.now.limits.events) }
-        ensures history { IfOk result (λ made. made.0.history ≡ []) }
+        ensures { IfOk result (λ made. IsNewBook self.now.scene.now self.now.limits made.0) }
     {
         let QueueDesks { server, desks } = desks;
         let workers = self.enroll(server)?;
@@ -139,7 +139,7 @@ impl<'a> Opening<'a> {
         passes: &mut [WorkerPass<S>],
     ) -> Result<Vec<StopCause>, OpenFault>
         requires { book.old.history ≡ [] }
-        ensures most { OnOk result (book.new.most ≡ book.old.most) }
+        ensures kept { OnOk result (IsSetAsBefore book.old book.new) }
         ensures registered { OnOk result (commands_of book.new.history ≡ map registration self.now.scene.now.clients) }
     {
         let Some(pass) = passes.first_mut() else {
@@ -223,7 +223,7 @@ fn register_each<T: Tag, I: Indexes<T>, S: Setup>(
     stops: &mut Vec<StopCause>,
 ) -> Result<(), OpenFault>
     requires { book.old.history ≡ [] }
-    ensures most { OnOk result (book.new.most ≡ book.old.most) }
+    ensures kept { OnOk result (IsSetAsBefore book.old book.new) }
     ensures registered { OnOk result (commands_of book.new.history ≡ map registration clients.now) }
 {
     for client in clients {
@@ -239,7 +239,7 @@ fn register<T: Tag, I: Indexes<T>, S: Setup>(
     client: SceneClient,
     stops: &mut Vec<StopCause>,
 ) -> Result<(), OpenFault>
-    ensures most { OnOk result (book.new.most ≡ book.old.most) }
+    ensures kept { OnOk result (IsSetAsBefore book.old book.new) }
     ensures registered { OnOk result (commands_of book.new.history ≡ commands_of book.old.history ++ registration client ∷ []) }
 {
     let command = Command::Register {

@@ -1,10 +1,16 @@
 use Rattle.std.proofs.Common.{subst}
 use Rattle.std.specs.Prelude.{All}
-use Rattle.dmc_driver_threads.specs.Opened.{IsOpenedBook}
+use Rattle.dmc_driver_threads.specs.Opened.{IsOpenedBook, IsOpenedTracker}
 use Rattle.dmc_driver_threads.proofs.workers.run_workers.Goals as goal
 
-pub returns : goal.returns
-returns g c =
+pub returns-clause-books : goal.returns-clause-books
+returns-clause-books g c =
     let books = c.run_opened.result.books.items in
     subst (λ limits. All (IsOpenedBook c.args.scene.now limits) books) c.requires.limits
-    (subst (λ scene. All (IsOpenedBook scene g.S.Origin.limits) books) c.requires.scene c.run_opened.ensures)
+    (subst (λ scene. All (IsOpenedBook scene g.S.Origin.limits) books) c.requires.scene c.run_opened.ensures.books)
+
+pub returns-clause-trackers : goal.returns-clause-trackers
+returns-clause-trackers g c =
+    let trackers = c.run_opened.result.trackers.items in
+    subst (λ limits. All (IsOpenedTracker c.args.scene.now limits) trackers) c.requires.limits
+    (subst (λ scene. All (IsOpenedTracker scene g.S.Origin.limits) trackers) c.requires.scene c.run_opened.ensures.trackers)

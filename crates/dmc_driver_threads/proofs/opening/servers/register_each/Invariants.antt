@@ -1,9 +1,10 @@
 use Rattle.std.proofs.Common.{◌≡◌, map, take}
 use Rattle.dmc_driver_threads.specs.Opened.{commands_of, registration}
+use Rattle.dmc_driver_threads.specs.internal.Books.{IsSetAsBefore}
 use Rattle.dmc_driver_threads.proofs.opening.servers.register_each.Given as goal
 
 abbrev pub invariant-loop-client : goal.invariant-loop-client
 invariant-loop-client g l = record {
-  most : l.book.most ≡ l.fn.book.most;
+  kept : IsSetAsBefore l.fn.book l.book;
   registered : commands_of l.book.history ≡ map registration (take l.client-index l.clients);
 }

@@ -94,9 +94,10 @@ impl<T: Tag, S: Setup> SegmentedHistory<T, S> {
         &self.kept
     }
 
-    /// How many events it has, released or not.
+    /// How many events it has, released or not: no more than there may be.
     pub fn len(&self) -> u64
         ensures value { result ≡ length self.now.events }
+        ensures within { result ≤ self.now.most }
         ensures few { self.now.first ≤ max_released }
         ensures limit { self.now.most ≤ self.now.first + max_events }
     {

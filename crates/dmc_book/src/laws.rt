@@ -1,6 +1,6 @@
 //! What holds of every queue's book, by its type, wherever the book came from: out of a lock that was opened, for one. Each
 //! law is the contract of a function that changes nothing: a caller that calls it knows the law.
-ghost use Rattle.std.specs.Prelude.{◌⊎◌, List, Option};
+ghost use Rattle.std.specs.Prelude.{◌≤◌, ◌⊎◌, List, Option, length};
 ghost use Rattle.std.specs.List.{AllByRecursion};
 ghost use Rattle.dmc_head_index.specs.Heads as heads_of;
 ghost use Rattle.dmc_head_index.specs.Heads.{Ranks};
@@ -41,6 +41,15 @@ pub fn grants_are_of_desks<T: Tag, I: Indexes<T>, S: Setup>(book: &QueueBook<T, 
 {
     let accounts = &book.accounts;
     let _ = &accounts.desks;
+}
+
+/// The length: the history has at most `most` events, where those that were released count in both numbers. So a book of which
+/// nothing was released has no more events than the `most` that it was made with.
+pub fn history_keeps_to_most<T: Tag, I: Indexes<T>, S: Setup>(book: &QueueBook<T, I, S>)
+    ensures { length book.now.history ≤ book.now.most }
+{
+    let accounts = &book.accounts;
+    let _ = accounts.history.len();
 }
 
 /// The bound of the limits: from an accepted add of a client, a_i, to a grant of a_k in phase Priority, not beyond, hz times the

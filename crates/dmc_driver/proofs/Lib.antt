@@ -1,2 +1,2 @@
 pub mod WalkLemmas
-pub mod Within
+pub mod SettledLemmas

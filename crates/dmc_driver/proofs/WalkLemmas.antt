@@ -1,14 +1,18 @@
--- One step more of the walks over a history and over stops.
-use Rattle.std.proofs.Common.{◌≡◌, ℕ, ◌+◌, ◌<◌, ◌≤◌, ◌==◌, ◌&&◌, Bool, true, false, List, [], ◌∷◌, ◌++◌, Option, Some, None, map, take, get_or, length, slice_get, sym, ap, ◌∙◌, inl, inr, arith}
-use Rattle.std.specs.Option.{option_and_then}
-use Rattle.std.proofs.lemmas.List.{append-nil, append_assoc, length-take-le, map-append, take_all, take_more}
-use Rattle.std.proofs.lemmas.Option.{get_or_from_slice_get, slice_get_cases, slice_get_within}
+-- The walks over a history and over stops: one step more, and the end.
+use Rattle.std.proofs.Common.{◌≡◌, ◌↔◌, ℕ, zero, suc, ◌+◌, ◌<◌, ◌≤◌, ◌==◌, ◌&&◌, Bool, true, false, List, [], ◌∷◌, ◌++◌, Option, Some, map, take, drop, get_or, length, slice_get, refl, sym, ap, ◌∙◌, subst, inl, inr, arith, eq-eqb}
+use Rattle.std.proofs.lemmas.Bool.{cases_lt, eqb-true}
+use Rattle.std.specs.Global.{Vec}
+use Rattle.std.specs.Option.{option_and_then, option_map}
+use Rattle.std.proofs.lemmas.List.{append-nil, append_assoc, append_cancel_left, length-append, length-map, length-take-le, map-append, nil_from_length, take-append-drop, take-take, take_all, take_more}
+use Rattle.std.proofs.lemmas.Option.{get_or_from_slice_get, none-some, same_Some, slice_get-map, slice_get_cases, slice_get_within}
 use Rattle.dmc_tag.specs.declared.event.Event.{Event}
 use Rattle.dmc_book.specs.Counts.{count, is_miss, one_if}
+use Rattle.dmc_scene.specs.SceneValue.{SceneValue}
 use Rattle.dmc_settle.specs.declared.report.StopCause.{StopCause}
-use Rattle.dmc_driver.specs.Stops.{causes, first_refused, listed, refused}
+use Rattle.dmc_settle.specs.declared.report.ClusterReport.{ClusterReport}
+use Rattle.dmc_driver.specs.Stops.{AreExplained, AreServerStops, causes, ends_of, first_refused, listed, refused}
 use Rattle.dmc_driver.specs.declared.stops.Calls.{Calls}
-use Rattle.dmc_driver.specs.internal.Walks.{calls_in, refused_at, with_event}
+use Rattle.dmc_driver.specs.internal.Walks.{AreClientEnds, AreStopsOfServers, calls_in, refused_at, with_event}
 
 -- a list up to a place, with the item there
 taken : {X : Type 0} (xs : List X) (i : ℕ) (x : X) → slice_get xs i ≡ Some x → take (i + 1) xs ≡ take i xs ++ x ∷ []
@@ -60,10 +64,14 @@ few_calls {T} worker events i calls within h =
 
 -- ---- stops
 
-pub causes_more : (ends : List (Option StopCause)) (end : Option StopCause) → causes (ends ++ end ∷ []) ≡ causes ends ++ listed end
-causes_more [] end = append-nil (listed end)
-causes_more (x ∷ ends) end = ap (λ ys. listed x ++ ys) (causes_more ends end) ∙ sym (append_assoc (listed x) (causes ends) (listed end))
+causes_append : (xs ys : List (Option StopCause)) → causes (xs ++ ys) ≡ causes xs ++ causes ys
+causes_append [] ys = refl
+causes_append (x ∷ xs) ys = ap (λ zs. listed x ++ zs) (causes_append xs ys) ∙ sym (append_assoc (listed x) (causes xs) (causes ys))
 
+causes_more : (ends : List (Option StopCause)) (end : Option StopCause) → causes (ends ++ end ∷ []) ≡ causes ends ++ listed end
+causes_more ends end = causes_append ends (end ∷ []) ∙ ap (λ ys. causes ends ++ ys) (append-nil (listed end))
+
+-- what was refused of one command more, and of all commands after some
 pub refused_more : {T : Type 0} (events : List (Event T)) (i : ℕ) → first_refused (i + 1) events ≡ first_refused i events ++ listed (refused_at i events)
 refused_more {T} events i =
     let f : Event T → Option StopCause = (λ e. refused e.reply) in
@@ -75,15 +83,98 @@ refused_more {T} events i =
           ∙ ap (λ o. before ++ listed (option_and_then f o)) (sym p.1)
     ]
 
--- the stop at a place
-pub past_one : (stops : List StopCause) (place : ℕ) (cause : StopCause) → slice_get stops place ≡ Some cause
-    → take (place + 1) stops ≡ take place stops ++ listed (Some cause)
-past_one stops place cause at = taken stops place cause at
+pub refused_after : {T : Type 0} (events : List (Event T)) (i n : ℕ) → i ≤ n → (more : List StopCause) × (first_refused n events ≡ first_refused i events ++ more)
+refused_after {T} events i n within =
+    let f : Event T → Option StopCause = (λ e. refused e.reply) in
+    let es = take n events in
+    let more = causes (map f (drop i es)) in
+    let split = ap (λ (xs : List (Event T)). causes (map f xs)) (sym (take-append-drop i es)) ∙ ap causes (map-append f (take i es) (drop i es)) in
+    let apart = causes_append (map f (take i es)) (map f (drop i es)) in
+    let front = ap (λ (xs : List (Event T)). causes (map f xs) ++ more) (take-take i n events within) in
+    (more, split ∙ apart ∙ front)
 
-pub past_none : (stops : List StopCause) (place : ℕ) → take place stops ≡ take place stops ++ listed None
-past_none stops place = sym (append-nil (take place stops))
-
--- one end more
+-- one end more, and all ends after some
 pub ends_more : (ends : List (Option StopCause)) (i : ℕ) (d : Option StopCause) → i < length ends
     → causes (take (i + 1) ends) ≡ causes (take i ends) ++ listed (get_or ends i d)
 ends_more ends i d within = ap causes (take_more ends i d within) ∙ causes_more (take i ends) (get_or ends i d)
+
+pub ends_after : (ends : List (Option StopCause)) (i : ℕ) → causes ends ≡ causes (take i ends) ++ causes (drop i ends)
+ends_after ends i = ap causes (sym (take-append-drop i ends)) ∙ causes_append (take i ends) (drop i ends)
+
+-- ---- the rest of a list, after what it begins with
+
+-- it begins with one part more, where the rest begins with that
+pub rest_more : (stops before here rest after : List StopCause) → stops ≡ before ++ rest → rest ≡ here ++ after → stops ≡ (before ++ here) ++ after
+rest_more stops before here rest after at is = at ∙ ap (λ xs. before ++ xs) is ∙ sym (append_assoc before here after)
+
+-- and with no list that has this part there, where the rest does not
+pub rest_other : (stops before here more rest : List StopCause) → stops ≡ before ++ rest → ((after : List StopCause) → rest ≡ here ++ after → ⊥)
+    → (after : List StopCause) → stops ≡ ((before ++ here) ++ more) ++ after → ⊥
+rest_other stops before here more rest at none after is =
+    none (more ++ after) (append_cancel_left before rest (here ++ (more ++ after))
+    (sym at ∙ is ∙ append_assoc (before ++ here) more after ∙ append_assoc before here (more ++ after)))
+
+-- nothing is left exactly where the list is the two parts
+pub none_left : (stops front back others rest : List StopCause) → stops ≡ front ++ others → others ≡ back ++ rest
+    → (((length rest == 0) ≡ true) ↔ (stops ≡ front ++ back))
+none_left stops front back others rest at is = (
+  (λ e. at ∙ ap (λ xs. front ++ xs) (is ∙ ap (λ xs. back ++ xs) (nil_from_length rest (eqb-true (length rest) 0 e)) ∙ append-nil back)),
+  (λ same.
+      let all : others ≡ back = append_cancel_left front others back (sym at ∙ same) in
+      eq-eqb (length rest) 0 (omega (arith, ap length (sym is ∙ all), length-append back rest))),
+)
+
+-- where the rest does not begin with the second part, the list is not the two parts
+pub other_rest : (stops front back others : List StopCause) → stops ≡ front ++ others → ((rest : List StopCause) → others ≡ back ++ rest → ⊥) → stops ≡ front ++ back → ⊥
+other_rest stops front back others at none same = none [] (append_cancel_left front others back (sym at ∙ same) ∙ sym (append-nil back))
+
+-- ---- servers
+
+-- a place of a list that is seen through a function
+got_seen : {X Y : Type 0} (f : X → Y) (xs : List X) (k : ℕ) (y : Y) → slice_get (map f xs) k ≡ Some y → (x : X) × (slice_get xs k ≡ Some x) × (f x ≡ y)
+got_seen f [] k y at = absurd (none-some y at)
+got_seen f (x ∷ xs) zero y at = (x, refl, same_Some (f x) y at)
+got_seen f (x ∷ xs) (suc k) y at = got_seen f xs k y at
+
+abbrev seen : Vec (Option StopCause) → List (Option StopCause)
+seen own = own.items
+
+pub explained : {T : Type 0} (scene : SceneValue) (ends : List (Vec (Option StopCause))) (r : ClusterReport T)
+    → AreStopsOfServers scene ends r.servers.items → AreClientEnds scene.clients r.clients.items → AreExplained scene (ends_of ends) r
+explained scene ends r by_server by_client = record {
+  ends_of_each = length-map ends seen ∙ by_server.ends_of_each;
+  servers = λ k s own at_s at_own.
+      let v = got_seen seen ends k own at_own in
+      subst (λ (xs : List (Option StopCause)). AreServerStops scene k xs s) v.2 (by_server.each k s v.0 at_s v.1);
+  clients = by_client;
+}
+
+pub of_servers : {T : Type 0} (scene : SceneValue) (ends : List (Vec (Option StopCause))) (r : ClusterReport T)
+    → AreExplained scene (ends_of ends) r → AreStopsOfServers scene ends r.servers.items
+of_servers scene ends r h = record {
+  ends_of_each = sym (length-map ends seen) ∙ h.ends_of_each;
+  each = λ k s own at_s at_own. h.servers k s own.items at_s (slice_get-map seen ends k ∙ ap (option_map seen) at_own);
+}
+
+-- what holds of each item up to a place, and of the one there; and the same of two lists
+pub item_more : {X : Type 0} (P : ℕ → X → Type 0) (xs : List X) (k : ℕ) (x : X) → slice_get xs k ≡ Some x → P k x
+    → ((j : ℕ) (a : X) → j < k → slice_get xs j ≡ Some a → P j a) → (j : ℕ) (a : X) → j < k + 1 → slice_get xs j ≡ Some a → P j a
+item_more {X} P xs k x at_x here below j a within at_a = elim (cases_lt j k) [
+  | inl less ↦ below j a less at_a
+  | inr past ↦
+      let same : j ≡ k = omega (arith, within, past) in
+      let to_a : x ≡ a = same_Some x a (sym at_x ∙ ap (slice_get xs) (sym same) ∙ at_a) in
+      subst (λ (i : ℕ). P i a) (sym same) (subst (λ (z : X). P k z) to_a here)
+]
+
+pub each_more : {X Y : Type 0} (P : ℕ → X → Y → Type 0) (xs : List X) (ys : List Y) (k : ℕ) (x : X) (y : Y) → slice_get xs k ≡ Some x → slice_get ys k ≡ Some y → P k x y
+    → ((j : ℕ) (a : X) (b : Y) → j < k → slice_get xs j ≡ Some a → slice_get ys j ≡ Some b → P j a b)
+    → (j : ℕ) (a : X) (b : Y) → j < k + 1 → slice_get xs j ≡ Some a → slice_get ys j ≡ Some b → P j a b
+each_more {X} {Y} P xs ys k x y at_x at_y here below j a b within at_a at_b = elim (cases_lt j k) [
+  | inl less ↦ below j a b less at_a at_b
+  | inr past ↦
+      let same : j ≡ k = omega (arith, within, past) in
+      let to_a : x ≡ a = same_Some x a (sym at_x ∙ ap (slice_get xs) (sym same) ∙ at_a) in
+      let to_b : y ≡ b = same_Some y b (sym at_y ∙ ap (slice_get ys) (sym same) ∙ at_b) in
+      subst (λ (i : ℕ). P i a b) (sym same) (subst (λ (z : X). P k z b) to_a (subst (λ (z : Y). P k x z) to_b here))
+]

@@ -1,5 +1,5 @@
 -- What is promised of a run, however it ends.
-use Rattle.std.specs.Prelude.{◌≤◌, ⊤, Result, Ok, Err, length, All}
+use Rattle.std.specs.Prelude.{◌≡◌, ◌≤◌, ◌⊎◌, ⊤, List, Option, Result, Ok, Err, length, All}
 use Rattle.dmc_types.specs.Limits.{max_events, max_run_completions}
 use Rattle.dmc_tag.specs.Tag.{Tagging}
 use Rattle.dmc_tracker.specs.TrackerList.{completions}
@@ -9,9 +9,10 @@ use Rattle.dmc_driver_threads.specs.Opened.{IsRegistered}
 use Rattle.dmc_settle.specs.Circle.{AreCircles}
 use Rattle.dmc_settle.specs.Left.{AreTogether, Left}
 use Rattle.dmc_settle.specs.Reports.{IsReport, IsReportOf}
+use Rattle.dmc_settle.specs.declared.report.StopCause.{StopCause}
 use Rattle.dmc_settle.specs.declared.report.ClusterReport.{ClusterReport}
 use Rattle.dmc_driver.specs.Done.{IsDone, RanOut}
-use Rattle.dmc_driver.specs.Stops.{AreStops}
+use Rattle.dmc_driver.specs.Stops.{AreExplained, AreStops}
 use Rattle.dmc_driver.specs.declared.fault.DriveFault.{DriveFault}
 use Rattle.dmc_driver.specs.declared.fault.DriveFault.TheVariants.{Memory, Torn, TurnsOut, Stopped}
 
@@ -40,16 +41,21 @@ pub record IsRun {T : Type 0} (scene : SceneValue) (limits : LimitsValue) (left 
 
 -- ---- the report
 
--- The report is the one of what the threads left. So `held` is what was left in the passes, and `completed` the tracker's
--- completions. The stops are those that the histories explain.
-pub record IsRunReport {T : Type 0} (ops : Tagging T) (scene : SceneValue) (limits : LimitsValue) (r : ClusterReport T) : Type 0 where
-  pub left : Left T
+-- The report is the one of what was left, which is a run of the scene. So `held` is what was left in the passes, and `completed`
+-- the tracker's completions.
+pub record IsReportOfLeft {T : Type 0} (ops : Tagging T) (scene : SceneValue) (limits : LimitsValue) (left : Left T) (r : ClusterReport T) : Type 0 where
   pub run : IsRun scene limits left
   pub its : IsReportOf left r
   pub report : IsReport ops scene r
+
+-- It is the one of what the threads left, and the stops are those that the histories explain.
+pub record IsRunReport {T : Type 0} (ops : Tagging T) (scene : SceneValue) (limits : LimitsValue) (r : ClusterReport T) : Type 0 where
+  pub left : Left T
+  pub of_left : IsReportOfLeft ops scene limits left r
   pub stops : AreStops scene r
 
--- a report, if there is one, is of this kind
+-- A report, if there is one, is of this kind. When a run is torn is said of what the threads left, by `Settles`: that is not in the
+-- result.
 abbrev pub Reports : {T : Type 0} → Tagging T → SceneValue → LimitsValue → Result (ClusterReport T) (DriveFault T) → Type 0
 Reports ops scene limits (Ok r) = IsRunReport ops scene limits r
 Reports ops scene limits (Err Memory) = ⊤
@@ -64,3 +70,19 @@ EndsSo scene (Err Memory) = ⊤
 EndsSo scene (Err Torn) = ⊤
 EndsSo scene (Err (TurnsOut r)) = (IsDone scene r → ⊥) × RanOut r
 EndsSo scene (Err (Stopped r)) = (IsDone scene r → ⊥) × (RanOut r → ⊥)
+
+-- ---- what comes of what was left
+
+-- By a report, where the servers' own workers ended so: torn exactly where the histories do not explain that, and with the report
+-- where they do.
+abbrev pub EndsWith : {T : Type 0} → SceneValue → List (List (Option StopCause)) → ClusterReport T → Result (ClusterReport T) (DriveFault T) → Type 0
+EndsWith scene ends r (Ok given) = (given ≡ r) × AreExplained scene ends r
+EndsWith scene ends r (Err Memory) = ⊥
+EndsWith scene ends r (Err Torn) = AreExplained scene ends r → ⊥
+EndsWith scene ends r (Err (TurnsOut given)) = (given ≡ r) × AreExplained scene ends r
+EndsWith scene ends r (Err (Stopped given)) = (given ≡ r) × AreExplained scene ends r
+
+-- And by what was left: torn where that does not belong together, and else as its report says.
+abbrev pub Settles : {T : Type 0} → Tagging T → SceneValue → LimitsValue → Left T → List (List (Option StopCause)) → Result (ClusterReport T) (DriveFault T) → Type 0
+Settles {T} ops scene limits left ends result =
+    ((AreTogether scene left → ⊥) × (result ≡ Err Torn)) ⊎ ((r : ClusterReport T) × IsReportOfLeft ops scene limits left r × EndsWith scene ends r result)

@@ -1,5 +1,6 @@
 -- Why the threads of a run stopped, by what the servers' histories have of them.
 use Rattle.std.specs.Prelude.{◌≡◌, ℕ, ◌+◌, ◌*◌, ◌<◌, ◌≤◌, ◌==◌, ◌&&◌, List, [], ◌∷◌, ◌++◌, Option, Some, None, length, map, slice_get, take}
+use Rattle.std.specs.Global.{Vec}
 use Rattle.dmc_tag.specs.declared.event.Event.{Event}
 use Rattle.dmc_tag.specs.declared.reply.Reply.{Reply}
 use Rattle.dmc_tag.specs.declared.reply.Reply.TheVariants as reply
@@ -75,10 +76,9 @@ refused (reply.Refused refusal) = Some (Refused refusal)
 abbrev pub first_refused : {T : Type 0} → ℕ → List (Event T) → List StopCause
 first_refused {T} n events = causes (map (λ (e : Event T). refused e.reply) (take n events))
 
--- Each of its own workers ended as its history says. Its stops are what was refused of the registrations, which are the first
+-- Each of its own workers ended so as its history says. Its stops are what was refused of the registrations, which are the first
 -- commands, and then those of its workers, in their order.
-pub record AreServerStops {T : Type 0} (scene : SceneValue) (server : ℕ) (r : ServerReport T) : Type 0 where
-  pub ends : List (Option StopCause)
+pub record AreServerStops {T : Type 0} (scene : SceneValue) (server : ℕ) (ends : List (Option StopCause)) (r : ServerReport T) : Type 0 where
   pub an_end_each : length ends ≡ scene.workers
   pub explained : (k : ℕ) (end : Option StopCause) → slice_get ends k ≡ Some end → IsEndAt scene server r.history.events k end
   pub stops : r.stops.items ≡ first_refused (length scene.clients) r.history.events ++ causes ends
@@ -99,7 +99,18 @@ IsClientEnd requests sent (Some Stray) = ⊥
 
 -- ---- all of them
 
-pub record AreStops {T : Type 0} (scene : SceneValue) (r : ClusterReport T) : Type 0 where
-  pub servers : (k : ℕ) (s : ServerReport T) → slice_get r.servers.items k ≡ Some s → AreServerStops scene k s
+-- how the own workers of each server ended, as plain data
+abbrev pub ends_of : List (Vec (Option StopCause)) → List (List (Option StopCause))
+ends_of ends = map (λ (own : Vec (Option StopCause)). own.items) ends
+
+-- The histories explain the stops of the report, where the servers' own workers ended so, server by server.
+pub record AreExplained {T : Type 0} (scene : SceneValue) (ends : List (List (Option StopCause))) (r : ClusterReport T) : Type 0 where
+  pub ends_of_each : length ends ≡ length r.servers.items
+  pub servers : (k : ℕ) (s : ServerReport T) (own : List (Option StopCause)) → slice_get r.servers.items k ≡ Some s
+      → slice_get ends k ≡ Some own → AreServerStops scene k own s
   pub clients : (k : ℕ) (client : ClientValue) (c : ClientReport) → slice_get scene.clients k ≡ Some client
       → slice_get r.clients.items k ≡ Some c → IsClientEnd client.requests c.sent c.stop
+
+-- they are, where the servers' own workers ended in some way
+abbrev pub AreStops : {T : Type 0} → SceneValue → ClusterReport T → Type 0
+AreStops scene r = (ends : List (List (Option StopCause))) × AreExplained scene ends r

@@ -1,4 +1,4 @@
--- What is known of a report on the way to the promise of a run.
-pub mod Settled
+-- What is looked at in the rows of a report.
+pub mod Rows
 -- What the walks over a history and over stops have found so far.
 pub mod Walks

@@ -1,13 +1,12 @@
 //! How a run ends, by its report.
-ghost use Rattle.std.specs.Prelude.{◌≡◌, ◌↔◌, All, IfOk, IsTrue, length};
+ghost use Rattle.std.specs.Prelude.{◌≡◌, ◌↔◌, All, IsTrue, length};
 ghost use Rattle.dmc_driver.specs.Done.{IsClientDone, IsDone, IsServerDone, RanOut};
-ghost use Rattle.dmc_driver.specs.Ending.{EndsSo, Reports};
-ghost use Rattle.dmc_driver.specs.internal.Settled.{AreClientsDone, AreCompletionsWithin, AreHistoriesWithin, AreRowsWithin, IsSettledReport, RanOutAt};
+ghost use Rattle.dmc_driver.specs.Ending.{EndsSo, EndsWith};
+ghost use Rattle.dmc_driver.specs.internal.Rows.{AreClientsDone, RanOutAt};
+ghost use Rattle.dmc_driver.specs.Stops.{ends_of};
 
 use crate::fault::DriveFault;
 use crate::stops::are_stops;
-use dmc_driver_threads::fault::OpenFault;
-use dmc_driver_threads::limits::Limits;
 use dmc_scene::client::SceneClient;
 use dmc_scene::scene::Scene;
 use dmc_settle::report::{ClientReport, ClusterReport, ServerReport, StopCause};
@@ -83,50 +82,17 @@ fn ran_out<T: Tag>(report: &ClusterReport<T>) -> bool
     false
 }
 
-/// Whether no history has more events than this.
-fn are_histories_within<T: Tag>(rows: &[ServerReport<T>], most: u32) -> bool
-    ensures { IsTrue result ↔ AreHistoriesWithin most rows.now }
-{
-    rows.iter().all(|row| row.history.len() <= most as usize)
-}
-
-/// Whether no client has more completions than this.
-fn are_completions_within(rows: &[ClientReport], most: u32) -> bool
-    ensures { IsTrue result ↔ AreCompletionsWithin most rows.now }
-{
-    rows.iter().all(|row| row.completed <= u64::from(most))
-}
-
-/// Whether the report is within these limits.
-fn are_within<T: Tag>(report: &ClusterReport<T>, limits: Limits) -> bool
-    ensures { IsTrue result ↔ AreRowsWithin limits report.now }
-{
-    are_histories_within(&report.servers, limits.events())
-        && are_completions_within(&report.clients, limits.completions())
-}
-
-/// The report of a run, and why each server's own workers stopped, those that did.
-#[derive(Drop)]
-pub(crate) struct Reported<T: Tag> {
-    pub(crate) report: ClusterReport<T>,
-    pub(crate) ends: Vec<Vec<Option<StopCause>>>,
-}
-
-/// How a run with these limits ends, by its report, where the servers' workers ended so.
-fn end<T: Tag>(
+/// How a run ends, by its report, where the servers' own workers ended so.
+pub(crate) fn end<T: Tag>(
     scene: &Scene,
-    limits: Limits,
     report: ClusterReport<T>,
     ends: &[Vec<Option<StopCause>>],
 ) -> Result<ClusterReport<T>, DriveFault<T>>
-    requires { IsSettledReport T.ops scene.now report }
-    ensures report { Reports T.ops scene.now limits result }
+    requires servers { length report.servers.items ≡ scene.now.servers }
+    requires clients { length report.clients.items ≡ length scene.now.clients }
+    ensures report { EndsWith scene.now (ends_of ends.now) report result }
     ensures ending { EndsSo scene.now result }
 {
-    if !are_within(&report, limits) {
-        // The books were made with these limits.
-        return Err(DriveFault::Torn);
-    }
     if !are_stops(scene, &report, ends) {
         // A worker that stopped says why, and its history says the same.
         return Err(DriveFault::Torn);
@@ -137,25 +103,5 @@ fn end<T: Tag>(
         Err(DriveFault::TurnsOut(report))
     } else {
         Err(DriveFault::Stopped(report))
-    }
-}
-
-/// How a run with these limits ends, by its report or for want of one.
-pub(crate) fn end_run<T: Tag>(
-    scene: &Scene,
-    limits: Limits,
-    reported: Result<Reported<T>, OpenFault>,
-) -> Result<ClusterReport<T>, DriveFault<T>>
-    requires { IfOk reported (λ r. IsSettledReport T.ops scene.now r.report) }
-    ensures report { Reports T.ops scene.now limits result }
-    ensures ending { EndsSo scene.now result }
-{
-    match reported {
-        Ok(reported) => {
-            let Reported { report, ends } = reported;
-            end(scene, limits, report, &ends)
-        }
-        Err(OpenFault::Memory) => Err(DriveFault::Memory),
-        Err(OpenFault::Torn) => Err(DriveFault::Torn),
     }
 }

@@ -5,6 +5,7 @@ mod ending;
 pub mod fault;
 pub mod run;
 mod stops;
+mod within;
 
 /// How long the histories of a run may grow, and how far its trackers count.
 pub mod limits {

@@ -1,14 +1,16 @@
 //! A run of a scene's cluster.
-ghost use Rattle.std.specs.Prelude.{◌≡◌, ◌<◌, ◌≤◌, All, IfOk};
+ghost use Rattle.std.specs.Prelude.{◌≡◌, ◌<◌, ◌≤◌, All};
 ghost use Rattle.dmc_types.specs.Limits.{max_books};
-ghost use Rattle.dmc_driver_threads.specs.Opened.{IsRegistered};
-ghost use Rattle.dmc_driver.specs.Ending.{EndsSo, Reports, widest};
-ghost use Rattle.dmc_driver.specs.internal.Settled.{IsSettledReport};
+ghost use Rattle.dmc_driver_threads.specs.Opened.{IsOpenedBook, IsOpenedTracker, books_of};
+ghost use Rattle.dmc_settle.specs.Left.{left_of, stops_of};
+ghost use Rattle.dmc_settle.specs.Reports.{AreRows};
+ghost use Rattle.dmc_driver.specs.Ending.{EndsSo, Reports, Settles, widest};
+ghost use Rattle.dmc_driver.specs.Stops.{ends_of};
 
-use crate::ending::{Reported, end_run};
+use crate::ending::end;
 use crate::fault::DriveFault;
+use crate::within::{count_within, keep_to_most};
 use dmc_book::book::QueueBook;
-use dmc_driver_threads::fault::OpenFault;
 use dmc_driver_threads::limits::Limits;
 use dmc_driver_threads::moments::Moments;
 use dmc_driver_threads::origin::Origin;
@@ -34,6 +36,9 @@ use std::thread::Threads;
 /// Each client's worker sends its requests to the servers that its plan names, with at most its window outstanding. Each worker of
 /// a server pulls, has what is granted served, and responds. The answer is Ok where every client sent and completed its requests,
 /// nothing is left, and no worker stopped; otherwise see `DriveFault`. Want of memory in a thread is a stop in the report.
+///
+/// Where it is `Torn`, `settle_run` is, whose contract says exactly when; neither opening nor a limit is a reason. That it never
+/// is, is not proved: a contract does not follow a value through a lock, so it cannot say which book a thread finds behind one.
 pub fn run_cluster<T, R, V, M>(
     rt: &R,
     alloc: Global,
@@ -70,12 +75,13 @@ where
     ensures ending { EndsSo scene.now result }
 {
     let blank = Blank::new(books_of(scene));
-    let reported = run_in::<T, Brand, R, V, M>(rt, alloc, blank, scene, service, moments, limits);
-    end_run(scene, limits, reported)
+    run_in::<T, Brand, R, V, M>(rt, alloc, blank, scene, service, moments, limits)
 }
 
-/// How many books a run opens: five of each client at each server, and five of each worker that a server enrols.
+/// How many books a run opens: five of each client at each server, five of each worker that a server enrols, and the number of
+/// each server's history.
 fn books_of(scene: &Scene) -> u64
+    ensures value { result ≡ books_of scene.now }
     ensures some { 0 < result }
     ensures limit { result ≤ max_books }
 {
@@ -85,7 +91,7 @@ fn books_of(scene: &Scene) -> u64
     servers * at_each
 }
 
-/// The report of a run in a set-up of its own.
+/// A run in a set-up of its own.
 fn run_in<T, S, R, V, M>(
     rt: &R,
     alloc: Global,
@@ -94,7 +100,7 @@ fn run_in<T, S, R, V, M>(
     service: &V,
     moments: &M,
     limits: Limits,
-) -> Result<Reported<T>, OpenFault>
+) -> Result<ClusterReport<T>, DriveFault<T>>
 where
     T: Tag + Send + Sync,
     S: Origin + Send + Sync,
@@ -102,26 +108,36 @@ where
     V: Service + Sync,
     M: Moments + Sync,
     requires name { blank.name ≡ S.name }
+    requires numbers { blank.books ≡ books_of scene.now }
     requires scene { S.scene ≡ scene.now }
     requires limits { S.limits ≡ limits }
-    ensures { IfOk result (λ r. IsSettledReport T.ops scene.now r.report) }
+    ensures report { Reports T.ops scene.now limits result }
+    ensures ending { EndsSo scene.now result }
 {
     let mut mint = blank.open::<S>();
     let room = SettleRoom::new(alloc, scene.servers())?;
     let remains = run_workers(rt, alloc, &mut mint, scene, service, moments, limits)?;
-    settle_remains(alloc, scene, remains, room)
+    settle_run(alloc, scene, limits, remains, room)
 }
 
-/// Settles what the workers of a run leave.
-fn settle_remains<T: Tag, I: Indexes<T>, S: Setup>(
+/// Settles what the workers of a run with these limits left, and reports the result: the last step of `run_limited`. It is `Torn`
+/// where that does not belong together, and where it does and the histories do not explain how the workers ended; for no other
+/// reason. It does not allocate.
+pub fn settle_run<T: Tag, I: Indexes<T>, S: Setup>(
     alloc: Global,
     scene: &Scene,
+    limits: Limits,
     remains: Remains<T, QueueBook<T, I, S>, S>,
     room: SettleRoom<S>,
-) -> Result<Reported<T>, OpenFault>
+) -> Result<ClusterReport<T>, DriveFault<T>>
     requires room { scene.now.servers ≤ room }
-    requires registered { All (λ book. IsRegistered scene.now.clients book.history) remains.books.items }
-    ensures { IfOk result (λ r. IsSettledReport T.ops scene.now r.report) }
+    requires books { All (IsOpenedBook scene.now limits) remains.books.items }
+    requires trackers { All (IsOpenedTracker scene.now limits) remains.trackers.items }
+    requires rows { AreRows scene.now remains.report }
+    ensures settled { Settles T.ops scene.now limits
+        (left_of remains.books.items remains.trackers.items remains.passes (stops_of remains.report))
+        (ends_of remains.ends.items) result }
+    ensures ending { EndsSo scene.now result }
 {
     let Remains {
         mut books,
@@ -130,8 +146,10 @@ fn settle_remains<T: Tag, I: Indexes<T>, S: Setup>(
         report,
         ends,
     } = remains;
+    keep_to_most(&books);
+    count_within(&trackers);
     match settle_cluster(alloc, scene, &mut books, trackers, passes, report, room) {
-        Ok(report) => Ok(Reported { report, ends }),
-        Err(_) => Err(OpenFault::Torn),
+        Ok(report) => end(scene, report, &ends),
+        Err(_) => Err(DriveFault::Torn),
     }
 }

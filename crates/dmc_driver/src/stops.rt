@@ -1,9 +1,8 @@
 //! Whether the stops of a run are those that the servers' histories explain.
-ghost use Rattle.std.specs.Prelude.{◌≡◌, ◌+◌, ◌<◌, ◌≤◌, ◌^◌, ◌++◌, ◌&&◌, ◌==◌, ◌↔◌, IfSome, IsTrue, length, take};
+ghost use Rattle.std.specs.Prelude.{◌≡◌, ◌+◌, ◌<◌, ◌≤◌, ◌^◌, ◌++◌, ◌&&◌, ◌==◌, ◌↔◌, IsTrue, length};
 ghost use Rattle.dmc_book.specs.Counts.{is_miss};
-ghost use Rattle.dmc_types.specs.Limits.{max_servers};
-ghost use Rattle.dmc_driver.specs.Stops.{AreServerStops, AreStops, IsClientEnd, IsEndAt, IsServerEnd, IsServerStop, causes, first_refused, own_worker, refused};
-ghost use Rattle.dmc_driver.specs.internal.Walks.{AreClientEnds, AreEnds, AreStopsOfServers, IsPast, calls_in, refused_at, with_event};
+ghost use Rattle.dmc_driver.specs.Stops.{AreExplained, AreServerStops, IsClientEnd, IsEndAt, IsServerEnd, IsServerStop, causes, ends_of, first_refused, listed, own_worker, refused};
+ghost use Rattle.dmc_driver.specs.internal.Walks.{AreClientEnds, AreEnds, AreStopsOfServers, IsRestAfter, calls_in, refused_at, with_event};
 
 use dmc_queue_history::history::EventHistory;
 use dmc_scene::client::SceneClient;
@@ -124,7 +123,7 @@ fn are_ends<T: Tag>(
 ) -> bool
     requires servers { server < scene.now.servers }
     requires an_end_each { length ends.now ≡ scene.now.workers }
-    ensures { IsTrue result → AreEnds scene.now server history.now.events ends.now }
+    ensures { IsTrue result ↔ AreEnds scene.now server history.now.events ends.now }
 {
     for k in 0..scene.workers() {
         if !is_end_at(scene, server, history, k, ends[k as usize]) {
@@ -154,43 +153,41 @@ fn refused_at<T: Tag>(place: usize, history: &EventHistory<T>) -> Option<StopCau
     }
 }
 
-/// The place after a stop, if it is one, where it is the one at this place.
-fn past(place: usize, stop: Option<StopCause>, stops: &[StopCause]) -> Option<usize>
-    ensures { IfSome result (IsPast place stop stops.now) }
+/// The stops after this one, if it is one; `None` where it is not the first of them.
+fn after_stop(stop: Option<StopCause>, stops: &[StopCause]) -> Option<&[StopCause]>
+    ensures { IsRestAfter (listed stop) stops.now result }
 {
     let Some(cause) = stop else {
-        return Some(place);
+        return Some(stops);
     };
-    if stops.get(place) != Some(&cause) {
-        return None;
-    }
-    Some(place + 1)
+    let (first, rest) = stops.split_first()?;
+    if *first == cause { Some(rest) } else { None }
 }
 
-/// The place after what was refused of the first commands, where the stops begin with that.
-fn past_refused<T: Tag>(
+/// The stops after what was refused of the first commands; `None` where they do not begin with that.
+fn after_refused<'a, T: Tag>(
     commands: usize,
     history: &EventHistory<T>,
-    stops: &[StopCause],
-) -> Option<usize>
-    ensures { IfSome result (λ after. take after stops.now ≡ first_refused commands history.now.events) }
+    stops: &'a [StopCause],
+) -> Option<&'a [StopCause]>
+    ensures { IsRestAfter (first_refused commands history.now.events) stops.now result }
 {
-    let mut place = 0;
+    let mut rest = stops;
     for i in 0..commands {
-        place = past(place, refused_at(i, history), stops)?;
+        rest = after_stop(refused_at(i, history), rest)?;
     }
-    Some(place)
+    Some(rest)
 }
 
-/// The place after those that stopped of these ends, where they are at this place.
-fn past_ends(place: usize, ends: &[Option<StopCause>], stops: &[StopCause]) -> Option<usize>
-    ensures { IfSome result (λ after. take after stops.now ≡ take place stops.now ++ causes ends.now) }
+/// The stops after those of these ends that are one; `None` where they do not begin with those.
+fn after_ends<'a>(ends: &[Option<StopCause>], stops: &'a [StopCause]) -> Option<&'a [StopCause]>
+    ensures { IsRestAfter (causes ends.now) stops.now result }
 {
-    let mut after = place;
+    let mut rest = stops;
     for end in ends {
-        after = past(after, *end, stops)?;
+        rest = after_stop(*end, rest)?;
     }
-    Some(after)
+    Some(rest)
 }
 
 /// Whether a server's stops are what was refused of the first commands and then those of its workers.
@@ -200,18 +197,18 @@ fn are_causes<T: Tag>(
     ends: &[Option<StopCause>],
     stops: &[StopCause],
 ) -> bool
-    ensures { IsTrue result → stops.now ≡ first_refused commands history.now.events ++ causes ends.now }
+    ensures { IsTrue result ↔ (stops.now ≡ first_refused commands history.now.events ++ causes ends.now) }
 {
-    let Some(place) = past_refused(commands, history, stops) else {
+    let Some(others) = after_refused(commands, history, stops) else {
         return false;
     };
-    let Some(after) = past_ends(place, ends, stops) else {
+    let Some(rest) = after_ends(ends, others) else {
         return false;
     };
-    after == stops.len()
+    rest.is_empty()
 }
 
-/// Whether a server's stops are those that its history explains.
+/// Whether a server's stops are those that its history explains, where its own workers ended so.
 fn are_server_stops<T: Tag>(
     scene: &Scene,
     server: u32,
@@ -219,7 +216,7 @@ fn are_server_stops<T: Tag>(
     ends: &[Option<StopCause>],
 ) -> bool
     requires { server < scene.now.servers }
-    ensures { IsTrue result → AreServerStops scene.now server row.now }
+    ensures { IsTrue result ↔ AreServerStops scene.now server ends.now row.now }
 {
     if ends.len() != scene.workers() as usize {
         return false;
@@ -235,7 +232,7 @@ fn are_stops_of_servers<T: Tag>(
     ends: &[Vec<Option<StopCause>>],
 ) -> bool
     requires { length rows.now ≡ scene.now.servers }
-    ensures { IsTrue result → AreStopsOfServers scene.now rows.now }
+    ensures { IsTrue result ↔ AreStopsOfServers scene.now ends.now rows.now }
 {
     if ends.len() != rows.len() {
         return false;
@@ -274,7 +271,7 @@ fn are_client_ends(clients: &[SceneClient], rows: &[ClientReport]) -> bool
     true
 }
 
-/// Whether the stops of a report are those that its histories explain, where the servers' workers ended so.
+/// Whether the histories explain the stops of a report, where the servers' own workers ended so.
 pub(crate) fn are_stops<T: Tag>(
     scene: &Scene,
     report: &ClusterReport<T>,
@@ -282,7 +279,7 @@ pub(crate) fn are_stops<T: Tag>(
 ) -> bool
     requires servers { length report.now.servers.items ≡ scene.now.servers }
     requires clients { length report.now.clients.items ≡ length scene.now.clients }
-    ensures { IsTrue result → AreStops scene.now report.now }
+    ensures { IsTrue result ↔ AreExplained scene.now (ends_of ends.now) report.now }
 {
     are_stops_of_servers(scene, &report.servers, ends)
         && are_client_ends(scene.clients(), &report.clients)

@@ -1,2 +1,5 @@
 mod DeskLemmas
 pub mod Kept
+mod Numbering
+mod Registering
+mod RowLemmas

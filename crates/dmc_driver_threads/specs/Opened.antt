@@ -1,5 +1,5 @@
 -- What each server and each client's tracker of a run is opened with, and keeps.
-use Rattle.std.specs.Prelude.{◌≡◌, List, ◌++◌, map}
+use Rattle.std.specs.Prelude.{◌≡◌, ℕ, ◌+◌, ◌*◌, List, ◌++◌, length, map}
 use Rattle.std.proofs.Common.{ap, ◌∙◌}
 use Rattle.std.proofs.lemmas.List.{append_assoc, map-append}
 use Rattle.dmc_types.specs.declared.command.Command.{Command}
@@ -11,6 +11,11 @@ use Rattle.dmc_book.specs.BookState.{BookState}
 use Rattle.dmc_book.specs.Later.{IsLater}
 use Rattle.dmc_scene.specs.SceneValue.{ClientValue, SceneValue}
 use Rattle.dmc_driver_threads.specs.LimitsValue.{LimitsValue}
+
+-- how many books a run opens: five of each client at each server, five of each worker that a server enrols, which are the clients'
+-- and its own, and one of each server's history
+abbrev pub books_of : SceneValue → ℕ
+books_of scene = scene.servers * (5 * (2 * length scene.clients + scene.workers) + 1)
 
 -- the command that registers a client of a scene: with its rates, at moment 0
 abbrev pub registration : ClientValue → Command

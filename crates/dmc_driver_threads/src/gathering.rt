@@ -1,5 +1,5 @@
 //! Gathers what the threads of a run leave.
-ghost use Rattle.std.specs.Prelude.{◌≡◌, [], All};
+ghost use Rattle.std.specs.Prelude.{◌≡◌, [], map, All};
 ghost use Rattle.dmc_driver_threads.specs.Opened.{IsOpenedTracker, IsWitnessed};
 
 use crate::client_worker::ClientJob;
@@ -34,12 +34,14 @@ pub(crate) fn gather<T: Tag, B: Lasting + Drop, W: Witness<B> + Drop, S: Origin>
 )
     requires books { room.books.items ≡ [] }
     requires trackers { room.trackers.items ≡ [] }
+    ensures clients { map (λ r. r.client) remains.new.report.clients.items ≡ map (λ r. r.client) remains.old.report.clients.items }
+    ensures servers { map (λ r. r.server) remains.new.report.servers.items ≡ map (λ r. r.server) remains.old.report.servers.items }
     ensures books { All (IsWitnessed W.holds) remains.new.books.items }
     ensures trackers { All (IsOpenedTracker S.scene S.limits) remains.new.trackers.items }
 {
     remains.books = take_books(cluster.queues, room.books);
     remains.trackers = take_trackers(cluster.trackers, room.trackers);
-    let rows = &mut remains.report.clients;
+    let rows: &mut [ClientReport] = &mut remains.report.clients;
     gather_clients(clients, &mut remains.passes, rows);
     gather_servers(
         servers,
@@ -87,23 +89,29 @@ fn gather_clients<S: Setup>(
     jobs: Vec<ClientJob<S>>,
     passes: &mut Passes<S>,
     rows: &mut [ClientReport],
-) {
+)
+    ensures { map (λ r. r.client) rows.new ≡ map (λ r. r.client) rows.old }
+{
     for job in jobs {
         gather_client(job, passes, rows);
     }
 }
 
 /// The tills and the passes of a client's worker, and why it stopped.
-fn gather_client<S: Setup>(job: ClientJob<S>, passes: &mut Passes<S>, rows: &mut [ClientReport]) {
+fn gather_client<S: Setup>(job: ClientJob<S>, passes: &mut Passes<S>, rows: &mut [ClientReport])
+    ensures { map (λ r. r.client) rows.new ≡ map (λ r. r.client) rows.old }
+{
     keep_stop(job.place, job.stop, rows);
     let _ = passes.clients.push(job.tills);
     put_back(job.passes, &mut passes.workers);
 }
 
 /// Why the worker of the client at a place stopped.
-fn keep_stop(place: usize, stop: Option<StopCause>, rows: &mut [ClientReport]) {
-    if let Some(row) = rows.get_mut(place) {
-        row.stop = stop;
+fn keep_stop(place: usize, stop: Option<StopCause>, rows: &mut [ClientReport])
+    ensures { map (λ r. r.client) rows.new ≡ map (λ r. r.client) rows.old }
+{
+    if place < rows.len() {
+        rows[place].stop = stop;
     }
 }
 
@@ -123,7 +131,9 @@ fn gather_servers<S: Setup>(
     passes: &mut [Vec<WorkerPass<S>>],
     ends: &mut [Vec<Option<StopCause>>],
     rows: &mut [ClientReport],
-) {
+)
+    ensures { map (λ r. r.client) rows.new ≡ map (λ r. r.client) rows.old }
+{
     for job in jobs {
         gather_server(job, passes, ends, rows);
     }
@@ -135,7 +145,9 @@ fn gather_server<S: Setup>(
     passes: &mut [Vec<WorkerPass<S>>],
     ends: &mut [Vec<Option<StopCause>>],
     rows: &mut [ClientReport],
-) {
+)
+    ensures { map (λ r. r.client) rows.new ≡ map (λ r. r.client) rows.old }
+{
     let index = job.server.0 as usize;
     add_failures(&job.failures, rows);
     keep_end(index, job.place, job.stop, ends);
@@ -169,9 +181,20 @@ fn set_end(place: usize, stop: Option<StopCause>, ends: &mut [Option<StopCause>]
 }
 
 /// Why the workers of each server stopped, those that did.
-fn add_stops<T: Tag>(ends: &[Vec<Option<StopCause>>], rows: &mut [ServerReport<T>]) {
-    for (row, own) in rows.iter_mut().zip(ends) {
-        add_own(own, &mut row.stops);
+fn add_stops<T: Tag>(ends: &[Vec<Option<StopCause>>], rows: &mut [ServerReport<T>])
+    ensures { map (λ r. r.server) rows.new ≡ map (λ r. r.server) rows.old }
+{
+    for (server, own) in ends.iter().enumerate() {
+        add_stops_at(server, own, rows);
+    }
+}
+
+/// Why the workers of the server at a place stopped, those that did.
+fn add_stops_at<T: Tag>(server: usize, own: &[Option<StopCause>], rows: &mut [ServerReport<T>])
+    ensures { map (λ r. r.server) rows.new ≡ map (λ r. r.server) rows.old }
+{
+    if server < rows.len() {
+        add_own(own, &mut rows[server].stops);
     }
 }
 
@@ -185,8 +208,20 @@ fn add_own(ends: &[Option<StopCause>], stops: &mut Vec<StopCause>) {
 }
 
 /// Adds up the failures of each client.
-fn add_failures(failures: &[u64], rows: &mut [ClientReport]) {
-    for (row, count) in rows.iter_mut().zip(failures) {
-        row.failed = row.failed.saturating_add(*count);
+fn add_failures(failures: &[u64], rows: &mut [ClientReport])
+    ensures { map (λ r. r.client) rows.new ≡ map (λ r. r.client) rows.old }
+{
+    for (place, count) in failures.iter().enumerate() {
+        add_failed(place, *count, rows);
+    }
+}
+
+/// So many failures more of the client at a place.
+fn add_failed(place: usize, count: u64, rows: &mut [ClientReport])
+    ensures { map (λ r. r.client) rows.new ≡ map (λ r. r.client) rows.old }
+{
+    if place < rows.len() {
+        let row = &mut rows[place];
+        row.failed = row.failed.saturating_add(count);
     }
 }

@@ -5,7 +5,6 @@ mod bell;
 mod cause;
 mod client_worker;
 mod cluster;
-pub mod fault;
 mod gathering;
 pub mod limits;
 pub mod moments;

@@ -1,13 +1,14 @@
 //! All that a run needs, made before any of its threads.
-ghost use Rattle.std.specs.Prelude.{◌≡◌, ◌*◌, ◌≤◌};
+ghost use Rattle.std.specs.Prelude.{◌≡◌, ◌*◌, ◌≤◌, [], ◌∷◌, ◌++◌, IfOk, OnOk};
 ghost use Rattle.dmc_types.specs.Limits.{max_server_workers, max_servers};
+ghost use Rattle.dmc_settle.specs.Reports.{AreRows};
+ghost use Rattle.dmc_driver_threads.specs.Opened.{books_of};
 
 mod clients;
 mod desks;
 mod servers;
 
 use crate::cluster::Cluster;
-use crate::fault::OpenFault;
 use crate::limits::Limits;
 use crate::origin::{AsOpened, Origin};
 use crate::remains::{Remains, no_remains, reserve_of_clients, reserve_of_servers};
@@ -48,9 +49,11 @@ pub(crate) fn open<T: Tag, I: Indexes<T>, S: Origin>(
     mint: &mut Mint<S>,
     scene: &Scene,
     limits: Limits,
-) -> Result<Opened<T, QueueBook<T, I, S>, AsOpened<S>, S>, OpenFault>
+) -> Result<Opened<T, QueueBook<T, I, S>, AsOpened<S>, S>, AllocError>
     requires scene { S.scene ≡ scene.now }
     requires limits { S.limits ≡ limits }
+    requires numbers { books_of scene.now ≤ mint.old.left }
+    ensures { IfOk result (λ opened. AreRows S.scene opened.remains.report) }
 {
     let opening = Opening {
         alloc,
@@ -60,9 +63,9 @@ pub(crate) fn open<T: Tag, I: Indexes<T>, S: Origin>(
     let mut opened = opening.none_opened()?;
     match opening.open_all(mint, &mut opened) {
         Ok(()) => Ok(opened),
-        Err(fault) => {
+        Err(error) => {
             drop(opened);
-            Err(fault)
+            Err(error)
         }
     }
 }
@@ -71,7 +74,11 @@ impl<'a> Opening<'a> {
     /// No client and no server yet, with room for the clients' ids.
     fn none_opened<T: Tag, B: Lasting, W: Witness<B>, S: Origin>(
         &self,
-    ) -> Result<Opened<T, B, W, S>, AllocError> {
+    ) -> Result<Opened<T, B, W, S>, AllocError>
+        ensures jobs { IfOk result (λ opened. opened.senders.jobs.items ≡ []) }
+        ensures clients { IfOk result (λ opened. opened.remains.report.clients.items ≡ []) }
+        ensures servers { IfOk result (λ opened. opened.remains.report.servers.items ≡ []) }
+    {
         let alloc = self.alloc;
         let ids = IndexSet::with_capacity(alloc, self.scene.clients().len())?;
         Ok(Opened {
@@ -92,21 +99,32 @@ impl<'a> Opening<'a> {
         &self,
         mint: &mut Mint<S>,
         opened: &mut Opened<T, QueueBook<T, I, S>, AsOpened<S>, S>,
-    ) -> Result<(), OpenFault>
+    ) -> Result<(), AllocError>
         requires scene { S.scene ≡ self.now.scene.now }
         requires limits { S.limits ≡ self.now.limits }
+        requires numbers { books_of self.now.scene.now ≤ mint.old.left }
+        requires jobs { opened.old.senders.jobs.items ≡ [] }
+        requires clients { opened.old.remains.report.clients.items ≡ [] }
+        requires servers { opened.old.remains.report.servers.items ≡ [] }
+        ensures { OnOk result (AreRows self.now.scene.now opened.new.remains.report) }
     {
         self.reserve_all(opened)?;
+        self.add_rows(&mut opened.remains.report.clients)?;
         let mut desks = self.no_desks()?;
-        self.open_clients(mint, &mut desks, opened)?;
-        self.open_servers(mint, desks, opened)
+        self.open_clients(mint, &mut desks, &mut opened.cluster, &mut opened.senders)?;
+        self.open_servers(mint, desks, opened)?;
+        Ok(())
     }
 
     /// Makes room for the clients and the servers.
     fn reserve_all<T: Tag, B: Lasting, W: Witness<B>, S: Origin>(
         &self,
         opened: &mut Opened<T, B, W, S>,
-    ) -> Result<(), AllocError> {
+    ) -> Result<(), AllocError>
+        ensures jobs { OnOk result (opened.new.senders.jobs.items ≡ opened.old.senders.jobs.items) }
+        ensures clients { OnOk result (opened.new.remains.report.clients.items ≡ opened.old.remains.report.clients.items) }
+        ensures servers { OnOk result (opened.new.remains.report.servers.items ≡ opened.old.remains.report.servers.items) }
+    {
         let clients = self.scene.clients().len();
         let servers = self.scene.servers() as usize;
         reserve_locks(clients, servers, &mut opened.cluster)?;
@@ -136,7 +154,9 @@ fn reserve_locks<B: Lasting, W: Witness<B>, S: Origin>(
 }
 
 /// Puts one item more at the end. Where there is no memory for it, it is dropped.
-fn push_last<X: Drop>(item: X, items: &mut Vec<X>) -> Result<(), AllocError> {
+fn push_last<X: Drop>(item: X, items: &mut Vec<X>) -> Result<(), AllocError>
+    ensures { OnOk result (items.new.items ≡ items.old.items ++ item ∷ []) }
+{
     items.push(item)?;
     Ok(())
 }

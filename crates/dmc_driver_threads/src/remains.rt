@@ -1,4 +1,6 @@
 //! What the threads of a run leave, in room that is made before them.
+ghost use Rattle.std.specs.Prelude.{◌≡◌, [], OnOk};
+
 use dmc_ledger::setup::Setup;
 use dmc_settle::report::{ClusterReport, StopCause};
 use dmc_settle::settle::Passes;
@@ -22,7 +24,10 @@ pub struct Remains<T: Tag, B, S: Setup> {
 }
 
 /// Nothing yet.
-pub(crate) fn no_remains<T: Tag, B, S: Setup>(alloc: Global) -> Remains<T, B, S> {
+pub(crate) fn no_remains<T: Tag, B, S: Setup>(alloc: Global) -> Remains<T, B, S>
+    ensures clients { result.report.clients.items ≡ [] }
+    ensures servers { result.report.servers.items ≡ [] }
+{
     Remains {
         books: Vec::new(alloc),
         trackers: Vec::new(alloc),
@@ -42,7 +47,10 @@ pub(crate) fn no_remains<T: Tag, B, S: Setup>(alloc: Global) -> Remains<T, B, S>
 pub(crate) fn reserve_of_clients<T: Tag, B, S: Setup>(
     clients: usize,
     remains: &mut Remains<T, B, S>,
-) -> Result<(), AllocError> {
+) -> Result<(), AllocError>
+    ensures clients { OnOk result (remains.new.report.clients.items ≡ remains.old.report.clients.items) }
+    ensures servers { OnOk result (remains.new.report.servers.items ≡ remains.old.report.servers.items) }
+{
     remains.passes.clients.reserve_exact(clients)?;
     remains.report.clients.reserve_exact(clients)?;
     Ok(())
@@ -52,7 +60,10 @@ pub(crate) fn reserve_of_clients<T: Tag, B, S: Setup>(
 pub(crate) fn reserve_of_servers<T: Tag, B, S: Setup>(
     servers: usize,
     remains: &mut Remains<T, B, S>,
-) -> Result<(), AllocError> {
+) -> Result<(), AllocError>
+    ensures clients { OnOk result (remains.new.report.clients.items ≡ remains.old.report.clients.items) }
+    ensures servers { OnOk result (remains.new.report.servers.items ≡ remains.old.report.servers.items) }
+{
     remains.passes.workers.reserve_exact(servers)?;
     remains.report.servers.reserve_exact(servers)?;
     remains.ends.reserve_exact(servers)?;

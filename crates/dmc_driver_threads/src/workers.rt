@@ -1,8 +1,8 @@
 //! The workers of a scene's cluster, from the first to the last.
-ghost use Rattle.std.specs.Prelude.{◌≡◌, [], All, IfOk};
-ghost use Rattle.dmc_driver_threads.specs.Opened.{IsOpenedBook, IsOpenedTracker};
+ghost use Rattle.std.specs.Prelude.{◌≡◌, ◌≤◌, [], All, IfOk};
+ghost use Rattle.dmc_settle.specs.Reports.{AreRows};
+ghost use Rattle.dmc_driver_threads.specs.Opened.{IsOpenedBook, IsOpenedTracker, books_of};
 
-use crate::fault::OpenFault;
 use crate::gathering::{Room, gather};
 use crate::limits::Limits;
 use crate::moments::Moments;
@@ -16,12 +16,12 @@ use dmc_heap::adaptive_index::HeapIndexes;
 use dmc_ledger::mint::Mint;
 use dmc_scene::scene::Scene;
 use dmc_tag::tag::Tag;
-use std::alloc::Global;
+use std::alloc::{AllocError, Global};
 use std::sync::Wait;
 use std::thread::Threads;
 
 /// Opens the clients and servers of a scene, runs a thread for each of their workers until all of them have ended, and returns
-/// what they leave. A fault comes before any thread is started.
+/// what they leave. It is refused memory alone, before any thread is started.
 ///
 /// Every queue's book that they leave begins with the registrations of the scene's clients, and has the scene's configuration and
 /// the limit of its history. Every tracker's counts as the scene says, within its limits. None of them has released anything.
@@ -34,7 +34,7 @@ pub fn run_workers<T, S, V, M, R>(
     service: &V,
     moments: &M,
     limits: Limits,
-) -> Result<Remains<T, QueueBook<T, HeapIndexes, S>, S>, OpenFault>
+) -> Result<Remains<T, QueueBook<T, HeapIndexes, S>, S>, AllocError>
 where
     T: Tag + Send + Sync,
     S: Origin + Send + Sync,
@@ -43,6 +43,8 @@ where
     R: Threads + Wait + Sync,
     requires scene { S.scene ≡ scene.now }
     requires limits { S.limits ≡ limits }
+    requires numbers { books_of scene.now ≤ mint.old.left }
+    ensures rows { IfOk result (λ remains. AreRows scene.now remains.report) }
     ensures books { IfOk result (λ remains. All (IsOpenedBook scene.now limits) remains.books.items) }
     ensures trackers { IfOk result (λ remains. All (IsOpenedTracker scene.now limits) remains.trackers.items) }
 {
@@ -69,6 +71,8 @@ where
     R: Threads + Wait + Sync,
     requires books { room.books.items ≡ [] }
     requires trackers { room.trackers.items ≡ [] }
+    requires rows { AreRows S.scene opened.remains.report }
+    ensures rows { AreRows S.scene result.report }
     ensures books { All (IsOpenedBook S.scene S.limits) result.books.items }
     ensures trackers { All (IsOpenedTracker S.scene S.limits) result.trackers.items }
 {

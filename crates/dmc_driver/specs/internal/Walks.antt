@@ -1,5 +1,7 @@
 -- What the walks over a history and over stops have found so far.
-use Rattle.std.specs.Prelude.{◌≡◌, ℕ, ◌+◌, ◌==◌, ◌&&◌, List, ◌++◌, Option, Some, None, slice_get, take}
+use Rattle.std.specs.Prelude.{◌≡◌, ℕ, ◌+◌, ◌==◌, ◌&&◌, List, ◌++◌, Option, Some, None, length, map, slice_get}
+use Rattle.std.specs.Borrow.{Bor}
+use Rattle.std.specs.Global.{Vec}
 use Rattle.std.specs.Option.{option_and_then}
 use Rattle.dmc_tag.specs.declared.event.Event.{Event}
 use Rattle.dmc_book.specs.Counts.{is_miss, one_if}
@@ -7,7 +9,7 @@ use Rattle.dmc_scene.specs.SceneValue.{SceneValue, ClientValue}
 use Rattle.dmc_settle.specs.declared.report.StopCause.{StopCause}
 use Rattle.dmc_settle.specs.declared.report.ClientReport.{ClientReport}
 use Rattle.dmc_settle.specs.declared.report.ServerReport.{ServerReport}
-use Rattle.dmc_driver.specs.Stops.{AreServerStops, IsClientEnd, IsEndAt, calls_of, listed, misses_of, refused}
+use Rattle.dmc_driver.specs.Stops.{AreServerStops, IsClientEnd, IsEndAt, calls_of, misses_of, refused}
 use Rattle.dmc_driver.specs.declared.stops.Calls.{Calls}
 
 -- ---- over a history
@@ -30,9 +32,10 @@ refused_at {T} i events = option_and_then (λ (e : Event T). refused e.reply) (s
 
 -- ---- over stops
 
--- a place among stops, and the one after a stop that is there, if it is one
-abbrev pub IsPast : ℕ → Option StopCause → List StopCause → ℕ → Type 0
-IsPast place stop stops after = take after stops ≡ take place stops ++ listed stop
+-- the stops after these first ones, or none where they do not begin so
+abbrev pub IsRestAfter : (first stops : List StopCause) → Option (Bor (List StopCause)) → Type 0
+IsRestAfter first stops None = (rest : List StopCause) → stops ≡ first ++ rest → ⊥
+IsRestAfter first stops (Some rest) = stops ≡ first ++ rest.now
 
 -- ---- ends
 
@@ -40,10 +43,13 @@ IsPast place stop stops after = take after stops ≡ take place stops ++ listed 
 abbrev pub AreEnds : {T : Type 0} → SceneValue → ℕ → List (Event T) → List (Option StopCause) → Type 0
 AreEnds scene server events ends = (k : ℕ) (end : Option StopCause) → slice_get ends k ≡ Some end → IsEndAt scene server events k end
 
--- the stops of each server, and the end of each client
-abbrev pub AreStopsOfServers : {T : Type 0} → SceneValue → List (ServerReport T) → Type 0
-AreStopsOfServers {T} scene rows = (k : ℕ) (s : ServerReport T) → slice_get rows k ≡ Some s → AreServerStops scene k s
+-- the stops of each server, whose own workers ended so
+pub record AreStopsOfServers {T : Type 0} (scene : SceneValue) (ends : List (Vec (Option StopCause))) (rows : List (ServerReport T)) : Type 0 where
+  pub ends_of_each : length ends ≡ length rows
+  pub each : (k : ℕ) (s : ServerReport T) (own : Vec (Option StopCause)) → slice_get rows k ≡ Some s → slice_get ends k ≡ Some own
+      → AreServerStops scene k own.items s
 
+-- the end of each client
 abbrev pub AreClientEnds : List ClientValue → List ClientReport → Type 0
 AreClientEnds clients rows = (k : ℕ) (client : ClientValue) (c : ClientReport) → slice_get clients k ≡ Some client
     → slice_get rows k ≡ Some c → IsClientEnd client.requests c.sent c.stop

@@ -1,29 +1,34 @@
 //! The clients of a run, opened: their trackers, doorbells and plans.
-ghost use Rattle.std.specs.Prelude.{◌≡◌, ◌<◌, ◌≤◌};
+ghost use Rattle.std.specs.Prelude.{◌≡◌, ◌+◌, ◌*◌, ◌<◌, ◌≤◌, [], length, map, OnOk};
+ghost use Rattle.std.specs.List.{range_with_len};
+ghost use Rattle.dmc_types.specs.Limits.{max_servers};
+ghost use Rattle.dmc_driver_threads.specs.internal.Desks.{ids_of, queues_of, with_client};
 
 use super::desks::{QueueDesks, TrackerDesks, open_pairs};
-use super::{Opened, Opening, push_last};
+use super::{Opening, push_last};
 use crate::bell::{Doorbell, Ringer, hang_bell};
 use crate::client_worker::ClientJob;
-use crate::fault::{OpenFault, of_make};
+use crate::cluster::Cluster;
 use crate::origin::{AsOpened, ClientLock, Origin};
 use crate::threads::Senders;
 use dmc_ledger::mint::Mint;
 use dmc_ledger::setup::Setup;
 use dmc_scene::client::SceneClient;
 use dmc_settle::report::{ClientReport, StopCause};
-use dmc_tag::tag::Tag;
 use dmc_tlock::book::TrackerBook;
 use dmc_tlock::lock::LockedTracker;
 use dmc_tlock::pass::ClientPass;
 use dmc_tlock::settled::StampsHeld;
 use dmc_tlock::witness::{Lasting, Witness};
+use dmc_tracker::tracker::MakeFault;
 use dmc_types::ids::ClientId;
 use dmc_work::plan::plan;
 use std::alloc::{AllocError, Global};
 
 /// No worker of a client yet.
-pub(crate) fn no_senders<S: Setup>(alloc: Global) -> Senders<S> {
+pub(crate) fn no_senders<S: Setup>(alloc: Global) -> Senders<S>
+    ensures { result.jobs.items ≡ [] }
+{
     Senders {
         jobs: Vec::new(alloc),
         ringers: Vec::new(alloc),
@@ -34,45 +39,74 @@ pub(crate) fn no_senders<S: Setup>(alloc: Global) -> Senders<S> {
 pub(crate) fn reserve_senders<S: Setup>(
     clients: usize,
     senders: &mut Senders<S>,
-) -> Result<(), AllocError> {
+) -> Result<(), AllocError>
+    ensures { OnOk result (senders.new.jobs.items ≡ senders.old.jobs.items) }
+{
     senders.jobs.reserve_exact(clients)?;
     senders.ringers.reserve_exact(clients)?;
     Ok(())
 }
 
 impl<'a> Opening<'a> {
-    /// Opens the clients in order, with a desk of each at each of these servers.
-    pub(super) fn open_clients<T: Tag, B: Lasting, W: Witness<B>, S: Origin>(
-        &self,
-        mint: &mut Mint<S>,
-        queues: &mut [QueueDesks<S>],
-        opened: &mut Opened<T, B, W, S>,
-    ) -> Result<(), OpenFault>
-        requires scene { S.scene ≡ self.now.scene.now }
-        requires limits { S.limits ≡ self.now.limits }
+    /// A row for each client, in order.
+    pub(super) fn add_rows(&self, rows: &mut Vec<ClientReport>) -> Result<(), AllocError>
+        requires { rows.old.items ≡ [] }
+        ensures { OnOk result (map (λ r. r.client) rows.new.items ≡ map (λ c. c.id) self.now.scene.now.clients) }
     {
         for client in self.scene.clients() {
-            self.open_client(mint, *client, queues, opened)?;
+            rows.push(new_row(client.id()))?;
         }
         Ok(())
     }
 
-    /// The next client: its id and its row, its desks, its tracker and its worker.
-    fn open_client<T: Tag, B: Lasting, W: Witness<B>, S: Origin>(
+    /// Opens the clients in order, with a desk of each at each of these servers.
+    pub(super) fn open_clients<B: Lasting, W: Witness<B>, S: Origin>(
+        &self,
+        mint: &mut Mint<S>,
+        queues: &mut [QueueDesks<S>],
+        cluster: &mut Cluster<B, W, S>,
+        senders: &mut Senders<S>,
+    ) -> Result<(), AllocError>
+        requires scene { S.scene ≡ self.now.scene.now }
+        requires limits { S.limits ≡ self.now.limits }
+        requires queues { queues.old ≡ queues_of (length queues.old) [] }
+        requires some { 0 < length queues.old }
+        requires few { length queues.old ≤ max_servers }
+        requires left { length self.now.scene.now.clients * (5 * length queues.old) ≤ mint.old.left }
+        requires jobs { senders.old.jobs.items ≡ [] }
+        ensures queues { OnOk result (queues.new ≡ queues_of (length queues.old) (ids_of self.now.scene.now.clients)) }
+        ensures left { OnOk result (mint.new.left + length self.now.scene.now.clients * (5 * length queues.old) ≡ mint.old.left) }
+        ensures jobs { OnOk result (length senders.new.jobs.items ≡ length self.now.scene.now.clients) }
+    {
+        for client in self.scene.clients() {
+            self.open_client(mint, *client, queues, cluster, senders)?;
+        }
+        Ok(())
+    }
+
+    /// The next client: its id, its desks, its tracker and its worker.
+    fn open_client<B: Lasting, W: Witness<B>, S: Origin>(
         &self,
         mint: &mut Mint<S>,
         client: SceneClient,
         queues: &mut [QueueDesks<S>],
-        opened: &mut Opened<T, B, W, S>,
-    ) -> Result<(), OpenFault>
+        cluster: &mut Cluster<B, W, S>,
+        senders: &mut Senders<S>,
+    ) -> Result<(), AllocError>
         requires scene { S.scene ≡ self.now.scene.now }
         requires limits { S.limits ≡ self.now.limits }
+        requires servers { map (λ q. q.server) queues.old ≡ range_with_len 0 (length queues.old) }
+        requires some { 0 < length queues.old }
+        requires few { length queues.old ≤ max_servers }
+        requires left { 5 * length queues.old ≤ mint.old.left }
+        ensures queues { OnOk result (queues.new ≡ map (with_client client.id.0) queues.old) }
+        ensures left { OnOk result (mint.new.left + 5 * length queues.old ≡ mint.old.left) }
+        ensures jobs { OnOk result (length senders.new.jobs.items ≡ length senders.old.jobs.items + 1) }
     {
-        opened.cluster.ids.insert(client.id())?;
-        push_last(new_row(client.id()), &mut opened.remains.report.clients)?;
+        cluster.ids.insert(client.id())?;
         let desks = open_pairs(self.alloc, mint, client.id(), queues)?;
-        let tills = self.open_tracker(desks, &mut opened.cluster.trackers)?;
-        self.open_sender(client, tills, &mut opened.senders)?;
+        let tills = self.open_tracker(desks, &mut cluster.trackers)?;
+        self.open_sender(client, tills, senders)?;
         Ok(())
     }
 
@@ -81,9 +115,11 @@ impl<'a> Opening<'a> {
         &self,
         desks: TrackerDesks<S>,
         trackers: &mut Vec<ClientLock<S>>,
-    ) -> Result<ClientPass<S>, OpenFault>
+    ) -> Result<ClientPass<S>, AllocError>
         requires scene { S.scene ≡ self.now.scene.now }
         requires limits { S.limits ≡ self.now.limits }
+        requires some { 0 < desks.servers }
+        requires few { desks.servers ≤ max_servers }
     {
         let TrackerDesks { client, desks } = desks;
         let most = u64::from(self.limits.completions());
@@ -94,7 +130,10 @@ impl<'a> Opening<'a> {
                 push_last(LockedTracker::with_witness(book, AsOpened::new()), trackers)?;
                 Ok(tills)
             }
-            Err(fault) => Err(of_make(fault.cause)),
+            Err(fault) => match fault.cause {
+                MakeFault::Memory => Err(AllocError),
+                MakeFault::Limit => unreachable!(),
+            },
         }
     }
 
@@ -104,7 +143,9 @@ impl<'a> Opening<'a> {
         client: SceneClient,
         tills: ClientPass<S>,
         senders: &mut Senders<S>,
-    ) -> Result<(), AllocError> {
+    ) -> Result<(), AllocError>
+        ensures { OnOk result (length senders.new.jobs.items ≡ length senders.old.jobs.items + 1) }
+    {
         let bell = open_bell(self.alloc, self.rings_of(client), &mut senders.ringers)?;
         let job = self.client_job(client, senders.jobs.len(), tills, bell)?;
         push_last(job, &mut senders.jobs)
@@ -153,7 +194,9 @@ fn open_bell(alloc: Global, room: usize, ringers: &mut Vec<Ringer>) -> Result<Do
 }
 
 /// A client that did nothing yet.
-fn new_row(client: ClientId) -> ClientReport {
+fn new_row(client: ClientId) -> ClientReport
+    ensures { result.client ≡ client }
+{
     ClientReport {
         client,
         sent: 0,

@@ -1,19 +1,28 @@
 //! The servers of a run, opened: their queues, at which every client is registered, and their workers.
-ghost use Rattle.std.specs.Prelude.{◌≡◌, ◌++◌, ◌∷◌, [], map, IfOk, OnOk};
+ghost use Rattle.std.specs.Prelude.{◌≡◌, ◌+◌, ◌*◌, ◌<◌, ◌≤◌, ◌^◌, ◌++◌, ◌∷◌, [], length, map, true, is_some, IfOk, OnOk};
+ghost use Rattle.std.specs.List.{AllByRecursion, range_with_len};
+ghost use Rattle.dmc_types.specs.Limits.{max_scene_clients, max_server_workers, max_servers, max_workers};
+ghost use Rattle.dmc_ledger.specs.Bundles.{client_side};
+ghost use Rattle.dmc_book.specs.BookState.{pass_state};
+ghost use Rattle.dmc_book.specs.Moves.{IsEnrolled, desk_place};
+ghost use Rattle.dmc_book.specs.Opening.{AreApart, AreBookLimits, AreNamedOnce, IsNewDesk, new_passes, new_state};
 ghost use Rattle.dmc_driver_threads.specs.Opened.{IsOpenedBook, commands_of, registration};
-ghost use Rattle.dmc_driver_threads.specs.internal.Books.{IsNewBook, IsSetAsBefore};
+ghost use Rattle.dmc_driver_threads.specs.internal.Books.{AreNumbered, IsFirstEnrolled, IsNewBook, IsSetAsBefore, books_of_server, enrolled};
+ghost use Rattle.dmc_driver_threads.specs.internal.Desks.{ids_of, queues_of};
 
 use super::desks::QueueDesks;
 use super::{Opened, Opening, push_last};
 use crate::bell::Ringer;
 use crate::client_worker::ClientJob;
-use crate::fault::{OpenFault, of_new, of_register};
 use crate::origin::{AsOpened, Origin, ServerLock};
 use crate::server_worker::ServerJob;
+use crate::threads::Senders;
 use dmc_book::book::QueueBook;
+use dmc_book::fault::{NewFault, RunFault};
 use dmc_book::pass::WorkerPass;
 use dmc_book::settled::GrantsHeld;
 use dmc_index::index::Indexes;
+use dmc_ledger::desk::ClientDesk;
 use dmc_ledger::mint::Mint;
 use dmc_ledger::setup::Setup;
 use dmc_qlock::lock::{LockedQueue, OfServer};
@@ -24,12 +33,10 @@ use dmc_tag::reply::Reply;
 use dmc_tag::tag::Tag;
 use dmc_tlock::witness::{Lasting, Witness};
 use dmc_types::command::Command;
+use dmc_types::config::QueueConfig;
 use dmc_types::ids::{ServerId, WorkerId};
 use dmc_types::moment::Moment;
 use std::alloc::{AllocError, Global};
-
-/// The most workers that a server opens with.
-const MAX_WORKERS: usize = 65_536;
 
 impl<'a> Opening<'a> {
     /// Opens the servers with these desks, in order.
@@ -38,11 +45,20 @@ impl<'a> Opening<'a> {
         mint: &mut Mint<S>,
         desks: Vec<QueueDesks<S>>,
         opened: &mut Opened<T, QueueBook<T, I, S>, AsOpened<S>, S>,
-    ) -> Result<(), OpenFault>
+    ) -> Result<(), AllocError>
         requires scene { S.scene ≡ self.now.scene.now }
         requires limits { S.limits ≡ self.now.limits }
+        requires desks { desks.items ≡ queues_of self.now.scene.now.servers (ids_of self.now.scene.now.clients) }
+        requires left { self.now.scene.now.servers * books_of_server self.now.scene.now ≤ mint.old.left }
+        requires jobs { length opened.old.senders.jobs.items ≡ length self.now.scene.now.clients }
+        requires rows { opened.old.remains.report.servers.items ≡ [] }
+        ensures rows { OnOk result
+            (map (λ r. r.server.0) opened.new.remains.report.servers.items ≡ range_with_len 0 self.now.scene.now.servers) }
+        ensures clients { OnOk result (opened.new.remains.report.clients ≡ opened.old.remains.report.clients) }
     {
-        for next in desks {
+        let mut desks = desks;
+        for _ in 0..self.scene.servers() {
+            let next = desks.remove(0);
             self.open_server(mint, next, opened)?;
         }
         Ok(())
@@ -55,17 +71,29 @@ impl<'a> Opening<'a> {
         mint: &mut Mint<S>,
         desks: QueueDesks<S>,
         opened: &mut Opened<T, QueueBook<T, I, S>, AsOpened<S>, S>,
-    ) -> Result<(), OpenFault>
+    ) -> Result<(), AllocError>
         requires scene { S.scene ≡ self.now.scene.now }
         requires limits { S.limits ≡ self.now.limits }
+        requires desks { desks.clients ≡ ids_of self.now.scene.now.clients }
+        requires few { desks.server < max_servers }
+        requires left { books_of_server self.now.scene.now ≤ mint.old.left }
+        requires jobs { length opened.old.senders.jobs.items ≡ length self.now.scene.now.clients }
+        ensures left { OnOk result (mint.new.left + books_of_server self.now.scene.now ≡ mint.old.left) }
+        ensures jobs { OnOk result (length opened.new.senders.jobs.items ≡ length opened.old.senders.jobs.items) }
+        ensures rows { OnOk result (map (λ r. r.server.0) opened.new.remains.report.servers.items
+            ≡ map (λ r. r.server.0) opened.old.remains.report.servers.items ++ desks.server ∷ []) }
+        ensures clients { OnOk result (opened.new.remains.report.clients ≡ opened.old.remains.report.clients) }
     {
         let server = desks.server;
         let (mut passes, stops) = self.open_queue(mint, desks, &mut opened.cluster.queues)?;
         let row = self.new_row(server, stops);
         push_last(row, &mut opened.remains.report.servers)?;
-        let ringers = &mut opened.senders.ringers;
-        self.hand_to_server(server, &mut passes, ringers, &mut opened.servers)?;
-        hand_to_clients(&mut passes, &mut opened.senders.jobs)?;
+        self.hand_out(
+            server,
+            &mut passes,
+            &mut opened.senders,
+            &mut opened.servers,
+        )?;
         push_last(passes, &mut opened.remains.passes.workers)?;
         push_last(self.new_ends()?, &mut opened.remains.ends)?;
         Ok(())
@@ -77,9 +105,14 @@ impl<'a> Opening<'a> {
         mint: &mut Mint<S>,
         desks: QueueDesks<S>,
         queues: &mut Vec<ServerLock<T, I, S>>,
-    ) -> Result<(Vec<WorkerPass<S>>, Vec<StopCause>), OpenFault>
+    ) -> Result<(Vec<WorkerPass<S>>, Vec<StopCause>), AllocError>
         requires scene { S.scene ≡ self.now.scene.now }
         requires limits { S.limits ≡ self.now.limits }
+        requires desks { desks.clients ≡ ids_of self.now.scene.now.clients }
+        requires few { desks.server < max_servers }
+        requires left { books_of_server self.now.scene.now ≤ mint.old.left }
+        ensures passes { IfOk result (λ opened. length opened.0.items ≡ enrolled self.now.scene.now) }
+        ensures left { OnOk result (mint.new.left + books_of_server self.now.scene.now ≡ mint.old.left) }
     {
         let (mut book, mut passes) = self.new_book(mint, desks)?;
         match self.register_all(&mut book, &mut passes) {
@@ -87,9 +120,9 @@ impl<'a> Opening<'a> {
                 push_queue(book, AsOpened::new(), queues)?;
                 Ok((passes, stops))
             }
-            Err(fault) => {
+            Err(error) => {
                 drop(book);
-                Err(fault)
+                Err(error)
             }
         }
     }
@@ -99,30 +132,37 @@ impl<'a> Opening<'a> {
         &self,
         mint: &mut Mint<S>,
         desks: QueueDesks<S>,
-    ) -> Result<(QueueBook<T, I, S>, Vec<WorkerPass<S>>), OpenFault>
-        ensures { IfOk result (λ made. IsNewBook self.now.scene.now self.now.limits made.0) }
+    ) -> Result<(QueueBook<T, I, S>, Vec<WorkerPass<S>>), AllocError>
+        requires desks { desks.clients ≡ ids_of self.now.scene.now.clients }
+        requires few { desks.server < max_servers }
+        requires left { books_of_server self.now.scene.now ≤ mint.old.left }
+        ensures book { IfOk result (λ made. IsNewBook self.now.scene.now self.now.limits made.0) }
+        ensures passes { IfOk result (λ made. length made.1.items ≡ enrolled self.now.scene.now) }
+        ensures first { IfOk result (λ made. IsFirstEnrolled made.0.workers made.1.items) }
+        ensures some { OnOk result (0 < length self.now.scene.now.clients) }
+        ensures left { OnOk result (mint.new.left + books_of_server self.now.scene.now ≡ mint.old.left) }
     {
         let QueueDesks { server, desks } = desks;
-        let workers = self.enroll(server)?;
-        if workers.len() > MAX_WORKERS {
-            return Err(OpenFault::Torn);
-        }
+        let clients = self.scene.clients().len() as u32;
+        let workers = self.enroll(server, clients)?;
         let config = self.scene.config();
         let most = self.limits.events();
-        match QueueBook::new(self.alloc, config, server, &workers, desks, mint, most) {
-            Ok(made) => Ok(made),
-            Err(fault) => Err(of_new(fault.cause)),
-        }
+        let made = make_book(self.alloc, config, server, &workers, desks, mint, most)?;
+        Ok(made)
     }
 
-    /// The workers that are enrolled at a server: those of all clients, and then its own.
-    fn enroll(&self, server: ServerId) -> Result<Vec<WorkerId>, AllocError> {
-        let clients = self.scene.clients().len() as u32;
+    /// The workers that are enrolled at a server: those of this number of clients, and then its own. No two have one number.
+    fn enroll(&self, server: ServerId, clients: u32) -> Result<Vec<WorkerId>, AllocError>
+        requires server { server.0 < max_servers }
+        requires clients { clients ≤ max_scene_clients }
+        ensures apart { IfOk result (λ ids. AreApart (λ w. w.0) ids.items) }
+        ensures as_many { IfOk result (λ ids. length ids.items ≡ clients + self.now.scene.now.workers) }
+        ensures few { OnOk result (self.now.scene.now.workers ≤ max_server_workers) }
+    {
         let workers = self.scene.workers();
-        let first = clients.saturating_add(server.0.saturating_mul(workers));
         let mut ids = Vec::with_capacity(self.alloc, self.enrolled())?;
         add_workers(0, clients, &mut ids)?;
-        add_workers(first, workers, &mut ids)?;
+        add_workers(clients + server.0 * workers, workers, &mut ids)?;
         Ok(ids)
     }
 
@@ -137,21 +177,22 @@ impl<'a> Opening<'a> {
         &self,
         book: &mut QueueBook<T, I, S>,
         passes: &mut [WorkerPass<S>],
-    ) -> Result<Vec<StopCause>, OpenFault>
-        requires { book.old.history ≡ [] }
+    ) -> Result<Vec<StopCause>, AllocError>
+        requires new { IsNewBook self.now.scene.now self.now.limits book.old }
+        requires some { 0 < length passes.old }
+        requires first { IsFirstEnrolled book.old.workers passes.old }
         ensures kept { OnOk result (IsSetAsBefore book.old book.new) }
         ensures registered { OnOk result (commands_of book.new.history ≡ map registration self.now.scene.now.clients) }
     {
-        let Some(pass) = passes.first_mut() else {
-            return Err(OpenFault::Torn);
-        };
         let mut stops = Vec::with_capacity(self.alloc, self.enrolled())?;
-        register_each(book, pass, self.scene.clients(), &mut stops)?;
+        register_each(book, &mut passes[0], self.scene.clients(), &mut stops)?;
         Ok(stops)
     }
 
     /// A server that did nothing yet, with these stops.
-    fn new_row<T: Tag>(&self, server: ServerId, stops: Vec<StopCause>) -> ServerReport<T> {
+    fn new_row<T: Tag>(&self, server: ServerId, stops: Vec<StopCause>) -> ServerReport<T>
+        ensures { result.server ≡ server }
+    {
         ServerReport {
             server,
             reservation: 0,
@@ -166,6 +207,22 @@ impl<'a> Opening<'a> {
         }
     }
 
+    /// Hands the last passes to the workers of the server, and the others to those of the clients. `passes` keeps their room.
+    fn hand_out<S: Setup>(
+        &self,
+        server: ServerId,
+        passes: &mut Vec<WorkerPass<S>>,
+        senders: &mut Senders<S>,
+        servers: &mut Vec<ServerJob<S>>,
+    ) -> Result<(), AllocError>
+        requires passes { length passes.old.items ≡ enrolled self.now.scene.now }
+        requires jobs { length senders.old.jobs.items ≡ length self.now.scene.now.clients }
+        ensures { OnOk result (length senders.new.jobs.items ≡ length senders.old.jobs.items) }
+    {
+        self.hand_to_server(server, passes, &mut senders.ringers, servers)?;
+        hand_to_clients(passes, &mut senders.jobs)
+    }
+
     /// Hands the last passes to the workers of a server, from the last one on.
     fn hand_to_server<S: Setup>(
         &self,
@@ -173,12 +230,14 @@ impl<'a> Opening<'a> {
         passes: &mut Vec<WorkerPass<S>>,
         ringers: &mut [Ringer],
         jobs: &mut Vec<ServerJob<S>>,
-    ) -> Result<(), OpenFault> {
-        for place in (0..self.scene.workers()).rev() {
+    ) -> Result<(), AllocError>
+        requires { self.now.scene.now.workers ≤ length passes.old.items }
+        ensures { OnOk result (length passes.new.items + self.now.scene.now.workers ≡ length passes.old.items) }
+    {
+        for place in (0..self.scene.workers() as usize).rev() {
             let Some(pass) = passes.pop() else {
-                return Err(OpenFault::Torn);
+                unreachable!()
             };
-            let place = place as usize;
             let job = server_job(self.alloc, server, place, pass, ringers)?;
             push_last(job, jobs)?;
         }
@@ -196,10 +255,45 @@ impl<'a> Opening<'a> {
     }
 }
 
-/// So many workers more, numbered from the first on.
-fn add_workers(first: u32, count: u32, ids: &mut Vec<WorkerId>) -> Result<(), AllocError> {
-    for worker in 0..count {
-        ids.push(WorkerId(first.saturating_add(worker)))?;
+/// A book within its limits, in which nobody is named twice. It is refused memory alone.
+fn make_book<T: Tag, I: Indexes<T>, S: Setup>(
+    alloc: Global,
+    config: QueueConfig,
+    server: ServerId,
+    workers: &[WorkerId],
+    desks: Vec<ClientDesk<S>>,
+    mint: &mut Mint<S>,
+    most: u32,
+) -> Result<(QueueBook<T, I, S>, Vec<WorkerPass<S>>), AllocError>
+    requires few { length workers.now ≤ max_workers }
+    requires new { AllByRecursion (IsNewDesk server.0) (map client_side desks.items) }
+    requires limits { AreBookLimits (length workers.now) (length desks.items) mint.old.left most }
+    requires once { AreNamedOnce workers.now (map client_side desks.items) }
+    ensures book { IfOk result (λ made.
+        made.0 ≡ new_state config server.0 most mint.old.opened workers.now (map client_side desks.items)) }
+    ensures passes { IfOk result (λ made. map pass_state made.1.items
+        ≡ new_passes 0 mint.old.opened (map (λ d. d.client) desks.items) (map client_side desks.items) workers.now) }
+    ensures left { OnOk result (mint.new.left + (5 * length workers.now + 1) ≡ mint.old.left) }
+{
+    match QueueBook::new(alloc, config, server, workers, desks, mint, most) {
+        Ok(made) => Ok(made),
+        Err(fault) => match fault.cause {
+            NewFault::Memory => Err(AllocError),
+            NewFault::Limit => unreachable!(),
+            NewFault::Twice => unreachable!(),
+        },
+    }
+}
+
+/// So many workers more, numbered from the first on. Those that are there have lower numbers.
+fn add_workers(first: u32, count: u32, ids: &mut Vec<WorkerId>) -> Result<(), AllocError>
+    requires fits { first + count < 2 ^ 32 }
+    requires numbered { AreNumbered first ids.old.items }
+    ensures numbered { OnOk result (AreNumbered (first + count) ids.new.items) }
+    ensures as_many { OnOk result (length ids.new.items ≡ length ids.old.items + count) }
+{
+    for worker in first..first + count {
+        ids.push(WorkerId(worker))?;
     }
     Ok(())
 }
@@ -215,14 +309,17 @@ fn push_queue<B: OfServer + Lasting + Drop, W: Witness<B> + Drop>(
     push_last(LockedQueue::with_witness(book, witness), queues)
 }
 
-/// Registers these clients.
+/// Registers these clients, for which the book has desks.
 fn register_each<T: Tag, I: Indexes<T>, S: Setup>(
     book: &mut QueueBook<T, I, S>,
     pass: &mut WorkerPass<S>,
     clients: &[SceneClient],
     stops: &mut Vec<StopCause>,
-) -> Result<(), OpenFault>
-    requires { book.old.history ≡ [] }
+) -> Result<(), AllocError>
+    requires new { book.old.history ≡ [] }
+    requires desks { map (λ d. d.client) book.old.desks ≡ ids_of clients.now }
+    requires room { length clients.now ≤ book.old.most }
+    requires enrolled { IsEnrolled book.old.workers (pass_state pass.old) }
     ensures kept { OnOk result (IsSetAsBefore book.old book.new) }
     ensures registered { OnOk result (commands_of book.new.history ≡ map registration clients.now) }
 {
@@ -232,15 +329,19 @@ fn register_each<T: Tag, I: Indexes<T>, S: Setup>(
     Ok(())
 }
 
-/// Registers a client at moment 0.
+/// Registers a client at moment 0. It is refused memory alone.
 fn register<T: Tag, I: Indexes<T>, S: Setup>(
     book: &mut QueueBook<T, I, S>,
     pass: &mut WorkerPass<S>,
     client: SceneClient,
     stops: &mut Vec<StopCause>,
-) -> Result<(), OpenFault>
+) -> Result<(), AllocError>
+    requires enrolled { IsEnrolled book.old.workers (pass_state pass.old) }
+    requires desk { is_some (desk_place client.id.0 book.old.desks) ≡ true }
+    requires place { length book.old.history < book.old.most }
     ensures kept { OnOk result (IsSetAsBefore book.old book.new) }
     ensures registered { OnOk result (commands_of book.new.history ≡ commands_of book.old.history ++ registration client ∷ []) }
+    ensures enrolled { OnOk result (IsEnrolled book.new.workers (pass_state pass.new)) }
 {
     let command = Command::Register {
         client: client.id(),
@@ -249,12 +350,16 @@ fn register<T: Tag, I: Indexes<T>, S: Setup>(
     };
     match book.run(pass, command) {
         Ok(reply) => keep_refusal(reply, stops),
-        Err(fault) => Err(of_register(fault)),
+        Err(RunFault::Memory) => Err(AllocError),
+        Err(RunFault::Stranger) => unreachable!(),
+        Err(RunFault::Behind) => unreachable!(),
+        Err(RunFault::NoDesk) => unreachable!(),
+        Err(RunFault::HistoryFull) => unreachable!(),
     }
 }
 
 /// Puts what the queue refused among the stops.
-fn keep_refusal<T: Tag>(reply: Reply<T>, stops: &mut Vec<StopCause>) -> Result<(), OpenFault> {
+fn keep_refusal<T: Tag>(reply: Reply<T>, stops: &mut Vec<StopCause>) -> Result<(), AllocError> {
     if let Reply::Refused(refusal) = reply {
         stops.push(StopCause::Refused(refusal))?;
     }
@@ -290,16 +395,18 @@ fn more_ringers(alloc: Global, ringers: &mut [Ringer]) -> Result<Vec<Ringer>, Al
     Ok(more)
 }
 
-/// Hands the passes to the workers of the clients, in order.
+/// Hands the last passes to the workers of the clients, from the last one on.
 fn hand_to_clients<S: Setup>(
     passes: &mut Vec<WorkerPass<S>>,
     jobs: &mut [ClientJob<S>],
-) -> Result<(), OpenFault> {
-    for job in jobs.iter_mut().rev() {
+) -> Result<(), AllocError>
+    requires { length jobs.old ≤ length passes.old.items }
+{
+    for place in (0..jobs.len()).rev() {
         let Some(pass) = passes.pop() else {
-            return Err(OpenFault::Torn);
+            unreachable!()
         };
-        job.passes.push(pass)?;
+        push_last(pass, &mut jobs[place].passes)?;
     }
     Ok(())
 }

@@ -1,5 +1,5 @@
 use Rattle.std.proofs.Common.{rules, subst, sym}
-use Rattle.dmc_driver.specs.internal.Settled.{AreClientsDone}
+use Rattle.dmc_driver.specs.internal.Rows.{AreClientsDone}
 use Rattle.dmc_driver.proofs.ending.is_done.Goals as goal
 
 pub returns-then-not-are_clients_done : goal.returns-then-not-are_clients_done

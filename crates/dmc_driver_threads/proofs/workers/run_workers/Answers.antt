@@ -1,5 +1,7 @@
 use Rattle.std.proofs.Common.{subst}
 use Rattle.std.specs.Prelude.{All}
+use Rattle.dmc_scene.specs.SceneValue.{SceneValue}
+use Rattle.dmc_settle.specs.Reports.{AreRows}
 use Rattle.dmc_driver_threads.specs.Opened.{IsOpenedBook, IsOpenedTracker}
 use Rattle.dmc_driver_threads.proofs.workers.run_workers.Goals as goal
 
@@ -14,3 +16,6 @@ returns-clause-trackers g c =
     let trackers = c.run_opened.result.trackers.items in
     subst (λ limits. All (IsOpenedTracker c.args.scene.now limits) trackers) c.requires.limits
     (subst (λ scene. All (IsOpenedTracker scene g.S.Origin.limits) trackers) c.requires.scene c.run_opened.ensures.trackers)
+
+pub returns-clause-rows : goal.returns-clause-rows
+returns-clause-rows g c = subst (λ (scene : SceneValue). AreRows scene c.run_opened.result.report) c.requires.scene c.run_opened.ensures.rows

@@ -1,0 +1,29 @@
+//! What the threads of a run left keeps to its own limits, wherever it was meanwhile.
+ghost use Rattle.std.specs.Prelude.{◌≤◌, All, length};
+ghost use Rattle.dmc_tracker.specs.TrackerList.{completions};
+
+use dmc_book::book::QueueBook;
+use dmc_book::laws::history_keeps_to_most;
+use dmc_index::index::Indexes;
+use dmc_ledger::setup::Setup;
+use dmc_tag::tag::Tag;
+use dmc_tlock::book::TrackerBook;
+use dmc_tlock::laws::completions_are_within;
+
+/// No history has more events than its book may have.
+pub(crate) fn keep_to_most<T: Tag, I: Indexes<T>, S: Setup>(books: &[QueueBook<T, I, S>])
+    ensures { All (λ book. length book.history ≤ book.most) books.now }
+{
+    for book in books {
+        history_keeps_to_most(book);
+    }
+}
+
+/// No tracker has counted more completions than it may.
+pub(crate) fn count_within<S: Setup>(trackers: &[TrackerBook<S>])
+    ensures { All (λ book. (completions book.events).delta ≤ book.tracker.most) trackers.now }
+{
+    for tracker in trackers {
+        completions_are_within(tracker);
+    }
+}

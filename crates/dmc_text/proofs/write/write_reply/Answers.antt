@@ -1,56 +1,39 @@
 -- What is written is the reply's text, and each reply is read again from it.
-use Rattle.std.proofs.Common.{arith}
+use Rattle.std.proofs.Common.{ℕ, List, arith}
 use Rattle.dmc_text.specs.Replies.{tag_text}
 use Rattle.dmc_text.proofs.ReplyLemmas.{back_registered, back_updated, back_nothing, back_later, back_removed, back_cleaned, back_refused, back_granted}
+use Rattle.dmc_text.proofs.write.write_reply.Given.{Over}
 use Rattle.dmc_text.proofs.write.write_reply.Goals as goal
 
+-- the text of a tag
+abbrev text : (g : Over) → g.row.T.Denot → List ℕ
+text g = tag_text g.T.TagText.numerator g.T.TagText.denominator
+
 pub returns-in-Registered-clause-again : goal.returns-in-Registered-clause-again
-returns-in-Registered-clause-again g c =
-    let made = g.T.TagText.made in
-    let text = tag_text g.T.TagText.numerator g.T.TagText.denominator in
-    rw c.in-Registered.is (λ told. back_registered made text)
+returns-in-Registered-clause-again g c = rw c.in-Registered.is (λ told. back_registered g.T.TagText.made (text g))
 
 pub returns-in-Updated-clause-again : goal.returns-in-Updated-clause-again
-returns-in-Updated-clause-again g c =
-    let made = g.T.TagText.made in
-    let text = tag_text g.T.TagText.numerator g.T.TagText.denominator in
-    rw c.in-Updated.is (λ told. back_updated made text)
+returns-in-Updated-clause-again g c = rw c.in-Updated.is (λ told. back_updated g.T.TagText.made (text g))
 
 pub returns-in-Granted-clause-again : goal.returns-in-Granted-clause-again
 returns-in-Granted-clause-again g c =
-    let made = g.T.TagText.made in
-    let text = tag_text g.T.TagText.numerator g.T.TagText.denominator in
-    rw c.in-Granted.is (λ told. back_granted made text c.in-Granted.client c.in-Granted.token c.in-Granted.phase c.in-Granted.beyond told c.write_grant.ensures.ids.0 c.write_grant.ensures.ids.1)
+    rw c.in-Granted.is (λ told. back_granted g.T.TagText.made (text g) c.in-Granted.client c.in-Granted.token c.in-Granted.phase c.in-Granted.beyond told c.write_grant.ensures.ids.0 c.write_grant.ensures.ids.1)
 
 pub returns-in-Later-clause-again : goal.returns-in-Later-clause-again
-returns-in-Later-clause-again g c =
-    let made = g.T.TagText.made in
-    let text = tag_text g.T.TagText.numerator g.T.TagText.denominator in
-    rw c.in-Later.is (λ told. back_later made text c.in-Later.at (omega arith))
+returns-in-Later-clause-again g c = rw c.in-Later.is (λ told. back_later g.T.TagText.made (text g) c.in-Later.at (omega arith))
 
 pub returns-in-Nothing-clause-again : goal.returns-in-Nothing-clause-again
-returns-in-Nothing-clause-again g c =
-    let made = g.T.TagText.made in
-    let text = tag_text g.T.TagText.numerator g.T.TagText.denominator in
-    rw c.in-Nothing.is (λ told. back_nothing made text)
+returns-in-Nothing-clause-again g c = rw c.in-Nothing.is (λ told. back_nothing g.T.TagText.made (text g))
 
 pub returns-in-Removed-clause-again : goal.returns-in-Removed-clause-again
-returns-in-Removed-clause-again g c =
-    let made = g.T.TagText.made in
-    let text = tag_text g.T.TagText.numerator g.T.TagText.denominator in
-    rw c.in-Removed.is (λ told. back_removed made text c.in-Removed.removed (omega arith))
+returns-in-Removed-clause-again g c = rw c.in-Removed.is (λ told. back_removed g.T.TagText.made (text g) c.in-Removed.removed (omega arith))
 
 pub returns-in-Cleaned-clause-again : goal.returns-in-Cleaned-clause-again
 returns-in-Cleaned-clause-again g c =
-    let made = g.T.TagText.made in
-    let text = tag_text g.T.TagText.numerator g.T.TagText.denominator in
-    rw c.in-Cleaned.is (λ told. back_cleaned made text c.in-Cleaned.idled c.in-Cleaned.erased (omega arith) (omega arith))
+    rw c.in-Cleaned.is (λ told. back_cleaned g.T.TagText.made (text g) c.in-Cleaned.idled c.in-Cleaned.erased (omega arith) (omega arith))
 
 pub returns-in-Refused-clause-again : goal.returns-in-Refused-clause-again
-returns-in-Refused-clause-again g c =
-    let made = g.T.TagText.made in
-    let text = tag_text g.T.TagText.numerator g.T.TagText.denominator in
-    rw c.in-Refused.is (λ told. back_refused made text c.in-Refused.refusal)
+returns-in-Refused-clause-again g c = rw c.in-Refused.is (λ told. back_refused g.T.TagText.made (text g) c.in-Refused.refusal)
 
 pub returns-in-Registered-clause-text : goal.returns-in-Registered-clause-text
 returns-in-Registered-clause-text g c = rw c.in-Registered.is c.write_all.ensures.bytes

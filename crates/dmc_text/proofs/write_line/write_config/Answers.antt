@@ -1,22 +1,22 @@
 -- The configuration is read again from its line.
 use Rattle.std.proofs.Common.{arith}
+use Rattle.dmc_types.specs.Values.{IsSetting}
 use Rattle.dmc_text.proofs.WrittenLemmas.{config_again}
+use Rattle.dmc_text.proofs.write_line.write_config.Given.{Over}
+use Rattle.dmc_text.proofs.write_line.write_config.Goals.{After-at_limit}
 use Rattle.dmc_text.proofs.write_line.write_config.Goals as goal
 
-pub returns-in-Wait-clause-again : goal.returns-in-Wait-clause-again
-returns-in-Wait-clause-again g c = config_again c.args.config (record {
+limits : (g : Over) (c : After-at_limit g) → IsSetting c.args.config.hz c.args.config.idle_age c.args.config.erase_age
+limits g c = record {
   some_hz = omega (arith, c.hz-hz.ensures.value, c.hz-hz.ensures.some);
   hz_limit = omega (arith, c.hz-hz.ensures.value, c.hz-hz.ensures.limit);
   some_age = omega (arith, c.idle_age-idle.ensures.value, c.idle_age-idle.ensures.some);
   in_order = omega (arith, c.idle_age-idle.ensures.value, c.idle_age-idle.ensures.in_order);
   age_limit = omega (arith, c.erase_age-erase.ensures.value, c.erase_age-erase.ensures.limit);
-})
+}
+
+pub returns-in-Wait-clause-again : goal.returns-in-Wait-clause-again
+returns-in-Wait-clause-again g c = config_again c.args.config (limits g (goal.at.returns-in-Wait-clause-again g c).After-at_limit)
 
 pub returns-in-Allow-clause-again : goal.returns-in-Allow-clause-again
-returns-in-Allow-clause-again g c = config_again c.args.config (record {
-  some_hz = omega (arith, c.hz-hz.ensures.value, c.hz-hz.ensures.some);
-  hz_limit = omega (arith, c.hz-hz.ensures.value, c.hz-hz.ensures.limit);
-  some_age = omega (arith, c.idle_age-idle.ensures.value, c.idle_age-idle.ensures.some);
-  in_order = omega (arith, c.idle_age-idle.ensures.value, c.idle_age-idle.ensures.in_order);
-  age_limit = omega (arith, c.erase_age-erase.ensures.value, c.erase_age-erase.ensures.limit);
-})
+returns-in-Allow-clause-again g c = config_again c.args.config (limits g (goal.at.returns-in-Allow-clause-again g c).After-at_limit)

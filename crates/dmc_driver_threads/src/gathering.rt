@@ -1,5 +1,5 @@
 //! Gathers what the threads of a run leave.
-ghost use Rattle.std.specs.Prelude.{◌≡◌, [], map, All};
+ghost use Rattle.std.specs.Prelude.{◌≡◌, ◌≤◌, [], length, map, All, vec_capacity};
 ghost use Rattle.dmc_driver_threads.specs.Opened.{IsOpenedTracker, IsWitnessed};
 
 use crate::client_worker::ClientJob;
@@ -33,11 +33,15 @@ pub(crate) fn gather<T: Tag, B: Lasting + Drop, W: Witness<B> + Drop, S: Origin>
     remains: &mut Remains<T, B, S>,
 )
     requires books { room.books.items ≡ [] }
+    requires books_fit { length cluster.queues.items ≤ vec_capacity room.books }
     requires trackers { room.trackers.items ≡ [] }
+    requires trackers_fit { length cluster.trackers.items ≤ vec_capacity room.trackers }
     ensures clients { map (λ r. r.client) remains.new.report.clients.items ≡ map (λ r. r.client) remains.old.report.clients.items }
     ensures servers { map (λ r. r.server) remains.new.report.servers.items ≡ map (λ r. r.server) remains.old.report.servers.items }
     ensures books { All (IsWitnessed W.holds) remains.new.books.items }
+    ensures as_many_books { length remains.new.books.items ≡ length cluster.queues.items }
     ensures trackers { All (IsOpenedTracker S.scene S.limits) remains.new.trackers.items }
+    ensures as_many_trackers { length remains.new.trackers.items ≡ length cluster.trackers.items }
 {
     remains.books = take_books(cluster.queues, room.books);
     remains.trackers = take_trackers(cluster.trackers, room.trackers);
@@ -57,8 +61,10 @@ fn take_books<B: Lasting + Drop, W: Witness<B> + Drop>(
     locks: Vec<LockedQueue<B, W>>,
     room: Vec<B>,
 ) -> Vec<B>
-    requires { room.items ≡ [] }
-    ensures { All (IsWitnessed W.holds) result.items }
+    requires empty { room.items ≡ [] }
+    requires fits { length locks.items ≤ vec_capacity room }
+    ensures books { All (IsWitnessed W.holds) result.items }
+    ensures as_many { length result.items ≡ length locks.items }
 {
     let mut books = room;
     for lock in locks {
@@ -73,8 +79,10 @@ fn take_trackers<S: Origin>(
     locks: Vec<ClientLock<S>>,
     room: Vec<TrackerBook<S>>,
 ) -> Vec<TrackerBook<S>>
-    requires { room.items ≡ [] }
-    ensures { All (IsOpenedTracker S.scene S.limits) result.items }
+    requires empty { room.items ≡ [] }
+    requires fits { length locks.items ≤ vec_capacity room }
+    ensures trackers { All (IsOpenedTracker S.scene S.limits) result.items }
+    ensures as_many { length result.items ≡ length locks.items }
 {
     let mut books = room;
     for lock in locks {
@@ -216,7 +224,7 @@ fn add_failures(failures: &[u64], rows: &mut [ClientReport])
     }
 }
 
-/// So many failures more of the client at a place.
+/// Adds this number of failures of the client at a place.
 fn add_failed(place: usize, count: u64, rows: &mut [ClientReport])
     ensures { map (λ r. r.client) rows.new ≡ map (λ r. r.client) rows.old }
 {

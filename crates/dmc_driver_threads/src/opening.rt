@@ -1,11 +1,12 @@
 //! All that a run needs, made before any of its threads.
-ghost use Rattle.std.specs.Prelude.{◌≡◌, ◌*◌, ◌≤◌, [], ◌∷◌, ◌++◌, IfOk, OnOk};
+ghost use Rattle.std.specs.Prelude.{◌≡◌, ◌*◌, ◌≤◌, [], ◌∷◌, ◌++◌, length, IfOk, OnOk};
 ghost use Rattle.dmc_types.specs.Limits.{max_server_workers, max_servers};
 ghost use Rattle.dmc_settle.specs.Reports.{AreRows};
 ghost use Rattle.dmc_driver_threads.specs.Opened.{books_of};
 
 mod clients;
 mod desks;
+mod registering;
 mod servers;
 
 use crate::cluster::Cluster;
@@ -53,7 +54,9 @@ pub(crate) fn open<T: Tag, I: Indexes<T>, S: Origin>(
     requires scene { S.scene ≡ scene.now }
     requires limits { S.limits ≡ limits }
     requires numbers { books_of scene.now ≤ mint.old.left }
-    ensures { IfOk result (λ opened. AreRows S.scene opened.remains.report) }
+    ensures rows { IfOk result (λ opened. AreRows S.scene opened.remains.report) }
+    ensures queues { IfOk result (λ opened. length opened.cluster.queues.items ≡ S.scene.servers) }
+    ensures trackers { IfOk result (λ opened. length opened.cluster.trackers.items ≡ length S.scene.clients) }
 {
     let opening = Opening {
         alloc,
@@ -75,6 +78,8 @@ impl<'a> Opening<'a> {
     fn none_opened<T: Tag, B: Lasting, W: Witness<B>, S: Origin>(
         &self,
     ) -> Result<Opened<T, B, W, S>, AllocError>
+        ensures queues { IfOk result (λ opened. length opened.cluster.queues.items ≡ 0) }
+        ensures trackers { IfOk result (λ opened. length opened.cluster.trackers.items ≡ 0) }
         ensures jobs { IfOk result (λ opened. opened.senders.jobs.items ≡ []) }
         ensures clients { IfOk result (λ opened. opened.remains.report.clients.items ≡ []) }
         ensures servers { IfOk result (λ opened. opened.remains.report.servers.items ≡ []) }
@@ -103,10 +108,14 @@ impl<'a> Opening<'a> {
         requires scene { S.scene ≡ self.now.scene.now }
         requires limits { S.limits ≡ self.now.limits }
         requires numbers { books_of self.now.scene.now ≤ mint.old.left }
+        requires queues { length opened.old.cluster.queues.items ≡ 0 }
+        requires trackers { length opened.old.cluster.trackers.items ≡ 0 }
         requires jobs { opened.old.senders.jobs.items ≡ [] }
         requires clients { opened.old.remains.report.clients.items ≡ [] }
         requires servers { opened.old.remains.report.servers.items ≡ [] }
-        ensures { OnOk result (AreRows self.now.scene.now opened.new.remains.report) }
+        ensures rows { OnOk result (AreRows self.now.scene.now opened.new.remains.report) }
+        ensures queues { OnOk result (length opened.new.cluster.queues.items ≡ self.now.scene.now.servers) }
+        ensures trackers { OnOk result (length opened.new.cluster.trackers.items ≡ length self.now.scene.now.clients) }
     {
         self.reserve_all(opened)?;
         self.add_rows(&mut opened.remains.report.clients)?;
@@ -121,6 +130,8 @@ impl<'a> Opening<'a> {
         &self,
         opened: &mut Opened<T, B, W, S>,
     ) -> Result<(), AllocError>
+        ensures queues { OnOk result (length opened.new.cluster.queues.items ≡ length opened.old.cluster.queues.items) }
+        ensures trackers { OnOk result (length opened.new.cluster.trackers.items ≡ length opened.old.cluster.trackers.items) }
         ensures jobs { OnOk result (opened.new.senders.jobs.items ≡ opened.old.senders.jobs.items) }
         ensures clients { OnOk result (opened.new.remains.report.clients.items ≡ opened.old.remains.report.clients.items) }
         ensures servers { OnOk result (opened.new.remains.report.servers.items ≡ opened.old.remains.report.servers.items) }
@@ -147,7 +158,10 @@ fn reserve_locks<B: Lasting, W: Witness<B>, S: Origin>(
     clients: usize,
     servers: usize,
     cluster: &mut Cluster<B, W, S>,
-) -> Result<(), AllocError> {
+) -> Result<(), AllocError>
+    ensures queues { OnOk result (length cluster.new.queues.items ≡ length cluster.old.queues.items) }
+    ensures trackers { OnOk result (length cluster.new.trackers.items ≡ length cluster.old.trackers.items) }
+{
     cluster.trackers.reserve_exact(clients)?;
     cluster.queues.reserve_exact(servers)?;
     Ok(())

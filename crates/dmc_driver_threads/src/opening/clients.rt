@@ -77,6 +77,9 @@ impl<'a> Opening<'a> {
         ensures queues { OnOk result (queues.new ≡ queues_of (length queues.old) (ids_of self.now.scene.now.clients)) }
         ensures left { OnOk result (mint.new.left + length self.now.scene.now.clients * (5 * length queues.old) ≡ mint.old.left) }
         ensures jobs { OnOk result (length senders.new.jobs.items ≡ length self.now.scene.now.clients) }
+        ensures queues_kept { OnOk result (length cluster.new.queues.items ≡ length cluster.old.queues.items) }
+        ensures trackers { OnOk result
+            (length cluster.new.trackers.items ≡ length cluster.old.trackers.items + length self.now.scene.now.clients) }
     {
         for client in self.scene.clients() {
             self.open_client(mint, *client, queues, cluster, senders)?;
@@ -102,6 +105,8 @@ impl<'a> Opening<'a> {
         ensures queues { OnOk result (queues.new ≡ map (with_client client.id.0) queues.old) }
         ensures left { OnOk result (mint.new.left + 5 * length queues.old ≡ mint.old.left) }
         ensures jobs { OnOk result (length senders.new.jobs.items ≡ length senders.old.jobs.items + 1) }
+        ensures queues_kept { OnOk result (length cluster.new.queues.items ≡ length cluster.old.queues.items) }
+        ensures trackers { OnOk result (length cluster.new.trackers.items ≡ length cluster.old.trackers.items + 1) }
     {
         cluster.ids.insert(client.id())?;
         let desks = open_pairs(self.alloc, mint, client.id(), queues)?;
@@ -120,6 +125,7 @@ impl<'a> Opening<'a> {
         requires limits { S.limits ≡ self.now.limits }
         requires some { 0 < desks.servers }
         requires few { desks.servers ≤ max_servers }
+        ensures { OnOk result (length trackers.new.items ≡ length trackers.old.items + 1) }
     {
         let TrackerDesks { client, desks } = desks;
         let most = u64::from(self.limits.completions());

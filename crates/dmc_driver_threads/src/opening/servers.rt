@@ -1,16 +1,16 @@
 //! The servers of a run, opened: their queues, at which every client is registered, and their workers.
-ghost use Rattle.std.specs.Prelude.{◌≡◌, ◌+◌, ◌*◌, ◌<◌, ◌≤◌, ◌^◌, ◌++◌, ◌∷◌, [], length, map, true, is_some, IfOk, OnOk};
+ghost use Rattle.std.specs.Prelude.{◌≡◌, ◌+◌, ◌*◌, ◌<◌, ◌≤◌, ◌^◌, ◌++◌, ◌∷◌, [], length, map, IfOk, OnOk};
 ghost use Rattle.std.specs.List.{AllByRecursion, range_with_len};
 ghost use Rattle.dmc_types.specs.Limits.{max_scene_clients, max_server_workers, max_servers, max_workers};
 ghost use Rattle.dmc_ledger.specs.Bundles.{client_side};
 ghost use Rattle.dmc_book.specs.BookState.{pass_state};
-ghost use Rattle.dmc_book.specs.Moves.{IsEnrolled, desk_place};
 ghost use Rattle.dmc_book.specs.Opening.{AreApart, AreBookLimits, AreNamedOnce, IsNewDesk, new_passes, new_state};
 ghost use Rattle.dmc_driver_threads.specs.Opened.{IsOpenedBook, commands_of, registration};
 ghost use Rattle.dmc_driver_threads.specs.internal.Books.{AreNumbered, IsFirstEnrolled, IsNewBook, IsSetAsBefore, books_of_server, enrolled};
 ghost use Rattle.dmc_driver_threads.specs.internal.Desks.{ids_of, queues_of};
 
 use super::desks::QueueDesks;
+use super::registering::register_each;
 use super::{Opened, Opening, push_last};
 use crate::bell::Ringer;
 use crate::client_worker::ClientJob;
@@ -18,7 +18,7 @@ use crate::origin::{AsOpened, Origin, ServerLock};
 use crate::server_worker::ServerJob;
 use crate::threads::Senders;
 use dmc_book::book::QueueBook;
-use dmc_book::fault::{NewFault, RunFault};
+use dmc_book::fault::NewFault;
 use dmc_book::pass::WorkerPass;
 use dmc_book::settled::GrantsHeld;
 use dmc_index::index::Indexes;
@@ -27,15 +27,11 @@ use dmc_ledger::mint::Mint;
 use dmc_ledger::setup::Setup;
 use dmc_qlock::lock::{LockedQueue, OfServer};
 use dmc_queue_history::history::EventHistory;
-use dmc_scene::client::SceneClient;
 use dmc_settle::report::{ServerReport, StopCause};
-use dmc_tag::reply::Reply;
 use dmc_tag::tag::Tag;
 use dmc_tlock::witness::{Lasting, Witness};
-use dmc_types::command::Command;
 use dmc_types::config::QueueConfig;
 use dmc_types::ids::{ServerId, WorkerId};
-use dmc_types::moment::Moment;
 use std::alloc::{AllocError, Global};
 
 impl<'a> Opening<'a> {
@@ -55,6 +51,9 @@ impl<'a> Opening<'a> {
         ensures rows { OnOk result
             (map (λ r. r.server.0) opened.new.remains.report.servers.items ≡ range_with_len 0 self.now.scene.now.servers) }
         ensures clients { OnOk result (opened.new.remains.report.clients ≡ opened.old.remains.report.clients) }
+        ensures queues { OnOk result
+            (length opened.new.cluster.queues.items ≡ length opened.old.cluster.queues.items + self.now.scene.now.servers) }
+        ensures trackers { OnOk result (length opened.new.cluster.trackers.items ≡ length opened.old.cluster.trackers.items) }
     {
         let mut desks = desks;
         for _ in 0..self.scene.servers() {
@@ -83,6 +82,8 @@ impl<'a> Opening<'a> {
         ensures rows { OnOk result (map (λ r. r.server.0) opened.new.remains.report.servers.items
             ≡ map (λ r. r.server.0) opened.old.remains.report.servers.items ++ desks.server ∷ []) }
         ensures clients { OnOk result (opened.new.remains.report.clients ≡ opened.old.remains.report.clients) }
+        ensures queues { OnOk result (length opened.new.cluster.queues.items ≡ length opened.old.cluster.queues.items + 1) }
+        ensures trackers { OnOk result (length opened.new.cluster.trackers.items ≡ length opened.old.cluster.trackers.items) }
     {
         let server = desks.server;
         let (mut passes, stops) = self.open_queue(mint, desks, &mut opened.cluster.queues)?;
@@ -113,6 +114,7 @@ impl<'a> Opening<'a> {
         requires left { books_of_server self.now.scene.now ≤ mint.old.left }
         ensures passes { IfOk result (λ opened. length opened.0.items ≡ enrolled self.now.scene.now) }
         ensures left { OnOk result (mint.new.left + books_of_server self.now.scene.now ≡ mint.old.left) }
+        ensures queues { OnOk result (length queues.new.items ≡ length queues.old.items + 1) }
     {
         let (mut book, mut passes) = self.new_book(mint, desks)?;
         match self.register_all(&mut book, &mut passes) {
@@ -285,7 +287,7 @@ fn make_book<T: Tag, I: Indexes<T>, S: Setup>(
     }
 }
 
-/// So many workers more, numbered from the first on. Those that are there have lower numbers.
+/// Adds this number of workers, numbered from `first` on. Those that are there have lower numbers.
 fn add_workers(first: u32, count: u32, ids: &mut Vec<WorkerId>) -> Result<(), AllocError>
     requires fits { first + count < 2 ^ 32 }
     requires numbered { AreNumbered first ids.old.items }
@@ -305,65 +307,9 @@ fn push_queue<B: OfServer + Lasting + Drop, W: Witness<B> + Drop>(
     queues: &mut Vec<LockedQueue<B, W>>,
 ) -> Result<(), AllocError>
     requires { W.holds witness book }
+    ensures { OnOk result (length queues.new.items ≡ length queues.old.items + 1) }
 {
     push_last(LockedQueue::with_witness(book, witness), queues)
-}
-
-/// Registers these clients, for which the book has desks.
-fn register_each<T: Tag, I: Indexes<T>, S: Setup>(
-    book: &mut QueueBook<T, I, S>,
-    pass: &mut WorkerPass<S>,
-    clients: &[SceneClient],
-    stops: &mut Vec<StopCause>,
-) -> Result<(), AllocError>
-    requires new { book.old.history ≡ [] }
-    requires desks { map (λ d. d.client) book.old.desks ≡ ids_of clients.now }
-    requires room { length clients.now ≤ book.old.most }
-    requires enrolled { IsEnrolled book.old.workers (pass_state pass.old) }
-    ensures kept { OnOk result (IsSetAsBefore book.old book.new) }
-    ensures registered { OnOk result (commands_of book.new.history ≡ map registration clients.now) }
-{
-    for client in clients {
-        register(book, pass, *client, stops)?;
-    }
-    Ok(())
-}
-
-/// Registers a client at moment 0. It is refused memory alone.
-fn register<T: Tag, I: Indexes<T>, S: Setup>(
-    book: &mut QueueBook<T, I, S>,
-    pass: &mut WorkerPass<S>,
-    client: SceneClient,
-    stops: &mut Vec<StopCause>,
-) -> Result<(), AllocError>
-    requires enrolled { IsEnrolled book.old.workers (pass_state pass.old) }
-    requires desk { is_some (desk_place client.id.0 book.old.desks) ≡ true }
-    requires place { length book.old.history < book.old.most }
-    ensures kept { OnOk result (IsSetAsBefore book.old book.new) }
-    ensures registered { OnOk result (commands_of book.new.history ≡ commands_of book.old.history ++ registration client ∷ []) }
-    ensures enrolled { OnOk result (IsEnrolled book.new.workers (pass_state pass.new)) }
-{
-    let command = Command::Register {
-        client: client.id(),
-        info: client.info(),
-        at: Moment::zero(),
-    };
-    match book.run(pass, command) {
-        Ok(reply) => keep_refusal(reply, stops),
-        Err(RunFault::Memory) => Err(AllocError),
-        Err(RunFault::Stranger) => unreachable!(),
-        Err(RunFault::Behind) => unreachable!(),
-        Err(RunFault::NoDesk) => unreachable!(),
-        Err(RunFault::HistoryFull) => unreachable!(),
-    }
-}
-
-/// Puts what the queue refused among the stops.
-fn keep_refusal<T: Tag>(reply: Reply<T>, stops: &mut Vec<StopCause>) -> Result<(), AllocError> {
-    if let Reply::Refused(refusal) = reply {
-        stops.push(StopCause::Refused(refusal))?;
-    }
-    Ok(())
 }
 
 /// The worker of a server at a place, with a ringer at each client's door.

@@ -1,13 +1,26 @@
-use Rattle.dmc_driver_threads.proofs.Kept.{all_pushed}
+use Rattle.std.proofs.Common.{arith}
+use Rattle.dmc_driver_threads.proofs.Kept.{all_pushed, one_pushed}
 use Rattle.dmc_driver_threads.specs.Opened.{IsOpenedTracker}
 use Rattle.dmc_driver_threads.proofs.gathering.take_trackers.Goals as goal
 
 pub loop-lock-preserved-in-Some : goal.loop-lock-preserved-in-Some
 loop-lock-preserved-in-Some g c =
-    all_pushed (IsOpenedTracker g.S.Origin.scene g.S.Origin.limits) c.loop-lock.books.items c.into_parts-book.result.0 c.push.result
-    c.loop-lock.invariant c.into_parts-book.ensures c.push.ensures.items
+    let inv = c.loop-lock.invariant in
+    let ok = c.push.ensures.succeeds (omega (arith, inv.count, inv.fits, c.in-Some.ensures.steps.1)) in
+    record {
+      trackers = all_pushed (IsOpenedTracker g.S.Origin.scene g.S.Origin.limits) c.loop-lock.books.items c.into_parts-book.result.0 c.push.result inv.trackers
+          c.into_parts-book.ensures c.push.ensures.items;
+      count = omega (arith, inv.count, c.in-Some.ensures.steps.1, one_pushed c.loop-lock.books.items c.into_parts-book.result.0 c.push.result ok c.push.ensures.items);
+      fits = omega (arith, inv.fits, c.push.ensures.capacity);
+    }
 
 pub loop-lock-preserved : goal.loop-lock-preserved
 loop-lock-preserved g c =
-    all_pushed (IsOpenedTracker g.S.Origin.scene g.S.Origin.limits) c.loop-lock.books.items c.into_parts-book.result.0 c.push.result
-    c.loop-lock.invariant c.into_parts-book.ensures c.push.ensures.items
+    let inv = c.loop-lock.invariant in
+    let ok = c.push.ensures.succeeds (omega (arith, inv.count, inv.fits, c.in-Some.ensures.steps.1)) in
+    record {
+      trackers = all_pushed (IsOpenedTracker g.S.Origin.scene g.S.Origin.limits) c.loop-lock.books.items c.into_parts-book.result.0 c.push.result inv.trackers
+          c.into_parts-book.ensures c.push.ensures.items;
+      count = omega (arith, inv.count, c.in-Some.ensures.steps.1, one_pushed c.loop-lock.books.items c.into_parts-book.result.0 c.push.result ok c.push.ensures.items);
+      fits = omega (arith, inv.fits, c.push.ensures.capacity);
+    }

@@ -1,4 +1,4 @@
-use Rattle.std.proofs.Common.{subst}
+use Rattle.std.proofs.Common.{length, subst, ap, ◌∙◌}
 use Rattle.std.specs.Prelude.{All}
 use Rattle.dmc_scene.specs.SceneValue.{SceneValue}
 use Rattle.dmc_settle.specs.Reports.{AreRows}
@@ -19,3 +19,11 @@ returns-clause-trackers g c =
 
 pub returns-clause-rows : goal.returns-clause-rows
 returns-clause-rows g c = subst (λ (scene : SceneValue). AreRows scene c.run_opened.result.report) c.requires.scene c.run_opened.ensures.rows
+
+pub returns-clause-as_many_books : goal.returns-clause-as_many_books
+returns-clause-as_many_books g c =
+    c.run_opened.ensures.as_many_books ∙ c.in_ok-opened.ensures.queues ∙ ap (λ (scene : SceneValue). scene.servers) c.requires.scene
+
+pub returns-clause-as_many_trackers : goal.returns-clause-as_many_trackers
+returns-clause-as_many_trackers g c =
+    c.run_opened.ensures.as_many_trackers ∙ c.in_ok-opened.ensures.trackers ∙ ap (λ (scene : SceneValue). length scene.clients) c.requires.scene

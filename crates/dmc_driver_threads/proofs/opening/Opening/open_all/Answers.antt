@@ -53,8 +53,8 @@ open_servers-requires-clause-left g c =
     subst (λ (n : ℕ). c.open_clients.new.mint.left + length scene.clients * (5 * n) ≡ c.args.mint.now.left) (long g a) c.in_ok-open_clients.ensures.left in
     omega (arith, opened, c.requires.numbers)
 
-pub returns : goal.returns
-returns g c =
+pub returns-clause-rows : goal.returns-clause-rows
+returns-clause-rows g c =
     let scene = c.args.self.now.scene.now in
     rows_opened scene c.open_servers.new.opened.remains.report
     (ap (λ v. map (λ (r : ClientReport). r.client) v.items) c.in_ok-open_servers.ensures.clients ∙ c.in_ok-add_rows.ensures) c.in_ok-open_servers.ensures.rows

@@ -36,4 +36,6 @@ loop-client-preserved g c =
       queues = next_client n cs i x c.loop-client.queues c.open_client.new.queues within is inv.queues c.in_ok-open_client.ensures.queues;
       left = omega (arith, c.in_ok-open_client.ensures.left, inv.left, same);
       jobs = omega (arith, c.in_ok-open_client.ensures.jobs, inv.jobs);
+      queues_kept = c.in_ok-open_client.ensures.queues_kept ∙ inv.queues_kept;
+      trackers = omega (arith, c.in_ok-open_client.ensures.trackers, inv.trackers);
     }

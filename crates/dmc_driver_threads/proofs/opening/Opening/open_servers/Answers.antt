@@ -29,6 +29,8 @@ loop-init g c =
       left = omega arith;
       jobs = c.requires.jobs;
       rows = ap (map (λ (r : ServerReport g.row.T.Denot). r.server.0)) c.requires.rows;
+      queues = omega arith;
+      trackers = refl;
       clients = refl;
     }
 
@@ -59,5 +61,7 @@ loop-preserved g c =
       jobs = c.in_ok-open_server.ensures.jobs ∙ inv.jobs;
       rows = c.in_ok-open_server.ensures.rows ∙ ap (λ (ns : List ℕ). ns ++ c.remove-next.result.server ∷ []) inv.rows
           ∙ ap (λ (k : ℕ). range_with_len 0 n ++ k ∷ []) server ∙ sym (range_more 0 n n from_zero);
+      queues = omega (arith, c.in_ok-open_server.ensures.queues, inv.queues);
+      trackers = c.in_ok-open_server.ensures.trackers ∙ inv.trackers;
       clients = c.in_ok-open_server.ensures.clients ∙ inv.clients;
     }

@@ -1,4 +1,4 @@
--- The desks of the next servers are left, and each server up to now has its row.
+-- The desks of the next servers are left, and each server up to now has its queue and its row.
 use Rattle.std.proofs.Common.{◌≡◌, ◌+◌, ◌*◌, length, map}
 use Rattle.std.specs.List.{range_with_len}
 use Rattle.dmc_driver_threads.specs.internal.Books.{books_of_server}
@@ -12,5 +12,7 @@ invariant-loop g l = record {
   left : l.mint.left + l.counter * books_of_server l.self.scene.now ≡ l.fn.mint.left;
   jobs : length l.opened.senders.jobs.items ≡ length l.self.scene.now.clients;
   rows : map (λ r. r.server.0) l.opened.remains.report.servers.items ≡ range_with_len 0 l.counter;
+  queues : length l.opened.cluster.queues.items ≡ length l.fn.opened.cluster.queues.items + l.counter;
+  trackers : length l.opened.cluster.trackers.items ≡ length l.fn.opened.cluster.trackers.items;
   clients : l.opened.remains.report.clients ≡ l.fn.opened.remains.report.clients;
 }

@@ -3,7 +3,7 @@ use Rattle.dmc_book.specs.BookState.{pass_state}
 use Rattle.dmc_book.specs.Moves.{IsEnrolled}
 use Rattle.dmc_driver_threads.specs.Opened.{commands_of, registration}
 use Rattle.dmc_driver_threads.specs.internal.Books.{IsSetAsBefore}
-use Rattle.dmc_driver_threads.proofs.opening.servers.register_each.Given as goal
+use Rattle.dmc_driver_threads.proofs.opening.registering.register_each.Given as goal
 
 abbrev pub invariant-loop-client : goal.invariant-loop-client
 invariant-loop-client g l = record {

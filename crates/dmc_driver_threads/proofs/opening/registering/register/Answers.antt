@@ -1,6 +1,6 @@
 use Rattle.dmc_book.specs.BookState.{pass_state}
 use Rattle.dmc_driver_threads.proofs.Registering.{on_ok, set_as_before, still_enrolled}
-use Rattle.dmc_driver_threads.proofs.opening.servers.register.Goals as goal
+use Rattle.dmc_driver_threads.proofs.opening.registering.register.Goals as goal
 
 pub returns-in-Ok-clause-kept : goal.returns-in-Ok-clause-kept
 returns-in-Ok-clause-kept g c =

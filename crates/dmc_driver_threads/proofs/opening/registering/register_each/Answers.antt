@@ -1,6 +1,6 @@
 use Rattle.std.proofs.Common.{◌≡◌, length, ◌∙◌, arith}
 use Rattle.dmc_driver_threads.proofs.Registering.{events_of, has_desk}
-use Rattle.dmc_driver_threads.proofs.opening.servers.register_each.Goals as goal
+use Rattle.dmc_driver_threads.proofs.opening.registering.register_each.Goals as goal
 
 pub register-requires-clause-desk : goal.register-requires-clause-desk
 register-requires-clause-desk g c =

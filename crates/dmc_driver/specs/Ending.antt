@@ -5,7 +5,7 @@ use Rattle.dmc_tag.specs.Tag.{Tagging}
 use Rattle.dmc_tracker.specs.TrackerList.{completions}
 use Rattle.dmc_scene.specs.SceneValue.{SceneValue}
 use Rattle.dmc_driver_threads.specs.LimitsValue.{LimitsValue}
-use Rattle.dmc_driver_threads.specs.Opened.{IsRegistered}
+use Rattle.dmc_driver_threads.specs.Opened.{IsOpenedBook, IsOpenedTracker, IsRegistered}
 use Rattle.dmc_settle.specs.Circle.{AreCircles}
 use Rattle.dmc_settle.specs.Left.{AreTogether, Left}
 use Rattle.dmc_settle.specs.Reports.{IsReport, IsReportOf}
@@ -54,23 +54,6 @@ pub record IsRunReport {T : Type 0} (ops : Tagging T) (scene : SceneValue) (limi
   pub of_left : IsReportOfLeft ops scene limits left r
   pub stops : AreStops scene r
 
--- A report, if there is one, is of this kind. When a run is torn is said of what the threads left, by `Settles`: that is not in the
--- result.
-abbrev pub Reports : {T : Type 0} → Tagging T → SceneValue → LimitsValue → Result (ClusterReport T) (DriveFault T) → Type 0
-Reports ops scene limits (Ok r) = IsRunReport ops scene limits r
-Reports ops scene limits (Err Memory) = ⊤
-Reports ops scene limits (Err Torn) = ⊤
-Reports ops scene limits (Err (TurnsOut r)) = IsRunReport ops scene limits r
-Reports ops scene limits (Err (Stopped r)) = IsRunReport ops scene limits r
-
--- Ok: all was done. TurnsOut: it was not, and some worker took its last turn. Stopped: it was not, and none did.
-abbrev pub EndsSo : {T : Type 0} → SceneValue → Result (ClusterReport T) (DriveFault T) → Type 0
-EndsSo scene (Ok r) = IsDone scene r
-EndsSo scene (Err Memory) = ⊤
-EndsSo scene (Err Torn) = ⊤
-EndsSo scene (Err (TurnsOut r)) = (IsDone scene r → ⊥) × RanOut r
-EndsSo scene (Err (Stopped r)) = (IsDone scene r → ⊥) × (RanOut r → ⊥)
-
 -- ---- what comes of what was left
 
 -- By a report, where the servers' own workers ended so: torn exactly where the histories do not explain that, and with the report
@@ -86,3 +69,36 @@ EndsWith scene ends r (Err (Stopped given)) = (given ≡ r) × AreExplained scen
 abbrev pub Settles : {T : Type 0} → Tagging T → SceneValue → LimitsValue → Left T → List (List (Option StopCause)) → Result (ClusterReport T) (DriveFault T) → Type 0
 Settles {T} ops scene limits left ends result =
     ((AreTogether scene left → ⊥) × (result ≡ Err Torn)) ⊎ ((r : ClusterReport T) × IsReportOfLeft ops scene limits left r × EndsWith scene ends r result)
+
+-- ---- what a run returns
+
+-- What was left is as a run of the scene opens it: as many books and trackers as it has servers and clients, each with what it was
+-- opened with.
+pub record AreOpened {T : Type 0} (scene : SceneValue) (limits : LimitsValue) (left : Left T) : Type 0 where
+  pub books : All (IsOpenedBook scene limits) left.books
+  pub as_many_books : length left.books ≡ scene.servers
+  pub trackers : All (IsOpenedTracker scene limits) left.trackers
+  pub as_many_trackers : length left.trackers ≡ length scene.clients
+
+-- Settling what was left is torn. It is not in the result, so this says that there is something of this kind, and no more.
+pub record IsTorn {T : Type 0} (ops : Tagging T) (scene : SceneValue) (limits : LimitsValue) : Type 0 where
+  pub left : Left T
+  pub ends : List (List (Option StopCause))
+  pub opened : AreOpened scene limits left
+  pub torn : Settles ops scene limits left ends (Err Torn)
+
+-- A report is the one of what the threads left, and Torn has a cause. Of Memory nothing is said.
+abbrev pub Reports : {T : Type 0} → Tagging T → SceneValue → LimitsValue → Result (ClusterReport T) (DriveFault T) → Type 0
+Reports ops scene limits (Ok r) = IsRunReport ops scene limits r
+Reports ops scene limits (Err Memory) = ⊤
+Reports ops scene limits (Err Torn) = IsTorn ops scene limits
+Reports ops scene limits (Err (TurnsOut r)) = IsRunReport ops scene limits r
+Reports ops scene limits (Err (Stopped r)) = IsRunReport ops scene limits r
+
+-- Ok: all was done. TurnsOut: it was not, and some worker took its last turn. Stopped: it was not, and none did.
+abbrev pub EndsSo : {T : Type 0} → SceneValue → Result (ClusterReport T) (DriveFault T) → Type 0
+EndsSo scene (Ok r) = IsDone scene r
+EndsSo scene (Err Memory) = ⊤
+EndsSo scene (Err Torn) = ⊤
+EndsSo scene (Err (TurnsOut r)) = (IsDone scene r → ⊥) × RanOut r
+EndsSo scene (Err (Stopped r)) = (IsDone scene r → ⊥) × (RanOut r → ⊥)

@@ -35,7 +35,8 @@ use std::thread::Threads;
 ///
 /// Each client's worker sends its requests to the servers that its plan names, with at most its window outstanding. Each worker of
 /// a server pulls, has what is granted served, and responds. The answer is Ok where every client sent and completed its requests,
-/// nothing is left, and no worker stopped; otherwise see `DriveFault`. Want of memory in a thread is a stop in the report.
+/// nothing is left, and no worker stopped; otherwise see `DriveFault`. An allocation failure in a thread is a stop in the
+/// report.
 ///
 /// Where it is `Torn`, `settle_run` is, whose contract says exactly when; neither opening nor a limit is a reason. That it never
 /// is, is not proved: a contract does not follow a value through a lock, so it cannot say which book a thread finds behind one.

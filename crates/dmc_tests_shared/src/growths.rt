@@ -6,7 +6,8 @@ ghost use Rattle.dmc_ledger.specs.Bundles.{Covers, stamp_holdings};
 use crate::calls::{enroll, pull, stamp, status};
 use crate::opening::{Book, ONE, Opened, ZERO, drop_opened, open_desks, open_seven};
 use crate::same::assert_same;
-use crate::tracker_setup::{self, open_tracker_of};
+use crate::tracker_calls::TrackerCalls;
+use crate::tracker_setup::open_tracker_of;
 use dmc_book::fault::{NewFault, RunFault, SubmitCause, SubmitFault};
 use dmc_book::pass::WorkerPass;
 use dmc_book::status::Status;
@@ -35,7 +36,7 @@ const MOST: u32 = 4_000;
 
 /// What a tracker shows of server 0.
 fn tracked<S: Setup>(tracker: &TrackerBook<S>, tills: &StampTills<S>) -> Result<TrackStatus, Fail> {
-    Ok(tracker_setup::status(tracker, ZERO, tills)?)
+    Ok(tracker.status(ZERO, tills)?)
 }
 
 /// Stamps a request. Where that is refused for memory, tracker and tills are as they were, and it is stamped again.
@@ -131,7 +132,7 @@ fn respond_once<S: Setup>(
     let Some(till) = pass.grant_till(ONE, PhaseType::Priority) else {
         return Err(Fail::new("a till of the client"));
     };
-    Ok(tracker_setup::respond(tracker, ZERO, till))
+    Ok(tracker.try_respond(ZERO, till))
 }
 
 /// Counts a completion. Where that is refused for memory, the unit is still in the pass, and it is counted again.

@@ -27,6 +27,8 @@ mod standbys;
 #[cfg(test)]
 mod tracker_books;
 #[cfg(test)]
+mod tracker_calls;
+#[cfg(test)]
 mod tracker_refusals;
 #[cfg(test)]
 mod tracker_segments;
@@ -34,3 +36,5 @@ mod tracker_segments;
 mod tracker_setup;
 #[cfg(test)]
 mod tracker_skips;
+#[cfg(test)]
+mod tracker_tests;

@@ -5,10 +5,8 @@ ghost use Rattle.dmc_tlock.specs.Opening.{AreNew};
 
 use crate::opening::ZERO;
 use crate::same::assert_same;
-use crate::tracker_setup::{
-    Opened, open_book, open_desks, respond, respond_at_lock, stamp, stamp_at_lock, status,
-    status_at_lock,
-};
+use crate::tracker_calls::{AtLock, TrackerCalls};
+use crate::tracker_setup::{Opened, open_book, open_desks};
 use dmc_ledger::bundle::StampTills;
 use dmc_ledger::desk::ServerDesk;
 use dmc_ledger::mint::{Blank, Mint};
@@ -32,28 +30,15 @@ const ONE: ServerId = ServerId(1);
 /// The refusals of stamp, status and respond.
 type Refused = (Option<EntryFault>, Option<TillFault>, Option<EntryFault>);
 
-fn refused_in_hand<S: Setup>(
-    book: &mut TrackerBook<S>,
+fn refused_by<S: Setup, C: TrackerCalls<S>>(
+    tracker: &mut C,
     server: ServerId,
     tills: &mut StampTills<S>,
     grants: &mut Till<S>,
 ) -> Refused {
-    let stamped = stamp(book, server, tills).err();
-    let seen = status(book, server, tills).err();
-    let responded = respond(book, server, grants).err();
-    (stamped, seen, responded)
-}
-
-fn refused_at_lock<S: Setup, R: Wait>(
-    rt: &R,
-    lock: &TrackerLock<S>,
-    server: ServerId,
-    tills: &mut StampTills<S>,
-    grants: &mut Till<S>,
-) -> Refused {
-    let stamped = stamp_at_lock(rt, lock, server, tills).err();
-    let seen = status_at_lock(rt, lock, server, tills).err();
-    let responded = respond_at_lock(rt, lock, server, grants).err();
+    let stamped = tracker.try_stamp(server, tills).err();
+    let seen = tracker.try_status(server, tills).err();
+    let responded = tracker.try_respond(server, grants).err();
     (stamped, seen, responded)
 }
 
@@ -77,46 +62,30 @@ const STRANGERS: [(ServerId, Refused); 2] = [
     ),
 ];
 
-/// The book refuses another client's tills, and a server that it does not have.
-fn assert_refused_in_hand<S: Setup>(
+/// The tracker refuses another client's tills, and a server that it does not have.
+fn assert_refused<S: Setup, C: TrackerCalls<S>>(
     rt: &impl Abort,
-    book: &mut TrackerBook<S>,
+    tracker: &mut C,
     tills: &mut StampTills<S>,
     grants: &mut Till<S>,
 ) {
     for (server, refused) in STRANGERS {
         assert!(rt; grants.amount() > 0);
-        let answers = refused_in_hand(book, server, tills, grants);
-        assert_same(rt, &answers, &refused);
-    }
-}
-
-/// The lock refuses the same.
-fn assert_refused_at_lock<S: Setup, R: Abort + Wait>(
-    rt: &R,
-    lock: &TrackerLock<S>,
-    tills: &mut StampTills<S>,
-    grants: &mut Till<S>,
-) {
-    for (server, refused) in STRANGERS {
-        assert!(rt; grants.amount() > 0);
-        let answers = refused_at_lock(rt, lock, server, tills, grants);
+        let answers = refused_by(tracker, server, tills, grants);
         assert_same(rt, &answers, &refused);
     }
 }
 
 /// Stamps twice. Returns the refusal of the second stamp, if it is refused.
-fn stamp_twice<S: Setup, R: Wait>(
-    rt: &R,
-    lock: &TrackerLock<S>,
+fn stamp_twice<S: Setup, C: TrackerCalls<S>>(
+    tracker: &mut C,
     tills: &mut StampTills<S>,
 ) -> Result<Option<EntryFault>, EntryFault> {
-    stamp_at_lock(rt, lock, ZERO, tills)?;
-    Ok(stamp_at_lock(rt, lock, ZERO, tills).err())
+    tracker.try_stamp(ZERO, tills)?;
+    Ok(tracker.try_stamp(ZERO, tills).err())
 }
 
-/// The refusals in one hand and through the lock are the same. Returns them, and the result of a second stamp where the list has
-/// room for one.
+/// The refusals in hand and through the lock are the same. Returns the result of a second stamp where the list has room for one.
 fn refuse_other<S: Setup, R: Abort + Wait>(
     rt: &R,
     own: Opened<S>,
@@ -130,10 +99,11 @@ fn refuse_other<S: Setup, R: Abort + Wait>(
     } = own;
     drop((pass, own_grants));
     let (tills, grants) = (&mut other.desk.held, &mut other.grants);
-    assert_refused_in_hand(rt, &mut book, tills, grants);
+    assert_refused(rt, &mut book, tills, grants);
     let lock = TrackerLock::new(book);
-    assert_refused_at_lock(rt, &lock, tills, grants);
-    let refused = stamp_twice(rt, &lock, &mut desk.held);
+    let mut tracker = AtLock { rt, lock: &lock };
+    assert_refused(rt, &mut tracker, tills, grants);
+    let refused = stamp_twice(&mut tracker, &mut desk.held);
     drop((lock, desk));
     refused
 }

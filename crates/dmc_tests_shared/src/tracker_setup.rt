@@ -1,25 +1,19 @@
-//! A tracker's book of server 0, and the calls of the book and of its lock.
+//! A tracker's book of server 0.
 ghost use Rattle.std.specs.Prelude.{◌≡◌, ℕ, map, IfOk};
 ghost use Rattle.dmc_ledger.specs.Bundles.{new_server_side, server_side};
 ghost use Rattle.dmc_tlock.specs.Opening.{AreNew};
 
-use crate::calls::{self, carried};
 use crate::opening::{ZERO, only};
-use dmc_ledger::bundle::StampTills;
 use dmc_ledger::desk::{ClientDesk, ServerDesk, open_pair};
 use dmc_ledger::full::Full;
 use dmc_ledger::mint::Mint;
 use dmc_ledger::setup::Setup;
 use dmc_ledger::till::Till;
 use dmc_tlock::book::TrackerBook;
-use dmc_tlock::fault::{EntryFault, TillFault};
-use dmc_tlock::lock::TrackerLock;
 use dmc_tlock::pass::ClientPass;
-use dmc_tlock::status::TrackStatus;
-use dmc_types::config::{Counting, PhaseType};
+use dmc_types::config::Counting;
 use dmc_types::ids::{ClientId, ServerId};
 use std::alloc::Global;
-use std::sync::Wait;
 use std::test::Fail;
 
 // How often each of two threads stamps and responds.
@@ -100,84 +94,4 @@ pub(crate) fn grants_of<S: Setup>(desk: &mut ClientDesk<S>, amount: u64) -> Resu
     let mut till = books.priority.till()?;
     books.priority.issue(&mut till, amount)?;
     Ok(till)
-}
-
-// The calls of a book and of its lock, each in a function that promises nothing. Their results are tested by running them.
-
-/// The counts of a stamp.
-pub(crate) fn stamp<S: Setup>(
-    book: &mut TrackerBook<S>,
-    server: ServerId,
-    tills: &mut StampTills<S>,
-) -> Result<(u32, u32), EntryFault> {
-    let stamp = calls::stamp(book, server, tills)?;
-    Ok(carried(&stamp))
-}
-
-pub(crate) fn skip<S: Setup>(
-    book: &mut TrackerBook<S>,
-    server: ServerId,
-) -> Result<(), EntryFault> {
-    book.skip(server)
-}
-
-pub(crate) fn status<S: Setup>(
-    book: &TrackerBook<S>,
-    server: ServerId,
-    tills: &StampTills<S>,
-) -> Result<TrackStatus, TillFault> {
-    book.status(server, tills)
-}
-
-/// Responds with a unit of the till, if it has one.
-pub(crate) fn respond<S: Setup>(
-    book: &mut TrackerBook<S>,
-    server: ServerId,
-    till: &mut Till<S>,
-) -> Result<(), EntryFault> {
-    if till.amount() == 0 {
-        return Ok(());
-    }
-    book.respond(server, PhaseType::Priority, till)
-}
-
-/// The counts of a stamp through the lock.
-pub(crate) fn stamp_at_lock<S: Setup, R: Wait>(
-    rt: &R,
-    lock: &TrackerLock<S>,
-    server: ServerId,
-    tills: &mut StampTills<S>,
-) -> Result<(u32, u32), EntryFault> {
-    let stamp = lock.stamp(rt, server, tills)?;
-    Ok(carried(&stamp))
-}
-
-pub(crate) fn skip_at_lock<S: Setup, R: Wait>(
-    rt: &R,
-    lock: &TrackerLock<S>,
-    server: ServerId,
-) -> Result<(), EntryFault> {
-    lock.skip(rt, server)
-}
-
-pub(crate) fn status_at_lock<S: Setup, R: Wait>(
-    rt: &R,
-    lock: &TrackerLock<S>,
-    server: ServerId,
-    tills: &StampTills<S>,
-) -> Result<TrackStatus, TillFault> {
-    lock.status(rt, server, tills)
-}
-
-/// Responds through the lock with a unit of the till, if it has one.
-pub(crate) fn respond_at_lock<S: Setup, R: Wait>(
-    rt: &R,
-    lock: &TrackerLock<S>,
-    server: ServerId,
-    till: &mut Till<S>,
-) -> Result<(), EntryFault> {
-    if till.amount() == 0 {
-        return Ok(());
-    }
-    lock.respond(rt, server, PhaseType::Priority, till)
 }

@@ -8,7 +8,7 @@ use super::calls::{must_register, pull_or_wait, status, submit_stamped};
 use super::setup::{Client, Lock, grant, open_one};
 use crate::calls::carried;
 use crate::opening::{Book, ONE, ZERO, drop_book};
-use crate::tracker_setup::{stamp_at_lock, status_at_lock};
+use crate::tracker_calls::{AtLock, TrackerCalls};
 use dmc_book::laws::{grants_are_of_desks, history_replays};
 use dmc_book::pass::WorkerPass;
 use dmc_ledger::bundle::StampTills;
@@ -124,8 +124,9 @@ fn next_stamp<S: Setup, R: Wait>(
     tracker: &TrackerLock<S>,
     tills: &mut StampTills<S>,
 ) -> Result<Next, Fail> {
-    let stamped = stamp_at_lock(rt, tracker, ZERO, tills)?;
-    let status = status_at_lock(rt, tracker, ZERO, tills)?;
+    let mut tracker = AtLock { rt, lock: tracker };
+    let stamped = tracker.try_stamp(ZERO, tills)?;
+    let status = tracker.try_status(ZERO, tills)?;
     Ok((stamped, status.sent, status.pending, status.completions))
 }
 

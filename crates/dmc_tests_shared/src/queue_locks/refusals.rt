@@ -12,7 +12,7 @@ use super::setup::{
 };
 use crate::opening::{LONG, ONE, ZERO, wait_config};
 use crate::same::assert_same;
-use crate::tracker_setup::{stamp, stamp_at_lock};
+use crate::tracker_calls::{AtLock, TrackerCalls};
 use dmc_book::fault::{NewFault, RunFault, SubmitCause};
 use dmc_book::pass::WorkerPass;
 use dmc_ledger::bundle::StampTills;
@@ -238,8 +238,8 @@ fn others_observed<S: Setup, R: Wait>(
     let (Some(own), Some(others)) = (tills.tills(ZERO), two.tills.tills(ZERO)) else {
         return Err(Fail::new("tills for the server"));
     };
-    let refused = stamp_at_lock(rt, one, ZERO, others).err();
-    stamp(&mut two.tracker, ZERO, others)?;
+    let refused = AtLock { rt, lock: one }.try_stamp(ZERO, others).err();
+    two.tracker.try_stamp(ZERO, others)?;
     Ok((refused, submit_own(rt, lock, pass, one, own, others)?))
 }
 

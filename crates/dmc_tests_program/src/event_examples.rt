@@ -1,6 +1,5 @@
 //! The worked examples of event texts, each under its name.
-use crate::runs::{FailingReader, FailingWriter, ROOM, lines, runs, status_with_fault};
-use crate::same::assert_same;
+use crate::runs::{fails_at_each_write, fails_to_read, lines, runs, runs_byte_by_byte};
 use std::process::Abort;
 use std::sync::Wait;
 use std::test::Fail;
@@ -120,47 +119,17 @@ pub const PULLS_VERDICT: &[u8] = b"replays 2\n";
 #[test]
 fn failing_reader_of_events(rt: HostRuntime) -> Result<(), Fail> {
     for left in 0..PULLS.len() + 1 {
-        let mut reader = FailingReader::new(PULLS, left);
-        let mut written = Vec::with_capacity(rt.alloc(), ROOM)?;
-        let words = ["check"];
-        let status = status_with_fault(
-            &rt,
-            words.as_slice(),
-            &mut reader,
-            &mut written,
-            b"dmclock: read\n",
-        )?;
-        assert_same(&rt, &status, &1);
-        assert_same(&rt, &written.len(), &0);
+        fails_to_read(&rt, "check", PULLS, left, b"")?;
     }
     Ok(())
 }
 
 #[test]
 fn failing_writer_of_a_verdict(rt: HostRuntime) -> Result<(), Fail> {
-    for left in 0..PULLS_VERDICT.len() {
-        let mut reader = PULLS;
-        let mut writer = FailingWriter::new(rt.alloc(), left)?;
-        let words = ["check"];
-        let status = status_with_fault(
-            &rt,
-            words.as_slice(),
-            &mut reader,
-            &mut writer,
-            b"dmclock: write\n",
-        )?;
-        assert_same(&rt, &status, &1);
-        assert_same(&rt, &writer.written(), &&PULLS_VERDICT[..left]);
-    }
-    Ok(())
+    fails_at_each_write(&rt, "check", PULLS, PULLS_VERDICT)
 }
 
 #[test]
 fn events_byte_by_byte(rt: HostRuntime) -> Result<(), Fail> {
-    let mut reader = FailingReader::new(PULLS, PULLS.len() + 1);
-    let mut writer = FailingWriter::new(rt.alloc(), PULLS_VERDICT.len())?;
-    let status = status_with_fault(&rt, ["check"].as_slice(), &mut reader, &mut writer, b"")?;
-    assert_same(&rt, &writer.written(), &PULLS_VERDICT);
-    assert_same(&rt, &status, &0);
-    Ok(())
+    runs_byte_by_byte(&rt, "check", PULLS, PULLS_VERDICT)
 }

@@ -174,6 +174,69 @@ impl Write for FailingWriter {
     }
 }
 
+/// Runs a command over bytes of which this many are read before a read fails: that fault, and what is written before it.
+pub fn fails_to_read<T: AllocGlobal + Threads + Wait + Sync + Abort>(
+    rt: &T,
+    command: &str,
+    input: &[u8],
+    left: usize,
+    output: &[u8],
+) -> Result<(), Fail> {
+    let mut reader = FailingReader::new(input, left);
+    let mut written = Vec::with_capacity(rt.alloc(), ROOM)?;
+    let (words, fault) = ([command], b"dmclock: read\n");
+    let status = status_with_fault(rt, words.as_slice(), &mut reader, &mut written, fault)?;
+    assert_same(rt, &written.as_slice(), &output);
+    assert_same(rt, &status, &1);
+    Ok(())
+}
+
+/// Runs a command whose writer fails: that fault, and what the writer took before it.
+pub fn fails_to_write<T: AllocGlobal + Threads + Wait + Sync + Abort>(
+    rt: &T,
+    command: &str,
+    input: &[u8],
+    mut writer: FailingWriter,
+    output: &[u8],
+) -> Result<(), Fail> {
+    let mut reader = input;
+    let (words, fault) = ([command], b"dmclock: write\n");
+    let status = status_with_fault(rt, words.as_slice(), &mut reader, &mut writer, fault)?;
+    assert_same(rt, &writer.written(), &output);
+    assert_same(rt, &status, &1);
+    Ok(())
+}
+
+/// Runs a command whose writer fails in place of each write of a byte in turn.
+pub fn fails_at_each_write<T: AllocGlobal + Threads + Wait + Sync + Abort>(
+    rt: &T,
+    command: &str,
+    input: &[u8],
+    output: &[u8],
+) -> Result<(), Fail> {
+    for left in 0..output.len() {
+        let writer = FailingWriter::new(rt.alloc(), left)?;
+        fails_to_write(rt, command, input, writer, &output[..left])?;
+    }
+    Ok(())
+}
+
+/// Runs a command over streams that take a byte at a time: it writes all of its output.
+pub fn runs_byte_by_byte<T: AllocGlobal + Threads + Wait + Sync + Abort>(
+    rt: &T,
+    command: &str,
+    input: &[u8],
+    output: &[u8],
+) -> Result<(), Fail> {
+    let mut reader = FailingReader::new(input, input.len() + 1);
+    let mut writer = FailingWriter::new(rt.alloc(), output.len())?;
+    let words = [command];
+    let status = status_with_fault(rt, words.as_slice(), &mut reader, &mut writer, b"")?;
+    assert_same(rt, &writer.written(), &output);
+    assert_same(rt, &status, &0);
+    Ok(())
+}
+
 /// Is interrupted before each read, or before each write.
 #[derive(Drop)]
 pub struct Interrupted<S> {

@@ -1,5 +1,5 @@
 //! The worked examples of simulations, each under its name. Lines are separated by `; `.
-use crate::runs::{FailingReader, FailingWriter, lines, runs, status_with_fault};
+use crate::runs::{FailingWriter, fails_to_read, fails_to_write, lines, runs, status_with_fault};
 use crate::same::assert_same;
 use std::alloc::{AllocError, Global};
 use std::process::Abort;
@@ -211,15 +211,7 @@ fn sim_refused(rt: HostRuntime) -> Result<(), Fail> {
 fn sim_streams(rt: HostRuntime) -> Result<(), Fail> {
     let keys = "tags = \"tick\"; servers = 1; step = 50; max_pulls = 100";
     let input = scene(rt.alloc(), keys, TWO)?;
-    let output = lines(rt.alloc(), TWO_OUT)?;
-    let words = ["sim"];
-    let mut reader = FailingReader::new(&input, 40);
-    let mut writer = FailingWriter::new(rt.alloc(), output.len())?;
-    let fault = b"dmclock: read\n";
-    let status = status_with_fault(&rt, words.as_slice(), &mut reader, &mut writer, fault)?;
-    assert_same(&rt, &status, &1);
-    assert_same(&rt, &writer.written().len(), &0);
-    Ok(())
+    fails_to_read(&rt, "sim", &input, 40, b"")
 }
 
 #[test]
@@ -227,12 +219,6 @@ fn sim_writes(rt: HostRuntime) -> Result<(), Fail> {
     let keys = "tags = \"tick\"; servers = 1; step = 50; max_pulls = 100";
     let input = scene(rt.alloc(), keys, TWO)?;
     let first = b"client 1 sent 2 completed 2 reservation 2 priority 0\nclient ".as_slice();
-    let words = ["sim"];
-    let mut reader = input.as_slice();
-    let mut writer = FailingWriter::new(rt.alloc(), 60)?;
-    let fault = b"dmclock: write\n";
-    let status = status_with_fault(&rt, words.as_slice(), &mut reader, &mut writer, fault)?;
-    assert_same(&rt, &status, &1);
-    assert_same(&rt, &writer.written(), &first);
-    Ok(())
+    let writer = FailingWriter::new(rt.alloc(), 60)?;
+    fails_to_write(&rt, "sim", &input, writer, first)
 }

@@ -1,7 +1,9 @@
 //! How failing streams end a run, for both commands, and that words which ask for no tool leave the streams alone.
 use crate::event_examples::{PULLS, PULLS_VERDICT};
 use crate::examples::{AT_LIMIT, AT_LIMIT_OUT};
-use crate::runs::{FailingReader, FailingWriter, Interrupted, ROOM, status_with_fault};
+use crate::runs::{
+    FailingReader, FailingWriter, Interrupted, ROOM, fails_to_write, status_with_fault,
+};
 use crate::same::assert_same;
 use dmc_text::watched::Watched;
 use std::process::Abort;
@@ -18,18 +20,8 @@ const RUNS: [(&str, &[u8], &[u8]); 2] = [
 #[test]
 fn failing_flush(rt: HostRuntime) -> Result<(), Fail> {
     for (command, input, output) in RUNS {
-        let mut reader = input;
-        let mut writer = FailingWriter::unflushed(rt.alloc())?;
-        let words = [command];
-        let status = status_with_fault(
-            &rt,
-            words.as_slice(),
-            &mut reader,
-            &mut writer,
-            b"dmclock: write\n",
-        )?;
-        assert_same(&rt, &status, &1);
-        assert_same(&rt, &writer.written(), &output);
+        let writer = FailingWriter::unflushed(rt.alloc())?;
+        fails_to_write(&rt, command, input, writer, output)?;
     }
     Ok(())
 }

@@ -1,28 +1,15 @@
 //! Scripts over streams that fail.
 use super::{AT_LIMIT, AT_LIMIT_OUT};
-use crate::runs::{FailingReader, FailingWriter, ROOM, status_with_fault};
-use crate::same::assert_same;
+use crate::runs::{fails_at_each_write, fails_to_read, runs_byte_by_byte};
 use std::test::Fail;
 
 #[test]
 fn failing_reader(rt: HostRuntime) -> Result<(), Fail> {
     let input = b"hz 1000\nclient 1 - 1 - 0\npu";
-    let mut reader = FailingReader::new(input, input.len());
-    let mut written = Vec::with_capacity(rt.alloc(), ROOM)?;
-    let words = ["script"];
-    let status = status_with_fault(
-        &rt,
-        words.as_slice(),
-        &mut reader,
-        &mut written,
-        b"dmclock: read\n",
-    )?;
-    assert_same(&rt, &status, &1);
-    assert_same(&rt, &written.as_slice(), &b"ok\n".as_slice());
-    Ok(())
+    fails_to_read(&rt, "script", input, input.len(), b"ok\n")
 }
 
-/// What is written for the whole lines of that script once at least this many of its bytes are read.
+/// What is written for the whole lines of the script at a limit once at least this many of its bytes are read.
 const ANSWERED: [(usize, &[u8]); 6] = [
     (0, b""),
     (27, b"ok\n"),
@@ -46,47 +33,17 @@ fn answered(len: usize) -> &'static [u8] {
 #[test]
 fn failing_reads(rt: HostRuntime) -> Result<(), Fail> {
     for left in 0..AT_LIMIT.len() + 1 {
-        let mut reader = FailingReader::new(AT_LIMIT, left);
-        let mut written = Vec::with_capacity(rt.alloc(), ROOM)?;
-        let words = ["script"];
-        let status = status_with_fault(
-            &rt,
-            words.as_slice(),
-            &mut reader,
-            &mut written,
-            b"dmclock: read\n",
-        )?;
-        assert_same(&rt, &status, &1);
-        assert_same(&rt, &written.as_slice(), &answered(left));
+        fails_to_read(&rt, "script", AT_LIMIT, left, answered(left))?;
     }
     Ok(())
 }
 
 #[test]
 fn failing_writer(rt: HostRuntime) -> Result<(), Fail> {
-    for left in 0..AT_LIMIT_OUT.len() {
-        let mut reader = AT_LIMIT;
-        let mut writer = FailingWriter::new(rt.alloc(), left)?;
-        let words = ["script"];
-        let status = status_with_fault(
-            &rt,
-            words.as_slice(),
-            &mut reader,
-            &mut writer,
-            b"dmclock: write\n",
-        )?;
-        assert_same(&rt, &status, &1);
-        assert_same(&rt, &writer.written(), &&AT_LIMIT_OUT[..left]);
-    }
-    Ok(())
+    fails_at_each_write(&rt, "script", AT_LIMIT, AT_LIMIT_OUT)
 }
 
 #[test]
 fn byte_by_byte(rt: HostRuntime) -> Result<(), Fail> {
-    let mut reader = FailingReader::new(AT_LIMIT, AT_LIMIT.len() + 1);
-    let mut writer = FailingWriter::new(rt.alloc(), AT_LIMIT_OUT.len())?;
-    let status = status_with_fault(&rt, ["script"].as_slice(), &mut reader, &mut writer, b"")?;
-    assert_same(&rt, &writer.written(), &AT_LIMIT_OUT);
-    assert_same(&rt, &status, &0);
-    Ok(())
+    runs_byte_by_byte(&rt, "script", AT_LIMIT, AT_LIMIT_OUT)
 }

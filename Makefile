@@ -6,13 +6,17 @@ help:
 program:
 	scripts/build
 
-# Every test: the gate, and then the parts below it that are built upon what it proved.
+# Every test: the gate, and then the parts that are built upon what it proved.
 test:
 	scripts/test
 
-# Every proof from nothing, the mutations, the tests of the crates and the programs.
+# Every proof from nothing, a share of the mutations, the tests of the crates and the programs.
 gate:
-	rt ci
+	scripts/gate
+
+# Every mutation, or those of one crate: make mutations CRATE=dmc_book. All of them take two to three hours of one processor.
+mutations:
+	scripts/try_mutations $(CRATE)
 
 # Proves what changed in a crate, in seconds: make check CRATE=dmc_pull, or one function of it, by ONLY=queue::PullQueue::clean.
 check:
@@ -82,4 +86,4 @@ planner:
 picture:
 	scripts/picture examples/three_clients.script > docs/grants.svg
 
-.PHONY: help program test gate check quick demo examples soak refusals c install uninstall dist packages nbd planner picture
+.PHONY: help program test gate mutations check quick demo examples soak refusals c install uninstall dist packages nbd planner picture

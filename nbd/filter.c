@@ -67,18 +67,25 @@ static int dmclock_get_ready(int thread_model)
 
 /* ---- the watcher */
 
+/* A fault of the statistics is logged once, and again after it was gone. */
 static void write_stats(void)
 {
+  static int last_fault;
   int fault = settings.stats ? stats_write(&gate, settings.stats) : 0;
-  if (fault)
+  if (fault && fault != last_fault)
     nbdkit_error("dmclock-stats=%s: %s", settings.stats, strerror(fault));
+  last_fault = fault;
 }
 
+/* Whether the gate grants nothing any more. A reason other than a shutdown is logged. */
 static bool is_stopped(void)
 {
   pthread_mutex_lock(&gate.lock);
   bool stopped = gate.fault != 0;
+  const char *reason = gate.reason;
   pthread_mutex_unlock(&gate.lock);
+  if (stopped && reason)
+    nbdkit_error("dmclock: %s: from now on each request ends with an error", reason);
   return stopped;
 }
 
@@ -121,15 +128,59 @@ static void dmclock_unload(void)
   settings_free(&settings);
 }
 
+/* ---- names */
+
+/* The client of all names without rates of their own, if they share one. No setting's name is empty after its fields. */
+#define SHARED_NAME "dmclock-default"
+
+static bool has_setting(const char *name)
+{
+  for (const struct client_setting *client = settings.clients; client; client = client->next)
+    if (strcmp(client->name, name) == 0)
+      return true;
+  return false;
+}
+
+/* Why a name is no client. The name is whatever somebody sent, so it is logged as printable ASCII. */
+static void log_unknown(const char *name, int fault)
+{
+  char printable[81];
+  size_t length = 0;
+  for (; name[length] && length < sizeof printable - 1; length++)
+    printable[length] = ' ' <= name[length] && name[length] <= '~' ? name[length] : '?';
+  printable[length] = 0;
+  nbdkit_error("dmclock: no client \"%s\"%s: %s", printable, name[length] ? ".." : "",
+               fault == ENOENT  ? "no dmclock-client and no dmclock-default is for it"
+               : fault == EBUSY ? "there are dmclock-default-clients other names already"
+                                : strerror(fault));
+}
+
+static int dmclock_list_exports(nbdkit_next_list_exports *next, nbdkit_backend *backend, int readonly, int is_tls, struct nbdkit_exports *exports)
+{
+  (void)is_tls;
+  for (const struct client_setting *client = settings.clients; client; client = client->next)
+    if (nbdkit_add_export(exports, client->name, NULL) == -1)
+      return -1;
+  return settings.has_default ? next(backend, readonly, exports) : 0;
+}
+
+/* Without a default, who names no export is the first client. */
+static const char *dmclock_default_export(nbdkit_next_default_export *next, nbdkit_backend *backend, int readonly, int is_tls)
+{
+  (void)is_tls;
+  return settings.has_default || !settings.clients ? next(backend, readonly) : settings.clients->name;
+}
+
 /* ---- connections: the handle of one is its client */
 
 static void *dmclock_open(nbdkit_next_open *next, nbdkit_context *context, int readonly, const char *name, int is_tls)
 {
   (void)is_tls;
   struct client *client;
-  int fault = gate_client(&gate, name, settings.has_default ? &settings.found : NULL, false, &client);
+  const char *wanted = settings.is_shared && !has_setting(name) ? SHARED_NAME : name;
+  int fault = gate_client(&gate, wanted, settings.has_default ? &settings.found : NULL, false, &client);
   if (fault) {
-    nbdkit_error("dmclock: no client \"%s\": %s", name, fault == EBUSY ? "the queue has its most clients" : strerror(fault));
+    log_unknown(name, fault);
     return NULL;
   }
   if (next(context, readonly, name) == -1) {
@@ -212,6 +263,8 @@ static struct nbdkit_filter filter = {
   .config_help =
     "dmclock-client=NAME:RESERVATION:WEIGHT:LIMIT  A client's rates, in requests a second, - for none.\n"
     "dmclock-default=RESERVATION:WEIGHT:LIMIT      The rates of each other name; without it they are refused.\n"
+    "dmclock-default-clients=N                     How many other names there may be at once (default 1000).\n"
+    "dmclock-default-shared=true|false             Whether all other names are one client (default false).\n"
     "dmclock-depth=N                               How many requests the device has at once (default 4).\n"
     "dmclock-at-limit=wait|allow                   Whether a client at its limit waits (default), or gets what is left.\n"
     "dmclock-idle=SECONDS                          Without a request for so long, a client is idle (default 600).\n"
@@ -223,6 +276,8 @@ static struct nbdkit_filter filter = {
   .get_ready = dmclock_get_ready,
   .after_fork = dmclock_after_fork,
   .cleanup = dmclock_cleanup,
+  .list_exports = dmclock_list_exports,
+  .default_export = dmclock_default_export,
   .open = dmclock_open,
   .close = dmclock_close,
   .pread = dmclock_pread,

@@ -67,6 +67,8 @@ bool gate_rates(const struct rates *asked, struct rates *found)
     return false;
   if (dmc_rate_at_most(DMC_FINE_HZ, asked->weight, &rates.weight) != DMC_OK)
     return false;
+  if (asked->limit && asked->reservation <= asked->limit && rates.limit < rates.reservation)
+    rates.reservation = rates.limit;
   *found = rates;
   return true;
 }
@@ -182,7 +184,15 @@ static void wait_for_due(struct gate *gate, const struct dmc_pulled *pulled)
     pthread_cond_signal(&gate->timer_wakes);
 }
 
-/* Grants what the queue grants now, while the device has room. It is called where either may have changed. */
+/* The queue refused what it can't refuse: no request is granted any more. */
+static void stop_for(struct gate *gate, const char *reason)
+{
+  if (!gate->fault)
+    gate->reason = reason;
+  stop(gate, EIO);
+}
+
+/* Grants what the queue grants now, while the device has room. It is called when either may have changed. */
 static void dispatch(struct gate *gate)
 {
   struct dmc_pulled pulled = {.kind = DMC_GRANTED};
@@ -190,7 +200,7 @@ static void dispatch(struct gate *gate)
   while (!gate->fault && gate->under_way < gate->config.depth && pulled.kind == DMC_GRANTED) {
     uint64_t now = gate_now(gate);
     if (dmc_queue_pull(&gate->queue, moment_of(now), &pulled) != DMC_OK)
-      stop(gate, EIO);
+      stop_for(gate, "the queue refuses to grant");
     else if (pulled.kind == DMC_GRANTED)
       grant(gate, &pulled, now);
     else if (pulled.kind == DMC_FUTURE)
@@ -201,13 +211,16 @@ static void dispatch(struct gate *gate)
 /* ---- the timer */
 
 static void forget_clients(struct gate *gate, uint64_t now);
+static void register_kept(struct gate *gate, uint64_t now);
 
 /* The queue marks clients idle and forgets old ones, and so does the gate. The queue says how many it forgot and not which: one
-   that has a request later is registered again. */
+   that is kept is registered again at once, before any other takes its place, and another at its next request. */
 static void clean(struct gate *gate, uint64_t now)
 {
-  uint32_t idled, erased;
+  uint32_t idled, erased = 0;
   dmc_queue_clean(&gate->queue, moment_of(now), &idled, &erased);
+  if (erased)
+    register_kept(gate, now);
   forget_clients(gate, now);
   gate->next_clean = now + gate->config.idle_seconds * SECOND / 4;
 }
@@ -264,6 +277,13 @@ static int register_client(struct gate *gate, const struct client *client, uint6
   return errno_of(dmc_queue_register(&gate->queue, client->id, rates->reservation, rates->weight, rates->limit, moment_of(now)));
 }
 
+static void register_kept(struct gate *gate, uint64_t now)
+{
+  for (const struct client *client = gate->first; client; client = client->next)
+    if (client->is_kept)
+      register_client(gate, client, now);
+}
+
 /* A client with memory for all that it needs, which the gate does not know yet. */
 static struct client *new_client(const char *name, const struct rates *rates, bool is_kept)
 {
@@ -282,16 +302,20 @@ static struct client *new_client(const char *name, const struct rates *rates, bo
 
 static int add_client(struct gate *gate, struct client *client)
 {
+  if (!client->is_kept && gate->others >= gate->config.most_others)
+    return EBUSY;
   client->id = gate->next_id;
   client->last_request = gate_now(gate);
   if (!tsearch(client, &gate->names, by_name))
     return ENOMEM;
-  int fault = register_client(gate, client, client->last_request);
+  int fault = client->is_kept ? register_client(gate, client, client->last_request) : 0;
   if (fault) {
     tdelete(client, &gate->names, by_name);
     return fault;
   }
   gate->next_id++;
+  gate->others += !client->is_kept;
+  client->link = gate->last;
   *gate->last = client;
   gate->last = &client->next;
   return 0;
@@ -314,27 +338,36 @@ static int make_client(struct gate *gate, const char *name, const struct rates *
 static bool is_forgotten(const struct gate *gate, const struct client *client, uint64_t now)
 {
   uint64_t age = now - client->last_request;
-  return !client->is_kept && !client->users && !client->queued && gate->config.erase_seconds * SECOND < age;
+  bool is_old = !client->requests || gate->config.erase_seconds * SECOND < age;
+  return !client->is_kept && !client->users && !client->queued && is_old;
 }
 
-/* Forgets the clients without rates of their own that nobody uses, and that have had no request for so long. */
+static void forget(struct gate *gate, struct client *client)
+{
+  *client->link = client->next;
+  if (client->next)
+    client->next->link = client->link;
+  else
+    gate->last = client->link;
+  tdelete(client, &gate->names, by_name);
+  free_client(client);
+  gate->others--;
+}
+
+/* Forgets the clients that are not kept and that nobody uses, if they have had no request for so long, or none ever. */
 static void forget_clients(struct gate *gate, uint64_t now)
 {
-  struct client **at = &gate->first;
-  while (*at) {
-    struct client *client = *at;
-    if (is_forgotten(gate, client, now)) {
-      *at = client->next;
-      tdelete(client, &gate->names, by_name);
-      free_client(client);
-    } else {
-      at = &client->next;
-    }
+  struct client *client = gate->first;
+  while (client) {
+    struct client *next = client->next;
+    if (is_forgotten(gate, client, now))
+      forget(gate, client);
+    client = next;
   }
-  gate->last = at;
 }
 
-/* A client that the queue has forgotten is registered again, under a number that the queue has not. */
+/* Queues a request of a client. One that the queue does not know, or has forgotten, is registered before. A request of one that
+   finds no place is refused for want of memory, since NBD has no other word for it. */
 static int queue_request(struct gate *gate, struct client *client, const struct slot *slot)
 {
   struct dmc_tags tags;
@@ -343,7 +376,9 @@ static int queue_request(struct gate *gate, struct client *client, const struct 
   if (code != DMC_UNKNOWN)
     return errno_of(code);
   int fault = register_client(gate, client, slot->entered);
-  return fault ? fault : errno_of(dmc_queue_add(&gate->queue, client->id, slot->token, 1, 1, moment, &tags));
+  if (fault)
+    return fault == EBUSY ? ENOMEM : fault;
+  return errno_of(dmc_queue_add(&gate->queue, client->id, slot->token, 1, 1, moment, &tags));
 }
 
 /* Queues a request of the client, with a slot where it is waited for. */
@@ -452,6 +487,8 @@ void gate_release(struct gate *gate, struct client *client)
 {
   pthread_mutex_lock(&gate->lock);
   client->users--;
+  if (is_forgotten(gate, client, gate_now(gate)))
+    forget(gate, client);
   pthread_mutex_unlock(&gate->lock);
 }
 

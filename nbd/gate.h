@@ -19,6 +19,7 @@ struct gate_config {
   uint32_t depth;
   enum dmc_at_limit at_limit;
   uint64_t idle_seconds, erase_seconds; /* how long without a request until a client is idle, and until it is forgotten */
+  uint32_t most_others;    /* the most clients that are not kept */
 };
 
 /* A client of the gate, from its first `gate_client` on. Its fields are read under the gate's lock. */
@@ -26,13 +27,13 @@ struct client {
   char *name;
   struct rates rates;      /* as the queue has them */
   uint32_t id;
-  bool is_kept;            /* it has rates of its own, and is never forgotten */
+  bool is_kept;            /* it has a place in the queue whatever other names come, and is never forgotten */
   uint32_t users;          /* who holds it: connections, of an nbdkit filter */
   uint32_t queued;
   uint64_t requests, grants[2]; /* the grants by dmc_phase */
   uint64_t last_request;   /* nanoseconds of the gate's clock */
   struct times waited;     /* from entering to the grant */
-  struct client *next;
+  struct client *next, **link; /* the next one, and what points to this one */
 };
 
 struct slot;
@@ -51,7 +52,9 @@ struct gate {
   uint64_t timer_until;    /* until when the timer waits */
   uint64_t next_clean;
   int fault;               /* an errno, once no request is granted any more */
+  const char *reason;      /* why, if the queue refused what it can't refuse */
   uint32_t next_id;
+  uint32_t others;         /* the clients that are not kept */
   struct client *first, **last; /* all clients, in the order in which they came */
   void *names;             /* a tree of them */
   struct slot **slots;     /* all slots, by the tokens of their requests */
@@ -60,8 +63,9 @@ struct gate {
 };
 
 /* The rates that the queue takes for these: the least reservation at least as great, and the greatest limit and weight at most as
-   great. False where one of them is none that the queue has. Clients have shares by their weights while the sum of the weights is
-   less than the requests that the device serves in a second; so weights are small numbers, of which 1 to 18 are exact. */
+   great. A reservation that is not above the limit is at most the rate that the limit becomes, so a reservation that is the limit
+   is a fixed rate. False if one of them is none that the queue has. Clients have shares by their weights while the sum of the
+   weights is less than the requests that the device serves in a second; so weights are small numbers, of which 1 to 18 are exact. */
 bool gate_rates(const struct rates *asked, struct rates *found);
 
 /* A gate with no client. Returns 0, or an errno. The gate is zeroed before. */
@@ -76,12 +80,12 @@ void gate_stop(struct gate *, int fault);
 /* Ends the timer and frees all. Nobody is in the gate. */
 void gate_close(struct gate *);
 
-/* The client of this name, for one more user. Where there is none, one is registered with these rates, as `gate_rates` finds them;
-   one that is kept is never forgotten. Returns 0; else ENOENT where there is none and rates is NULL, EBUSY where the queue has its
-   most clients, or another errno. */
+/* The client of this name, for one more user. If there is none, one is made with these rates, as `gate_rates` finds them: one that
+   is kept is registered at once and never forgotten, any other at its first request. Returns 0; else ENOENT if there is none and
+   rates is NULL, EBUSY if there are the most clients of its kind, or another errno. */
 int gate_client(struct gate *, const char *name, const struct rates *, bool is_kept, struct client **);
 
-/* A user of the client less. */
+/* A user of the client less. One that is not kept, and has no user and never had a request, is forgotten. */
 void gate_release(struct gate *, struct client *);
 
 /* Waits for a request of the client until it is granted. Returns 0, and whether it had to wait; else ENOMEM, where an allocation

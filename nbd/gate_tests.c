@@ -56,7 +56,7 @@ char *__wrap_strdup(const char *text)
 
 /* ---- tests */
 
-static const struct gate_config one_at_once = {.depth = 1, .at_limit = DMC_WAIT, .idle_seconds = 60, .erase_seconds = 60};
+static const struct gate_config one_at_once = {.depth = 1, .at_limit = DMC_WAIT, .idle_seconds = 60, .erase_seconds = 60, .most_others = 65536};
 
 static struct rates rates_of(uint32_t reservation, uint32_t weight, uint32_t limit)
 {
@@ -69,6 +69,8 @@ static void rates(void)
 {
   struct rates found = rates_of(1500, 1, 500);
   CHECK(found.reservation == 1512 && found.weight == 1 && found.limit == 495);
+  found = rates_of(500, 1, 500);
+  CHECK(found.reservation == 495 && found.limit == 495);
   found = rates_of(0, 19, 0);
   CHECK(found.reservation == 0 && found.limit == 0 && found.weight == 18);
   struct rates asked = {DMC_FINE_HZ + 1u, 1, 0};
@@ -189,7 +191,7 @@ static void forgotten(void)
   struct gate gate = {0};
   struct client *used, *unused, *kept;
   struct rates none = rates_of(0, 1, 0);
-  struct gate_config config = {.depth = 1, .at_limit = DMC_WAIT, .idle_seconds = 1, .erase_seconds = 1};
+  struct gate_config config = {.depth = 1, .at_limit = DMC_WAIT, .idle_seconds = 1, .erase_seconds = 1, .most_others = 65536};
   bool has_waited;
   CHECK(gate_open(&gate, &config) == 0 && gate_start(&gate) == 0);
   CHECK(gate_client(&gate, "used", &none, false, &used) == 0);
@@ -201,11 +203,56 @@ static void forgotten(void)
   CHECK(gate_client(&gate, "unused", NULL, false, &unused) == ENOENT);
   CHECK(gate_client(&gate, "kept", NULL, false, &kept) == 0);
   uint32_t clients = 9, requests = 9;
-  CHECK(dmc_queue_counts(&gate.queue, &clients, &requests) == DMC_OK && clients == 0 && requests == 0);
+  CHECK(dmc_queue_counts(&gate.queue, &clients, &requests) == DMC_OK && clients == 1 && requests == 0);
   CHECK(gate_enter(&gate, used, &has_waited) == 0);
   gate_leave(&gate);
   CHECK(gate_enter(&gate, kept, &has_waited) == 0);
   gate_leave(&gate);
+  gate_close(&gate);
+}
+
+/* A client that is kept has its place in the queue after a pause, though others have taken all that are left. */
+static void kept_place(void)
+{
+  struct gate gate = {0};
+  struct client *kept, *other;
+  struct rates none = rates_of(0, 1, 0);
+  struct gate_config config = {.depth = 1, .at_limit = DMC_WAIT, .idle_seconds = 1, .erase_seconds = 1, .most_others = 65536};
+  bool has_waited;
+  uint32_t code = DMC_OK, others = 0;
+  CHECK(gate_open(&gate, &config) == 0 && gate_start(&gate) == 0);
+  CHECK(gate_client(&gate, "kept", &none, true, &kept) == 0);
+  CHECK(gate_client(&gate, "other", &none, false, &other) == 0);
+  sleep(2);
+  pthread_mutex_lock(&gate.lock);
+  while ((code = dmc_queue_register(&gate.queue, 1000 + others, 0, 1, 0, UINT64_C(1) << 50)) == DMC_OK)
+    others++;
+  CHECK(code == DMC_CLIENTS && others == 65535);
+  pthread_mutex_unlock(&gate.lock);
+  CHECK(gate_enter(&gate, kept, &has_waited) == 0);
+  gate_leave(&gate);
+  CHECK(gate_enter(&gate, other, &has_waited) == ENOMEM);
+  gate_close(&gate);
+}
+
+/* A client of the default that nobody uses and that had no request is forgotten at once. */
+static void unused_names(void)
+{
+  struct gate gate = {0};
+  struct client *client, *another;
+  struct rates none = rates_of(0, 1, 0);
+  struct gate_config config = one_at_once;
+  config.most_others = 1;
+  bool has_waited;
+  CHECK(gate_open(&gate, &config) == 0);
+  CHECK(gate_client(&gate, "a", &none, false, &client) == 0);
+  CHECK(gate_client(&gate, "b", &none, false, &another) == EBUSY);
+  gate_release(&gate, client);
+  CHECK(gate_client(&gate, "b", &none, false, &another) == 0 && gate.others == 1);
+  CHECK(gate_enter(&gate, another, &has_waited) == 0);
+  gate_leave(&gate);
+  gate_release(&gate, another);
+  CHECK(gate_client(&gate, "a", &none, false, &client) == EBUSY && gate.others == 1);
   gate_close(&gate);
 }
 
@@ -246,6 +293,8 @@ int main(void)
   due_later();
   most_clients();
   forgotten();
+  kept_place();
+  unused_names();
   refused_allocations();
   printf("%d failures\n", failures);
   return failures != 0;

@@ -11,6 +11,7 @@
 #define MOST_SECONDS 1000000000u
 #define MOST_DEPTH (1u << 20)
 #define MOST_WEIGHT 1000
+#define MOST_CLIENTS 65536
 
 /* ---- values */
 
@@ -35,37 +36,51 @@ static bool read_count(const char *value, uint64_t most, uint64_t *count)
   return read_number(value, strlen(value), most, count) && *count > 0;
 }
 
-/* A rate from 1 on, or `-` for none. */
-static bool read_rate(const char *text, size_t length, uint32_t *rate)
+/* ---- rates */
+
+/* What is wrong with a setting, in words; the empty text if nothing is. */
+#define FAULT_SIZE 160
+typedef char fault_text[FAULT_SIZE];
+
+#define FAULT(fault, ...) ((void)snprintf(fault, FAULT_SIZE, __VA_ARGS__), false)
+
+/* One field of RESERVATION:WEIGHT:LIMIT: a number from 1 to `most`, or `-` for none if there may be none. */
+static bool read_field(const char *name, const char *text, size_t length, uint32_t most, bool is_optional, uint32_t *rate, fault_text fault)
 {
   uint64_t number = 0;
-  bool is_none = length == 1 && text[0] == '-';
-  if (!is_none && (!read_number(text, length, UINT32_MAX, &number) || number == 0))
-    return false;
+  bool is_none = is_optional && length == 1 && text[0] == '-';
+  if (!is_none && (!read_number(text, length, most, &number) || number == 0))
+    return FAULT(fault, "the %s \"%.*s\" is not a number from 1 to %u%s", name, length < 40 ? (int)length : 40, text, most,
+                 is_optional ? ", nor - for none" : "");
   *rate = (uint32_t)number;
   return true;
 }
 
 /* RESERVATION:WEIGHT:LIMIT */
-static bool read_rates(const char *value, struct rates *rates)
+static bool read_rates(const char *value, struct rates *rates, fault_text fault)
 {
   size_t first = strcspn(value, ":");
   const char *weight = value + first + 1;
   if (!value[first] || !strchr(weight, ':'))
-    return false;
+    return FAULT(fault, "a field is missing");
   size_t second = strcspn(weight, ":");
   const char *limit = weight + second + 1;
-  return read_rate(value, first, &rates->reservation) && read_rate(weight, second, &rates->weight) &&
-         read_rate(limit, strlen(limit), &rates->limit) && 0 < rates->weight && rates->weight <= MOST_WEIGHT;
+  return read_field("reservation", value, first, DMC_FINE_HZ, true, &rates->reservation, fault) &&
+         read_field("weight", weight, second, MOST_WEIGHT, false, &rates->weight, fault) &&
+         read_field("limit", limit, strlen(limit), UINT32_MAX, true, &rates->limit, fault);
 }
 
 /* Rates that the queue has, and that one client can have. */
-static bool take_rates(const char *value, struct rates *asked, struct rates *found)
+static bool take_rates(const char *value, struct rates *asked, struct rates *found, fault_text fault)
 {
-  return read_rates(value, asked) && gate_rates(asked, found) && (!found->limit || found->reservation <= found->limit);
+  if (!read_rates(value, asked, fault))
+    return false;
+  if (asked->limit && asked->limit < asked->reservation)
+    return FAULT(fault, "the reservation %u is above the limit %u", asked->reservation, asked->limit);
+  return gate_rates(asked, found) || FAULT(fault, "the queue has no such rate");
 }
 
-/* Where the last three fields of NAME:RESERVATION:WEIGHT:LIMIT begin; a name may have colons. NULL where there are none. */
+/* Where the last three fields of NAME:RESERVATION:WEIGHT:LIMIT begin; a name may have colons. NULL if there are none. */
 static const char *last_fields(const char *value)
 {
   int colons = 0;
@@ -83,6 +98,12 @@ static int is_bad(const char *key, const char *value, const char *wanted)
   return -1;
 }
 
+static int is_faulty(const char *key, const char *value, const char *fault, const char *wanted)
+{
+  nbdkit_error("%s=%s: %s; wanted is %s, in requests a second", key, value, fault, wanted);
+  return -1;
+}
+
 static bool has_client(const struct settings *settings, const char *name)
 {
   for (const struct client_setting *client = settings->clients; client; client = client->next)
@@ -94,9 +115,10 @@ static bool has_client(const struct settings *settings, const char *name)
 static int add_client(struct settings *settings, const char *key, const char *value)
 {
   struct client_setting client = {0};
+  fault_text fault = "a field is missing";
   const char *fields = last_fields(value);
-  if (!fields || !take_rates(fields, &client.asked, &client.found))
-    return is_bad(key, value, "NAME:RESERVATION:WEIGHT:LIMIT, in requests a second, - for none, a weight from 1 to 1000");
+  if (!fields || !take_rates(fields, &client.asked, &client.found, fault))
+    return is_faulty(key, value, fault, "NAME:RESERVATION:WEIGHT:LIMIT");
   client.name = strndup(value, (size_t)(fields - 1 - value));
   struct client_setting *kept = malloc(sizeof *kept);
   if (!client.name || !kept || has_client(settings, client.name)) {
@@ -117,9 +139,28 @@ static int set_default(struct settings *settings, const char *key, const char *v
 {
   if (settings->has_default)
     return is_bad(key, value, "one default");
-  if (!take_rates(value, &settings->asked, &settings->found))
-    return is_bad(key, value, "RESERVATION:WEIGHT:LIMIT, in requests a second, - for none, a weight from 1 to 1000");
+  fault_text fault;
+  if (!take_rates(value, &settings->asked, &settings->found, fault))
+    return is_faulty(key, value, fault, "RESERVATION:WEIGHT:LIMIT");
   settings->has_default = true;
+  return 1;
+}
+
+static int set_default_clients(struct settings *settings, const char *key, const char *value)
+{
+  uint64_t most;
+  if (!read_count(value, MOST_CLIENTS, &most))
+    return is_bad(key, value, "1 to 65536 clients");
+  settings->gate.most_others = (uint32_t)most;
+  return 1;
+}
+
+static int set_shared(struct settings *settings, const char *key, const char *value)
+{
+  int shared = nbdkit_parse_bool(value);
+  if (shared == -1)
+    return is_bad(key, value, "true or false");
+  settings->is_shared = shared;
   return 1;
 }
 
@@ -161,6 +202,10 @@ int settings_read(struct settings *settings, const char *key, const char *value)
     return add_client(settings, key, value);
   if (strcmp(key, "dmclock-default") == 0)
     return set_default(settings, key, value);
+  if (strcmp(key, "dmclock-default-clients") == 0)
+    return set_default_clients(settings, key, value);
+  if (strcmp(key, "dmclock-default-shared") == 0)
+    return set_shared(settings, key, value);
   if (strcmp(key, "dmclock-depth") == 0)
     return set_depth(settings, key, value);
   if (strcmp(key, "dmclock-at-limit") == 0)
@@ -172,7 +217,7 @@ int settings_read(struct settings *settings, const char *key, const char *value)
   if (strcmp(key, "dmclock-stats") == 0)
     return set_stats(settings, key, value);
   if (strncmp(key, "dmclock-", strlen("dmclock-")) == 0)
-    return is_bad(key, value, "another key: dmclock-client, -default, -depth, -at-limit, -idle, -erase or -stats");
+    return is_bad(key, value, "another key: dmclock-client, -default, -default-clients, -default-shared, -depth, -at-limit, -idle, -erase or -stats");
   return 0;
 }
 
@@ -216,7 +261,7 @@ void settings_print(const struct settings *settings)
   for (const struct client_setting *client = settings->clients; client; client = client->next)
     print_rates(client->name, &client->asked, &client->found);
   if (settings->has_default)
-    print_rates("other names, each", &settings->asked, &settings->found);
+    print_rates(settings->is_shared ? "other names together" : "other names, each", &settings->asked, &settings->found);
 }
 
 void settings_free(struct settings *settings)

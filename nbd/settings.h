@@ -14,17 +14,17 @@ struct client_setting {
 struct settings {
   struct gate_config gate;
   struct client_setting *clients;
-  bool has_default;
+  bool has_default, is_shared; /* whether other names are taken, and whether all of them are one client */
   struct rates asked, found; /* of dmclock-default */
   char *stats;               /* a file, or NULL */
 };
 
-/* What holds where no key says otherwise. */
+/* What holds if no key says otherwise. */
 #define SETTINGS_DEFAULT \
-  { .gate = {.depth = 4, .at_limit = DMC_WAIT, .idle_seconds = 600, .erase_seconds = 900} }
+  { .gate = {.depth = 4, .at_limit = DMC_WAIT, .idle_seconds = 600, .erase_seconds = 900, .most_others = 1000} }
 
-/* Reads a key and its value. Returns 1 where the key is one of the filter, 0 where it is not, and -1 after an error that names the
-   key and the value. */
+/* Reads a key and its value. Returns 1 if the key is one of the filter, 0 if it is not, and -1 after an error that names the key and
+   the value, and says what is wrong with it. */
 int settings_read(struct settings *, const char *key, const char *value);
 
 /* Whether the settings agree with each other, after an error that names those that do not. */

@@ -67,7 +67,7 @@ static int dmclock_get_ready(int thread_model)
 
 /* ---- the watcher */
 
-/* A fault of the statistics is logged once, and again after it was gone. */
+/* A fault of the statistics is logged when it comes, and not every second. */
 static void write_stats(void)
 {
   static int last_fault;
@@ -130,17 +130,6 @@ static void dmclock_unload(void)
 
 /* ---- names */
 
-/* The client of all names without rates of their own, if they share one. No setting's name is empty after its fields. */
-#define SHARED_NAME "dmclock-default"
-
-static bool has_setting(const char *name)
-{
-  for (const struct client_setting *client = settings.clients; client; client = client->next)
-    if (strcmp(client->name, name) == 0)
-      return true;
-  return false;
-}
-
 /* Why a name is no client. The name is whatever somebody sent, so it is logged as printable ASCII. */
 static void log_unknown(const char *name, int fault)
 {
@@ -177,7 +166,7 @@ static void *dmclock_open(nbdkit_next_open *next, nbdkit_context *context, int r
 {
   (void)is_tls;
   struct client *client;
-  const char *wanted = settings.is_shared && !has_setting(name) ? SHARED_NAME : name;
+  const char *wanted = settings.is_shared && !settings_have(&settings, name) ? SHARED_NAME : name;
   int fault = gate_client(&gate, wanted, settings.has_default ? &settings.found : NULL, false, &client);
   if (fault) {
     log_unknown(name, fault);

@@ -217,10 +217,9 @@ static void register_kept(struct gate *gate, uint64_t now);
    that is kept is registered again at once, before any other takes its place, and another at its next request. */
 static void clean(struct gate *gate, uint64_t now)
 {
-  uint32_t idled, erased = 0;
+  uint32_t idled, erased;
   dmc_queue_clean(&gate->queue, moment_of(now), &idled, &erased);
-  if (erased)
-    register_kept(gate, now);
+  register_kept(gate, now);
   forget_clients(gate, now);
   gate->next_clean = now + gate->config.idle_seconds * SECOND / 4;
 }

@@ -104,7 +104,7 @@ static int is_faulty(const char *key, const char *value, const char *fault, cons
   return -1;
 }
 
-static bool has_client(const struct settings *settings, const char *name)
+bool settings_have(const struct settings *settings, const char *name)
 {
   for (const struct client_setting *client = settings->clients; client; client = client->next)
     if (strcmp(client->name, name) == 0)
@@ -121,7 +121,7 @@ static int add_client(struct settings *settings, const char *key, const char *va
     return is_faulty(key, value, fault, "NAME:RESERVATION:WEIGHT:LIMIT");
   client.name = strndup(value, (size_t)(fields - 1 - value));
   struct client_setting *kept = malloc(sizeof *kept);
-  if (!client.name || !kept || has_client(settings, client.name)) {
+  if (!client.name || !kept || settings_have(settings, client.name)) {
     int result = is_bad(key, value, client.name && kept ? "a name that no other client has" : "more memory");
     free(client.name);
     free(kept);
@@ -226,6 +226,10 @@ bool settings_agree(const struct settings *settings)
   if (settings->gate.erase_seconds < settings->gate.idle_seconds) {
     nbdkit_error("dmclock-idle=%llu is past dmclock-erase=%llu", (unsigned long long)settings->gate.idle_seconds,
                  (unsigned long long)settings->gate.erase_seconds);
+    return false;
+  }
+  if (settings->is_shared && settings_have(settings, SHARED_NAME)) {
+    nbdkit_error("dmclock-client=%s:..: with dmclock-default-shared that is the name of all other names", SHARED_NAME);
     return false;
   }
   if (!settings->clients && !settings->has_default) {

@@ -27,6 +27,12 @@ struct settings {
    the value, and says what is wrong with it. */
 int settings_read(struct settings *, const char *key, const char *value);
 
+/* Whether a client of the settings has this name. */
+bool settings_have(const struct settings *, const char *name);
+
+/* The client of all other names, if they share one. */
+#define SHARED_NAME "dmclock-default"
+
 /* Whether the settings agree with each other, after an error that names those that do not. */
 bool settings_agree(const struct settings *);
 

@@ -18,7 +18,7 @@ gate:
 mutations:
 	scripts/try_mutations $(CRATE)
 
-# Proves what changed in a crate, in seconds: make check CRATE=dmc_pull, or one function of it, by ONLY=queue::PullQueue::clean.
+# Proves what changed in a crate, in seconds: make check CRATE=dmc_pull, or one function of it, by ONLY=queue::PullQueue::early.
 check:
 	cd crates/$(CRATE) && rt check $(if $(ONLY),--only $(CRATE)::$(ONLY))
 

@@ -1,7 +1,7 @@
 //! Reduction: a Priority grant takes one spacing off the R tags of its client, so that it does not count against the reservation.
-ghost use Rattle.std.specs.Prelude.{◌≡◌, ℕ, true, Ok, ◌∷◌, []};
+ghost use Rattle.std.specs.Prelude.{◌≡◌, ℕ, true, Ok};
 ghost use Rattle.dmc_adjust.specs.Changes as changes;
-ghost use Rattle.dmc_client.specs.Record.{client_of, requests_of_record, IsRecord};
+ghost use Rattle.dmc_client.specs.Record.{client_of, IsRecord};
 ghost use Rattle.dmc_tag.specs.Rules as rules_of;
 ghost use Rattle.dmc_tag.specs.Spacing.{spacings_of};
 ghost use Rattle.dmc_types.specs.declared.ids.ClientId.{ClientId};
@@ -13,8 +13,7 @@ use dmc_tag::tag::Tag;
 /// is called before that request's `pop`.
 pub fn can_reduce<T: Tag>(rec: &ClientRec<T>) -> bool
     ensures value { result ≡ changes.is_reducible T.ops (changes.popped rec.now) }
-    ensures tests { (id : ClientId) → result ≡ rules_of.can_reduce_by T.ops id rec.now.spacings.r (client_of id rec.now ∷ [])
-        (requests_of_record id (changes.popped rec.now)) }
+    ensures client { (id : ClientId) → result ≡ rules_of.can_reduce_by T.ops rec.now.spacings.r (client_of id (changes.popped rec.now)) }
     ensures amount { (hz : ℕ) → spacings_of T.ops hz rec.now.info ≡ Ok rec.now.spacings →
         rules_of.reduction_at T.ops hz rec.now.info.reservation ≡ Ok rec.now.spacings.r }
 {
@@ -29,8 +28,7 @@ pub fn can_reduce<T: Tag>(rec: &ClientRec<T>) -> bool
 pub fn reduce<T: Tag>(rec: &mut ClientRec<T>)
     requires { changes.is_reducible T.ops rec.old ≡ true }
     ensures value { rec.new ≡ changes.reduced T.ops rec.old }
-    ensures client { (id : ClientId) → client_of id rec.new ∷ [] ≡ rules_of.reduced_clients T.ops id rec.old.spacings.r (client_of id rec.old ∷ []) }
-    ensures requests { (id : ClientId) → requests_of_record id rec.new ≡ rules_of.reduced_requests T.ops id rec.old.spacings.r (requests_of_record id rec.old) }
+    ensures client { (id : ClientId) → client_of id rec.new ≡ rules_of.reduced_by T.ops rec.old.spacings.r (client_of id rec.old) }
     ensures kept { IsRecord T.ops rec.new }
 {
     let Some(amount) = rec.spacings().r else {

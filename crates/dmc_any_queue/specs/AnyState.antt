@@ -6,7 +6,7 @@ use Rattle.dmc_types.specs.declared.config.TagKind.{TagKind}
 use Rattle.dmc_types.specs.declared.config.TagKind.TheVariants as kinds
 use Rattle.dmc_types.specs.declared.command.Command.{Command}
 use Rattle.dmc_tag.specs.Tag.{Fraction, Tagging}
-use Rattle.dmc_tag.specs.State.{State, Represents, opening}
+use Rattle.dmc_tag.specs.State.{State, opening, queued_requests}
 use Rattle.dmc_tag.specs.Step.{outcome, step}
 use Rattle.dmc_tag.specs.Steps.{may_grow}
 use Rattle.dmc_tag.specs.declared.reply.Tags.{Tags}
@@ -32,8 +32,8 @@ clients_in (ratios s) = length s.clients
 
 -- how many requests are queued
 abbrev pub requests_in : AnyState → ℕ
-requests_in (ticks s) = length s.requests
-requests_in (ratios s) = length s.requests
+requests_in (ticks s) = length (queued_requests s.clients)
+requests_in (ratios s) = length (queued_requests s.clients)
 
 -- ---- replies
 
@@ -54,12 +54,11 @@ in_fractions fraction (Refused refusal) = Refused refusal
 
 -- ---- one command
 
--- From each plain state that the queue represents, the reply is that of step, in fractions, and the queue represents the state
--- after. Or an allocation failed: then the command is one that may allocate, step refuses nothing, there is no reply, and the
--- queue represents what it represented.
+-- The state is the one after the step, and the reply is that of step, in fractions. Or an allocation failed: then the command is
+-- one that may allocate, step refuses nothing, there is no reply, and the state is as it was.
 abbrev pub Shows : {T : Type 0} → Tagging T → (T → Fraction) → State T → State T → Command → Option (Reply Fraction) → Type 0
-Shows {T} ops fraction old new command (Some reply) = (s : State T) → Represents old s → (reply ≡ in_fractions fraction ((step ops s command).1)) × Represents new ((step ops s command).0)
-Shows {T} ops fraction old new command None = IsTrue (may_grow command) × ((s : State T) → Represents old s → IsOk (outcome ops s command) × Represents new s)
+Shows ops fraction old new command (Some reply) = (reply ≡ in_fractions fraction ((step ops old command).1)) × (new ≡ (step ops old command).0)
+Shows ops fraction old new command None = IsTrue (may_grow command) × IsOk (outcome ops old command) × (new ≡ old)
 
 -- the step of a queue with tags of either type, which it keeps
 abbrev pub AnySteps : AnyState → AnyState → Command → Option (Reply Fraction) → Type 0

@@ -3,6 +3,7 @@ ghost use Rattle.std.specs.Prelude.{◌≡◌, length};
 ghost use Rattle.std.specs.Result.{result_ok};
 ghost use Rattle.dmc_any_queue.specs.AnyState.{opening_with, Shows, AnySteps, clients_in, requests_in};
 ghost use Rattle.dmc_pull.specs.Queue.{state_of};
+ghost use Rattle.dmc_tag.specs.State.{queued_requests};
 
 use crate::fraction::{AsFraction, TagFraction, in_fractions};
 use dmc_heap::adaptive_index::HeapIndexes;
@@ -18,18 +19,18 @@ use dmc_types::config::{QueueConfig, TagKind};
 use std::alloc::{AllocError, Global};
 use std::marker::Model;
 
-/// A part of a queue. It is behind a type parameter, so that crates above can drop a queue.
+/// Wrapper without bounds: the toolchain cannot drop an enum over types generic in `Indexes` that holds them directly.
 #[derive(Drop)]
-struct Part<P>(P);
+struct Droppable<P>(P);
 
 /// A queue over heaps, by its tags.
 #[derive(Drop)]
 enum Queue {
-    Tick(Part<PullQueue<TickTag, HeapIndexes>>),
-    Ratio(Part<PullQueue<RatioTag, HeapIndexes>>),
+    Tick(Droppable<PullQueue<TickTag, HeapIndexes>>),
+    Ratio(Droppable<PullQueue<RatioTag, HeapIndexes>>),
 }
 
-/// A queue over heaps with tick or ratio tags. Contracts see the plain state that it represents.
+/// A queue over heaps with tick or ratio tags. Contracts see its plain state.
 #[derive(Drop)]
 pub struct AnyQueue {
     queue: Queue,
@@ -66,7 +67,7 @@ struct Counts {
 /// The counts of a queue.
 fn counts_of<T: Tag, I: Indexes<T>>(queue: &PullQueue<T, I>) -> Counts
     ensures clients { result.clients ≡ length (state_of queue.now).clients }
-    ensures requests { result.requests ≡ length (state_of queue.now).requests }
+    ensures requests { result.requests ≡ length (queued_requests (state_of queue.now).clients) }
 {
     Counts {
         clients: queue.client_count(),
@@ -80,8 +81,8 @@ impl AnyQueue {
         ensures { result ≡ opening_with tags config }
     {
         let queue = match tags {
-            TagKind::Tick => Queue::Tick(Part(PullQueue::new(alloc, config))),
-            TagKind::Ratio => Queue::Ratio(Part(PullQueue::new(alloc, config))),
+            TagKind::Tick => Queue::Tick(Droppable(PullQueue::new(alloc, config))),
+            TagKind::Ratio => Queue::Ratio(Droppable(PullQueue::new(alloc, config))),
         };
         AnyQueue { queue }
     }

@@ -14,7 +14,7 @@ use dmc_tag::tag::Tag;
 use dmc_types::params::ReqParams;
 
 /// The tags of a request of this client that arrives at t: each max(previous + k*spacing, t), with k = rho for R, delta for L and
-/// P (mClock's Algorithm 1, with dmClock's counts). `None` where a sum is no value. They may be pushed.
+/// P (mClock's Algorithm 1, with dmClock's counts). `None` if a sum is no value. They may be pushed.
 pub fn tags_for<T: Tag>(rec: &ClientRec<T>, params: ReqParams, t: T) -> Option<Tags<T>>
     ensures value { in_range result ≡ rules_of.next_tags T.ops rec.now.spacings rec.now.previous params t }
     ensures follows { IfSome result (AreNext T.ops rec.now.info rec.now.previous) }

@@ -15,12 +15,12 @@ use dmc_ledger::bundle::StampTills;
 use dmc_ledger::desk::{ClientDesk, ServerDesk, open_pair};
 use dmc_ledger::mint::Mint;
 use dmc_ledger::setup::Setup;
+use dmc_ledger::stamp::Stamp;
 use dmc_qlock::lock::QueueLock;
 use dmc_tag::reply::Pulled;
 use dmc_tag::tag::Tag;
 use dmc_tlock::book::TrackerBook;
 use dmc_tlock::pass::ClientPass;
-use dmc_tlock::stamp::Stamp;
 use dmc_types::command::Command;
 use dmc_types::config::{AtLimit, Counting, PhaseType, QueueConfig};
 use dmc_types::ids::{ClientId, ServerId, Token, WorkerId};
@@ -249,7 +249,7 @@ pub fn submit<T: Tag, I: Indexes<T>, S: Setup, R: Wait>(
     }
 }
 
-/// The client of a grant of a pull, or `None` where it grants none.
+/// The client of a grant of a pull, or `None` if it grants none.
 pub fn pull<T: Tag, I: Indexes<T>, S: Setup, R: Wait>(
     rt: &R,
     lock: &QueueLock<T, I, S>,

@@ -130,7 +130,7 @@ fn serve_batches<T: Tag, I: Indexes<T>, S: Setup, R: Wait>(
 /// How many requests there are about between two releases of events. Each is two events.
 const SEGMENT: u32 = 32_768;
 
-/// Releases the lock's events after a batch, where enough were recorded since the last time.
+/// Releases the lock's events after a batch, if enough were recorded since the last time.
 #[inline(never)]
 fn release<T: Tag, I: Indexes<T>, S: Setup, R: Wait>(
     waiter: &R,

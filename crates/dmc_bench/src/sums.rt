@@ -19,7 +19,7 @@ pub fn sum_tags<T: Tag>(
     Ok(checksum)
 }
 
-/// Adds the summands in turn, from 0 on again where a sum is no value, and returns a checksum of the sums.
+/// Adds the summands in turn, from 0 on again if a sum is no value, and returns a checksum of the sums.
 fn sum_of<T: Tag>(first: Option<T>, second: Option<T>, rounds: u32) -> u64 {
     let zero = T::of_moment(Moment::zero());
     let mut sum = zero;

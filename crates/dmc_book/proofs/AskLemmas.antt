@@ -19,8 +19,7 @@ use Rattle.dmc_tag.specs.Answers.{pull_reply}
 use Rattle.dmc_tag.specs.declared.reply.Pulled.{Pulled}
 use Rattle.dmc_tag.specs.declared.reply.Reply.{Reply}
 use Rattle.dmc_tag.specs.declared.reply.Reply.TheVariants.{Registered, Updated, Tagged, Granted, Later, Nothing, Removed, Cleaned, Refused}
-use Rattle.dmc_tag.proofs.Agreement.{represents_itself}
-use Rattle.dmc_tag.proofs.ForCallers.{pull_grants, steps_exactly, steps_agree}
+use Rattle.dmc_tag.proofs.ForCallers.{pull_grants}
 use Rattle.dmc_ledger.specs.Bundles.{ClientSide, GrantHoldings}
 use Rattle.dmc_pull.specs.Allowed.{is_allowed, PullsIf}
 use Rattle.dmc_pull.specs.declared.granting.PullFault.TheVariants as pull
@@ -38,12 +37,12 @@ use Rattle.dmc_book.specs.Moves.{desk_place, takes, takes_at, place_of, same_pla
 
 -- ---- a pull
 
-module _ {T : Type 0} (ops : Tagging T) (order : IsTotalOrder ops.compare) (behind : Type 0) (allows : ClientId → PhaseType → Bool) (old new : State T) (at : ℕ) where
+module _ {T : Type 0} (ops : Tagging T) (behind : Type 0) (allows : ClientId → PhaseType → Bool) (old new : State T) (at : ℕ) where
   pub pull_answers : (pulled : Pulled) → PullsIf allows ops old new at (Ok pulled) → Asks ops behind allows old new (Pull at) (Ok (pull_reply pulled))
-  pull_answers pulled h = (steps_exactly ops order old new (Pull at) (Some (pull_reply pulled)) h.0, h.1, λ s. true≢false (sym h.1 ∙ s))
+  pull_answers pulled h = (h.0, h.1, λ s. true≢false (sym h.1 ∙ s))
 
   pull_refused : (refusal : Refusal) → PullsIf allows ops old new at (Err (pull.Refused refusal)) → Asks ops behind allows old new (Pull at) (Ok (Refused refusal))
-  pull_refused refusal h = (steps_exactly ops order old new (Pull at) (Some (Refused refusal)) h, refl, λ s. true≢false s)
+  pull_refused refusal h = (h, refl, λ s. true≢false s)
 
 -- a pull that the units can't take
 pub pull_declined : {T : Type 0} (ops : Tagging T) (behind : Type 0) (allows : ClientId → PhaseType → Bool) (old new : State T) (at : ℕ) (fault : RunFault)
@@ -72,7 +71,7 @@ module _ {T : Type 0} (ops : Tagging T) (fraction : T → Fraction) (is_value : 
   pull_out_of_range refusal h =
       let reply : (step ops old (Pull at)).1 ≡ Refused refusal = ap (λ p. p.1) (sym h) in
       subst (λ r. Asks ops behind allows old new (Pull at) (Ok (Refused r))) (is_range ops (effective old at) old _ _ (pull_grants ops fraction is_value exact order old at) refusal reply)
-      (pull_refused ops order behind allows old new at refusal h)
+      (pull_refused ops behind allows old new at refusal h)
 
 -- ---- a command that is no pull grants nothing
 
@@ -101,16 +100,16 @@ module _ {T : Type 0} (ops : Tagging T) (behind : Type 0) (allows : ClientId →
   passes (Clean at) other = refl
 
   pub no_pull : (new : State T) (command : Command) (reply : Reply T) → ((at : ℕ) → command ≡ Pull at → ⊥) → Steps ops s new command (Some reply) → Asks ops behind allows s new command (Ok reply)
-  no_pull new (Register client info at) reply other steps = (steps, ap (is_allowed allows) (steps s (represents_itself s)).0 ∙ passes (Register client info at) tt, λ x. x)
-  no_pull new (Update client info at) reply other steps = (steps, ap (is_allowed allows) (steps s (represents_itself s)).0 ∙ passes (Update client info at) tt, λ x. x)
-  no_pull new (Add client token params at) reply other steps = (steps, ap (is_allowed allows) (steps s (represents_itself s)).0 ∙ passes (Add client token params at) tt, λ x. x)
+  no_pull new (Register client info at) reply other steps = (steps, ap (λ p. is_allowed allows p.1) steps ∙ passes (Register client info at) tt, λ x. x)
+  no_pull new (Update client info at) reply other steps = (steps, ap (λ p. is_allowed allows p.1) steps ∙ passes (Update client info at) tt, λ x. x)
+  no_pull new (Add client token params at) reply other steps = (steps, ap (λ p. is_allowed allows p.1) steps ∙ passes (Add client token params at) tt, λ x. x)
   no_pull new (Pull at) reply other steps = absurd (other at refl)
-  no_pull new (Remove client) reply other steps = (steps, ap (is_allowed allows) (steps s (represents_itself s)).0 ∙ passes (Remove client) tt, λ x. x)
-  no_pull new (Clean at) reply other steps = (steps, ap (is_allowed allows) (steps s (represents_itself s)).0 ∙ passes (Clean at) tt, λ x. x)
+  no_pull new (Remove client) reply other steps = (steps, ap (λ p. is_allowed allows p.1) steps ∙ passes (Remove client) tt, λ x. x)
+  no_pull new (Clean at) reply other steps = (steps, ap (λ p. is_allowed allows p.1) steps ∙ passes (Clean at) tt, λ x. x)
 
--- ---- what a book keeps where nothing is answered
+-- ---- what a book keeps if nothing is answered
 
-module _ {T : Type 0} (ops : Tagging T) (order : IsTotalOrder ops.compare) (behind : Type 0) (allows : ClientId → PhaseType → Bool) (q p : State T) (config : Setting) (history : List (Event T)) (command : Command) (h : IsReplayed ops q config history) where
+module _ {T : Type 0} (ops : Tagging T) (behind : Type 0) (allows : ClientId → PhaseType → Bool) (q p : State T) (config : Setting) (history : List (Event T)) (command : Command) (h : IsReplayed ops q config history) where
   pub replayed_unasked : (fault : RunFault) → Asks ops behind allows q p command (Err fault) → IsReplayed ops p config history
   replayed_unasked run.Stranger a = subst (λ s. IsReplayed ops s config history) (sym a.0) h
   replayed_unasked run.Behind a = subst (λ s. IsReplayed ops s config history) (sym a.0) h
@@ -122,7 +121,7 @@ module _ {T : Type 0} (ops : Tagging T) (order : IsTotalOrder ops.compare) (behi
   reply = (step ops (after ops config history) command).1
 
   pub strays_by_history : Strays allows command ((step ops q command).1) → Strays allows command reply
-  strays_by_history strays = subst (Strays allows command) (steps_agree ops order q (after ops config history) command h.represents).0 strays
+  strays_by_history strays = subst (Strays allows command) (ap (λ s. (step ops s command).1) h.state) strays
 
   pub granted_by_history : (answer : Reply T) → Asks ops behind allows q p command (Ok answer) → Strays allows command reply → ⊥
   granted_by_history answer a s = a.2 (subst (Strays allows command) (sym (reply_after ops q p config history h command answer a.0)) s)

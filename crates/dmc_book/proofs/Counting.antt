@@ -9,14 +9,14 @@ use Rattle.dmc_types.specs.declared.config.PhaseType.TheVariants.{Reservation, P
 use Rattle.dmc_types.specs.declared.command.Command.{Command}
 use Rattle.dmc_types.specs.Values.{Setting}
 use Rattle.dmc_tag.specs.Tag.{Tagging}
-use Rattle.dmc_tag.specs.State.{State, Represents}
+use Rattle.dmc_tag.specs.State.{State}
 use Rattle.dmc_tag.specs.Step.{step}
 use Rattle.dmc_tag.specs.Steps.{Steps}
 use Rattle.dmc_tag.specs.Replay.{after}
 use Rattle.dmc_tag.specs.declared.event.Event.{Event}
 use Rattle.dmc_tag.specs.declared.reply.Reply.{Reply}
 use Rattle.dmc_tag.proofs.ForCallers.{after_one_more, replays_one_more}
-use Rattle.dmc_queue_history.specs.Segmented.{Segmented}
+use Rattle.dmc_shared.specs.Segmented.{Segmented}
 use Rattle.dmc_ledger.specs.Accounts.{Account, total_of}
 use Rattle.dmc_ledger.specs.Bundles.{ClientSide}
 use Rattle.dmc_ledger.specs.Moves.{after_issue}
@@ -31,7 +31,7 @@ use Rattle.dmc_book.proofs.RenewingLemmas.{all_there, worker_there}
 use Rattle.dmc_book.proofs.WorkerLemmas.{unmoved_at}
 use Rattle.dmc_book.specs.Moves.{IsEnrolled, IsOpen, book_after, worker_after, desk_after}
 use Rattle.dmc_book.specs.internal.Moves.{accounts_after}
-use Rattle.dmc_tag.proofs.Lists.{all_as, all_both, all_mapped, all_next, position_map}
+use Rattle.dmc_lemmas.proofs.Lists.{all_as, all_both, all_mapped, all_next, position_map}
 
 -- ---- the counts
 
@@ -253,20 +253,18 @@ module _ {T : Type 0} (e : Event T) where
 module _ {T : Type 0} (ops : Tagging T) (q p : State T) (config : Setting) (history : List (Event T)) (h : IsReplayed ops q config history) where
   -- a call that was refused memory
   pub replayed_memory : (command : Command) → Steps ops q p command None → IsReplayed ops p config history
-  replayed_memory command steps = record { represents = (steps.1 (after ops config history) h.represents).1; replaying = h.replaying }
+  replayed_memory command steps = record { state = steps.2 ∙ h.state; replaying = h.replaying }
 
   -- the reply is that of the rules
   pub reply_after : (command : Command) (reply : Reply T) → Steps ops q p command (Some reply) → reply ≡ (step ops (after ops config history) command).1
-  reply_after command reply steps = (steps (after ops config history) h.represents).0
+  reply_after command reply steps = ap (λ p. p.1) steps ∙ ap (λ s. (step ops s command).1) h.state
 
   -- one event more
   pub replayed_more : (e : Event T) → Steps ops q p e.command (Some e.reply) → IsReplayed ops p config (history ++ e ∷ [])
-  replayed_more e steps =
-      let now = steps (after ops config history) h.represents in
-      record {
-        represents = subst (λ (s : State T). Represents p s) (sym (after_one_more ops config history e)) now.1;
-        replaying = replays_one_more ops config history e h.replaying now.0;
-      }
+  replayed_more e steps = record {
+    state = ap (λ p. p.0) steps ∙ ap (λ s. (step ops s e.command).0) h.state ∙ sym (after_one_more ops config history e);
+    replaying = replays_one_more ops config history e h.replaying (reply_after e.command e.reply steps);
+  }
 
 -- ---- a book whose accounts made a place, or have an event more
 

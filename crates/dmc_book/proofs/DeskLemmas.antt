@@ -10,7 +10,7 @@ use Rattle.dmc_types.specs.declared.config.PhaseType.{PhaseType}
 use Rattle.dmc_types.specs.declared.config.PhaseType.TheVariants.{Reservation, Priority}
 use Rattle.dmc_tag.specs.declared.event.Event.{Event}
 use Rattle.dmc_ledger.specs.Accounts.{Holding, total_of}
-use Rattle.dmc_ledger.specs.Bundles.{ClientSide, GrantAccounts, GrantHoldings, StampHoldings, client_side, grant_accounts, grant_holdings, stamp_holdings}
+use Rattle.dmc_ledger.specs.Bundles.{ClientSide, GrantAccounts, GrantHoldings, StampHoldings, client_side, grant_accounts, grant_holdings, stamp_holdings, StampValue}
 use Rattle.dmc_ledger.specs.Moves.{after_issue, with_more, book_in, till_in, tills_after_stamp, tills_after_response}
 use Rattle.dmc_ledger.specs.internal.Moves.{books_after_grant}
 use Rattle.dmc_ledger.specs.declared.desk.ClientDesk.{ClientDesk}
@@ -18,7 +18,6 @@ use Rattle.dmc_ledger.specs.declared.bundle.GrantTills.{GrantTills}
 use Rattle.dmc_tag.specs.declared.reply.Reply.{Reply}
 use Rattle.dmc_tag.specs.declared.reply.Reply.TheVariants.{Registered, Updated, Tagged, Granted, Later, Nothing, Removed, Cleaned, Refused}
 use Rattle.dmc_pull.specs.Allowed.{is_allowed}
-use Rattle.dmc_tlock.specs.BookState.{StampValue}
 use Rattle.dmc_book.specs.BookState.{no_desk}
 use Rattle.dmc_book.specs.Calls.{AreAlike, IsForDesk}
 use Rattle.dmc_book.specs.Consistent.{AreClientsApart}
@@ -26,8 +25,8 @@ use Rattle.dmc_book.specs.internal.Consistent.{AreGrantsWithin}
 use Rattle.dmc_book.specs.Counts.{accepted, grant_in, grants_added, stamps_added, delta_added, rho_added, stamps_for, params_for, units_for, one_if, is_phase}
 use Rattle.dmc_book.specs.Moves.{desk_after, desk_place, same_place, takes_at, is_unit_of, unit_at}
 use Rattle.dmc_book.proofs.WorkerLemmas.{issue_none}
-use Rattle.dmc_tag.proofs.Lists.{map_unmoved, all_as, position_map}
-use Rattle.dmc_tag.proofs.Booleans.{eqb_turned}
+use Rattle.dmc_lemmas.proofs.Lists.{map_unmoved, all_as, position_map}
+use Rattle.dmc_lemmas.proofs.Booleans.{eqb_turned}
 use Rattle.std.proofs.lemmas.Option.{none-some, same_Some}
 
 more_none : (h : Holding) → with_more 0 h ≡ h

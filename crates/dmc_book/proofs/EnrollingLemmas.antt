@@ -7,7 +7,7 @@ use Rattle.std.proofs.lemmas.List.{get_or-map, length-map}
 use Rattle.std.proofs.lemmas.List.Folds.{list_any-append}
 use Rattle.dmc_types.specs.declared.ids.WorkerId.{WorkerId}
 use Rattle.dmc_tag.specs.declared.event.Event.{Event}
-use Rattle.dmc_tag.proofs.Lists.{all_as, all_next}
+use Rattle.dmc_lemmas.proofs.Lists.{all_as, all_next}
 use Rattle.dmc_ledger.specs.Accounts.{new_book}
 use Rattle.dmc_book.specs.BookState.{AccountsState, WorkerSide, no_desk}
 use Rattle.dmc_book.specs.Consistent.{AreConsistent, AreDesks, AreTokensFit, AreWorkersApart, HasLeft, IsCounted, IsSeated, IsWorker, reaching}

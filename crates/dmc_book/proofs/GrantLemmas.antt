@@ -1,4 +1,4 @@
--- The desks' grants of a phase are together the grants of that phase, where each grant is of a client that has a desk.
+-- The desks' grants of a phase are together the grants of that phase, if each grant is of a client that has a desk.
 use Rattle.std.proofs.Common.{◌≡◌, ℕ, zero, suc, ◌+◌, ◌<◌, ◌&&◌, true, true≢false, List, [], ◌∷◌, length, ap, ◌∙◌, refl, sym, Option, Some, None, slice_index_or, arith}
 use Rattle.std.specs.Prelude.{◌==◌, false, is_some}
 use Rattle.std.specs.List.{AllByRecursion, sum_by}
@@ -13,7 +13,7 @@ use Rattle.dmc_book.specs.Consistent.{AreClientsApart, HasDesk}
 use Rattle.dmc_book.specs.Counts.{count, grant_in, grants_added, is_phase, one_if, phase_grants, units_for, units_in}
 use Rattle.dmc_book.specs.Moves.{desk_place}
 use Rattle.dmc_book.proofs.DeskLemmas.{placed}
-use Rattle.dmc_tag.proofs.Booleans.{eqb_turned}
+use Rattle.dmc_lemmas.proofs.Booleans.{eqb_turned}
 
 -- ---- sums over the desks
 

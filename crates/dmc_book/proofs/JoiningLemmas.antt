@@ -11,11 +11,11 @@ use Rattle.dmc_types.specs.declared.ids.ClientId.{ClientId}
 use Rattle.dmc_types.specs.declared.config.PhaseType.{PhaseType}
 use Rattle.dmc_types.specs.declared.config.PhaseType.TheVariants.{Reservation, Priority}
 use Rattle.dmc_tag.specs.declared.event.Event.{Event}
-use Rattle.dmc_tag.proofs.Lists.{all_as, all_next}
+use Rattle.dmc_lemmas.proofs.Lists.{all_as, all_next}
 use Rattle.dmc_ledger.specs.Accounts.{Account}
 use Rattle.dmc_ledger.specs.Bundles.{ClientSide, client_side}
 use Rattle.dmc_ledger.specs.declared.desk.ClientDesk.{ClientDesk}
-use Rattle.dmc_queue_history.specs.Segmented.{Segmented}
+use Rattle.dmc_shared.specs.Segmented.{Segmented}
 use Rattle.dmc_book.specs.BookState.{AccountsState, WorkerSide, accounts_of, no_desk}
 use Rattle.dmc_book.specs.Consistent.{AreClientsApart, AreConsistent, AreDesks, HasDesk, IsCounted, IsDesk, reaching}
 use Rattle.dmc_book.specs.Counts.{accepted, count, delta_added, grant_in, grants_added, is_phase, one_if, params_for, rho_added, stamps_added, stamps_for, units_for}

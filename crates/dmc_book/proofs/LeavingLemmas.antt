@@ -5,7 +5,7 @@ use Rattle.std.specs.List.{AllByRecursion}
 use Rattle.std.proofs.lemmas.Bool.{le-ltb}
 use Rattle.std.proofs.lemmas.List.{ext_get_or, get_or-map, length-map, length-set}
 use Rattle.dmc_tag.specs.declared.event.Event.{Event}
-use Rattle.dmc_tag.proofs.Lists.{all_as}
+use Rattle.dmc_lemmas.proofs.Lists.{all_as}
 use Rattle.dmc_ledger.specs.Accounts.{Account}
 use Rattle.dmc_ledger.specs.Bundles.{ClientSide, GrantHoldings, client_side}
 use Rattle.dmc_ledger.specs.declared.desk.ClientDesk.{ClientDesk}
@@ -22,7 +22,7 @@ use Rattle.dmc_book.proofs.OpeningLemmas.{names_by_sides}
 use Rattle.dmc_book.proofs.RenewingLemmas.{all_set, apart_set, seated_set, worker_there}
 use Rattle.dmc_book.proofs.SettlingLemmas.{one_open, settled_worker}
 
--- no unit stands at any place
+-- there is no unit at any place
 nothing_at : (units : List GrantHoldings) (k : ℕ) → AllByRecursion HoldsNothing units → HoldsNothing (slice_index_or units k no_unit)
 nothing_at [] k none = record { reservation = refl; priority = refl }
 nothing_at (u ∷ us) zero none = none.0

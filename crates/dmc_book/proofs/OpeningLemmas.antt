@@ -9,9 +9,9 @@ use Rattle.dmc_types.specs.Values.{Setting}
 use Rattle.dmc_types.specs.declared.ids.ClientId.{ClientId}
 use Rattle.dmc_types.specs.declared.ids.WorkerId.{WorkerId}
 use Rattle.dmc_tag.specs.Tag.{Tagging}
-use Rattle.dmc_tag.specs.State.{State, Represents, opening}
+use Rattle.dmc_tag.specs.State.{State, opening}
 use Rattle.dmc_tag.specs.declared.event.Event.{Event}
-use Rattle.dmc_tag.proofs.Lists.{all_append, all_at, all_mapped}
+use Rattle.dmc_lemmas.proofs.Lists.{all_append, all_at, all_mapped}
 use Rattle.dmc_ledger.specs.Accounts.{Account, new_book}
 use Rattle.dmc_ledger.specs.Bundles.{ClientSide, client_side, new_client_side}
 use Rattle.dmc_ledger.specs.declared.desk.ClientDesk.{ClientDesk}
@@ -213,10 +213,7 @@ module _ {T : Type 0} where
 
 -- the queue of an empty history
 pub replayed_new : {T : Type 0} (ops : Tagging T) (q : State T) (config : Setting) → q ≡ opening config → IsReplayed ops q config []
-replayed_new ops q config is = record {
-  represents = subst (λ (s : State _). Represents s (opening config)) (sym is) (record { config = refl; requests = λ id. refl; clients = refl; last_moment = refl });
-  replaying = tt;
-}
+replayed_new ops q config is = record { state = is; replaying = tt }
 
 -- ---- one worker more
 

@@ -6,7 +6,7 @@ use Rattle.std.proofs.lemmas.List.{length-set}
 use Rattle.dmc_tag.specs.declared.event.Event.{Event}
 use Rattle.dmc_ledger.specs.Accounts.{new_book}
 use Rattle.dmc_book.specs.BookState.{AccountsState, WorkerSide, no_desk, no_worker}
-use Rattle.dmc_tag.proofs.Lists.{all_as}
+use Rattle.dmc_lemmas.proofs.Lists.{all_as}
 use Rattle.dmc_book.specs.Consistent.{AreConsistent, AreTokensFit, AreWorkersApart, HasLeft, IsCounted, IsDesk, IsWorker, reaching}
 use Rattle.dmc_book.specs.Counts.{one_if}
 use Rattle.dmc_book.specs.Moves.{IsOpen}
@@ -61,7 +61,7 @@ module _ {T : Type 0} where
     granted = begun _ es w.books.granted.number;
   }
 
-  -- the worker at a place is counted, where it was not dismissed
+  -- the worker at a place is counted, if it was not dismissed
   pub worker_there : (a : AccountsState T) (place : ℕ) → place < length a.workers → IsOpen (slice_index_or a.workers place no_worker) → AreConsistent a → IsWorker a.history (slice_index_or a.workers place no_worker)
   worker_there a place within still h = counted (slice_index_or a.workers place no_worker) still (all_there (λ w. IsWorker a.history w ⊎ HasLeft a.history w) a.workers place within h.workers) where
     counted : (w : WorkerSide) → IsOpen w → IsWorker a.history w ⊎ HasLeft a.history w → IsWorker a.history w

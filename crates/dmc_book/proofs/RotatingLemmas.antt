@@ -3,7 +3,7 @@ use Rattle.std.proofs.Common.{◌≡◌, ℕ, ◌-◌, List, [], ◌∷◌, leng
 use Rattle.std.specs.Prelude.{IfNone, IfSome, IsSome}
 use Rattle.std.specs.List.{AllByRecursion}
 use Rattle.dmc_tag.specs.declared.event.Event.{Event}
-use Rattle.dmc_queue_history.specs.Segmented.{MayRotate, Segmented, after_rotating}
+use Rattle.dmc_shared.specs.Segmented.{MayRotate, Segmented, after_rotating}
 use Rattle.dmc_ledger.specs.Bundles.{ClientSide}
 use Rattle.dmc_book.specs.BookState.{WorkerSide, accounts_of}
 use Rattle.dmc_book.specs.Consistent.{AreConsistent, AreTokensFit}

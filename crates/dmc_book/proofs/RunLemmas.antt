@@ -1,7 +1,6 @@
 -- What was answered or refused, of a command that is no Add.
 use Rattle.std.proofs.Common.{ℕ, zero, suc, ap, ◌≡◌, [], ◌∷◌, slice_index_or, ◌<◌, Bool, true, false, true≢false, List, length, Option, None, refl, sym, subst, ◌∙◌, Result, Ok, Err, arith, inl, inr}
 use Rattle.std.specs.Prelude.{◌==◌, ◌||◌, ◌↔◌, ◌⊎◌, IsTrue, OnOk, OnErr, IfOk, if◌then◌else◌}
-use Rattle.std.specs.Cmp.{IsTotalOrder}
 use Rattle.std.specs.List.{AllByRecursion, list_any}
 use Rattle.std.proofs.lemmas.Bool.{eq-eqb, true_from_ne_false}
 use Rattle.dmc_types.specs.declared.ids.ClientId.{ClientId}
@@ -24,8 +23,8 @@ use Rattle.dmc_book.specs.declared.fault.RunOrRange.TheVariants as pull
 use Rattle.dmc_book.specs.BookState.{BookState, PassState, WorkerSide, no_worker}
 use Rattle.dmc_book.specs.Calls.{Asks, HasNoPlace, Ran, WasPulled, asked, lacks_desk, reply_to, run_cause}
 use Rattle.dmc_book.specs.Consistent.{AreWorkersApart, IsReplayed, IsSeated}
-use Rattle.dmc_tag.proofs.Booleans.{eqb_turned}
-use Rattle.dmc_tag.proofs.Lists.{all_as}
+use Rattle.dmc_lemmas.proofs.Booleans.{eqb_turned}
+use Rattle.dmc_lemmas.proofs.Lists.{all_as}
 use Rattle.dmc_book.proofs.RenewingLemmas.{all_there}
 use Rattle.dmc_book.specs.Counts.{accepted, is_tagged}
 use Rattle.dmc_book.specs.Moves.{IsEnrolled, takes}
@@ -72,13 +71,13 @@ module _ {T : Type 0} (ops : Tagging T) (old : BookState T) (before : PassState)
   unreserved reserve.Memory full no_place = (refl, refl, enrolled, has_desk, (λ f. absurd (memory_is_not_full (full.1 f))), inr (no_place refl))
 
   -- the queue was not asked, or answered nothing
-  pub unasked : (order : IsTotalOrder ops.compare) (q p : State T) → IsReplayed ops q old.config old.history → length old.history < old.most → (e : RunFault)
+  pub unasked : (q p : State T) → IsReplayed ops q old.config old.history → length old.history < old.most → (e : RunFault)
       → Asks ops (IsBehind ops old before command) (takes old.desks before.clients before.units) q p command (Err e) → Runs ops old before command old before (Err e)
-  unasked order q p known fewer run.Stranger a = (refl, refl, λ k. (has_desk, (λ full. omega (arith, fewer, full)), strays_by_history ops order (IsBehind ops old before command) (takes old.desks before.clients before.units) q p old.config old.history command known a.1, a.2))
-  unasked order q p known fewer run.Behind a = (refl, refl, enrolled, has_desk, (λ full. omega (arith, fewer, full)), strays_by_history ops order (IsBehind ops old before command) (takes old.desks before.clients before.units) q p old.config old.history command known a.1, a.2)
-  unasked order q p known fewer run.NoDesk a = absurd a
-  unasked order q p known fewer run.HistoryFull a = absurd a
-  unasked order q p known fewer run.Memory a = (refl, refl, enrolled, has_desk, (λ full. omega (arith, fewer, full)), inl a.0)
+  unasked q p known fewer run.Stranger a = (refl, refl, λ k. (has_desk, (λ full. omega (arith, fewer, full)), strays_by_history ops (IsBehind ops old before command) (takes old.desks before.clients before.units) q p old.config old.history command known a.1, a.2))
+  unasked q p known fewer run.Behind a = (refl, refl, enrolled, has_desk, (λ full. omega (arith, fewer, full)), strays_by_history ops (IsBehind ops old before command) (takes old.desks before.clients before.units) q p old.config old.history command known a.1, a.2)
+  unasked q p known fewer run.NoDesk a = absurd a
+  unasked q p known fewer run.HistoryFull a = absurd a
+  unasked q p known fewer run.Memory a = (refl, refl, enrolled, has_desk, (λ full. omega (arith, fewer, full)), inl a.0)
 
 module _ {T : Type 0} (ops : Tagging T) (old new : BookState T) (before later : PassState) (command : Command) where
   pub ran_if_ok : (r : Result (Reply T) RunFault) → Runs ops old before command new later r → IfOk r (λ reply. Ran ops old new before later command reply)

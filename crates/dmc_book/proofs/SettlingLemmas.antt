@@ -14,7 +14,7 @@ use Rattle.dmc_book.specs.Counts.{one_if}
 use Rattle.dmc_book.specs.Moves.{AreOf, IsEnrolled}
 use Rattle.dmc_book.specs.Settling.{AreDeskUnits, AreSettledDesks, AreUnitsTakenIn, IsDeskTakenIn, IsGathered, IsSettledBook, IsSettledWorker, IsTakenIn, closed_accounts, closed_worker, left_in, open_passes}
 use Rattle.dmc_book.specs.internal.Settling.{AreOneOpen, ArePassesTakenIn, IsOpenOrShut, IsShut, having}
-use Rattle.dmc_tag.proofs.Lists.{all_append, all_as, all_at, all_mapped}
+use Rattle.dmc_lemmas.proofs.Lists.{all_append, all_as, all_at, all_mapped}
 use Rattle.dmc_book.proofs.OpeningLemmas.{all_popped, seam, split, taken}
 
 -- ---- one after the other
@@ -121,7 +121,7 @@ none_open n h = by_case (cases_lt 0 n) where
   by_case (inl some) = (let one : one_if (nat_lt 0 n) ≡ 1 = ap one_if (lt-ltb 0 n some) in absurd (omega (arith, h, one)))
   by_case (inr most) = omega (arith, most)
 
--- and where none is open, all are
+-- and if none is open, all are
 all_shut : (w v : WorkerSide) → (v ≡ w) ⊎ (v ≡ closed_worker w) → IsOpenOrShut w → v.books.calls.open_tills ≡ 0 → v ≡ closed_worker w
 all_shut w v (inl same) (inl one) none = (let e : v.books.calls.open_tills ≡ w.books.calls.open_tills = ap (λ (x : WorkerSide). x.books.calls.open_tills) same in absurd (omega (arith, one.calls, none, e)))
 all_shut w v (inl same) (inr shut) none = same ∙ sym shut.closed

@@ -5,8 +5,7 @@ use Rattle.dmc_types.specs.declared.ids.Token.{Token}
 use Rattle.dmc_tag.specs.Tag.{Tagging}
 use Rattle.dmc_history.specs.declared.ReserveFault.{ReserveFault}
 use Rattle.dmc_history.specs.declared.ReserveFault.TheVariants as reserve
-use Rattle.dmc_ledger.specs.Bundles.{StampHoldings}
-use Rattle.dmc_tlock.specs.BookState.{StampValue}
+use Rattle.dmc_ledger.specs.Bundles.{StampHoldings, StampValue}
 use Rattle.dmc_book.specs.BookState.{BookState, PassState}
 use Rattle.dmc_book.specs.Calls.{IsForDesk, submit_cause}
 use Rattle.dmc_book.specs.Moves.{IsEnrolled}

@@ -11,8 +11,8 @@ use Rattle.dmc_book.specs.BookState.{WorkerAccounts, WorkerSide, worker_side, wo
 use Rattle.dmc_book.specs.Consistent.{AreWorkersApart}
 use Rattle.dmc_book.specs.Moves.{worker_after, books_after}
 use Rattle.dmc_book.specs.declared.seat.Seat.{Seat}
-use Rattle.dmc_tag.proofs.Lists.{map_unmoved, all_as}
-use Rattle.dmc_tag.proofs.Booleans.{eqb_turned}
+use Rattle.dmc_lemmas.proofs.Lists.{map_unmoved, all_as}
+use Rattle.dmc_lemmas.proofs.Booleans.{eqb_turned}
 
 pub issue_none : (a : Account) → after_issue 0 a ≡ a
 issue_none a = let e : a.held + 0 ≡ a.held = omega arith in ap (λ (n : ℕ). record a { held = n }) e

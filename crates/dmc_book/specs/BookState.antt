@@ -4,10 +4,9 @@ use Rattle.std.specs.Arc.{arc_value}
 use Rattle.dmc_types.specs.Values.{Setting}
 use Rattle.dmc_types.specs.declared.ids.ClientId.{ClientId}
 use Rattle.dmc_tag.specs.declared.event.Event.{Event}
-use Rattle.dmc_queue_history.specs.Segmented.{Segmented}
-use Rattle.dmc_ledger.specs.Accounts.{Account, Holding}
+use Rattle.dmc_shared.specs.Segmented.{Segmented}
+use Rattle.dmc_ledger.specs.Accounts.{Account, Holding, no_account, no_holding}
 use Rattle.dmc_ledger.specs.Bundles.{ClientSide, GrantHoldings, grant_holdings}
-use Rattle.dmc_tlock.specs.BookState.{no_account, no_holding}
 use Rattle.dmc_book.specs.declared.seat.WorkerBooks.{WorkerBooks}
 use Rattle.dmc_book.specs.declared.seat.WorkerTills.{WorkerTills}
 use Rattle.dmc_book.specs.declared.seat.Seat.{Seat}

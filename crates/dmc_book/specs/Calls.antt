@@ -18,8 +18,7 @@ use Rattle.dmc_tag.specs.declared.reply.Reply.TheVariants.{Refused}
 use Rattle.dmc_history.specs.Log.{FillBlocks}
 use Rattle.dmc_history.specs.declared.ReserveFault.{ReserveFault}
 use Rattle.dmc_history.specs.declared.ReserveFault.TheVariants as reserve
-use Rattle.dmc_ledger.specs.Bundles.{ClientSide, StampHoldings}
-use Rattle.dmc_tlock.specs.BookState.{StampValue}
+use Rattle.dmc_ledger.specs.Bundles.{ClientSide, StampHoldings, StampValue}
 use Rattle.dmc_pull.specs.Allowed.{is_allowed}
 use Rattle.dmc_book.specs.declared.fault.RunFault.{RunFault}
 use Rattle.dmc_book.specs.declared.fault.RunFault.TheVariants as run

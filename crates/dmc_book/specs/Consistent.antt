@@ -1,15 +1,15 @@
 -- What holds of all accounts, and of every queue's book: the invariants of their types.
-use Rattle.std.specs.Prelude.{◌≡◌, ℕ, ◌+◌, ◌-◌, ◌*◌, ◌^◌, ◌<◌, ◌≤◌, ◌==◌, ◌⊎◌, nat_lt, true, false, List, [], ◌∷◌, drop, length, Option, Some, None, is_some, slice_index_or, ⊤}
+use Rattle.std.specs.Prelude.{◌≡◌, ℕ, ◌+◌, ◌*◌, ◌^◌, ◌<◌, ◌≤◌, ◌==◌, ◌⊎◌, nat_lt, true, false, List, [], ◌∷◌, drop, length, Option, Some, None, is_some, slice_index_or, ⊤}
 use Rattle.std.specs.List.{AllByRecursion, list_any}
 use Rattle.dmc_types.specs.Limits.{max_events, max_workers}
 use Rattle.dmc_types.specs.Values.{Setting}
 use Rattle.dmc_types.specs.declared.ids.ClientId.{ClientId}
 use Rattle.dmc_types.specs.declared.config.PhaseType.TheVariants.{Reservation, Priority}
 use Rattle.dmc_tag.specs.Tag.{Tagging}
-use Rattle.dmc_tag.specs.State.{State, Represents}
+use Rattle.dmc_tag.specs.State.{State}
 use Rattle.dmc_tag.specs.Replay.{after, replays}
 use Rattle.dmc_tag.specs.declared.event.Event.{Event}
-use Rattle.dmc_history.specs.Segments.{max_released}
+use Rattle.dmc_shared.specs.Segmented.{max_released}
 use Rattle.dmc_ledger.specs.Accounts.{Account, total_of}
 use Rattle.dmc_ledger.specs.Bundles.{ClientSide}
 use Rattle.dmc_book.specs.BookState.{AccountsState, WorkerAccounts, WorkerSide, no_desk}
@@ -98,9 +98,9 @@ pub record AreConsistent {T : Type 0} (a : AccountsState T) : Type 0 where
   pub limit : a.most ≤ a.first + max_events
   pub few_workers : length a.workers ≤ max_workers
 
--- The history replays, and the queue represents the state after it.
+-- The history replays, and the queue's state is the one after it.
 pub record IsReplayed {T : Type 0} (ops : Tagging T) (queue : State T) (config : Setting) (history : List (Event T)) : Type 0 where
-  pub represents : Represents queue (after ops config history)
+  pub state : queue ≡ after ops config history
   pub replaying : replays ops config history
 
 -- none of the totals is past a bound

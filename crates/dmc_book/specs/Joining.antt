@@ -34,7 +34,7 @@ reach_at place ws = (slice_index_or ws place no_worker).reach
 abbrev pub with_reach : ℕ → ℕ → List WorkerSide → List WorkerSide
 with_reach place n ws = slice_set ws place (record (slice_index_or ws place no_worker) { reach = n })
 
--- the desks, where those from a place on have a till more
+-- the desks, if those from a place on have a till more
 abbrev pub desks_from : ℕ → List ClientSide → List ClientSide
 desks_from n ds = take n ds ++ map (desk_with_tills 1) (drop n ds)
 

@@ -2,8 +2,7 @@
 -- `enrol` it does not offer.
 use Rattle.std.specs.Prelude.{◌≡◌, ◌≤◌, ℕ, ◌+◌, List, ◌++◌, map}
 use Rattle.dmc_tag.specs.declared.event.Event.{Event}
-use Rattle.dmc_ledger.specs.Bundles.{ClientSide}
-use Rattle.dmc_tlock.specs.Later.{DeskNumbers}
+use Rattle.dmc_shared.specs.Later.{desk_numbers}
 use Rattle.dmc_book.specs.BookState.{BookState, WorkerSide}
 
 -- the worker, and the numbers of its five books
@@ -23,17 +22,6 @@ worker_numbers w = record {
   tokens = w.books.tokens.number;
   grants = w.books.grants.number;
   granted = w.books.granted.number;
-}
-
-abbrev pub desk_numbers : ClientSide → DeskNumbers
-desk_numbers desk = record {
-  client = desk.client;
-  server = desk.server;
-  stamps = desk.held.stamps.number;
-  delta = desk.held.delta.number;
-  rho = desk.held.rho.number;
-  reservation = desk.books.reservation.number;
-  priority = desk.books.priority.number;
 }
 
 -- Every call but a rotation leaves the configuration, the server, how many events were released, how many there may be until more

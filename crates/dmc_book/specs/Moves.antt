@@ -1,5 +1,5 @@
 -- What an event moves in a book and in the pass of its worker.
-use Rattle.std.specs.Prelude.{◌≡◌, ℕ, ◌-◌, ◌<◌, ◌==◌, Bool, false, if◌then◌else◌, List, [], ◌∷◌, ◌++◌, map, length, Option, Some, None, slice_get, slice_index_or, slice_set}
+use Rattle.std.specs.Prelude.{◌≡◌, ℕ, ◌<◌, ◌==◌, Bool, false, if◌then◌else◌, List, [], ◌∷◌, ◌++◌, map, length, Option, Some, None, slice_get, slice_index_or, slice_set}
 use Rattle.std.specs.List.{position}
 use Rattle.dmc_types.specs.declared.ids.ClientId.{ClientId}
 use Rattle.dmc_types.specs.declared.config.PhaseType.{PhaseType}
@@ -74,7 +74,7 @@ abbrev pub units_after : List ClientId → Option (ClientId × PhaseType) → Li
 units_after names None units = units
 units_after names (Some grant) units = unit_at grant.1 (place_of grant.0.0 names) units
 
--- the worker's pass after this reply to its command: of a grant it has the unit where it names the client
+-- the worker's pass after this reply to its command: of a grant it has the unit if it names the client
 abbrev pub pass_after : {T : Type 0} → Command → Reply T → PassState → PassState
 pass_after command reply p = record p {
   tills = tills_after (numbers_of command reply) p.tills;
@@ -112,7 +112,7 @@ abbrev pub takes_at : PhaseType → List ClientSide → List GrantHoldings → O
 takes_at phase desks units None = false
 takes_at phase desks units (Some i) = is_unit_of phase (slice_get desks i) (slice_get units i)
 
--- a place, where it is found and the other is the same one
+-- a place, if it is found and the other is the same one
 abbrev pub same_place : Option ℕ → Option ℕ → Option ℕ
 same_place None o = None
 same_place (Some i) None = None

@@ -1,7 +1,7 @@
 -- A queue's book that releases events.
 use Rattle.std.specs.Prelude.{ℕ, ◌+◌, ◌-◌, ◌<◌, ◌≤◌, ◌^◌, List, length}
 use Rattle.std.specs.List.{AllByRecursion}
-use Rattle.dmc_history.specs.Segments.{max_released}
+use Rattle.dmc_shared.specs.Segmented.{max_released}
 use Rattle.dmc_queue_history.specs.Segmented.{SegmentState}
 use Rattle.dmc_ledger.specs.Accounts.{total_of}
 use Rattle.dmc_book.specs.BookState.{BookState, WorkerAccounts, WorkerSide}

@@ -94,7 +94,7 @@ pub record IsDeskTakenIn (tills reservation priority : ℕ) (old new : ClientSid
   pub reservations : IsTakenIn tills reservation old.books.reservation new.books.reservation
   pub priorities : IsTakenIn tills priority old.books.priority new.books.priority
 
--- each desk gathered its tills of these, where there are some
+-- each desk gathered its tills of these, if there are some
 pub record AreUnitsTakenIn (units : List GrantHoldings) (old new : List ClientSide) : Type 0 where
   pub as_many : length new ≡ length old
   pub each : (k : ℕ) → k < length old

@@ -1,7 +1,8 @@
+-- Room that is made for a pass.
 pub mod Rooms
--- The effect of a command that is no Add.
+-- What a command that is no Add does.
 pub mod Runs
--- The effect of a submit, and the desk of its stamp.
+-- What a submit does, and if it finds the desk of its stamp.
 pub mod Submits
 -- The accounts after an event.
 pub mod Moves

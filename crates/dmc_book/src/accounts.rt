@@ -27,12 +27,13 @@ use dmc_history::ReserveFault;
 use dmc_ledger::bundle::StampTills;
 use dmc_ledger::desk::ClientDesk;
 use dmc_ledger::setup::Setup;
+use dmc_ledger::stamp::Stamp;
+use dmc_queue_history::history::AddedRequest;
 use dmc_queue_history::segment::Segment;
 use dmc_queue_history::segmented::SegmentedHistory;
 use dmc_tag::event::Event;
 use dmc_tag::reply::{Reply, Tags};
 use dmc_tag::tag::Tag;
-use dmc_tlock::stamp::Stamp;
 use dmc_types::command::Command;
 use dmc_types::config::QueueConfig;
 use dmc_types::ids::{ClientId, ServerId, Token};
@@ -125,8 +126,8 @@ impl<T: Tag, S: Setup> Accounts<T, S> {
         self.history.len()
     }
 
-    /// Reserves the place of the next event: refused `HistoryFull` exactly where it keeps as many as it may, then `Memory`,
-    /// which comes only where the events that are kept fill their blocks.
+    /// Reserves the place of the next event: refused `HistoryFull` exactly if it keeps as many as it may, then `Memory`,
+    /// which comes only if the events that are kept fill their blocks.
     #[inline(always)]
     pub(crate) fn reserve(&mut self) -> Result<(), ReserveFault>
         ensures ok { OnOk result (0 < self.new.room) }
@@ -200,8 +201,14 @@ impl<T: Tag, S: Setup> Accounts<T, S> {
         };
         count(&mut self.workers, pass.place, &mut pass.tills, &event);
         take_stamp(&mut self.desks[desk].held, tills, params);
-        self.history
-            .push_queued(pass.worker, client, token, params, at, tags);
+        self.history.push_reserved(AddedRequest {
+            worker: pass.worker,
+            client,
+            token,
+            params,
+            at,
+            tags,
+        });
     }
 
     /// Begins the sums of a worker's tokens anew: what they were, which is what the pass held.
@@ -216,7 +223,7 @@ impl<T: Tag, S: Setup> Accounts<T, S> {
         renew_seat(&mut self.workers[pass.place], &mut pass.tills, events)
     }
 
-    /// Releases the events that are kept, of a queue of this configuration. `None`, and nothing changes, where more than 2^62
+    /// Releases the events that are kept, of a queue of this configuration. `None`, and nothing changes, if more than 2^62
     /// events were recorded, a sum of a worker's tokens is past 2^62, or the accounts are settled.
     pub(crate) fn rotate(&mut self, config: QueueConfig) -> Option<Segment<T, S>>
         requires { replays T.ops config self.old.history }
@@ -230,6 +237,7 @@ impl<T: Tag, S: Setup> Accounts<T, S> {
         if !are_low(&self.workers) {
             return None;
         }
-        self.history.rotate(config, self.server)
+        let part = self.history.rotate()?;
+        Some(Segment::new(config, self.server, part))
     }
 }

@@ -74,7 +74,7 @@ fn fault_of_declined<T: Tag, S: Setup>(accounts: &Accounts<T, S>, pass: &WorkerP
     RunFault::Stranger
 }
 
-/// Pulls, where the pass has a till for the grant. The pass keeps the place of a granted client's desk.
+/// Pulls, if the pass has a till for the grant. The pass keeps the place of a granted client's desk.
 #[inline(always)]
 pub(crate) fn ask_to_pull<T: Tag, I: Indexes<T>, S: Setup>(
     queue: &mut PullQueue<T, I>,
@@ -103,7 +103,7 @@ pub(crate) fn reply_of<T>(answer: Result<Pulled, RunOrRange>) -> Result<Reply<T>
     }
 }
 
-/// Hands a command that is not an Add to the queue. The pass keeps the place of a granted client's desk.
+/// Runs any command but an Add at the queue. The pass keeps the place of a granted client's desk.
 pub(crate) fn ask<T: Tag, I: Indexes<T>, S: Setup>(
     queue: &mut PullQueue<T, I>,
     accounts: &Accounts<T, S>,

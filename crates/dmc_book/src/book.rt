@@ -3,6 +3,7 @@ ghost use Rattle.std.specs.Prelude.{◌≡◌, ◌<◌, ◌≤◌, ◌+◌, ◌*
 ghost use Rattle.std.specs.List.{AllByRecursion};
 ghost use Rattle.dmc_types.specs.Limits.{max_events, max_workers};
 ghost use Rattle.dmc_ledger.specs.Bundles.{client_side};
+ghost use Rattle.dmc_tag.specs.State.{queued_requests};
 ghost use Rattle.dmc_tag.specs.Replay.{after, replays};
 ghost use Rattle.dmc_tag.specs.Steps.{may_grow};
 ghost use Rattle.dmc_book.specs.BookState.{pass_state, worker_side};
@@ -29,20 +30,19 @@ use dmc_ledger::mint::Mint;
 use dmc_ledger::setup::Setup;
 use dmc_pull::queue::PullQueue;
 use dmc_queue_history::segment::Segment;
+use dmc_shared::witness::Lasting;
 use dmc_tag::reply::Reply;
 use dmc_tag::scheduler::Scheduler;
 use dmc_tag::tag::Tag;
-use dmc_tlock::witness::Lasting;
 use dmc_types::command::Command;
 use dmc_types::config::QueueConfig;
 use dmc_types::ids::{ServerId, WorkerId};
 use std::alloc::Global;
 use std::marker::Model;
 
-/// A part of a book. A struct that is generic in indexes has a rule for letting it go, as generic code does, where such a
-/// part is held behind a type parameter.
+/// Wrapper without bounds: the toolchain cannot drop a struct generic in `Indexes` that holds this field directly.
 #[derive(Drop)]
-pub(crate) struct Part<P>(pub(crate) P);
+pub(crate) struct Droppable<P>(pub(crate) P);
 
 /// A server's queue with its history, five books for each enrolled worker, and a desk for each client.
 ///
@@ -52,7 +52,7 @@ pub(crate) struct Part<P>(pub(crate) P);
 #[derive(Drop)]
 pub struct QueueBook<T: Tag, I: Indexes<T>, S: Setup> {
     pub(crate) config: QueueConfig,
-    pub(crate) queue: Part<PullQueue<T, I>>,
+    pub(crate) queue: Droppable<PullQueue<T, I>>,
     pub(crate) accounts: Accounts<T, S>,
     pub(crate) closed: bool,
 }
@@ -81,7 +81,7 @@ impl<T: Tag, I: Indexes<T>, S: Setup> QueueBook<T, I, S> {
     /// at most `most` events (1 to 2^30). The mint gives five numbers to each worker, and one to the history.
     ///
     /// Refused `Limit`, `Twice`, `Memory`, with the desks returned and the mint as it was. Names are compared in memory that
-    /// is allocated for it: where there is none, names that are there twice are refused `Memory`.
+    /// is allocated for it: if there is none, names that are there twice are refused `Memory`.
     pub fn new(
         alloc: Global,
         config: QueueConfig,
@@ -114,7 +114,7 @@ impl<T: Tag, I: Indexes<T>, S: Setup> QueueBook<T, I, S> {
         let (accounts, passes) = open_accounts(server, workers, desks, mint, parts);
         let book = QueueBook {
             config,
-            queue: Part(PullQueue::new(alloc, config)),
+            queue: Droppable(PullQueue::new(alloc, config)),
             accounts,
             closed: false,
         };
@@ -128,7 +128,7 @@ impl<T: Tag, I: Indexes<T>, S: Setup> QueueBook<T, I, S> {
         self.closed = true;
     }
 
-    /// What the pass holds of the worker's counts, and the book's numbers; refused `Stranger` where the pass is of no worker
+    /// What the pass holds of the worker's counts, and the book's numbers; refused `Stranger` if the pass is of no worker
     /// that is enrolled here, or its tills are not of that worker's books.
     pub fn status(&self, pass: &WorkerPass<S>) -> Result<Status, RunFault>
         ensures status { IfOk result (λ status. IsStatusOf T.ops self.now (pass_state pass.now).tills status) }
@@ -153,12 +153,12 @@ impl<T: Tag, I: Indexes<T>, S: Setup> QueueBook<T, I, S> {
     }
 
     /// Passes a command that is not an Add to the queue, and records its reply, refusals included. It adds
-    /// one to the worker's calls, one to its misses where the reply is Later, Nothing or Refused, and of a grant one unit of
+    /// one to the worker's calls, one to its misses if the reply is Later, Nothing or Refused, and of a grant one unit of
     /// its client and phase to the pass.
     ///
     /// Refused, with nothing recorded: `Stranger`, `Behind`, `NoDesk`, `HistoryFull`, `Memory`. A pull that would grant a request
-    /// whose unit the pass has no till for is `Behind` where desks came after the pass, else `Stranger`; that is seen once the
-    /// place of the event is made. `Memory` comes only of a Register, or where the events that are kept fill their blocks of
+    /// whose unit the pass has no till for is `Behind` if desks came after the pass, else `Stranger`; that is seen once the
+    /// place of the event is made. `Memory` comes only of a Register, or if the events that are kept fill their blocks of
     /// 1,024, or there are none: else the event has its place already, and needs no allocation.
     pub fn run(&mut self, pass: &mut WorkerPass<S>, command: Command) -> Result<Reply<T>, RunFault>
         requires { is_add command ≡ false }
@@ -185,7 +185,7 @@ impl<T: Tag, I: Indexes<T>, S: Setup> QueueBook<T, I, S> {
         self.hand_on(pass, command)
     }
 
-    /// Hands a command on to the queue: see `run`.
+    /// Runs a command at the queue and records its reply: see `run`.
     fn hand_on(&mut self, pass: &mut WorkerPass<S>, command: Command) -> Result<Reply<T>, RunFault>
         requires { is_add command ≡ false }
         ensures { Runs T.ops self.old (pass_state pass.old) command self.new (pass_state pass.new) result }
@@ -218,7 +218,7 @@ impl<T: Tag, I: Indexes<T>, S: Setup> QueueBook<T, I, S> {
         ensures emptied { OnOk result (self.new ≡ after_settling self.old) }
         ensures history { IfOk result (λ settled. settled.history.events ≡ drop self.old.first self.old.history) }
         ensures replays { OnOk result (replays T.ops self.old.config self.old.history) }
-        ensures left { IfOk result (λ settled. settled.left ≡ length (after T.ops self.old.config self.old.history).requests) }
+        ensures left { IfOk result (λ settled. settled.left ≡ length (queued_requests (after T.ops self.old.config self.old.history).clients)) }
         ensures workers { IfOk result (λ settled. map worker_side settled.workers.items ≡ map closed_worker self.old.workers) }
         ensures counts { IfOk result (λ settled. AllByRecursion (IsSettledWorker self.old.history) (map worker_side settled.workers.items)) }
         ensures desks { IfOk result (λ settled.
@@ -238,14 +238,14 @@ impl<T: Tag, I: Indexes<T>, S: Setup> QueueBook<T, I, S> {
         ensures history { result.history.events ≡ drop self.old.first self.old.history }
         ensures few { length result.history.events ≤ max_events }
         ensures replays { replays T.ops self.old.config self.old.history }
-        ensures left { result.left ≡ length (after T.ops self.old.config self.old.history).requests }
+        ensures left { result.left ≡ length (queued_requests (after T.ops self.old.config self.old.history).clients) }
         ensures workers { map worker_side result.workers.items ≡ map closed_worker self.old.workers }
         ensures counts { AllByRecursion (IsSettledWorker self.old.history) (map worker_side result.workers.items) }
         ensures desks { AreSettledDesks self.old.history (map pass_state passes.items) self.old.desks (map client_side result.desks.items) }
         ensures grants { AreGrantsOfDesks self.old.history self.old.desks }
     {
         let left = self.queue.0.request_count();
-        self.queue = Part(PullQueue::new(alloc, self.config));
+        self.queue = Droppable(PullQueue::new(alloc, self.config));
         self.accounts.settle(alloc, passes, left)
     }
 
@@ -253,7 +253,7 @@ impl<T: Tag, I: Indexes<T>, S: Setup> QueueBook<T, I, S> {
     /// which is what the pass held. For these two books `status`, `settle` and the law of counts speak of the events since then.
     /// So sums of large tokens do not keep events from being released.
     ///
-    /// Refused `Stranger`, with nothing changed, where the pass is of no worker that is enrolled here, or its tills are not of
+    /// Refused `Stranger`, with nothing changed, if the pass is of no worker that is enrolled here, or its tills are not of
     /// that worker's books.
     pub fn renew(&mut self, pass: &mut WorkerPass<S>) -> Result<(u64, u64), RunFault>
         ensures tokens { IfOk result (λ sums. sums.0 ≡ (pass_state pass.old).tills.tokens.amount) }
@@ -274,7 +274,7 @@ impl<T: Tag, I: Indexes<T>, S: Setup> QueueBook<T, I, S> {
     /// Releases the events recorded since the last release, in a time that grows with the number of workers and
     /// not with that of events. It does not allocate. The book goes on with none of them kept.
     ///
-    /// `None`, and nothing changes, exactly where more than 2^62 events were recorded, a worker's sum of tokens (added, or
+    /// `None`, and nothing changes, exactly if more than 2^62 events were recorded, a worker's sum of tokens (added, or
     /// granted) is past 2^62, or the book is settled.
     pub fn rotate(&mut self) -> Option<Segment<T, S>>
         ensures segment { IfSome result (λ segment. segment ≡ segment_of self.old) }

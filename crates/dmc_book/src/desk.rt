@@ -21,11 +21,11 @@ use crate::seat::credit;
 use dmc_ledger::bundle::{GrantBooks, GrantTills, StampTills};
 use dmc_ledger::desk::ClientDesk;
 use dmc_ledger::setup::Setup;
+use dmc_ledger::stamp::Stamp;
 use dmc_ledger::till::shift_till;
 use dmc_pull::granting::GrantTest;
 use dmc_tag::event::Event;
 use dmc_tag::tag::Tag;
-use dmc_tlock::stamp::Stamp;
 use dmc_types::config::PhaseType;
 use dmc_types::ids::{ClientId, ServerId};
 use dmc_types::params::ReqParams;
@@ -104,7 +104,7 @@ fn issue_unit<S: Setup>(books: &mut GrantBooks<S>, unit: &mut GrantTills<S>, pha
     }
 }
 
-/// Issues the unit of a grant at the desk of its client, and into the till where the pass names the client, who is looked for
+/// Issues the unit of a grant at the desk of its client, and into the till if the pass names the client, who is looked for
 /// at the hint first.
 #[inline(always)]
 pub(crate) fn hand_out<T: Copy, S: Setup>(
@@ -140,8 +140,8 @@ fn are_alike<S: Setup>(tills: &StampTills<S>, held: &StampTills<S>) -> bool
         && tills.rho.number() == held.rho.number()
 }
 
-/// The place of the desk of a stamp's client, where the stamp is for this server and the tills are of the books of that
-/// desk's stamps. It is looked for where one was found last.
+/// The place of the desk of a stamp's client, if the stamp is for this server and the tills are of the books of that
+/// desk's stamps. It is looked for if one was found last.
 #[inline(always)]
 pub(crate) fn find_stamps<S: Setup>(
     clients: &IndexSet<ClientId>,

@@ -93,7 +93,7 @@ fn is_seated<S: Setup>(workers: &[Seat<S>], worker: WorkerId) -> bool
     false
 }
 
-/// Why a worker is not enrolled, but for a failed allocation, where the mint has this many books left.
+/// Why a worker is not enrolled, but for a failed allocation, if the mint has this many books left.
 fn fault_against<S: Setup>(workers: &[Seat<S>], worker: WorkerId, left: u64) -> Option<EnrolFault>
     ensures cause { IfSome result (IsAgainstWorker (map worker_side workers.now) left worker) }
     ensures others { IsNone result → IsAgainstWorker (map worker_side workers.now) left worker EnrolFault.Memory }

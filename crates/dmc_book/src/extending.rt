@@ -26,7 +26,7 @@ use std::alloc::{AllocError, Global};
 use std::sync::Arc;
 
 impl<T: Tag, I: Indexes<T>, S: Setup> QueueBook<T, I, S> {
-    /// Opens tills of the desks that came after the pass, which has then tills of each desk. A worker calls it where its pull is
+    /// Opens tills of the desks that came after the pass, which has then tills of each desk. A worker calls it if its pull is
     /// refused `Behind`, and pulls again. It takes a time, and memory, that grow with the number of desks.
     ///
     /// Refused `Stranger`, `Memory`, with nothing changed.

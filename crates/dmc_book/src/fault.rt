@@ -2,7 +2,7 @@
 use dmc_history::ReserveFault;
 use dmc_ledger::desk::ClientDesk;
 use dmc_ledger::setup::Setup;
-use dmc_tlock::stamp::Stamp;
+use dmc_ledger::stamp::Stamp;
 use dmc_types::refusal::Refusal;
 use std::alloc::AllocError;
 use thiserror::Error;
@@ -10,8 +10,8 @@ use thiserror::Error;
 /// Why a command was not passed to the queue. Nothing has changed (extension).
 #[derive(Clone, Copy, Debug, PartialEq, Eq, Error)]
 pub enum RunFault {
-    /// The pass is of no worker that is enrolled here, or its tills are not of that worker's books; or the rules would
-    /// grant a request whose unit the pass has no till for, though it has tills of as many desks as there are.
+    /// The pass is of no worker that is enrolled here, or its tills are not of that worker's books; or the pass has tills
+    /// for every desk, but the one for this client belongs to another book.
     #[error("the pass or a till is of other books")]
     Stranger,
     /// The rules would grant a request whose unit the pass has no till for, and desks came after the pass: `extend` it.

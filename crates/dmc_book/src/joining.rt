@@ -71,7 +71,7 @@ impl<T: Tag, S: Setup> Accounts<T, S> {
         None
     }
 
-    /// Puts the desk of a client behind the others, or returns it where an allocation failed.
+    /// Puts the desk of a client behind the others, or returns it if an allocation failed.
     fn admit(&mut self, desk: ClientDesk<S>) -> Result<(), ClientDesk<S>>
         requires { IsAgainst self.old.server self.old.desks (client_side desk) AdmitCause.Memory }
         ensures admitted { OnOk result (self.new ≡ accounts_admitted (client_side desk) self.old) }

@@ -23,7 +23,7 @@ pub fn history_replays<T: Tag, I: Indexes<T>, S: Setup>(book: &QueueBook<T, I, S
     let _ = &book.queue;
 }
 
-/// The counts: the five books of each worker total its counts over the history, or were gathered at them where it was
+/// The counts: the five books of each worker total its counts over the history, or were gathered at them if it was
 /// dismissed; and each desk holds the stamps, deltas and
 /// rhos of its client's accepted adds and totals its grants of each phase.
 pub fn history_is_counted<T: Tag, I: Indexes<T>, S: Setup>(book: &QueueBook<T, I, S>)
@@ -43,7 +43,7 @@ pub fn grants_are_of_desks<T: Tag, I: Indexes<T>, S: Setup>(book: &QueueBook<T, 
     let _ = &accounts.desks;
 }
 
-/// The length: the history has at most `most` events, where those that were released count in both numbers. So a book of which
+/// The length: the history has at most `most` events, if those that were released count in both numbers. So a book of which
 /// nothing was released has no more events than the `most` that it was made with.
 pub fn history_keeps_to_most<T: Tag, I: Indexes<T>, S: Setup>(book: &QueueBook<T, I, S>)
     ensures { length book.now.history ≤ book.now.most }
@@ -53,7 +53,7 @@ pub fn history_keeps_to_most<T: Tag, I: Indexes<T>, S: Setup>(book: &QueueBook<T
 }
 
 /// The bound of the limits: from an accepted add of a client, a_i, to a grant of a_k in phase Priority, not beyond, hz times the
-/// deltas of a_(i+1) .. a_k are at most the limit times the ticks between, where no Register and no Update of the client is
+/// deltas of a_(i+1) .. a_k are at most the limit times the ticks between, if no Register and no Update of the client is
 /// accepted between.
 pub fn history_keeps_to_limits<T: Tag, I: Indexes<T>, S: Setup>(book: &QueueBook<T, I, S>)
     ensures { KeepsToLimits T.ops book.now.config book.now.history }

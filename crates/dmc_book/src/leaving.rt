@@ -18,7 +18,7 @@ impl<T: Tag, I: Indexes<T>, S: Setup> QueueBook<T, I, S> {
     /// Dismisses a worker: its pass is gathered. Its counts stay, and `settle` returns them with those of the others; its sums of
     /// tokens no longer keep events from being released. No worker of its number can be enrolled again.
     ///
-    /// The pass is returned, and nothing changes, exactly where it is of no worker here, has tills of other desks than the
+    /// The pass is returned, and nothing changes, exactly if it is of no worker here, has tills of other desks than the
     /// worker reaches, or holds a unit of a grant: that one was not responded yet, and would be lost.
     pub fn dismiss(&mut self, pass: WorkerPass<S>) -> Result<(), WorkerPass<S>>
         ensures own { IsOk result ↔ MayLeave self.old.workers self.old.desks (pass_state pass) }

@@ -1,4 +1,4 @@
-//! Where a client is among names.
+//! If a client is among names.
 ghost use Rattle.std.specs.Prelude.{◌≡◌, ◌↔◌, IsTrue, Some, slice_get};
 ghost use Rattle.dmc_book.specs.Moves.{place_of};
 
@@ -13,7 +13,7 @@ fn is_at(names: &[ClientId], place: usize, client: ClientId) -> bool
     names.get(place) == Some(&client)
 }
 
-/// The place of a client: looked for at a place first, where it often is, and else by its hash.
+/// The place of a client: looked for at a place first, if it often is, and else by its hash.
 pub(crate) fn place_with_hint(
     names: &IndexSet<ClientId>,
     hint: usize,

@@ -33,7 +33,7 @@ use std::sync::Arc;
 /// The most desks that a book has.
 pub(crate) const MAX_DESKS: usize = 65_536;
 
-/// The clients of the desks, in order, or `None` where one is named twice.
+/// The clients of the desks, in order, or `None` if one is named twice.
 pub(crate) fn name_clients<S: Setup>(
     alloc: Global,
     desks: &[ClientDesk<S>],
@@ -360,6 +360,7 @@ pub(crate) fn open_accounts<T: Tag, S: Setup>(
     requires once { AreNamedOnce workers.now (map client_side desks.items) }
     requires empty { parts.history.events ≡ [] }
     requires no_room { parts.history.room ≡ 0 }
+    requires some { 0 < parts.history.most }
     requires limit { parts.history.most ≤ max_events }
     requires clients { parts.clients.keys ≡ map (λ d. d.client) desks.items }
     requires room { IsRoomFor (length workers.now) (map (λ d. d.client) desks.items) parts.room }

@@ -1,6 +1,7 @@
 //! What a book shows of itself, and whose passes are its own.
 ghost use Rattle.std.specs.Prelude.{◌≡◌, ◌==◌, ◌≤◌, ◌↔◌, drop, length, map, IsTrue};
 ghost use Rattle.dmc_ledger.specs.Bundles.{client_side};
+ghost use Rattle.dmc_tag.specs.State.{queued_requests};
 ghost use Rattle.dmc_tag.specs.Replay.{after, replays};
 ghost use Rattle.dmc_book.specs.BookState.{pass_state};
 ghost use Rattle.dmc_book.specs.Settling.{AreOwn};
@@ -42,7 +43,7 @@ impl<T: Tag, I: Indexes<T>, S: Setup> QueueBook<T, I, S> {
 
     /// Whether no request is queued.
     pub fn is_empty(&self) -> bool
-        ensures { result ≡ (length (after T.ops self.now.config self.now.history).requests == 0) }
+        ensures { result ≡ (length (queued_requests (after T.ops self.now.config self.now.history).clients) == 0) }
     {
         self.queue.0.empty()
     }

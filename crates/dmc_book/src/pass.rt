@@ -31,18 +31,18 @@ const RENEWAL: u64 = 1 << 61;
 #[derive(Drop)]
 pub struct WorkerPass<S: Setup> {
     pub(crate) worker: WorkerId,
-    // Where the worker is in the book.
+    // If the worker is in the book.
     pub(crate) place: usize,
     pub(crate) tills: WorkerTills<S>,
     // The names of the desks, in order. The passes share them.
     pub(crate) clients: Arc<IndexSet<ClientId>, Global>,
     pub(crate) units: Vec<GrantTills<S>>,
-    // The place of the desk that was found last, where the next one is looked for first.
+    // The place of the desk that was found last, if the next one is looked for first.
     pub(crate) recent: Cell<usize>,
 }
 
 impl<S: Setup> WorkerPass<S> {
-    /// Lends the till of a client's grants in a phase, or `None` where the pass has none for the client.
+    /// Lends the till of a client's grants in a phase, or `None` if the pass has none for the client.
     pub fn grant_till(&mut self, client: ClientId, phase: PhaseType) -> Option<&mut Till<S>>
         // The pass has then this till as it was given back, and all else as it was.
         ensures* writes_back { sem 𝓛 (LendsIf (pass_row S.row (record { name = S.name })) (till_row S.row (record { name = S.name })) self.entry result (λ till. given_back self.old client phase till) self.old) }

@@ -23,8 +23,8 @@ impl<T: Tag, I: Indexes<T>, S: Setup> QueueBook<T, I, S> {
     /// for a Pull, and takes less time.
     ///
     /// Refused `Range` by the rules, which is recorded; and with nothing recorded `Stranger`, `Behind`, `HistoryFull`, `Memory`,
-    /// as for `run`: `Memory` only where the events that are kept fill their blocks, or there are none. A pass that is behind
-    /// still pulls the requests of all clients that it has tills for: where the pull is `Behind`, `extend` the pass and pull
+    /// as for `run`: `Memory` only if the events that are kept fill their blocks, or there are none. A pass that is behind
+    /// still pulls the requests of all clients that it has tills for: if the pull is `Behind`, `extend` the pass and pull
     /// again.
     pub fn pull(&mut self, pass: &mut WorkerPass<S>, at: Moment) -> Result<Pulled, RunOrRange>
         ensures pulled { WasPulled T.ops self.old self.new (pass_state pass.old) (pass_state pass.new) at result }

@@ -203,7 +203,7 @@ fn is_low<S: Setup>(seat: &Seat<S>) -> bool
         || (seat.books.tokens.total() <= MAX_TOKENS && seat.books.granted.total() <= MAX_TOKENS)
 }
 
-/// Whether each worker's do.
+/// Whether `is_low` holds for every worker.
 pub(crate) fn are_low<S: Setup>(workers: &[Seat<S>]) -> bool
     ensures { IsTrue result ↔ AllByRecursion (λ w. IsOpen w → AreTokensLow w.books) (map worker_side workers.now) }
 {

@@ -42,7 +42,7 @@ pub struct Settled<T: Tag, S: Setup> {
 }
 
 impl<T: Tag, S: Setup> Settled<T, S> {
-    /// What was left in the passes for the client of the desk at a place, or `None` where there is no desk.
+    /// What was left in the passes for the client of the desk at a place, or `None` if there is no desk.
     pub fn held(&self, place: usize) -> Option<GrantsHeld>
         ensures desk { IsSome result ↔ (place < length self.now.desks.items) }
         ensures reservation { IfSome result (λ held.

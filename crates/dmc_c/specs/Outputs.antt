@@ -30,7 +30,7 @@ abbrev pub is_reserved : Option Fraction → Bool
 is_reserved None = false
 is_reserved (Some r) = true
 
--- the reservation tag, or 0/1 where there is none
+-- the reservation tag, or 0/1 if there is none
 abbrev pub reservation_or_zero : Option Fraction → Fraction
 reservation_or_zero None = zero_over_one
 reservation_or_zero (Some r) = r

@@ -1,4 +1,4 @@
--- What a handle owns: the box behind its pointer, where something is held.
+-- What a handle owns: the box behind its pointer, if something is held.
 use Rattle.std.specs.Prelude.{ℕ, Option, Some, None}
 use Rattle.std.specs.Box.Ownership.{box_owns}
 use Rattle.std.specs.contracts.alloc.Global as heap
@@ -12,7 +12,7 @@ use denote.RawPtr.{Ptr}
 abbrev pub boxed_at : (heap.the_row).Denot → Ptr → Kept → Fml
 boxed_at alloc p kept = box_owns (ghosts.dealloc_token alloc) row.the_row p kept
 
--- the flag is 0 where nothing is held, and else 1
+-- the flag is 0 if nothing is held, and else 1
 abbrev pub handle_owns : ℕ → Ptr → Option Kept → Fml
 handle_owns flag p None = feq ℕ flag 0
 handle_owns flag p (Some kept) = fsep (feq ℕ flag 1) (fex (heap.the_row).Denot (λ alloc. boxed_at alloc p kept))

@@ -111,7 +111,7 @@ fn refusal_number(refusal: Refusal) -> u32
     }
 }
 
-/// The code of a call: `DMC_OK` where it was made.
+/// The code of a call: `DMC_OK` if it was made.
 pub fn code_of<X>(answer: &Result<X, Fault>) -> u32
     ensures { result ≡ code_of answer.now }
 {
@@ -121,7 +121,7 @@ pub fn code_of<X>(answer: &Result<X, Fault>) -> u32
     }
 }
 
-/// The code of a command: `DMC_OK` where it was accepted.
+/// The code of a command: `DMC_OK` if it was accepted.
 pub fn reply_code(answer: &Result<Reply<TagFraction>, Fault>) -> u32
     ensures { result ≡ reply_code answer.now }
 {

@@ -12,7 +12,7 @@ use std::marker::Model;
 use std::mem::replace;
 use std::ptr::null_mut;
 
-/// The header's `struct dmc_queue` and `struct dmc_tracker`: a pointer to what is held, and 1; or 0 where nothing is held.
+/// The header's `struct dmc_queue` and `struct dmc_tracker`: a pointer to what is held, and 1; or 0 if nothing is held.
 /// Contracts see what is held.
 #[repr(C)]
 pub struct Handle {

@@ -18,7 +18,7 @@ pub struct DmcTag {
     pub denom: u64,
 }
 
-/// The tags of a request; `r` is 0/1 where `reserved` is false.
+/// The tags of a request; `r` is 0/1 if `reserved` is false.
 #[repr(C)]
 #[derive(Clone, Copy)]
 pub struct DmcTags {

@@ -11,7 +11,7 @@ use dmc_types::moment::Moment;
 use dmc_types::params::ReqParams;
 use dmc_types::refusal::ValueFault;
 
-/// A rate, where 0 is none.
+/// A rate, if 0 is none.
 fn rate_of(rate: u32) -> Option<u32>
     ensures { result ≡ rate_of rate }
 {
@@ -123,7 +123,7 @@ fn setting(hz: u64, idle_age: u64, erase_age: u64, at_limit: AtLimit) -> Result<
     QueueConfig::new(hz, idle_age, erase_age, at_limit).map_err(Fault::Value)
 }
 
-/// A configuration, where a number says what is done at the limit.
+/// A configuration, if a number says what is done at the limit.
 pub fn queue_config(
     hz: u64,
     idle_age: u64,

@@ -14,7 +14,7 @@ use Rattle.dmc_tag.specs.State.{State, opening}
 use Rattle.dmc_tag.specs.Step.{step}
 use Rattle.dmc_tag.specs.Replay.{replays, replays_from}
 use Rattle.dmc_tag.specs.declared.event.Event.{Event}
-use Rattle.dmc_tag.proofs.Lists.{all_append}
+use Rattle.dmc_lemmas.proofs.Lists.{all_append}
 use Rattle.dmc_queue_history.specs.Segmented.{SegmentState}
 use Rattle.dmc_text.specs.declared.cause.LineCause.{LineCause}
 use Rattle.dmc_text.specs.declared.cause.LineCause.TheVariants.{Bytes, Number}
@@ -42,7 +42,7 @@ all_drop P zero xs h = h
 all_drop P (suc n) [] h = h
 all_drop P (suc n) (x ∷ xs) h = all_drop P n xs h.1
 
--- what holds of each where something else does
+-- what holds of each if something else does
 all_met : {X : Type 0} (P Q : X → Type 0) (xs : List X) → AllByRecursion (λ x. P x → Q x) xs → AllByRecursion P xs → AllByRecursion Q xs
 all_met P Q [] h k = tt
 all_met P Q (x ∷ xs) h k = (h.0 k.0, all_met P Q xs h.1 k.1)
@@ -64,11 +64,11 @@ clean_open (b ∷ bs) h =
     rw (no, clean_open bs p.1) refl
 
 -- a line that means something has no LF
-line_open : {X : Type 0} (headed : Bool) (line : List ℕ) (x : X) (f : _ → Result X LineCause) (clean : Bool) → is_clean line ≡ clean → (kind_of headed line >>= f) ≡ Ok x → has_end line ≡ false
+line_open : {X : Type 0} (has_config : Bool) (line : List ℕ) (x : X) (f : _ → Result X LineCause) (clean : Bool) → is_clean line ≡ clean → (kind_of has_config line >>= f) ≡ Ok x → has_end line ≡ false
 unfolding is_clean
-line_open headed line x f true is h = clean_open line (and_parts (leb (length line) 256) (list_all is_line_byte line) is).1
-line_open headed line x f false is h =
-    let faulty : Err Bytes ≡ Ok x = ap (λ b. cond b (kind headed (words line)) (Err Bytes) >>= f) (sym is) ∙ h in
+line_open has_config line x f true is h = clean_open line (and_parts (leb (length line) 256) (list_all is_line_byte line) is).1
+line_open has_config line x f false is h =
+    let faulty : Err Bytes ≡ Ok x = ap (λ b. cond b (kind has_config (words line)) (Err Bytes) >>= f) (sym is) ∙ h in
     absurd (cc)
 
 module _ {T : Type 0} (made : ℤ → ℕ → Option T) where

@@ -70,8 +70,8 @@ module _ {T : Type 0} (ops : Tagging T) (made : ℤ → ℕ → Option T) where
   abbrev refuses : Checking T → List ℕ → LineCause → Type 0
   refuses s line cause = next_line made s.replay line ≡ Err cause
 
-  abbrev headed : Checking T → Bool
-  headed s = is_some s.replay
+  abbrev has_config : Checking T → Bool
+  has_config s = is_some s.replay
 
   -- what holds says whether an hz line was read
   same_head : (recorded : Option (Recorded T)) (replay : Option (Replay T)) → Holds ops recorded replay → is_some recorded ≡ is_some replay
@@ -124,7 +124,7 @@ module _ {T : Type 0} (ops : Tagging T) (made : ℤ → ℕ → Option T) where
   Found None t (Err fault) = ⊥
   Found (Some fault) t found = found ≡ Err fault
 
-  found_left : (after : Option (Recorded T)) (n : ℕ) (t : Checking T) (others : List (List ℕ)) (fault : Option (ℕ × LineCause)) → Holds ops after t.replay → IsFault refuses headed t n others fault
+  found_left : (after : Option (Recorded T)) (n : ℕ) (t : Checking T) (others : List (List ℕ)) (fault : Option (ℕ × LineCause)) → Holds ops after t.replay → IsFault refuses has_config t n others fault
       → Found fault t (with_lines made after n others)
   found_left None n t [] None h e = absurd (let none = same_head None t.replay h ∙ e in cc)
   found_left (Some r) n t [] None h e = h
@@ -158,7 +158,7 @@ module _ {T : Type 0} (ops : Tagging T) (made : ℤ → ℕ → Option T) where
 
   module _ (first : Checking T) (opens : Holds ops None first.replay) where
     module _ {input output r w : Option (List ℕ)} {last : Checking T} {pending : List ℕ} where
-      found : {fault : Option (ℕ × LineCause)} (e : Ending takes refuses headed fault first input output last r w pending) (more : List ℕ) → (IsAtEnd r → more ≡ [])
+      found : {fault : Option (ℕ × LineCause)} (e : Ending takes refuses has_config fault first input output last r w pending) (more : List ℕ) → (IsAtEnd r → more ≡ [])
           → Found fault last (record_of made (e.read ++ more))
       found {fault} e more end =
           let (others, split, is_fault) = e.ends more end in
@@ -167,19 +167,19 @@ module _ {T : Type 0} (ops : Tagging T) (made : ℤ → ℕ → Option T) where
           subst (Found fault last) (sym (ap (with_lines made None 1) split ∙ b.goes_on others ∙ ap (λ k. with_lines made b.after k others) number))
           (found_left b.after (suc (length e.lines)) last others fault b.holds is_fault)
 
-      found_read : {fault : Option (ℕ × LineCause)} (e : Ending takes refuses headed fault first input output last r w pending) → Found fault last (record_of made e.read)
+      found_read : {fault : Option (ℕ × LineCause)} (e : Ending takes refuses has_config fault first input output last r w pending) → Found fault last (record_of made e.read)
       found_read {fault} e = of_read r e.read (λ text. Found fault last (record_of made text)) (found e)
 
-      ended_silent : {fault : Option (ℕ × LineCause)} → Ending takes refuses headed fault first input output last r w pending → Appends output w []
+      ended_silent : {fault : Option (ℕ × LineCause)} → Ending takes refuses has_config fault first input output last r w pending → Appends output w []
       ended_silent e = nothing_sent output w e.sent pending e.answers e.sends e.out (behind None 1 first last e.lines e.answers e.goes opens).silent
 
-      text_verdict : (checked : Checked) → Ending takes refuses headed None first input output last r w pending → IsAtEnd r → IsChecked last.replay checked
+      text_verdict : (checked : Checked) → Ending takes refuses has_config None first input output last r w pending → IsAtEnd r → IsChecked last.replay checked
           → IfSome input (λ text. HasVerdict ops made text checked.verdict checked.events)
       text_verdict checked e end is = Consumes-whole input r e.read _ e.reads.0 end (has_verdict e.read last (record_of made e.read) checked refl e.reads.1 (found_read e) is)
 
       -- a text without a fault has an hz line
-      pub text_headed : Ending takes refuses headed None first input output last r w pending → is_some last.replay ≡ true
-      text_headed e = by_found (record_of made e.read) last.replay (found_read e)
+      pub text_has_config : Ending takes refuses has_config None first input output last r w pending → is_some last.replay ≡ true
+      text_has_config e = by_found (record_of made e.read) last.replay (found_read e)
         where
           by_found : (found : Result (Recorded T) (ℕ × LineCause)) (replay : Option (Replay T)) → Found None (record { replay = replay }) found → is_some replay ≡ true
           by_found (Ok recorded) None h = absurd h
@@ -193,14 +193,14 @@ module _ {T : Type 0} (ops : Tagging T) (made : ℤ → ℕ → Option T) where
 
     module _ (input output r w : Option (List ℕ)) (last : Checking T) (walk : Walk) where
       -- the walk failed
-      pub ends_early : (fault : ScriptFault) → EndsAs takes refuses headed first input output last r w walk (Err fault) → ChecksAs ops made input r output w (Err fault)
+      pub ends_early : (fault : ScriptFault) → EndsAs takes refuses has_config first input output last r w walk (Err fault) → ChecksAs ops made input r output w (Err fault)
       ends_early (faults.Line n cause) e = ((e.read, e.reads, found_read e), of_text input r e.read e.reads.0 (λ text. record_of made text ≡ Err (n, cause)) (found e), kept output w (ended_silent e))
       ends_early faults.Read h = ((h.done ++ h.rest, h.reads), (halt_silent h).1)
       ends_early faults.Memory h = ((h.done ++ h.rest, h.reads), (halt_silent h).1)
       ends_early faults.Write (h, some) = absurd (omega (arith, some, ap length (halt_silent h).0))
 
       -- the walk came to the end, and then the verdict is written
-      pub checks_as : (w' : Option (List ℕ)) (checked : Checked) (result : Result Verdict ScriptFault) → EndsAs takes refuses headed first input output last r w walk (Ok tt)
+      pub checks_as : (w' : Option (List ℕ)) (checked : Checked) (result : Result Verdict ScriptFault) → EndsAs takes refuses has_config first input output last r w walk (Ok tt)
           → IsChecked last.replay checked → WritesVerdict w w' checked result → ChecksAs ops made input r output w' result
       checks_as w' checked (Ok v) (end, e) is (same, app) =
           let writes : Appends output w' (verdict_text checked.verdict checked.events) = Appends-trans output w w' [] _ (ended_silent e) app in

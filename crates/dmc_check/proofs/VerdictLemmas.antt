@@ -1,19 +1,19 @@
 -- One more event of a replay.
 use Rattle.std.proofs.Common.{◌≡◌, ℕ, zero, suc, ◌+◌, ◌<◌, ◌≤◌, Bool, true, false, List, [], ◌∷◌, ◌++◌, length, length-append, take, map, Option, Some, None, is_some, refl, sym, ap, subst, ◌∙◌, arith}
-use Rattle.std.specs.Prelude.{slice_get, ◌↔◌, IsTrue}
+use Rattle.std.specs.Prelude.{slice_get, ◌↔◌}
 use Rattle.std.proofs.lemmas.List.{take-append-le, take_all, take_more}
 use Rattle.std.proofs.lemmas.Option.{slice_get_within, get_or_from_slice_get}
 use Rattle.dmc_types.specs.Values.{Setting}
 use Rattle.dmc_tag.specs.Tag.{Tagging}
-use Rattle.dmc_tag.specs.State.{State, Represents, opening}
+use Rattle.dmc_tag.specs.State.{State, opening}
 use Rattle.dmc_tag.specs.Step.{step}
 use Rattle.dmc_tag.specs.Replay.{state_after, replays_from, after, replays}
 use Rattle.dmc_tag.specs.declared.event.Event.{Event}
 use Rattle.dmc_tag.proofs.ForCallers.{after_one_more, replays_one_more}
-use Rattle.dmc_tag.proofs.Lists.{slice_get-append, slice_get-push}
+use Rattle.dmc_lemmas.proofs.Lists.{slice_get-append, slice_get-push}
 use Rattle.dmc_pull.specs.Queue.{state_of}
 use Rattle.dmc_check.specs.Verdicts.{DiffersAt, IsVerdict, SoFar, RepresentsEvents}
-use Rattle.dmc_check.specs.internal.Verdicts.{verdict_of}
+use Rattle.dmc_check.specs.internal.Verdicts.{ReplaysNext, verdict_of}
 use Rattle.dmc_check.specs.declared.replay.Replay.{Replay}
 use Rattle.dmc_check.specs.declared.check.Verdict.{Verdict}
 use Rattle.dmc_check.specs.declared.check.Verdict.TheVariants.{Replays, Differs}
@@ -69,20 +69,20 @@ module _ {T : Type 0} (ops : Tagging T) where
 
   -- ---- the replayer
 
-  -- a queue that still represents the state
-  so_far_kept : (config : Setting) (events : List (Event T)) (s new : State T) (difference : Option ℕ) → ((u : State T) → Represents s u → Represents new u)
+  -- a queue that still holds the state
+  so_far_kept : (config : Setting) (events : List (Event T)) (s new : State T) (difference : Option ℕ) → new ≡ s
       → SoFar ops config events s difference → SoFar ops config events new difference
-  so_far_kept config events s new None k h = (h.0, k (after ops config events) h.1)
+  so_far_kept config events s new None k h = (h.0, k ∙ h.1)
   so_far_kept config events s new (Some i) k h = h
 
   pub represents_kept : (config : Setting) (events : List (Event T)) (old new : Replay T) → new.events ≡ old.events → new.difference ≡ old.difference
-      → ((u : State T) → Represents (state_of old.queue) u → Represents (state_of new.queue) u) → RepresentsEvents ops config events old → RepresentsEvents ops config events new
+      → state_of new.queue ≡ state_of old.queue → RepresentsEvents ops config events old → RepresentsEvents ops config events new
   represents_kept config events old new count same k h = record {
     count = count ∙ h.count;
     so_far = subst (SoFar ops config events (state_of new.queue)) (sym same) (so_far_kept config events (state_of old.queue) (state_of new.queue) old.difference k h.so_far);
   }
 
-  -- what replays has no difference, and the queue represents the state after it
+  -- what replays has no difference, and the queue holds the state after it
   pub no_difference_yet : (config : Setting) (events : List (Event T)) (replay : Replay T) → RepresentsEvents ops config events replay → (replay.difference ≡ None) ↔ replays ops config events
   no_difference_yet config events replay h = by replay.difference h.so_far
     where
@@ -90,8 +90,8 @@ module _ {T : Type 0} (ops : Tagging T) where
       by None k = (λ e. k.0, λ r. refl)
       by (Some i) k = (λ e. absurd (cc), λ r. absurd (no_difference config events i k r))
 
-  pub queue_represents : (config : Setting) (events : List (Event T)) (replay : Replay T) → RepresentsEvents ops config events replay → replay.difference ≡ None → Represents (state_of replay.queue) (after ops config events)
-  queue_represents config events replay h none = (subst (SoFar ops config events (state_of replay.queue)) none h.so_far).1
+  pub queue_holds : (config : Setting) (events : List (Event T)) (replay : Replay T) → RepresentsEvents ops config events replay → replay.difference ≡ None → state_of replay.queue ≡ after ops config events
+  queue_holds config events replay h none = (subst (SoFar ops config events (state_of replay.queue)) none h.so_far).1
 
   -- an event behind the first difference
   pub later_event : (config : Setting) (events : List (Event T)) (e : Event T) (s : State T) (difference : Option ℕ) → true ≡ is_some difference
@@ -107,20 +107,20 @@ module _ {T : Type 0} (ops : Tagging T) where
 
   -- the reply to an event is the recorded one
   pub same_event : (config : Setting) (events : List (Event T)) (e : Event T) (s new : State T) (same : Bool) → same ≡ true → SoFar ops config events s None
-      → ((u : State T) → Represents s u → (IsTrue same ↔ (e.reply ≡ (step ops u e.command).1)) × Represents new ((step ops u e.command).0))
+      → ReplaysNext ops s new e same
       → SoFar ops config (events ++ e ∷ []) new None
   same_event config events e s new same is h k =
-      let now = k (after ops config events) h.1 in
-      (replays_one_more ops config events e h.0 (now.0.0 is), subst (Represents new) (sym (after_one_more ops config events e)) now.1)
+      let now = subst (λ u. ReplaysNext ops u new e same) h.1 k in
+      (replays_one_more ops config events e h.0 (now.reply.0 is), now.state ∙ sym (after_one_more ops config events e))
 
   -- or otherwise
   pub other_event : (config : Setting) (events : List (Event T)) (e : Event T) (s new : State T) (n : ℕ) (same : Bool) → same ≡ false → n ≡ length events → SoFar ops config events s None
-      → ((u : State T) → Represents s u → (IsTrue same ↔ (e.reply ≡ (step ops u e.command).1)) × Represents new ((step ops u e.command).0))
+      → ReplaysNext ops s new e same
       → DiffersAt ops config (events ++ e ∷ []) n
   other_event config events e s new n same is count h k =
-      let now = k (after ops config events) h.1 in
+      let now = subst (λ u. ReplaysNext ops u new e same) h.1 k in
       subst (DiffersAt ops config (events ++ e ∷ [])) (sym count)
-      (differs_now config events e h.0 (λ recorded. let yes : same ≡ true = now.0.1 recorded in let no : false ≡ true = sym is ∙ yes in absurd (cc)))
+      (differs_now config events e h.0 (λ recorded. let yes : same ≡ true = now.reply.1 recorded in let no : false ≡ true = sym is ∙ yes in absurd (cc)))
 
   -- one more event is there
   pub represents_more : (config : Setting) (events : List (Event T)) (e : Event T) (old new : Replay T) → RepresentsEvents ops config events old → new.events ≡ suc old.events

@@ -49,9 +49,9 @@ placed count (Config config) = Ok (Config config)
 placed count (event_lines.Segment server first) = if first == count then Ok (event_lines.Segment server first) else Err Number
 placed count (event_lines.Event event) = Ok (event_lines.Event event)
 
--- the meaning of a line behind this many events; headed: an hz line was read before
+-- the meaning of a line behind this many events; has_config: an hz line was read before
 abbrev pub line_behind : {T : Type 0} → (ℤ → ℕ → Option T) → Bool → ℕ → List ℕ → Result (EventLine T) LineCause
-line_behind made headed count line = event_of made headed line >>= placed count
+line_behind made has_config count line = event_of made has_config line >>= placed count
 
 abbrev pub or_fault : {T X : Type 0} → ℕ → Result T LineCause → (T → Result X (ℕ × LineCause)) → Result X (ℕ × LineCause)
 or_fault n (Err cause) more = Err (n, cause)
@@ -85,7 +85,7 @@ pub record HasVerdict {T : Type 0} (ops : Tagging T) (made : ℤ → ℕ → Opt
   pub is_verdict : IsVerdict ops recorded.config recorded.events verdict
   pub counts : count ≡ length recorded.events
 
--- What a check reads and writes, by its result, where the bytes are known. Ok: all of the text is read, no line is faulty, and
+-- What a check reads and writes, by its result, if the bytes are known. Ok: all of the text is read, no line is faulty, and
 -- the verdict on its events is written. Line: it is the first faulty line of the text and is in what was read, and nothing is
 -- written. Write: all of the text is read, and of the line of the verdict a first part is written. Read and Memory: nothing is
 -- written. At Read one byte more than a text may have may be read, which shows that it is too long.

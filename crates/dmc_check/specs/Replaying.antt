@@ -15,7 +15,7 @@ pub record ReplayerState (T : Type 0) : Type 0 where
 abbrev pub AddsPart : {T : Type 0} → (old new : ReplayerState T) → List (Event T) → Type 0
 AddsPart old new events = (k : ℕ) × (new ≡ record old { events = old.events ++ take k events })
 
--- Where events are refused nothing was replayed, unless the allocator refused a growth: then a first part of them was.
+-- If events are refused nothing was replayed, unless the allocator refused a growth: then a first part of them was.
 abbrev pub Refuses : {T X : Type 0} → (old new : ReplayerState T) → List (Event T) → Result X ReplayFault → Type 0
 Refuses old new events (Ok x) = ⊤
 Refuses old new events (Err Gap) = new ≡ old

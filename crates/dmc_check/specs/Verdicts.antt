@@ -2,7 +2,7 @@
 use Rattle.std.specs.Prelude.{◌≡◌, ℕ, List, length, take, Option, Some, None, slice_get}
 use Rattle.dmc_types.specs.Values.{Setting}
 use Rattle.dmc_tag.specs.Tag.{Tagging}
-use Rattle.dmc_tag.specs.State.{State, Represents}
+use Rattle.dmc_tag.specs.State.{State}
 use Rattle.dmc_tag.specs.Step.{step}
 use Rattle.dmc_tag.specs.Replay.{after, replays}
 use Rattle.dmc_tag.specs.declared.event.Event.{Event}
@@ -23,9 +23,9 @@ abbrev pub IsVerdict : {T : Type 0} → Tagging T → Setting → List (Event T)
 IsVerdict ops config events Replays = replays ops config events
 IsVerdict ops config events (Differs i) = DiffersAt ops config events i
 
--- up to the first difference the queue represents the state after the events
+-- up to the first difference the queue holds the state after the events
 abbrev pub SoFar : {T : Type 0} → Tagging T → Setting → List (Event T) → State T → Option ℕ → Type 0
-SoFar ops config events s None = replays ops config events × Represents s (after ops config events)
+SoFar ops config events s None = replays ops config events × (s ≡ after ops config events)
 SoFar ops config events s (Some i) = DiffersAt ops config events i
 
 -- what a replay has after these events

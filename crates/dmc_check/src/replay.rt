@@ -1,12 +1,10 @@
 //! Events are replayed one after the other.
 ghost use Rattle.std.specs.Prelude.{◌≡◌, ◌↔◌, ◌++◌, ◌∷◌, [], List, None, OnErr, OnOk, IfOk, IfSome, IsSome, IsTrue};
 ghost use Rattle.dmc_types.specs.Values.{Setting};
-ghost use Rattle.dmc_tag.specs.State.{State, Represents};
-ghost use Rattle.dmc_tag.specs.Step.{step};
 ghost use Rattle.dmc_tag.specs.declared.event.Event.{Event};
 ghost use Rattle.dmc_pull.specs.Queue.{state_of};
 ghost use Rattle.dmc_check.specs.Verdicts.{RepresentsEvents, SoFar};
-ghost use Rattle.dmc_check.specs.internal.Verdicts.{verdict_of};
+ghost use Rattle.dmc_check.specs.internal.Verdicts.{ReplaysNext, verdict_of};
 
 use crate::check::Verdict;
 use crate::same::is_same_reply;
@@ -33,9 +31,8 @@ fn replays_next<T: Tag>(
     queue: &mut PullQueue<T, HeapIndexes>,
     event: &Event<T>,
 ) -> Result<bool, AllocError>
-    ensures replayed { (s : State T) → Represents (state_of queue.old) s → IfOk result (λ same.
-        (IsTrue same ↔ (event.now.reply ≡ (step T.ops s event.now.command).1)) × Represents (state_of queue.new) ((step T.ops s event.now.command).0)) }
-    ensures kept { (s : State T) → Represents (state_of queue.old) s → OnErr result (Represents (state_of queue.new) s) }
+    ensures replayed { IfOk result (λ same. ReplaysNext T.ops (state_of queue.old) (state_of queue.new) event.now same) }
+    ensures kept { OnErr result (state_of queue.new ≡ state_of queue.old) }
 {
     let reply = queue.apply(&event.command)?;
     Ok(is_same_reply(&event.reply, &reply))
@@ -70,7 +67,7 @@ impl<T: Tag> Replay<T> {
         Ok(Some(self.events))
     }
 
-    /// Replays one more event. It fails where the allocator refuses a growth, or where there is no number for the event, and then
+    /// Replays one more event. It fails if the allocator refuses a growth, or if there is no number for the event, and then
     /// nothing was replayed.
     pub(crate) fn add(&mut self, event: &Event<T>) -> Result<(), AllocError>
         ensures added { (config : Setting) (events : List (Event T)) →

@@ -1,7 +1,6 @@
 //! Segments of a history are replayed one after the other, in the memory of one queue.
 ghost use Rattle.std.specs.Prelude.{◌≡◌, ◌↔◌, ◌++◌, [], ◌∷◌, drop, length, IfOk, IfSome, IsErrOf, IsSome, OnErr, OnOk};
 ghost use Rattle.dmc_tag.specs.Replay.{after, replays};
-ghost use Rattle.dmc_tag.specs.State.{Represents};
 ghost use Rattle.dmc_pull.specs.Queue.{state_of};
 ghost use Rattle.dmc_check.specs.Replaying.{AddsPart, Refuses};
 ghost use Rattle.dmc_check.specs.Verdicts.{IsVerdict};
@@ -162,11 +161,11 @@ impl<T: Tag> Replayer<T> {
         Ok(())
     }
 
-    /// A queue that represents the state after all events, with every tag as it was at the queue that was recorded; `None`
-    /// exactly where they do not replay. So a standby takes over.
+    /// A queue in the state after all events, with every tag as it was at the queue that was recorded; `None` exactly if they do
+    /// not replay. So a standby takes over.
     pub fn into_queue(self) -> Option<PullQueue<T, HeapIndexes>>
         ensures some { IsSome result ↔ replays T.ops self.config self.events }
-        ensures state { IfSome result (λ queue. Represents (state_of queue) (after T.ops self.config self.events)) }
+        ensures state { IfSome result (λ queue. state_of queue ≡ after T.ops self.config self.events) }
     {
         self.replay.into_queue()
     }

@@ -100,7 +100,7 @@ fn carry_out<T: TagText>(
 impl<T: TagText> TakesLines for Checking<T> {
     type Maker = Global;
 
-    ghost headed = { λ s. is_some s.replay };
+    ghost has_config = { λ s. is_some s.replay };
 
     ghost takes = { λ s line answer t. Follows T.ops T.made s.replay line answer t.replay };
 

@@ -13,7 +13,7 @@ use dmc_text::tag::TagText;
 use dmc_text::write_line::{write_event, write_header};
 use std::io;
 
-/// Writes the lines of events, in order. Where the writer fails, a part of them may have been written.
+/// Writes the lines of events, in order. If the writer fails, a part of them may have been written.
 pub fn write_events<T: TagText, L: EventList<T>, W: io::Write>(
     events: &L,
     out: &mut W,
@@ -30,7 +30,7 @@ pub fn write_events<T: TagText, L: EventList<T>, W: io::Write>(
     Ok(())
 }
 
-/// Writes a segment as an event text has it: its header, and the lines of its events. Where the writer fails, a part of it may have
+/// Writes a segment as an event text has it: its header, and the lines of its events. If the writer fails, a part of it may have
 /// been written.
 pub fn write_segment<T: TagText, S: Setup, W: io::Write>(
     segment: &Segment<T, S>,

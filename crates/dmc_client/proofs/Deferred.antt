@@ -8,13 +8,12 @@ use Rattle.std.proofs.lemmas.List.Folds.{list_all-map}
 use Rattle.std.proofs.lemmas.Bool.{and_parts, eqb-true}
 use Rattle.std.proofs.lemmas.Option.{slice_get-map}
 use Rattle.dmc_tag.specs.Tag.{Tagging, Fraction, IsExact}
-use Rattle.dmc_tag.specs.Rules.{less, has_less}
+use Rattle.dmc_tag.specs.Rules.{less, has_less, less_share, less_reservation}
 use Rattle.dmc_tag.proofs.ForCallers.{minus_twice, plus_then_minus}
-use Rattle.dmc_client.specs.declared.request.QueuedRequest.{QueuedRequest}
-use Rattle.dmc_client.specs.Record.{less_share, less_reservation}
+use Rattle.dmc_tag.specs.declared.plain.QueuedRequest.{QueuedRequest}
 use Rattle.dmc_client.specs.internal.Deferred.{tag_less_deferred, tag_has_deferred, less_deferred, all_less_deferred, reservation_has_less, has_deferred, IsDeferred, deferred_with}
 use Rattle.dmc_client.proofs.Records.{all_rest}
-use Rattle.dmc_tag.proofs.Lists.{all_next}
+use Rattle.dmc_lemmas.proofs.Lists.{all_next}
 
 module _ {T : Type 0} (ops : Tagging T) where
   -- nothing deferred is nothing taken off
@@ -85,7 +84,7 @@ module _ {T : Type 0} (ops : Tagging T) where
     empty = shares_empty amount deferred xs is.empty;
   }
 
-  -- the same, where they change only if a test passes
+  -- the same, if they change only if a test passes
 
   pub tested_are_deferred : (amount : T) (deferred : Option T) (xs : List (QueuedRequest T)) (passes : Bool) → IsDeferred ops deferred xs → IsDeferred ops deferred (if passes then map (less_share ops amount) xs else xs)
   tested_are_deferred amount deferred xs true is = shares_are_deferred amount deferred xs is
@@ -98,7 +97,7 @@ module _ {T : Type 0} (ops : Tagging T) where
   -- ---- an amount more is deferred
 
   module _ (fraction : T → Fraction) (is_value : Fraction → Type 0) (exact : IsExact ops fraction is_value) where
-    -- r less o and less a, where both are values, is r less their sum
+    -- r less o and less a, if both are values, is r less their sum
     tag_less_both : (o a t r : T) (first second : Option T) → ops.plus o a ≡ Some t → ops.minus r o ≡ first → is_some first ≡ true → ops.minus (unwrap_or first r) a ≡ second → is_some second ≡ true → (has_less ops t r ≡ true) × (less ops t r ≡ less ops a (less ops o r))
     tag_less_both o a t r None second sum p h q k = cc
     tag_less_both o a t r (Some x) None sum p h q k = cc

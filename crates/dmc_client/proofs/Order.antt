@@ -11,8 +11,8 @@ use Rattle.dmc_tag.specs.Rules.{less, has_less}
 use Rattle.dmc_client.specs.Order.{InOrder}
 use Rattle.std.proofs.lemmas.Cmp.{upto}
 use Rattle.std.proofs.lemmas.Bool.{and_parts}
-use Rattle.dmc_tag.proofs.Orderings.{at_most_itself}
-pub use Rattle.dmc_tag.proofs.Orderings.{tag_order}
+use Rattle.dmc_tag.proofs.Upto.{at_most_itself}
+pub use Rattle.dmc_lemmas.proofs.Orderings.{tag_order}
 
 module _ {T : Type 0} (ops : Tagging T) (order : IsTotalOrder ops.compare) where
   below_all : (x p q : T) (xs : List T) → AllByRecursion (AtMost ops x) (xs ++ p ∷ []) → AtMost ops p q → AllByRecursion (AtMost ops x) ((xs ++ q ∷ []) ++ q ∷ [])

@@ -23,7 +23,7 @@ module _ {A : Type 0} where
   read_copied xs i None is = sym (slice_get_past xs i is.3)
   read_copied xs i (Some x) is = sym (slice_get_read xs (length xs) i x.now refl is.3.0 is.1)
 
-  -- of those from an index on all pass where the first of them does and the others do
+  -- of those from an index on all pass if the first of them does and the others do
   all_from : (p : A → Bool) (xs : List A) (i : ℕ) (x : A) → i < length xs → x ≡ get_or xs i x → list_all p (drop i xs) ≡ (p x && list_all p (drop (i + 1) xs))
   all_from p xs i x within read = at_drop_more (list_all p) xs i x within ∙ ap (λ y. p y && list_all p (drop (i + 1) xs)) (sym read)
 

@@ -10,16 +10,16 @@ use Rattle.std.proofs.lemmas.List.{map-append, append-nil}
 use Rattle.dmc_types.specs.Values.{Rates}
 use Rattle.dmc_tag.specs.Tag.{Tagging}
 use Rattle.dmc_tag.specs.Order.{AtMost, AreSpacings, AreNext}
-use Rattle.dmc_tag.specs.Rules.{less, has_less, previous_after, changes_reservation}
+use Rattle.dmc_tag.specs.Rules.{less, has_less, previous_after, changes_reservation, less_share, less_reservation}
 use Rattle.dmc_tag.specs.declared.plain.Previous.{Previous}
 use Rattle.dmc_tag.specs.declared.spacing.Spacings.{Spacings}
-use Rattle.dmc_client.specs.declared.request.QueuedRequest.{QueuedRequest}
+use Rattle.dmc_tag.specs.declared.plain.QueuedRequest.{QueuedRequest}
 use Rattle.dmc_client.specs.Order.{InOrder}
-use Rattle.dmc_client.specs.Record.{Rec, IsRecord, reservation_tags, share_tags, pushed, less_share, less_reservation, less_shares, less_reservations, has_less_shares, has_less_reservations}
+use Rattle.dmc_client.specs.Record.{Rec, IsRecord, reservation_tags, share_tags, pushed, less_shares, less_reservations, has_less_shares, has_less_reservations}
 use Rattle.dmc_client.proofs.Order.{in_order-next, in_order-less, KeepsOrder}
-use Rattle.dmc_tag.proofs.Options.{is_some_mapped, same_presence}
+use Rattle.dmc_lemmas.proofs.Options.{is_some_mapped, same_presence}
 use Rattle.std.proofs.Math.Bool.{and-true, and-false}
-use Rattle.dmc_tag.proofs.Lists.{all_mapped, all_next}
+use Rattle.dmc_lemmas.proofs.Lists.{all_mapped, all_next}
 
 -- ---- what holds of each request
 
@@ -213,7 +213,7 @@ module _ {T : Type 0} (ops : Tagging T) (amount : T) where
       idle = λ h. ap (map (less_share ops amount)) (is.idle h);
     }
 
-    -- where the previous one less the amount is this
+    -- if the previous one less the amount is this
     pub record_with_shares : (rec : Rec T) (p : T) → IsRecord ops rec → list_all (λ r. has_less ops amount r.tags.p) rec.requests ≡ true → ops.minus rec.previous.p amount ≡ Some p → IsRecord ops (record rec { previous = record (rec.previous) { p = p }; requests = map (less_share ops amount) rec.requests })
     record_with_shares rec p is all previous =
         let values : has_less_shares ops amount rec ≡ true = ap (λ b. b && has_less ops amount rec.previous.p) all ∙ ap is_some previous in

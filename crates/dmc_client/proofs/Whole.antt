@@ -6,8 +6,8 @@ use Rattle.std.specs.List.{AllByRecursion, list_all, cons_option}
 use Rattle.dmc_tag.specs.Tag.{Tagging}
 use Rattle.dmc_tag.specs.Order.{AtMost}
 use Rattle.dmc_tag.specs.Rules.{has_less}
-use Rattle.dmc_tag.proofs.Lists.{all_at}
-use Rattle.dmc_client.specs.declared.request.QueuedRequest.{QueuedRequest}
+use Rattle.dmc_lemmas.proofs.Lists.{all_at}
+use Rattle.dmc_tag.specs.declared.plain.QueuedRequest.{QueuedRequest}
 use Rattle.dmc_client.specs.Order.{InOrder}
 use Rattle.dmc_client.specs.internal.Deferred.{reservation_has_less}
 use Rattle.dmc_client.proofs.Records.{all_filter_map, rest_reservations}

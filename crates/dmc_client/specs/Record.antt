@@ -1,17 +1,16 @@
 -- What contracts see of a client's record, what it represents in a plain state, and its invariant.
 use Rattle.std.specs.Prelude.{◌≡◌, ℕ, Bool, true, false, ◌&&◌, List, [], ◌∷◌, ◌++◌, map, is_some, filter_map}
-use Rattle.std.specs.Option.{option_map, option_map_or}
+use Rattle.std.specs.Option.{option_map_or}
 use Rattle.std.specs.List.{list_all, AllByRecursion}
 use Rattle.dmc_types.specs.Values.{Rates}
 use Rattle.dmc_types.specs.declared.ids.ClientId.{ClientId}
 use Rattle.dmc_tag.specs.Tag.{Tagging}
 use Rattle.dmc_tag.specs.Order.{AreSpacings}
-use Rattle.dmc_tag.specs.Rules.{previous_after, less, has_less}
-use Rattle.dmc_tag.specs.declared.plain.PlainRequest.{PlainRequest}
-use Rattle.dmc_tag.specs.declared.plain.PlainClient.{PlainClient}
+use Rattle.dmc_tag.specs.State.{PlainClient}
+use Rattle.dmc_tag.specs.Rules.{previous_after, less, has_less, less_share, less_reservation}
 use Rattle.dmc_tag.specs.declared.plain.Previous.{Previous}
 use Rattle.dmc_tag.specs.declared.spacing.Spacings.{Spacings}
-use Rattle.dmc_client.specs.declared.request.QueuedRequest.{QueuedRequest}
+use Rattle.dmc_tag.specs.declared.plain.QueuedRequest.{QueuedRequest}
 use Rattle.dmc_client.specs.Order.{InOrder}
 
 pub record Rec (T : Type 0) : Type 0 where
@@ -27,13 +26,7 @@ pub record Rec (T : Type 0) : Type 0 where
 -- ---- what a record represents, under a client's id
 
 abbrev pub client_of : {T : Type 0} → ClientId → Rec T → PlainClient T
-client_of id rec = record { id = id; info = rec.info; previous = rec.previous; idle = rec.idle; last_arrival = rec.last_arrival }
-
-abbrev pub request_of : {T : Type 0} → ClientId → QueuedRequest T → PlainRequest T
-request_of id r = record { client = id; token = r.token; tags = r.tags }
-
-abbrev pub requests_of_record : {T : Type 0} → ClientId → Rec T → List (PlainRequest T)
-requests_of_record id rec = map (request_of id) rec.requests
+client_of id rec = record { id = id; info = rec.info; previous = rec.previous; idle = rec.idle; last_arrival = rec.last_arrival; requests = rec.requests }
 
 -- ---- the invariant of every record
 
@@ -48,7 +41,7 @@ abbrev pub share_tags : {T : Type 0} → Rec T → List T
 share_tags rec = map (λ r. r.tags.p) rec.requests ++ rec.previous.p ∷ []
 
 -- No tag decreases from front to back, and the previous tags are not below the last queued ones. A request has an R
--- exactly where the client has a reservation. An idle client has nothing queued.
+-- exactly if the client has a reservation. An idle client has nothing queued.
 pub record IsRecord {T : Type 0} (ops : Tagging T) (rec : Rec T) : Type 0 where
   pub spacings : AreSpacings ops rec.info rec.spacings
   pub reserved : AllByRecursion (λ r. is_some r.tags.r ≡ is_some rec.info.reservation) rec.requests
@@ -73,12 +66,6 @@ pushed request at rec = record rec {
   last_arrival = at;
   requests = rec.requests ++ request ∷ [];
 }
-
-abbrev pub less_share : {T : Type 0} → Tagging T → T → QueuedRequest T → QueuedRequest T
-less_share ops amount r = record r { tags = record (r.tags) { p = less ops amount r.tags.p } }
-
-abbrev pub less_reservation : {T : Type 0} → Tagging T → T → QueuedRequest T → QueuedRequest T
-less_reservation ops amount r = record r { tags = record (r.tags) { r = option_map (less ops amount) r.tags.r } }
 
 -- each P less an amount
 abbrev pub less_shares : {T : Type 0} → Tagging T → T → Rec T → Rec T

@@ -1,2 +1,2 @@
--- Reductions that are deferred: the stored R tags are greater than the requests' by one amount.
+-- Reductions that are deferred: an amount was taken off each queued R, but not yet off the stored one.
 pub mod Deferred

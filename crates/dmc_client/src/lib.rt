@@ -3,6 +3,5 @@
 
 mod queue;
 pub mod record;
-pub mod request;
 mod stored;
 mod subtraction;

@@ -3,12 +3,11 @@ ghost use Rattle.std.specs.Prelude.{◌≡◌, ◌==◌, ◌++◌, ◌∷◌, []
 ghost use Rattle.std.specs.List.{list_all};
 ghost use Rattle.std.specs.Option.{option_map_or};
 ghost use Rattle.dmc_client.specs.internal.Deferred as deferred_of;
-ghost use Rattle.dmc_client.specs.Record as record_of;
 ghost use Rattle.dmc_tag.specs.Rules as rules_of;
 
-use crate::request::QueuedRequest;
 use crate::stored::StoredRequests;
 use crate::subtraction::reservation_has_less;
+use dmc_tag::plain::QueuedRequest;
 use dmc_tag::reply::Tags;
 use dmc_tag::shifting::less;
 use dmc_tag::tag::Tag;
@@ -16,7 +15,7 @@ use std::alloc::{AllocError, Global};
 use std::collections::VecDeque;
 use std::marker::Model;
 
-/// The queued requests of a client in order of arrival. Where tags are whole numbers a reduction adds to one deferred amount, and
+/// The queued requests of a client in order of arrival. If tags are whole numbers a reduction adds to one deferred amount, and
 /// walks over no request: the amount is taken off an R as its request is read.
 #[derive(Drop)]
 pub struct RequestQueue<T: Tag> {
@@ -26,7 +25,7 @@ pub struct RequestQueue<T: Tag> {
 
 impl<T: Tag> Model for RequestQueue<T> {
     ghost use Rattle.std.specs.Prelude.{List};
-    ghost use Rattle.dmc_client.specs.declared.request.QueuedRequest.{QueuedRequest};
+    ghost use Rattle.dmc_tag.specs.declared.plain.QueuedRequest.{QueuedRequest};
     ghost use Rattle.dmc_client.specs.internal.Deferred.{all_less_deferred, IsDeferred};
 
     ghost Value = { List (QueuedRequest T) };
@@ -132,16 +131,16 @@ impl<T: Tag> RequestQueue<T> {
     /// Takes the amount off each P if each stays a value, and otherwise changes nothing. Returns whether each does.
     pub fn subtract_shares(&mut self, amount: T) -> bool
         ensures value { result ≡ list_all (λ r. rules_of.has_less T.ops amount r.tags.p) self.old }
-        ensures new { self.new ≡ (if result then map (record_of.less_share T.ops amount) self.old else self.old) }
+        ensures new { self.new ≡ (if result then map (rules_of.less_share T.ops amount) self.old else self.old) }
     {
         self.stored.subtract_shares(amount)
     }
 
-    /// Takes the amount off each R. Where tags are whole numbers it is deferred, and taken off the stored tags only where the
+    /// Takes the amount off each R. If tags are whole numbers it is deferred, and taken off the stored tags only if the
     /// deferred sum is no value. Otherwise it is taken off at once.
     pub fn subtract_reservations(&mut self, amount: T)
         requires { list_all (deferred_of.reservation_has_less T.ops amount) self.old ≡ true }
-        ensures { self.new ≡ map (record_of.less_reservation T.ops amount) self.old }
+        ensures { self.new ≡ map (rules_of.less_reservation T.ops amount) self.old }
     {
         if self.is_empty() {
             return;
@@ -177,7 +176,7 @@ fn tag_less_deferred<T: Tag>(r: Option<T>, deferred: Option<T>) -> Option<T>
     }
 }
 
-/// The request as it is stored: its R plus the deferred amount. `None` where that is no value.
+/// The request as it is stored: its R plus the deferred amount. `None` if that is no value.
 fn with_deferred<T: Tag>(request: QueuedRequest<T>, deferred: Option<T>) -> Option<QueuedRequest<T>>
     ensures { IfSome result (λ stored. (deferred_of.less_deferred T.ops deferred stored ≡ request) × (deferred_of.has_deferred T.ops deferred stored ≡ true)) }
 {
@@ -189,7 +188,7 @@ fn with_deferred<T: Tag>(request: QueuedRequest<T>, deferred: Option<T>) -> Opti
     Some(QueuedRequest { tags, ..request })
 }
 
-/// An R plus the deferred amount. `None` where that is no value.
+/// An R plus the deferred amount. `None` if that is no value.
 fn tag_with_deferred<T: Tag>(r: T, deferred: Option<T>) -> Option<T>
     ensures { IfSome result (λ stored. (deferred_of.tag_less_deferred T.ops deferred (Some stored) ≡ Some r) × (deferred_of.tag_has_deferred T.ops deferred (Some stored) ≡ true)) }
 {
@@ -199,7 +198,7 @@ fn tag_with_deferred<T: Tag>(r: T, deferred: Option<T>) -> Option<T>
     }
 }
 
-/// The deferred amount plus another. `None` where that is no value.
+/// The deferred amount plus another. `None` if that is no value.
 fn deferred_with<T: Tag>(deferred: Option<T>, amount: T) -> Option<T>
     ensures { result ≡ deferred_of.deferred_with T.ops deferred amount }
 {

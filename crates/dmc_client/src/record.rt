@@ -6,9 +6,8 @@ ghost use Rattle.dmc_client.specs.Record as record_of;
 ghost use Rattle.dmc_client.specs.Record.{IsRecord};
 
 use crate::queue::RequestQueue;
-use crate::request::QueuedRequest;
 use dmc_tag::assignment::previous_after;
-use dmc_tag::plain::Previous;
+use dmc_tag::plain::{Previous, QueuedRequest};
 use dmc_tag::shifting::{has_less, less};
 use dmc_tag::spacing::Spacings;
 use dmc_tag::tag::Tag;
@@ -188,7 +187,7 @@ impl<T: Tag> ClientRec<T> {
     }
 
     /// Whether the R of each request but the first, and the previous R, less the amount, are values. The second R is the least of
-    /// them and the previous one the greatest, so where tags are whole numbers these two are enough.
+    /// them and the previous one the greatest, so if tags are whole numbers these two are enough.
     pub fn others_have_less_reservations(&self, amount: T) -> bool
         ensures { result ≡ record_of.has_less_reservations T.ops amount (record self.now { requests = drop 1 self.now.requests }) }
     {

@@ -1,13 +1,12 @@
 //! The requests as a client's queue stores them.
 ghost use Rattle.std.specs.Prelude.{◌≡◌, ◌==◌, ◌++◌, ◌∷◌, [], drop, length, map, slice_get, if◌then◌else◌, OnOk, OnErr};
 ghost use Rattle.std.specs.List.{list_all};
-ghost use Rattle.dmc_client.specs.Record as record_of;
 ghost use Rattle.dmc_tag.specs.Rules as rules_of;
 
-use crate::request::QueuedRequest;
 use crate::subtraction::{
     checked_less_share, less_reservation, shares_have_less, subtract_reservations, subtract_shares,
 };
+use dmc_tag::plain::QueuedRequest;
 use dmc_tag::shifting::has_less;
 use dmc_tag::tag::Tag;
 use std::alloc::{AllocError, Global};
@@ -26,7 +25,7 @@ pub struct StoredRequests<T: Tag> {
 impl<T: Tag> Model for StoredRequests<T> {
     ghost use Rattle.std.specs.Prelude.{◌≡◌, List, [], None};
     ghost use Rattle.std.specs.List.{cons_option};
-    ghost use Rattle.dmc_client.specs.declared.request.QueuedRequest.{QueuedRequest};
+    ghost use Rattle.dmc_tag.specs.declared.plain.QueuedRequest.{QueuedRequest};
 
     ghost Value = { List (QueuedRequest T) };
 
@@ -126,7 +125,7 @@ impl<T: Tag> StoredRequests<T> {
     /// Takes the amount off each P if each stays a value, and otherwise changes nothing. Returns whether each does.
     pub fn subtract_shares(&mut self, amount: T) -> bool
         ensures value { result ≡ list_all (λ r. rules_of.has_less T.ops amount r.tags.p) self.old }
-        ensures new { self.new ≡ (if result then map (record_of.less_share T.ops amount) self.old else self.old) }
+        ensures new { self.new ≡ (if result then map (rules_of.less_share T.ops amount) self.old else self.old) }
     {
         let Some(first) = self.first else {
             return true;
@@ -144,7 +143,7 @@ impl<T: Tag> StoredRequests<T> {
 
     /// Takes the amount off each R.
     pub fn subtract_reservations(&mut self, amount: T)
-        ensures { self.new ≡ map (record_of.less_reservation T.ops amount) self.old }
+        ensures { self.new ≡ map (rules_of.less_reservation T.ops amount) self.old }
     {
         if let Some(first) = self.first {
             self.first = Some(less_reservation(first, amount));

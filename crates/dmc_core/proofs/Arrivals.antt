@@ -94,9 +94,9 @@ module _ {T Q : Type 0} (ops : Tagging T) (state : Q → State T) (core : CoreVa
             let both = the_client state core run r id i (found_place id s core i place) in
             let server = the_server state core run r s within in
             let first : slice_get (pair_at s both.y.pairs).flight 0 ≡ Some message = rw (← both.related.pairs) (oldest both.x both.at) in
-            let stays = (steps server.x server.at).1 server.y server.related in (
-              rw (both.found, server.found, first) (added_accepted ops server.y id message.token message.params at stays.0),
-              record { servers = rw (← set_same run.servers s.0 server.y server.found) (server.put q' server.y stays.1); clients = r.clients },
+            let stays = steps server.x server.at in (
+              rw (both.found, server.found, first) (added_accepted ops (state server.x) id message.token message.params at stays.1),
+              record { servers = sym (set_same run.servers s.0 (state server.x) server.found) ∙ server.put q' (state server.x) stays.2; clients = r.clients },
             ),
       )
 
@@ -109,14 +109,15 @@ module _ {T Q : Type 0} (ops : Tagging T) (state : Q → State T) (core : CoreVa
             let both = the_client state core run r id i (found_place id s core i place) in
             let server = the_server state core run r s within in
             let first : slice_get (pair_at s both.y.pairs).flight 0 ≡ Some message = rw (← both.related.pairs) (oldest both.x both.at) in
-            let stepped = steps server.x server.at server.y server.related in
-            let next = (step ops server.y (commands.Add id message.token message.params at)).0 in
+            let stepped = steps server.x server.at in
+            let next = (step ops (state server.x) (commands.Add id message.token message.params at)).0 in
+            let replied : reply ≡ (step ops (state server.x) (commands.Add id message.token message.params at)).1 = ap (λ answer. answer.1) stepped in
             let whole : outcome ops run (Arrive id s at) ≡ Ok (with_client id (client_after_arrival s reply both.y) (with_server s next run), Served reply) =
-            rw (both.found, server.found, first, ← stepped.0) refl in
+            rw (both.found, server.found, first, ← replied) refl in
             rw whole (
               refl,
               record {
-                servers = server.put q' next stepped.1;
+                servers = server.put q' next (ap (λ answer. answer.0) stepped);
                 clients = rw (hs_is both.x both.at) (both.put _ (λ old. client_after_arrival s reply both.y) (matches_changed run.counting both.x both.y s (after_arrival reply) both.related));
               },
             )

@@ -1,28 +1,25 @@
 -- Lists that match place by place, and what is found and changed in them.
-use Rattle.std.proofs.Common.{◌≡◌, ℕ, zero, suc, ◌<◌, ◌≤◌, Bool, true, false, List, [], ◌∷◌, length, set, get_or, slice_get, nat_lt, Option, Some, None, refl, sym, ap, ◌∙◌, arith}
+use Rattle.std.proofs.Common.{◌≡◌, ℕ, zero, suc, ◌<◌, ◌≤◌, Bool, true, false, List, [], ◌∷◌, length, map, set, get_or, slice_get, nat_lt, Option, Some, None, refl, sym, ap, ◌∙◌, arith}
 use Rattle.std.specs.List.{AllZip, AllByRecursion, find, position, position_or_len}
 use Rattle.std.proofs.lemmas.Bool.{ltb-false}
 use Rattle.std.proofs.lemmas.List.Quantifiers.{position-Some}
 use Rattle.dmc_core.specs.Run.{change_first}
 use Rattle.std.proofs.lemmas.Option.{same_Some}
 
--- ---- what is at a place of two lists
+-- ---- what is at a place of a list and of its image
 
-pub record At {A B : Type 0} (R : A → B → Type 0) (xs : List A) (ys : List B) (i : ℕ) : Type 0 where
+pub record At {A B : Type 0} (f : A → B) (xs : List A) (ys : List B) (i : ℕ) : Type 0 where
   pub x : A
   pub at : slice_get xs i ≡ Some x
-  pub y : B
-  pub found : slice_get ys i ≡ Some y
-  pub related : R x y
-  pub put : (x' : A) (y' : B) → R x' y' → AllZip R (set xs i x') (set ys i y')
+  pub found : slice_get ys i ≡ Some (f x)
+  pub put : (x' : A) (y' : B) → f x' ≡ y' → set ys i y' ≡ map f (set xs i x')
 
-pub at_place : {A B : Type 0} (R : A → B → Type 0) (xs : List A) (ys : List B) (i : ℕ) → AllZip R xs ys → i < length xs → At R xs ys i
-at_place R [] ys i z w = absurd (omega (arith, w))
-at_place R (x ∷ xs) [] i z w = absurd z
-at_place R (x ∷ xs) (y ∷ ys) zero z w = record { x = x; at = refl; y = y; found = refl; related = z.0; put = λ x' y' r. (r, z.1) }
-at_place R (x ∷ xs) (y ∷ ys) (suc i) z w =
-    let rest = at_place R xs ys i z.1 (omega (arith, w)) in
-    record { x = rest.x; at = rest.at; y = rest.y; found = rest.found; related = rest.related; put = λ x' y' r. (z.0, rest.put x' y' r) }
+pub at_place : {A B : Type 0} (f : A → B) (xs : List A) (ys : List B) (i : ℕ) → ys ≡ map f xs → i < length xs → At f xs ys i
+at_place f [] ys i e w = absurd (omega (arith, w))
+at_place f (x ∷ xs) ys zero e w = record { x = x; at = refl; found = rw e refl; put = λ x' y' is. rw (e, ← is) refl }
+at_place f (x ∷ xs) ys (suc i) e w =
+    let rest = at_place f xs (map f xs) i refl (omega (arith, w)) in
+    record { x = rest.x; at = rest.at; found = rw e rest.found; put = λ x' y' is. rw e (ap (λ zs. f x ∷ zs) (rest.put x' y' is)) }
 
 pub set_same : {A : Type 0} (xs : List A) (i : ℕ) (x : A) → slice_get xs i ≡ Some x → set xs i x ≡ xs
 set_same [] i x e = refl

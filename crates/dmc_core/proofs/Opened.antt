@@ -14,13 +14,12 @@ use Rattle.dmc_types.specs.declared.config.Counting.{Counting}
 use Rattle.dmc_types.specs.declared.command.Command.TheVariants.{Register}
 use Rattle.dmc_types.specs.declared.refusal.Refusal.{Refusal}
 use Rattle.dmc_tag.specs.Tag.{Tagging}
-use Rattle.dmc_tag.specs.State.{State, Represents, opening, client_named, effective}
+use Rattle.dmc_tag.specs.State.{State, PlainClient, opening, client_named, effective}
 use Rattle.dmc_tag.specs.Spacing.{spacings_of}
 use Rattle.dmc_tag.specs.Step.{step}
 use Rattle.dmc_tag.specs.Steps.{Steps}
 use Rattle.dmc_tag.specs.Replay.{state_after}
 use Rattle.dmc_tag.specs.Rules.{newcomer}
-use Rattle.dmc_tag.specs.declared.plain.PlainClient.{PlainClient}
 use Rattle.dmc_tag.specs.declared.reply.Reply.{Reply}
 use Rattle.dmc_tag.specs.declared.reply.Reply.TheVariants.{Registered, Refused}
 use Rattle.dmc_tag.proofs.ForCallers.{state_after-more}
@@ -34,7 +33,6 @@ use Rattle.dmc_core.specs.Core.{Held, Matches}
 use Rattle.dmc_core.specs.Parts.{IsKept, full_counts, full_counts_of}
 use Rattle.dmc_core.specs.Opening.{HaveSpacings, named_rates}
 use Rattle.dmc_core.specs.internal.Opening.{opening_client}
-use Rattle.dmc_tag.proofs.Agreement.{represents_itself}
 
 -- ---- ids that are apart
 
@@ -116,9 +114,9 @@ next_registers {T} ops scene i x apart spaced limit within is h =
       },
     )
 
--- a queue that represents the state before the next client's registration
+-- a queue that holds the state before the next client's registration
 module _ {T : Type 0} (ops : Tagging T) (scene : SceneValue) (cs : List ClientValue) (cs_are : cs ≡ scene.clients) (apart : AllPairs AreApart cs) (spaced : HaveSpacings ops scene) (limit : length cs ≤ max_scene_clients)
-    (i : ℕ) (x : ClientValue) (within : i < length cs) (is : x ≡ get_or cs i x) (h : HaveRegistered ops scene i) (old new : State T) (represents : Represents old (after_first ops scene i))
+    (i : ℕ) (x : ClientValue) (within : i < length cs) (is : x ≡ get_or cs i x) (h : HaveRegistered ops scene i) (old new : State T) (holds : old ≡ after_first ops scene i)
     (id : ClientId) (info : Rates) (at : ℕ) (id_is : id ≡ x.id) (info_is : info ≡ x.info) (at_is : at ≡ 0) where
   named : Register id info at ≡ Register x.id x.info 0
   named = rw (id_is, info_is, at_is) refl
@@ -129,18 +127,19 @@ module _ {T : Type 0} (ops : Tagging T) (scene : SceneValue) (cs : List ClientVa
   ruled : step ops (after_first ops scene i) (Register id info at) ≡ (after_first ops scene (i + 1), Registered)
   ruled = ap (step ops (after_first ops scene i)) named ∙ next.0
 
-  -- represents the state after it
-  pub next_represents : Steps ops old new (Register id info at) (Some Registered) → Represents new (after_first ops scene (i + 1)) × HaveRegistered ops scene (i + 1)
-  next_represents steps = (subst (λ (v : State T). Represents new v) (ap (λ (p : State T × Reply T). p.0) ruled) (steps (after_first ops scene i) represents).1, next.1)
+  -- a step from it is the one from that state
+  stepped : (reply : Reply T) → Steps ops old new (Register id info at) (Some reply) → ◌≡◌ {A = State T × Reply T} (new, reply) (after_first ops scene (i + 1), Registered)
+  stepped reply steps = steps ∙ ap (λ (u : State T). step ops u (Register id info at)) holds ∙ ruled
+
+  -- holds the state after it
+  pub next_holds : Steps ops old new (Register id info at) (Some Registered) → (new ≡ after_first ops scene (i + 1)) × HaveRegistered ops scene (i + 1)
+  next_holds steps = (ap (λ (p : State T × Reply T). p.0) (stepped Registered steps), next.1)
 
   -- and does not refuse it
   pub next_not_refused : (refusal : Refusal) → Steps ops old new (Register id info at) (Some (Refused refusal)) → ⊥
   next_not_refused refusal steps =
-      let same : Refused refusal ≡ Registered = (steps (after_first ops scene i) represents).0 ∙ ap (λ (p : State T × Reply T). p.1) ruled in
+      let same : Refused refusal ≡ Registered = ap (λ (p : State T × Reply T). p.1) (stepped (Refused refusal) steps) in
       cc
-
-pub represents_as : {T : Type 0} (u v : State T) → u ≡ v → Represents u v
-represents_as u v e = subst (Represents u) e (represents_itself u)
 
 -- ---- the run
 
@@ -150,12 +149,12 @@ none_at (suc n) zero = refl
 none_at (suc n) (suc i) = none_at n i
 
 module _ {T Q : Type 0} (state : Q → State T) (u : State T) (servers : List (CoreServer Q)) where
-  pub opened_servers : (n : ℕ) → length servers ≡ n → AllByRecursion (λ x. Represents (state x.queue) u × (x.full ≡ 0)) servers → AllZip (λ q v. Represents (state q) v) (map (λ x. x.queue) servers) (replicate n u)
-  opened_servers n e h = subst (λ (m : ℕ). AllZip (λ q v. Represents (state q) v) (map (λ x. x.queue) servers) (replicate m u)) e (go servers h)
+  pub opened_servers : (n : ℕ) → length servers ≡ n → AllByRecursion (λ x. (state x.queue ≡ u) × (x.full ≡ 0)) servers → replicate n u ≡ map state (map (λ x. x.queue) servers)
+  opened_servers n e h = subst (λ (m : ℕ). replicate m u ≡ map state (map (λ x. x.queue) servers)) e (go servers h)
     where
-      go : (xs : List (CoreServer Q)) → AllByRecursion (λ x. Represents (state x.queue) u × (x.full ≡ 0)) xs → AllZip (λ q v. Represents (state q) v) (map (λ x. x.queue) xs) (replicate (length xs) u)
-      go [] h = tt
-      go (x ∷ xs) h = (h.0.0, go xs h.1)
+      go : (xs : List (CoreServer Q)) → AllByRecursion (λ x. (state x.queue ≡ u) × (x.full ≡ 0)) xs → replicate (length xs) u ≡ map state (map (λ x. x.queue) xs)
+      go [] h = refl
+      go (x ∷ xs) h = ap (λ us. u ∷ us) (go xs h.1) ∙ ap (λ v. v ∷ map state (map (λ x. x.queue) xs)) (sym h.0.0)
 
 module _ (counting : Counting) (n : ℕ) where
   pub opened_clients : (cs : List ClientValue) → AllZip (Matches counting) (map (opening_client counting n) cs) (map (λ c. record { id = c.0; list = []; pairs = replicate n no_pair }) (map named_rates cs))

@@ -8,8 +8,8 @@ use Rattle.dmc_tag.specs.State.{is_client}
 use Rattle.dmc_core.specs.declared.event.CoreFault.TheVariants.{NoClient, NoServer}
 use Rattle.dmc_core.specs.Core.{Held, CoreValue}
 use Rattle.dmc_core.specs.Parts.{place_of}
-use Rattle.dmc_tag.proofs.Booleans.{eqb_turned}
-use Rattle.dmc_tag.proofs.Lists.{position_map}
+use Rattle.dmc_lemmas.proofs.Booleans.{eqb_turned}
+use Rattle.dmc_lemmas.proofs.Lists.{position_map}
 
 -- a look-up among the ids of what is held finds the client's place
 pub place_seen : (hs : List Held) (id : ClientId) → position (λ k. eqb id.0 k.0) (map (λ h. h.id) hs) ≡ position (λ h. is_client id h.id) hs

@@ -71,8 +71,9 @@ module _ {T Q : Type 0} (ops : Tagging T) (state : Q → State T) (core : CoreVa
     pull_served none q' reply steps hs clients = λ run r.
         let server = the_server state core run r s within in
         let room : are_grants_full s run.clients ≡ false = are_full s run.counting core.clients run.clients r.clients ∙ ap (nat_lt 0) none in
-        let stepped = steps server.x server.at server.y server.related in
-        let next = (step ops server.y (commands.Pull at)).0 in
+        let stepped = steps server.x server.at in
+        let replied : reply ≡ (step ops (state server.x) (commands.Pull at)).1 = ap (λ answer. answer.1) stepped in
+        let next = (step ops (state server.x) (commands.Pull at)).0 in
         let whole : outcome ops run (Pull s at) ≡ Ok (record run { servers = set run.servers s.0 next; clients = clients_after s reply run.clients }, Served reply) =
-        rw (server.found, room, ← stepped.0, after_pull_is s reply (with_server s next run)) refl in
-        rw whole (refl, record { servers = server.put q' next stepped.1; clients = clients run.counting run.clients r.clients })
+        rw (server.found, room, ← replied, after_pull_is s reply (with_server s next run)) refl in
+        rw whole (refl, record { servers = server.put q' next (ap (λ answer. answer.0) stepped); clients = clients run.counting run.clients r.clients })

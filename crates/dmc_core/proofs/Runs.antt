@@ -4,14 +4,14 @@ use Rattle.std.specs.Prelude.{Result, IsTrue, ◌⊎◌, position}
 use Rattle.std.specs.List.{AllZip}
 use Rattle.std.specs.Option.{ok_or}
 use Rattle.std.proofs.lemmas.Bool.{leb-true}
-use Rattle.std.proofs.lemmas.Slice.Zip.{AllZip-long}
+use Rattle.std.proofs.lemmas.List.{length-map}
 use Rattle.std.proofs.lemmas.Option.{slice_get_past}
 use Rattle.dmc_types.specs.declared.ids.ClientId.{ClientId}
 use Rattle.dmc_types.specs.declared.ids.ServerId.{ServerId}
 use Rattle.dmc_types.specs.declared.config.Counting.{Counting}
 use Rattle.dmc_types.specs.declared.command.Command.{Command}
 use Rattle.dmc_tag.specs.Tag.{Tagging}
-use Rattle.dmc_tag.specs.State.{State, Represents, is_client}
+use Rattle.dmc_tag.specs.State.{State, is_client}
 use Rattle.dmc_tag.specs.Outcome.{◌>>=◌, refuse_if}
 use Rattle.dmc_tag.specs.Step.{step}
 use Rattle.dmc_types.specs.declared.command.Command.TheVariants as commands
@@ -37,7 +37,7 @@ same_id id counting h c m = ap (is_client id) m.id
 
 module _ {T Q : Type 0} (state : Q → State T) (core : CoreValue Q) (run : Run T) (represents : RepresentsRun state core run) where
   as_many_servers : length run.servers ≡ length core.servers
-  as_many_servers = AllZip-long _ core.servers run.servers represents.servers
+  as_many_servers = ap length represents.servers ∙ length-map core.servers state
 
   pub no_client : (id : ClientId) → position (λ h. is_client id h.id) core.clients ≡ None → client_of run id ≡ Err faults.NoClient
   no_client id none = rw ((none_of_both (Matches run.counting) (λ h. is_client id h.id) (λ c. is_client id c.id) (same_id id run.counting) core.clients run.clients represents.clients none).0) refl
@@ -48,8 +48,8 @@ module _ {T Q : Type 0} (state : Q → State T) (core : CoreValue Q) (run : Run 
   pub the_client : (id : ClientId) (i : ℕ) → position (λ h. is_client id h.id) core.clients ≡ Some i → First (Matches run.counting) (λ c. is_client id c.id) core.clients run.clients i
   the_client id i place = first_of_both (Matches run.counting) (λ h. is_client id h.id) (λ c. is_client id c.id) (same_id id run.counting) core.clients run.clients i represents.clients place
 
-  pub the_server : (s : ServerId) → s.0 < length core.servers → At (λ q u. Represents (state q) u) core.servers run.servers s.0
-  the_server s within = at_place (λ q u. Represents (state q) u) core.servers run.servers s.0 represents.servers within
+  pub the_server : (s : ServerId) → s.0 < length core.servers → At state core.servers run.servers s.0
+  the_server s within = at_place state core.servers run.servers s.0 represents.servers within
 
 -- ---- a refusal of the rules
 
@@ -184,9 +184,9 @@ module _ {T Q : Type 0} (ops : Tagging T) (state : Q → State T) (event : CoreE
       → Follows ops state event core (record core { servers = set core.servers s.0 q' }) (Ok (Served reply))
   server_follows within q' reply steps = λ run r.
       let server = the_server state core run r s within in
-      let stepped = steps server.x server.at server.y server.related in
-      let whole : outcome ops run event ≡ Ok (with_server s ((step ops server.y command).0) run, Served ((step ops server.y command).1)) = event_is run ∙ rw server.found refl in
-      rw (whole, stepped.0) (refl, record { servers = server.put q' _ stepped.1; clients = r.clients })
+      let stepped = steps server.x server.at in
+      let whole : outcome ops run event ≡ Ok (with_server s ((step ops (state server.x) command).0) run, Served ((step ops (state server.x) command).1)) = event_is run ∙ rw server.found refl in
+      rw (whole, ap (λ p. p.1) stepped) (refl, record { servers = server.put q' _ (ap (λ p. p.0) stepped); clients = r.clients })
 
 -- ---- the commands that are events of a cluster as they are
 

@@ -1,10 +1,10 @@
 -- What contracts see of the core, and which states of a cluster run it represents.
-use Rattle.std.specs.Prelude.{◌≡◌, Bool, true, false, List, length, Result, Ok, Err}
+use Rattle.std.specs.Prelude.{◌≡◌, Bool, true, false, List, length, map, Result, Ok, Err}
 use Rattle.std.specs.List.{AllZip}
 use Rattle.dmc_types.specs.declared.ids.ClientId.{ClientId}
 use Rattle.dmc_types.specs.declared.config.Counting.{Counting}
 use Rattle.dmc_tag.specs.Tag.{Tagging}
-use Rattle.dmc_tag.specs.State.{State, Represents}
+use Rattle.dmc_tag.specs.State.{State}
 use Rattle.dmc_tag.specs.declared.reply.Reply.TheVariants.{Refused}
 use Rattle.dmc_tracker.specs.Numbers.{Numbers, RepresentsEvents}
 use Rattle.dmc_core.specs.Run.{Pair, Client, Run, max_completions}
@@ -36,9 +36,9 @@ pub record Matches (counting : Counting) (h : Held) (c : Client) : Type 0 where
   pub most : h.tracker.most ≡ max_completions
   pub servers : length h.tracker.servers ≡ length h.pairs
 
--- The core represents the run: each queue represents the server's plain state, and each client is as above.
+-- The core represents the run: each queue holds the server's plain state, and each client is as above.
 pub record RepresentsRun {T Q : Type 0} (state : Q → State T) (core : CoreValue Q) (run : Run T) : Type 0 where
-  pub servers : AllZip (λ q s. Represents (state q) s) core.servers run.servers
+  pub servers : run.servers ≡ map state core.servers
   pub clients : AllZip (Matches run.counting) core.clients run.clients
 
 -- ---- what a call does, of each run that the core represents
@@ -78,7 +78,7 @@ pub record Next {T : Type 0} (counting : Counting) (ruled : Result (Client × Co
   pub ruled_is : ruled ≡ Ok (next, reply)
   pub matches : Matches counting new next
 
--- the rule refuses; where memory is wanted it accepts
+-- the rule refuses; if memory is wanted it accepts
 abbrev pub IsRefusal : {T : Type 0} → CoreFault → Result (Client × CoreReply T) CoreFault → Type 0
 IsRefusal Memory ruled = is_accepted ruled ≡ true
 IsRefusal fault ruled = ruled ≡ Err fault

@@ -68,7 +68,7 @@ stamp counting s token client = do
   params ← Ok (demanded counting s client.list)
   Ok (after_stamp s (record { token = token; params = params }) client, Stamped params)
 
--- ---- Arrive: the oldest message goes to the queue; where that refuses it, it stays the oldest in flight
+-- ---- Arrive: the oldest message goes to the queue; if that refuses it, it stays the oldest in flight
 
 abbrev pub after_arrival : {T : Type 0} → Reply T → Pair → Pair
 after_arrival (Tagged tags) pair = with_flight (drop 1 pair.flight) pair

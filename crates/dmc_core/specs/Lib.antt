@@ -1,10 +1,11 @@
--- A cluster run: for each server a plain state, for each client a tracker list, for each pair its messages and its counts of grants.
+-- A cluster run: a plain state per server, a tracker list per client, and per pair of a client and a server the messages
+-- in flight and the counts of grants not yet responded.
 pub mod Run
--- What each event does to a cluster run, and its reply. A refused event changes nothing.
+-- What each event makes of a cluster run, and its reply. A refused event changes nothing.
 pub mod Events
--- What contracts see of the core, and which cluster runs it represents.
+-- What contracts see of the core, and which states of a cluster run it represents.
 pub mod Core
--- The parts of the core, and their invariants.
+-- What the core keeps, and what is true of it.
 pub mod Parts
 -- A tracker's refusal as one of the cluster.
 pub mod Faults

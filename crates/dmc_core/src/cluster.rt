@@ -104,7 +104,7 @@ impl<Q> Cluster<Q> {
         self.clients[place].stamp(server, token)
     }
 
-    /// The oldest message of a client to a server arrives at the server's queue. It stays in flight where the queue refuses it. As
+    /// The oldest message of a client to a server arrives at the server's queue. It stays in flight if the queue refuses it. As
     /// long as the queue has erased no client, the client has there the place that it has here.
     pub fn arrive<T: Tag>(
         &mut self,

@@ -4,6 +4,7 @@ ghost use Rattle.std.specs.Option.{option_map};
 ghost use Rattle.dmc_core.specs.Core.{Follows, RepresentsRun};
 ghost use Rattle.dmc_core.specs.Opening.{HaveSpacings, opening_of};
 ghost use Rattle.dmc_pull.specs.Queue.{state_of};
+ghost use Rattle.dmc_tag.specs.State.{queued_requests};
 
 use crate::cluster::Cluster;
 use crate::event::{CoreEvent, CoreFault, CoreReply};
@@ -64,7 +65,7 @@ impl<T: Tag> ClusterCore<T> {
 
     /// How many requests are queued at a server, if there is such a server.
     pub fn request_count(&self, server: ServerId) -> Option<u32>
-        ensures { result ≡ option_map (λ queue. length (state_of queue).requests) (slice_get self.now.servers server.0) }
+        ensures { result ≡ option_map (λ queue. length (queued_requests (state_of queue).clients)) (slice_get self.now.servers server.0) }
     {
         Some(self.cluster.queue(server)?.request_count())
     }

@@ -68,7 +68,7 @@ pub enum CoreEvent {
 pub enum CoreReply<T> {
     /// The request is stamped with these counts.
     Stamped(ReqParams),
-    /// What the server's queue replied. Where it refused the command, nothing has changed; a message that it refused is
+    /// What the server's queue replied. If it refused the command, nothing has changed; a message that it refused is
     /// still the oldest in flight.
     Served(Reply<T>),
     /// The completion is counted.

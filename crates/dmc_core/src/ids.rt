@@ -15,7 +15,7 @@ const SPREAD: u32 = 0x9E37_79B1;
 /// The ids of a scene's clients, in the scene's order.
 ///
 /// Each event of a cluster looks for a client. So a table has for each id, by a product of it, the place of a client that may be
-/// the one: that place is looked at first, and an id is hashed only where another is there.
+/// the one: that place is looked at first, and an id is hashed only if another is there.
 #[derive(Drop)]
 pub struct ClientIds {
     ids: IndexSet<ClientId>,
@@ -78,7 +78,7 @@ fn find_at(ids: &[ClientId], place: usize, client: ClientId) -> Option<usize>
     None
 }
 
-/// A table of hints for the ids of these clients, with some room between them. Where two have one slot, the later one has it.
+/// A table of hints for the ids of these clients, with some room between them. If two have one slot, the later one has it.
 fn hints_for(alloc: Global, clients: &[SceneClient]) -> Result<Vec<u32>, AllocError> {
     let mut hints = vec![in alloc; 0; clients.len().saturating_mul(8)]?;
     for (place, client) in clients.iter().enumerate() {

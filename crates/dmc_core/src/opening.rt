@@ -3,7 +3,7 @@
 ghost use Rattle.std.specs.Prelude.{◌≡◌, IfOk, OnOk, length, map};
 ghost use Rattle.std.specs.List.{AllByRecursion};
 ghost use Rattle.dmc_pull.specs.Queue.{state_of};
-ghost use Rattle.dmc_tag.specs.State.{Represents, opening};
+ghost use Rattle.dmc_tag.specs.State.{opening};
 ghost use Rattle.dmc_core.specs.Core.{RepresentsRun};
 ghost use Rattle.dmc_core.specs.Opening.{HaveSpacings, opening_of};
 ghost use Rattle.dmc_core.specs.internal.Opening.{opening_state, opening_client};
@@ -38,7 +38,7 @@ fn open_clients(alloc: Global, scene: &Scene) -> Result<Vec<CoreClient>, AllocEr
 fn register_all<T: Tag, Q: Scheduler<T>>(queue: &mut Q, scene: &Scene) -> Result<(), AllocError>
     requires opens { Q.state queue.old ≡ opening scene.now.config }
     requires spaced { HaveSpacings T.ops scene.now }
-    ensures { OnOk result (Represents (Q.state queue.new) (opening_state T.ops scene.now)) }
+    ensures { OnOk result (Q.state queue.new ≡ opening_state T.ops scene.now) }
 {
     for client in scene.clients() {
         match queue.register(client.id(), client.info(), Moment::zero()) {
@@ -57,7 +57,7 @@ fn open_server<T: Tag, Q: Scheduler<T> + Drop>(
 ) -> Result<CoreServer<Q>, AllocError>
     requires opens { Q.state queue ≡ opening scene.now.config }
     requires spaced { HaveSpacings T.ops scene.now }
-    ensures { IfOk result (λ server. Represents (Q.state server.queue) (opening_state T.ops scene.now) × (server.full ≡ 0)) }
+    ensures { IfOk result (λ server. (Q.state server.queue ≡ opening_state T.ops scene.now) × (server.full ≡ 0)) }
 {
     register_all(&mut queue, scene)?;
     Ok(CoreServer { queue, full: 0 })
@@ -70,7 +70,7 @@ fn open_servers<T: Tag, I: Indexes<T>>(
 ) -> Result<Vec<CoreServer<PullQueue<T, I>>>, AllocError>
     requires { HaveSpacings T.ops scene.now }
     ensures as_many { IfOk result (λ servers. length servers.items ≡ scene.now.servers) }
-    ensures each { IfOk result (λ servers. AllByRecursion (λ s. Represents (state_of s.queue) (opening_state T.ops scene.now) × (s.full ≡ 0)) servers.items) }
+    ensures each { IfOk result (λ servers. AllByRecursion (λ s. (state_of s.queue ≡ opening_state T.ops scene.now) × (s.full ≡ 0)) servers.items) }
 {
     let mut servers = Vec::with_capacity(alloc, scene.servers() as usize)?;
     for _ in 0..scene.servers() {

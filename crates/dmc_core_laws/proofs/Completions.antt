@@ -1,5 +1,5 @@
 -- In the form `All` the deltas between two arrivals sum to the completions between their stamps.
-use Rattle.std.proofs.Common.{◌≡◌, ℕ, zero, suc, ◌+◌, ◌-◌, ◌<◌, ◌≤◌, Bool, true, false, cond, ◌==◌, List, [], ◌∷◌, ◌++◌, map, length, drop, take, Some, refl, sym, ap, ◌∙◌, subst, arith, append_assoc, length-append}
+use Rattle.std.proofs.Common.{◌≡◌, ℕ, zero, suc, ◌+◌, ◌-◌, ◌<◌, ◌≤◌, Bool, true, false, cond, ◌==◌, List, [], ◌∷◌, ◌++◌, length, drop, take, Some, refl, sym, ap, ◌∙◌, subst, arith, append_assoc, length-append}
 use Rattle.std.specs.Prelude.{slice_get, sum_by, if◌then◌else◌}
 use Rattle.std.proofs.lemmas.List.Sums.{sum_by-cons, sum_by_push}
 use Rattle.std.proofs.lemmas.List.{append-nil, length-map, take-append-drop, take-append-le}
@@ -26,7 +26,7 @@ use Rattle.dmc_core_laws.proofs.Clients.{params_of}
 abbrev deltas : List Params → ℕ
 deltas ps = sum_by (λ p. p.delta) ps
 
--- ---- up to a stamp all completions were sent, where none were skipped
+-- ---- up to a stamp all completions were sent, if none were skipped
 
 module _ (s : ServerId) where
   -- right before a stamp to s

@@ -1,4 +1,4 @@
--- What an event of a cluster run gives where it is not refused.
+-- What an event of a cluster run gives if it is not refused.
 use Rattle.std.proofs.Common.{◌≡◌, ℕ, Bool, true, false, nat_le, ◌==◌, length, slice_get, Some, Ok, Err, refl, sym, ap, ◌∙◌}
 use Rattle.dmc_types.specs.declared.ids.ClientId.{ClientId}
 use Rattle.dmc_types.specs.declared.ids.ServerId.{ServerId}

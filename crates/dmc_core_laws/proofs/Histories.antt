@@ -25,7 +25,7 @@ use Rattle.dmc_core.specs.Opening.{named_rates, opening_of}
 use Rattle.dmc_core_laws.specs.Histories.{Answer, is_server, server_named, queue_command, recorded_events, registrations, history_from, oldest, HistoriesReplay}
 use Rattle.dmc_core_laws.proofs.Given.{step_goes, Gives, gives}
 use Rattle.std.proofs.lemmas.Option.{same_Some, slice_get_within}
-use Rattle.dmc_tag.proofs.Lists.{slice_get-set_same, slice_get-set_other}
+use Rattle.dmc_lemmas.proofs.Lists.{slice_get-set_same, slice_get-set_other}
 
 -- ---- lists
 

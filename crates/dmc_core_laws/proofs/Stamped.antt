@@ -16,7 +16,7 @@ use Rattle.dmc_tag.specs.Step.{step}
 use Rattle.dmc_tag.specs.declared.event.Event.{Event}
 use Rattle.dmc_tag.specs.declared.reply.Reply.{Reply}
 use Rattle.dmc_tag.specs.declared.reply.Reply.TheVariants as replies
-use Rattle.dmc_history_laws.specs.Bounds.{Arrival, arrival_of, arrivals}
+use Rattle.dmc_history_laws.specs.Bounds.{Arrival, arrivals}
 use Rattle.dmc_history_laws.proofs.ForCallers.{arrivals-append}
 use Rattle.dmc_scene.specs.SceneValue.{SceneValue}
 use Rattle.dmc_tracker.specs.TrackerList.{demanded, skips, IsTracked}
@@ -36,10 +36,10 @@ use Rattle.dmc_core_laws.proofs.Histories.{nothing_refused, nothing_handed}
 use Rattle.dmc_core_laws.proofs.Clients.{found_changed, found_same, params_of, IsFollowed, stamp_follows, response_follows, grant_follows, arrival_follows}
 use Rattle.std.proofs.lemmas.Option.{same_Some}
 use Rattle.dmc_tag.proofs.ForCallers.{same_client}
-use Rattle.dmc_tag.proofs.Lists.{found_passes}
+use Rattle.dmc_lemmas.proofs.Lists.{found_passes}
 
 module _ {T : Type 0} (ops : Tagging T) (counting : Counting) (id : ClientId) (s : ServerId) where
-  -- so it is of the client, where there is one
+  -- so it is of the client, if there is one
   pub record AreFollowed (arrived : List Params) (run : Run T) : Type 0 where
     pub form : run.counting ≡ counting
     pub each : (c : Client) → client_in run id ≡ Some c → IsFollowed counting s arrived c

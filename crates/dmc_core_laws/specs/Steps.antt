@@ -25,7 +25,7 @@ abbrev pub wants_memory : {T : Type 0} → Answer T → Bool
 wants_memory (Err Memory) = true
 wants_memory answer = false
 
--- the events that have replies: where an allocation failed nothing happened
+-- the events that have replies: if an allocation failed nothing happened
 abbrev pub heard : {T : Type 0} → List (CoreEvent × Answer T) → List (CoreEvent × Answer T)
 heard [] = []
 heard (x ∷ xs) = if wants_memory x.1 then heard xs else x ∷ heard xs

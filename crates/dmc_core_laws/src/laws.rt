@@ -16,14 +16,14 @@ pub fn arrivals_follow_stamps<T: Tag>()
     ensures { ArrivalsFollowStamps T.ops }
 {}
 
-/// Every cluster run keeps to the limits: where a server grants a client's a_k in phase Priority, not beyond, hz times the
+/// Every cluster run keeps to the limits: if a server grants a client's a_k in phase Priority, not beyond, hz times the
 /// client's completions at all servers between the stamps of a_i and a_k (in the form `Others`: the deltas of a_(i+1) .. a_k) is
 /// at most the limit times the ticks between.
 pub fn runs_keep_to_limits<T: Tag>()
     ensures { LimitOverRuns T.ops }
 {}
 
-/// Every cluster run keeps to the reservations: where a server grants a_k in phase Reservation, hz times the rhos of a_(i+1) ..
+/// Every cluster run keeps to the reservations: if a server grants a_k in phase Reservation, hz times the rhos of a_(i+1) ..
 /// a_k, less hz for each Priority grant of the client at the server after a_i, is at most the reservation times the ticks
 /// between.
 pub fn runs_keep_to_reservations<T: Tag>()

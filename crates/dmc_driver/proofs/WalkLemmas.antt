@@ -103,18 +103,18 @@ ends_after ends i = ap causes (sym (take-append-drop i ends)) ∙ causes_append 
 
 -- ---- the rest of a list, after what it begins with
 
--- it begins with one part more, where the rest begins with that
+-- it begins with one part more, if the rest begins with that
 pub rest_more : (stops before here rest after : List StopCause) → stops ≡ before ++ rest → rest ≡ here ++ after → stops ≡ (before ++ here) ++ after
 rest_more stops before here rest after at is = at ∙ ap (λ xs. before ++ xs) is ∙ sym (append_assoc before here after)
 
--- and with no list that has this part there, where the rest does not
+-- and with no list that has this part there, if the rest does not
 pub rest_other : (stops before here more rest : List StopCause) → stops ≡ before ++ rest → ((after : List StopCause) → rest ≡ here ++ after → ⊥)
     → (after : List StopCause) → stops ≡ ((before ++ here) ++ more) ++ after → ⊥
 rest_other stops before here more rest at none after is =
     none (more ++ after) (append_cancel_left before rest (here ++ (more ++ after))
     (sym at ∙ is ∙ append_assoc (before ++ here) more after ∙ append_assoc before here (more ++ after)))
 
--- nothing is left exactly where the list is the two parts
+-- nothing is left exactly if the list is the two parts
 pub none_left : (stops front back others rest : List StopCause) → stops ≡ front ++ others → others ≡ back ++ rest
     → (((length rest == 0) ≡ true) ↔ (stops ≡ front ++ back))
 none_left stops front back others rest at is = (
@@ -124,7 +124,7 @@ none_left stops front back others rest at is = (
       eq-eqb (length rest) 0 (omega (arith, ap length (sym is ∙ all), length-append back rest))),
 )
 
--- where the rest does not begin with the second part, the list is not the two parts
+-- if the rest does not begin with the second part, the list is not the two parts
 pub other_rest : (stops front back others : List StopCause) → stops ≡ front ++ others → ((rest : List StopCause) → others ≡ back ++ rest → ⊥) → stops ≡ front ++ back → ⊥
 other_rest stops front back others at none same = none [] (append_cancel_left front others back (sym at ∙ same) ∙ sym (append-nil back))
 

@@ -56,8 +56,8 @@ pub record IsRunReport {T : Type 0} (ops : Tagging T) (scene : SceneValue) (limi
 
 -- ---- what comes of what was left
 
--- By a report, where the servers' own workers ended so: torn exactly where the histories do not explain that, and with the report
--- where they do.
+-- By a report, if the servers' own workers ended so: torn exactly if the histories do not explain that, and with the report
+-- if they do.
 abbrev pub EndsWith : {T : Type 0} → SceneValue → List (List (Option StopCause)) → ClusterReport T → Result (ClusterReport T) (DriveFault T) → Type 0
 EndsWith scene ends r (Ok given) = (given ≡ r) × AreExplained scene ends r
 EndsWith scene ends r (Err Memory) = ⊥
@@ -65,7 +65,7 @@ EndsWith scene ends r (Err Torn) = AreExplained scene ends r → ⊥
 EndsWith scene ends r (Err (TurnsOut given)) = (given ≡ r) × AreExplained scene ends r
 EndsWith scene ends r (Err (Stopped given)) = (given ≡ r) × AreExplained scene ends r
 
--- And by what was left: torn where that does not belong together, and else as its report says.
+-- And by what was left: torn if that does not belong together, and else as its report says.
 abbrev pub Settles : {T : Type 0} → Tagging T → SceneValue → LimitsValue → Left T → List (List (Option StopCause)) → Result (ClusterReport T) (DriveFault T) → Type 0
 Settles {T} ops scene limits left ends result =
     ((AreTogether scene left → ⊥) × (result ≡ Err Torn)) ⊎ ((r : ClusterReport T) × IsReportOfLeft ops scene limits left r × EndsWith scene ends r result)

@@ -1,4 +1,4 @@
--- When a run is done, and when its round limit was reached.
+-- How a run ends.
 pub mod Done
 -- What is promised of a run, however it ends.
 pub mod Ending

@@ -39,7 +39,7 @@ IsServerStop most pulls misses Memory = pulls ≤ most
 IsServerStop most pulls misses Spawn = pulls ≡ 0
 IsServerStop most pulls misses Stray = ⊥
 
--- where it did not stop, some pull found nothing, and it did not pull more often than it may
+-- if it did not stop, some pull found nothing, and it did not pull more often than it may
 abbrev pub IsServerEnd : ℕ → ℕ → ℕ → Option StopCause → Type 0
 IsServerEnd most pulls misses None = (pulls ≤ most) × (0 < misses)
 IsServerEnd most pulls misses (Some cause) = IsServerStop most pulls misses cause
@@ -55,7 +55,7 @@ abbrev pub listed : Option StopCause → List StopCause
 listed None = []
 listed (Some cause) = cause ∷ []
 
--- the causes, where there are some
+-- the causes, if there are some
 abbrev pub causes : List (Option StopCause) → List StopCause
 causes [] = []
 causes (end ∷ ends) = listed end ++ causes ends
@@ -103,7 +103,7 @@ IsClientEnd requests sent (Some Stray) = ⊥
 abbrev pub ends_of : List (Vec (Option StopCause)) → List (List (Option StopCause))
 ends_of ends = map (λ (own : Vec (Option StopCause)). own.items) ends
 
--- The histories explain the stops of the report, where the servers' own workers ended so, server by server.
+-- The histories explain the stops of the report, if the servers' own workers ended so, server by server.
 pub record AreExplained {T : Type 0} (scene : SceneValue) (ends : List (List (Option StopCause))) (r : ClusterReport T) : Type 0 where
   pub ends_of_each : length ends ≡ length r.servers.items
   pub servers : (k : ℕ) (s : ServerReport T) (own : List (Option StopCause)) → slice_get r.servers.items k ≡ Some s
@@ -111,6 +111,6 @@ pub record AreExplained {T : Type 0} (scene : SceneValue) (ends : List (List (Op
   pub clients : (k : ℕ) (client : ClientValue) (c : ClientReport) → slice_get scene.clients k ≡ Some client
       → slice_get r.clients.items k ≡ Some c → IsClientEnd client.requests c.sent c.stop
 
--- they are, where the servers' own workers ended in some way
+-- they are, if the servers' own workers ended in some way
 abbrev pub AreStops : {T : Type 0} → SceneValue → ClusterReport T → Type 0
 AreStops scene r = (ends : List (List (Option StopCause))) × AreExplained scene ends r

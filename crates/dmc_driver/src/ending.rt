@@ -82,7 +82,7 @@ fn ran_out<T: Tag>(report: &ClusterReport<T>) -> bool
     false
 }
 
-/// How a run ends, by its report, where the servers' own workers ended so.
+/// How a run ends, by its report, if the servers' own workers ended so.
 pub(crate) fn end<T: Tag>(
     scene: &Scene,
     report: ClusterReport<T>,

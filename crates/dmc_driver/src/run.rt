@@ -34,11 +34,11 @@ use std::thread::Threads;
 /// returns when all of them have ended.
 ///
 /// Each client's worker sends its requests to the servers that its plan names, with at most its window outstanding. Each worker of
-/// a server pulls, has what is granted served, and responds. The answer is Ok where every client sent and completed its requests,
+/// a server pulls, has what is granted served, and responds. The answer is Ok if every client sent and completed its requests,
 /// nothing is left, and no worker stopped; otherwise see `DriveFault`. An allocation failure in a thread is a stop in the
 /// report.
 ///
-/// Where it is `Torn`, `settle_run` is, whose contract says exactly when; neither opening nor a limit is a reason. That it never
+/// If it is `Torn`, `settle_run` is, whose contract says exactly when; neither opening nor a limit is a reason. That it never
 /// is, is not proved: a contract does not follow a value through a lock, so it cannot say which book a thread finds behind one.
 pub fn run_cluster<T, R, V, M>(
     rt: &R,
@@ -122,7 +122,7 @@ where
 }
 
 /// Settles what the workers of a run with these limits left, and reports the result: the last step of `run_limited`. It is `Torn`
-/// where that does not belong together, and where it does and the histories do not explain how the workers ended; for no other
+/// if that does not belong together, and if it does and the histories do not explain how the workers ended; for no other
 /// reason. It does not allocate.
 pub fn settle_run<T: Tag, I: Indexes<T>, S: Setup>(
     alloc: Global,

@@ -153,7 +153,7 @@ fn refused_at<T: Tag>(place: usize, history: &EventHistory<T>) -> Option<StopCau
     }
 }
 
-/// The stops after this one, if it is one; `None` where it is not the first of them.
+/// The stops after this one, if it is one; `None` if it is not the first of them.
 fn after_stop(stop: Option<StopCause>, stops: &[StopCause]) -> Option<&[StopCause]>
     ensures { IsRestAfter (listed stop) stops.now result }
 {
@@ -164,7 +164,7 @@ fn after_stop(stop: Option<StopCause>, stops: &[StopCause]) -> Option<&[StopCaus
     if *first == cause { Some(rest) } else { None }
 }
 
-/// The stops after what was refused of the first commands; `None` where they do not begin with that.
+/// The stops after what was refused of the first commands; `None` if they do not begin with that.
 fn after_refused<'a, T: Tag>(
     commands: usize,
     history: &EventHistory<T>,
@@ -179,7 +179,7 @@ fn after_refused<'a, T: Tag>(
     Some(rest)
 }
 
-/// The stops after those of these ends that are one; `None` where they do not begin with those.
+/// Strips the stops in `ends` from the front of `stops`; `None` if they differ.
 fn after_ends<'a>(ends: &[Option<StopCause>], stops: &'a [StopCause]) -> Option<&'a [StopCause]>
     ensures { IsRestAfter (causes ends.now) stops.now result }
 {
@@ -190,7 +190,7 @@ fn after_ends<'a>(ends: &[Option<StopCause>], stops: &'a [StopCause]) -> Option<
     Some(rest)
 }
 
-/// Whether a server's stops are what was refused of the first commands and then those of its workers.
+/// Whether `stops` lists the refused registrations first, then its workers' stops, in order.
 fn are_causes<T: Tag>(
     commands: usize,
     history: &EventHistory<T>,
@@ -208,7 +208,7 @@ fn are_causes<T: Tag>(
     rest.is_empty()
 }
 
-/// Whether a server's stops are those that its history explains, where its own workers ended so.
+/// Whether a server's stops are those that its history explains, if its own workers ended so.
 fn are_server_stops<T: Tag>(
     scene: &Scene,
     server: u32,
@@ -225,7 +225,7 @@ fn are_server_stops<T: Tag>(
         && are_causes(scene.clients().len(), &row.history, ends, &row.stops)
 }
 
-/// Whether the stops of each server are.
+/// Whether every server's stops are explained by its history.
 fn are_stops_of_servers<T: Tag>(
     scene: &Scene,
     rows: &[ServerReport<T>],
@@ -271,7 +271,7 @@ fn are_client_ends(clients: &[SceneClient], rows: &[ClientReport]) -> bool
     true
 }
 
-/// Whether the histories explain the stops of a report, where the servers' own workers ended so.
+/// Whether the histories explain the stops of a report, if the servers' own workers ended so.
 pub(crate) fn are_stops<T: Tag>(
     scene: &Scene,
     report: &ClusterReport<T>,

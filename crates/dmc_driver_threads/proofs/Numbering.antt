@@ -5,7 +5,7 @@ use Rattle.std.specs.List.{AllByRecursion}
 use Rattle.std.proofs.lemmas.Bool.{eqb-true, false_from_ne_true}
 use Rattle.dmc_types.specs.declared.ids.ClientId.{ClientId}
 use Rattle.dmc_types.specs.declared.ids.WorkerId.{WorkerId}
-use Rattle.dmc_tag.proofs.Lists.{all_as, all_next}
+use Rattle.dmc_lemmas.proofs.Lists.{all_as, all_next}
 use Rattle.dmc_ledger.specs.Bundles.{ClientSide}
 use Rattle.dmc_book.specs.Opening.{AreApart}
 use Rattle.dmc_scene.specs.SceneValue.{ClientValue}

@@ -12,7 +12,7 @@ use Rattle.dmc_types.specs.declared.command.Command.{Command}
 use Rattle.dmc_tag.specs.Tag.{Tagging}
 use Rattle.dmc_tag.specs.declared.event.Event.{Event}
 use Rattle.dmc_tag.specs.declared.reply.Reply.{Reply}
-use Rattle.dmc_tag.proofs.Lists.{position_map}
+use Rattle.dmc_lemmas.proofs.Lists.{position_map}
 use Rattle.dmc_ledger.specs.Bundles.{ClientSide}
 use Rattle.dmc_book.specs.BookState.{BookState, PassState, WorkerSide, no_worker, pass_state}
 use Rattle.dmc_book.specs.Calls.{Ran, event_of}

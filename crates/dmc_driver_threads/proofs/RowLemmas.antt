@@ -25,7 +25,7 @@ module _ {T : Type 0} where
   abbrev number_of : ServerReport T → ℕ
   number_of r = r.server.0
 
-  -- the row at a place is what stands there
+  -- the row at a place is what the list has there
   at_place : {Y : Type 0} (f : ServerReport T → Y) (rows : List (ServerReport T)) (k : ℕ) (r : ServerReport T) (d : Y) → slice_get rows k ≡ Some r → f r ≡ get_or (map f rows) k d
   at_place f rows k r d at =
       sym (ap f (get_or_from_slice_get rows k r r at)) ∙ sym (get_or-map f rows k r d (slice_get_within rows k r at))

@@ -2,7 +2,7 @@
 pub mod LimitsValue
 -- What each server and each client's tracker of a run is opened with, and keeps.
 pub mod Opened
--- The value where no run was opened.
+-- The value if no run was opened.
 pub mod Origins
 -- What only the proofs and the contracts of private functions speak of.
 pub mod internal

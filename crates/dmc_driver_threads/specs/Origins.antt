@@ -1,4 +1,4 @@
--- The value where no run was opened.
+-- The value if no run was opened.
 use Rattle.std.specs.Prelude.{[]}
 use Rattle.dmc_types.specs.declared.config.AtLimit.TheVariants.{Wait}
 use Rattle.dmc_types.specs.declared.config.Counting.TheVariants.{All}

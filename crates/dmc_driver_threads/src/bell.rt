@@ -62,7 +62,7 @@ impl Ringer {
         let _ = self.sender.try_send_as::<Free, R>(rt, &mut self.pass, ring);
     }
 
-    /// One more that rings at the same door.
+    /// Another sender on the same channel.
     pub(crate) fn another(&mut self) -> Result<Ringer, AllocError> {
         let sender = self.sender.try_clone()?;
         let pass = self.sender.another::<Alike>(&mut self.pass);
@@ -71,7 +71,7 @@ impl Ringer {
 }
 
 impl Doorbell {
-    /// Waits for a ring. Where nobody can ring any more, it returns Stop.
+    /// Waits for a ring. If nobody can ring any more, it returns Stop.
     pub(crate) fn hear<R: Wait>(&mut self, rt: &R) -> Ring {
         match self.receiver.recv_as::<Free, R>(rt, &mut self.pass) {
             Ok(ring) => ring,

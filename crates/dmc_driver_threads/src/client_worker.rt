@@ -53,7 +53,7 @@ where
     job.stop = send_all(rt, cluster, moments, job).err();
 }
 
-/// Sends the requests, each with its number as its token. It waits for a ring where the window is full.
+/// Sends the requests, each with its number as its token. It waits for a ring if the window is full.
 fn send_all<T, I, S, M, R>(
     rt: &R,
     cluster: &Cluster<QueueBook<T, I, S>, AsOpened<S>, S>,

@@ -1,7 +1,7 @@
 //! What the workers of a run share.
 use crate::origin::{ClientLock, Origin};
 use dmc_qlock::lock::LockedQueue;
-use dmc_tlock::witness::{Lasting, Witness};
+use dmc_shared::witness::{Lasting, Witness};
 use dmc_types::ids::ClientId;
 use indexmap::IndexSet;
 

@@ -12,9 +12,9 @@ use dmc_ledger::setup::Setup;
 use dmc_qlock::lock::LockedQueue;
 use dmc_settle::report::{ClientReport, ServerReport, StopCause};
 use dmc_settle::settle::Passes;
+use dmc_shared::witness::{Lasting, Witness};
 use dmc_tag::tag::Tag;
 use dmc_tlock::book::TrackerBook;
-use dmc_tlock::witness::{Lasting, Witness};
 
 /// Room for the books that are taken out of their locks.
 #[derive(Drop)]

@@ -27,7 +27,7 @@ impl Model for Limits {
 }
 
 impl Limits {
-    /// These limits, or `None` where one is out of its own.
+    /// These limits, or `None` if one is out of its own.
     pub fn new(events: u32, completions: u32) -> Option<Limits>
         ensures some { IsSome result ↔ ((256 ≤ events) × (events ≤ max_events) × (1 ≤ completions)) }
         ensures value { IfSome result (λ limits. limits ≡ record { events = events; completions = completions }) }

@@ -20,8 +20,8 @@ use dmc_book::book::QueueBook;
 use dmc_index::index::Indexes;
 use dmc_ledger::mint::Mint;
 use dmc_scene::scene::Scene;
+use dmc_shared::witness::{Lasting, Witness};
 use dmc_tag::tag::Tag;
-use dmc_tlock::witness::{Lasting, Witness};
 use indexmap::IndexSet;
 use std::alloc::{AllocError, Global};
 
@@ -167,7 +167,7 @@ fn reserve_locks<B: Lasting, W: Witness<B>, S: Origin>(
     Ok(())
 }
 
-/// Puts one item more at the end. Where there is no memory for it, it is dropped.
+/// Puts one item more at the end. If there is no memory for it, it is dropped.
 fn push_last<X: Drop>(item: X, items: &mut Vec<X>) -> Result<(), AllocError>
     ensures { OnOk result (items.new.items ≡ items.old.items ++ item ∷ []) }
 {

@@ -8,10 +8,10 @@ use dmc_book::book::QueueBook;
 use dmc_index::index::Indexes;
 use dmc_ledger::setup::Setup;
 use dmc_qlock::lock::LockedQueue;
+use dmc_shared::witness::Witness;
 use dmc_tag::tag::Tag;
 use dmc_tlock::book::TrackerBook;
 use dmc_tlock::lock::LockedTracker;
-use dmc_tlock::witness::Witness;
 use std::marker::{Brand, PhantomData};
 
 /// A set-up in which one run is opened: of this scene, and within these limits. Proofs alone know them. Whoever opens the set-up

@@ -11,9 +11,9 @@ use dmc_book::pass::WorkerPass;
 use dmc_index::index::Indexes;
 use dmc_ledger::setup::Setup;
 use dmc_settle::report::StopCause;
+use dmc_shared::witness::{Lasting, Witness};
 use dmc_tag::reply::Pulled;
 use dmc_tag::tag::Tag;
-use dmc_tlock::witness::{Lasting, Witness};
 use dmc_types::ids::ServerId;
 use std::sync::Wait;
 
@@ -32,7 +32,7 @@ pub(crate) struct ServerJob<S: Setup> {
     pub(crate) stop: Option<StopCause>,
 }
 
-/// The work of a server's worker. Where it stops, so do the clients.
+/// The work of a server's worker. If it stops, so do the clients.
 pub(crate) fn run_server<T, I, S, V, M, R>(
     rt: &R,
     cluster: &Cluster<QueueBook<T, I, S>, AsOpened<S>, S>,

@@ -14,7 +14,7 @@ use Rattle.dmc_index.specs.Index.{slot_of_key, IsEmpty, IsLeast, IsApart, IsApar
 use Rattle.dmc_head_index.specs.declared.head.Head.{Head}
 use Rattle.dmc_head_index.specs.Heads.{Ranks, IsOthers, AreApart, IsFirst}
 use Rattle.dmc_head_index.proofs.Slots.{some_if_mapped, none_if_mapped, is_some_mapped, slot_of_key-set_same, slot_of_key-set_other}
-pub use Rattle.dmc_tag.proofs.Orderings.{same_compare, tag_order}
+pub use Rattle.dmc_lemmas.proofs.Orderings.{same_compare, tag_order}
 
 different_clients : (a b : ClientId) → is_client a b ≡ false → client_cmp a b ≡ Equal → ⊥
 different_clients a b e q = eqb-false b.0 a.0 e (sym (exact_unsigned a.0 b.0 q))
@@ -57,7 +57,7 @@ module _ {T R : Type 0} (rank : Head T → R) (heads : List (Option (Head T))) (
   found_first compare key_of rank_of None h = is_empty h
   found_first compare key_of rank_of (Some p) h = is_first compare (key_of p) (rank_of p) h
 
--- where the key holds nothing, a rank that is apart from those of the others is so from all
+-- if the key holds nothing, a rank that is apart from those of the others is so from all
 pub apart_from_all : {R : Type 0} (compare : R → R → Ordering) (slots : List (Option R)) (key : ℕ) (x : R) → slot_of_key slots key ≡ None → IsApartFromOthers compare slots key x → IsApart compare slots x
 apart_from_all compare slots key x vacant apart k other q =
     apart k other (λ e. let no : slot_of_key slots key ≡ Some other = ap (slot_of_key slots) (sym e) ∙ q in cc) q

@@ -1,4 +1,4 @@
--- The ready marks, set where L is at most t and reset where it is above t.
+-- The ready marks, set if L is at most t and reset if it is above t.
 use Rattle.std.proofs.Common.{◌≡◌, ℕ, zero, suc, ◌<◌, List, [], ◌∷◌, map, Option, Some, None, set, count_by, cond, refl, sym, ap, ◌∙◌, subst, inl, inr, Bool, true, false, not, ◌&&◌, ◌||◌, IsSome, IsSomeAnd, arith}
 use Rattle.std.specs.Option.{option_map, option_map_or}
 use Rattle.std.specs.declared.cmp.Ordering.{Ordering}
@@ -18,7 +18,7 @@ use Rattle.dmc_head_index.specs.declared.head.Head.{Head}
 use Rattle.dmc_head_index.specs.Heads.{limit_rank, IsFirst, with_ready_mark, set_back}
 use Rattle.dmc_head_index.specs.internal.Marks.{with_ready, is_past, CanMark}
 use Rattle.dmc_head_index.proofs.Slots.{map_set, set-slot_of_key, slot_of_key-map}
-use Rattle.dmc_tag.proofs.Orderings.{then_less}
+use Rattle.dmc_lemmas.proofs.Orderings.{then_less}
 
 or_true : (a d : Bool) → a ≡ true → (a || d) ≡ a
 or_true true d e = refl
@@ -72,7 +72,7 @@ module _ {T : Type 0} (ops : Tagging T) (t : ℕ) where
     first_head k h q e =
         let both : Some (limit_rank h) ≡ Some least = sym (ap (option_map limit_rank) q) ∙ ap (λ n. option_map limit_rank (slot_of_key heads n)) e ∙ first.here in cc
 
-    -- where the first is ready, all are
+    -- if the first is ready, all are
     pub all_ready : least.ready ≡ true → map (option_map (with_ready_mark ops t)) heads ≡ heads
     all_ready r = same_heads (with_ready_mark ops t) heads (λ k h q. still_ready h (ready k h q)) where
       ready : (k : ℕ) (h : Head T) → slot_of_key heads k ≡ Some h → h.ready ≡ true
@@ -89,7 +89,7 @@ module _ {T : Type 0} (ops : Tagging T) (t : ℕ) where
       at false g =
           let due : is_due ops t (Some least.tag) ≡ true = ap not (upto order least.tag tag (ops.of_moment t) l g) in cc
 
-    -- where the first is unready and above t, no unready one is due
+    -- if the first is unready and above t, no unready one is due
     pub none_due : least.ready ≡ false → is_due ops t (Some least.tag) ≡ false → map (option_map (with_ready_mark ops t)) heads ≡ heads
     none_due r d = same_heads (with_ready_mark ops t) heads (λ k h q. at k h q h.ready refl) where
       behind : (k : ℕ) (h : Head T) → slot_of_key heads k ≡ Some h → h.ready ≡ false → AtMost ops least.tag h.tags.l

@@ -5,8 +5,8 @@ use Rattle.std.proofs.lemmas.Bool.{cases_lt, cases_eq}
 use Rattle.std.proofs.lemmas.List.Sums.{sum_by-cons}
 use Rattle.std.proofs.lemmas.List.{get_or_past, get_or-set_same}
 use Rattle.dmc_index.specs.Index.{slot_of_key}
-use Rattle.dmc_tag.proofs.Options.{option_cases}
-pub use Rattle.dmc_tag.proofs.Options.{is_some_mapped}
+use Rattle.dmc_lemmas.proofs.Options.{option_cases}
+pub use Rattle.dmc_lemmas.proofs.Options.{is_some_mapped}
 pub use Rattle.dmc_index.proofs.Slots.{same_slots, slot_of_key-more, slot_of_key-set_other, slot_of_key-map}
 
 pub some_of : {X : Type 0} (o : Option X) → IsSome o → (x : X) × (o ≡ Some x)

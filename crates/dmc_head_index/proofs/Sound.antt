@@ -60,7 +60,7 @@ module _ {T : Type 0} (ops : Tagging T) (reservation : List (Option (TagRank T))
   own_key : (key : ℕ) (old h : Head T) → slot_of_key (heads_from reservation limits ready) key ≡ Some old → old.client ≡ h.client → IsOthers (heads_from reservation limits ready) key h.client
   own_key key old h here e = subst (IsOthers (heads_from reservation limits ready) key) e (sound.apart key old here)
 
-  -- all keys are vacant where an index holds none
+  -- all keys are vacant if an index holds none
   pub empty_if : (first : Bool) → first ≡ (count_by is_some ready == 0) → first ≡ true → IsEmpty (heads_from reservation limits ready)
   empty_if first e f =
       is_empty ready_rank (heads_from reservation limits ready) ready sound.weight_is (none_if_count_zero ready (eqb-true (count_by is_some ready) 0 (sym e ∙ f)))

@@ -9,7 +9,7 @@ use Rattle.dmc_tag.specs.Rank.{tag_rank_cmp, limit_rank_cmp, ready_rank_cmp}
 use Rattle.dmc_tag.specs.declared.rank.TagRank.{TagRank}
 use Rattle.dmc_tag.specs.declared.rank.LimitRank.{LimitRank}
 use Rattle.dmc_tag.specs.declared.rank.ReadyRank.{ReadyRank}
-use Rattle.dmc_tag.proofs.Orderings.{then_equal}
+use Rattle.dmc_lemmas.proofs.Orderings.{then_equal}
 use Rattle.dmc_index.specs.Index.{slot_of_key, IsApart, IsApartFromOthers}
 use Rattle.dmc_head_index.specs.declared.head.Head.{Head}
 use Rattle.dmc_head_index.specs.Heads.{tag_rank, limit_rank, ready_rank, Ranks, heads_from, IsOthers, AreApart, IsSound}
@@ -73,7 +73,7 @@ module _ {T : Type 0} {ops : Tagging T} {reservation : List (Option (TagRank T))
     pub weight_apart : {x : ReadyRank T} → x ≡ ready_rank h → IsApartFromOthers (ready_rank_cmp compare) ready key x
     weight_apart {x = x} e = rank_apart ready_rank heads ready in_weight (ready_rank_cmp compare) (λ r. r.client) (λ h. refl) (λ a b q. then_equal _ _ (then_equal _ _ q)) key h.client others x (ap (λ (r : ReadyRank T). r.client) e)
 
-    -- where the key is vacant, it is apart from all
+    -- if the key is vacant, it is apart from all
     module _ (vacant : slot_of_key heads key ≡ None) where
       pub reservation_new : {x : TagRank T} → x ≡ tag_rank h → IsApart (tag_rank_cmp compare) reservation x
       reservation_new {x = x} e = apart_from_all (tag_rank_cmp compare) reservation key x (reservation_vacant key vacant) (reservation_apart e)

@@ -88,10 +88,10 @@ shifted ops amount h = record h { tags = record (h.tags) { p = less ops amount h
 abbrev pub CanShift : {T : Type 0} → Tagging T → T → List (Option (Head T)) → Type 0
 CanShift {T} ops amount heads = (key : ℕ) (head : Head T) → slot_of_key heads key ≡ Some head → has_less ops amount head.tags.p ≡ true
 
--- ready where its L is at most t, or where it was ready before
+-- ready if its L is at most t, or if it was ready before
 abbrev pub with_ready_mark : {T : Type 0} → Tagging T → ℕ → Head T → Head T
 with_ready_mark ops t h = record h { ready = h.ready || is_due ops t (Some h.tags.l) }
 
--- unready where its L is above t
+-- unready if its L is above t
 abbrev pub set_back : {T : Type 0} → Tagging T → ℕ → Head T → Head T
 set_back ops t h = record h { ready = h.ready && is_due ops t (Some h.tags.l) }

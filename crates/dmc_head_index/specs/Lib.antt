@@ -1,4 +1,4 @@
--- The clients' first requests, as a map from keys, and what an index over them holds.
+-- The clients' first requests, as a finite map from keys, and what an index over them holds.
 pub mod Heads
 -- What is known of the least P.
 pub mod Least

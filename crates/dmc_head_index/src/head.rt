@@ -7,7 +7,7 @@ use dmc_tag::reply::Tags;
 use dmc_types::ids::ClientId;
 use std::alloc::AllocError;
 
-/// A client, the tags of its first request, and the ready mark. The mark is true only where the L of the request is known to be
+/// A client, the tags of its first request, and the ready mark. The mark is true only if the L of the request is known to be
 /// at most the last effective moment.
 #[derive(Copy, Debug)]
 pub struct Head<T> {

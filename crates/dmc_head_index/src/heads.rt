@@ -27,7 +27,7 @@ pub struct Heads<T: Tag, I: Indexes<T>> {
     reservation: I::ReservationIndex,
     limit: I::LimitIndex,
     weight: I::WeightIndex,
-    // The least P, where it is known.
+    // The least P, if it is known.
     least: Option<T>,
     // The capacity of the last index.
     room: usize,
@@ -107,14 +107,14 @@ impl<T: Tag, I: Indexes<T>> Heads<T, I> {
         self.reservation.least()
     }
 
-    /// The key of the least L of the unready heads, or of all where none is unready, and the rank.
+    /// The key of the least L of the unready heads, or of all if none is unready, and the rank.
     pub fn least_by_limit(&self) -> Option<(usize, &LimitRank<T>)>
         ensures { MatchOption result (IsEmpty self.now) (λ p. IsFirst heads_of.limit_rank (limit_rank_cmp T.ops.compare) self.now p.0 p.1.now) }
     {
         self.limit.least()
     }
 
-    /// The key of the least P of the ready heads, or of all where none is ready, and the rank.
+    /// The key of the least P of the ready heads, or of all if none is ready, and the rank.
     pub fn least_by_weight(&self) -> Option<(usize, &ReadyRank<T>)>
         ensures { MatchOption result (IsEmpty self.now) (λ p. IsFirst heads_of.ready_rank (ready_rank_cmp T.ops.compare) self.now p.0 p.1.now) }
     {
@@ -193,7 +193,7 @@ impl<T: Tag, I: Indexes<T>> Heads<T, I> {
         }
     }
 
-    /// The least P of all heads, and `None` where there is no head. It is stored until a head with that P is removed or changed,
+    /// The least P of all heads, and `None` if there is no head. It is stored until a head with that P is removed or changed,
     /// and then found again by a pass over the keys.
     pub fn least_share(&mut self) -> Option<T>
         ensures value { MatchOption result (IsEmpty self.old) (IsLeastShare T.ops self.old) }

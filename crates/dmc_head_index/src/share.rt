@@ -30,7 +30,7 @@ fn least_of_two<T: Tag>(a: Option<T>, b: Option<T>) -> Option<T>
     }
 }
 
-/// The least when a head is added: known where it is the first, or where it was known.
+/// The least when a head is added: known if it is the first, or if it was known.
 pub fn least_with<T: Tag>(is_first: bool, least: Option<T>, share: T) -> Option<T>
     ensures { result ≡ least_among.least_with T.ops is_first least share }
 {
@@ -54,7 +54,7 @@ pub fn least_without<T: Tag>(least: Option<T>, share: T) -> Option<T>
     Some(known)
 }
 
-/// The least when the P of a head changes: the new one where that is at most the old least, and no longer known if the head had
+/// The least when the P of a head changes: the new one if that is at most the old least, and no longer known if the head had
 /// the least.
 pub fn least_after<T: Tag>(least: Option<T>, old: T, new: T) -> Option<T>
     ensures { result ≡ least_among.least_after T.ops least old new }

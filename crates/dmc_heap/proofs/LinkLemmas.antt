@@ -7,8 +7,8 @@ use Rattle.std.proofs.lemmas.Option.{slice_get_within}
 use Rattle.dmc_heap.specs.Heap.{rank_at, IsLinked}
 use Rattle.dmc_heap.specs.internal.Heap.{rank_of}
 use Rattle.dmc_heap.specs.declared.indexed_heap.Entry.{Entry}
-pub use Rattle.dmc_tag.proofs.Options.{option_cases}
-use Rattle.dmc_tag.proofs.Lists.{slice_get-set_same, slice_get-set_other}
+pub use Rattle.dmc_lemmas.proofs.Options.{option_cases}
+use Rattle.dmc_lemmas.proofs.Lists.{slice_get-set_same, slice_get-set_other}
 
 -- ---- the rank of a key
 

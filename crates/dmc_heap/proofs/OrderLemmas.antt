@@ -13,7 +13,7 @@ use mir.Val.{bool_byte}
 use Rattle.dmc_heap.specs.Heap.{parent_of, IsUpto, IsHeap, IsLinked}
 use Rattle.dmc_heap.specs.internal.Heap.{IsHole, IsMoved, IsUnderParent, IsOverChildren, IsLowerChild, IsSettled}
 use Rattle.dmc_heap.specs.declared.indexed_heap.Entry.{Entry}
-use Rattle.dmc_tag.proofs.Lists.{slice_get-set_same, slice_get-set_other}
+use Rattle.dmc_lemmas.proofs.Lists.{slice_get-set_same, slice_get-set_other}
 use Rattle.dmc_heap.proofs.LinkLemmas.{IsLinked-move, rank_of-move}
 
 -- ---- what a comparison says

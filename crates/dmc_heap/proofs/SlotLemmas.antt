@@ -13,7 +13,7 @@ use Rattle.dmc_heap.specs.Heap.{rank_at, slots_of, parent_of, IsLinked, IsHeap}
 use Rattle.dmc_heap.specs.internal.Heap.{rank_of, IsHole}
 use Rattle.dmc_heap.specs.declared.indexed_heap.Entry.{Entry}
 use Rattle.dmc_heap.specs.declared.indexed_heap.TheConstants.{VACANT}
-use Rattle.dmc_tag.proofs.Lists.{slice_get-set_same, slice_get-set_other, slice_get-append, slice_get-push}
+use Rattle.dmc_lemmas.proofs.Lists.{slice_get-set_same, slice_get-set_other, slice_get-append, slice_get-push}
 use Rattle.dmc_index.proofs.Slots.{same_slots}
 use Rattle.dmc_heap.proofs.LinkLemmas.{option_cases, rank_of_some, rank_of_none, IsLinked-move, rank_of-move, keys_apart}
 use Rattle.dmc_heap.proofs.OrderLemmas.{upto_trans}
@@ -100,7 +100,7 @@ module _ {R : Type 0} where
 -- ---- where a key is
 
 module _ {R : Type 0} (heap : List (Entry R)) (places : List ℕ) (linked : IsLinked heap places) where
-  -- a key that is held has an index, where its entry is
+  -- a key that is held has an index, if its entry is
   pub place_of_held : (key : ℕ) (rank : R) → rank_of heap places key ≡ Some rank → (place : ℕ) × ((entry : Entry R) × (slice_get places key ≡ Some place) × (slice_get heap place ≡ Some entry) × (entry.key ≡ key) × (entry.rank ≡ rank))
   place_of_held key rank h =
       option_cases (slice_get places key) (λ none. cc (rank_of_none heap places key none)) (λ place some. option_cases (slice_get heap place) (λ none. cc (ap (option_and_then (rank_at heap)) some ∙ ap (option_map (λ (e : Entry R). e.rank)) none)) (λ entry there. (place, (entry, some, there, linked.keyed key place entry some there, same_Some entry.rank rank (sym (rank_of_some heap places key place entry some there) ∙ h)))))

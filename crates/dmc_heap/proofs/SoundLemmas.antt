@@ -17,7 +17,7 @@ use Rattle.dmc_heap.specs.declared.indexed_heap.Entry.{Entry}
 use Rattle.dmc_heap.specs.declared.indexed_heap.TheConstants.{VACANT}
 use Rattle.dmc_heap.proofs.LinkLemmas.{option_cases, rank_of_some, rank_of_none}
 use Rattle.dmc_heap.proofs.OrderLemmas.{upto_trans, upto_itself}
-use Rattle.dmc_tag.proofs.Lists.{slice_get-append}
+use Rattle.dmc_lemmas.proofs.Lists.{slice_get-append}
 use Rattle.dmc_index.proofs.Slots.{slot_of_key-more, count-set_some, count_below}
 use Rattle.dmc_heap.proofs.SlotLemmas.{push_cases, replicate_cases, slot_of_key-slots_of, slots_of-set, AreApart-set, count_changed, count_removed, place_of_held, IsHole-change, rank_of_changed, rank_of_others, IsHole-push, rank_of_pushed, rank_of_others_pushed, IsLinked-pop, rank_of_popped, rank_of_others_popped, IsHeap-pop, IsHole-remove, rank_of_removed, rank_of_others_left}
 
@@ -242,7 +242,7 @@ module _ {R : Type 0} (compare : R → R → Ordering) (o : IsTotalOrder compare
         let same : get_or heap i x ≡ x = get_or_from_slice_get heap i x x h in
         (slice_get-get_or new i x (omega arith), maps.keys i x in' ∙ ap (λ (e : Entry R). e.key) same, subst (λ (e : Entry R). gives e.rank (get_or new i x).rank) same (maps.ranks i x in'))
 
-    -- where a mapped entry comes from
+    -- the entry that a mapped one is the image of
     old_entry : (i : ℕ) (y : Entry R) → slice_get new i ≡ Some y → (slice_get heap i ≡ Some (get_or heap i y)) × (y.key ≡ (get_or heap i y).key) × gives (get_or heap i y).rank y.rank
     old_entry i y h =
         let size = maps.size in

@@ -125,7 +125,7 @@ module _ {E : Type 0} where
   events_of-push [] b empty = rw empty refl
   events_of-push (a ∷ bs) b empty = ap (λ events. a.items ++ events) (events_of-push bs b empty)
 
-  -- where more may be filled, it makes a whole block of slots, or as many as may be
+  -- if more may be filled, it makes a whole block of slots, or as many as may be
   pub room_of-push : (blocks : List (Vec E)) (b : Vec E) (len most : ℕ) → len ≤ 1024 * length blocks → len + room_of blocks len most < most
       → room_of (blocks ++ b ∷ []) len most ≡ min (room_of blocks len most + block_size) (most - len)
   room_of-push blocks b len most within fewer = omega (arith, length-append blocks (b ∷ []))

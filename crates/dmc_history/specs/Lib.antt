@@ -2,5 +2,3 @@
 pub mod Blocks
 -- What contracts see of a history.
 pub mod Log
--- A list that is released in segments.
-pub mod Segments

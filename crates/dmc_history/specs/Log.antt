@@ -15,6 +15,6 @@ block_size = 1024
 abbrev pub FillBlocks : ℕ → Type 0
 FillBlocks count = count % block_size ≡ 0
 
--- The slots end after this number of events: at the end of a block, or where the history has the most that it may.
+-- The slots end after this number of events: at the end of a block, or if the history has the most that it may.
 abbrev pub EndSlots : (count most : ℕ) → Type 0
 EndSlots count most = FillBlocks count ⊎ (count ≡ most)

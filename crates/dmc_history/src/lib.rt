@@ -4,7 +4,7 @@
 ghost use Rattle.std.specs.Prelude.{◌≡◌, ◌↔◌, ◌+◌, ◌-◌, ◌<◌, ◌≤◌, [], ◌∷◌, ◌++◌, length, IsTrue, OnOk, OnErr, IsErrOf, IsOk, min, option_copied, slice_get, vec_capacity};
 ghost use Rattle.std.specs.Global.{Vec};
 ghost use Rattle.dmc_types.specs.Limits.{max_events};
-ghost use Rattle.dmc_history.specs.Log.{EndSlots, block_size};
+ghost use Rattle.dmc_history.specs.Log.{EndSlots, FillBlocks, block_size};
 
 pub use dmc_tag::event::Event;
 use dmc_types::limits::MAX_EVENTS;
@@ -73,7 +73,7 @@ impl<E> Model for History<E> {
 }
 
 impl<E: Drop> History<E> {
-    /// An empty history of at most `most` events. It does not allocate, and is refused `Limit` where `most` is not 1 to 2^30.
+    /// An empty history of at most `most` events. It does not allocate, and is refused `Limit` if `most` is not 1 to 2^30.
     pub fn new(alloc: Global, most: u32) -> Result<History<E>, LimitFault>
         ensures ok { (0 < most) × (most ≤ max_events) → result ≡ Ok (record { events = []; most = most; room = 0 }) }
         ensures refused { ((0 < most) × (most ≤ max_events) → ⊥) → result ≡ Err LimitFault.Limit }
@@ -113,7 +113,7 @@ impl<E: Drop> History<E> {
         self.most
     }
 
-    /// The number of reserved slots. They end with a block, or where the history has its `most` events.
+    /// The number of reserved slots. They end with a block, or if the history has its `most` events.
     pub fn room(&self) -> usize
         ensures value { result ≡ self.now.room }
         ensures bound { length self.now.events + result ≤ self.now.most }
@@ -130,15 +130,17 @@ impl<E: Drop> History<E> {
         self.blocks.get(index / BLOCK)?.get(index % BLOCK)
     }
 
-    /// Reserves a slot, which the next push uses. It is refused `HistoryFull` exactly where the history has its `most` events,
-    /// and then `Memory` where an allocation failed. A slot that is reserved already is used again, without an allocation. Where
-    /// none is, a whole block of slots is allocated: 1,024, or as many as the history may still have.
+    /// Reserves a slot, which the next push uses. It is refused `HistoryFull` exactly if the history has its `most` events,
+    /// and then `Memory` if an allocation failed. A slot that is reserved already is used again, without an allocation. If
+    /// none is, a whole block of slots is allocated: 1,024, or as many as the history may still have. So `Memory` comes only
+    /// if the events fill their blocks.
     pub fn reserve_one(&mut self) -> Result<(), ReserveFault>
         ensures ok { OnOk result (0 < self.new.room) }
         ensures fewer { OnOk result (length self.old.events < self.old.most) }
         ensures block { OnOk result (self.old.room ≡ 0
             → self.new.room ≡ min block_size (self.old.most - length self.old.events)) }
         ensures full { IsErrOf result ReserveFault.HistoryFull ↔ (length self.old.events ≡ self.old.most) }
+        ensures memory { IsErrOf result ReserveFault.Memory → FillBlocks (length self.old.events) }
         ensures reserved { 0 < self.old.room → IsOk result }
 
         // The events stay, whatever the result, and so does a slot that was reserved.
@@ -157,8 +159,8 @@ impl<E: Drop> History<E> {
     }
 
     /// Makes sure that `n` slots are reserved, at most a block of them, for the next `n` pushes. It is refused `HistoryFull`
-    /// exactly where the history may not have `n` events more, and then `Memory` where an allocation failed. Where `n` slots are
-    /// reserved already, nothing is allocated; where fewer are, one block is.
+    /// exactly if the history may not have `n` events more, and then `Memory` if an allocation failed. If `n` slots are
+    /// reserved already, nothing is allocated; if fewer are, one block is.
     pub fn reserve(&mut self, n: usize) -> Result<(), ReserveFault>
         requires { n ≤ block_size }
         ensures ok { OnOk result (n ≤ self.new.room) }

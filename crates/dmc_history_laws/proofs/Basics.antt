@@ -12,10 +12,9 @@ use Rattle.dmc_types.specs.declared.refusal.Refusal.{Refusal}
 use Rattle.dmc_types.specs.declared.refusal.Refusal.TheVariants.{Unknown, QueueFull, Range}
 use Rattle.dmc_tag.specs.Tag.{Tagging}
 use Rattle.dmc_tag.specs.Outcome.{◌>>=◌, refuse_if}
-use Rattle.dmc_tag.specs.State.{State, is_client, client_named}
+use Rattle.dmc_tag.specs.State.{State, PlainClient, is_client, client_named, queued_requests}
 use Rattle.dmc_tag.specs.Rules.{Outcome, shift_of, can_shift_by, assigned, can_add}
 use Rattle.dmc_tag.specs.declared.reply.Tags.{Tags}
-use Rattle.dmc_tag.specs.declared.plain.PlainClient.{PlainClient}
 use Rattle.dmc_tag.proofs.TagOrder.{bound, from_option}
 use Rattle.dmc_tag.proofs.Ids.{client_turned}
 
@@ -62,17 +61,17 @@ bind_goes P (Err e) f h k = h e
 pub record AddGives {T : Type 0} (ops : Tagging T) (s : State T) (id : ClientId) (params : Params) (t : T) (x : Option T × Tags T) : Type 0 where
   pub client : PlainClient T
   pub named : client_named id s.clients ≡ Some client
-  pub shift : shift_of ops s.requests client t ≡ Ok x.0
-  pub can : can_shift_by ops x.0 s.clients s.requests ≡ true
+  pub shift : shift_of ops s.clients client t ≡ Ok x.0
+  pub can : can_shift_by ops x.0 s.clients ≡ true
   pub tags : assigned ops s.config.hz client params t ≡ Ok x.1
 
 pub add_gives : {T : Type 0} (ops : Tagging T) (s : State T) (id : ClientId) (params : Params) (t : T) (x : Option T × Tags T) → can_add ops s id params t ≡ Ok x → AddGives ops s id params t x
 add_gives ops s id params t x e =
     let c = bound (ok_or (client_named id s.clients) Unknown) _ x e in
-    let full = bound (refuse_if (nat_le max_requests (length s.requests)) QueueFull) _ x c.2 in
-    let shift = bound (shift_of ops s.requests c.0 t) _ x full.2 in
-    let range = bound (refuse_if (not (can_shift_by ops shift.0 s.clients s.requests)) Range) _ x shift.2 in
+    let full = bound (refuse_if (nat_le max_requests (length (queued_requests s.clients))) QueueFull) _ x c.2 in
+    let shift = bound (shift_of ops s.clients c.0 t) _ x full.2 in
+    let range = bound (refuse_if (not (can_shift_by ops shift.0 s.clients)) Range) _ x shift.2 in
     let tags = bound (assigned ops s.config.hz c.0 params t) _ x range.2 in
     let shift_is : shift.0 ≡ x.0 = cc (tags.2) in
     let tags_are : tags.0 ≡ x.1 = cc (tags.2) in
-    record { client = c.0; named = from_option _ _ _ c.1; shift = shift.1 ∙ ap Ok shift_is; can = subst (λ o. can_shift_by ops o s.clients s.requests ≡ true) shift_is (not-false _ (allowed _ Range range.0 range.1)); tags = tags.1 ∙ ap Ok tags_are }
+    record { client = c.0; named = from_option _ _ _ c.1; shift = shift.1 ∙ ap Ok shift_is; can = subst (λ o. can_shift_by ops o s.clients ≡ true) shift_is (not-false _ (allowed _ Range range.0 range.1)); tags = tags.1 ∙ ap Ok tags_are }

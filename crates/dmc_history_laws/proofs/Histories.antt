@@ -1,28 +1,26 @@
 -- Whole histories: what stays so in each, and how the requests of a client came and left.
-use Rattle.std.proofs.Common.{◌≡◌, ℕ, ◌≤◌, Bool, true, false, not, cond, List, [], ◌∷◌, ◌++◌, map, length, drop, Option, Some, None, Ok, Err, refl, sym, ap, ◌∙◌, subst, arith, zero, suc, ◌+◌, ◌-◌, ◌<◌, append_assoc, length-append, length-drop}
-use Rattle.std.specs.Prelude.{filter, ⊤, if◌then◌else◌}
+use Rattle.std.proofs.Common.{◌≡◌, ℕ, ◌≤◌, Bool, true, false, List, [], ◌∷◌, ◌++◌, map, length, drop, Option, Some, None, refl, sym, ap, ◌∙◌, subst, arith, zero, suc, ◌+◌, ◌-◌, ◌<◌, append_assoc, length-append, length-drop}
+use Rattle.std.specs.Prelude.{⊤, if◌then◌else◌}
 use Rattle.std.specs.Cmp.{IsTotalOrder}
+use Rattle.std.specs.Option.{option_map, option_map_or}
 use Rattle.std.proofs.lemmas.List.{append-nil, length-map, map-append}
 use Rattle.dmc_types.specs.Values.{Params, Setting}
 use Rattle.dmc_types.specs.declared.ids.ClientId.{ClientId}
 use Rattle.dmc_types.specs.declared.ids.Token.{Token}
 use Rattle.dmc_types.specs.declared.config.PhaseType.{PhaseType}
-use Rattle.dmc_types.specs.declared.refusal.Refusal.{Refusal}
 use Rattle.dmc_types.specs.declared.command.Command.{Command}
 use Rattle.dmc_types.specs.declared.command.Command.TheVariants.{Register, Update, Add, Pull, Remove, Clean}
 use Rattle.dmc_tag.specs.Tag.{Tagging, Fraction, IsExact}
-use Rattle.dmc_tag.specs.State.{State, is_client, requests_of, effective, opening}
+use Rattle.dmc_tag.specs.State.{State, PlainClient, is_client, client_named, requests_of, effective, opening}
+use Rattle.dmc_tag.specs.Best.{Found}
 use Rattle.dmc_tag.specs.Rules as rules_of
-use Rattle.dmc_tag.specs.Rules.{Outcome}
-use Rattle.dmc_tag.specs.Step.{answer_of, step}
-use Rattle.dmc_tag.specs.declared.plain.PlainRequest.{PlainRequest}
+use Rattle.dmc_tag.specs.Step.{step}
+use Rattle.dmc_tag.specs.declared.plain.QueuedRequest.{QueuedRequest}
 use Rattle.dmc_tag.specs.declared.reply.Reply.{Reply}
-use Rattle.dmc_tag.specs.declared.reply.Reply.TheVariants.{Granted}
+use Rattle.dmc_tag.specs.declared.reply.Reply.TheVariants.{Registered, Updated, Tagged, Granted, Later, Nothing, Removed, Cleaned, Refused}
 use Rattle.dmc_history_laws.specs.Bounds.{Arrival, arrival_of, departed, arrivals, departures, InOrderOfArrival}
-use Rattle.dmc_history_laws.proofs.Basics.{bind_goes}
-use Rattle.dmc_history_laws.proofs.InTurn.{IsGrant, pull_is, AreInTurn}
-use Rattle.dmc_history_laws.proofs.Own.{own_of, own-first, own-append, own-removed, own-taken, own-shifted, own-unreduced}
-use Rattle.dmc_history_laws.proofs.Pacing.{all_left, same_requests}
+use Rattle.dmc_history_laws.proofs.Becomes.{Says, IsLike, AreLike, IsNext, step_becomes}
+use Rattle.dmc_history_laws.proofs.InTurn.{AreInTurn}
 use Rattle.dmc_tag.specs.Replay.{replays_from}
 use Rattle.dmc_tag.specs.declared.event.Event.{Event}
 pub use Rattle.dmc_tag.proofs.Running.{after_from}
@@ -31,10 +29,14 @@ use Rattle.dmc_history_laws.proofs.TurnSteps.{step_stays}
 pub none_left : {X : Type 0} (xs : List X) → xs ≡ drop 0 (xs ++ [])
 none_left xs = sym (append-nil xs)
 
+pub all_left : {X : Type 0} (xs : List X) → [] ≡ drop (length xs) (xs ++ [])
+all_left [] = refl
+all_left (x ∷ xs) = all_left xs
+
 module _ {T : Type 0} (ops : Tagging T) (order : IsTotalOrder ops.compare) (id : ClientId) where
   -- the tokens of the client's queued requests
-  abbrev pub tokens_of : List (PlainRequest T) → List Token
-  tokens_of requests = own_of (λ r. r.token) id requests
+  abbrev pub tokens_of : State T → List Token
+  tokens_of s = map (λ r. r.token) (requests_of id s.clients)
 
   abbrev pub tokens_in : List Arrival → List Token
   tokens_in arrivals = map (λ (a : Arrival). a.token) arrivals
@@ -48,67 +50,68 @@ module _ {T : Type 0} (ops : Tagging T) (order : IsTotalOrder ops.compare) (id :
   Takes (Pull at) (Granted client token phase beyond) tokens = is_client id client ≡ true → front tokens ≡ Some token
   Takes c reply tokens = ⊤
 
-  abbrev pub Moves : Command → State T → State T × Reply T → Type 0
-  Moves c s p = (tokens_of p.0.requests ≡ drop (departed id c p.1) (tokens_of s.requests ++ tokens_in (arrival_of id c p.1))) × (departed id c p.1 ≤ length (tokens_of s.requests)) × Takes c p.1 (tokens_of s.requests)
+  abbrev pub Moves : Command → State T → Reply T → State T → Type 0
+  Moves c s reply new = (tokens_of new ≡ drop (departed id c reply) (tokens_of s ++ tokens_in (arrival_of id c reply))) × (departed id c reply ≤ length (tokens_of s)) × Takes c reply (tokens_of s)
 
   module _ (s : State T) where
-    abbrev Goes : Command → Outcome T → Type 0
-    Goes c o = Moves c s (answer_of s o)
+    -- the tokens of a record
+    abbrev tokens_at : Option (PlainClient T) → List Token
+    tokens_at o = map (λ r. r.token) (option_map_or (λ c. c.requests) o [])
 
-    refused : (c : Command) (e : Refusal) → Goes c (Err e)
-    refused (Register client info at) e = (none_left _, omega arith, tt)
-    refused (Update client info at) e = (none_left _, omega arith, tt)
-    refused (Add client token params at) e = (none_left _, omega arith, tt)
-    refused (Pull at) e = (none_left _, omega arith, tt)
-    refused (Remove client) e = (none_left _, omega arith, tt)
-    refused (Clean at) e = (none_left _, omega arith, tt)
+    named_tokens : (new : State T) (o : Option (PlainClient T)) → client_named id new.clients ≡ o → tokens_of new ≡ tokens_at o
+    named_tokens new o e = ap tokens_at e
 
-    add_goes : (client : ClientId) (token : Token) (params : Params) (at : ℕ) → Goes (Add client token params at) (rules_of.added ops s client token params (effective s at))
-    add_goes client token params moment = bind_goes (Goes (Add client token params moment)) (rules_of.can_add ops s client params (ops.of_moment (effective s moment))) _ (refused (Add client token params moment)) (λ x e. (
-      own-append (λ r. r.token) id (rules_of.shifted_requests ops x.0 s.clients s.requests) _
-          ∙ ap (λ ts. ts ++ tokens_of (record { client = client; token = token; tags = x.1 } ∷ [])) (own-shifted ops (λ r. r.token) id (λ r p. refl) x.0 s.clients s.requests)
-          ∙ ap (λ ts. tokens_of s.requests ++ ts) (own-first (λ r. r.token) id (record { client = client; token = token; tags = x.1 }) [] _ refl ∙ one (is_client id client)),
-      omega arith,
-      tt,
-    )) where
-      one : (b : Bool) → cond b (token ∷ []) [] ≡ tokens_in (if b then record { token = token; params = params } ∷ [] else [])
-      one true = refl
-      one false = refl
+    like_tokens : (o p : Option (PlainClient T)) → AreLike o p → tokens_at p ≡ tokens_at o
+    like_tokens None None h = refl
+    like_tokens None (Some d) h = absurd h
+    like_tokens (Some c) None h = ap (map (λ r. r.token)) (sym h)
+    like_tokens (Some c) (Some d) h = h.tokens
 
-    remove_goes : (client : ClientId) → Goes (Remove client) (rules_of.removed s client)
-    remove_goes client = bind_goes (Goes (Remove client)) (rules_of.can_remove s client) _ (refused (Remove client)) (λ u e. at (is_client id client) refl) where
-      at : (own : Bool) → is_client id client ≡ own → (tokens_of (filter (λ (r : PlainRequest T). not (is_client client r.client)) s.requests) ≡ drop (if own then length (requests_of client s.requests) else 0) (tokens_of s.requests ++ [])) × ((if own then length (requests_of client s.requests) else 0) ≤ length (tokens_of s.requests)) × ⊤
-      at true e =
-          let n = same_requests (λ (r : PlainRequest T). r.token) id client e s.requests in
-          (own-removed (λ r. r.token) id client true e s.requests ∙ all_left (tokens_of s.requests) ∙ ap (λ k. drop k (tokens_of s.requests ++ [])) (sym n), omega arith, tt)
-      at false e = (own-removed (λ r. r.token) id client false e s.requests ∙ none_left (tokens_of s.requests), omega arith, tt)
+    moved : (c : Command) (reply : Reply T) (new : State T) (came : List Arrival) (left prior : ℕ) → Says id c reply came left prior → tokens_of new ≡ drop left (tokens_of s ++ tokens_in came) → left ≤ length (tokens_of s) → Takes c reply (tokens_of s) → Moves c s reply new
+    moved c reply new came left prior says now within takes = (
+      now ∙ ap (λ n. drop n (tokens_of s ++ tokens_in came)) (sym says.left_is) ∙ ap (λ them. drop (departed id c reply) (tokens_of s ++ tokens_in them)) (sym says.came_is),
+      subst (λ n. n ≤ length (tokens_of s)) (sym says.left_is) within,
+      takes,
+    )
 
-    grant_goes : (moment : ℕ) (r : PlainRequest T) (others : List (PlainRequest T)) (amount : Option T) (phase : PhaseType) (beyond : Bool) → IsGrant ops s (effective s moment) r others amount phase beyond → Goes (Pull moment) (Ok (rules_of.reduced_by ops r.client amount (rules_of.without s (effective s moment) others), rules_of.granted r phase beyond))
-    grant_goes moment r others amount phase beyond g = at (is_client id r.client) refl where
-      taken : (own : Bool) → is_client id r.client ≡ own → tokens_of s.requests ≡ cond own (r.token ∷ tokens_of others) (tokens_of others)
-      taken own e =
-          ap tokens_of g.whole
-          ∙ own-taken (λ r. r.token) id r g.front g.back g.first own e
-          ∙ ap (λ ys. cond own (r.token ∷ tokens_of ys) (tokens_of ys)) (sym g.rest)
+    -- a grant of another client takes none
+    takes_none : (c : Command) (reply : Reply T) → departed id c reply ≡ 0 → Takes c reply (tokens_of s)
+    takes_none (Register client info at) reply e = tt
+    takes_none (Update client info at) reply e = tt
+    takes_none (Add client token params at) reply e = tt
+    takes_none (Pull at) Registered e = tt
+    takes_none (Pull at) Updated e = tt
+    takes_none (Pull at) (Tagged tags) e = tt
+    takes_none (Pull at) (Granted client token phase beyond) e = λ own. let one : 1 ≡ 0 = sym (ap (λ b. if b then 1 else 0) own) ∙ e in absurd (omega (arith, one))
+    takes_none (Pull at) (Later m) e = tt
+    takes_none (Pull at) Nothing e = tt
+    takes_none (Pull at) (Removed count) e = tt
+    takes_none (Pull at) (Cleaned idled erased) e = tt
+    takes_none (Pull at) (Refused refusal) e = tt
+    takes_none (Remove client) reply e = tt
+    takes_none (Clean at) reply e = tt
 
-      left : tokens_of (rules_of.reduced_requests ops r.client amount others) ≡ tokens_of others
-      left = own-unreduced ops (λ r. r.token) id (λ r o. refl) r.client amount others
+    reduced_tokens : (found : Found T) (amount : Option T) → map (λ r. r.token) (rules_of.after_grant ops found amount).requests ≡ map (λ r. r.token) found.others
+    reduced_tokens found None = refl
+    reduced_tokens found (Some amount) = same found.others where
+      same : (xs : List (QueuedRequest T)) → map (λ r. r.token) (map (rules_of.less_reservation ops amount) xs) ≡ map (λ r. r.token) xs
+      same [] = refl
+      same (x ∷ xs) = ap (λ ts. x.token ∷ ts) (same xs)
 
-      at : (own : Bool) → is_client id r.client ≡ own → (tokens_of (rules_of.reduced_requests ops r.client amount others) ≡ drop (if own then 1 else 0) (tokens_of s.requests ++ [])) × ((if own then 1 else 0) ≤ length (tokens_of s.requests)) × (is_client id r.client ≡ true → front (tokens_of s.requests) ≡ Some r.token)
-      at true e = (
-        left ∙ none_left (tokens_of others) ∙ ap (λ ts. drop 1 (ts ++ [])) (sym (taken true e)),
-        subst (λ ts. 1 ≤ length ts) (sym (taken true e)) (omega arith),
-        (λ own. ap front (taken true e)),
-      )
-      at false e = (left ∙ none_left (tokens_of others) ∙ ap (λ ts. ts ++ []) (sym (taken false e)), omega arith, (λ own. cc))
-
-    pub step_moves : (c : Command) → AreInTurn ops order s → Moves c s (step ops s c)
-    step_moves (Register client info at) turn = bind_goes (Goes (Register client info at)) (rules_of.can_register ops s client info) _ (refused (Register client info at)) (λ u e. (none_left _, omega arith, tt))
-    step_moves (Update client info at) turn = bind_goes (Goes (Update client info at)) (rules_of.can_update ops s client info) _ (refused (Update client info at)) (λ u e. (none_left _, omega arith, tt))
-    step_moves (Add client token params at) turn = add_goes client token params at
-    step_moves (Pull at) turn = pull_is ops order s (effective s at) turn.pairs (Goes (Pull at)) (refused (Pull at)) (λ m. (none_left _, omega arith, tt)) (none_left _, omega arith, tt) (grant_goes at)
-    step_moves (Remove client) turn = remove_goes client
-    step_moves (Clean at) turn = (none_left _, omega arith, tt)
+    pub step_moves : (c : Command) → AreInTurn ops order s → Moves c s ((step ops s c).1) ((step ops s c).0)
+    step_moves c is = step_becomes ops order id s is (λ c reply new. Moves c s reply new)
+        (λ c reply new o says like next. moved c reply new [] 0 0 says (named_tokens new o next.named ∙ like_tokens _ o like ∙ none_left _) (omega arith) (takes_none c reply says.left_is))
+        (λ client info at new own none next. moved (Register client info at) Registered new [] 0 0 (record { came_is = refl; left_is = refl; prior_is = refl }) (named_tokens new _ next.named ∙ ap (λ ts. ts ++ []) (sym (named_tokens s None none))) (omega arith) tt)
+        (λ client info at new c own named next. moved (Update client info at) Updated new [] 0 0 (record { came_is = refl; left_is = refl; prior_is = refl }) (named_tokens new _ next.named ∙ sym (named_tokens s (Some c) named) ∙ none_left _) (omega arith) tt)
+        (λ client token params at new c d tags says named like assigned next last. moved (Add client token params at) (Tagged tags) new _ 0 0 says (named_tokens new _ next.named ∙ map-append (λ (r : QueuedRequest T). r.token) d.requests _ ∙ ap (λ ts. ts ++ token ∷ []) (like.tokens ∙ sym (named_tokens s (Some c) named))) (omega arith) tt)
+        (λ at new found amount phase beyond says g named next.
+        let here : tokens_of s ≡ found.request.token ∷ map (λ r. r.token) found.others = named_tokens s (Some found.client) named ∙ ap (map (λ r. r.token)) g.first in
+        moved (Pull at) (rules_of.granted found phase beyond) new [] 1 _ says (named_tokens new _ next.named ∙ reduced_tokens found amount ∙ none_left _ ∙ ap (λ ts. drop 1 (ts ++ [])) (sym here)) (subst (λ ts. 1 ≤ length ts) (sym here) (omega arith)) (λ own. ap front here))
+        (λ client new c says named next.
+        let here = named_tokens s (Some c) named in
+        let size : length (tokens_of s) ≡ length c.requests = ap length here ∙ length-map c.requests (λ (r : QueuedRequest T). r.token) in
+        moved (Remove client) (Removed (length c.requests)) new [] (length c.requests) 0 says (named_tokens new _ next.named ∙ all_left (tokens_of s) ∙ ap (λ n. drop n (tokens_of s ++ [])) size) (omega arith) tt)
+        c
 
 -- ---- lists
 
@@ -153,17 +156,17 @@ module _ {T : Type 0} (ops : Tagging T) (fraction : T → Fraction) (is_value : 
   sound_after s (e ∷ es) is = sound_after ((step ops s e.command).0) es (sound_step s e.command is)
 
   pub sound_opening : IsSound (opening config)
-  sound_opening = record { turn = record { pairs = tt; known = tt; distinct = tt }; same = refl }
+  sound_opening = record { turn = record { clients = tt; distinct = tt }; same = refl }
 
   module _ (id : ClientId) where
     abbrev pub queued : State T → List Token
-    queued s = tokens_of ops order id s.requests
+    queued s = tokens_of ops order id s
 
     abbrev pub sent : List Arrival → List Token
     sent qs = tokens_in ops order id qs
 
-    pub event_moves : (s : State T) (e : Event T) → IsSound s → e.reply ≡ (step ops s e.command).1 → Moves ops order id e.command s ((step ops s e.command).0, e.reply)
-    event_moves s e is h = subst (λ r. Moves ops order id e.command s ((step ops s e.command).0, r)) (sym h) (step_moves ops order id s e.command is.turn)
+    pub event_moves : (s : State T) (e : Event T) → IsSound s → e.reply ≡ (step ops s e.command).1 → Moves ops order id e.command s e.reply ((step ops s e.command).0)
+    event_moves s e is h = subst (λ r. Moves ops order id e.command s r ((step ops s e.command).0)) (sym h) (step_moves ops order id s e.command is.turn)
 
     -- queued are those before and those that came, without as many as left; and no more leave than there are
     pub tokens_after : (s : State T) (es : List (Event T)) → IsSound s → replays_from ops s es → (queued (after_from ops s es) ≡ drop (departures id es) (queued s ++ sent (arrivals id es))) × (departures id es ≤ length (queued s) + length (arrivals id es))

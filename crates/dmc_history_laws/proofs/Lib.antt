@@ -1,14 +1,15 @@
 pub mod Basics
 pub mod Pairs
 pub mod Pace
+pub mod Named
 pub mod InTurn
 pub mod TurnKept
 pub mod TurnSteps
+pub mod Becomes
+pub mod Histories
 pub mod Side
-pub mod Own
 pub mod Reducing
 pub mod Pacing
-pub mod Histories
 pub mod InParts
 pub mod Numbered
 pub mod Spans

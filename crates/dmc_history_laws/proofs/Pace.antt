@@ -37,7 +37,7 @@ steps_worth dn spn dd spd k hz q some e s =
     ∙ ap pos (omega arith)
     )
 
--- more, where the fraction is more
+-- more, if the fraction is more
 pub raised : (f g : Fraction) (m : ℤ) (q : ℕ) → 0 < f.denom → (f.numer *ℤ pos g.denom) ≤ℤ (g.numer *ℤ pos f.denom) → NotBelow f m q → NotBelow g m q
 raised f g m q some le h = record {
   le = unscaled_le _ _ f.denom some (
@@ -72,7 +72,7 @@ moved a x d z m k q some_a some_d same worth h =
 worth_over : (a d : Fraction) (q n : ℕ) → d.numer *ℤ pos q ≡ pos n *ℤ pos d.denom → (d.numer *ℤ pos a.denom) *ℤ pos q ≡ pos n *ℤ pos (a.denom * d.denom)
 worth_over a d q n worth = scaled_swapped d.numer a.denom q ∙ ap (λ w. w *ℤ pos a.denom) worth ∙ scaled_swapped (pos n) d.denom a.denom ∙ scaled_twice (pos n) a.denom d.denom
 
--- more by n, where n over the rate is added, and less, where it is taken off
+-- more by n, if n over the rate is added, and less, if it is taken off
 added : (a d x : Fraction) (m : ℤ) (q n : ℕ) → 0 < a.denom → 0 < d.denom → x.numer *ℤ pos (a.denom * d.denom) ≡ (a.numer *ℤ pos d.denom +ℤ d.numer *ℤ pos a.denom) *ℤ pos x.denom → d.numer *ℤ pos q ≡ pos n *ℤ pos d.denom → NotBelow a m q → NotBelow x (m +ℤ pos n) q
 added a d x m q n some_a some_d same worth = moved a x d.denom (d.numer *ℤ pos a.denom) m (pos n) q some_a some_d same (worth_over a d q n worth)
 

@@ -1,40 +1,32 @@
 -- Each command keeps a client's tags at the level of what was sent and taken off since one of its adds.
-use Rattle.std.proofs.Common.{◌≡◌, ℕ, zero, suc, ◌+◌, ◌*◌, ◌-◌, ◌≤◌, max, Bool, true, false, not, cond, List, [], ◌∷◌, ◌++◌, map, length, drop, Option, Some, None, Ok, Err, refl, sym, ap, ◌∙◌, subst, arith}
-use Rattle.std.proofs.lemmas.List.{append-nil, length-map}
-use Rattle.std.specs.Prelude.{pos, ◌-ℤ◌, ◌≤ℤ◌, IfSome, filter, if◌then◌else◌, ◌==◌}
-use Rattle.std.specs.List.{AllByRecursion}
+use Rattle.std.proofs.Common.{◌≡◌, ℕ, zero, suc, ◌+◌, ◌*◌, ◌-◌, ◌≤◌, max, Bool, true, false, List, [], ◌∷◌, ◌++◌, map, length, drop, Option, Some, None, Ok, refl, sym, ap, ◌∙◌, subst, arith}
+use Rattle.std.proofs.lemmas.List.{append-nil, length-map, map-append}
+use Rattle.std.specs.Prelude.{pos, ◌-ℤ◌, ◌≤ℤ◌, IfSome}
 use Rattle.std.specs.Cmp.{IsTotalOrder}
-use Rattle.std.proofs.lemmas.Bool.{eqb-true}
 use Rattle.std.proofs.lemmas.Int.{ints}
-use Rattle.dmc_types.specs.Values.{Params, Rates}
+use Rattle.dmc_types.specs.Values.{Params}
 use Rattle.dmc_types.specs.declared.ids.ClientId.{ClientId}
 use Rattle.dmc_types.specs.declared.ids.Token.{Token}
 use Rattle.dmc_types.specs.declared.config.PhaseType.{PhaseType}
-use Rattle.dmc_types.specs.declared.config.PhaseType.TheVariants.{Reservation, Priority}
-use Rattle.dmc_types.specs.declared.refusal.Refusal.{Refusal}
 use Rattle.dmc_types.specs.declared.command.Command.{Command}
-use Rattle.dmc_types.specs.declared.command.Command.TheVariants.{Register, Update, Add, Pull, Remove, Clean}
+use Rattle.dmc_types.specs.declared.command.Command.TheVariants.{Register, Update, Add, Pull, Remove}
 use Rattle.dmc_tag.specs.Tag.{Fraction, Tagging, IsExact}
-use Rattle.dmc_tag.specs.State.{State, is_client, effective, requests_of}
-use Rattle.dmc_tag.specs.Best.{is_due}
+use Rattle.dmc_tag.specs.State.{State, PlainClient, client_named, effective}
+use Rattle.dmc_tag.specs.Best.{Found, is_due}
+use Rattle.dmc_tag.specs.Laws.{IsReduction}
 use Rattle.dmc_tag.specs.Rules as rules_of
-use Rattle.dmc_tag.specs.Rules.{Outcome}
-use Rattle.dmc_tag.specs.Step.{answer_of, outcome}
-use Rattle.dmc_tag.specs.declared.plain.PlainRequest.{PlainRequest}
-use Rattle.dmc_tag.specs.declared.plain.PlainClient.{PlainClient}
+use Rattle.dmc_tag.specs.Step.{step}
+use Rattle.dmc_tag.specs.declared.plain.QueuedRequest.{QueuedRequest}
 use Rattle.dmc_tag.specs.declared.reply.Reply.{Reply}
-use Rattle.dmc_tag.specs.declared.reply.Reply.TheVariants.{Granted}
+use Rattle.dmc_tag.specs.declared.reply.Reply.TheVariants.{Registered, Updated, Tagged, Removed}
 use Rattle.dmc_tag.specs.declared.reply.Tags.{Tags}
-use Rattle.dmc_tag.proofs.Active.{either}
-use Rattle.dmc_tag.proofs.Lists.{all_filtered, all_mapped, all_append, found_holds, found_passes}
 use Rattle.dmc_history_laws.specs.Bounds.{Keeps, Arrival, arrival_of, departed, prioritized}
-use Rattle.dmc_history_laws.proofs.Basics.{bind_goes, add_gives, same_id, same_too, both_id}
-use Rattle.dmc_history_laws.proofs.InTurn.{IsGrant, pull_is, InOrder}
-use Rattle.dmc_history_laws.proofs.Own.{own_of, own-first, own-append, own-removed, own-taken, own-shifted, own-others}
+use Rattle.dmc_history_laws.proofs.Becomes.{grants_in, Says, IsLike, AreLike, IsNext, step_becomes}
+use Rattle.dmc_history_laws.proofs.Histories.{none_left, all_left}
+use Rattle.dmc_history_laws.proofs.InTurn.{IsGrant, AreInTurn}
 use Rattle.dmc_history_laws.proofs.Pace.{NotBelow, next_paced, due_within}
-use Rattle.dmc_history_laws.proofs.Pairs.{Pairwise}
-use Rattle.dmc_history_laws.proofs.Reducing.{grants_in, IsPacedClient, off, late_reduced, clients_reduced, clients_of_others}
-use Rattle.dmc_history_laws.proofs.Side.{Side, limits, reservations, tag_in, previous_in, count_in, taken_in, steps_by, previous_of, lessened, reads_reduced, reads_shifted, IsAt, IsLate, AreLate, level, level_sent, late_more, late_rest, late_length}
+use Rattle.dmc_history_laws.proofs.Reducing.{off, tags_of, late_reduced, previous_reduced, info_reduced}
+use Rattle.dmc_history_laws.proofs.Side.{Side, limits, reservations, tag_in, previous_in, rate_in, count_in, taken_in, steps_by, previous_of, IsAt, IsLate, AreLate, level, level_sent, late_more, late_rest, late_length}
 
 -- ---- what was sent up to each arrival
 
@@ -49,43 +41,30 @@ abbrev pub total_from : ℕ → List ℕ → ℕ
 total_from n [] = n
 total_from n (k ∷ ks) = total_from (n + k) ks
 
-pub all_left : {X : Type 0} (xs : List X) → [] ≡ drop (length xs) (xs ++ [])
-all_left [] = refl
-all_left (x ∷ xs) = all_left xs
-
-pub same_requests : {T B : Type 0} (proj : PlainRequest T → B) (id client : ClientId) → is_client id client ≡ true → (xs : List (PlainRequest T)) → length (requests_of client xs) ≡ length (own_of proj id xs)
-same_requests {T} proj id client e xs =
-    let x : client.0 ≡ id.0 = eqb-true client.0 id.0 e in
-    ap (λ n. length (filter (λ (r : PlainRequest T). r.client.0 == n) xs)) x ∙ sym (length-map (requests_of id xs) proj)
-
--- the number of grants in a reply
-prioritized_is : (T : Type 0) (id client : ClientId) (token : Token) (at : ℕ) (phase : PhaseType) (beyond own : Bool) → is_client id client ≡ own → prioritized {T = T} id (Pull at) (Granted client token phase beyond) ≡ cond own (grants_in phase) 0
-prioritized_is T id client token at Priority beyond true e = ap (λ b. if b then 1 else 0) e
-prioritized_is T id client token at Priority beyond false e = ap (λ b. if b then 1 else 0) e
-prioritized_is T id client token at Reservation beyond true e = refl
-prioritized_is T id client token at Reservation beyond false e = refl
-
 module _ {T : Type 0} (ops : Tagging T) (fraction : T → Fraction) (is_value : Fraction → Type 0) (exact : IsExact ops fraction is_value) (order : IsTotalOrder ops.compare) (id : ClientId) (side : Side) (hz q from : ℕ) where
-  abbrev pub tags_of : List (PlainRequest T) → List (Option T)
-  tags_of requests = own_of (λ r. tag_in side r.tags) id requests
+  -- the tags of a record
+  abbrev pub tags_at : Option (PlainClient T) → List (Option T)
+  tags_at None = []
+  tags_at (Some c) = tags_of ops fraction is_value exact hz q from side c
 
-  abbrev PacedClient : ℕ → ℕ → PlainClient T → Type 0
-  PacedClient taken sent d = IsPacedClient ops fraction is_value exact id hz q from side taken sent d
+  -- the previous tag of a record is at the level, which is of its rate
+  pub record IsPacedClient (taken sent : ℕ) (c : PlainClient T) : Type 0 where
+    pub rated : rate_in side c.info ≡ Some q
+    pub at : IsAt fraction hz q from taken sent (previous_in side c.previous)
 
   -- this many spacings taken off and this much sent since, and for each queued request of the client, in order of arrival, what
   -- was sent up to it; 0 for those up to a_i
+  pub record IsPacedRecord (taken sent : ℕ) (waiting : List ℕ) (o : Option (PlainClient T)) : Type 0 where
+    pub client : IfSome o (IsPacedClient taken sent)
+    pub waits : AreLate fraction hz q from taken (tags_at o) waiting
+
   pub record IsPaced (taken sent : ℕ) (waiting : List ℕ) (s : State T) : Type 0 where
-    pub hz_is : s.config.hz ≡ hz
     pub since : from ≤ s.last_moment
-    pub clients : AllByRecursion (PacedClient taken sent) s.clients
-    pub waits : AreLate fraction hz q from taken (tags_of s.requests) waiting
+    pub own : IsPacedRecord taken sent waiting (client_named id s.clients)
 
   -- and so it is after a command, by its reply
-  abbrev pub Paces : ℕ → ℕ → List ℕ → Command → State T × Reply T → Type 0
-  Paces taken sent waiting c p = Keeps id c p.1 → IsPaced (taken + taken_in side (prioritized id c p.1)) (total_from sent (counts_of side (arrival_of id c p.1))) (drop (departed id c p.1) (waiting ++ sums_from sent (counts_of side (arrival_of id c p.1)))) p.0
-
-  later : (at last : ℕ) → from ≤ last → from ≤ max at last
-  later at last h = omega arith
+  abbrev pub Paces : ℕ → ℕ → List ℕ → Command → Reply T → State T → Type 0
+  Paces taken sent waiting c reply new = Keeps id c reply → IsPaced (taken + taken_in side (prioritized id c reply)) (total_from sent (counts_of side (arrival_of id c reply))) (drop (departed id c reply) (waiting ++ sums_from sent (counts_of side (arrival_of id c reply)))) new
 
   none_taken : (taken : ℕ) → taken ≡ taken + taken_in side 0
   none_taken taken = at side where
@@ -93,179 +72,101 @@ module _ {T : Type 0} (ops : Tagging T) (fraction : T → Fraction) (is_value : 
     at limits = omega arith
     at reservations = omega arith
 
+  -- nothing of the client comes or goes
+  pub quiet : (taken sent : ℕ) (waiting : List ℕ) (new : State T) → IsPaced taken sent waiting new → IsPaced (taken + taken_in side 0) sent (drop 0 (waiting ++ [])) new
+  quiet taken sent waiting new h = subst (λ n. IsPaced n sent (waiting ++ []) new) (none_taken taken) (subst (λ ws. IsPaced taken sent ws new) (sym (append-nil waiting)) h)
+
+  -- a record that differs in P and in its mark alone
+  same_tags : (side : Side) (c d : PlainClient T) → IsLike c d → map (λ (r : QueuedRequest T). tag_in side r.tags) d.requests ≡ map (λ (r : QueuedRequest T). tag_in side r.tags) c.requests
+  same_tags limits c d like = some_of d.requests ∙ ap (map Some) like.limits ∙ sym (some_of c.requests) where
+    some_of : (xs : List (QueuedRequest T)) → map (λ (r : QueuedRequest T). Some r.tags.l) xs ≡ map Some (map (λ (r : QueuedRequest T). r.tags.l) xs)
+    some_of [] = refl
+    some_of (x ∷ xs) = ap (λ ts. Some x.tags.l ∷ ts) (some_of xs)
+  same_tags reservations c d like = like.reservations
+
+  same_previous : (side : Side) (c d : PlainClient T) → IsLike c d → previous_in side d.previous ≡ previous_in side c.previous
+  same_previous limits c d like = like.previous_l
+  same_previous reservations c d like = like.previous_r
+
+  like_paced : (taken sent : ℕ) (c d : PlainClient T) → IsLike c d → IsPacedClient taken sent c → IsPacedClient taken sent d
+  like_paced taken sent c d like h = record { rated = ap (rate_in side) like.info ∙ h.rated; at = subst (IsAt fraction hz q from taken sent) (sym (same_previous side c d like)) h.at }
+
+  like_record : (taken sent : ℕ) (waiting : List ℕ) (o p : Option (PlainClient T)) → AreLike o p → IsPacedRecord taken sent waiting o → IsPacedRecord taken sent waiting p
+  like_record taken sent waiting None None like h = h
+  like_record taken sent waiting None (Some d) like h = absurd like
+  like_record taken sent waiting (Some c) None like h = record { client = tt; waits = subst (λ xs. AreLate fraction hz q from taken (map (λ (r : QueuedRequest T). tag_in side r.tags) xs) waiting) like h.waits }
+  like_record taken sent waiting (Some c) (Some d) like h = record { client = like_paced taken sent c d like h.client; waits = subst (λ ts. AreLate fraction hz q from taken ts waiting) (sym (same_tags side c d like)) h.waits }
+
   -- ---- the steps
 
-  module _ (taken sent : ℕ) (waiting : List ℕ) (s : State T) (is : IsPaced taken sent waiting s) where
-    abbrev Goes : Command → Outcome T → Type 0
-    Goes c o = Paces taken sent waiting c (answer_of s o)
+  module _ (taken sent : ℕ) (waiting : List ℕ) (s : State T) (hz_is : s.config.hz ≡ hz) (is : IsPaced taken sent waiting s) where
+    -- the level and what waits after what the command says
+    by_says : (c : Command) (reply : Reply T) (new : State T) (came : List Arrival) (left prior : ℕ) → Says id c reply came left prior → IsPaced (taken + taken_in side prior) (total_from sent (counts_of side came)) (drop left (waiting ++ sums_from sent (counts_of side came))) new → Paces taken sent waiting c reply new
+    by_says c reply new came left prior says h = λ keeps. rw (says.came_is, says.left_is, says.prior_is) h
 
-    same_taken : (sent : ℕ) (waiting : List ℕ) (new : State T) → IsPaced taken sent waiting new → IsPaced (taken + taken_in side 0) sent waiting new
-    same_taken sent waiting new h = subst (λ n. IsPaced n sent waiting new) (none_taken taken) h
+    next_paced_state : (new : State T) (o : Option (PlainClient T)) (taken sent : ℕ) (waiting : List ℕ) → IsNext id s new o → IsPacedRecord taken sent waiting o → IsPaced taken sent waiting new
+    next_paced_state new o taken sent waiting next h = record { since = omega (arith, is.since, next.later); own = subst (IsPacedRecord taken sent waiting) (sym next.named) h }
 
-    -- nothing of the client comes or goes
-    pub quiet : (new : State T) → IsPaced taken sent waiting new → IsPaced (taken + taken_in side 0) sent (drop 0 (waiting ++ [])) new
-    quiet new h = same_taken sent (waiting ++ []) new (subst (λ ws. IsPaced taken sent ws new) (sym (append-nil waiting)) h)
+    own_of : (c : PlainClient T) → client_named id s.clients ≡ Some c → IsPacedRecord taken sent waiting (Some c)
+    own_of c named = subst (IsPacedRecord taken sent waiting) named is.own
 
-    refused : (c : Command) (e : Refusal) → Goes c (Err e)
-    refused (Register client info at) e = λ k. quiet s is
-    refused (Update client info at) e = λ k. quiet s is
-    refused (Add client token params at) e = λ k. quiet s is
-    refused (Pull at) e = λ k. quiet s is
-    refused (Remove client) e = λ k. quiet s is
-    refused (Clean at) e = λ k. quiet s is
+    -- ---- an add
 
-    register_goes : (client : ClientId) (info : Rates) (at : ℕ) → Goes (Register client info at) (rules_of.registered ops s client info (effective s at))
-    register_goes client info at = bind_goes (Goes (Register client info at)) (rules_of.can_register ops s client info) _ (refused (Register client info at)) (λ _ _ keeps. quiet _ (record {
-      hz_is = is.hz_is;
-      since = later at s.last_moment is.since;
-      clients = all_append (PacedClient taken sent) s.clients _ is.clients ((λ own. absurd (not_both keeps own)), tt);
-      waits = is.waits;
-    })) where
-      not_both : {b : Bool} → b ≡ false → b ≡ true → ⊥
-      not_both p q = cc
+    arrived : (token : Token) (params : Params) (t : ℕ) (c d : PlainClient T) (tags : Tags T) → client_named id s.clients ≡ Some c → IsLike c d → rules_of.assigned ops s.config.hz c params (ops.of_moment t) ≡ Ok tags → IsPacedRecord taken (sent + count_in side params) (waiting ++ (sent + count_in side params) ∷ []) (Some (rules_of.after_arrival (record { token = token; tags = tags }) t d))
+    arrived token params t c d tags named like given =
+        let mine = own_of c named in
+        let count = count_in side params in
+        let by = steps_by ops hz q c params (ops.of_moment t) tags (subst (λ h. rules_of.assigned ops h c params (ops.of_moment t) ≡ Ok tags) hz_is given) side mine.client.rated in
+        let next = next_paced ops fraction is_value exact order (previous_in side c.previous) by.spacing by.tag (ops.of_moment t) (level fraction hz q from taken sent) hz q count by.spaced by.next mine.client.at in
+        let at : IsAt fraction hz q from taken (sent + count) by.tag = subst (λ m. NotBelow (fraction by.tag) m q) (level_sent fraction hz q from taken sent count) next in
+        record {
+          client = record { rated = ap (rate_in side) like.info ∙ mine.client.rated; at = subst (IsAt fraction hz q from taken (sent + count)) (sym (previous_of side tags d.previous by.tag by.tag_is)) at };
+          waits = subst (λ ts. AreLate fraction hz q from taken ts (waiting ++ (sent + count) ∷ [])) (sym (map-append (λ (r : QueuedRequest T). tag_in side r.tags) d.requests _ ∙ ap (λ ts. ts ++ tag_in side tags ∷ []) (same_tags side c d like)))
+              (late_more fraction hz q from taken _ waiting _ _ mine.waits (λ some. subst (λ o. IfSome o (IsAt fraction hz q from taken (sent + count))) (sym by.tag_is) at));
+        }
 
-    update_goes : (client : ClientId) (info : Rates) (at : ℕ) → Goes (Update client info at) (rules_of.updated ops s client info (effective s at))
-    update_goes client info at = bind_goes (Goes (Update client info at)) (rules_of.can_update ops s client info) _ (refused (Update client info at)) (λ _ _ keeps. quiet _ (record {
-      hz_is = is.hz_is;
-      since = later at s.last_moment is.since;
-      clients = all_mapped _ (PacedClient taken sent) _ (λ d h. of_another keeps d h (is_client client d.id) refl) s.clients is.clients;
-      waits = is.waits;
-    })) where
-      of_another : is_client id client ≡ false → (d : PlainClient T) → PacedClient taken sent d → (b : Bool) → is_client client d.id ≡ b → PacedClient taken sent (if b then rules_of.with_info info d else d)
-      of_another other d h true e = λ own. let same = same_id id d.id client own e in cc
-      of_another other d h false e = h
+    -- ---- a grant of the client
 
-    remove_goes : (client : ClientId) → Goes (Remove client) (rules_of.removed s client)
-    remove_goes client = bind_goes (Goes (Remove client)) (rules_of.can_remove s client) _ (refused (Remove client)) (λ _ _ keeps. at (is_client id client) refl) where
-      left : List (PlainRequest T)
-      left = filter (λ r. not (is_client client r.client)) s.requests
+    -- its first is taken, and others wait behind it
+    pub taken_first : (t : ℕ) (found : Found T) (amount : Option T) (phase : PhaseType) (beyond : Bool) → IsGrant ops s t found amount phase beyond → client_named id s.clients ≡ Some found.client → AreLate fraction hz q from taken (tag_in side found.request.tags ∷ tags_of ops fraction is_value exact hz q from side (rules_of.with_requests found.others found.client)) waiting
+    taken_first t found amount phase beyond g named = subst (λ xs. AreLate fraction hz q from taken (map (λ (r : QueuedRequest T). tag_in side r.tags) xs) waiting) g.first (own_of found.client named).waits
 
-      at : (own : Bool) → is_client id client ≡ own → IsPaced (taken + taken_in side 0) sent (drop (if own then length (requests_of client s.requests) else 0) (waiting ++ [])) (record s { requests = filter (λ r. not (is_client client r.client)) s.requests })
-      at true e =
-          let size = same_requests (λ r. tag_in side r.tags) id client e s.requests ∙ late_length fraction hz q from taken _ waiting is.waits in
-          let gone : [] ≡ drop (length (requests_of client s.requests)) (waiting ++ []) = all_left waiting ∙ ap (λ n. drop n (waiting ++ [])) (sym size) in
-          same_taken sent _ _ (record { hz_is = is.hz_is; since = is.since; clients = is.clients; waits = subst (AreLate fraction hz q from taken (tags_of left)) gone (subst (λ ts. AreLate fraction hz q from taken ts []) (sym (own-removed (λ r. tag_in side r.tags) id client true e s.requests)) tt) })
-      at false e = quiet _ (record { hz_is = is.hz_is; since = is.since; clients = is.clients; waits = subst (λ ts. AreLate fraction hz q from taken ts waiting) (sym (own-removed (λ r. tag_in side r.tags) id client false e s.requests)) is.waits })
+    granted : (t : ℕ) (found : Found T) (amount : Option T) (phase : PhaseType) (beyond : Bool) → IsGrant ops s t found amount phase beyond → client_named id s.clients ≡ Some found.client → IsPacedRecord (taken + taken_in side (grants_in phase)) sent (drop 1 (waiting ++ [])) (Some (rules_of.after_grant ops found amount))
+    granted t found amount phase beyond g named =
+        let mine = own_of found.client named in
+        let rest = rules_of.with_requests found.others found.client in
+        let is_off = off ops fraction is_value exact hz q from found.client side phase amount mine.client.rated (subst (λ n. IsReduction ops n found.client phase amount) hz_is g.reduction) in
+        let behind = subst (λ ws. AreLate fraction hz q from taken (tags_of ops fraction is_value exact hz q from side rest) (drop 1 ws)) (sym (append-nil waiting)) (late_rest fraction hz q from taken (tag_in side found.request.tags) _ waiting (taken_first t found amount phase beyond g named)) in
+        record {
+          client = record { rated = ap (rate_in side) (info_reduced ops fraction is_value exact hz q from amount rest) ∙ mine.client.rated; at = previous_reduced ops fraction is_value exact hz q from side phase amount rest taken sent is_off g.can mine.client.at };
+          waits = late_reduced ops fraction is_value exact hz q from side phase amount rest taken (drop 1 (waiting ++ [])) is_off g.can behind;
+        }
 
-    clean_goes : (at : ℕ) → Goes (Clean at) (rules_of.cleaned s (effective s at))
-    clean_goes at = λ keeps. quiet _ (record {
-      hz_is = is.hz_is;
-      since = later at s.last_moment is.since;
-      clients = all_mapped _ (PacedClient taken sent) _ (λ d h. h) _ (all_filtered (PacedClient taken sent) _ s.clients is.clients);
-      waits = is.waits;
-    })
+    -- ---- a removal
 
-    -- ---- add
-
-    module _ (client : ClientId) (token : Token) (params : Params) (moment : ℕ) where
-      abbrev here : T
-      here = ops.of_moment (effective s moment)
-
-      abbrev count : ℕ
-      count = count_in side params
-
-      abbrev new_request : Tags T → PlainRequest T
-      new_request tags = record { client = client; token = token; tags = tags }
-
-      abbrev new_state : Option T × Tags T → State T
-      new_state x = rules_of.queued (rules_of.shifted_by ops x.0 s) (new_request x.1) (effective s moment)
-
-      shifted_paced : (shift : Option T) → AllByRecursion (PacedClient taken sent) (rules_of.shifted_clients ops shift s.clients)
-      shifted_paced None = is.clients
-      shifted_paced (Some amount) = all_mapped _ (PacedClient taken sent) (rules_of.shifted_client ops amount) (λ d k. either (PacedClient taken sent) d.idle d _ k (kept side d k)) s.clients is.clients where
-        kept : (side : Side) (d : PlainClient T) → IsPacedClient ops fraction is_value exact id hz q from side taken sent d → IsPacedClient ops fraction is_value exact id hz q from side taken sent (record d { previous = record (d.previous) { p = rules_of.less ops amount d.previous.p } })
-        kept limits d k = k
-        kept reservations d k = k
-
-      -- the arriving client's tags are stepped by the rate that the level is made of
-      steps : (x : Option T × Tags T) → rules_of.can_add ops s client params here ≡ Ok x → is_client id client ≡ true → (tag : T) × (tag_in side x.1 ≡ Some tag) × IsAt fraction hz q from taken (sent + count) tag
-      steps x e own =
-          let c = add_gives ops s client params here x e in
-          let mine = found_passes (λ d. is_client client d.id) s.clients c.client c.named in
-          let paced = found_holds (PacedClient taken sent) (λ d. is_client client d.id) s.clients c.client is.clients c.named (same_too id client c.client.id own mine) in
-          let by = steps_by ops hz q c.client params here x.1 (subst (λ h. rules_of.assigned ops h c.client params here ≡ Ok x.1) is.hz_is c.tags) side paced.0 in
-          let next = next_paced ops fraction is_value exact order (previous_in side c.client.previous) by.spacing by.tag here (level fraction hz q from taken sent) hz q count by.spaced by.next paced.1 in
-          (by.tag, by.tag_is, subst (λ m. NotBelow (fraction by.tag) m q) (level_sent fraction hz q from taken sent count) next)
-
-      own_client : (tags : Tags T) (tag : T) → tag_in side tags ≡ Some tag → is_client id client ≡ true → IsAt fraction hz q from taken (sent + count) tag → (d : PlainClient T) → PacedClient taken sent d → (b : Bool) → is_client client d.id ≡ b → PacedClient taken (sent + count) (if b then rules_of.after_arrival tags (effective s moment) d else d)
-      own_client tags tag is own h d k true e = λ mine. ((k mine).0, subst (IsAt fraction hz q from taken (sent + count)) (sym (previous_of side tags d.previous tag is)) h)
-      own_client tags tag is own h d k false e = λ mine. let same = both_id id client d.id own mine in cc
-
-      other_client : (tags : Tags T) → is_client id client ≡ false → (d : PlainClient T) → PacedClient taken sent d → (b : Bool) → is_client client d.id ≡ b → PacedClient taken sent (if b then rules_of.after_arrival tags (effective s moment) d else d)
-      other_client tags other d k true e = λ mine. let same = same_id id d.id client mine e in cc
-      other_client tags other d k false e = k
-
-      tags-now : (x : Option T × Tags T) (own : Bool) → is_client id client ≡ own → tags_of (new_state x).requests ≡ tags_of s.requests ++ cond own (tag_in side x.1 ∷ []) []
-      tags-now x own e =
-          own-append (λ r. tag_in side r.tags) id (rules_of.shifted_requests ops x.0 s.clients s.requests) _
-          ∙ ap (λ ts. ts ++ tags_of (new_request x.1 ∷ [])) (own-shifted ops (λ r. tag_in side r.tags) id (λ r. reads_shifted side r.tags) x.0 s.clients s.requests)
-          ∙ ap (λ ts. tags_of s.requests ++ ts) (own-first (λ r. tag_in side r.tags) id (new_request x.1) [] own e)
-
-      add_at : (x : Option T × Tags T) → rules_of.can_add ops s client params here ≡ Ok x → (own : Bool) → is_client id client ≡ own → let mine : List Arrival = if own then record { token = token; params = params } ∷ [] else [] in IsPaced (taken + taken_in side 0) (total_from sent (counts_of side mine)) (drop 0 (waiting ++ sums_from sent (counts_of side mine))) (new_state x)
-      add_at x e true own =
-          let by = steps x e own in
-          same_taken (sent + count) _ _ (record {
-            hz_is = is.hz_is;
-            since = later moment s.last_moment is.since;
-            clients = all_mapped (PacedClient taken sent) (PacedClient taken (sent + count)) _ (λ d k. own_client x.1 by.0 by.1 own by.2 d k (is_client client d.id) refl) _ (shifted_paced x.0);
-            waits = subst (λ ts. AreLate fraction hz q from taken ts (waiting ++ (sent + count) ∷ [])) (sym (tags-now x true own)) (late_more fraction hz q from taken _ waiting _ _ is.waits (λ some. subst (λ o. IfSome o (IsAt fraction hz q from taken (sent + count))) (sym by.1) by.2));
-          })
-      add_at x e false other = quiet _ (record {
-        hz_is = is.hz_is;
-        since = later moment s.last_moment is.since;
-        clients = all_mapped _ (PacedClient taken sent) _ (λ d k. other_client x.1 other d k (is_client client d.id) refl) _ (shifted_paced x.0);
-        waits = subst (λ ts. AreLate fraction hz q from taken ts waiting) (sym (tags-now x false other ∙ append-nil (tags_of s.requests))) is.waits;
-      })
-
-      add_goes : Goes (Add client token params moment) (rules_of.added ops s client token params (effective s moment))
-      add_goes = bind_goes (Goes (Add client token params moment)) (rules_of.can_add ops s client params here) _ (refused (Add client token params moment)) (λ x e keeps. add_at x e (is_client id client) refl)
-
-    -- ---- pull
-
-    module _ (moment : ℕ) (r : PlainRequest T) (others : List (PlainRequest T)) (amount : Option T) (phase : PhaseType) (beyond : Bool) (g : IsGrant ops s (effective s moment) r others amount phase beyond) where
-      leaves : (own : Bool) → is_client id r.client ≡ own → tags_of s.requests ≡ cond own (tag_in side r.tags ∷ tags_of others) (tags_of others)
-      leaves own e =
-          ap tags_of g.whole
-          ∙ own-taken (λ r. tag_in side r.tags) id r g.front g.back g.first own e
-          ∙ ap (λ ys. cond own (tag_in side r.tags ∷ tags_of ys) (tags_of ys)) (sym g.rest)
-
-      -- the client's first is taken, and others wait behind it
-      pub taken_first : is_client id r.client ≡ true → AreLate fraction hz q from taken (tag_in side r.tags ∷ tags_of others) waiting
-      taken_first e = subst (λ ts. AreLate fraction hz q from taken ts waiting) (leaves true e) is.waits
-
-      grant_at : (own : Bool) → is_client id r.client ≡ own → IsPaced (taken + taken_in side (cond own (grants_in phase) 0)) sent (drop (if own then 1 else 0) (waiting ++ [])) (rules_of.reduced_by ops r.client amount (rules_of.without s (effective s moment) others))
-      grant_at true e =
-          let is_off = off ops fraction is_value exact id hz q from s is.hz_is r.client e taken sent side phase amount is.clients g.reduction in
-          let behind = subst (λ ws. AreLate fraction hz q from taken (tags_of others) (drop 1 ws)) (sym (append-nil waiting)) (late_rest fraction hz q from taken (tag_in side r.tags) (tags_of others) waiting (taken_first e)) in
-          record {
-            hz_is = is.hz_is;
-            since = later moment s.last_moment is.since;
-            clients = clients_reduced ops fraction is_value exact id hz q from s is.hz_is r.client e taken sent side phase amount others is_off g.can is.clients;
-            waits = late_reduced ops fraction is_value exact id hz q from s is.hz_is r.client e taken sent side phase amount others (drop 1 (waiting ++ [])) is_off g.can behind;
-          }
-      grant_at false e = quiet _ (record {
-        hz_is = is.hz_is;
-        since = later moment s.last_moment is.since;
-        clients = clients_of_others ops fraction is_value exact id hz q from side r.client amount taken sent s.clients e is.clients;
-        waits = subst (λ ts. AreLate fraction hz q from taken ts waiting) (leaves false e ∙ sym (own-others ops (λ r. tag_in side r.tags) id r.client (lessened ops side) (λ a r. reads_reduced ops side a r.tags) amount e others)) is.waits;
-      })
-
-      grant_goes : Goes (Pull moment) (Ok (rules_of.reduced_by ops r.client amount (rules_of.without s (effective s moment) others), rules_of.granted r phase beyond))
-      grant_goes = λ keeps. subst (λ n. IsPaced (taken + taken_in side n) sent (drop (if is_client id r.client then 1 else 0) (waiting ++ [])) (rules_of.reduced_by ops r.client amount (rules_of.without s (effective s moment) others))) (sym (prioritized_is T id r.client r.token moment phase beyond _ refl)) (grant_at (is_client id r.client) refl)
+    removed : (c : PlainClient T) → client_named id s.clients ≡ Some c → IsPacedRecord taken sent (drop (length c.requests) (waiting ++ [])) (Some (rules_of.with_requests [] c))
+    removed c named =
+        let mine = own_of c named in
+        let size : length c.requests ≡ length waiting = sym (length-map c.requests (λ (r : QueuedRequest T). tag_in side r.tags)) ∙ late_length fraction hz q from taken _ waiting mine.waits in
+        let gone : [] ≡ drop (length c.requests) (waiting ++ []) = all_left waiting ∙ ap (λ n. drop n (waiting ++ [])) (sym size) in
+        record { client = record { rated = mine.client.rated; at = mine.client.at }; waits = subst (AreLate fraction hz q from taken []) gone tt }
 
     -- ---- each command
 
-    module _ (pairs : Pairwise (InOrder ops order) s.requests) where
-      missed : (moment : ℕ) → IsPaced (taken + taken_in side 0) sent (drop 0 (waiting ++ [])) (record s { last_moment = effective s moment })
-      missed moment = quiet _ (record { hz_is = is.hz_is; since = later moment s.last_moment is.since; clients = is.clients; waits = is.waits })
+    not_both : {X : Type 0} {b : Bool} → b ≡ false → b ≡ true → X
+    not_both p q = cc
 
-      pub step_goes : (c : Command) → Goes c (outcome ops s c)
-      step_goes (Register client info at) = register_goes client info at
-      step_goes (Update client info at) = update_goes client info at
-      step_goes (Add client token params at) = add_goes client token params at
-      step_goes (Pull at) = pull_is ops order s (effective s at) pairs (Goes (Pull at)) (refused (Pull at)) (λ m keeps. missed at) (λ keeps. missed at) (grant_goes at)
-      step_goes (Remove client) = remove_goes client
-      step_goes (Clean at) = clean_goes at
+    same_level : (sent : ℕ) (waiting : List ℕ) (new : State T) → IsPaced taken sent waiting new → IsPaced (taken + taken_in side 0) sent waiting new
+    same_level sent waiting new h = subst (λ n. IsPaced n sent waiting new) (none_taken taken) h
+
+    pub step_goes : AreInTurn ops order s → (c : Command) → Paces taken sent waiting c ((step ops s c).1) ((step ops s c).0)
+    step_goes turn = step_becomes ops order id s turn (Paces taken sent waiting)
+        (λ c reply new o says like next. by_says c reply new [] 0 0 says (quiet taken sent waiting new (next_paced_state new o taken sent waiting next (like_record taken sent waiting _ o like is.own))))
+        (λ client info at new own none next keeps. not_both keeps own)
+        (λ client info at new c own named next keeps. not_both keeps own)
+        (λ client token params at new c d tags says named like given next last. by_says (Add client token params at) (Tagged tags) new _ 0 0 says (same_level _ _ new (next_paced_state new _ taken _ _ next (arrived token params (effective s at) c d tags named like given))))
+        (λ at new found amount phase beyond says g named next. by_says (Pull at) (rules_of.granted found phase beyond) new [] 1 _ says (next_paced_state new _ _ sent _ next (granted (effective s at) found amount phase beyond g named)))
+        (λ client new c says named next. by_says (Remove client) (Removed (length c.requests)) new [] (length c.requests) 0 says (same_level sent _ new (next_paced_state new _ taken sent _ next (removed c named))))
 
   -- ---- a grant of a request that is due
 

@@ -3,10 +3,9 @@ use Rattle.std.proofs.Common.{◌≡◌, Bool, true, false, ◌||◌, cond, List
 use Rattle.std.specs.Prelude.{filter, is_some, ⊤}
 use Rattle.std.specs.List.{AllByRecursion, find, list_any}
 use Rattle.dmc_types.specs.declared.ids.ClientId.{ClientId}
-use Rattle.dmc_tag.specs.State.{is_client, client_named}
-use Rattle.dmc_tag.specs.declared.plain.PlainClient.{PlainClient}
-use Rattle.dmc_tag.proofs.Booleans.{eqb_turned}
-use Rattle.dmc_tag.proofs.Lists.{all_both, all_mapped, all_at, all_without, all_filtered, all_append}
+use Rattle.dmc_tag.specs.State.{PlainClient, is_client, client_named}
+use Rattle.dmc_lemmas.proofs.Booleans.{eqb_turned}
+use Rattle.dmc_lemmas.proofs.Lists.{all_both, all_mapped, all_at, all_without, all_filtered, all_append}
 use Rattle.dmc_history_laws.proofs.Basics.{both_id}
 
 module _ {X : Type 0} where
@@ -55,7 +54,7 @@ module _ {X : Type 0} where
     at true e more = let same : x ≡ d = cc in ap (λ z. Some (f z)) same
     at false e more = more e
 
-  -- also where others are taken out
+  -- also if others are taken out
   pub find_kept : (test keep : X → Bool) (xs : List X) (d : X) → find test xs ≡ Some d → keep d ≡ true → find test (filter keep xs) ≡ Some d
   find_kept test keep [] d e k = cc
   find_kept test keep (x ∷ xs) d e k = at (test x) refl (keep x) refl e (λ h. find_kept test keep xs d h k) where

@@ -1,40 +1,24 @@
--- What a grant takes off the tags, and how much the level falls by it.
-use Rattle.std.proofs.Common.{◌≡◌, ℕ, ◌+◌, Bool, true, false, not, ◌||◌, List, [], ◌∷◌, Option, Some, None, Ok, refl, sym, ◌∙◌, subst}
-use Rattle.std.specs.Prelude.{◌-ℤ◌, pos, is_some, if◌then◌else◌, ⊤}
-use Rattle.std.specs.Option.{unwrap_or, option_map, option_map_or, option_and_then}
+-- What a grant takes off the tags of its client, and how much the level falls by it.
+use Rattle.std.proofs.Common.{◌≡◌, ℕ, ◌+◌, true, List, [], ◌∷◌, map, Option, Some, None, Ok, refl, sym, ap, ◌∙◌, subst}
+use Rattle.std.specs.Prelude.{◌-ℤ◌, pos, is_some, ⊤}
+use Rattle.std.specs.Option.{unwrap_or, option_map, option_map_or}
 use Rattle.std.specs.List.{AllByRecursion}
 use Rattle.std.proofs.lemmas.Bool.{and_parts}
-use Rattle.dmc_types.specs.declared.ids.ClientId.{ClientId}
 use Rattle.dmc_types.specs.declared.config.PhaseType.{PhaseType}
 use Rattle.dmc_types.specs.declared.config.PhaseType.TheVariants.{Reservation, Priority}
 use Rattle.dmc_tag.specs.Tag.{Fraction, Tagging, IsExact}
 use Rattle.dmc_tag.specs.Outcome.{in_range}
-use Rattle.dmc_tag.specs.State.{State, is_client, client_named}
+use Rattle.dmc_tag.specs.State.{PlainClient}
 use Rattle.dmc_tag.specs.Laws.{IsReduction}
 use Rattle.dmc_tag.specs.Rules as rules_of
-use Rattle.dmc_tag.specs.declared.plain.PlainRequest.{PlainRequest}
-use Rattle.dmc_tag.specs.declared.plain.PlainClient.{PlainClient}
-use Rattle.dmc_tag.proofs.Active.{either}
-use Rattle.dmc_tag.proofs.Lists.{all_as, all_both, all_mapped, each_passes, found_holds, found_passes}
+use Rattle.dmc_tag.specs.declared.plain.QueuedRequest.{QueuedRequest}
+use Rattle.dmc_lemmas.proofs.Lists.{each_passes}
 use Rattle.dmc_tag.proofs.TagOrder.{bound, from_range}
-use Rattle.dmc_history_laws.proofs.Basics.{same_id, same_too, both_id, or_second}
-use Rattle.dmc_history_laws.proofs.Own.{own_of, own-first, own-less, own-unreduced}
+use Rattle.dmc_history_laws.proofs.Becomes.{grants_in}
 use Rattle.dmc_history_laws.proofs.Pace.{NotBelow, less_by}
 use Rattle.dmc_history_laws.proofs.Side.{Side, limits, reservations, tag_in, previous_in, rate_in, taken_in, IsAt, IsLate, AreLate, level, level_taken, falls, late_changed, late_falls}
 
--- one Priority grant, or none
-abbrev pub grants_in : PhaseType → ℕ
-grants_in Priority = 1
-grants_in Reservation = 0
-
-module _ {T : Type 0} (ops : Tagging T) (fraction : T → Fraction) (is_value : Fraction → Type 0) (exact : IsExact ops fraction is_value) (id : ClientId) (hz q from : ℕ) where
-  -- what is so of the client's record, where so much was sent since
-  abbrev pub IsPacedClient : Side → ℕ → ℕ → PlainClient T → Type 0
-  IsPacedClient side taken sent d = is_client id d.id ≡ true → (rate_in side d.info ≡ Some q) × IsAt fraction hz q from taken sent (previous_in side d.previous)
-
-  client_falls : (side : Side) (taken more sent : ℕ) (clients : List (PlainClient T)) → AllByRecursion (IsPacedClient side taken sent) clients → AllByRecursion (IsPacedClient side (taken + more) sent) clients
-  client_falls side taken more sent = all_as _ (IsPacedClient side (taken + more) sent) (λ d h own. ((h own).0, falls fraction hz q from taken more sent (previous_in side d.previous) (h own).1))
-
+module _ {T : Type 0} (ops : Tagging T) (fraction : T → Fraction) (is_value : Fraction → Type 0) (exact : IsExact ops fraction is_value) (hz q from : ℕ) where
   -- ---- a spacing is taken off
 
   module _ (amount : T) (spaced : ops.spacing hz q ≡ Some amount) where
@@ -48,21 +32,6 @@ module _ {T : Type 0} (ops : Tagging T) (fraction : T → Fraction) (is_value : 
     less_late taken None w can h = λ some. tt
     less_late taken (Some a) w can h = λ some. less_at a taken w can (h some)
 
-    less_client : (client : ClientId) (taken sent : ℕ) → is_client id client ≡ true → (d : PlainClient T) → ((not (is_client client d.id) || rules_of.has_less ops amount d.previous.r) ≡ true) × IsPacedClient reservations taken sent d → (b : Bool) → is_client client d.id ≡ b → IsPacedClient reservations (taken + 1) sent (if b then rules_of.reduced_client ops amount d else d)
-    less_client client taken sent own d h true e = λ mine. let k = h.1 mine in (k.0, less_at d.previous.r taken sent (or_second _ _ e h.0) k.1)
-    less_client client taken sent own d h false e = λ mine. let so = both_id id client d.id own mine in cc
-
-  -- each of the client's can be reduced
-  abbrev CanAll : T → List (Option T) → Type 0
-  CanAll amount os = AllByRecursion (λ o. option_map_or (rules_of.has_less ops amount) o true ≡ true) os
-
-  all_can : (client : ClientId) (amount : T) → is_client id client ≡ true → (xs : List (PlainRequest T)) → AllByRecursion (λ x. (not (is_client client x.client) || option_map_or (rules_of.has_less ops amount) x.tags.r true) ≡ true) xs → CanAll amount (own_of (λ r. r.tags.r) id xs)
-  all_can client amount own [] h = tt
-  all_can client amount own (x ∷ xs) h = at (is_client id x.client) refl (all_can client amount own xs h.1) where
-    at : (b : Bool) → is_client id x.client ≡ b → CanAll amount (own_of (λ r. r.tags.r) id xs) → CanAll amount (own_of (λ r. r.tags.r) id (x ∷ xs))
-    at true e more = subst (CanAll amount) (sym (own-first (λ r. r.tags.r) id x xs true e)) (or_second _ _ (both_id id client x.client own e) h.0, more)
-    at false e more = subst (CanAll amount) (sym (own-first (λ r. r.tags.r) id x xs false e)) more
-
   -- ---- a grant of the client
 
   -- what is taken off R is the spacing of the reservation
@@ -72,45 +41,51 @@ module _ {T : Type 0} (ops : Tagging T) (fraction : T → Fraction) (is_value : 
   IsOff reservations Priority None = ⊤
   IsOff reservations Priority (Some amount) = ops.spacing hz q ≡ Some amount
 
-  module _ (s : State T) (hz_is : s.config.hz ≡ hz) (client : ClientId) (own : is_client id client ≡ true) (taken sent : ℕ) where
-    reservation_off : (amount : T) → AllByRecursion (IsPacedClient reservations taken sent) s.clients → rules_of.reduction_of ops s.config.hz client s.clients ≡ Ok (Some amount) → ops.spacing hz q ≡ Some amount
-    reservation_off amount h e = at (client_named client s.clients) refl (subst (λ n. rules_of.reduction_of ops n client s.clients ≡ Ok (Some amount)) hz_is e) where
-      at : (o : Option (PlainClient T)) → client_named client s.clients ≡ o → rules_of.reduction_at ops hz (option_and_then (λ c. c.info.reservation) o) ≡ Ok (Some amount) → ops.spacing hz q ≡ Some amount
-      at None n e = cc
-      at (Some d) n e =
-          let mine = found_passes (λ c. is_client client c.id) s.clients d n in
-          let paced = found_holds (IsPacedClient reservations taken sent) (λ c. is_client client c.id) s.clients d h n (same_too id client d.id own mine) in
-          let spaced = bound (in_range (ops.spacing hz q)) _ (Some amount) (subst (λ o. rules_of.reduction_at ops hz o ≡ Ok (Some amount)) paced.0 e) in
-          from_range _ _ spaced.1 ∙ cc (spaced.2)
+  reservation_off : (c : PlainClient T) (amount : T) → c.info.reservation ≡ Some q → rules_of.reduction_at ops hz c.info.reservation ≡ Ok (Some amount) → ops.spacing hz q ≡ Some amount
+  reservation_off c amount rated e =
+      let spaced = bound (in_range (ops.spacing hz q)) _ (Some amount) (subst (λ o. rules_of.reduction_at ops hz o ≡ Ok (Some amount)) rated e) in
+      from_range _ _ spaced.1 ∙ cc (spaced.2)
 
-    pub off : (side : Side) (phase : PhaseType) (amount : Option T) → AllByRecursion (IsPacedClient side taken sent) s.clients → IsReduction ops s client phase amount → IsOff side phase amount
-    off side Reservation amount h is = is
-    off limits Priority amount h is = tt
-    off reservations Priority None h is = tt
-    off reservations Priority (Some amount) h is = reservation_off amount h is
+  pub off : (c : PlainClient T) (side : Side) (phase : PhaseType) (amount : Option T) → rate_in side c.info ≡ Some q → IsReduction ops hz c phase amount → IsOff side phase amount
+  off c side Reservation amount rated is = is
+  off c limits Priority amount rated is = tt
+  off c reservations Priority None rated is = tt
+  off c reservations Priority (Some amount) rated is = reservation_off c amount rated is
 
-    pub late_reduced : (side : Side) (phase : PhaseType) (amount : Option T) (xs : List (PlainRequest T)) (ws : List ℕ) → IsOff side phase amount → rules_of.can_reduce_by ops client amount s.clients xs ≡ true → AreLate fraction hz q from taken (own_of (λ r. tag_in side r.tags) id xs) ws → AreLate fraction hz q from (taken + taken_in side (grants_in phase)) (own_of (λ r. tag_in side r.tags) id (rules_of.reduced_requests ops client amount xs)) ws
-    late_reduced side Reservation amount xs ws is can h = subst (λ o. AreLate fraction hz q from (taken + taken_in side 0) (own_of (λ r. tag_in side r.tags) id (rules_of.reduced_requests ops client o xs)) ws) (sym is) (late_falls fraction hz q from taken (taken_in side 0) _ ws h)
-    late_reduced limits Priority amount xs ws is can h = subst (λ os. AreLate fraction hz q from (taken + 0) os ws) (sym (own-unreduced ops (λ r. Some r.tags.l) id (λ r o. refl) client amount xs)) (late_falls fraction hz q from taken 0 _ ws h)
-    late_reduced reservations Priority None xs ws is can h = late_falls fraction hz q from taken 1 _ ws h
-    late_reduced reservations Priority (Some amount) xs ws is can h =
-        let able = each_passes (λ (x : PlainRequest T). not (is_client client x.client) || option_map_or (rules_of.has_less ops amount) x.tags.r true) xs (and_parts _ _ can).0 in
-        subst (λ os. AreLate fraction hz q from (taken + 1) os ws) (sym (own-less ops (λ r. r.tags.r) id client (λ a. option_map (rules_of.less ops a)) (λ a r. refl) amount true own xs))
-        (late_changed fraction hz q from taken (taken + 1) _ (option_map (rules_of.less ops amount)) (less_late amount is taken) _ ws (all_can client amount own xs able) h)
+  -- the tags of one kind of a client's requests
+  abbrev pub tags_of : Side → PlainClient T → List (Option T)
+  tags_of side c = map (λ r. tag_in side r.tags) c.requests
 
-    pub clients_reduced : (side : Side) (phase : PhaseType) (amount : Option T) (xs : List (PlainRequest T)) → IsOff side phase amount → rules_of.can_reduce_by ops client amount s.clients xs ≡ true → AllByRecursion (IsPacedClient side taken sent) s.clients → AllByRecursion (IsPacedClient side (taken + taken_in side (grants_in phase)) sent) (rules_of.reduced_clients ops client amount s.clients)
-    clients_reduced side Reservation amount xs is can h = subst (λ o. AllByRecursion (IsPacedClient side (taken + taken_in side 0) sent) (rules_of.reduced_clients ops client o s.clients)) (sym is) (client_falls side taken (taken_in side 0) sent s.clients h)
-    clients_reduced limits Priority None xs is can h = client_falls limits taken 0 sent s.clients h
-    clients_reduced limits Priority (Some amount) xs is can h = all_mapped _ (IsPacedClient limits (taken + 0) sent) _ (λ d k. either (IsPacedClient limits (taken + 0) sent) (is_client client d.id) _ d k k) s.clients (client_falls limits taken 0 sent s.clients h)
-    clients_reduced reservations Priority None xs is can h = client_falls reservations taken 1 sent s.clients h
-    clients_reduced reservations Priority (Some amount) xs is can h =
-        let able = each_passes (λ (c : PlainClient T). not (is_client client c.id) || rules_of.has_less ops amount c.previous.r) s.clients (and_parts _ _ can).1 in
-        all_mapped _ (IsPacedClient reservations (taken + 1) sent) _ (λ d k. less_client amount is client taken sent own d k (is_client client d.id) refl) s.clients (all_both _ _ s.clients able h)
+  -- what a reduction makes of a client's tags of one kind
+  limits_stay : (amount : T) (xs : List (QueuedRequest T)) → map (λ r. Some r.tags.l) (map (rules_of.less_reservation ops amount) xs) ≡ map (λ r. Some r.tags.l) xs
+  limits_stay amount [] = refl
+  limits_stay amount (x ∷ xs) = ap (λ ts. Some x.tags.l ∷ ts) (limits_stay amount xs)
 
-  -- a grant of another client
-  pub clients_of_others : (side : Side) (client : ClientId) (amount : Option T) (taken sent : ℕ) (clients : List (PlainClient T)) → is_client id client ≡ false → AllByRecursion (IsPacedClient side taken sent) clients → AllByRecursion (IsPacedClient side taken sent) (rules_of.reduced_clients ops client amount clients)
-  clients_of_others side client None taken sent clients other h = h
-  clients_of_others side client (Some amount) taken sent clients other h = all_mapped _ (IsPacedClient side taken sent) _ (λ d k. at d k (is_client client d.id) refl) clients h where
-    at : (d : PlainClient T) → IsPacedClient side taken sent d → (b : Bool) → is_client client d.id ≡ b → IsPacedClient side taken sent (if b then rules_of.reduced_client ops amount d else d)
-    at d k true e = λ mine. let so = same_id id d.id client mine e in cc
-    at d k false e = k
+  reservations_fall : (amount : T) (xs : List (QueuedRequest T)) → map (λ r. r.tags.r) (map (rules_of.less_reservation ops amount) xs) ≡ map (option_map (rules_of.less ops amount)) (map (λ r. r.tags.r) xs)
+  reservations_fall amount [] = refl
+  reservations_fall amount (x ∷ xs) = ap (λ ts. option_map (rules_of.less ops amount) x.tags.r ∷ ts) (reservations_fall amount xs)
+
+  can_each : (amount : T) (xs : List (QueuedRequest T)) → AllByRecursion (λ x. option_map_or (rules_of.has_less ops amount) x.tags.r true ≡ true) xs → AllByRecursion (λ o. option_map_or (rules_of.has_less ops amount) o true ≡ true) (map (λ r. r.tags.r) xs)
+  can_each amount [] h = tt
+  can_each amount (x ∷ xs) h = (h.0, can_each amount xs h.1)
+
+  pub late_reduced : (side : Side) (phase : PhaseType) (amount : Option T) (c : PlainClient T) (taken : ℕ) (ws : List ℕ) → IsOff side phase amount → rules_of.can_reduce_by ops amount c ≡ true → AreLate fraction hz q from taken (tags_of side c) ws → AreLate fraction hz q from (taken + taken_in side (grants_in phase)) (tags_of side (rules_of.reduced_by ops amount c)) ws
+  late_reduced side Reservation amount c taken ws is can h = subst (λ o. AreLate fraction hz q from (taken + taken_in side 0) (tags_of side (rules_of.reduced_by ops o c)) ws) (sym is) (late_falls fraction hz q from taken (taken_in side 0) _ ws h)
+  late_reduced limits Priority None c taken ws is can h = late_falls fraction hz q from taken 0 _ ws h
+  late_reduced limits Priority (Some amount) c taken ws is can h = subst (λ os. AreLate fraction hz q from (taken + 0) os ws) (sym (limits_stay amount c.requests)) (late_falls fraction hz q from taken 0 _ ws h)
+  late_reduced reservations Priority None c taken ws is can h = late_falls fraction hz q from taken 1 _ ws h
+  late_reduced reservations Priority (Some amount) c taken ws is can h =
+      let able = each_passes (λ (x : QueuedRequest T). option_map_or (rules_of.has_less ops amount) x.tags.r true) c.requests (and_parts _ _ can).0 in
+      subst (λ os. AreLate fraction hz q from (taken + 1) os ws) (sym (reservations_fall amount c.requests))
+      (late_changed fraction hz q from taken (taken + 1) _ (option_map (rules_of.less ops amount)) (less_late amount is taken) _ ws (can_each amount c.requests able) h)
+
+  pub previous_reduced : (side : Side) (phase : PhaseType) (amount : Option T) (c : PlainClient T) (taken sent : ℕ) → IsOff side phase amount → rules_of.can_reduce_by ops amount c ≡ true → IsAt fraction hz q from taken sent (previous_in side c.previous) → IsAt fraction hz q from (taken + taken_in side (grants_in phase)) sent (previous_in side (rules_of.reduced_by ops amount c).previous)
+  previous_reduced side Reservation amount c taken sent is can h = subst (λ o. IsAt fraction hz q from (taken + taken_in side 0) sent (previous_in side (rules_of.reduced_by ops o c).previous)) (sym is) (falls fraction hz q from taken (taken_in side 0) sent _ h)
+  previous_reduced limits Priority None c taken sent is can h = falls fraction hz q from taken 0 sent _ h
+  previous_reduced limits Priority (Some amount) c taken sent is can h = falls fraction hz q from taken 0 sent _ h
+  previous_reduced reservations Priority None c taken sent is can h = falls fraction hz q from taken 1 sent _ h
+  previous_reduced reservations Priority (Some amount) c taken sent is can h = less_at amount is c.previous.r taken sent (and_parts _ _ can).1 h
+
+  pub info_reduced : (amount : Option T) (c : PlainClient T) → (rules_of.reduced_by ops amount c).info ≡ c.info
+  info_reduced None c = refl
+  info_reduced (Some amount) c = refl

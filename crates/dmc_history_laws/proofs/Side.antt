@@ -12,7 +12,7 @@ use Rattle.dmc_tag.specs.Outcome.{in_range}
 use Rattle.dmc_tag.specs.Spacing.{spacing_of, optional_spacing, spacings_of}
 use Rattle.dmc_tag.specs.Rules.{next_tag, next_reservation, previous_after, assigned, less}
 use Rattle.dmc_tag.specs.declared.plain.Previous.{Previous}
-use Rattle.dmc_tag.specs.declared.plain.PlainClient.{PlainClient}
+use Rattle.dmc_tag.specs.State.{PlainClient}
 use Rattle.dmc_tag.specs.declared.reply.Tags.{Tags}
 use Rattle.dmc_tag.proofs.TagOrder.{bound, from_option, from_range}
 use Rattle.dmc_history_laws.proofs.Basics.{from_ok}
@@ -131,7 +131,7 @@ module _ {T : Type 0} (fraction : T → Fraction) (hz q from : ℕ) where
         none : (a b : ℕ) → b ≡ 0 → pos a -ℤ pos b ≡ pos a
         none a b e = omega (arith, ints)
 
-  -- the tag, where there is one, is not below the level
+  -- the tag, if there is one, is not below the level
   abbrev pub IsAt : ℕ → ℕ → T → Type 0
   IsAt taken sent a = NotBelow (fraction a) (level taken sent) q
 

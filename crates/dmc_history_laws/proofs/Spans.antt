@@ -11,7 +11,7 @@ use Rattle.dmc_tag.specs.Tag.{Tagging, Fraction, IsExact}
 use Rattle.dmc_tag.specs.State.{effective}
 use Rattle.dmc_tag.specs.Replay.{after, replays}
 use Rattle.dmc_tag.specs.declared.event.Event.{Event}
-use Rattle.dmc_tag.proofs.Lists.{slice_get-append}
+use Rattle.dmc_lemmas.proofs.Lists.{slice_get-append}
 use Rattle.dmc_history_laws.specs.Bounds.{Arrival, arrival_of, arrivals, departures, priorities, between, Span, ticks, sum_of, IsOf, LimitBound, ReservationBound}
 use Rattle.dmc_history_laws.proofs.InParts.{sum_since, ticks_since, IsNext}
 use Rattle.dmc_history_laws.proofs.Numbered.{bounded, rate_of, phase_of}

@@ -1,7 +1,8 @@
--- Each command keeps the requests of a client in order of their tags.
-use Rattle.std.proofs.Common.{◌≡◌, ℕ, zero, suc, ◌<◌, Bool, true, false, not, ◌&&◌, List, Option, Some, None, Ok, refl, sym, ap, ◌∙◌, subst, arith, inl, inr}
-use Rattle.std.specs.Prelude.{◌⊎◌, pos, ◌*ℤ◌, ⊤, if◌then◌else◌, is_some, IfSome}
-use Rattle.std.specs.Option.{ok_or}
+-- Each command keeps the requests of each client in order of their tags.
+use Rattle.std.proofs.Common.{◌≡◌, ℕ, zero, suc, ◌<◌, Bool, true, false, not, ◌&&◌, ◌||◌, List, [], ◌∷◌, map, Option, Some, None, Ok, refl, sym, ap, ◌∙◌, subst, arith, inl, inr}
+use Rattle.std.specs.Prelude.{◌⊎◌, pos, ◌*ℤ◌, ⊤, if◌then◌else◌, is_some, IfSome, filter, nat_le, ◌-◌}
+use Rattle.std.specs.List.{AllByRecursion, list_all}
+use Rattle.std.specs.Option.{ok_or, option_map}
 use Rattle.std.specs.Result.{result_ok}
 use Rattle.std.specs.Cmp.{IsTotalOrder}
 use Rattle.std.proofs.lemmas.Int.{ints}
@@ -15,28 +16,25 @@ use Rattle.dmc_types.specs.declared.refusal.Field.TheVariants.{Reservation, Weig
 use Rattle.dmc_types.specs.declared.command.Command.{Command}
 use Rattle.dmc_types.specs.declared.command.Command.TheVariants.{Register, Update, Add, Pull, Remove, Clean}
 use Rattle.dmc_tag.specs.Tag.{Fraction, Tagging, IsExact}
-use Rattle.dmc_tag.specs.Order.{AtMost, AreNext}
+use Rattle.dmc_tag.specs.Order.{AreNext}
 use Rattle.dmc_tag.specs.Outcome.{refuse_if, in_range, exactly}
 use Rattle.dmc_tag.specs.Spacing.{spacing_of, optional_spacing, spacings_of}
-use Rattle.dmc_tag.specs.State.{State, is_client, has_queued, client_named, effective}
-use Rattle.dmc_tag.specs.Best.{best, by_weight, is_any}
+use Rattle.dmc_tag.specs.State.{State, PlainClient, is_client, is_busy, client_named, effective}
+use Rattle.dmc_tag.specs.Best.{Found, best_of_all, by_weight, is_any}
 use Rattle.dmc_tag.specs.Rules as rules_of
 use Rattle.dmc_tag.specs.Rules.{Outcome}
 use Rattle.dmc_tag.specs.Step.{answer_of, outcome}
-use Rattle.dmc_tag.specs.declared.plain.PlainRequest.{PlainRequest}
-use Rattle.dmc_tag.specs.declared.plain.PlainClient.{PlainClient}
+use Rattle.dmc_tag.specs.declared.plain.QueuedRequest.{QueuedRequest}
 use Rattle.dmc_tag.specs.declared.spacing.Spacings.{Spacings}
 use Rattle.dmc_tag.specs.declared.reply.Tags.{Tags}
-use Rattle.std.proofs.lemmas.Cmp.{upto}
-use Rattle.dmc_tag.proofs.Orderings.{IsUpto}
 use Rattle.dmc_tag.proofs.TagOrder.{given, bound, from_option, from_range, positive, next_tags_follow, spacings_not_below}
-use Rattle.dmc_tag.proofs.Active.{either, queued_own}
-use Rattle.dmc_tag.proofs.Lists.{all_as, all_both}
-use Rattle.dmc_history_laws.proofs.Basics.{bind_goes, add_gives, from_ok, same_id, named_same, allowed}
-use Rattle.dmc_history_laws.proofs.InTurn.{pull_is, Follows, IsKnown, AreInTurn}
-use Rattle.dmc_history_laws.proofs.Pairs.{ids-kept, find_mapped}
-use Rattle.dmc_history_laws.proofs.TurnKept.{known_changed, mine, IsBelow, same_queued, registered_turn, removed_turn, cleaned_turn, left_turn, reduced_turn, shifted_turn, queued_turn}
-use Rattle.dmc_tag.proofs.Options.{same_presence}
+use Rattle.dmc_tag.proofs.Active.{either, granted_id, same_client}
+use Rattle.dmc_lemmas.proofs.Lists.{all_as, all_at, all_both, all_filtered, all_mapped, all_next, each_passes, found_holds}
+use Rattle.dmc_history_laws.proofs.Basics.{bind_goes, add_gives, from_ok, allowed}
+use Rattle.dmc_history_laws.proofs.InTurn.{pull_is, IsGrant, IsInTurn, AreInTurn}
+use Rattle.dmc_history_laws.proofs.Named.{named_mapped}
+use Rattle.dmc_history_laws.proofs.Pairs.{Differ, ids-kept, nobody, only_one, pairs_kept, pairs_more}
+use Rattle.dmc_history_laws.proofs.TurnKept.{turn_empty, turn_without_first, turn_updated, turn_marked, turn_reduced, turn_shifted, turn_arrived}
 
 module _ {T : Type 0} (ops : Tagging T) (fraction : T → Fraction) (is_value : Fraction → Type 0) (exact : IsExact ops fraction is_value) (order : IsTotalOrder ops.compare) where
   -- ---- rates
@@ -81,86 +79,79 @@ module _ {T : Type 0} (ops : Tagging T) (fraction : T → Fraction) (is_value : 
   abbrev Stays : State T → Outcome T → Type 0
   Stays s o = Turn ((answer_of s o).0) × (((answer_of s o).0).config ≡ s.config)
 
+  -- a change of each client keeps its turn and its id
+  changed : (s : State T) (f : PlainClient T → PlainClient T) (t : ℕ) → AllByRecursion (λ c. IsInTurn ops order (f c)) s.clients → ((c : PlainClient T) → (f c).id ≡ c.id) → Turn s → Turn (record s { clients = map f s.clients; last_moment = t })
+  changed s f t turn ids is = record { clients = all_mapped (λ c. IsInTurn ops order (f c)) (IsInTurn ops order) f (λ c h. h) s.clients turn; distinct = ids-kept f ids s.clients is.distinct }
+
+  -- a change of one client, which is found under its id
+  one_changed : (s : State T) (id : ClientId) (f : PlainClient T → PlainClient T) (c : PlainClient T) (t : ℕ) → client_named id s.clients ≡ Some c → IsInTurn ops order (f c) → ((d : PlainClient T) → is_client id d.id ≡ true → (f d).id ≡ d.id) → Turn s → Turn (record s { clients = rules_of.change_client id f s.clients; last_moment = t })
+  one_changed s id f c t named turn ids is = changed s (λ d. if is_client id d.id then f d else d) t
+      (all_as (λ d. IsInTurn ops order d × (is_client id d.id ≡ true → d ≡ c)) _ (λ d h. at d h (is_client id d.id) refl) s.clients (all_both _ _ s.clients is.clients (only_one id s.clients c is.distinct named)))
+      (λ d. kept d (is_client id d.id) refl) is
+    where
+      at : (d : PlainClient T) → IsInTurn ops order d × (is_client id d.id ≡ true → d ≡ c) → (b : Bool) → is_client id d.id ≡ b → IsInTurn ops order (if b then f d else d)
+      at d h true e = subst (λ d. IsInTurn ops order (f d)) (sym (h.1 e)) turn
+      at d h false e = h.0
+
+      kept : (d : PlainClient T) (b : Bool) → is_client id d.id ≡ b → (if b then f d else d).id ≡ d.id
+      kept d true e = ids d e
+      kept d false e = refl
+
+  -- what is found under an id is in turn
+  found_turn : (clients : List (PlainClient T)) (id : ClientId) (c : PlainClient T) → client_named id clients ≡ Some c → AllByRecursion (IsInTurn ops order) clients → IsInTurn ops order c
+  found_turn clients id c named turn = found_holds (IsInTurn ops order) (λ d. is_client id d.id) clients c turn named
+
   -- ---- add
 
-  upto_chain : (a b : Option T) (prev : T) → is_some a ≡ is_some b → IfSome a (λ x. AtMost ops x prev) → IfSome b (AtMost ops prev) → IsUpto ops a b
-  upto_chain None None prev e h k = refl
-  upto_chain None (Some b) prev e h k = cc
-  upto_chain (Some a) None prev e h k = cc
-  upto_chain (Some a) (Some b) prev e h k = upto order a prev b h k
-
-  below_of : (clients : List (PlainClient T)) (r : PlainRequest T) (c : PlainClient T) → client_named r.client clients ≡ Some c → (c.idle ≡ true) ⊎ AreNext ops c.info c.previous r.tags → (x : PlainRequest T) → IsKnown ops order clients x → IsBelow ops order fraction is_value exact r x
-  below_of clients r c named (inl idle) x k = λ same.
-      let so : Some k.client ≡ Some c = sym k.named ∙ named_same x.client r.client clients same ∙ named in
-      let one : k.client ≡ c = cc in
-      let busy : c.idle ≡ false = ap (λ d. d.idle) (sym one) ∙ k.follows.busy in cc
-  below_of clients r c named (inr next) x k = λ same.
-      let so : Some k.client ≡ Some c = sym k.named ∙ named_same x.client r.client clients same ∙ named in
-      let one : k.client ≡ c = cc in
-      let reserved : is_some x.tags.r ≡ is_some r.tags.r = k.follows.reserved ∙ ap (λ d. is_some d.info.reservation) one ∙ sym next.reserved in (
-        record {
-          r = upto_chain x.tags.r r.tags.r c.previous.r reserved (subst (λ d. IfSome x.tags.r (λ a. AtMost ops a d.previous.r)) one k.follows.r) next.r;
-          l = upto order x.tags.l c.previous.l r.tags.l (subst (λ d. AtMost ops x.tags.l d.previous.l) one k.follows.l) next.l;
-          p = upto order x.tags.p c.previous.p r.tags.p (subst (λ d. AtMost ops x.tags.p d.previous.p) one k.follows.p) next.p;
-        },
-        reserved,
-      )
+  shifted_id : (amount : T) (c : PlainClient T) → (rules_of.shifted_client ops amount c).id ≡ c.id
+  shifted_id amount c = either (λ z. z.id ≡ c.id) c.idle c _ refl refl
 
   -- the client as the adjustment leaves it
   abbrev pub left_by : Option T → PlainClient T → PlainClient T
   left_by None c = c
   left_by (Some amount) c = rules_of.shifted_client ops amount c
 
-  pub named_shifted : (shift : Option T) (id : ClientId) (clients : List (PlainClient T)) (c : PlainClient T) → client_named id clients ≡ Some c → client_named id (rules_of.shifted_clients ops shift clients) ≡ Some (left_by shift c)
+  pub named_shifted : (shift : Option T) (id : ClientId) (clients : List (PlainClient T)) (c : PlainClient T) → client_named id clients ≡ Some c → client_named id (rules_of.shifted_by ops shift clients) ≡ Some (left_by shift c)
   named_shifted None id clients c e = e
-  named_shifted (Some amount) id clients c e = find_mapped (λ (c : PlainClient T). is_client id c.id) (rules_of.shifted_client ops amount) (λ c. ap (is_client id) (either (λ z. z.id ≡ c.id) c.idle c _ refl refl)) clients c e
+  named_shifted (Some amount) id clients c e = named_mapped id (rules_of.shifted_client ops amount) (shifted_id amount) clients ∙ ap (option_map (rules_of.shifted_client ops amount)) e
 
   pub info_shifted : (shift : Option T) (c : PlainClient T) → (left_by shift c).info ≡ c.info
   info_shifted None c = refl
   info_shifted (Some amount) c = either (λ z. z.info ≡ c.info) c.idle c _ refl refl
 
-  -- where there is a shift the arriving client is idle
-  shift_idle : (requests : List (PlainRequest T)) (c : PlainClient T) (t amount : T) → rules_of.shift_of ops requests c t ≡ Ok (Some amount) → c.idle ≡ true
-  shift_idle requests c t amount e = at c.idle refl e where
-    at : (b : Bool) → c.idle ≡ b → (if b then rules_of.shift_from ops t (best (by_weight ops) is_any requests) else Ok None) ≡ Ok (Some amount) → c.idle ≡ true
+  shifted_turn : (s : State T) (shift : Option T) → rules_of.can_shift_by ops shift s.clients ≡ true → Turn s → Turn (record s { clients = rules_of.shifted_by ops shift s.clients })
+  shifted_turn s None can is = is
+  shifted_turn s (Some amount) can is = changed s (rules_of.shifted_client ops amount) s.last_moment
+      (all_as (λ c. (rules_of.client_can_shift ops amount c ≡ true) × IsInTurn ops order c) _ (λ c h. turn_shifted ops order fraction is_value exact c amount h.0 h.1) s.clients (all_both _ _ s.clients (each_passes (rules_of.client_can_shift ops amount) s.clients can) is.clients))
+      (shifted_id amount) is
+
+  -- there is a shift only if the arriving client is idle
+  shift_idle : (clients : List (PlainClient T)) (c : PlainClient T) (t amount : T) → rules_of.shift_of ops clients c t ≡ Ok (Some amount) → c.idle ≡ true
+  shift_idle clients c t amount e = at c.idle refl e where
+    at : (b : Bool) → c.idle ≡ b → (if b then rules_of.shift_from ops t (best_of_all ops by_weight is_any clients) else Ok None) ≡ Ok (Some amount) → c.idle ≡ true
     at true i e = i
     at false i e = cc
 
-  idle_or_next : (shift : Option T) (requests : List (PlainRequest T)) (c : PlainClient T) (t : T) (tags : Tags T) → rules_of.shift_of ops requests c t ≡ Ok shift → AreNext ops c.info c.previous tags → ((left_by shift c).idle ≡ true) ⊎ AreNext ops (left_by shift c).info (left_by shift c).previous tags
-  idle_or_next None requests c t tags e next = inr next
-  idle_or_next (Some amount) requests c t tags e next = let idle = shift_idle requests c t amount e in inl (either (λ z. z.idle ≡ true) c.idle c _ idle idle)
+  idle_or_next : (shift : Option T) (clients : List (PlainClient T)) (c : PlainClient T) (t : T) (tags : Tags T) → rules_of.shift_of ops clients c t ≡ Ok shift → AreNext ops c.info c.previous tags → ((left_by shift c).idle ≡ true) ⊎ AreNext ops (left_by shift c).info (left_by shift c).previous tags
+  idle_or_next None clients c t tags e next = inr next
+  idle_or_next (Some amount) clients c t tags e next = let idle = shift_idle clients c t amount e in inl (either (λ z. z.idle ≡ true) c.idle c _ idle idle)
 
   add_stays : (s : State T) (client : ClientId) (token : Token) (params : Params) (t : ℕ) → 0 < s.config.hz → Turn s → Stays s (rules_of.added ops s client token params t)
   add_stays s client token params t some is = bind_goes (Stays s) (rules_of.can_add ops s client params (ops.of_moment t)) _ (λ e. (is, refl)) (λ x e. (at x e, refl)) where
-    at : (x : Option T × Tags T) → rules_of.can_add ops s client params (ops.of_moment t) ≡ Ok x → Turn (rules_of.queued (rules_of.shifted_by ops x.0 s) (record { client = client; token = token; tags = x.1 }) t)
+    at : (x : Option T × Tags T) → rules_of.can_add ops s client params (ops.of_moment t) ≡ Ok x → Turn (rules_of.queued ops s x.0 client (record { token = token; tags = x.1 }) t)
     at x e =
         let c = add_gives ops s client params (ops.of_moment t) x e in
-        let moved = shifted_turn ops order fraction is_value exact s x.0 c.can is in
-        let r : PlainRequest T = record { client = client; token = token; tags = x.1 } in
+        let moved = shifted_turn s x.0 c.can is in
+        let r : QueuedRequest T = record { token = token; tags = x.1 } in
         let left = left_by x.0 c.client in
         let next = assigned_next s.config.hz c.client params (ops.of_moment t) x.1 some c.tags in
         let named = named_shifted x.0 client s.clients c.client c.named in
         let reserved : is_some x.1.r ≡ is_some left.info.reservation = next.reserved ∙ ap (λ i. is_some i.reservation) (sym (info_shifted x.0 c.client)) in
-        let either_way = idle_or_next x.0 s.requests c.client (ops.of_moment t) x.1 c.shift next in
-        let here = rules_of.shifted_by ops x.0 s in
-        queued_turn ops order fraction is_value exact here r t left named reserved (all_as _ (IsBelow ops order fraction is_value exact r) (below_of here.clients r left named either_way) here.requests moved.known) moved
+        let here : State T = record s { clients = rules_of.shifted_by ops x.0 s.clients } in
+        let of_left : IsInTurn ops order left = found_turn here.clients client left named moved.clients in
+        one_changed here client (rules_of.after_arrival r t) left t named (turn_arrived ops order fraction is_value exact left r t reserved (idle_or_next x.0 s.clients c.client (ops.of_moment t) x.1 c.shift next) of_left) (λ d _. refl) moved
 
   -- ---- update
-
-  and_first : (b c : Bool) → (b && c) ≡ false → c ≡ true → b ≡ false
-  and_first true c e f = cc
-  and_first false c e f = refl
-
-  updated_known : (s : State T) (id : ClientId) (info : Rates) (c : PlainClient T) → client_named id s.clients ≡ Some c → (rules_of.changes_reservation c.info info && has_queued id s.requests) ≡ false → (x : PlainRequest T) → has_queued x.client s.requests ≡ true → IsKnown ops order s.clients x → IsKnown ops order (rules_of.change_client id (rules_of.with_info info) s.clients) x
-  updated_known s id info c named kept x queued k = known_changed ops order id (rules_of.with_info info) (λ c. refl) s.clients x k.client k.named (at (is_client id k.client.id) refl) where
-    at : (b : Bool) → is_client id k.client.id ≡ b → Follows ops order (if b then rules_of.with_info info k.client else k.client) x.tags
-    at true e =
-        let same : is_client x.client id ≡ true = same_id x.client k.client.id id (mine ops order s.clients x.client k.client k.named) e in
-        let so : Some k.client ≡ Some c = sym k.named ∙ named_same x.client id s.clients same ∙ named in
-        let one : k.client ≡ c = cc in
-        let there = same_presence c.info.reservation info.reservation (and_first _ _ kept (same_queued ops order x.client id s.requests same queued)) in
-        record { busy = k.follows.busy; reserved = k.follows.reserved ∙ ap (λ d. is_some d.info.reservation) one ∙ there; r = k.follows.r; l = k.follows.l; p = k.follows.p }
-    at false e = k.follows
 
   update_stays : (s : State T) (id : ClientId) (info : Rates) (t : ℕ) → Turn s → Stays s (rules_of.updated ops s id info t)
   update_stays s id info t is = bind_goes (Stays s) (rules_of.can_update ops s id info) _ (λ e. (is, refl)) (λ u e. (at u e, refl)) where
@@ -168,22 +159,52 @@ module _ {T : Type 0} (ops : Tagging T) (fraction : T → Fraction) (is_value : 
     at u e =
         let c = bound (ok_or (client_named id s.clients) Unknown) _ u e in
         let sp = bound (exactly (spacings_of ops s.config.hz info)) _ u c.2 in
-        let kept = allowed (rules_of.changes_reservation c.0.info info && has_queued id s.requests) Busy u sp.2 in
-        record {
-          pairs = is.pairs;
-          known = all_as _ (IsKnown ops order (rules_of.change_client id (rules_of.with_info info) s.clients)) (λ x h. updated_known s id info c.0 (from_option _ _ _ c.1) kept x h.0 h.1) s.requests (all_both _ _ s.requests (queued_own s.requests) is.known);
-          distinct = ids-kept _ (λ c. either (λ z. z.id ≡ c.id) (is_client id c.id) _ c refl refl) s.clients is.distinct;
-        }
+        let kept = allowed (rules_of.changes_reservation c.0.info info && is_busy c.0) Busy u sp.2 in
+        let named = from_option _ _ _ c.1 in
+        one_changed s id (rules_of.with_info info) c.0 t named (turn_updated ops order c.0 info kept (found_turn s.clients id c.0 named is.clients)) (λ d _. refl) is
+
+  -- ---- pull
+
+  grant_stays : (s : State T) (t : ℕ) (found : Found T) (amount : Option T) (phase : _) (beyond : Bool) → IsGrant ops s t found amount phase beyond → Turn s → Turn (rules_of.taken_out ops s t found amount)
+  grant_stays s t found amount phase beyond g is =
+      let of_found : IsInTurn ops order found.client = all_at (IsInTurn ops order) g.front found.client g.back (subst (AllByRecursion (IsInTurn ops order)) g.whole is.clients) in
+      let after : IsInTurn ops order (rules_of.after_grant ops found amount) = turn_reduced ops order fraction is_value exact (rules_of.with_requests found.others found.client) amount g.can (turn_without_first ops order found.client found.request found.others g.first of_found) in
+      changed s (λ d. if is_client found.client.id d.id then rules_of.after_grant ops found amount else d) t
+      (all_as (IsInTurn ops order) _ (λ d h. either (IsInTurn ops order) (is_client found.client.id d.id) _ d after h) s.clients is.clients)
+      (λ d. kept d (is_client found.client.id d.id) refl) is
+    where
+      kept : (d : PlainClient T) (b : Bool) → is_client found.client.id d.id ≡ b → (if b then rules_of.after_grant ops found amount else d).id ≡ d.id
+      kept d true e = granted_id ops found amount ∙ sym (same_client found.client.id d.id e)
+      kept d false e = refl
+
+  -- ---- clean
+
+  -- a client with a queued request keeps its mark
+  same_mark : (s : State T) (t : ℕ) (c : PlainClient T) → is_busy c ≡ true → (c.idle || rules_of.is_stale t s.config.idle_age c) ≡ c.idle
+  same_mark s t c busy = at c.idle (is_busy c) busy where
+    at : (i b : Bool) → b ≡ true → (i || (not b && nat_le s.config.idle_age (t - c.last_arrival))) ≡ i
+    at true true e = refl
+    at false true e = refl
+    at i false e = cc
+
+  clean_stays : (s : State T) (t : ℕ) → Turn s → Turn ((answer_of s (rules_of.cleaned s t)).0)
+  clean_stays s t is =
+      let fresh : State T = record s { clients = filter (λ c. not (rules_of.is_erased s t c)) s.clients } in
+      changed fresh (rules_of.with_idle_mark s t) t
+      (all_as (IsInTurn ops order) _ (λ c h. turn_marked ops order c (c.idle || rules_of.is_stale t s.config.idle_age c) (same_mark s t c) h) fresh.clients (all_filtered (IsInTurn ops order) _ s.clients is.clients))
+      (λ c. refl) (record { clients = all_filtered (IsInTurn ops order) _ s.clients is.clients; distinct = pairs_kept Differ _ s.clients is.distinct })
 
   -- ---- each command
 
   pub step_stays : (s : State T) (c : Command) → 0 < s.config.hz → Turn s → Stays s (outcome ops s c)
-  step_stays s (Register id info at) some is = bind_goes (Stays s) (rules_of.can_register ops s id info) _ (λ e. (is, refl)) (λ u e. let known = bound (refuse_if (is_some (client_named id s.clients)) Known) _ u e in (registered_turn ops order s (rules_of.newcomer ops id info (effective s at)) (effective s at) (allowed _ Known known.0 known.1) is, refl))
+  step_stays s (Register id info at) some is = bind_goes (Stays s) (rules_of.can_register ops s id info) _ (λ e. (is, refl)) (λ u e.
+      let known = bound (refuse_if (is_some (client_named id s.clients)) Known) _ u e in
+      let newcomer = rules_of.newcomer ops id info (effective s at) in (
+        record { clients = all_next (IsInTurn ops order) s.clients newcomer is.clients (turn_empty ops order newcomer refl); distinct = pairs_more Differ s.clients newcomer is.distinct (nobody id s.clients (allowed _ Known known.0 known.1)) },
+        refl,
+      ))
   step_stays s (Update id info at) some is = update_stays s id info (effective s at) is
   step_stays s (Add client token params at) some is = add_stays s client token params (effective s at) some is
-  step_stays s (Pull at) some is = pull_is ops order s (effective s at) is.pairs (Stays s) (λ e. (is, refl)) (λ m. (record { pairs = is.pairs; known = is.known; distinct = is.distinct }, refl)) (record { pairs = is.pairs; known = is.known; distinct = is.distinct }, refl) (λ r others amount phase beyond g. (
-    reduced_turn ops order fraction is_value exact (rules_of.without s (effective s at) others) r.client amount g.can (left_turn ops order s (effective s at) r g.front g.back others g.whole g.rest is),
-    refl,
-  ))
-  step_stays s (Remove id) some is = bind_goes (Stays s) (rules_of.can_remove s id) _ (λ e. (is, refl)) (λ u e. (removed_turn ops order s (λ r. not (is_client id r.client)) is, refl))
-  step_stays s (Clean at) some is = (cleaned_turn ops order s (effective s at) is, refl)
+  step_stays s (Pull at) some is = pull_is ops order s (effective s at) is.clients (Stays s) (λ e. (is, refl)) (λ m. (record { clients = is.clients; distinct = is.distinct }, refl)) (record { clients = is.clients; distinct = is.distinct }, refl) (λ found amount phase beyond g. (grant_stays s (effective s at) found amount phase beyond g is, refl))
+  step_stays s (Remove id) some is = bind_goes (Stays s) (rules_of.can_remove s id) _ (λ e. (is, refl)) (λ c e. (one_changed s id (rules_of.with_requests []) c s.last_moment (from_option _ _ _ e) (turn_empty ops order (rules_of.with_requests [] c) refl) (λ d _. refl) is, refl))
+  step_stays s (Clean at) some is = (clean_stays s (effective s at) is, refl)

@@ -21,7 +21,7 @@ pub record Arrival : Type 0 where
   pub token : Token
   pub params : Params
 
--- the client's accepted add, where the event is one
+-- the client's accepted add, if the event is one
 abbrev pub arrival_of : {T : Type 0} → ClientId → Command → Reply T → List Arrival
 arrival_of id (Add client token params at) (Tagged tags) = if is_client id client then record { token = token; params = params } ∷ [] else []
 arrival_of id command reply = []
@@ -52,7 +52,7 @@ priorities id (e ∷ es) = prioritized id e.command e.reply + priorities id es
 -- The client's queued requests are its arrivals without the first ones, as many as were removed.
 abbrev pub InOrderOfArrival : {T : Type 0} → Tagging T → Setting → Type 0
 InOrderOfArrival {T} ops config = (id : ClientId) (events : List (Event T)) → replays ops config events
-    → map (λ r. r.token) (requests_of id (after ops config events).requests) ≡ drop (departures id events) (map (λ a. a.token) (arrivals id events))
+    → map (λ r. r.token) (requests_of id (after ops config events).clients) ≡ drop (departures id events) (map (λ a. a.token) (arrivals id events))
 
 -- ---- which events are meant
 

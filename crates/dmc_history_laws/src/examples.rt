@@ -17,7 +17,7 @@ pub fn limit_bound()
     ensures beyond { nat_le (1000 * sum_of (λ p. p.delta) 1 2 (arrivals first_client beyond_history)) (20 * ticks tick_ops allowing beyond_history 1 5 0) ≡ false }
 {}
 
-/// Up to a grant by the reservation both sides are 1,000. Where a request was granted by weight between, within the limit or
+/// Up to a grant by the reservation both sides are 1,000. If a request was granted by weight between, within the limit or
 /// beyond, it counts against the rhos: both sides are 2,000.
 pub fn reservation_bound()
     ensures replayed { replays tick_ops waiting reservation_history }
@@ -33,5 +33,5 @@ pub fn reservation_bound()
 
 /// After the first request was granted, the second and the third are queued.
 pub fn in_order_of_arrival()
-    ensures { map (λ r. r.token) (requests_of first_client (after tick_ops waiting (limited ++ waits)).requests) ≡ record { 0 = 2 } ∷ record { 0 = 3 } ∷ [] }
+    ensures { map (λ r. r.token) (requests_of first_client (after tick_ops waiting (limited ++ waits)).clients) ≡ record { 0 = 2 } ∷ record { 0 = 3 } ∷ [] }
 {}

@@ -19,8 +19,8 @@ use Rattle.dmc_index.specs.Index.{slot_of_key, IsEmpty, IsApart, AreApart, IsLea
 use Rattle.dmc_index.specs.Entries.{slots_of, IsRising, IsSound}
 use Rattle.dmc_index.specs.internal.Entries.{MapsEntries}
 use Rattle.dmc_index.specs.declared.list_index.Entry.{Entry}
-pub use Rattle.dmc_tag.proofs.Orderings.{less_if_lt}
-use Rattle.dmc_tag.proofs.Options.{option_cases}
+pub use Rattle.dmc_lemmas.proofs.Orderings.{less_if_lt}
+use Rattle.dmc_lemmas.proofs.Options.{option_cases}
 use Rattle.std.proofs.lemmas.Bool.{not-true}
 use Rattle.dmc_index.proofs.Slots.{slot_of_key-replicate, count-set_some, count_below}
 
@@ -102,13 +102,13 @@ false_test : {X : Type 0} (b : Bool) (x : X) → cond b (Some x) None ≡ None �
 false_test true x e = cc
 false_test false x e = refl
 
--- no element passes where none is found
+-- no element passes if none is found
 not_passing : {X : Type 0} (p : X → Bool) (xs : List X) → position p xs ≡ None → (k : ℕ) (d : X) → k < length xs → p (get_or xs k d) ≡ false
 not_passing p xs h k d l =
     let past = ltb-false (prefix_len (λ x. not (p x)) xs) (length xs) (false_test (nat_lt (prefix_len (λ x. not (p x)) xs) (length xs)) (prefix_len (λ x. not (p x)) xs) h) in
     not-true (p (get_or xs k d)) (prefix_len_passes (λ x. not (p x)) xs k d (omega arith))
 
--- the indexes by a rank, where the ranks rise
+-- the indexes by a rank, if the ranks rise
 pub IsPartitionedBy-rising : {R : Type 0} {compare : R → R → Ordering} (o : IsTotalOrder compare) (es : List (Entry R)) (rank : R) → IsRising compare es → IsPartitionedBy (λ e. is_lt (compare e.rank rank)) es
 IsPartitionedBy-rising {R} {compare} o es rank rising i j d l m h =
     elim (cases_eq i j) [

@@ -23,6 +23,13 @@ pub record Holding : Type 0 where
   pub number : ℕ
   pub amount : ℕ
 
+-- the defaults of a place without a book or a till
+abbrev pub no_account : Account
+no_account = record { number = 0; gathered = 0; held = 0; open_tills = 0 }
+
+abbrev pub no_holding : Holding
+no_holding = record { number = 0; amount = 0 }
+
 -- a book's total is what was gathered plus what its open tills hold
 abbrev pub total_of : Account → ℕ
 total_of b = b.gathered + b.held

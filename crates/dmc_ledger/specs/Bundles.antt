@@ -70,6 +70,12 @@ module _ {S : Type 0} where
     list = option_map (λ l. l.number) d.list;
   }
 
+-- a stamp: whose it is, for which server, and what it carries
+pub record StampValue : Type 0 where
+  pub client : ℕ
+  pub server : ℕ
+  pub params : Params
+
 -- the tills hold at least one stamp, and at least these params
 pub record Covers (tills : StampHoldings) (params : Params) : Type 0 where
   pub some_stamp : 0 < tills.stamps.amount

@@ -98,7 +98,7 @@ impl<S: Setup> Book<S> {
         Ok(till)
     }
 
-    /// Adds an amount to a till of this book, and so to the total. It is refused `Full` where the total would be above 2^63.
+    /// Adds an amount to a till of this book, and so to the total. It is refused `Full` if the total would be above 2^63.
     pub fn issue(&mut self, till: &mut Till<S>, amount: u64) -> Result<(), Full>
         requires { till.old.number ≡ self.old.number }
         ensures full { IsErr result ↔ (2 ^ 63 < total_of self.old + amount) }
@@ -156,7 +156,7 @@ impl<S: Setup> Book<S> {
     }
 
     /// Changes nothing, and shows how a till of this book is related to it: the till holds at most the total less what was
-    /// gathered, and exactly that where no other till is open.
+    /// gathered, and exactly that if no other till is open.
     pub fn audit(&self, till: &Till<S>)
         requires { till.now.number ≡ self.now.number }
         ensures some { 0 < self.now.open_tills }

@@ -34,7 +34,7 @@ pub struct ServerDesk<S: Setup> {
 }
 
 /// The desks of a client at a server, with five new books. Each book has one open till, at the other desk. It is refused `Full`
-/// where fewer than five books are left.
+/// if fewer than five books are left.
 pub fn open_pair<S: Setup>(
     mint: &mut Mint<S>,
     client: ClientId,

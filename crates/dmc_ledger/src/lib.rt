@@ -9,5 +9,6 @@ pub mod full;
 pub mod growing;
 pub mod mint;
 pub mod setup;
+pub mod stamp;
 pub mod till;
 mod token;

@@ -6,19 +6,19 @@ use Rattle.std.specs.List.{remove}
 use Rattle.std.proofs.lemmas.List.{get_or-drop}
 use Rattle.std.proofs.lemmas.Option.{slice_get-get_or}
 use Rattle.dmc_tag.specs.Best.{best}
-use Rattle.dmc_plain.specs.internal.Sets.{found_at, beats}
+use Rattle.dmc_plain.specs.internal.Sets.{one_found, beats}
 
 module _ {R : Type 0} (before : R → R → Bool) (member : R → Bool) where
   -- the best of ys, which begin at index i
   abbrev pub Found : List R → ℕ → Option ℕ → Type 0
   Found ys i None = best before member ys ≡ None
-  Found ys i (Some j) = (k : ℕ) × (j ≡ i + k) × (k < length ys) × (best before member ys ≡ found_at ys (Some k))
+  Found ys i (Some j) = (k : ℕ) × (j ≡ i + k) × (k < length ys) × (best before member ys ≡ one_found ys (Some k))
 
   none_before : (x : R) (ys : List R) (i : ℕ) → best before member ys ≡ None → (m : Bool) → member x ≡ m → Found (x ∷ ys) i (cond (m && true) (Some i) None)
   none_before x ys i e true is = (0, omega arith, omega arith, rw (e, is) refl)
   none_before x ys i e false is = rw (e, is) refl
 
-  some_before : (x y : R) (ys : List R) (i j k : ℕ) → j ≡ suc i + k → k < length ys → slice_get ys k ≡ Some y → best before member ys ≡ found_at ys (Some k) → (b : Bool) → (member x && not (before y x)) ≡ b → Found (x ∷ ys) i (cond b (Some i) (Some j))
+  some_before : (x y : R) (ys : List R) (i j k : ℕ) → j ≡ suc i + k → k < length ys → slice_get ys k ≡ Some y → best before member ys ≡ one_found ys (Some k) → (b : Bool) → (member x && not (before y x)) ≡ b → Found (x ∷ ys) i (cond b (Some i) (Some j))
   some_before x y ys i j k at within here e true is =
       let f = e ∙ ap (option_map (λ (r : R). (r, remove ys k))) here in
       (0, omega arith, omega arith, rw (f, is) refl)
@@ -40,7 +40,7 @@ module _ {R : Type 0} (before : R → R → Bool) (member : R → Bool) where
       subst (λ ys. Found ys i (cond (member x && not (beats before xs found x)) (Some i) found)) (sym e) (more xs x i found f)
 
   -- from the first index on, it is the best of all
-  pub found_all : (xs : List R) (found : Option ℕ) → Found xs 0 found → found_at xs found ≡ best before member xs
+  pub found_all : (xs : List R) (found : Option ℕ) → Found xs 0 found → one_found xs found ≡ best before member xs
   found_all xs None f = sym f
   found_all xs (Some j) (k, at, within, e) = let same : j ≡ k = omega arith in rw same (sym e)
 

@@ -1,8 +1,9 @@
-pub mod Shares
 pub mod Found
-pub mod Grants
-pub mod Tests
-pub mod Pulls
-pub mod Taken
-pub mod Counted
-mod Views
+pub mod Places
+pub mod Elements
+pub mod Queued
+pub mod Kept
+pub mod Changed
+pub mod Added
+pub mod Beyond
+pub mod Cleaned

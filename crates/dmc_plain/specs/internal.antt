@@ -1,4 +1,14 @@
--- The sets of requests that the queue searches.
+-- What a queue keeps to: its limits, and that no two clients have one id.
+pub mod Kept
+-- The sets that the queue searches, and the best of a set among one client's requests, by its index.
 pub mod Sets
--- An adjustment may shift every request: a client with a queued request is not idle.
-pub mod Shares
+-- Where a request is.
+pub mod Places
+-- An arrival in two parts: the request is queued, which may fail, before others are shifted; the rest is recorded after that.
+pub mod Arrivals
+-- When something is due.
+pub mod Due
+-- Which requests a reduction may change.
+pub mod Reductions
+-- The new state and the reply of an outcome.
+pub mod Settled

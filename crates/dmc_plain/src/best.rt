@@ -1,10 +1,13 @@
 //! The best of a set of requests.
-ghost use Rattle.std.specs.Prelude.{◌≡◌, ◌<◌, length, IfSome, Some};
-ghost use Rattle.dmc_tag.specs.Best.{best};
-ghost use Rattle.dmc_plain.specs.internal.Sets.{members, order, rank_of, found_at, beats, better_at};
+ghost use Rattle.std.specs.Prelude.{◌≡◌, ◌<◌, length, IfSome, Some, slice_get};
+ghost use Rattle.std.specs.Option.{option_map, option_and_then};
+ghost use Rattle.dmc_tag.specs.Best.{best, best_of_one, best_of_all, better_found, is_below};
+ghost use Rattle.dmc_plain.specs.internal.Places.{found_at, place_found, IsPlace};
+ghost use Rattle.dmc_plain.specs.internal.Sets.{members, tag_of, rank_of, one_found, beats, better_at};
 
+use crate::client::Client;
 use dmc_tag::due::is_due;
-use dmc_tag::plain::PlainRequest;
+use dmc_tag::plain::QueuedRequest;
 use dmc_tag::rank::{Rank, TagRank};
 use dmc_tag::tag::Tag;
 use dmc_types::moment::Moment;
@@ -20,9 +23,16 @@ pub enum Set {
     All,
 }
 
+/// Where a request is: the index of its client, and its own index among that client's requests.
+#[derive(Clone, Copy)]
+pub struct Place {
+    pub client: usize,
+    pub request: usize,
+}
+
 impl Set {
     /// Whether the request is a member.
-    fn contains<T: Tag>(&self, request: &PlainRequest<T>) -> bool
+    fn contains<T: Tag>(&self, request: &QueuedRequest<T>) -> bool
         ensures { result ≡ members T.ops self.now request.now }
     {
         match *self {
@@ -32,31 +42,31 @@ impl Set {
         }
     }
 
-    /// The rank by which the set orders a request.
-    fn rank<T: Tag>(&self, request: &PlainRequest<T>) -> TagRank<T>
-        ensures { result ≡ rank_of self.now request.now }
+    /// The tag by which the set orders a request.
+    fn tag<T: Tag>(&self, request: &QueuedRequest<T>) -> Option<T>
+        ensures { result ≡ tag_of self.now request.now }
     {
-        let tag = match *self {
+        match *self {
             Set::Early(_) => request.tags.r,
             Set::Free(_) | Set::All => Some(request.tags.p),
-        };
-        TagRank {
-            tag,
-            client: request.client,
         }
     }
 
-    /// Whether one request is before another.
-    fn is_before<T: Tag>(&self, a: &PlainRequest<T>, b: &PlainRequest<T>) -> bool
-        ensures { result ≡ order T.ops self.now a.now b.now }
+    /// Whether the tag of one request is below another's.
+    fn is_below<T: Tag>(&self, a: &QueuedRequest<T>, b: &QueuedRequest<T>) -> bool
+        ensures { result ≡ is_below T.ops (tag_of self.now) a.now b.now }
     {
-        self.rank(a).is_below(&self.rank(b))
+        match (self.tag(a), self.tag(b)) {
+            (None, _) => false,
+            (Some(_), None) => true,
+            (Some(a), Some(b)) => a.cmp(&b).is_lt(),
+        }
     }
 }
 
-/// The index of the best of the set. The scan goes from the back, so the first of equals is found.
-pub fn best_index<T: Tag>(requests: &[PlainRequest<T>], set: &Set) -> Option<usize>
-    ensures found { found_at requests.now result ≡ best (order T.ops set.now) (members T.ops set.now) requests.now }
+/// The index of the best of the set among one client's requests. The scan goes from the back, so the first of equals is found.
+fn best_index<T: Tag>(requests: &[QueuedRequest<T>], set: &Set) -> Option<usize>
+    ensures found { one_found requests.now result ≡ best (is_below T.ops (tag_of set.now)) (members T.ops set.now) requests.now }
     ensures bound { IfSome result (λ i. i < length requests.now) }
 {
     let mut found: Option<usize> = None;
@@ -66,16 +76,16 @@ pub fn best_index<T: Tag>(requests: &[PlainRequest<T>], set: &Set) -> Option<usi
     found
 }
 
-/// The index i of a request, or the one that was found behind it where that is better.
+/// The index i of a request, or the one that was found behind it if that is better.
 fn better_index<T: Tag>(
-    requests: &[PlainRequest<T>],
+    requests: &[QueuedRequest<T>],
     set: &Set,
     found: Option<usize>,
     i: usize,
-    request: &PlainRequest<T>,
+    request: &QueuedRequest<T>,
 ) -> Option<usize>
     requires { IfSome found (λ j. j < length requests.now) }
-    ensures { result ≡ better_at (order T.ops set.now) (members T.ops set.now) requests.now found i request.now }
+    ensures { result ≡ better_at (is_below T.ops (tag_of set.now)) (members T.ops set.now) requests.now found i request.now }
 {
     if set.contains(request) && !is_beaten(requests, set, found, request) {
         Some(i)
@@ -86,16 +96,76 @@ fn better_index<T: Tag>(
 
 /// Whether the request that was found is before another.
 fn is_beaten<T: Tag>(
-    requests: &[PlainRequest<T>],
+    requests: &[QueuedRequest<T>],
     set: &Set,
     found: Option<usize>,
-    request: &PlainRequest<T>,
+    request: &QueuedRequest<T>,
 ) -> bool
     requires { IfSome found (λ j. j < length requests.now) }
-    ensures { result ≡ beats (order T.ops set.now) requests.now found request.now }
+    ensures { result ≡ beats (is_below T.ops (tag_of set.now)) requests.now found request.now }
 {
     match found {
         None => false,
-        Some(j) => set.is_before(&requests[j], request),
+        Some(j) => set.is_below(&requests[j], request),
+    }
+}
+
+/// The place of the best of the set. The scan goes from the back, so of equals that of the client which registered first is found.
+pub fn best_place<T: Tag>(clients: &[Client<T>], set: &Set) -> Option<Place>
+    ensures found { place_found clients.now result ≡ best_of_all T.ops (tag_of set.now) (members T.ops set.now) clients.now }
+    ensures bound { IfSome result (IsPlace clients.now) }
+{
+    let mut found: Option<Place> = None;
+    for i in (0..clients.len()).rev() {
+        found = better_place(clients, set, found, i);
+    }
+    found
+}
+
+/// The place of the best of the client at i, or the one that was found behind it if that is better.
+fn better_place<T: Tag>(
+    clients: &[Client<T>],
+    set: &Set,
+    found: Option<Place>,
+    i: usize,
+) -> Option<Place>
+    requires client { i < length clients.now }
+    requires place { IfSome found (IsPlace clients.now) }
+    ensures found { place_found clients.now result ≡ better_found T.ops (tag_of set.now) (option_and_then (best_of_one T.ops (tag_of set.now) (members T.ops set.now)) (slice_get clients.now i)) (place_found clients.now found) }
+    ensures bound { IfSome result (IsPlace clients.now) }
+{
+    let Some(request) = best_index(clients[i].requests(), set) else {
+        return found;
+    };
+    let place = Place { client: i, request };
+    match found {
+        None => Some(place),
+        Some(other) => Some(earlier_place(clients, set, place, other)),
+    }
+}
+
+/// Of two places that whose request is before the other's; the first, if neither is.
+fn earlier_place<T: Tag>(clients: &[Client<T>], set: &Set, a: Place, b: Place) -> Place
+    requires a { IsPlace clients.now a }
+    requires b { IsPlace clients.now b }
+    ensures found { found_at clients.now result ≡ better_found T.ops (tag_of set.now) (found_at clients.now a) (found_at clients.now b) }
+    ensures bound { IsPlace clients.now result }
+{
+    if rank_at(clients, set, b).is_below(&rank_at(clients, set, a)) {
+        b
+    } else {
+        a
+    }
+}
+
+/// The rank by which the set orders the request at a place.
+fn rank_at<T: Tag>(clients: &[Client<T>], set: &Set, place: Place) -> TagRank<T>
+    requires { IsPlace clients.now place }
+    ensures { option_map (rank_of set.now) (found_at clients.now place) ≡ Some result }
+{
+    let client = &clients[place.client];
+    TagRank {
+        tag: set.tag(&client.requests()[place.request]),
+        client: client.id(),
     }
 }

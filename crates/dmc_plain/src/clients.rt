@@ -1,35 +1,43 @@
 //! Searches among clients.
-ghost use Rattle.std.specs.Prelude.{◌≡◌};
+ghost use Rattle.std.specs.Prelude.{◌≡◌, ◌<◌, ◌≤◌, length, IfSome, slice_get};
+ghost use Rattle.std.specs.List.{list_all};
+ghost use Rattle.std.specs.Option.{option_and_then};
+ghost use Rattle.dmc_types.specs.Limits.{max_requests};
 ghost use Rattle.dmc_tag.specs.State as state;
 ghost use Rattle.dmc_tag.specs.Rules as rules_of;
 
-use dmc_tag::plain::PlainClient;
-use dmc_tag::shifting::has_less;
+use crate::client::Client;
 use dmc_tag::tag::Tag;
 use dmc_types::ids::ClientId;
 
-/// The client of this id.
-pub fn client_named<T: Copy>(clients: &[PlainClient<T>], id: ClientId) -> Option<PlainClient<T>>
-    ensures { result ≡ state.client_named id clients.now }
+/// The index of the client of this id.
+pub fn index_of<T>(clients: &[Client<T>], id: ClientId) -> Option<usize>
+    ensures client { option_and_then (slice_get clients.now) result ≡ state.client_named id clients.now }
+    ensures bound { IfSome result (λ i. i < length clients.now) }
 {
-    for client in clients {
-        if client.id == id {
-            return Some(*client);
+    for i in 0..clients.len() {
+        if clients[i].id() == id {
+            return Some(i);
         }
     }
     None
 }
 
-/// Whether each shifted previous tag is a value.
-pub fn can_shift<T: Tag>(clients: &[PlainClient<T>], amount: T) -> bool
-    ensures { result ≡ rules_of.clients_can_shift T.ops amount clients.now }
+/// Whether each tag that a shift changes stays a value.
+pub fn can_shift<T: Tag>(clients: &[Client<T>], amount: T) -> bool
+    ensures { result ≡ list_all (rules_of.client_can_shift T.ops amount) clients.now }
 {
-    clients.iter().all(|client| client.idle || has_less(client.previous.p, amount))
+    clients.iter().all(|client| client.can_shift(amount))
 }
 
-/// Whether each reduced previous tag of the client is a value.
-pub fn can_reduce<T: Tag>(clients: &[PlainClient<T>], id: ClientId, amount: T) -> bool
-    ensures { result ≡ rules_of.clients_can_reduce T.ops id amount clients.now }
+/// The number of queued requests of all clients.
+pub fn count_requests<T>(clients: &[Client<T>]) -> usize
+    requires { length (state.queued_requests clients.now) ≤ max_requests }
+    ensures { result ≡ length (state.queued_requests clients.now) }
 {
-    clients.iter().all(|client| client.id != id || has_less(client.previous.r, amount))
+    let mut count: usize = 0;
+    for client in clients {
+        count += client.requests().len();
+    }
+    count
 }

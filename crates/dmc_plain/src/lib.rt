@@ -1,9 +1,10 @@
-//! The reference queue: the rules of dmClock over one flat list, as the definitions state them.
+//! The reference queue: the rules of dmClock over one list of clients, each with its requests, as the definitions state them.
 #![tactic(auto)]
 
 mod best;
 mod changes;
 mod cleaning;
+mod client;
 mod clients;
 mod due;
 pub mod queue;

@@ -1,23 +1,19 @@
 //! The reference queue.
-ghost use Rattle.std.specs.Prelude.{◌≡◌, ◌<◌, ◌&&◌, length, OnOk, ◌==◌};
+ghost use Rattle.std.specs.Prelude.{◌≡◌, ◌<◌, ◌&&◌, length, OnOk, IfOk, Some, None, slice_get, ◌==◌};
+ghost use Rattle.std.specs.Result.{result_map_both};
 ghost use Rattle.dmc_types.specs.Limits.{max_clients};
-ghost use Rattle.dmc_tag.specs.Answers.{call_reply, sure_call_reply, pull_reply, clean_reply};
 ghost use Rattle.dmc_tag.specs.Rules as rules_of;
 ghost use Rattle.dmc_tag.specs.State as state;
-ghost use Rattle.dmc_tag.specs.State.{opening, effective};
-ghost use Rattle.dmc_tag.specs.Steps.{Exactly};
-ghost use Rattle.dmc_types.specs.declared.command.Command.TheVariants as commands;
-ghost use Rattle.dmc_tag.specs.declared.reply.Reply.TheVariants as replies;
+ghost use Rattle.dmc_tag.specs.State.{opening, effective, queued_requests};
 
 mod adding;
 mod pulling;
 
-use crate::best::{Set, best_index};
-use crate::changes::{Mark, Update, change_all};
+use crate::best::{Set, best_place};
+use crate::changes::{Mark, change_all};
 use crate::cleaning::{count_erased, count_idled, erase};
-use crate::clients::client_named;
-use crate::requests::{self, has_queued};
-use dmc_tag::plain::{PlainClient, PlainRequest, Previous};
+use crate::client::Client;
+use crate::clients::{count_requests, index_of};
 use dmc_tag::reply::{Pulled, Tags};
 use dmc_tag::scheduler::Scheduler;
 use dmc_tag::spacing::{Spacings, spacings_for};
@@ -32,26 +28,25 @@ use dmc_types::refusal::{QueueFault, Refusal};
 use std::alloc::Global;
 use std::marker::Model;
 
-/// The queue of the definitions: one flat list of requests, which each call scans. Contracts see it as a plain state.
+/// The queue of the definitions: a list of clients, each with its requests, which each call scans. Contracts see it as a plain
+/// state.
 #[derive(Drop)]
 pub struct PlainQueue<T> {
     config: QueueConfig,
-    requests: Vec<PlainRequest<T>>,
-    clients: Vec<PlainClient<T>>,
+    clients: Vec<Client<T>>,
     last_moment: Moment,
 }
 
 impl<T> Model for PlainQueue<T> {
-    ghost use Rattle.std.specs.Prelude.{◌≤◌, length};
     ghost use Rattle.dmc_types.specs.Limits.{max_clients, max_requests};
     ghost use Rattle.dmc_tag.specs.State.{State};
-    ghost use Rattle.dmc_tag.specs.Queued.{AreActive};
+    ghost use Rattle.dmc_plain.specs.internal.Kept.{IsKept};
 
     ghost Value = { State T };
 
-    ghost view = { λ q. record { config = q.config; requests = q.requests.items; clients = q.clients.items; last_moment = q.last_moment } };
+    ghost view = { λ q. record { config = q.config; clients = q.clients.items; last_moment = q.last_moment } };
 
-    ghost invariant = { λ q. (length q.requests.items ≤ max_requests) × (length q.clients.items ≤ max_clients) × AreActive q.clients.items q.requests.items };
+    ghost invariant = { λ q. IsKept max_clients max_requests q.clients.items };
 }
 
 impl<T> PlainQueue<T> {
@@ -61,7 +56,6 @@ impl<T> PlainQueue<T> {
     {
         PlainQueue {
             config,
-            requests: Vec::new(alloc),
             clients: Vec::new(alloc),
             last_moment: Moment::zero(),
         }
@@ -75,24 +69,6 @@ impl<T> PlainQueue<T> {
     }
 }
 
-/// The record of a client that is registered at a moment.
-fn newcomer<T: Tag>(client: ClientId, info: ClientInfo, at: Moment) -> PlainClient<T>
-    ensures { result ≡ rules_of.newcomer T.ops client info at }
-{
-    let zero = T::of_moment(Moment::zero());
-    PlainClient {
-        id: client,
-        info,
-        previous: Previous {
-            r: zero,
-            l: zero,
-            p: zero,
-        },
-        idle: true,
-        last_arrival: at,
-    }
-}
-
 /// Whether the rates give a reservation, or take it.
 fn changes_reservation(old: ClientInfo, new: ClientInfo) -> bool
     ensures { result ≡ rules_of.changes_reservation old new }
@@ -101,15 +77,10 @@ fn changes_reservation(old: ClientInfo, new: ClientInfo) -> bool
 }
 
 /// Whether queued requests forbid these rates to a client.
-fn is_busy<T>(
-    requests: &[PlainRequest<T>],
-    client: ClientId,
-    old: ClientInfo,
-    new: ClientInfo,
-) -> bool
-    ensures { result ≡ (rules_of.changes_reservation old new && state.has_queued client requests.now) }
+fn is_busy<T>(client: &Client<T>, info: ClientInfo) -> bool
+    ensures { result ≡ (rules_of.changes_reservation client.now.info info && state.is_busy client.now) }
 {
-    changes_reservation(old, new) && has_queued(requests, client)
+    changes_reservation(client.info(), info) && client.is_busy()
 }
 
 impl<T: Tag> PlainQueue<T> {
@@ -117,8 +88,9 @@ impl<T: Tag> PlainQueue<T> {
     fn can_register(&self, client: ClientId, info: ClientInfo) -> Result<(), Refusal>
         ensures outcome { result ≡ rules_of.can_register T.ops self.now client info }
         ensures room { OnOk result (length self.now.clients < max_clients) }
+        ensures new { OnOk result (state.client_named client self.now.clients ≡ None) }
     {
-        if client_named(&self.clients, client).is_some() {
+        if index_of(&self.clients, client).is_some() {
             return Err(Refusal::Known);
         }
         let _exact: Spacings<T> = spacings_for(self.config.hz(), info)?;
@@ -128,59 +100,59 @@ impl<T: Tag> PlainQueue<T> {
         Ok(())
     }
 
-    /// The tests of an update.
-    fn can_update(&self, client: ClientId, info: ClientInfo) -> Result<(), Refusal>
-        ensures { result ≡ rules_of.can_update T.ops self.now client info }
+    /// The tests of an update, and the client's index.
+    fn can_update(&self, client: ClientId, info: ClientInfo) -> Result<usize, Refusal>
+        ensures outcome { result_map_both (λ _. tt) (λ e. e) result ≡ rules_of.can_update T.ops self.now client info }
+        ensures client { IfOk result (λ i. slice_get self.now.clients i ≡ state.client_named client self.now.clients) }
+        ensures bound { IfOk result (λ i. i < length self.now.clients) }
     {
-        let Some(known) = client_named(&self.clients, client) else {
+        let Some(index) = index_of(&self.clients, client) else {
             return Err(Refusal::Unknown);
         };
         let _exact: Spacings<T> = spacings_for(self.config.hz(), info)?;
-        if is_busy(&self.requests, client, known.info, info) {
+        if is_busy(&self.clients[index], info) {
             return Err(Refusal::Busy);
         }
-        Ok(())
-    }
-
-    /// The test of a removal.
-    fn can_remove(&self, client: ClientId) -> Result<(), Refusal>
-        ensures { result ≡ rules_of.can_remove self.now client }
-    {
-        if client_named(&self.clients, client).is_none() {
-            return Err(Refusal::Unknown);
-        }
-        Ok(())
+        Ok(index)
     }
 
     /// Whether nothing is queued.
     pub fn empty(&self) -> bool
-        ensures { result ≡ (length self.now.requests == 0) }
+        ensures { result ≡ (length (queued_requests self.now.clients) == 0) }
     {
-        self.requests.is_empty()
+        count_requests(&self.clients) == 0
     }
 }
 
 impl<T: Tag> Scheduler<T> for PlainQueue<T> {
     ghost state = { λ q. q };
 
-    fn register(&mut self, client: ClientId, info: ClientInfo, at: Moment) -> Result<(), QueueFault>
-        ensures { Exactly T.ops self.old self.new (commands.Register client info at) (call_reply (λ _. replies.Registered) result) }
-    {
+    fn register(
+        &mut self,
+        client: ClientId,
+        info: ClientInfo,
+        at: Moment,
+    ) -> Result<(), QueueFault> {
         let at = self.effective(at);
         self.can_register(client, info)?;
-        if self.clients.push(newcomer(client, info, at)).is_err() {
+        let alloc = *self.clients.allocator();
+        let newcomer = Client::newcomer(alloc, client, info, at);
+        if self.clients.push(newcomer).is_err() {
             return Err(QueueFault::Memory);
         }
         self.last_moment = at;
         Ok(())
     }
 
-    fn update_info(&mut self, client: ClientId, info: ClientInfo, at: Moment) -> Result<(), Refusal>
-        ensures { Exactly T.ops self.old self.new (commands.Update client info at) (sure_call_reply (λ _. replies.Updated) result) }
-    {
+    fn update_info(
+        &mut self,
+        client: ClientId,
+        info: ClientInfo,
+        at: Moment,
+    ) -> Result<(), Refusal> {
         let at = self.effective(at);
-        self.can_update(client, info)?;
-        change_all(&mut self.clients, &Update { client, info });
+        let index = self.can_update(client, info)?;
+        self.clients[index].update(info);
         self.last_moment = at;
         Ok(())
     }
@@ -191,70 +163,48 @@ impl<T: Tag> Scheduler<T> for PlainQueue<T> {
         token: Token,
         params: ReqParams,
         at: Moment,
-    ) -> Result<Tags<T>, QueueFault>
-        ensures { Exactly T.ops self.old self.new (commands.Add client token params at) (call_reply replies.Tagged result) }
-    {
+    ) -> Result<Tags<T>, QueueFault> {
         let at = self.effective(at);
-        let (shift, tags) = self.can_add(client, params, T::of_moment(at))?;
-        let request = PlainRequest {
-            client,
-            token,
-            tags,
-        };
-        self.queue(request, shift, at)?;
-        Ok(tags)
+        let arrival = self.can_add(client, params, T::of_moment(at))?;
+        self.queue(&arrival, token, at)?;
+        Ok(arrival.tags)
     }
 
-    fn pull_request(&mut self, at: Moment) -> Result<Pulled, Refusal>
-        ensures { Exactly T.ops self.old self.new (commands.Pull at) (sure_call_reply pull_reply result) }
-    {
+    fn pull_request(&mut self, at: Moment) -> Result<Pulled, Refusal> {
         let at = self.effective(at);
-        if let Some(index) = best_index(&self.requests, &Set::Early(at)) {
-            return Ok(self.grant_early(index, at));
+        match best_place(&self.clients, &Set::Early(at)) {
+            Some(place) => Ok(self.grant_early(place, at)),
+            None => self.pull_free(at),
         }
-        self.pull_free(at)
     }
 
-    fn remove_by_client(&mut self, client: ClientId) -> Result<u32, Refusal>
-        ensures { Exactly T.ops self.old self.new (commands.Remove client) (sure_call_reply replies.Removed result) }
-    {
-        self.can_remove(client)?;
-        let count = requests::count_of(&self.requests, client);
-        requests::drop_of(&mut self.requests, client);
+    fn remove_by_client(&mut self, client: ClientId) -> Result<u32, Refusal> {
+        let Some(index) = index_of(&self.clients, client) else {
+            return Err(Refusal::Unknown);
+        };
+        let client = &mut self.clients[index];
+        let count = client.requests().len();
+        client.clear();
         Ok(count as u32)
     }
 
-    fn clean(&mut self, at: Moment) -> (u32, u32)
-        ensures { Exactly T.ops self.old self.new (commands.Clean at) (Some (clean_reply result)) }
-    {
+    fn clean(&mut self, at: Moment) -> (u32, u32) {
         let at = self.effective(at);
         let idle_age = self.config.idle_age();
         let erase_age = self.config.erase_age();
-        let requests = self.requests.as_slice();
-        let idled = count_idled(&self.clients, requests, at, idle_age, erase_age);
-        let erased = count_erased(&self.clients, requests, at, erase_age);
-        erase(&mut self.clients, requests, at, erase_age);
-        change_all(
-            &mut self.clients,
-            &Mark {
-                requests,
-                at,
-                idle_age,
-            },
-        );
+        let idled = count_idled(&self.clients, at, idle_age, erase_age);
+        let erased = count_erased(&self.clients, at, erase_age);
+        erase(&mut self.clients, at, erase_age);
+        change_all(&mut self.clients, &Mark { at, idle_age });
         self.last_moment = at;
         (idled as u32, erased as u32)
     }
 
-    fn client_count(&self) -> u32
-        ensures { result ≡ length self.now.clients }
-    {
+    fn client_count(&self) -> u32 {
         self.clients.len() as u32
     }
 
-    fn request_count(&self) -> u32
-        ensures { result ≡ length self.now.requests }
-    {
-        self.requests.len() as u32
+    fn request_count(&self) -> u32 {
+        count_requests(&self.clients) as u32
     }
 }

@@ -1,5 +1,4 @@
 -- Pulling one.
-pub mod Reduced
 pub mod Choices
 pub mod Pulls
 pub mod Due

@@ -6,7 +6,7 @@ use Rattle.dmc_types.specs.declared.ids.ClientId.{ClientId}
 use Rattle.dmc_tag.specs.Answers.{pull_reply}
 use Rattle.dmc_tag.specs.State.{State}
 use Rattle.dmc_tag.specs.Step.{step}
-use Rattle.dmc_tag.specs.Steps.{Exactly}
+use Rattle.dmc_tag.specs.Steps.{Steps}
 use Rattle.dmc_tag.specs.Tag.{Tagging}
 use Rattle.dmc_tag.specs.declared.reply.Pulled.{Pulled}
 use Rattle.dmc_tag.specs.declared.reply.Reply.{Reply}
@@ -14,7 +14,7 @@ use Rattle.dmc_tag.specs.declared.reply.Reply.TheVariants.{Registered, Updated, 
 use Rattle.dmc_pull.specs.declared.granting.PullFault.{PullFault}
 use Rattle.dmc_pull.specs.declared.granting.PullFault.TheVariants as faults
 
--- A grant passes where the test allows its client and phase; any other reply passes.
+-- A grant passes if the test allows its client and phase; any other reply passes.
 abbrev pub is_allowed : {T : Type 0} → (ClientId → PhaseType → Bool) → Reply T → Bool
 is_allowed allows Registered = true
 is_allowed allows Updated = true
@@ -26,8 +26,8 @@ is_allowed allows (Removed count) = true
 is_allowed allows (Cleaned idled erased) = true
 is_allowed allows (Refused refusal) = true
 
--- One step from this very state whose reply passes the test; or the reply of that step does not pass, and nothing changes.
+-- One step whose reply passes the test; or the reply of that step does not pass, and nothing changes.
 abbrev pub PullsIf : {T : Type 0} → (ClientId → PhaseType → Bool) → Tagging T → State T → State T → ℕ → Result Pulled PullFault → Type 0
-PullsIf {T} allows ops old new at (Ok pulled) = Exactly ops old new (Pull at) (Some (pull_reply pulled)) × (is_allowed {T = T} allows (pull_reply pulled) ≡ true)
-PullsIf allows ops old new at (Err (faults.Refused refusal)) = Exactly ops old new (Pull at) (Some (Refused refusal))
+PullsIf {T} allows ops old new at (Ok pulled) = Steps ops old new (Pull at) (Some (pull_reply pulled)) × (is_allowed {T = T} allows (pull_reply pulled) ≡ true)
+PullsIf allows ops old new at (Err (faults.Refused refusal)) = Steps ops old new (Pull at) (Some (Refused refusal))
 PullsIf allows ops old new at (Err faults.Declined) = (new ≡ old) × (is_allowed allows ((step ops old (Pull at)).1) ≡ false)

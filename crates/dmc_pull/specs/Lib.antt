@@ -1,10 +1,10 @@
--- The clients and requests that the entries of a roster represent in a plain state.
+-- The clients that the entries of a roster represent in a plain state.
 pub mod Represented
 -- What contracts see of the indexed queue, the plain state that it represents, and its invariant.
 pub mod Queue
 -- Between which two tags the P tags of a queue lie.
 pub mod Range
--- The index clause: what the three indexes of a queue hold, in terms of its plain state.
+-- The index clause: what the three indexes of a queue hold, in terms of the plain state that the queue represents.
 pub mod FirstRequests
 -- The result of a pull with the caller's test.
 pub mod Allowed

@@ -7,14 +7,14 @@ use Rattle.dmc_types.specs.Values.{Setting}
 use Rattle.dmc_types.specs.declared.ids.ClientId.{ClientId}
 use Rattle.dmc_tag.specs.declared.reply.Tags.{Tags}
 use Rattle.dmc_tag.specs.Tag.{Fraction, Tagging}
-use Rattle.dmc_tag.specs.State.{State}
+use Rattle.dmc_tag.specs.State.{State, queued_requests}
 use Rattle.dmc_tag.specs.Best.{is_due}
 use Rattle.dmc_tag.specs.Spacing.{spacings_of}
 use Rattle.dmc_client.specs.Record.{Rec, IsRecord, share_tags}
 use Rattle.dmc_roster.specs.Entries.{Entry, Listing, entry_keyed, AreDistinct}
 use Rattle.dmc_index.specs.Index.{slot_of_key}
 use Rattle.dmc_head_index.specs.declared.head.Head.{Head}
-use Rattle.dmc_pull.specs.Represented.{clients_in, requests_in}
+use Rattle.dmc_pull.specs.Represented.{clients_in}
 
 pub record Queue (T : Type 0) : Type 0 where
   pub config : Setting
@@ -23,9 +23,9 @@ pub record Queue (T : Type 0) : Type 0 where
   pub heads : List (Option (Head T))
   pub last_moment : ℕ
 
--- the plain state that it represents, with the requests client after client
+-- the plain state that it represents
 abbrev pub state_of : {T : Type 0} → Queue T → State T
-state_of q = record { config = q.config; requests = requests_in q.roster.entries; clients = clients_in q.roster.entries; last_moment = q.last_moment }
+state_of q = record { config = q.config; clients = clients_in q.roster.entries; last_moment = q.last_moment }
 
 -- ---- the index clause
 
@@ -40,7 +40,7 @@ abbrev pub head_of : {T : Type 0} → Entry T → Option (Head T)
 head_of e = option_map (λ r. unready_head e.id r.tags) (slice_get e.rec.requests 0)
 
 -- The indexes hold exactly the clients with a queued request, each under the tags of its first request. A ready mark is true only
--- where L is at most the last effective moment.
+-- if L is at most the last effective moment.
 pub record AreHeads {T : Type 0} (ops : Tagging T) (t : ℕ) (entries : List (Entry T)) (heads : List (Option (Head T))) : Type 0 where
   pub here : (key : ℕ) → option_map unready (slot_of_key heads key) ≡ option_and_then head_of (entry_keyed key entries)
   pub marks : (key : ℕ) (head : Head T) → slot_of_key heads key ≡ Some head → head.ready ≡ true → is_due ops t (Some head.tags.l) ≡ true
@@ -58,5 +58,5 @@ pub record IsQueue {T : Type 0} (ops : Tagging T) (fraction : T → Fraction) (i
   pub distinct : AreDistinct q.roster.entries
   pub heads : AreHeads ops q.last_moment q.roster.entries q.heads
   pub in_room : AllByRecursion (λ e. e.key < length q.heads) q.roster.entries
-  pub counted : queued ≡ length (requests_in q.roster.entries)
+  pub counted : queued ≡ length (queued_requests (clients_in q.roster.entries))
   pub bound : queued ≤ max_requests

@@ -7,7 +7,7 @@ use Rattle.dmc_client.specs.Record.{Rec, share_tags}
 use Rattle.dmc_roster.specs.Entries.{Entry}
 use Rattle.dmc_pull.specs.declared.range.ShareRange.{ShareRange}
 
--- a tag is in a range, where one is known
+-- a tag is in a range, if one is known
 abbrev pub IsWithin : {T : Type 0} → Tagging T → Option (ShareRange T) → T → Type 0
 IsWithin ops None tag = ⊤
 IsWithin ops (Some range) tag = AtMost ops range.least tag × AtMost ops tag range.greatest

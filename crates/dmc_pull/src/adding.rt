@@ -35,7 +35,7 @@ impl<T: Copy> Clone for Addition<T> {
     }
 }
 
-/// No shift, where the amount is 0.
+/// No shift, if the amount is 0.
 pub fn unless_nothing<T: Tag>(amount: T) -> Option<T>
     ensures { result ≡ adding_of.unless_nothing T.ops (Some amount) }
 {
@@ -79,7 +79,7 @@ impl<T: Tag> RecordRule<T> for ShiftOthers<T> {
     }
 }
 
-/// Shifts all clients but the one that arrives, and all heads, where there is a shift.
+/// Shifts all clients but the one that arrives, and all heads, if there is a shift.
 pub fn shift_others<T: Tag, I: Indexes<T>>(
     roster: &mut Roster<T>,
     heads: &mut Heads<T, I>,

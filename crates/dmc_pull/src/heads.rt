@@ -14,7 +14,7 @@ use dmc_tag::tag::Tag;
 use dmc_types::ids::ClientId;
 use dmc_types::moment::Moment;
 
-/// A client's head at a moment. It is marked ready where its L is at most that moment, so that no later pull has to mark it.
+/// A client's head at a moment. It is marked ready if its L is at most that moment, so that no later pull has to mark it.
 pub fn head_at<T: Tag>(client: ClientId, tags: Tags<T>, at: Moment) -> Head<T>
     ensures { result ≡ queue_of.head_at T.ops at client tags }
 {
@@ -52,7 +52,7 @@ pub fn clear<T: Tag, I: Indexes<T>>(heads: &mut Heads<T, I>, key: usize, queued:
     }
 }
 
-/// The least whole number that is not below the tag, as a moment: 0 where it is below 0.
+/// The least whole number that is not below the tag, as a moment: 0 if it is below 0.
 pub fn due_moment<T: Tag>(tag: T) -> u128
     ensures { result ≡ rules_of.moment_of (T.ops.ceil tag) }
 {

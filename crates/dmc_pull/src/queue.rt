@@ -1,14 +1,10 @@
 //! The indexed queue.
-ghost use Rattle.std.specs.Prelude.{◌≡◌, ◌≤◌, ◌==◌, Some, Ok, length};
+ghost use Rattle.std.specs.Prelude.{◌≡◌, ◌≤◌, ◌==◌, length};
 ghost use Rattle.dmc_head_index.specs.Heads as heads_of;
 ghost use Rattle.dmc_head_index.specs.Heads.{Ranks};
 ghost use Rattle.dmc_pull.specs.FirstRequests.{AreFirstRequests};
 ghost use Rattle.dmc_pull.specs.Queue.{state_of};
-ghost use Rattle.dmc_tag.specs.Answers.{call_reply, sure_call_reply, pull_reply, clean_reply};
-ghost use Rattle.dmc_tag.specs.State.{opening, effective};
-ghost use Rattle.dmc_tag.specs.Steps.{Exactly};
-ghost use Rattle.dmc_tag.specs.declared.reply.Reply.TheVariants as replies;
-ghost use Rattle.dmc_types.specs.declared.command.Command.TheVariants as commands;
+ghost use Rattle.dmc_tag.specs.State.{opening, effective, queued_requests};
 
 mod adding;
 mod pulling;
@@ -34,10 +30,9 @@ use dmc_types::refusal::{QueueFault, Refusal};
 use std::alloc::Global;
 use std::marker::Model;
 
-/// A part of a queue. In generic code a struct that is generic in indexes can be dropped only where such a part is behind a type
-/// parameter.
+/// Wrapper without bounds: the toolchain cannot drop a struct generic in `Indexes` that holds this field directly.
 #[derive(Drop)]
-struct Part<P>(P);
+struct Droppable<P>(P);
 
 /// A queue that stores each client's requests apart, and the first ones in three indexes. Contracts see its clients in order of
 /// registration and what the indexes hold.
@@ -45,10 +40,10 @@ struct Part<P>(P);
 pub struct PullQueue<T: Tag, I: Indexes<T>> {
     config: QueueConfig,
     roster: Roster<T>,
-    heads: Part<Heads<T, I>>,
+    heads: Droppable<Heads<T, I>>,
     // The number of queued requests.
     queued: usize,
-    // Between which two tags each P lies, where that is known.
+    // Between which two tags each P lies, if that is known.
     range: Option<ShareRange<T>>,
     last_moment: Moment,
     alloc: Global,
@@ -73,7 +68,7 @@ impl<T: Tag, I: Indexes<T>> PullQueue<T, I> {
         PullQueue {
             config,
             roster: Roster::new(alloc),
-            heads: Part(Heads::new(alloc)),
+            heads: Droppable(Heads::new(alloc)),
             queued: 0,
             range: first_range(),
             last_moment: Moment::zero(),
@@ -90,14 +85,14 @@ impl<T: Tag, I: Indexes<T>> PullQueue<T, I> {
 
     /// Whether nothing is queued, under Ceph's name.
     pub fn empty(&self) -> bool
-        ensures { result ≡ (length (state_of self.now).requests == 0) }
+        ensures { result ≡ (length (queued_requests (state_of self.now).clients) == 0) }
     {
         self.queued == 0
     }
 
     /// Whether nothing is queued, under the name that Rust's collections have.
     pub fn is_empty(&self) -> bool
-        ensures { result ≡ (length (state_of self.now).requests == 0) }
+        ensures { result ≡ (length (queued_requests (state_of self.now).clients) == 0) }
     {
         self.empty()
     }
@@ -111,7 +106,7 @@ impl<T: Tag, I: Indexes<T>> PullQueue<T, I> {
         self.heads.0.by_reservation()
     }
 
-    /// The index by L, unready ones first. A ready mark is true only where L is at most the last effective moment.
+    /// The index by L, unready ones first. A ready mark is true only if L is at most the last effective moment.
     pub fn limit_index(&self) -> &I::LimitIndex
         ensures heads { AreFirstRequests T.ops (state_of self.now) self.now.heads }
         ensures ranks { Ranks heads_of.limit_rank self.now.heads (I.LimitIndex.slots result.now) }
@@ -146,18 +141,24 @@ impl<T: Tag, I: Indexes<T>> PullQueue<T, I> {
 impl<T: Tag, I: Indexes<T>> Scheduler<T> for PullQueue<T, I> {
     ghost state = { λ q. state_of q };
 
-    fn register(&mut self, client: ClientId, info: ClientInfo, at: Moment) -> Result<(), QueueFault>
-        ensures { Exactly T.ops (state_of self.old) (state_of self.new) (commands.Register client info at) (call_reply (λ _. replies.Registered) result) }
-    {
+    fn register(
+        &mut self,
+        client: ClientId,
+        info: ClientInfo,
+        at: Moment,
+    ) -> Result<(), QueueFault> {
         let at = self.effective(at);
         let spacings = self.can_register(client, info)?;
         let rec = ClientRec::new(self.alloc, info, spacings, at);
         self.admit(client, rec, at)
     }
 
-    fn update_info(&mut self, client: ClientId, info: ClientInfo, at: Moment) -> Result<(), Refusal>
-        ensures { Exactly T.ops (state_of self.old) (state_of self.new) (commands.Update client info at) (sure_call_reply (λ _. replies.Updated) result) }
-    {
+    fn update_info(
+        &mut self,
+        client: ClientId,
+        info: ClientInfo,
+        at: Moment,
+    ) -> Result<(), Refusal> {
         let at = self.effective(at);
         let (key, spacings) = self.can_update(client, info)?;
         self.roster.at_mut(key).set_info(info, spacings);
@@ -190,9 +191,7 @@ impl<T: Tag, I: Indexes<T>> Scheduler<T> for PullQueue<T, I> {
         Ok(tags)
     }
 
-    fn pull_request(&mut self, at: Moment) -> Result<Pulled, Refusal>
-        ensures { Exactly T.ops (state_of self.old) (state_of self.new) (commands.Pull at) (sure_call_reply pull_reply result) }
-    {
+    fn pull_request(&mut self, at: Moment) -> Result<Pulled, Refusal> {
         match self.pull_allowed(at, &AllowAll) {
             Ok(pulled) => Ok(pulled),
             Err(PullFault::Refused(refusal)) => Err(refusal),
@@ -200,9 +199,7 @@ impl<T: Tag, I: Indexes<T>> Scheduler<T> for PullQueue<T, I> {
         }
     }
 
-    fn remove_by_client(&mut self, client: ClientId) -> Result<u32, Refusal>
-        ensures { Exactly T.ops (state_of self.old) (state_of self.new) (commands.Remove client) (sure_call_reply replies.Removed result) }
-    {
+    fn remove_by_client(&mut self, client: ClientId) -> Result<u32, Refusal> {
         let Some(key) = self.roster.find(client) else {
             return Err(Refusal::Unknown);
         };
@@ -212,9 +209,7 @@ impl<T: Tag, I: Indexes<T>> Scheduler<T> for PullQueue<T, I> {
         Ok(count as u32)
     }
 
-    fn clean(&mut self, at: Moment) -> (u32, u32)
-        ensures { Exactly T.ops (state_of self.old) (state_of self.new) (commands.Clean at) (Some (clean_reply result)) }
-    {
+    fn clean(&mut self, at: Moment) -> (u32, u32) {
         let at = self.effective(at);
         let (idle_age, erase_age) = (self.config.idle_age(), self.config.erase_age());
         let idled = count_idled(&self.roster, at, idle_age, erase_age);
@@ -224,15 +219,11 @@ impl<T: Tag, I: Indexes<T>> Scheduler<T> for PullQueue<T, I> {
         (idled as u32, erased as u32)
     }
 
-    fn client_count(&self) -> u32
-        ensures { result ≡ length (state_of self.now).clients }
-    {
+    fn client_count(&self) -> u32 {
         self.roster.len() as u32
     }
 
-    fn request_count(&self) -> u32
-        ensures { result ≡ length (state_of self.now).requests }
-    {
+    fn request_count(&self) -> u32 {
         self.queued as u32
     }
 }

@@ -25,7 +25,7 @@ impl<T: Copy> Clone for ShareRange<T> {
     }
 }
 
-/// The range of a queue without clients: 0 alone. It is known only where tags are whole numbers.
+/// The range of a queue without clients: 0 alone. It is known only if tags are whole numbers.
 pub fn first_range<T: Tag>() -> Option<ShareRange<T>>
     ensures { IsWithin T.ops result (T.ops.of_moment 0) }
 {
@@ -39,7 +39,7 @@ pub fn first_range<T: Tag>() -> Option<ShareRange<T>>
     })
 }
 
-/// Widens the range for a request that arrives with a P, and for a shift of all others. Where a bound is then no value, the range
+/// Widens the range for a request that arrives with a P, and for a shift of all others. If a bound is then no value, the range
 /// is no longer known.
 pub fn widen<T: Tag>(range: &mut Option<ShareRange<T>>, share: T, shift: Option<T>)
     ensures { range.new ≡ range_of.range_after T.ops range.old share shift }
@@ -78,7 +78,7 @@ fn include<T: Tag>(range: &mut ShareRange<T>, share: T)
     }
 }
 
-/// The range after an amount was taken off each tag. `None` where a bound less the amount is no value.
+/// The range after an amount was taken off each tag. `None` if a bound less the amount is no value.
 fn with_less<T: Tag>(range: ShareRange<T>, amount: T) -> Option<ShareRange<T>>
     ensures { result ≡ range_of.with_less T.ops amount range }
 {

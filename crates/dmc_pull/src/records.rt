@@ -11,8 +11,8 @@ ghost use Rattle.dmc_roster.specs.Entries.{entry_keyed, record_at, with_record_a
 
 use dmc_adjust::reduction::reduce;
 use dmc_client::record::ClientRec;
-use dmc_client::request::QueuedRequest;
 use dmc_roster::roster::Roster;
+use dmc_tag::plain::QueuedRequest;
 use dmc_tag::reply::Tags;
 use dmc_tag::spacing::Spacings;
 use dmc_tag::tag::Tag;

@@ -1,15 +1,21 @@
 -- What the book's answers come to at the lock.
-use Rattle.std.proofs.Common.{Result, Ok, Err}
-use Rattle.std.specs.Prelude.{ℕ, IfErr, IfOk}
+use Rattle.std.proofs.Common.{◌≡◌, Bool, true, false, true≢false, List, [], Result, Ok, Err, refl, subst, sym}
+use Rattle.std.specs.Prelude.{ℕ, ◌==◌, ◌&&◌, not, length, IfErr, IfOk}
+use Rattle.std.specs.Cmp.{IsTotalOrder}
 use Rattle.dmc_types.specs.declared.command.Command.{Command}
 use Rattle.dmc_types.specs.declared.command.Command.TheVariants.{Pull}
 use Rattle.dmc_types.specs.declared.refusal.Refusal.TheVariants.{Range}
 use Rattle.dmc_tag.specs.Answers.{pull_reply}
 use Rattle.dmc_tag.specs.declared.reply.Pulled.{Pulled}
-use Rattle.dmc_tag.specs.Tag.{Tagging}
+use Rattle.dmc_tag.specs.declared.reply.Pulled.TheVariants as pulls
+use Rattle.dmc_tag.specs.Tag.{Tagging, Fraction, IsExact}
+use Rattle.dmc_tag.specs.State.{effective, queued_requests}
+use Rattle.dmc_tag.specs.Step.{step}
+use Rattle.dmc_tag.specs.Laws.{Pulls}
 use Rattle.dmc_tag.specs.Replay.{after}
+use Rattle.dmc_tag.proofs.ForCallers.{pull_grants}
 use Rattle.dmc_tag.specs.declared.reply.Reply.{Reply}
-use Rattle.dmc_tag.specs.declared.reply.Reply.TheVariants.{Refused}
+use Rattle.dmc_tag.specs.declared.reply.Reply.TheVariants.{Nothing, Refused}
 use Rattle.dmc_book.specs.BookState.{BookState, PassState}
 use Rattle.dmc_book.specs.Calls.{Ran, SubmitRefused, WasPulled}
 use Rattle.dmc_book.specs.declared.fault.RunOrRange.{RunOrRange}
@@ -18,6 +24,7 @@ use Rattle.dmc_book.specs.declared.fault.SubmitCause.{SubmitCause}
 use Rattle.dmc_book.specs.declared.fault.SubmitCause.TheVariants as submit
 use Rattle.dmc_book.specs.declared.fault.SubmitFault.{SubmitFault}
 use Rattle.dmc_qlock.specs.Calls.{Replied, PullReplied, SubmitReplied}
+use Rattle.dmc_qlock.specs.internal.Calls.{must_wait}
 
 module _ {T : Type 0} (ops : Tagging T) (old new : BookState T) (before later : PassState) (command : Command) where
   answered : (reply : Reply T) → Ran ops old new before later command reply → Replied ops before later command reply
@@ -43,3 +50,21 @@ module _ {T : Type 0} (ops : Tagging T) (old new : BookState T) (before later : 
   pull_answered (Ok pulled) h = answered ops old new before later (Pull at) (pull_reply pulled) h
   pull_answered (Err pull.Range) h = answered ops old new before later (Pull at) (Refused Range) h
   pull_answered (Err (pull.Run fault)) h = (h.1, h.2)
+
+-- with nothing queued, who need not wait finds the book closed
+closed_if : {X : Type 0} (closed : Bool) (queued : List X) → queued ≡ [] → ((length queued == 0) && not closed) ≡ false → closed ≡ true
+closed_if true queued nothing ready = refl
+closed_if false queued nothing ready = absurd (true≢false (subst (λ xs. ((length xs == 0) && true) ≡ false) nothing ready))
+
+module _ {T : Type 0} (ops : Tagging T) (fraction : T → Fraction) (is_value : Fraction → Type 0) (exact : IsExact ops fraction is_value) (order : IsTotalOrder ops.compare) (old new : BookState T) (before later : PassState) (at : ℕ) where
+  -- nothing is pulled only if nothing is queued
+  nothing_queued : Ran ops old new before later (Pull at) Nothing → queued_requests (after ops old.config old.history).clients ≡ []
+  nothing_queued h =
+      let state = after ops old.config old.history in
+      let pulled = pull_grants ops fraction is_value exact order state at in
+      (subst (Pulls ops (effective state at) state ((step ops state (Pull at)).0)) (sym h.reply_is) pulled).0
+
+  pub nothing_if_closed : (answer : Result Pulled RunOrRange) → must_wait ops old ≡ false → WasPulled ops old new before later at answer
+      → IfOk answer (λ pulled. pulled ≡ pulls.Nothing → old.closed ≡ true)
+  nothing_if_closed (Ok pulled) ready h = λ e. closed_if old.closed _ (nothing_queued (subst (λ p. Ran ops old new before later (Pull at) (pull_reply p)) e h)) ready
+  nothing_if_closed (Err e) ready h = tt

@@ -1,6 +1,6 @@
 -- What each call leaves as it was.
-use Rattle.std.proofs.Common.{◌≡◌, ℕ, zero, suc, ◌≤◌, ◌<◌, arith, slice_index_or, slice_set, List, [], ◌∷◌, map, refl, sym, ap, ◌∙◌, subst}
-use Rattle.std.specs.Prelude.{Bool, Option, Some, None, Result, Ok, Err, IfErr, IfNone, IfOk, IfSome, IsSome, OnErr, OnOk, OnSome, length}
+use Rattle.std.proofs.Common.{◌≡◌, ℕ, ◌≤◌, ◌<◌, arith, slice_index_or, List, [], ◌∷◌, map, refl, sym, ap, ◌∙◌, subst}
+use Rattle.std.specs.Prelude.{Bool, Option, Result, Ok, Err, IfErr, IfNone, IfOk, IfSome, IsSome, OnErr, OnOk, OnSome, length}
 use Rattle.std.proofs.lemmas.List.{append-nil}
 use Rattle.dmc_types.specs.declared.command.Command.{Command}
 use Rattle.dmc_types.specs.declared.command.Command.TheVariants.{Pull}
@@ -11,7 +11,7 @@ use Rattle.dmc_tag.specs.declared.event.Event.{Event}
 use Rattle.dmc_tag.specs.declared.reply.Pulled.{Pulled}
 use Rattle.dmc_tag.specs.declared.reply.Reply.{Reply}
 use Rattle.dmc_tag.specs.declared.reply.Reply.TheVariants.{Refused}
-use Rattle.dmc_book.specs.BookState.{BookState, PassState, WorkerSide, no_worker}
+use Rattle.dmc_book.specs.BookState.{BookState, PassState, no_worker}
 use Rattle.dmc_book.specs.Calls.{Ran, SubmitRefused, WasPulled, event_of}
 use Rattle.dmc_book.specs.Moves.{book_after, desk_after, worker_after}
 use Rattle.dmc_book.specs.Renewing.{book_renewed, renewed_worker}
@@ -21,18 +21,14 @@ use Rattle.dmc_book.specs.declared.fault.RunOrRange.TheVariants as pull
 use Rattle.dmc_book.specs.declared.fault.SubmitCause.{SubmitCause}
 use Rattle.dmc_book.specs.declared.fault.SubmitCause.TheVariants as submit
 use Rattle.dmc_book.specs.declared.fault.SubmitFault.{SubmitFault}
-use Rattle.dmc_book.specs.Later.{IsLater, IsReleased, desk_numbers, worker_numbers}
+use Rattle.dmc_shared.specs.Later.{desk_numbers}
+use Rattle.dmc_shared.proofs.LaterLemmas.{later_by, later_if, on_some, seen_set}
+use Rattle.dmc_book.specs.Later.{IsLater, IsReleased, worker_numbers}
 
 -- each is seen as what it was
 seen_kept : {X Y : Type 0} (f : X → Y) (g : X → X) (xs : List X) → ((x : X) → f (g x) ≡ f x) → map f (map g xs) ≡ map f xs
 seen_kept f g [] same = refl
 seen_kept f g (x ∷ xs) same = ap (λ z. z ∷ map f (map g xs)) (same x) ∙ ap (λ zs. f x ∷ zs) (seen_kept f g xs same)
-
--- one worker is seen as what it was
-seen_set : {Y : Type 0} (f : WorkerSide → Y) (ws : List WorkerSide) (i : ℕ) (v : WorkerSide) → f v ≡ f (slice_index_or ws i no_worker) → map f (slice_set ws i v) ≡ map f ws
-seen_set f [] i v same = refl
-seen_set f (w ∷ ws) zero v same = ap (λ y. y ∷ map f ws) same
-seen_set f (w ∷ ws) (suc i) v same = ap (λ ys. f w ∷ ys) (seen_set f ws i v same)
 
 module _ {T : Type 0} where
   pub later_same : (b : BookState T) → IsLater b b
@@ -71,8 +67,8 @@ module _ {T : Type 0} where
   -- a rotation, which may return nothing
   pub released_if : {X : Type 0} (old new : BookState T) (segment : Option X) → IfSome segment (λ x. new ≡ after_rotating old)
       → OnSome segment (old.first ≤ length old.history) → (IsSome segment → old.first < old.most) → IfNone segment (new ≡ old) → IsReleased old new
-  released_if old new (Some x) rotated within goes_on kept = subst (IsReleased old) (sym rotated) (released_so old within (goes_on refl))
-  released_if old new None rotated within goes_on kept = subst (IsReleased old) (sym kept) (released_same old)
+  released_if old new segment rotated within goes_on kept = later_if IsReleased released_same old new (after_rotating old) segment
+      (λ some. released_so old (on_some segment within some) (goes_on some)) rotated kept
 
   later_anew : (b : BookState T) (place : ℕ) → IsLater b (book_renewed place b)
   later_anew b place = record {
@@ -80,15 +76,14 @@ module _ {T : Type 0} where
     server = refl;
     first = refl;
     most = refl;
-    workers = seen_set worker_numbers b.workers place (renewed_worker (length b.history) (slice_index_or b.workers place no_worker)) refl;
+    workers = seen_set worker_numbers b.workers place (renewed_worker (length b.history) (slice_index_or b.workers place no_worker)) no_worker refl;
     desks = refl;
     rest = [];
     grown = sym (append-nil b.history);
   }
 
   pub later_renewed : {X E : Type 0} (old new : BookState T) (place : ℕ) (sums : Result X E) → OnOk sums (new ≡ book_renewed place old) → OnErr sums (new ≡ old) → IsLater old new
-  later_renewed old new place (Ok x) renewed kept = subst (IsLater old) (sym renewed) (later_anew old place)
-  later_renewed old new place (Err e) renewed kept = subst (IsLater old) (sym kept) (later_same old)
+  later_renewed old new place sums renewed kept = later_by IsLater later_same old new (book_renewed place old) sums (later_anew old place) renewed kept
 
   module _ (ops : Tagging T) (old new : BookState T) (before later : PassState) where
     later_left : new ≡ old → IsLater old new

@@ -1,4 +1,4 @@
--- What a call through the lock promises its caller: what the caller's own pass holds afterwards.
+-- What a call through the lock shows its caller: what its own pass holds afterwards.
 pub mod Calls
 -- What contracts see of a queue's lock.
 pub mod LockState

@@ -1,2 +1,2 @@
-//! Why a pull through the lock grants nothing and gives no moment.
+//! Why a pull through the lock has no reply of the queue: a fault of the call, or a refusal `Range` of the rules.
 pub use dmc_book::fault::RunOrRange;

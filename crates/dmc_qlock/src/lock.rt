@@ -25,11 +25,11 @@ use dmc_ledger::bundle::StampTills;
 use dmc_ledger::desk::ClientDesk;
 use dmc_ledger::mint::Mint;
 use dmc_ledger::setup::Setup;
+use dmc_ledger::stamp::Stamp;
 use dmc_queue_history::segment::Segment;
+use dmc_shared::witness::{Lasting, NoWitness, ReleaseWitness, Witness};
 use dmc_tag::reply::{Pulled, Reply, Tags};
 use dmc_tag::tag::Tag;
-use dmc_tlock::stamp::Stamp;
-use dmc_tlock::witness::{Lasting, NoWitness, ReleaseWitness, Witness};
 use dmc_types::command::Command;
 use dmc_types::ids::{ServerId, Token, WorkerId};
 use dmc_types::moment::Moment;
@@ -61,7 +61,7 @@ impl<T: Tag, I: Indexes<T>, S: Setup> OfServer for QueueBook<T, I, S> {
 pub struct LockedQueue<B: Lasting, W: Witness<B>> {
     server: ServerId,
     guarded: Mutex<Guarded<B, W>>,
-    // Notified where something is queued and a thread waits, and where the book is closed.
+    // Notified if something is queued and a thread waits, and if the book is closed.
     changed: Condvar,
 }
 
@@ -133,8 +133,8 @@ impl<T: Tag, I: Indexes<T>, S: Setup, W: Witness<QueueBook<T, I, S>>> LockedQueu
     QueueBook<T, I, S>,
     W,
 > {
-    /// Hands a command that is not an Add to the queue, which answers and records it. The pass has one call more, one miss
-    /// more where the reply is Later, Nothing or Refused, and of a grant one grant, its token, and one unit of its client and
+    /// Runs any command but an Add, and records its reply. The pass has one call more, one miss more
+    /// if the reply is Later, Nothing or Refused, and of a grant one grant, its token, and one unit of its client and
     /// phase.
     ///
     /// Refused, with nothing recorded: `Stranger`, `Behind` (of a Pull alone), `NoDesk` (of a Register alone), `HistoryFull`,
@@ -156,7 +156,7 @@ impl<T: Tag, I: Indexes<T>, S: Setup, W: Witness<QueueBook<T, I, S>>> LockedQueu
     /// Queues a stamped request for its client, and answers its tags. The pass has one call and the token more, and the tills
     /// one stamp, its delta and its rho less. It wakes a thread that waits for a request.
     ///
-    /// Refused `Stranger` (where the stamp names another server, before the lock is taken), `Closed`, `HistoryFull`, `Memory`,
+    /// Refused `Stranger` (if the stamp names another server, before the lock is taken), `Closed`, `HistoryFull`, `Memory`,
     /// or as the queue refuses an add; this last is recorded, and the pass has one call and one miss more. Nothing else moves.
     /// Each refusal hands the stamp back.
     pub fn submit<R: Wait>(
@@ -208,7 +208,7 @@ impl<T: Tag, I: Indexes<T>, S: Setup, W: Witness<QueueBook<T, I, S>>> LockedQueu
         self.guarded.lock(rt).pull(pass, at)
     }
 
-    /// Waits, recording nothing, while nothing is queued and the book isn't closed, and then pulls once. Where something is
+    /// Waits, recording nothing, while nothing is queued and the book isn't closed, and then pulls once. If something is
     /// still queued, it wakes the next thread that waits.
     pub fn pull_or_wait<R: Wait>(
         &self,
@@ -262,13 +262,13 @@ impl<T: Tag, I: Indexes<T>, S: Setup, W: Witness<QueueBook<T, I, S>>> LockedQueu
     }
 }
 
-// A witness may say how many events were released. So a lock rotates only where its witness is still true afterwards.
+// A witness may say how many events were released. So a lock rotates only if its witness is still true afterwards.
 impl<T: Tag, I: Indexes<T>, S: Setup, W: ReleaseWitness<QueueBook<T, I, S>>> LockedQueue<
     QueueBook<T, I, S>,
     W,
 > {
     /// Releases the events recorded since the last segment. It does not allocate, and takes a time that does not grow with the
-    /// number of events. `None`, and nothing changes, exactly where the book's `rotate` returns it.
+    /// number of events. `None`, and nothing changes, exactly if the book's `rotate` returns it.
     ///
     /// Segments of one lock are parts of one history: `Segment::follows` shows which is the next.
     pub fn rotate<R: Wait>(&self, rt: &R) -> Option<Segment<T, S>> {
@@ -281,7 +281,7 @@ impl<T: Tag, I: Indexes<T>, S: Setup> LockedQueue<QueueBook<T, I, S>, NoWitness>
     /// Admits a client that has no desk here yet: from now on it can register. The desk is this server's, as `open_pair` gave it.
     /// A pull that would grant the client is refused `Behind` until the worker's pass is extended.
     ///
-    /// Refused `Stranger` (where the desk is another server's, before the lock is taken), `Known`, `Clients`, `Memory`. Each
+    /// Refused `Stranger` (if the desk is another server's, before the lock is taken), `Known`, `Clients`, `Memory`. Each
     /// refusal returns the desk.
     pub fn admit<R: Wait>(&self, rt: &R, desk: ClientDesk<S>) -> Result<(), AdmitFault<S>>
         ensures unused { OnOk result (IsUnused self.now.server (client_side desk)) }
@@ -297,7 +297,7 @@ impl<T: Tag, I: Indexes<T>, S: Setup> LockedQueue<QueueBook<T, I, S>, NoWitness>
         self.guarded.lock(rt).admit(desk)
     }
 
-    /// Opens tills of the desks that came after the pass, which has then tills of each desk. A worker calls it where its pull is
+    /// Opens tills of the desks that came after the pass, which has then tills of each desk. A worker calls it if its pull is
     /// refused `Behind`, and pulls again. The lock is held for a time that grows with the number of desks.
     ///
     /// Refused `Stranger`, `Memory`, with nothing changed.
@@ -334,7 +334,7 @@ impl<T: Tag, I: Indexes<T>, S: Setup> LockedQueue<QueueBook<T, I, S>, NoWitness>
     /// Dismisses a worker: its pass is gathered. Its counts stay in what the book's `settle` returns, and its sums of tokens no
     /// longer keep events from being released. The lock is held for a time that grows with the number of desks.
     ///
-    /// The pass is returned exactly where the book's `dismiss` returns it.
+    /// The pass is returned exactly if the book's `dismiss` returns it.
     pub fn dismiss<R: Wait>(&self, rt: &R, pass: WorkerPass<S>) -> Result<(), WorkerPass<S>>
         ensures responded { OnOk result (AllByRecursion HoldsNothing (pass_state pass).units) }
         ensures back { IfErr result (λ back. back ≡ pass) }

@@ -34,7 +34,7 @@ later None xs i h = absurd (grind arith)
 
 -- ---- blocks of places
 
--- the blocks are filled where no place is reserved, and more events may come
+-- the blocks are filled if no place is reserved, and more events may come
 pub filled : (count room most : ℕ) → EndSlots (count + room) most → room ≡ 0 → (count ≡ most → ⊥) → FillBlocks count
 filled count room most (inl whole) none fewer = omega (arith, whole, none)
 filled count room most (inr full) none fewer = absurd (fewer (omega (arith, full, none)))

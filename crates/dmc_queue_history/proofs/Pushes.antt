@@ -4,8 +4,8 @@ use Rattle.std.specs.Prelude.{◌==◌, is_some, slice_get, option_map, if◌the
 use Rattle.std.proofs.lemmas.List.{length-append}
 use Rattle.dmc_tag.specs.declared.event.Event.{Event}
 use Rattle.dmc_tag.specs.Tag.{Tagging}
-use Rattle.dmc_tag.proofs.Lists.{slice_get-append, slice_get-push}
-use Rattle.dmc_tag.proofs.Options.{is_some_mapped, option_cases}
+use Rattle.dmc_lemmas.proofs.Lists.{slice_get-append, slice_get-push}
+use Rattle.dmc_lemmas.proofs.Options.{is_some_mapped, option_cases}
 use Rattle.dmc_history.specs.Log.{Log}
 use Rattle.dmc_queue_history.specs.declared.kept.QueuedByWeight.{QueuedByWeight}
 use Rattle.dmc_queue_history.specs.declared.kept.Queued.{Queued}
@@ -25,7 +25,7 @@ stays_else : {E : Type 0} (b : Bool) (first old new : Option E) → (is_some old
 stays_else true first old new stays there = refl
 stays_else false first old new stays there = stays there
 
--- a push leaves what is at a place before it; so too where the list is read through f
+-- a push leaves what is at a place before it; so too if the list is read through f
 stays_there : {X : Type 0} (before after : List X) (x : X) (i : ℕ) → after ≡ before ++ x ∷ []
     → is_some (slice_get before i) ≡ true → slice_get after i ≡ slice_get before i
 stays_there before after x i pushed there = option_cases (slice_get before i)

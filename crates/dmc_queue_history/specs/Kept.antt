@@ -8,12 +8,21 @@ use Rattle.dmc_tag.specs.declared.event.Event.{Event}
 use Rattle.dmc_tag.specs.declared.reply.Reply.TheVariants as replies
 use Rattle.dmc_tag.specs.Tag.{Tagging}
 use Rattle.dmc_history.specs.Log.{EndSlots, Log}
+use Rattle.dmc_queue_history.specs.declared.history.AddedRequest.{AddedRequest}
 use Rattle.dmc_queue_history.specs.declared.kept.QueuedByWeight.{QueuedByWeight}
 use Rattle.dmc_queue_history.specs.declared.kept.Queued.{Queued}
 use Rattle.dmc_queue_history.specs.declared.kept.Granted.{Granted}
 use Rattle.dmc_queue_history.specs.declared.lists.Lists.{Lists}
 
 -- ---- the events
+
+-- that of a request that was added
+abbrev pub event_of_added : {T : Type 0} → AddedRequest T → Event T
+event_of_added a = record {
+  worker = a.worker;
+  command = commands.Add a.client a.token a.params a.at;
+  reply = replies.Tagged a.tags;
+}
 
 -- the reservation's tag is absent, and the limit's is the moment
 abbrev pub event_of_queued_by_weight : {T : Type 0} → Tagging T → QueuedByWeight T → Event T

@@ -1,2 +1,2 @@
--- Where a list stores an event.
+-- If a list stores an event.
 pub mod Kept

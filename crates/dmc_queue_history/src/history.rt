@@ -4,6 +4,7 @@ ghost use Rattle.dmc_types.specs.Limits.{max_events};
 ghost use Rattle.dmc_history.specs.Log.{FillBlocks, block_size};
 ghost use Rattle.dmc_types.specs.declared.command.Command.TheVariants as commands;
 ghost use Rattle.dmc_tag.specs.declared.reply.Reply.TheVariants as replies;
+ghost use Rattle.dmc_queue_history.specs.Kept.{event_of_added, event_of_granted};
 
 use crate::kept::{Granted, Request, asked_to_add, asked_to_pull};
 use crate::lists::Lists;
@@ -19,15 +20,26 @@ use dmc_types::params::ReqParams;
 use std::alloc::Global;
 use std::marker::Model;
 
+/// A request that was added: what its event says of it.
+#[derive(Drop)]
+pub struct AddedRequest<T> {
+    pub worker: WorkerId,
+    pub client: ClientId,
+    pub token: Token,
+    pub params: ReqParams,
+    pub at: Moment,
+    pub tags: Tags<T>,
+}
+
 /// A list of at most `most` events (1 to 2^30), oldest first: a `History<Event<T>>` in less memory. With tick tags it takes 28
-/// bytes for a grant, and 84 for a request that was queued, or 52 where the client has no reservation and the limit's tag is the
+/// bytes for a grant, and 84 for a request that was queued, or 52 if the client has no reservation and the limit's tag is the
 /// moment (as it is within a limit, or without one), in place of 112.
 ///
 /// An event goes in by two calls: `reserve_one`, which may need memory, and a push, which needs none. Each push uses up one
 /// reserved place. Contracts see the events, `most`, and how many places are reserved.
 #[derive(Drop)]
 pub struct EventHistory<T: Tag> {
-    // Where each event is.
+    // If each event is.
     places: History<u32>,
     lists: Lists<T>,
     // How many more events have a place, whatever their form.
@@ -47,7 +59,7 @@ impl<T: Tag> Model for EventHistory<T> {
 }
 
 impl<T: Tag> EventHistory<T> {
-    /// An empty history of at most `most` events, which does not allocate; refused `Limit` where `most` is not 1 to 2^30.
+    /// An empty history of at most `most` events, which does not allocate; refused `Limit` if `most` is not 1 to 2^30.
     pub fn new(alloc: Global, most: u32) -> Result<EventHistory<T>, LimitFault>
         ensures ok { (0 < most) × (most ≤ max_events) → result ≡ Ok (record { events = []; most = most; room = 0 }) }
         ensures refused { ((0 < most) × (most ≤ max_events) → ⊥) → result ≡ Err LimitFault.Limit }
@@ -92,9 +104,9 @@ impl<T: Tag> EventHistory<T> {
         self.lists.at(place)
     }
 
-    /// Reserves a place, which the next push uses: refused `HistoryFull` exactly where it has its `most` events, then
-    /// `Memory` where the allocator refused a growth. A place that is reserved already serves again, and needs no memory. Where
-    /// none is, a whole block of places is reserved: 1,024, or as many as it may still have. So `Memory` comes only where the
+    /// Reserves a place, which the next push uses: refused `HistoryFull` exactly if it has its `most` events, then
+    /// `Memory` if the allocator refused a growth. A place that is reserved already serves again, and needs no memory. If
+    /// none is, a whole block of places is reserved: 1,024, or as many as it may still have. So `Memory` comes only if the
     /// events fill their blocks.
     pub fn reserve_one(&mut self) -> Result<(), ReserveFault>
         ensures ok { OnOk result (0 < self.new.room) }
@@ -117,7 +129,7 @@ impl<T: Tag> EventHistory<T> {
         self.reserve_more()
     }
 
-    /// Reserves a block of places, where none is. Each list gets as many: so the places end where those of the order do, at
+    /// Reserves a block of places, if none is. Each list gets as many: so the places end where those of the order do, at
     /// every 1,024 events, whatever the forms of the events.
     #[inline(never)]
     fn reserve_more(&mut self) -> Result<(), ReserveFault>
@@ -137,55 +149,28 @@ impl<T: Tag> EventHistory<T> {
         Ok(())
     }
 
-    /// Puts a request that was queued at the end, in a reserved place.
+    /// Puts a request that was added at the end, in a reserved place.
     #[inline(always)]
-    pub fn push_queued(
-        &mut self,
-        worker: WorkerId,
-        client: ClientId,
-        token: Token,
-        params: ReqParams,
-        at: Moment,
-        tags: Tags<T>,
-    )
+    pub fn push_added(&mut self, added: AddedRequest<T>)
         requires { 0 < self.old.room }
-        ensures events { self.new.events ≡ self.old.events
-            ++ record { worker = worker; command = commands.Add client token params at; reply = replies.Tagged tags } ∷ [] }
+        ensures events { self.new.events ≡ self.old.events ++ event_of_added added ∷ [] }
         ensures most { self.new.most ≡ self.old.most }
         ensures used { self.new.room + 1 ≡ self.old.room }
     {
-        let place = self
-            .lists
-            .push_queued(worker, client, token, params, at, tags);
+        let place = self.lists.push_added(added);
         self.places.push_reserved(place);
         self.room -= 1;
     }
 
     /// Puts a request that was granted at the end, in a reserved place.
     #[inline(always)]
-    pub fn push_granted(
-        &mut self,
-        worker: WorkerId,
-        at: Moment,
-        client: ClientId,
-        token: Token,
-        phase: PhaseType,
-        beyond: bool,
-    )
+    fn push_granted(&mut self, granted: Granted)
         requires { 0 < self.old.room }
-        ensures events { self.new.events ≡ self.old.events
-            ++ record { worker = worker; command = commands.Pull at; reply = replies.Granted client token phase beyond } ∷ [] }
+        ensures events { self.new.events ≡ self.old.events ++ event_of_granted granted ∷ [] }
         ensures most { self.new.most ≡ self.old.most }
         ensures used { self.new.room + 1 ≡ self.old.room }
     {
-        let place = self.lists.push_granted(Granted {
-            at,
-            worker,
-            client,
-            token,
-            phase,
-            beyond,
-        });
+        let place = self.lists.push_granted(granted);
         self.places.push_reserved(place);
         self.room -= 1;
     }
@@ -249,7 +234,14 @@ impl<T: Tag> EventHistory<T> {
                     params,
                     at,
                 },
-            ) => self.push_queued(worker, client, token, params, at, tags),
+            ) => self.push_added(AddedRequest {
+                worker,
+                client,
+                token,
+                params,
+                at,
+                tags,
+            }),
             None => self.push_other(Event {
                 worker,
                 command,
@@ -276,7 +268,14 @@ impl<T: Tag> EventHistory<T> {
         ensures used { self.new.room + 1 ≡ self.old.room }
     {
         match asked_to_pull(&command) {
-            Some(at) => self.push_granted(worker, at, client, token, phase, beyond),
+            Some(at) => self.push_granted(Granted {
+                at,
+                worker,
+                client,
+                token,
+                phase,
+                beyond,
+            }),
             None => self.push_other(Event {
                 worker,
                 command,

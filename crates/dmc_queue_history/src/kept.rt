@@ -36,7 +36,7 @@ impl<T: Copy> Clone for QueuedByWeight<T> {
     }
 }
 
-/// Another request that was queued. Where the client has no reservation, `r` is any tag.
+/// Another request that was queued. If the client has no reservation, `r` is any tag.
 #[derive(Copy)]
 pub(crate) struct Queued<T> {
     pub(crate) r: T,

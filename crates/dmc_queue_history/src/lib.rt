@@ -1,4 +1,4 @@
-//! A queue's history: its commands and their replies, in little memory, and in segments where it runs for long.
+//! A queue's history: its commands and their replies, in little memory, and in segments if it runs for long.
 #![tactic(auto)]
 
 pub mod history;

@@ -1,11 +1,10 @@
 //! The lists of a history, one for each form of event.
 ghost use Rattle.std.specs.Prelude.{◌≡◌, ℕ, ◌+◌, ◌<◌, ◌≤◌, [], OnOk, IsErrOf};
 ghost use Rattle.dmc_types.specs.Limits.{max_events};
-ghost use Rattle.dmc_types.specs.declared.command.Command.TheVariants as commands;
-ghost use Rattle.dmc_tag.specs.declared.reply.Reply.TheVariants as replies;
 ghost use Rattle.dmc_history.specs.Log.{block_size};
-ghost use Rattle.dmc_queue_history.specs.Kept.{Adds, HaveMost, count, event_at, event_of_granted, event_of_queued, event_of_queued_by_weight, kept_of, least_room};
+ghost use Rattle.dmc_queue_history.specs.Kept.{Adds, HaveMost, count, event_at, event_of_added, event_of_granted, event_of_queued, event_of_queued_by_weight, kept_of, least_room};
 
+use crate::history::AddedRequest;
 use crate::kept::{
     Granted, Queued, QueuedByWeight, event_of_granted, event_of_queued, event_of_queued_by_weight,
     is_of_moment,
@@ -15,9 +14,6 @@ use dmc_history::{History, ReserveFault};
 use dmc_tag::event::Event;
 use dmc_tag::reply::Tags;
 use dmc_tag::tag::Tag;
-use dmc_types::ids::{ClientId, Token, WorkerId};
-use dmc_types::moment::Moment;
-use dmc_types::params::ReqParams;
 use std::alloc::Global;
 
 /// The events of a history, each in the list of those of its form.
@@ -72,21 +68,21 @@ impl<T: Tag> Lists<T> {
         self.others.reserve(n)
     }
 
-    /// Keeps a request that was queued, and answers its place.
+    /// Keeps a request that was added, and answers its place.
     #[inline(always)]
-    pub(crate) fn push_queued(
-        &mut self,
-        worker: WorkerId,
-        client: ClientId,
-        token: Token,
-        params: ReqParams,
-        at: Moment,
-        tags: Tags<T>,
-    ) -> u32
+    pub(crate) fn push_added(&mut self, added: AddedRequest<T>) -> u32
         requires room { 0 < least_room self.old }
         requires limit { (most : ℕ) × HaveMost self.old most × (most ≤ max_events) }
-        ensures { Adds T.ops self.old self.new result (record { worker = worker; command = commands.Add client token params at; reply = replies.Tagged tags }) }
+        ensures { Adds T.ops self.old self.new result (event_of_added added) }
     {
+        let AddedRequest {
+            worker,
+            client,
+            token,
+            params,
+            at,
+            tags,
+        } = added;
         let Tags { r, l, p } = tags;
         match r {
             None if is_of_moment(l, at) => self.push_by_weight(QueuedByWeight {

@@ -1,4 +1,4 @@
-//! Where an event is: in which list, and at which index there.
+//! If an event is: in which list, and at which index there.
 ghost use Rattle.std.specs.Prelude.{◌≡◌, ◌<◌, ◌^◌};
 ghost use Rattle.dmc_queue_history.specs.Kept.{index_of, list_count, list_of};
 ghost use Rattle.dmc_queue_history.specs.internal.Kept.{place_in};

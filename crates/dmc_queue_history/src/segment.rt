@@ -1,11 +1,11 @@
 //! Segments of a queue's history.
-ghost use Rattle.std.specs.Prelude.{◌≡◌, ◌≤◌, ◌+◌, drop, length, take, IsTrue};
+ghost use Rattle.std.specs.Prelude.{◌≡◌, ◌≤◌, drop, length, take, IsTrue};
 ghost use Rattle.dmc_tag.specs.Replay.{replays};
-ghost use Rattle.dmc_history.specs.Segments.{IsLast, events_of, max_released};
+ghost use Rattle.dmc_shared.specs.Segmented.{max_released};
 
 use crate::history::EventHistory;
-use dmc_ledger::growing::Beginning;
 use dmc_ledger::setup::Setup;
+use dmc_shared::segment::ListSegment;
 use dmc_tag::tag::Tag;
 use dmc_types::config::QueueConfig;
 use dmc_types::ids::ServerId;
@@ -19,50 +19,34 @@ use std::marker::Model;
 pub struct Segment<T: Tag, S: Setup> {
     pub(crate) config: QueueConfig,
     server: ServerId,
-    number: u32,
-    whole: Beginning<EventHistory<T>, S>,
-    first: u64,
-    events: EventHistory<T>,
+    part: ListSegment<EventHistory<T>, S>,
 }
 
 impl<T: Tag, S: Setup> Model for Segment<T, S> {
-    ghost use Rattle.std.specs.Prelude.{◌≡◌, ◌≤◌};
     ghost use Rattle.dmc_tag.specs.Replay.{replays};
-    ghost use Rattle.dmc_history.specs.Segments.{IsLast, events_of, max_released};
     ghost use Rattle.dmc_queue_history.specs.Segmented.{SegmentState};
 
     ghost Value = { SegmentState T };
 
-    ghost view = { λ s. record { config = s.config; server = s.server.0; history = events_of s.whole.list; first = s.first } };
+    ghost view = { λ s. record { config = s.config; server = s.server.0; history = s.part.history; first = s.part.first } };
 
-    ghost invariant = { λ s. (s.whole.number ≡ s.number) × IsLast s.whole.list s.events s.first × (s.first ≤ max_released)
-        × replays T.ops s.config (events_of s.whole.list) };
+    ghost invariant = { λ s. replays T.ops s.config s.part.history };
 }
 
 impl<T: Tag, S: Setup> Segment<T, S> {
-    /// The segment of these events, from the number `first` on. `whole` is what was released of the list of a number, with
-    /// them.
-    pub(crate) fn new(
+    /// The segment of a history of a queue of this configuration at this server.
+    pub fn new(
         config: QueueConfig,
         server: ServerId,
-        number: u32,
-        whole: Beginning<EventHistory<T>, S>,
-        first: u64,
-        events: EventHistory<T>,
+        part: ListSegment<EventHistory<T>, S>,
     ) -> Segment<T, S>
-        requires number { whole.number ≡ number }
-        requires last { IsLast whole.list events first }
-        requires few { first ≤ max_released }
-        requires replaying { replays T.ops config (events_of whole.list) }
-        ensures { result ≡ record { config = config; server = server.0; history = events_of whole.list; first = first } }
+        requires { replays T.ops config part.history }
+        ensures { result ≡ record { config = config; server = server.0; history = part.history; first = part.first } }
     {
         Segment {
             config,
             server,
-            number,
-            whole,
-            first,
-            events,
+            part,
         }
     }
 
@@ -86,25 +70,21 @@ impl<T: Tag, S: Setup> Segment<T, S> {
         ensures within { result ≤ length self.now.history }
         ensures few { result ≤ max_released }
     {
-        self.first
+        self.part.first()
     }
 
     /// Its events.
     pub fn events(&self) -> &EventHistory<T>
         ensures { result.now.events ≡ drop self.now.first self.now.history }
     {
-        &self.events
+        self.part.kept()
     }
 
-    /// Whether the other segment is the next of the same history. Where it is, what comes before the other is what this one
+    /// Whether the other segment is the next of the same history. If it is, what comes before the other is what this one
     /// ends.
     pub fn follows(&self, next: &Segment<T, S>) -> bool
         ensures { IsTrue result → take next.now.first next.now.history ≡ self.now.history }
     {
-        if self.number != next.number {
-            return false;
-        }
-        self.whole.compare(&next.whole);
-        next.first >= self.first && next.first - self.first == self.events.len() as u64
+        self.part.follows(&next.part)
     }
 }

@@ -53,7 +53,7 @@ gcd_quotients a b some =
     let same : gcd (g * (a / g)) (g * (b / g)) ≡ g = ap (λ x. gcd x (g * (b / g))) left ∙ ap (λ y. gcd a y) right in
     eq_of_mul-eq-mul_left g positive (gcd (a / g) (b / g)) 1 (sym scale ∙ same ∙ sym (mul-one g))
 
--- where a and b have no common divisor above 1, b divides c if it divides a*c
+-- if a and b have no common divisor above 1, b divides c if it divides a*c
 divides_rest : (a b c : ℕ) → gcd a b ≡ 1 → 0 < c → b ∣ a * c → b ∣ c
 divides_rest a b c apart some h =
     let one : c * gcd a b ≡ c = ap (λ x. c * x) apart ∙ mul-one c in

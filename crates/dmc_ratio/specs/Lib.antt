@@ -2,15 +2,15 @@
 pub mod Gcd
 -- That `gcd` is the greatest common divisor, and what follows from that.
 pub mod GcdLaws
--- Integers as the difference of two naturals, `up` less `down`.
+-- An integer as the difference of two naturals, `up` less `down`.
 pub mod Products
 -- Lowest terms.
 pub mod Lowest
 -- The value of a ratio tag, a fraction in lowest terms, and what its operations compute.
 pub mod Ratio
--- That the operations of ratio tags are exact.
+-- The operations of ratio tags are exact.
 pub mod RatioExact
--- That ratios are in a total order, by cross products.
+-- Ratios are in a total order, by cross products.
 pub mod RatioOrder
 -- Worked examples: the replies that the rules give in ratio tags, computed.
 pub mod Examples

@@ -42,7 +42,7 @@ lowest_terms n d = record {
 abbrev pub is_small : Ratio → Bool
 is_small r = nat_le (unsigned_abs r.numer) max_numer && nat_le r.denom max_denom
 
--- n/d in lowest terms, where that is small enough
+-- n/d in lowest terms, if that is small enough
 abbrev pub reduced : ℤ → ℕ → Option Ratio
 reduced n zero = None
 reduced n (suc d) = if is_small (lowest_terms n d) then Some (lowest_terms n d) else None
@@ -73,7 +73,7 @@ ratio_ops = record {
   ceil = λ a. ceil_of a.numer a.denom;
 }
 
--- a fraction n/d is a value where, with g the greatest common divisor of n and d, |n|/g is at most 2^90 and d/g at most 2^32
+-- a fraction n/d is a value if, with g the greatest common divisor of n and d, |n|/g is at most 2^90 and d/g at most 2^32
 pub record IsRatioValue (f : Fraction) : Type 0 where
   pub some : 0 < f.denom
   pub numer_fits : (g : ℕ) → IsGcd (unsigned_abs f.numer) f.denom g → unsigned_abs f.numer / g ≤ max_numer

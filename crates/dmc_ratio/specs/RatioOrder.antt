@@ -68,6 +68,6 @@ cross_same x y = (
       ap (λ b. b && nat_eq x.denom y.denom) ((signed_Decides x.numer y.numer).1 (ap (λ (r : Ratio). r.numer) same)) ∙ (unsigned_Decides x.denom y.denom).1 (ap (λ (r : Ratio). r.denom) same),
 )
 
--- both fields are equal exactly where the cross products are
+-- both fields are equal exactly if the cross products are
 pub ratio_matches_eq : (x y : Ratio) → ratio_eq x y ≡ is_eq (ratio_ops.compare x y)
 ratio_matches_eq x y = same_from_decides (ratio_eq x y) (is_eq (ratio_ops.compare x y)) (cross_same x y) (signed_Decides (x.numer *ℤ pos y.denom) (y.numer *ℤ pos x.denom))

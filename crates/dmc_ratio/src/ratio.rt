@@ -47,7 +47,7 @@ const MAX_NUMER: u128 = 1 << 90;
 const MAX_DENOM: u128 = 1 << 32;
 
 impl RatioTag {
-    /// The tag of a fraction. `None` for the denominator 0, and where the fraction in lowest terms has a numerator above 2^90 or
+    /// The tag of a fraction. `None` for the denominator 0, and if the fraction in lowest terms has a numerator above 2^90 or
     /// below -2^90, or a denominator above 2^32.
     pub fn new(numer: i128, denom: u64) -> Option<RatioTag>
         ensures value { result ≡ reduced numer denom }

@@ -16,11 +16,11 @@ use Rattle.dmc_tag.specs.State.{is_client}
 use Rattle.dmc_client.specs.Record.{Rec}
 use Rattle.dmc_roster.specs.Entries.{Entry, entry_named, entry_keyed, record_at, with_rec, with_record, entry_of, entries_of, AreApart, AreHeld, AreDistinct}
 use Rattle.dmc_roster.specs.internal.Entries.{after_retain, slots_after_retain}
-use Rattle.dmc_tag.proofs.Options.{map_cond}
-pub use Rattle.dmc_tag.proofs.Options.{is_some_mapped}
-use Rattle.dmc_tag.proofs.Lists.{all_filtered, found_holds, found_later}
-pub use Rattle.dmc_tag.proofs.Lists.{length_filtered}
-pub use Rattle.dmc_tag.proofs.Booleans.{eqb_turned}
+use Rattle.dmc_lemmas.proofs.Options.{map_cond}
+pub use Rattle.dmc_lemmas.proofs.Options.{is_some_mapped}
+use Rattle.dmc_lemmas.proofs.Lists.{all_filtered, found_holds, found_later}
+pub use Rattle.dmc_lemmas.proofs.Lists.{length_filtered}
+pub use Rattle.dmc_lemmas.proofs.Booleans.{eqb_turned}
 
 -- ---- options
 

@@ -66,7 +66,7 @@ impl<T: Tag> Roster<T> {
         self.records.vacant_key()
     }
 
-    /// The key of a client's record. Where clients are numbered 0, 1, .. as they register, it is found without a hash.
+    /// The key of a client's record. If clients are numbered 0, 1, .. as they register, it is found without a hash.
     pub fn find(&self, id: ClientId) -> Option<usize>
         ensures key { result ≡ option_map (λ e. e.key) (entries.entry_named id self.now.entries) }
         ensures entry { IfSome result (λ key. entries.entry_keyed key self.now.entries ≡ entries.entry_named id self.now.entries) }

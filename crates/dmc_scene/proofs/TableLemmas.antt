@@ -40,7 +40,7 @@ pub record Progress (tags : TagKind) (hz : ℕ) (all : List Value) (index : ℕ)
   pub apart : AllPairs AreApart clients
   pub spaced : Each (λ client. AreSpaced tags hz client.info) clients
 
--- the tables from an index on, where the value there is known
+-- the tables from an index on, if the value there is known
 pub tables_in-drop : (all : List Value) (index : ℕ) (v : Value) → index < length all → v ≡ get_or all index v
     → tables_in (items_view (drop index all)) ≡ option_to_list (as_table (view v)) ++ tables_in (items_view (drop (index + 1) all))
 tables_in-drop all index v within here =

@@ -25,7 +25,7 @@ pub record SceneValue : Type 0 where
   pub counting : Counting
   pub clients : List ClientValue
 
--- in ticks a rate has a spacing where it divides hz; in ratios where it is 1 to 2^32, which is the greatest denominator
+-- in ticks a rate has a spacing if it divides hz; in ratios if it is 1 to 2^32, which is the greatest denominator
 abbrev pub has_spacing : TagKind → ℕ → ℕ → Bool
 has_spacing Tick hz rate = hz % rate == 0
 has_spacing Ratio hz rate = nat_le 1 rate && nat_le rate (2 ^ 32)

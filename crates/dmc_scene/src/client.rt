@@ -79,7 +79,7 @@ impl SceneClient {
     }
 }
 
-/// Whether the rate has a spacing: in ticks where it divides hz.
+/// Whether the rate has a spacing: in ticks if it divides hz.
 fn has_spacing(tags: TagKind, hz: u32, rate: u32) -> bool
     requires { 0 < rate }
     ensures { result ≡ has_spacing tags hz rate }

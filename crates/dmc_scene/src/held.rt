@@ -69,7 +69,7 @@ pub fn integer(table: &Table, key: Key, least: u64, greatest: u64) -> Result<u64
     integer_in(required(table, key)?, key, least, greatest)
 }
 
-/// The whole number at a key, or the default where there is none.
+/// The whole number at a key, or the default if there is none.
 pub fn integer_or(
     table: &Table,
     key: Key,

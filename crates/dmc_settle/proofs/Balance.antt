@@ -12,7 +12,7 @@ use Rattle.dmc_tlock.specs.BookState.{BookState, desk_at, no_side, no_tills, til
 use Rattle.dmc_tlock.specs.Consistent.{IsConsistent, responded}
 use Rattle.dmc_tlock.specs.Settling.{AreGathered, IsSettledDesk, held_of, side_after_gather}
 use Rattle.dmc_tlock.specs.declared.settled.StampsHeld.{StampsHeld}
-use Rattle.dmc_tlock.proofs.ConsistentLemmas.{has_room}
+use Rattle.dmc_tlock.proofs.ForCallers.{has_room}
 use Rattle.dmc_settle.specs.internal.Filled.{AreHeldWithin, IsAudited, IsBalancedPair, IsClosing, IsLastPair, IsReadyClient, all_held}
 use Rattle.dmc_settle.specs.internal.Places.{desk_of, no_held}
 use Rattle.dmc_settle.specs.Reports.{stamps_left}

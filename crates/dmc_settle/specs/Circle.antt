@@ -13,9 +13,8 @@ use Rattle.dmc_book.specs.Counts.{count, stamps_added, delta_added, rho_added, g
 use Rattle.dmc_book.specs.Settling.{left_in}
 use Rattle.dmc_settle.specs.Left.{Left}
 
--- Of a client and a server s, by the queue's history, the tracker's list, the tills that are left of the client's stamps to s,
--- and the units that are left of its grants at s: each accepted add was stamped, each response was granted, and what is missing
--- is what was left.
+-- Of a client and a server s: what was accepted plus what is still in the client's tills was stamped, and what was counted plus
+-- what is still outstanding was granted.
 pub record IsCircle {T : Type 0} (client : ℕ) (s : ServerId) (history : List (Event T)) (events : List TrackerEvent)
     (tills : StampHoldings) (reservations priorities : ℕ) : Type 0 where
   pub stamps : count (stamps_added client) history + tills.stamps.amount ≡ stamps s events

@@ -1,4 +1,4 @@
--- The circle: what a server's queue and a client's tracker have in common.
+-- The circle: what a server's queue and a client's tracker say of each other.
 pub mod Circle
 -- What a cluster's threads left, and when its parts are those of one cluster.
 pub mod Left

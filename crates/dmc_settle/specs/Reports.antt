@@ -6,6 +6,7 @@ use Rattle.dmc_types.specs.declared.config.Counting.TheVariants.{All, Others}
 use Rattle.dmc_types.specs.declared.config.PhaseType.{PhaseType}
 use Rattle.dmc_types.specs.declared.config.PhaseType.TheVariants.{Reservation, Priority}
 use Rattle.dmc_tag.specs.Tag.{Tagging}
+use Rattle.dmc_tag.specs.State.{queued_requests}
 use Rattle.dmc_tag.specs.Replay.{after, replays}
 use Rattle.dmc_book.specs.Counts.{count, stamps_added, delta_added, phase_grants}
 use Rattle.dmc_tracker.specs.TrackerList.{completions}
@@ -25,7 +26,7 @@ pub record IsServerReport {T : Type 0} (ops : Tagging T) (config : Setting) (ser
   pub replays : replays ops config r.history.events
   pub reservation : r.reservation ≡ count (phase_grants Reservation) r.history.events
   pub priority : r.priority ≡ count (phase_grants Priority) r.history.events
-  pub left : r.left ≡ length (after ops config r.history.events).requests
+  pub left : r.left ≡ length (queued_requests (after ops config r.history.events).clients)
 
 -- the deltas of a client's accepted adds at a server are at most this
 abbrev pub delta_bound : Counting → ClientReport → ℕ

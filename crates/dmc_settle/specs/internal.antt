@@ -1,6 +1,6 @@
--- That the parts are those of one cluster, pair by pair.
+-- That the parts are those of one cluster, place by place.
 pub mod Checks
--- The numbers that settling writes into a row.
+-- What settling fills into a row.
 pub mod Filled
--- Servers and clients by their index.
+-- Servers and clients by their places.
 pub mod Places

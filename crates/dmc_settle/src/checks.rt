@@ -128,7 +128,7 @@ fn are_paired<S: Setup>(desk: &ClientDesk<S>, side: &ServerDesk<S>) -> bool
         && is_till_of(&side.held.priority, &desk.books.priority)
 }
 
-/// Whether the desks of a client and a server are of one pair, where both are there.
+/// Whether the desks of a client and a server are of one pair, if both are there.
 fn is_pair_at<S: Setup>(
     client: usize,
     server: usize,

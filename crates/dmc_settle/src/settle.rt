@@ -36,8 +36,8 @@ pub struct Passes<S: Setup> {
 /// Settles a cluster once its threads have ended: settles each book with its passes, audits the pair of each client and each
 /// server, and fills in the report. What is in the report of stops and failures stays. It does not allocate.
 ///
-/// Refused `Torn`, which hands nothing back, where these are not the parts of one cluster that the scene sets up, by their
-/// configurations, their ids and the numbers of their books, where a book or a tracker released something (`rotate`), or where
+/// Refused `Torn`, which hands nothing back, if these are not the parts of one cluster that the scene sets up, by their
+/// configurations, their ids and the numbers of their books, if a book or a tracker released something (`rotate`), or if
 /// the report's rows are not the scene's.
 pub fn settle_cluster<T: Tag, I: Indexes<T>, S: Setup>(
     alloc: Global,

@@ -92,13 +92,13 @@ module _ (clients : List SimClient) (id : ClientId) (phase : PhaseType) where
   long : length (ids_of clients) ≡ length clients
   long = length-map (map (λ (c : SimClient). c.scene) clients) (λ (k : ClientValue). k.id) ∙ length-map clients (λ (c : SimClient). c.scene)
 
-  -- where no client has the id
+  -- if no client has the id
   pub completes_none : position (λ (k : ClientId). id.0 == k.0) (ids_of clients) ≡ None → CompletesOne id phase clients clients
   completes_none none = λ k d w.
       let fails = all_fail (λ (k : ClientId). id.0 == k.0) (ids_of clients) none k d.scene.id (omega (arith, w, long)) in
       unchanged id phase (get_or clients k d) (ap (λ (k : ClientId). id.0 == k.0) (sym (id_at clients k d w)) ∙ fails)
 
-  -- where client i is the first that has it, and no two have one id
+  -- if client i is the first that has it, and no two have one id
   pub completes_one : (i : ℕ) (d new : SimClient) → AllPairs AreApart (map (λ c. c.scene) clients) → position (λ (k : ClientId). id.0 == k.0) (ids_of clients) ≡ Some i → IsCompleted phase (get_or clients i d) new → CompletesOne id phase clients (set clients i new)
   completes_one i d new apart first is = λ k e w. by k e w (eqb_tells k i)
     where

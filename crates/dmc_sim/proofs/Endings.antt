@@ -1,5 +1,5 @@
 -- How calls end, and how turns are taken one after another.
-use Rattle.std.proofs.Common.{◌≡◌, ◌≢◌, ℕ, ◌+◌, ◌<◌, true, false, List, [], ◌∷◌, length, get_or, drop, set, sym, ap, ◌∙◌, subst, inl, inr, arith, add-one, drop-cons, Result, Ok, Err}
+use Rattle.std.proofs.Common.{◌≡◌, ◌≢◌, ℕ, ◌+◌, ◌<◌, true, false, List, ◌∷◌, length, get_or, drop, set, sym, ap, ◌∙◌, subst, inl, inr, arith, add-one, drop-cons, Result, Ok, Err}
 use Rattle.std.specs.Prelude.{All, IsErrAnd, ◌⊎◌, eqb}
 use Rattle.std.proofs.lemmas.Bool.Decides.{eqb_tells}
 use Rattle.std.proofs.lemmas.List.{get_or-set_same, get_or-set_other, length-set}
@@ -21,7 +21,7 @@ pub passed_up : {X Y A B : Type 0} (part : Result X Refusal) (whole : Result Y R
 passed_up part whole P Q (faults.Refused refusal) result passed up h = passed_on whole Q (faults.Refused refusal) result passed (up refusal h)
 passed_up part whole P Q faults.Memory result passed up h = passed_on whole Q faults.Memory result passed tt
 
--- what ends as this ends as that does, where each value of the one is one of the other
+-- what ends as this ends as that does, if each value of the one is one of the other
 pub ends_as : {X A : Type 0} (part whole : Result X Refusal) (P Q : A → X → Type 0) (result : Result A SimFault) → whole ≡ part → ((done : A) (x : X) → part ≡ Ok x → P done x → Q done x) → Ends part P result → Ends whole Q result
 ends_as part whole P Q (Ok done) same holds h = record { value = h.value; is = same ∙ h.is; holds = holds done h.value h.is h.holds }
 ends_as part whole P Q (Err (faults.Refused refusal)) same holds h = same ∙ h
@@ -52,11 +52,7 @@ module _ {X T : Type 0} (turn : X → Sim T → Result (Sim T) Refusal) (xs : Li
     pub turn_refused : (refusal : Refusal) → turn (get_or xs i d) r.value ≡ Err refusal → whole ≡ Err refusal
     turn_refused refusal e = r.is ∙ here r.value ∙ ap (λ v. v >>= λ (w : Sim T). each_in_turn turn (drop (i + 1) xs) w) e
 
--- no turn is left
-pub turns_done : {X T : Type 0} (turn : X → Sim T → Result (Sim T) Refusal) (xs : List X) (i : ℕ) (whole : Result (Sim T) Refusal) (P : Sim T → Type 0) → drop i xs ≡ [] → Reaches whole (each_in_turn turn (drop i xs)) P → Gives whole P
-turns_done turn xs i whole P none r = record { value = r.value; is = r.is ∙ ap (λ ys. each_in_turn turn ys r.value) none; holds = r.holds }
-
--- where one item is written, what holds of it and of all others holds of all
+-- if one item is written, what holds of it and of all others holds of all
 pub all_with : {A : Type 0} (P : A → Type 0) (xs : List A) (i : ℕ) (a : A) → P a → ((k : ℕ) (d : A) → k < length xs → k ≢ i → P (get_or xs k d)) → All P (set xs i a)
 all_with P xs i a p others = λ k d w. by k d (omega (arith, w, length-set xs i a)) (eqb_tells k i)
   where

@@ -1,13 +1,12 @@
 -- The rows of a report are those of its clients and servers.
-use Rattle.std.proofs.Common.{◌≡◌, ℕ, zero, suc, ◌+◌, ◌-◌, ◌≤◌, List, [], ◌∷◌, length, map, slice_get, not, Bool, true, Option, Some, Ok, refl, sym, ap, ◌∙◌, arith}
+use Rattle.std.proofs.Common.{◌≡◌, ℕ, zero, suc, ◌+◌, ◌-◌, ◌≤◌, List, [], ◌∷◌, length, map, slice_get, not, Bool, true, Option, Ok, refl, sym, ap, ◌∙◌, arith}
 use Rattle.std.specs.Prelude.{All, option_map, unwrap_or}
 use Rattle.std.specs.List.{AllZip, list_all, range_with_len}
 use Rattle.std.proofs.lemmas.Bool.{and_parts, eqb-true}
 use Rattle.dmc_types.specs.declared.ids.ClientId.{ClientId}
-use Rattle.dmc_tag.specs.State.{State, Represents}
+use Rattle.dmc_tag.specs.State.{State, queued_requests}
 use Rattle.dmc_tag.specs.Tag.{Tagging}
 use Rattle.dmc_tag.specs.Outcome.{◌>>=◌}
-use Rattle.dmc_tag.proofs.ForCallers.{as_many_requests}
 use Rattle.dmc_scene.specs.SceneValue.{SceneValue}
 use Rattle.dmc_core.specs.Core.{CoreValue, RepresentsRun}
 use Rattle.dmc_sim.specs.Counts.{HaveGranted}
@@ -48,13 +47,11 @@ none_granted a (suc n) (suc k) d w = none_granted (a + 1) n k d (omega (arith, w
 
 -- ---- the rows of the simulation
 
-same_left : {T Q : Type 0} (state : Q → State T) (qs : List Q) (us : List (State T)) → AllZip (λ q u. Represents (state q) u) qs us → (n : ℕ)
-    → option_map (λ q. length (state q).requests) (slice_get qs n) ≡ option_map (λ (u : State T). length u.requests) (slice_get us n)
-same_left state [] [] z n = refl
-same_left state [] (u ∷ us) z n = absurd z
-same_left state (q ∷ qs) [] z n = absurd z
-same_left state (q ∷ qs) (u ∷ us) z zero = ap Some (as_many_requests (state q) u z.0)
-same_left state (q ∷ qs) (u ∷ us) z (suc n) = same_left state qs us z.1 n
+same_left : {T Q : Type 0} (state : Q → State T) (qs : List Q) (us : List (State T)) → us ≡ map state qs → (n : ℕ)
+    → option_map (λ q. length (queued_requests (state q).clients)) (slice_get qs n) ≡ option_map (λ (u : State T). length (queued_requests u.clients)) (slice_get us n)
+same_left state [] us e n = rw e refl
+same_left state (q ∷ qs) us e zero = rw e refl
+same_left state (q ∷ qs) us e (suc n) = rw e (same_left state qs (map state qs) refl n)
 
 -- what is left is that of the run, and the grants are those of the trace
 pub left_rows : {T Q : Type 0} (state : Q → State T) (core : CoreValue Q) (sim : Sim T) → RepresentsRun state core sim.run → (rows : List ServerReport) → All (AreGrants sim.trace) rows

@@ -44,7 +44,7 @@ module _ {T : Type 0} (scene : SceneValue) (trace : List (Entry T)) (server : Se
       (omega (arith, reserved_more trace e id, is.reservation, h.reservation))
 
 module _ {T Q : Type 0} (ops : Tagging T) (state : Q → State T) (scene : SceneValue) (at : ℕ) (server : ServerId) (first second third : CoreValue Q) (old new : SimClient) (stamped arrived : Returned T) where
-  -- where it stamps a request, and the request arrives
+  -- if it stamps a request, and the request arrives
   pub sent_to : ((sim : Sim T) → RepresentsRun state first sim.run → Gives (asked ops (Stamp old.scene.id server (record { 0 = old.sent })) sim) (IsAfter ops state (Stamp old.scene.id server (record { 0 = old.sent })) sim second stamped))
       → ((sim : Sim T) → RepresentsRun state second sim.run → Gives (asked ops (Arrive old.scene.id server at) sim) (IsAfter ops state (Arrive old.scene.id server at) sim third arrived))
       → IsSent arrived old new → (sim : Sim T) → ClientAt state scene first old sim → Gives (send_to ops at old.scene (Some server) sim) (ClientAt state scene third new)

@@ -6,9 +6,9 @@ pub mod Reports
 pub mod Turns
 -- The text of a report.
 pub mod Texts
--- Bounds of the counts: a server grants at most one request a round. And that the servers differ.
+-- Bounds of the counts of a simulation: a server grants at most one request a round. And that the servers differ.
 pub mod Counts
--- The rows of a report, of clients and of servers.
+-- The rows of a report: of a client, of a server that has granted nothing, and of one whose queued requests have been counted.
 pub mod Rows
 -- The scene of two clients, and its report, computed.
 pub mod Examples

@@ -6,6 +6,7 @@ use Rattle.dmc_types.specs.declared.config.PhaseType.TheVariants.{Reservation, P
 use Rattle.dmc_types.specs.declared.config.TagKind.{TagKind}
 use Rattle.dmc_types.specs.declared.config.TagKind.TheVariants.{Tick, Ratio}
 use Rattle.dmc_types.specs.declared.refusal.Refusal.{Refusal}
+use Rattle.dmc_tag.specs.State.{queued_requests}
 use Rattle.dmc_tag.specs.Tag.{Tagging}
 use Rattle.dmc_tag.specs.Outcome.{◌>>=◌}
 use Rattle.dmc_tick.specs.Tick.{tick_ops}
@@ -40,7 +41,7 @@ client_row trace c = record {
 
 -- how many requests are queued at a server
 abbrev pub left_at : {T : Type 0} → Run T → ServerId → ℕ
-left_at run s = unwrap_or (option_map (λ state. length state.requests) (slice_get run.servers s.0)) 0
+left_at run s = unwrap_or (option_map (λ state. length (queued_requests state.clients)) (slice_get run.servers s.0)) 0
 
 abbrev pub server_row : {T : Type 0} → Sim T → ServerId → ServerReport
 server_row sim s = record {
@@ -50,7 +51,7 @@ server_row sim s = record {
   left = left_at sim.run s;
 }
 
--- the moment of the last of this many rounds, 0 where there is none
+-- the moment of the last of this many rounds, 0 if there is none
 abbrev pub end_of : SceneValue → ℕ → ℕ
 end_of scene zero = 0
 end_of scene (suc k) = moment_of scene k
@@ -98,7 +99,7 @@ pub record IsClientRow (c : ClientValue) (row : ClientReport) : Type 0 where
 abbrev pub IsComplete : ClientValue → ClientReport → Type 0
 IsComplete c row = row.completed ≡ c.requests
 
--- A row for each client in the scene's order, and a row for each server by number. Where the round limit was not reached, all
+-- A row for each client in the scene's order, and a row for each server by number. If the round limit was not reached, all
 -- requests are completed.
 pub record IsReportOf (scene : SceneValue) (report : SimReport) : Type 0 where
   pub clients : AllZip IsClientRow scene.clients report.clients.items

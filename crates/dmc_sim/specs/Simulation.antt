@@ -130,7 +130,7 @@ all_complete scene trace = list_all (λ c. completed_by c.id trace == c.requests
 abbrev pub plan_of : SceneValue → ClientValue → List ServerId
 plan_of scene c = planned (word (generator scene.seed c.id.0)) scene.servers c.requests
 
--- The server of a client's next request. There is none where all its requests are sent, or where as many as its window are
+-- The server of a client's next request. There is none if all its requests are sent, or if as many as its window are
 -- outstanding.
 abbrev pub next_server : {T : Type 0} → SceneValue → ClientValue → List (Entry T) → Option ServerId
 next_server scene c trace = if nat_lt (sent_by c.id trace) (completed_by c.id trace + c.window) then slice_get (plan_of scene c) (sent_by c.id trace) else None
@@ -179,7 +179,7 @@ round ops scene k sim = do
   sent ← each_in_turn (client_turn ops scene (moment_of scene k)) scene.clients sim
   each_in_turn (server_turn ops (moment_of scene k)) (servers_of scene) sent
 
--- The rounds from number k on, of which at most this many are left. They end where all requests are completed, which is tested
+-- The rounds from number k on, of which at most this many are left. They end if all requests are completed, which is tested
 -- before each round. The result is how many rounds were made in all, and the simulation after them.
 abbrev pub rounds : {T : Type 0} → Tagging T → SceneValue → ℕ → ℕ → Sim T → Result (ℕ × Sim T) Refusal
 rounds ops scene zero k sim = Ok (k, sim)

@@ -29,7 +29,7 @@ pub fn in_time()
     ensures { report (two_clients All 4) ≡ report (two_clients All 100) }
 {}
 
-/// Where only completions at other servers count, client 1 is granted in the weight phase at 100.
+/// If only completions at other servers count, client 1 is granted in the weight phase at 100.
 pub fn others_counted()
     ensures { report (two_clients Others 100) ≡ Ok (record {
       clients = client_row 1 2 2 1 1 ∷ client_row 2 2 2 0 2 ∷ [];

@@ -41,7 +41,7 @@ pub struct SimReport {
     pub clients: Vec<ClientReport>,
     /// The servers, by number.
     pub servers: Vec<ServerReport>,
-    /// The moment of the last round in ticks, 0 where there was none.
+    /// The moment of the last round in ticks, 0 if there was none.
     pub end: Moment,
     /// Whether the rounds ended before all requests were completed.
     pub turns_out: bool,

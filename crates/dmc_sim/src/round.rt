@@ -75,7 +75,7 @@ fn send_to<T: Tag>(
     Ok(())
 }
 
-/// A client with a mark sends its next request, if it may send one. The mark stays where it may send another.
+/// A client with a mark sends its next request, if it may send one. The mark stays if it may send another.
 fn send_marked<T: Tag>(
     core: &mut ClusterCore<T>,
     client: &mut SimClient,

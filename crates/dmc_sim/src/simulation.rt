@@ -116,7 +116,7 @@ fn moment_of(round: u32, step: u64) -> Moment
     Moment::new(ticks.min(MAX_MOMENT)).unwrap()
 }
 
-/// Makes the rounds and returns the moment of the last, or 0 where there is none. Then each row has what is left.
+/// Makes the rounds and returns the moment of the last, or 0 if there is none. Then each row has what is left.
 fn run<T: Tag>(
     core: &mut ClusterCore<T>,
     scene: &Scene,
@@ -143,7 +143,7 @@ fn run<T: Tag>(
     Ok(end)
 }
 
-/// Makes the rounds and returns the moment of the last, or 0 where there is none. They end where all requests are completed, or
+/// Makes the rounds and returns the moment of the last, or 0 if there is none. They end if all requests are completed, or
 /// after the greatest number that the scene allows.
 fn make_rounds<T: Tag>(
     core: &mut ClusterCore<T>,

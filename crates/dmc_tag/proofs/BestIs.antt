@@ -1,27 +1,14 @@
--- The best that the scan finds is the best of the set, and the only one.
-use Rattle.std.proofs.Common.{◌≡◌, ℕ, Bool, true, false, not, ◌&&◌, cond, List, [], ◌∷◌, ◌++◌, Option, Some, None, refl, sym, ap, ◌∙◌, subst}
+-- What a scan of one list finds is the best of the set.
+use Rattle.std.proofs.Common.{◌≡◌, Bool, true, false, not, ◌&&◌, cond, List, [], ◌∷◌, ◌++◌, Option, Some, None, refl, sym, ap, ◌∙◌, subst}
 use Rattle.std.specs.Prelude.{unwrap_or}
 use Rattle.std.specs.List.{AllByRecursion}
 use Rattle.dmc_tag.specs.Best.{best, better, IsBest, HasNone}
 use Rattle.dmc_tag.proofs.Before.{IsOrder}
-use Rattle.dmc_tag.proofs.Lists.{all_as, all_joined, all_at}
+use Rattle.dmc_tag.proofs.Scans.{not_found}
+use Rattle.dmc_lemmas.proofs.Lists.{all_as, all_joined, all_at}
 use Rattle.std.proofs.lemmas.Bool.{false_from_ne_true}
 
-some_or_some : {A : Type 0} (a b : A) (t : Bool) → cond t (Some a) (Some b) ≡ None → ⊥
-some_or_some a b true e = cc
-some_or_some a b false e = cc
-
-module _ {R : Type 0} (key : R → ℕ) (before : R → R → Bool) (o : IsOrder key before) (member : R → Bool) where
-  none_at : (x : R) (xs : List R) (b : Option (R × List R)) → best before member xs ≡ b → (m : Bool) → member x ≡ m → better before m x xs b ≡ None → (best before member xs ≡ None → HasNone member xs) → HasNone member (x ∷ xs)
-  none_at x xs None q true p e rec = cc
-  none_at x xs None q false p e rec = (p, rec q)
-  none_at x xs (Some (y, ys)) q m p e rec = absurd (some_or_some (x, xs) (y, x ∷ ys) (m && not (before y x)) e)
-
-  -- where the scan finds none there is no member
-  pub none_found : (xs : List R) → best before member xs ≡ None → HasNone member xs
-  none_found [] e = tt
-  none_found (x ∷ xs) e = none_at x xs (best before member xs) refl (member x) refl e (none_found xs)
-
+module _ {R : Type 0} (before : R → R → Bool) (o : IsOrder before) (member : R → Bool) where
   -- ---- x is the best of x ∷ xs: none behind it is before it
 
   alone : (x : R) (xs : List R) → HasNone member xs → member x ≡ true → IsBest before member (x ∷ xs) x xs
@@ -91,7 +78,7 @@ module _ {R : Type 0} (key : R → ℕ) (before : R → R → Bool) (o : IsOrder
   found_at : (x : R) (xs : List R) (b : Option (R × List R)) → best before member xs ≡ b → (m : Bool) → member x ≡ m → (p : R × List R) → better before m x xs b ≡ Some p → ((q : R × List R) → best before member xs ≡ Some q → IsBest before member xs q.0 q.1) → IsBest before member (x ∷ xs) p.0 p.1
   found_at x xs None q true e p s rec =
       let same : (x, xs) ≡ p = ap (λ o. unwrap_or o (x, xs)) s in
-      subst (λ q. IsBest before member (x ∷ xs) q.0 q.1) same (alone x xs (none_found xs q) e)
+      subst (λ q. IsBest before member (x ∷ xs) q.0 q.1) same (alone x xs (not_found before member xs q) e)
   found_at x xs None q false e p s rec = cc
   found_at x xs (Some (y, ys)) q m e p s rec = one_of_two x y xs ys (rec (y, ys) q) (member x && not (before y x)) refl p (ap (λ n. cond (n && not (before y x)) (Some (x, xs)) (Some (y, x ∷ ys))) e ∙ s)
 
@@ -99,29 +86,3 @@ module _ {R : Type 0} (key : R → ℕ) (before : R → R → Bool) (o : IsOrder
   pub found_is : (xs : List R) (p : R × List R) → best before member xs ≡ Some p → IsBest before member xs p.0 p.1
   found_is [] p s = cc
   found_is (x ∷ xs) p s = found_at x xs (best before member xs) refl (member x) refl p s (found_is xs)
-
-  -- ---- and the only one
-
-  kept : (r : R) (back : List R) (b : Option (R × List R)) → best before member back ≡ b → member r ≡ true → AllByRecursion (λ x. member x ≡ true → before x r ≡ false) back → better before (member r) r back b ≡ Some (r, back)
-  kept r back None q m behind = rw m refl
-  kept r back (Some (y, ys)) q m behind =
-      let is = found_is back (y, ys) q in
-      let Behind : R → Type 0 = λ x. member x ≡ true → before x r ≡ false in
-      let unbeaten_by : before y r ≡ false = all_at Behind is.front y is.back (subst (AllByRecursion Behind) is.whole behind) is.is_member in
-      rw (m, unbeaten_by) refl
-
-  passes : (m t : Bool) → (m ≡ true → t ≡ true) → (m && not t) ≡ false
-  passes true t h = rw (h refl) refl
-  passes false t h = refl
-
-  found_behind : (front : List R) (r : R) (back : List R) → member r ≡ true → AllByRecursion (λ x. member x ≡ true → before r x ≡ true) front → AllByRecursion (λ x. member x ≡ true → before x r ≡ false) back → best before member (front ++ r ∷ back) ≡ Some (r, front ++ back)
-  found_behind [] r back m ahead behind = kept r back (best before member back) refl m behind
-  found_behind (x ∷ front) r back m ahead behind = rw (found_behind front r back m ahead.1 behind, passes (member x) (before r x) ahead.0) refl
-
-  -- the scan finds the best
-  pub best_is_found : (xs : List R) (r : R) (others : List R) → IsBest before member xs r others → best before member xs ≡ Some (r, others)
-  best_is_found xs r others b = ap (best before member) b.whole ∙ found_behind b.front r b.back b.is_member b.ahead b.behind ∙ ap (λ ys. Some (r, ys)) (sym b.rest)
-
-  pub none_is_found : (xs : List R) → HasNone member xs → best before member xs ≡ None
-  none_is_found [] a = refl
-  none_is_found (x ∷ xs) a = rw (none_is_found xs a.1, a.0) refl

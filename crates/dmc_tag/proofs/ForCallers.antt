@@ -1,38 +1,33 @@
 -- What a caller's proof may cite: the laws over plain variables.
-use Rattle.std.proofs.Common.{◌≡◌, ℕ, Bool, List, [], ◌∷◌, ◌++◌, length, Option, Some, None}
+use Rattle.std.proofs.Common.{◌≡◌, ℕ, Bool, List, [], ◌∷◌, ◌++◌, Option, Some}
 use Rattle.std.specs.Prelude.{nat_le}
 use Rattle.std.specs.Cmp.{IsTotalOrder}
 use Rattle.dmc_types.specs.Values.{Setting}
 use Rattle.dmc_types.specs.declared.command.Command.TheVariants.{Pull}
 use Rattle.dmc_tag.specs.Tag.{Tagging, Fraction, IsExact}
-use Rattle.dmc_tag.specs.State.{State, Represents, opening, effective}
+use Rattle.dmc_tag.specs.State.{State, PlainClient, opening, effective, queued_requests}
 use Rattle.dmc_tag.specs.Step.{step}
 use Rattle.dmc_tag.specs.Replay.{after, replays}
 use Rattle.dmc_tag.specs.Laws.{Pulls, IsNextDue}
-use Rattle.dmc_tag.specs.Best.{best, is_before, is_due, IsBest, HasNone}
+use Rattle.dmc_tag.specs.Best.{Found, best_of_all, is_due, IsBestOfAll}
 use Rattle.dmc_tag.specs.Rules.{moment_of}
-use Rattle.dmc_tag.specs.declared.plain.PlainRequest.{PlainRequest}
+use Rattle.dmc_tag.specs.declared.plain.QueuedRequest.{QueuedRequest}
 use Rattle.dmc_tag.specs.declared.event.Event.{Event}
 use Rattle.dmc_tag.specs.declared.reply.Reply.TheVariants.{Later}
-use Rattle.dmc_tag.proofs.Agreement as agreement
-use Rattle.dmc_tag.proofs.Before.{before_order}
-use Rattle.dmc_tag.proofs.BestIs as scans
+use Rattle.dmc_tag.proofs.BestOfAll as best_of_all_scan
 use Rattle.dmc_tag.proofs.FutureLaw as futures
 use Rattle.dmc_tag.proofs.PullLaw as pulls
 use Rattle.dmc_tag.proofs.Running as running
--- each change keeps it that queued clients are active
-pub use Rattle.dmc_tag.proofs.Active.{registration_keeps_active, update_keeps_active, arrival_keeps_active, reduction_keeps_active, removal_keeps_active, clean_keeps_active}
 -- a client that has the id of another is that one
 pub use Rattle.dmc_tag.proofs.Active.{same_client}
 -- one command more is one step more
 pub use Rattle.dmc_tag.proofs.Running.{state_after-more}
 -- an order that is the same as a total one is total: so the order of a tag type is
-pub use Rattle.dmc_tag.proofs.Orderings.{tag_order}
--- agreeing states get the same reply to a command, and still agree; a step from one state is that step from each state that it
--- represents, and so is a step to a state that agrees with the one after it
-pub use Rattle.dmc_tag.proofs.Agreement.{steps_agree, steps_exactly, steps_agreeing}
+pub use Rattle.dmc_lemmas.proofs.Orderings.{tag_order}
+-- the scan for the best of all finds it, and nothing if no request is a member; what it finds has what each member has
+pub use Rattle.dmc_tag.proofs.Scans.{best_of_all_is_found, none_of_all, not_found_has_none, all_found_has}
 -- sums, and differences, of two tags and an amount are ordered as the tags are; an assignment gives no tag below the previous
--- one, and an R exactly where there is a reservation
+-- one, and an R exactly if there is a reservation
 pub use Rattle.dmc_tag.proofs.TagOrder.{plus_keeps_order, minus_keeps_order, next_tags_follow}
 -- a sum may be turned round; a value less nothing is itself; the tags of moments, those that an assignment gives for P, and
 -- differences are values
@@ -43,13 +38,6 @@ pub use Rattle.dmc_tag.proofs.TakenOff.{minus_twice, plus_then_minus, between_ha
 -- only a client's Add queues its first request; who is granted had a queued request; a step keeps it that queued clients are
 -- active, and so after each history they are
 pub use Rattle.dmc_tag.proofs.Queued.{only_an_add_queues, grants_what_is_queued, step_keeps_active, queued_clients_are_active}
-
--- agreeing states have equally many requests, and equally many clients
-pub as_many_requests : {T : Type 0} (s u : State T) → Represents s u → length s.requests ≡ length u.requests
-as_many_requests s u h = (agreement.counts_agree s u h).0
-
-pub as_many_clients : {T : Type 0} (s u : State T) → Represents s u → length s.clients ≡ length u.clients
-as_many_clients s u h = (agreement.counts_agree s u h).1
 
 module _ {T : Type 0} (ops : Tagging T) where
   -- one event more is one step more
@@ -62,21 +50,9 @@ module _ {T : Type 0} (ops : Tagging T) where
   pub replayed_one_more : (config : Setting) (events : List (Event T)) (e : Event T) → replays ops config (events ++ e ∷ []) → replays ops config events × (e.reply ≡ (step ops (after ops config events) e.command).1)
   replayed_one_more config = running.replays_parted ops (opening config)
 
-module _ {T : Type 0} (ops : Tagging T) (order : IsTotalOrder ops.compare) where
-  module _ (tag : PlainRequest T → Option T) (member : PlainRequest T → Bool) (xs : List (PlainRequest T)) where
-    -- the scan for the best of a set finds it, and nothing where the set has no member
-    pub best_is_found : (others : List (PlainRequest T)) (r : PlainRequest T) → IsBest (is_before ops tag) member xs r others → best (is_before ops tag) member xs ≡ Some (r, others)
-    best_is_found others r = scans.best_is_found (λ r. r.client.0) (is_before ops tag) (before_order ops order tag) member xs r others
-
-    pub none_is_found : HasNone member xs → best (is_before ops tag) member xs ≡ None
-    none_is_found = scans.none_is_found (λ r. r.client.0) (is_before ops tag) (before_order ops order tag) member xs
-
-    -- what it finds is the best, and where it finds nothing the set has no member
-    pub found_is_best : (others : List (PlainRequest T)) (r : PlainRequest T) → best (is_before ops tag) member xs ≡ Some (r, others) → IsBest (is_before ops tag) member xs r others
-    found_is_best others r = scans.found_is (λ r. r.client.0) (is_before ops tag) (before_order ops order tag) member xs (r, others)
-
-    pub not_found_has_none : best (is_before ops tag) member xs ≡ None → HasNone member xs
-    not_found_has_none = scans.none_found (λ r. r.client.0) (is_before ops tag) (before_order ops order tag) member xs
+-- what the scan for the best of all clients' requests finds is the best
+pub found_is_best_of_all : {T : Type 0} (ops : Tagging T) → IsTotalOrder ops.compare → (tag : QueuedRequest T → Option T) (member : QueuedRequest T → Bool) (clients : List (PlainClient T)) (found : Found T) → best_of_all ops tag member clients ≡ Some found → IsBestOfAll ops tag member clients found
+found_is_best_of_all ops order tag member = best_of_all_scan.found_is ops order tag member
 
 module _ {T : Type 0} (ops : Tagging T) (fraction : T → Fraction) (is_value : Fraction → Type 0) (exact : IsExact ops fraction is_value) where
   -- a tag is due from the least whole number on that is not below it
@@ -85,7 +61,7 @@ module _ {T : Type 0} (ops : Tagging T) (fraction : T → Fraction) (is_value : 
 
   module _ (order : IsTotalOrder ops.compare) where
     -- before the moment that a pull names no request is early or free, and at it one is
-    pub future_is_exact : (s : State T) (at m : ℕ) → (step ops s (Pull at)).1 ≡ Later m → IsNextDue ops m s.requests
+    pub future_is_exact : (s : State T) (at m : ℕ) → (step ops s (Pull at)).1 ≡ Later m → IsNextDue ops m (queued_requests s.clients)
     future_is_exact s at m = pulls.future_says ops fraction is_value exact order (effective s at) m s
 
     -- what a pull grants, and the state after it

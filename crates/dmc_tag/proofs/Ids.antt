@@ -8,7 +8,7 @@ use Rattle.std.proofs.lemmas.Option.{same_Some, slice_get_within, get_or_from_sl
 use Rattle.std.proofs.lemmas.Bool.{eq-eqb, lt-ltb}
 use Rattle.dmc_types.specs.declared.ids.ClientId.{ClientId}
 use Rattle.dmc_tag.specs.State.{is_client}
-use Rattle.dmc_tag.proofs.Booleans.{eqb_turned}
+use Rattle.dmc_lemmas.proofs.Booleans.{eqb_turned}
 
 pub itself_id : (id : ClientId) → is_client id id ≡ true
 itself_id id = eq-eqb id.0 id.0 refl

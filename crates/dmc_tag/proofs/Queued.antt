@@ -1,9 +1,8 @@
--- Whose requests are queued after a command, and whose request it grants.
-use Rattle.std.proofs.Common.{◌≡◌, ℕ, Bool, true, false, not, List, [], ◌∷◌, map, Result, Ok, Err, refl, sym, ap, subst, inl, inr}
-use Rattle.std.specs.Prelude.{◌⊎◌, is_some}
+-- Whose requests are queued after a command, who is idle, and whose request it grants.
+use Rattle.std.proofs.Common.{◌≡◌, ℕ, Bool, true, false, not, ◌||◌, List, [], ◌∷◌, ◌++◌, map, length, Option, Some, None, Result, Ok, Err, refl, sym, ap, ◌∙◌, subst, inl, inr, ⊎_elim}
+use Rattle.std.specs.Prelude.{◌⊎◌, ◌-◌, ◌==◌, ◌&&◌, nat_le, filter, if◌then◌else◌}
 use Rattle.std.specs.Cmp.{IsTotalOrder}
 use Rattle.std.specs.List.{AllByRecursion}
-use Rattle.std.specs.Option.{ok_or}
 use Rattle.std.proofs.lemmas.Bool.{eq-eqb}
 use Rattle.dmc_types.specs.Values.{Setting}
 use Rattle.dmc_types.specs.declared.ids.ClientId.{ClientId}
@@ -11,65 +10,88 @@ use Rattle.dmc_types.specs.declared.ids.Token.{Token}
 use Rattle.dmc_types.specs.declared.config.PhaseType.{PhaseType}
 use Rattle.dmc_types.specs.declared.config.PhaseType.TheVariants as phases
 use Rattle.dmc_types.specs.declared.refusal.Refusal.{Refusal}
-use Rattle.dmc_types.specs.declared.refusal.Refusal.TheVariants.{Unknown}
 use Rattle.dmc_types.specs.declared.command.Command.{Command}
 use Rattle.dmc_types.specs.declared.command.Command.TheVariants.{Register, Update, Add, Pull, Remove, Clean}
 use Rattle.dmc_tag.specs.Tag.{Tagging, Fraction, IsExact}
 use Rattle.dmc_tag.specs.Outcome.{◌>>=◌}
-use Rattle.dmc_tag.specs.State.{State, opening, effective, is_client, is_active, has_queued, client_named}
+use Rattle.dmc_tag.specs.State.{State, PlainClient, opening, effective, is_client, is_active, is_busy, has_queued}
 use Rattle.dmc_tag.specs.Queued.{AreActive, is_add_of}
 use Rattle.dmc_tag.specs.Rules as rules_of
-use Rattle.dmc_tag.specs.Rules.{Outcome}
+use Rattle.dmc_tag.specs.Rules.{Outcome, change_client}
 use Rattle.dmc_tag.specs.Step.{answer_of, step}
 use Rattle.dmc_tag.specs.Replay.{after, state_after}
 use Rattle.dmc_tag.specs.declared.event.Event.{Event}
 use Rattle.dmc_tag.specs.Laws.{Grants, Pulls}
-use Rattle.dmc_tag.specs.declared.plain.PlainRequest.{PlainRequest}
+use Rattle.dmc_tag.specs.declared.plain.QueuedRequest.{QueuedRequest}
 use Rattle.dmc_tag.specs.declared.reply.Reply.{Reply}
 use Rattle.dmc_tag.specs.declared.reply.Reply.TheVariants.{Registered, Updated, Tagged, Granted, Later, Nothing, Removed, Cleaned, Refused}
-use Rattle.dmc_tag.proofs.Active.{at_queued, queued_own, registration_keeps_active, update_keeps_active, arrival_keeps_active, removal_keeps_active, clean_keeps_active, reduction_keeps_active, all_reduced, all_shifted}
-use Rattle.dmc_tag.proofs.Lists.{all_as, all_filtered, all_joined, all_at, all_without}
+use Rattle.dmc_tag.proofs.Active.{either, same_client, both, IsBusyAs, IsActive, is_busy_with, empty_if_not_busy, queued_mapped, queued_filtered, queued_with_idle, queued_at, queued_are_active, shifted_active, shifted_busy, granted_id, granted_idle}
+use Rattle.dmc_lemmas.proofs.Lists.{all_as, all_filtered, all_mapped, all_next, all_at}
 use Rattle.dmc_tag.proofs.PullLaw.{pull_says}
-use Rattle.dmc_tag.proofs.TagOrder.{bound, from_option}
 
 module _ {T : Type 0} (ops : Tagging T) (s : State T) where
   -- the client had a queued request, or the command is its Add
   abbrev Comes : Command → ClientId → Type 0
-  Comes command id = (has_queued id s.requests ≡ true) ⊎ (is_add_of id command ≡ true)
+  Comes command id = (has_queued id s.clients ≡ true) ⊎ (is_add_of id command ≡ true)
 
   -- what a command's state and reply keep of who has a queued request
   record Keeps (command : Command) (new : State T) (reply : Reply T) : Type 0 where
-    comes : AllByRecursion (λ r. Comes command r.client) new.requests
-    active : AreActive s.clients s.requests → AreActive new.clients new.requests
-    granted : (client : ClientId) (token : Token) (phase : PhaseType) (beyond : Bool) → reply ≡ Granted client token phase beyond → has_queued client s.requests ≡ true
+    comes : (id : ClientId) → has_queued id new.clients ≡ true → Comes command id
+    active : AreActive s.clients → AreActive new.clients
+    granted : (client : ClientId) (token : Token) (phase : PhaseType) (beyond : Bool) → reply ≡ Granted client token phase beyond → has_queued client s.clients ≡ true
 
   abbrev Settles : Command → State T × Reply T → Type 0
   Settles command answer = Keeps command answer.0 answer.1
 
-  own : (command : Command) → AllByRecursion (λ r. Comes command r.client) s.requests
-  own command = all_as (λ r. has_queued r.client s.requests ≡ true) (λ r. Comes command r.client) (λ r h. inl h) s.requests (queued_own s.requests)
-
   chained : {X : Type 0} (command : Command) (r : Result X Refusal) (f : X → Outcome T) → ((x : X) → r ≡ Ok x → Settles command (answer_of s (f x))) → Settles command (answer_of s (r >>= f))
   chained command (Ok x) f h = h x refl
-  chained command (Err e) f h = record { comes = own command; active = λ a. a; granted = λ client token phase beyond e. cc }
+  chained command (Err e) f h = record { comes = λ id q. inl q; active = λ a. a; granted = λ client token phase beyond e. cc }
+
+  -- each client is changed so that it has no request that it had not, and is idle only with nothing queued
+  changed : (command : Command) (f : PlainClient T → PlainClient T) → ((id : ClientId) (c : PlainClient T) → IsBusyAs id (f c) → IsBusyAs id c ⊎ Comes command id) → ((c : PlainClient T) → IsActive c → IsActive (f c)) → (new : State T) (reply : Reply T) → new.clients ≡ map f s.clients → ((client : ClientId) (token : Token) (phase : PhaseType) (beyond : Bool) → reply ≡ Granted client token phase beyond → ⊥) → Keeps command new reply
+  changed command f busy active new reply e other = record {
+    comes = λ id q. ⊎_elim (λ h. inl h) (λ h. h) (queued_mapped (Comes command id) id f (busy id) s.clients (sym (ap (λ cs. has_queued id cs) e) ∙ q));
+    active = λ a. subst AreActive (sym e) (all_mapped IsActive IsActive f active s.clients a);
+    granted = λ client token phase beyond g. absurd (other client token phase beyond g);
+  }
 
   -- ---- a pull
 
   moved : (at t : ℕ) (new : State T) (reply : Reply T) → new ≡ record s { last_moment = t } → ((client : ClientId) (token : Token) (phase : PhaseType) (beyond : Bool) → reply ≡ Granted client token phase beyond → ⊥) → Keeps (Pull at) new reply
-  moved at t new reply e other = subst (λ u. Keeps (Pull at) u reply) (sym e) (record { comes = own (Pull at); active = λ a. a; granted = λ client token phase beyond g. absurd (other client token phase beyond g) })
+  moved at t new reply e other = subst (λ u. Keeps (Pull at) u reply) (sym e) (record { comes = λ id q. inl q; active = λ a. a; granted = λ client token phase beyond g. absurd (other client token phase beyond g) })
 
-  granting : (at t : ℕ) (phase : PhaseType) (beyond : Bool) (before : PlainRequest T → PlainRequest T → Bool) (member : PlainRequest T → Bool) (new : State T) (client : ClientId) (token : Token) → Grants ops t phase before member s new client token → Keeps (Pull at) new (Granted client token phase beyond)
-  granting at t phase beyond before member new client token g = record {
-    comes = rw g.left (all_reduced ops (Comes (Pull at)) client g.reduction g.others (rest (λ r. Comes (Pull at) r.client) (own (Pull at))));
-    active = λ a. rw (g.left, g.clients) (reduction_keeps_active ops client g.reduction s.clients g.others (rest (λ r. is_active r.client s.clients ≡ true) a));
+  granting : (at t : ℕ) (phase : PhaseType) (beyond : Bool) (tag : QueuedRequest T → Option T) (member : QueuedRequest T → Bool) (new : State T) (client : ClientId) (token : Token) → Grants ops t phase tag member s new client token → Keeps (Pull at) new (Granted client token phase beyond)
+  granting at t phase beyond tag member new client token g = record {
+    comes = λ id q. ⊎_elim (λ h. inl h) (λ h. inl h) (queued_mapped (has_queued id s.clients ≡ true) id f (was_queued id) s.clients (sym (ap (λ (u : State T). has_queued id u.clients) g.state_is) ∙ q));
+    active = λ a. subst (λ (u : State T). AreActive u.clients) (sym g.state_is) (all_mapped IsActive IsActive f (λ c h. either IsActive (is_client g.found.client.id c.id) _ c (never_idle a) h) s.clients a);
     granted = λ other _ _ _ e.
-        let found : has_queued g.request.client s.requests ≡ true = all_at (λ r. has_queued r.client s.requests ≡ true) g.best.front g.request g.best.back (subst (AllByRecursion (λ r. has_queued r.client s.requests ≡ true)) g.best.whole (queued_own s.requests)) in
-        let same : g.request.client ≡ other = cc (g.client_is) in
-        subst (λ id. has_queued id s.requests ≡ true) same found;
+        let same : g.found.client.id ≡ other = cc (g.client_is) in
+        subst (λ id. has_queued id s.clients ≡ true) same found_queued;
   } where
-    -- what is not granted was there
-    rest : (P : PlainRequest T → Type 0) → AllByRecursion P s.requests → AllByRecursion P g.others
-    rest P a = rw g.best.rest (all_without P g.best.front g.request g.best.back (subst (AllByRecursion P) g.best.whole a))
+    f : PlainClient T → PlainClient T
+    f c = if is_client g.found.client.id c.id then rules_of.after_grant ops g.found g.reduction else c
+
+    found_busy : is_busy g.found.client ≡ true
+    found_busy = is_busy_with g.found.client g.best.own.front g.found.request g.best.own.back g.best.own.whole
+
+    found_queued : has_queued g.found.client.id s.clients ≡ true
+    found_queued = ap (has_queued g.found.client.id) g.best.whole ∙ queued_at g.best.front g.found.client g.best.back found_busy
+
+    -- who has a request after it had one before
+    was_queued : (id : ClientId) (c : PlainClient T) → IsBusyAs id (f c) → IsBusyAs id c ⊎ (has_queued id s.clients ≡ true)
+    was_queued id c = either (λ d. IsBusyAs id d → IsBusyAs id c ⊎ (has_queued id s.clients ≡ true)) (is_client g.found.client.id c.id) (rules_of.after_grant ops g.found g.reduction) c
+        (λ h. inr (subst (λ other. has_queued other s.clients ≡ true) (same_client id g.found.client.id (sym (ap (is_client id) (granted_id ops g.found g.reduction)) ∙ (both _ _ h).0)) found_queued))
+        (λ h. inl h)
+
+    -- the granted client had a request, so it was not idle
+    never_idle : AreActive s.clients → IsActive (rules_of.after_grant ops g.found g.reduction)
+    never_idle a e =
+        let of_found : IsActive g.found.client = all_at IsActive g.best.front g.found.client g.best.back (subst AreActive g.best.whole a) in
+        let none : is_busy g.found.client ≡ false = ap (λ xs. not (length xs == 0)) (of_found (sym (granted_idle ops g.found g.reduction) ∙ e)) in
+        absurd (clash (sym none ∙ found_busy))
+      where
+        clash : false ≡ true → ⊥
+        clash e = cc
 
   pulling : (at t : ℕ) (new : State T) (reply : Reply T) → Pulls ops t s new reply → Keeps (Pull at) new reply
   pulling at t new (Granted client token phases.Reservation beyond) p = granting at t phases.Reservation beyond _ _ new client token p.1
@@ -84,53 +106,83 @@ module _ {T : Type 0} (ops : Tagging T) (s : State T) where
   pulling at t new (Removed count) p = absurd p
   pulling at t new (Cleaned idled erased) p = absurd p
 
+  -- ---- an add
+
+  -- the clients after the shift of an add
+  shift_keeps : (shift : Option T) (id : ClientId) → has_queued id (rules_of.shifted_by ops shift s.clients) ≡ true → has_queued id s.clients ≡ true
+  shift_keeps None id q = q
+  shift_keeps (Some amount) id q = ⊎_elim (λ h. h) (λ h. h) (queued_mapped (has_queued id s.clients ≡ true) id (rules_of.shifted_client ops amount) (λ c h. inl (shifted_busy ops id amount c h)) s.clients q)
+
+  shift_active : (shift : Option T) → AreActive s.clients → AreActive (rules_of.shifted_by ops shift s.clients)
+  shift_active None a = a
+  shift_active (Some amount) a = all_mapped IsActive IsActive (rules_of.shifted_client ops amount) (shifted_active ops amount) s.clients a
+
+  arriving : (id : ClientId) (token : Token) (params : _) (at : ℕ) (shift : Option T) (request : QueuedRequest T) (reply : Reply T) → ((client : ClientId) (token : Token) (phase : PhaseType) (beyond : Bool) → reply ≡ Granted client token phase beyond → ⊥) → Keeps (Add id token params at) (rules_of.queued ops s shift id request (effective s at)) reply
+  arriving id token params at shift request reply other = record {
+    comes = λ c q. ⊎_elim (λ h. inl (shift_keeps shift c h)) (λ h. inr h) (queued_mapped (is_client c id ≡ true) c f (was_queued c) (rules_of.shifted_by ops shift s.clients) q);
+    active = λ a. all_mapped IsActive IsActive f (λ c h. either IsActive (is_client id c.id) (rules_of.after_arrival request (effective s at) c) c (λ e. cc) h) (rules_of.shifted_by ops shift s.clients) (shift_active shift a);
+    granted = λ client token phase beyond g. absurd (other client token phase beyond g);
+  } where
+    f : PlainClient T → PlainClient T
+    f c = if is_client id c.id then rules_of.after_arrival request (effective s at) c else c
+
+    was_queued : (other : ClientId) (c : PlainClient T) → IsBusyAs other (f c) → IsBusyAs other c ⊎ (is_client other id ≡ true)
+    was_queued other c = by (is_client id c.id) refl where
+      by : (b : Bool) → is_client id c.id ≡ b → IsBusyAs other (if b then rules_of.after_arrival request (effective s at) c else c) → IsBusyAs other c ⊎ (is_client other id ≡ true)
+      by true e h = inr (subst (λ i. is_client other i ≡ true) (same_client id c.id e) (both _ _ h).0)
+      by false e h = inl h
+
   -- ---- each command
 
   keeps : (fraction : T → Fraction) (is_value : Fraction → Type 0) → IsExact ops fraction is_value → IsTotalOrder ops.compare → (command : Command) → Settles command (step ops s command)
   keeps fraction is_value exact order (Register id info at) = chained (Register id info at) (rules_of.can_register ops s id info) _ (λ _ _. record {
-    comes = own (Register id info at);
-    active = registration_keeps_active s.clients _ s.requests;
+    comes = λ c q. inl (queued_with_idle c s.clients _ refl q);
+    active = λ a. all_next IsActive s.clients _ a (λ _. refl);
     granted = λ client token phase beyond e. cc;
   })
-  keeps fraction is_value exact order (Update id info at) = chained (Update id info at) (rules_of.can_update ops s id info) _ (λ _ _. record {
-    comes = own (Update id info at);
-    active = update_keeps_active id info s.clients s.requests;
-    granted = λ client token phase beyond e. cc;
-  })
-  keeps fraction is_value exact order (Add id token params at) = chained (Add id token params at) (rules_of.can_add ops s id params _) _ (λ added e.
-      let known = bound (ok_or (client_named id s.clients) Unknown) _ added e in
-      record {
-        comes = all_joined (λ r. Comes (Add id token params at) r.client) (rules_of.shifted_requests ops added.0 s.clients s.requests) _ [] (all_shifted ops (Comes (Add id token params at)) added.0 s.clients s.requests (own (Add id token params at))) (inr (eq-eqb id.0 id.0 refl)) tt;
-        active = arrival_keeps_active ops added.0 _ _ s.clients s.requests (ap is_some (from_option _ Unknown known.0 known.1));
-        granted = λ client token phase beyond e. cc;
-      })
+  keeps fraction is_value exact order (Update id info at) = chained (Update id info at) (rules_of.can_update ops s id info) _ (λ _ _.
+      changed (Update id info at) (λ c. if is_client id c.id then rules_of.with_info info c else c)
+      (λ other c. either (λ d. IsBusyAs other d → IsBusyAs other c ⊎ Comes (Update id info at) other) (is_client id c.id) (rules_of.with_info info c) c (λ h. inl h) (λ h. inl h))
+      (λ c h. either IsActive (is_client id c.id) (rules_of.with_info info c) c h h) _ _ refl (λ client token phase beyond e. cc))
+  keeps fraction is_value exact order (Add id token params at) = chained (Add id token params at) (rules_of.can_add ops s id params _) _ (λ added _.
+      arriving id token params at added.0 (record { token = token; tags = added.1 }) (Tagged added.1) (λ client token phase beyond e. cc))
   keeps fraction is_value exact order (Pull at) = pulling at (effective s at) _ _ (pull_says ops fraction is_value exact order (effective s at) s)
-  keeps fraction is_value exact order (Remove id) = chained (Remove id) (rules_of.can_remove s id) _ (λ _ _. record {
-    comes = all_filtered (λ r. Comes (Remove id) r.client) (λ r. not (is_client id r.client)) s.requests (own (Remove id));
-    active = removal_keeps_active id s.clients s.requests;
-    granted = λ client token phase beyond e. cc;
-  })
+  keeps fraction is_value exact order (Remove id) = chained (Remove id) (rules_of.can_remove s id) _ (λ _ _.
+      changed (Remove id) (λ c. if is_client id c.id then rules_of.with_requests [] c else c)
+      (λ other c. either (λ d. IsBusyAs other d → IsBusyAs other c ⊎ Comes (Remove id) other) (is_client id c.id) (rules_of.with_requests [] c) c (λ h. absurd (nothing _ h)) (λ h. inl h))
+      (λ c h. either IsActive (is_client id c.id) (rules_of.with_requests [] c) c (λ _. refl) h) _ _ refl (λ client token phase beyond e. cc))
+    where
+      nothing : (b : Bool) → (b && false) ≡ true → ⊥
+      nothing true e = cc
+      nothing false e = cc
   keeps fraction is_value exact order (Clean at) = record {
-    comes = own (Clean at);
-    active = clean_keeps_active (effective s at) s.config.idle_age s.config.erase_age s.clients s.requests;
+    comes = λ id q. inl (queued_filtered id (λ c. not (rules_of.is_erased s (effective s at) c)) s.clients (⊎_elim (λ h. h) (λ h. h) (queued_mapped (has_queued id _ ≡ true) id (rules_of.with_idle_mark s (effective s at)) (λ c h. inl h) _ q)));
+    active = λ a. all_mapped IsActive IsActive (rules_of.with_idle_mark s (effective s at)) (λ c h. marked c h) _ (all_filtered IsActive (λ c. not (rules_of.is_erased s (effective s at) c)) s.clients a);
     granted = λ client token phase beyond e. cc;
-  }
+  } where
+    -- a client is marked only if it has nothing queued
+    marked : (c : PlainClient T) → IsActive c → IsActive (rules_of.with_idle_mark s (effective s at) c)
+    marked c h = by c.idle (is_busy c) refl refl where
+      by : (i b : Bool) → c.idle ≡ i → is_busy c ≡ b → (i || (not b && nat_le s.config.idle_age (effective s at - c.last_arrival))) ≡ true → c.requests ≡ []
+      by true b e k m = h e
+      by false true e k m = cc
+      by false false e k m = empty_if_not_busy c.requests k
 
 module _ {T : Type 0} (ops : Tagging T) (fraction : T → Fraction) (is_value : Fraction → Type 0) (exact : IsExact ops fraction is_value) (order : IsTotalOrder ops.compare) where
   -- who has a queued request after a command had one, or it is the client's Add
-  pub only_an_add_queues : (s : State T) (command : Command) (id : ClientId) → has_queued id ((step ops s command).0).requests ≡ true → (has_queued id s.requests ≡ true) ⊎ (is_add_of id command ≡ true)
-  only_an_add_queues s command id = at_queued (Comes ops s command) id _ (keeps ops s fraction is_value exact order command).comes
+  pub only_an_add_queues : (s : State T) (command : Command) (id : ClientId) → has_queued id ((step ops s command).0).clients ≡ true → (has_queued id s.clients ≡ true) ⊎ (is_add_of id command ≡ true)
+  only_an_add_queues s command = (keeps ops s fraction is_value exact order command).comes
 
-  pub grants_what_is_queued : (s : State T) (command : Command) (client : ClientId) (token : Token) (phase : PhaseType) (beyond : Bool) → (step ops s command).1 ≡ Granted client token phase beyond → has_queued client s.requests ≡ true
+  pub grants_what_is_queued : (s : State T) (command : Command) (client : ClientId) (token : Token) (phase : PhaseType) (beyond : Bool) → (step ops s command).1 ≡ Granted client token phase beyond → has_queued client s.clients ≡ true
   grants_what_is_queued s command = (keeps ops s fraction is_value exact order command).granted
 
-  pub step_keeps_active : (s : State T) (command : Command) → AreActive s.clients s.requests → AreActive ((step ops s command).0).clients ((step ops s command).0).requests
+  pub step_keeps_active : (s : State T) (command : Command) → AreActive s.clients → AreActive ((step ops s command).0).clients
   step_keeps_active s command = (keeps ops s fraction is_value exact order command).active
 
-  active_from : (s : State T) (commands : List Command) → AreActive s.clients s.requests → AreActive (state_after ops s commands).clients (state_after ops s commands).requests
+  active_from : (s : State T) (commands : List Command) → AreActive s.clients → AreActive (state_after ops s commands).clients
   active_from s [] h = h
   active_from s (c ∷ cs) h = active_from ((step ops s c).0) cs (step_keeps_active s c h)
 
   -- who has a queued request after a history is active
-  pub queued_clients_are_active : (config : Setting) (events : List (Event T)) (id : ClientId) → has_queued id (after ops config events).requests ≡ true → is_active id (after ops config events).clients ≡ true
-  queued_clients_are_active config events id = at_queued (λ id. is_active id (after ops config events).clients ≡ true) id _ (active_from (opening config) (map (λ e. e.command) events) tt)
+  pub queued_clients_are_active : (config : Setting) (events : List (Event T)) (id : ClientId) → has_queued id (after ops config events).clients ≡ true → is_active id (after ops config events).clients ≡ true
+  queued_clients_are_active config events id = queued_are_active id (after ops config events).clients (active_from (opening config) (map (λ e. e.command) events) tt)

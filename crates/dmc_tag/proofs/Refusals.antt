@@ -11,13 +11,12 @@ use Rattle.dmc_types.specs.declared.refusal.QueueFault.TheVariants as faults
 use Rattle.dmc_types.specs.declared.refusal.Refusal.{Refusal}
 use Rattle.dmc_types.specs.declared.refusal.Refusal.TheVariants.{Known, Unknown, Inexact}
 use Rattle.dmc_tag.specs.Tag.{Tagging}
-use Rattle.dmc_tag.specs.State.{State, client_named}
+use Rattle.dmc_tag.specs.State.{State, PlainClient, client_named}
 use Rattle.dmc_tag.specs.Answers.{call_reply}
 use Rattle.dmc_tag.specs.Spacing.{spacings_of}
 use Rattle.dmc_tag.specs.Rules.{can_register, can_update}
 use Rattle.dmc_tag.specs.Step.{answer_of, outcome}
-use Rattle.dmc_tag.specs.Steps.{Exactly, may_grow}
-use Rattle.dmc_tag.specs.declared.plain.PlainClient.{PlainClient}
+use Rattle.dmc_tag.specs.Steps.{Steps, may_grow}
 use Rattle.dmc_tag.specs.declared.reply.Reply.{Reply}
 
 module _ {T : Type 0} (ops : Tagging T) (s : State T) (id : ClientId) (info : Rates) where
@@ -36,9 +35,9 @@ module _ {T : Type 0} (ops : Tagging T) (s : State T) (id : ClientId) (info : Ra
 -- ---- nothing has changed
 
 module _ {T X : Type 0} (ops : Tagging T) (old : State T) (command : Command) (tell : X → Reply T) (result : Result X QueueFault) where
-  pub refused_as : (refusal : Refusal) → result ≡ Err (faults.Refused refusal) → Err refusal ≡ outcome ops old command → Exactly ops old old command (call_reply tell result)
-  refused_as refusal e o = subst (λ r. Exactly ops old old command (call_reply tell r)) (sym e) (ap (answer_of old) o)
+  pub refused_as : (refusal : Refusal) → result ≡ Err (faults.Refused refusal) → Err refusal ≡ outcome ops old command → Steps ops old old command (call_reply tell result)
+  refused_as refusal e o = subst (λ r. Steps ops old old command (call_reply tell r)) (sym e) (ap (answer_of old) o)
 
   pub no_memory : (new : State T) (fault : QueueFault) → IsTrue (may_grow command) → result ≡ Err fault → fault ≡ faults.Memory → IsOk (outcome ops old command) → new ≡ old
-      → Exactly ops old new command (call_reply tell result)
-  no_memory new fault grows e m ok kept = subst (λ r. Exactly ops old new command (call_reply tell r)) (sym (e ∙ ap Err m)) (grows, ok, kept)
+      → Steps ops old new command (call_reply tell result)
+  no_memory new fault grows e m ok kept = subst (λ r. Steps ops old new command (call_reply tell r)) (sym (e ∙ ap Err m)) (grows, ok, kept)

@@ -8,7 +8,7 @@ use Rattle.dmc_types.specs.declared.command.Command.{Command}
 use Rattle.dmc_tag.specs.Tag.{Tagging}
 use Rattle.dmc_tag.specs.State.{State}
 use Rattle.dmc_tag.specs.Step.{step}
-use Rattle.dmc_tag.specs.Steps.{Steps, Runs, Reaches, may_grow, grows_at}
+use Rattle.dmc_tag.specs.Steps.{Steps, Runs, may_grow, grows_at}
 use Rattle.dmc_tag.specs.Replay.{replies_of, state_after, replays_from}
 use Rattle.dmc_tag.specs.declared.event.Event.{Event}
 use Rattle.dmc_tag.specs.declared.reply.Reply.{Reply}
@@ -25,23 +25,16 @@ module _ {T : Type 0} (ops : Tagging T) where
   state_after-more s [] c = refl
   state_after-more s (d ∷ cs) c = state_after-more ((step ops s d).0) cs c
 
+  -- the state and the reply of one more step
   appended : (old mid new : State T) (cs : List Command) (replies : List (Reply T)) (c : Command) (reply : Reply T) → Runs ops old mid cs replies → Steps ops mid new c (Some reply) → Runs ops old new (cs ++ c ∷ []) (replies ++ reply ∷ [])
-  appended old mid new cs replies c reply runs steps = λ s h.
-      let before = runs s h in
-      let now = steps (state_after ops s cs) before.1 in
-      (rw (before.0, now.0) (sym (replies_of-more s cs c)), rw (state_after-more s cs c) now.1)
+  appended old mid new cs replies c reply runs steps =
+      let now : (new, reply) ≡ step ops (state_after ops old cs) c = steps ∙ ap (λ s. step ops s c) runs.1 in
+      (rw (runs.0, ap (λ p. p.1) now) (sym (replies_of-more old cs c)), ap (λ p. p.0) now ∙ sym (state_after-more old cs c))
 
   pub runs_more : (old mid new : State T) (cs : List Command) (replies : List (Reply T)) (i : ℕ) (c : Command) (reply : Reply T) → i < length cs → c ≡ get_or cs i c → Runs ops old mid (take i cs) replies → Steps ops mid new c (Some reply) → Runs ops old new (take (i + 1) cs) (replies ++ reply ∷ [])
   runs_more old mid new cs replies i c reply within is runs steps =
       let e : take (i + 1) cs ≡ take i cs ++ c ∷ [] = take_more cs i c within ∙ ap (λ d. take i cs ++ d ∷ []) (sym is) in
       subst (λ ds. Runs ops old new ds (replies ++ reply ∷ [])) (sym e) (appended old mid new (take i cs) replies c reply runs steps)
-
-  pub reaches_from_runs : (old new : State T) (cs : List Command) (replies : List (Reply T)) → Runs ops old new cs replies → Reaches ops old new cs
-  reaches_from_runs old new cs replies runs = λ s h. (runs s h).1
-
-  -- an allocation failure leaves what was reached
-  pub reaches_same : (old mid new : State T) (cs : List Command) (replies : List (Reply T)) (c : Command) → Runs ops old mid cs replies → Steps ops mid new c None → Reaches ops old new cs
-  reaches_same old mid new cs replies c runs steps = λ s h. (steps.1 (state_after ops s cs) (runs s h).1).1
 
   -- ---- one more event
 

@@ -126,7 +126,7 @@ module _ {T : Type 0} (ops : Tagging T) (fraction : T → Fraction) (is_value : 
   pub at_most_to : (a b : T) → AtMost ops a b → ((fraction a).numer *ℤ pos (fraction b).denom) ≤ℤ ((fraction b).numer *ℤ pos (fraction a).denom)
   at_most_to a b h = is_up_to _ _ _ (exact.order a b) h
 
-  -- 0 is at most the tag exactly where its numerator is not below 0
+  -- 0 is at most the tag exactly if its numerator is not below 0
   zero_to : (a : T) → AtMost ops (ops.of_moment 0) a → pos 0 ≤ℤ (fraction a).numer
   zero_to a h =
       let zero = fraction (ops.of_moment 0) in

@@ -8,7 +8,7 @@ use Rattle.dmc_tag.specs.declared.reply.Pulled.TheVariants as pulls
 use Rattle.dmc_tag.specs.declared.reply.Reply.{Reply}
 use Rattle.dmc_tag.specs.declared.reply.Reply.TheVariants.{Granted, Later, Nothing, Cleaned, Refused}
 
--- the reply of a call that returned a value or a refusal, and none where an allocation failed
+-- the reply of a call that returned a value or a refusal, and none if an allocation failed
 abbrev pub call_reply : {T X : Type 0} → (X → Reply T) → Result X QueueFault → Option (Reply T)
 call_reply reply_of (Ok x) = Some (reply_of x)
 call_reply reply_of (Err (faults.Refused refusal)) = Some (Refused refusal)

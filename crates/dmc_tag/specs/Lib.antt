@@ -1,23 +1,23 @@
 pub use Rattle.dmc_types.specs.Values
--- The value of a tag: which fraction it represents, and what its operations compute (exactness).
+-- The value of a tag: which fraction it represents, and what its operations compute.
 pub mod Tag
--- Tags in order, and that an assignment keeps them so.
+-- Tags in order, and that an assignment keeps them in order.
 pub mod Order
 -- The orders of ranks. Each compares its fields in turn.
 pub mod Rank
--- The result of a rule: a value, or a refusal.
+-- The result of a rule: a value, or the refusal that ends it.
 pub mod Outcome
 -- The spacing of a rate q is hz/q ticks.
 pub mod Spacing
--- The plain state: one list of requests and one of clients, and which states agree.
+-- The plain state: each client with its queued requests, and nothing that a rule can compute.
 pub mod State
--- Sets of requests (early, free), and the best of a set: the member with the least (tag, client, index).
+-- Sets of requests, and the best of a set over all clients: the member with the least (tag, client, order of arrival).
 pub mod Best
--- The rules of dmClock over the plain state, one section for each, under its name.
+-- The rules of dmClock over the plain state, each under its name.
 pub mod Rules
--- One command: the state after it and its reply. A refused command leaves the state.
+-- One command: the state after it and the reply that the rules give. A refused command leaves the state.
 pub mod Step
--- Whole runs: what a list of commands results in, and whether recorded replies are those.
+-- Whole runs: the state and the replies after a list of commands, and whether recorded replies are those.
 pub mod Replay
 -- What a scheduler's calls return, as replies. A failed allocation has no reply.
 pub mod Answers

@@ -11,14 +11,14 @@ use Rattle.dmc_tag.specs.declared.reply.Tags.{Tags}
 abbrev pub AtMost : {T : Type 0} → Tagging T → T → T → Type 0
 AtMost ops a b = is_gt (ops.compare a b) ≡ false
 
--- The spacings are those of these rates: none is below 0, and there is one for R exactly where there is a reservation.
+-- The spacings are those of these rates: none is below 0, and there is one for R exactly if there is a reservation.
 pub record AreSpacings {T : Type 0} (ops : Tagging T) (info : Rates) (spacings : Spacings T) : Type 0 where
   pub reserved : is_some spacings.r ≡ is_some info.reservation
   pub r : IfSome spacings.r (AtMost ops (ops.of_moment 0))
   pub l : AtMost ops (ops.of_moment 0) spacings.l
   pub p : AtMost ops (ops.of_moment 0) spacings.p
 
--- The tags of a next request: none is below the previous one, and there is an R exactly where there is a reservation.
+-- The tags of a next request: none is below the previous one, and there is an R exactly if there is a reservation.
 pub record AreNext {T : Type 0} (ops : Tagging T) (info : Rates) (previous : Previous T) (tags : Tags T) : Type 0 where
   pub reserved : is_some tags.r ≡ is_some info.reservation
   pub r : IfSome tags.r (AtMost ops previous.r)

@@ -1,16 +1,14 @@
 -- Which clients have queued requests.
-use Rattle.std.specs.Prelude.{◌≡◌, Bool, true, false, List}
+use Rattle.std.specs.Prelude.{◌≡◌, Bool, true, false, List, []}
 use Rattle.std.specs.List.{AllByRecursion}
 use Rattle.dmc_types.specs.declared.ids.ClientId.{ClientId}
 use Rattle.dmc_types.specs.declared.command.Command.{Command}
 use Rattle.dmc_types.specs.declared.command.Command.TheVariants.{Register, Update, Add, Pull, Remove, Clean}
-use Rattle.dmc_tag.specs.State.{is_client, is_active}
-use Rattle.dmc_tag.specs.declared.plain.PlainClient.{PlainClient}
-use Rattle.dmc_tag.specs.declared.plain.PlainRequest.{PlainRequest}
+use Rattle.dmc_tag.specs.State.{PlainClient, is_client}
 
--- a client with a queued request is registered, and not idle
-abbrev pub AreActive : {T : Type 0} → List (PlainClient T) → List (PlainRequest T) → Type 0
-AreActive clients requests = AllByRecursion (λ r. is_active r.client clients ≡ true) requests
+-- an idle client has nothing queued
+abbrev pub AreActive : {T : Type 0} → List (PlainClient T) → Type 0
+AreActive clients = AllByRecursion (λ c. c.idle ≡ true → c.requests ≡ []) clients
 
 -- the command is an Add of this client
 abbrev pub is_add_of : ClientId → Command → Bool

@@ -8,7 +8,7 @@ use Rattle.dmc_tag.specs.Tag.{Tagging}
 use Rattle.dmc_tag.specs.Outcome.{◌>>=◌}
 use Rattle.dmc_tag.specs.declared.spacing.Spacings.{Spacings}
 
--- the spacing of a rate, or the name of the rate where that is no value
+-- the spacing of a rate, or the name of the rate if that is no value
 abbrev pub spacing_of : {T : Type 0} → Tagging T → ℕ → Field → ℕ → Result T Field
 spacing_of ops hz field rate = ok_or (ops.spacing hz rate) field
 

@@ -4,7 +4,7 @@ use Rattle.std.specs.Option.{option_map_or}
 use Rattle.dmc_types.specs.declared.command.Command.{Command}
 use Rattle.dmc_types.specs.declared.command.Command.TheVariants.{Register, Update, Add, Pull, Remove, Clean}
 use Rattle.dmc_tag.specs.Tag.{Tagging}
-use Rattle.dmc_tag.specs.State.{State, Represents}
+use Rattle.dmc_tag.specs.State.{State}
 use Rattle.dmc_tag.specs.Step.{outcome, step}
 use Rattle.dmc_tag.specs.Replay.{replies_of, state_after}
 use Rattle.dmc_tag.specs.declared.reply.Reply.{Reply}
@@ -22,22 +22,12 @@ may_grow (Clean at) = false
 abbrev pub grows_at : List Command → ℕ → Bool
 grows_at commands i = option_map_or may_grow (slice_get commands i) false
 
--- From each plain state that the scheduler represents, a call is that step. Or an allocation failed: then the command is one that
--- may allocate, step refuses nothing, there is no reply, and the scheduler represents what it represented.
+-- A call is one step of the rules: its reply and the state after it. Or an allocation failed: then the command is one that may
+-- allocate, step refuses nothing, there is no reply, and the state is as it was.
 abbrev pub Steps : {T : Type 0} → Tagging T → State T → State T → Command → Option (Reply T) → Type 0
-Steps {T} ops old new command (Some reply) = (s : State T) → Represents old s → (reply ≡ (step ops s command).1) × Represents new ((step ops s command).0)
-Steps {T} ops old new command None = IsTrue (may_grow command) × ((s : State T) → Represents old s → IsOk (outcome ops s command) × Represents new s)
+Steps ops old new command (Some reply) = (new, reply) ≡ step ops old command
+Steps ops old new command None = IsTrue (may_grow command) × IsOk (outcome ops old command) × (new ≡ old)
 
--- One step from this very state: its reply and its state. Or an allocation failed: then the command is one that may allocate,
--- step refuses nothing, there is no reply, and the state is as it was.
-abbrev pub Exactly : {T : Type 0} → Tagging T → State T → State T → Command → Option (Reply T) → Type 0
-Exactly ops old new command (Some reply) = (new, reply) ≡ step ops old command
-Exactly ops old new command None = IsTrue (may_grow command) × IsOk (outcome ops old command) × (new ≡ old)
-
--- From each plain state that the scheduler represented, the replies are those of step, and it represents the state after.
+-- the replies are those of step, command after command, and so is the state after them
 abbrev pub Runs : {T : Type 0} → Tagging T → State T → State T → List Command → List (Reply T) → Type 0
-Runs {T} ops old new commands replies = (s : State T) → Represents old s → (replies ≡ replies_of ops s commands) × Represents new (state_after ops s commands)
-
--- From each plain state that the scheduler represented, it represents the state after.
-abbrev pub Reaches : {T : Type 0} → Tagging T → State T → State T → List Command → Type 0
-Reaches {T} ops old new commands = (s : State T) → Represents old s → Represents new (state_after ops s commands)
+Runs ops old new commands replies = (replies ≡ replies_of ops old commands) × (new ≡ state_after ops old commands)

@@ -47,7 +47,7 @@ pub record Tagging (T : Type 0) : Type 0 where
   pub minus : T → T → Option T
   pub ceil : T → ℤ
 
--- the tag of exactly this fraction, and none exactly where the fraction is no value
+-- the tag of exactly this fraction, and none exactly if the fraction is no value
 abbrev pub Gives : {T : Type 0} → (T → Fraction) → (Fraction → Type 0) → Option T → Fraction → Type 0
 Gives fraction is_value None f = is_value f → ⊥
 Gives fraction is_value (Some a) f = is_value f × IsSame (fraction a) f

@@ -9,7 +9,7 @@ use crate::spacing::Spacings;
 use crate::tag::Tag;
 use dmc_types::params::ReqParams;
 
-/// One tag's step: max(previous + k*spacing, t). `None` where a sum is no value (mClock's Algorithm 1, with dmClock's counts).
+/// One tag's step: max(previous + k*spacing, t). `None` if a sum is no value (mClock's Algorithm 1, with dmClock's counts).
 pub fn next_tag<T: Tag>(previous: T, k: u32, spacing: T, t: T) -> Option<T>
     ensures { in_range result ≡ rules_of.next_tag T.ops previous k spacing t }
 {
@@ -17,7 +17,7 @@ pub fn next_tag<T: Tag>(previous: T, k: u32, spacing: T, t: T) -> Option<T>
     Some(sum.max(t))
 }
 
-/// The tags of a request that arrives at t, after the previous tags. `None` where a sum is no value. Without a reservation there
+/// The tags of a request that arrives at t, after the previous tags. `None` if a sum is no value. Without a reservation there
 /// is no R.
 pub fn next_tags<T: Tag>(
     spacings: &Spacings<T>,

@@ -1,5 +1,5 @@
 //! Laws that follow from the rules alone. Each law is the contract of a function that does nothing.
-ghost use Rattle.std.specs.Prelude.{◌≡◌, ℕ, ◌⊎◌, ◌++◌, ◌∷◌, [], Bool, true, List, length, Option, Some, Ok, Err};
+ghost use Rattle.std.specs.Prelude.{◌≡◌, ℕ, ◌⊎◌, ◌++◌, ◌∷◌, [], Bool, true, List, Some, Ok, Err};
 ghost use Rattle.dmc_types.specs.Values.{Setting, Rates, Params};
 ghost use Rattle.dmc_types.specs.declared.ids.ClientId.{ClientId};
 ghost use Rattle.dmc_types.specs.declared.ids.Token.{Token};
@@ -7,40 +7,22 @@ ghost use Rattle.dmc_types.specs.declared.config.PhaseType.{PhaseType};
 ghost use Rattle.dmc_types.specs.declared.refusal.Refusal.{Refusal};
 ghost use Rattle.dmc_types.specs.declared.command.Command.{Command};
 ghost use Rattle.dmc_types.specs.declared.command.Command.TheVariants as commands;
-ghost use Rattle.dmc_tag.specs.Laws.{SameStep, Pulls, IsNextDue};
+ghost use Rattle.dmc_tag.specs.Laws.{Pulls, IsNextDue};
 ghost use Rattle.dmc_tag.specs.Order.{AreSpacings, AreNext};
 ghost use Rattle.dmc_tag.specs.Queued.{AreActive, is_add_of};
 ghost use Rattle.dmc_tag.specs.Replay.{after, replays};
 ghost use Rattle.dmc_tag.specs.Rules.{next_tags};
-ghost use Rattle.dmc_tag.specs.State.{State, Represents, effective, has_queued, is_active};
+ghost use Rattle.dmc_tag.specs.State.{State, effective, has_queued, is_active, queued_requests};
 ghost use Rattle.dmc_tag.specs.Step.{outcome, step};
-ghost use Rattle.dmc_tag.specs.Steps.{Exactly, Steps};
 ghost use Rattle.dmc_tag.specs.declared.event.Event.{Event};
 ghost use Rattle.dmc_tag.specs.declared.plain.Previous.{Previous};
 ghost use Rattle.dmc_tag.specs.declared.spacing.Spacings.{Spacings};
 ghost use Rattle.dmc_tag.specs.declared.reply.Tags.{Tags};
-ghost use Rattle.dmc_tag.specs.declared.reply.Reply.{Reply};
 ghost use Rattle.dmc_tag.specs.declared.reply.Reply.TheVariants as replies;
 
 use crate::tag::Tag;
 
-/// Two states that agree client by client get the same reply to a command, and still agree.
-pub fn agreeing_states<T: Tag>()
-    ensures { (s u : State T) (command : Command) → Represents s u → SameStep T.ops s u command }
-{}
-
-/// A step from one state is that step from each state that it represents.
-pub fn steps_exactly<T: Tag>()
-    ensures { (old new : State T) (command : Command) (answer : Option (Reply T)) →
-        Exactly T.ops old new command answer → Steps T.ops old new command answer }
-{}
-
-/// Two states that agree client by client have equally many requests, and equally many clients.
-pub fn agreeing_states_count_alike<T>()
-    ensures { (s u : State T) → Represents s u → (length s.requests ≡ length u.requests) × (length s.clients ≡ length u.clients) }
-{}
-
-/// A history with one event more: the state after it is one step further. It replays exactly where the history does and the
+/// A history with one event more: the state after it is one step further. It replays exactly if the history does and the
 /// event's reply is that of the step.
 pub fn histories_grow<T: Tag>()
     ensures state { (config : Setting) (events : List (Event T)) (e : Event T) →
@@ -51,27 +33,26 @@ pub fn histories_grow<T: Tag>()
         replays T.ops config events × (e.reply ≡ (step T.ops (after T.ops config events) e.command).1) }
 {}
 
-/// A client with a queued request is registered and not idle. This holds after each history, and a step keeps it.
+/// A client with a queued request is not idle. This holds after each history, and a step keeps it.
 pub fn queued_clients_are_active<T: Tag>()
     ensures history { (config : Setting) (events : List (Event T)) (id : ClientId) →
-        has_queued id (after T.ops config events).requests ≡ true → is_active id (after T.ops config events).clients ≡ true }
-    ensures one_step { (s : State T) (command : Command) → AreActive s.clients s.requests →
-        AreActive ((step T.ops s command).0).clients ((step T.ops s command).0).requests }
+        has_queued id (after T.ops config events).clients ≡ true → is_active id (after T.ops config events).clients ≡ true }
+    ensures one_step { (s : State T) (command : Command) → AreActive s.clients → AreActive ((step T.ops s command).0).clients }
 {}
 
-/// Where a client has a queued request after a step, it had one before it, or the step is an Add of this client.
+/// If a client has a queued request after a step, it had one before it, or the step is an Add of this client.
 pub fn only_an_add_queues<T: Tag>()
-    ensures { (s : State T) (command : Command) (id : ClientId) → has_queued id ((step T.ops s command).0).requests ≡ true →
-        (has_queued id s.requests ≡ true) ⊎ (is_add_of id command ≡ true) }
+    ensures { (s : State T) (command : Command) (id : ClientId) → has_queued id ((step T.ops s command).0).clients ≡ true →
+        (has_queued id s.clients ≡ true) ⊎ (is_add_of id command ≡ true) }
 {}
 
 /// A client that is granted had a queued request.
 pub fn grants_what_is_queued<T: Tag>()
     ensures { (s : State T) (command : Command) (client : ClientId) (token : Token) (phase : PhaseType) (beyond : Bool) →
-        (step T.ops s command).1 ≡ replies.Granted client token phase beyond → has_queued client s.requests ≡ true }
+        (step T.ops s command).1 ≡ replies.Granted client token phase beyond → has_queued client s.clients ≡ true }
 {}
 
-/// The request that is granted is in its set, and no member of the set is before it in (tag, client, index). The reply to a pull
+/// The request that is granted is in its set, and no member of the set is before it in (tag, client, arrival). The reply to a pull
 /// says which set it was, and that the sets before it have no member. A grant in the weight phase takes hz/r off the R tags of
 /// its client, one in the constraint phase takes nothing off, and all else stays.
 pub fn pulls_grant_the_best<T: Tag>()
@@ -80,7 +61,7 @@ pub fn pulls_grant_the_best<T: Tag>()
 
 /// Future is exact: before its moment no request is early or free, and at it one is.
 pub fn future_is_exact<T: Tag>()
-    ensures { (s : State T) (at m : ℕ) → (step T.ops s (commands.Pull at)).1 ≡ replies.Later m → IsNextDue T.ops m s.requests }
+    ensures { (s : State T) (at m : ℕ) → (step T.ops s (commands.Pull at)).1 ≡ replies.Later m → IsNextDue T.ops m (queued_requests s.clients) }
 {}
 
 /// A refused command leaves the state.
@@ -98,12 +79,12 @@ pub fn plus_keeps_order<T: Tag>()
     ensures { (a b amount x y : T) → T.ops.plus a amount ≡ Some x → T.ops.plus b amount ≡ Some y → T.ops.compare x y ≡ T.ops.compare a b }
 {}
 
-/// The sum of two tags commutes, and there is none in one order exactly where there is none in the other.
+/// The sum of two tags commutes, and there is none in one order exactly if there is none in the other.
 pub fn plus_commutes<T: Tag>()
     ensures { (a b : T) → T.ops.plus a b ≡ T.ops.plus b a }
 {}
 
-/// An assignment gives no tag below the previous one, and an R exactly where there is a reservation.
+/// An assignment gives no tag below the previous one, and an R exactly if there is a reservation.
 pub fn next_tags_follow<T: Tag>()
     ensures { (info : Rates) (spacings : Spacings T) (previous : Previous T) (params : Params) (t : T) (tags : Tags T) →
         AreSpacings T.ops info spacings → next_tags T.ops spacings previous params t ≡ Ok tags → AreNext T.ops info previous tags }

@@ -1,26 +1,23 @@
-//! The parts of a plain state: its requests and its clients.
+//! What a plain state keeps of a client: its queued requests and its previous tags.
 ghost use Rattle.std.specs.Prelude.{◌≡◌, ⊤};
 
 use crate::reply::Tags;
-use dmc_types::ids::{ClientId, Token};
-use dmc_types::info::ClientInfo;
-use dmc_types::moment::Moment;
+use dmc_types::ids::Token;
 use std::alloc::AllocError;
 
-/// A queued request.
+/// A queued request of a client.
 #[derive(Copy, Debug)]
-pub struct PlainRequest<T> {
-    pub client: ClientId,
+pub struct QueuedRequest<T> {
     pub token: Token,
     pub tags: Tags<T>,
 }
 
-impl<T: Copy> Clone for PlainRequest<T> {
+impl<T: Copy> Clone for QueuedRequest<T> {
     ghost is_clone = { λ x y. y ≡ x };
 
     ghost is_infallible = { λ _. ⊤ };
 
-    fn clone(&self) -> Result<PlainRequest<T>, AllocError> {
+    fn clone(&self) -> Result<QueuedRequest<T>, AllocError> {
         Ok(*self)
     }
 }
@@ -39,27 +36,6 @@ impl<T: Copy> Clone for Previous<T> {
     ghost is_infallible = { λ _. ⊤ };
 
     fn clone(&self) -> Result<Previous<T>, AllocError> {
-        Ok(*self)
-    }
-}
-
-/// A registered client.
-#[derive(Copy, Debug)]
-pub struct PlainClient<T> {
-    pub id: ClientId,
-    pub info: ClientInfo,
-    pub previous: Previous<T>,
-    pub idle: bool,
-    /// The effective moment of its last accepted request, or of its registration if there is none.
-    pub last_arrival: Moment,
-}
-
-impl<T: Copy> Clone for PlainClient<T> {
-    ghost is_clone = { λ x y. y ≡ x };
-
-    ghost is_infallible = { λ _. ⊤ };
-
-    fn clone(&self) -> Result<PlainClient<T>, AllocError> {
         Ok(*self)
     }
 }

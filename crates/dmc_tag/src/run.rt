@@ -1,6 +1,7 @@
 //! Whole runs of commands.
 ghost use Rattle.std.specs.Prelude.{◌≡◌, ◌≤◌, ◌⊎◌, length, take, IsTrue, IfOk, IfErr};
-ghost use Rattle.dmc_tag.specs.Steps.{Runs, Reaches, grows_at};
+ghost use Rattle.dmc_tag.specs.Replay.{state_after};
+ghost use Rattle.dmc_tag.specs.Steps.{Runs, grows_at};
 
 use crate::reply::Reply;
 use crate::scheduler::Scheduler;
@@ -23,7 +24,7 @@ pub fn run_commands<T: Tag, S: Scheduler<T>>(
     commands: &[Command],
 ) -> Result<Vec<Reply<T>>, Stop>
     ensures replies { IfOk result (λ replies. Runs T.ops (S.state scheduler.old) (S.state scheduler.new) commands.now replies.items) }
-    ensures stop { IfErr result (λ stop. (stop.done ≤ length commands.now) × Reaches T.ops (S.state scheduler.old) (S.state scheduler.new) (take stop.done commands.now)) }
+    ensures stop { IfErr result (λ stop. (stop.done ≤ length commands.now) × (S.state scheduler.new ≡ state_after T.ops (S.state scheduler.old) (take stop.done commands.now))) }
 
     // Two allocations may fail: the one for the replies, before the first command, and one of a command that may allocate.
     ensures cause { IfErr result (λ stop. (stop.done ≡ 0) ⊎ IsTrue (grows_at commands.now stop.done)) }

@@ -2,7 +2,7 @@
 ghost use Rattle.std.specs.Prelude.{◌≡◌, length, Some};
 ghost use Rattle.std.specs.Result.{result_ok};
 ghost use Rattle.dmc_tag.specs.Answers.{call_reply, sure_call_reply, pull_reply, clean_reply};
-ghost use Rattle.dmc_tag.specs.State.{State, Represents};
+ghost use Rattle.dmc_tag.specs.State.{State, queued_requests};
 ghost use Rattle.dmc_tag.specs.Steps.{Steps};
 ghost use Rattle.dmc_types.specs.declared.command.Command.TheVariants as commands;
 ghost use Rattle.dmc_tag.specs.declared.reply.Reply.TheVariants as replies;
@@ -20,7 +20,7 @@ use std::alloc::AllocError;
 
 /// A queue of dmClock: each call is a step of the rules.
 pub trait Scheduler<T: Tag> {
-    /// A plain state of the scheduler. It represents each state that agrees with this one client by client.
+    /// The plain state that the scheduler holds.
     ghost state: { Self → State T };
 
     /// Registers a client. It is refused `Known`, `Inexact`, `Clients`, in this order, and `Memory` last.
@@ -73,15 +73,13 @@ pub trait Scheduler<T: Tag> {
     fn clean(&mut self, at: Moment) -> (u32, u32)
         ensures { Steps T.ops (state self.old) (state self.new) (commands.Clean at) (Some (clean_reply result)) };
 
-    /// The number of registered clients, in each plain state that the scheduler represents.
+    /// The number of registered clients.
     fn client_count(&self) -> u32
-        ensures state { result ≡ length (state self.now).clients }
-        ensures each { (s : State T) → Represents (state self.now) s → result ≡ length s.clients };
+        ensures { result ≡ length (state self.now).clients };
 
-    /// The number of queued requests, in each plain state that the scheduler represents.
+    /// The number of queued requests.
     fn request_count(&self) -> u32
-        ensures state { result ≡ length (state self.now).requests }
-        ensures each { (s : State T) → Represents (state self.now) s → result ≡ length s.requests };
+        ensures { result ≡ length (queued_requests (state self.now).clients) };
 
     /// The reply to a command. An error is an allocation failure, of a Register or an Add alone, and changes nothing.
     final fn apply(&mut self, command: &Command) -> Result<Reply<T>, AllocError>
@@ -91,7 +89,7 @@ pub trait Scheduler<T: Tag> {
     }
 }
 
-/// The reply of a queue to a command, for `Scheduler::apply`. It is inlined into its caller, where the command is known.
+/// The reply of a queue to a command, for `Scheduler::apply`. It is inlined into its caller, if the command is known.
 #[inline(always)]
 pub fn apply_to<T: Tag, Q: Scheduler<T>>(
     queue: &mut Q,

@@ -11,7 +11,7 @@ pub fn has_less<T: Tag>(tag: T, amount: T) -> bool
     tag.minus(amount).is_some()
 }
 
-/// The tag less an amount, where that is a value; else the tag.
+/// The tag less an amount, if that is a value; else the tag.
 pub fn less<T: Tag>(tag: T, amount: T) -> T
     ensures { result ≡ rules_of.less T.ops amount tag }
 {

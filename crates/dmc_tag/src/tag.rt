@@ -26,7 +26,7 @@ pub trait Tag: Copy + Ord {
     fn of_moment(at: Moment) -> Self
         ensures { result ≡ ops.of_moment at };
 
-    /// The spacing of a rate: hz/rate ticks. `None` where that is no value, as at rate 0.
+    /// The spacing of a rate: hz/rate ticks. `None` if that is no value, as at rate 0.
     fn spacing(hz: u32, rate: u32) -> Option<Self>
         ensures { result ≡ ops.spacing hz rate };
 

@@ -29,7 +29,7 @@ fn counts<Q: Scheduler<TickTag>>(queue: &Q) -> (u32, u32) {
     (queue.client_count(), queue.request_count())
 }
 
-/// A queue's reply to a command. Where it reports an allocation failure it has changed nothing, and the command is given again.
+/// A queue's reply to a command. If it reports an allocation failure it has changed nothing, and the command is given again.
 fn reply<Q: Scheduler<TickTag>>(
     rt: &impl Abort,
     queue: &mut Q,

@@ -29,11 +29,11 @@ use std::test::Fail;
 fn indexes<T: Tag, I: Indexes<T>>(
     queue: &PullQueue<T, I>,
 ) -> (&I::ReservationIndex, &I::LimitIndex, &I::WeightIndex)
-    ensures by_reservation { (id : ClientId) → (has_queued id (state_of queue.now).requests ≡ true)
+    ensures by_reservation { (id : ClientId) → (has_queued id (state_of queue.now).clients ≡ true)
         ↔ ((key : ℕ) × (client_at (λ (r : TagRank T). r.client) (I.ReservationIndex.slots result.0.now) key ≡ Some id)) }
-    ensures by_limit { (id : ClientId) → (has_queued id (state_of queue.now).requests ≡ true)
+    ensures by_limit { (id : ClientId) → (has_queued id (state_of queue.now).clients ≡ true)
         ↔ ((key : ℕ) × (client_at (λ (r : LimitRank T). r.client) (I.LimitIndex.slots result.1.now) key ≡ Some id)) }
-    ensures by_weight { (id : ClientId) → (has_queued id (state_of queue.now).requests ≡ true)
+    ensures by_weight { (id : ClientId) → (has_queued id (state_of queue.now).clients ≡ true)
         ↔ ((key : ℕ) × (client_at (λ (r : ReadyRank T). r.client) (I.WeightIndex.slots result.2.now) key ≡ Some id)) }
 {
     (
@@ -43,7 +43,7 @@ fn indexes<T: Tag, I: Indexes<T>>(
     )
 }
 
-// The client of each index's least rank, or `None` where an index is empty.
+// The client of each index's least rank, or `None` if an index is empty.
 fn first_clients<T: Tag, I: Indexes<T>>(queue: &PullQueue<T, I>) -> [Option<ClientId>; 3] {
     let (reservations, limits, weights) = indexes(queue);
     [
@@ -74,7 +74,7 @@ fn fill<I: Indexes<TickTag>>(queue: &mut PullQueue<TickTag, I>) -> Result<(), Fa
     add(queue, 8)
 }
 
-// The client of each index's least rank, or `None` where the indexes are empty.
+// The client of each index's least rank, or `None` if the indexes are empty.
 fn assert_first<I: Indexes<TickTag>>(
     rt: &impl Abort,
     queue: &PullQueue<TickTag, I>,

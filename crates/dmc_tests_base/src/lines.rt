@@ -18,8 +18,8 @@ use std::process::Abort;
 use std::test::Fail;
 
 /// The meaning of a line.
-fn said(line: &[u8], headed: bool) -> Result<Line, LineCause> {
-    read_line(line, headed)
+fn said(line: &[u8], has_config: bool) -> Result<Line, LineCause> {
+    read_line(line, has_config)
 }
 
 /// A line after the `hz` line has this meaning.

@@ -28,7 +28,7 @@ fn contents<I: OrderIndex<TagRank<u64>>>(index: &I) -> Contents {
     (index.len(), least)
 }
 
-/// Reserves keys. Where that is refused the index is as it was, and the keys are reserved again.
+/// Reserves keys. If that is refused the index is as it was, and the keys are reserved again.
 fn reserve<I: OrderIndex<TagRank<u64>>>(
     rt: &impl Abort,
     index: &mut I,
@@ -72,7 +72,7 @@ fn grown_indexes(rt: HostRuntime) -> Result<(), Fail> {
     grown_over::<AdaptiveIndex<TagRank<u64>>>(&rt, rt.alloc())
 }
 
-/// Registers a client. Returns whether it is registered, which it is not where an allocation failed.
+/// Registers a client. Returns whether it is registered, which it is not if an allocation failed.
 fn is_added(alloc: Global, roster: &mut Roster<TickTag>, id: ClientId) -> Result<bool, Fail> {
     let rec = new_record(alloc, Moment::zero())?;
     if roster.find(id).is_some() || roster.len() >= 65_536 {
@@ -81,7 +81,7 @@ fn is_added(alloc: Global, roster: &mut Roster<TickTag>, id: ClientId) -> Result
     Ok(roster.add(id, rec).is_ok())
 }
 
-/// Registers the client of a number. Where that is refused the roster is as it was, and the client is registered again.
+/// Registers the client of a number. If that is refused the roster is as it was, and the client is registered again.
 fn add(
     rt: &impl Abort,
     alloc: Global,

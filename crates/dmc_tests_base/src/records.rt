@@ -2,7 +2,7 @@
 use crate::same::assert_same;
 use dmc_assign::assignment::tags_for;
 use dmc_client::record::ClientRec;
-use dmc_client::request::QueuedRequest;
+use dmc_tag::plain::QueuedRequest;
 use dmc_tag::reply::Tags;
 use dmc_tag::spacing::spacings_for;
 use dmc_tag::tag::Tag;

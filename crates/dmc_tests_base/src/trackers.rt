@@ -53,7 +53,7 @@ fn status(tracker: &ServiceTracker, server: ServerId) -> ServerStatus {
     }
 }
 
-/// A tracker's counts of a server that may be stamped, and may respond, where nothing was skipped.
+/// A tracker's counts of a server that may be stamped, and may respond, if nothing was skipped.
 fn free(sent: (u64, u64), pending: (u64, u64)) -> ServerStatus {
     free_after_skip(sent, (0, 0), pending)
 }
@@ -216,7 +216,7 @@ fn skipped_server_others(rt: HostRuntime) -> Result<(), Fail> {
     Ok(())
 }
 
-/// A skip with nothing pending changes nothing, and one where all is counted or the sum is full is not refused.
+/// A skip with nothing pending changes nothing, and one if all is counted or the sum is full is not refused.
 #[test]
 fn skip_never_full(rt: HostRuntime) -> Result<(), Fail> {
     let mut tracker = ServiceTracker::new(rt.alloc(), 2, 1, Counting::Others)?;

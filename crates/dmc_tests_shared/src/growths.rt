@@ -14,11 +14,11 @@ use dmc_book::status::Status;
 use dmc_ledger::bundle::StampTills;
 use dmc_ledger::mint::{Blank, Mint};
 use dmc_ledger::setup::Setup;
+use dmc_ledger::stamp::Stamp;
 use dmc_tag::reply::Reply;
 use dmc_tick::tick::TickTag;
 use dmc_tlock::book::TrackerBook;
 use dmc_tlock::fault::EntryFault;
-use dmc_tlock::stamp::Stamp;
 use dmc_tlock::status::TrackStatus;
 use dmc_types::config::{Counting, PhaseType};
 use dmc_types::ids::Token;
@@ -39,7 +39,7 @@ fn tracked<S: Setup>(tracker: &TrackerBook<S>, tills: &StampTills<S>) -> Result<
     Ok(tracker.status(ZERO, tills)?)
 }
 
-/// Stamps a request. Where that is refused for memory, tracker and tills are as they were, and it is stamped again.
+/// Stamps a request. If that is refused for memory, tracker and tills are as they were, and it is stamped again.
 fn stamp_again<S: Setup>(
     rt: &impl Abort,
     tracker: &mut TrackerBook<S>,
@@ -80,7 +80,7 @@ fn submit<S: Setup>(
     }
 }
 
-/// Submits a stamped request. Where that is refused for memory, book, pass and tills are as they were, and it is submitted again.
+/// Submits a stamped request. If that is refused for memory, book, pass and tills are as they were, and it is submitted again.
 fn submit_again<S: Setup>(
     rt: &impl Abort,
     book: &mut Book<S>,
@@ -107,7 +107,7 @@ fn submit_again<S: Setup>(
     }
 }
 
-/// Pulls a request. Where that is refused for memory, book and pass are as they were, and it is pulled again.
+/// Pulls a request. If that is refused for memory, book and pass are as they were, and it is pulled again.
 fn pull_again<S: Setup>(
     rt: &impl Abort,
     book: &mut Book<S>,
@@ -135,7 +135,7 @@ fn respond_once<S: Setup>(
     Ok(tracker.try_respond(ZERO, till))
 }
 
-/// Counts a completion. Where that is refused for memory, the unit is still in the pass, and it is counted again.
+/// Counts a completion. If that is refused for memory, the unit is still in the pass, and it is counted again.
 fn respond_again<S: Setup>(
     tracker: &mut TrackerBook<S>,
     pass: &mut WorkerPass<S>,

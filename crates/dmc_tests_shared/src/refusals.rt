@@ -69,7 +69,7 @@ fn full<S: Setup>(alloc: Global, blank: Blank) -> Result<Answers, Fail>
     fill_opened(alloc, &mut mint)
 }
 
-/// Stamps and submits where that is refused. Returns whose stamp came back, and the cause.
+/// Stamps and submits if that is refused. Returns whose stamp came back, and the cause.
 fn refuse<S: Setup>(
     book: &mut Book<S>,
     pass: &mut WorkerPass<S>,

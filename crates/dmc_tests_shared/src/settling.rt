@@ -70,7 +70,7 @@ fn take_left<S: Setup>(
     }
 }
 
-/// Settles a queue's book. Where the passes are not its own, they come back.
+/// Settles a queue's book. If the passes are not its own, they come back.
 fn settle_book<S: Setup>(
     alloc: Global,
     book: &mut Book<S>,
@@ -198,7 +198,7 @@ fn settle_circle(rt: HostRuntime) -> Result<(), Fail> {
     Ok(())
 }
 
-/// How many passes are returned, or `None` where the book is settled.
+/// How many passes are returned, or `None` if the book is settled.
 fn handed_back<S: Setup>(
     alloc: Global,
     book: &mut Book<S>,

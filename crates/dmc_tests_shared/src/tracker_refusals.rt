@@ -85,7 +85,7 @@ fn stamp_twice<S: Setup, C: TrackerCalls<S>>(
     Ok(tracker.try_stamp(ZERO, tills).err())
 }
 
-/// The refusals in hand and through the lock are the same. Returns the result of a second stamp where the list has room for one.
+/// The refusals in hand and through the lock are the same. Returns the result of a second stamp if the list has room for one.
 fn refuse_other<S: Setup, R: Abort + Wait>(
     rt: &R,
     own: Opened<S>,

@@ -19,7 +19,7 @@ use std::sync::Wait;
 use std::test::Fail;
 
 /// What is seen after a response and a skip: the status, what the next stamp carries, and what a skip is refused with at a
-/// server that the tracker has not, and where the list is full.
+/// server that the tracker has not, and if the list is full.
 #[derive(Clone, Copy, Debug, PartialEq, Eq)]
 struct AfterSkip {
     status: TrackStatus,

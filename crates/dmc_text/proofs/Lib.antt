@@ -7,7 +7,6 @@ pub mod WrittenLemmas
 pub mod ReadingLemmas
 pub mod PieceLemmas
 pub mod Writable
-pub mod RunLemmas
 pub mod WalkReading
 pub mod WalkLemmas
 pub mod RunEnds

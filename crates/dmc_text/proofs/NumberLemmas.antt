@@ -30,7 +30,7 @@ read_step limit n b bs true false d-is l-is ih =
     let no : ltb (fold with_digit (with_digit n b) bs) limit ≡ false = grind arith in
     rw (d-is, l-is, and_right _ _ no) refl
 
--- reading on is the value of all digits, where it is below the limit
+-- reading on is the value of all digits, if it is below the limit
 pub reads_whole : (limit n : ℕ) (bs : List ℕ) → n < limit → read_on limit n bs ≡ whole limit n bs
 reads_whole limit n [] h = let yes : ltb n limit ≡ true = grind arith in rw yes refl
 reads_whole limit n (b ∷ bs) h = read_step limit n b bs (is_ascii_digit b) (ltb (with_digit n b) limit) refl refl (reads_whole limit (with_digit n b) bs)

@@ -6,7 +6,7 @@ use Rattle.std.specs.Io.KnownBytes.{Keeps, Consumes, IsAtEnd, ReadConsumes}
 use Rattle.std.proofs.lemmas.List.{take-take, take_at, drop_at, drop-take, length-take-le, take-append-le}
 use Rattle.std.proofs.lemmas.Result.{Ok-from_Ok_iff}
 
--- the most that may be read, where it fits the type that it is turned into
+-- the most that may be read, if it fits the type that it is turned into
 pub max_kept : {E : Type 0} (r : Result ℕ E) (P : Type 0) (most room n : ℕ) → OkIff r P most → P → n ≡ result_unwrap_or r room → n ≡ most
 max_kept r P most room n turned fits is = is ∙ ap (λ r. result_unwrap_or r room) (Ok-from_Ok_iff r P most turned fits)
 

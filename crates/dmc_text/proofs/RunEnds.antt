@@ -13,7 +13,7 @@ use Rattle.dmc_text.specs.declared.script.ScriptFault.TheVariants as ends
 use Rattle.dmc_text.specs.declared.walk.Walk.{Walk}
 use Rattle.dmc_text.specs.Lines.{line_of}
 use Rattle.dmc_text.specs.Reading.{max_bytes}
-use Rattle.dmc_text.specs.Texts.{and_on, fault_or, headed_by, lines_of, commands, written, first_fault, fault_of, whole_lines, out, AppendsSome, ReadsWithin, RunsPartly, RunsAs}
+use Rattle.dmc_text.specs.Texts.{and_on, fault_or, has_config_after, lines_of, commands, written, first_fault, fault_of, whole_lines, out, AppendsSome, ReadsWithin, RunsPartly, RunsAs}
 use Rattle.dmc_text.specs.internal.LineLaws.{whole_on}
 use Rattle.dmc_text.specs.Walks.{GoesThrough, IsFault, Ending, Halt, EndsAs}
 use Rattle.dmc_text.specs.Runs.{Answers}
@@ -50,46 +50,46 @@ module _ {T S : Type 0} (ops : Tagging T) (text : T → List ℕ) (seen : S → 
   abbrev refuses : S → List ℕ → LineCause → Type 0
   refuses s line cause = line_of (is_some (seen s)) line ≡ Err cause
 
-  abbrev headed : S → Bool
-  headed s = is_some (seen s)
+  abbrev has_config : S → Bool
+  has_config s = is_some (seen s)
 
   -- what is written for lines from a state on
   abbrev rest_text : S → List (List ℕ) → List ℕ
-  rest_text s lines = written ops text (seen s) (commands (headed s) lines)
+  rest_text s lines = written ops text (seen s) (commands (has_config s) lines)
 
   -- behind lines that are not faulty, the first fault is that of the rest
   fault_behind : (s t : S) (lines more : List (List ℕ)) (answers : List ℕ) (n : ℕ) → GoesThrough takes s lines answers t
-      → first_fault (headed s) n (lines ++ more) ≡ first_fault (headed t) (n + length lines) more
+      → first_fault (has_config s) n (lines ++ more) ≡ first_fault (has_config t) (n + length lines) more
   fault_behind s t [] more answers n (same, none) =
       let number : n ≡ n + 0 = omega arith in
-      ap (λ x. first_fault (headed x) n more) (sym same) ∙ ap (λ k. first_fault (headed t) k more) number
+      ap (λ x. first_fault (has_config x) n more) (sym same) ∙ ap (λ k. first_fault (has_config t) k more) number
   fault_behind s t (line ∷ lines) more answers n (next, answer, others, a, g, parts) =
       let number : suc n + length lines ≡ n + suc (length lines) = omega arith in
-      ap (λ o. fault_or n o (λ k. first_fault (headed_by (headed s) k) (suc n) (lines ++ more))) a.is_line
-      ∙ ap (λ b. first_fault b (suc n) (lines ++ more)) (sym a.headed)
+      ap (λ o. fault_or n o (λ k. first_fault (has_config_after (has_config s) k) (suc n) (lines ++ more))) a.is_line
+      ∙ ap (λ b. first_fault b (suc n) (lines ++ more)) (sym a.has_config)
       ∙ fault_behind next t lines more others (suc n) g
-      ∙ ap (λ k. first_fault (headed t) k more) number
+      ∙ ap (λ k. first_fault (has_config t) k more) number
 
   -- what is written for them, and then what is written for the rest
   text_behind : (s t : S) (lines more : List (List ℕ)) (answers : List ℕ) → GoesThrough takes s lines answers t → rest_text s (lines ++ more) ≡ answers ++ rest_text t more
   text_behind s t [] more answers (same, none) = ap (λ x. rest_text x more) (sym same) ∙ ap (λ w. w ++ rest_text t more) (sym none)
   text_behind s t (line ∷ lines) more answers (next, answer, others, a, g, parts) =
-      ap (λ o. written ops text (seen s) (and_on o (λ k. commands (headed_by (headed s) k) (lines ++ more)))) a.is_line
-      ∙ sym (a.rest (commands (headed_by (headed s) a.line) (lines ++ more)))
-      ∙ ap (λ b. answer ++ written ops text (seen next) (commands b (lines ++ more))) (sym a.headed)
+      ap (λ o. written ops text (seen s) (and_on o (λ k. commands (has_config_after (has_config s) k) (lines ++ more)))) a.is_line
+      ∙ sym (a.rest (commands (has_config_after (has_config s) a.line) (lines ++ more)))
+      ∙ ap (λ b. answer ++ written ops text (seen next) (commands b (lines ++ more))) (sym a.has_config)
       ∙ ap (λ w. answer ++ w) (text_behind next t lines more others g)
       ∙ sym (append_assoc answer others (rest_text t more))
       ∙ ap (λ w. w ++ rest_text t more) (sym parts)
 
   -- the fault of what is left is the first one, and nothing is written for it
-  fault_left : (t : S) (n : ℕ) (others : List (List ℕ)) (fault : Option (ℕ × LineCause)) → IsFault refuses headed t n others fault
-      → (first_fault (headed t) n others ≡ fault) × (rest_text t others ≡ [])
+  fault_left : (t : S) (n : ℕ) (others : List (List ℕ)) (fault : Option (ℕ × LineCause)) → IsFault refuses has_config t n others fault
+      → (first_fault (has_config t) n others ≡ fault) × (rest_text t others ≡ [])
   fault_left t n [] None e = (ap (λ b. first_fault b n []) e, refl)
   fault_left t n [] (Some (m, cause)) (number, hz, e) = (ap (λ b. first_fault b n []) e ∙ ap (λ k. Some (k, Hz)) (sym number) ∙ ap (λ c. Some (m, c)) (sym hz), refl)
   fault_left t n (line ∷ others) None e = absurd e
   fault_left t n (line ∷ others) (Some (m, cause)) (number, e) = (
-    ap (λ o. fault_or n o (λ k. first_fault (headed_by (headed t) k) (suc n) others)) e ∙ ap (λ k. Some (k, cause)) (sym number),
-    ap (λ o. written ops text (seen t) (and_on o (λ k. commands (headed_by (headed t) k) others))) e,
+    ap (λ o. fault_or n o (λ k. first_fault (has_config_after (has_config t) k) (suc n) others)) e ∙ ap (λ k. Some (k, cause)) (sym number),
+    ap (λ o. written ops text (seen t) (and_on o (λ k. commands (has_config_after (has_config t) k) others))) e,
   )
 
   module _ (first : S) (opens : seen first ≡ None) where
@@ -104,30 +104,30 @@ module _ {T S : Type 0} (ops : Tagging T) (text : T → List ℕ) (seen : S → 
     Told fault answers bytes = (fault_of bytes ≡ fault) × (out ops text bytes ≡ answers)
 
     module _ {input output r w : Option (List ℕ)} {last : S} {pending : List ℕ} where
-      told : {fault : Option (ℕ × LineCause)} (e : Ending takes refuses headed fault first input output last r w pending) (more : List ℕ) → (IsAtEnd r → more ≡ [])
+      told : {fault : Option (ℕ × LineCause)} (e : Ending takes refuses has_config fault first input output last r w pending) (more : List ℕ) → (IsAtEnd r → more ≡ [])
           → Told fault (e.sent ++ pending) (e.read ++ more)
       told {fault} e more end =
           let (others, split, is_fault) = e.ends more end in
           let left = fault_left last (suc (length e.lines)) others fault is_fault in
           let number : 1 + length e.lines ≡ suc (length e.lines) = omega arith in (
             ap (λ s. first_fault (is_some s) 1 (lines_of (e.read ++ more))) (sym opens)
-                ∙ ap (first_fault (headed first) 1) split
+                ∙ ap (first_fault (has_config first) 1) split
                 ∙ fault_behind first last e.lines others e.answers 1 e.goes
-                ∙ ap (λ k. first_fault (headed last) k others) number
+                ∙ ap (λ k. first_fault (has_config last) k others) number
                 ∙ left.0,
             out_behind (e.read ++ more) e.lines others e.answers last split e.goes ∙ ap (λ w. e.answers ++ w) left.1 ∙ append-nil e.answers ∙ sym e.out,
           )
 
-      writable_read : {fault : Option (ℕ × LineCause)} (e : Ending takes refuses headed fault first input output last r w pending) → Told fault (e.sent ++ pending) e.read
+      writable_read : {fault : Option (ℕ × LineCause)} (e : Ending takes refuses has_config fault first input output last r w pending) → Told fault (e.sent ++ pending) e.read
       writable_read {fault} e = of_read r e.read (Told fault (e.sent ++ pending)) (told e)
 
       -- what is pending is written
-      all_sent : {fault : Option (ℕ × LineCause)} (w' : Option (List ℕ)) (e : Ending takes refuses headed fault first input output last r w pending) (bytes : List ℕ)
+      all_sent : {fault : Option (ℕ × LineCause)} (w' : Option (List ℕ)) (e : Ending takes refuses has_config fault first input output last r w pending) (bytes : List ℕ)
           → Told fault (e.sent ++ pending) bytes → Appends w w' pending → (fault_of bytes ≡ fault) × Appends output w' (out ops text bytes)
       all_sent w' e bytes t app = (t.0, subst (Appends output w') (sym t.1) (Appends-trans output w w' e.sent pending e.sends app))
 
       -- or a first part of it
-      some_sent : {fault : Option (ℕ × LineCause)} (w' : Option (List ℕ)) → Ending takes refuses headed fault first input output last r w pending → AppendsSome w w' pending
+      some_sent : {fault : Option (ℕ × LineCause)} (w' : Option (List ℕ)) → Ending takes refuses has_config fault first input output last r w pending → AppendsSome w w' pending
           → RunsPartly ops text input r output w'
       some_sent w' e app =
           (e.read, e.reads, more_sent output w w' e.sent pending [] (out ops text e.read) e.sends app (ap (λ o. e.sent ++ o) (append-nil pending) ∙ sym (writable_read e).1))
@@ -143,7 +143,7 @@ module _ {T S : Type 0} (ops : Tagging T) (text : T → List ℕ) (seen : S → 
         ∙ ap (λ o. o ++ rest) h.out
         ∙ sym (out_behind (h.done ++ more) h.took.lines (lines_of more) h.took.answers h.last (h.took.split more) h.took.goes))
 
-    pub runs_as : (input output r w w' : Option (List ℕ)) (last : S) (walk : Walk) (result : Result ⊤ ScriptFault) (b : Bool) → EndsAs takes refuses headed first input output last r w walk result
+    pub runs_as : (input output r w w' : Option (List ℕ)) (last : S) (walk : Walk) (result : Result ⊤ ScriptFault) (b : Bool) → EndsAs takes refuses has_config first input output last r w walk result
         → (b ≡ true → Appends w w' walk.out.items) → AppendsSome w w' walk.out.items → RunsAs ops text input r output w' (settled_of result b)
     runs_as input output r w w' last walk (Ok x) true (end, e) all some =
         let sent = all_sent w' e e.read (writable_read e) (all refl) in

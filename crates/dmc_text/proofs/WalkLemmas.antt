@@ -197,12 +197,12 @@ module _ {S : Type 0} {takes : S → List ℕ → List ℕ → S → Type 0} {fi
 
   -- ---- ends
 
-  module _ (refuses : S → List ℕ → LineCause → Type 0) (headed : S → Bool) where
+  module _ (refuses : S → List ℕ → LineCause → Type 0) (has_config : S → Bool) where
     -- What was read is taken up to a fault, by these lines behind the ones before.
     ends_by : {s t : S} {r w : Option (List ℕ)} {old : Walk} (fault : Option (ℕ × LineCause)) (new : List ℕ) (lines : List (List ℕ)) (answers : List ℕ) → Progress takes first input output r w old s
         → GoesThrough takes s lines answers t → new ≡ old.out.items ++ answers
-        → ((more : List ℕ) → (IsAtEnd r → more ≡ []) → (others : List (List ℕ)) × (lines_of (old.lines.rest ++ more) ≡ lines ++ others) × IsFault refuses headed t (old.number + length lines) others fault)
-        → Ending takes refuses headed fault first input output t r w new
+        → ((more : List ℕ) → (IsAtEnd r → more ≡ []) → (others : List (List ℕ)) × (lines_of (old.lines.rest ++ more) ≡ lines ++ others) × IsFault refuses has_config t (old.number + length lines) others fault)
+        → Ending takes refuses has_config fault first input output t r w new
     ends_by {s} {t} {old = old} fault new lines answers p goes out-is left = record {
       read = p.done ++ old.lines.rest;
       lines = p.took.lines ++ lines;
@@ -217,14 +217,14 @@ module _ {S : Type 0} {takes : S → List ℕ → List ℕ → S → Type 0} {fi
           let number : old.number + length lines ≡ suc (length (p.took.lines ++ lines)) = omega (arith, p.number, length-append p.took.lines lines) in (
             others,
             ap lines_of (append_assoc p.done old.lines.rest more) ∙ p.took.split (old.lines.rest ++ more) ∙ ap (λ ls. p.took.lines ++ ls) split ∙ sym (append_assoc p.took.lines lines others),
-            subst (λ n. IsFault refuses headed t n others fault) number is_fault,
+            subst (λ n. IsFault refuses has_config t n others fault) number is_fault,
           );
     }
 
     -- the next line of what is left is faulty
     faulty : {s t : S} {r w : Option (List ℕ)} {old : Walk} (new : List ℕ) (n : ℕ) (cause : LineCause) → Progress takes first input output r w old s → n ≡ old.number → t ≡ s → new ≡ old.out.items
         → ((more : List ℕ) → (IsAtEnd r → more ≡ []) → (line : List ℕ) × (others : List (List ℕ)) × (lines_of (old.lines.rest ++ more) ≡ line ∷ others) × refuses s line cause)
-        → Ending takes refuses headed (Some (n, cause)) first input output t r w new
+        → Ending takes refuses has_config (Some (n, cause)) first input output t r w new
     faulty {old = old} new n cause p number-is same out-is here = ends_by (Some (n, cause)) new [] [] p (same, refl) (out-is ∙ sym (append-nil old.out.items))
         (λ more end.
         let (line, others, split, refused) = here more end in
@@ -233,9 +233,9 @@ module _ {S : Type 0} {takes : S → List ℕ → List ℕ → S → Type 0} {fi
     -- no line was found
     pub find_ends : ((s : S) (line : List ℕ) → max_line_bytes < length line → refuses s line Bytes)
         → {s : S} {r w : Option (List ℕ)} {old : Walk} (r' w' : Option (List ℕ)) (new : Walk) (fault : ScriptFault) → Progress takes first input output r w old s → Finds r w old r' w' new (Err fault)
-        → EndsAs takes refuses headed first input output s r' w' new (Err fault)
+        → EndsAs takes refuses has_config first input output s r' w' new (Err fault)
     find_ends long {s} r' w' new (faults.Line n cause) p (feeds, none, length-is, number-is, cause-is) =
-        subst (λ x. Ending takes refuses headed (Some (n, x)) first input output s r' w' new.out.items) (sym cause-is)
+        subst (λ x. Ending takes refuses has_config (Some (n, x)) first input output s r' w' new.out.items) (sym cause-is)
         (faulty new.out.items n Bytes (fed p feeds) number-is refl refl (λ more end. too_long refuses long s new.lines.rest more none length-is))
     find_ends long r' w' new faults.Read p f = (failed p f).0
     find_ends long r' w' new faults.Write p (f, some) = let halted = failed p f in (halted.0, omega (arith, some, halted.1))
@@ -243,7 +243,7 @@ module _ {S : Type 0} {takes : S → List ℕ → List ℕ → S → Type 0} {fi
 
     -- the line that was found was not taken
     pub take_ends : {s : S} {r w r' w' : Option (List ℕ)} {old found : Walk} (t : S) (new : Walk) (fault : ScriptFault) → Progress takes first input output r w old s → FindsLine r w old r' w' found
-        → Takes takes refuses s found t new (Err fault) → EndsAs takes refuses headed first input output t r' w' new (Err fault)
+        → Takes takes refuses s found t new (Err fault) → EndsAs takes refuses has_config first input output t r' w' new (Err fault)
     take_ends {found = found} t new (faults.Line n cause) p f (refused, number-is, same, out-is) =
         faulty new.out.items n cause (fed p f.feeds) (number-is ∙ f.number) same (out-is ∙ f.out)
         (λ more end. (found.lines.line, lines_of (found.lines.rest ++ more), line_and_more f.between.lines.rest found.lines more f.found, refused))
@@ -253,7 +253,7 @@ module _ {S : Type 0} {takes : S → List ℕ → List ℕ → S → Type 0} {fi
 
     -- the last line was not taken
     pub last_ends : {s : S} {r w : Option (List ℕ)} {old : Walk} (t : S) (new : Walk) (fault : ScriptFault) → Progress takes first input output r w old s → IsAtEnd r
-        → TakesLast takes refuses s old t new (Err fault) → EndsAs takes refuses headed first input output t r w new (Err fault)
+        → TakesLast takes refuses s old t new (Err fault) → EndsAs takes refuses has_config first input output t r w new (Err fault)
     last_ends {old = old} t new (faults.Line n cause) p at_end (one, refused, number-is, same, out-is) =
         faulty new.out.items n cause p number-is same out-is
         (λ more end. (old.lines.rest, [], ap (λ m. lines_of (old.lines.rest ++ m)) (end at_end) ∙ ap lines_of (append-nil old.lines.rest) ∙ one, refused))
@@ -263,14 +263,14 @@ module _ {S : Type 0} {takes : S → List ℕ → List ℕ → S → Type 0} {fi
 
     -- all lines are taken
     pub closed : {s t : S} {r w : Option (List ℕ)} {old new : Walk} → Progress takes first input output r w old s → TakesRest takes s old t new → IsAtEnd r
-        → EndsAs takes refuses headed first input output t r w new (end_result (headed t) new.number)
-    closed {s} {t} {r} {w} {old} {new} p k at_end = by_head (headed t) refl
+        → EndsAs takes refuses has_config first input output t r w new (end_result (has_config t) new.number)
+    closed {s} {t} {r} {w} {old} {new} p k at_end = by_head (has_config t) refl
       where
-        all : (fault : Option (ℕ × LineCause)) → IsFault refuses headed t (old.number + length (lines_of old.lines.rest)) [] fault
-            → Ending takes refuses headed fault first input output t r w new.out.items
+        all : (fault : Option (ℕ × LineCause)) → IsFault refuses has_config t (old.number + length (lines_of old.lines.rest)) [] fault
+            → Ending takes refuses has_config fault first input output t r w new.out.items
         all fault e = ends_by fault new.out.items (lines_of old.lines.rest) k.answers p k.goes k.out
             (λ more end. ([], ap (λ m. lines_of (old.lines.rest ++ m)) (end at_end) ∙ ap lines_of (append-nil old.lines.rest) ∙ sym (append-nil (lines_of old.lines.rest)), e))
 
-        by_head : (b : Bool) → headed t ≡ b → EndsAs takes refuses headed first input output t r w new (end_result b new.number)
+        by_head : (b : Bool) → has_config t ≡ b → EndsAs takes refuses has_config first input output t r w new (end_result b new.number)
         by_head true e = (at_end, all None e)
         by_head false e = all (Some (new.number, Hz)) (k.number, refl, e)

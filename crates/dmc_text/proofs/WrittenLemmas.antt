@@ -29,7 +29,7 @@ use Rattle.dmc_text.specs.declared.line.LineKind.TheVariants as kinds
 use Rattle.dmc_text.specs.declared.event_line.EventLine.TheVariants as event_lines
 use Rattle.dmc_text.specs.Answers.{◌>>=◌}
 use Rattle.dmc_text.specs.Words.{words}
-use Rattle.dmc_text.specs.Lines.{kind, kind_of, said, line_of, line_of_words, line_of_command, alone, heading, setting, figure, configured}
+use Rattle.dmc_text.specs.Lines.{kind, kind_of, line_of_kind, line_of, line_of_words, line_of_command, alone, heading, setting, figure, configured}
 use Rattle.dmc_text.specs.Commands.{registering, updating, adding, pulling, dropping, cleaning, phrase, command, small, long, optional, moment, params, rates, is_rate}
 use Rattle.dmc_text.specs.Replies.{saying, reply_said, reply_words, reply_text, reply_of}
 use Rattle.dmc_text.specs.EventLines.{answer_words, event_words as words_of_event, event_said, event_line_of_kind, event_of, header_words as words_of_header, header_said, header_of}
@@ -155,9 +155,9 @@ asked_drop client id = record {
 -- ---- lines
 
 -- the kind of a line of words that were written
-kind_by : (headed : Bool) (ws : List (List ℕ)) → AreWords max_line_bytes ws → kind_of headed (join_with_byte 32 ws) ≡ kind headed ws
-kind_by headed ws a =
-    ap (λ b. cond b (kind headed (words (join_with_byte 32 ws))) (Err causes.Bytes)) (is_line ws a) ∙ ap (kind headed) (words_joined ws a.plain)
+kind_by : (has_config : Bool) (ws : List (List ℕ)) → AreWords max_line_bytes ws → kind_of has_config (join_with_byte 32 ws) ≡ kind has_config ws
+kind_by has_config ws a =
+    ap (λ b. cond b (kind has_config (words (join_with_byte 32 ws))) (Err causes.Bytes)) (is_line ws a) ∙ ap (kind has_config) (words_joined ws a.plain)
 
 -- the first words of a script's line are no comment and no hz line
 command_kind : (c : Command) → kind true (command_words c) ≡ Ok kinds.Command
@@ -175,7 +175,7 @@ line_again c a =
     let fits : AreWords max_line_bytes ws = shorter 70 256 a.of_words (omega arith) in
     let nothing : ws ++ [] ≡ ws = append-nil ws in
     let spoken : phrase ws ≡ Ok (a.said, []) = ap phrase (sym nothing) ∙ a.said_by [] in
-    ap (λ k. k >>= λ x. said x (words (command_text c))) (kind_by true ws fits ∙ command_kind c)
+    ap (λ k. k >>= λ x. line_of_kind x (words (command_text c))) (kind_by true ws fits ∙ command_kind c)
     ∙ ap line_of_words (words_joined ws fits.plain)
     ∙ ap (λ p. p >>= λ x. alone x >>= λ q. line_of_command (command q)) spoken
     ∙ ap line_of_command a.read
@@ -225,8 +225,8 @@ config_again c is = kind_by false (config_words c) (config_fits c.hz c.idle_age 
 
 -- ---- headers
 
-header_kind : (headed : Bool) (server first : ℕ) → kind headed (header_words server first) ≡ Ok kinds.Skip
-header_kind headed server first = refl
+header_kind : (has_config : Bool) (server first : ℕ) → kind has_config (header_words server first) ≡ Ok kinds.Skip
+header_kind has_config server first = refl
 
 pub header_again : (server : ServerId) (first : ℕ) → server.0 < 2 ^ 32 → first < 2 ^ 64 → IsHeaderAgain server first
 unfolding words_of_header header_said
@@ -235,7 +235,7 @@ header_again server first id small =
     let behind = and_more 10 26 (small_word server.0 id) (and_more 5 20 (given 5 (codes "first" ∷ []) refl refl refl) number) in
     let fits = shorter 46 256 (and_more 1 44 (given 1 (codes "#" ∷ []) refl refl refl) (and_more 6 37 (given 6 (codes "server" ∷ []) refl refl refl) behind)) (omega arith) in
     record {
-      kind = λ headed. kind_by headed (header_words server.0 first) fits ∙ header_kind headed server.0 first;
+      kind = λ has_config. kind_by has_config (header_words server.0 first) fits ∙ header_kind has_config server.0 first;
       read = ap header_of (words_joined (header_words server.0 first) fits.plain) ∙ rw (number_again (2 ^ 32) server.0 id (omega (arith, id)), number_again (2 ^ 64) first small (omega (arith, small))) refl;
     }
 

@@ -72,7 +72,7 @@ header_of ws = option_and_then header_said (header_words ws)
 
 -- a header comes after the hz line; any other comment means nothing
 abbrev pub comment : {T : Type 0} → Bool → Option (ServerId × ℕ) → Result (EventLine T) LineCause
-comment headed None = Ok Skip
+comment has_config None = Ok Skip
 comment true (Some h) = Ok (event_lines.Segment h.0 h.1)
 comment false (Some h) = Err Hz
 
@@ -80,10 +80,10 @@ comment false (Some h) = Err Hz
 
 -- the meaning of the words of a line of this kind
 abbrev pub event_line_of_kind : {T : Type 0} → (ℤ → ℕ → Option T) → Bool → LineKind → List (List ℕ) → Result (EventLine T) LineCause
-event_line_of_kind made headed kinds.Skip ws = comment headed (header_of ws)
-event_line_of_kind made headed (kinds.Config config) ws = Ok (Config config)
-event_line_of_kind made headed kinds.Command ws = event_words ws >>= event_said made >>= (λ event. Ok (event_lines.Event event))
+event_line_of_kind made has_config kinds.Skip ws = comment has_config (header_of ws)
+event_line_of_kind made has_config (kinds.Config config) ws = Ok (Config config)
+event_line_of_kind made has_config kinds.Command ws = event_words ws >>= event_said made >>= (λ event. Ok (event_lines.Event event))
 
--- the meaning of a line; headed: an hz line was read before
+-- the meaning of a line; has_config: an hz line was read before
 abbrev pub event_of : {T : Type 0} → (ℤ → ℕ → Option T) → Bool → List ℕ → Result (EventLine T) LineCause
-event_of made headed line = kind_of headed line >>= λ k. event_line_of_kind made headed k (words line)
+event_of made has_config line = kind_of has_config line >>= λ k. event_line_of_kind made has_config k (words line)

@@ -14,7 +14,7 @@ pub mod EventLines
 pub mod Tags
 -- The texts of replies: words, separated by one space each.
 pub mod Replies
--- The lines that are written of a configuration, a command, an event and a segment.
+-- The lines that are written of a configuration, a command, an event and a segment: words, separated by one space each.
 pub mod Written
 -- What was written of a reply, a configuration, a command, an event or a segment's header is read as that.
 pub mod RoundTrip
@@ -24,7 +24,7 @@ pub mod Texts
 pub mod Reading
 -- The lines of a text, one after the other, and how many of its bytes are read.
 pub mod LineLaws
--- Watched streams: whether a call of the stream failed, and when a run may report that.
+-- Watched streams: whether a call of the stream failed, and when a run over a text may report that.
 pub mod Watching
 -- The loop over the lines of a text.
 pub mod Walks

@@ -7,7 +7,7 @@ use Rattle.dmc_types.specs.Limits.{max_line_bytes}
 use Rattle.dmc_text.specs.declared.cause.LineCause.TheVariants.{Bytes}
 use Rattle.dmc_text.specs.Answers.{◌>>=◌}
 use Rattle.dmc_text.specs.Words.{words}
-use Rattle.dmc_text.specs.Lines.{kind, kind_of, said, line_of, is_clean, is_line_byte}
+use Rattle.dmc_text.specs.Lines.{kind, kind_of, line_of_kind, line_of, is_clean, is_line_byte}
 
 -- ---- a line that is too long
 
@@ -15,9 +15,9 @@ unclean : (line : List ℕ) → max_line_bytes < length line → is_clean line �
 unfolding is_clean
 unclean line h = ap (λ b. b && list_all is_line_byte line) (lt-leb (length line) max_line_bytes h)
 
-pub long_kind : (headed : Bool) (line : List ℕ) → max_line_bytes < length line → kind_of headed line ≡ Err Bytes
-long_kind headed line h = ap (λ b. cond b (kind headed (words line)) (Err Bytes)) (unclean line h)
+pub long_kind : (has_config : Bool) (line : List ℕ) → max_line_bytes < length line → kind_of has_config line ≡ Err Bytes
+long_kind has_config line h = ap (λ b. cond b (kind has_config (words line)) (Err Bytes)) (unclean line h)
 
 -- so a line of a script is faulty
-pub long_line : (headed : Bool) (line : List ℕ) → max_line_bytes < length line → line_of headed line ≡ Err Bytes
-long_line headed line h = ap (λ k. k >>= λ x. said x (words line)) (long_kind headed line h)
+pub long_line : (has_config : Bool) (line : List ℕ) → max_line_bytes < length line → line_of has_config line ≡ Err Bytes
+long_line has_config line h = ap (λ k. k >>= λ x. line_of_kind x (words line)) (long_kind has_config line h)

@@ -32,7 +32,7 @@ is_clean line = nat_le (length line) max_line_bytes && list_all is_line_byte lin
 
 -- ---- the hz line
 
--- the words of an hz line: hz, and the ages where they are given
+-- the words of an hz line: hz, and the ages if they are given
 pub record Heading : Type 0 where
   pub hz : List ℕ
   pub ages : Option (List ℕ × List ℕ)
@@ -107,22 +107,22 @@ is_comment (b ∷ bs) = b == 35
 
 -- the kind of a line, by its words: an hz line is first, and there is one
 abbrev pub kind : Bool → List (List ℕ) → Result LineKind LineCause
-kind headed [] = Ok kinds.Skip
-kind headed (name ∷ args) =
+kind has_config [] = Ok kinds.Skip
+kind has_config (name ∷ args) =
     if is_comment name then Ok kinds.Skip
-    else (if headed then (if bytes_eq name (codes "hz") then Err Hz else Ok kinds.Command)
+    else (if has_config then (if bytes_eq name (codes "hz") then Err Hz else Ok kinds.Command)
     else (if bytes_eq name (codes "hz") then heading args >>= setting >>= (λ config. Ok (kinds.Config config)) else Err Hz))
 
--- the kind of a line; headed: an hz line was read before
+-- the kind of a line; has_config: an hz line was read before
 abbrev pub kind_of : Bool → List ℕ → Result LineKind LineCause
-kind_of headed line = if is_clean line then kind headed (words line) else Err Bytes
+kind_of has_config line = if is_clean line then kind has_config (words line) else Err Bytes
 
 -- the meaning of the words of a line of a script
-abbrev pub said : LineKind → List (List ℕ) → Result Line LineCause
-said kinds.Skip ws = Ok Skip
-said (kinds.Config config) ws = Ok (Config config)
-said kinds.Command ws = line_of_words ws
+abbrev pub line_of_kind : LineKind → List (List ℕ) → Result Line LineCause
+line_of_kind kinds.Skip ws = Ok Skip
+line_of_kind (kinds.Config config) ws = Ok (Config config)
+line_of_kind kinds.Command ws = line_of_words ws
 
--- the meaning of a line of a script; headed: an hz line was read before
+-- the meaning of a line of a script; has_config: an hz line was read before
 abbrev pub line_of : Bool → List ℕ → Result Line LineCause
-line_of headed line = kind_of headed line >>= λ k. said k (words line)
+line_of has_config line = kind_of has_config line >>= λ k. line_of_kind k (words line)

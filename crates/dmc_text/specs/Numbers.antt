@@ -23,6 +23,6 @@ with_digit n b = n * 10 + (b - 48)
 abbrev pub value : List ℕ → ℕ
 value ds = fold with_digit 0 ds
 
--- the number that a word spells, where it is below the limit
+-- the number that a word spells, if it is below the limit
 abbrev pub number : ℕ → List ℕ → Option ℕ
 number limit word = if is_numeral word && nat_lt (value word) limit then Some (value word) else None

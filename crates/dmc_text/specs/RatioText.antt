@@ -9,7 +9,7 @@ use Rattle.dmc_ratio.specs.Lowest.{is_lowest, over, lowest_apart}
 use Rattle.dmc_ratio.specs.Ratio.{Ratio, same_ratio, lowest_terms, reduced, is_small}
 use Rattle.std.proofs.lemmas.Option.{same_Some}
 
--- the ratio of n/d, where these are in lowest terms already
+-- the ratio of n/d, if these are in lowest terms already
 abbrev pub ratio_if_lowest : ℤ → ℕ → Option Ratio
 ratio_if_lowest n d = option_and_then (λ a. if a.denom == d then Some a else None) (reduced n d)
 

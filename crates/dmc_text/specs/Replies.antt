@@ -44,7 +44,7 @@ grant_words phases.Reservation beyond = codes "reservation" ∷ []
 grant_words phases.Priority false = codes "priority" ∷ []
 grant_words phases.Priority true = codes "priority" ∷ codes "beyond" ∷ []
 
--- `-` where there is no tag
+-- `-` if there is no tag
 abbrev pub tag_word : {T : Type 0} → (T → List ℕ) → Option T → List ℕ
 tag_word text None = codes "-"
 tag_word text (Some a) = text a
@@ -69,7 +69,7 @@ tag_text numer denom a = fraction_text (numer a) (denom a)
 abbrev pub in_ticks : ℤ → List ℕ
 in_ticks z = fraction_text z 1
 
--- a tag's parts as text, or `-` where there is no tag
+-- a tag's parts as text, or `-` if there is no tag
 abbrev pub word_text : Option (ℤ × ℕ) → List ℕ
 word_text None = codes "-"
 word_text (Some x) = fraction_text x.0 x.1

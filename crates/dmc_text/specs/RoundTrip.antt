@@ -43,5 +43,5 @@ pub record IsAskedAgain (asked : Command) : Type 0 where
 
 -- in an event text the line is a segment's header; in a script it is a comment
 pub record IsHeaderAgain (server : ServerId) (first : ℕ) : Type 0 where
-  pub kind : (headed : Bool) → kind_of headed (header_text server.0 first) ≡ Ok kinds.Skip
+  pub kind : (has_config : Bool) → kind_of has_config (header_text server.0 first) ≡ Ok kinds.Skip
   pub read : header_of (words (header_text server.0 first)) ≡ Some (server, first)

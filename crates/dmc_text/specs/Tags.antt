@@ -5,7 +5,7 @@ use Rattle.dmc_text.specs.Numbers.{number}
 
 -- ---- writing
 
--- N where D is 1, and otherwise N/D
+-- N if D is 1, and otherwise N/D
 abbrev pub fraction_text : ℤ → ℕ → List ℕ
 fraction_text n d = if d == 1 then signed_decimal n else signed_decimal n ++ (codes "/" ++ decimal d)
 

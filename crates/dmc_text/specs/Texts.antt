@@ -37,9 +37,9 @@ is_config (Config config) = true
 is_config (Ask command) = false
 is_config (Value fault) = false
 
--- headed: an hz line was read before, or this is one
-abbrev pub headed_by : Bool → Line → Bool
-headed_by headed line = headed || is_config line
+-- has_config: an hz line was read before, or this is one
+abbrev pub has_config_after : Bool → Line → Bool
+has_config_after has_config line = has_config || is_config line
 
 abbrev pub and_on : Result Line LineCause → (Line → List Line) → List Line
 and_on (Err cause) more = []
@@ -47,8 +47,8 @@ and_on (Ok line) more = line ∷ more line
 
 -- the meaning of the lines, up to the first faulty one
 abbrev pub commands : Bool → List (List ℕ) → List Line
-commands headed [] = []
-commands headed (line ∷ lines) = and_on (line_of headed line) (λ l. commands (headed_by headed l) lines)
+commands has_config [] = []
+commands has_config (line ∷ lines) = and_on (line_of has_config line) (λ l. commands (has_config_after has_config l) lines)
 
 abbrev pub fault_or : ℕ → Result Line LineCause → (Line → Option (ℕ × LineCause)) → Option (ℕ × LineCause)
 fault_or n (Err cause) more = Some (n, cause)
@@ -56,8 +56,8 @@ fault_or n (Ok line) more = more line
 
 -- the number and the cause of the first faulty line; a text without an hz line is faulty after its last line
 abbrev pub first_fault : Bool → ℕ → List (List ℕ) → Option (ℕ × LineCause)
-first_fault headed n [] = if headed then None else Some (n, Hz)
-first_fault headed n (line ∷ lines) = fault_or n (line_of headed line) (λ l. first_fault (headed_by headed l) (suc n) lines)
+first_fault has_config n [] = if has_config then None else Some (n, Hz)
+first_fault has_config n (line ∷ lines) = fault_or n (line_of has_config line) (λ l. first_fault (has_config_after has_config l) (suc n) lines)
 
 -- the first faulty line of a whole text, whose lines are numbered from 1
 abbrev pub fault_of : List ℕ → Option (ℕ × LineCause)
@@ -110,7 +110,7 @@ AppendsSome old new bytes = (sent : List ℕ) × (unsent : List ℕ) × Appends 
 abbrev pub ReadsWithin : ℕ → (before after : Option (List ℕ)) → List ℕ → Type 0
 ReadsWithin most before after read = Consumes before after read × (length read ≤ most)
 
--- What a run reads and writes, where the bytes are known. Ok: all of the text is read, it has at most as many bytes as a text may
+-- What a run reads and writes, if the bytes are known. Ok: all of the text is read, it has at most as many bytes as a text may
 -- have, no line is faulty, and what is written is the text of the replies.
 abbrev pub RunsToEnd : {T : Type 0} → Tagging T → (T → List ℕ) → (before after old new : Option (List ℕ)) → Type 0
 RunsToEnd ops text before after old new = IsAtEnd after × IfSome before (λ input. (length input ≤ max_bytes) × (fault_of input ≡ None) × Appends old new (out ops text input))

@@ -11,7 +11,7 @@ use Rattle.dmc_text.specs.Reading.{max_bytes, next_line}
 use Rattle.dmc_text.specs.Texts.{lines_of, whole_lines, ReadsWithin}
 
 -- In each of these, takes relates a state, a line, what is to be written for it and the next state; refuses says for which cause
--- a line is faulty; and headed whether an hz line was taken.
+-- a line is faulty; and has_config whether an hz line was taken.
 
 -- ---- lines
 
@@ -95,15 +95,15 @@ Finds r w old r' w' new (Err faults.Memory) = ⊥
 -- ---- whole texts
 
 -- What is left after the lines that were taken, from number n on, has this fault: nothing is left, or the next line is faulty.
-abbrev pub IsFault : {S : Type 0} → (refuses : S → List ℕ → LineCause → Type 0) → (headed : S → Bool) → S → ℕ → List (List ℕ) → Option (ℕ × LineCause) → Type 0
-IsFault refuses headed t n [] None = headed t ≡ true
-IsFault refuses headed t n [] (Some (m, cause)) = (m ≡ n) × (cause ≡ Hz) × (headed t ≡ false)
-IsFault refuses headed t n (line ∷ lines) None = ⊥
-IsFault refuses headed t n (line ∷ lines) (Some (m, cause)) = (m ≡ n) × refuses t line cause
+abbrev pub IsFault : {S : Type 0} → (refuses : S → List ℕ → LineCause → Type 0) → (has_config : S → Bool) → S → ℕ → List (List ℕ) → Option (ℕ × LineCause) → Type 0
+IsFault refuses has_config t n [] None = has_config t ≡ true
+IsFault refuses has_config t n [] (Some (m, cause)) = (m ≡ n) × (cause ≡ Hz) × (has_config t ≡ false)
+IsFault refuses has_config t n (line ∷ lines) None = ⊥
+IsFault refuses has_config t n (line ∷ lines) (Some (m, cause)) = (m ≡ n) × refuses t line cause
 
 -- All lines were taken, or those before the first faulty one. What is to be written for them is written or pending. The same
--- holds of what was read, whatever follows it, where the reader is not at its end.
-pub record Ending {S : Type 0} (takes : S → List ℕ → List ℕ → S → Type 0) (refuses : S → List ℕ → LineCause → Type 0) (headed : S → Bool) (fault : Option (ℕ × LineCause))
+-- holds of what was read, whatever follows it, if the reader is not at its end.
+pub record Ending {S : Type 0} (takes : S → List ℕ → List ℕ → S → Type 0) (refuses : S → List ℕ → LineCause → Type 0) (has_config : S → Bool) (fault : Option (ℕ × LineCause))
     (first : S) (input output : Option (List ℕ)) (last : S) (before after : Option (List ℕ)) (pending : List ℕ) : Type 0 where
   pub read : List ℕ
   pub lines : List (List ℕ)
@@ -114,7 +114,7 @@ pub record Ending {S : Type 0} (takes : S → List ℕ → List ℕ → S → Ty
   pub sends : Appends output after sent
   pub out : sent ++ pending ≡ answers
   pub ends : (more : List ℕ) → (IsAtEnd before → more ≡ []) →
-      (others : List (List ℕ)) × (lines_of (read ++ more) ≡ lines ++ others) × IsFault refuses headed last (suc (length lines)) others fault
+      (others : List (List ℕ)) × (lines_of (read ++ more) ≡ lines ++ others) × IsFault refuses has_config last (suc (length lines)) others fault
 
 -- Of what was read, at most this many bytes, whole lines were taken. Of what is to be written for them a first part is written,
 -- and the next one is pending.
@@ -131,11 +131,11 @@ pub record Halt {S : Type 0} (takes : S → List ℕ → List ℕ → S → Type
 
 -- The result of a walk. Read: the reader failed, or the text has more than the most bytes, which one more byte shows. Write: the
 -- writer failed, so there was something to be written.
-abbrev pub EndsAs : {S : Type 0} → (takes : S → List ℕ → List ℕ → S → Type 0) → (refuses : S → List ℕ → LineCause → Type 0) → (headed : S → Bool)
+abbrev pub EndsAs : {S : Type 0} → (takes : S → List ℕ → List ℕ → S → Type 0) → (refuses : S → List ℕ → LineCause → Type 0) → (has_config : S → Bool)
     → S → (input output : Option (List ℕ)) → S → (before after : Option (List ℕ)) → Walk → Result ⊤ ScriptFault → Type 0
-EndsAs takes refuses headed s input output t before after walk (Ok x) = IsAtEnd before × Ending takes refuses headed None s input output t before after walk.out.items
-EndsAs takes refuses headed s input output t before after walk (Err (faults.Line n cause)) = Ending takes refuses headed (Some (n, cause)) s input output t before after walk.out.items
-EndsAs takes refuses headed s input output t before after walk (Err faults.Read) = Halt takes (suc max_bytes) s input output before after walk.out.items
-EndsAs takes refuses headed s input output t before after walk (Err faults.Write) =
+EndsAs takes refuses has_config s input output t before after walk (Ok x) = IsAtEnd before × Ending takes refuses has_config None s input output t before after walk.out.items
+EndsAs takes refuses has_config s input output t before after walk (Err (faults.Line n cause)) = Ending takes refuses has_config (Some (n, cause)) s input output t before after walk.out.items
+EndsAs takes refuses has_config s input output t before after walk (Err faults.Read) = Halt takes (suc max_bytes) s input output before after walk.out.items
+EndsAs takes refuses has_config s input output t before after walk (Err faults.Write) =
     (halt : Halt takes max_bytes s input output before after walk.out.items) × (0 < length halt.took.answers)
-EndsAs takes refuses headed s input output t before after walk (Err faults.Memory) = Halt takes max_bytes s input output before after walk.out.items
+EndsAs takes refuses has_config s input output t before after walk (Err faults.Memory) = Halt takes max_bytes s input output before after walk.out.items

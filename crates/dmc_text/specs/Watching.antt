@@ -24,7 +24,7 @@ IsCalm old new = failed new ≡ failed old
 abbrev pub MayFail : {S : Type 0} → (old new : Watched S) → Type 0
 MayFail old new = failed old ≡ true → failed new ≡ true
 
--- by the result of a call: an error is reported exactly where the stream failed
+-- by the result of a call: an error is reported exactly if the stream failed
 abbrev pub IsNoted : {S X E : Type 0} → (old new : Watched S) → Result X E → Type 0
 IsNoted old new (Ok x) = IsCalm old new
 IsNoted old new (Err e) = failed new ≡ true
@@ -53,8 +53,8 @@ FillsNoted left taken before after (Err e) = FailsToRead left taken before after
 
 -- ---- runs
 
--- A run over a text, after this many bytes were read. Read and Write are reported only where the reader or the writer failed, or
--- at the most bytes of a text, and any other end only where neither failed.
+-- A run over a text, after this many bytes were read. Read and Write are reported only if the reader or the writer failed, or
+-- at the most bytes of a text, and any other end only if neither failed.
 abbrev pub EndsNoted : {R W X : Type 0} → (R → Option (List ℕ)) → (taken : ℕ) → (before after : Watched R) → (old new : Watched W) → Result X ScriptFault → Type 0
 EndsNoted left taken before after old new (Ok x) = IsCalm before after × IsCalm old new
 EndsNoted left taken before after old new (Err (ends.Line n cause)) = IsCalm before after × IsCalm old new

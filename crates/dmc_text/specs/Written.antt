@@ -13,7 +13,7 @@ use Rattle.dmc_text.specs.Replies.{reply_words}
 
 -- ---- the configuration
 
--- `allow` where a pull grants beyond limits
+-- `allow` if a pull grants beyond limits
 abbrev pub limit_words : AtLimit → List (List ℕ)
 limit_words Wait = []
 limit_words Allow = codes "allow" ∷ []
@@ -27,7 +27,7 @@ config_text c = join_with_byte 32 (config_words c)
 
 -- ---- commands
 
--- `-` where there is no rate
+-- `-` if there is no rate
 abbrev pub rate_word : Option ℕ → List ℕ
 rate_word None = codes "-"
 rate_word (Some q) = decimal q

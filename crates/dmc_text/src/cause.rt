@@ -2,7 +2,7 @@
 
 use thiserror::Error;
 
-/// What is wrong with a line. Where several things are, it is the first of these.
+/// What is wrong with a line. If several things are, it is the first of these.
 #[derive(Clone, Copy, Debug, PartialEq, Eq, Error)]
 pub enum LineCause {
     /// It has more than 256 bytes, or one out of 32 to 126.

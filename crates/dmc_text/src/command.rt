@@ -210,7 +210,7 @@ fn long(word: &[u8]) -> Result<u64, CommandFault>
     read_u64(word).ok_or(CommandFault::Number)
 }
 
-/// A number of 32 bits, or `-` where it is absent.
+/// A number of 32 bits, or `-` if it is absent.
 #[tactic(auto, unfolding(crate::specs::Commands::optional))]
 fn optional(word: &[u8]) -> Result<Option<u32>, CommandFault>
     ensures { result ≡ optional word.now }

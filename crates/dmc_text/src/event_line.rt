@@ -142,22 +142,22 @@ fn read_header(line: &[u8]) -> Option<(ServerId, u64)>
 }
 
 /// The meaning of a line that has no word, or whose first begins with `#`.
-fn read_comment<T>(line: &[u8], headed: bool) -> Result<EventLine<T>, LineCause>
-    ensures { result ≡ comment headed (header_of (words line.now)) }
+fn read_comment<T>(line: &[u8], has_config: bool) -> Result<EventLine<T>, LineCause>
+    ensures { result ≡ comment has_config (header_of (words line.now)) }
 {
     match read_header(line) {
         None => Ok(EventLine::Skip),
-        Some((server, first)) if headed => Ok(EventLine::Segment { server, first }),
+        Some((server, first)) if has_config => Ok(EventLine::Segment { server, first }),
         Some(_) => Err(LineCause::Hz),
     }
 }
 
-/// The meaning of a line of an event text, without its LF. `headed`: an `hz` line was read before.
-pub fn read_event_line<T: TagText>(line: &[u8], headed: bool) -> Result<EventLine<T>, LineCause>
-    ensures { result ≡ event_of T.made headed line.now }
+/// The meaning of a line of an event text, without its LF. `has_config`: an `hz` line was read before.
+pub fn read_event_line<T: TagText>(line: &[u8], has_config: bool) -> Result<EventLine<T>, LineCause>
+    ensures { result ≡ event_of T.made has_config line.now }
 {
-    match read_kind(line, headed)? {
-        LineKind::Skip => read_comment(line, headed),
+    match read_kind(line, has_config)? {
+        LineKind::Skip => read_comment(line, has_config),
         LineKind::Config(config) => Ok(EventLine::Config(config)),
         LineKind::Command => Ok(EventLine::Event(read_event(event_words(line)?)?)),
     }

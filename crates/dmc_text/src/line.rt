@@ -102,7 +102,7 @@ fn configured(
 }
 
 /// The line of a command's words.
-fn said(words: CommandWords<'_>) -> Result<Line, LineCause>
+fn to_line(words: CommandWords<'_>) -> Result<Line, LineCause>
     ensures { result ≡ line_of_command (command (seen words.entry)) }
 {
     match read_command(words) {
@@ -114,14 +114,14 @@ fn said(words: CommandWords<'_>) -> Result<Line, LineCause>
 
 /// The one command of a line.
 #[tactic(auto, unfolding(crate::specs::Lines::line_of_words))]
-fn asked(line: &[u8]) -> Result<Line, LineCause>
+fn parse_command(line: &[u8]) -> Result<Line, LineCause>
     ensures { result ≡ line_of_words (words line.now) }
 {
     let (command, rest) = command_words(line)?;
     if first_word(rest).is_some() {
         return Err(LineCause::Words);
     }
-    said(command)
+    to_line(command)
 }
 
 /// Whether an `hz` line ends with `allow`, which is then its last part alone.
@@ -184,9 +184,9 @@ fn read_config(words: ConfigWords<'_>) -> Result<QueueConfig, LineCause>
     configured(hz, idle_age, erase_age, words.at_limit)
 }
 
-/// The kind of a line, without its LF. `headed`: an `hz` line was read before.
-pub fn read_kind(line: &[u8], headed: bool) -> Result<LineKind, LineCause>
-    ensures { result ≡ kind_of headed line.now }
+/// The kind of a line, without its LF. `has_config`: an `hz` line was read before.
+pub fn read_kind(line: &[u8], has_config: bool) -> Result<LineKind, LineCause>
+    ensures { result ≡ kind_of has_config line.now }
 {
     if !is_clean(line) {
         return Err(LineCause::Bytes);
@@ -197,23 +197,23 @@ pub fn read_kind(line: &[u8], headed: bool) -> Result<LineKind, LineCause>
     if is_comment(name) {
         return Ok(LineKind::Skip);
     }
-    let heads = spells(name, b"hz");
-    if heads == headed {
+    let is_hz_line = spells(name, b"hz");
+    if is_hz_line == has_config {
         return Err(LineCause::Hz);
     }
-    if headed {
+    if has_config {
         return Ok(LineKind::Command);
     }
     Ok(LineKind::Config(read_config(config_words(rest)?)?))
 }
 
-/// The meaning of a line of a script, without its LF. `headed`: an `hz` line was read before.
-pub fn read_line(line: &[u8], headed: bool) -> Result<Line, LineCause>
-    ensures { result ≡ line_of headed line.now }
+/// The meaning of a line of a script, without its LF. `has_config`: an `hz` line was read before.
+pub fn read_line(line: &[u8], has_config: bool) -> Result<Line, LineCause>
+    ensures { result ≡ line_of has_config line.now }
 {
-    match read_kind(line, headed)? {
+    match read_kind(line, has_config)? {
         LineKind::Skip => Ok(Line::Skip),
         LineKind::Config(config) => Ok(Line::Config(config)),
-        LineKind::Command => asked(line),
+        LineKind::Command => parse_command(line),
     }
 }

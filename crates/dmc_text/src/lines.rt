@@ -93,7 +93,7 @@ impl LineReader {
         true
     }
 
-    /// Finds the last line of a text that is read to its end, where it lacks its LF.
+    /// Finds the last line of a text that is read to its end, if it lacks its LF.
     pub fn find_last(&mut self) -> bool
         ensures { FindsLast self.old self.new result }
     {

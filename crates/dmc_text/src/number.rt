@@ -2,7 +2,7 @@
 ghost use Rattle.std.specs.Prelude.{◌≡◌, ◌^◌};
 ghost use Rattle.dmc_text.specs.Numbers.{is_led, number};
 
-/// Whether a word begins as a number does: with a 0 only where that is the whole word.
+/// Whether a word begins as a number does: with a 0 only if that is the whole word.
 fn is_led(word: &[u8]) -> bool
     ensures { result ≡ is_led word.now }
 {
@@ -12,7 +12,7 @@ fn is_led(word: &[u8]) -> bool
     }
 }
 
-/// The number of a word, up to 2^64 - 1, read in one pass. `None` where the word is no such number.
+/// The number of a word, up to 2^64 - 1, read in one pass. `None` if the word is no such number.
 pub fn read_u64(word: &[u8]) -> Option<u64>
     ensures { result ≡ number (2 ^ 64) word.now }
 {
@@ -29,7 +29,7 @@ pub fn read_u64(word: &[u8]) -> Option<u64>
     Some(value)
 }
 
-/// The number of a word, up to 2^128 - 1, read in one pass. `None` where the word is no such number.
+/// The number of a word, up to 2^128 - 1, read in one pass. `None` if the word is no such number.
 pub fn read_u128(word: &[u8]) -> Option<u128>
     ensures { result ≡ number (2 ^ 128) word.now }
 {
@@ -46,7 +46,7 @@ pub fn read_u128(word: &[u8]) -> Option<u128>
     Some(value)
 }
 
-/// The number of a word, up to 2^32 - 1. `None` where the word is no such number.
+/// The number of a word, up to 2^32 - 1. `None` if the word is no such number.
 pub fn read_u32(word: &[u8]) -> Option<u32>
     ensures { result ≡ number (2 ^ 32) word.now }
 {

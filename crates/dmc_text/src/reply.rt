@@ -85,7 +85,7 @@ fn name_of(word: &[u8]) -> Option<ReplyName>
     }
 }
 
-/// A reply that nothing follows. The cause is `Words` where something does.
+/// A reply that nothing follows. The cause is `Words` if something does.
 fn ended<'a>(reply: ReplyWords<'a>, text: &[u8]) -> Result<ReplyWords<'a>, LineCause>
     ensures { Gives seen_reply result (no_more (seen_reply reply.entry) (words text.now)) }
 {
@@ -288,7 +288,7 @@ fn tag<T: TagText>(word: &[u8]) -> Result<T, LineCause>
     read_tag(word).ok_or(LineCause::Number)
 }
 
-/// A tag, or `-` where it is absent.
+/// A tag, or `-` if it is absent.
 #[tactic(auto, unfolding(crate::specs::Replies::optional_tag))]
 fn optional_tag<T: TagText>(word: &[u8]) -> Result<Option<T>, LineCause>
     ensures { result ≡ optional_tag T.made word.now }
@@ -363,7 +363,7 @@ pub fn reply_said<T: TagText>(words: ReplyWords<'_>) -> Result<Reply<T>, LineCau
     }
 }
 
-/// The reply of a text, without its LF. The cause is `Words` where its words make no reply, and `Number` where a word that has to
+/// The reply of a text, without its LF. The cause is `Words` if its words make no reply, and `Number` if a word that has to
 /// be a number or a tag is not one of its type.
 pub fn read_reply<T: TagText>(text: &[u8]) -> Result<Reply<T>, LineCause>
     ensures { result ≡ reply_of T.made (words text.now) }

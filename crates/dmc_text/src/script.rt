@@ -1,11 +1,11 @@
 //! Scripts: each line's command is carried out, and its reply written.
 ghost use Rattle.std.specs.Prelude.{◌≡◌, ◌++◌, ◌∷◌, List, OnOk, OnErr, Err, is_some};
 ghost use Rattle.std.specs.Option.{option_map};
-ghost use Rattle.dmc_tag.specs.State.{Represents, opening};
+ghost use Rattle.dmc_tag.specs.State.{opening};
 ghost use Rattle.dmc_tag.specs.Step.{step};
 ghost use Rattle.dmc_text.specs.Lines.{line_of};
 ghost use Rattle.dmc_text.specs.Replies.{reply_text, tag_text};
-ghost use Rattle.dmc_text.specs.Texts.{with_line_end, value_text, headed_by, written, RunsAs};
+ghost use Rattle.dmc_text.specs.Texts.{with_line_end, value_text, has_config_after, written, RunsAs};
 ghost use Rattle.dmc_text.specs.Walks.{IsCut};
 ghost use Rattle.dmc_text.specs.Watching.{stream_of, SendsNoted};
 ghost use Rattle.dmc_text.specs.Runs.{Answers};
@@ -31,12 +31,12 @@ use thiserror::Error;
 
 /// Makes the queue of a script, when its `hz` line is read.
 pub trait QueueMaker<T: Tag> {
-    /// What its queues represent.
+    /// The kind of its queues.
     type Queue: Scheduler<T> + Drop;
 
     /// A queue in the opening state of a configuration.
     fn make(&mut self, config: QueueConfig) -> Self::Queue
-        ensures { Represents (Self.Queue.state result) (opening config) };
+        ensures { Self.Queue.state result ≡ opening config };
 }
 
 /// The text of a refused value.
@@ -51,7 +51,7 @@ fn value_text(fault: ValueFault) -> &'static [u8]
     }
 }
 
-/// Adds a line with these bytes. Where the allocation fails, nothing is left to write.
+/// Adds a line with these bytes. If the allocation fails, nothing is left to write.
 fn put_line(text: &[u8], out: &mut Vec<u8>) -> Result<(), AllocError>
     ensures ok { OnOk result (out.new.items ≡ out.old.items ++ with_line_end text.now) }
     ensures err { OnErr result (IsCut out.old.items out.new.items) }
@@ -63,7 +63,7 @@ fn put_line(text: &[u8], out: &mut Vec<u8>) -> Result<(), AllocError>
     Ok(())
 }
 
-/// Adds the line of a reply. Where the allocation fails, nothing is left to write.
+/// Adds the line of a reply. If the allocation fails, nothing is left to write.
 fn put_reply<T: TagText>(reply: &Reply<T>, out: &mut Vec<u8>) -> Result<(), AllocError>
     ensures ok { OnOk result (out.new.items ≡ out.old.items ++ with_line_end (reply_text (tag_text T.numerator T.denominator) reply.now)) }
     ensures err { OnErr result (IsCut out.old.items out.new.items) }
@@ -82,7 +82,7 @@ fn ask<T: TagText, Q: Scheduler<T>>(
     out: &mut Vec<u8>,
 ) -> Result<(), AllocError>
     ensures reply { OnOk result (out.new.items ≡ out.old.items ++ with_line_end (reply_text (tag_text T.numerator T.denominator) ((step T.ops (Q.state queue.old) command.now).1))) }
-    ensures state { OnOk result (Represents (Q.state queue.new) ((step T.ops (Q.state queue.old) command.now).0)) }
+    ensures state { OnOk result (Q.state queue.new ≡ (step T.ops (Q.state queue.old) command.now).0) }
     ensures err { OnErr result (IsCut out.old.items out.new.items) }
 {
     let reply = queue.apply(command)?;
@@ -119,7 +119,7 @@ fn carry_out<T: TagText, M: QueueMaker<T>>(
     line: Line,
     out: &mut Vec<u8>,
 ) -> Result<(), AllocError>
-    ensures headed { OnOk result (is_some (option_map M.Queue.state queue.new) ≡ headed_by (is_some (option_map M.Queue.state queue.old)) line) }
+    ensures has_config { OnOk result (is_some (option_map M.Queue.state queue.new) ≡ has_config_after (is_some (option_map M.Queue.state queue.old)) line) }
     ensures out { OnOk result (out.new.items ≡ out.old.items ++ answer_text T.ops (tag_text T.numerator T.denominator) (option_map M.Queue.state queue.old) line) }
     ensures rest { OnOk result ((rest : List Line) →
         answer_text T.ops (tag_text T.numerator T.denominator) (option_map M.Queue.state queue.old) line ++ written T.ops (tag_text T.numerator T.denominator) (option_map M.Queue.state queue.new) rest
@@ -143,7 +143,7 @@ fn carry_out<T: TagText, M: QueueMaker<T>>(
 impl<T: TagText, M: QueueMaker<T>> TakesLines for Answering<T, M> {
     type Maker = M;
 
-    ghost headed = { λ s. is_some (option_map M.Queue.state s.queue) };
+    ghost has_config = { λ s. is_some (option_map M.Queue.state s.queue) };
 
     ghost takes = { λ s line answer t. Answers T.ops (tag_text T.numerator T.denominator) (option_map M.Queue.state s.queue) line answer (option_map M.Queue.state t.queue) };
 

@@ -8,7 +8,7 @@ ghost use Rattle.dmc_text.specs.Watching.{stream_of, IsNoted, IsNotedBy};
 use crate::watched::Watched;
 use std::io::{self, ErrorKind, Write};
 
-/// Writes what is to be written, and empties it. Where the writer fails, the rest is dropped.
+/// Writes what is to be written, and empties it. If the writer fails, the rest is dropped.
 pub(crate) fn drain<W: Write>(out: &mut Vec<u8>, writer: &mut Watched<W>) -> io::Result<()>
     ensures ok { OnOk result (Appends (W.contents (stream_of writer.old)) (W.contents (stream_of writer.new)) out.old.items) }
     ensures err { OnErr result (AppendsSome (W.contents (stream_of writer.old)) (W.contents (stream_of writer.new)) out.old.items) }
@@ -21,7 +21,7 @@ pub(crate) fn drain<W: Write>(out: &mut Vec<u8>, writer: &mut Watched<W>) -> io:
     sent
 }
 
-/// Writes all bytes, and makes an interrupted write again: an interruption is never the error. Where there are no bytes, there is
+/// Writes all bytes, and makes an interrupted write again: an interruption is never the error. If there are no bytes, there is
 /// no error.
 pub fn send_all<W: Write>(bytes: &[u8], writer: &mut Watched<W>) -> io::Result<()>
     ensures ok { OnOk result (Appends (W.contents (stream_of writer.old)) (W.contents (stream_of writer.new)) bytes.now) }
@@ -37,7 +37,7 @@ pub fn send_all<W: Write>(bytes: &[u8], writer: &mut Watched<W>) -> io::Result<(
     Ok(())
 }
 
-/// Writes all bytes, and flushes. Returns false where the writer fails.
+/// Writes all bytes, and flushes. Returns false if the writer fails.
 pub fn send<W: Write>(bytes: &[u8], writer: &mut Watched<W>) -> bool
     ensures all { result ≡ true → Appends (W.contents (stream_of writer.old)) (W.contents (stream_of writer.new)) bytes.now }
     ensures some { AppendsSome (W.contents (stream_of writer.old)) (W.contents (stream_of writer.new)) bytes.now }

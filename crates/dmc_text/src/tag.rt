@@ -8,7 +8,7 @@ use crate::number::{read_u64, read_u128};
 use crate::word::first_of;
 use dmc_tag::tag::Tag;
 
-/// A tag with a text: its fraction in the form of the type, `N` where the denominator is 1, and otherwise `N/D`.
+/// A tag with a text: its fraction in the form of the type, `N` if the denominator is 1, and otherwise `N/D`.
 pub trait TagText: Tag {
     /// The numerator of a tag's text.
     ghost numerator: { Self → ℤ };
@@ -28,7 +28,7 @@ pub trait TagText: Tag {
         ensures value { IsSame (Self.fraction self) (record { numer = result.0; denom = result.1 }) }
         ensures again { made result.0 result.1 ≡ Some self };
 
-    /// The tag of these parts. `None` where no tag has them.
+    /// The tag of these parts. `None` if no tag has them.
     fn of_parts(numer: i128, denom: u64) -> Option<Self>
         ensures { result ≡ made numer denom };
 
@@ -36,7 +36,7 @@ pub trait TagText: Tag {
     ghost only: { (n : ℤ) (d : ℕ) (a : Self) → made n d ≡ Some a → (numerator a ≡ n) × (denominator a ≡ d) };
 }
 
-/// The number of this absolute value below 0. `None` where it does not fit, and for 0.
+/// The number of this absolute value below 0. `None` if it does not fit, and for 0.
 fn below_zero(size: u128) -> Option<i128>
     ensures { result ≡ below_zero size }
 {

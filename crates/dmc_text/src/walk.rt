@@ -22,7 +22,7 @@ pub trait TakesLines {
     type Maker;
 
     /// Whether an `hz` line was taken.
-    ghost headed: { Self → Bool };
+    ghost has_config: { Self → Bool };
 
     /// The next state after a line, and what is to be written for it.
     ghost takes: { Self → List ℕ → List ℕ → Self → Type 0 };
@@ -32,9 +32,9 @@ pub trait TakesLines {
 
     /// Whether an `hz` line was taken.
     fn is_headed(&self) -> bool
-        ensures { result ≡ headed self.now };
+        ensures { result ≡ has_config self.now };
 
-    /// Takes a line, without its LF, and adds what is to be written for it. Where the line is faulty, its cause is returned and
+    /// Takes a line, without its LF, and adds what is to be written for it. If the line is faulty, its cause is returned and
     /// nothing changes.
     fn take(
         &mut self,
@@ -116,7 +116,7 @@ impl Walk {
         }
     }
 
-    /// Takes the last line, where it lacks its LF.
+    /// Takes the last line, if it lacks its LF.
     fn take_last<L: TakesLines>(
         &mut self,
         taker: &mut L,
@@ -134,7 +134,7 @@ impl Walk {
 
     /// Ends a text whose lines are all taken: without an `hz` line it is faulty.
     fn close<L: TakesLines>(&self, taker: &L) -> Result<(), ScriptFault>
-        ensures { result ≡ end_result (L.headed taker.now) self.now.number }
+        ensures { result ≡ end_result (L.has_config taker.now) self.now.number }
     {
         if !taker.is_headed() {
             return Err(ScriptFault::Line(self.number, LineCause::Hz));
@@ -152,7 +152,7 @@ impl Walk {
         writer: &mut Watched<W>,
     ) -> Result<(), ScriptFault>
         requires { Starts self.old }
-        ensures bytes { EndsAs L.takes L.refuses L.headed taker.old (R.remaining (stream_of reader.old)) (W.contents (stream_of writer.old))
+        ensures bytes { EndsAs L.takes L.refuses L.has_config taker.old (R.remaining (stream_of reader.old)) (W.contents (stream_of writer.old))
             taker.new (R.remaining (stream_of reader.new)) (W.contents (stream_of writer.new)) self.new result }
         ensures notes { EndsNoted R.remaining 0 reader.old reader.new writer.old writer.new result }
     {

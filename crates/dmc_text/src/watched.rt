@@ -61,7 +61,7 @@ impl<R: Read> Watched<R> {
 
 impl<W: Write> Watched<W> {
     /// Writes once, and again after an interruption, which is never the error and no failure. An error is noted. It is one, too,
-    /// where none of some bytes is taken.
+    /// if none of some bytes is taken.
     pub fn write(&mut self, bytes: &[u8]) -> io::Result<usize>
         ensures bound { IfOk result (λ n. n ≤ length bytes.now) }
         ensures some { IfOk result (λ n. 0 < length bytes.now → 0 < n) }
@@ -120,7 +120,7 @@ fn write_once<W: Write>(stream: &mut W, bytes: &[u8]) -> io::Result<usize>
     Err(io::Error::from(ErrorKind::TimedOut))
 }
 
-/// Writes some of the bytes. Where there are some and none is taken, that is an error.
+/// Writes some of the bytes. If there are some and none is taken, that is an error.
 fn write_some<W: Write>(stream: &mut W, bytes: &[u8]) -> io::Result<usize>
     ensures bound { IfOk result (λ n. n ≤ length bytes.now) }
     ensures some { IfOk result (λ n. 0 < length bytes.now → 0 < n) }

@@ -17,7 +17,7 @@ pub(crate) fn first_of(text: &[u8], sought: u8) -> Option<usize>
     text.iter().position(|byte| *byte == sought)
 }
 
-/// The first word of a text, and what follows it. `None` where there is no word.
+/// The first word of a text, and what follows it. `None` if there is no word.
 pub fn first_word(text: &[u8]) -> Option<(&[u8], &[u8])>
     ensures { MatchOption result (words text.now ≡ [])
         (λ found. words text.now ≡ found.0.now ∷ words found.1.now) }

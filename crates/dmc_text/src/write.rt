@@ -15,7 +15,7 @@ use dmc_types::ids::{ClientId, Token};
 use dmc_types::refusal::{Field, Refusal};
 use std::{fmt, io};
 
-/// The text of a tag, or `-` where it is absent.
+/// The text of a tag, or `-` if it is absent.
 #[derive(Clone, Copy)]
 struct TagWord(Option<(i128, u64)>);
 
@@ -136,7 +136,7 @@ fn write_cleaned<W: io::Write>(idled: u32, erased: u32, out: &mut W) -> io::Resu
     write!(out, "cleaned {idled} {erased}")
 }
 
-/// Writes the text of a reply, without its LF. Where the writer fails, a part of it may have been written.
+/// Writes the text of a reply, without its LF. If the writer fails, a part of it may have been written.
 ///
 /// A grant by reservation is never beyond its limit. One that says so is written without it.
 pub fn write_reply<T: TagText, W: io::Write>(reply: &Reply<T>, out: &mut W) -> io::Result<()>

@@ -26,7 +26,7 @@ use dmc_types::moment::Moment;
 use dmc_types::params::ReqParams;
 use std::{fmt, io};
 
-/// Writes the `hz` line of a configuration, with both ages and its LF: the first line of a script or of an event text. Where the
+/// Writes the `hz` line of a configuration, with both ages and its LF: the first line of a script or of an event text. If the
 /// writer fails, a part of it may have been written.
 pub fn write_config<W: io::Write>(config: QueueConfig, out: &mut W) -> io::Result<()>
     ensures text { OnOk result (Appends (W.contents out.old) (W.contents out.new) (with_line_end (config_text config))) }
@@ -41,7 +41,7 @@ pub fn write_config<W: io::Write>(config: QueueConfig, out: &mut W) -> io::Resul
     }
 }
 
-/// A rate, or `-` where it is absent.
+/// A rate, or `-` if it is absent.
 #[derive(Clone, Copy)]
 struct RateWord(Option<u32>);
 
@@ -132,7 +132,7 @@ fn write_clean<W: io::Write>(at: Moment, out: &mut W) -> io::Result<()>
     write!(out, "clean {ticks}")
 }
 
-/// Writes a command as a line of a script has it, without its LF. Where the writer fails, a part of it may have been written.
+/// Writes a command as a line of a script has it, without its LF. If the writer fails, a part of it may have been written.
 pub fn write_command<W: io::Write>(command: &Command, out: &mut W) -> io::Result<()>
     ensures text { OnOk result (Appends (W.contents out.old) (W.contents out.new) (command_text command.now)) }
     ensures again { IsAskedAgain command.now }
@@ -161,7 +161,7 @@ fn write_worker<W: io::Write>(worker: WorkerId, out: &mut W) -> io::Result<()>
     write!(out, "{} ", worker.0)
 }
 
-/// Writes the line of an event, with its LF. Where the writer fails, a part of it may have been written.
+/// Writes the line of an event, with its LF. If the writer fails, a part of it may have been written.
 ///
 /// A grant by reservation is never beyond its limit. One that says so is written without it.
 pub fn write_event<T: TagText, W: io::Write>(event: &Event<T>, out: &mut W) -> io::Result<()>
@@ -176,7 +176,7 @@ pub fn write_event<T: TagText, W: io::Write>(event: &Event<T>, out: &mut W) -> i
     out.write_all(b"\n")
 }
 
-/// Writes the header of a segment, with its LF: whose queue it is, and the number of the segment's first event. Where the writer
+/// Writes the header of a segment, with its LF: whose queue it is, and the number of the segment's first event. If the writer
 /// fails, a part of it may have been written.
 pub fn write_header<W: io::Write>(server: ServerId, first: u64, out: &mut W) -> io::Result<()>
     ensures text { OnOk result (Appends (W.contents out.old) (W.contents out.new) (with_line_end (header_text server.0 first))) }

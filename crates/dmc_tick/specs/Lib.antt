@@ -2,7 +2,7 @@
 pub mod Tick
 -- A tick tag in two words: its number plus 2^90.
 pub mod Words
--- That the operations of tick tags are exact.
+-- The operations of tick tags are exact.
 pub mod TickExact
 -- Worked examples: the replies that the rules give in whole ticks, computed.
 pub mod Examples

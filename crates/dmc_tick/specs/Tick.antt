@@ -7,11 +7,11 @@ use Rattle.dmc_tag.specs.Tag.{Fraction, Tagging}
 abbrev pub greatest : ℕ
 greatest = 2 ^ 90
 
--- the whole number, where it is no greater
+-- the whole number, if it is no greater
 abbrev pub tick : ℤ → Option ℤ
 tick z = if nat_le (unsigned_abs z) greatest then Some z else None
 
--- hz/rate, where the rate divides hz
+-- hz/rate, if the rate divides hz
 abbrev pub tick_spacing : ℕ → ℕ → Option ℤ
 tick_spacing hz rate = if (rate == 0) || not (hz % rate == 0) then None else tick (pos (hz / rate))
 
@@ -29,7 +29,7 @@ tick_ops = record {
 abbrev pub tick_fraction : ℤ → Fraction
 tick_fraction a = record { numer = a; denom = 1 }
 
--- a fraction n/d is a value where d divides n and |n| is at most d*2^90
+-- a fraction n/d is a value if d divides n and |n| is at most d*2^90
 pub record IsTickValue (f : Fraction) : Type 0 where
   pub some : 0 < f.denom
   pub divides : unsigned_abs f.numer % f.denom ≡ 0

@@ -103,7 +103,7 @@ pub fn previous_below_zero()
         by_priority 1 2 ∷ []) }
 {}
 
-/// At limit Allow a request is granted beyond its limit where none is early or free.
+/// At limit Allow a request is granted beyond its limit if none is early or free.
 pub fn allowed_beyond()
     ensures { replies allowing
         (client 1 (Some 10) 1 (Some 20) 0 ∷ add 1 1 1 1 0 ∷ add 1 2 1 1 0 ∷ pull 0 ∷ pull 100 ∷ pull 100 ∷ [])
@@ -111,7 +111,7 @@ pub fn allowed_beyond()
         by_priority_beyond 1 1 ∷ by_reservation 1 2 ∷ Nothing ∷ []) }
 {}
 
-/// An update changes the rates of later requests. It is refused where it gives or takes a reservation while a request is queued.
+/// An update changes the rates of later requests. It is refused if it gives or takes a reservation while a request is queued.
 pub fn updates()
     ensures { replies waiting
         (client 1 None 1 None 0 ∷ add 1 1 1 0 0 ∷ update 1 None 2 None 0 ∷ add 1 2 1 0 0 ∷

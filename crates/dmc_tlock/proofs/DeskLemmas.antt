@@ -1,6 +1,8 @@
 -- What one more entry does to a server's desk, and how a write at one desk is seen.
 use Rattle.std.proofs.Common.{◌≡◌, ℕ, ◌+◌, ◌<◌, List, [], ◌∷◌, ◌++◌, length, map, set, get_or, refl, sym, ap, ◌∙◌, subst, arith, true, false, inl, inr, ◌==◌}
 use Rattle.std.proofs.lemmas.List.{get_or-set_same, get_or-set_other, get_or-map, map-set, length-map, length-set}
+use Rattle.std.specs.Borrow.{MutBor}
+use Rattle.std.specs.Prelude.{Option, Some, None, IsSome, IfSome}
 use Rattle.std.proofs.lemmas.Bool.Decides.{eqb_tells}
 use Rattle.std.proofs.lemmas.Bool.{eq-eqb}
 use Rattle.dmc_types.specs.Values.{Params}
@@ -11,10 +13,11 @@ use Rattle.dmc_tracker.specs.declared.event.TrackerEvent.{TrackerEvent}
 use Rattle.dmc_tracker.specs.declared.event.TrackerEvent.TheVariants.{Stamp, Skip, Response}
 use Rattle.dmc_tracker.proofs.ForCallers.{sent-response, sent-skip, sent-stamp_same, sent-stamp_other, stamps-response, stamps-skip, stamps-stamp_same, stamps-stamp_other, responses-skip, responses-stamp, responses-response_same, responses-response_other, responses-reservation-priority, responses-priority-reservation, same_server}
 use Rattle.dmc_ledger.specs.Accounts.{Account}
-use Rattle.dmc_ledger.specs.Bundles.{ServerSide, StampAccounts, GrantHoldings, server_side}
+use Rattle.dmc_ledger.specs.Bundles.{ServerSide, StampAccounts, StampHoldings, GrantHoldings, server_side, stamp_holdings}
+use Rattle.dmc_ledger.specs.declared.bundle.StampTills.{StampTills}
 use Rattle.dmc_ledger.specs.declared.desk.ServerDesk.{ServerDesk}
 use Rattle.dmc_ledger.specs.Moves.{after_issue, books_after_stamp, tills_after_response}
-use Rattle.dmc_tlock.specs.BookState.{no_side, desk_at}
+use Rattle.dmc_tlock.specs.BookState.{no_side, no_tills, desk_at}
 use Rattle.dmc_tlock.specs.Consistent.{IsBook, AreStampBooks, AreGrantTills, IsDesk}
 use Rattle.dmc_tlock.specs.Entries.{side_after_stamp, side_after_response}
 
@@ -189,3 +192,11 @@ desks-set {S} move items s i old new place within is e =
     let f : ServerDesk S → ServerSide = server_side in
     let seen : get_or (map f items) i no_side ≡ f old = get_or-map f items i old no_side within ∙ ap f (sym is) in
     rw (← place) (map-set f items i new ∙ ap (λ x. set (map f items) i x) (e ∙ ap move (sym seen)))
+
+-- a bundle of a pass, as it is seen
+pub tills_seen : {S : Type 0} (r : Option (MutBor (StampTills S))) (items : List (StampTills S)) (n : ℕ) → (IsSome r → n < length items)
+    → IfSome r (λ x. x.now ≡ get_or items n x.now) → IfSome r (λ x. stamp_holdings x.now ≡ get_or (map stamp_holdings items) n no_tills)
+tills_seen {S} None items n within is = is
+tills_seen {S} (Some x) items n within is =
+    let f : StampTills S → StampHoldings = stamp_holdings in
+    ap f is ∙ sym (get_or-map f items n x.now no_tills (within refl))

@@ -1,7 +1,7 @@
 pub mod ConsistentLemmas
 pub mod DeskLemmas
+pub mod ForCallers
 pub mod LaterLemmas
 pub mod OpeningLemmas
-pub mod PlaceLemmas
 pub mod SettlingLemmas
 pub mod StatusLemmas

@@ -56,9 +56,9 @@ none_responded (d ∷ ds) none =
     omega (arith, sum_by-cons responded d ds, first, rest)
 
 pub IsConsistent-new : (client : ℕ) (counting : Counting) (most max_events : ℕ) (desks : List ServerSide) → AreNew client desks
-    → RepresentsEvents (new_numbers counting most (length desks)) [] → max_events ≤ 2 ^ 30
+    → RepresentsEvents (new_numbers counting most (length desks)) [] → 0 < max_events → max_events ≤ 2 ^ 30
     → IsConsistent (new_book_state client counting most max_events desks)
-IsConsistent-new client counting most max_events desks new represents limit =
+IsConsistent-new client counting most max_events desks new represents some limit =
     let opened : List ServerSide = map side_after_opening desks in
     let tracked = IsTracked-nil counting in
     let servers : length opened ≡ length (new_numbers counting most (length desks)).servers =
@@ -81,5 +81,6 @@ IsConsistent-new client counting most max_events desks new represents limit =
       released = omega arith;
       few = omega arith;
       within = omega arith;
+      some = some;
       limit = limit;
     }

@@ -1,19 +1,11 @@
--- What contracts see of a tracker book, of a stamp, and of a book behind its lock.
-use Rattle.std.specs.Prelude.{ℕ, List, None, slice_index_or}
-use Rattle.dmc_types.specs.Values.{Params}
+-- What contracts see of a tracker book, and of a book behind its lock.
+use Rattle.std.specs.Prelude.{ℕ, ◌-◌, List, None, slice_index_or}
 use Rattle.dmc_types.specs.declared.ids.ServerId.{ServerId}
 use Rattle.dmc_tracker.specs.declared.event.TrackerEvent.{TrackerEvent}
 use Rattle.dmc_tracker.specs.Numbers.{Numbers}
-use Rattle.dmc_ledger.specs.Accounts.{Account, Holding}
+use Rattle.dmc_ledger.specs.Accounts.{no_account, no_holding}
 use Rattle.dmc_ledger.specs.Bundles.{ServerSide, StampHoldings}
-
--- the list of stamps, skips and responses, released or not; how many of them were released; how many may be kept; and for
--- how many more a place is reserved
-pub record Entries : Type 0 where
-  pub events : List TrackerEvent
-  pub first : ℕ
-  pub most : ℕ
-  pub room : ℕ
+use Rattle.dmc_shared.specs.Segmented.{Segmented}
 
 -- the client, the numbers of its tracker, the list of its stamps, skips and responses, how many of them were released, how many
 -- may be kept, and the desk of each server
@@ -26,33 +18,21 @@ pub record BookState : Type 0 where
   pub desks : List ServerSide
 
 -- the state of a book of these parts
-abbrev pub state_of : ℕ → Numbers → Entries → List ServerSide → BookState
+abbrev pub state_of : ℕ → Numbers → Segmented TrackerEvent → List ServerSide → BookState
 state_of client tracker list desks = record {
   client = client;
   tracker = tracker;
   events = list.events;
   first = list.first;
-  max_events = list.most;
+  max_events = list.most - list.first;
   desks = desks;
 }
-
--- a stamp: whose it is, for which server, and what it carries
-pub record StampValue : Type 0 where
-  pub client : ℕ
-  pub server : ℕ
-  pub params : Params
 
 -- a lock: whose book it is for
 pub record LockValue : Type 0 where
   pub client : ℕ
 
--- the default of a place without a desk
-abbrev pub no_account : Account
-no_account = record { number = 0; gathered = 0; held = 0; open_tills = 0 }
-
-abbrev pub no_holding : Holding
-no_holding = record { number = 0; amount = 0 }
-
+-- the defaults of a place without tills or a desk
 abbrev pub no_tills : StampHoldings
 no_tills = record { stamps = no_holding; delta = no_holding; rho = no_holding }
 

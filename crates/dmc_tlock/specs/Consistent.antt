@@ -9,7 +9,7 @@ use Rattle.dmc_types.specs.declared.config.PhaseType.TheVariants.{Reservation, P
 use Rattle.dmc_tracker.specs.declared.event.TrackerEvent.{TrackerEvent}
 use Rattle.dmc_tracker.specs.TrackerList.{plus, completions, others, stamps, sent, responses, IsTracked}
 use Rattle.dmc_tracker.specs.Numbers.{numbers_at, RepresentsEvents}
-use Rattle.dmc_history.specs.Segments.{max_released}
+use Rattle.dmc_shared.specs.Segmented.{max_released}
 use Rattle.dmc_ledger.specs.Accounts.{Account, total_of}
 use Rattle.dmc_ledger.specs.Bundles.{ServerSide, StampAccounts, GrantHoldings}
 use Rattle.dmc_tlock.specs.BookState.{BookState, desk_at}
@@ -57,7 +57,7 @@ responded desk = desk.held.reservation.amount + desk.held.priority.amount
 
 -- the two sums; each stamp of the list carries what the list demands; the tracker's numbers are those of the list; the desk
 -- of each server; the desks hold all completions, so each response is of a server that has a desk; and not too many entries
--- were released, or are kept
+-- were released, or are kept; and some may be kept
 pub record IsConsistent (b : BookState) : Type 0 where
   pub balanced : IsBalanced b
   pub tracked : IsTracked b.tracker.counting b.events
@@ -68,4 +68,5 @@ pub record IsConsistent (b : BookState) : Type 0 where
   pub released : b.first ≤ length b.events
   pub few : b.first ≤ max_released
   pub within : length b.events ≤ b.first + b.max_events
+  pub some : 0 < b.max_events
   pub limit : b.max_events ≤ max_events

@@ -1,28 +1,7 @@
 -- What a call of a tracker's book leaves as it was: every call but a rotation, and a rotation.
-use Rattle.std.specs.Prelude.{◌≡◌, ◌≤◌, ℕ, map}
-use Rattle.dmc_ledger.specs.Bundles.{ServerSide}
+use Rattle.std.specs.Prelude.{◌≡◌, ◌≤◌, map}
+use Rattle.dmc_shared.specs.Later.{side_numbers}
 use Rattle.dmc_tlock.specs.BookState.{BookState}
-
--- whose desk it is, at which server, and the numbers of the five books of the pair
-pub record DeskNumbers : Type 0 where
-  pub client : ℕ
-  pub server : ℕ
-  pub stamps : ℕ
-  pub delta : ℕ
-  pub rho : ℕ
-  pub reservation : ℕ
-  pub priority : ℕ
-
-abbrev pub side_numbers : ServerSide → DeskNumbers
-side_numbers desk = record {
-  client = desk.client;
-  server = desk.server;
-  stamps = desk.books.stamps.number;
-  delta = desk.books.delta.number;
-  rho = desk.books.rho.number;
-  reservation = desk.held.reservation.number;
-  priority = desk.held.priority.number;
-}
 
 -- Every call but a rotation leaves the client, the counting form, how far the tracker counts, how many entries were released, how
 -- many may be kept, and the numbers of the desks.

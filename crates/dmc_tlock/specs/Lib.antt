@@ -1,18 +1,18 @@
--- What contracts see of a tracker's book, of a stamp, and of a book behind its lock.
+-- What contracts see of a tracker book, and of a book behind its lock.
 pub mod BookState
--- How the book reports the refusal of one of its parts.
+-- What a refusal of a part is called by the book.
 pub mod Causes
--- The invariant of every tracker's book.
+-- What holds of every tracker book: the invariant of its type.
 pub mod Consistent
--- What a stamp and a response do to a tracker's book.
+-- What a stamp, a skip and a response do to a tracker book.
 pub mod Entries
--- What a call of a tracker's book leaves as it was.
+-- What a call of a tracker's book leaves as it was: every call but a rotation, and a rotation.
 pub mod Later
--- A tracker's book as it is made.
+-- A tracker book that is made.
 pub mod Opening
 -- A tracker's list that is released in segments.
 pub mod Segments
--- A tracker's book as it is settled.
+-- A tracker book that is settled.
 pub mod Settling
 -- What `status` returns.
 pub mod Status

@@ -2,5 +2,3 @@
 pub mod Opening
 -- How a status is read.
 pub mod Status
--- The list after a rotation.
-pub mod Segments

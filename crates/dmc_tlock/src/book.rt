@@ -2,7 +2,7 @@
 ghost use Rattle.std.specs.Prelude.{◌≡◌, ◌≢◌, ◌+◌, ◌<◌, ◌≤◌, ◌↔◌, drop, length, map, IfNone, IfOk, IfErr, IfSome, IsSome, OnOk, OnErr, OnSome, IsOk, IsErrAnd, IsErrOf, IsTrue};
 ghost use Rattle.dmc_types.specs.declared.ids.ServerId.{ServerId};
 ghost use Rattle.dmc_tracker.specs.Numbers.{IsFullAt, next_params};
-ghost use Rattle.dmc_history.specs.Segments.{max_released};
+ghost use Rattle.dmc_shared.specs.Segmented.{max_released};
 ghost use Rattle.dmc_ledger.specs.Bundles.{stamp_holdings, server_side};
 ghost use Rattle.dmc_ledger.specs.Moves.{AreOf, tills_after_stamp, till_in, with_less};
 ghost use Rattle.dmc_tlock.specs.BookState.{desk_at, tills_at};
@@ -14,18 +14,17 @@ ghost use Rattle.dmc_tlock.specs.Settling.{IsOwn, AreGathered, IsSettledDesk, he
 ghost use Rattle.dmc_tlock.specs.Status.{IsStatusOf, IsWithin, AreSums};
 
 use crate::desk::{audit_tills, find_desk, find_grants, issue_stamp, take_unit};
-use crate::entry::{record_response, record_skip, record_stamp};
+use crate::entry::{EntryList, record_response, record_skip, record_stamp};
 use crate::fault::{EntryFault, TillFault};
-use crate::list::EntryList;
 use crate::parts::{Parts, make_parts};
 use crate::pass::{ClientPass, open_desks};
 use crate::segment::TrackerSegment;
 use crate::settled::{StampsHeld, TrackerSettled, gather_pass, is_own};
-use crate::stamp::Stamp;
 use crate::status::{TrackStatus, read_status};
 use dmc_ledger::bundle::StampTills;
 use dmc_ledger::desk::ServerDesk;
 use dmc_ledger::setup::Setup;
+use dmc_ledger::stamp::{Stamp, make_stamp};
 use dmc_ledger::till::Till;
 use dmc_tracker::tracker::{MakeFault, ServiceTracker};
 use dmc_types::config::{Counting, PhaseType};
@@ -79,7 +78,7 @@ pub struct Unsettled<S: Setup> {
 impl<S: Setup> TrackerBook<S> {
     /// A client's book of an empty list, and the client's pass, which holds nothing. The desks are the client's for the
     /// servers 0, 1, .. in order, as `open_pair` gave them: the book's list is that of the first. `most` is the tracker's
-    /// (1 to 2^62), `max_events` how many entries the list keeps (1 to 2^30). Refused `Limit` where these or the number of desks (1 to 64) are past their limits, then `Memory`; the
+    /// (1 to 2^62), `max_events` how many entries the list keeps (1 to 2^30). Refused `Limit` if these or the number of desks (1 to 64) are past their limits, then `Memory`; the
     /// desks are returned. The room that `settle` needs is made here.
     pub fn new(
         alloc: Global,
@@ -113,7 +112,7 @@ impl<S: Setup> TrackerBook<S> {
         let book = TrackerBook {
             client,
             tracker,
-            list: EntryList::new(number, list, history),
+            list: EntryList::new(number, list.open(), history),
             desks,
             held,
         };
@@ -122,7 +121,7 @@ impl<S: Setup> TrackerBook<S> {
 
     /// Stamps a request to a server, and puts the stamp into the tills: one unit, its delta and its rho.
     ///
-    /// Refused `NoServer`; `Stranger` where the tills are not of the server's stamp books; `TrackFull` as the tracker says
+    /// Refused `NoServer`; `Stranger` if the tills are not of the server's stamp books; `TrackFull` as the tracker says
     /// (`ServiceTracker::can_stamp`); `HistoryFull`; `Memory`.
     pub fn stamp(
         &mut self,
@@ -151,7 +150,7 @@ impl<S: Setup> TrackerBook<S> {
         self.list.reserve_one()?;
         let params = record_stamp(&mut self.tracker, &mut self.list, server);
         issue_stamp(&mut self.desks[index], tills, params);
-        Ok(Stamp::new(self.client, server, params))
+        Ok(make_stamp(self.client, server, params, tills))
     }
 
     /// Skips what is pending at a server, as the tracker does: the next stamp to it counts only later completions. It is an
@@ -177,7 +176,7 @@ impl<S: Setup> TrackerBook<S> {
 
     /// Counts a response of a server to a request that it granted in a phase, and takes its unit from the till.
     ///
-    /// Refused `NoServer`; `Stranger` where the till is not of the server's grants in the phase; `TrackFull` where the
+    /// Refused `NoServer`; `Stranger` if the till is not of the server's grants in the phase; `TrackFull` if the
     /// completions are the tracker's `most`; `HistoryFull`; `Memory`.
     pub fn respond(
         &mut self,
@@ -228,7 +227,7 @@ impl<S: Setup> TrackerBook<S> {
     /// Releases the entries of the list since some were last released, in a time that does not grow with their number. It does
     /// not allocate. The book goes on with none of them kept, and can keep `max_events` again. It is an extension.
     ///
-    /// `None`, and nothing changes, exactly where more than 2^62 entries were recorded.
+    /// `None`, and nothing changes, exactly if more than 2^62 entries were recorded.
     pub fn rotate(&mut self) -> Option<TrackerSegment<S>>
         ensures segment { IfSome result (λ segment. segment ≡ segment_of self.old) }
         ensures some { IsSome result ↔ (length self.old.events ≤ max_released) }
@@ -236,7 +235,8 @@ impl<S: Setup> TrackerBook<S> {
         ensures within { OnSome result (self.old.first ≤ length self.old.events) }
         ensures kept { IfNone result (self.new ≡ self.old) }
     {
-        self.list.rotate(self.client, self.tracker.counting())
+        let part = self.list.rotate()?;
+        Some(TrackerSegment::new(self.client, self.tracker.counting(), part))
     }
 
     /// Ends the book: gathers its own pass, and answers the entries of the list that are kept, what was left in the pass, and
@@ -260,14 +260,14 @@ impl<S: Setup> TrackerBook<S> {
         let TrackerBook {
             client: _,
             tracker: _,
-            list,
+            mut list,
             mut desks,
             mut held,
         } = self;
         let ClientPass { tills } = pass;
         gather_pass(&mut desks, tills, &mut held);
         Ok(TrackerSettled {
-            events: list.into_kept(),
+            events: list.take(),
             held,
             desks,
         })

@@ -24,7 +24,7 @@ pub(crate) fn are_of<S: Setup>(tills: &StampTills<S>, books: &StampBooks<S>) -> 
         && tills.rho.number() == books.rho.number()
 }
 
-/// The place of the server's desk, where the tills are of its stamp books.
+/// The place of the server's desk, if the tills are of its stamp books.
 pub(crate) fn find_desk<S: Setup>(
     desks: &[ServerDesk<S>],
     server: ServerId,
@@ -47,7 +47,7 @@ pub(crate) fn find_desk<S: Setup>(
     Ok(index)
 }
 
-/// The place of the server's desk, where the till is of the book of its grants in the phase.
+/// The place of the server's desk, if the till is of the book of its grants in the phase.
 pub(crate) fn find_grants<S: Setup>(
     desks: &[ServerDesk<S>],
     server: ServerId,

@@ -3,13 +3,17 @@ ghost use Rattle.std.specs.Prelude.{◌≡◌, ◌<◌, [], ◌∷◌, ◌++◌,
 ghost use Rattle.dmc_tracker.specs.declared.event.TrackerEvent.{TrackerEvent};
 ghost use Rattle.dmc_tracker.specs.Numbers.{IsFullAt, next_params, after_stamp, after_skip, after_response};
 
-use crate::list::EntryList;
+use dmc_history::History;
 use dmc_ledger::setup::Setup;
+use dmc_shared::segmented::SegmentedList;
 use dmc_tracker::event::TrackerEvent;
 use dmc_tracker::tracker::ServiceTracker;
 use dmc_types::config::PhaseType;
 use dmc_types::ids::ServerId;
 use dmc_types::params::ReqParams;
+
+/// The list of a tracker's entries, of which the first may have been released.
+pub(crate) type EntryList<S> = SegmentedList<History<TrackerEvent>, S>;
 
 /// Stamps a request, and puts the stamp into the list.
 pub(crate) fn record_stamp<S: Setup>(

@@ -8,12 +8,12 @@ ghost use Rattle.dmc_tlock.specs.Status.{IsWithin, AreSums};
 use crate::book::TrackerBook;
 use crate::fault::{EntryFault, TillFault};
 use crate::segment::TrackerSegment;
-use crate::stamp::Stamp;
 use crate::status::TrackStatus;
-use crate::witness::{Lasting, NoWitness, ReleaseWitness, Witness};
 use dmc_ledger::bundle::StampTills;
 use dmc_ledger::setup::Setup;
+use dmc_ledger::stamp::{Stamp, make_stamp};
 use dmc_ledger::till::Till;
+use dmc_shared::witness::{Lasting, NoWitness, ReleaseWitness, Witness};
 use dmc_types::config::PhaseType;
 use dmc_types::ids::{ClientId, ServerId};
 use dmc_types::params::ReqParams;
@@ -143,7 +143,7 @@ impl<S: Setup, W: Witness<TrackerBook<S>>> LockedTracker<TrackerBook<S>, W> {
         ensures kept { OnErr result (tills.new ≡ tills.old) }
     {
         let params = self.guarded.lock(rt).stamp_params(server, tills)?;
-        Ok(Stamp::new(self.client, server, params))
+        Ok(make_stamp(self.client, server, params, tills))
     }
 
     /// Skips what is pending at a server: the next stamp to it counts only later completions. It sends nothing.
@@ -183,10 +183,10 @@ impl<S: Setup, W: Witness<TrackerBook<S>>> LockedTracker<TrackerBook<S>, W> {
     }
 }
 
-// A witness may say how many entries were released. So a lock rotates only where its witness is still true afterwards.
+// A witness may say how many entries were released. So a lock rotates only if its witness is still true afterwards.
 impl<S: Setup, W: ReleaseWitness<TrackerBook<S>>> LockedTracker<TrackerBook<S>, W> {
     /// Releases the entries of the list since the last segment. It does not allocate, and takes a time that does not grow with the
-    /// number of entries. `None`, and nothing changes, exactly where the book's `rotate` returns it.
+    /// number of entries. `None`, and nothing changes, exactly if the book's `rotate` returns it.
     ///
     /// Segments of one lock are parts of one list: `TrackerSegment::follows` shows which is the next.
     pub fn rotate<R: Wait>(&self, rt: &R) -> Option<TrackerSegment<S>> {

@@ -35,7 +35,7 @@ impl<S: Setup> Model for ClientPass<S> {
 }
 
 impl<S: Setup> ClientPass<S> {
-    /// Lends the tills for a server, or `None` where the pass has none.
+    /// Lends the tills for a server, or `None` if the pass has none.
     pub fn tills(&mut self, server: ServerId) -> Option<&mut StampTills<S>>
         // The pass has then what the tills were given back as.
         ensures* writes_back { sem 𝓛 (LendsIf (the_row S.row (record { name = S.name })) (tills_row S.row (record { name = S.name })) self.entry result (λ tills. slice_set self.old server.0 (stamp_holdings tills)) self.old) }

@@ -1,11 +1,11 @@
 //! Segments of a tracker's list.
-ghost use Rattle.std.specs.Prelude.{◌≡◌, ◌≤◌, ◌+◌, drop, length, take, IsTrue};
+ghost use Rattle.std.specs.Prelude.{◌≡◌, ◌≤◌, drop, length, take, IsTrue};
 ghost use Rattle.dmc_tracker.specs.TrackerList.{IsTracked};
-ghost use Rattle.dmc_history.specs.Segments.{IsLast, events_of, max_released};
+ghost use Rattle.dmc_shared.specs.Segmented.{max_released};
 
 use dmc_history::History;
-use dmc_ledger::growing::Beginning;
 use dmc_ledger::setup::Setup;
+use dmc_shared::segment::ListSegment;
 use dmc_tracker::event::TrackerEvent;
 use dmc_types::config::Counting;
 use dmc_types::ids::ClientId;
@@ -19,50 +19,34 @@ use std::marker::Model;
 pub struct TrackerSegment<S: Setup> {
     client: ClientId,
     pub(crate) counting: Counting,
-    number: u32,
-    whole: Beginning<History<TrackerEvent>, S>,
-    first: u64,
-    entries: History<TrackerEvent>,
+    part: ListSegment<History<TrackerEvent>, S>,
 }
 
 impl<S: Setup> Model for TrackerSegment<S> {
-    ghost use Rattle.std.specs.Prelude.{◌≡◌, ◌≤◌};
     ghost use Rattle.dmc_tracker.specs.TrackerList.{IsTracked};
-    ghost use Rattle.dmc_history.specs.Segments.{IsLast, events_of, max_released};
     ghost use Rattle.dmc_tlock.specs.Segments.{TrackerSegmentState};
 
     ghost Value = { TrackerSegmentState };
 
-    ghost view = { λ s. record { client = s.client.0; counting = s.counting; history = events_of s.whole.list; first = s.first } };
+    ghost view = { λ s. record { client = s.client.0; counting = s.counting; history = s.part.history; first = s.part.first } };
 
-    ghost invariant = { λ s. (s.whole.number ≡ s.number) × IsLast s.whole.list s.entries s.first × (s.first ≤ max_released)
-        × IsTracked s.counting (events_of s.whole.list) };
+    ghost invariant = { λ s. IsTracked s.counting s.part.history };
 }
 
 impl<S: Setup> TrackerSegment<S> {
-    /// The segment of these entries, from the number `first` on. `whole` is what was released of the list of a number, with
-    /// them.
+    /// The segment of the list of a client's tracker in this counting form.
     pub(crate) fn new(
         client: ClientId,
         counting: Counting,
-        number: u32,
-        whole: Beginning<History<TrackerEvent>, S>,
-        first: u64,
-        entries: History<TrackerEvent>,
+        part: ListSegment<History<TrackerEvent>, S>,
     ) -> TrackerSegment<S>
-        requires number { whole.number ≡ number }
-        requires last { IsLast whole.list entries first }
-        requires few { first ≤ max_released }
-        requires tracked { IsTracked counting (events_of whole.list) }
-        ensures { result ≡ record { client = client.0; counting = counting; history = events_of whole.list; first = first } }
+        requires { IsTracked counting part.history }
+        ensures { result ≡ record { client = client.0; counting = counting; history = part.history; first = part.first } }
     {
         TrackerSegment {
             client,
             counting,
-            number,
-            whole,
-            first,
-            entries,
+            part,
         }
     }
 
@@ -86,24 +70,20 @@ impl<S: Setup> TrackerSegment<S> {
         ensures within { result ≤ length self.now.history }
         ensures few { result ≤ max_released }
     {
-        self.first
+        self.part.first()
     }
 
     /// Its entries.
     pub fn entries(&self) -> &History<TrackerEvent>
         ensures { result.now.events ≡ drop self.now.first self.now.history }
     {
-        &self.entries
+        self.part.kept()
     }
 
-    /// Whether the other segment is the next of the same list. Where it is, what comes before the other is what this one ends.
+    /// Whether the other segment is the next of the same list. If it is, what comes before the other is what this one ends.
     pub fn follows(&self, next: &TrackerSegment<S>) -> bool
         ensures { IsTrue result → take next.now.first next.now.history ≡ self.now.history }
     {
-        if self.number != next.number {
-            return false;
-        }
-        self.whole.compare(&next.whole);
-        next.first >= self.first && next.first - self.first == self.entries.len() as u64
+        self.part.follows(&next.part)
     }
 }

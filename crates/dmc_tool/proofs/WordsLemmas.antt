@@ -1,4 +1,4 @@
--- A match is what clap gives where no kind of error is listed.
+-- A match is what clap gives if no kind of error is listed.
 use Rattle.std.proofs.Common.{◌≡◌, ◌⊎◌, List, Option, Some, None, Result, Err, [], ◌∷◌, ap, refl, subst, inl, inr, true}
 use Rattle.std.specs.Prelude.{IfOk, ok_or}
 use Rattle.clap.specs.Words.{App, IsAmong, Kinds, Row, Text, fault_of, is_simple, is_simple_and_free, subcommand_of}
@@ -19,7 +19,7 @@ pub matches_simply : is_simple program_app ≡ true
 unfolding clap_on_literals program_app
 matches_simply = refl
 
--- an error that is no allocation failure is returned only where there is no match
+-- an error that is no allocation failure is returned only if there is no match
 pub no_match : {X : Type 0} (kinds : Kinds) (x : Option X) (k : ErrorKind)
     → ((k ≡ OutOfMemory) ⊎ IsAmong k kinds) → fault_at k ≡ Usage → if_no_fault kinds x ≡ None
 no_match [] x k (inl memory) usage = cc
@@ -39,7 +39,7 @@ tool_is written words app found told none same =
     by_parts : (kinds : Kinds) (x : Option (Text × List Row)) → kinds ≡ [] → found ≡ x → tool_in written found ≡ tool_in written (if_no_fault kinds x)
     by_parts kinds x no_kind is = rw no_kind (ap (tool_in written) is)
 
--- what is asked for, where some tool is, and where none is
+-- what is asked for, if some tool is, and if none is
 pub asks_for : (asked : Option Tool) (answer : Result Tool WordsFault) → answer ≡ ok_or asked Usage → IfOk answer (λ tool. asked ≡ Some tool)
 asks_for None answer is = rw is tt
 asks_for (Some tool) answer is = rw is refl

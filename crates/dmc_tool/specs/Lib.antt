@@ -1,12 +1,13 @@
--- The exit status of each fault, and the word for a line's cause.
+-- The exit status of each fault, and the word of a line's cause.
 pub mod Faults
--- When a run may report that a stream failed, by how the run ends.
+-- Whether the streams of a run failed, by how the run ends. Read and Write are reported only if the reader or the writer
+-- failed, or, of a script and of events, at the most bytes of a text.
 pub mod Notes
 -- The exit status of each way to end without a fault.
 pub mod Outcomes
 -- The text of a run's report.
 pub mod ReportTexts
--- What a run in threads writes, and how it ends.
+-- What a run of a scene in threads writes, and how it ends.
 pub mod RunReports
 -- One run of the program, by what its words ask for.
 pub mod Runs

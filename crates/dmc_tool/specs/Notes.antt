@@ -1,4 +1,4 @@
--- Whether the streams of a run failed, by how the run ends. Read and Write are reported only where the reader or the writer
+-- Whether the streams of a run failed, by how the run ends. Read and Write are reported only if the reader or the writer
 -- failed, or, of a script and of events, at the most bytes of a text.
 use Rattle.std.specs.Prelude.{◌≡◌, true, List, ℕ, Option, Some, None, Result, Ok, Err}
 use Rattle.dmc_text.specs.Watching.{failed, IsCalm, MayFail, FailsToRead}

@@ -31,7 +31,7 @@ abbrev pub Reported : {T : Type 0} → Tagging T → SceneValue → (old new : O
 Reported {T} ops scene old new P = (r : ClusterReport T) × (text : List ℕ) × IsRunReport ops scene widest r × IsTextOf ops scene.config r text × Appends old new text × P r
 
 -- By how a run on these tags ends: the report is written, and all was done, or it was not and some worker took its last turn, or
--- none did; or a first part of the report is written, where the writer fails; otherwise nothing is, and the run was torn or memory was
+-- none did; or a first part of the report is written, if the writer fails; otherwise nothing is, and the run was torn or memory was
 -- refused.
 abbrev pub RunsOn : {T : Type 0} → Tagging T → SceneValue → (old new : Option (List ℕ)) → Result ⊤ RunSceneFault → Type 0
 RunsOn ops scene old new (Ok x) = Reported ops scene old new (IsDone scene)
@@ -49,7 +49,7 @@ RunsIn Ratio scene old new end = RunsOn ratio_ops scene old new end
 abbrev pub RunsScene : SceneValue → (old new : Option (List ℕ)) → Result ⊤ RunSceneFault → Type 0
 RunsScene scene old new end = RunsIn scene.tags scene old new end
 
--- Write is reported exactly where the writer failed.
+-- Write is reported exactly if the writer failed.
 abbrev pub ReportNoted : {W : Type 0} → (old new : Watched W) → Result ⊤ RunSceneFault → Type 0
 ReportNoted old new (Err Write) = failed new ≡ true
 ReportNoted old new (Err fault) = IsCalm old new

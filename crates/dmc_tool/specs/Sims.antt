@@ -30,7 +30,7 @@ WritesAll before after old new end = Reports before after (λ report. Appends ol
 abbrev pub IsRefused : (before after : Option (List ℕ)) → Type 0
 IsRefused before after = (scene : SceneValue) × (refusal : Refusal) × ReadsScene before after (Ok scene) × Simulates scene (Err (Refused refusal))
 
--- By how a simulation ends: the report of the scene that is read is written, all of it, or a first part where the writer fails;
+-- By how a simulation ends: the report of the scene that is read is written, all of it, or a first part if the writer fails;
 -- otherwise nothing is.
 abbrev pub RunsSim : (before after old new : Option (List ℕ)) → Result Outcome Fault → Type 0
 RunsSim before after old new (Ok outcome) = WritesAll before after old new (Ok outcome)

@@ -63,7 +63,7 @@ if_no_fault (k ∷ ks) x = None
 unfoldable pub match_of : List Text → Option (Text × List Row)
 match_of words = if_no_fault (fault_of program_app words) (subcommand_of program_app words)
 
--- the tags of a match, ticks where none are named
+-- the tags of a match, ticks if none are named
 abbrev pub tags_in : List Row → Option TagKind
 tags_in rows = option_map_or kind_named (first_of (codes "tags") rows) (Some Tick)
 

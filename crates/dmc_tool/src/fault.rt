@@ -40,7 +40,7 @@ pub enum Fault {
     Stopped,
 }
 
-/// The text of a fault in parts: a head, then a number where it has one, then a tail, which may be empty.
+/// The text of a fault in parts: a head, then a number if it has one, then a tail, which may be empty.
 #[derive(Clone, Copy)]
 pub(crate) struct FaultText {
     pub(crate) head: &'static str,
@@ -74,7 +74,7 @@ impl Fault {
         }
     }
 
-    /// The exit status: 2 for usage, 4 where a run ended early and its report is written, else 1.
+    /// The exit status: 2 for usage, 4 if a run ended early and its report is written, else 1.
     pub fn status(&self) -> u8
         ensures { result ≡ status_of self.now }
     {

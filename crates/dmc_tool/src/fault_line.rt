@@ -9,7 +9,7 @@ use dmc_text::watched::Watched;
 use itoa::Buffer;
 use std::io::Write;
 
-/// Writes a fault's text as one line, and returns its exit status. Where the writer fails, a first part of the line is written,
+/// Writes a fault's text as one line, and returns its exit status. If the writer fails, a first part of the line is written,
 /// and the status is the same.
 pub fn write_fault<W: Write>(fault: Fault, fault_writer: &mut Watched<W>) -> u8
     ensures status { result ≡ status_of fault }
@@ -19,7 +19,7 @@ pub fn write_fault<W: Write>(fault: Fault, fault_writer: &mut Watched<W>) -> u8
     fault.status()
 }
 
-/// Sends the line of the parts of a text. Returns false where the writer fails.
+/// Sends the line of the parts of a text. Returns false if the writer fails.
 fn send_text<W: Write>(text: &FaultText, writer: &mut Watched<W>) -> bool
     ensures { Sends W.contents (line_of text.now) writer.old writer.new result }
 {

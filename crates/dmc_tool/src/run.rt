@@ -29,7 +29,7 @@ impl From<RunSceneFault> for Fault {
     }
 }
 
-/// Runs the scene that is read in threads, and writes the report. Where the run was not done, that is reported after the report.
+/// Runs the scene that is read in threads, and writes the report. If the run was not done, that is reported after the report.
 pub fn run_on<X: Threads + Wait + Sync, R: Read, W: Write>(
     rt: &X,
     alloc: Global,

@@ -26,7 +26,7 @@ impl From<SimFault> for Fault {
     }
 }
 
-/// Simulates the scene that is read, and writes the report. Where the round limit was reached, that is reported after the report.
+/// Simulates the scene that is read, and writes the report. If the round limit was reached, that is reported after the report.
 pub fn simulate_on<R: Read, W: Write>(
     alloc: Global,
     reader: &mut Watched<R>,

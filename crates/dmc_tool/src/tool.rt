@@ -20,8 +20,8 @@ use std::sync::Wait;
 use std::thread::Threads;
 
 /// Runs the tool that the words name. Replies and verdicts go to the writer, a fault's text to the fault writer as one line. The
-/// words are those after the program's name. It returns the exit status: 0 where all is done, 1 at a fault, 2 where the words
-/// name no tool, 3 where events do not replay, 4 where a simulation or a run ended early.
+/// words are those after the program's name. It returns the exit status: 0 if all is done, 1 at a fault, 2 if the words
+/// name no tool, 3 if events do not replay, 4 if a simulation or a run ended early.
 pub fn run_tool<T: AllocGlobal + Threads + Wait + Sync, S: AsStr, R: Read, W: Write, E: Write>(
     rt: &T,
     words: &[S],

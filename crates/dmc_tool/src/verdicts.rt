@@ -11,7 +11,7 @@ use std::alloc::{AllocError, Global};
 use std::thread;
 use std::thread::Threads;
 
-/// Whether each server's history replays from this configuration. Each is checked in a thread of its own, where one can be
+/// Whether each server's history replays from this configuration. Each is checked in a thread of its own, if one can be
 /// started. `AllocError`: an allocation failed.
 pub fn check_all<T: Tag + Sync, R: Threads + Sync>(
     rt: &R,

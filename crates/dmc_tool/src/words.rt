@@ -162,7 +162,7 @@ fn tool_of(matches: &ArgMatches<'_>) -> Option<Tool>
     Some(Tool { command, tags })
 }
 
-// The tags that a command's options name, ticks where they name none.
+// The tags that a command's options name, ticks if they name none.
 fn tags_of(options: &ArgMatches<'_>) -> Option<TagKind>
     ensures { result ≡ tags_in (rows_of (found_of options.now)) }
 {

@@ -200,7 +200,7 @@ pub AreKept-skip : (counting : Counting) (most : ℕ) (comps : Params) (servers 
 AreKept-skip counting most comps servers s x kept within at =
     AreKept-set counting most comps servers s (passed counting comps x) kept (IsKept-passed counting most comps x (rw at (kept.each s.0 x within)))
 
--- a part stays one where the whole grows, and where both do
+-- a part stays one if the whole grows, and if both do
 part-grown : (part whole k : Params) → k.rho ≤ k.delta → IsPart part whole → IsPart part (plus whole k)
 part-grown part whole k rho h = record {
   delta = omega (arith, h.delta);
@@ -234,7 +234,7 @@ mark-answered : (counting : Counting) (most : ℕ) (comps : Params) (phase : Pha
 mark-answered All most comps phase x h = part-grown x.mark comps (one_in phase) (one_rho phase) h.mark
 mark-answered Others most comps phase x h = rw (minus-both comps x.own (one_in phase)) h.mark
 
--- a response where the completions are fewer than `most`
+-- a response if the completions are fewer than `most`
 pub AreKept-response : (counting : Counting) (most : ℕ) (comps : Params) (servers : List ServerCounts) (s : ServerId) (x : ServerCounts)
     (phase : PhaseType) → AreKept counting most comps servers → s.0 < length servers → x ≡ get_or servers s.0 x → comps.delta < most
     → AreKept counting most (plus comps (one_in phase)) (set servers s.0 (answered phase x))

@@ -1,6 +1,7 @@
--- What contracts see of a tracker: the numbers of a tracker list, without the list.
+-- What contracts see of a tracker: the numbers of a tracker list, and no list.
 pub mod Numbers
--- What a tracker stores for a server, in place of a list. No public clause cites this module.
+-- What a tracker keeps for a server, in the place of a list. No public clause cites this module.
 pub mod Server
--- A tracker's list of stamps and responses, oldest first, and its counts delta and rho.
+-- A tracker's list of stamps, skips and responses, oldest first, and what its counts are. Two counts always go together:
+-- delta, of all responses, and rho, of those of them in the constraint phase.
 pub mod TrackerList

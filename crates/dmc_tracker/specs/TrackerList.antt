@@ -103,7 +103,7 @@ skips s events = count_by (is_skip_of s) events
 abbrev pub sent : ServerId → List TrackerEvent → Params
 sent s events = total (sent_by s) events
 
--- the responses after the last stamp or skip of s, or all where there is none, as the form counts them
+-- the responses after the last stamp or skip of s, or all if there is none, as the form counts them
 abbrev pub pending : Counting → ServerId → List TrackerEvent → Params
 pending counting s events = total (counted_by counting s) (after_last (is_mark_of s) events)
 
@@ -134,7 +134,7 @@ IsTracked counting events = (before after : List TrackerEvent) (s : ServerId) (p
 abbrev pub IsComplete : ℕ → List TrackerEvent → Type 0
 IsComplete most events = (completions events).delta ≡ most
 
--- A delta that no stamp may carry, where the deltas stamped to its server sum to `sent`: it is past the greatest count (a
+-- A delta that no stamp may carry, if the deltas stamped to its server sum to `sent`: it is past the greatest count (a
 -- rho is no more than its delta), or, in `Others`, it would take the sum past `most`.
 abbrev pub IsTooMuch : Counting → (most sent delta : ℕ) → Type 0
 IsTooMuch All most sent delta = max_count < delta

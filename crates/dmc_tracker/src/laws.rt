@@ -40,7 +40,7 @@ pub fn completions_by_server()
         → plus (completions_at s events) (others s events) ≡ completions events }
 {}
 
-/// Where a server was never skipped, nothing was skipped there.
+/// If a server was never skipped, nothing was skipped there.
 pub fn nothing_is_skipped()
     ensures { (counting : Counting) (s : ServerId) (before events : List TrackerEvent) → skips s events ≡ 0
         → skipped_after counting s before events ≡ no_counts }

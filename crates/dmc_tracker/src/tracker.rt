@@ -102,8 +102,8 @@ impl ServiceTracker {
         })
     }
 
-    /// Whether the next stamp to a server would be refused, and why: `NoServer`, then `TrackFull` where its delta would pass
-    /// 2^32-1 (its rho is no more), and in the form `Others` where it would take what was sent to the server past `most`. It
+    /// Whether the next stamp to a server would be refused, and why: `NoServer`, then `TrackFull` if its delta would pass
+    /// 2^32-1 (its rho is no more), and in the form `Others` if it would take what was sent to the server past `most`. It
     /// changes nothing.
     pub fn can_stamp(&self, server: ServerId) -> Result<(), TrackFault>
         ensures within { OnOk result
@@ -155,7 +155,7 @@ impl ServiceTracker {
         Ok(self.stamp_checked(server))
     }
 
-    /// Stamps a request to a server where `can_stamp` returns Ok: it needs no further test. For a caller that has to do more
+    /// Stamps a request to a server if `can_stamp` returns Ok: it needs no further test. For a caller that has to do more
     /// between the test and the stamp; otherwise `get_req_params` does both.
     pub fn stamp_checked(&mut self, server: ServerId) -> ReqParams
         requires within { server.0 < length self.old.servers }
@@ -184,7 +184,7 @@ impl ServiceTracker {
         ReqParams::new(params.delta as u32, params.rho as u32).unwrap()
     }
 
-    /// Skips what is pending at a server: the next stamp to it counts only later completions. It sends nothing. Where a stamp
+    /// Skips what is pending at a server: the next stamp to it counts only later completions. It sends nothing. If a stamp
     /// is refused `TrackFull` for its delta, a skip ends that. Refused `NoServer`.
     pub fn skip(&mut self, server: ServerId) -> Result<(), TrackFault>
         ensures after { OnOk result (self.new ≡ after_skip server self.old) }
@@ -213,7 +213,7 @@ impl ServiceTracker {
         Ok(())
     }
 
-    /// Whether a response of a server would be refused, and why: `NoServer`, then `TrackFull` where the completions are
+    /// Whether a response of a server would be refused, and why: `NoServer`, then `TrackFull` if the completions are
     /// `most`. It changes nothing.
     pub fn can_respond(&self, server: ServerId) -> Result<(), TrackFault>
         ensures fewer { OnOk result (self.now.completions.delta < self.now.most) }
@@ -255,7 +255,7 @@ impl ServiceTracker {
         Ok(())
     }
 
-    /// Counts a completion where `can_respond` returns Ok: it needs no further test. For a caller that has to do more
+    /// Counts a completion if `can_respond` returns Ok: it needs no further test. For a caller that has to do more
     /// between the test and the count; otherwise `track_resp` does both.
     pub fn track_checked(&mut self, server: ServerId, phase: PhaseType)
         requires within { server.0 < length self.old.servers }
@@ -278,7 +278,7 @@ impl ServiceTracker {
         };
     }
 
-    /// The sums of the deltas and of the rhos stamped to a server, or `None` where the tracker has no such server.
+    /// The sums of the deltas and of the rhos stamped to a server, or `None` if the tracker has no such server.
     pub fn sent(&self, server: ServerId) -> Option<(u64, u64)>
         ensures { result ≡ option_map sent_pair (slice_get self.now.servers server.0) }
     {
@@ -286,7 +286,7 @@ impl ServiceTracker {
         Some((counts.sent.delta, counts.sent.rho))
     }
 
-    /// The completions that were skipped at a server, of all and in the constraint phase, or `None` where the tracker has no
+    /// The completions that were skipped at a server, of all and in the constraint phase, or `None` if the tracker has no
     /// such server.
     pub fn skipped(&self, server: ServerId) -> Option<(u64, u64)>
         ensures { result ≡ option_map skipped_pair (slice_get self.now.servers server.0) }
@@ -296,7 +296,7 @@ impl ServiceTracker {
     }
 
     /// The completions that a stamp to a server would count now, of all and in the constraint phase, without the request
-    /// itself; `None` where the tracker has no such server.
+    /// itself; `None` if the tracker has no such server.
     pub fn pending(&self, server: ServerId) -> Option<(u64, u64)>
         ensures { result ≡ option_map pending_pair (slice_get self.now.servers server.0) }
     {
@@ -342,7 +342,7 @@ impl ServiceTracker {
     }
 }
 
-/// Whether no stamp may carry this delta, where the deltas stamped to its server sum to `sent`: it is past 2^32-1, or, in the
+/// Whether no stamp may carry this delta, if the deltas stamped to its server sum to `sent`: it is past 2^32-1, or, in the
 /// form `Others`, it would take the sum past `most`. Such a stamp is refused `TrackFull`.
 pub fn is_too_much(counting: Counting, most: u64, sent: u64, delta: u64) -> bool
     requires { sent + delta < 2 ^ 64 }

@@ -9,7 +9,7 @@ use Rattle.std.proofs.lemmas.Grind.{div_ceil_times}
 use Rattle.std.specs.Int.{div_ceil}
 use Rattle.dmc_types.specs.Clock.{IsHz, IsLeastNanos, ticks_after, nanos_per_second}
 
--- this many ticks have passed exactly where the products say so
+-- this many ticks have passed exactly if the products say so
 pub passed_from_products : (hz ticks nanos : ℕ) → ticks * nanos_per_second ≤ nanos * hz → ticks ≤ ticks_after hz nanos
 passed_from_products hz ticks nanos h = le-div ticks (nanos * hz) nanos_per_second (omega arith) h
 
@@ -31,7 +31,7 @@ least_nanos hz ticks some =
       | inr fine ↦ fine
     ]
 
--- where the least nanoseconds do not fit, none that fit are enough
+-- if the least nanoseconds do not fit, none that fit are enough
 pub none_below : (hz ticks nanos bound : ℕ) → IsLeastNanos hz ticks nanos → bound ≤ nanos → (other : ℕ) → other < bound → ticks_after hz other < ticks
 none_below hz ticks nanos bound h past other fits = elim (cases_lt (ticks_after hz other) ticks) [
   | inl less ↦ less

@@ -18,7 +18,7 @@ fn is_hz(hz: u32) -> bool
 
 impl Moment {
     /// The moment of a clock that has counted `nanos` nanoseconds, with `hz` ticks a second: the whole ticks that have passed.
-    /// `None` where that is above 2^62, and where `hz` is not 1 to 1,000,000,000.
+    /// `None` if that is above 2^62, and if `hz` is not 1 to 1,000,000,000.
     pub fn from_nanos(hz: u32, nanos: u64) -> Option<Moment>
         ensures value { IfSome result (λ moment. moment ≡ ticks_after hz nanos) }
         ensures none { IsNone result ↔ (IsHz hz → ⊥) ⊎ (max_moment < ticks_after hz nanos) }
@@ -34,7 +34,7 @@ impl Moment {
     }
 
     /// The least number of nanoseconds after which a clock has reached this moment, so that a thread which sleeps until then finds
-    /// the request due. `None` where it does not fit 64 bits, and where `hz` is not 1 to 1,000,000,000.
+    /// the request due. `None` if it does not fit 64 bits, and if `hz` is not 1 to 1,000,000,000.
     pub fn to_nanos(self, hz: u32) -> Option<u64>
         ensures value { IfSome result (IsLeastNanos hz self) }
         ensures none { IsNone result ↔ (IsHz hz → ⊥) ⊎ ((nanos : ℕ) → nanos < 2 ^ 64 → ticks_after hz nanos < self) }

@@ -69,7 +69,7 @@ impl Model for QueueConfig {
 }
 
 impl QueueConfig {
-    /// A configuration. It is refused `Config` where a value is out of its limits.
+    /// A configuration. It is refused `Config` if a value is out of its limits.
     pub fn new(
         hz: u64,
         idle_age: u64,

@@ -27,7 +27,7 @@ impl Model for ReqParams {
 }
 
 impl ReqParams {
-    /// Both counts. They are refused `Params` where `rho` is above `delta`.
+    /// Both counts. They are refused `Params` if `rho` is above `delta`.
     pub fn new(delta: u32, rho: u32) -> Result<ReqParams, ValueFault>
         ensures ok { rho ≤ delta → result ≡ Ok (record { delta = delta; rho = rho }) }
         ensures refused { delta < rho → result ≡ Err ValueFault.Params }

@@ -14,7 +14,7 @@ pub const FINE_HZ: u32 = 735_134_400;
 const MAX_ROOT: u32 = 1 << 16;
 
 /// The greatest divisor of `hz` that is at most `rate`, in requests a second: the rate to take for a limit and for a weight.
-/// `None` for a rate of 0, and where `hz` is not 1 to 1,000,000,000. It makes at most 31,623 divisions.
+/// `None` for a rate of 0, and if `hz` is not 1 to 1,000,000,000. It makes at most 31,623 divisions.
 ///
 /// A weight is taken as it was typed, and not multiplied. Shares are in the proportion of the weights only while the sum of all
 /// weights is less than the requests a second that are granted by weight.
@@ -37,7 +37,7 @@ pub fn rate_at_least(hz: u32, rate: u32) -> Option<u32>
     if rate == 0 || rate > hz {
         return None;
     }
-    // A divisor is at least the rate exactly where its counterpart is at most hz / rate.
+    // A divisor is at least the rate exactly if its counterpart is at most hz / rate.
     Some(hz / greatest_divisor(hz, hz / rate))
 }
 

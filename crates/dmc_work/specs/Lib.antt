@@ -1,2 +1,2 @@
--- To which server each request of a client goes: by the words of a generator, one word a request.
+-- To which servers a client's requests go: by the words of a generator, one word a request.
 pub mod Plan

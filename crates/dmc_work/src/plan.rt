@@ -11,7 +11,7 @@ use std::alloc::{AllocError, Global};
 /// The servers of a client's first `n` requests, in order (extension): request j goes to word j of the generator of the seed and
 /// the client, modulo the number of servers, both counted from 0.
 ///
-/// It allocates once, and fails only where that allocation fails.
+/// It allocates once, and fails only if that allocation fails.
 pub fn plan(
     alloc: Global,
     seed: u64,

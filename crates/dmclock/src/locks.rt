@@ -15,6 +15,7 @@ pub use dmc_ledger::desk::{ClientDesk, ServerDesk, close_pair, open_pair};
 pub use dmc_ledger::full::Full;
 pub use dmc_ledger::mint::{Blank, Mint};
 pub use dmc_ledger::setup::Setup;
+pub use dmc_ledger::stamp::Stamp;
 pub use dmc_ledger::till::Till;
 pub use dmc_qlock::fault::RunOrRange;
 pub use dmc_qlock::lock::{Locked, OfServer, QueueLock};
@@ -27,7 +28,6 @@ pub use dmc_tlock::lock::TrackerLock;
 pub use dmc_tlock::pass::ClientPass;
 pub use dmc_tlock::segment::TrackerSegment;
 pub use dmc_tlock::settled::{StampsHeld, TrackerSettled};
-pub use dmc_tlock::stamp::Stamp;
 pub use dmc_tlock::status::TrackStatus;
 pub use dmc_tracker::event::TrackerEvent;
 

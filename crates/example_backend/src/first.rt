@@ -16,7 +16,7 @@ pub fn serve_first(alloc: Global) -> Result<()> {
     serve_one(&mut TickQueue::new(alloc, config), &mut tracker)
 }
 
-/// Registers a client, and queues and serves a request of it. It is an error where the queue does not grant it.
+/// Registers a client, and queues and serves a request of it. It is an error if the queue does not grant it.
 fn serve_one<Q: Scheduler<TickTag>>(queue: &mut Q, tracker: &mut ServiceTracker) -> Result<()>
     ensures { OnOk result (tracker.new.completions.delta ≡ tracker.old.completions.delta + 1) }
 {

@@ -1,2 +1,2 @@
--- The key that an index by reservation has for a client.
+-- What an index by reservation has of a client.
 pub mod Keys

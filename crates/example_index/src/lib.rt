@@ -17,7 +17,7 @@ use dmclock::{Indexes, OrderIndex, Tag};
 pub fn indexed_clients<T: Tag, I: Indexes<T>, S: Setup>(
     book: &QueueBook<T, I, S>,
 ) -> &I::ReservationIndex
-    ensures { (id : ClientId) → has_queued id (after T.ops book.now.config book.now.history).requests ≡ true
+    ensures { (id : ClientId) → has_queued id (after T.ops book.now.config book.now.history).clients ≡ true
         → HasKey id (I.ReservationIndex.slots result.now) }
 {
     reservation_index(book)

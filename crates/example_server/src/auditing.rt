@@ -86,7 +86,7 @@ impl<S: Setup> Auditor<S> {
         Ok(())
     }
 
-    /// Audits whenever enough was recorded, until the server ends. It reports as often as asked. Where it fails, all threads
+    /// Audits whenever enough was recorded, until the server ends. It reports as often as asked. If it fails, all threads
     /// end.
     pub fn run<R: Wait + Clock + Eprint>(
         &mut self,
@@ -118,7 +118,7 @@ impl<S: Setup> Auditor<S> {
         unreachable!()
     }
 
-    /// Reports how many events were replayed, where the last report is this many milliseconds old. Returns when the last one was.
+    /// Reports how many events were replayed, if the last report is this many milliseconds old. Returns when the last one was.
     fn report<R: Clock + Eprint>(&self, rt: &R, last: Instant, millis: u64) -> Result<Instant> {
         if millis == 0 || last.elapsed(rt)?.as_millis() < u128::from(millis) {
             return Ok(last);

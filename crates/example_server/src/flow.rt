@@ -110,7 +110,7 @@ impl Backlog {
         );
     }
 
-    /// Waits until there are enough events to release. False where the server has ended.
+    /// Waits until there are enough events to release. False if the server has ended.
     pub fn wait_for_enough<R: Wait>(&self, rt: &R) -> bool {
         let waiting = self.waiting.lock(rt);
         let waiting = self.grown.wait_while(

@@ -36,7 +36,7 @@ use std::{env, thread};
 /// The books that the mint opens: five for each client and for each pass, and the list of the queue's segments.
 const BOOKS: u64 = 5 * (CLIENTS + PASSES) as u64 + 1;
 
-/// How many requests each client makes where no word says it.
+/// How many requests each client makes if no word says it.
 const REQUESTS: u32 = 5_000;
 
 /// What the words ask for: how many requests each client makes, and how many milliseconds are between two reports.

@@ -28,7 +28,7 @@ pub struct Requester<S: Setup> {
 }
 
 impl<S: Setup> Requester<S> {
-    /// Comes, and makes all requests. Where that fails, all threads end.
+    /// Comes, and makes all requests. If that fails, all threads end.
     pub fn run<R: Wait + Clock>(&mut self, rt: &R, shared: &Shared<S>) {
         self.fault = self.request_all(rt, shared).err();
         if self.fault.is_some() {
@@ -49,7 +49,7 @@ impl<S: Setup> Requester<S> {
         Ok(())
     }
 
-    /// Registers the client, after it was admitted where it comes later.
+    /// Registers the client, after it was admitted if it comes later.
     fn come<R: Wait + Clock>(&mut self, rt: &R, shared: &Shared<S>) -> Result<()> {
         if let Some(desk) = self.desk.take() {
             self.wait_for_turn(rt, shared)?;

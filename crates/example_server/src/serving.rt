@@ -17,7 +17,7 @@ pub struct Worker<S: Setup> {
 }
 
 impl<S: Setup> Worker<S> {
-    /// Serves until the queue is closed and nothing is queued. Where that fails, all threads end.
+    /// Serves until the queue is closed and nothing is queued. If that fails, all threads end.
     pub fn run<R: Wait + Clock>(&mut self, rt: &R, shared: &Shared<S>) {
         self.fault = self.serve_all(rt, shared).err();
         if self.fault.is_some() {
@@ -34,7 +34,7 @@ impl<S: Setup> Worker<S> {
         unreachable!()
     }
 
-    /// Waits for a request, and serves it. False where there will be none. A pass from before the request's client was admitted
+    /// Waits for a request, and serves it. False if there will be none. A pass from before the request's client was admitted
     /// is extended instead.
     fn serve_next<R: Wait + Clock>(&mut self, rt: &R, shared: &Shared<S>) -> Result<bool> {
         let at = shared.now(rt)?;

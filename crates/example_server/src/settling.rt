@@ -34,7 +34,7 @@ impl<S: Setup> Passes<S> {
     }
 }
 
-/// How many requests were granted. It is an error where one is left.
+/// How many requests were granted. It is an error if one is left.
 fn grants_of<S: Setup>(settled: &Settled<TickTag, S>) -> Result<u64> {
     if settled.left > 0 {
         bail!("{} requests are left", settled.left);

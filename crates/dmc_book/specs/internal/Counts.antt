@@ -1,5 +1,5 @@
 -- How much an event adds to a count.
-use Rattle.std.specs.Prelude.{◌-◌, ◌≤◌}
+use Rattle.std.specs.Prelude.{◌≤◌}
 use Rattle.dmc_book.specs.declared.counts.Numbers.{Numbers}
 use Rattle.dmc_book.specs.Counts.{max_added}
 

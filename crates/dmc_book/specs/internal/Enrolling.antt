@@ -8,7 +8,7 @@ use Rattle.dmc_book.specs.Consistent.{IsSeated}
 use Rattle.dmc_book.specs.Opening.{desk_with_tills, new_worker}
 use Rattle.dmc_book.specs.Enrolling.{AreSeatLimits}
 
--- what holds where a worker is not enrolled for a cause
+-- what holds if a worker is not enrolled for a cause
 abbrev pub IsAgainstWorker : List WorkerSide → ℕ → WorkerId → EnrolFault → Type 0
 IsAgainstWorker workers left w enrol.Known = IsSeated workers w.0
 IsAgainstWorker workers left w enrol.Limit = (IsSeated workers w.0 → ⊥) × (AreSeatLimits (length workers) left → ⊥)

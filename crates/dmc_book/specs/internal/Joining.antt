@@ -8,7 +8,7 @@ use Rattle.dmc_book.specs.BookState.{AccountsState}
 use Rattle.dmc_book.specs.Moves.{desk_place}
 use Rattle.dmc_book.specs.Joining.{IsUnused, desks_from, reach_at, with_reach}
 
--- what holds where a client is not admitted for a cause
+-- what holds if a client is not admitted for a cause
 abbrev pub IsAgainst : ℕ → List ClientSide → ClientSide → AdmitCause → Type 0
 IsAgainst server desks d admit.Stranger = IsUnused server d → ⊥
 IsAgainst server desks d admit.Known = IsUnused server d × (is_some (desk_place d.client desks) ≡ true)

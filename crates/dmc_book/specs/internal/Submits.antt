@@ -1,13 +1,12 @@
--- What a submit does, and where it finds the desk of its stamp.
+-- What a submit does, and if it finds the desk of its stamp.
 use Rattle.std.specs.Prelude.{◌≡◌, ℕ, ◌<◌, true, false, List, length, Option, Some, None, Result, Ok, Err, slice_index_or}
 use Rattle.dmc_types.specs.declared.ids.Token.{Token}
 use Rattle.dmc_types.specs.declared.command.Command.TheVariants.{Add}
 use Rattle.dmc_tag.specs.Tag.{Tagging}
 use Rattle.dmc_tag.specs.declared.reply.Reply.TheVariants.{Tagged}
 use Rattle.dmc_tag.specs.declared.reply.Tags.{Tags}
-use Rattle.dmc_ledger.specs.Bundles.{ClientSide, StampHoldings}
+use Rattle.dmc_ledger.specs.Bundles.{ClientSide, StampHoldings, StampValue}
 use Rattle.dmc_ledger.specs.Moves.{tills_after_submit}
-use Rattle.dmc_tlock.specs.BookState.{StampValue}
 use Rattle.dmc_book.specs.declared.fault.SubmitCause.{SubmitCause}
 use Rattle.dmc_book.specs.declared.fault.SubmitCause.TheVariants as submit
 use Rattle.dmc_book.specs.BookState.{BookState, PassState, WorkerSide, no_desk}
@@ -26,7 +25,7 @@ module _ {T : Type 0} (b : BookState T) (p : PassState) (stamp : StampValue) (ti
   abbrev pub IsAsked : Type 0
   IsAsked = IsEnrolled b.workers p × IsForDesk b.server b.desks stamp tills × (b.closed ≡ false) × (length b.history ≡ b.most → ⊥)
 
-  -- what holds where a submit is refused for a cause
+  -- what holds if a submit is refused for a cause
   abbrev pub HasCause : SubmitCause → Type 0
   HasCause submit.Stranger = IsEnrolled b.workers p × IsForDesk b.server b.desks stamp tills → ⊥
   HasCause submit.Closed = IsEnrolled b.workers p × IsForDesk b.server b.desks stamp tills × (b.closed ≡ true)

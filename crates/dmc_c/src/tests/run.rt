@@ -42,7 +42,7 @@ pub enum Line {
     Clean(u64),
 }
 
-/// No tags, where nothing is written.
+/// No tags, if nothing is written.
 pub fn no_tags() -> DmcTags {
     let none = DmcTag {
         high: 7,

@@ -25,7 +25,7 @@ WritesVerdict old new checked (Err faults.Memory) = Keeps old new
 WritesVerdict old new checked (Err faults.Read) = ⊥
 WritesVerdict old new checked (Err (faults.Line n cause)) = ⊥
 
--- Write is reported exactly where the writer failed.
+-- Write is reported exactly if the writer failed.
 abbrev pub VerdictNoted : {W : Type 0} → (old new : Watched W) → Result Verdict ScriptFault → Type 0
 VerdictNoted old new (Ok verdict) = IsCalm old new
 VerdictNoted old new (Err faults.Write) = failed new ≡ true

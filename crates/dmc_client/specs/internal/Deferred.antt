@@ -4,7 +4,7 @@ use Rattle.std.specs.Option.{option_map, option_map_or}
 use Rattle.std.specs.List.{AllByRecursion}
 use Rattle.dmc_tag.specs.Tag.{Tagging}
 use Rattle.dmc_tag.specs.Rules.{has_less, less}
-use Rattle.dmc_client.specs.declared.request.QueuedRequest.{QueuedRequest}
+use Rattle.dmc_tag.specs.declared.plain.QueuedRequest.{QueuedRequest}
 
 -- a stored R, less the deferred amount
 abbrev pub tag_less_deferred : {T : Type 0} → Tagging T → Option T → Option T → Option T
@@ -30,7 +30,7 @@ tag_has_deferred ops (Some amount) r = option_map_or (has_less ops amount) r tru
 abbrev pub has_deferred : {T : Type 0} → Tagging T → Option T → QueuedRequest T → Bool
 has_deferred ops deferred r = tag_has_deferred ops deferred r.tags.r
 
--- Each stored R less the deferred amount is a value, and nothing is deferred where nothing is queued.
+-- Each stored R less the deferred amount is a value, and nothing is deferred if nothing is queued.
 pub record IsDeferred {T : Type 0} (ops : Tagging T) (deferred : Option T) (stored : List (QueuedRequest T)) : Type 0 where
   pub values : AllByRecursion (λ r. has_deferred ops deferred r ≡ true) stored
   pub empty : stored ≡ [] → deferred ≡ None

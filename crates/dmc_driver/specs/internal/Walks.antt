@@ -32,7 +32,7 @@ refused_at {T} i events = option_and_then (λ (e : Event T). refused e.reply) (s
 
 -- ---- over stops
 
--- the stops after these first ones, or none where they do not begin so
+-- the stops after these first ones, or none if they do not begin so
 abbrev pub IsRestAfter : (first stops : List StopCause) → Option (Bor (List StopCause)) → Type 0
 IsRestAfter first stops None = (rest : List StopCause) → stops ≡ first ++ rest → ⊥
 IsRestAfter first stops (Some rest) = stops ≡ first ++ rest.now

@@ -44,7 +44,7 @@ impl<S: Setup> QueueDesks<S> {
         Ok(QueueDesks { server, desks })
     }
 
-    /// One more.
+    /// Adds a desk.
     fn push(&mut self, desk: ClientDesk<S>) -> Result<(), AllocError>
         requires { IsNewDesk self.old.server (client_side desk) }
         ensures { OnOk result (self.new ≡ with_client desk.client.0 self.old) }

@@ -23,7 +23,7 @@ abbrev pub least_without : {T : Type 0} → Tagging T → Option T → T → Opt
 least_without ops None share = None
 least_without ops (Some known) share = if is_eq (ops.compare share known) then None else Some known
 
--- what is known when a head changes: the new P where that is at most the least
+-- what is known when a head changes: the new P if that is at most the least
 abbrev pub least_after : {T : Type 0} → Tagging T → Option T → T → T → Option T
 least_after ops None old new = None
 least_after ops (Some known) old new = if is_gt (ops.compare new known) then least_without ops (Some known) old else Some new

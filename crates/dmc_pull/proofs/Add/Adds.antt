@@ -1,6 +1,6 @@
 -- The results of the tests of an add, and what the least P of all heads means for the shift.
 use Rattle.std.proofs.Common.{◌≡◌, ℕ, Bool, true, false, not, List, [], length, Option, Some, None, Result, Ok, Err, refl, sym, ap, ◌∙◌, subst}
-use Rattle.std.specs.Prelude.{IfSome, IsSome, is_some, if◌then◌else◌, nat_le}
+use Rattle.std.specs.Prelude.{IfSome, IsSome, is_some, if◌then◌else◌, nat_le, MatchOption}
 use Rattle.std.specs.Option.{option_map, ok_or}
 use Rattle.std.specs.List.{AllByRecursion}
 use Rattle.std.specs.declared.cmp.Ordering.TheVariants.{Equal}
@@ -12,11 +12,9 @@ use Rattle.dmc_types.specs.declared.refusal.Refusal.{Refusal}
 use Rattle.dmc_types.specs.declared.refusal.Refusal.TheVariants.{Unknown, QueueFull, Range}
 use Rattle.dmc_tag.specs.Tag.{Tagging}
 use Rattle.dmc_tag.specs.Outcome.{◌>>=◌, refuse_if, in_range}
-use Rattle.dmc_tag.specs.State.{State, client_named}
-use Rattle.dmc_tag.specs.Best.{best, by_weight, is_any, IsBest, HasNone}
+use Rattle.dmc_tag.specs.State.{PlainClient, State, client_named, queued_requests}
+use Rattle.dmc_tag.specs.Best.{Found, best_of_all, by_weight, is_any, HasNone}
 use Rattle.dmc_tag.specs.Rules.{can_add, can_shift_by, shift_of, shift_from, assigned}
-use Rattle.dmc_tag.specs.declared.plain.PlainRequest.{PlainRequest}
-use Rattle.dmc_tag.specs.declared.plain.PlainClient.{PlainClient}
 use Rattle.dmc_tag.specs.declared.reply.Tags.{Tags}
 use Rattle.dmc_client.specs.Record.{IsRecord, client_of}
 use Rattle.dmc_roster.specs.Entries.{Entry, entry_named, AreDistinct}
@@ -24,11 +22,11 @@ use Rattle.dmc_head_index.specs.declared.head.Head.{Head}
 use Rattle.dmc_head_index.specs.Heads.{IsLeastShare}
 use Rattle.dmc_pull.specs.internal.Adding.{needed_shift, unless_nothing}
 use Rattle.dmc_pull.specs.Queue.{AreHeads}
-use Rattle.dmc_pull.specs.Represented.{clients_in, requests_in}
+use Rattle.dmc_pull.specs.Represented.{clients_in}
 use Rattle.dmc_pull.proofs.Common.Entries.{named}
-use Rattle.dmc_tag.proofs.Lists.{all_at}
-use Rattle.dmc_pull.proofs.Add.LeastShare.{best_share, has_least}
-pub use Rattle.dmc_tag.proofs.Orderings.{tag_order}
+use Rattle.dmc_tag.proofs.ForCallers.{none_of_all}
+use Rattle.dmc_pull.proofs.Add.LeastShare.{best_share}
+pub use Rattle.dmc_lemmas.proofs.Orderings.{tag_order}
 
 pub if_all : {X : Type 0} (P : X → Type 0) (o : Option X) → ((x : X) → o ≡ Some x → P x) → IfSome o P
 if_all P None h = tt
@@ -39,7 +37,7 @@ if_holds P o x e h = subst (λ o. IfSome o P) e h
 
 -- ---- the client
 
--- nobody has the name, where no key was found
+-- nobody has the name, if no key was found
 pub no_entry : {T : Type 0} (id : ClientId) (es : List (Entry T)) → option_map (λ e. e.key) (entry_named id es) ≡ None → entry_named id es ≡ None
 no_entry id es h = at (entry_named id es) h where
   at : {T : Type 0} (o : Option (Entry T)) → option_map (λ e. e.key) o ≡ None → o ≡ None
@@ -56,7 +54,7 @@ held_entry (Some x) h = (x, refl)
 module _ {T : Type 0} (ops : Tagging T) where
   -- ---- the shift
 
-  -- how far the others are shifted where the least P is this
+  -- how far the others are shifted if the least P is this
   abbrev pub shift_past : T → T → Result (Option T) Refusal
   shift_past least t = in_range (ops.minus least t) >>= λ amount. Ok (unless_nothing ops (Some amount))
 
@@ -64,51 +62,50 @@ module _ {T : Type 0} (ops : Tagging T) where
   past_of None = refl
   past_of (Some amount) = refl
 
-  pub shift_idle : (requests : List (PlainRequest T)) (arriving : PlainClient T) (t : T) (r : PlainRequest T) (others : List (PlainRequest T)) → arriving.idle ≡ true → best (by_weight ops) is_any requests ≡ Some (r, others) → shift_past r.tags.p t ≡ needed_shift ops requests arriving t
-  shift_idle requests arriving t r others idle b =
-      past_of (ops.minus r.tags.p t)
+  pub shift_idle : (clients : List (PlainClient T)) (arriving : PlainClient T) (t : T) (found : Found T) → arriving.idle ≡ true → best_of_all ops by_weight is_any clients ≡ Some found → shift_past found.request.tags.p t ≡ needed_shift ops clients arriving t
+  shift_idle clients arriving t found idle b =
+      past_of (ops.minus found.request.tags.p t)
       ∙ ap (λ o. shift_from ops t o >>= λ full. Ok (unless_nothing ops full)) (sym b)
-      ∙ ap (λ i. (if i then shift_from ops t (best (by_weight ops) is_any requests) else Ok None) >>= λ full. Ok (unless_nothing ops full)) (sym idle)
+      ∙ ap (λ i. (if i then shift_from ops t (best_of_all ops by_weight is_any clients) else Ok None) >>= λ full. Ok (unless_nothing ops full)) (sym idle)
 
-  pub shift_empty : (requests : List (PlainRequest T)) (arriving : PlainClient T) (t : T) → requests ≡ [] → Ok None ≡ needed_shift ops requests arriving t
-  shift_empty requests arriving t e = at arriving.idle ∙ ap (λ rs. needed_shift ops rs arriving t) (sym e) where
-    at : (i : Bool) → Ok None ≡ ((if i then shift_from ops t None else Ok None) >>= λ full. Ok (unless_nothing ops full))
-    at true = refl
-    at false = refl
+  -- a client that is not idle shifts no other
+  pub shift_busy : (clients : List (PlainClient T)) (arriving : PlainClient T) (t : T) → arriving.idle ≡ false → Ok None ≡ needed_shift ops clients arriving t
+  shift_busy clients arriving t busy = ap (λ i. (if i then shift_from ops t (best_of_all ops by_weight is_any clients) else Ok None) >>= λ full. Ok (unless_nothing ops full)) (sym busy)
+
+  pub shift_empty : (clients : List (PlainClient T)) (arriving : PlainClient T) (t : T) → queued_requests clients ≡ [] → Ok None ≡ needed_shift ops clients arriving t
+  shift_empty clients arriving t e =
+      let none = none_of_all ops by_weight is_any clients (subst (HasNone is_any) (sym e) tt) in
+      at arriving.idle ∙ ap (λ o. (if arriving.idle then shift_from ops t o else Ok None) >>= λ full. Ok (unless_nothing ops full)) (sym none) where
+        at : (i : Bool) → Ok None ≡ ((if i then shift_from ops t None else Ok None) >>= λ full. Ok (unless_nothing ops full))
+        at true = refl
+        at false = refl
 
   -- others are shifted for an idle client alone
-  pub idle_where_shifted : (requests : List (PlainRequest T)) (arriving : PlainClient T) (t : T) (shift : Option T) → Ok shift ≡ needed_shift ops requests arriving t → IsSome shift → arriving.idle ≡ true
-  idle_where_shifted requests arriving t None e some = cc (some)
-  idle_where_shifted requests arriving t (Some amount) e some = at arriving.idle refl e where
-    at : (i : Bool) → arriving.idle ≡ i → Ok (Some amount) ≡ ((if i then shift_from ops t (best (by_weight ops) is_any requests) else Ok None) >>= λ full. Ok (unless_nothing ops full)) → arriving.idle ≡ true
+  pub idle_where_shifted : (clients : List (PlainClient T)) (arriving : PlainClient T) (t : T) (shift : Option T) → Ok shift ≡ needed_shift ops clients arriving t → IsSome shift → arriving.idle ≡ true
+  idle_where_shifted clients arriving t None e some = cc (some)
+  idle_where_shifted clients arriving t (Some amount) e some = at arriving.idle refl e where
+    at : (i : Bool) → arriving.idle ≡ i → Ok (Some amount) ≡ ((if i then shift_from ops t (best_of_all ops by_weight is_any clients) else Ok None) >>= λ full. Ok (unless_nothing ops full)) → arriving.idle ≡ true
     at true f e = f
     at false f e = cc
 
   module _ (order : IsTotalOrder ops.compare) (same : (a b : T) → ops.compare a b ≡ Equal → a ≡ b)
-      (t0 : ℕ) (es : List (Entry T)) (heads : List (Option (Head T))) (are : AreHeads ops t0 es heads) (d : AreDistinct es) (records : AllByRecursion (λ e. IsRecord ops e.rec) es)
-      (found : (xs others : List (PlainRequest T)) (r : PlainRequest T) → best (by_weight ops) is_any xs ≡ Some (r, others) → IsBest (by_weight ops) is_any xs r others)
-      (not_found : (xs : List (PlainRequest T)) → best (by_weight ops) is_any xs ≡ None → HasNone is_any xs) where
+      (t0 : ℕ) (es : List (Entry T)) (heads : List (Option (Head T))) (are : AreHeads ops t0 es heads) (d : AreDistinct es) (records : AllByRecursion (λ e. IsRecord ops e.rec) es) where
     -- the least P of the heads is what the shift is reckoned from
-    pub shift_by_least : (least : T) → IsLeastShare ops heads least → (arriving : PlainClient T) (t : T) → arriving.idle ≡ true → shift_past least t ≡ needed_shift ops (requests_in es) arriving t
-    shift_by_least least is arriving t idle = at (best (by_weight ops) is_any (requests_in es)) refl where
-      at : (o : Option (PlainRequest T × List (PlainRequest T))) → best (by_weight ops) is_any (requests_in es) ≡ o → shift_past least t ≡ needed_shift ops (requests_in es) arriving t
-      at None b =
-          let x = has_least ops order same t0 es heads are d records least is in
-          let none = all_at (λ (r : PlainRequest T). is_any r ≡ false) x.among.front x.request x.among.back (subst (HasNone is_any) x.among.whole (not_found (requests_in es) b)) in
-          cc (none)
-      at (Some (r, others)) b =
-          ap (λ p. shift_past p t) (sym (best_share ops order same t0 es heads are d records least is r others (found (requests_in es) others r b)))
-          ∙ shift_idle (requests_in es) arriving t r others idle b
+    pub shift_by_least : (least : T) → IsLeastShare ops heads least → (arriving : PlainClient T) (t : T) → arriving.idle ≡ true → shift_past least t ≡ needed_shift ops (clients_in es) arriving t
+    shift_by_least least is arriving t idle = at (best_of_all ops by_weight is_any (clients_in es)) refl (best_share ops order same t0 es heads are d records least is) where
+      at : (o : Option (Found T)) → best_of_all ops by_weight is_any (clients_in es) ≡ o → MatchOption o ⊥ (λ found. found.request.tags.p ≡ least) → shift_past least t ≡ needed_shift ops (clients_in es) arriving t
+      at None b never = absurd never
+      at (Some found) b share = ap (λ p. shift_past p t) (sym share) ∙ shift_idle (clients_in es) arriving t found idle b
 
   -- ---- the tests
 
   module _ (s : State T) (id : ClientId) (params : Params) (t : T) where
     -- what is left of them, with a client, and with a shift
     abbrev with_shift : PlainClient T → Option T → Result (Option T × Tags T) Refusal
-    with_shift client shift = refuse_if (not (can_shift_by ops shift s.clients s.requests)) Range >>= λ _. (assigned ops s.config.hz client params t >>= λ tags. Ok (shift, tags))
+    with_shift client shift = refuse_if (not (can_shift_by ops shift s.clients)) Range >>= λ _. (assigned ops s.config.hz client params t >>= λ tags. Ok (shift, tags))
 
     abbrev with_client : PlainClient T → Result (Option T × Tags T) Refusal
-    with_client client = refuse_if (nat_le max_requests (length s.requests)) QueueFull >>= λ _. (shift_of ops s.requests client t >>= with_shift client)
+    with_client client = refuse_if (nat_le max_requests (length (queued_requests s.clients))) QueueFull >>= λ _. (shift_of ops s.clients client t >>= with_shift client)
 
     pub unknown : client_named id s.clients ≡ None → can_add ops s id params t ≡ Err Unknown
     unknown e = ap (λ o. ok_or o Unknown >>= with_client) e
@@ -117,40 +114,40 @@ module _ {T : Type 0} (ops : Tagging T) where
       known : can_add ops s id params t ≡ with_client client
       known = ap (λ o. ok_or o Unknown >>= with_client) named
 
-      pub full : nat_le max_requests (length s.requests) ≡ true → can_add ops s id params t ≡ Err QueueFull
-      full e = known ∙ ap (λ b. refuse_if b QueueFull >>= λ _. (shift_of ops s.requests client t >>= with_shift client)) e
+      pub full : nat_le max_requests (length (queued_requests s.clients)) ≡ true → can_add ops s id params t ≡ Err QueueFull
+      full e = known ∙ ap (λ b. refuse_if b QueueFull >>= λ _. (shift_of ops s.clients client t >>= with_shift client)) e
 
-      module _ (room : nat_le max_requests (length s.requests) ≡ false) where
-        roomy : can_add ops s id params t ≡ (shift_of ops s.requests client t >>= with_shift client)
-        roomy = known ∙ ap (λ b. refuse_if b QueueFull >>= λ _. (shift_of ops s.requests client t >>= with_shift client)) room
+      module _ (room : nat_le max_requests (length (queued_requests s.clients)) ≡ false) where
+        roomy : can_add ops s id params t ≡ (shift_of ops s.clients client t >>= with_shift client)
+        roomy = known ∙ ap (λ b. refuse_if b QueueFull >>= λ _. (shift_of ops s.clients client t >>= with_shift client)) room
 
         -- the shift is refused
-        pub no_shift : (refusal : Refusal) → Err refusal ≡ needed_shift ops s.requests client t → can_add ops s id params t ≡ Err refusal
-        no_shift refusal e = roomy ∙ at (shift_of ops s.requests client t) e where
+        pub no_shift : (refusal : Refusal) → Err refusal ≡ needed_shift ops s.clients client t → can_add ops s id params t ≡ Err refusal
+        no_shift refusal e = roomy ∙ at (shift_of ops s.clients client t) e where
           at : (o : Result (Option T) Refusal) → Err refusal ≡ (o >>= λ amount. Ok (unless_nothing ops amount)) → (o >>= with_shift client) ≡ Err refusal
           at (Ok amount) e = cc
           at (Err other) e = let one : refusal ≡ other = cc (e) in ap Err (sym one)
 
-        -- the shift that is not left out where it is nothing
+        -- the shift that is not left out if it is nothing
         pub record Whole (shift : Option T) : Type 0 where
           pub amount : Option T
-          pub is : shift_of ops s.requests client t ≡ Ok amount
+          pub is : shift_of ops s.clients client t ≡ Ok amount
           pub left : shift ≡ unless_nothing ops amount
 
-        pub whole : (shift : Option T) → Ok shift ≡ needed_shift ops s.requests client t → Whole shift
-        whole shift e = at (shift_of ops s.requests client t) refl e where
-          at : (o : Result (Option T) Refusal) → shift_of ops s.requests client t ≡ o → Ok shift ≡ (o >>= λ amount. Ok (unless_nothing ops amount)) → Whole shift
+        pub whole : (shift : Option T) → Ok shift ≡ needed_shift ops s.clients client t → Whole shift
+        whole shift e = at (shift_of ops s.clients client t) refl e where
+          at : (o : Result (Option T) Refusal) → shift_of ops s.clients client t ≡ o → Ok shift ≡ (o >>= λ amount. Ok (unless_nothing ops amount)) → Whole shift
           at (Ok amount) f e = record { amount = amount; is = f; left = cc (e) }
           at (Err other) f e = cc
 
-        module _ (amount : Option T) (is : shift_of ops s.requests client t ≡ Ok amount) where
+        module _ (amount : Option T) (is : shift_of ops s.clients client t ≡ Ok amount) where
           shifts : can_add ops s id params t ≡ with_shift client amount
           shifts = roomy ∙ ap (λ o. o >>= with_shift client) is
 
-          pub out_of_range : can_shift_by ops amount s.clients s.requests ≡ false → can_add ops s id params t ≡ Err Range
+          pub out_of_range : can_shift_by ops amount s.clients ≡ false → can_add ops s id params t ≡ Err Range
           out_of_range e = shifts ∙ ap (λ b. refuse_if (not b) Range >>= λ _. (assigned ops s.config.hz client params t >>= λ tags. Ok (amount, tags))) e
 
-          module _ (can : can_shift_by ops amount s.clients s.requests ≡ true) where
+          module _ (can : can_shift_by ops amount s.clients ≡ true) where
             assigns : can_add ops s id params t ≡ (assigned ops s.config.hz client params t >>= λ tags. Ok (amount, tags))
             assigns = shifts ∙ ap (λ b. refuse_if (not b) Range >>= λ _. (assigned ops s.config.hz client params t >>= λ tags. Ok (amount, tags))) can
 

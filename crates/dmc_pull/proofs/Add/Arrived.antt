@@ -5,16 +5,16 @@ use Rattle.std.specs.Result.{is_err}
 use Rattle.std.specs.Option.{option_map, option_and_then}
 use Rattle.std.specs.List.{AllByRecursion}
 use Rattle.std.proofs.lemmas.Bool.{eqb-true, eqb-false, ne_eqb}
-use Rattle.std.proofs.lemmas.List.{length-map, length-set, get_or-set_same, get_or-set_other}
+use Rattle.std.proofs.lemmas.List.{length-set, get_or-set_same, get_or-set_other}
 use Rattle.dmc_types.specs.Limits.{max_requests}
 use Rattle.dmc_types.specs.Values.{Setting}
 use Rattle.dmc_types.specs.declared.ids.ClientId.{ClientId}
 use Rattle.dmc_tag.specs.Tag.{Fraction, Tagging}
 use Rattle.dmc_tag.specs.Best.{is_due}
-use Rattle.dmc_tag.specs.State.{Represents, is_client, requests_of}
-use Rattle.dmc_tag.specs.Rules.{moment_of, can_shift_by, shifted_requests, shifted_request, shifted_by, change_client, after_arrival, queued}
-use Rattle.dmc_client.specs.declared.request.QueuedRequest.{QueuedRequest}
-use Rattle.dmc_client.specs.Record.{Rec, IsRecord, request_of, pushed}
+use Rattle.dmc_tag.specs.State.{State, is_client, queued_requests}
+use Rattle.dmc_tag.specs.Rules.{moment_of, can_shift_by, change_client, after_arrival, queued}
+use Rattle.dmc_tag.specs.declared.plain.QueuedRequest.{QueuedRequest}
+use Rattle.dmc_client.specs.Record.{Rec, IsRecord, pushed}
 use Rattle.dmc_adjust.specs.Changes.{shifted}
 use Rattle.dmc_roster.specs.Entries.{Entry, Listing, entry_keyed, record_at, with_rec, with_record, AreDistinct}
 use Rattle.dmc_index.specs.Index.{slot_of_key}
@@ -22,16 +22,16 @@ use Rattle.dmc_head_index.specs.declared.head.Head.{Head}
 use Rattle.dmc_head_index.specs.Heads.{CanShift, IsOthers}
 use Rattle.dmc_pull.specs.Queue.{Queue, IsQueue, IsKept, AreHeads, head_of, unready}
 use Rattle.dmc_pull.specs.internal.Queue.{head_at}
-use Rattle.dmc_pull.specs.Represented.{clients_in, requests_in}
+use Rattle.dmc_pull.specs.Represented.{clients_in}
 use Rattle.dmc_pull.proofs.Common.Kept.{due_later}
 use Rattle.dmc_pull.proofs.Common.Lent.{changed_as}
 use Rattle.dmc_pull.proofs.Common.Parts.{all_as, all_both, all_append, found_holds, found_passes}
 use Rattle.dmc_pull.proofs.Common.Entries.{Differs, split, name_is, all_changed}
 use Rattle.dmc_pull.proofs.Common.Keyed.{same_client, split_keyed, distinct_changed, read_changed, read_other, read_kept}
-use Rattle.dmc_pull.proofs.Add.Shifted.{pushed_clients, pushed_requests, length_pushed}
+use Rattle.dmc_pull.proofs.Add.Shifted.{pushed_clients, count_pushed, count_shifted, arrived_others}
 use Rattle.dmc_pull.proofs.Pull.Choices.{entry_at}
 use Rattle.dmc_pull.proofs.Add.Adds.{held_entry, if_holds}
-use Rattle.dmc_pull.proofs.Common.Moved.{HasRest, pushed_values, Moved, unmoved, moved, can_shift, all_shiftable, arrived_others}
+use Rattle.dmc_pull.proofs.Common.Moved.{HasRest, pushed_values, Moved, unmoved, moved, can_shift, all_shiftable}
 use Rattle.dmc_pull.specs.internal.Adding.{IsAddition, others_shifted, heads_shifted}
 use Rattle.dmc_pull.specs.declared.adding.Addition.{Addition}
 
@@ -131,18 +131,14 @@ module _ {T : Type 0} {ops : Tagging T} (fraction : T → Fraction) (is_value : 
       all_as (λ f. IsRecord ops f.rec × HasRest ops value config.hz f.rec) (λ f. IsKept ops fraction is_value config.hz f.rec) (λ f h. record { is_record = h.0; spacings = h.1.0; values = h.1.1 }) roster.entries
       (all_both (λ f. IsRecord ops f.rec) (λ f. HasRest ops value config.hz f.rec) roster.entries after.records (subst (AllByRecursion (λ f. HasRest ops value config.hz f.rec)) (sym after.whole) rest))
 
-  length_shifted : (s : Option T) → length (shifted_requests ops s (clients_in es) (requests_in es)) ≡ length (requests_in es)
-  length_shifted None = refl
-  length_shifted (Some amount) = length-map (requests_in es) (shifted_request ops amount (clients_in es))
-
-  counted : length (requests_in roster.entries) ≡ suc (length (requests_in es))
+  counted : length (queued_requests (clients_in roster.entries)) ≡ suc (length (queued_requests (clients_in es)))
   counted =
-      ap (λ xs. length (requests_in xs)) after.whole
-      ∙ length_pushed after.moved.here request at
-      ∙ ap (λ rs. suc (length rs)) after.moved.requests
-      ∙ ap suc (length_shifted shift)
+      ap (λ xs. length (queued_requests (clients_in xs))) after.whole
+      ∙ count_pushed after.moved.here request at
+      ∙ ap (λ cs. suc (length (queued_requests cs))) after.moved.clients
+      ∙ ap suc (count_shifted ops shift (clients_in es))
 
-  module _ (n : ℕ) (count : n ≡ length (requests_in es)) (room : length (requests_in es) < max_requests) (v : value request.tags.p) where
+  module _ (n : ℕ) (count : n ≡ length (queued_requests (clients_in es))) (room : length (queued_requests (clients_in es)) < max_requests) (v : value request.tags.p) where
     pub is_queue : (new : List (Option (Head T))) → AreHeads ops at (with_record key (pushed request at e.rec) after.entries) new → length new ≡ length heads → IsQueue ops fraction is_value (record { config = config; roster = roster; heads = new; last_moment = at }) (n + 1)
     is_queue new are same =
         let came = all_changed after.moved.here (λ f. f.key < length heads) (pushed request at e.rec) after.moved.in_room (found_holds (λ f. f.key < length heads) (λ f. f.key == key) after.entries e after.moved.in_room (split_keyed after.moved.here)) in
@@ -162,14 +158,9 @@ module _ {T : Type 0} {ops : Tagging T} (fraction : T → Fraction) (is_value : 
       pub with_first : (length e.rec.requests == 0) ≡ true → IsQueue ops fraction is_value (record { config = config; roster = roster; heads = slice_set heads key (Some (head_at ops at e.id request.tags)); last_moment = at }) (n + 1)
       with_first none = is_queue _ (heads_first after later due_from none) (length-set heads key (Some (head_at ops at e.id request.tags)))
 
-  -- the plain state of the queue, and of one that keeps its requests in order of arrival
-  pub represents : (last : ℕ) → Represents (record { config = config; requests = requests_in roster.entries; clients = clients_in roster.entries; last_moment = at }) (queued (shifted_by ops shift (record { config = config; requests = requests_in es; clients = clients_in es; last_moment = last })) (record { client = e.id; token = request.token; tags = request.tags }) at)
-  represents last = record {
-    config = refl;
-    requests = λ id. ap (λ xs. requests_of id (requests_in xs)) after.whole ∙ pushed_requests after.moved.here request at id ∙ ap (λ rs. requests_of id (rs ++ request_of e.id request ∷ [])) after.moved.requests;
-    clients = ap clients_in after.whole ∙ pushed_clients after.moved.here request at ∙ ap (change_client e.id (after_arrival request.tags at)) after.moved.clients;
-    last_moment = refl;
-  }
+  -- the plain state
+  pub came_state : (last : ℕ) → let new : State T = record { config = config; clients = clients_in roster.entries; last_moment = at } in new ≡ queued ops (record { config = config; clients = clients_in es; last_moment = last }) shift e.id request at
+  came_state last = ap (λ cs. record { config = config; clients = cs; last_moment = at }) (ap clients_in after.whole ∙ pushed_clients after.moved.here request at ∙ ap (change_client e.id (after_arrival request at)) after.moved.clients)
 
 -- ---- from what calls answer
 
@@ -197,12 +188,12 @@ module _ {T : Type 0} {ops : Tagging T} {fraction : T → Fraction} {is_value : 
   records_of = all_as (λ f. IsKept ops fraction is_value q.config.hz f.rec) (λ f. IsRecord ops f.rec) (λ f k. k.is_record) known of.is.kept
 
   -- each head can be shifted
-  pub heads_can_shift : (shift : Option T) → can_shift_by ops shift (clients_in known) (requests_in known) ≡ true → IfSome shift (λ amount. CanShift ops amount q.heads)
+  pub heads_can_shift : (shift : Option T) → can_shift_by ops shift (clients_in known) ≡ true → IfSome shift (λ amount. CanShift ops amount q.heads)
   heads_can_shift None can = tt
-  heads_can_shift (Some amount) can = can_shift ops amount q.last_moment known q.heads of.is.heads records_of (all_shiftable ops amount known of.distinct can)
+  heads_can_shift (Some amount) can = can_shift ops amount q.last_moment known q.heads of.is.heads records_of (all_shiftable ops amount known can)
 
   module _ (differences : (a amount : T) → IfSome (ops.minus a amount) (λ tag. is_value (fraction tag))) (request : QueuedRequest T) (at : ℕ) where
-    after_shift : (shift : Option T) → (IsSome shift → of.entry.rec.idle ≡ true) → can_shift_by ops shift (clients_in known) (requests_in known) ≡ true → (now : List (Entry T)) → now ≡ others_shifted ops shift key (with_record key (pushed request at of.entry.rec) known) → AllByRecursion (λ f. IsRecord ops f.rec) now → After ops (λ tag. is_value (fraction tag)) q.config.hz q.last_moment shift key of.entry known request at now (heads_shifted ops shift q.heads)
+    after_shift : (shift : Option T) → (IsSome shift → of.entry.rec.idle ≡ true) → can_shift_by ops shift (clients_in known) ≡ true → (now : List (Entry T)) → now ≡ others_shifted ops shift key (with_record key (pushed request at of.entry.rec) known) → AllByRecursion (λ f. IsRecord ops f.rec) now → After ops (λ tag. is_value (fraction tag)) q.config.hz q.last_moment shift key of.entry known request at now (heads_shifted ops shift q.heads)
     after_shift None idle can now same records = record {
       entries = known;
       moved = unmoved ops (λ tag. is_value (fraction tag)) q.config.hz q.last_moment key of.entry known q.heads of.found of.distinct of.is.heads of.is.in_room rest_of;
@@ -212,13 +203,13 @@ module _ {T : Type 0} {ops : Tagging T} {fraction : T → Fraction} {is_value : 
     after_shift (Some amount) idle can now same records = record {
       entries = map (λ e. with_rec (shifted ops amount) e) known;
       moved = moved ops (λ tag. is_value (fraction tag)) q.config.hz q.last_moment key of.entry known q.heads of.found of.distinct of.is.heads of.is.in_room rest_of differences amount (idle refl) records_of;
-      whole = same ∙ arrived_others ops amount (split key known of.entry of.found of.distinct) (idle refl) (all_shiftable ops amount known of.distinct can) request at;
+      whole = same ∙ arrived_others ops amount key (pushed request at of.entry.rec) known (all_shiftable ops amount known can);
       records = records;
     }
 
     -- after a push that did not fail, and the shift of the others
     pub after_calls : {A E : Type 0} (result : Result A E) → is_err result ≡ false → (lent new : Rec T) → record_at key known ≡ Some lent → OnOk result (new ≡ pushed request at lent) → IsRecord ops new
-        → (shift : Option T) → (IsSome shift → IfSome (record_at key known) (λ rec. rec.idle ≡ true)) → can_shift_by ops shift (clients_in known) (requests_in known) ≡ true
+        → (shift : Option T) → (IsSome shift → IfSome (record_at key known) (λ rec. rec.idle ≡ true)) → can_shift_by ops shift (clients_in known) ≡ true
         → (now : List (Entry T)) → now ≡ others_shifted ops shift key (with_record key new known) → (AllByRecursion (λ f. IsRecord ops f.rec) (with_record key new known) → AllByRecursion (λ f. IsRecord ops f.rec) now)
         → (heads : List (Option (Head T))) → heads ≡ heads_shifted ops shift q.heads
         → After ops (λ tag. is_value (fraction tag)) q.config.hz q.last_moment shift key of.entry known request at now heads

@@ -1,4 +1,4 @@
--- The P tags stay in their range where a request comes and all others are shifted; and a shift is tested at the range.
+-- The P tags stay in their range if a request comes and all others are shifted; and a shift is tested at the range.
 use Rattle.std.proofs.Common.{◌≡◌, ℕ, Bool, true, false, not, ◌&&◌, ◌||◌, List, [], ◌∷◌, ◌++◌, map, Option, Some, None, Result, refl, sym, ap, ◌∙◌, subst}
 use Rattle.std.specs.Prelude.{◌==◌, if◌then◌else◌, OnOk}
 use Rattle.std.specs.Option.{option_map, option_and_then, unwrap_or}
@@ -10,11 +10,11 @@ use Rattle.std.proofs.lemmas.Cmp.{upto}
 use Rattle.dmc_types.specs.declared.ids.ClientId.{ClientId}
 use Rattle.dmc_tag.specs.Tag.{Fraction, Tagging, IsExact, IsWhole}
 use Rattle.dmc_tag.specs.Order.{AtMost}
-use Rattle.dmc_tag.specs.Rules.{less, has_less}
+use Rattle.dmc_tag.specs.Rules.{less, has_less, less_share}
 use Rattle.dmc_tag.proofs.ForCallers.{minus_keeps_order, between_has_less}
-use Rattle.dmc_tag.proofs.Orderings.{at_most_itself, at_most_turned}
-use Rattle.dmc_client.specs.declared.request.QueuedRequest.{QueuedRequest}
-use Rattle.dmc_client.specs.Record.{Rec, pushed, less_share, less_shares}
+use Rattle.dmc_tag.proofs.Upto.{at_most_itself, at_most_turned}
+use Rattle.dmc_tag.specs.declared.plain.QueuedRequest.{QueuedRequest}
+use Rattle.dmc_client.specs.Record.{Rec, pushed, less_shares}
 use Rattle.dmc_adjust.specs.Changes.{shifted, is_shiftable}
 use Rattle.dmc_roster.specs.Entries.{Entry, record_at, with_rec, with_record, with_record_at}
 use Rattle.dmc_head_index.specs.Least.{lesser}
@@ -27,6 +27,8 @@ use Rattle.dmc_pull.proofs.Common.Lent.{changed_as}
 use Rattle.dmc_pull.proofs.Common.Parts.{all_as, all_mapped, all_pass, found_holds}
 use Rattle.dmc_pull.proofs.Common.Entries.{split, all_changed}
 use Rattle.dmc_pull.proofs.Common.Moved.{pushed_values}
+use Rattle.dmc_pull.proofs.Add.Shifted.{shares_have_less}
+use Rattle.std.proofs.Math.Bool.{or-true}
 use Rattle.dmc_pull.proofs.Add.Arrived.{IsOf}
 
 module _ {T : Type 0} (ops : Tagging T) (order : IsTotalOrder ops.compare) where
@@ -175,17 +177,9 @@ module _ {T : Type 0} (ops : Tagging T) (fraction : T → Fraction) (is_value : 
       between_has_less ops fraction is_value exact (interval all.0) range.least tag range.greatest amount h.0 h.1 all.1 all.2
 
   module _ (range : Option (ShareRange T)) (e : all_have_less whole ops amount range ≡ true) where
-    shares_have_less : (qs : List (QueuedRequest T)) (last : T) → AllByRecursion (IsWithin ops range) (map (λ r. r.tags.p) qs ++ last ∷ []) → (list_all (λ r. has_less ops amount r.tags.p) qs && has_less ops amount last) ≡ true
-    shares_have_less [] last h = tag_has_less range e last h.0
-    shares_have_less (q ∷ qs) last h =
-        ap (λ b. (b && list_all (λ r. has_less ops amount r.tags.p) qs) && has_less ops amount last) (tag_has_less range e q.tags.p h.0) ∙ shares_have_less qs last h.1
-
     record_is_shiftable : (rec : Rec T) → HasSharesIn ops range rec → is_shiftable ops amount rec ≡ true
-    record_is_shiftable rec h = ap (λ b. rec.idle || b) (shares_have_less rec.requests rec.previous.p h) ∙ either rec.idle where
-      either : (b : Bool) → (b || true) ≡ true
-      either true = refl
-      either false = refl
+    record_is_shiftable rec h = ap (λ b. rec.idle || b) (shares_have_less ops amount (IsWithin ops range) (tag_has_less range e) rec.requests rec.previous.p h) ∙ or-true rec.idle
 
-    -- where it follows from the range, each record can be shifted
+    -- if it follows from the range, each record can be shifted
     pub all_can_shift : (es : List (Entry T)) → AreWithin ops range es → list_all (λ f. is_shiftable ops amount f.rec) es ≡ true
     all_can_shift es are = all_pass (λ f. is_shiftable ops amount f.rec) es (all_as (λ f. HasSharesIn ops range f.rec) (λ f. is_shiftable ops amount f.rec ≡ true) (λ f h. record_is_shiftable f.rec h) es are.shares)

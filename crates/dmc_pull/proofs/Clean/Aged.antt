@@ -1,31 +1,27 @@
 -- The queue after a clean.
-use Rattle.std.proofs.Common.{◌≡◌, ℕ, ◌<◌, ◌≤◌, Bool, true, false, not, List, map, length, filter, Option, None, Ok, refl, sym, ap, ◌∙◌, subst}
+use Rattle.std.proofs.Common.{◌≡◌, ℕ, ◌<◌, ◌≤◌, Bool, true, false, not, List, length, filter, Option, None, Ok, refl, sym, ap, ◌∙◌, subst}
 use Rattle.std.specs.Option.{option_map, option_and_then}
 use Rattle.std.specs.Prelude.{slice_get}
 use Rattle.std.specs.List.{AllByRecursion}
 use Rattle.dmc_types.specs.declared.command.Command.TheVariants.{Clean}
 use Rattle.dmc_tag.specs.Tag.{Fraction, Tagging}
-use Rattle.dmc_tag.specs.State.{effective}
+use Rattle.dmc_tag.specs.State.{effective, queued_requests}
 use Rattle.dmc_tag.specs.Spacing.{spacings_of}
 use Rattle.dmc_tag.specs.Rules.{cleaned}
 use Rattle.dmc_tag.specs.Step.{answer_of, step}
 use Rattle.dmc_tag.specs.Answers.{clean_reply}
-use Rattle.dmc_client.specs.declared.request.QueuedRequest.{QueuedRequest}
+use Rattle.dmc_tag.specs.declared.plain.QueuedRequest.{QueuedRequest}
 use Rattle.dmc_client.specs.Record.{IsRecord, share_tags}
 use Rattle.dmc_roster.specs.Entries.{Entry, Listing, entry_keyed, with_rec, AreDistinct}
 use Rattle.dmc_pull.specs.internal.Cleaning.{is_stale, is_idled, with_idle_mark}
 use Rattle.dmc_pull.specs.Range.{HasSharesIn, AreWithin}
-use Rattle.dmc_pull.specs.Represented.{requests_in}
+use Rattle.dmc_pull.specs.Represented.{clients_in}
 use Rattle.dmc_pull.specs.declared.range.ShareRange.{ShareRange}
 use Rattle.dmc_pull.specs.Queue.{Queue, state_of, IsQueue, IsKept, AreHeads, head_of, unready_head}
 use Rattle.dmc_pull.proofs.Common.Parts.{all_as, all_both, all_filtered, all_mapped}
-use Rattle.dmc_pull.proofs.Clean.Cleaned.{stale_empty, cleaned_clients, cleaned_requests, count_idled, count_erased}
+use Rattle.dmc_pull.proofs.Clean.Cleaned.{kept_entries, stale_empty, kept_requests, cleaned_clients, count_idled, count_erased}
 use Rattle.dmc_pull.proofs.Common.Keyed.{distinct_with, distinct_filtered, read_retained}
 use Rattle.dmc_pull.proofs.Clean.Aging.{DueFromCeil, heads_later, all_true}
-
--- the entries that stay, marked
-abbrev pub kept_entries : {T : Type 0} → ℕ → ℕ → ℕ → List (Entry T) → List (Entry T)
-kept_entries t idle_age erase_age es = map (λ e. with_rec (with_idle_mark t idle_age) e) (filter (λ e. not (is_stale t erase_age e.rec)) es)
 
 module _ {T : Type 0} (t idle_age erase_age : ℕ) where
   -- what holds of each, whatever its idle mark, holds of those that stay
@@ -75,14 +71,14 @@ module _ {T : Type 0} (ops : Tagging T) (fraction : T → Fraction) (is_value : 
         distinct = subst AreDistinct (sym e) (distinct_with (λ f. with_idle_mark at q.config.idle_age) (filter (λ f. not (is_stale at q.config.erase_age f.rec)) es) (distinct_filtered (λ f. not (is_stale at q.config.erase_age f.rec)) es is.distinct));
         heads = subst (λ fs. AreHeads ops at fs q.heads) (sym e) heads;
         in_room = subst (AllByRecursion (λ f. f.key < length q.heads)) (sym e) inside;
-        counted = is.counted ∙ ap length (sym (cleaned_requests (state_of q) at es distinct refl) ∙ ap requests_in (sym e));
+        counted = is.counted ∙ ap length (sym (kept_requests at q.config.idle_age q.config.erase_age es) ∙ ap (λ fs. queued_requests (clients_in fs)) (sym e));
         bound = is.bound;
       }
 
-  pub cleaned_step : (q : Queue T) → AreDistinct q.roster.entries → (roster : Listing T) (at t idled erased : ℕ) → t ≡ effective (state_of q) at → roster.entries ≡ kept_entries t q.config.idle_age q.config.erase_age q.roster.entries → idled ≡ length (filter (λ e. is_idled t q.config.idle_age q.config.erase_age e.rec) q.roster.entries) → erased ≡ length (filter (λ e. is_stale t q.config.erase_age e.rec) q.roster.entries) → (state_of (record { config = q.config; roster = roster; heads = q.heads; last_moment = t }), clean_reply (idled, erased)) ≡ step ops (state_of q) (Clean at)
-  cleaned_step q distinct roster at t idled erased moment e i j =
+  pub cleaned_step : (q : Queue T) (roster : Listing T) (at t idled erased : ℕ) → t ≡ effective (state_of q) at → roster.entries ≡ kept_entries t q.config.idle_age q.config.erase_age q.roster.entries → idled ≡ length (filter (λ e. is_idled t q.config.idle_age q.config.erase_age e.rec) q.roster.entries) → erased ≡ length (filter (λ e. is_stale t q.config.erase_age e.rec) q.roster.entries) → (state_of (record { config = q.config; roster = roster; heads = q.heads; last_moment = t }), clean_reply (idled, erased)) ≡ step ops (state_of q) (Clean at)
+  cleaned_step q roster at t idled erased moment e i j =
       let s = state_of q in
       let es = q.roster.entries in
       let here : (state_of (record { config = q.config; roster = roster; heads = q.heads; last_moment = t }), clean_reply (idled, erased)) ≡ answer_of s (cleaned s t) =
-      rw (e, i, j, cleaned_clients s t es distinct refl, cleaned_requests s t es distinct refl, count_idled s t es distinct refl, count_erased s t es distinct refl) refl in
+      rw (e, i, j, cleaned_clients s t es, count_idled s t es, count_erased s t es) refl in
       here ∙ ap (λ n. answer_of s (cleaned s n)) moment

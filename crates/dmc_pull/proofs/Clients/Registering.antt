@@ -11,7 +11,7 @@ use Rattle.dmc_types.specs.declared.ids.ClientId.{ClientId}
 use Rattle.dmc_types.specs.declared.refusal.Field.{Field}
 use Rattle.dmc_types.specs.declared.refusal.Refusal.TheVariants.{Clients}
 use Rattle.dmc_tag.specs.Tag.{Fraction, Tagging}
-use Rattle.dmc_tag.specs.State.{State, client_named}
+use Rattle.dmc_tag.specs.State.{State, client_named, queued_requests}
 use Rattle.dmc_tag.specs.Spacing.{spacings_of}
 use Rattle.dmc_tag.specs.Rules.{can_register}
 use Rattle.dmc_tag.specs.declared.spacing.Spacings.{Spacings}
@@ -19,17 +19,17 @@ use Rattle.dmc_client.specs.Record.{Rec, client_of}
 use Rattle.dmc_roster.specs.Entries.{Entry, Listing, entry_named, Adds, AreDistinct}
 use Rattle.dmc_index.specs.Index.{slot_of_key}
 use Rattle.dmc_head_index.specs.declared.head.Head.{Head}
-use Rattle.dmc_pull.specs.Represented.{clients_in, requests_in}
+use Rattle.dmc_pull.specs.Represented.{clients_in}
 use Rattle.dmc_pull.specs.Queue.{Queue, state_of, IsQueue, IsKept, AreHeads, head_of}
 use Rattle.dmc_pull.proofs.Common.Parts.{all_as, all_next}
-use Rattle.dmc_pull.proofs.Common.Entries.{named, registered_clients, registered_requests}
+use Rattle.dmc_pull.proofs.Common.Entries.{named, registered_clients, registered_count}
 use Rattle.dmc_pull.proofs.Common.Keyed.{read_last}
 use Rattle.dmc_pull.proofs.Clean.Aging.{DueFromCeil, heads_later}
 
 -- ---- the tests
 
 module _ {T : Type 0} where
-  -- a key is found exactly where a client has the id
+  -- a key is found exactly if a client has the id
   pub is_known : (id : ClientId) (es : List (Entry T)) (found : Option ℕ) → found ≡ option_map (λ e. e.key) (entry_named id es) → is_some (client_named id (clients_in es)) ≡ is_some found
   is_known id es found e = ap is_some (named id es) ∙ at (entry_named id es) ∙ ap is_some (sym e) where
     at : (o : Option (Entry T)) → is_some (option_map (λ e. client_of e.id e.rec) o) ≡ is_some (option_map (λ e. e.key) o)
@@ -43,7 +43,7 @@ module _ {T : Type 0} (ops : Tagging T) (s : State T) (id : ClientId) (info : Ra
   pub may_register : (spacings : Spacings T) → is_some (client_named id s.clients) ≡ false → spacings_of ops s.config.hz info ≡ Ok spacings → length s.clients < max_clients → Ok tt ≡ can_register ops s id info
   may_register spacings known exact room = rw (known, exact, lt-leb max_clients (length s.clients) room) refl
 
--- the result on the spacings, at the rate of the clock that was read no client has the id, where no key was found
+-- the result on the spacings, at the rate of the clock that was read no client has the id, if no key was found
 pub not_named : {T : Type 0} (id : ClientId) (es : List (Entry T)) (found : Option ℕ) → found ≡ option_map (λ e. e.key) (entry_named id es) → is_some found ≡ false → entry_named id es ≡ None
 not_named id es found e none = at (entry_named id es) (ap is_some (sym e) ∙ none) where
   at : {T : Type 0} (o : Option (Entry T)) → is_some (option_map (λ e. e.key) o) ≡ false → o ≡ None
@@ -83,13 +83,13 @@ module _ {T : Type 0} (ops : Tagging T) (fraction : T → Fraction) (is_value : 
         distinct = distinct;
         heads = subst (λ fs. AreHeads ops at fs q.heads) (sym last) heads;
         in_room = subst (AllByRecursion (λ f. f.key < length q.heads)) (sym last) inside;
-        counted = is.counted ∙ ap length (sym (registered_requests es e none) ∙ ap requests_in (sym last));
+        counted = is.counted ∙ sym (registered_count es e none) ∙ ap (λ fs. length (queued_requests (clients_in fs))) (sym last);
         bound = is.bound;
       }
 
 -- the state after it
-pub registered_state : {T : Type 0} → (q : Queue T) (roster : Listing T) (heads : List (Option (Head T))) (e : Entry T) (at : ℕ) → roster.entries ≡ q.roster.entries ++ e ∷ [] → e.rec.requests ≡ [] → state_of (record { config = q.config; roster = roster; heads = heads; last_moment = at }) ≡ record (state_of q) { clients = clients_in q.roster.entries ++ client_of e.id e.rec ∷ []; last_moment = at }
-registered_state q roster heads e at last none = rw (last, registered_clients q.roster.entries e, registered_requests q.roster.entries e none) refl
+pub registered_state : {T : Type 0} → (q : Queue T) (roster : Listing T) (heads : List (Option (Head T))) (e : Entry T) (at : ℕ) → roster.entries ≡ q.roster.entries ++ e ∷ [] → state_of (record { config = q.config; roster = roster; heads = heads; last_moment = at }) ≡ record (state_of q) { clients = clients_in q.roster.entries ++ client_of e.id e.rec ∷ []; last_moment = at }
+registered_state q roster heads e at last = rw (last, registered_clients q.roster.entries e) refl
 
 -- the indexes have capacity for a key
 pub has_room : {X : Type 0} → (slots more : List (Option X)) (key room : ℕ) → room ≡ suc key → more ≡ slots ++ replicate (room - length slots) None → key < length more

@@ -1,5 +1,5 @@
 -- An update.
-use Rattle.std.proofs.Common.{◌≡◌, ℕ, ◌<◌, ◌≤◌, Bool, true, false, not, ◌&&◌, List, [], length, Option, Some, None, refl, sym, ap, ◌∙◌, subst}
+use Rattle.std.proofs.Common.{◌≡◌, ℕ, ◌<◌, ◌≤◌, Bool, true, false, not, ◌&&◌, List, [], length, Option, Some, None, refl, sym, ap, ◌∙◌, subst, arith}
 use Rattle.std.specs.Prelude.{Ok, Err, IfSome, ◌==◌}
 use Rattle.std.specs.Option.{option_map, is_some}
 use Rattle.std.proofs.lemmas.Bool.{eqb-true}
@@ -8,20 +8,19 @@ use Rattle.dmc_types.specs.Values.{Rates}
 use Rattle.dmc_types.specs.declared.ids.ClientId.{ClientId}
 use Rattle.dmc_types.specs.declared.refusal.Refusal.TheVariants.{Busy}
 use Rattle.dmc_tag.specs.Tag.{Fraction, Tagging}
-use Rattle.dmc_tag.specs.State.{State, client_named, has_queued, effective}
+use Rattle.dmc_tag.specs.State.{PlainClient, State, client_named, is_busy, effective}
 use Rattle.dmc_tag.specs.Spacing.{spacings_of}
 use Rattle.dmc_tag.specs.Rules.{can_update, changes_reservation, change_client, with_info, updated}
 use Rattle.dmc_tag.specs.Step.{answer_of, step}
 use Rattle.dmc_types.specs.declared.command.Command.TheVariants.{Update}
 use Rattle.dmc_tag.specs.declared.spacing.Spacings.{Spacings}
-use Rattle.dmc_tag.specs.declared.plain.PlainClient.{PlainClient}
 use Rattle.dmc_tag.specs.declared.reply.Reply.TheVariants.{Updated}
 use Rattle.dmc_client.specs.Record.{Rec, IsRecord, client_of}
 use Rattle.dmc_roster.specs.Entries.{Entry, Listing, entry_named, entry_keyed, record_at, with_record, with_record_at, AreDistinct}
-use Rattle.dmc_pull.specs.Represented.{clients_in, requests_in}
+use Rattle.dmc_pull.specs.Represented.{clients_in}
 use Rattle.dmc_pull.specs.Queue.{Queue, state_of, IsQueue, IsKept, head_of}
 use Rattle.dmc_pull.proofs.Common.Parts.{found_holds}
-use Rattle.dmc_pull.proofs.Common.Entries.{Split, split, named, name_is, is_queued, all_changed, changed_client, same_requests}
+use Rattle.dmc_pull.proofs.Common.Entries.{Split, split, named, name_is, all_changed, changed_client, count_changed}
 use Rattle.dmc_pull.proofs.Common.Keyed.{record_is, same_client, distinct_changed, read_kept}
 use Rattle.dmc_pull.proofs.Clean.Aging.{DueFromCeil, heads_later}
 
@@ -66,19 +65,16 @@ module _ {T : Type 0} where
 
 module _ {T : Type 0} (ops : Tagging T) (s : State T) (id : ClientId) (info : Rates) where
   module _ (client : PlainClient T) (known : client_named id s.clients ≡ Some client) where
-    pub refused_busy : (spacings : Spacings T) → spacings_of ops s.config.hz info ≡ Ok spacings → (changes_reservation client.info info && has_queued id s.requests) ≡ true → Err Busy ≡ can_update ops s id info
+    pub refused_busy : (spacings : Spacings T) → spacings_of ops s.config.hz info ≡ Ok spacings → (changes_reservation client.info info && is_busy client) ≡ true → Err Busy ≡ can_update ops s id info
     refused_busy spacings exact busy = rw (known, exact, busy) refl
 
-    pub may_update : (spacings : Spacings T) → spacings_of ops s.config.hz info ≡ Ok spacings → (changes_reservation client.info info && has_queued id s.requests) ≡ false → Ok tt ≡ can_update ops s id info
+    pub may_update : (spacings : Spacings T) → spacings_of ops s.config.hz info ≡ Ok spacings → (changes_reservation client.info info && is_busy client) ≡ false → Ok tt ≡ can_update ops s id info
     may_update spacings exact free = rw (known, exact, free) refl
 
 -- the rates and requests of the record say whether a client is busy
-pub busy_as : {T : Type 0} {id : ClientId} {key : ℕ} {es : List (Entry T)} → (h : HasClient id key es) (info : Rates) (rec : Rec T) → record_at key es ≡ Some rec → (answer : Bool) → answer ≡ (changes_reservation rec.info info && not (length rec.requests == 0)) → (busy : Bool) → answer ≡ busy → (changes_reservation h.entry.rec.info info && has_queued id (requests_in es)) ≡ busy
+pub busy_as : {T : Type 0} {id : ClientId} {key : ℕ} {es : List (Entry T)} → (h : HasClient id key es) (info : Rates) (rec : Rec T) → record_at key es ≡ Some rec → (answer : Bool) → answer ≡ (changes_reservation rec.info info && not (length rec.requests == 0)) → (busy : Bool) → answer ≡ busy → (changes_reservation h.entry.rec.info info && is_busy (client_of id h.entry.rec)) ≡ busy
 busy_as {key} {es} h info rec found answer given busy is =
-    ap (λ b. changes_reservation h.entry.rec.info info && b) (ap (λ i. has_queued i (requests_in es)) (sym h.is) ∙ is_queued h.at)
-    ∙ ap (λ r. changes_reservation r.info info && not (length r.requests == 0)) (record_is key es h.entry rec h.keyed found)
-    ∙ sym given
-    ∙ is
+    ap (λ r. changes_reservation r.info info && not (length r.requests == 0)) (record_is key es h.entry rec h.keyed found) ∙ sym given ∙ is
 
 pub not_busy : {T : Type 0} → (rec : Rec T) (info : Rates) (answer : Bool) → answer ≡ (changes_reservation rec.info info && not (length rec.requests == 0)) → answer ≡ false → changes_reservation rec.info info ≡ true → rec.requests ≡ []
 not_busy rec info answer given free changes = at (length rec.requests == 0) refl where
@@ -104,7 +100,7 @@ module _ {T : Type 0} (ops : Tagging T) (fraction : T → Fraction) (is_value : 
         distinct = distinct_changed key rec es is.distinct;
         heads = heads_later ops due_from q.last_moment at later es (with_record key rec es) (read_kept head_of h.at rec refl) q.heads q.heads (λ k. refl) is.heads;
         in_room = all_changed h.at (λ f. f.key < length q.heads) rec is.in_room within;
-        counted = is.counted ∙ ap length (sym (same_requests h.at rec refl));
+        counted = omega (arith, is.counted, count_changed h.at rec);
         bound = is.bound;
       })
 
@@ -112,7 +108,6 @@ module _ {T : Type 0} (ops : Tagging T) (fraction : T → Fraction) (is_value : 
   updated_step q {id} {key} h info spacings roster e may at t moment =
       let rec = with_rates info spacings h.entry.rec in
       let es = q.roster.entries in
-      let requests = same_requests h.at rec refl in
       let clients : clients_in (with_record key rec es) ≡ change_client id (with_info info) (clients_in es) = changed_client h.at (with_info info) rec refl ∙ ap (λ i. change_client i (with_info info) (clients_in es)) h.is in
-      let here : (state_of (record { config = q.config; roster = roster; heads = q.heads; last_moment = t }), Updated) ≡ answer_of (state_of q) (updated ops (state_of q) id info t) = rw (← may, e, requests, clients) refl in
+      let here : (state_of (record { config = q.config; roster = roster; heads = q.heads; last_moment = t }), Updated) ≡ answer_of (state_of q) (updated ops (state_of q) id info t) = rw (← may, e, clients) refl in
       here ∙ ap (λ n. answer_of (state_of q) (updated ops (state_of q) id info n)) moment

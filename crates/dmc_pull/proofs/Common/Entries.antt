@@ -1,23 +1,18 @@
--- The clients and requests of a plain state, entry by entry.
-use Rattle.std.proofs.Common.{◌≡◌, ℕ, ◌+◌, Bool, true, false, not, ◌&&◌, ◌||◌, cond, List, [], ◌∷◌, ◌++◌, map, length, Some, refl, sym, ap, ◌∙◌, subst, arith}
-use Rattle.std.specs.Prelude.{filter, ◌==◌, if◌then◌else◌}
+-- The clients of a plain state, entry by entry.
+use Rattle.std.proofs.Common.{◌≡◌, ℕ, ◌+◌, Bool, true, false, cond, List, [], ◌∷◌, ◌++◌, length, Some, refl, sym, ap, ◌∙◌, subst, arith}
+use Rattle.std.specs.Prelude.{◌==◌, if◌then◌else◌}
 use Rattle.std.specs.Option.{option_map}
-use Rattle.std.specs.List.{list_any, AllByRecursion}
+use Rattle.std.specs.List.{AllByRecursion}
 use Rattle.std.proofs.lemmas.Bool.{eqb-true, eq-eqb}
-use Rattle.std.proofs.lemmas.List.{map-append, length-map, length-append, append-nil}
-use Rattle.std.proofs.lemmas.List.Elements.{filter-append}
-use Rattle.std.proofs.lemmas.List.Folds.{list_any-append}
+use Rattle.std.proofs.lemmas.Grind.{flat_map-append}
+use Rattle.std.proofs.lemmas.List.{map-append, length-map, length-append}
 use Rattle.dmc_types.specs.declared.ids.ClientId.{ClientId}
-use Rattle.dmc_tag.specs.State.{is_client, requests_of, has_queued, client_named, is_active}
+use Rattle.dmc_tag.specs.State.{PlainClient, is_client, client_named, queued_requests}
 use Rattle.dmc_tag.specs.Rules.{change_client}
-use Rattle.dmc_tag.specs.declared.plain.PlainRequest.{PlainRequest}
-use Rattle.dmc_tag.specs.declared.plain.PlainClient.{PlainClient}
-use Rattle.dmc_client.specs.declared.request.QueuedRequest.{QueuedRequest}
-use Rattle.dmc_client.specs.Record.{Rec, client_of, request_of, requests_of_record}
+use Rattle.dmc_client.specs.Record.{Rec, client_of}
 use Rattle.dmc_roster.specs.Entries.{Entry, entry_named, entry_keyed, with_rec, with_record, AreDistinct}
-use Rattle.dmc_pull.specs.Represented.{clients_in, requests_in}
-use Rattle.dmc_pull.proofs.Common.Parts.{eqb_turned, all_as, all_both, all_append, all_front, all_back, map_unmoved, any_is, map_cond, found_holds, found_passes}
-use Rattle.dmc_pull.proofs.Common.Firsts.{requests_append}
+use Rattle.dmc_pull.specs.Represented.{clients_in}
+use Rattle.dmc_pull.proofs.Common.Parts.{eqb_turned, all_as, all_both, all_append, all_front, all_back, map_unmoved, map_cond, found_holds, found_passes}
 use Rattle.dmc_tag.proofs.Ids.{itself_id, client_turned}
 
 module _ {T : Type 0} where
@@ -82,9 +77,6 @@ module _ {T : Type 0} where
   pub clients_whole : {key : ℕ} {e : Entry T} {es : List (Entry T)} (s : Split key e es) → clients_in es ≡ clients_in s.front ++ client_of e.id e.rec ∷ clients_in s.back
   clients_whole {key} {e} s = ap clients_in s.whole ∙ clients_append s.front (e ∷ s.back)
 
-  pub requests_whole : {key : ℕ} {e : Entry T} {es : List (Entry T)} (s : Split key e es) → requests_in es ≡ requests_in s.front ++ (requests_of_record e.id e.rec ++ requests_in s.back)
-  requests_whole {key} {e} s = ap requests_in s.whole ∙ requests_append s.front (e ∷ s.back)
-
   -- ---- a record is changed
 
   record_kept : (key : ℕ) (rec : Rec T) (e : Entry T) → e.key ≡ key → (f : Entry T) → Differs e f → (if f.key == key then with_rec (λ old. rec) f else f) ≡ f
@@ -119,79 +111,7 @@ module _ {T : Type 0} where
   pub length_clients : (es : List (Entry T)) → length (clients_in es) ≡ length es
   length_clients es = length-map es (λ e. client_of e.id e.rec)
 
-  -- ---- requests by a test of their clients
-
-  pub record_filtered : (test : ClientId → Bool) (id : ClientId) (qs : List (QueuedRequest T)) (b : Bool) → test id ≡ b → filter (λ r. test r.client) (map (request_of id) qs) ≡ cond b (map (request_of id) qs) []
-  record_filtered test id [] true e = refl
-  record_filtered test id [] false e = refl
-  record_filtered test id (q ∷ qs) true e =
-      ap (λ b. cond b (request_of id q ∷ filter (λ r. test r.client) (map (request_of id) qs)) (filter (λ r. test r.client) (map (request_of id) qs))) e
-      ∙ ap (λ rs. request_of id q ∷ rs) (record_filtered test id qs true e)
-  record_filtered test id (q ∷ qs) false e =
-      ap (λ b. cond b (request_of id q ∷ filter (λ r. test r.client) (map (request_of id) qs)) (filter (λ r. test r.client) (map (request_of id) qs))) e
-      ∙ record_filtered test id qs false e
-
-  pub all_filtered_in : (test : ClientId → Bool) (xs : List (Entry T)) → AllByRecursion (λ f. test f.id ≡ true) xs → filter (λ r. test r.client) (requests_in xs) ≡ requests_in xs
-  all_filtered_in test [] h = refl
-  all_filtered_in test (x ∷ xs) h =
-      filter-append (λ r. test r.client) (requests_of_record x.id x.rec) (requests_in xs)
-      ∙ ap (λ rs. rs ++ filter (λ r. test r.client) (requests_in xs)) (record_filtered test x.id x.rec.requests true h.0)
-      ∙ ap (λ rs. requests_of_record x.id x.rec ++ rs) (all_filtered_in test xs h.1)
-
-  pub all_filtered_out : (test : ClientId → Bool) (xs : List (Entry T)) → AllByRecursion (λ f. test f.id ≡ false) xs → filter (λ r. test r.client) (requests_in xs) ≡ []
-  all_filtered_out test [] h = refl
-  all_filtered_out test (x ∷ xs) h =
-      filter-append (λ r. test r.client) (requests_of_record x.id x.rec) (requests_in xs)
-      ∙ ap (λ rs. rs ++ filter (λ r. test r.client) (requests_in xs)) (record_filtered test x.id x.rec.requests false h.0)
-      ∙ all_filtered_out test xs h.1
-
-  -- ---- 3: what the state has of a client
-
-  module _ {key : ℕ} {e : Entry T} {es : List (Entry T)} (s : Split key e es) where
-    ahead_out : filter (λ r. is_client e.id r.client) (requests_in s.front) ≡ []
-    ahead_out = all_filtered_out (is_client e.id) s.front (all_as (Differs e) (λ f. is_client e.id f.id ≡ false) (λ f d. d.1) s.front s.ahead)
-
-    behind_out : filter (λ r. is_client e.id r.client) (requests_in s.back) ≡ []
-    behind_out = all_filtered_out (is_client e.id) s.back (all_as (Differs e) (λ f. is_client e.id f.id ≡ false) (λ f d. d.1) s.back s.behind)
-
-    pub of_client : requests_of e.id (requests_in es) ≡ requests_of_record e.id e.rec
-    of_client =
-        let test = λ (r : PlainRequest T). is_client e.id r.client in
-        ap (filter test) (requests_whole s)
-        ∙ filter-append test (requests_in s.front) (requests_of_record e.id e.rec ++ requests_in s.back)
-        ∙ ap (λ rs. rs ++ filter test (requests_of_record e.id e.rec ++ requests_in s.back)) ahead_out
-        ∙ filter-append test (requests_of_record e.id e.rec) (requests_in s.back)
-        ∙ ap (λ rs. rs ++ filter test (requests_in s.back)) (record_filtered (is_client e.id) e.id e.rec.requests true (itself_id e.id))
-        ∙ ap (λ rs. requests_of_record e.id e.rec ++ rs) behind_out
-        ∙ append-nil (requests_of_record e.id e.rec)
-
-    pub length_of_client : length (requests_of e.id (requests_in es)) ≡ length e.rec.requests
-    length_of_client = ap length of_client ∙ length-map e.rec.requests (request_of e.id)
-
-    pub is_queued : has_queued e.id (requests_in es) ≡ not (length e.rec.requests == 0)
-    is_queued = any_is (λ r. is_client e.id r.client) (requests_in es) ∙ ap (λ n. not (n == 0)) length_of_client
-
-    other_client : (f : Entry T) → Differs e f → (is_client e.id f.id && not f.rec.idle) ≡ false
-    other_client f d = ap (λ b. b && not f.rec.idle) d.1
-
-    none_active : (xs : List (Entry T)) → AllByRecursion (Differs e) xs → is_active e.id (clients_in xs) ≡ false
-    none_active [] h = refl
-    none_active (f ∷ xs) h = ap (λ b. b || is_active e.id (clients_in xs)) (other_client f h.0) ∙ none_active xs h.1
-
-    pub is_active_as : is_active e.id (clients_in es) ≡ not e.rec.idle
-    is_active_as =
-        let test = λ (c : PlainClient T). is_client e.id c.id && not c.idle in
-        ap (list_any test) (clients_whole s)
-        ∙ list_any-append test (clients_in s.front) (client_of e.id e.rec ∷ clients_in s.back)
-        ∙ ap (λ b. b || (is_client e.id e.id && not e.rec.idle || list_any test (clients_in s.back))) (none_active s.front s.ahead)
-        ∙ ap (λ b. b && not e.rec.idle || list_any test (clients_in s.back)) (itself_id e.id)
-        ∙ ap (λ b. not e.rec.idle || b) (none_active s.back s.behind)
-        ∙ or_false (not e.rec.idle) where
-          or_false : (b : Bool) → (b || false) ≡ b
-          or_false true = refl
-          or_false false = refl
-
-  -- ---- 4: a client is changed
+  -- ---- a client is changed
 
   others_unchanged : (e : Entry T) (f : PlainClient T → PlainClient T) (xs : List (Entry T)) → AllByRecursion (Differs e) xs → change_client e.id f (clients_in xs) ≡ clients_in xs
   others_unchanged e f [] h = refl
@@ -214,65 +134,36 @@ module _ {T : Type 0} where
         ∙ ap (λ c. clients_in s.front ++ c ∷ clients_in s.back) h
         ∙ sym (change_whole f)
 
-    pub same_requests : (rec : Rec T) → rec.requests ≡ e.rec.requests → requests_in (with_record key rec es) ≡ requests_in es
-    same_requests rec h =
-        requests_whole (split_changed s rec)
-        ∙ ap (λ qs. requests_in s.front ++ (map (request_of e.id) qs ++ requests_in s.back)) h
-        ∙ sym (requests_whole s)
-
-  -- ---- 5: a client comes last
-
-  pub registered_clients : (es : List (Entry T)) (e : Entry T) → clients_in (es ++ e ∷ []) ≡ clients_in es ++ client_of e.id e.rec ∷ []
-  registered_clients es e = clients_append es (e ∷ [])
-
-  pub registered_requests : (es : List (Entry T)) (e : Entry T) → e.rec.requests ≡ [] → requests_in (es ++ e ∷ []) ≡ requests_in es
-  registered_requests es e h =
-      requests_append es (e ∷ [])
-      ∙ ap (λ qs. requests_in es ++ (map (request_of e.id) qs ++ [])) h
-      ∙ append-nil (requests_in es)
-
-  -- ---- 6: a client's requests are taken out
-
-  module _ {key : ℕ} {e : Entry T} {es : List (Entry T)} (s : Split key e es) where
-    pub drained : requests_in (with_record key (record (e.rec) { requests = [] }) es) ≡ filter (λ r. not (is_client e.id r.client)) (requests_in es)
-    drained =
-        let test = λ (r : PlainRequest T). not (is_client e.id r.client) in
-        let ahead = all_filtered_in (λ id. not (is_client e.id id)) s.front (all_as (Differs e) (λ f. not (is_client e.id f.id) ≡ true) (λ f d. ap not d.1) s.front s.ahead) in
-        let behind = all_filtered_in (λ id. not (is_client e.id id)) s.back (all_as (Differs e) (λ f. not (is_client e.id f.id) ≡ true) (λ f d. ap not d.1) s.back s.behind) in
-        let here = record_filtered (λ id. not (is_client e.id id)) e.id e.rec.requests false (ap not (itself_id e.id)) in
-        requests_whole (split_changed s (record (e.rec) { requests = [] }))
-        ∙ sym (
-        ap (filter test) (requests_whole s)
-        ∙ filter-append test (requests_in s.front) (requests_of_record e.id e.rec ++ requests_in s.back)
-        ∙ ap (λ rs. rs ++ filter test (requests_of_record e.id e.rec ++ requests_in s.back)) ahead
-        ∙ ap (λ rs. requests_in s.front ++ rs) (filter-append test (requests_of_record e.id e.rec) (requests_in s.back))
-        ∙ ap (λ rs. requests_in s.front ++ (rs ++ filter test (requests_in s.back))) here
-        ∙ ap (λ rs. requests_in s.front ++ rs) behind
-        )
-
-    pub length_whole : (rec : Rec T) → length (requests_in (with_record key rec es)) ≡ length (requests_in s.front) + length rec.requests + length (requests_in s.back)
-    length_whole rec =
-        let parts = ap length (requests_whole (split_changed s rec)) in
-        let outer = length-append (requests_in s.front) (map (request_of e.id) rec.requests ++ requests_in s.back) in
-        let inner = length-append (map (request_of e.id) rec.requests) (requests_in s.back) in
-        let mapped = length-map rec.requests (request_of e.id) in
+    -- how many requests are queued
+    count_in : (rec : Rec T) → length (queued_requests (clients_in s.front ++ client_of e.id rec ∷ clients_in s.back)) ≡ length (queued_requests (clients_in s.front)) + length rec.requests + length (queued_requests (clients_in s.back))
+    count_in rec =
+        let parts = ap length (flat_map-append (λ (c : PlainClient T). c.requests) (clients_in s.front) (client_of e.id rec ∷ clients_in s.back)) in
+        let outer = length-append (queued_requests (clients_in s.front)) (rec.requests ++ queued_requests (clients_in s.back)) in
+        let inner = length-append rec.requests (queued_requests (clients_in s.back)) in
         omega arith
 
-    pub length_as : length (requests_in es) ≡ length (requests_in s.front) + length e.rec.requests + length (requests_in s.back)
-    length_as =
-        let parts = ap length (requests_whole s) in
-        let outer = length-append (requests_in s.front) (requests_of_record e.id e.rec ++ requests_in s.back) in
-        let inner = length-append (requests_of_record e.id e.rec) (requests_in s.back) in
-        let mapped = length-map e.rec.requests (request_of e.id) in
+    pub count_changed : (rec : Rec T) → length (queued_requests (clients_in (with_record key rec es))) + length e.rec.requests ≡ length (queued_requests (clients_in es)) + length rec.requests
+    count_changed rec =
+        let old = ap (λ cs. length (queued_requests cs)) (clients_whole s) ∙ count_in e.rec in
+        let new = ap (λ cs. length (queued_requests cs)) (clients_whole (split_changed s rec)) ∙ count_in rec in
         omega arith
 
-    pub length_drained : length (requests_in es) ≡ length (requests_in (with_record key (record (e.rec) { requests = [] }) es)) + length e.rec.requests
-    length_drained = omega (arith, length_as, length_whole (record (e.rec) { requests = [] }))
-
-    -- ---- 10: what holds of each, of a changed entry too
+    -- ---- what holds of each, of a changed entry too
 
     pub all_changed : (P : Entry T → Type 0) (rec : Rec T) → AllByRecursion P es → P (record e { rec = rec }) → AllByRecursion P (with_record key rec es)
     all_changed P rec h here =
         let parts = subst (AllByRecursion P) s.whole h in
         let back = all_back P s.front (e ∷ s.back) parts in
         subst (AllByRecursion P) (sym (with_record_split s rec)) (all_append P s.front (record e { rec = rec } ∷ s.back) (all_front P s.front (e ∷ s.back) parts) (here, back.1))
+
+  -- ---- a client comes last
+
+  pub registered_clients : (es : List (Entry T)) (e : Entry T) → clients_in (es ++ e ∷ []) ≡ clients_in es ++ client_of e.id e.rec ∷ []
+  registered_clients es e = clients_append es (e ∷ [])
+
+  pub registered_count : (es : List (Entry T)) (e : Entry T) → e.rec.requests ≡ [] → length (queued_requests (clients_in (es ++ e ∷ []))) ≡ length (queued_requests (clients_in es))
+  registered_count es e none =
+      let parts = ap (λ cs. length (queued_requests cs)) (registered_clients es e) ∙ ap length (flat_map-append (λ (c : PlainClient T). c.requests) (clients_in es) (client_of e.id e.rec ∷ [])) in
+      let both = length-append (queued_requests (clients_in es)) (e.rec.requests ++ []) in
+      let last : length (e.rec.requests ++ []) ≡ 0 = ap (λ qs. length (qs ++ [])) none in
+      omega arith

@@ -1,20 +1,16 @@
 -- What is found under a key or an id after a change of the entries.
 use Rattle.std.proofs.Common.{◌≡◌, ℕ, Bool, true, false, cond, List, [], ◌∷◌, ◌++◌, map, Option, Some, None, refl, sym, ap, ◌∙◌, subst}
 use Rattle.std.specs.Prelude.{filter, ◌==◌, if◌then◌else◌}
-use Rattle.std.specs.Option.{option_map, option_map_or, option_and_then, option_or}
+use Rattle.std.specs.Option.{option_map, option_and_then, option_or}
 use Rattle.std.specs.List.{find, AllByRecursion}
 use Rattle.std.proofs.lemmas.Bool.{eqb-true}
-use Rattle.std.proofs.lemmas.List.{append-nil}
-use Rattle.std.proofs.lemmas.List.Elements.{filter-append}
 use Rattle.std.proofs.lemmas.List.Folds.{find-append}
-use Rattle.dmc_types.specs.declared.ids.ClientId.{ClientId}
-use Rattle.dmc_tag.specs.State.{is_client, requests_of}
-use Rattle.dmc_client.specs.Record.{Rec, requests_of_record}
+use Rattle.dmc_tag.specs.State.{is_client}
+use Rattle.dmc_client.specs.Record.{Rec}
 use Rattle.dmc_roster.specs.Entries.{Entry, entry_named, entry_keyed, record_at, with_rec, with_record, AreDistinct}
-use Rattle.dmc_pull.specs.Represented.{requests_in}
 use Rattle.dmc_pull.proofs.Common.Parts.{all_as, all_filtered, map_cond, found_holds, found_passes}
-use Rattle.dmc_pull.proofs.Common.Entries.{Split, Differs, differs_from, split_changed, record_filtered, all_filtered_out}
-pub use Rattle.dmc_tag.proofs.Active.{same_client}
+use Rattle.dmc_pull.proofs.Common.Entries.{Split, Differs, all_split, differs_from, split, split_changed, with_record_split}
+pub use Rattle.dmc_tag.proofs.ForCallers.{same_client}
 use Rattle.dmc_tag.proofs.Ids.{itself_id}
 
 -- the record of the entry that a key finds
@@ -44,6 +40,20 @@ module _ {T : Type 0} where
       ∙ find-append (λ f. is_client e.id f.id) s.front (e ∷ s.back)
       ∙ ap (λ o. option_or o (entry_named e.id (e ∷ s.back))) ahead
       ∙ ap (λ b. cond b (Some e) (entry_named e.id s.back)) (itself_id e.id)
+
+  -- what holds of each entry that its key finds holds of all
+  pub all_found : (P : Entry T → Type 0) (es : List (Entry T)) → AreDistinct es → ((e : Entry T) → entry_keyed e.key es ≡ Some e → P e) → AllByRecursion P es
+  all_found P es d gives = all_as (λ e. Split e.key e es) P (λ e s. gives e (split_keyed s)) es (all_split es d)
+
+  -- the record that is there changes nothing
+  pub same_record : (key : ℕ) (rec : Rec T) (es : List (Entry T)) → AreDistinct es → record_at key es ≡ Some rec → with_record key rec es ≡ es
+  same_record key rec es d h = at (entry_keyed key es) refl h where
+    at : (o : Option (Entry T)) → entry_keyed key es ≡ o → option_map (λ e. e.rec) o ≡ Some rec → with_record key rec es ≡ es
+    at None f r = cc
+    at (Some e) f r =
+        let s = split key es e f d in
+        let same : e.rec ≡ rec = cc (r) in
+        with_record_split s rec ∙ ap (λ x. s.front ++ record e { rec = x } ∷ s.back) (sym same) ∙ sym s.whole
 
   -- ---- each entry is changed, and none its key or id
 
@@ -125,27 +135,6 @@ module _ {T : Type 0} where
   pub keyed_last : (key : ℕ) (es : List (Entry T)) (e : Entry T) → entry_keyed key (es ++ e ∷ []) ≡ option_or (entry_keyed key es) (if e.key == key then Some e else None)
   keyed_last key es e = find-append (λ f. f.key == key) es (e ∷ [])
 
-  -- ---- the requests of any client
-
-  pub requests_named : (es : List (Entry T)) → AreDistinct es → (id : ClientId) → requests_of id (requests_in es) ≡ option_map_or (λ e. requests_of_record e.id e.rec) (entry_named id es) []
-  requests_named [] d id = refl
-  requests_named (e ∷ es) d id = at (requests_named es d.1 id) (is_client id e.id) refl where
-    none_more : is_client id e.id ≡ true → requests_of id (requests_in es) ≡ []
-    none_more k =
-        let one = same_client id e.id k in
-        all_filtered_out (is_client id) es (all_as (λ f. (is_client e.id f.id ≡ false) × ((e.key == f.key) ≡ false)) (λ f. is_client id f.id ≡ false) (λ f p. ap (λ i. is_client i f.id) (sym one) ∙ p.0) es d.0)
-
-    at : requests_of id (requests_in es) ≡ option_map_or (λ f. requests_of_record f.id f.rec) (entry_named id es) [] → (b : Bool) → is_client id e.id ≡ b → filter (λ r. is_client id r.client) (requests_of_record e.id e.rec ++ requests_in es) ≡ option_map_or (λ f. requests_of_record f.id f.rec) (cond b (Some e) (entry_named id es)) []
-    at more true k =
-        filter-append (λ r. is_client id r.client) (requests_of_record e.id e.rec) (requests_in es)
-        ∙ ap (λ rs. rs ++ requests_of id (requests_in es)) (record_filtered (is_client id) e.id e.rec.requests true k)
-        ∙ ap (λ rs. requests_of_record e.id e.rec ++ rs) (none_more k)
-        ∙ append-nil (requests_of_record e.id e.rec)
-    at more false k =
-        filter-append (λ r. is_client id r.client) (requests_of_record e.id e.rec) (requests_in es)
-        ∙ ap (λ rs. rs ++ requests_of id (requests_in es)) (record_filtered (is_client id) e.id e.rec.requests false k)
-        ∙ more
-
 -- ---- what is read of the entry under a key
 
 module _ {T X : Type 0} (read : Entry T → Option X) where
@@ -159,7 +148,7 @@ module _ {T X : Type 0} (read : Entry T → Option X) where
   pub read_other : (key : ℕ) (rec : Rec T) (other : ℕ) (es : List (Entry T)) → (other == key) ≡ false → read_at other (with_record key rec es) ≡ read_at other es
   read_other key rec other es h = ap (option_and_then read) (keyed_other key rec other es h)
 
-  -- where the change keeps what is read
+  -- if the change keeps what is read
   pub read_kept : {key : ℕ} {e : Entry T} {es : List (Entry T)} (s : Split key e es) (rec : Rec T) → read (record e { rec = rec }) ≡ read e → (other : ℕ) → read_at other (with_record key rec es) ≡ read_at other es
   read_kept {key} {e} {es} s rec same other = at (other == key) refl where
     at : (b : Bool) → (other == key) ≡ b → read_at other (with_record key rec es) ≡ read_at other es

@@ -5,7 +5,7 @@ use Rattle.std.specs.Result.{is_err}
 use Rattle.std.specs.Option.{option_map}
 use Rattle.dmc_client.specs.Record.{Rec}
 use Rattle.dmc_roster.specs.Entries.{Entry, Listing, entry_keyed, record_at, with_record_at, AreDistinct}
-use Rattle.dmc_pull.proofs.Common.Firsts.{same_record}
+use Rattle.dmc_pull.proofs.Common.Keyed.{same_record}
 
 pub unchanged : {T A E : Type 0} (r : Result A E) (roster : Listing T) (key : ℕ) (lent new : Rec T) → is_err r ≡ true → AreDistinct roster.entries → record_at key roster.entries ≡ Some lent → OnErr r (new ≡ lent) → with_record_at roster key new ≡ roster
 unchanged (Ok x) roster key lent new failed d found e = cc

@@ -1,5 +1,5 @@
 -- A shift of all entries but one, and of all heads.
-use Rattle.std.proofs.Common.{◌≡◌, ℕ, ◌<◌, Bool, true, false, not, ◌&&◌, ◌||◌, List, [], ◌∷◌, ◌++◌, map, length, Option, Some, None, Ok, refl, sym, ap, ◌∙◌, subst}
+use Rattle.std.proofs.Common.{◌≡◌, ℕ, ◌<◌, Bool, true, false, ◌&&◌, ◌||◌, List, [], ◌∷◌, ◌++◌, map, length, Option, Some, None, Ok, refl, sym, ap, ◌∙◌, subst}
 use Rattle.std.specs.Prelude.{◌==◌, IfSome, slice_get, if◌then◌else◌}
 use Rattle.std.specs.Option.{option_map, option_and_then, unwrap_or}
 use Rattle.std.specs.List.{AllByRecursion, list_all}
@@ -8,23 +8,22 @@ use Rattle.dmc_types.specs.declared.ids.ClientId.{ClientId}
 use Rattle.dmc_tag.specs.Tag.{Tagging}
 use Rattle.dmc_tag.specs.Best.{is_due}
 use Rattle.dmc_tag.specs.Spacing.{spacings_of}
-use Rattle.dmc_tag.specs.Rules.{less, has_less, can_shift_by, shifted_requests, shifted_clients}
-use Rattle.dmc_client.specs.declared.request.QueuedRequest.{QueuedRequest}
-use Rattle.dmc_client.specs.Record.{Rec, IsRecord, pushed, less_share, less_shares, share_tags}
+use Rattle.dmc_tag.specs.Rules.{less, has_less, can_shift_by, shifted_by, less_share}
+use Rattle.dmc_tag.specs.declared.plain.QueuedRequest.{QueuedRequest}
+use Rattle.dmc_client.specs.Record.{Rec, IsRecord, less_shares, share_tags}
 use Rattle.dmc_adjust.specs.Changes.{shifted, is_shiftable}
-use Rattle.dmc_roster.specs.Entries.{Entry, entry_keyed, with_rec, with_record, AreDistinct}
+use Rattle.dmc_roster.specs.Entries.{Entry, entry_keyed, with_rec, AreDistinct}
 use Rattle.dmc_index.specs.Index.{slot_of_key}
 use Rattle.dmc_index.proofs.Slots.{slot_of_key-map}
 use Rattle.dmc_head_index.specs.declared.head.Head.{Head}
 use Rattle.dmc_head_index.specs.Heads as heads_of
 use Rattle.dmc_head_index.specs.Heads.{CanShift}
-use Rattle.dmc_pull.specs.internal.Adding.{shifted_but}
 use Rattle.dmc_pull.specs.Queue.{AreHeads, head_of, unready}
-use Rattle.dmc_pull.specs.Represented.{clients_in, requests_in}
-use Rattle.dmc_pull.proofs.Common.Parts.{true_not_false, all_as, all_mapped, each_passes, map_agree, found_holds}
-use Rattle.dmc_pull.proofs.Common.Entries.{Split, split, all_changed}
+use Rattle.dmc_pull.specs.Represented.{clients_in}
+use Rattle.dmc_pull.proofs.Common.Parts.{all_mapped, each_passes, found_holds}
+use Rattle.dmc_pull.proofs.Common.Entries.{Split, split}
 use Rattle.dmc_pull.proofs.Common.Keyed.{keyed_with, distinct_with}
-use Rattle.dmc_pull.proofs.Add.Shifted.{shiftable, shifted_clients_in, shifted_requests_in, arrived}
+use Rattle.dmc_pull.proofs.Add.Shifted.{shiftable, shifted_clients_in}
 use Rattle.dmc_pull.proofs.Pull.Choices.{entry_at}
 
 module _ {T : Type 0} (ops : Tagging T) where
@@ -104,7 +103,7 @@ module _ {T : Type 0} (ops : Tagging T) where
             subst (λ l. is_due ops t (Some l) ≡ true) (sym x.limit) (are.marks key x.old x.here (sym x.ready ∙ r));
       }
 
-      -- each head can be shifted where each record can
+      -- each head can be shifted if each record can
       pub can_shift : AllByRecursion (λ e. is_shiftable ops amount e.rec ≡ true) es → CanShift ops amount heads
       can_shift can = λ key head h.
           let x = entry_at ops t es heads are key head h in
@@ -125,8 +124,8 @@ module _ {T : Type 0} (ops : Tagging T) where
               both (has_less ops amount r.tags.p) (list_all (λ r. has_less ops amount r.tags.p) rest) (has_less ops amount rec.previous.p)
               (subst (λ l. (list_all (λ r. has_less ops amount r.tags.p) l && has_less ops amount rec.previous.p) ≡ true) q h)
 
-    pub all_shiftable : (es : List (Entry T)) → AreDistinct es → can_shift_by ops (Some amount) (clients_in es) (requests_in es) ≡ true → AllByRecursion (λ e. is_shiftable ops amount e.rec ≡ true) es
-    all_shiftable es d can = each_passes (λ e. is_shiftable ops amount e.rec) es (sym (shiftable ops amount es d) ∙ can)
+    pub all_shiftable : (es : List (Entry T)) → can_shift_by ops (Some amount) (clients_in es) ≡ true → AllByRecursion (λ e. is_shiftable ops amount e.rec ≡ true) es
+    all_shiftable es can = each_passes (λ e. is_shiftable ops amount e.rec) es (sym (shiftable ops amount es) ∙ can)
 
     -- an idle client isn't shifted
     pub shifted_entry : (key : ℕ) (es : List (Entry T)) (e : Entry T) → entry_keyed key es ≡ Some e → e.rec.idle ≡ true → entry_keyed key (map (λ e. with_rec (shifted ops amount) e) es) ≡ Some e
@@ -134,20 +133,6 @@ module _ {T : Type 0} (ops : Tagging T) where
         keyed_with (λ e. shifted ops amount) key es
         ∙ ap (option_map (λ e. with_rec (shifted ops amount) e)) f
         ∙ ap (λ b. Some (record e { rec = if b then e.rec else less_shares ops amount e.rec })) idle
-
-    -- the shift of all others, where each can be shifted
-    others_agree : (key : ℕ) (es : List (Entry T)) → AllByRecursion (λ e. (e.key == key) ≡ false → is_shiftable ops amount e.rec ≡ true) es → map (λ e. with_rec (shifted_but ops amount key e.key) e) es ≡ map (λ e. with_rec (λ rec. if e.key == key then rec else shifted ops amount rec) e) es
-    others_agree key es can = map_agree (λ e. with_rec (shifted_but ops amount key e.key) e) (λ e. with_rec (λ rec. if e.key == key then rec else shifted ops amount rec) e) es (all_as (λ e. (e.key == key) ≡ false → is_shiftable ops amount e.rec ≡ true) (λ e. with_rec (shifted_but ops amount key e.key) e ≡ with_rec (λ rec. if e.key == key then rec else shifted ops amount rec) e) (λ e h. at e (e.key == key) (is_shiftable ops amount e.rec) refl h) es can) where
-      at : (e : Entry T) (b c : Bool) → is_shiftable ops amount e.rec ≡ c → (b ≡ false → c ≡ true) → with_rec (λ rec. if not b && c then shifted ops amount rec else rec) e ≡ with_rec (λ rec. if b then rec else shifted ops amount rec) e
-      at e true c i h = refl
-      at e false true i h = refl
-      at e false false i h = let no : false ≡ true = h refl in cc (no)
-
-    pub arrived_others : {key : ℕ} {e : Entry T} {es : List (Entry T)} (s : Split key e es) → e.rec.idle ≡ true → AllByRecursion (λ e. is_shiftable ops amount e.rec ≡ true) es → (request : QueuedRequest T) (at : ℕ) → map (λ e. with_rec (shifted_but ops amount key e.key) e) (with_record key (pushed request at e.rec) es) ≡ with_record key (pushed request at e.rec) (map (λ e. with_rec (shifted ops amount) e) es)
-    arrived_others {key} {e} {es} s idle can request at =
-        let others = all_changed s (λ f. (f.key == key) ≡ false → is_shiftable ops amount f.rec ≡ true) (pushed request at e.rec) (all_as (λ f. is_shiftable ops amount f.rec ≡ true) (λ f. (f.key == key) ≡ false → is_shiftable ops amount f.rec ≡ true) (λ f h other. h) es can) (λ other. absurd (true_not_false _ s.keyed other)) in
-        others_agree key (with_record key (pushed request at e.rec) es) others
-        ∙ arrived ops amount key s idle request at
 
 -- ---- after a shift, and before the arrival
 
@@ -158,13 +143,12 @@ pub record Moved {T : Type 0} (ops : Tagging T) (value : T → Type 0) (hz t : �
   pub heads_are : AreHeads ops t entries heads
   pub in_room : AllByRecursion (λ f. f.key < length heads) entries
   pub rest : AllByRecursion (λ f. HasRest ops value hz f.rec) entries
-  pub clients : clients_in entries ≡ shifted_clients ops shift (clients_in es)
-  pub requests : requests_in entries ≡ shifted_requests ops shift (clients_in es) (requests_in es)
+  pub clients : clients_in entries ≡ shifted_by ops shift (clients_in es)
 
 module _ {T : Type 0} (ops : Tagging T) (value : T → Type 0) (hz t : ℕ) (key : ℕ) (e : Entry T) (es : List (Entry T)) (heads : List (Option (Head T)))
     (found : entry_keyed key es ≡ Some e) (d : AreDistinct es) (are : AreHeads ops t es heads) (room : AllByRecursion (λ f. f.key < length heads) es) (rest : AllByRecursion (λ f. HasRest ops value hz f.rec) es) where
   pub unmoved : Moved ops value hz t None key e es es heads
-  unmoved = record { here = split key es e found d; distinct = d; heads_are = are; in_room = room; rest = rest; clients = refl; requests = refl }
+  unmoved = record { here = split key es e found d; distinct = d; heads_are = are; in_room = room; rest = rest; clients = refl }
 
   pub moved : (differences : (a amount : T) → IfSome (ops.minus a amount) value) (amount : T) → e.rec.idle ≡ true → AllByRecursion (λ e. IsRecord ops e.rec) es → Moved ops value hz t (Some amount) key e es (map (λ e. with_rec (shifted ops amount) e) es) (map (option_map (heads_of.shifted ops amount)) heads)
   moved differences amount idle records =
@@ -176,5 +160,4 @@ module _ {T : Type 0} (ops : Tagging T) (value : T → Type 0) (hz t : ℕ) (key
         in_room = all_mapped _ (λ f. f.key < length (map (option_map (heads_of.shifted ops amount)) heads)) (λ e. with_rec (shifted ops amount) e) (λ e h. h) es (subst (λ n. AllByRecursion (λ f. f.key < n) es) (sym (length-map heads (option_map (heads_of.shifted ops amount)))) room);
         rest = all_mapped _ (λ f. HasRest ops value hz f.rec) (λ e. with_rec (shifted ops amount) e) (λ f h. rest_by ops value differences amount hz f.rec f.rec.idle h) es rest;
         clients = shifted_clients_in ops amount es;
-        requests = shifted_requests_in ops amount es d;
       }

@@ -11,10 +11,10 @@ use Rattle.dmc_tag.specs.Order.{AtMost}
 use Rattle.dmc_tag.specs.Best.{is_due}
 use Rattle.dmc_tag.specs.Rank.{last_if_absent}
 use Rattle.dmc_tag.specs.declared.reply.Tags.{Tags}
-use Rattle.dmc_tag.proofs.Orderings.{IsUpto, due_before}
+use Rattle.dmc_tag.proofs.Upto.{IsUpto, due_before}
 use Rattle.dmc_client.specs.Order.{InOrder}
 use Rattle.dmc_client.specs.Record.{Rec, IsRecord}
-use Rattle.dmc_client.specs.declared.request.QueuedRequest.{QueuedRequest}
+use Rattle.dmc_tag.specs.declared.plain.QueuedRequest.{QueuedRequest}
 
 -- ---- total orders
 

@@ -1,11 +1,11 @@
 -- Lists in parts: what holds of each element, and the result of a map, a filter or a test of all.
-use Rattle.std.proofs.Common.{◌≡◌, ℕ, suc, Bool, true, false, not, ◌&&◌, ◌||◌, cond, List, [], ◌∷◌, ◌++◌, map, length, refl, sym, ap, ◌∙◌, arith}
+use Rattle.std.proofs.Common.{◌≡◌, ℕ, suc, Bool, true, false, ◌&&◌, cond, List, [], ◌∷◌, ◌++◌, map, length, refl, sym, ap, ◌∙◌, arith}
 use Rattle.std.specs.Prelude.{filter, ◌==◌}
-use Rattle.std.specs.List.{list_all, list_any, AllByRecursion}
+use Rattle.std.specs.List.{list_all, AllByRecursion}
 use Rattle.std.proofs.lemmas.Bool.{eqb-true, eqb-false, eq-eqb}
-pub use Rattle.dmc_tag.proofs.Options.{map_cond}
-pub use Rattle.dmc_tag.proofs.Lists.{all_as, all_both, all_mapped, each_passes, all_at, all_append, all_next, all_filtered, found_holds, found_passes, length_filtered, map_unmoved}
-pub use Rattle.dmc_tag.proofs.Booleans.{eqb_turned}
+pub use Rattle.dmc_lemmas.proofs.Options.{map_cond}
+pub use Rattle.dmc_lemmas.proofs.Lists.{all_as, all_both, all_mapped, each_passes, all_at, all_append, all_next, all_filtered, found_holds, found_passes, length_filtered, map_unmoved}
+pub use Rattle.dmc_lemmas.proofs.Booleans.{eqb_turned}
 pub use Rattle.std.proofs.Math.Bool.{and-true}
 
 pub true_not_false : (b : Bool) → b ≡ true → b ≡ false → ⊥
@@ -40,15 +40,7 @@ positive xs = by (suc (length xs) == 0) refl where
   by true e = let none : suc (length xs) ≡ 0 = eqb-true (suc (length xs)) 0 e in absurd (omega arith)
   by false e = e
 
--- one passes exactly where a filter leaves one
-pub any_is : {X : Type 0} (test : X → Bool) (xs : List X) → list_any test xs ≡ not (length (filter test xs) == 0)
-any_is test [] = refl
-any_is test (x ∷ xs) = at (any_is test xs) (test x) where
-  at : list_any test xs ≡ not (length (filter test xs) == 0) → (b : Bool) → (b || list_any test xs) ≡ not (length (cond b (x ∷ filter test xs) (filter test xs)) == 0)
-  at more true = ap not (sym (positive (filter test xs)))
-  at more false = more
-
--- all pass exactly where a filter leaves all
+-- all pass exactly if a filter leaves all
 pub all_is : {X : Type 0} (test : X → Bool) (xs : List X) → list_all test xs ≡ (length (filter test xs) == length xs)
 all_is test [] = refl
 all_is test (x ∷ xs) = at (all_is test xs) (test x) where

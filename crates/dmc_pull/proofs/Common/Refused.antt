@@ -10,12 +10,11 @@ use Rattle.dmc_types.specs.declared.refusal.QueueFault.{QueueFault}
 use Rattle.dmc_types.specs.declared.refusal.QueueFault.TheVariants as faults
 use Rattle.dmc_tag.specs.Tag.{Tagging}
 use Rattle.dmc_tag.specs.Answers.{call_reply}
-use Rattle.dmc_tag.specs.State.{State, effective}
+use Rattle.dmc_tag.specs.State.{PlainClient, State, effective}
 use Rattle.dmc_tag.specs.Outcome.{◌>>=◌}
-use Rattle.dmc_tag.specs.Rules.{Outcome, can_register, registered, newcomer, can_add, added, queued, shifted_by}
+use Rattle.dmc_tag.specs.Rules.{Outcome, can_register, registered, newcomer, can_add, added, queued}
 use Rattle.dmc_tag.specs.Step.{answer_of, outcome}
-use Rattle.dmc_tag.specs.Steps.{Exactly}
-use Rattle.dmc_tag.specs.declared.plain.PlainClient.{PlainClient}
+use Rattle.dmc_tag.specs.Steps.{Steps}
 use Rattle.dmc_tag.specs.declared.reply.Reply.{Reply}
 use Rattle.dmc_tag.specs.declared.reply.Reply.TheVariants.{Registered, Tagged}
 use Rattle.dmc_tag.proofs.Refusals.{no_memory}
@@ -31,7 +30,7 @@ module _ {T : Type 0} (ops : Tagging T) (old : State T) (id : ClientId) where
   pub registered_step : (new : State T) (info : Rates) (at moment : ℕ) (answer : Result ⊤ QueueFault) → moment ≡ effective old at → Ok tt ≡ can_register ops old id info
       → (client : PlainClient T) → client ≡ newcomer ops id info moment
       → OnOk answer (new ≡ record old { clients = old.clients ++ client ∷ []; last_moment = moment }) → OnErr answer (new ≡ old) → IsOkUnless answer faults.Memory
-      → Exactly ops old new (Register id info at) (call_reply (λ done. Registered) answer)
+      → Steps ops old new (Register id info at) (call_reply (λ done. Registered) answer)
   registered_step new info at moment (Ok done) moment_is may client client_is ok err memory =
       ap (λ s. (s, Registered)) ok
       ∙ ap (λ c. (record old { clients = old.clients ++ c ∷ []; last_moment = moment }, Registered)) client_is
@@ -45,7 +44,7 @@ module _ {T : Type 0} (ops : Tagging T) (old : State T) (id : ClientId) where
     pub add_refused : (refusal : Refusal) → can_add ops old id params (ops.of_moment moment) ≡ Err refusal → Err refusal ≡ outcome ops old (Add id token params at)
     add_refused refusal e =
         sym (ap (added ops old id token params) (sym moment_is)
-        ∙ ap (λ tests. tests >>= λ (shift, tags). Ok (queued (shifted_by ops shift old) (record { client = id; token = token; tags = tags }) moment, Tagged tags)) e)
+        ∙ ap (λ tests. tests >>= λ (shift, tags). Ok (queued ops old shift id (record { token = token; tags = tags }) moment, Tagged tags)) e)
 
     pub add_done : (answer : State T × Reply T) → added ops old id token params moment ≡ Ok answer → IsOk (outcome ops old (Add id token params at))
     add_done answer e = ap is_ok (ap (added ops old id token params) (sym moment_is) ∙ e)

@@ -7,25 +7,25 @@ use Rattle.std.proofs.lemmas.Bool.{eqb-true, eqb-false}
 use Rattle.dmc_types.specs.declared.ids.ClientId.{ClientId}
 use Rattle.dmc_types.specs.declared.ids.Token.{Token}
 use Rattle.dmc_tag.specs.Tag.{Fraction, Tagging}
-use Rattle.dmc_tag.specs.Best.{is_due}
+use Rattle.dmc_tag.specs.Best.{Found, is_due}
 use Rattle.dmc_tag.specs.Spacing.{spacings_of}
 use Rattle.dmc_tag.specs.declared.reply.Tags.{Tags}
-use Rattle.dmc_tag.specs.declared.plain.PlainRequest.{PlainRequest}
-use Rattle.dmc_client.specs.Record.{Rec, request_of, IsRecord, share_tags, less_reservations, less_reservation}
-use Rattle.dmc_client.specs.declared.request.QueuedRequest.{QueuedRequest}
+use Rattle.dmc_tag.specs.State.{queued_requests}
+use Rattle.dmc_client.specs.Record.{Rec, client_of, IsRecord, share_tags, less_reservations}
+use Rattle.dmc_tag.specs.declared.plain.QueuedRequest.{QueuedRequest}
 use Rattle.dmc_roster.specs.Entries.{Entry, entry_keyed, record_at, with_record, with_record_at, AreDistinct}
 use Rattle.dmc_adjust.specs.Changes.{popped, reduced}
 use Rattle.dmc_index.specs.Index.{slot_of_key}
 use Rattle.dmc_head_index.specs.declared.head.Head.{Head}
-use Rattle.dmc_pull.specs.Represented.{requests_in}
+use Rattle.dmc_pull.specs.Represented.{clients_in}
 use Rattle.dmc_pull.specs.Queue.{Queue, IsQueue, IsKept, AreHeads, head_of, unready, unready_head}
 use Rattle.dmc_pull.specs.internal.Queue.{head_at}
 use Rattle.dmc_pull.specs.internal.Choice.{first_of, first_at, after_grant, IsFirstOf}
 use Rattle.dmc_pull.proofs.Common.Kept.{length_map}
-use Rattle.dmc_pull.proofs.Common.Entries.{Split, split, key_is, all_changed, length_whole, length_as}
+use Rattle.dmc_pull.proofs.Common.Entries.{Split, split, key_is, all_changed, count_changed}
 use Rattle.dmc_pull.proofs.Common.Keyed.{distinct_changed, read_changed, read_other}
 use Rattle.dmc_pull.proofs.Common.Parts.{found_holds}
-use Rattle.dmc_tag.specs.Rules.{moment_of}
+use Rattle.dmc_tag.specs.Rules.{moment_of, less_reservation}
 use Rattle.dmc_pull.proofs.Common.Kept.{marks_later}
 
 -- ---- a slot replaced
@@ -77,15 +77,15 @@ module _ {T : Type 0} where
     pub requests : entry.rec.requests ≡ request ∷ rest
     pub client_is : client ≡ entry.id
 
-  first_in_list : List (Entry T) → ℕ → Entry T → List (QueuedRequest T) → Option ClientId
-  first_in_list es key e l = option_map (λ (found : PlainRequest T × List (PlainRequest T)). found.0.client) (option_map (λ r. (request_of e.id r, requests_in (with_record key (popped e.rec) es))) (slice_get l 0))
+  first_in_list : Entry T → List (QueuedRequest T) → Option ClientId
+  first_in_list e l = option_map (λ (found : Found T). found.client.id) (option_map (λ r. record { client = client_of e.id e.rec; request = r; others = drop 1 e.rec.requests }) (slice_get l 0))
 
-  with_request : (es : List (Entry T)) (key : ℕ) (client : ClientId) (e : Entry T) → entry_keyed key es ≡ Some e → (l : List (QueuedRequest T)) → e.rec.requests ≡ l → first_in_list es key e l ≡ Some client → Waits es key client
+  with_request : (es : List (Entry T)) (key : ℕ) (client : ClientId) (e : Entry T) → entry_keyed key es ≡ Some e → (l : List (QueuedRequest T)) → e.rec.requests ≡ l → first_in_list e l ≡ Some client → Waits es key client
   unfolding first_in_list
   with_request es key client e f [] q h = cc
   with_request es key client e f (r ∷ rest) q h = let same : Some e.id ≡ Some client = h in record { entry = e; request = r; rest = rest; found = f; requests = q; client_is = cc (same) }
 
-  found_waits : (es : List (Entry T)) (key : ℕ) (client : ClientId) (o : Option (Entry T)) → entry_keyed key es ≡ o → option_map (λ (found : PlainRequest T × List (PlainRequest T)). found.0.client) (option_and_then (first_of es key) o) ≡ Some client → Waits es key client
+  found_waits : (es : List (Entry T)) (key : ℕ) (client : ClientId) (o : Option (Entry T)) → entry_keyed key es ≡ o → option_map (λ (found : Found T). found.client.id) (option_and_then first_of o) ≡ Some client → Waits es key client
   unfolding first_in_list
   found_waits es key client None f h = cc
   found_waits es key client (Some e) f h = with_request es key client e f e.rec.requests refl h
@@ -93,9 +93,9 @@ module _ {T : Type 0} where
   pub waits : (es : List (Entry T)) (key : ℕ) (client : ClientId) → IsFirstOf es key client → Waits es key client
   waits es key client h = found_waits es key client (entry_keyed key es) refl h
 
-  named : (o : Option (PlainRequest T × List (PlainRequest T))) → is_some o ≡ true → (client : ClientId) × (option_map (λ found. found.0.client) o ≡ Some client)
+  named : (o : Option (Found T)) → is_some o ≡ true → (client : ClientId) × (option_map (λ found. found.client.id) o ≡ Some client)
   named None h = cc
-  named (Some found) h = (found.0.client, refl)
+  named (Some found) h = (found.client.id, refl)
 
   -- the client of a first request
   pub first_named : (es : List (Entry T)) (key : ℕ) → is_some (first_at key es) ≡ true → (client : ClientId) × IsFirstOf es key client
@@ -111,17 +111,17 @@ module _ {T : Type 0} (es : List (Entry T)) (key : ℕ) where
   abbrev token_of : Option (QueuedRequest T) → Option Token
   token_of = option_map (λ r. r.token)
 
-  abbrev token_found : Option (PlainRequest T × List (PlainRequest T)) → Option Token
-  token_found = option_map (λ found. found.0.token)
+  abbrev token_found : Option (Found T) → Option Token
+  token_found = option_map (λ found. found.request.token)
 
   pub first_token : token_of (option_and_then (λ rec. slice_get rec.requests 0) (record_at key es)) ≡ token_found (first_at key es)
   first_token = at (entry_keyed key es) where
-    of_slot : (e : Entry T) (x : Option (QueuedRequest T)) → token_of x ≡ token_found (option_map (λ r. (request_of e.id r, requests_in (with_record key (popped e.rec) es))) x)
+    of_slot : (e : Entry T) (x : Option (QueuedRequest T)) → token_of x ≡ token_found (option_map (λ r. record { client = client_of e.id e.rec; request = r; others = drop 1 e.rec.requests }) x)
     of_slot e None = refl
     of_slot e (Some r) = refl
 
     at : (o : Option (Entry T))
-        → token_of (option_and_then (λ (rec : Rec T). slice_get rec.requests 0) (option_map (λ e. e.rec) o)) ≡ token_found (option_and_then (first_of es key) o)
+        → token_of (option_and_then (λ (rec : Rec T). slice_get rec.requests 0) (option_map (λ e. e.rec) o)) ≡ token_found (option_and_then first_of o)
     at None = refl
     at (Some e) = of_slot e (slice_get e.rec.requests 0)
 
@@ -199,13 +199,12 @@ module _ {T : Type 0} (ops : Tagging T) (fraction : T → Fraction) (is_value : 
     own_room : key < length q.heads
     own_room = subst (λ n. n < length q.heads) (key_is split_of) (found_holds (λ e. e.key < length q.heads) (λ e. e.key == key) q.roster.entries waiting.entry is.in_room waiting.found)
 
-    size : length (requests_in q.roster.entries) ≡ suc (length (requests_in (with_record key left q.roster.entries)))
+    size : length (queued_requests (clients_in q.roster.entries)) ≡ suc (length (queued_requests (clients_in (with_record key left q.roster.entries))))
     size =
-        let old = length_as split_of in
-        let new = length_whole split_of left in
+        let change = count_changed split_of left in
         let one : length waiting.entry.rec.requests ≡ suc (length waiting.rest) = ap length waiting.requests in
         let other : length left.requests ≡ length waiting.rest = grant_length ops reduces waiting.entry.rec ∙ ap (λ l. length (drop 1 l)) waiting.requests in
-        omega (arith, old, new, one, other)
+        omega (arith, change, one, other)
 
     pub one_at_least : 1 ≤ queued
     one_at_least = omega (arith, is.counted, size)

@@ -15,25 +15,25 @@ use Rattle.dmc_types.specs.declared.refusal.Refusal.TheVariants.{QueueFull, Rang
 use Rattle.dmc_tag.specs.Tag.{Fraction, Tagging}
 use Rattle.dmc_tag.specs.Outcome.{◌>>=◌, in_range}
 use Rattle.dmc_tag.specs.Spacing.{spacings_of}
-use Rattle.dmc_tag.specs.State.{State, client_named, effective}
+use Rattle.dmc_tag.specs.State.{State, client_named, effective, queued_requests}
 use Rattle.dmc_tag.specs.Step.{answer_of, step}
 use Rattle.dmc_tag.specs.declared.reply.Reply.{Reply}
 use Rattle.dmc_tag.specs.declared.reply.Reply.TheVariants.{Tagged}
 use Rattle.dmc_tag.specs.Rules as rules_of
-use Rattle.dmc_tag.specs.Rules.{can_add, can_shift_by, shifted_by, assigned, added}
+use Rattle.dmc_tag.specs.Rules.{can_add, can_shift_by, shifted_by, change_client, after_arrival, assigned, added}
 use Rattle.dmc_tag.specs.declared.reply.Tags.{Tags}
 use Rattle.dmc_tag.specs.Order.{AreNext}
 use Rattle.dmc_client.specs.Record.{Rec, client_of, share_tags}
 use Rattle.dmc_roster.specs.Entries.{Entry, entry_named, entry_keyed, record_at}
 use Rattle.dmc_pull.specs.internal.Adding.{needed_shift, unless_nothing, Allows, IsAllowed}
 use Rattle.dmc_pull.specs.Queue.{Queue, IsQueue, IsKept, state_of}
-use Rattle.dmc_pull.specs.Represented.{clients_in, requests_in}
+use Rattle.dmc_pull.specs.Represented.{clients_in}
 use Rattle.dmc_pull.specs.declared.adding.Addition.{Addition}
 use Rattle.dmc_pull.proofs.Common.Parts.{all_as, found_holds}
 use Rattle.dmc_pull.proofs.Common.Entries.{named}
 use Rattle.dmc_pull.proofs.Common.Keyed.{record_is}
 use Rattle.dmc_pull.proofs.Add.Adds.{held_entry, if_holds, full, no_shift, whole, Whole, out_of_range, no_tags, allowed, idle_where_shifted}
-use Rattle.dmc_pull.proofs.Add.NothingOff.{all_requests, all_clients, same_test, same_shifted}
+use Rattle.dmc_pull.proofs.Add.NothingOff.{all_clients, same_test, same_shifted}
 
 -- the step of an add, from its effect at the effective moment
 pub step_of_add : {T : Type 0} (ops : Tagging T) (s : State T) (id : ClientId) (token : Token) (params : Params) (at moment : ℕ) (answer : State T × Reply T) → moment ≡ effective s at → added ops s id token params moment ≡ Ok answer → step ops s (Add id token params at) ≡ answer
@@ -48,17 +48,17 @@ module _ {T : Type 0} (ops : Tagging T) (fraction : T → Fraction) (is_value : 
   all_values = all_as (λ (e : Entry T). IsKept ops fraction is_value q.config.hz e.rec) (λ e. AllByRecursion (λ tag. is_value (fraction tag)) (share_tags e.rec)) (λ e k. k.values) entries is.kept
 
   module _ (same : (a b : T) → ops.compare a b ≡ Equal → a ≡ b) (off : (a : T) → is_value (fraction a) → ops.minus a (ops.of_moment 0) ≡ Some a) where
-    test_left : (amount : Option T) → can_shift_by ops (unless_nothing ops amount) (clients_in entries) (requests_in entries) ≡ can_shift_by ops amount (clients_in entries) (requests_in entries)
-    test_left = same_test ops (λ tag. is_value (fraction tag)) same off (state_of q) (all_requests ops (λ tag. is_value (fraction tag)) entries all_values) (all_clients ops (λ tag. is_value (fraction tag)) entries all_values)
+    test_left : (amount : Option T) → can_shift_by ops (unless_nothing ops amount) (clients_in entries) ≡ can_shift_by ops amount (clients_in entries)
+    test_left = same_test ops (λ tag. is_value (fraction tag)) same off (clients_in entries) (all_clients ops (λ tag. is_value (fraction tag)) entries all_values)
 
-    shifted_left : (amount : Option T) → shifted_by ops (unless_nothing ops amount) (state_of q) ≡ shifted_by ops amount (state_of q)
-    shifted_left = same_shifted ops (λ tag. is_value (fraction tag)) same off (state_of q) (all_requests ops (λ tag. is_value (fraction tag)) entries all_values) (all_clients ops (λ tag. is_value (fraction tag)) entries all_values)
+    shifted_left : (amount : Option T) → shifted_by ops (unless_nothing ops amount) (clients_in entries) ≡ shifted_by ops amount (clients_in entries)
+    shifted_left = same_shifted ops (λ tag. is_value (fraction tag)) same off (clients_in entries) (all_clients ops (λ tag. is_value (fraction tag)) entries all_values)
 
-    -- the effect of an add, with the shift left out where it is 0
-    pub added_is : (id : ClientId) (params : Params) (at : ℕ) (addition : Addition T) → Allows ops (state_of q) id params at addition → (token : Token) → added ops (state_of q) id token params at ≡ Ok (rules_of.queued (shifted_by ops addition.shift (state_of q)) (record { client = id; token = token; tags = addition.tags }) at, Tagged addition.tags)
+    -- the effect of an add, with the shift left out if it is 0
+    pub added_is : (id : ClientId) (params : Params) (at : ℕ) (addition : Addition T) → Allows ops (state_of q) id params at addition → (token : Token) → added ops (state_of q) id token params at ≡ Ok (rules_of.queued ops (state_of q) addition.shift id (record { token = token; tags = addition.tags }) at, Tagged addition.tags)
     added_is id params at addition allows token =
-        ap (λ r. r >>= λ (shift, tags). Ok (rules_of.queued (shifted_by ops shift (state_of q)) (record { client = id; token = token; tags = tags }) at, Tagged tags)) allows.test
-        ∙ ap (λ s. Ok (rules_of.queued s (record { client = id; token = token; tags = addition.tags }) at, Tagged addition.tags)) (sym (shifted_left allows.full) ∙ ap (λ shift. shifted_by ops shift (state_of q)) (sym allows.shift))
+        ap (λ r. r >>= λ (shift, tags). Ok (rules_of.queued ops (state_of q) shift id (record { token = token; tags = tags }) at, Tagged tags)) allows.test
+        ∙ ap (λ cs. Ok (record (state_of q) { clients = change_client id (after_arrival (record { token = token; tags = addition.tags }) at) cs; last_moment = at }, Tagged addition.tags)) (sym (shifted_left allows.full) ∙ ap (λ shift. shifted_by ops shift (clients_in entries)) (sym allows.shift))
 
     module _ (id : ClientId) (params : Params) (at : ℕ) (key : ℕ) (entry : entry_keyed key entries ≡ entry_named id entries) (held : is_some (entry_keyed key entries) ≡ true) where
       abbrev test : Result (Option T × Tags T) Refusal
@@ -73,15 +73,15 @@ module _ {T : Type 0} (ops : Tagging T) (fraction : T → Fraction) (is_value : 
       pub queue_full : max_requests ≤ queued → test ≡ Err QueueFull
       queue_full h =
           let counted = is.counted in
-          let le : nat_le max_requests (length (requests_in entries)) ≡ true = grind (arith, nat_tests) in
+          let le : nat_le max_requests (length (queued_requests (clients_in entries))) ≡ true = grind (arith, nat_tests) in
           full ops (state_of q) id params (ops.of_moment at) (client_of found.0.id found.0.rec) known le
 
-      module _ (below : queued < max_requests) (r : Result (Option T) Refusal) (t : T) (moment : t ≡ ops.of_moment at) (value : IfSome (entry_keyed key entries) (λ e. r ≡ needed_shift ops (requests_in entries) (client_of e.id e.rec) t)) where
-        room : nat_le max_requests (length (requests_in entries)) ≡ false
+      module _ (below : queued < max_requests) (r : Result (Option T) Refusal) (t : T) (moment : t ≡ ops.of_moment at) (value : IfSome (entry_keyed key entries) (λ e. r ≡ needed_shift ops (clients_in entries) (client_of e.id e.rec) t)) where
+        room : nat_le max_requests (length (queued_requests (clients_in entries))) ≡ false
         room = let counted = is.counted in grind (arith, nat_tests)
 
-        shift_is : r ≡ needed_shift ops (requests_in entries) (client_of found.0.id found.0.rec) (ops.of_moment at)
-        shift_is = if_holds _ (entry_keyed key entries) found.0 found.1 value ∙ ap (needed_shift ops (requests_in entries) (client_of found.0.id found.0.rec)) moment
+        shift_is : r ≡ needed_shift ops (clients_in entries) (client_of found.0.id found.0.rec) (ops.of_moment at)
+        shift_is = if_holds _ (entry_keyed key entries) found.0 found.1 value ∙ ap (needed_shift ops (clients_in entries) (client_of found.0.id found.0.rec)) moment
 
         pub shift_refused : (refusal : Refusal) → r ≡ Err refusal → test ≡ Err refusal
         shift_refused refusal e = no_shift ops (state_of q) id params (ops.of_moment at) (client_of found.0.id found.0.rec) known room refusal (sym e ∙ shift_is)
@@ -90,13 +90,13 @@ module _ {T : Type 0} (ops : Tagging T) (fraction : T → Fraction) (is_value : 
           whole_is : Whole ops (state_of q) id params (ops.of_moment at) (client_of found.0.id found.0.rec) known room shift
           whole_is = whole ops (state_of q) id params (ops.of_moment at) (client_of found.0.id found.0.rec) known room shift (sym e ∙ shift_is)
 
-          can_is : can_shift_by ops whole_is.amount (clients_in entries) (requests_in entries) ≡ can_shift_by ops shift (clients_in entries) (requests_in entries)
-          can_is = sym (test_left whole_is.amount) ∙ ap (λ s. can_shift_by ops s (clients_in entries) (requests_in entries)) (sym whole_is.left)
+          can_is : can_shift_by ops whole_is.amount (clients_in entries) ≡ can_shift_by ops shift (clients_in entries)
+          can_is = sym (test_left whole_is.amount) ∙ ap (λ s. can_shift_by ops s (clients_in entries)) (sym whole_is.left)
 
-          pub shift_out_of_range : can_shift_by ops shift (clients_in entries) (requests_in entries) ≡ false → test ≡ Err Range
+          pub shift_out_of_range : can_shift_by ops shift (clients_in entries) ≡ false → test ≡ Err Range
           shift_out_of_range h = out_of_range ops (state_of q) id params (ops.of_moment at) (client_of found.0.id found.0.rec) known room whole_is.amount whole_is.is (can_is ∙ h)
 
-          module _ (can : can_shift_by ops shift (clients_in entries) (requests_in entries) ≡ true) (rec : Rec T) (at_key : record_at key entries ≡ Some rec) (tags : Option (Tags T))
+          module _ (can : can_shift_by ops shift (clients_in entries) ≡ true) (rec : Rec T) (at_key : record_at key entries ≡ Some rec) (tags : Option (Tags T))
               (gives : (hz : ℕ) (id : ClientId) → spacings_of ops hz rec.info ≡ Ok rec.spacings → in_range tags ≡ assigned ops hz (client_of id rec) params t) where
             assigned_is : in_range tags ≡ assigned ops q.config.hz (client_of found.0.id found.0.rec) params (ops.of_moment at)
             assigned_is =
@@ -124,7 +124,7 @@ module _ {T : Type 0} (ops : Tagging T) (fraction : T → Fraction) (is_value : 
                 let next = if_holds (AreNext ops rec.info rec.previous) tags assigned_tags h follows in
                 let of_key = λ (P : Rec T → Type 0) (holds : P rec). subst (λ o. IfSome o P) (sym at_key) holds in
                 let same = record_is key entries found.0 rec found.1 at_key in
-                let comes = idle_where_shifted ops (requests_in entries) (client_of found.0.id found.0.rec) (ops.of_moment at) shift (sym e ∙ shift_is) in
+                let comes = idle_where_shifted ops (clients_in entries) (client_of found.0.id found.0.rec) (ops.of_moment at) shift (sym e ∙ shift_is) in
                 record {
                   tests = tests;
                   added = added_is id params at (record { key = key; shift = shift; tags = assigned_tags }) tests;

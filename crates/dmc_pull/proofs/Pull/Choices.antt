@@ -1,5 +1,5 @@
 -- What the least of an index says of all requests.
-use Rattle.std.proofs.Common.{◌≡◌, ℕ, Bool, true, false, List, [], ◌∷◌, ◌++◌, map, Option, Some, None, refl, sym, ap, ◌∙◌, subst}
+use Rattle.std.proofs.Common.{◌≡◌, ℕ, Bool, true, false, List, [], ◌∷◌, ◌++◌, drop, Option, Some, None, refl, sym, ap, ◌∙◌, subst}
 use Rattle.std.specs.Prelude.{◌≢◌, ◌==◌, slice_get}
 use Rattle.std.specs.Option.{option_map, option_and_then}
 use Rattle.std.specs.List.{AllByRecursion}
@@ -9,24 +9,27 @@ use Rattle.std.proofs.lemmas.Bool.{eqb-false}
 use Rattle.std.proofs.lemmas.Option.{same_Some}
 use Rattle.dmc_types.specs.declared.ids.ClientId.{ClientId}
 use Rattle.dmc_tag.specs.Tag.{Tagging}
-use Rattle.dmc_tag.specs.Best.{is_before, IsBest, HasNone}
+use Rattle.dmc_tag.specs.State.{queued_requests}
+use Rattle.dmc_tag.specs.Best.{IsBestOfAll, HasNone}
 use Rattle.dmc_tag.specs.Rank.{tag_rank_cmp}
 use Rattle.dmc_tag.specs.declared.rank.TagRank.{TagRank}
 use Rattle.dmc_tag.specs.declared.reply.Tags.{Tags}
-use Rattle.dmc_client.specs.Record.{request_of}
-use Rattle.dmc_client.specs.declared.request.QueuedRequest.{QueuedRequest}
-use Rattle.dmc_roster.specs.Entries.{Entry, entry_keyed, with_record, AreDistinct}
-use Rattle.dmc_adjust.specs.Changes.{popped}
+use Rattle.dmc_tag.specs.declared.plain.QueuedRequest.{QueuedRequest}
+use Rattle.dmc_roster.specs.Entries.{Entry, entry_keyed, AreDistinct}
+use Rattle.dmc_client.specs.Record.{client_of}
 use Rattle.dmc_index.specs.Index.{slot_of_key, IsEmpty}
 use Rattle.dmc_head_index.specs.declared.head.Head.{Head}
-use Rattle.dmc_tag.proofs.Lists.{all_both}
-use Rattle.dmc_tag.proofs.Orderings.{IsUpto}
-use Rattle.dmc_pull.specs.Represented.{requests_in}
+use Rattle.dmc_lemmas.proofs.Lists.{all_both}
+use Rattle.dmc_tag.proofs.Upto.{IsUpto}
+use Rattle.dmc_pull.specs.Represented.{clients_in}
 use Rattle.dmc_pull.specs.Queue.{unready, head_of, AreHeads}
 use Rattle.dmc_pull.proofs.Common.Ordered.{FirstIsLeast, FirstIsMember}
-use Rattle.dmc_pull.proofs.Common.Firsts.{is_at, all_found, found_holds, first_is_best, none_are, IsOther, IsBehind, FirstIsNone}
+use Rattle.dmc_pull.proofs.Common.Parts.{found_holds}
+use Rattle.dmc_pull.proofs.Common.Entries.{Differs, split, key_is}
+use Rattle.dmc_pull.proofs.Common.Keyed.{all_found}
+use Rattle.dmc_pull.proofs.Common.Firsts.{first_is_best, none_are, IsOther, IsBehind, FirstIsNone}
 
--- The first request of the client under the key is the best of the members, and the others are what is left without it.
+-- The first request of the client under the key is the best of the members.
 pub record IsChosen {T : Type 0} (ops : Tagging T) (tag : Tags T → Option T) (member : Tags T → Bool) (entries : List (Entry T)) (key : ℕ) (client : ClientId) : Type 0 where
   pub entry : Entry T
   pub client_is : client ≡ entry.id
@@ -34,7 +37,7 @@ pub record IsChosen {T : Type 0} (ops : Tagging T) (tag : Tags T → Option T) (
   pub rest : List (QueuedRequest T)
   pub found : entry_keyed key entries ≡ Some entry
   pub requests : entry.rec.requests ≡ request ∷ rest
-  pub best : IsBest (is_before ops (λ r. tag r.tags)) (λ r. member r.tags) (requests_in entries) (request_of entry.id request) (requests_in (with_record key (popped entry.rec) entries))
+  pub best : IsBestOfAll ops (λ r. tag r.tags) (λ r. member r.tags) (clients_in entries) (record { client = client_of entry.id entry.rec; request = request; others = drop 1 entry.rec.requests })
 
 -- ---- the head of an entry
 
@@ -47,7 +50,7 @@ module _ {T : Type 0} where
   is_head : (head : Head T) (id : ClientId) (r : QueuedRequest T) → unready head ≡ record { client = id; tags = r.tags; ready = false } → IsHeadOf head id r
   is_head head id r e = record { client = ap (λ h. h.client) e; tags = ap (λ h. h.tags) e }
 
-  -- the entry that a key finds has a head under the key, where it has a request
+  -- the entry that a key finds has a head under the key, if it has a request
   pub record HasHead (heads : List (Option (Head T))) (key : ℕ) (id : ClientId) (r : QueuedRequest T) : Type 0 where
     pub head : Head T
     pub here : slot_of_key heads key ≡ Some head
@@ -85,15 +88,15 @@ module _ {T : Type 0} (ops : Tagging T) (t : ℕ) (es : List (Entry T)) (heads :
   entry_at key head h = entry_from key head (entry_keyed key es) refl (sym (ap (option_map unready) h) ∙ are.here key)
 
   -- with no head no client has a request
-  pub none_queued : AreDistinct es → IsEmpty heads → requests_in es ≡ []
+  pub none_queued : AreDistinct es → IsEmpty heads → queued_requests (clients_in es) ≡ []
   none_queued d none = all_empty es (all_found (λ e. e.rec.requests ≡ []) es d (λ e f. empty_at e e.rec.requests refl f)) where
     empty_at : (e : Entry T) (l : List (QueuedRequest T)) → e.rec.requests ≡ l → entry_keyed e.key es ≡ Some e → e.rec.requests ≡ []
     empty_at e [] q f = q
     empty_at e (r ∷ rest) q f = let h = head_at e.key e r rest f q in let gone : None ≡ Some h.head = sym (none e.key) ∙ h.here in cc
 
-    all_empty : (xs : List (Entry T)) → AllByRecursion (λ e. e.rec.requests ≡ []) xs → requests_in xs ≡ []
+    all_empty : (xs : List (Entry T)) → AllByRecursion (λ e. e.rec.requests ≡ []) xs → queued_requests (clients_in xs) ≡ []
     all_empty [] h = refl
-    all_empty (x ∷ xs) h = ap (λ l. map (request_of x.id) l ++ requests_in xs) h.0 ∙ all_empty xs h.1
+    all_empty (x ∷ xs) h = ap (λ l. l ++ queued_requests (clients_in xs)) h.0 ∙ all_empty xs h.1
 
   -- ---- the best of a set, by what holds of the other heads
 
@@ -103,19 +106,19 @@ module _ {T : Type 0} (ops : Tagging T) (t : ℕ) (es : List (Entry T)) (heads :
     within P [] e back h = (tt, h.1)
     within P (x ∷ front) e back h = let more = within P front e back h.1 in ((h.0, more.0), more.1)
 
-    others : (key : ℕ) (first : TagRank T) (xs : List (Entry T)) → AllByRecursion (λ f. ((f.key == key) ≡ false → IsOther ops order tag member first f)) xs → AllByRecursion (λ f. (f.key == key) ≡ false) xs → AllByRecursion (IsOther ops order tag member first) xs
-    others key first [] h k = tt
-    others key first (x ∷ xs) h k = (h.0 k.0, others key first xs h.1 k.1)
+    others : (e : Entry T) (first : TagRank T) (xs : List (Entry T)) → AllByRecursion (λ f. ((f.key == e.key) ≡ false → IsOther ops order tag member first f)) xs → AllByRecursion (Differs e) xs → AllByRecursion (IsOther ops order tag member first) xs
+    others e first [] h k = tt
+    others e first (x ∷ xs) h k = (h.0 k.0.0, others e first xs h.1 k.1)
 
-    -- the head's request is the best, where every other head that is a member is behind it
+    -- the head's request is the best, if every other head that is a member is behind it
     pub chosen : (key : ℕ) (head : Head T) → slot_of_key heads key ≡ Some head → member head.tags ≡ true → ((k : ℕ) (other : Head T) → k ≢ key → slot_of_key heads k ≡ Some other → member other.tags ≡ true → tag_rank_cmp ops.compare (record { tag = tag head.tags; client = head.client }) (record { tag = tag other.tags; client = other.client }) ≡ Less) → IsChosen ops tag member es key head.client
     chosen key head h m below =
         let x = entry_at key head h in
-        let at = is_at key es x.entry d x.found in
+        let at = split key es x.entry x.found d in
         let first : TagRank T = record { tag = tag x.request.tags; client = x.entry.id } in
         let own : AllByRecursion (λ y. IsUpto ops (tag x.request.tags) (tag y.tags)) x.rest = subst (FirstIsLeast ops tag) x.requests (found_holds (λ e. FirstIsLeast ops tag e.rec.requests) (λ e. e.key == key) es x.entry least x.found) in
-        let all = all_found (λ f. (f.key == key) ≡ false → IsOther ops order tag member first f) es d (λ f g. other_of key head x.entry x.request x.of below f g) in
-        let parts = within _ at.front x.entry at.back (subst (AllByRecursion (λ f. (f.key == key) ≡ false → IsOther ops order tag member first f)) at.whole all) in
+        let all = all_found (λ f. (f.key == x.entry.key) ≡ false → IsOther ops order tag member first f) es d (λ f g ne. other_of key head x.entry x.request x.of below f g (ap (λ n. f.key == n) (sym (key_is at)) ∙ ne)) in
+        let parts = within _ at.front x.entry at.back (subst (AllByRecursion (λ f. (f.key == x.entry.key) ≡ false → IsOther ops order tag member first f)) at.whole all) in
         record {
           entry = x.entry;
           client_is = x.of.client;
@@ -123,7 +126,7 @@ module _ {T : Type 0} (ops : Tagging T) (t : ℕ) (es : List (Entry T)) (heads :
           rest = x.rest;
           found = x.found;
           requests = x.requests;
-          best = first_is_best ops order tag member es key x.entry at x.request x.rest x.requests (subst (λ g. member g ≡ true) x.of.tags m) own (others key first at.front parts.0 at.ahead) (others key first at.back parts.1 at.behind);
+          best = first_is_best ops order tag member at x.request x.rest x.requests (subst (λ g. member g ≡ true) x.of.tags m) own (others x.entry first at.front parts.0 at.ahead) (others x.entry first at.back parts.1 at.behind);
         }
       where
         behind_at : (key : ℕ) (head : Head T) (e : Entry T) (r : QueuedRequest T) → IsHeadOf head e.id r → ((k : ℕ) (other : Head T) → k ≢ key → slot_of_key heads k ≡ Some other → member other.tags ≡ true → tag_rank_cmp ops.compare (record { tag = tag head.tags; client = head.client }) (record { tag = tag other.tags; client = other.client }) ≡ Less) → (f : Entry T) → entry_keyed f.key es ≡ Some f → (f.key == key) ≡ false → (l : List (QueuedRequest T)) → f.rec.requests ≡ l → IsBehind ops order tag member (record { tag = tag r.tags; client = e.id }) f.id l
@@ -143,8 +146,8 @@ module _ {T : Type 0} (ops : Tagging T) (t : ℕ) (es : List (Entry T)) (heads :
           behind = behind_at key head e r of below f g ne f.rec.requests refl;
         }
 
-    -- no request is a member, where no head is one
-    pub none_chosen : ((k : ℕ) (head : Head T) → slot_of_key heads k ≡ Some head → member head.tags ≡ false) → HasNone (λ r. member r.tags) (requests_in es)
+    -- no request is a member, if no head is one
+    pub none_chosen : ((k : ℕ) (head : Head T) → slot_of_key heads k ≡ Some head → member head.tags ≡ false) → HasNone (λ r. member r.tags) (queued_requests (clients_in es))
     none_chosen none = none_are ops order tag member es (all_both _ _ es members (all_found (λ f. FirstIsNone ops order tag member f.rec.requests) es d (λ f g. none_at f g f.rec.requests refl))) where
       none_at : (f : Entry T) → entry_keyed f.key es ≡ Some f → (l : List (QueuedRequest T)) → f.rec.requests ≡ l → FirstIsNone ops order tag member l
       none_at f g [] q = tt

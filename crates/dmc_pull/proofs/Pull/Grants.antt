@@ -1,7 +1,7 @@
 -- What a grant makes of the plain state.
-use Rattle.std.proofs.Common.{◌≡◌, ℕ, Bool, true, false, not, cond, List, [], ◌∷◌, Option, Some, None, refl, sym, ap, ◌∙◌, subst}
+use Rattle.std.proofs.Common.{◌≡◌, ℕ, Bool, true, false, not, cond, List, drop, Option, Some, None, refl, sym, ap, ◌∙◌, subst}
 use Rattle.std.specs.Prelude.{◌==◌, IfSome, Ok, Err, Result}
-use Rattle.std.specs.Option.{option_map, option_and_then}
+use Rattle.std.specs.Option.{option_map, option_map_or}
 use Rattle.dmc_types.specs.declared.ids.ClientId.{ClientId}
 use Rattle.dmc_types.specs.declared.ids.Token.{Token}
 use Rattle.dmc_types.specs.declared.config.PhaseType.{PhaseType}
@@ -11,10 +11,10 @@ use Rattle.dmc_types.specs.declared.refusal.Refusal.TheVariants.{Range}
 use Rattle.dmc_tag.specs.Tag.{Fraction, Tagging}
 use Rattle.dmc_tag.specs.Outcome.{◌>>=◌, refuse_if}
 use Rattle.dmc_tag.specs.Spacing.{spacings_of}
-use Rattle.dmc_tag.specs.Rules.{Outcome, without, granted, grant_priority, can_grant, reduction_of, reduction_at, can_reduce_by, reduced_by, reduced_requests}
+use Rattle.dmc_tag.specs.Best.{Found}
+use Rattle.dmc_tag.specs.Rules as rules_of
+use Rattle.dmc_tag.specs.Rules.{Outcome, taken_out, granted, grant_priority, can_grant, reduction_at, can_reduce_by, with_requests}
 use Rattle.dmc_tag.specs.Step.{answer_of}
-use Rattle.dmc_tag.specs.declared.plain.PlainRequest.{PlainRequest}
-use Rattle.dmc_tag.specs.declared.plain.PlainClient.{PlainClient}
 use Rattle.dmc_tag.specs.declared.reply.Reply.TheVariants.{Granted}
 use Rattle.dmc_tag.specs.State.{State}
 use Rattle.dmc_tag.specs.declared.reply.Reply.TheVariants as replies
@@ -22,16 +22,14 @@ use Rattle.dmc_tag.specs.declared.reply.Pulled.TheVariants as pulls
 use Rattle.dmc_pull.specs.Allowed.{is_allowed}
 use Rattle.dmc_pull.specs.internal.Allowed.{SettlesIf}
 use Rattle.dmc_pull.specs.declared.granting.PullFault.TheVariants as faults
-use Rattle.dmc_client.specs.Record.{Rec, client_of, request_of, requests_of_record}
-use Rattle.dmc_roster.specs.Entries.{Entry, record_at, with_record, with_record_at, AreDistinct}
-use Rattle.dmc_adjust.specs.Changes.{popped, reduced}
-use Rattle.dmc_pull.specs.Represented.{clients_in, requests_in}
+use Rattle.dmc_client.specs.Record.{Rec, client_of, less_reservations}
+use Rattle.dmc_roster.specs.Entries.{Entry, record_at, with_record_at, AreDistinct}
+use Rattle.dmc_adjust.specs.Changes.{popped}
+use Rattle.dmc_pull.specs.Represented.{clients_in}
 use Rattle.dmc_pull.specs.Queue.{Queue, IsQueue, IsKept, state_of}
 use Rattle.dmc_pull.proofs.Common.Parts.{found_holds}
 use Rattle.dmc_pull.specs.internal.Choice.{first_at, after_grant, IsGrantable, Settles}
-use Rattle.dmc_pull.proofs.Common.Entries.{Split, split, named, clients_whole, changed_client, change_whole}
-use Rattle.dmc_pull.proofs.Common.Keyed.{split_named}
-use Rattle.dmc_pull.proofs.Pull.Reduced.{reducible, reduced_clients_in, reduced_requests_in}
+use Rattle.dmc_pull.proofs.Common.Entries.{Split, split, changed_client}
 use Rattle.dmc_pull.proofs.Pull.Picks.{first_chosen}
 use Rattle.dmc_pull.proofs.Common.Replaced.{Waits}
 
@@ -49,87 +47,76 @@ module _ {T : Type 0} (ops : Tagging T) where
     own_split : Split key w.entry es
     own_split = split key es w.entry w.found d
 
-    abbrev others : List (PlainRequest T)
-    others = requests_in (with_record key (popped w.entry.rec) es)
+    -- the request that is granted
+    abbrev first : Found T
+    first = record { client = client_of w.entry.id w.entry.rec; request = w.request; others = drop 1 w.entry.rec.requests }
 
-    pub first_is : first_at key es ≡ Some (request_of w.entry.id w.request, others)
+    first_is : first_at key es ≡ Some first
     first_is = first_chosen es key w.entry w.request w.rest w.found w.requests
 
     same_roster : (reduces : Bool) → After old new key reduces t → new.roster ≡ with_record_at old.roster key (after_grant ops reduces w.entry.rec)
     same_roster reduces a = subst (λ o. IfSome o (λ rec. new.roster ≡ with_record_at old.roster key (after_grant ops reduces rec))) (ap (option_map (λ e. e.rec)) w.found) a.roster
 
-    state_after : (reduces : Bool) → After old new key reduces t → state_of new ≡ record { config = old.config; requests = requests_in (with_record key (after_grant ops reduces w.entry.rec) es); clients = clients_in (with_record key (after_grant ops reduces w.entry.rec) es); last_moment = t }
-    state_after reduces a =
-        ap (λ c. record { config = c; requests = requests_in new.roster.entries; clients = clients_in new.roster.entries; last_moment = new.last_moment }) a.config
-        ∙ ap (λ m. record { config = old.config; requests = requests_in new.roster.entries; clients = clients_in new.roster.entries; last_moment = m }) a.moment
-        ∙ ap (λ r. record { config = old.config; requests = requests_in r.entries; clients = clients_in r.entries; last_moment = t }) (same_roster reduces a)
+    state_after : (reduces : Bool) (amount : Option T) → client_of w.entry.id (after_grant ops reduces w.entry.rec) ≡ rules_of.after_grant ops first amount → After old new key reduces t → state_of new ≡ taken_out ops (state_of old) t first amount
+    state_after reduces amount own a =
+        ap (λ c. record { config = c; clients = clients_in new.roster.entries; last_moment = new.last_moment }) a.config
+        ∙ ap (λ m. record { config = old.config; clients = clients_in new.roster.entries; last_moment = m }) a.moment
+        ∙ ap (λ r. record { config = old.config; clients = clients_in r.entries; last_moment = t }) (same_roster reduces a)
+        ∙ ap (λ cs. record { config = old.config; clients = cs; last_moment = t }) (changed_client own_split (λ c. rules_of.after_grant ops first amount) (after_grant ops reduces w.entry.rec) own)
 
-    popped_clients : clients_in (with_record key (popped w.entry.rec) es) ≡ clients_in es
-    popped_clients = changed_client own_split (λ c. c) (popped w.entry.rec) refl ∙ change_whole own_split (λ c. c) ∙ sym (clients_whole own_split)
-
-    -- in the constraint phase
-    early_state : After old new key false t → state_of new ≡ without (state_of old) t others
-    early_state a = state_after false a ∙ ap (λ cs. record { config = old.config; requests = others; clients = cs; last_moment = t }) popped_clients
-
-    same_reply : (token : Token) (phase : PhaseType) (beyond : Bool) → token ≡ w.request.token → Granted client token phase beyond ≡ granted (request_of w.entry.id w.request) phase beyond
+    same_reply : (token : Token) (phase : PhaseType) (beyond : Bool) → token ≡ w.request.token → Granted client token phase beyond ≡ granted first phase beyond
     same_reply token phase beyond e = ap (λ id. Granted id token phase beyond) w.client_is ∙ ap (λ k. Granted w.entry.id k phase beyond) e
 
-    token_is : (token : Token) → Some token ≡ option_map (λ found. found.0.token) (first_at key es) → token ≡ w.request.token
-    token_is token e = let same : Some token ≡ Some w.request.token = e ∙ ap (option_map (λ (found : PlainRequest T × List (PlainRequest T)). found.0.token)) first_is in cc (same)
+    token_is : (token : Token) → Some token ≡ option_map (λ found. found.request.token) (first_at key es) → token ≡ w.request.token
+    token_is token e = let same : Some token ≡ Some w.request.token = e ∙ ap (option_map (λ (found : Found T). found.request.token)) first_is in cc (same)
 
     pair : {A B : Type 0} (a b : A) (x y : B) → a ≡ b → x ≡ y → let p : A × B = (a, x) in let q : A × B = (b, y) in p ≡ q
     pair a b x y e f = λ i. (e i, f i)
 
-    pub early_settles : (token : Token) → After old new key false t → Some token ≡ option_map (λ found. found.0.token) (first_at key es) → IfSome (first_at key es) (λ found. Settles (state_of old) (state_of new) (Ok (without (state_of old) t found.1, granted found.0 phases.Reservation false)) (Some (Granted client token phases.Reservation false)))
+    -- ---- in the constraint phase
+
+    pub early_settles : (token : Token) → After old new key false t → Some token ≡ option_map (λ found. found.request.token) (first_at key es) → IfSome (first_at key es) (λ found. Settles (state_of old) (state_of new) (Ok (taken_out ops (state_of old) t found None, granted found phases.Reservation false)) (Some (Granted client token phases.Reservation false)))
     early_settles token a k =
-        subst (λ o. IfSome o (λ found. Settles (state_of old) (state_of new) (Ok (without (state_of old) t found.1, granted found.0 phases.Reservation false)) (Some (Granted client token phases.Reservation false)))) (sym first_is)
-        (pair _ _ _ _ (early_state a) (same_reply token phases.Reservation false (token_is token k)))
+        subst (λ o. IfSome o (λ found. Settles (state_of old) (state_of new) (Ok (taken_out ops (state_of old) t found None, granted found phases.Reservation false)) (Some (Granted client token phases.Reservation false)))) (sym first_is)
+        (pair _ _ _ _ (state_after false None refl a) (same_reply token phases.Reservation false (token_is token k)))
 
     -- ---- in the weight phase
 
-    module _ (spaced : spacings_of ops old.config.hz w.entry.rec.info ≡ Ok w.entry.rec.spacings) (amount_is : reduction_at ops old.config.hz w.entry.rec.info.reservation ≡ Ok w.entry.rec.spacings.r) where
-      reduction_is : reduction_of ops old.config.hz w.entry.id (clients_in es) ≡ Ok w.entry.rec.spacings.r
-      reduction_is =
-          ap (λ o. reduction_at ops old.config.hz (option_and_then (λ (c : PlainClient T). c.info.reservation) o)) (named w.entry.id es ∙ ap (option_map (λ e. client_of e.id e.rec)) (split_named own_split))
-          ∙ amount_is
+    tested : (can : Bool) → (refuse_if (not can) Range >>= λ x. Ok w.entry.rec.spacings.r) ≡ cond can (Ok w.entry.rec.spacings.r) (Err Range)
+    tested true = refl
+    tested false = refl
 
-      tested : (can : Bool) → (refuse_if (not can) Range >>= λ x. Ok w.entry.rec.spacings.r) ≡ cond can (Ok w.entry.rec.spacings.r) (Err Range)
-      tested true = refl
-      tested false = refl
-
-      pub can_grant_is : (can : Bool) → can ≡ can_reduce_by ops w.entry.id w.entry.rec.spacings.r (client_of w.entry.id w.entry.rec ∷ []) (requests_of_record w.entry.id (popped w.entry.rec)) → can_grant ops old.config.hz w.entry.id (clients_in es) others ≡ cond can (Ok w.entry.rec.spacings.r) (Err Range)
-      can_grant_is can e =
-          ap (λ r. r >>= λ amount. refuse_if (not (can_reduce_by ops w.entry.id amount (clients_in es) others)) Range >>= λ x. Ok amount) reduction_is
-          ∙ ap (λ b. refuse_if (not b) Range >>= λ x. Ok w.entry.rec.spacings.r) (reducible ops own_split w.entry.rec.spacings.r ∙ sym e)
-          ∙ tested can
+    pub can_grant_is : reduction_at ops old.config.hz w.entry.rec.info.reservation ≡ Ok w.entry.rec.spacings.r → (can : Bool) → can ≡ can_reduce_by ops w.entry.rec.spacings.r (client_of w.entry.id (popped w.entry.rec)) → can_grant ops old.config.hz first ≡ cond can (Ok w.entry.rec.spacings.r) (Err Range)
+    can_grant_is amount_is can e =
+        ap (λ r. r >>= λ amount. refuse_if (not (can_reduce_by ops amount (with_requests first.others first.client))) Range >>= λ x. Ok amount) amount_is
+        ∙ ap (λ b. refuse_if (not b) Range >>= λ x. Ok w.entry.rec.spacings.r) (sym e)
+        ∙ tested can
 
     own_rec : record_at key es ≡ Some w.entry.rec
     own_rec = ap (option_map (λ e. e.rec)) w.found
 
     -- what the test says of the grant
-    grantable_is : (can : Bool) → IfSome (first_at key es) (λ found. IsGrantable ops (state_of old) found (record_at key es) can) → can_grant ops old.config.hz w.entry.id (clients_in es) others ≡ cond can (Ok w.entry.rec.spacings.r) (Err Range)
+    grantable_is : (can : Bool) → IfSome (first_at key es) (λ found. IsGrantable ops (state_of old) found (record_at key es) can) → can_grant ops old.config.hz first ≡ cond can (Ok w.entry.rec.spacings.r) (Err Range)
     grantable_is can h =
-        subst (λ o. IsGrantable ops (state_of old) (request_of w.entry.id w.request, others) o can) own_rec
+        subst (λ o. IsGrantable ops (state_of old) first o can) own_rec
         (subst (λ o. IfSome o (λ found. IsGrantable ops (state_of old) found (record_at key es) can)) first_is h)
 
-    pub is_grantable : (can : Bool) → can_grant ops old.config.hz w.entry.id (clients_in es) others ≡ cond can (Ok w.entry.rec.spacings.r) (Err Range) → IfSome (first_at key es) (λ found. IsGrantable ops (state_of old) found (record_at key es) can)
+    pub is_grantable : (can : Bool) → can_grant ops old.config.hz first ≡ cond can (Ok w.entry.rec.spacings.r) (Err Range) → IfSome (first_at key es) (λ found. IsGrantable ops (state_of old) found (record_at key es) can)
     is_grantable can e =
         subst (λ o. IfSome o (λ found. IsGrantable ops (state_of old) found (record_at key es) can)) (sym first_is)
-        (subst (λ o. IsGrantable ops (state_of old) (request_of w.entry.id w.request, others) o can) (sym own_rec) e)
+        (subst (λ o. IsGrantable ops (state_of old) first o can) (sym own_rec) e)
 
     abbrev granted_by : Result (Option T) Refusal → Bool → Outcome T
-    granted_by r beyond = r >>= λ amount. Ok (reduced_by ops w.entry.id amount (without (state_of old) t others), granted (request_of w.entry.id w.request) phases.Priority beyond)
+    granted_by r beyond = r >>= λ amount. Ok (taken_out ops (state_of old) t first amount, granted first phases.Priority beyond)
 
-    priority_state : After old new key true t → state_of new ≡ reduced_by ops w.entry.id w.entry.rec.spacings.r (without (state_of old) t others)
-    priority_state a =
-        state_after true a
-        ∙ ap (λ rs. record { config = old.config; requests = rs; clients = clients_in (with_record key (reduced ops (popped w.entry.rec)) es); last_moment = t }) (reduced_requests_in ops own_split)
-        ∙ ap (λ cs. record { config = old.config; requests = reduced_requests ops w.entry.id w.entry.rec.spacings.r others; clients = cs; last_moment = t }) (reduced_clients_in ops own_split)
+    reduced_is : (amount : Option T) → client_of w.entry.id (option_map_or (λ taken. less_reservations ops taken (popped w.entry.rec)) amount (popped w.entry.rec)) ≡ rules_of.after_grant ops first amount
+    reduced_is None = refl
+    reduced_is (Some amount) = refl
 
-    pub priority_settles : (token : Token) (beyond : Bool) → IfSome (first_at key es) (λ found. IsGrantable ops (state_of old) found (record_at key es) true) → After old new key true t → Some token ≡ option_map (λ found. found.0.token) (first_at key es) → IfSome (first_at key es) (λ found. Settles (state_of old) (state_of new) (grant_priority ops (state_of old) t found beyond) (Some (Granted client token phases.Priority beyond)))
+    pub priority_settles : (token : Token) (beyond : Bool) → IfSome (first_at key es) (λ found. IsGrantable ops (state_of old) found (record_at key es) true) → After old new key true t → Some token ≡ option_map (λ found. found.request.token) (first_at key es) → IfSome (first_at key es) (λ found. Settles (state_of old) (state_of new) (grant_priority ops (state_of old) t found beyond) (Some (Granted client token phases.Priority beyond)))
     priority_settles token beyond can a k =
         subst (λ o. IfSome o (λ found. Settles (state_of old) (state_of new) (grant_priority ops (state_of old) t found beyond) (Some (Granted client token phases.Priority beyond)))) (sym first_is)
-        (pair _ _ _ _ (priority_state a) (same_reply token phases.Priority beyond (token_is token k)) ∙ ap (λ r. answer_of (state_of old) (granted_by r beyond)) (sym (grantable_is true can)))
+        (pair _ _ _ _ (state_after true w.entry.rec.spacings.r (reduced_is w.entry.rec.spacings.r) a) (same_reply token phases.Priority beyond (token_is token k)) ∙ ap (λ r. answer_of (state_of old) (granted_by r beyond)) (sym (grantable_is true can)))
 
     pub refusal_settles : (beyond : Bool) → IfSome (first_at key es) (λ found. IsGrantable ops (state_of old) found (record_at key es) false) → IfSome (first_at key es) (λ found. Settles (state_of old) (state_of old) (grant_priority ops (state_of old) t found beyond) (Some (replies.Refused Range)))
     refusal_settles beyond can =
@@ -144,7 +131,7 @@ module _ {T : Type 0} (ops : Tagging T) where
         (refl, ap (λ r. is_allowed allows ((answer_of (state_of old) (granted_by r beyond)).1)) (grantable_is true can) ∙ ap (λ id. allows id phases.Priority) (sym w.client_is) ∙ denied)
 
 -- what settles with a grant that the test allows
-pub allowed_settles : {T : Type 0} (allows : ClientId → PhaseType → Bool) (old new : State T) (outcomes : PlainRequest T × List (PlainRequest T) → Outcome T) (client : ClientId) (token : Token) (phase : PhaseType) (beyond : Bool) → allows client phase ≡ true → (o : Option (PlainRequest T × List (PlainRequest T)))
+pub allowed_settles : {T : Type 0} (allows : ClientId → PhaseType → Bool) (old new : State T) (outcomes : Found T → Outcome T) (client : ClientId) (token : Token) (phase : PhaseType) (beyond : Bool) → allows client phase ≡ true → (o : Option (Found T))
     → IfSome o (λ found. Settles old new (outcomes found) (Some (Granted client token phase beyond))) → IfSome o (λ found. SettlesIf allows old new (outcomes found) (Ok (pulls.Returning client token phase beyond)))
 allowed_settles allows old new outcomes client token phase beyond allowed None h = h
 allowed_settles allows old new outcomes client token phase beyond allowed (Some found) h = (h, allowed)

@@ -1,14 +1,15 @@
 -- What the least of each index says of a pull.
 use Rattle.std.proofs.Common.{◌≡◌, ℕ, Bool, true, false, List, [], ◌∷◌, Option, Some, None, refl, sym, ap, ◌∙◌, subst, ⊎_elim}
-use Rattle.std.specs.Prelude.{◌≢◌}
 use Rattle.std.specs.Option.{option_map}
 use Rattle.std.specs.List.{AllByRecursion}
+use Rattle.std.specs.declared.cmp.Ordering.{Ordering}
 use Rattle.std.specs.declared.cmp.Ordering.TheVariants.{Less}
 use Rattle.std.specs.Cmp.{IsTotalOrder}
 use Rattle.std.proofs.lemmas.Bool.{cases_eq}
 use Rattle.std.proofs.lemmas.Option.{none-some}
 use Rattle.dmc_types.specs.declared.ids.ClientId.{ClientId}
 use Rattle.dmc_tag.specs.Tag.{Tagging}
+use Rattle.dmc_tag.specs.State.{queued_requests}
 use Rattle.dmc_tag.specs.Best.{is_due, is_early, is_free, HasNone}
 use Rattle.dmc_tag.specs.Rank.{tag_rank_cmp, ready_rank_cmp}
 use Rattle.dmc_tag.specs.declared.rank.TagRank.{TagRank}
@@ -18,13 +19,13 @@ use Rattle.dmc_roster.specs.Entries.{Entry, AreDistinct}
 use Rattle.dmc_index.specs.Index.{slot_of_key, IsEmpty}
 use Rattle.dmc_head_index.specs.declared.head.Head.{Head}
 use Rattle.dmc_head_index.specs.Heads.{IsFirst, tag_rank, ready_rank}
-use Rattle.dmc_pull.specs.Represented.{requests_in}
+use Rattle.dmc_pull.specs.Represented.{clients_in}
 use Rattle.dmc_pull.specs.Queue.{AreHeads}
 use Rattle.dmc_pull.proofs.Common.Parts.{true_not_false}
 use Rattle.dmc_pull.proofs.Common.Ordered.{due_members, reservation_first, limit_first, share_first, any_members, FirstIsLeast, FirstIsMember}
 use Rattle.dmc_pull.proofs.Pull.Choices.{IsChosen, chosen, none_chosen}
-pub use Rattle.dmc_tag.proofs.Orderings.{then_less}
-use Rattle.dmc_tag.proofs.Orderings.{IsUpto, due_before}
+pub use Rattle.dmc_lemmas.proofs.Orderings.{then_less}
+use Rattle.dmc_tag.proofs.Upto.{IsUpto, due_before}
 
 -- ---- the head under a key
 
@@ -41,6 +42,13 @@ head_under {T} rank heads key r e = at (slot_of_key heads key) refl e where
 
 pub same_some : {X : Type 0} {o : Option X} {x y : X} → o ≡ Some x → o ≡ Some y → x ≡ y
 same_some p q = cc
+
+-- what holds of the first of an order and of what is behind it holds of each head
+pub all_heads : {T R : Type 0} (rank : Head T → R) (compare : R → R → Ordering) (heads : List (Option (Head T))) (key : ℕ) (least : R) → IsFirst rank compare heads key least → (P : Head T → Type 0) → ((head : Head T) → rank head ≡ least → P head) → ((k : ℕ) (head : Head T) → slot_of_key heads k ≡ Some head → compare least (rank head) ≡ Less → P head)
+    → (k : ℕ) (head : Head T) → slot_of_key heads k ≡ Some head → P head
+all_heads rank compare heads key least f P own behind k head here = ⊎_elim
+    (λ e. let h = head_under rank heads key least f.here in own head (ap rank (same_some here (ap (slot_of_key heads) e ∙ h.here)) ∙ h.ranked))
+    (λ ne. behind k head here (f.below k head ne here)) (cases_eq k key)
 
 module _ {T : Type 0} (ops : Tagging T) (order : IsTotalOrder ops.compare) (t : ℕ) (es : List (Entry T)) (heads : List (Option (Head T))) where
   pub all_are : (P : Rec T → Type 0) → ((rec : Rec T) → IsRecord ops rec → P rec) → (xs : List (Entry T)) → AllByRecursion (λ e. IsRecord ops e.rec) xs → AllByRecursion (λ e. P e.rec) xs
@@ -63,28 +71,21 @@ module _ {T : Type 0} (ops : Tagging T) (order : IsTotalOrder ops.compare) (t : 
         (λ k other ne here m. subst (λ r. tag_rank_cmp ops.compare r (tag_rank other) ≡ Less) (sym h.ranked) (f.below k other ne here)))
 
     none_due_at : (key : ℕ) (rank : TagRank T) → IsFirst tag_rank (tag_rank_cmp ops.compare) heads key rank → is_due ops t rank.tag ≡ false → (k : ℕ) (head : Head T) → slot_of_key heads k ≡ Some head → is_due ops t head.tags.r ≡ false
-    none_due_at key rank f late k head here = ⊎_elim same other (cases_eq k key) where
-      same : k ≡ key → is_due ops t head.tags.r ≡ false
-      same e =
-          let h = head_under tag_rank heads key rank f.here in
-          let one : h.head ≡ head = same_some h.here (ap (slot_of_key heads) (sym e) ∙ here) in
-          subst (λ x. is_due ops t x.tags.r ≡ false) one (subst (λ r. is_due ops t r.tag ≡ false) (sym h.ranked) late)
+    none_due_at key rank f late =
+        all_heads tag_rank (tag_rank_cmp ops.compare) heads key rank f (λ head. is_due ops t head.tags.r ≡ false)
+        (λ head is. ap (λ x. is_due ops t x.tag) is ∙ late)
+        (λ k head here less. at head (is_due ops t head.tags.r) refl (then_less _ _ less)) where
+          at : (head : Head T) (b : Bool) → is_due ops t head.tags.r ≡ b → IsUpto ops rank.tag head.tags.r → is_due ops t head.tags.r ≡ false
+          at head true e upto = absurd (true_not_false (is_due ops t rank.tag) (due_before ops order t rank.tag head.tags.r upto e) late)
+          at head false e upto = e
 
-      other : k ≢ key → is_due ops t head.tags.r ≡ false
-      other ne =
-          let upto : IsUpto ops rank.tag head.tags.r = then_less _ _ (f.below k head ne here) in
-          at (is_due ops t head.tags.r) refl upto where
-            at : (b : Bool) → is_due ops t head.tags.r ≡ b → IsUpto ops rank.tag head.tags.r → is_due ops t head.tags.r ≡ false
-            at true e upto = absurd (true_not_false (is_due ops t rank.tag) (due_before ops order t rank.tag head.tags.r upto e) late)
-            at false e upto = e
-
-    pub early_none : (key : ℕ) (rank : TagRank T) → IsFirst tag_rank (tag_rank_cmp ops.compare) heads key rank → is_due ops t rank.tag ≡ false → HasNone (is_early ops t) (requests_in es)
+    pub early_none : (key : ℕ) (rank : TagRank T) → IsFirst tag_rank (tag_rank_cmp ops.compare) heads key rank → is_due ops t rank.tag ≡ false → HasNone (is_early ops t) (queued_requests (clients_in es))
     early_none key rank f late = none_chosen ops t0 es heads are order d (λ g. g.r) (λ g. is_due ops t g.r) reservations early_members (none_due_at key rank f late)
 
-    pub early_empty : IsEmpty heads → HasNone (is_early ops t) (requests_in es)
+    pub early_empty : IsEmpty heads → HasNone (is_early ops t) (queued_requests (clients_in es))
     early_empty none = none_chosen ops t0 es heads are order d (λ g. g.r) (λ g. is_due ops t g.r) reservations early_members (λ k head here. absurd (none-some _ (sym (none k) ∙ here)))
 
-  -- ---- by P: the weight phase, where each head is marked that is free
+  -- ---- by P: the weight phase, if each head is marked that is free
 
   module _ (are : AreHeads ops t es heads) (marked : (k : ℕ) (head : Head T) → slot_of_key heads k ≡ Some head → head.ready ≡ false → is_due ops t (Some head.tags.l) ≡ false) (d : AreDistinct es) (records : AllByRecursion (λ e. IsRecord ops e.rec) es) where
     shares : AllByRecursion (λ e. FirstIsLeast ops (λ g. Some g.p) e.rec.requests) es
@@ -121,18 +122,12 @@ module _ {T : Type 0} (ops : Tagging T) (order : IsTotalOrder ops.compare) (t : 
     unready_first true p q c e h = cc
     unready_first false p q c e h = refl
 
-    pub all_unready : (key : ℕ) (rank : ReadyRank T) → IsFirst ready_rank (ready_rank_cmp ops.compare) heads key rank → rank.ready ≡ false → (k : ℕ) (head : Head T) → slot_of_key heads k ≡ Some head → head.ready ≡ false
-    all_unready key rank f unready k head here = ⊎_elim same other (cases_eq k key) where
-      same : k ≡ key → head.ready ≡ false
-      same e =
-          let h = head_under ready_rank heads key rank f.here in
-          let one : h.head ≡ head = same_some h.here (ap (slot_of_key heads) (sym e) ∙ here) in
-          subst (λ x. x.ready ≡ false) one (ap (λ r. r.ready) h.ranked ∙ unready)
+    all_unready : (key : ℕ) (rank : ReadyRank T) → IsFirst ready_rank (ready_rank_cmp ops.compare) heads key rank → rank.ready ≡ false → (k : ℕ) (head : Head T) → slot_of_key heads k ≡ Some head → head.ready ≡ false
+    all_unready key rank f unready =
+        all_heads ready_rank (ready_rank_cmp ops.compare) heads key rank f (λ head. head.ready ≡ false) (λ head is. ap (λ r. r.ready) is ∙ unready)
+        (λ k head here less. unready_first head.ready rank.tag head.tags.p rank.client head.client (subst (λ b. ready_rank_cmp ops.compare (record { ready = b; tag = rank.tag; client = rank.client }) (ready_rank head) ≡ Less) unready less))
 
-      other : k ≢ key → head.ready ≡ false
-      other ne = unready_first head.ready rank.tag head.tags.p rank.client head.client (subst (λ b. ready_rank_cmp ops.compare (record { ready = b; tag = rank.tag; client = rank.client }) (ready_rank head) ≡ Less) unready (f.below k head ne here))
-
-    pub free_none : (key : ℕ) (rank : ReadyRank T) → IsFirst ready_rank (ready_rank_cmp ops.compare) heads key rank → rank.ready ≡ false → HasNone (is_free ops t) (requests_in es)
+    pub free_none : (key : ℕ) (rank : ReadyRank T) → IsFirst ready_rank (ready_rank_cmp ops.compare) heads key rank → rank.ready ≡ false → HasNone (is_free ops t) (queued_requests (clients_in es))
     free_none key rank f unready = none_chosen ops t es heads are order d (λ g. Some g.p) (λ g. is_due ops t (Some g.l)) shares free_members (λ k head here. marked k head here (all_unready key rank f unready k head here))
 
     pub any_chosen : (key : ℕ) (rank : ReadyRank T) → IsFirst ready_rank (ready_rank_cmp ops.compare) heads key rank → rank.ready ≡ false → IsChosen ops (λ g. Some g.p) (λ g. true) es key rank.client

@@ -1,5 +1,5 @@
 -- The removal of a client's requests.
-use Rattle.std.proofs.Common.{◌≡◌, ℕ, suc, ◌+◌, ◌-◌, ◌<◌, Bool, true, false, not, List, [], ◌∷◌, map, length, set, filter, Option, Some, None, refl, sym, ap, ◌∙◌, subst, arith}
+use Rattle.std.proofs.Common.{◌≡◌, ℕ, suc, ◌+◌, ◌-◌, ◌<◌, Bool, true, false, not, List, [], ◌∷◌, map, length, set, Option, Some, None, refl, sym, ap, ◌∙◌, subst, arith}
 use Rattle.std.specs.Prelude.{◌==◌, slice_get}
 use Rattle.std.specs.Option.{option_map, option_and_then, is_some}
 use Rattle.std.specs.List.{AllByRecursion}
@@ -9,23 +9,24 @@ use Rattle.dmc_types.specs.declared.ids.ClientId.{ClientId}
 use Rattle.dmc_types.specs.declared.refusal.Refusal.TheVariants.{Unknown}
 use Rattle.dmc_tag.specs.Tag.{Fraction, Tagging}
 use Rattle.dmc_tag.specs.Best.{is_due}
-use Rattle.dmc_tag.specs.State.{State, client_named, requests_of, is_client}
+use Rattle.dmc_tag.specs.State.{State, client_named, queued_requests}
+use Rattle.dmc_tag.specs.Rules.{change_client, with_requests}
 use Rattle.dmc_tag.specs.Step.{step}
 use Rattle.dmc_tag.specs.declared.reply.Reply.TheVariants.{Removed, Refused}
 use Rattle.dmc_types.specs.declared.command.Command.TheVariants.{Remove}
 use Rattle.dmc_client.specs.Record.{Rec, IsRecord}
-use Rattle.dmc_client.specs.declared.request.QueuedRequest.{QueuedRequest}
+use Rattle.dmc_tag.specs.declared.plain.QueuedRequest.{QueuedRequest}
 use Rattle.dmc_roster.specs.Entries.{Entry, Listing, entry_keyed, with_record, with_record_at}
 use Rattle.dmc_index.specs.Index.{slot_of_key}
 use Rattle.dmc_head_index.specs.declared.head.Head.{Head}
-use Rattle.dmc_pull.specs.Represented.{clients_in, requests_in}
+use Rattle.dmc_pull.specs.Represented.{clients_in}
 use Rattle.dmc_pull.specs.Queue.{Queue, state_of, IsQueue, IsKept, AreHeads, head_of, unready, unready_head}
 use Rattle.dmc_pull.proofs.Common.Parts.{all_back, found_holds}
-use Rattle.dmc_pull.proofs.Common.Entries.{split_changed, clients_whole, all_changed, drained, length_drained, length_of_client}
+use Rattle.dmc_pull.proofs.Common.Entries.{all_changed, changed_client, count_changed}
 use Rattle.dmc_pull.proofs.Common.Keyed.{distinct_changed, read_changed, read_other}
 use Rattle.dmc_pull.proofs.Clean.Aging.{held_emptied, slot_of_key-set_other}
 use Rattle.dmc_pull.proofs.Clients.Updating.{HasClient}
-use Rattle.dmc_tag.proofs.Options.{is_some_mapped}
+use Rattle.dmc_lemmas.proofs.Options.{is_some_mapped}
 
 -- nothing is queued any more
 abbrev pub emptied : {T : Type 0} → Rec T → Rec T
@@ -36,7 +37,7 @@ some_more n true e = let none : suc n ≡ 0 = eqb-true (suc n) 0 e in absurd (om
 some_more n false e = refl
 
 module _ {T : Type 0} (ops : Tagging T) where
-  -- a client has a head exactly where it has a request
+  -- a client has a head exactly if it has a request
   pub has_head : {t : ℕ} {es : List (Entry T)} {heads : List (Option (Head T))} → AreHeads ops t es heads → {id : ClientId} {key : ℕ} → (h : HasClient id key es) (count : ℕ) → count ≡ length h.entry.rec.requests → is_some (slot_of_key heads key) ≡ not (count == 0)
   has_head {t} {es} {heads} are {id} {key} h count e =
       sym (is_some_mapped unready (slot_of_key heads key))
@@ -70,8 +71,8 @@ module _ {T : Type 0} (ops : Tagging T) where
     marks k head holds ready false e = are.marks k head (sym (slot_of_key-set_other heads key k None (eqb-false k key e)) ∙ holds) ready
 
 -- as many requests fewer
-pub fewer : {T : Type 0} {id : ClientId} {key : ℕ} {es : List (Entry T)} → (h : HasClient id key es) (queued count : ℕ) → queued ≡ length (requests_in es) → count ≡ length h.entry.rec.requests → queued ≡ length (requests_in (with_record key (emptied h.entry.rec) es)) + count
-fewer {key} {es} h queued count all some = all ∙ length_drained h.at ∙ ap (λ n. length (requests_in (with_record key (emptied h.entry.rec) es)) + n) (sym some)
+pub fewer : {T : Type 0} {id : ClientId} {key : ℕ} {es : List (Entry T)} → (h : HasClient id key es) (queued count : ℕ) → queued ≡ length (queued_requests (clients_in es)) → count ≡ length h.entry.rec.requests → queued ≡ length (queued_requests (clients_in (with_record key (emptied h.entry.rec) es))) + count
+fewer h queued count all some = omega (arith, count_changed h.at (emptied h.entry.rec))
 
 module _ {T : Type 0} (ops : Tagging T) (fraction : T → Fraction) (is_value : Fraction → Type 0) where
   pub removed_is : {q : Queue T} {queued : ℕ} → IsQueue ops fraction is_value q queued → {id : ClientId} {key : ℕ} → (h : HasClient id key q.roster.entries) → IsRecord ops (emptied h.entry.rec) → (roster : Listing T) → roster ≡ with_record_at q.roster key (emptied h.entry.rec) → (heads : List (Option (Head T))) → heads ≡ set q.heads key None → (count : ℕ) → count ≡ length h.entry.rec.requests → IsQueue ops fraction is_value (record { config = q.config; roster = roster; heads = heads; last_moment = q.last_moment }) (queued - count)
@@ -101,7 +102,5 @@ module _ {T : Type 0} (ops : Tagging T) (fraction : T → Fraction) (is_value : 
   removed_step q {id} {key} h roster e heads count all =
       let rec = emptied h.entry.rec in
       let es = q.roster.entries in
-      let requests : requests_in (with_record key rec es) ≡ filter (λ r. not (is_client id r.client)) (requests_in es) = drained h.at ∙ ap (λ i. filter (λ r. not (is_client i r.client)) (requests_in es)) h.is in
-      let clients : clients_in (with_record key rec es) ≡ clients_in es = clients_whole (split_changed h.at rec) ∙ sym (clients_whole h.at) in
-      let some : length (requests_of id (requests_in es)) ≡ count = ap (λ i. length (requests_of i (requests_in es))) (sym h.is) ∙ length_of_client h.at ∙ sym all in
-      rw (e, requests, clients, h.named, some) refl
+      let clients : clients_in (with_record key rec es) ≡ change_client id (with_requests []) (clients_in es) = changed_client h.at (with_requests []) rec refl ∙ ap (λ i. change_client i (with_requests []) (clients_in es)) h.is in
+      rw (e, clients, h.named, all) refl

@@ -7,13 +7,11 @@ use Rattle.dmc_types.specs.Values.{Params}
 use Rattle.dmc_types.specs.declared.ids.ClientId.{ClientId}
 use Rattle.dmc_types.specs.declared.ids.Token.{Token}
 use Rattle.dmc_types.specs.declared.refusal.Refusal.{Refusal}
-use Rattle.dmc_tag.specs.State.{State}
+use Rattle.dmc_tag.specs.State.{State, PlainClient, queued_requests}
 use Rattle.dmc_tag.specs.Outcome.{◌>>=◌}
-use Rattle.dmc_tag.specs.Rules.{can_add, can_shift_by, shift_of, shifted_by, added, queued}
+use Rattle.dmc_tag.specs.Rules.{can_add, can_shift_by, shift_of, added, queued}
 use Rattle.dmc_tag.specs.Order.{AreNext}
 use Rattle.dmc_tag.specs.declared.reply.Reply.TheVariants.{Tagged}
-use Rattle.dmc_tag.specs.declared.plain.PlainRequest.{PlainRequest}
-use Rattle.dmc_tag.specs.declared.plain.PlainClient.{PlainClient}
 use Rattle.dmc_pull.specs.declared.adding.Addition.{Addition}
 use Rattle.dmc_pull.specs.Queue.{Queue, state_of}
 use Rattle.dmc_tag.specs.Tag.{Fraction, Tagging}
@@ -23,11 +21,11 @@ use Rattle.dmc_roster.specs.Entries.{Entry, entry_keyed, entry_named, record_at,
 use Rattle.dmc_head_index.specs.declared.head.Head.{Head}
 use Rattle.dmc_head_index.specs.Heads as heads_of
 
--- each record but the newcomer's is shifted, where its shifted tags are values
+-- each record but the newcomer's is shifted, if its shifted tags are values
 abbrev pub shifted_but : {T : Type 0} → Tagging T → T → ℕ → ℕ → Rec T → Rec T
 shifted_but ops amount newcomer key rec = if not (key == newcomer) && is_shiftable ops amount rec then shifted ops amount rec else rec
 
--- the entries and the heads after it, where there is a shift
+-- the entries and the heads after it, if there is a shift
 abbrev pub others_shifted : {T : Type 0} → Tagging T → Option T → ℕ → List (Entry T) → List (Entry T)
 others_shifted ops None newcomer entries = entries
 others_shifted ops (Some amount) newcomer entries = map (λ e. with_rec (shifted_but ops amount newcomer e.key) e) entries
@@ -36,16 +34,16 @@ abbrev pub heads_shifted : {T : Type 0} → Tagging T → Option T → List (Opt
 heads_shifted ops None heads = heads
 heads_shifted ops (Some amount) heads = map (option_map (heads_of.shifted ops amount)) heads
 
--- no shift, where the amount is 0
+-- no shift, if the amount is 0
 abbrev pub unless_nothing : {T : Type 0} → Tagging T → Option T → Option T
 unless_nothing ops None = None
 unless_nothing ops (Some amount) = if is_eq (ops.compare amount (ops.of_moment 0)) then None else Some amount
 
 -- the amount by which all others are shifted for a client that arrives at t
-abbrev pub needed_shift : {T : Type 0} → Tagging T → List (PlainRequest T) → PlainClient T → T → Result (Option T) Refusal
-needed_shift ops requests arriving t = shift_of ops requests arriving t >>= λ full. Ok (unless_nothing ops full)
+abbrev pub needed_shift : {T : Type 0} → Tagging T → List (PlainClient T) → PlainClient T → T → Result (Option T) Refusal
+needed_shift ops clients arriving t = shift_of ops clients arriving t >>= λ full. Ok (unless_nothing ops full)
 
--- the tests of an add passed: the new tags are these, and so is the shift, which is left out where it is 0
+-- the tests of an add passed: the new tags are these, and so is the shift, which is left out if it is 0
 pub record Allows {T : Type 0} (ops : Tagging T) (s : State T) (id : ClientId) (params : Params) (t : ℕ) (addition : Addition T) : Type 0 where
   pub full : Option T
   pub test : can_add ops s id params (ops.of_moment t) ≡ Ok (full, addition.tags)
@@ -61,18 +59,18 @@ pub record IsAddition {T : Type 0} (ops : Tagging T) (fraction : T → Fraction)
   -- others are shifted for an idle client alone
   pub idle : IsSome addition.shift → IfSome (record_at addition.key q.roster.entries) (λ rec. rec.idle ≡ true)
   -- each tag that the shift changes stays a value
-  pub shiftable : can_shift_by ops addition.shift (state_of q).clients (state_of q).requests ≡ true
+  pub shiftable : can_shift_by ops addition.shift (state_of q).clients ≡ true
   -- the new P is a value
   pub value : is_value (fraction addition.tags.p)
   -- one more request may be queued
-  pub room : length (state_of q).requests < max_requests
+  pub room : length (queued_requests (state_of q).clients) < max_requests
 
 -- the tests of an add passed, and its effect
 pub record IsAllowed {T : Type 0} (ops : Tagging T) (fraction : T → Fraction) (is_value : Fraction → Type 0) (q : Queue T) (client : ClientId) (params : Params) (t : ℕ) (addition : Addition T) : Type 0 where
   pub tests : Allows ops (state_of q) client params t addition
   -- the plain state afterwards and the reply, for each token
   pub added : (token : Token) → added ops (state_of q) client token params t ≡
-      Ok (queued (shifted_by ops addition.shift (state_of q)) (record { client = client; token = token; tags = addition.tags }) t, Tagged addition.tags)
+      Ok (queued ops (state_of q) addition.shift client (record { token = token; tags = addition.tags }) t, Tagged addition.tags)
   pub fits : IsAddition ops fraction is_value q client addition
 
 abbrev pub CanAdd : {T : Type 0} → Tagging T → (T → Fraction) → (Fraction → Type 0) → Queue T → ClientId → Params → ℕ → Result (Addition T) Refusal → Type 0

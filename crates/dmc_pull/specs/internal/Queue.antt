@@ -9,7 +9,7 @@ use Rattle.dmc_index.specs.Index.{slot_of_key}
 use Rattle.dmc_head_index.specs.declared.head.Head.{Head}
 use Rattle.dmc_pull.specs.Queue.{Queue}
 
--- marked ready where its L is at most the moment
+-- marked ready if its L is at most the moment
 abbrev pub head_at : {T : Type 0} → Tagging T → ℕ → ClientId → Tags T → Head T
 head_at ops t client tags = record { client = client; tags = tags; ready = is_due ops t (Some tags.l) }
 

@@ -18,7 +18,7 @@ with_share ops share range = record { least = lesser ops range.least share; grea
 abbrev pub with_less : {T : Type 0} → Tagging T → T → ShareRange T → Option (ShareRange T)
 with_less ops amount range = option_and_then (λ least. option_map (λ greatest. with_share ops greatest (with_share ops least range)) (ops.minus range.greatest amount)) (ops.minus range.least amount)
 
--- after a shift, where there is one
+-- after a shift, if there is one
 abbrev pub after_shift : {T : Type 0} → Tagging T → Option T → ShareRange T → Option (ShareRange T)
 after_shift ops None range = Some range
 after_shift ops (Some amount) range = with_less ops amount range

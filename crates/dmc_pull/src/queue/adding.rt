@@ -8,8 +8,7 @@ ghost use Rattle.dmc_pull.specs.internal.Adding.{CanAdd, IsAddition};
 ghost use Rattle.dmc_pull.specs.Queue.{state_of};
 ghost use Rattle.dmc_roster.specs.Entries.{entry_keyed};
 ghost use Rattle.dmc_tag.specs.Rules as rules_of;
-ghost use Rattle.dmc_tag.specs.State.{Represents};
-ghost use Rattle.dmc_tag.specs.declared.plain.PlainClient.{PlainClient};
+ghost use Rattle.dmc_tag.specs.State.{PlainClient};
 ghost use Rattle.dmc_types.specs.declared.ids.Token.{Token};
 
 use crate::adding::{Addition, Shiftable, shift_others, unless_nothing};
@@ -18,8 +17,8 @@ use crate::queue::PullQueue;
 use crate::range::{all_have_less, widen};
 use dmc_adjust::adjustment::shift_for;
 use dmc_assign::assignment::tags_for;
-use dmc_client::request::QueuedRequest;
 use dmc_index::index::Indexes;
+use dmc_tag::plain::QueuedRequest;
 use dmc_tag::reply::Tags;
 use dmc_tag::tag::Tag;
 use dmc_types::ids::{ClientId, Token};
@@ -29,13 +28,13 @@ use dmc_types::params::ReqParams;
 use dmc_types::refusal::{QueueFault, Refusal};
 
 impl<T: Tag, I: Indexes<T>> PullQueue<T, I> {
-    /// The amount by which all others are shifted for a client that arrives at t, and is idle or not. `None` where it is not idle,
-    /// where nothing is queued, or where the amount is 0.
+    /// The amount by which all others are shifted for a client that arrives at t, and is idle or not. `None` if it is not idle,
+    /// if nothing is queued, or if the amount is 0.
     fn needed_shift(&mut self, idle: bool, t: T) -> Result<Option<T>, Refusal>
-        ensures value { (arriving : PlainClient T) → arriving.idle ≡ idle → result ≡ adding_of.needed_shift T.ops (state_of self.old).requests arriving t }
+        ensures value { (arriving : PlainClient T) → arriving.idle ≡ idle → result ≡ adding_of.needed_shift T.ops (state_of self.old).clients arriving t }
         ensures same { self.new ≡ self.old }
     {
-        if !idle {
+        if !idle || self.queued == 0 {
             return Ok(None);
         }
         let Some(least) = self.heads.0.least_share() else {
@@ -47,9 +46,9 @@ impl<T: Tag, I: Indexes<T>> PullQueue<T, I> {
         }
     }
 
-    /// Whether each tag that a shift changes stays a value. Where that does not follow from the range, each record is tested.
+    /// Whether each tag that a shift changes stays a value. If that does not follow from the range, each record is tested.
     fn can_shift_by(&self, shift: Option<T>) -> bool
-        ensures { result ≡ rules_of.can_shift_by T.ops shift (state_of self.now).clients (state_of self.now).requests }
+        ensures { result ≡ rules_of.can_shift_by T.ops shift (state_of self.now).clients }
     {
         match shift {
             None => true,
@@ -106,8 +105,8 @@ impl<T: Tag, I: Indexes<T>> PullQueue<T, I> {
     ) -> Result<(), QueueFault>
         requires addition { IsAddition T.ops T.fraction T.is_value self.old client addition }
         requires later { self.old.last_moment ≤ at }
-        ensures ok { OnOk result (Represents (state_of self.new)
-            (rules_of.queued (rules_of.shifted_by T.ops addition.shift (state_of self.old)) (record { client = client; token = token; tags = addition.tags }) at)) }
+        ensures ok { OnOk result (state_of self.new ≡
+            rules_of.queued T.ops (state_of self.old) addition.shift client (record { token = token; tags = addition.tags }) at) }
         ensures err { OnErr result (self.new ≡ self.old) }
         ensures memory { IsOkUnless result QueueFault.Memory }
     {

@@ -7,12 +7,13 @@ ghost use Rattle.dmc_pull.specs.internal.Allowed.{SettlesIf};
 ghost use Rattle.dmc_pull.specs.internal.Choice.{first_at, after_grant, IsFirstOf, Early, ByWeight, IsGrantable, Settles};
 ghost use Rattle.dmc_pull.specs.Queue.{state_of};
 ghost use Rattle.dmc_pull.specs.internal.Queue.{IsMarked};
-ghost use Rattle.dmc_pull.specs.Represented.{requests_in};
+ghost use Rattle.dmc_pull.specs.Represented.{clients_in};
 ghost use Rattle.dmc_roster.specs.Entries.{record_at, with_record_at, AreDistinct};
 ghost use Rattle.dmc_tag.specs.Answers.{pull_reply};
-ghost use Rattle.dmc_tag.specs.Best.{best, by_reservation, by_weight, is_early, is_free};
+ghost use Rattle.dmc_tag.specs.Best.{best_of_all, by_reservation, by_weight, is_early, is_free};
 ghost use Rattle.dmc_tag.specs.Rules as rules_of;
-ghost use Rattle.dmc_tag.specs.declared.plain.PlainRequest.{PlainRequest};
+ghost use Rattle.dmc_tag.specs.State.{queued_requests};
+ghost use Rattle.dmc_tag.specs.declared.plain.QueuedRequest.{QueuedRequest};
 ghost use Rattle.dmc_types.specs.declared.ids.Token.{Token};
 ghost use Rattle.dmc_types.specs.declared.config.PhaseType.TheVariants as phases;
 
@@ -31,7 +32,7 @@ use dmc_types::moment::Moment;
 use dmc_types::refusal::Refusal;
 
 impl<T: Tag, I: Indexes<T>> PullQueue<T, I> {
-    /// The key and the client of the least R, where it is at most the moment.
+    /// The key and the client of the least R, if it is at most the moment.
     fn early(&self, at: Moment) -> Option<(usize, ClientId)>
         ensures { Early T.ops at self.now.roster.entries result }
     {
@@ -65,7 +66,7 @@ impl<T: Tag, I: Indexes<T>> PullQueue<T, I> {
         self.last_moment = before;
     }
 
-    /// The key and the client of the least P of the free requests, or of all, and whether it is free. `None` where nothing is
+    /// The key and the client of the least P of the free requests, or of all, and whether it is free. `None` if nothing is
     /// queued.
     fn by_weight(&self) -> Option<(usize, ClientId, bool)>
         requires { IsMarked T.ops self.now }
@@ -77,11 +78,10 @@ impl<T: Tag, I: Indexes<T>> PullQueue<T, I> {
         }
     }
 
-    /// The least whole number at which some request is early or free, where none is and something is queued.
+    /// The least whole number at which some request is early or free, if none is free and something is queued.
     fn next_due(&self) -> u128
-        requires none_early { best (by_reservation T.ops) (is_early T.ops self.now.last_moment) (requests_in self.now.roster.entries) ≡ None }
-        requires none_free { best (by_weight T.ops) (is_free T.ops self.now.last_moment) (requests_in self.now.roster.entries) ≡ None }
-        ensures { (first : PlainRequest T) (rest : List (PlainRequest T)) → requests_in self.now.roster.entries ≡ first ∷ rest →
+        requires { best_of_all T.ops by_weight (is_free T.ops self.now.last_moment) (clients_in self.now.roster.entries) ≡ None }
+        ensures { (first : QueuedRequest T) (rest : List (QueuedRequest T)) → queued_requests (clients_in self.now.roster.entries) ≡ first ∷ rest →
             result ≡ rules_of.least_due T.ops first rest }
     {
         let Some((_, limit)) = self.heads.0.least_by_limit() else {
@@ -104,7 +104,7 @@ impl<T: Tag, I: Indexes<T>> PullQueue<T, I> {
         requires reducible { reduces ≡ true → IfSome (record_at key self.old.roster.entries) (λ rec. changes.is_reducible T.ops (changes.popped rec) ≡ true) }
         requires later { self.old.last_moment ≤ at }
         ensures distinct { AreDistinct self.old.roster.entries }
-        ensures token { Some result ≡ option_map (λ found. found.0.token) (first_at key self.old.roster.entries) }
+        ensures token { Some result ≡ option_map (λ found. found.request.token) (first_at key self.old.roster.entries) }
         ensures roster { IfSome (record_at key self.old.roster.entries) (λ rec. self.new.roster ≡ with_record_at self.old.roster key (after_grant T.ops reduces rec)) }
         ensures config { self.new.config ≡ self.old.config }
         ensures moment { self.new.last_moment ≡ at }
@@ -123,7 +123,7 @@ impl<T: Tag, I: Indexes<T>> PullQueue<T, I> {
         requires first { IsFirstOf self.old.roster.entries key client }
         requires later { self.old.last_moment ≤ at }
         ensures { IfSome (first_at key self.old.roster.entries) (λ found.
-            Settles (state_of self.old) (state_of self.new) (Ok (rules_of.without (state_of self.old) at found.1, rules_of.granted found.0 phases.Reservation false)) (Some (pull_reply result))) }
+            Settles (state_of self.old) (state_of self.new) (Ok (rules_of.taken_out T.ops (state_of self.old) at found None, rules_of.granted found phases.Reservation false)) (Some (pull_reply result))) }
     {
         let token = self.take_out(key, client, false, at);
         Pulled::Returning {
@@ -145,7 +145,7 @@ impl<T: Tag, I: Indexes<T>> PullQueue<T, I> {
         can_reduce(self.roster.at(key))
     }
 
-    /// Grants the first request of a client in the weight phase, where the test allows it.
+    /// Grants the first request of a client in the weight phase, if the test allows it.
     #[inline(always)]
     fn grant_priority<A: GrantTest>(
         &mut self,
@@ -174,12 +174,11 @@ impl<T: Tag, I: Indexes<T>> PullQueue<T, I> {
         })
     }
 
-    /// The result of a pull where no request is early.
+    /// The result of a pull if no request is early.
     fn pull_by_weight<A: GrantTest>(&mut self, test: &A) -> Result<Pulled, PullFault>
-        requires marked { IsMarked T.ops self.old }
-        requires none_early { best (by_reservation T.ops) (is_early T.ops self.old.last_moment) (requests_in self.old.roster.entries) ≡ None }
+        requires { IsMarked T.ops self.old }
         ensures { SettlesIf (A.allows test.now) (state_of self.old) (state_of self.new)
-            (rules_of.pulled_free T.ops (state_of self.old) self.old.last_moment (best (by_weight T.ops) (is_free T.ops self.old.last_moment) (requests_in self.old.roster.entries)))
+            (rules_of.pulled_free T.ops (state_of self.old) self.old.last_moment (best_of_all T.ops by_weight (is_free T.ops self.old.last_moment) (clients_in self.old.roster.entries)))
             result }
     {
         let Some((key, client, free)) = self.by_weight() else {
@@ -194,7 +193,7 @@ impl<T: Tag, I: Indexes<T>> PullQueue<T, I> {
         }
     }
 
-    /// Grants the next request where the test allows it, and otherwise returns `Declined` and changes nothing (extension).
+    /// Grants the next request if the test allows it, and otherwise returns `Declined` and changes nothing (extension).
     pub fn pull_allowed<A: GrantTest>(&mut self, at: Moment, test: &A) -> Result<Pulled, PullFault>
         ensures { PullsIf (A.allows test.now) T.ops (state_of self.old) (state_of self.new) at result }
     {

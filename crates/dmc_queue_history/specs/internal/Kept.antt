@@ -1,4 +1,4 @@
--- Where a list stores an event.
+-- If a list stores an event.
 use Rattle.std.specs.Prelude.{ℕ, ◌+◌, ◌*◌}
 use Rattle.dmc_queue_history.specs.Kept.{list_count}
 

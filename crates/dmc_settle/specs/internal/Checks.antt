@@ -20,7 +20,7 @@ pub record AreClientParts (scene : SceneValue) (trackers : List tracker_book.Boo
   pub each : (c : ℕ) (client : ClientValue) → slice_get scene.clients c ≡ Some client
       → IsClientPart scene client (slice_index_or trackers c no_tracker) (slice_index_or passes c [])
 
--- where both have a desk, these are of one pair
+-- if both have a desk, these are of one pair
 abbrev pub IsPairAt : ℕ → ℕ → List ClientSide → List ServerSide → Type 0
 IsPairAt c s desks sides = (d : ClientSide) (t : ServerSide) → slice_get desks c ≡ Some d → slice_get sides s ≡ Some t → ArePaired d t
 

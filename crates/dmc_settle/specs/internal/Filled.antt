@@ -5,6 +5,7 @@ use Rattle.dmc_types.specs.declared.ids.ServerId.{ServerId}
 use Rattle.dmc_types.specs.declared.config.PhaseType.{PhaseType}
 use Rattle.dmc_types.specs.declared.config.PhaseType.TheVariants.{Reservation, Priority}
 use Rattle.dmc_tag.specs.Tag.{Tagging}
+use Rattle.dmc_tag.specs.State.{queued_requests}
 use Rattle.dmc_tag.specs.Replay.{after, replays}
 use Rattle.dmc_tag.specs.declared.event.Event.{Event}
 use Rattle.dmc_tracker.specs.declared.event.TrackerEvent.{TrackerEvent}
@@ -69,7 +70,7 @@ pub record AreServerNumbers {T : Type 0} (ops : Tagging T) (book : BookState T) 
   pub replays : replays ops book.config book.history
   pub reservation : n.reservation ≡ count (phase_grants Reservation) book.history
   pub priority : n.priority ≡ count (phase_grants Priority) book.history
-  pub left : n.left ≡ length (after ops book.config book.history).requests
+  pub left : n.left ≡ length (queued_requests (after ops book.config book.history).clients)
   pub held : n.held ≡ grants_left passes
   pub of_desks : AreOfDesks book
 

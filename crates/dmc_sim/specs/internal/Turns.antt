@@ -24,7 +24,7 @@ pub record IsIdle (scene : SceneValue) (c : SimClient) : Type 0 where
   pub completed : c.completed ≡ 0
   pub reservation : c.reservation ≡ 0
 
--- one more completion is counted where the client has this id
+-- one more completion is counted if the client has this id
 pub record Completes (id : ClientId) (phase : PhaseType) (old new : SimClient) : Type 0 where
   pub scene : new.scene ≡ old.scene
   pub plan : new.plan.items ≡ old.plan.items

@@ -108,7 +108,7 @@ struct Seen {
     last_pull: Option<Moment>,
 }
 
-/// With one more event, or `None` where a token or a moment is not in order.
+/// With one more event, or `None` if a token or a moment is not in order.
 fn seen_with(seen: Seen, event: &Event<TickTag>) -> Option<Seen> {
     let is_grant = matches!(&event.reply, Reply::Granted { .. });
     match event.command {
@@ -129,7 +129,7 @@ fn seen_with(seen: Seen, event: &Event<TickTag>) -> Option<Seen> {
     }
 }
 
-/// With the event at an index more, or `None` where there is none or it is not in order.
+/// With the event at an index more, or `None` if there is none or it is not in order.
 fn seen_at(seen: Seen, history: &EventHistory<TickTag>, index: usize) -> Option<Seen> {
     match history.at(index) {
         Some(event) => seen_with(seen, &event),

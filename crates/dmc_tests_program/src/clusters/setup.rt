@@ -78,7 +78,7 @@ pub(super) fn stopped_for(report: &ClusterReport<TickTag>, cause: StopCause) -> 
 }
 
 /// The end of a test at a report whose workers had an allocation failure, or whose thread could not be started, with the causes
-/// of their stops. `None` where no worker had.
+/// of their stops. `None` if no worker had.
 fn shortage(report: &ClusterReport<TickTag>) -> Option<Fail> {
     let rung = stopped_for(report, StopCause::Rung);
     if stopped_for(report, StopCause::Memory) {

@@ -41,7 +41,7 @@ fn lacked_memory(report: &Report) -> bool {
             .any(|row| row.stops.iter().any(|cause| lacks(*cause)))
 }
 
-/// The report of a run, and whether all was done. Where it was not, a worker took its last turn.
+/// The report of a run, and whether all was done. If it was not, a worker took its last turn.
 fn observed(answer: Result<Report, DriveFault<TickTag>>) -> Result<(Report, bool), Fail> {
     match answer {
         Ok(report) => Ok((report, true)),

@@ -66,7 +66,7 @@ pub(super) fn requests_of(scene: &Scene) -> u64 {
     requests
 }
 
-/// The result of a run of this many requests where all is done.
+/// The result of a run of this many requests if all is done.
 pub(super) fn all_done(requests: u64) -> Totals {
     Totals {
         sent: requests,

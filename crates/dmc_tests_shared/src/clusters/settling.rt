@@ -74,7 +74,7 @@ fn open_report<S: Setup>(
     Ok((report(alloc)?, room))
 }
 
-/// Settles a cluster. There is no report where it is Torn.
+/// Settles a cluster. There is no report if it is Torn.
 fn settle<S: Setup>(
     alloc: Global,
     scene: &Scene,

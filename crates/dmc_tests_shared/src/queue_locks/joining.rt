@@ -221,7 +221,7 @@ fn extend<S: Setup, R: Wait>(
     }
 }
 
-/// Pulls until the queue is closed and empty, and extends the pass where it is behind. Returns how many grants it got.
+/// Pulls until the queue is closed and empty, and extends the pass if it is behind. Returns how many grants it got.
 fn pull_all<S: Setup, R: Wait>(
     rt: &R,
     alloc: Global,

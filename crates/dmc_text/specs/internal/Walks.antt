@@ -41,5 +41,5 @@ TakesLast takes refuses s old t new (Err faults.Read) = ⊥
 TakesLast takes refuses s old t new (Err faults.Write) = ⊥
 
 -- a text without an hz line is faulty after its last line
-abbrev pub end_result : (headed : Bool) → ℕ → Result ⊤ ScriptFault
-end_result headed n = if headed then Ok tt else Err (faults.Line n Hz)
+abbrev pub end_result : (has_config : Bool) → ℕ → Result ⊤ ScriptFault
+end_result has_config n = if has_config then Ok tt else Err (faults.Line n Hz)

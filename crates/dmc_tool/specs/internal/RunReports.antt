@@ -11,7 +11,7 @@ use Rattle.dmc_tool.specs.declared.run_scene.RunSceneFault.{RunSceneFault}
 use Rattle.dmc_tool.specs.declared.run_scene.RunSceneFault.TheVariants.{Memory, Torn, Write, TurnsOut, Stopped}
 use Rattle.dmc_tool.specs.RunReports.{IsTextOf}
 
--- writing a report: all of its text is written, or a first part where the writer fails, or nothing where an allocation failed
+-- writing a report: all of its text is written, or a first part if the writer fails, or nothing if an allocation failed
 abbrev pub WritesReport : {T : Type 0} → Tagging T → Setting → ClusterReport T → (old new : Option (List ℕ)) → Result ⊤ RunSceneFault → Type 0
 WritesReport ops config r old new (Ok x) = (text : List ℕ) × IsTextOf ops config r text × Appends old new text
 WritesReport ops config r old new (Err Write) = (text : List ℕ) × IsTextOf ops config r text × AppendsSome old new text

@@ -11,8 +11,7 @@ use Rattle.dmc_book.proofs.asking.ask_to_pull.Goals as goal
 pub returns-in-Ok : goal.returns-in-Ok
 returns-in-Ok g c =
     let allows = takes c.args.accounts.now.desks (pass_state c.args.pass.now).clients (pass_state c.args.pass.now).units in
-    let order = tag_order g.T.Ord.cmp g.T.Tag.ops.compare g.met.T.Ord.total g.met.T.Tag.compares in
-    pull_answers g.T.Tag.ops order (length (pass_state c.args.pass.now).units < length c.args.accounts.now.desks) allows (state_of c.args.queue.now) (state_of c.pull_allowed.new.self) c.args.at c.in-Ok.pulled c.in-Ok.ensures
+    pull_answers g.T.Tag.ops (length (pass_state c.args.pass.now).units < length c.args.accounts.now.desks) allows (state_of c.args.queue.now) (state_of c.pull_allowed.new.self) c.args.at c.in-Ok.pulled c.in-Ok.ensures
 
 pub returns-in-Err-Refused : goal.returns-in-Err-Refused
 returns-in-Err-Refused g c =

@@ -2,7 +2,7 @@ use Rattle.std.proofs.Common.{◌≡◌, List, length, map, drop, sym, subst, ap
 use Rattle.std.specs.List.{AllByRecursion}
 use Rattle.dmc_ledger.specs.Bundles.{ClientSide, client_side}
 use Rattle.dmc_ledger.specs.declared.desk.ClientDesk.{ClientDesk}
-use Rattle.dmc_tag.proofs.Lists.{lent_back}
+use Rattle.dmc_lemmas.proofs.Lists.{lent_back}
 use Rattle.dmc_book.specs.Opening.{IsNewDesk, desk_with_tills, new_workers}
 use Rattle.dmc_book.proofs.OpeningLemmas.{as_many_desks, consistent_new, names_stay}
 use Rattle.dmc_book.proofs.opening.open_accounts.Goals as goal

@@ -3,7 +3,7 @@ use Rattle.std.specs.Prelude.{vec_capacity}
 use Rattle.std.proofs.lemmas.List.{append_assoc, ext_get_or, get_or-map, length-map, length-set, map-append, map_more, take_all}
 use Rattle.dmc_ledger.specs.Bundles.{ClientSide, client_side, grant_holdings}
 use Rattle.dmc_ledger.specs.declared.desk.ClientDesk.{ClientDesk}
-use Rattle.dmc_tlock.proofs.PlaceLemmas.{done_more, rest_more}
+use Rattle.dmc_shared.proofs.PlaceLemmas.{done_more, rest_more}
 use Rattle.dmc_book.specs.BookState.{no_desk}
 use Rattle.dmc_book.specs.Opening.{desk_with_tills, new_unit}
 use Rattle.dmc_book.specs.internal.Opening.{HaveRoom}

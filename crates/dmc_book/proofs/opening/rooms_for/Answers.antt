@@ -1,6 +1,6 @@
 use Rattle.std.proofs.Common.{◌≡◌, arith, length-append, map, rules, subst}
 use Rattle.std.specs.Arc.{arc_value}
-use Rattle.dmc_tag.proofs.Lists.{all_append}
+use Rattle.dmc_lemmas.proofs.Lists.{all_append}
 use Rattle.dmc_book.specs.internal.Rooms.{IsRoom}
 use Rattle.dmc_book.proofs.opening.rooms_for.Goals as goal
 

@@ -3,7 +3,7 @@ use Rattle.std.specs.Prelude.{nat_lt}
 use Rattle.std.proofs.lemmas.Bool.{lt-ltb}
 use Rattle.std.proofs.lemmas.List.{get_or-map, length-set, length-map, length-append}
 use Rattle.dmc_ledger.specs.Bundles.{ClientSide, client_side, grant_holdings}
-use Rattle.dmc_tlock.proofs.PlaceLemmas.{done_below, rest_below, left_by_pop, taken_by_pop}
+use Rattle.dmc_shared.proofs.PlaceLemmas.{done_below, rest_below, left_by_pop, taken_by_pop}
 use Rattle.dmc_book.specs.BookState.{no_desk, no_unit}
 use Rattle.dmc_book.specs.Counts.{one_if}
 use Rattle.dmc_book.specs.Settling.{IsDeskTakenIn}

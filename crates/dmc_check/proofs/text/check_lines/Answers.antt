@@ -1,7 +1,7 @@
 -- The walk over the lines fails, or the verdict is written.
-use Rattle.dmc_tag.proofs.Options.{err_is}
+use Rattle.dmc_lemmas.proofs.Options.{err_is}
 use Rattle.dmc_text.specs.Watching.{stream_of}
-use Rattle.dmc_check.proofs.TextEnds.{ends_early, text_headed, checks_as}
+use Rattle.dmc_check.proofs.TextEnds.{ends_early, text_has_config, checks_as}
 use Rattle.dmc_check.proofs.NoteLemmas.{notes_early, verdict_noted}
 use Rattle.dmc_check.proofs.text.check_lines.Goals as goal
 
@@ -17,7 +17,7 @@ returns-in_err-run-clause-notes g c =
     rw (err_is _ _ c.from_residual.ensures.1) (notes_early g.R.Read.remaining c.args.reader.now c.run.new.reader c.args.writer.now c.run.new.writer c.in_err-run.field-0.0 c.in_err-run.ensures.notes)
 
 pub checked-requires : goal.checked-requires
-checked-requires g c = text_headed g.T.Tag.ops g.T.TagText.made c.args.checking.now c.requires c.in_ok-run.ensures.bytes.1
+checked-requires g c = text_has_config g.T.Tag.ops g.T.TagText.made c.args.checking.now c.requires c.in_ok-run.ensures.bytes.1
 
 pub returns-clause-bytes : goal.returns-clause-bytes
 returns-clause-bytes g c =

@@ -1,6 +1,6 @@
 use Rattle.std.proofs.Common.{◌<◌, length, arith}
 use Rattle.std.proofs.lemmas.List.Edits.{map_over_more}
-use Rattle.dmc_client.specs.Record.{less_reservation}
+use Rattle.dmc_tag.specs.Rules.{less_reservation}
 use Rattle.dmc_client.proofs.subtraction.subtract_reservations.Goals as goal
 
 pub loop-i-preserved : goal.loop-i-preserved

@@ -1,5 +1,5 @@
 use Rattle.std.proofs.Common.{◌≡◌, ◌++◌, map, take, drop}
-use Rattle.dmc_client.specs.Record.{less_share}
+use Rattle.dmc_tag.specs.Rules.{less_share}
 use Rattle.dmc_client.proofs.subtraction.subtract_shares.Given as goal
 
 -- those before have it taken off, and the rest is as it was

@@ -1,6 +1,5 @@
-use Rattle.std.proofs.Common.{map, ap, ◌∙◌}
+use Rattle.std.proofs.Common.{◌≡◌, map, ap, ◌∙◌}
 use Rattle.dmc_pull.specs.Queue.{state_of}
-use Rattle.dmc_tag.specs.State.{Represents}
 use Rattle.dmc_scene.specs.SceneValue.{ClientValue}
 use Rattle.dmc_core.specs.internal.Opening.{opening_state}
 use Rattle.dmc_core.proofs.Opened.{opened_servers, opened_clients, opened_kept}
@@ -10,7 +9,7 @@ pub of_parts-requires : goal.of_parts-requires
 of_parts-requires g c =
     let scene = c.args.scene.now in
     rw c.in_ok-clients.ensures
-    (opened_kept (λ x. Represents (state_of x.queue) (opening_state g.T.Tag.ops scene)) scene.counting scene.servers scene.clients c.in_ok-ids.ids c.in_ok-servers.servers.items
+    (opened_kept (λ x. state_of x.queue ≡ opening_state g.T.Tag.ops scene) scene.counting scene.servers scene.clients c.in_ok-ids.ids c.in_ok-servers.servers.items
     (c.in_ok-ids.ensures ∙ ap (map (λ (k : ClientValue). k.id)) c.clients.ensures.value) c.in_ok-servers.ensures.as_many c.in_ok-servers.ensures.each)
 
 pub returns : goal.returns

@@ -1,6 +1,6 @@
 use Rattle.std.proofs.Common.{refl, ◌∙◌, arith, length-append}
 use Rattle.dmc_core.proofs.opening.open_servers.Goals as goal
-use Rattle.dmc_tag.proofs.Lists.{all_next}
+use Rattle.dmc_lemmas.proofs.Lists.{all_next}
 
 pub loop-preserved : goal.loop-preserved
 loop-preserved g c = record {

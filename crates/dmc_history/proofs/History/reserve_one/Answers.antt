@@ -66,3 +66,9 @@ pub returns-else-self-len-clause-full : goal.returns-else-self-len-clause-full
 returns-else-self-len-clause-full g c =
     let counted = length-events_of _ _ c.self.invariant.0 in
     rw (← c.self.view_is) (grind (arith, common_steps, counted))
+
+pub returns-in_err-add_block-clause-memory : goal.returns-in_err-add_block-clause-memory
+returns-in_err-add_block-clause-memory g c =
+    let counted = length-events_of _ _ c.self.invariant.0 in
+    let bound = len-le _ _ c.self.invariant.0 in
+    rw (← c.self.view_is, counted) (λ _. omega (arith, bound))

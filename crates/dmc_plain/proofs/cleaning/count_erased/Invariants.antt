@@ -1,6 +1,7 @@
+use Rattle.std.proofs.Common.{◌≡◌, ◌≤◌, length, take}
+use Rattle.std.specs.Prelude.{filter}
 use Rattle.dmc_tag.specs.Rules.{is_stale}
-use Rattle.dmc_plain.proofs.Counted.{Counted}
 use Rattle.dmc_plain.proofs.cleaning.count_erased.Given as goal
 
 abbrev pub invariant-loop-client : goal.invariant-loop-client
-invariant-loop-client g l = Counted (is_stale l.requests l.at l.erase_age) l.clients l.client-index l.count
+invariant-loop-client g l = (l.count ≡ length (filter (is_stale l.at l.erase_age) (take l.client-index l.clients))) × (l.count ≤ l.client-index)

@@ -4,4 +4,4 @@ use Rattle.dmc_tag.specs.Rules.{is_stale}
 use Rattle.dmc_plain.proofs.cleaning.erase.Goals as goal
 
 pub returns-clause-items : goal.returns-clause-items
-returns-clause-items g c = filter_same _ (λ r. not (is_stale c.args.requests.now c.args.at c.args.erase_age r)) _ (λ r b f called. search rules) _ _ c.retain.ensures.filtered
+returns-clause-items g c = filter_same _ (λ r. not (is_stale c.args.at c.args.erase_age r)) _ (λ r b f called. search rules) _ _ c.retain.ensures.filtered

@@ -1,8 +1,9 @@
-use Rattle.std.proofs.Common.{◌≡◌, min, take}
+use Rattle.std.proofs.Common.{◌≡◌, take, None}
 use Rattle.std.specs.Prelude.{fold}
-use Rattle.dmc_tag.specs.Rules.{due_moment}
+use Rattle.dmc_tag.specs.State.{queued_requests}
+use Rattle.dmc_plain.specs.internal.Due.{sooner}
 use Rattle.dmc_plain.proofs.due.least_due.Given as goal
 
--- the least of the first and those so far
-abbrev pub invariant-loop-request : goal.invariant-loop-request
-invariant-loop-request g l = l.least ≡ fold (λ m r. min m (due_moment g.T.Tag.ops r)) l.initial.least (take l.request-index l.rest)
+-- the earliest of the clients so far
+abbrev pub invariant-loop-client : goal.invariant-loop-client
+invariant-loop-client g l = l.least ≡ fold (sooner g.T.Tag.ops) None (queued_requests (take l.client-index l.clients))

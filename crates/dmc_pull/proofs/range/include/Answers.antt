@@ -1,4 +1,4 @@
--- Each bound of the range is the share where the share lies beyond it.
+-- Each bound of the range is the share if the share lies beyond it.
 use Rattle.std.proofs.Common.{◌≡◌, Bool, true, false, sym, ap, ◌∙◌}
 use Rattle.std.specs.Prelude.{if◌then◌else◌}
 use Rattle.std.specs.Ordering.{is_gt}

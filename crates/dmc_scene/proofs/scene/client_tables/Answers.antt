@@ -1,7 +1,7 @@
 -- The tables at the key of the clients, read one after another.
 use Rattle.std.proofs.Common.{ap, sym, ◌∙◌, rules}
 use Rattle.std.specs.Result.{result_map_both}
-use Rattle.dmc_tag.proofs.Options.{err_is}
+use Rattle.dmc_lemmas.proofs.Options.{err_is}
 use Rattle.dmc_tag.proofs.Outcomes.{ends, goes_on}
 use Rattle.dmc_scene.proofs.scene.client_tables.Goals as goal
 

@@ -1,7 +1,7 @@
 use Rattle.std.proofs.Common.{◌≡◌, ◌∷◌, [], ◌++◌, Some, None, sym, ◌∙◌, rules}
 use Rattle.toml.specs.Data.{as_table}
 use Rattle.toml.specs.View.{view, table_view}
-use Rattle.dmc_tag.proofs.Options.{err_is}
+use Rattle.dmc_lemmas.proofs.Options.{err_is}
 use Rattle.dmc_scene.proofs.TableLemmas.{tables_in-drop, read_more, read_none, client_fault, read_to_end}
 use Rattle.dmc_scene.proofs.scene.read_clients.Goals as goal
 use Rattle.dmc_scene.proofs.scene.read_clients.Goals.{in-Some+in_ok-client, in_default}

@@ -1,6 +1,6 @@
 -- The sizes of a scene, read one after another.
 use Rattle.std.proofs.Common.{refl, sym, ◌∙◌}
-use Rattle.dmc_tag.proofs.Options.{err_is}
+use Rattle.dmc_lemmas.proofs.Options.{err_is}
 use Rattle.dmc_tag.proofs.Outcomes.{ends, goes_on}
 use Rattle.dmc_scene.proofs.scene.read_sizes.Goals as goal
 

@@ -5,7 +5,7 @@ use Rattle.dmc_ledger.specs.Bundles.{ClientSide, StampHoldings}
 use Rattle.dmc_ledger.specs.declared.desk.ClientDesk.{ClientDesk}
 use Rattle.dmc_tlock.specs.BookState.{BookState}
 use Rattle.dmc_tlock.specs.Consistent.{IsConsistent}
-use Rattle.dmc_tlock.proofs.PlaceLemmas.{done_below, one_below}
+use Rattle.dmc_shared.proofs.PlaceLemmas.{done_below, one_below}
 use Rattle.dmc_settle.specs.internal.Filled.{AreBalanced, AreClientNumbers, ClientNumbers, IsReadyClient, client_numbers, no_client_numbers}
 use Rattle.dmc_settle.specs.internal.Places.{no_tracker, sides}
 use Rattle.dmc_settle.specs.declared.report.ClientReport.{ClientReport}

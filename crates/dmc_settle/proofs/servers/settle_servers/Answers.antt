@@ -2,7 +2,7 @@ use Rattle.std.proofs.Common.{◌≡◌, ℕ, ◌<◌, ◌≤◌, List, [], ◌�
 use Rattle.std.specs.Prelude.{vec_capacity}
 use Rattle.std.specs.Global.{Vec}
 use Rattle.std.proofs.lemmas.List.{get_or-map, get_or-set_other, get_or_default, length-set}
-use Rattle.dmc_tlock.proofs.PlaceLemmas.{done_more, rest_more, push_more}
+use Rattle.dmc_shared.proofs.PlaceLemmas.{done_more, rest_more, push_more}
 use Rattle.dmc_book.specs.BookState.{BookState, PassState}
 use Rattle.dmc_book.specs.declared.pass.WorkerPass.{WorkerPass}
 use Rattle.dmc_book.specs.Settling.{AreSettledDesks}

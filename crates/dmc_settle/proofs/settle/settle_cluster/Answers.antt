@@ -25,7 +25,7 @@ use Rattle.dmc_settle.proofs.Together.{passes_seen}
 use Rattle.dmc_settle.proofs.settle.settle_cluster.Given.{Over}
 use Rattle.dmc_settle.proofs.settle.settle_cluster.Goals as goal
 use Rattle.dmc_settle.proofs.settle.settle_cluster.Goals.{After-are_whole, After-drop-desks}
-use Rattle.dmc_tag.proofs.Lists.{lent_back}
+use Rattle.dmc_lemmas.proofs.Lists.{lent_back}
 
 pub returns-then-not-are_whole-clause-together : goal.returns-then-not-are_whole-clause-together
 returns-then-not-are_whole-clause-together g c =

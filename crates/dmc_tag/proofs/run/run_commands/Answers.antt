@@ -1,21 +1,21 @@
-use Rattle.std.proofs.Common.{rules, ◌≡◌, ◌<◌, ◌≤◌, ◌++◌, ◌∷◌, [], length, take, subst, inr, vec_len, vec_capacity, arith}
+use Rattle.std.proofs.Common.{rules, ◌≡◌, ◌<◌, ◌≤◌, ◌++◌, ◌∷◌, [], length, take, subst, inr, ◌∙◌, vec_len, vec_capacity, arith}
 use Rattle.std.specs.Prelude.{IsOk}
 use Rattle.std.proofs.lemmas.Grind.{common_steps}
 use Rattle.std.proofs.lemmas.List.{take_all}
 use Rattle.dmc_tag.specs.Steps.{Runs}
-use Rattle.dmc_tag.proofs.Running.{grows_here, runs_more, reaches_from_runs, reaches_same}
+use Rattle.dmc_tag.proofs.Running.{grows_here, runs_more}
 use Rattle.dmc_tag.proofs.run.run_commands.Goals as goal
 
 pub returns-in-Err-clause-stop : goal.returns-in-Err-clause-stop
 returns-in-Err-clause-stop g c =
     let state = g.S.Scheduler.state in
-    (omega arith, reaches_same g.T.Tag.ops (state c.args.scheduler.now) (state c.loop-done.scheduler) (state c.apply.new.self) (take c.loop-done.done c.args.commands.now) c.loop-done.replies.items c.index-commands-done.result c.loop-done.invariant.0 c.in-Err.ensures)
+    (omega arith, c.in-Err.ensures.2 ∙ c.loop-done.invariant.0.1)
 
 pub returns-then-is_err-clause-stop : goal.returns-then-is_err-clause-stop
 returns-then-is_err-clause-stop g c =
     let state = g.S.Scheduler.state in
     let within : c.loop-done.done < length c.args.commands.now = omega arith in
-    (omega arith, reaches_from_runs g.T.Tag.ops _ _ _ _ (runs_more g.T.Tag.ops (state c.args.scheduler.now) (state c.loop-done.scheduler) (state c.apply.new.self) c.args.commands.now c.loop-done.replies.items c.loop-done.done c.index-commands-done.result c.in-Ok-apply.reply within c.index-commands-done.is c.loop-done.invariant.0 c.in-Ok-apply.ensures))
+    (omega arith, (runs_more g.T.Tag.ops (state c.args.scheduler.now) (state c.loop-done.scheduler) (state c.apply.new.self) c.args.commands.now c.loop-done.replies.items c.loop-done.done c.index-commands-done.result c.in-Ok-apply.reply within c.index-commands-done.is c.loop-done.invariant.0 c.in-Ok-apply.ensures).1)
 
 pub loop-done-preserved : goal.loop-done-preserved
 loop-done-preserved g c =

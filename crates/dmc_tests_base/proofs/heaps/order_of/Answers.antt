@@ -8,7 +8,7 @@ use Rattle.std.proofs.lemmas.Bool.{cases_eq}
 use Rattle.std.proofs.lemmas.List.{length-set, get_or-set_same, get_or-set_other}
 use Rattle.dmc_tag.specs.declared.rank.TagRank.{TagRank}
 use Rattle.dmc_index.specs.Index.{slot_of_key}
-use Rattle.dmc_tag.proofs.Options.{option_cases}
+use Rattle.dmc_lemmas.proofs.Options.{option_cases}
 use Rattle.std.proofs.lemmas.Option.{same_Some}
 use Rattle.dmc_tests_base.proofs.heaps.order_of.Goals as goal
 

@@ -4,7 +4,7 @@ use Rattle.std.specs.Io.KnownBytes.{Consumes}
 use Rattle.std.proofs.KnownBytes.{Consumes-kept, Consumes-nil}
 use Rattle.std.proofs.lemmas.List.{length-take}
 use Rattle.std.proofs.lemmas.Result.{IfOk-from_err}
-use Rattle.dmc_tag.proofs.Options.{of_err}
+use Rattle.dmc_lemmas.proofs.Options.{of_err}
 use Rattle.dmc_text.proofs.ReadingLemmas.{consumes_next}
 use Rattle.dmc_text.proofs.lines.read_text.Goals as goal
 

@@ -1,5 +1,5 @@
 -- Each kind of words is distinguished, and its numbers and tags are read.
-use Rattle.dmc_tag.proofs.Options.{err_is}
+use Rattle.dmc_lemmas.proofs.Options.{err_is}
 use Rattle.dmc_text.specs.Replies.{reply_said}
 use Rattle.dmc_text.proofs.reply.reply_said.Goals as goal
 

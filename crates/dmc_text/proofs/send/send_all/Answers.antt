@@ -1,7 +1,7 @@
 -- What is written is a first part.
 use Rattle.std.proofs.Common.{◌∙◌, take, length-drop, arith}
 use Rattle.std.proofs.KnownBytes.{Appends-kept}
-use Rattle.dmc_tag.proofs.Options.{of_err}
+use Rattle.dmc_lemmas.proofs.Options.{of_err}
 use Rattle.dmc_text.proofs.ReadingLemmas.{appends_next, appends_some}
 use Rattle.dmc_text.proofs.send.send_all.Goals as goal
 

@@ -2,7 +2,7 @@ use Rattle.std.proofs.Common.{◌≡◌, ◌<◌, ◌≤◌, ℕ, Result, Ok, Er
 use Rattle.dmc_types.specs.Limits.{max_completions, max_events}
 use Rattle.dmc_tracker.specs.Numbers.{AreLimits}
 use Rattle.dmc_tlock.specs.Opening.{AreBookLimits}
-use Rattle.dmc_tag.proofs.Options.{err_is}
+use Rattle.dmc_lemmas.proofs.Options.{err_is}
 use Rattle.dmc_tlock.proofs.parts.make_parts.Goals as goal
 
 -- what is not refused is within the limits

@@ -8,7 +8,7 @@ use Rattle.dmc_ledger.specs.Moves.{new_tills}
 use Rattle.dmc_tlock.specs.BookState.{no_side, no_tills}
 use Rattle.dmc_tlock.specs.Opening.{side_after_opening}
 use Rattle.dmc_tlock.specs.internal.Opening.{IsOneTill}
-use Rattle.dmc_tlock.proofs.PlaceLemmas.{done_more, rest_more, push_more}
+use Rattle.dmc_shared.proofs.PlaceLemmas.{done_more, rest_more, push_more}
 use Rattle.dmc_tlock.proofs.pass.open_pass.Goals as goal
 
 pub open_desk-opened-requires : goal.open_desk-opened-requires

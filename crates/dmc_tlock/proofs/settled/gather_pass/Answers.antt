@@ -7,7 +7,7 @@ use Rattle.dmc_tlock.specs.BookState.{no_side, no_tills}
 use Rattle.dmc_ledger.specs.Moves.{AreWithin}
 use Rattle.dmc_tlock.specs.Settling.{side_after_gather, held_of}
 use Rattle.dmc_tlock.specs.declared.settled.StampsHeld.{StampsHeld}
-use Rattle.dmc_tlock.proofs.PlaceLemmas.{set_below, done_below, rest_below, one_below, left_by_pop, taken_by_pop}
+use Rattle.dmc_shared.proofs.PlaceLemmas.{set_below, done_below, rest_below, one_below, left_by_pop, taken_by_pop}
 use Rattle.dmc_tlock.proofs.settled.gather_pass.Goals as goal
 
 pub gather_desk-requires : goal.gather_desk-requires

@@ -1,4 +1,4 @@
--- An error of clap that is no allocation failure is returned only where it has no match.
+-- An error of clap that is no allocation failure is returned only if it has no match.
 use Rattle.std.proofs.Common.{rules, ◌≡◌, ◌∙◌, ap, subst, map, Option, Some, None, Err}
 use Rattle.std.specs.Prelude.{IfOk}
 use Rattle.clap.specs.Words.{App, HasKind, app_of, fault_of, is_simple, is_simple_and_free, kind_of}

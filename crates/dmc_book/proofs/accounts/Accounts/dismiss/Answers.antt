@@ -2,7 +2,7 @@ use Rattle.std.proofs.Common.{◌≡◌, ◌∙◌, List, ◌++◌, ap, drop, ta
 use Rattle.std.proofs.lemmas.List.{length-map, length-set}
 use Rattle.dmc_ledger.specs.Bundles.{client_side}
 use Rattle.dmc_ledger.specs.declared.desk.ClientDesk.{ClientDesk}
-use Rattle.dmc_tag.proofs.Lists.{lent_back}
+use Rattle.dmc_lemmas.proofs.Lists.{lent_back}
 use Rattle.dmc_book.specs.BookState.{AccountsState, WorkerSide, accounts_of, no_worker, pass_state, worker_side}
 use Rattle.dmc_book.specs.Leaving.{MayLeave}
 use Rattle.dmc_book.specs.Settling.{AreUnitsTakenIn, closed_worker}

@@ -2,7 +2,7 @@ use Rattle.std.proofs.Common.{◌≡◌, ◌∙◌, List, [], ◌∷◌, ◌++�
 use Rattle.std.proofs.lemmas.List.{length-map}
 use Rattle.dmc_ledger.specs.Bundles.{ClientSide, client_side}
 use Rattle.dmc_ledger.specs.declared.desk.ClientDesk.{ClientDesk}
-use Rattle.dmc_tag.proofs.Lists.{lent_back}
+use Rattle.dmc_lemmas.proofs.Lists.{lent_back}
 use Rattle.dmc_book.specs.BookState.{AccountsState, WorkerSide, accounts_of, no_desk, worker_side}
 use Rattle.dmc_book.specs.internal.Enrolling.{IsAgainstWorker}
 use Rattle.dmc_book.specs.Opening.{desk_with_tills, new_pass, new_worker}

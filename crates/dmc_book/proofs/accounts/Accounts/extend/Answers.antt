@@ -2,7 +2,7 @@ use Rattle.std.proofs.Common.{◌≡◌, ◌∙◌, List, ap, length, map, drop,
 use Rattle.std.proofs.lemmas.List.{length-map}
 use Rattle.dmc_ledger.specs.Bundles.{ClientSide, client_side, grant_holdings}
 use Rattle.dmc_ledger.specs.declared.desk.ClientDesk.{ClientDesk}
-use Rattle.dmc_tag.proofs.Lists.{lent_back}
+use Rattle.dmc_lemmas.proofs.Lists.{lent_back}
 use Rattle.dmc_book.specs.BookState.{AccountsState, accounts_of, no_desk, pass_state, worker_side}
 use Rattle.dmc_book.specs.Joining.{desks_from, reach_at, with_reach}
 use Rattle.dmc_book.specs.Moves.{IsEnrolled}

@@ -52,8 +52,8 @@ invariant_of-self g c =
     let queued : is_some (desk_place c.client-client.result.0 (map client_side c.self.inside.desks.items)) ≡ true = rw c.client-client.ensures (ap (λ place. is_some place) found.2) in
     let seated = seated_pass (map worker_side c.self.inside.workers.items) (pass_state c.args.pass.now) found.0 in
     let others = other_than_left (map worker_side c.self.inside.workers.items) (pass_state c.args.pass.now) c.self.invariant.0.workers_apart found.0 in (
-      consistent_recorded e a c.push_queued.new.self (map worker_side c.count.new.workers.items) _
-          c.push_queued.ensures.events c.push_queued.ensures.first c.push_queued.ensures.most c.count.ensures.workers (desks_are g p) c.count.ensures.small tt queued seated others c.self.invariant.0,
+      consistent_recorded e a c.push_reserved.new.self (map worker_side c.count.new.workers.items) _
+          c.push_reserved.ensures.events c.push_reserved.ensures.first c.push_reserved.ensures.most c.count.ensures.workers (desks_are g p) c.count.ensures.small tt queued seated others c.self.invariant.0,
       c.self.invariant.1 ∙ sym (names_are g p),
     )
 

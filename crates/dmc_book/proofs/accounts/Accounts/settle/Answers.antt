@@ -9,7 +9,7 @@ use Rattle.dmc_book.specs.Settling.{closed_worker}
 use Rattle.dmc_book.specs.internal.Settling.{ArePassesTakenIn, IsOpenOrShut, having}
 use Rattle.dmc_book.specs.declared.seat.Seat.{Seat}
 use Rattle.dmc_book.proofs.GrantLemmas.{grants_of_desks}
-use Rattle.dmc_tag.proofs.Lists.{lent_back}
+use Rattle.dmc_lemmas.proofs.Lists.{lent_back}
 use Rattle.dmc_book.proofs.SettlingLemmas.{all_open_or_shut, settled_desks, settled_workers}
 use Rattle.dmc_book.proofs.accounts.Accounts.settle.Goals as goal
 

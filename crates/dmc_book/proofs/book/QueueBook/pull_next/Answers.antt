@@ -1,7 +1,6 @@
 use Rattle.std.proofs.Common.{◌≡◌, ◌<◌, length, ◌∙◌, refl, subst, sym, Err}
 use Rattle.dmc_types.specs.declared.command.Command.TheVariants.{Pull}
 use Rattle.dmc_pull.specs.Queue as queue
-use Rattle.dmc_tag.proofs.ForCallers.{tag_order}
 use Rattle.dmc_book.specs.BookState.{AccountsState, BookState, pass_state, state_of}
 use Rattle.dmc_book.specs.Calls.{Asks, asked, event_of}
 use Rattle.dmc_book.specs.Consistent.{IsReplayed}
@@ -18,7 +17,6 @@ returns-in-Err-reply_of g c =
     let q = queue.state_of here.queue.0 in
     let p = queue.state_of c.ask_to_pull-answer.new.queue in
     let fault = c.in-Err-reply_of.fault in
-    let order = tag_order g.T.Ord.cmp g.T.Tag.ops.compare g.met.T.Ord.total g.met.T.Tag.compares in
     let b : BookState g.row.T.Denot = state_of here.config here.accounts here.closed in
     let r : BookState g.row.T.Denot = state_of here.config c.reserve.new.self here.closed in
     let same : r ≡ b = book_reserved here.config here.closed here.accounts c.reserve.new.self c.reserve.ensures.kept in
@@ -28,7 +26,7 @@ returns-in-Err-reply_of g c =
     let asks = subst (λ (a : AccountsState g.row.T.Denot). Asks g.T.Tag.ops (length pass.units < length a.desks) (takes a.desks pass.clients pass.units) q p (Pull c.args.at) (Err fault)) c.reserve.ensures.kept answer in
     subst (λ (a : BookState g.row.T.Denot). Runs g.T.Tag.ops a pass (Pull c.args.at) r pass (Err fault)) c.self.view_is
     (subst (λ n. Runs g.T.Tag.ops b pass (Pull c.args.at) n pass (Err fault)) (sym same)
-    (unasked g.T.Tag.ops b pass (Pull c.args.at) enrolled refl order q p c.self.invariant c.in_default.ensures.fewer fault asks))
+    (unasked g.T.Tag.ops b pass (Pull c.args.at) enrolled refl q p c.self.invariant c.in_default.ensures.fewer fault asks))
 
 pub invariant_of-self-2 : goal.invariant_of-self-2
 invariant_of-self-2 g c =

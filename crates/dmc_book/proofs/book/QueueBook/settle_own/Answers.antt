@@ -1,6 +1,5 @@
-use Rattle.std.proofs.Common.{◌∙◌, ap, subst, sym}
-use Rattle.dmc_tag.specs.Replay.{after}
-use Rattle.dmc_tag.proofs.ForCallers.{as_many_requests}
+use Rattle.std.proofs.Common.{◌∙◌, ap, length, subst, sym}
+use Rattle.dmc_tag.specs.State.{State, queued_requests}
 use Rattle.dmc_pull.specs.Queue.{state_of}
 use Rattle.dmc_book.specs.Consistent.{IsReplayed}
 use Rattle.dmc_book.proofs.OpeningLemmas.{replayed_new}
@@ -13,6 +12,5 @@ invariant_of-self g c =
 
 pub returns-clause-left : goal.returns-clause-left
 returns-clause-left g c =
-    let here = c.self.inside in
-    let requests = as_many_requests (state_of here.queue.0) (after g.T.Tag.ops here.config here.accounts.history) c.self.invariant.represents in
+    let requests = ap (λ (s : State g.row.T.Denot). length (queued_requests s.clients)) c.self.invariant.state in
     rw (← c.self.view_is) (c.settle.ensures.left ∙ c.request_count-left.ensures ∙ requests)

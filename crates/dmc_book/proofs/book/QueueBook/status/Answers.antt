@@ -1,15 +1,11 @@
-use Rattle.std.proofs.Common.{rules, ◌∙◌, refl}
-use Rattle.dmc_tag.specs.Replay.{after}
-use Rattle.dmc_tag.proofs.ForCallers.{as_many_requests, as_many_clients}
-use Rattle.dmc_pull.specs.Queue.{state_of}
+use Rattle.std.proofs.Common.{rules, ◌∙◌, ap, length, refl}
+use Rattle.dmc_tag.specs.State.{State, queued_requests}
 use Rattle.dmc_book.proofs.book.QueueBook.status.Goals as goal
 
 pub returns-clause-status : goal.returns-clause-status
 returns-clause-status g c =
-    let here = c.self.inside in
-    let state = after g.T.Tag.ops here.config here.accounts.history in
-    let clients = as_many_clients (state_of here.queue.0) state c.self.invariant.represents in
-    let requests = as_many_requests (state_of here.queue.0) state c.self.invariant.represents in
+    let clients = ap (λ (s : State g.row.T.Denot). length s.clients) c.self.invariant.state in
+    let requests = ap (λ (s : State g.row.T.Denot). length (queued_requests s.clients)) c.self.invariant.state in
     rw (← c.self.view_is) (record {
       calls = search rules;
       misses = search rules;

@@ -1,7 +1,7 @@
 -- The replay with one more event.
 use Rattle.std.proofs.Common.{refl}
 use Rattle.dmc_pull.specs.Queue.{state_of}
-use Rattle.dmc_tag.proofs.Options.{of_err}
+use Rattle.dmc_lemmas.proofs.Options.{of_err}
 use Rattle.dmc_check.proofs.VerdictLemmas.{later_event, none_yet, same_event, represents_kept, other_event}
 use Rattle.dmc_check.proofs.replay.Replay.difference_with.Goals as goal
 

@@ -1,9 +1,8 @@
 use Rattle.std.proofs.Common.{◌≡◌, sym, subst, Option, Some, None, refl}
 use Rattle.std.specs.Prelude.{IfSome, IsSome}
-use Rattle.dmc_tag.specs.State.{Represents}
 use Rattle.dmc_tag.specs.Replay.{after}
 use Rattle.dmc_pull.specs.Queue.{state_of}
-use Rattle.dmc_check.proofs.VerdictLemmas.{no_difference_yet, queue_represents}
+use Rattle.dmc_check.proofs.VerdictLemmas.{no_difference_yet, queue_holds}
 use Rattle.dmc_check.proofs.replayer.Replayer.into_queue.Goals as goal
 
 pub returns-clause-some : goal.returns-clause-some
@@ -20,5 +19,5 @@ if_queue P q (Some x) same holds = subst P (sym same) (holds refl)
 pub returns-clause-state : goal.returns-clause-state
 returns-clause-state g c =
     let here = c.self.inside in
-    rw (← c.self.view_is) (if_queue (λ queue. Represents (state_of queue) (after g.T.Tag.ops here.config here.events.items)) here.replay.queue c.into_queue.result c.into_queue.ensures.queue
-    (λ some. queue_represents g.T.Tag.ops here.config here.events.items here.replay c.self.invariant (c.into_queue.ensures.some.0 some)))
+    rw (← c.self.view_is) (if_queue (λ queue. state_of queue ≡ after g.T.Tag.ops here.config here.events.items) here.replay.queue c.into_queue.result c.into_queue.ensures.queue
+    (λ some. queue_holds g.T.Tag.ops here.config here.events.items here.replay c.self.invariant (c.into_queue.ensures.some.0 some)))

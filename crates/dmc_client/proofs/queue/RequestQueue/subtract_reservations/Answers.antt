@@ -1,6 +1,6 @@
 use Rattle.std.proofs.Common.{◌≡◌, true, ap, length, map, sym, subst, ◌∙◌, arith, tests}
 use Rattle.std.specs.List.{list_all}
-use Rattle.dmc_client.specs.Record.{less_reservation}
+use Rattle.dmc_tag.specs.Rules.{less_reservation}
 use Rattle.dmc_client.specs.internal.Deferred.{reservation_has_less}
 use Rattle.dmc_client.proofs.Deferred.{more_deferred, none_deferred, none_is_deferred}
 use Rattle.dmc_client.proofs.queue.RequestQueue.subtract_reservations.Goals as goal

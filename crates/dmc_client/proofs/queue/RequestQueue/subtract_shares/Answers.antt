@@ -1,8 +1,7 @@
 use Rattle.std.proofs.Common.{map, ap, ◌∙◌}
 use Rattle.std.specs.Prelude.{if◌then◌else◌}
 use Rattle.std.specs.List.{list_all}
-use Rattle.dmc_tag.specs.Rules.{has_less}
-use Rattle.dmc_client.specs.Record.{less_share}
+use Rattle.dmc_tag.specs.Rules.{has_less, less_share}
 use Rattle.dmc_client.specs.internal.Deferred.{all_less_deferred}
 use Rattle.dmc_client.proofs.Deferred.{tested_are_deferred, tested_apart, shares_tested}
 use Rattle.dmc_client.proofs.queue.RequestQueue.subtract_shares.Goals as goal

@@ -1,9 +1,9 @@
 use Rattle.std.proofs.Common.{rules, ◌≡◌, true, Some, map, sym, subst, ap, ◌∙◌}
 use Rattle.std.specs.Prelude.{if◌then◌else◌}
 use Rattle.std.specs.List.{list_all}
-use Rattle.dmc_tag.specs.Rules.{has_less}
+use Rattle.dmc_tag.specs.Rules.{has_less, less_share}
 use Rattle.dmc_tag.proofs.ForCallers.{minus_keeps_order}
-use Rattle.dmc_client.specs.Record.{IsRecord, less_share}
+use Rattle.dmc_client.specs.Record.{IsRecord}
 use Rattle.dmc_client.proofs.Records.{with_requests, same_record, previous_lacks, queued_lack, all_have, less_shares_view, record_with_shares}
 use Rattle.dmc_client.proofs.record.ClientRec.subtract_from_shares.Goals as goal
 

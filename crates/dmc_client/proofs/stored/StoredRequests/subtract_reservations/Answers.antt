@@ -1,4 +1,4 @@
-use Rattle.dmc_client.specs.Record.{less_reservation}
+use Rattle.dmc_tag.specs.Rules.{less_reservation}
 use Rattle.dmc_client.proofs.Behind.{some_first, none_changed, each_changed}
 use Rattle.dmc_client.proofs.stored.StoredRequests.subtract_reservations.Goals as goal
 

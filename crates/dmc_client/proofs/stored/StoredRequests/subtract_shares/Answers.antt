@@ -1,7 +1,6 @@
--- That each has so much to lose where none has not is searched for, so that a wrong body fails here.
+-- That each has so much to lose if none has not is searched for, so that a wrong body fails here.
 use Rattle.std.proofs.Common.{true, false, refl, sym, ◌∙◌}
-use Rattle.dmc_tag.specs.Rules.{has_less}
-use Rattle.dmc_client.specs.Record.{less_share}
+use Rattle.dmc_tag.specs.Rules.{has_less, less_share}
 use Rattle.dmc_client.proofs.Behind.{some_first, none_changed, each_changed, none_tested, both_tested, all_pass}
 use Rattle.dmc_client.proofs.stored.StoredRequests.subtract_shares.Goals as goal
 

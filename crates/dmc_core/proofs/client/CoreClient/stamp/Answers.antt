@@ -10,7 +10,7 @@ use Rattle.dmc_core.proofs.Clients.{stamp-flight_full, stamp-refused, stamp-memo
 use Rattle.dmc_core.proofs.client.CoreClient.stamp.Given.{Over}
 use Rattle.dmc_core.proofs.client.CoreClient.stamp.Goals as goal
 use Rattle.dmc_core.proofs.client.CoreClient.stamp.Goals.{After-index_mut-pair, After-send}
-use Rattle.dmc_tag.proofs.Options.{err_is}
+use Rattle.dmc_lemmas.proofs.Options.{err_is}
 
 -- ---- what the paths share: the pair that is looked up
 

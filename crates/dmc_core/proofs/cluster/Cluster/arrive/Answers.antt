@@ -11,7 +11,7 @@ use Rattle.dmc_core.proofs.Kept.{client_kept, server_kept}
 use Rattle.dmc_core.proofs.Arrivals.{not_tagged, arrival_no_names, arrival_no_flight, arrival_memory, arrival_served, arrival_refused}
 use Rattle.dmc_core.proofs.cluster.Cluster.arrive.Goals as goal
 use Rattle.dmc_core.proofs.cluster.Cluster.arrive.Goals.{in-Tagged, in_default-reply}
-use Rattle.dmc_tag.proofs.Options.{err_is}
+use Rattle.dmc_lemmas.proofs.Options.{err_is}
 
 pub returns-in_err-place : goal.returns-in_err-place
 returns-in_err-place g c =

@@ -9,7 +9,7 @@ use Rattle.dmc_core.proofs.Kept.{known, server_kept}
 use Rattle.dmc_core.proofs.Pulls.{not_granted, pull_no_name, pull_full, pull_served}
 use Rattle.dmc_core.proofs.cluster.Cluster.pull.Goals as goal
 use Rattle.dmc_core.proofs.cluster.Cluster.pull.Goals.{in-Granted, in_default}
-use Rattle.dmc_tag.proofs.Options.{err_is}
+use Rattle.dmc_lemmas.proofs.Options.{err_is}
 
 pub returns-in_err-index : goal.returns-in_err-index
 returns-in_err-index g c =

@@ -13,7 +13,7 @@ use Rattle.dmc_core.proofs.Counts.{full_counts-part, one_if_full-part}
 use Rattle.dmc_core.proofs.Runs.{client_no_names, client_follows}
 use Rattle.dmc_core.proofs.cluster.Cluster.respond.Goals as goal
 use Rattle.dmc_core.proofs.cluster.Cluster.respond.Goals.{then-is_full, else-is_full}
-use Rattle.dmc_tag.proofs.Options.{err_is}
+use Rattle.dmc_lemmas.proofs.Options.{err_is}
 
 pub returns-in_err-place : goal.returns-in_err-place
 returns-in_err-place g c =

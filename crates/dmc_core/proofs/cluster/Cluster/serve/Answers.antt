@@ -9,7 +9,7 @@ use Rattle.dmc_core.proofs.Runs.{server_no_name, server_follows, served_is, serv
 use Rattle.dmc_core.proofs.cluster.Cluster.serve.Given.{Over}
 use Rattle.dmc_core.proofs.cluster.Cluster.serve.Goals.{After-serve}
 use Rattle.dmc_core.proofs.cluster.Cluster.serve.Goals as goal
-use Rattle.dmc_tag.proofs.Options.{err_is}
+use Rattle.dmc_lemmas.proofs.Options.{err_is}
 
 pub returns-in_err-index : goal.returns-in_err-index
 returns-in_err-index g c event served =

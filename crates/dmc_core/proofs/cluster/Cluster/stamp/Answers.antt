@@ -6,7 +6,7 @@ use Rattle.dmc_core.specs.declared.event.CoreEvent.TheVariants as events
 use Rattle.dmc_core.proofs.Kept.{client_kept}
 use Rattle.dmc_core.proofs.Runs.{client_no_names, client_follows}
 use Rattle.dmc_core.proofs.cluster.Cluster.stamp.Goals as goal
-use Rattle.dmc_tag.proofs.Options.{err_is}
+use Rattle.dmc_lemmas.proofs.Options.{err_is}
 
 pub returns-in_err-place : goal.returns-in_err-place
 returns-in_err-place g c =

@@ -1,5 +1,5 @@
 use Rattle.std.proofs.Common.{◌≡◌, ℕ, ◌+◌, ◌*◌, ◌≤◌, List, [], length, map, drop, sym, ap, ◌∙◌, subst, arith}
-use Rattle.dmc_tag.proofs.Lists.{lent_back}
+use Rattle.dmc_lemmas.proofs.Lists.{lent_back}
 use Rattle.dmc_settle.specs.declared.report.ClientReport.{ClientReport}
 use Rattle.dmc_driver_threads.specs.internal.Desks.{QueueDesksValue, ids_of, queues_of}
 use Rattle.dmc_driver_threads.proofs.DeskLemmas.{as_many_queues}

@@ -1,5 +1,5 @@
 use Rattle.std.proofs.Common.{◌≡◌, List, length, drop, sym, ap, ◌∙◌, subst, arith}
-use Rattle.dmc_tag.proofs.Lists.{lent_back}
+use Rattle.dmc_lemmas.proofs.Lists.{lent_back}
 use Rattle.dmc_book.specs.declared.pass.WorkerPass.{WorkerPass}
 use Rattle.dmc_driver_threads.specs.internal.Books.{IsFirstEnrolled}
 use Rattle.dmc_driver_threads.proofs.opening.Opening.open_queue.Goals as goal

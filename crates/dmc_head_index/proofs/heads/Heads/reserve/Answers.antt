@@ -1,6 +1,6 @@
 use Rattle.std.proofs.Common.{Result, Ok, Err, OnOk, length, refl, ap, ◌∙◌}
 use Rattle.std.specs.Result.{IsErr}
-use Rattle.dmc_tag.proofs.Options.{of_err}
+use Rattle.dmc_lemmas.proofs.Options.{of_err}
 use Rattle.dmc_head_index.proofs.Room.{unchanged, with_more, still_sound, still_held, no_less_room, room_for_all, size_for_all}
 use Rattle.dmc_head_index.proofs.heads.Heads.reserve.Goals as goal
 

@@ -102,7 +102,7 @@ returns-else-at-len-clause-value g c =
     let a = goal.at.returns-else-at-len-clause-value g c in
     rw c.self.view_is at (rank_is g a.After-index-removed (within g a.After-index-at) (place_is g a.After-index-at))
 
--- ---- what is left, where another was put in its place
+-- ---- what is left, if another was put in its place
 
 pub invariant_of-self : goal.invariant_of-self
 invariant_of-self g c =
@@ -120,7 +120,7 @@ returns-then-at-len-clause-rest g c =
     ((removed_inner g.R.Rank.cmp g.met.R.Rank.total _ c.pop.new.self.items c.unwrap-last.result c.self.inside.places.items (sound g p) (few g p) c.args.key c.index-at.result.now (place_is g a.After-index-at) (held g p)
     (omega (arith, c.if-at-len.true, c.len.ensures, c.pop.new.self.ok.0)) _ _ (settled g a.After-settle)).1)
 
--- ---- what is left, where it was the last
+-- ---- what is left, if it was the last
 
 pub invariant_of-self-else-at-len : goal.invariant_of-self-else-at-len
 invariant_of-self-else-at-len g c =

@@ -1,18 +1,12 @@
 use Rattle.std.proofs.Common.{◌≡◌, ◌∙◌, sym, subst}
-use Rattle.dmc_types.specs.declared.config.AtLimit.TheVariants.{Allow, Wait}
+use Rattle.dmc_types.specs.declared.config.AtLimit.TheVariants.{Allow}
 use Rattle.dmc_tag.specs.Answers.{sure_call_reply, pull_reply}
-use Rattle.dmc_plain.specs.internal.Sets.{Settles}
-use Rattle.dmc_plain.proofs.Pulls.{allowed, waits}
+use Rattle.dmc_plain.specs.internal.Settled.{Settles}
+use Rattle.dmc_plain.proofs.Beyond.{allowed}
 use Rattle.dmc_plain.proofs.queue.PlainQueue.pull_at_limit.Goals as goal
 
 pub returns-in-Allow : goal.returns-in-Allow
 returns-in-Allow g c =
     let old = c.args.self.now in
     let is = subst (λ s. s.config.at_limit ≡ Allow) c.self.view_is (sym c.at_limit.ensures ∙ c.in-Allow.is) in
-    subst (λ outcome. Settles old c.pull_beyond.new.self outcome (sure_call_reply pull_reply c.pull_beyond.result)) (allowed g.T.Tag.ops old c.args.at old.requests is) c.pull_beyond.ensures
-
-pub returns-in-Wait : goal.returns-in-Wait
-returns-in-Wait g c =
-    let old = c.args.self.now in
-    let is = subst (λ s. s.config.at_limit ≡ Wait) c.self.view_is (sym c.at_limit.ensures ∙ c.in-Wait.is) in
-    rw (c.report_due.ensures.now, c.report_due.ensures.answer) (waits g.T.Tag.ops old c.args.at old.requests is)
+    subst (λ outcome. Settles old c.pull_beyond.new.self outcome (sure_call_reply pull_reply c.pull_beyond.result)) (allowed g.T.Tag.ops old c.args.at is) c.pull_beyond.ensures

@@ -1,17 +1,15 @@
-use Rattle.std.proofs.Common.{◌≡◌, ◌<◌, length, true, refl, sym, subst, arith}
-use Rattle.dmc_tag.specs.State.{is_active}
-use Rattle.dmc_plain.proofs.Taken.{all_but_one}
+use Rattle.std.proofs.Common.{◌∙◌, ap}
+use Rattle.dmc_types.specs.Limits.{max_clients, max_requests}
+use Rattle.dmc_tag.specs.Rules.{reduced_by}
+use Rattle.dmc_plain.proofs.Changed.{taken_as, taken_kept}
 use Rattle.dmc_plain.proofs.queue.PlainQueue.take_out.Goals as goal
-
-pub returns : goal.returns
-returns g c = rw (c.remove-taken.ensures.items, ← c.self.view_is) refl
 
 pub invariant_of-self : goal.invariant_of-self
 invariant_of-self g c =
-    let q = c.self.inside in
-    (omega arith, c.self.invariant.1, rw c.remove-taken.ensures.items (all_but_one (λ r. is_active r.client q.clients.items ≡ true) q.requests.items c.args.index c.self.invariant.2))
+    taken_kept g.T.Tag.ops max_clients max_requests _ c.args.self.now c.self.view_is c.self.invariant c.args.place c.requires c.index_mut-client.result.now c.index_mut-client.ensures.value
+    c.args.amount c.reduce.new.self (c.reduce.ensures ∙ ap (reduced_by g.T.Tag.ops c.args.amount) c.take_out.ensures)
 
-pub remove-taken-requires : goal.remove-taken-requires
-remove-taken-requires g c =
-    let within = subst (λ s. c.args.index < length s.requests) (sym c.self.view_is) c.requires in
-    omega arith
+pub returns : goal.returns
+returns g c =
+    taken_as g.T.Tag.ops max_clients max_requests _ c.args.self.now c.self.view_is c.self.invariant c.args.place c.requires c.index_mut-client.result.now c.index_mut-client.ensures.value
+    c.args.at c.args.amount c.reduce.new.self (c.reduce.ensures ∙ ap (reduced_by g.T.Tag.ops c.args.amount) c.take_out.ensures)

@@ -1,19 +1,23 @@
-use Rattle.std.proofs.Common.{refl}
-use Rattle.std.proofs.lemmas.Option.{slice_get-get_or}
+use Rattle.std.proofs.Common.{refl, arith}
+use Rattle.dmc_plain.proofs.Places.{request_within, found_read}
 use Rattle.dmc_plain.proofs.queue.adding.shift_of.Goals as goal
 
-pub returns-then-not-arriving : goal.returns-then-not-arriving
-returns-then-not-arriving g c = rw c.if-not-arriving.true refl
+pub bounds-requests-least : goal.bounds-requests-least
+bounds-requests-least g c =
+    request_within c.args.clients.now c.in-Some.least c.in-Some.ensures.bound c.index-clients-least.result c.index-clients-least.is c.requests.result.now c.requests.ensures
 
-pub returns-in-None : goal.returns-in-None
-returns-in-None g c = rw (c.if-not-arriving.false, ← c.best_index.ensures.found, c.in-None.is) refl
+pub offset_bounds-requests-least : goal.offset_bounds-requests-least
+offset_bounds-requests-least g c =
+    omega (arith, request_within c.args.clients.now c.in-Some.least c.in-Some.ensures.bound c.index-clients-least.result c.index-clients-least.is c.requests.result.now c.requests.ensures)
 
 pub returns-in-None-minus : goal.returns-in-None-minus
 returns-in-None-minus g c =
-    let least = slice_get-get_or c.args.requests.now c.in-Some.least c.index-requests-least.result c.in-Some.ensures.bound in
-    rw (c.if-not-arriving.false, ← c.in-Some.ensures.found, least, ← c.minus.ensures, c.in-None-minus.is) refl
+    let found = found_read c.args.clients.now c.in-Some.least c.in-Some.ensures.bound c.index-clients-least.result c.index-clients-least.is c.requests.result.now c.requests.ensures
+    c.index-requests-least.result c.index-requests-least.is in
+    rw (← c.is_idle.ensures, c.if-not-is_idle.false, ← c.in-Some.ensures.found, found, ← c.minus.ensures, c.in-None-minus.is) refl
 
 pub returns-in-Some-minus : goal.returns-in-Some-minus
 returns-in-Some-minus g c =
-    let least = slice_get-get_or c.args.requests.now c.in-Some.least c.index-requests-least.result c.in-Some.ensures.bound in
-    rw (c.if-not-arriving.false, ← c.in-Some.ensures.found, least, ← c.minus.ensures, c.in-Some-minus.is) refl
+    let found = found_read c.args.clients.now c.in-Some.least c.in-Some.ensures.bound c.index-clients-least.result c.index-clients-least.is c.requests.result.now c.requests.ensures
+    c.index-requests-least.result c.index-requests-least.is in
+    rw (← c.is_idle.ensures, c.if-not-is_idle.false, ← c.in-Some.ensures.found, found, ← c.minus.ensures, c.in-Some-minus.is) refl

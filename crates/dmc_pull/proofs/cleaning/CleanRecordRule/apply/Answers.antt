@@ -1,4 +1,4 @@
--- A record is marked idle where it is that stale, and was not.
+-- A record is marked idle if it is that stale, and was not.
 use Rattle.std.proofs.Common.{◌≡◌, ℕ, Bool, true, false, not, ◌||◌, refl, sym, ap, ◌∙◌, subst}
 use Rattle.dmc_client.specs.Record.{Rec, IsRecord}
 use Rattle.dmc_pull.specs.internal.Cleaning.{is_stale, with_idle_mark}

@@ -1,7 +1,7 @@
-use Rattle.std.proofs.Common.{◌≡◌, sym, subst, [], ◌∷◌, Some}
+use Rattle.std.proofs.Common.{◌≡◌, sym, subst, Some}
 use Rattle.std.specs.Prelude.{Ok, IfSome, is_some, true}
 use Rattle.dmc_adjust.specs.Changes.{popped}
-use Rattle.dmc_client.specs.Record.{client_of, requests_of_record}
+use Rattle.dmc_client.specs.Record.{client_of}
 use Rattle.dmc_roster.specs.Entries.{record_at}
 use Rattle.dmc_tag.specs.Rules.{can_reduce_by, reduction_at}
 use Rattle.dmc_tag.specs.Spacing.{spacings_of}
@@ -25,6 +25,6 @@ returns-clause-value g c =
     let same = asked ops g.T.Tag.fraction g.T.Tag.is_value _ q.queued c.self.invariant.0 c.args.key client w c.at.result.now at in
     let space = spaced ops g.T.Tag.fraction g.T.Tag.is_value _ q.queued c.self.invariant.0 c.args.key client w in
     let amount = subst (λ r. spacings_of ops q.config.hz r.info ≡ Ok r.spacings → reduction_at ops q.config.hz r.info.reservation ≡ Ok r.spacings.r) same (c.can_reduce.ensures.amount q.config.hz) space in
-    let tests = subst (λ r. c.can_reduce.result ≡ can_reduce_by ops w.entry.id r.spacings.r (client_of w.entry.id r ∷ []) (requests_of_record w.entry.id (popped r))) same (c.can_reduce.ensures.tests w.entry.id) in
+    let tests = subst (λ r. c.can_reduce.result ≡ can_reduce_by ops r.spacings.r (client_of w.entry.id (popped r))) same (c.can_reduce.ensures.client w.entry.id) in
     subst (λ v. IfSome (first_at c.args.key v.roster.entries) (λ found. IsGrantable ops (state_of v) found (record_at c.args.key v.roster.entries) c.can_reduce.result)) view
-    (is_grantable ops v v c.args.key client q.last_moment d w c.can_reduce.result (can_grant_is ops v v c.args.key client q.last_moment d w space amount c.can_reduce.result tests))
+    (is_grantable ops v v c.args.key client q.last_moment d w c.can_reduce.result (can_grant_is ops v v c.args.key client q.last_moment d w amount c.can_reduce.result tests))

@@ -1,4 +1,4 @@
--- All pass where as many pass as there are.
+-- All pass if as many pass as there are.
 use Rattle.std.proofs.Common.{ap}
 use Rattle.dmc_adjust.specs.Changes.{is_shiftable}
 use Rattle.dmc_roster.specs.Entries.{Entry}

@@ -4,12 +4,12 @@ use Rattle.dmc_types.specs.declared.config.PhaseType.TheVariants as phases
 use Rattle.dmc_pull.specs.internal.Choice.{first_at}
 use Rattle.dmc_pull.specs.Queue.{state_of}
 use Rattle.dmc_pull.proofs.Pull.Grants.{priority_settles, refusal_settles, priority_declined, allowed_settles}
-use Rattle.dmc_tag.proofs.Options.{is_some_mapped}
+use Rattle.dmc_lemmas.proofs.Options.{is_some_mapped}
 use Rattle.dmc_pull.proofs.Common.Replaced.{waits}
 use Rattle.dmc_pull.proofs.queue.PullQueue.grant_priority.Goals as goal
 
 pub can_grant-requires : goal.can_grant-requires
-can_grant-requires g c = sym (is_some_mapped (λ found. found.0.client) (first_at c.args.key c.args.self.now.roster.entries)) ∙ ap is_some c.requires
+can_grant-requires g c = sym (is_some_mapped (λ found. found.client.id) (first_at c.args.key c.args.self.now.roster.entries)) ∙ ap is_some c.requires
 
 pub returns-then-not-can_grant : goal.returns-then-not-can_grant
 returns-then-not-can_grant g c =

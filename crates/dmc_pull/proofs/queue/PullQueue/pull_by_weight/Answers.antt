@@ -1,4 +1,4 @@
--- Each case is that of the client that is named; where a body is wrong, what the lemmas need is not there.
+-- Each case is that of the client that is named; if a body is wrong, what the lemmas need is not there.
 use Rattle.std.proofs.Common.{◌≡◌, true, false, refl, sym, ap, ◌∙◌}
 use Rattle.dmc_types.specs.declared.config.AtLimit.TheVariants.{Wait, Allow}
 use Rattle.dmc_pull.specs.internal.Choice.{first_at}
@@ -20,11 +20,8 @@ returns-then-free g c =
     (g.A.GrantTest.allows c.args.test.now) (state_of c.grant_priority.new.self) c.grant_priority.result
     (free_is ops q.last_moment q.roster.entries key client c.in-Some.free c.in-Some.ensures free) c.grant_priority.ensures
 
-pub next_due-requires-clause-none_early : goal.next_due-requires-clause-none_early
-next_due-requires-clause-none_early g c = c.requires.none_early
-
-pub next_due-requires-clause-none_free : goal.next_due-requires-clause-none_free
-next_due-requires-clause-none_free g c =
+pub next_due-requires : goal.next_due-requires
+next_due-requires g c =
     let free : c.in-Some.free ≡ false = assumption in
     none_is_free g.T.Tag.ops c.args.self.now.last_moment c.args.self.now.roster.entries c.in-Some.key c.in-Some.client c.in-Some.free c.in-Some.ensures free
 

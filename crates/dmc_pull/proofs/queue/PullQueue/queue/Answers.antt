@@ -1,22 +1,23 @@
 use Rattle.std.proofs.Common.{◌≡◌, sym, ap, ◌∙◌, subst, Some}
 use Rattle.std.specs.Prelude.{◌==◌, ◌≤◌, ◌+◌, slice_set, length, IfSome}
 use Rattle.dmc_types.specs.declared.ids.ClientId.{ClientId}
-use Rattle.dmc_client.specs.declared.request.QueuedRequest.{QueuedRequest}
+use Rattle.dmc_tag.specs.declared.plain.QueuedRequest.{QueuedRequest}
 use Rattle.dmc_roster.specs.Entries.{Listing, record_at, with_record_at}
 use Rattle.dmc_tag.specs.Order.{AreNext}
 use Rattle.dmc_head_index.specs.declared.head.Head.{Head}
 use Rattle.dmc_head_index.specs.Heads.{IsOthers}
-use Rattle.dmc_tag.specs.State.{Represents}
-use Rattle.dmc_tag.specs.Rules.{shifted_by, queued}
-use Rattle.dmc_tag.proofs.ForCallers.{differences_are_values, due_from_ceil, tag_order}
+use Rattle.dmc_tag.specs.Rules.{queued}
+use Rattle.dmc_tag.specs.State.{State}
+use Rattle.dmc_tag.proofs.ForCallers.{differences_are_values, tag_order}
+use Rattle.dmc_tag.proofs.ForCallers.{due_from_ceil}
 use Rattle.dmc_pull.specs.internal.Adding.{IsAddition}
 use Rattle.dmc_pull.specs.Queue.{Queue, IsQueue, state_of}
 use Rattle.dmc_pull.specs.internal.Queue.{head_at}
 use Rattle.dmc_pull.specs.Range.{AreWithin}
-use Rattle.dmc_pull.specs.Represented.{clients_in, requests_in}
+use Rattle.dmc_pull.specs.Represented.{clients_in}
 use Rattle.dmc_pull.proofs.Common.Lent.{unchanged}
 use Rattle.dmc_pull.proofs.Common.Keyed.{record_is}
-use Rattle.dmc_pull.proofs.Add.Arrived.{After, IsOf, of_addition, heads_can_shift, after_calls, within, vacant, apart, with_first, with_more, represents}
+use Rattle.dmc_pull.proofs.Add.Arrived.{After, IsOf, of_addition, heads_can_shift, after_calls, within, vacant, apart, with_first, with_more, came_state}
 use Rattle.dmc_pull.proofs.Add.InRange.{arrived_within}
 use Rattle.dmc_pull.proofs.queue.PullQueue.queue.Given.{Over}
 use Rattle.dmc_pull.proofs.queue.PullQueue.queue.Goals as goal
@@ -122,6 +123,7 @@ returns-clause-ok g c =
     let at = c.args.at in
     let config : c.if-is_first.self-inside.config ≡ inside.config = elim c.if-is_first.branch [ then-is_first w ↦ ap (λ i. i.config) w.self-inside-is | else-is_first w ↦ ap (λ i. i.config) w.self-inside-is ] in
     let same_roster : c.if-is_first.self-inside.roster ≡ roster = elim c.if-is_first.branch [ then-is_first w ↦ ap (λ i. i.roster) w.self-inside-is | else-is_first w ↦ ap (λ i. i.roster) w.self-inside-is ] in
-    let is_state = λ (q : Queue g.row.T.Denot) (id : ClientId). Represents (record { config = inside.config; requests = requests_in roster.entries; clients = clients_in roster.entries; last_moment = at }) (queued (shifted_by g.T.Tag.ops c.args.addition.shift (state_of q)) (record { client = id; token = request.token; tags = request.tags }) at) in
-    let named = subst (is_state (queue_before g p)) (of g p).id (represents g.T.Tag.fraction g.T.Tag.is_value inside.config roster (after g p) inside.last_moment) in
+    let new : State g.row.T.Denot = record { config = inside.config; clients = clients_in roster.entries; last_moment = at } in
+    let is_state = λ (q : Queue g.row.T.Denot) (id : ClientId). new ≡ queued g.T.Tag.ops (state_of q) c.args.addition.shift id request at in
+    let named = subst (is_state (queue_before g p)) (of g p).id (came_state g.T.Tag.fraction g.T.Tag.is_value inside.config roster (after g p) inside.last_moment) in
     rw (config, same_roster) (subst (λ q. is_state q c.args.client) c.self.view_is named)

@@ -54,7 +54,7 @@ returns-clause-token g c =
     let read = ap (option_and_then (λ rec. slice_get rec.requests 0)) c.at_mut-rec.ensures.value in
     ap (option_map (λ r. r.token)) (sym c.unwrap-request.ensures ∙ c.grant_first.ensures.value ∙ sym read)
     ∙ first_token c.self.inside.roster.entries c.args.key
-    ∙ ap (λ v. option_map (λ found. found.0.token) (first_at c.args.key v.roster.entries)) c.self.view_is
+    ∙ ap (λ v. option_map (λ found. found.request.token) (first_at c.args.key v.roster.entries)) c.self.view_is
 
 pub returns-clause-roster : goal.returns-clause-roster
 returns-clause-roster g c =

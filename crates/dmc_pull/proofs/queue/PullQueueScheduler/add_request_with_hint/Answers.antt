@@ -1,14 +1,14 @@
--- The step of an add, and what is returned where it is refused or an allocation failed.
+-- The step of an add, and what is returned if it is refused or an allocation failed.
 use Rattle.std.proofs.Common.{sym, ap, ◌∙◌, subst, refl}
 use Rattle.dmc_types.specs.declared.command.Command.TheVariants.{Add}
 use Rattle.dmc_types.specs.declared.refusal.QueueFault.TheVariants as faults
 use Rattle.dmc_tag.specs.Answers.{call_reply}
-use Rattle.dmc_tag.specs.Steps.{Exactly}
-use Rattle.dmc_tag.specs.Rules.{shifted_by, queued}
-use Rattle.dmc_tag.specs.State.{Represents}
+use Rattle.dmc_tag.specs.Steps.{Steps}
+use Rattle.dmc_tag.specs.Rules.{queued}
+use Rattle.dmc_tag.specs.State.{State}
+use Rattle.dmc_tag.specs.declared.reply.Reply.{Reply}
 use Rattle.dmc_tag.specs.declared.reply.Reply.TheVariants.{Tagged}
-use Rattle.dmc_tag.proofs.ForCallers.{steps_agreeing, steps_exactly, tag_order}
-use Rattle.dmc_tag.proofs.Options.{err_is}
+use Rattle.dmc_lemmas.proofs.Options.{err_is}
 use Rattle.dmc_pull.specs.Queue.{state_of}
 use Rattle.dmc_tag.proofs.Refusals.{refused_as, no_memory}
 use Rattle.dmc_pull.proofs.Common.Refused.{add_refused, add_done}
@@ -21,10 +21,10 @@ returns g c =
     let old = state_of c.args.self.now in
     let addition = c.in_ok-addition.addition in
     let at = c.effective-at.result in
-    let new = queued (shifted_by ops addition.shift old) (record { client = c.args.client; token = c.args.token; tags = addition.tags }) at in
-    let step = step_of_add ops old c.args.client c.args.token c.args.params c.args.at at (new, Tagged addition.tags) c.effective-at.ensures.value (c.in_ok-addition.ensures.outcome.added c.args.token) in
-    let stood = subst (λ q. Represents (state_of c.queue.new.self) (queued (shifted_by ops addition.shift (state_of q)) (record { client = c.args.client; token = c.args.token; tags = addition.tags }) at)) c.in_ok-addition.ensures.same c.in_ok-queue.ensures.ok in
-    steps_agreeing g.T.Tag.ops (tag_order g.T.Ord.cmp g.T.Tag.ops.compare g.met.T.Ord.total g.met.T.Tag.compares) old (state_of c.queue.new.self) (Add c.args.client c.args.token c.args.params c.args.at) (Tagged addition.tags) (sym (ap (λ answer. answer.1) step)) (subst (λ answer. Represents (state_of c.queue.new.self) answer.0) (sym step) stood)
+    let after : State g.row.T.Denot → State g.row.T.Denot = λ s. queued ops s addition.shift c.args.client (record { token = c.args.token; tags = addition.tags }) at in
+    let step = step_of_add ops old c.args.client c.args.token c.args.params c.args.at at (after old, Tagged addition.tags) c.effective-at.ensures.value (c.in_ok-addition.ensures.outcome.added c.args.token) in
+    let answer : State g.row.T.Denot → State g.row.T.Denot × Reply g.row.T.Denot = λ s. (s, Tagged addition.tags) in
+    ap answer (c.in_ok-queue.ensures.ok ∙ ap (λ q. after (state_of q)) c.in_ok-addition.ensures.same) ∙ sym step
 
 pub returns-in_err-addition : goal.returns-in_err-addition
 returns-in_err-addition g c =
@@ -35,9 +35,8 @@ returns-in_err-addition g c =
     let result = c.from_residual.result in
     let refused =
     add_refused ops old c.args.client c.args.token c.args.params c.args.at c.effective-at.result c.effective-at.ensures.value refusal c.in_err-addition.ensures.outcome in
-    let exactly = refused_as ops old command (λ tags. Tagged tags) result refusal (err_is result (faults.Refused refusal) c.from_residual.ensures.1) refused in
-    steps_exactly ops (tag_order g.T.Ord.cmp ops.compare g.met.T.Ord.total g.met.T.Tag.compares) old (state_of c.can_add.new.self) command (call_reply (λ tags. Tagged tags) result)
-    (subst (λ q. Exactly ops old (state_of q) command (call_reply (λ tags. Tagged tags) result)) (sym c.can_add.ensures.same) exactly)
+    subst (λ q. Steps ops old (state_of q) command (call_reply (λ tags. Tagged tags) result)) (sym c.can_add.ensures.same)
+    (refused_as ops old command (λ tags. Tagged tags) result refusal (err_is result (faults.Refused refusal) c.from_residual.ensures.1) refused)
 
 pub returns-in_err-queue : goal.returns-in_err-queue
 returns-in_err-queue g c =
@@ -47,9 +46,7 @@ returns-in_err-queue g c =
     let done =
     add_done ops old c.args.client c.args.token c.args.params c.args.at c.effective-at.result c.effective-at.ensures.value _
     (c.in_ok-addition.ensures.outcome.added c.args.token) in
-    let new = state_of c.queue.new.self in
     let fault = c.in_err-queue.field-0.0 in
     let result = c.from_residual-in_err-queue.result in
     let kept = ap state_of (c.in_err-queue.ensures.err ∙ c.can_add.ensures.same) in
-    steps_exactly ops (tag_order g.T.Ord.cmp ops.compare g.met.T.Ord.total g.met.T.Tag.compares) old new command (call_reply (λ tags. Tagged tags) result)
-    (no_memory ops old command (λ tags. Tagged tags) result new fault refl (err_is result fault c.from_residual-in_err-queue.ensures.1) c.in_err-queue.ensures.memory done kept)
+    no_memory ops old command (λ tags. Tagged tags) result (state_of c.queue.new.self) fault refl (err_is result fault c.from_residual-in_err-queue.ensures.1) c.in_err-queue.ensures.memory done kept

@@ -20,9 +20,8 @@ pub returns : goal.returns
 returns g c =
     let q = c.self.inside in
     let t = c.effective-at.result in
-    let distinct = c.self.invariant.0.distinct in
     let moment = subst (λ x. t ≡ effective (state_of x) c.args.at) (sym c.self.view_is) c.effective-at.ensures.value in
     let e = rw (c.idle_age-idle_age.ensures.value, c.erase_age-erase_age.ensures.value) at c.age_all.ensures.value in
     let idled = rw (c.idle_age-idle_age.ensures.value, c.erase_age-erase_age.ensures.value) at c.count_idled-idled.ensures.value in
     let erased = rw c.erase_age-erase_age.ensures.value at c.count_erased-erased.ensures.value in
-    rw (← c.self.view_is) (cleaned_step g.T.Tag.ops g.T.Tag.fraction g.T.Tag.is_value (record { config = q.config; roster = q.roster; heads = q.heads.0; last_moment = q.last_moment }) distinct c.age_all.new.roster c.args.at t c.count_idled-idled.result c.count_erased-erased.result moment e idled erased)
+    rw (← c.self.view_is) (cleaned_step g.T.Tag.ops g.T.Tag.fraction g.T.Tag.is_value (record { config = q.config; roster = q.roster; heads = q.heads.0; last_moment = q.last_moment }) c.age_all.new.roster c.args.at t c.count_idled-idled.result c.count_erased-erased.result moment e idled erased)

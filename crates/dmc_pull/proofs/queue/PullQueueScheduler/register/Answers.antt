@@ -4,7 +4,7 @@ use Rattle.dmc_types.specs.declared.command.Command.TheVariants.{Register}
 use Rattle.dmc_types.specs.declared.refusal.QueueFault.TheVariants as faults
 use Rattle.dmc_tag.specs.declared.reply.Reply.TheVariants.{Registered}
 use Rattle.dmc_tag.proofs.ForCallers.{moments_are_values}
-use Rattle.dmc_tag.proofs.Options.{err_is}
+use Rattle.dmc_lemmas.proofs.Options.{err_is}
 use Rattle.dmc_client.specs.Record.{client_of}
 use Rattle.dmc_pull.specs.Queue.{state_of}
 use Rattle.dmc_tag.proofs.Refusals.{refused_as}

@@ -1,6 +1,6 @@
 use Rattle.std.proofs.Common.{◌≡◌, ◌∙◌, ap, sym, length, arith}
 use Rattle.std.specs.Prelude.{filter, slice_index_or, None}
-use Rattle.dmc_tag.proofs.Lists.{length_filtered}
+use Rattle.dmc_lemmas.proofs.Lists.{length_filtered}
 use Rattle.dmc_roster.specs.Entries.{Entry}
 use Rattle.dmc_roster.proofs.Held.{counted, length_entries}
 use Rattle.dmc_roster.proofs.roster.Roster.count.Goals as goal

@@ -1,7 +1,7 @@
 -- Lines are taken one after the other, until the walk ends.
 use Rattle.std.proofs.Common.{◌≡◌, ◌+◌, ◌++◌, Bool, length, refl, ◌∙◌, arith}
 use Rattle.std.specs.Prelude.{⊤}
-use Rattle.dmc_tag.proofs.Options.{err_is}
+use Rattle.dmc_lemmas.proofs.Options.{err_is}
 use Rattle.dmc_text.proofs.WalkLemmas.{begins, fed, took, less_left, closed, find_ends, take_ends, last_ends}
 use Rattle.dmc_text.proofs.WalkReading.{ends_later}
 use Rattle.dmc_text.proofs.walk.Walk.run.Goals as goal
@@ -16,7 +16,7 @@ loop-self-init g c = record {
 pub returns-in_err-find-clause-bytes : goal.returns-in_err-find-clause-bytes
 returns-in_err-find-clause-bytes g c =
     let l = g.L.TakesLines in
-    rw (err_is _ _ c.from_residual.ensures.1) (find_ends l.refuses l.headed g.met.L.TakesLines.long (g.R.Read.remaining c.find.new.reader.stream) (g.W.Write.contents c.find.new.writer.stream) c.find.new.self
+    rw (err_is _ _ c.from_residual.ensures.1) (find_ends l.refuses l.has_config g.met.L.TakesLines.long (g.R.Read.remaining c.find.new.reader.stream) (g.W.Write.contents c.find.new.writer.stream) c.find.new.self
     c.in_err-find.field-0.0 c.loop-self.invariant.so_far c.in_err-find.ensures.bytes)
 
 pub returns-in_err-find-clause-notes : goal.returns-in_err-find-clause-notes
@@ -40,18 +40,18 @@ loop-self-smaller g c = less_left (rw (c.if-branch.true) at c.in_ok-find.ensures
 pub returns-in_err-take-clause-bytes : goal.returns-in_err-take-clause-bytes
 returns-in_err-take-clause-bytes g c =
     let l = g.L.TakesLines in
-    rw (err_is _ _ c.from_residual-in_err-take.ensures.1) (take_ends l.refuses l.headed c.take.new.taker c.take.new.self
+    rw (err_is _ _ c.from_residual-in_err-take.ensures.1) (take_ends l.refuses l.has_config c.take.new.taker c.take.new.self
     c.in_err-take.field-0.0 c.loop-self.invariant.so_far (rw (c.if-branch.true) at c.in_ok-find.ensures.bytes) c.in_err-take.ensures)
 
 pub returns-in_err-take_last-clause-bytes : goal.returns-in_err-take_last-clause-bytes
 returns-in_err-take_last-clause-bytes g c =
     let l = g.L.TakesLines in
     let ended = rw (c.if-branch.false) at c.in_ok-find.ensures.bytes in
-    rw (err_is _ _ c.from_residual-in_err-take_last.ensures.1) (last_ends l.refuses l.headed c.take_last.new.taker c.take_last.new.self
+    rw (err_is _ _ c.from_residual-in_err-take_last.ensures.1) (last_ends l.refuses l.has_config c.take_last.new.taker c.take_last.new.self
     c.in_err-take_last.field-0.0 (fed c.loop-self.invariant.so_far ended.0) ended.1 c.in_err-take_last.ensures)
 
 pub returns-clause-bytes : goal.returns-clause-bytes
 returns-clause-bytes g c =
     let l = g.L.TakesLines in
     let ended = rw (c.if-branch.false) at c.in_ok-find.ensures.bytes in
-    rw c.close.ensures (closed l.refuses l.headed (fed c.loop-self.invariant.so_far ended.0) c.in_ok-take_last.ensures ended.1)
+    rw c.close.ensures (closed l.refuses l.has_config (fed c.loop-self.invariant.so_far ended.0) c.in_ok-take_last.ensures ended.1)

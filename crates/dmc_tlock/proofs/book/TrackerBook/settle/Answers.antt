@@ -8,7 +8,7 @@ use Rattle.dmc_tlock.proofs.SettlingLemmas.{settled_desks}
 use Rattle.dmc_tlock.proofs.book.TrackerBook.settle.Given.{Over}
 use Rattle.dmc_tlock.proofs.book.TrackerBook.settle.Goals.{After-gather_pass}
 use Rattle.dmc_tlock.proofs.book.TrackerBook.settle.Goals as goal
-use Rattle.dmc_tag.proofs.Lists.{lent_back}
+use Rattle.dmc_lemmas.proofs.Lists.{lent_back}
 
 -- ---- what the paths share
 

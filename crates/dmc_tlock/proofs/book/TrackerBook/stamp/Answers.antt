@@ -1,4 +1,4 @@
-use Rattle.std.proofs.Common.{◌≡◌, ◌+◌, ◌<◌, length, set, refl, sym, ap, ◌∙◌, arith, rules, subst}
+use Rattle.std.proofs.Common.{◌≡◌, ◌+◌, ◌-◌, ◌<◌, length, set, refl, sym, ap, ◌∙◌, arith, rules, subst}
 use Rattle.std.proofs.lemmas.List.{length-map, length-set}
 use Rattle.dmc_types.specs.Values.{Params}
 use Rattle.dmc_ledger.specs.Bundles.{ServerSide, server_side}
@@ -6,7 +6,8 @@ use Rattle.dmc_tracker.specs.Numbers.{next_params}
 use Rattle.dmc_tlock.specs.Entries.{side_after_stamp}
 use Rattle.dmc_tlock.specs.Consistent.{IsConsistent}
 use Rattle.dmc_tlock.proofs.DeskLemmas.{found, desks-set}
-use Rattle.dmc_tlock.proofs.ConsistentLemmas.{IsConsistent-stamp, HasRoom, has_room}
+use Rattle.dmc_tlock.proofs.ConsistentLemmas.{IsConsistent-stamp}
+use Rattle.dmc_tlock.proofs.ForCallers.{HasRoom, has_room}
 use Rattle.dmc_tlock.proofs.book.TrackerBook.stamp.Given.{Over}
 use Rattle.dmc_tlock.proofs.book.TrackerBook.stamp.Goals.{After-index_mut}
 use Rattle.dmc_tlock.proofs.book.TrackerBook.stamp.Goals as goal
@@ -36,13 +37,13 @@ returns-clause-book g c =
     let desks = desks-set (side_after_stamp (next_params here.tracker c.args.server)) here.desks.items c.args.server c.in_ok-index.index
     c.index_mut.result.now c.issue_stamp.new.desk c.in_ok-index.ensures.place within c.index_mut.ensures.value
     (c.issue_stamp.ensures.desk ∙ ap (λ (p : Params). side_after_stamp p (server_side c.index_mut.result.now)) c.record_stamp-params.ensures.params) in
-    rw (← c.self.view_is, c.record_stamp-params.ensures.tracker, c.record_stamp-params.ensures.events, c.record_stamp-params.ensures.first, c.record_stamp-params.ensures.most, c.in_ok-reserve_one.ensures.events, c.in_ok-reserve_one.ensures.first, c.in_ok-reserve_one.ensures.most, desks) refl
+    rw (← c.self.view_is, c.record_stamp-params.ensures.tracker, c.record_stamp-params.ensures.events, c.record_stamp-params.ensures.first, c.record_stamp-params.ensures.most, c.in_ok-reserve_one.ensures.kept, desks) refl
 
 pub invariant_of-self-2 : goal.invariant_of-self-2
 invariant_of-self-2 g c =
     let here = c.self.inside in
     let within : c.args.server.0 < length here.desks.items = search rules in
-    let room : length here.list.events < here.list.first + here.list.most = search rules in
+    let room : length here.list.events < here.list.first + (here.list.most - here.list.first) = omega (arith, c.in_ok-reserve_one.ensures.fewer) in
     let as_many : length c.self.inside.held.items ≡ length (set here.desks.items c.in_ok-index.index c.issue_stamp.new.desk) = c.self.invariant.1 ∙ sym (length-set here.desks.items c.in_ok-index.index c.issue_stamp.new.desk) in (
       subst IsConsistent (sym (returns-clause-book g c))
           (rw (← c.self.view_is) (IsConsistent-stamp _ c.args.server (omega (arith, within, length-map here.desks.items (server_side {S = g.row.S.Denot}))) room c.self.invariant.0)),

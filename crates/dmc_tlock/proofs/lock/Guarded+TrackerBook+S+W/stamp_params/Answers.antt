@@ -1,5 +1,7 @@
 use Rattle.dmc_tlock.specs.Entries.{book_after_stamp}
-use Rattle.dmc_tlock.proofs.LaterLemmas.{later_by, later_stamp}
+use Rattle.dmc_shared.proofs.LaterLemmas.{later_by}
+use Rattle.dmc_tlock.proofs.LaterLemmas.{later_same, later_stamp}
+use Rattle.dmc_tlock.specs.Later.{IsLater}
 use Rattle.dmc_tlock.proofs.lock.Guarded+TrackerBook+S+W.stamp_params.Given.{Over}
 use Rattle.dmc_tlock.proofs.lock.Guarded+TrackerBook+S+W.stamp_params.Goals as goal
 use Rattle.dmc_tlock.proofs.lock.Guarded+TrackerBook+S+W.stamp_params.Goals.{After-stamp}
@@ -9,7 +11,7 @@ stays : (g : Over) (c : After-stamp g) → g.W.Witness.holds c.self.inside.witne
 stays g c =
     let book = c.self.inside.book in
     g.met.W.Witness.stays c.self.inside.witness book c.stamp.new.self
-    (later_by book c.stamp.new.self (book_after_stamp c.args.server book) c.stamp.result (later_stamp c.args.server book) c.stamp.ensures.book c.stamp.ensures.kept)
+    (later_by IsLater later_same book c.stamp.new.self (book_after_stamp c.args.server book) c.stamp.result (later_stamp c.args.server book) c.stamp.ensures.book c.stamp.ensures.kept)
     c.self.invariant
 
 pub invariant_of-self : goal.invariant_of-self

@@ -4,7 +4,7 @@ use Rattle.std.specs.Option.{ghost_name_of}
 use Rattle.std.proofs.lemmas.List.{map-set, length-map}
 use borrow.Follows.Closed.{read_of}
 use Rattle.dmc_ledger.specs.Bundles.{stamp_holdings}
-use Rattle.dmc_tlock.proofs.PlaceLemmas.{tills_seen}
+use Rattle.dmc_tlock.proofs.DeskLemmas.{tills_seen}
 use Rattle.dmc_tlock.proofs.pass.ClientPass.tills.Goals as goal
 
 pub returns : goal.returns

@@ -1,6 +1,0 @@
--- Answered here, so that a wrong body fails here.
-use Rattle.std.proofs.Common.{rules}
-use Rattle.dmc_queue_history.proofs.lists.Lists.push_queued.Goals as goal
-
-pub returns-in-None : goal.returns-in-None
-returns-in-None g c = search rules

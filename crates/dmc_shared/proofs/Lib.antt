@@ -1,0 +1,3 @@
+pub mod LaterLemmas
+pub mod PlaceLemmas
+pub mod SegmentLemmas

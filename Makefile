@@ -22,9 +22,9 @@ mutations:
 check:
 	cd crates/$(CRATE) && rt check $(if $(ONLY),--only $(CRATE)::$(ONLY))
 
-# Runs a crate's tests with no proof, in a minute or two: make quick CRATE=dmc_tests_base.
+# Runs a crate's tests with no proof, in a minute or two: make quick CRATE=dmc_tests_base, or one of them, by TEST=five_commands.
 quick:
-	cd crates/$(CRATE) && rt try --test
+	cd crates/$(CRATE) && rt try --test $(if $(TEST),-- $(TEST))
 
 # The program on one example, by a build that is not proved. It takes about a minute.
 demo:

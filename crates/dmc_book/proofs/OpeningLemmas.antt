@@ -171,8 +171,8 @@ new_desk_at server (d ∷ ds) (suc k) new l = new_desk_at server ds k new.1 (ome
 
 module _ {T : Type 0} where
   -- accounts of no worker, no desk and no event
-  pub consistent_empty : (server : ℕ) → AreConsistent {T = T} (record { server = server; history = []; first = 0; most = 0; room = 0; workers = []; desks = [] })
-  consistent_empty server = record {
+  pub consistent_empty : (server number : ℕ) → AreConsistent {T = T} (record { server = server; number = number; history = []; first = 0; most = 0; room = 0; workers = []; desks = [] })
+  consistent_empty server number = record {
     workers = tt;
     desks = λ k l. absurd (omega (arith, l));
     reach = tt;

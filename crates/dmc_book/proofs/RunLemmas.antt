@@ -1,6 +1,6 @@
 -- What was answered or refused, of a command that is no Add.
 use Rattle.std.proofs.Common.{ℕ, zero, suc, ap, ◌≡◌, [], ◌∷◌, slice_index_or, ◌<◌, Bool, true, false, true≢false, List, length, Option, None, refl, sym, subst, ◌∙◌, Result, Ok, Err, arith, inl, inr}
-use Rattle.std.specs.Prelude.{◌==◌, ◌||◌, ◌↔◌, ◌⊎◌, IsTrue, OnOk, OnErr, IfOk, if◌then◌else◌}
+use Rattle.std.specs.Prelude.{◌==◌, ◌||◌, ◌↔◌, IsOk, OnOk, OnErr, IfOk, if◌then◌else◌}
 use Rattle.std.specs.List.{AllByRecursion, list_any}
 use Rattle.std.proofs.lemmas.Bool.{eq-eqb, true_from_ne_false}
 use Rattle.dmc_types.specs.declared.ids.ClientId.{ClientId}
@@ -10,7 +10,7 @@ use Rattle.dmc_types.specs.declared.command.Command.{Command}
 use Rattle.dmc_types.specs.declared.command.Command.TheVariants.{Pull}
 use Rattle.dmc_tag.specs.Tag.{Tagging}
 use Rattle.dmc_tag.specs.State.{State}
-use Rattle.dmc_tag.specs.Steps.{may_grow}
+use Rattle.dmc_tag.specs.Step.{outcome}
 use Rattle.dmc_tag.specs.declared.reply.Pulled.{Pulled}
 use Rattle.dmc_tag.specs.declared.reply.Reply.{Reply}
 use Rattle.dmc_history.specs.declared.ReserveFault.{ReserveFault}
@@ -21,7 +21,7 @@ use Rattle.dmc_book.specs.declared.fault.RunFault.TheVariants as run
 use Rattle.dmc_book.specs.declared.fault.RunOrRange.{RunOrRange}
 use Rattle.dmc_book.specs.declared.fault.RunOrRange.TheVariants as pull
 use Rattle.dmc_book.specs.BookState.{BookState, PassState, WorkerSide, no_worker}
-use Rattle.dmc_book.specs.Calls.{Asks, HasNoPlace, Ran, WasPulled, asked, lacks_desk, reply_to, run_cause}
+use Rattle.dmc_book.specs.Calls.{Asks, HasNoPlace, LacksMemory, Ran, WasPulled, asked, lacks_desk, reply_to, run_cause}
 use Rattle.dmc_book.specs.Consistent.{AreWorkersApart, IsReplayed, IsSeated}
 use Rattle.dmc_lemmas.proofs.Booleans.{eqb_turned}
 use Rattle.dmc_lemmas.proofs.Lists.{all_as}
@@ -77,7 +77,7 @@ module _ {T : Type 0} (ops : Tagging T) (old : BookState T) (before : PassState)
   unasked q p known fewer run.Behind a = (refl, refl, enrolled, has_desk, (λ full. omega (arith, fewer, full)), strays_by_history ops (IsBehind ops old before command) (takes old.desks before.clients before.units) q p old.config old.history command known a.1, a.2)
   unasked q p known fewer run.NoDesk a = absurd a
   unasked q p known fewer run.HistoryFull a = absurd a
-  unasked q p known fewer run.Memory a = (refl, refl, enrolled, has_desk, (λ full. omega (arith, fewer, full)), inl a.0)
+  unasked q p known fewer run.Memory a = (refl, refl, enrolled, has_desk, (λ full. omega (arith, fewer, full)), inl (a.0, subst (λ s. IsOk (outcome ops s command)) known.state a.1))
 
 module _ {T : Type 0} (ops : Tagging T) (old new : BookState T) (before later : PassState) (command : Command) where
   pub ran_if_ok : (r : Result (Reply T) RunFault) → Runs ops old before command new later r → IfOk r (λ reply. Ran ops old new before later command reply)
@@ -156,7 +156,7 @@ module _ {T : Type 0} (ops : Tagging T) (old new : BookState T) (before later : 
   told_full (Err run.Memory) h = (λ e. absurd cc, λ k. absurd (h.4 k.2))
 
   pub memory_if_told : (r : Result (Reply T) RunFault) → Runs ops old before command new later r → r ≡ Err run.Memory
-      → IsTrue (may_grow command) ⊎ HasNoPlace old
+      → LacksMemory ops old command
   memory_if_told (Ok reply) h e = absurd cc
   memory_if_told (Err run.Stranger) h e = absurd cc
   memory_if_told (Err run.Behind) h e = absurd cc
@@ -220,6 +220,6 @@ module _ {T : Type 0} (ops : Tagging T) (old new : BookState T) (before later : 
 
   pub pull_memory : (r : Result Pulled RunOrRange) → Pulls r → r ≡ Err (pull.Run run.Memory) → HasNoPlace old
   pull_memory r h e = elim (memory_if_told ops old new before later (Pull at) (asked r) h (ap asked e)) [
-    | inl grows ↦ absurd (true≢false (sym grows))
+    | inl grows ↦ absurd (true≢false (sym grows.0))
     | inr none ↦ none
   ]

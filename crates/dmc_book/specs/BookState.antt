@@ -35,10 +35,11 @@ pub record WorkerSide : Type 0 where
   pub reach : ℕ
   pub books : WorkerAccounts
 
--- The number of the server; the history, how many of its events were released, how many there may be until more
+-- The number of the server; the number of the history in the set-up, the history, how many of its events were released, how many there may be until more
 -- are released, and for how many more a place is reserved; the workers; and the desk of each client.
 pub record AccountsState (T : Type 0) : Type 0 where
   pub server : ℕ
+  pub number : ℕ
   pub history : List (Event T)
   pub first : ℕ
   pub most : ℕ
@@ -50,6 +51,7 @@ pub record AccountsState (T : Type 0) : Type 0 where
 pub record BookState (T : Type 0) : Type 0 where
   pub config : Setting
   pub server : ℕ
+  pub number : ℕ
   pub history : List (Event T)
   pub first : ℕ
   pub most : ℕ
@@ -88,6 +90,7 @@ module _ {S : Type 0} where
 abbrev pub accounts_of : {T : Type 0} → ℕ → Segmented (Event T) → List WorkerSide → List ClientSide → AccountsState T
 accounts_of server history workers desks = record {
   server = server;
+  number = history.number;
   history = history.events;
   first = history.first;
   most = history.most;
@@ -101,6 +104,7 @@ abbrev pub state_of : {T : Type 0} → Setting → AccountsState T → Bool → 
 state_of config accounts closed = record {
   config = config;
   server = accounts.server;
+  number = accounts.number;
   history = accounts.history;
   first = accounts.first;
   most = accounts.most;

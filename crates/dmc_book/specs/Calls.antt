@@ -1,5 +1,5 @@
 -- What a call does to a book and a pass, and what it is refused for.
-use Rattle.std.specs.Prelude.{◌≡◌, ℕ, ◌-◌, Bool, true, false, not, List, length, Some, None, Result, Ok, Err, is_some, slice_index_or}
+use Rattle.std.specs.Prelude.{◌≡◌, ℕ, ◌-◌, ◌⊎◌, IsOk, IsTrue, Bool, true, false, not, List, length, Some, None, Result, Ok, Err, is_some, slice_index_or}
 use Rattle.dmc_types.specs.declared.ids.ClientId.{ClientId}
 use Rattle.dmc_types.specs.declared.config.PhaseType.{PhaseType}
 use Rattle.dmc_types.specs.declared.command.Command.{Command}
@@ -7,8 +7,8 @@ use Rattle.dmc_types.specs.declared.command.Command.TheVariants.{Register, Updat
 use Rattle.dmc_types.specs.declared.refusal.Refusal.TheVariants.{Range}
 use Rattle.dmc_tag.specs.Tag.{Tagging}
 use Rattle.dmc_tag.specs.State.{State}
-use Rattle.dmc_tag.specs.Step.{step}
-use Rattle.dmc_tag.specs.Steps.{Steps}
+use Rattle.dmc_tag.specs.Step.{outcome, step}
+use Rattle.dmc_tag.specs.Steps.{Steps, may_grow}
 use Rattle.dmc_tag.specs.Replay.{after}
 use Rattle.dmc_tag.specs.Answers.{pull_reply}
 use Rattle.dmc_tag.specs.declared.reply.Pulled.{Pulled}
@@ -66,6 +66,10 @@ Strays takes (Clean at) reply = ⊥
 -- that the next one needs an allocation.
 abbrev pub HasNoPlace : {T : Type 0} → BookState T → Type 0
 HasNoPlace b = FillBlocks (length b.history - b.first)
+
+-- Memory is what a command lacks: it is one that may allocate and that the rules accept, or its event has no place.
+abbrev pub LacksMemory : {T : Type 0} → Tagging T → BookState T → Command → Type 0
+LacksMemory ops b command = (IsTrue (may_grow command) × IsOk (outcome ops (after ops b.config b.history) command)) ⊎ HasNoPlace b
 
 -- The reply is that of the rules, and the history has one event more: this worker, this command, this reply. Books and
 -- tills move as the event says.

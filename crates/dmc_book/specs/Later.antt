@@ -24,11 +24,12 @@ worker_numbers w = record {
   granted = w.books.granted.number;
 }
 
--- Every call but a rotation leaves the configuration, the server, how many events were released, how many there may be until more
+-- Every call but a rotation leaves the configuration, the server, the number of the history, how many events were released, how many there may be until more
 -- are released, and the numbers of the workers and of the desks. The history only grows.
 pub record IsLater {T : Type 0} (old new : BookState T) : Type 0 where
   pub config : new.config ≡ old.config
   pub server : new.server ≡ old.server
+  pub number : new.number ≡ old.number
   pub first : new.first ≡ old.first
   pub most : new.most ≡ old.most
   pub workers : map worker_numbers new.workers ≡ map worker_numbers old.workers
@@ -41,6 +42,7 @@ pub record IsLater {T : Type 0} (old new : BookState T) : Type 0 where
 pub record IsReleased {T : Type 0} (old new : BookState T) : Type 0 where
   pub config : new.config ≡ old.config
   pub server : new.server ≡ old.server
+  pub number : new.number ≡ old.number
   pub first : old.first ≤ new.first
   pub most : new.most + old.first ≡ old.most + new.first
   pub workers : new.workers ≡ old.workers

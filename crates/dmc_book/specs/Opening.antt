@@ -86,10 +86,12 @@ abbrev pub new_passes : ℕ → ℕ → List ClientId → List ClientSide → Li
 new_passes place n clients desks [] = []
 new_passes place n clients desks (w ∷ ws) = new_pass place n clients desks w ∷ new_passes (place + 1) (n + 5) clients desks ws
 
--- accounts of an empty history; each desk has a till open for each worker beside the held ones
+-- accounts of an empty history, whose number follows those of the workers' books; each desk has a till open for each worker beside
+-- the held ones
 abbrev pub new_accounts_state : {T : Type 0} → ℕ → ℕ → ℕ → List WorkerId → List ClientSide → AccountsState T
 new_accounts_state server most n workers desks = record {
   server = server;
+  number = n + 5 * length workers;
   history = [];
   first = 0;
   most = most;

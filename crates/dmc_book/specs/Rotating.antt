@@ -21,7 +21,7 @@ pub record MayRotate {E : Type 0} (history : List E) (first most : ℕ) (workers
 
 -- the segment: the history so far, of which it has the last events, from the number `first` on
 abbrev pub segment_of : {T : Type 0} → BookState T → SegmentState T
-segment_of b = record { config = b.config; server = b.server; history = b.history; first = b.first }
+segment_of b = record { config = b.config; server = b.server; number = b.number; history = b.history; first = b.first }
 
 -- all events are released, and as many as before may be kept
 abbrev pub after_rotating : {T : Type 0} → BookState T → BookState T

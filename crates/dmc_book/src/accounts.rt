@@ -228,7 +228,7 @@ impl<T: Tag, S: Setup> Accounts<T, S> {
     pub(crate) fn rotate(&mut self, config: QueueConfig) -> Option<Segment<T, S>>
         requires { replays T.ops config self.old.history }
         ensures segment { IfSome result (λ segment.
-            segment ≡ record { config = config; server = self.old.server; history = self.old.history; first = self.old.first }) }
+            segment ≡ record { config = config; server = self.old.server; number = self.old.number; history = self.old.history; first = self.old.first }) }
         ensures some { IsSome result ↔ MayRotate self.old.history self.old.first self.old.most self.old.workers }
         ensures rotated { IfSome result (λ _. self.new ≡ accounts_rotated self.old) }
         ensures within { OnSome result (self.old.first ≤ length self.old.history) }

@@ -5,9 +5,8 @@ ghost use Rattle.dmc_types.specs.Limits.{max_events, max_workers};
 ghost use Rattle.dmc_ledger.specs.Bundles.{client_side};
 ghost use Rattle.dmc_tag.specs.State.{queued_requests};
 ghost use Rattle.dmc_tag.specs.Replay.{after, replays};
-ghost use Rattle.dmc_tag.specs.Steps.{may_grow};
 ghost use Rattle.dmc_book.specs.BookState.{pass_state, worker_side};
-ghost use Rattle.dmc_book.specs.Calls.{HasNoPlace, Ran, Strays, is_add, lacks_desk, reply_to};
+ghost use Rattle.dmc_book.specs.Calls.{LacksMemory, Ran, Strays, is_add, lacks_desk, reply_to};
 ghost use Rattle.dmc_book.specs.Later.{IsLater, IsReleased};
 ghost use Rattle.dmc_book.specs.Moves.{IsEnrolled, takes};
 ghost use Rattle.dmc_book.specs.Opening.{AreBookLimits, AreNamedOnce, IsNewDesk, new_passes, new_state};
@@ -180,7 +179,7 @@ impl<T: Tag, I: Indexes<T>, S: Setup> QueueBook<T, I, S> {
         ensures history_full { IsErrOf result RunFault.HistoryFull
             ↔ (IsEnrolled self.old.workers (pass_state pass.old) × (lacks_desk self.old.desks command ≡ false)
             × (length self.old.history ≡ self.old.most)) }
-        ensures memory { IsErrOf result RunFault.Memory → IsTrue (may_grow command) ⊎ HasNoPlace self.old }
+        ensures memory { IsErrOf result RunFault.Memory → LacksMemory T.ops self.old command }
     {
         self.hand_on(pass, command)
     }

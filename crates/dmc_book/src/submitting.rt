@@ -5,7 +5,7 @@ ghost use Rattle.dmc_ledger.specs.Moves.{tills_after_submit};
 ghost use Rattle.dmc_tag.specs.declared.reply.Reply.TheVariants as replies;
 ghost use Rattle.dmc_types.specs.declared.command.Command.TheVariants as commands;
 ghost use Rattle.dmc_book.specs.BookState.{pass_state};
-ghost use Rattle.dmc_book.specs.Calls.{IsForDesk, Ran, SubmitRefused};
+ghost use Rattle.dmc_book.specs.Calls.{IsForDesk, LacksMemory, Ran, SubmitRefused};
 ghost use Rattle.dmc_book.specs.Moves.{IsEnrolled};
 ghost use Rattle.dmc_book.specs.internal.Submits.{Submits};
 
@@ -52,6 +52,8 @@ impl<T: Tag, I: Indexes<T>, S: Setup> QueueBook<T, I, S> {
         ensures history_full { IsErrAnd result (λ fault. fault.cause ≡ SubmitCause.HistoryFull)
             ↔ (IsEnrolled self.old.workers (pass_state pass.old) × IsForDesk self.old.server self.old.desks stamp (stamp_holdings tills.old)
             × (self.old.closed ≡ false) × (length self.old.history ≡ self.old.most)) }
+        ensures memory { IsErrAnd result (λ fault. fault.cause ≡ SubmitCause.Memory)
+            → LacksMemory T.ops self.old (commands.Add (record { 0 = stamp.client }) token stamp.params at) }
     {
         match self.add(pass, tills, &stamp, token, at) {
             Ok(tags) => Ok(tags),

@@ -2,8 +2,10 @@
 use Rattle.std.proofs.Common.{◌≡◌, Bool, true, false, true≢false, List, [], Result, Ok, Err, refl, subst, sym}
 use Rattle.std.specs.Prelude.{ℕ, ◌==◌, ◌&&◌, not, length, IfErr, IfOk}
 use Rattle.std.specs.Cmp.{IsTotalOrder}
+use Rattle.dmc_types.specs.declared.ids.ClientId.{ClientId}
+use Rattle.dmc_types.specs.declared.config.PhaseType.{PhaseType}
 use Rattle.dmc_types.specs.declared.command.Command.{Command}
-use Rattle.dmc_types.specs.declared.command.Command.TheVariants.{Pull}
+use Rattle.dmc_types.specs.declared.command.Command.TheVariants.{Register, Update, Add, Pull, Remove, Clean}
 use Rattle.dmc_types.specs.declared.refusal.Refusal.TheVariants.{Range}
 use Rattle.dmc_tag.specs.Answers.{pull_reply}
 use Rattle.dmc_tag.specs.declared.reply.Pulled.{Pulled}
@@ -17,13 +19,13 @@ use Rattle.dmc_tag.proofs.ForCallers.{pull_grants}
 use Rattle.dmc_tag.specs.declared.reply.Reply.{Reply}
 use Rattle.dmc_tag.specs.declared.reply.Reply.TheVariants.{Nothing, Refused}
 use Rattle.dmc_book.specs.BookState.{BookState, PassState}
-use Rattle.dmc_book.specs.Calls.{Ran, SubmitRefused, WasPulled}
+use Rattle.dmc_book.specs.Calls.{Ran, Strays, SubmitRefused, WasPulled}
 use Rattle.dmc_book.specs.declared.fault.RunOrRange.{RunOrRange}
 use Rattle.dmc_book.specs.declared.fault.RunOrRange.TheVariants as pull
 use Rattle.dmc_book.specs.declared.fault.SubmitCause.{SubmitCause}
 use Rattle.dmc_book.specs.declared.fault.SubmitCause.TheVariants as submit
 use Rattle.dmc_book.specs.declared.fault.SubmitFault.{SubmitFault}
-use Rattle.dmc_qlock.specs.Calls.{Replied, PullReplied, SubmitReplied}
+use Rattle.dmc_qlock.specs.Calls.{Replied, PullReplied, SubmitReplied, is_pull}
 use Rattle.dmc_qlock.specs.internal.Calls.{must_wait}
 
 module _ {T : Type 0} (ops : Tagging T) (old new : BookState T) (before later : PassState) (command : Command) where
@@ -50,6 +52,15 @@ module _ {T : Type 0} (ops : Tagging T) (old new : BookState T) (before later : 
   pull_answered (Ok pulled) h = answered ops old new before later (Pull at) (pull_reply pulled) h
   pull_answered (Err pull.Range) h = answered ops old new before later (Pull at) (Refused Range) h
   pull_answered (Err (pull.Run fault)) h = (h.1, h.2)
+
+-- a grant that a pass can't take is one of a pull
+pub strays_if_pulled : {T : Type 0} (takes : ClientId → PhaseType → Bool) (command : Command) (reply : Reply T) → Strays takes command reply → is_pull command ≡ true
+strays_if_pulled takes (Register client info at) reply h = absurd h
+strays_if_pulled takes (Update client info at) reply h = absurd h
+strays_if_pulled takes (Add client token params at) reply h = absurd h
+strays_if_pulled takes (Pull at) reply h = refl
+strays_if_pulled takes (Remove client) reply h = absurd h
+strays_if_pulled takes (Clean at) reply h = absurd h
 
 -- with nothing queued, who need not wait finds the book closed
 closed_if : {X : Type 0} (closed : Bool) (queued : List X) → queued ≡ [] → ((length queued == 0) && not closed) ≡ false → closed ≡ true

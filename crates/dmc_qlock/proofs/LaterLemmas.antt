@@ -32,15 +32,16 @@ seen_kept f g (x ∷ xs) same = ap (λ z. z ∷ map f (map g xs)) (same x) ∙ a
 
 module _ {T : Type 0} where
   pub later_same : (b : BookState T) → IsLater b b
-  later_same b = record { config = refl; server = refl; first = refl; most = refl; workers = refl; desks = refl; rest = []; grown = sym (append-nil b.history) }
+  later_same b = record { config = refl; server = refl; number = refl; first = refl; most = refl; workers = refl; desks = refl; rest = []; grown = sym (append-nil b.history) }
 
   pub later_closed : (b : BookState T) (closed : Bool) → IsLater b (record b { closed = closed })
-  later_closed b closed = record { config = refl; server = refl; first = refl; most = refl; workers = refl; desks = refl; rest = []; grown = sym (append-nil b.history) }
+  later_closed b closed = record { config = refl; server = refl; number = refl; first = refl; most = refl; workers = refl; desks = refl; rest = []; grown = sym (append-nil b.history) }
 
   later_event : (e : Event T) (b : BookState T) → IsLater b (book_after e b)
   later_event e b = record {
     config = refl;
     server = refl;
+    number = refl;
     first = refl;
     most = refl;
     workers = seen_kept worker_numbers (worker_after e) b.workers (λ w. refl);
@@ -53,6 +54,7 @@ module _ {T : Type 0} where
   released_so b within goes_on = record {
     config = refl;
     server = refl;
+    number = refl;
     first = within;
     most = omega (arith, goes_on);
     workers = refl;
@@ -62,7 +64,7 @@ module _ {T : Type 0} where
   }
 
   released_same : (b : BookState T) → IsReleased b b
-  released_same b = record { config = refl; server = refl; first = omega arith; most = refl; workers = refl; desks = refl; history = refl; closed = refl }
+  released_same b = record { config = refl; server = refl; number = refl; first = omega arith; most = refl; workers = refl; desks = refl; history = refl; closed = refl }
 
   -- a rotation, which may return nothing
   pub released_if : {X : Type 0} (old new : BookState T) (segment : Option X) → IfSome segment (λ x. new ≡ after_rotating old)
@@ -74,6 +76,7 @@ module _ {T : Type 0} where
   later_anew b place = record {
     config = refl;
     server = refl;
+    number = refl;
     first = refl;
     most = refl;
     workers = seen_set worker_numbers b.workers place (renewed_worker (length b.history) (slice_index_or b.workers place no_worker)) no_worker refl;

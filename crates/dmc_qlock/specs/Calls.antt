@@ -2,7 +2,7 @@
 use Rattle.std.specs.Prelude.{◌≡◌, ℕ, Bool, true, false, List, map, Result, Ok, Err}
 use Rattle.dmc_types.specs.declared.command.Command.{Command}
 use Rattle.dmc_types.specs.declared.ids.WorkerId.{WorkerId}
-use Rattle.dmc_types.specs.declared.command.Command.TheVariants.{Register, Update, Add, Pull, Remove, Clean}
+use Rattle.dmc_types.specs.declared.command.Command.TheVariants.{Register, Pull}
 use Rattle.dmc_types.specs.declared.refusal.Refusal.TheVariants.{Range}
 use Rattle.dmc_tag.specs.Tag.{Tagging}
 use Rattle.dmc_tag.specs.State.{State}
@@ -33,11 +33,11 @@ pub record Replied {T : Type 0} (ops : Tagging T) (before later : PassState) (co
 
 abbrev pub registers : Command → Bool
 registers (Register client info at) = true
-registers (Update client info at) = false
-registers (Add client token params at) = false
-registers (Pull at) = false
-registers (Remove client) = false
-registers (Clean at) = false
+registers command = false
+
+abbrev pub is_pull : Command → Bool
+is_pull (Pull at) = true
+is_pull command = false
 
 -- a refusal of the queue is counted, and no other
 abbrev pub SubmitReplied : {T : Type 0} → Tagging T → PassState → PassState → Command → SubmitCause → Type 0

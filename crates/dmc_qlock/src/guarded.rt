@@ -11,7 +11,7 @@ ghost use Rattle.dmc_book.specs.Calls.{is_add};
 ghost use Rattle.dmc_book.specs.Joining.{IsUnused};
 ghost use Rattle.dmc_book.specs.Leaving.{HoldsNothing};
 ghost use Rattle.dmc_book.specs.Renewing.{renewed_pass};
-ghost use Rattle.dmc_qlock.specs.Calls.{Replied, IsExtended, IsNewPass, PullReplied, SubmitReplied, registers};
+ghost use Rattle.dmc_qlock.specs.Calls.{Replied, IsExtended, IsNewPass, PullReplied, SubmitReplied, is_pull, registers};
 ghost use Rattle.dmc_qlock.specs.internal.Calls.{must_wait};
 
 use crate::fault::RunOrRange;
@@ -103,6 +103,7 @@ impl<T: Tag, I: Indexes<T>, S: Setup, W: Witness<QueueBook<T, I, S>>> Guarded<
         requires { is_add command ≡ false }
         ensures answered { IfOk result (λ reply. Replied T.ops (pass_state pass.old) (pass_state pass.new) command reply) }
         ensures kept { OnErr result (pass_state pass.new ≡ pass_state pass.old) }
+        ensures behind { IsErrOf result RunFault.Behind → is_pull command ≡ true }
         ensures no_desk { IsErrOf result RunFault.NoDesk → registers command ≡ true }
     {
         self.book.run(pass, command)

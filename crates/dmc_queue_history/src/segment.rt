@@ -1,5 +1,5 @@
 //! Segments of a queue's history.
-ghost use Rattle.std.specs.Prelude.{◌≡◌, ◌≤◌, drop, length, take, IsTrue};
+ghost use Rattle.std.specs.Prelude.{◌≡◌, ◌↔◌, ◌≤◌, drop, length, take, IsTrue};
 ghost use Rattle.dmc_tag.specs.Replay.{replays};
 ghost use Rattle.dmc_shared.specs.Segmented.{max_released};
 
@@ -28,7 +28,7 @@ impl<T: Tag, S: Setup> Model for Segment<T, S> {
 
     ghost Value = { SegmentState T };
 
-    ghost view = { λ s. record { config = s.config; server = s.server.0; history = s.part.history; first = s.part.first } };
+    ghost view = { λ s. record { config = s.config; server = s.server.0; number = s.part.number; history = s.part.history; first = s.part.first } };
 
     ghost invariant = { λ s. replays T.ops s.config s.part.history };
 }
@@ -41,7 +41,7 @@ impl<T: Tag, S: Setup> Segment<T, S> {
         part: ListSegment<EventHistory<T>, S>,
     ) -> Segment<T, S>
         requires { replays T.ops config part.history }
-        ensures { result ≡ record { config = config; server = server.0; history = part.history; first = part.first } }
+        ensures { result ≡ record { config = config; server = server.0; number = part.number; history = part.history; first = part.first } }
     {
         Segment {
             config,
@@ -83,7 +83,8 @@ impl<T: Tag, S: Setup> Segment<T, S> {
     /// Whether the other segment is the next of the same history. If it is, what comes before the other is what this one
     /// ends.
     pub fn follows(&self, next: &Segment<T, S>) -> bool
-        ensures { IsTrue result → take next.now.first next.now.history ≡ self.now.history }
+        ensures exact { IsTrue result ↔ (self.now.number ≡ next.now.number) × (next.now.first ≡ length self.now.history) }
+        ensures before { IsTrue result → take next.now.first next.now.history ≡ self.now.history }
     {
         self.part.follows(&next.part)
     }

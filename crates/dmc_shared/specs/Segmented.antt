@@ -7,22 +7,24 @@ use Rattle.dmc_history.specs.Log.{Log}
 abbrev pub max_released : ℕ
 max_released = 2 ^ 62
 
--- All records, oldest first, released or not; how many of them were released; how many there may be until more are
--- released; and for how many more a place is reserved.
+-- The number of the list in its set-up; all records, oldest first, released or not; how many of them were released; how many
+-- there may be until more are released; and for how many more a place is reserved.
 pub record Segmented (E : Type 0) : Type 0 where
+  pub number : ℕ
   pub events : List E
   pub first : ℕ
   pub most : ℕ
   pub room : ℕ
 
--- A segment: the list up to the segment's end, and how many records of that were released before.
+-- A segment: the number of its list, the list up to the segment's end, and how many records of that were released before.
 pub record Ending (E : Type 0) : Type 0 where
+  pub number : ℕ
   pub history : List E
   pub first : ℕ
 
 -- the segment of all records that are kept
 abbrev pub ending_of : {E : Type 0} → Segmented E → Ending E
-ending_of h = record { history = h.events; first = h.first }
+ending_of h = record { number = h.number; history = h.events; first = h.first }
 
 -- A segment may be released: there are not too many records, and the list was not taken out.
 pub record MayRotate {E : Type 0} (h : Segmented E) : Type 0 where
@@ -31,7 +33,7 @@ pub record MayRotate {E : Type 0} (h : Segmented E) : Type 0 where
 
 -- all records are released, and as many as before may be kept
 abbrev pub after_rotating : {E : Type 0} → Segmented E → (kept : ℕ) → Segmented E
-after_rotating h kept = record { events = h.events; first = length h.events; most = length h.events + kept; room = 0 }
+after_rotating h kept = record { number = h.number; events = h.events; first = length h.events; most = length h.events + kept; room = 0 }
 
 -- ---- how it is kept
 

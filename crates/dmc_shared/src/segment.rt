@@ -1,5 +1,5 @@
 //! A segment of a list that only grows.
-ghost use Rattle.std.specs.Prelude.{◌≡◌, ◌≤◌, drop, length, take, IsTrue};
+ghost use Rattle.std.specs.Prelude.{◌≡◌, ◌↔◌, ◌≤◌, drop, length, take, IsTrue};
 ghost use Rattle.dmc_shared.specs.Segmented.{IsLast, events_of, max_released};
 
 use crate::kept::KeptList;
@@ -25,7 +25,7 @@ impl<L: KeptList, S: Setup> Model for ListSegment<L, S> {
 
     ghost Value = { Ending L.Record };
 
-    ghost view = { λ s. record { history = events_of L.log s.whole.list; first = s.first } };
+    ghost view = { λ s. record { number = s.number; history = events_of L.log s.whole.list; first = s.first } };
 
     ghost invariant = { λ s. (s.whole.number ≡ s.number) × IsLast L.log s.whole.list s.kept s.first × (s.first ≤ max_released) };
 }
@@ -37,7 +37,7 @@ impl<L: KeptList, S: Setup> ListSegment<L, S> {
         requires number { whole.number ≡ number }
         requires last { IsLast L.log whole.list kept first }
         requires few { first ≤ max_released }
-        ensures { result ≡ record { history = events_of L.log whole.list; first = first } }
+        ensures { result ≡ record { number = number; history = events_of L.log whole.list; first = first } }
     {
         ListSegment {
             number,
@@ -65,7 +65,8 @@ impl<L: KeptList, S: Setup> ListSegment<L, S> {
 
     /// Whether the other segment is the next of the same list. If it is, what comes before the other is what this one ends.
     pub fn follows(&self, next: &ListSegment<L, S>) -> bool
-        ensures { IsTrue result → take next.now.first next.now.history ≡ self.now.history }
+        ensures exact { IsTrue result ↔ (self.now.number ≡ next.now.number) × (next.now.first ≡ length self.now.history) }
+        ensures before { IsTrue result → take next.now.first next.now.history ≡ self.now.history }
     {
         if self.number != next.number {
             return false;

@@ -36,6 +36,7 @@ impl<L: KeptList, S: Setup> Model for SegmentedList<L, S> {
     ghost Value = { Segmented L.Record };
 
     ghost view = { λ h. record {
+      number = h.number;
       events = events_unless L.log h.taken h.released.list ++ (L.log h.kept).events;
       first = h.first;
       most = h.first + max_unless h.taken (L.log h.kept).most;
@@ -53,7 +54,7 @@ impl<L: KeptList, S: Setup> SegmentedList<L, S> {
         requires empty { (L.log kept).events ≡ [] }
         requires some { 0 < (L.log kept).most }
         requires limit { (L.log kept).most ≤ max_events }
-        ensures { result ≡ record { events = []; first = 0; most = (L.log kept).most; room = (L.log kept).room } }
+        ensures { result ≡ record { number = number; events = []; first = 0; most = (L.log kept).most; room = (L.log kept).room } }
     {
         SegmentedList {
             number,
@@ -113,6 +114,7 @@ impl<L: KeptList, S: Setup> SegmentedList<L, S> {
         L: Takes<P>,
         requires { 0 < self.old.room }
         ensures events { self.new.events ≡ self.old.events ++ L.taken next ∷ [] }
+        ensures number { self.new.number ≡ self.old.number }
         ensures first { self.new.first ≡ self.old.first }
         ensures most { self.new.most ≡ self.old.most }
         ensures used { self.new.room + 1 ≡ self.old.room }
@@ -142,7 +144,7 @@ impl<L: KeptList, S: Setup> SegmentedList<L, S> {
     pub fn take(&mut self) -> L
         ensures events { (L.log result).events ≡ drop self.old.first self.old.events }
         ensures few { length (L.log result).events ≤ max_events }
-        ensures taken { self.new ≡ record { events = []; first = 0; most = 0; room = 0 } }
+        ensures taken { self.new ≡ record { number = self.old.number; events = []; first = 0; most = 0; room = 0 } }
     {
         (self.taken, self.first) = (true, 0);
         self.kept.take_all()

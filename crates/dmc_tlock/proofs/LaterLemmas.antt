@@ -11,11 +11,12 @@ use Rattle.dmc_tlock.specs.Segments.{after_rotating}
 use Rattle.dmc_tlock.specs.Later.{IsLater, IsReleased}
 
 pub later_same : (b : BookState) → IsLater b b
-later_same b = record { client = refl; counting = refl; most = refl; first = refl; max_events = refl; desks = refl }
+later_same b = record { client = refl; number = refl; counting = refl; most = refl; first = refl; max_events = refl; desks = refl }
 
 pub later_stamp : (s : ServerId) (b : BookState) → IsLater b (book_after_stamp s b)
 later_stamp s b = record {
   client = refl;
+  number = refl;
   counting = refl;
   most = refl;
   first = refl;
@@ -24,11 +25,12 @@ later_stamp s b = record {
 }
 
 pub later_skip : (s : ServerId) (b : BookState) → IsLater b (book_after_skip s b)
-later_skip s b = record { client = refl; counting = refl; most = refl; first = refl; max_events = refl; desks = refl }
+later_skip s b = record { client = refl; number = refl; counting = refl; most = refl; first = refl; max_events = refl; desks = refl }
 
 pub later_response : (s : ServerId) (phase : PhaseType) (b : BookState) → IsLater b (book_after_response s phase b)
 later_response s Reservation b = record {
   client = refl;
+  number = refl;
   counting = refl;
   most = refl;
   first = refl;
@@ -37,6 +39,7 @@ later_response s Reservation b = record {
 }
 later_response s Priority b = record {
   client = refl;
+  number = refl;
   counting = refl;
   most = refl;
   first = refl;
@@ -45,7 +48,7 @@ later_response s Priority b = record {
 }
 
 pub released_same : (b : BookState) → IsReleased b b
-released_same b = record { client = refl; tracker = refl; events = refl; first = omega arith; max_events = refl; desks = refl }
+released_same b = record { client = refl; number = refl; tracker = refl; events = refl; first = omega arith; max_events = refl; desks = refl }
 
 pub released_rotated : (b : BookState) → b.first ≤ length b.events → IsReleased b (after_rotating b)
-released_rotated b within = record { client = refl; tracker = refl; events = refl; first = within; max_events = refl; desks = refl }
+released_rotated b within = record { client = refl; number = refl; tracker = refl; events = refl; first = within; max_events = refl; desks = refl }

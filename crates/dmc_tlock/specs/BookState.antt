@@ -7,11 +7,12 @@ use Rattle.dmc_ledger.specs.Accounts.{no_account, no_holding}
 use Rattle.dmc_ledger.specs.Bundles.{ServerSide, StampHoldings}
 use Rattle.dmc_shared.specs.Segmented.{Segmented}
 
--- the client, the numbers of its tracker, the list of its stamps, skips and responses, how many of them were released, how many
+-- the client, the numbers of its tracker, the number of its list in the set-up, the list of its stamps, skips and responses, how many of them were released, how many
 -- may be kept, and the desk of each server
 pub record BookState : Type 0 where
   pub client : ℕ
   pub tracker : Numbers
+  pub number : ℕ
   pub events : List TrackerEvent
   pub first : ℕ
   pub max_events : ℕ
@@ -22,6 +23,7 @@ abbrev pub state_of : ℕ → Numbers → Segmented TrackerEvent → List Server
 state_of client tracker list desks = record {
   client = client;
   tracker = tracker;
+  number = list.number;
   events = list.events;
   first = list.first;
   max_events = list.most - list.first;

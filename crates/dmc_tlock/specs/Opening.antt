@@ -1,12 +1,12 @@
 -- A tracker book that is made.
-use Rattle.std.specs.Prelude.{◌≡◌, ℕ, ◌<◌, ◌≤◌, List, [], None, length, map}
+use Rattle.std.specs.Prelude.{◌≡◌, ℕ, ◌<◌, ◌≤◌, List, [], None, length, map, slice_index_or}
 use Rattle.dmc_types.specs.Limits as limits
 use Rattle.dmc_types.specs.declared.ids.ServerId.{ServerId}
 use Rattle.dmc_types.specs.declared.config.Counting.{Counting}
 use Rattle.dmc_tracker.specs.Numbers.{AreLimits, new_numbers}
 use Rattle.dmc_ledger.specs.Bundles.{ServerSide, StampHoldings, new_server_side}
 use Rattle.dmc_ledger.specs.Moves.{books_after_opening, new_tills}
-use Rattle.dmc_tlock.specs.BookState.{BookState, desk_at}
+use Rattle.dmc_tlock.specs.BookState.{BookState, desk_at, no_side}
 
 -- the desks are a client's for the servers 0, 1, .., as `open_pair` gave them
 abbrev pub AreNew : ℕ → List ServerSide → Type 0
@@ -25,11 +25,16 @@ side_after_opening desk = record desk { books = books_after_opening desk.books; 
 abbrev pub new_pass : List ServerSide → List StampHoldings
 new_pass desks = map (λ desk. new_tills desk.books) desks
 
--- a book of an empty list, with a server for each desk
+-- the number of the first desk's list, which is that of its book of stamps
+abbrev pub list_number : List ServerSide → ℕ
+list_number desks = (slice_index_or desks 0 no_side).books.stamps.number
+
+-- a book of an empty list, with a server for each desk; its list is that of the first
 abbrev pub new_book_state : ℕ → Counting → ℕ → ℕ → List ServerSide → BookState
 new_book_state client counting most max_events desks = record {
   client = client;
   tracker = new_numbers counting most (length desks);
+  number = list_number desks;
   events = [];
   first = 0;
   max_events = max_events;

@@ -27,6 +27,7 @@ pub(crate) fn record_stamp<S: Setup>(
     ensures params { result ≡ next_params tracker.old server }
     ensures tracker { tracker.new ≡ after_stamp server tracker.old }
     ensures events { list.new.events ≡ list.old.events ++ TrackerEvent.Stamp server (next_params tracker.old server) ∷ [] }
+    ensures number { list.new.number ≡ list.old.number }
     ensures first { list.new.first ≡ list.old.first }
     ensures most { list.new.most ≡ list.old.most }
 {
@@ -45,6 +46,7 @@ pub(crate) fn record_skip<S: Setup>(
     requires place { 0 < list.old.room }
     ensures tracker { tracker.new ≡ after_skip server tracker.old }
     ensures events { list.new.events ≡ list.old.events ++ TrackerEvent.Skip server ∷ [] }
+    ensures number { list.new.number ≡ list.old.number }
     ensures first { list.new.first ≡ list.old.first }
     ensures most { list.new.most ≡ list.old.most }
 {
@@ -66,6 +68,7 @@ pub(crate) fn record_response<S: Setup>(
     requires place { 0 < list.old.room }
     ensures tracker { tracker.new ≡ after_response server phase tracker.old }
     ensures events { list.new.events ≡ list.old.events ++ TrackerEvent.Response server phase ∷ [] }
+    ensures number { list.new.number ≡ list.old.number }
     ensures first { list.new.first ≡ list.old.first }
     ensures most { list.new.most ≡ list.old.most }
 {

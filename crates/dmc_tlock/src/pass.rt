@@ -5,7 +5,7 @@ ghost use Rattle.dmc_ledger.specs.Bundles.{stamp_holdings, stamp_accounts, serve
 ghost use Rattle.dmc_ledger.specs.Moves.{books_after_opening, new_tills};
 ghost use Rattle.dmc_ledger.specs.contracts.bundle.StampTills.{the_row as tills_row};
 ghost use Rattle.dmc_tlock.specs.BookState.{no_side, tills_at};
-ghost use Rattle.dmc_tlock.specs.Opening.{side_after_opening, new_pass};
+ghost use Rattle.dmc_tlock.specs.Opening.{list_number, new_pass, side_after_opening};
 ghost use Rattle.dmc_tlock.specs.internal.Opening.{HasList, IsOneTill};
 ghost use Rattle.dmc_tlock.specs.contracts.pass.ClientPass.{the_row};
 
@@ -92,6 +92,7 @@ fn open_pass<S: Setup>(desks: &mut [ServerDesk<S>], tills: &mut Vec<StampTills<S
 /// Takes the list of a desk, with its number.
 fn take_list<S: Setup>(desk: &mut ServerDesk<S>) -> (u32, BlankList<S>)
     requires { HasList (server_side desk.old) }
+    ensures is { result.0 ≡ (server_side desk.old).books.stamps.number }
     ensures number { result.1.number ≡ result.0 }
     ensures desk { server_side desk.new ≡ record (server_side desk.old) { list = None } }
 {
@@ -112,6 +113,7 @@ pub(crate) fn open_desks<S: Setup>(
     requires one { (k : ℕ) → k < length desks.old → IsOneTill (slice_index_or (map server_side desks.old) k no_side).books }
     requires empty { length tills.old.items ≡ 0 }
     requires room { length desks.old ≤ vec_capacity tills.old }
+    ensures is { result.0 ≡ list_number (map server_side desks.old) }
     ensures number { result.1.number ≡ result.0 }
     ensures desks { map server_side desks.new ≡ map side_after_opening (map server_side desks.old) }
     ensures tills { map stamp_holdings tills.new.items ≡ new_pass (map server_side desks.old) }

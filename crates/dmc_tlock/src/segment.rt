@@ -1,5 +1,5 @@
 //! Segments of a tracker's list.
-ghost use Rattle.std.specs.Prelude.{◌≡◌, ◌≤◌, drop, length, take, IsTrue};
+ghost use Rattle.std.specs.Prelude.{◌≡◌, ◌↔◌, ◌≤◌, drop, length, take, IsTrue};
 ghost use Rattle.dmc_tracker.specs.TrackerList.{IsTracked};
 ghost use Rattle.dmc_shared.specs.Segmented.{max_released};
 
@@ -28,7 +28,7 @@ impl<S: Setup> Model for TrackerSegment<S> {
 
     ghost Value = { TrackerSegmentState };
 
-    ghost view = { λ s. record { client = s.client.0; counting = s.counting; history = s.part.history; first = s.part.first } };
+    ghost view = { λ s. record { client = s.client.0; counting = s.counting; number = s.part.number; history = s.part.history; first = s.part.first } };
 
     ghost invariant = { λ s. IsTracked s.counting s.part.history };
 }
@@ -41,7 +41,7 @@ impl<S: Setup> TrackerSegment<S> {
         part: ListSegment<History<TrackerEvent>, S>,
     ) -> TrackerSegment<S>
         requires { IsTracked counting part.history }
-        ensures { result ≡ record { client = client.0; counting = counting; history = part.history; first = part.first } }
+        ensures { result ≡ record { client = client.0; counting = counting; number = part.number; history = part.history; first = part.first } }
     {
         TrackerSegment {
             client,
@@ -82,7 +82,8 @@ impl<S: Setup> TrackerSegment<S> {
 
     /// Whether the other segment is the next of the same list. If it is, what comes before the other is what this one ends.
     pub fn follows(&self, next: &TrackerSegment<S>) -> bool
-        ensures { IsTrue result → take next.now.first next.now.history ≡ self.now.history }
+        ensures exact { IsTrue result ↔ (self.now.number ≡ next.now.number) × (next.now.first ≡ length self.now.history) }
+        ensures before { IsTrue result → take next.now.first next.now.history ≡ self.now.history }
     {
         self.part.follows(&next.part)
     }

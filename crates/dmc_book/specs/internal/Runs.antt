@@ -1,13 +1,12 @@
 -- What a command that is no Add does.
-use Rattle.std.specs.Prelude.{◌≡◌, ◌<◌, ◌⊎◌, true, false, length, IsTrue, Result, Ok, Err}
+use Rattle.std.specs.Prelude.{◌≡◌, ◌<◌, true, false, length, Result, Ok, Err}
 use Rattle.dmc_types.specs.declared.command.Command.{Command}
 use Rattle.dmc_tag.specs.Tag.{Tagging}
-use Rattle.dmc_tag.specs.Steps.{may_grow}
 use Rattle.dmc_tag.specs.declared.reply.Reply.{Reply}
 use Rattle.dmc_book.specs.declared.fault.RunFault.{RunFault}
 use Rattle.dmc_book.specs.declared.fault.RunFault.TheVariants as run
 use Rattle.dmc_book.specs.BookState.{BookState, PassState}
-use Rattle.dmc_book.specs.Calls.{HasNoPlace, Ran, Strays, lacks_desk, reply_to}
+use Rattle.dmc_book.specs.Calls.{LacksMemory, Ran, Strays, lacks_desk, reply_to}
 use Rattle.dmc_book.specs.Moves.{IsEnrolled, takes}
 
 module _ {T : Type 0} (ops : Tagging T) (old : BookState T) (before : PassState) (command : Command) where
@@ -35,4 +34,4 @@ module _ {T : Type 0} (ops : Tagging T) (old : BookState T) (before : PassState)
       × IsEnrolled old.workers before × (lacks_desk old.desks command ≡ false) × IsFull
   Runs new later (Err run.Memory) = (new ≡ old) × (later ≡ before)
       × IsEnrolled old.workers before × (lacks_desk old.desks command ≡ false) × (IsFull → ⊥)
-      × (IsTrue (may_grow command) ⊎ HasNoPlace old)
+      × LacksMemory ops old command

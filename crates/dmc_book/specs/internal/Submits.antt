@@ -10,7 +10,7 @@ use Rattle.dmc_ledger.specs.Moves.{tills_after_submit}
 use Rattle.dmc_book.specs.declared.fault.SubmitCause.{SubmitCause}
 use Rattle.dmc_book.specs.declared.fault.SubmitCause.TheVariants as submit
 use Rattle.dmc_book.specs.BookState.{BookState, PassState, WorkerSide, no_desk}
-use Rattle.dmc_book.specs.Calls.{AreAlike, IsForDesk, Ran, SubmitRefused}
+use Rattle.dmc_book.specs.Calls.{AreAlike, IsForDesk, LacksMemory, Ran, SubmitRefused}
 use Rattle.dmc_book.specs.Moves.{IsEnrolled, desk_place}
 
 -- the desk at a place takes the stamp; or the pass is of no worker here, or the stamp for no desk
@@ -26,12 +26,12 @@ module _ {T : Type 0} (b : BookState T) (p : PassState) (stamp : StampValue) (ti
   IsAsked = IsEnrolled b.workers p × IsForDesk b.server b.desks stamp tills × (b.closed ≡ false) × (length b.history ≡ b.most → ⊥)
 
   -- what holds if a submit is refused for a cause
-  abbrev pub HasCause : SubmitCause → Type 0
-  HasCause submit.Stranger = IsEnrolled b.workers p × IsForDesk b.server b.desks stamp tills → ⊥
-  HasCause submit.Closed = IsEnrolled b.workers p × IsForDesk b.server b.desks stamp tills × (b.closed ≡ true)
-  HasCause submit.HistoryFull = IsEnrolled b.workers p × IsForDesk b.server b.desks stamp tills × (b.closed ≡ false) × (length b.history ≡ b.most)
-  HasCause submit.Memory = IsAsked
-  HasCause (submit.Refused refusal) = IsAsked
+  abbrev pub HasCause : Tagging T → Token → ℕ → SubmitCause → Type 0
+  HasCause ops token at submit.Stranger = IsEnrolled b.workers p × IsForDesk b.server b.desks stamp tills → ⊥
+  HasCause ops token at submit.Closed = IsEnrolled b.workers p × IsForDesk b.server b.desks stamp tills × (b.closed ≡ true)
+  HasCause ops token at submit.HistoryFull = IsEnrolled b.workers p × IsForDesk b.server b.desks stamp tills × (b.closed ≡ false) × (length b.history ≡ b.most)
+  HasCause ops token at submit.Memory = IsAsked × LacksMemory ops b (Add (record { 0 = stamp.client }) token stamp.params at)
+  HasCause ops token at (submit.Refused refusal) = IsAsked
 
 -- the request is queued, and its stamp taken from the tills; or it is refused for a cause, and the tills are as they were
 abbrev pub Submits : {T : Type 0} → Tagging T → BookState T → BookState T → PassState → PassState → StampValue → StampHoldings → StampHoldings → Token → ℕ → Result (Tags T) SubmitCause → Type 0
@@ -40,4 +40,4 @@ Submits ops old new before later stamp tills left token at (Ok tags) =
     × (left ≡ tills_after_submit stamp.params tills) × IsAsked old before stamp tills
 Submits ops old new before later stamp tills left token at (Err cause) =
     SubmitRefused ops old new before later (Add (record { 0 = stamp.client }) token stamp.params at) cause
-    × (left ≡ tills) × HasCause old before stamp tills cause
+    × (left ≡ tills) × HasCause old before stamp tills ops token at cause

@@ -16,12 +16,13 @@ abbrev pub no_setting : Setting
 no_setting = record { hz = 0; idle_age = 0; erase_age = 0; at_limit = Wait }
 
 abbrev pub no_book : {T : Type 0} → BookState T
-no_book = record { config = no_setting; server = 0; history = []; first = 0; most = 0; workers = []; desks = []; closed = false }
+no_book = record { config = no_setting; server = 0; number = 0; history = []; first = 0; most = 0; workers = []; desks = []; closed = false }
 
 abbrev pub no_tracker : tracker_book.BookState
 no_tracker = record {
   client = 0;
   tracker = record { counting = All; most = 0; completions = no_counts; servers = [] };
+  number = 0;
   events = [];
   first = 0;
   max_events = 0;

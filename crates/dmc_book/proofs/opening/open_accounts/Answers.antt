@@ -1,4 +1,4 @@
-use Rattle.std.proofs.Common.{◌≡◌, List, length, map, drop, sym, subst, ap, ◌∙◌}
+use Rattle.std.proofs.Common.{◌≡◌, ◌+◌, ◌*◌, List, length, map, drop, sym, subst, ap, ◌∙◌}
 use Rattle.std.specs.List.{AllByRecursion}
 use Rattle.dmc_ledger.specs.Bundles.{ClientSide, client_side}
 use Rattle.dmc_ledger.specs.declared.desk.ClientDesk.{ClientDesk}
@@ -26,7 +26,8 @@ invariant_of-accounts g c =
     let as_many : length new ≡ length items = as_many_desks n new items opened in
     let back = lent_back new (drop (length new) items) c.args.desks.len (as_many ∙ sym c.args.desks.ok.0) in
     let seats = c.open_workers.ensures.seats ∙ ap (λ (xs : List (ClientDesk g.row.S.Denot)). new_workers (length (map f xs)) c.args.mint.now.opened c.args.workers.now) same in
-    rw (back, opened, seats, c.new.ensures, c.requires.no_room) (
+    let number : c.in-Ok.number ≡ c.args.mint.now.opened + 5 * n = c.in-Ok.ensures.list.0 ∙ c.open_workers.ensures.opened in
+    rw (back, opened, seats, c.new.ensures, number, c.requires.no_room) (
       consistent_new c.args.server.0 c.args.parts.history.most c.args.mint.now.opened c.args.workers.now start c.requires.new c.requires.once c.requires.limit c.requires.few,
       c.requires.clients ∙ sym (names_stay n new items opened),
     )

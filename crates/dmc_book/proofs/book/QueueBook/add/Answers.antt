@@ -1,6 +1,9 @@
-use Rattle.std.proofs.Common.{◌≡◌, ap, refl, subst, sym, Some, Ok, Err}
+use Rattle.std.proofs.Common.{◌≡◌, ap, refl, subst, sym, None, Some, Ok, Err, inl}
+use Rattle.std.specs.Prelude.{IsOk}
 use Rattle.dmc_types.specs.declared.command.Command.{Command}
 use Rattle.dmc_types.specs.declared.command.Command.TheVariants.{Add}
+use Rattle.dmc_tag.specs.State.{State}
+use Rattle.dmc_tag.specs.Step.{outcome}
 use Rattle.dmc_tag.specs.Steps.{Steps}
 use Rattle.dmc_tag.specs.declared.reply.Reply.TheVariants.{Refused, Tagged}
 use Rattle.dmc_pull.specs.Queue as queue
@@ -10,7 +13,7 @@ use Rattle.dmc_book.specs.Calls.{Ran, event_of}
 use Rattle.dmc_book.specs.Consistent.{IsReplayed}
 use Rattle.dmc_book.specs.internal.Submits.{Submits}
 use Rattle.dmc_book.specs.declared.fault.SubmitCause.TheVariants as submit
-use Rattle.dmc_book.proofs.Counting.{book_recorded, history_recorded, replayed_memory, replayed_more, reply_after}
+use Rattle.dmc_book.proofs.Counting.{book_recorded, book_reserved, history_recorded, replayed_memory, replayed_more, reply_after}
 use Rattle.dmc_book.proofs.SubmitLemmas.{asked_at}
 use Rattle.dmc_book.proofs.book.QueueBook.add.Goals as goal
 
@@ -84,3 +87,20 @@ returns-in-Refused g c =
     } in
     subst (λ (a : BookState g.row.T.Denot). Submits g.T.Tag.ops a new before later c.args.stamp.now tills tills c.args.token c.args.at (Err (submit.Refused c.in-Refused.refusal))) c.self.view_is
     (subst (λ (d : Command). Ran g.T.Tag.ops b new before later d reply) same ran, refl, asked_at b before c.args.stamp.now tills c.in-Some.desk c.in-Some.ensures c.if-self.false c.in_ok-reserve.ensures.fewer)
+
+pub returns-in-Memory : goal.returns-in-Memory
+returns-in-Memory g c =
+    let here = c.self.inside in
+    let q = queue.state_of here.queue.0 in
+    let p = queue.state_of c.ask_to_add.new.queue in
+    let before = pass_state c.args.pass.now in
+    let tills = stamp_holdings c.args.tills.now in
+    let command : Command = Add (record { 0 = c.args.stamp.now.client }) c.args.token c.args.stamp.now.params c.args.at in
+    let same : Add c.client-client.result c.args.token c.params-params.result c.args.at ≡ command = rw (c.client-client.ensures, c.params-params.ensures) refl in
+    let steps = subst (λ (a : Command). Steps g.T.Tag.ops q p a None) same c.in-Memory.ensures in
+    let b : BookState g.row.T.Denot = state_of here.config here.accounts here.closed in
+    let r : BookState g.row.T.Denot = state_of here.config c.reserve.new.self here.closed in
+    let kept : r ≡ b = book_reserved here.config here.closed here.accounts c.reserve.new.self c.reserve.ensures.kept in
+    let accepted = subst (λ (s : State g.row.T.Denot). IsOk (outcome g.T.Tag.ops s command)) c.self.invariant.state steps.1 in
+    subst (λ (a : BookState g.row.T.Denot). Submits g.T.Tag.ops a r before before c.args.stamp.now tills tills c.args.token c.args.at (Err submit.Memory)) c.self.view_is
+    ((kept, refl), refl, (asked_at b before c.args.stamp.now tills c.in-Some.desk c.in-Some.ensures c.if-self.false c.in_ok-reserve.ensures.fewer, inl (steps.0, accepted)))

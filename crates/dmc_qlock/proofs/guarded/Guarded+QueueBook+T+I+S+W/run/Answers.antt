@@ -1,4 +1,4 @@
-use Rattle.dmc_qlock.proofs.Answering.{ok_answered}
+use Rattle.dmc_qlock.proofs.Answering.{ok_answered, strays_if_pulled}
 use Rattle.dmc_qlock.proofs.LaterLemmas.{later_run}
 use Rattle.dmc_qlock.proofs.guarded.Guarded+QueueBook+T+I+S+W.run.Goals as goal
 
@@ -9,3 +9,6 @@ invariant_of-self g c =
 
 pub returns-clause-answered : goal.returns-clause-answered
 returns-clause-answered g c = ok_answered g.T.Tag.ops _ _ _ _ _ (λ reply. reply) c.run.result c.run.ensures.ran
+
+pub returns-clause-behind : goal.returns-clause-behind
+returns-clause-behind g c is = strays_if_pulled _ c.args.command _ (c.run.ensures.behind is).2

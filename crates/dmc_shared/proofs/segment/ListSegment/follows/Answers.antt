@@ -3,8 +3,8 @@ use Rattle.std.proofs.Common.{◌≡◌, ◌+◌, length, rules}
 use Rattle.dmc_shared.proofs.SegmentLemmas.{is_next}
 use Rattle.dmc_shared.proofs.segment.ListSegment.follows.Goals as goal
 
-pub returns-then-next-self : goal.returns-then-next-self
-returns-then-next-self g c same =
+pub returns-then-next-self-clause-before : goal.returns-then-next-self-clause-before
+returns-then-next-self-clause-before g c same =
     let one = c.self.inside in
     let two = c.next.inside in
     let log = g.L.KeptList.log in

@@ -3,7 +3,7 @@ use Rattle.std.proofs.lemmas.List.{length-map}
 use Rattle.dmc_tracker.specs.Numbers.{Numbers, new_numbers, RepresentsEvents}
 use Rattle.dmc_ledger.specs.Bundles.{ServerSide, server_side}
 use Rattle.dmc_ledger.specs.declared.desk.ServerDesk.{ServerDesk}
-use Rattle.dmc_tlock.specs.Opening.{side_after_opening}
+use Rattle.dmc_tlock.specs.Opening.{list_number, side_after_opening}
 use Rattle.dmc_tlock.proofs.OpeningLemmas.{has_list, one_till, IsConsistent-new}
 use Rattle.dmc_tlock.proofs.book.TrackerBook.new.Goals as goal
 use Rattle.dmc_lemmas.proofs.Lists.{lent_back}
@@ -38,7 +38,9 @@ invariant_of-book g c =
     c.in-Ok.ensures.tracker.0 ∙ ap (new_numbers c.args.counting c.args.most) servers in
     let represents = subst (λ (t : Numbers). RepresentsEvents t []) numbers c.in-Ok.ensures.tracker.1 in
     let none : c.args.max_events - 0 ≡ c.args.max_events = omega arith in
-    rw (back, opened, numbers, c.new.ensures, c.in-Ok.ensures.history.1, none) (
+    let number : c.open_desks-number.result.0 ≡ list_number start =
+    c.open_desks-number.ensures.is ∙ ap (λ (xs : List (ServerDesk g.row.S.Denot)). list_number (map f xs)) same in
+    rw (back, opened, numbers, c.new.ensures, number, c.in-Ok.ensures.history.1, none) (
       IsConsistent-new c.args.client.0 c.args.counting c.args.most c.args.max_events start c.requires represents c.in-Ok.ensures.limits.some_events c.in-Ok.ensures.limits.events_limit,
       c.in-Ok.ensures.held ∙ servers ∙ length-map items f ∙ sym as_many,
     )

@@ -14,7 +14,7 @@ returns-clause-book g c =
     let desks = desks-set (side_after_response c.args.phase) here.desks.items c.args.server c.in_ok-index.index
     c.index_mut.result.now c.take_unit.new.desk c.in_ok-index.ensures.place within c.index_mut.ensures.value
     c.take_unit.ensures.desk in
-    rw (← c.self.view_is, c.record_response.ensures.tracker, c.record_response.ensures.events, c.record_response.ensures.first, c.record_response.ensures.most, c.in_ok-reserve_one.ensures.kept, desks) refl
+    rw (← c.self.view_is, c.record_response.ensures.tracker, c.record_response.ensures.number, c.record_response.ensures.events, c.record_response.ensures.first, c.record_response.ensures.most, c.in_ok-reserve_one.ensures.kept, desks) refl
 
 pub invariant_of-self-2 : goal.invariant_of-self-2
 invariant_of-self-2 g c =

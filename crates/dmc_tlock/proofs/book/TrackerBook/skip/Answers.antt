@@ -7,7 +7,7 @@ use Rattle.dmc_tlock.proofs.book.TrackerBook.skip.Goals as goal
 
 pub returns-clause-book : goal.returns-clause-book
 returns-clause-book g c =
-    rw (← c.self.view_is, c.record_skip.ensures.tracker, c.record_skip.ensures.events, c.record_skip.ensures.first, c.record_skip.ensures.most, c.in_ok-reserve_one.ensures.kept) refl
+    rw (← c.self.view_is, c.record_skip.ensures.tracker, c.record_skip.ensures.number, c.record_skip.ensures.events, c.record_skip.ensures.first, c.record_skip.ensures.most, c.in_ok-reserve_one.ensures.kept) refl
 
 pub invariant_of-self-2 : goal.invariant_of-self-2
 invariant_of-self-2 g c =

@@ -37,7 +37,7 @@ returns-clause-book g c =
     let desks = desks-set (side_after_stamp (next_params here.tracker c.args.server)) here.desks.items c.args.server c.in_ok-index.index
     c.index_mut.result.now c.issue_stamp.new.desk c.in_ok-index.ensures.place within c.index_mut.ensures.value
     (c.issue_stamp.ensures.desk ∙ ap (λ (p : Params). side_after_stamp p (server_side c.index_mut.result.now)) c.record_stamp-params.ensures.params) in
-    rw (← c.self.view_is, c.record_stamp-params.ensures.tracker, c.record_stamp-params.ensures.events, c.record_stamp-params.ensures.first, c.record_stamp-params.ensures.most, c.in_ok-reserve_one.ensures.kept, desks) refl
+    rw (← c.self.view_is, c.record_stamp-params.ensures.tracker, c.record_stamp-params.ensures.number, c.record_stamp-params.ensures.events, c.record_stamp-params.ensures.first, c.record_stamp-params.ensures.most, c.in_ok-reserve_one.ensures.kept, desks) refl
 
 pub invariant_of-self-2 : goal.invariant_of-self-2
 invariant_of-self-2 g c =

@@ -1,5 +1,5 @@
 -- What the threads of a run left, and how the run ends by it.
-use Rattle.std.proofs.Common.{◌≡◌, ◌≤◌, List, Option, Result, Ok, Err, length, refl, sym, subst, inl, inr, arith}
+use Rattle.std.proofs.Common.{◌≡◌, ◌≤◌, List, Option, Result, Ok, Err, length, sym, subst, inl, inr, arith}
 use Rattle.std.specs.Prelude.{All}
 use Rattle.dmc_tag.specs.Tag.{Tagging}
 use Rattle.dmc_tracker.specs.TrackerList.{completions}
@@ -11,7 +11,7 @@ use Rattle.dmc_driver_threads.specs.Opened.{IsOpenedBook, IsOpenedTracker}
 use Rattle.dmc_settle.specs.Left.{Left}
 use Rattle.dmc_settle.specs.declared.report.StopCause.{StopCause}
 use Rattle.dmc_settle.specs.declared.report.ClusterReport.{ClusterReport}
-use Rattle.dmc_driver.specs.Ending.{AreOpened, AreWithin, EndsWith, IsReportOfLeft, IsRunReport, Reports, Settles}
+use Rattle.dmc_driver.specs.Ending.{AreWithin, EndsWith, IsReportOfLeft, IsRunReport, Reports, Settles}
 use Rattle.dmc_driver.specs.Stops.{AreExplained}
 use Rattle.dmc_driver.specs.declared.fault.DriveFault.{DriveFault}
 use Rattle.dmc_driver.specs.declared.fault.DriveFault.TheVariants.{Memory, Torn, TurnsOut, Stopped}
@@ -33,17 +33,16 @@ reported ops scene limits left ends r given its ended =
     subst (IsRunReport ops scene limits) (sym ended.0) (record { left = left; of_left = its; stops = (ends, ended.1) })
 
 by_report : {T : Type 0} (ops : Tagging T) (scene : SceneValue) (limits : LimitsValue) (left : Left T) (ends : List (List (Option StopCause))) (r : ClusterReport T)
-    (result : Result (ClusterReport T) (DriveFault T)) → AreOpened scene limits left → IsReportOfLeft ops scene limits left r → EndsWith scene ends r result
-    → Reports ops scene limits result
-by_report ops scene limits left ends r (Ok given) opened its ended = reported ops scene limits left ends r given its ended
-by_report ops scene limits left ends r (Err Memory) opened its ended = absurd ended
-by_report ops scene limits left ends r (Err Torn) opened its ended = record { left = left; ends = ends; opened = opened; torn = inr (r, its, ended) }
-by_report ops scene limits left ends r (Err (TurnsOut given)) opened its ended = reported ops scene limits left ends r given its ended
-by_report ops scene limits left ends r (Err (Stopped given)) opened its ended = reported ops scene limits left ends r given its ended
+    (result : Result (ClusterReport T) (DriveFault T)) → IsReportOfLeft ops scene limits left r → EndsWith scene ends r result → Reports ops scene limits result
+by_report ops scene limits left ends r (Ok given) its ended = reported ops scene limits left ends r given its ended
+by_report ops scene limits left ends r (Err Memory) its ended = tt
+by_report ops scene limits left ends r (Err Torn) its ended = tt
+by_report ops scene limits left ends r (Err (TurnsOut given)) its ended = reported ops scene limits left ends r given its ended
+by_report ops scene limits left ends r (Err (Stopped given)) its ended = reported ops scene limits left ends r given its ended
 
 pub reports : {T : Type 0} (ops : Tagging T) (scene : SceneValue) (limits : LimitsValue) (left : Left T) (ends : List (List (Option StopCause)))
-    (result : Result (ClusterReport T) (DriveFault T)) → AreOpened scene limits left → Settles ops scene limits left ends result → Reports ops scene limits result
-reports ops scene limits left ends result opened settled = elim settled [
-  | inl apart ↦ subst (Reports ops scene limits) (sym apart.1) (record { left = left; ends = ends; opened = opened; torn = inl (apart.0, refl) })
-  | inr its ↦ by_report ops scene limits left ends its.0 result opened its.1 its.2
+    (result : Result (ClusterReport T) (DriveFault T)) → Settles ops scene limits left ends result → Reports ops scene limits result
+reports ops scene limits left ends result settled = elim settled [
+  | inl apart ↦ subst (Reports ops scene limits) (sym apart.1) tt
+  | inr its ↦ by_report ops scene limits left ends its.0 result its.1 its.2
 ]

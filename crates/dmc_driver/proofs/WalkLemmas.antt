@@ -1,18 +1,19 @@
 -- The walks over a history and over stops: one step more, and the end.
-use Rattle.std.proofs.Common.{◌≡◌, ◌↔◌, ℕ, zero, suc, ◌+◌, ◌<◌, ◌≤◌, ◌==◌, ◌&&◌, Bool, true, false, List, [], ◌∷◌, ◌++◌, Option, Some, map, take, drop, get_or, length, slice_get, refl, sym, ap, ◌∙◌, subst, inl, inr, arith, eq-eqb}
+use Rattle.std.proofs.Common.{◌≡◌, ◌↔◌, ℕ, zero, suc, ◌+◌, ◌<◌, ◌≤◌, ◌==◌, ◌&&◌, Bool, true, false, if◌then◌else◌, is_some, List, [], ◌∷◌, ◌++◌, Option, None, Some, map, take, drop, get_or, length, slice_get, refl, sym, ap, ◌∙◌, subst, inl, inr, arith, eq-eqb}
 use Rattle.std.proofs.lemmas.Bool.{cases_lt, eqb-true}
 use Rattle.std.specs.Global.{Vec}
 use Rattle.std.specs.Option.{option_and_then, option_map}
 use Rattle.std.proofs.lemmas.List.{append-nil, append_assoc, append_cancel_left, length-append, length-map, length-take-le, map-append, nil_from_length, take-append-drop, take-take, take_all, take_more}
 use Rattle.std.proofs.lemmas.Option.{get_or_from_slice_get, none-some, same_Some, slice_get-map, slice_get_cases, slice_get_within}
 use Rattle.dmc_tag.specs.declared.event.Event.{Event}
-use Rattle.dmc_book.specs.Counts.{count, is_miss, one_if}
+use Rattle.dmc_tag.specs.declared.reply.Reply.{Reply}
+use Rattle.dmc_book.specs.Counts.{count, grant_in, one_if}
 use Rattle.dmc_scene.specs.SceneValue.{SceneValue}
 use Rattle.dmc_settle.specs.declared.report.StopCause.{StopCause}
 use Rattle.dmc_settle.specs.declared.report.ClusterReport.{ClusterReport}
-use Rattle.dmc_driver.specs.Stops.{AreExplained, AreServerStops, causes, ends_of, first_refused, listed, refused}
+use Rattle.dmc_driver.specs.Stops.{AreExplained, AreServerStops, calls_in, causes, ends_of, first_refused, is_nothing, is_of, listed, refusals_in, refused, refused_of}
 use Rattle.dmc_driver.specs.declared.stops.Calls.{Calls}
-use Rattle.dmc_driver.specs.internal.Walks.{AreClientEnds, AreStopsOfServers, calls_in, refused_at, with_event}
+use Rattle.dmc_driver.specs.internal.Walks.{AreClientEnds, AreStopsOfServers, refused_at, with_event, with_refused, with_reply}
 
 -- a list up to a place, with the item there
 taken : {X : Type 0} (xs : List X) (i : ℕ) (x : X) → slice_get xs i ≡ Some x → take (i + 1) xs ≡ take i xs ++ x ∷ []
@@ -28,17 +29,50 @@ count_more : {T : Type 0} (adds : Event T → ℕ) (es : List (Event T)) (e : Ev
 count_more adds [] e = omega arith
 count_more adds (x ∷ es) e = let rest = count_more adds es e in omega (arith, rest)
 
+causes_append : (xs ys : List (Option StopCause)) → causes (xs ++ ys) ≡ causes xs ++ causes ys
+causes_append [] ys = refl
+causes_append (x ∷ xs) ys = ap (λ zs. listed x ++ zs) (causes_append xs ys) ∙ sym (append_assoc (listed x) (causes xs) (causes ys))
+
+causes_more : (ends : List (Option StopCause)) (end : Option StopCause) → causes (ends ++ end ∷ []) ≡ causes ends ++ listed end
+causes_more ends end = causes_append ends (end ∷ []) ∙ ap (λ ys. causes ends ++ ys) (append-nil (listed end))
+
+refusals_more : (seen : List StopCause) (cause : Option StopCause) → with_refused (refusals_in seen) cause ≡ refusals_in (seen ++ listed cause)
+refusals_more [] None = refl
+refusals_more [] (Some c) = refl
+refusals_more (x ∷ []) None = refl
+refusals_more (x ∷ []) (Some c) = refl
+refusals_more (x ∷ y ∷ more) None = refl
+refusals_more (x ∷ y ∷ more) (Some c) = refl
+
+-- one event more, of this worker or of another
+event_more : {T : Type 0} (its : Bool) (replies grants nothings : ℕ) (seen : List StopCause) (reply : Reply T) → let calls : Calls = record { replies = replies; grants = grants; nothings = nothings; refused = refusals_in seen } in
+    (if its then with_reply calls reply else calls) ≡ record {
+      replies = replies + one_if its;
+      grants = grants + one_if (its && is_some (grant_in reply));
+      nothings = nothings + one_if (its && is_nothing reply);
+      refused = refusals_in (seen ++ listed (if its then refused reply else None));
+    }
+event_more true replies grants nothings seen reply = rw (refusals_more seen (refused reply)) refl
+event_more false replies grants nothings seen reply =
+    let no_reply : replies + 0 ≡ replies = omega arith in
+    let no_grant : grants + 0 ≡ grants = omega arith in
+    let no_nothing : nothings + 0 ≡ nothings = omega arith in
+    rw (no_reply, no_grant, no_nothing, append-nil seen) refl
+
 pub calls_more : {T : Type 0} (worker : ℕ) (events : List (Event T)) (i : ℕ) (calls : Calls) → calls ≡ calls_in worker (take i events)
     → with_event worker calls (slice_get events i) ≡ calls_in worker (take (i + 1) events)
 calls_more {T} worker events i calls h =
-    let make : ℕ → ℕ → Calls = (λ pulls misses. record { pulls = pulls; misses = misses }) in
-    let its : Event T → ℕ = (λ e. one_if (e.worker.0 == worker)) in
-    let missed : Event T → ℕ = (λ e. one_if ((e.worker.0 == worker) && is_miss e.reply)) in
+    let its : Event T → ℕ = (λ e. one_if (is_of worker e)) in
+    let granted : Event T → ℕ = (λ e. one_if (is_of worker e && is_some (grant_in e.reply))) in
+    let found : Event T → ℕ = (λ e. one_if (is_of worker e && is_nothing e.reply)) in
+    let f : Event T → Option StopCause = (λ e. if is_of worker e then refused e.reply else None) in
     let es = take i events in
     elim (slice_get_cases events i).1 [
-      | inl p ↦ ap (with_event worker calls) p.2 ∙ ap (λ (c : Calls). with_event worker c (Some p.0)) h
-          ∙ ap (λ n. make n (count missed es + missed p.0)) (sym (count_more its es p.0))
-          ∙ ap (make (count its (es ++ p.0 ∷ []))) (sym (count_more missed es p.0))
+      | inl p ↦
+          let all : refused_of worker (es ++ p.0 ∷ []) ≡ refused_of worker es ++ listed (f p.0) = ap causes (map-append f es (p.0 ∷ [])) ∙ causes_more (map f es) (f p.0) in
+          ap (with_event worker calls) p.2 ∙ ap (λ (c : Calls). with_event worker c (Some p.0)) h
+          ∙ event_more (is_of worker p.0) (count its es) (count granted es) (count found es) (refused_of worker es) p.0.reply
+          ∙ rw (count_more its es p.0, count_more granted es p.0, count_more found es p.0, all) refl
           ∙ ap (calls_in worker) (sym (taken events i p.0 p.2))
       | inr p ↦ ap (with_event worker calls) p.1 ∙ h ∙ ap (calls_in worker) (sym (all_taken events i p.0))
     ]
@@ -53,23 +87,18 @@ count_few p [] = omega arith
 count_few p (x ∷ es) = let rest = count_few p es in let one = one_if_few (p x) in omega (arith, rest, one)
 
 pub few_calls : {T : Type 0} (worker : ℕ) (events : List (Event T)) (i : ℕ) (calls : Calls) → i ≤ length events
-    → calls ≡ calls_in worker (take i events) → (calls.pulls ≤ i) × (calls.misses ≤ i)
+    → calls ≡ calls_in worker (take i events) → (calls.replies ≤ i) × (calls.grants ≤ i) × (calls.nothings ≤ i)
 few_calls {T} worker events i calls within h =
     let long = length-take-le i events within in
-    let pulls = count_few (λ (e : Event T). e.worker.0 == worker) (take i events) in
-    let misses = count_few (λ (e : Event T). (e.worker.0 == worker) && is_miss e.reply) (take i events) in
-    let pulls_are = ap (λ (c : Calls). c.pulls) h in
-    let misses_are = ap (λ (c : Calls). c.misses) h in
-    (omega (arith, long, pulls, pulls_are), omega (arith, long, misses, misses_are))
+    let replies = count_few (λ (e : Event T). is_of worker e) (take i events) in
+    let grants = count_few (λ (e : Event T). is_of worker e && is_some (grant_in e.reply)) (take i events) in
+    let nothings = count_few (λ (e : Event T). is_of worker e && is_nothing e.reply) (take i events) in
+    let replies_are = ap (λ (c : Calls). c.replies) h in
+    let grants_are = ap (λ (c : Calls). c.grants) h in
+    let nothings_are = ap (λ (c : Calls). c.nothings) h in
+    (omega (arith, long, replies, replies_are), omega (arith, long, grants, grants_are), omega (arith, long, nothings, nothings_are))
 
 -- ---- stops
-
-causes_append : (xs ys : List (Option StopCause)) → causes (xs ++ ys) ≡ causes xs ++ causes ys
-causes_append [] ys = refl
-causes_append (x ∷ xs) ys = ap (λ zs. listed x ++ zs) (causes_append xs ys) ∙ sym (append_assoc (listed x) (causes xs) (causes ys))
-
-causes_more : (ends : List (Option StopCause)) (end : Option StopCause) → causes (ends ++ end ∷ []) ≡ causes ends ++ listed end
-causes_more ends end = causes_append ends (end ∷ []) ∙ ap (λ ys. causes ends ++ ys) (append-nil (listed end))
 
 -- what was refused of one command more, and of all commands after some
 pub refused_more : {T : Type 0} (events : List (Event T)) (i : ℕ) → first_refused (i + 1) events ≡ first_refused i events ++ listed (refused_at i events)

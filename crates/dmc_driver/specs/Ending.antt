@@ -1,11 +1,15 @@
 -- What is promised of a run, however it ends.
 use Rattle.std.specs.Prelude.{◌≡◌, ◌≤◌, ◌⊎◌, ⊤, List, Option, Result, Ok, Err, length, All}
+use Rattle.std.specs.List.{AllByRecursion}
 use Rattle.dmc_types.specs.Limits.{max_events, max_run_completions}
 use Rattle.dmc_tag.specs.Tag.{Tagging}
 use Rattle.dmc_tracker.specs.TrackerList.{completions}
+use Rattle.dmc_tlock.specs.Consistent.{IsConsistent}
+use Rattle.dmc_book.specs.BookState.{BookState}
+use Rattle.dmc_book.specs.Consistent.{AreDesks, HasLeft, IsWorker}
 use Rattle.dmc_scene.specs.SceneValue.{SceneValue}
 use Rattle.dmc_driver_threads.specs.LimitsValue.{LimitsValue}
-use Rattle.dmc_driver_threads.specs.Opened.{IsOpenedBook, IsOpenedTracker, IsRegistered}
+use Rattle.dmc_driver_threads.specs.Opened.{IsRegistered}
 use Rattle.dmc_settle.specs.Circle.{AreCircles}
 use Rattle.dmc_settle.specs.Left.{AreTogether, Left}
 use Rattle.dmc_settle.specs.Reports.{IsReport, IsReportOf}
@@ -31,13 +35,21 @@ pub record AreWithin {T : Type 0} (limits : LimitsValue) (left : Left T) : Type 
 abbrev pub AreRegistered : {T : Type 0} → SceneValue → Left T → Type 0
 AreRegistered scene left = All (λ book. IsRegistered scene.clients book.history) left.books
 
+-- a server's workers and desks count its history
+pub record IsCounted {T : Type 0} (book : BookState T) : Type 0 where
+  pub workers : AllByRecursion (λ w. IsWorker book.history w ⊎ HasLeft book.history w) book.workers
+  pub desks : AreDesks book.history book.server book.workers book.desks
+
 -- The parts are those of one cluster, set up as the scene says, and their circles hold. Each server's history begins with the
--- registrations of the scene's clients, with their rates. All are within the limits.
+-- registrations of the scene's clients, with their rates. All are within the limits. The books count what happened: those of a
+-- server its history, and those of a tracker its list.
 pub record IsRun {T : Type 0} (scene : SceneValue) (limits : LimitsValue) (left : Left T) : Type 0 where
   pub together : AreTogether scene left
   pub circles : AreCircles left
   pub registered : AreRegistered scene left
   pub within : AreWithin limits left
+  pub counted : All IsCounted left.books
+  pub consistent : All IsConsistent left.trackers
 
 -- ---- the report
 
@@ -72,26 +84,12 @@ Settles {T} ops scene limits left ends result =
 
 -- ---- what a run returns
 
--- What was left is as a run of the scene opens it: as many books and trackers as it has servers and clients, each with what it was
--- opened with.
-pub record AreOpened {T : Type 0} (scene : SceneValue) (limits : LimitsValue) (left : Left T) : Type 0 where
-  pub books : All (IsOpenedBook scene limits) left.books
-  pub as_many_books : length left.books ≡ scene.servers
-  pub trackers : All (IsOpenedTracker scene limits) left.trackers
-  pub as_many_trackers : length left.trackers ≡ length scene.clients
-
--- Settling what was left is torn. It is not in the result, so this says that there is something of this kind, and no more.
-pub record IsTorn {T : Type 0} (ops : Tagging T) (scene : SceneValue) (limits : LimitsValue) : Type 0 where
-  pub left : Left T
-  pub ends : List (List (Option StopCause))
-  pub opened : AreOpened scene limits left
-  pub torn : Settles ops scene limits left ends (Err Torn)
-
--- A report is the one of what the threads left, and Torn has a cause. Of Memory nothing is said.
+-- A report is the one of what the threads left. Of Memory and Torn nothing is said: `Settles` says when settling is torn, and
+-- what was left is not in this result.
 abbrev pub Reports : {T : Type 0} → Tagging T → SceneValue → LimitsValue → Result (ClusterReport T) (DriveFault T) → Type 0
 Reports ops scene limits (Ok r) = IsRunReport ops scene limits r
 Reports ops scene limits (Err Memory) = ⊤
-Reports ops scene limits (Err Torn) = IsTorn ops scene limits
+Reports ops scene limits (Err Torn) = ⊤
 Reports ops scene limits (Err (TurnsOut r)) = IsRunReport ops scene limits r
 Reports ops scene limits (Err (Stopped r)) = IsRunReport ops scene limits r
 

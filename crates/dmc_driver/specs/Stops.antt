@@ -1,55 +1,33 @@
 -- Why the threads of a run stopped, by what the servers' histories have of them.
-use Rattle.std.specs.Prelude.{◌≡◌, ℕ, ◌+◌, ◌*◌, ◌<◌, ◌≤◌, ◌==◌, ◌&&◌, List, [], ◌∷◌, ◌++◌, Option, Some, None, length, map, slice_get, take}
+use Rattle.std.specs.Prelude.{◌≡◌, ℕ, ◌+◌, ◌*◌, ◌<◌, ◌≤◌, ◌==◌, ◌&&◌, Bool, true, false, is_some, if◌then◌else◌, List, [], ◌∷◌, ◌++◌, Option, Some, None, length, map, slice_get, take}
 use Rattle.std.specs.Global.{Vec}
 use Rattle.dmc_tag.specs.declared.event.Event.{Event}
 use Rattle.dmc_tag.specs.declared.reply.Reply.{Reply}
 use Rattle.dmc_tag.specs.declared.reply.Reply.TheVariants as reply
-use Rattle.dmc_book.specs.Counts.{count, is_miss, one_if}
+use Rattle.dmc_book.specs.Counts.{count, grant_in, one_if}
 use Rattle.dmc_scene.specs.SceneValue.{SceneValue, ClientValue}
 use Rattle.dmc_settle.specs.declared.report.StopCause.{StopCause}
 use Rattle.dmc_settle.specs.declared.report.StopCause.TheVariants.{Turns, Rung, Refused, HistoryFull, TrackFull, Memory, Spawn, Stray}
 use Rattle.dmc_settle.specs.declared.report.ClientReport.{ClientReport}
 use Rattle.dmc_settle.specs.declared.report.ServerReport.{ServerReport}
 use Rattle.dmc_settle.specs.declared.report.ClusterReport.{ClusterReport}
+use Rattle.dmc_driver.specs.declared.stops.Calls.{Calls}
+use Rattle.dmc_driver.specs.declared.stops.Refusals.{Refusals}
+use Rattle.dmc_driver.specs.declared.stops.Refusals.TheVariants as refusals
 
 -- ---- what a history has of a worker
 
--- how many of its calls got a reply, and how many of them Later, Nothing or a refusal
-abbrev pub calls_of : {T : Type 0} → ℕ → List (Event T) → ℕ
-calls_of worker events = count (λ e. one_if (e.worker.0 == worker)) events
+abbrev pub is_of : {T : Type 0} → ℕ → Event T → Bool
+is_of worker e = e.worker.0 == worker
 
-abbrev pub misses_of : {T : Type 0} → ℕ → List (Event T) → ℕ
-misses_of worker events = count (λ e. one_if ((e.worker.0 == worker) && is_miss e.reply)) events
+abbrev pub is_nothing : {T : Type 0} → Reply T → Bool
+is_nothing reply.Nothing = true
+is_nothing other = false
 
--- the number of a server's own worker: the clients' workers come first, then those of server 0, 1, ..
-abbrev pub own_worker : SceneValue → ℕ → ℕ → ℕ
-own_worker scene server place = length scene.clients + server * scene.workers + place
-
--- ---- a server's worker
-
--- Why it stopped, by its calls, which are pulls, and its misses. It took its last turn: it pulled as often as it may. Its thread
--- was not started: it never pulled. A tracker counts no further: it pulled before. A server's worker is not rung.
-abbrev pub IsServerStop : ℕ → ℕ → ℕ → StopCause → Type 0
-IsServerStop most pulls misses Turns = pulls ≡ most
-IsServerStop most pulls misses Rung = ⊥
-IsServerStop most pulls misses (Refused refusal) = (pulls ≤ most) × (0 < misses)
-IsServerStop most pulls misses HistoryFull = pulls ≤ most
-IsServerStop most pulls misses TrackFull = (pulls ≤ most) × (0 < pulls)
-IsServerStop most pulls misses Memory = pulls ≤ most
-IsServerStop most pulls misses Spawn = pulls ≡ 0
-IsServerStop most pulls misses Stray = ⊥
-
--- if it did not stop, some pull found nothing, and it did not pull more often than it may
-abbrev pub IsServerEnd : ℕ → ℕ → ℕ → Option StopCause → Type 0
-IsServerEnd most pulls misses None = (pulls ≤ most) × (0 < misses)
-IsServerEnd most pulls misses (Some cause) = IsServerStop most pulls misses cause
-
--- the own worker of a server at a place, by the server's history
-abbrev pub IsEndAt : {T : Type 0} → SceneValue → ℕ → List (Event T) → ℕ → Option StopCause → Type 0
-IsEndAt scene server events place end =
-    IsServerEnd scene.max_pulls (calls_of (own_worker scene server place) events) (misses_of (own_worker scene server place) events) end
-
--- ---- the stops of a server
+-- what was refused, as the cause of a stop
+abbrev pub refused : {T : Type 0} → Reply T → Option StopCause
+refused (reply.Refused refusal) = Some (Refused refusal)
+refused other = None
 
 abbrev pub listed : Option StopCause → List StopCause
 listed None = []
@@ -60,17 +38,59 @@ abbrev pub causes : List (Option StopCause) → List StopCause
 causes [] = []
 causes (end ∷ ends) = listed end ++ causes ends
 
--- what was refused, as the cause of a stop
-abbrev pub refused : {T : Type 0} → Reply T → Option StopCause
-refused reply.Registered = None
-refused reply.Updated = None
-refused (reply.Tagged tags) = None
-refused (reply.Granted client token phase beyond) = None
-refused (reply.Later m) = None
-refused reply.Nothing = None
-refused (reply.Removed count) = None
-refused (reply.Cleaned idled erased) = None
-refused (reply.Refused refusal) = Some (Refused refusal)
+-- what was refused of a worker's calls, in order
+abbrev pub refused_of : {T : Type 0} → ℕ → List (Event T) → List StopCause
+refused_of {T} worker events = causes (map (λ (e : Event T). if is_of worker e then refused e.reply else None) events)
+
+abbrev pub refusals_in : List StopCause → Refusals
+refusals_in [] = refusals.None
+refusals_in (cause ∷ []) = refusals.One cause
+refusals_in (cause ∷ other ∷ more) = refusals.Several
+
+-- how many of a worker's calls got a reply, how many of them a grant, and how many Nothing; and what was refused of them
+abbrev pub calls_in : {T : Type 0} → ℕ → List (Event T) → Calls
+calls_in worker events = record {
+  replies = count (λ e. one_if (is_of worker e)) events;
+  grants = count (λ e. one_if (is_of worker e && is_some (grant_in e.reply))) events;
+  nothings = count (λ e. one_if (is_of worker e && is_nothing e.reply)) events;
+  refused = refusals_in (refused_of worker events);
+}
+
+-- the number of a server's own worker: the clients' workers come first, then those of server 0, 1, ..
+abbrev pub own_worker : SceneValue → ℕ → ℕ → ℕ
+own_worker scene server place = length scene.clients + server * scene.workers + place
+
+-- ---- a server's worker
+
+-- no call of it found nothing or was refused
+pub record GoesOn (calls : Calls) : Type 0 where
+  pub nothings : calls.nothings ≡ 0
+  pub refused : calls.refused ≡ refusals.None
+
+-- Why it stopped, by the replies to its calls, which are pulls: the first Nothing and the first refusal end it. It took its last
+-- turn: it pulled as often as it may. A tracker counts no further: a pull of it was granted. Its thread was not started: it never
+-- pulled. A server's worker is not rung.
+abbrev pub IsServerStop : ℕ → Calls → StopCause → Type 0
+IsServerStop most calls Turns = (calls.replies ≡ most) × GoesOn calls
+IsServerStop most calls Rung = ⊥
+IsServerStop most calls (Refused refusal) = (calls.replies ≤ most) × (calls.nothings ≡ 0) × (calls.refused ≡ refusals.One (Refused refusal))
+IsServerStop most calls HistoryFull = (calls.replies ≤ most) × GoesOn calls
+IsServerStop most calls TrackFull = (calls.replies ≤ most) × (0 < calls.grants) × GoesOn calls
+IsServerStop most calls Memory = (calls.replies ≤ most) × GoesOn calls
+IsServerStop most calls Spawn = calls.replies ≡ 0
+IsServerStop most calls Stray = ⊥
+
+-- If it did not stop, one pull found nothing, none was refused, and it did not pull more often than it may.
+abbrev pub IsServerEnd : ℕ → Calls → Option StopCause → Type 0
+IsServerEnd most calls None = (calls.replies ≤ most) × (calls.nothings ≡ 1) × (calls.refused ≡ refusals.None)
+IsServerEnd most calls (Some cause) = IsServerStop most calls cause
+
+-- the own worker of a server at a place, by the server's history
+abbrev pub IsEndAt : {T : Type 0} → SceneValue → ℕ → List (Event T) → ℕ → Option StopCause → Type 0
+IsEndAt scene server events place end =
+    IsServerEnd scene.max_pulls (calls_in (own_worker scene server place) events) end
+
+-- ---- the stops of a server
 
 -- what was refused of the first commands
 abbrev pub first_refused : {T : Type 0} → ℕ → List (Event T) → List StopCause

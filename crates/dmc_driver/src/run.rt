@@ -9,7 +9,7 @@ ghost use Rattle.dmc_driver.specs.Stops.{ends_of};
 
 use crate::ending::end;
 use crate::fault::DriveFault;
-use crate::within::{count_within, keep_to_most};
+use crate::within::{count_histories, count_within, keep_consistent, keep_to_most};
 use dmc_book::book::QueueBook;
 use dmc_driver_threads::limits::Limits;
 use dmc_driver_threads::moments::Moments;
@@ -38,8 +38,8 @@ use std::thread::Threads;
 /// nothing is left, and no worker stopped; otherwise see `DriveFault`. An allocation failure in a thread is a stop in the
 /// report.
 ///
-/// If it is `Torn`, `settle_run` is, whose contract says exactly when; neither opening nor a limit is a reason. That it never
-/// is, is not proved: a contract does not follow a value through a lock, so it cannot say which book a thread finds behind one.
+/// If it is `Torn`, `settle_run` is, whose contract says exactly when; neither opening nor a limit is a reason. That no run is
+/// torn is tested, not proved.
 pub fn run_cluster<T, R, V, M>(
     rt: &R,
     alloc: Global,
@@ -149,6 +149,8 @@ pub fn settle_run<T: Tag, I: Indexes<T>, S: Setup>(
     } = remains;
     keep_to_most(&books);
     count_within(&trackers);
+    count_histories(&books);
+    keep_consistent(&trackers);
     match settle_cluster(alloc, scene, &mut books, trackers, passes, report, room) {
         Ok(report) => end(scene, report, &ends),
         Err(_) => Err(DriveFault::Torn),

@@ -1,8 +1,8 @@
 //! Whether the stops of a run are those that the servers' histories explain.
-ghost use Rattle.std.specs.Prelude.{◌≡◌, ◌+◌, ◌<◌, ◌≤◌, ◌^◌, ◌++◌, ◌&&◌, ◌==◌, ◌↔◌, IsTrue, length};
-ghost use Rattle.dmc_book.specs.Counts.{is_miss};
-ghost use Rattle.dmc_driver.specs.Stops.{AreExplained, AreServerStops, IsClientEnd, IsEndAt, IsServerEnd, IsServerStop, causes, ends_of, first_refused, listed, own_worker, refused};
-ghost use Rattle.dmc_driver.specs.internal.Walks.{AreClientEnds, AreEnds, AreStopsOfServers, IsRestAfter, calls_in, refused_at, with_event};
+ghost use Rattle.std.specs.Prelude.{◌≡◌, ◌+◌, ◌<◌, ◌^◌, ◌++◌, ◌↔◌, IsTrue, is_some, length};
+ghost use Rattle.dmc_book.specs.Counts.{grant_in};
+ghost use Rattle.dmc_driver.specs.Stops.{AreExplained, AreServerStops, GoesOn, IsClientEnd, IsEndAt, IsServerEnd, IsServerStop, calls_in, causes, ends_of, first_refused, is_nothing, listed, own_worker, refused};
+ghost use Rattle.dmc_driver.specs.internal.Walks.{AreClientEnds, AreEnds, AreStopsOfServers, IsRestAfter, refused_at, with_event, with_refused};
 
 use dmc_queue_history::history::EventHistory;
 use dmc_scene::client::SceneClient;
@@ -12,39 +12,74 @@ use dmc_tag::event::Event;
 use dmc_tag::reply::Reply;
 use dmc_tag::tag::Tag;
 
-/// How many calls of a worker got a reply, and how many of them Later, Nothing or a refusal.
+/// What was refused of a worker's calls: nothing, one of them, or several.
+#[derive(Clone, Copy, PartialEq, Eq)]
+pub(crate) enum Refusals {
+    None,
+    One(StopCause),
+    Several,
+}
+
+/// How many calls of a worker got a reply, how many of them a grant, and how many Nothing; and what was refused of them.
 #[derive(Clone, Copy)]
 pub(crate) struct Calls {
-    pulls: u64,
-    misses: u64,
+    replies: u64,
+    grants: u64,
+    nothings: u64,
+    refused: Refusals,
 }
 
-fn is_miss<T: Tag>(reply: Reply<T>) -> bool
-    ensures { result ≡ is_miss reply }
+fn is_grant<T: Tag>(reply: Reply<T>) -> bool
+    ensures { result ≡ is_some (grant_in reply) }
 {
-    matches!(reply, Reply::Later(_) | Reply::Nothing | Reply::Refused(_))
+    matches!(reply, Reply::Granted { .. })
 }
 
-/// Whether the event is a miss of the worker.
-fn is_miss_of<T: Tag>(worker: u64, event: Event<T>) -> bool
-    ensures { result ≡ ((event.worker.0 == worker) && is_miss event.reply) }
+fn is_nothing<T: Tag>(reply: Reply<T>) -> bool
+    ensures { result ≡ is_nothing reply }
 {
-    u64::from(event.worker.0) == worker && is_miss(event.reply)
+    matches!(reply, Reply::Nothing)
+}
+
+/// What a reply refused, as the cause of a stop.
+fn refused<T: Tag>(reply: Reply<T>) -> Option<StopCause>
+    ensures { result ≡ refused reply }
+{
+    match reply {
+        Reply::Refused(refusal) => Some(StopCause::Refused(refusal)),
+        _ => None,
+    }
+}
+
+/// With what was refused of one call more, if it was.
+fn with_refused(refused: Refusals, cause: Option<StopCause>) -> Refusals
+    ensures { result ≡ with_refused refused cause }
+{
+    match (refused, cause) {
+        (refused, None) => refused,
+        (Refusals::None, Some(cause)) => Refusals::One(cause),
+        (_, Some(_)) => Refusals::Several,
+    }
 }
 
 /// A worker's calls with those of one event more, if there is one.
 fn add_event<T: Tag>(worker: u64, calls: Calls, event: Option<Event<T>>) -> Calls
-    requires pulls { calls.pulls + 1 < 2 ^ 64 }
-    requires misses { calls.misses + 1 < 2 ^ 64 }
+    requires replies { calls.replies + 1 < 2 ^ 64 }
+    requires grants { calls.grants + 1 < 2 ^ 64 }
+    requires nothings { calls.nothings + 1 < 2 ^ 64 }
     ensures { result ≡ with_event worker calls event }
 {
     let Some(event) = event else {
         return calls;
     };
-    let its = u64::from(event.worker.0) == worker;
+    if u64::from(event.worker.0) != worker {
+        return calls;
+    }
     Calls {
-        pulls: calls.pulls + u64::from(its),
-        misses: calls.misses + u64::from(is_miss_of(worker, event)),
+        replies: calls.replies + 1,
+        grants: calls.grants + u64::from(is_grant(event.reply)),
+        nothings: calls.nothings + u64::from(is_nothing(event.reply)),
+        refused: with_refused(calls.refused, refused(event.reply)),
     }
 }
 
@@ -53,8 +88,10 @@ fn count_calls<T: Tag>(worker: u64, history: &EventHistory<T>) -> Calls
     ensures { result ≡ calls_in worker history.now.events }
 {
     let mut calls = Calls {
-        pulls: 0,
-        misses: 0,
+        replies: 0,
+        grants: 0,
+        nothings: 0,
+        refused: Refusals::None,
     };
     for i in 0..history.len() {
         calls = add_event(worker, calls, history.at(i));
@@ -62,27 +99,40 @@ fn count_calls<T: Tag>(worker: u64, history: &EventHistory<T>) -> Calls
     calls
 }
 
+/// Whether no call of a worker found nothing or was refused.
+fn goes_on(calls: Calls) -> bool
+    ensures { IsTrue result ↔ GoesOn calls }
+{
+    calls.nothings == 0 && calls.refused == Refusals::None
+}
+
 /// Whether a server's worker of these calls stopped for this cause.
 fn is_server_stop(most: u32, calls: Calls, cause: StopCause) -> bool
-    ensures { IsTrue result ↔ IsServerStop most calls.pulls calls.misses cause }
+    ensures { IsTrue result ↔ IsServerStop most calls cause }
 {
     let most = u64::from(most);
     match cause {
-        StopCause::Turns => calls.pulls == most,
-        StopCause::Refused(_) => calls.pulls <= most && calls.misses > 0,
-        StopCause::HistoryFull | StopCause::Memory => calls.pulls <= most,
-        StopCause::TrackFull => calls.pulls <= most && calls.pulls > 0,
-        StopCause::Spawn => calls.pulls == 0,
+        StopCause::Turns => calls.replies == most && goes_on(calls),
+        StopCause::Refused(_) => {
+            calls.replies <= most && calls.nothings == 0 && calls.refused == Refusals::One(cause)
+        }
+        StopCause::HistoryFull | StopCause::Memory => calls.replies <= most && goes_on(calls),
+        StopCause::TrackFull => calls.replies <= most && calls.grants > 0 && goes_on(calls),
+        StopCause::Spawn => calls.replies == 0,
         StopCause::Rung | StopCause::Stray => false,
     }
 }
 
 /// Whether a server's worker of these calls ended so.
 fn is_server_end(most: u32, calls: Calls, end: Option<StopCause>) -> bool
-    ensures { IsTrue result ↔ IsServerEnd most calls.pulls calls.misses end }
+    ensures { IsTrue result ↔ IsServerEnd most calls end }
 {
     match end {
-        None => calls.pulls <= u64::from(most) && calls.misses > 0,
+        None => {
+            calls.replies <= u64::from(most)
+                && calls.nothings == 1
+                && calls.refused == Refusals::None
+        }
         Some(cause) => is_server_stop(most, calls, cause),
     }
 }
@@ -131,16 +181,6 @@ fn are_ends<T: Tag>(
         }
     }
     true
-}
-
-/// What a reply refused, as the cause of a stop.
-fn refused<T: Tag>(reply: Reply<T>) -> Option<StopCause>
-    ensures { result ≡ refused reply }
-{
-    match reply {
-        Reply::Refused(refusal) => Some(StopCause::Refused(refusal)),
-        _ => None,
-    }
 }
 
 /// What was refused at a place of a history, if it was.

@@ -43,6 +43,6 @@ written_stopped ops scene r old new (Err Stopped) is why written = (r, written.1
 pub written_fault : {T : Type 0} (ops : Tagging T) (scene : SceneValue) (f : DriveFault T) (old new : Option (List ℕ)) (end : Result ⊤ RunSceneFault)
     → Reports ops scene widest (Err f) → EndsSo scene (Err f) → WritesFaultReport ops scene.config f old new end → RunsOn ops scene old new end
 written_fault ops scene drive.Memory old new end is why written = subst (RunsOn ops scene old new) (sym written.0) written.1
-written_fault ops scene drive.Torn old new end is why written = subst (RunsOn ops scene old new) (sym written.0) (is, written.1)
+written_fault ops scene drive.Torn old new end is why written = subst (RunsOn ops scene old new) (sym written.0) written.1
 written_fault ops scene (drive.TurnsOut r) old new end is why written = written_turns_out ops scene r old new end is why written
 written_fault ops scene (drive.Stopped r) old new end is why written = written_stopped ops scene r old new end is why written

@@ -14,7 +14,7 @@ use Rattle.dmc_check.specs.declared.check.Verdict.{Verdict}
 use Rattle.dmc_scene.specs.SceneValue.{SceneValue}
 use Rattle.dmc_settle.specs.declared.report.ClusterReport.{ClusterReport}
 use Rattle.dmc_driver.specs.Done.{IsDone, RanOut}
-use Rattle.dmc_driver.specs.Ending.{IsRunReport, IsTorn, widest}
+use Rattle.dmc_driver.specs.Ending.{IsRunReport, widest}
 use Rattle.dmc_tool.specs.ReportTexts.{report_text}
 use Rattle.dmc_tool.specs.Verdicts.{AreVerdicts}
 use Rattle.dmc_tool.specs.declared.run_scene.RunSceneFault.{RunSceneFault}
@@ -39,7 +39,7 @@ RunsOn ops scene old new (Err TurnsOut) = Reported ops scene old new (λ r. (IsD
 RunsOn ops scene old new (Err Stopped) = Reported ops scene old new (λ r. (IsDone scene r → ⊥) × (RanOut r → ⊥))
 RunsOn {T} ops scene old new (Err Write) = (r : ClusterReport T) × (text : List ℕ) × IsRunReport ops scene widest r × IsTextOf ops scene.config r text × AppendsSome old new text
 RunsOn ops scene old new (Err Memory) = Keeps old new
-RunsOn ops scene old new (Err Torn) = IsTorn ops scene widest × Keeps old new
+RunsOn ops scene old new (Err Torn) = Keeps old new
 
 abbrev pub RunsIn : TagKind → SceneValue → (old new : Option (List ℕ)) → Result ⊤ RunSceneFault → Type 0
 RunsIn Tick scene old new end = RunsOn tick_ops scene old new end

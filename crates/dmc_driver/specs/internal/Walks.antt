@@ -1,30 +1,42 @@
 -- What the walks over a history and over stops have found so far.
-use Rattle.std.specs.Prelude.{◌≡◌, ℕ, ◌+◌, ◌==◌, ◌&&◌, List, ◌++◌, Option, Some, None, length, slice_get}
+use Rattle.std.specs.Prelude.{◌≡◌, ℕ, ◌+◌, if◌then◌else◌, is_some, List, ◌++◌, Option, Some, None, length, slice_get}
 use Rattle.std.specs.Borrow.{Bor}
 use Rattle.std.specs.Global.{Vec}
 use Rattle.std.specs.Option.{option_and_then}
 use Rattle.dmc_tag.specs.declared.event.Event.{Event}
-use Rattle.dmc_book.specs.Counts.{is_miss, one_if}
+use Rattle.dmc_tag.specs.declared.reply.Reply.{Reply}
+use Rattle.dmc_book.specs.Counts.{grant_in, one_if}
 use Rattle.dmc_scene.specs.SceneValue.{SceneValue, ClientValue}
 use Rattle.dmc_settle.specs.declared.report.StopCause.{StopCause}
 use Rattle.dmc_settle.specs.declared.report.ClientReport.{ClientReport}
 use Rattle.dmc_settle.specs.declared.report.ServerReport.{ServerReport}
-use Rattle.dmc_driver.specs.Stops.{AreServerStops, IsClientEnd, IsEndAt, calls_of, misses_of, refused}
+use Rattle.dmc_driver.specs.Stops.{AreServerStops, IsClientEnd, IsEndAt, is_nothing, is_of, refused}
 use Rattle.dmc_driver.specs.declared.stops.Calls.{Calls}
+use Rattle.dmc_driver.specs.declared.stops.Refusals.{Refusals}
+use Rattle.dmc_driver.specs.declared.stops.Refusals.TheVariants as refusals
 
 -- ---- over a history
+
+-- with what was refused of one call more, if it was
+abbrev pub with_refused : Refusals → Option StopCause → Refusals
+with_refused refused None = refused
+with_refused refusals.None (Some cause) = refusals.One cause
+with_refused (refusals.One other) (Some cause) = refusals.Several
+with_refused refusals.Several (Some cause) = refusals.Several
+
+-- a worker's calls with one more that got this reply
+abbrev pub with_reply : {T : Type 0} → Calls → Reply T → Calls
+with_reply calls reply = record {
+  replies = calls.replies + 1;
+  grants = calls.grants + one_if (is_some (grant_in reply));
+  nothings = calls.nothings + one_if (is_nothing reply);
+  refused = with_refused calls.refused (refused reply);
+}
 
 -- a worker's calls with those of one event more, if there is one
 abbrev pub with_event : {T : Type 0} → ℕ → Calls → Option (Event T) → Calls
 with_event worker calls None = calls
-with_event worker calls (Some e) = record {
-  pulls = calls.pulls + one_if (e.worker.0 == worker);
-  misses = calls.misses + one_if ((e.worker.0 == worker) && is_miss e.reply);
-}
-
--- the calls that a history has of a worker
-abbrev pub calls_in : {T : Type 0} → ℕ → List (Event T) → Calls
-calls_in worker events = record { pulls = calls_of worker events; misses = misses_of worker events }
+with_event worker calls (Some e) = if is_of worker e then with_reply calls e.reply else calls
 
 -- what was refused at a place, if it was
 abbrev pub refused_at : {T : Type 0} → ℕ → List (Event T) → Option StopCause

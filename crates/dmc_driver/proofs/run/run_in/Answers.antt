@@ -6,8 +6,5 @@ use Rattle.dmc_driver.proofs.run.run_in.Goals as goal
 pub returns-clause-report : goal.returns-clause-report
 returns-clause-report g c =
     let remains = c.in_ok-remains.remains in
-    let made = c.in_ok-remains.ensures in
     reports g.T.Tag.ops c.args.scene.now c.args.limits (left_of remains.books.items remains.trackers.items remains.passes (stops_of remains.report))
-    (ends_of remains.ends.items) c.settle_run.result
-    (record { books = made.books; as_many_books = made.as_many_books; trackers = made.trackers; as_many_trackers = made.as_many_trackers })
-    c.settle_run.ensures.settled
+    (ends_of remains.ends.items) c.settle_run.result c.settle_run.ensures.settled

@@ -19,6 +19,8 @@ returns-in-Ok-clause-settled g c =
           circles = settled.circle;
           registered = λ k d within. (c.requires.books k d within).registered;
           within = limits;
+          counted = rw c.deref-3.ensures.value at c.count_histories.ensures;
+          consistent = rw c.deref-4.ensures.value at c.keep_consistent.ensures;
         };
         its = settled.its_report;
         report = settled.report;

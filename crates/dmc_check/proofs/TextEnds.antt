@@ -21,7 +21,7 @@ use Rattle.dmc_check.specs.declared.replay.Replay.{Replay}
 use Rattle.dmc_check.specs.declared.text.Checking.{Checking}
 use Rattle.dmc_check.specs.declared.text.Checked.{Checked}
 use Rattle.dmc_check.specs.EventTexts.{Recorded, with_line, count_of, line_behind, or_fault, with_lines, record_of, verdict_text, HasVerdict, ChecksAs}
-use Rattle.dmc_check.specs.Checking.{Holds, Follows, next_line}
+use Rattle.dmc_check.specs.internal.TextLines.{Holds, Follows, next_line}
 use Rattle.dmc_check.specs.internal.Checking.{IsChecked, WritesVerdict}
 use Rattle.dmc_check.specs.Verdicts.{RepresentsEvents, IsVerdict}
 use Rattle.dmc_check.proofs.VerdictLemmas.{verdict_by}

@@ -4,8 +4,6 @@ pub mod Replaying
 pub mod Verdicts
 -- Whole event texts: what their lines record, and what is written about it.
 pub mod EventTexts
--- A check of an event text, line by line.
-pub mod Checking
 -- The texts of events and of segments, and what they add to what an event text records.
 pub mod SegmentTexts
 -- What only contracts of private functions and proofs cite.

@@ -3,7 +3,7 @@ ghost use Rattle.std.specs.Prelude.{◌≡◌, ◌==◌, Option, None, Some, [],
 ghost use Rattle.dmc_text.specs.declared.cause.LineCause.{LineCause};
 ghost use Rattle.dmc_text.specs.Watching.{stream_of, EndsNoted};
 ghost use Rattle.dmc_check.specs.EventTexts.{Recorded, placed, with_line, verdict_text, ChecksAs};
-ghost use Rattle.dmc_check.specs.Checking.{Holds, Follows, long_event, next_line, replayed};
+ghost use Rattle.dmc_check.specs.internal.TextLines.{Holds, Follows, long_event, next_line, replayed};
 ghost use Rattle.dmc_check.specs.internal.Checking.{IsChecked, WritesVerdict, VerdictNoted};
 
 use crate::check::Verdict;

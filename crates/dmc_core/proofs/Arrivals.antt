@@ -27,7 +27,7 @@ use Rattle.dmc_core.specs.declared.event.CoreFault.TheVariants as faults
 use Rattle.dmc_core.specs.Run.{Pair, Client, no_pair, pair_at, with_pair, with_client, with_server}
 use Rattle.dmc_core.specs.Events.{after_arrival, client_after_arrival, outcome}
 use Rattle.dmc_core.specs.Core.{Held, CoreValue, Matches, Follows, is_accepting}
-use Rattle.dmc_core.specs.Parts.{place_of}
+use Rattle.dmc_core.specs.internal.Parts.{place_of}
 use Rattle.dmc_core.proofs.Lists.{set_same}
 use Rattle.dmc_core.proofs.Runs.{refused, names_refused, found_place, the_client, the_server}
 

@@ -12,7 +12,7 @@ use Rattle.dmc_types.specs.declared.config.PhaseType.{PhaseType}
 use Rattle.dmc_types.specs.declared.config.PhaseType.TheVariants.{Reservation, Priority}
 use Rattle.dmc_core.specs.Run.{Pair, Client, no_pair, pair_at, with_pair, grants, with_grants, max_grants, has_full_count, are_grants_full}
 use Rattle.dmc_core.specs.Core.{Held, Matches}
-use Rattle.dmc_core.specs.Parts.{KeepsGrants, one_if_full, full_counts_of, full_counts}
+use Rattle.dmc_core.specs.internal.Parts.{KeepsGrants, one_if_full, full_counts_of, full_counts}
 
 -- a pair has a full count, or it has none
 by_pair : (r p : Bool) (a : Bool) (n : ℕ) → a ≡ nat_lt 0 n → ((r || p) || a) ≡ nat_lt 0 (cond r 1 0 + cond p 1 0 + n)

@@ -11,7 +11,7 @@ use Rattle.dmc_types.specs.declared.ids.ServerId.{ServerId}
 use Rattle.dmc_types.specs.declared.config.PhaseType.{PhaseType}
 use Rattle.dmc_core.specs.Run.{pair_at, with_pair, grants, with_grants, max_grants}
 use Rattle.dmc_core.specs.Core.{Held}
-use Rattle.dmc_core.specs.Parts.{IsKept, KeepsGrants, full_at, full_counts, one_if_full}
+use Rattle.dmc_core.specs.internal.Parts.{IsKept, KeepsGrants, full_at, full_counts, one_if_full}
 use Rattle.dmc_core.specs.declared.server.CoreServer.{CoreServer}
 use Rattle.dmc_core.proofs.Counts.{full_counts-set, full_counts-there, full_counts-elsewhere, same_counts}
 use Rattle.dmc_tag.proofs.Ids.{all_there}

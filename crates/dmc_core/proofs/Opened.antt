@@ -30,7 +30,7 @@ use Rattle.dmc_core.specs.declared.server.CoreServer.{CoreServer}
 use Rattle.dmc_core.specs.Run.{no_pair, pair_at, max_completions}
 use Rattle.dmc_core.specs.Events.{registration}
 use Rattle.dmc_core.specs.Core.{Held, Matches}
-use Rattle.dmc_core.specs.Parts.{IsKept, full_counts, full_counts_of}
+use Rattle.dmc_core.specs.internal.Parts.{IsKept, full_counts, full_counts_of}
 use Rattle.dmc_core.specs.Opening.{HaveSpacings, named_rates}
 use Rattle.dmc_core.specs.internal.Opening.{opening_client}
 

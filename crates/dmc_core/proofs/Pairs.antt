@@ -8,7 +8,7 @@ use Rattle.dmc_types.specs.declared.config.PhaseType.TheVariants.{Reservation, P
 use Rattle.dmc_core.specs.declared.event.Message.{Message}
 use Rattle.dmc_core.specs.declared.pair.Pairing.{Pairing}
 use Rattle.dmc_core.specs.Run.{Pair, no_pair, pair_at, with_pair, with_flight, grants}
-use Rattle.dmc_core.specs.Parts.{pair_of, KeepsGrants}
+use Rattle.dmc_core.specs.internal.Parts.{pair_of, KeepsGrants}
 
 -- an element that is read, behind a map
 pub seen_map : {A B : Type 0} (f : A → B) (xs : List A) (i : ℕ) (d : B) (x : A) → i < length xs → x ≡ get_or xs i x → get_or (map f xs) i d ≡ f x

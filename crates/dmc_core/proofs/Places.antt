@@ -7,7 +7,7 @@ use Rattle.dmc_types.specs.declared.ids.ServerId.{ServerId}
 use Rattle.dmc_tag.specs.State.{is_client}
 use Rattle.dmc_core.specs.declared.event.CoreFault.TheVariants.{NoClient, NoServer}
 use Rattle.dmc_core.specs.Core.{Held, CoreValue}
-use Rattle.dmc_core.specs.Parts.{place_of}
+use Rattle.dmc_core.specs.internal.Parts.{place_of}
 use Rattle.dmc_lemmas.proofs.Booleans.{eqb_turned}
 use Rattle.dmc_lemmas.proofs.Lists.{position_map}
 

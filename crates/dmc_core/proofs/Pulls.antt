@@ -20,7 +20,7 @@ use Rattle.dmc_core.specs.declared.event.CoreFault.TheVariants as faults
 use Rattle.dmc_core.specs.Run.{Client, Run, change_first, with_server, are_grants_full}
 use Rattle.dmc_core.specs.Events.{after_grant, after_pull, outcome}
 use Rattle.dmc_core.specs.Core.{Held, CoreValue, Matches, Follows}
-use Rattle.dmc_core.specs.Parts.{full_counts}
+use Rattle.dmc_core.specs.internal.Parts.{full_counts}
 use Rattle.dmc_core.proofs.Counts.{are_full}
 use Rattle.dmc_core.proofs.Runs.{refused, no_server, the_server}
 

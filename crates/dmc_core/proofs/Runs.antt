@@ -26,7 +26,7 @@ use Rattle.dmc_core.specs.declared.event.CoreFault.TheVariants as faults
 use Rattle.dmc_core.specs.Run.{Client, Run, change_first, with_client, with_server, client_of, server_of}
 use Rattle.dmc_core.specs.Events.{Outcome, client_event, server_event, outcome}
 use Rattle.dmc_core.specs.Core.{Held, CoreValue, Matches, RepresentsRun, Follows, ClientFollows, IsRefusal, may_grow, is_accepted}
-use Rattle.dmc_core.specs.Parts.{place_of}
+use Rattle.dmc_core.specs.internal.Parts.{place_of}
 use Rattle.dmc_core.specs.internal.Serving.{IsServed}
 use Rattle.dmc_core.proofs.Lists.{At, at_place, First, first_of_both, none_of_both, set_same}
 

@@ -5,8 +5,6 @@ pub mod Run
 pub mod Events
 -- What contracts see of the core, and which states of a cluster run it represents.
 pub mod Core
--- What the core keeps, and what is true of it.
-pub mod Parts
 -- A tracker's refusal as one of the cluster.
 pub mod Faults
 -- How a cluster opens for a scene.

@@ -4,7 +4,7 @@ ghost use Rattle.dmc_types.specs.Limits.{max_servers};
 ghost use Rattle.dmc_tracker.specs.Numbers.{new_numbers};
 ghost use Rattle.dmc_core.specs.Core.{ClientFollows};
 ghost use Rattle.dmc_core.specs.Events.{stamp, response};
-ghost use Rattle.dmc_core.specs.Parts.{pair_of, KeepsGrants};
+ghost use Rattle.dmc_core.specs.internal.Parts.{pair_of, KeepsGrants};
 ghost use Rattle.dmc_core.specs.Run.{max_completions, no_pair, grants, pair_at, with_pair, with_flight, with_grants, max_grants};
 
 use crate::event::{CoreFault, CoreReply, Message};
@@ -32,7 +32,7 @@ impl Model for CoreClient {
 
     ghost Value = { Held };
 
-    ghost use Rattle.dmc_core.specs.Parts.{pair_of};
+    ghost use Rattle.dmc_core.specs.internal.Parts.{pair_of};
 
     ghost view = { λ c. record { id = c.id; tracker = c.tracker; pairs = map pair_of c.pairs.items } };
 }

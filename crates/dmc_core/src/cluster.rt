@@ -8,7 +8,7 @@ ghost use Rattle.dmc_core.specs.Core.{Held, Matches, Follows};
 ghost use Rattle.dmc_core.specs.Events.{after_grant};
 ghost use Rattle.dmc_core.specs.internal.Serving.{IsServed};
 ghost use Rattle.dmc_core.specs.declared.event.CoreEvent.{CoreEvent};
-ghost use Rattle.dmc_core.specs.Parts.{IsKept, place_of, full_counts};
+ghost use Rattle.dmc_core.specs.internal.Parts.{IsKept, place_of, full_counts};
 ghost use Rattle.dmc_core.specs.Run.{Client, change_first};
 ghost use Rattle.dmc_core.specs.declared.event.CoreEvent.TheVariants as events;
 
@@ -41,7 +41,7 @@ impl<Q> Model for Cluster<Q> {
 
     ghost Value = { CoreValue Q };
 
-    ghost use Rattle.dmc_core.specs.Parts.{IsKept};
+    ghost use Rattle.dmc_core.specs.internal.Parts.{IsKept};
 
     ghost view = { λ c. record { servers = map (λ s. s.queue) c.servers.items; clients = c.clients.items } };
 

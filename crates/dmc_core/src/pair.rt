@@ -1,6 +1,6 @@
 //! What is under way between a client and a server.
 ghost use Rattle.std.specs.Prelude.{◌≡◌, ◌∷◌, ◌++◌, [], drop, slice_get, nat_le, length, OnOk};
-ghost use Rattle.dmc_core.specs.Parts.{pair_of, HasRoom};
+ghost use Rattle.dmc_core.specs.internal.Parts.{pair_of, HasRoom};
 ghost use Rattle.dmc_core.specs.Run.{no_pair, with_flight, grants, with_grants, max_in_flight};
 
 use crate::event::Message;

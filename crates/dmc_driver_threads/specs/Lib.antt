@@ -2,7 +2,5 @@
 pub mod LimitsValue
 -- What each server and each client's tracker of a run is opened with, and keeps.
 pub mod Opened
--- The value if no run was opened.
-pub mod Origins
 -- What only the proofs and the contracts of private functions speak of.
 pub mod internal

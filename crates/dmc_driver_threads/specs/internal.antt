@@ -4,3 +4,5 @@ pub mod Causes
 pub mod Books
 -- What contracts see of the desks of a cluster while they are opened.
 pub mod Desks
+-- The value if no run was opened.
+pub mod Origins

@@ -2,7 +2,7 @@
 ghost use Rattle.dmc_scene.specs.SceneValue.{SceneValue};
 ghost use Rattle.dmc_driver_threads.specs.LimitsValue.{LimitsValue};
 ghost use Rattle.dmc_driver_threads.specs.Opened.{IsOpenedBook, IsOpenedTracker, opened_stays, tracker_stays};
-ghost use Rattle.dmc_driver_threads.specs.Origins.{no_limits, no_scene};
+ghost use Rattle.dmc_driver_threads.specs.internal.Origins.{no_limits, no_scene};
 
 use dmc_book::book::QueueBook;
 use dmc_index::index::Indexes;

@@ -2,8 +2,6 @@
 pub mod Represented
 -- What contracts see of the indexed queue, the plain state that it represents, and its invariant.
 pub mod Queue
--- Between which two tags the P tags of a queue lie.
-pub mod Range
 -- The index clause: what the three indexes of a queue hold, in terms of the plain state that the queue represents.
 pub mod FirstRequests
 -- The result of a pull with the caller's test.

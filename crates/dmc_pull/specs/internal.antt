@@ -12,3 +12,5 @@ pub mod Queue
 pub mod Range
 -- The results of the tests of a registration and of an update.
 pub mod Registering
+-- Between which two tags the P tags of a queue lie.
+pub mod ShareRange

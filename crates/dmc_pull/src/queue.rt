@@ -51,7 +51,7 @@ pub struct PullQueue<T: Tag, I: Indexes<T>> {
 
 impl<T: Tag, I: Indexes<T>> Model for PullQueue<T, I> {
     ghost use Rattle.dmc_pull.specs.Queue.{Queue, IsQueue};
-    ghost use Rattle.dmc_pull.specs.Range.{AreWithin};
+    ghost use Rattle.dmc_pull.specs.internal.ShareRange.{AreWithin};
 
     ghost Value = { Queue T };
 

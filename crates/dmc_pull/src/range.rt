@@ -1,7 +1,7 @@
 //! Between which two tags the P tags of a queue lie.
 ghost use Rattle.std.specs.Prelude.{◌≡◌, ⊤};
 ghost use Rattle.dmc_pull.specs.internal.Range as range_of;
-ghost use Rattle.dmc_pull.specs.Range.{IsWithin};
+ghost use Rattle.dmc_pull.specs.internal.ShareRange.{IsWithin};
 
 use dmc_tag::shifting::has_less;
 use dmc_tag::tag::Tag;

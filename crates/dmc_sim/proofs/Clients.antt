@@ -14,7 +14,7 @@ use Rattle.dmc_tag.specs.State.{is_client}
 use Rattle.dmc_tag.proofs.ForCallers.{same_client}
 use Rattle.dmc_scene.specs.SceneValue.{ClientValue, AreApart}
 use Rattle.dmc_sim.specs.Simulation.{is_phase}
-use Rattle.dmc_sim.specs.Turns.{AreMarked, has_next}
+use Rattle.dmc_sim.specs.internal.Simulations.{AreMarked, has_next}
 use Rattle.dmc_sim.specs.internal.Turns.{Completes, CompletesOne}
 use Rattle.dmc_sim.proofs.Traces.{one_if}
 use Rattle.dmc_sim.specs.declared.client.SimClient.{SimClient}

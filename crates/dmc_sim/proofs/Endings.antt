@@ -6,7 +6,7 @@ use Rattle.std.proofs.lemmas.List.{get_or-set_same, get_or-set_other, length-set
 use Rattle.dmc_types.specs.declared.refusal.Refusal.{Refusal}
 use Rattle.dmc_tag.specs.Outcome.{◌>>=◌}
 use Rattle.dmc_sim.specs.Simulation.{Sim, each_in_turn}
-use Rattle.dmc_sim.specs.Turns.{Ends, Gives}
+use Rattle.dmc_sim.specs.internal.Simulations.{Ends, Gives}
 use Rattle.dmc_sim.specs.declared.report.SimFault.{SimFault}
 use Rattle.dmc_sim.specs.declared.report.SimFault.TheVariants as faults
 

@@ -12,7 +12,7 @@ use Rattle.dmc_scene.specs.SceneValue.{SceneValue, ClientValue}
 use Rattle.dmc_core.specs.Core.{CoreValue}
 use Rattle.dmc_sim.specs.Reports.{end_of}
 use Rattle.dmc_sim.specs.Simulation.{Entry, Sim, completed_by, all_complete, client_turn, server_turn, each_in_turn, servers_of, moment_of, round, rounds}
-use Rattle.dmc_sim.specs.Turns.{IsCounted, ClientsAt, AllAt, Ends, Gives, is_complete}
+use Rattle.dmc_sim.specs.internal.Simulations.{IsCounted, ClientsAt, AllAt, Ends, Gives, is_complete}
 use Rattle.dmc_sim.specs.declared.client.SimClient.{SimClient}
 use Rattle.dmc_sim.specs.declared.report.ServerReport.{ServerReport}
 use Rattle.dmc_sim.specs.declared.report.SimFault.{SimFault}

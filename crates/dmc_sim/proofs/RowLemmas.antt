@@ -9,11 +9,11 @@ use Rattle.dmc_tag.specs.Tag.{Tagging}
 use Rattle.dmc_tag.specs.Outcome.{◌>>=◌}
 use Rattle.dmc_scene.specs.SceneValue.{SceneValue}
 use Rattle.dmc_core.specs.Core.{CoreValue, RepresentsRun}
-use Rattle.dmc_sim.specs.Counts.{HaveGranted}
+use Rattle.dmc_sim.specs.internal.Counts.{HaveGranted}
 use Rattle.dmc_sim.specs.Reports.{IsClientRow, IsComplete, ReportValue, client_row, end_of, report_after, report_of, server_row}
-use Rattle.dmc_sim.specs.Rows.{row_of, idle_row, with_left}
+use Rattle.dmc_sim.specs.internal.Rows.{row_of, idle_row, with_left}
 use Rattle.dmc_sim.specs.Simulation.{Entry, Sim, all_complete, servers_of, simulation}
-use Rattle.dmc_sim.specs.Turns.{AreGrants, Gives, IsCounted, IsLast, is_complete}
+use Rattle.dmc_sim.specs.internal.Simulations.{AreGrants, Gives, IsCounted, IsLast, is_complete}
 use Rattle.dmc_sim.specs.declared.report.ClientReport.{ClientReport}
 use Rattle.dmc_sim.specs.declared.report.ServerReport.{ServerReport}
 use Rattle.dmc_sim.specs.declared.client.SimClient.{SimClient}

@@ -14,7 +14,7 @@ use Rattle.dmc_scene.specs.SceneValue.{SceneValue, ClientValue, AreApart}
 use Rattle.dmc_core.specs.Core.{CoreValue, RepresentsRun}
 use Rattle.dmc_core.specs.declared.event.CoreEvent.TheVariants.{Stamp, Arrive}
 use Rattle.dmc_sim.specs.Simulation.{Entry, Sim, Returned, asked, is_tagged, plan_of, next_server, send_to, client_turn, each_in_turn}
-use Rattle.dmc_sim.specs.Turns.{IsCounted, ClientsAt, Gives, IsAfter, has_next}
+use Rattle.dmc_sim.specs.internal.Simulations.{IsCounted, ClientsAt, Gives, IsAfter, has_next}
 use Rattle.dmc_sim.specs.internal.Turns.{ClientAt}
 use Rattle.dmc_sim.specs.declared.client.SimClient.{SimClient}
 use Rattle.dmc_sim.proofs.Clients.{other_id, scene_at}

@@ -17,8 +17,8 @@ use Rattle.dmc_core.specs.Core.{CoreValue, RepresentsRun}
 use Rattle.dmc_core.specs.Events.{cluster_step}
 use Rattle.dmc_core.specs.declared.event.CoreEvent.TheVariants.{Pull, Respond}
 use Rattle.dmc_sim.specs.Simulation.{Entry, Sim, Returned, asked, grant_in, granted_by, is_counted, is_granted_in, is_phase, is_server, respond_to, server_turn, each_in_turn}
-use Rattle.dmc_sim.specs.Counts.{AreDifferent}
-use Rattle.dmc_sim.specs.Turns.{IsCounted, AreGrants, ClientsAt, AllAt, Ends, Gives, IsAfter}
+use Rattle.dmc_sim.specs.internal.Counts.{AreDifferent}
+use Rattle.dmc_sim.specs.internal.Simulations.{IsCounted, AreGrants, ClientsAt, AllAt, Ends, Gives, IsAfter}
 use Rattle.dmc_sim.specs.internal.Turns.{ServerAt, Completes, CompletesOne}
 use Rattle.dmc_sim.specs.declared.client.SimClient.{SimClient}
 use Rattle.dmc_sim.specs.declared.report.ServerReport.{ServerReport}

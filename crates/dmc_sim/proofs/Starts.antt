@@ -9,10 +9,10 @@ use Rattle.dmc_tag.specs.State.{State}
 use Rattle.dmc_scene.specs.SceneValue.{SceneValue}
 use Rattle.dmc_core.specs.Core.{CoreValue, RepresentsRun}
 use Rattle.dmc_core.specs.Opening.{opening_of}
-use Rattle.dmc_sim.specs.Counts.{AreDifferent}
-use Rattle.dmc_sim.specs.Rows.{idle_row}
+use Rattle.dmc_sim.specs.internal.Counts.{AreDifferent}
+use Rattle.dmc_sim.specs.internal.Rows.{idle_row}
 use Rattle.dmc_sim.specs.Simulation.{opening_sim, servers_of}
-use Rattle.dmc_sim.specs.Turns.{AllAt, AreGrants}
+use Rattle.dmc_sim.specs.internal.Simulations.{AllAt, AreGrants}
 use Rattle.dmc_sim.specs.internal.Turns.{IsIdle}
 use Rattle.dmc_sim.specs.declared.client.SimClient.{SimClient}
 use Rattle.dmc_sim.specs.declared.report.ServerReport.{ServerReport}

@@ -16,7 +16,7 @@ use Rattle.dmc_core.specs.declared.event.CoreEvent.{CoreEvent}
 use Rattle.dmc_core.specs.declared.event.CoreReply.TheVariants.{Stamped, Served, Counted}
 use Rattle.dmc_core.specs.Events.{cluster_step}
 use Rattle.dmc_sim.specs.Simulation.{Entry, Sim, Returned, entry_of, after_event, unless_refused, asked, is_arrival, is_completion, is_reserved, is_grant, sent_by, completed_by, reserved_by, granted_by, plan_of}
-use Rattle.dmc_sim.specs.Turns.{IsCounted, AreGrants, IsAfter}
+use Rattle.dmc_sim.specs.internal.Simulations.{IsCounted, AreGrants, IsAfter}
 use Rattle.dmc_sim.specs.declared.client.SimClient.{SimClient}
 use Rattle.dmc_sim.specs.declared.report.ServerReport.{ServerReport}
 

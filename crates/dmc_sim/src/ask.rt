@@ -3,7 +3,7 @@ ghost use Rattle.std.specs.Prelude.{◌≡◌};
 ghost use Rattle.dmc_pull.specs.Queue.{state_of};
 ghost use Rattle.dmc_core.specs.Core.{RepresentsRun};
 ghost use Rattle.dmc_sim.specs.Simulation.{Sim, asked, grant_in, is_counted, is_tagged};
-ghost use Rattle.dmc_sim.specs.Turns.{Ends, IsAfter};
+ghost use Rattle.dmc_sim.specs.internal.Simulations.{Ends, IsAfter};
 ghost use Rattle.dmc_sim.specs.internal.Turns.{fault_in};
 
 use crate::report::SimFault;

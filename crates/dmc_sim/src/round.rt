@@ -5,9 +5,9 @@ ghost use Rattle.dmc_scene.specs.SceneValue.{AreApart, SceneValue};
 ghost use Rattle.dmc_types.specs.Limits.{limit_of_pulls, max_servers};
 ghost use Rattle.dmc_types.specs.declared.config.PhaseType.TheVariants as phases_of;
 ghost use Rattle.dmc_core.specs.declared.event.CoreEvent.TheVariants as events;
-ghost use Rattle.dmc_sim.specs.Counts.{AreDifferent, HaveCompleted, HaveGranted, grants_of};
+ghost use Rattle.dmc_sim.specs.internal.Counts.{AreDifferent, HaveCompleted, HaveGranted, grants_of};
 ghost use Rattle.dmc_sim.specs.Simulation.{asked, client_turn, each_in_turn, is_phase, moment_of, round, send_to, server_turn, servers_of, Sim};
-ghost use Rattle.dmc_sim.specs.Turns.{AllAt, AreMarked, ClientsAt, Ends, has_next};
+ghost use Rattle.dmc_sim.specs.internal.Simulations.{AllAt, AreMarked, ClientsAt, Ends, has_next};
 ghost use Rattle.dmc_sim.specs.internal.Turns.{ClientAt, CompletesOne, ServerAt};
 
 use crate::ask::{ask, grant_in, is_counted, is_tagged};

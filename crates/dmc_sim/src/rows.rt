@@ -2,7 +2,7 @@
 ghost use Rattle.std.specs.Prelude.{◌≡◌, ◌≤◌, [], IfOk, length, map, vec_capacity};
 ghost use Rattle.std.specs.List.{range_with_len};
 ghost use Rattle.dmc_pull.specs.Queue.{state_of};
-ghost use Rattle.dmc_sim.specs.Rows.{idle_row, row_of, with_left};
+ghost use Rattle.dmc_sim.specs.internal.Rows.{idle_row, row_of, with_left};
 
 use crate::client::SimClient;
 use crate::report::{ClientReport, ServerReport};

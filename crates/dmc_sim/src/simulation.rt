@@ -5,11 +5,11 @@ ghost use Rattle.dmc_types.specs.Limits.{max_moment, max_step, max_servers};
 ghost use Rattle.dmc_pull.specs.Queue.{state_of};
 ghost use Rattle.dmc_scene.specs.SceneValue.{AreApart};
 ghost use Rattle.dmc_core.specs.Opening.{HaveSpacings};
-ghost use Rattle.dmc_sim.specs.Counts.{AreDifferent, HaveCompleted, HaveGranted};
+ghost use Rattle.dmc_sim.specs.internal.Counts.{AreDifferent, HaveCompleted, HaveGranted};
 ghost use Rattle.dmc_sim.specs.Reports.{IsReportOf, Simulates, SimulatesBy};
-ghost use Rattle.dmc_sim.specs.Rows.{idle_row};
+ghost use Rattle.dmc_sim.specs.internal.Rows.{idle_row};
 ghost use Rattle.dmc_sim.specs.Simulation.{Sim, rounds, servers_of, simulation};
-ghost use Rattle.dmc_sim.specs.Turns.{AllAt, AreMarked, Ends, IsLast, is_complete};
+ghost use Rattle.dmc_sim.specs.internal.Simulations.{AllAt, AreMarked, Ends, IsLast, is_complete};
 ghost use Rattle.dmc_sim.specs.internal.Turns.{HasRun, IsIdle};
 
 use crate::client::SimClient;

@@ -16,7 +16,7 @@ use Rattle.dmc_text.specs.Reading.{max_bytes}
 use Rattle.dmc_text.specs.Texts.{and_on, fault_or, has_config_after, lines_of, commands, written, first_fault, fault_of, whole_lines, out, AppendsSome, ReadsWithin, RunsPartly, RunsAs}
 use Rattle.dmc_text.specs.internal.LineLaws.{whole_on}
 use Rattle.dmc_text.specs.Walks.{GoesThrough, IsFault, Ending, Halt, EndsAs}
-use Rattle.dmc_text.specs.Runs.{Answers}
+use Rattle.dmc_text.specs.internal.ScriptLines.{Answers}
 use Rattle.dmc_text.specs.internal.Runs.{settled_of}
 
 pub nothing_read : (r : Option (List ℕ)) → (read : List ℕ) × ReadsWithin max_bytes r r read

@@ -28,8 +28,6 @@ pub mod LineLaws
 pub mod Watching
 -- The loop over the lines of a text.
 pub mod Walks
--- A run of a script, line by line.
-pub mod Runs
 -- The text of a ratio tag: a fraction in lowest terms.
 pub mod RatioText
 -- What only contracts of private functions and proofs cite.

@@ -12,3 +12,5 @@ pub mod Lines
 pub mod Walks
 -- The lines of a text, found one by one.
 pub mod LineLaws
+-- A run of a script, line by line.
+pub mod ScriptLines

@@ -8,7 +8,7 @@ ghost use Rattle.dmc_text.specs.Replies.{reply_text, tag_text};
 ghost use Rattle.dmc_text.specs.Texts.{with_line_end, value_text, has_config_after, written, RunsAs};
 ghost use Rattle.dmc_text.specs.Walks.{IsCut};
 ghost use Rattle.dmc_text.specs.Watching.{stream_of, SendsNoted};
-ghost use Rattle.dmc_text.specs.Runs.{Answers};
+ghost use Rattle.dmc_text.specs.internal.ScriptLines.{Answers};
 ghost use Rattle.dmc_text.specs.internal.Runs.{answer_text, settled_of};
 ghost use Rattle.dmc_text.specs.LineLaws.{long_line};
 

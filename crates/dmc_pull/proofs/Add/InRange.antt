@@ -20,7 +20,7 @@ use Rattle.dmc_roster.specs.Entries.{Entry, record_at, with_rec, with_record, wi
 use Rattle.dmc_head_index.specs.Least.{lesser}
 use Rattle.dmc_pull.specs.internal.Adding.{shifted_but, others_shifted}
 use Rattle.dmc_pull.specs.Queue.{Queue}
-use Rattle.dmc_pull.specs.Range.{IsWithin, HasSharesIn, AreWithin}
+use Rattle.dmc_pull.specs.internal.ShareRange.{IsWithin, HasSharesIn, AreWithin}
 use Rattle.dmc_pull.specs.internal.Range.{greater, with_share, with_less, after_shift, range_after, all_have_less}
 use Rattle.dmc_pull.specs.declared.range.ShareRange.{ShareRange}
 use Rattle.dmc_pull.proofs.Common.Lent.{changed_as}

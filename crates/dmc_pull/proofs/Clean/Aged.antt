@@ -14,7 +14,7 @@ use Rattle.dmc_tag.specs.declared.plain.QueuedRequest.{QueuedRequest}
 use Rattle.dmc_client.specs.Record.{IsRecord, share_tags}
 use Rattle.dmc_roster.specs.Entries.{Entry, Listing, entry_keyed, with_rec, AreDistinct}
 use Rattle.dmc_pull.specs.internal.Cleaning.{is_stale, is_idled, with_idle_mark}
-use Rattle.dmc_pull.specs.Range.{HasSharesIn, AreWithin}
+use Rattle.dmc_pull.specs.internal.ShareRange.{HasSharesIn, AreWithin}
 use Rattle.dmc_pull.specs.Represented.{clients_in}
 use Rattle.dmc_pull.specs.declared.range.ShareRange.{ShareRange}
 use Rattle.dmc_pull.specs.Queue.{Queue, state_of, IsQueue, IsKept, AreHeads, head_of, unready_head}

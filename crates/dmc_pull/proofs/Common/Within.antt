@@ -7,7 +7,7 @@ use Rattle.dmc_types.specs.declared.ids.ClientId.{ClientId}
 use Rattle.dmc_client.specs.Record.{Rec}
 use Rattle.dmc_roster.specs.Entries.{Entry, entry_keyed, with_record, AreDistinct}
 use Rattle.dmc_pull.specs.internal.Choice.{after_grant}
-use Rattle.dmc_pull.specs.Range.{IsWithin, HasSharesIn, AreWithin}
+use Rattle.dmc_pull.specs.internal.ShareRange.{IsWithin, HasSharesIn, AreWithin}
 use Rattle.dmc_pull.specs.declared.range.ShareRange.{ShareRange}
 use Rattle.dmc_pull.proofs.Common.Parts.{all_back, all_next, found_holds}
 use Rattle.dmc_pull.proofs.Common.Entries.{Split, split, all_changed}

@@ -15,7 +15,7 @@ use Rattle.dmc_sim.specs.declared.client.SimClient.{SimClient}
 use Rattle.dmc_sim.specs.declared.report.ServerReport.{ServerReport}
 use Rattle.dmc_sim.specs.declared.report.SimFault.{SimFault}
 use Rattle.dmc_sim.specs.declared.report.SimFault.TheVariants.{Refused, Memory}
-use Rattle.dmc_sim.specs.Turns.{AllAt, AreGrants, ClientsAt, IsCounted}
+use Rattle.dmc_sim.specs.internal.Simulations.{AllAt, AreGrants, ClientsAt, IsCounted}
 
 -- a client that has sent nothing
 pub record IsIdle (scene : SceneValue) (c : SimClient) : Type 0 where

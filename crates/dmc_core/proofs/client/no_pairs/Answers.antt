@@ -1,7 +1,7 @@
 use Rattle.std.proofs.Common.{ℕ, ◌++◌, ◌∷◌, [], List, map, replicate, refl, ap, ◌∙◌, arith}
 use Rattle.std.proofs.lemmas.List.{map-append, replicate_more}
 use Rattle.dmc_core.specs.Run.{Pair, no_pair}
-use Rattle.dmc_core.specs.Parts.{pair_of}
+use Rattle.dmc_core.specs.internal.Parts.{pair_of}
 use Rattle.dmc_core.proofs.client.no_pairs.Goals as goal
 
 pub loop-init : goal.loop-init

@@ -1,6 +1,6 @@
 use Rattle.std.proofs.Common.{◌≡◌, map, replicate}
 use Rattle.dmc_core.specs.Run.{no_pair}
-use Rattle.dmc_core.specs.Parts.{pair_of}
+use Rattle.dmc_core.specs.internal.Parts.{pair_of}
 use Rattle.dmc_core.proofs.client.no_pairs.Given as goal
 
 abbrev pub invariant-loop : goal.invariant-loop

@@ -3,7 +3,7 @@ use Rattle.std.specs.Prelude.{⊤}
 use Rattle.std.proofs.lemmas.Result.{on_ok_weaker}
 use Rattle.dmc_pull.specs.Queue.{state_of}
 use Rattle.dmc_sim.specs.Simulation.{client_turn, each_in_turn, round}
-use Rattle.dmc_sim.specs.Turns.{AllAt, ClientsAt}
+use Rattle.dmc_sim.specs.internal.Simulations.{AllAt, ClientsAt}
 use Rattle.dmc_sim.specs.declared.client.SimClient.{SimClient}
 use Rattle.dmc_sim.specs.declared.report.ServerReport.{ServerReport}
 use Rattle.dmc_sim.proofs.Endings.{passed_up}

@@ -5,7 +5,7 @@ use Rattle.std.proofs.lemmas.List.{length-set}
 use Rattle.std.proofs.lemmas.List.Elements.{All-set}
 use Rattle.dmc_pull.specs.Queue.{state_of}
 use Rattle.dmc_sim.specs.Simulation.{client_turn, each_in_turn}
-use Rattle.dmc_sim.specs.Turns.{ClientsAt}
+use Rattle.dmc_sim.specs.internal.Simulations.{ClientsAt}
 use Rattle.dmc_sim.specs.internal.Turns.{ClientAt}
 use Rattle.dmc_sim.specs.declared.client.SimClient.{SimClient}
 use Rattle.dmc_sim.proofs.Clients.{marked_with}

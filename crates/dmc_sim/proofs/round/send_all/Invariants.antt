@@ -2,9 +2,9 @@
 use Rattle.std.proofs.Common.{◌≡◌, ℕ, drop, length, map}
 use Rattle.dmc_pull.specs.Queue.{state_of}
 use Rattle.dmc_scene.specs.SceneValue.{SceneValue}
-use Rattle.dmc_sim.specs.Counts.{HaveCompleted}
+use Rattle.dmc_sim.specs.internal.Counts.{HaveCompleted}
 use Rattle.dmc_sim.specs.Simulation.{Sim, client_turn, each_in_turn}
-use Rattle.dmc_sim.specs.Turns.{AreMarked, ClientsAt}
+use Rattle.dmc_sim.specs.internal.Simulations.{AreMarked, ClientsAt}
 use Rattle.dmc_sim.proofs.Endings.{Reaches}
 use Rattle.dmc_sim.proofs.round.send_all.Given as goal
 

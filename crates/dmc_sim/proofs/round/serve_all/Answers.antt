@@ -2,15 +2,15 @@ use Rattle.std.proofs.Common.{◌≡◌, ◌≢◌, ◌+◌, ◌<◌, ◌≤◌,
 use Rattle.std.specs.Prelude.{⊤}
 use Rattle.dmc_pull.specs.Queue.{state_of}
 use Rattle.dmc_sim.specs.Simulation.{server_turn, each_in_turn}
-use Rattle.dmc_sim.specs.Turns.{AllAt}
+use Rattle.dmc_sim.specs.internal.Simulations.{AllAt}
 use Rattle.dmc_sim.specs.internal.Turns.{ServerAt}
 use Rattle.dmc_sim.proofs.Endings.{passed_up}
 use Rattle.dmc_sim.proofs.Serving.{one_at, one_served, one_unserved}
 use Rattle.std.proofs.Math.Seq.{map-set_same}
 use Rattle.std.proofs.lemmas.List.{get_or-set_other}
 use Rattle.std.proofs.lemmas.List.Elements.{All-set}
-use Rattle.dmc_sim.specs.Counts.{grants_of}
-use Rattle.dmc_sim.specs.Rows.{idle_row}
+use Rattle.dmc_sim.specs.internal.Counts.{grants_of}
+use Rattle.dmc_sim.specs.internal.Rows.{idle_row}
 use Rattle.dmc_sim.specs.declared.report.ServerReport.{ServerReport}
 use Rattle.dmc_sim.proofs.round.serve_all.Goals as goal
 

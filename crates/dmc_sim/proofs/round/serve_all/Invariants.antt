@@ -3,9 +3,9 @@
 use Rattle.std.proofs.Common.{◌≡◌, ◌≤◌, ℕ, ◌+◌, drop, get_or, length, map}
 use Rattle.dmc_pull.specs.Queue.{state_of}
 use Rattle.dmc_scene.specs.SceneValue.{SceneValue}
-use Rattle.dmc_sim.specs.Counts.{HaveCompleted, HaveGranted}
+use Rattle.dmc_sim.specs.internal.Counts.{HaveCompleted, HaveGranted}
 use Rattle.dmc_sim.specs.Simulation.{Sim, server_turn, each_in_turn}
-use Rattle.dmc_sim.specs.Turns.{AllAt, AreMarked}
+use Rattle.dmc_sim.specs.internal.Simulations.{AllAt, AreMarked}
 use Rattle.dmc_sim.specs.declared.report.ServerReport.{ServerReport}
 use Rattle.dmc_sim.proofs.Endings.{Reaches}
 use Rattle.dmc_sim.proofs.round.serve_all.Given as goal

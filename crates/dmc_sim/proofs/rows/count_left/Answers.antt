@@ -3,7 +3,7 @@ use Rattle.std.specs.Prelude.{Option, unwrap_or}
 use Rattle.std.proofs.lemmas.List.{get_or_default}
 use Rattle.std.proofs.lemmas.List.Edits.{map_over_more}
 use Rattle.dmc_pull.specs.Queue.{state_of}
-use Rattle.dmc_sim.specs.Rows.{idle_row, with_left}
+use Rattle.dmc_sim.specs.internal.Rows.{idle_row, with_left}
 use Rattle.dmc_sim.proofs.rows.count_left.Goals as goal
 
 pub loop-row-preserved : goal.loop-row-preserved

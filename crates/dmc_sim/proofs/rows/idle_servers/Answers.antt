@@ -1,6 +1,6 @@
 use Rattle.std.proofs.Common.{◌≡◌, ◌+◌, ◌∷◌, [], ◌++◌, sym, ap, ◌∙◌, arith}
 use Rattle.std.proofs.lemmas.List.FromFn.{map-range_with_len_more}
-use Rattle.dmc_sim.specs.Rows.{idle_row}
+use Rattle.dmc_sim.specs.internal.Rows.{idle_row}
 use Rattle.dmc_sim.proofs.rows.idle_servers.Goals as goal
 
 pub loop-server-preserved : goal.loop-server-preserved

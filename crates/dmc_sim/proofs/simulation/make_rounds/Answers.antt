@@ -3,7 +3,7 @@ use Rattle.std.specs.Prelude.{⊤}
 use Rattle.dmc_types.specs.Limits.{max_moment}
 use Rattle.dmc_pull.specs.Queue.{state_of}
 use Rattle.dmc_sim.specs.Simulation.{moment_of, round, rounds}
-use Rattle.dmc_sim.specs.Turns.{AllAt}
+use Rattle.dmc_sim.specs.internal.Simulations.{AllAt}
 use Rattle.dmc_sim.specs.internal.Turns.{HasRun}
 use Rattle.dmc_sim.proofs.Endings.{passed_up}
 use Rattle.dmc_sim.proofs.Rounds.{all_complete_is, end_after, round_made, round_refused, rounds_done}

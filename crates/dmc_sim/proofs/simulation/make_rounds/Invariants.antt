@@ -2,10 +2,10 @@
 -- of them end as all do.
 use Rattle.std.proofs.Common.{◌≡◌, ◌*◌, ◌-◌, length, map}
 use Rattle.dmc_pull.specs.Queue.{state_of}
-use Rattle.dmc_sim.specs.Counts.{HaveCompleted, HaveGranted}
+use Rattle.dmc_sim.specs.internal.Counts.{HaveCompleted, HaveGranted}
 use Rattle.dmc_sim.specs.Reports.{end_of}
 use Rattle.dmc_sim.specs.Simulation.{Sim, rounds}
-use Rattle.dmc_sim.specs.Turns.{AllAt, AreMarked}
+use Rattle.dmc_sim.specs.internal.Simulations.{AllAt, AreMarked}
 use Rattle.dmc_sim.proofs.Endings.{Reaches}
 use Rattle.dmc_sim.proofs.simulation.make_rounds.Given as goal
 

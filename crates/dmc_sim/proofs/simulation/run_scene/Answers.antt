@@ -2,7 +2,7 @@ use Rattle.std.proofs.Common.{map, ap, ◌∙◌, sym, subst}
 use Rattle.std.specs.Prelude.{AllPairs}
 use Rattle.dmc_pull.specs.Queue.{state_of}
 use Rattle.dmc_scene.specs.SceneValue.{AreApart}
-use Rattle.dmc_sim.specs.Counts.{AreDifferent, HaveGranted}
+use Rattle.dmc_sim.specs.internal.Counts.{AreDifferent, HaveGranted}
 use Rattle.dmc_sim.specs.Simulation.{opening_sim}
 use Rattle.dmc_sim.specs.declared.report.ServerReport.{ServerReport}
 use Rattle.dmc_sim.proofs.RowLemmas.{none_granted}

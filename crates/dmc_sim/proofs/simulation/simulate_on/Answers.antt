@@ -4,10 +4,10 @@ use Rattle.std.specs.Vec.{with_items}
 use Rattle.std.proofs.lemmas.List.{length-map, with_items_is}
 use Rattle.std.proofs.lemmas.List.FromFn.{length-range_with_len}
 use Rattle.dmc_sim.specs.Reports.{IsClientRow, IsComplete}
-use Rattle.dmc_sim.specs.Rows.{row_of, idle_row}
+use Rattle.dmc_sim.specs.internal.Rows.{row_of, idle_row}
 use Rattle.dmc_sim.specs.declared.client.SimClient.{SimClient}
 use Rattle.dmc_sim.specs.declared.report.ServerReport.{ServerReport}
-use Rattle.dmc_sim.specs.Turns.{is_complete}
+use Rattle.dmc_sim.specs.internal.Simulations.{is_complete}
 use Rattle.dmc_sim.proofs.RowLemmas.{client_rows, complete_rows, report_is, row_numbers}
 use Rattle.dmc_sim.proofs.simulation.simulate_on.Given.{Over}
 use Rattle.dmc_sim.proofs.simulation.simulate_on.Goals.{After-are_complete}

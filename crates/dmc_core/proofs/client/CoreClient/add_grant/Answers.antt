@@ -1,7 +1,7 @@
 use Rattle.std.proofs.Common.{◌≢◌, ℕ, ◌<◌, ◌+◌, length, map, refl, ap, sym, ◌∙◌, arith, List}
 use Rattle.dmc_core.specs.Run.{Pair, pair_at, grants, with_grants, max_grants}
 use Rattle.dmc_core.specs.Core.{Held}
-use Rattle.dmc_core.specs.Parts.{pair_of}
+use Rattle.dmc_core.specs.internal.Parts.{pair_of}
 use Rattle.dmc_core.proofs.Pairs.{pair_seen, pair_changed}
 use Rattle.dmc_core.proofs.client.CoreClient.add_grant.Goals as goal
 

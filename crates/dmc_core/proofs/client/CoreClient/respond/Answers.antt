@@ -3,7 +3,7 @@ use Rattle.std.proofs.lemmas.Bool.{eqb-true, false_from_ne_true}
 use Rattle.std.proofs.lemmas.List.{length-map}
 use Rattle.dmc_core.specs.Core.{Held}
 use Rattle.dmc_core.specs.Run.{Pair, grants, pair_at, with_grants, with_pair}
-use Rattle.dmc_core.specs.Parts.{pair_of}
+use Rattle.dmc_core.specs.internal.Parts.{pair_of}
 use Rattle.dmc_core.proofs.Pairs.{pair_seen, pair_changed, pair_same}
 use Rattle.dmc_core.proofs.Clients.{response-none, response-counted}
 use Rattle.dmc_core.proofs.client.CoreClient.respond.Given.{Over}

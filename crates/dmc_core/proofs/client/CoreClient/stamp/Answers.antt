@@ -4,7 +4,7 @@ use Rattle.dmc_core.specs.Core.{Held}
 use Rattle.dmc_core.specs.Run.{Pair, pair_at, with_flight, with_pair}
 use Rattle.dmc_core.specs.declared.event.Message.{Message}
 use Rattle.dmc_core.specs.declared.pair.Pairing.{Pairing}
-use Rattle.dmc_core.specs.Parts.{pair_of}
+use Rattle.dmc_core.specs.internal.Parts.{pair_of}
 use Rattle.dmc_core.proofs.Pairs.{pair_seen, pair_changed, pair_same, flight_keeps_grants, same_keeps_grants}
 use Rattle.dmc_core.proofs.Clients.{stamp-flight_full, stamp-refused, stamp-memory, stamp-sent}
 use Rattle.dmc_core.proofs.client.CoreClient.stamp.Given.{Over}

@@ -1,7 +1,7 @@
 use Rattle.std.proofs.Common.{◌<◌, length, map, drop, ap, List}
 use Rattle.dmc_core.specs.Run.{Pair, with_flight}
 use Rattle.dmc_core.specs.Core.{Held}
-use Rattle.dmc_core.specs.Parts.{pair_of}
+use Rattle.dmc_core.specs.internal.Parts.{pair_of}
 use Rattle.dmc_core.proofs.Pairs.{pair_changed}
 use Rattle.dmc_core.proofs.client.CoreClient.take_oldest.Goals as goal
 

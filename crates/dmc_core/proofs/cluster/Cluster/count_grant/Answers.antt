@@ -6,7 +6,7 @@ use Rattle.std.proofs.lemmas.Option.{get_or_from_slice_get, slice_get_read}
 use Rattle.dmc_types.specs.declared.config.Counting.{Counting}
 use Rattle.dmc_tag.specs.State.{is_client}
 use Rattle.dmc_core.specs.Core.{Held, Matches}
-use Rattle.dmc_core.specs.Parts.{one_if_full, full_counts}
+use Rattle.dmc_core.specs.internal.Parts.{one_if_full, full_counts}
 use Rattle.dmc_core.specs.Run.{Client, Pair, change_first, pair_at, with_pair, grants, with_grants}
 use Rattle.dmc_core.specs.declared.server.CoreServer.{CoreServer}
 use Rattle.dmc_core.specs.Events.{after_grant}

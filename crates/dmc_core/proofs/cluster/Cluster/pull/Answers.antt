@@ -2,7 +2,7 @@ use Rattle.std.proofs.Common.{◌≡◌, ◌<◌, length, map, set, slice_get, L
 use Rattle.std.proofs.lemmas.List.{length-map, length-set, map-set}
 use Rattle.std.proofs.lemmas.Option.{get_or_from_slice_get, slice_get_read}
 use Rattle.dmc_core.specs.Core.{CoreValue}
-use Rattle.dmc_core.specs.Parts.{full_counts}
+use Rattle.dmc_core.specs.internal.Parts.{full_counts}
 use Rattle.dmc_core.specs.declared.server.CoreServer.{CoreServer}
 use Rattle.dmc_core.proofs.Pairs.{seen_map}
 use Rattle.dmc_core.proofs.Kept.{known, server_kept}

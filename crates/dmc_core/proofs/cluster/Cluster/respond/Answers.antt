@@ -4,7 +4,7 @@ use Rattle.std.proofs.Math.Seq.{map-set_same}
 use Rattle.std.proofs.lemmas.Option.{get_or_from_slice_get, slice_get_read}
 use Rattle.dmc_core.specs.Core.{Held, ClientFollows}
 use Rattle.dmc_core.specs.Events.{response}
-use Rattle.dmc_core.specs.Parts.{one_if_full}
+use Rattle.dmc_core.specs.internal.Parts.{one_if_full}
 use Rattle.dmc_core.specs.Run.{pair_at, grants, max_grants}
 use Rattle.dmc_core.specs.declared.event.CoreEvent.TheVariants as events
 use Rattle.dmc_core.specs.declared.server.CoreServer.{CoreServer}

@@ -2,7 +2,7 @@ use Rattle.std.proofs.Common.{◌≡◌, ◌<◌, length, map, set, sym, ◌∙�
 use Rattle.std.proofs.lemmas.List.{length-map, map-set}
 use Rattle.std.proofs.lemmas.Option.{get_or_from_slice_get, slice_get_read}
 use Rattle.dmc_core.specs.declared.server.CoreServer.{CoreServer}
-use Rattle.dmc_core.specs.Parts.{IsKept}
+use Rattle.dmc_core.specs.internal.Parts.{IsKept}
 use Rattle.dmc_core.proofs.Pairs.{seen_map}
 use Rattle.dmc_core.proofs.Kept.{server_kept}
 use Rattle.dmc_core.proofs.Runs.{server_no_name, server_follows, served_is, served_takes_none}

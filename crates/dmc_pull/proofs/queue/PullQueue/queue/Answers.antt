@@ -13,7 +13,7 @@ use Rattle.dmc_tag.proofs.ForCallers.{due_from_ceil}
 use Rattle.dmc_pull.specs.internal.Adding.{IsAddition}
 use Rattle.dmc_pull.specs.Queue.{Queue, IsQueue, state_of}
 use Rattle.dmc_pull.specs.internal.Queue.{head_at}
-use Rattle.dmc_pull.specs.Range.{AreWithin}
+use Rattle.dmc_pull.specs.internal.ShareRange.{AreWithin}
 use Rattle.dmc_pull.specs.Represented.{clients_in}
 use Rattle.dmc_pull.proofs.Common.Lent.{unchanged}
 use Rattle.dmc_pull.proofs.Common.Keyed.{record_is}

@@ -1,10 +1,24 @@
 //! Laws of every cluster run. Each law is the contract of a function that does nothing.
+ghost use Rattle.std.specs.Prelude.{◌≡◌};
+ghost use Rattle.dmc_types.specs.declared.config.TagKind.TheVariants.{Tick, Ratio};
+ghost use Rattle.dmc_tick.specs.Tick.{tick_ops};
+ghost use Rattle.dmc_ratio.specs.Ratio.{ratio_ops};
+ghost use Rattle.dmc_core.specs.Opening.{HaveSpacings};
 ghost use Rattle.dmc_core_laws.specs.Bounds.{ArrivalsFollowStamps, LimitOverRuns, ReservationOverRuns};
 ghost use Rattle.dmc_core_laws.specs.Histories.{HistoriesReplay};
 ghost use Rattle.dmc_core_laws.specs.Steps.{StepsAreRuns, LimitOfCores, ReservationOfCores};
 ghost use Rattle.dmc_pull.specs.Queue.{Queue, state_of};
 
+use dmc_scene::scene::Scene;
 use dmc_tag::tag::Tag;
+
+/// Each rate of a scene has a spacing in the tags that the scene names: a `ClusterCore` can be opened for it with them.
+pub fn scenes_have_spacings(scene: &Scene)
+    ensures tick { scene.now.tags ≡ Tick → HaveSpacings tick_ops scene.now }
+    ensures ratio { scene.now.tags ≡ Ratio → HaveSpacings ratio_ops scene.now }
+{
+    let _ = scene.tags();
+}
 
 /// The history of a server replays, and the state after it by the rules is the server's plain state.
 pub fn histories_replay<T: Tag>()

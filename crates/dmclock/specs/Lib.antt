@@ -12,6 +12,7 @@ pub use Rattle.dmc_pull.specs.FirstRequests
 pub use Rattle.dmc_pull.specs.Queue
 pub use Rattle.dmc_queue_history.specs.Segmented
 pub use Rattle.dmc_check.specs.Replaying
+pub use Rattle.dmc_check.specs.SegmentTexts
 pub use Rattle.dmc_tag.specs.Answers
 pub use Rattle.dmc_tag.specs.Laws
 pub use Rattle.dmc_tag.specs.Replay
@@ -19,6 +20,12 @@ pub use Rattle.dmc_tag.specs.Rules
 pub use Rattle.dmc_tag.specs.State
 pub use Rattle.dmc_tag.specs.Step
 pub use Rattle.dmc_tag.specs.Steps
+pub use Rattle.dmc_text.specs.EventLines
+pub use Rattle.dmc_text.specs.Lines
+pub use Rattle.dmc_text.specs.Replies
+pub use Rattle.dmc_text.specs.RoundTrip
+pub use Rattle.dmc_text.specs.Texts
+pub use Rattle.dmc_text.specs.Written
 pub use Rattle.dmc_tlock.specs.Segments
 pub use Rattle.dmc_tracker.specs.Numbers
 pub use Rattle.dmc_tracker.specs.TrackerList

@@ -6,6 +6,7 @@ pub mod locks;
 
 pub use dmc_check::check::{Verdict, check};
 pub use dmc_check::replayer::{ReplayFault, Replayer};
+pub use dmc_check::write::{write_events, write_segment};
 use dmc_heap::adaptive_index::HeapIndexes;
 pub use dmc_history::{History, LimitFault, ReserveFault};
 pub use dmc_index::index::{Indexes, OrderIndex};
@@ -18,6 +19,8 @@ pub use dmc_tag::event::Event;
 pub use dmc_tag::reply::{Pulled, Reply, Tags};
 pub use dmc_tag::scheduler::Scheduler;
 pub use dmc_tag::tag::Tag;
+pub use dmc_text::tag::TagText;
+pub use dmc_text::write_line::{write_command, write_config, write_event, write_header};
 pub use dmc_tick::tick::TickTag;
 pub use dmc_tracker::tracker::{MakeFault, ServiceTracker, TrackFault};
 pub use dmc_types::clock::nanos_until;

@@ -1,0 +1,2 @@
+-- That one request keeps to the limits of a scene.
+pub mod Limits

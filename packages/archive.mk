@@ -1,8 +1,14 @@
-# make install [PREFIX=/usr/local] [DESTDIR=], make uninstall
+#: make install [PREFIX=/usr/local] [DESTDIR=]    installs program, libraries, headers, manual pages and documents
+#: make uninstall [PREFIX=/usr/local] [DESTDIR=]  takes away what an install put there
+#: make -C share/dmclock/nbd install              builds the nbdkit filter, and puts it where nbdkit looks for it
+#: INSTALL has the rest.
+help:
+	@sed -n 's/^#: //p' Makefile
+
 install:
 	./install.sh install .
 
 uninstall:
 	./install.sh uninstall
 
-.PHONY: install uninstall
+.PHONY: help install uninstall

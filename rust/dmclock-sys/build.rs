@@ -31,9 +31,9 @@ fn main() {
     println!("cargo:rerun-if-env-changed=DMCLOCK_LIB_DIR");
     println!("cargo:rerun-if-env-changed=PKG_CONFIG_PATH");
     println!("cargo:rerun-if-changed=build.rs");
-    let Some(folder) = named().or_else(installed).or_else(beside) else {
-        panic!("libdmclock is not found: set DMCLOCK_LIB_DIR to its folder, or PKG_CONFIG_PATH to that of dmclock.pc");
-    };
+    let folder = named().or_else(installed).or_else(beside).expect(
+        "libdmclock is not found: set DMCLOCK_LIB_DIR to its folder, or PKG_CONFIG_PATH to that of dmclock.pc",
+    );
     let is_static = folder.join("libdmclock.a").exists();
     let (file, kind) = if is_static {
         ("libdmclock.a", "static")

@@ -18,7 +18,7 @@ extern "C" {
 /// The C library's, where it is not refused.
 #[no_mangle]
 extern "C" fn malloc(size: usize) -> *mut c_void {
-    if REFUSES.get() {
+    if REFUSES.with(Cell::get) {
         return std::ptr::null_mut();
     }
     // SAFETY: it takes any size.
@@ -32,7 +32,7 @@ extern "C" fn malloc(size: usize) -> *mut c_void {
 /// As of the C library's.
 #[no_mangle]
 unsafe extern "C" fn realloc(at: *mut c_void, size: usize) -> *mut c_void {
-    if REFUSES.get() {
+    if REFUSES.with(Cell::get) {
         return std::ptr::null_mut();
     }
     // SAFETY: the caller's.
@@ -41,9 +41,9 @@ unsafe extern "C" fn realloc(at: *mut c_void, size: usize) -> *mut c_void {
 
 /// A call all of whose allocations are refused.
 fn refusing<T>(call: impl FnOnce() -> T) -> T {
-    REFUSES.set(true);
+    REFUSES.with(|it| it.set(true));
     let result = call();
-    REFUSES.set(false);
+    REFUSES.with(|it| it.set(false));
     result
 }
 

@@ -154,7 +154,8 @@ impl Slow {
     }
 
     fn check_rates(&self, info: ClientInfo) -> Result<(), Inexact> {
-        let has_spacing = |rate: Option<u32>| rate.is_none_or(|rate| self.spacing(rate).is_some());
+        let has_spacing =
+            |rate: Option<u32>| rate.map_or(true, |rate| self.spacing(rate).is_some());
         if !has_spacing(info.reservation()) {
             return Err(Inexact::Reservation);
         }
@@ -230,8 +231,9 @@ impl Slow {
         if !self.clients[place].idle {
             return Some((requests, clients));
         }
-        let Some(least) = self.requests.iter().map(|request| request.tags.p).min() else {
-            return Some((requests, clients));
+        let least = match self.requests.iter().map(|request| request.tags.p).min() {
+            Some(least) => least,
+            None => return Some((requests, clients)),
         };
         let amount = least.minus(self.kind, Fraction::whole(t))?;
         for request in &mut requests {
@@ -344,7 +346,7 @@ impl Slow {
     pub fn pull_request(&mut self, at: Moment) -> Result<Pulled, PullError> {
         let t = self.effective(at);
         let now = Fraction::whole(t);
-        if let Some(place) = self.best(|tags| tags.r, |tags| tags.r.is_some_and(|r| r <= now)) {
+        if let Some(place) = self.best(|tags| tags.r, |tags| tags.r.map_or(false, |r| r <= now)) {
             let granted = self.requests.remove(place);
             self.last = t;
             return Ok(Pulled::Returning {

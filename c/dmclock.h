@@ -1,9 +1,10 @@
 /* The proved dmClock queue and service tracker for back ends in C and C++. docs/C.md has the rest.
  *
- * A struct dmc_queue starts as DMC_QUEUE_NONE and a struct dmc_tracker as DMC_TRACKER_NONE. Its fields are not written by
- * the caller. It may be moved between calls: copied once, and the old one set to its NONE. It is copied in no other way.
- * Pointers are valid and do not overlap. One call at a time on one queue or tracker; none from a signal handler. A struct
- * may move from thread to thread between calls, ordered by a lock or by a thread's start or join.
+ * A struct dmc_queue starts as DMC_QUEUE_NONE and a struct dmc_tracker as DMC_TRACKER_NONE, which a struct of zeros is too
+ * (of static storage, of calloc, of memset). Its fields are not written by the caller. It may be moved between calls: copied
+ * once, and the old one set to its NONE (old = dmc_queue_none()). It is copied in no other way.
+ * Pointers are valid, none is NULL, and they do not overlap. One call at a time on one queue or tracker; none from a signal
+ * handler. A struct may move from thread to thread between calls, ordered by a lock or by a thread's start or join.
  *
  * Each call but the frees returns a code. The order of codes: DMC_NONE_HELD (a `new`: DMC_HELD), then the values in the
  * order moment, params, rate, then the call's refusals in the order that stands at it, and DMC_MEMORY last. What is not
@@ -31,6 +32,16 @@ struct dmc_queue   { void *at; uint64_t held; };
 struct dmc_tracker { void *at; uint64_t held; };
 #define DMC_QUEUE_NONE   { 0, 0 }
 #define DMC_TRACKER_NONE { 0, 0 }
+
+/* The same as values: DMC_QUEUE_NONE is an initializer, which C does not assign. */
+static inline struct dmc_queue dmc_queue_none(void) {
+  struct dmc_queue none = DMC_QUEUE_NONE;
+  return none;
+}
+static inline struct dmc_tracker dmc_tracker_none(void) {
+  struct dmc_tracker none = DMC_TRACKER_NONE;
+  return none;
+}
 
 enum dmc_code {
   DMC_OK = 0,
@@ -95,6 +106,13 @@ uint32_t dmc_queue_update(struct dmc_queue *, uint32_t client, uint32_t reservat
    DMC_UNKNOWN, DMC_QUEUE_FULL, DMC_RANGE, DMC_MEMORY. */
 uint32_t dmc_queue_add(struct dmc_queue *, uint32_t client, uint32_t token, uint32_t delta, uint32_t rho, uint64_t at,
                        struct dmc_tags *);
+
+/* Queues a request at a server that is its clients' only one: each request counts for one, and no tracker is needed. The same
+   refusals. */
+static inline uint32_t dmc_queue_add_single(struct dmc_queue *queue, uint32_t client, uint32_t token, uint64_t at) {
+  struct dmc_tags tags;
+  return dmc_queue_add(queue, client, token, 1, 1, at, &tags);
+}
 
 /* Grants the next request, or returns when one is due. DMC_NONE_HELD, DMC_BAD_MOMENT, DMC_RANGE. */
 uint32_t dmc_queue_pull(struct dmc_queue *, uint64_t at, struct dmc_pulled *);

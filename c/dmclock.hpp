@@ -111,6 +111,11 @@ class [[nodiscard]] Result {
     return value_;
   }
   /// The value; throws Error where there is none (and aborts where exceptions are switched off).
+  T &value() & {
+    check();
+    return value_;
+  }
+  /// The value; throws Error where there is none (and aborts where exceptions are switched off).
   T value() && {
     check();
     return std::move(value_);
@@ -367,7 +372,7 @@ class Queue {
   /// No queue: each call is NoneHeld.
   Queue() noexcept = default;
   /// Takes the queue of another, which is left with none.
-  Queue(Queue &&other) noexcept : queue_(std::exchange(other.queue_, dmc_queue DMC_QUEUE_NONE)) {}
+  Queue(Queue &&other) noexcept : queue_(std::exchange(other.queue_, dmc_queue_none())) {}
   /// Ends its queue, and takes that of another, which is left with none.
   Queue &operator=(Queue &&other) noexcept {
     Queue taken(std::move(other));
@@ -450,7 +455,7 @@ class Tracker {
   /// No tracker: each call is NoneHeld.
   Tracker() noexcept = default;
   /// Takes the tracker of another, which is left with none.
-  Tracker(Tracker &&other) noexcept : tracker_(std::exchange(other.tracker_, dmc_tracker DMC_TRACKER_NONE)) {}
+  Tracker(Tracker &&other) noexcept : tracker_(std::exchange(other.tracker_, dmc_tracker_none())) {}
   /// Ends its tracker, and takes that of another, which is left with none.
   Tracker &operator=(Tracker &&other) noexcept {
     Tracker taken(std::move(other));

@@ -405,7 +405,30 @@ static void run_clocks(void) {
   expect("no clock", moment_of(0, 1, DMC_BAD_CONFIG) == unwritten && nanos_of(1000000001, 1, DMC_BAD_CONFIG) == unwritten && nanos_of_due(0, 1, 0, DMC_BAD_CONFIG) == unwritten);
 }
 
+/* A struct that is moved, one of zeros, and a server that is its clients' only one. */
+static void run_structs(void) {
+  struct dmc_queue queue, old = dmc_queue_none();
+  struct dmc_tracker tracker, old_tracker = dmc_tracker_none();
+  struct dmc_pulled pulled = {0};
+  uint32_t clients = 0, requests = 0;
+  memset(&queue, 0, sizeof queue);
+  memset(&tracker, 0, sizeof tracker);
+  expect("zeros hold nothing", code(dmc_queue_counts(&queue, &clients, &requests)) == DMC_NONE_HELD && code(dmc_tracker_skip(&tracker, 0)) == DMC_NONE_HELD);
+  expect("zeros take what is made", code(dmc_queue_new(&queue, DMC_TICK, 1000, 1000, 1000, DMC_WAIT)) == DMC_OK && code(dmc_tracker_new(&tracker, 1, 9, DMC_ALL)) == DMC_OK);
+  old = queue;
+  queue = dmc_queue_none();
+  old_tracker = tracker;
+  tracker = dmc_tracker_none();
+  expect("what was moved away", code(dmc_queue_counts(&queue, &clients, &requests)) == DMC_NONE_HELD && code(dmc_tracker_skip(&tracker, 0)) == DMC_NONE_HELD);
+  expect("what was moved", code(dmc_queue_register(&old, 1, 0, 1, 0, 0)) == DMC_OK && code(dmc_tracker_skip(&old_tracker, 0)) == DMC_OK);
+  expect("a single server", code(dmc_queue_add_single(&old, 1, 7, 0)) == DMC_OK && code(dmc_queue_add_single(&old, 2, 7, 0)) == DMC_UNKNOWN && code(dmc_queue_add_single(&old, 1, 8, 0)) == DMC_OK &&
+                            code(dmc_queue_pull(&old, 0, &pulled)) == DMC_OK && pulled.kind == DMC_GRANTED && pulled.token == 7);
+  dmc_queue_free(&old);
+  dmc_tracker_free(&old_tracker);
+}
+
 int main(void) {
+  run_structs();
   run_scripts();
   run_trackers();
   run_rates();

@@ -312,6 +312,9 @@ static void run_results() {
     thrown = error.code() == Code::BadConfig && std::string(error.what()) == "bad config";
   }
   expect("a value that is not there", thrown && !none && none.code() == Code::BadConfig);
+  Result<Queue> made = Queue::make(ticks);
+  expect("a value that stays in its result", made.value().register_client(ClientId(1), {std::nullopt, 1, std::nullopt}, Moment(0)) == Code::Ok &&
+                                                 made.value().client_count().value() == 1);
   refuses = true;
   const bool refused = Queue::make(ticks).code() == Code::Memory && Tracker::make(1, 1, Counting::All).code() == Code::Memory;
   refuses = false;

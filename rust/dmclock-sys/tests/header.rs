@@ -134,10 +134,10 @@ fn structs() {
 #[test]
 fn calls() {
     let (header, declared) = (header(), declarations());
-    let text = header.replace('\n', " ");
     let mut wanted = BTreeMap::new();
-    for (start, answers) in [("uint32_t dmc_", true), ("void dmc_", false)] {
-        for call in between(&text, start, ";") {
+    for (start, answers) in [("\nuint32_t dmc_", true), ("\nvoid dmc_", false)] {
+        for call in between(&header, start, ";") {
+            let call = call.replace('\n', " ");
             let (name, params) = call.trim_end_matches(')').split_once('(').unwrap();
             wanted.insert(format!("dmc_{name}"), (c_types(params), answers));
         }

@@ -1,6 +1,6 @@
-#: make install [PREFIX=/usr/local] [DESTDIR=]    installs program, libraries, headers, manual pages and documents
-#: make uninstall [PREFIX=/usr/local] [DESTDIR=]  takes away what an install put there
-#: make -C share/dmclock/nbd install              builds the nbdkit filter, and puts it where nbdkit looks for it
+#: make install [PREFIX=/usr/local] [LIBDIR=lib] [DESTDIR=]  installs program, libraries, headers, manual pages, documents
+#: make uninstall [PREFIX=/usr/local] [DESTDIR=]             takes away what an install put there
+#: make -C share/dmclock/nbd install                         builds the nbdkit filter, and puts it where nbdkit looks for it
 #: INSTALL has the rest.
 help:
 	@sed -n 's/^#: //p' Makefile

@@ -2,12 +2,24 @@
 # install.sh install TREE   puts bin, include, lib and share of TREE below $DESTDIR$PREFIX (/usr/local where PREFIX is not set)
 # install.sh uninstall      takes away what an install put there
 #
+# LIBDIR is the folder of the libraries below PREFIX, such as lib64, or the same with PREFIX before it; lib where it is not set.
+#
 # An install leaves a list of its files, and of the folders that it had to make. By it an upgrade and an uninstall take away
 # exactly these; a folder that has something else in it stays.
 set -eu
 export LC_ALL=C
-root=${DESTDIR:-}${PREFIX:-/usr/local}
+prefix=${PREFIX:-/usr/local}
+root=${DESTDIR:-}$prefix
 list=share/doc/dmclock/files
+
+libdir=${LIBDIR:-lib}
+libdir=${libdir#"$prefix"/}
+case $libdir in
+  /* | */ | *..*)
+    echo "LIBDIR=$LIBDIR is no folder below $prefix" >&2
+    exit 2
+    ;;
+esac
 
 # Makes a folder below the root, with those above it, and adds each that was not there to the list.
 make_folder() {
@@ -33,18 +45,32 @@ take_away() {
   done
 }
 
+# The file of pkg-config finds the prefix by its own place, so that what is installed may be moved. Below /usr, which is not
+# moved, it names it, since pkg-config leaves out the flags that compilers know anyway.
+put_pc() {
+  up=$(echo "$libdir/pkgconfig" | sed 's,[^/]*,..,g')
+  case $prefix in /usr) place=/usr ;; *) place="\${pcfiledir}/$up" ;; esac
+  sed -e "s,^prefix=.*,prefix=$place," -e "s,^libdir=.*,libdir=\${prefix}/$libdir," "$1" > "$work/pc"
+  install -m 644 "$work/pc" "$2"
+}
+
 put() {
   case $1 in
-    *.so) ln -sfn "$(readlink "$tree/$1")" "$root/$1" ;;
-    bin/* | *.so.*) install -m 755 "$tree/$1" "$root/$1" ;;
-    *) install -m 644 "$tree/$1" "$root/$1" ;;
+    "$libdir"/*) from=$tree/lib/${1#"$libdir"/} ;;
+    *) from=$tree/$1 ;;
+  esac
+  case $1 in
+    *.so) ln -sfn "$(readlink "$from")" "$root/$1" ;;
+    *.pc) put_pc "$from" "$root/$1" ;;
+    bin/* | *.so.*) install -m 755 "$from" "$root/$1" ;;
+    *) install -m 644 "$from" "$root/$1" ;;
   esac
 }
 
 install_tree() {
   work=$(mktemp -d)
   trap 'rm -rf "$work"' EXIT
-  (cd "$tree" && find bin include lib share -type f -o -type l) > "$work/files"
+  (cd "$tree" && find bin include lib share -type f -o -type l) | sed "s,^lib/,$libdir/," > "$work/files"
   echo "$list" >> "$work/files"
   if [ -f "$root/$list" ]; then cp "$root/$list" "$work/old"; else : > "$work/old"; fi
   grep '/$' "$work/old" > "$work/folders" || true

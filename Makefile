@@ -6,7 +6,7 @@ help:
 program:
 	scripts/build
 
-# Every test: the gate, and then the parts that are built upon what it proved.
+# Every test: the gate, and then the parts that are built upon what it proved. It installs packages that are missing, but with INSTALL=0.
 test:
 	scripts/test
 
@@ -49,7 +49,7 @@ refusals:
 c:
 	c/build
 
-# Installs program, libraries, headers and manual pages, and builds what is missing: make install [PREFIX=/usr/local] [DESTDIR=]
+# Installs program, libraries, headers and manual pages, and builds what is missing: make install [PREFIX=/usr/local] [LIBDIR=lib] [DESTDIR=]
 install:
 	packages/tree out/tree
 	packages/install.sh install out/tree
@@ -62,7 +62,7 @@ uninstall:
 dist:
 	packages/dist
 
-# Tests of what is installed: the archive, what a new user does with it, the linters, and the instructions from C++ and Rust.
+# Tests of the archive: what a new user does with it, the linters, instructions from C++ and Rust. INSTALL=1 installs what is missing.
 packages:
 	packages/needs
 	packages/dist
@@ -70,13 +70,13 @@ packages:
 	packages/lint
 	packages/count
 
-# The filter for nbdkit, nbd/out/nbdkit-dmclock-filter.so: builds it and runs its tests. It installs the packages that are missing.
+# The filter for nbdkit, nbd/out/nbdkit-dmclock-filter.so: builds it and runs its tests. INSTALL=1 installs packages that are missing.
 nbd:
 	nbd/packages
 	nbd/build
 	nbd/tests
 
-# The planner, out/dmclock-planner.html, a page that shows what rates will do: builds it and runs its tests. It installs Chromium.
+# The planner, out/dmclock-planner.html, a page that shows what rates will do: builds and tests it. INSTALL=1 installs Chromium.
 planner:
 	planner/packages
 	planner/build

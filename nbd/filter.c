@@ -1,20 +1,29 @@
 /* An nbdkit filter that puts a dmClock queue before any plugin: each export name is a client. */
+#define _GNU_SOURCE
 #define NBDKIT_API_VERSION 2
 #include <nbdkit-filter.h>
 
 #include <errno.h>
 #include <pthread.h>
+#include <signal.h>
 #include <stdlib.h>
 #include <string.h>
+#include <sys/stat.h>
+#include <time.h>
 
 #include "gate.h"
+#include "metrics.h"
 #include "settings.h"
 #include "stats.h"
+#include "text.h"
 
-static struct settings settings = SETTINGS_DEFAULT;
+/* The settings of the command line, and these with those of the file, which change under the lock. */
+static struct settings given = SETTINGS_DEFAULT;
+static struct settings settings;
+static pthread_mutex_t settings_lock = PTHREAD_MUTEX_INITIALIZER;
 static struct gate gate;
 
-/* The thread that learns of a shutdown, and writes the statistics. */
+/* The thread that learns of a shutdown, writes what is reported, and reads the file again. */
 static pthread_t watcher;
 static bool has_watcher;
 
@@ -22,19 +31,50 @@ static bool has_watcher;
 
 static int dmclock_config(nbdkit_next_config *next, nbdkit_backend *backend, const char *key, const char *value)
 {
-  int read = settings_read(&settings, key, value);
+  int read = settings_read(&given, key, value);
   return read == 0 ? next(backend, key, value) : read < 0 ? -1 : 0;
+}
+
+/* The settings of the command line and of the file. */
+static bool load(struct settings *all)
+{
+  if (!settings_copy(&given, all)) {
+    nbdkit_error("dmclock: %s", strerror(ENOMEM));
+    return false;
+  }
+  bool is_read = settings_read_file(all);
+  if (!is_read)
+    settings_free(all);
+  return is_read;
+}
+
+/* When the file was written last, as far as a change shows. */
+static struct stat last_written;
+
+/* Whether the file was written since this was asked last. */
+static bool is_written(void)
+{
+  struct stat now;
+  if (stat(given.config, &now) == -1)
+    return false;
+  bool is_same = now.st_mtim.tv_sec == last_written.st_mtim.tv_sec && now.st_mtim.tv_nsec == last_written.st_mtim.tv_nsec &&
+                 now.st_ino == last_written.st_ino && now.st_size == last_written.st_size;
+  last_written = now;
+  return !is_same;
 }
 
 static int dmclock_config_complete(nbdkit_next_config_complete *next, nbdkit_backend *backend)
 {
-  return settings_agree(&settings) ? next(backend) : -1;
+  if (given.config)
+    is_written();
+  return load(&settings) && settings_agree(&settings) ? next(backend) : -1;
 }
 
 /* Ends the start with an error of ours. */
 static int is_failed(const char *what, int fault)
 {
-  nbdkit_error("dmclock: %s: %s", what, strerror(fault));
+  char printable[PRINTABLE_SIZE];
+  nbdkit_error("dmclock: %s: %s", text_printable(what, printable), strerror(fault));
   return -1;
 }
 
@@ -65,16 +105,89 @@ static int dmclock_get_ready(int thread_model)
   return 0;
 }
 
+/* ---- the file of the settings, read again */
+
+/* Whether somebody has sent SIGHUP, which all threads block: nbdkit would end at it. */
+static bool is_asked(void)
+{
+  sigset_t hangup;
+  sigemptyset(&hangup);
+  sigaddset(&hangup, SIGHUP);
+  return sigtimedwait(&hangup, NULL, &(struct timespec){0}) == SIGHUP;
+}
+
+static void block_hangup(void)
+{
+  sigset_t hangup;
+  sigemptyset(&hangup);
+  sigaddset(&hangup, SIGHUP);
+  pthread_sigmask(SIG_BLOCK, &hangup, NULL);
+}
+
+/* Gives a client other rates. */
+static void change(const char *name, const struct rates *rates, bool is_kept)
+{
+  int fault = gate_change(&gate, name, rates, is_kept);
+  if (fault)
+    is_failed(name, fault);
+}
+
+/* The gate gets these settings in place of others. A client that is in the settings no more is one of the other names. */
+static void change_gate(const struct settings *now, const struct settings *before)
+{
+  gate_resize(&gate, now->gate.depth, now->gate.most_others);
+  for (const struct client_setting *client = before->clients; client; client = client->next)
+    if (!settings_have(now, client->name))
+      change(client->name, now->has_default ? &now->found : &client->found, false);
+  if (now->has_default)
+    gate_change_others(&gate, &now->found);
+  for (const struct client_setting *client = now->clients; client; client = client->next)
+    change(client->name, &client->found, true);
+}
+
+/* Reads the file again. If anything is wrong with it, all stays as it was. */
+static void read_again(void)
+{
+  struct settings fresh;
+  if (!load(&fresh))
+    return;
+  if (!settings_agree(&fresh) || !settings_may_follow(&fresh, &settings)) {
+    settings_free(&fresh);
+    return;
+  }
+  pthread_mutex_lock(&settings_lock);
+  struct settings before = settings;
+  settings = fresh;
+  change_gate(&settings, &before);
+  pthread_mutex_unlock(&settings_lock);
+  settings_free(&before);
+  settings_print(&settings);
+}
+
 /* ---- the watcher */
 
-/* A fault of the statistics is logged when it comes, and not every second. */
-static void write_stats(void)
+/* A fault of a file is logged when it comes, and not every second. */
+static void report_to(const struct report *report, void (*put)(FILE *, const struct report *), const char *key, const char *path,
+                      int *last_fault)
 {
-  static int last_fault;
-  int fault = settings.stats ? stats_write(&gate, settings.stats) : 0;
-  if (fault && fault != last_fault)
-    nbdkit_error("dmclock-stats=%s: %s", settings.stats, strerror(fault));
-  last_fault = fault;
+  int fault = path ? report_write(report, put, path) : 0;
+  if (fault && fault != *last_fault)
+    nbdkit_error("%s=%s: %s", key, path, strerror(fault));
+  *last_fault = fault;
+}
+
+/* If memory is short, the files stay as they are until the next second. */
+static void write_reports(void)
+{
+  static int stats_fault, metrics_fault;
+  struct report report;
+  if (!settings.stats && !settings.metrics)
+    return;
+  if (report_take(&gate, &report)) {
+    report_to(&report, stats_put, "dmclock-stats", settings.stats, &stats_fault);
+    report_to(&report, metrics_put, "dmclock-metrics", settings.metrics, &metrics_fault);
+  }
+  report_free(&report);
 }
 
 /* Whether the gate grants nothing any more. A reason other than a shutdown is logged. */
@@ -96,7 +209,9 @@ static void *watch(void *unused)
   while (!is_stopped()) {
     if (nbdkit_nanosleep(1, 0) == -1)
       gate_stop(&gate, ESHUTDOWN);
-    write_stats();
+    else if (given.config && (is_asked() | is_written()))
+      read_again();
+    write_reports();
   }
   return NULL;
 }
@@ -104,6 +219,8 @@ static void *watch(void *unused)
 static int dmclock_after_fork(nbdkit_backend *backend)
 {
   (void)backend;
+  if (given.config)
+    block_hangup();
   int fault = gate_start(&gate);
   if (fault)
     return is_failed("the timer", fault);
@@ -125,49 +242,70 @@ static void dmclock_cleanup(nbdkit_backend *backend)
 
 static void dmclock_unload(void)
 {
+  settings_free(&given);
   settings_free(&settings);
 }
 
 /* ---- names */
 
-/* Why a name is no client. The name is whatever somebody sent, so it is logged as printable ASCII. */
+/* Why a name is no client. */
 static void log_unknown(const char *name, int fault)
 {
-  char printable[81];
-  size_t length = 0;
-  for (; name[length] && length < sizeof printable - 1; length++)
-    printable[length] = ' ' <= name[length] && name[length] <= '~' ? name[length] : '?';
-  printable[length] = 0;
-  nbdkit_error("dmclock: no client \"%s\"%s: %s", printable, name[length] ? ".." : "",
+  char printable[PRINTABLE_SIZE];
+  nbdkit_error("dmclock: no client \"%s\": %s", text_printable(name, printable),
                fault == ENOENT  ? "no dmclock-client and no dmclock-default is for it"
                : fault == EBUSY ? "there are dmclock-default-clients other names already"
                                 : strerror(fault));
 }
 
-static int dmclock_list_exports(nbdkit_next_list_exports *next, nbdkit_backend *backend, int readonly, int is_tls, struct nbdkit_exports *exports)
+static int add_names(struct nbdkit_exports *exports)
 {
-  (void)is_tls;
   for (const struct client_setting *client = settings.clients; client; client = client->next)
     if (nbdkit_add_export(exports, client->name, NULL) == -1)
       return -1;
-  return settings.has_default ? next(backend, readonly, exports) : 0;
+  return 0;
+}
+
+static int dmclock_list_exports(nbdkit_next_list_exports *next, nbdkit_backend *backend, int readonly, int is_tls, struct nbdkit_exports *exports)
+{
+  (void)is_tls;
+  pthread_mutex_lock(&settings_lock);
+  int result = add_names(exports);
+  bool has_others = settings.has_default;
+  pthread_mutex_unlock(&settings_lock);
+  return result == 0 && has_others ? next(backend, readonly, exports) : result;
 }
 
 /* Without a default, who names no export is the first client. */
 static const char *dmclock_default_export(nbdkit_next_default_export *next, nbdkit_backend *backend, int readonly, int is_tls)
 {
   (void)is_tls;
-  return settings.has_default || !settings.clients ? next(backend, readonly) : settings.clients->name;
+  pthread_mutex_lock(&settings_lock);
+  bool is_first = !settings.has_default && settings.clients;
+  const char *name = is_first ? nbdkit_strdup_intern(settings.clients->name) : NULL;
+  pthread_mutex_unlock(&settings_lock);
+  return is_first ? name : next(backend, readonly);
 }
 
 /* ---- connections: the handle of one is its client */
+
+/* The client of a name, for one more user. */
+static int client_of(const char *name, struct client **client)
+{
+  pthread_mutex_lock(&settings_lock);
+  bool is_known = settings_have(&settings, name);
+  const char *wanted = settings.is_shared && !is_known ? SHARED_NAME : name;
+  const struct rates *rates = settings.has_default ? &settings.found : NULL;
+  int fault = is_known || rates ? gate_client(&gate, wanted, rates, false, client) : ENOENT;
+  pthread_mutex_unlock(&settings_lock);
+  return fault;
+}
 
 static void *dmclock_open(nbdkit_next_open *next, nbdkit_context *context, int readonly, const char *name, int is_tls)
 {
   (void)is_tls;
   struct client *client;
-  const char *wanted = settings.is_shared && !settings_have(&settings, name) ? SHARED_NAME : name;
-  int fault = gate_client(&gate, wanted, settings.has_default ? &settings.found : NULL, false, &client);
+  int fault = client_of(name, &client);
   if (fault) {
     log_unknown(name, fault);
     return NULL;
@@ -258,7 +396,10 @@ static struct nbdkit_filter filter = {
     "dmclock-at-limit=wait|allow                   Whether a client at its limit waits (default), or gets what is left.\n"
     "dmclock-idle=SECONDS                          Without a request for so long, a client is idle (default 600).\n"
     "dmclock-erase=SECONDS                         Without a request for so long, one of the default is forgotten (default 900).\n"
-    "dmclock-stats=FILE                            A line of JSON a client, every second.",
+    "dmclock-capacity=N                            Warn if the reservations are more requests a second than this.\n"
+    "dmclock-stats=FILE                            A line of JSON a client, every second.\n"
+    "dmclock-metrics=FILE                          The same for Prometheus.\n"
+    "dmclock-config=FILE                           Further settings, one a line, read again if they change.",
   .unload = dmclock_unload,
   .config = dmclock_config,
   .config_complete = dmclock_config_complete,

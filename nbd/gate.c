@@ -158,19 +158,27 @@ static void stop(struct gate *gate, int fault)
   for (uint32_t i = 0; i < gate->slot_count; i++)
     pthread_cond_signal(&gate->slots[i]->wakes);
   pthread_cond_signal(&gate->timer_wakes);
+  pthread_cond_broadcast(&gate->has_changed);
 }
+
+static void change_rates(struct gate *gate, struct client *client, uint64_t now);
 
 /* A request is granted: its thread may use the device. */
 static void grant(struct gate *gate, const struct dmc_pulled *pulled, uint64_t now)
 {
   struct slot *slot = gate->slots[pulled->token];
   struct client *client = slot->client;
+  uint64_t waited = now - slot->entered;
   client->queued--;
   client->grants[pulled->phase]++;
-  times_count(&client->waited, now - slot->entered);
+  client->beyond += pulled->beyond;
+  times_count(&client->waited, waited);
+  buckets_count(&client->buckets[pulled->phase], waited);
   gate->under_way++;
   slot->is_granted = true;
   pthread_cond_signal(&slot->wakes);
+  if (client->is_changing && !client->queued)
+    change_rates(gate, client, now);
 }
 
 /* The next request is due later: the timer waits for it. A moment past all clocks is waited for by the next event instead. */
@@ -270,10 +278,12 @@ static void free_client(struct client *client)
   free(client);
 }
 
+/* The client has a place in the queue, whether or not it had one. */
 static int register_client(struct gate *gate, const struct client *client, uint64_t now)
 {
   const struct rates *rates = &client->rates;
-  return errno_of(dmc_queue_register(&gate->queue, client->id, rates->reservation, rates->weight, rates->limit, moment_of(now)));
+  uint32_t code = dmc_queue_register(&gate->queue, client->id, rates->reservation, rates->weight, rates->limit, moment_of(now));
+  return code == DMC_KNOWN ? 0 : errno_of(code);
 }
 
 static void register_kept(struct gate *gate, uint64_t now)
@@ -281,6 +291,21 @@ static void register_kept(struct gate *gate, uint64_t now)
   for (const struct client *client = gate->first; client; client = client->next)
     if (client->is_kept)
       register_client(gate, client, now);
+}
+
+/* Gives the queue the rates that are wanted. It refuses those that give or take a reservation while a request of the client is
+   queued: then they come with the grant of the last one. A client that it does not know gets them when it is registered. */
+static void change_rates(struct gate *gate, struct client *client, uint64_t now)
+{
+  const struct rates *rates = &client->wanted;
+  uint32_t code = dmc_queue_update(&gate->queue, client->id, rates->reservation, rates->weight, rates->limit, moment_of(now));
+  client->is_changing = code == DMC_BUSY;
+  if (code == DMC_OK || code == DMC_UNKNOWN)
+    client->rates = *rates;
+  else if (code != DMC_BUSY)
+    stop_for(gate, "the queue refuses other rates");
+  if (!client->is_changing)
+    pthread_cond_broadcast(&gate->has_changed);
 }
 
 /* A client with memory for all that it needs, which the gate does not know yet. */
@@ -365,6 +390,37 @@ static void forget_clients(struct gate *gate, uint64_t now)
   }
 }
 
+/* The client is kept, or no longer. One that is kept has a place in the queue. */
+static int keep(struct gate *gate, struct client *client, bool is_kept, uint64_t now)
+{
+  if (client->is_kept == is_kept)
+    return 0;
+  int fault = is_kept ? register_client(gate, client, now) : 0;
+  if (fault)
+    return fault;
+  client->is_kept = is_kept;
+  if (is_kept)
+    gate->others--;
+  else
+    gate->others++;
+  return 0;
+}
+
+static int change_client(struct gate *gate, const char *name, const struct rates *rates, bool is_kept, uint64_t now)
+{
+  struct client *client = find(gate, name);
+  if (!client)
+    return is_kept ? make_client(gate, name, rates, true, &client) : 0;
+  int fault = keep(gate, client, is_kept, now);
+  if (fault)
+    return fault;
+  client->wanted = *rates;
+  change_rates(gate, client, now);
+  if (is_forgotten(gate, client, now))
+    forget(gate, client);
+  return 0;
+}
+
 /* Queues a request of a client. One that the queue does not know, or has forgotten, is registered before. A request of one that
    finds no place is refused for want of memory, since NBD has no other word for it. */
 static int queue_request(struct gate *gate, struct client *client, const struct slot *slot)
@@ -384,7 +440,6 @@ static int queue_request(struct gate *gate, struct client *client, const struct 
 static int submit(struct gate *gate, struct client *client, struct slot *slot)
 {
   slot->client = client;
-  slot->entered = gate_now(gate);
   slot->is_granted = false;
   int fault = queue_request(gate, client, slot);
   if (fault)
@@ -397,7 +452,9 @@ static int submit(struct gate *gate, struct client *client, struct slot *slot)
 
 static int wait_in(struct gate *gate, struct client *client, struct slot *slot, bool *has_waited)
 {
-  int fault = submit(gate, client, slot);
+  while (client->is_changing && !gate->fault)
+    pthread_cond_wait(&gate->has_changed, &gate->lock);
+  int fault = gate->fault ? gate->fault : submit(gate, client, slot);
   if (fault)
     return fault;
   dispatch(gate);
@@ -429,6 +486,8 @@ int gate_open(struct gate *gate, const struct gate_config *config)
   fault = init_condition(&gate->timer_wakes);
   if (fault)
     dmc_queue_free(&gate->queue);
+  else
+    pthread_cond_init(&gate->has_changed, NULL); /* which can't fail either */
   return fault;
 }
 
@@ -465,6 +524,7 @@ void gate_close(struct gate *gate)
   free_slots(gate);
   dmc_queue_free(&gate->queue);
   pthread_cond_destroy(&gate->timer_wakes);
+  pthread_cond_destroy(&gate->has_changed);
   pthread_mutex_destroy(&gate->lock);
 }
 
@@ -482,6 +542,35 @@ int gate_client(struct gate *gate, const char *name, const struct rates *rates, 
   return fault ? fault : found ? 0 : ENOENT;
 }
 
+int gate_change(struct gate *gate, const char *name, const struct rates *rates, bool is_kept)
+{
+  pthread_mutex_lock(&gate->lock);
+  int fault = change_client(gate, name, rates, is_kept, gate_now(gate));
+  pthread_mutex_unlock(&gate->lock);
+  return fault;
+}
+
+void gate_change_others(struct gate *gate, const struct rates *rates)
+{
+  pthread_mutex_lock(&gate->lock);
+  uint64_t now = gate_now(gate);
+  for (struct client *client = gate->first; client; client = client->next)
+    if (!client->is_kept) {
+      client->wanted = *rates;
+      change_rates(gate, client, now);
+    }
+  pthread_mutex_unlock(&gate->lock);
+}
+
+void gate_resize(struct gate *gate, uint32_t depth, uint32_t most_others)
+{
+  pthread_mutex_lock(&gate->lock);
+  gate->config.depth = depth;
+  gate->config.most_others = most_others;
+  dispatch(gate);
+  pthread_mutex_unlock(&gate->lock);
+}
+
 void gate_release(struct gate *gate, struct client *client)
 {
   pthread_mutex_lock(&gate->lock);
@@ -496,8 +585,10 @@ int gate_enter(struct gate *gate, struct client *client, bool *has_waited)
   struct slot *slot = NULL;
   pthread_mutex_lock(&gate->lock);
   int fault = gate->fault ? gate->fault : take_slot(gate, &slot);
-  if (!fault)
+  if (!fault) {
+    slot->entered = gate_now(gate);
     fault = wait_in(gate, client, slot, has_waited);
+  }
   if (slot)
     give_back(gate, slot);
   pthread_mutex_unlock(&gate->lock);

@@ -26,13 +26,17 @@ struct gate_config {
 struct client {
   char *name;
   struct rates rates;      /* as the queue has them */
+  struct rates wanted;     /* other rates, which the queue takes as soon as no request of the client waits in it */
+  bool is_changing;        /* whether that is still to come; until then requests of the client wait before they are queued */
   uint32_t id;
   bool is_kept;            /* it has a place in the queue whatever other names come, and is never forgotten */
   uint32_t users;          /* who holds it: connections, of an nbdkit filter */
   uint32_t queued;
   uint64_t requests, grants[2]; /* the grants by dmc_phase */
+  uint64_t beyond;         /* those of them beyond the limit */
   uint64_t last_request;   /* nanoseconds of the gate's clock */
   struct times waited;     /* from entering to the grant */
+  struct buckets buckets[2]; /* the same, by dmc_phase */
   struct client *next, **link; /* the next one, and what points to this one */
 };
 
@@ -42,6 +46,7 @@ struct slot;
 struct gate {
   pthread_mutex_t lock;
   pthread_cond_t timer_wakes;
+  pthread_cond_t has_changed; /* a client's rates are no longer changing */
   pthread_t timer;
   bool has_timer;
   struct gate_config config;
@@ -84,6 +89,17 @@ void gate_close(struct gate *);
    is kept is registered at once and never forgotten, any other at its first request. Returns 0; else ENOENT if there is none and
    rates is NULL, EBUSY if there are the most clients of its kind, or another errno. */
 int gate_client(struct gate *, const char *name, const struct rates *, bool is_kept, struct client **);
+
+/* Gives the client of this name other rates, and makes it one that is kept, or no longer: then it is forgotten once nobody uses it.
+   If there is none, one that is kept is made. Requests that are queued keep their places; a reservation is given or taken once they
+   are granted. Returns 0; else EBUSY if there are the most clients, or another errno. */
+int gate_change(struct gate *, const char *name, const struct rates *, bool is_kept);
+
+/* Gives all clients that are not kept these rates. */
+void gate_change_others(struct gate *, const struct rates *);
+
+/* From now on the device has this many requests at once, and there are so many clients that are not kept. */
+void gate_resize(struct gate *, uint32_t depth, uint32_t most_others);
 
 /* A user of the client less. One that is not kept, and has no user and never had a request, is forgotten. */
 void gate_release(struct gate *, struct client *);

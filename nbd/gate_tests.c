@@ -93,6 +93,7 @@ static void percentiles(void)
   CHECK(times_percentile(&times, 100) == UINT64_MAX / 2);
 }
 
+/* A thread's request. */
 struct entry {
   struct gate *gate;
   struct client *client;
@@ -235,6 +236,80 @@ static void kept_place(void)
   gate_close(&gate);
 }
 
+/* A client gets other rates. A reservation comes once its queued requests are granted, and the next one waits for that. */
+static void changed(void)
+{
+  struct gate gate = {0};
+  struct client *client, *other;
+  struct rates none = rates_of(0, 1, 0), more = rates_of(1000, 2, 0), limited = rates_of(10, 3, 1000);
+  pthread_t threads[2];
+  bool has_waited;
+  CHECK(gate_open(&gate, &one_at_once) == 0 && gate_start(&gate) == 0);
+  CHECK(gate_client(&gate, "a", &none, true, &client) == 0 && gate_client(&gate, "b", &none, false, &other) == 0);
+  CHECK(gate_enter(&gate, other, &has_waited) == 0);
+  struct entry first = {&gate, client, -1}, second = {&gate, client, -1};
+  pthread_create(&threads[0], NULL, enter, &first);
+  await_queued(&gate, client, 1);
+  CHECK(gate_change(&gate, "a", &more, true) == 0 && client->is_changing && client->rates.reservation == 0);
+  pthread_create(&threads[1], NULL, enter, &second);
+  usleep(20000);
+  CHECK(queued(&gate, client) == 1);
+  gate_leave(&gate);
+  pthread_join(threads[0], NULL);
+  await_queued(&gate, client, 1);
+  CHECK(!client->is_changing && client->rates.reservation == more.reservation && client->rates.weight == 2);
+  gate_leave(&gate);
+  pthread_join(threads[1], NULL);
+  gate_leave(&gate);
+  CHECK(first.fault == 0 && second.fault == 0 && client->requests == 2);
+  CHECK(client->grants[DMC_PRIORITY] == 1 && client->grants[DMC_RESERVATION] == 1);
+  CHECK(client->buckets[DMC_PRIORITY].counts[0] == 0 && client->buckets[DMC_PRIORITY].sum + client->buckets[DMC_RESERVATION].sum == client->waited.sum);
+  gate_change_others(&gate, &limited);
+  CHECK(other->rates.limit == 990 && client->rates.limit == 0);
+  gate_close(&gate);
+}
+
+/* A client that is no longer kept is forgotten once nobody uses it; one of the default may become one that is kept. */
+static void kept_and_not(void)
+{
+  struct gate gate = {0};
+  struct client *client, *other;
+  struct rates none = rates_of(0, 1, 0), more = rates_of(10, 2, 0);
+  CHECK(gate_open(&gate, &one_at_once) == 0);
+  CHECK(gate_client(&gate, "a", &none, true, &client) == 0 && gate.others == 0);
+  CHECK(gate_change(&gate, "a", &none, false) == 0 && gate.others == 1);
+  gate_release(&gate, client);
+  CHECK(gate_client(&gate, "a", NULL, false, &client) == ENOENT && gate.others == 0);
+  CHECK(gate_client(&gate, "b", &none, false, &other) == 0 && gate.others == 1);
+  CHECK(gate_change(&gate, "b", &more, true) == 0 && gate.others == 0 && other->rates.reservation == 10);
+  gate_release(&gate, other);
+  CHECK(gate_client(&gate, "b", NULL, false, &other) == 0);
+  CHECK(gate_change(&gate, "new", &more, true) == 0 && gate_client(&gate, "new", NULL, false, &other) == 0);
+  CHECK(gate_change(&gate, "nobody", &more, false) == 0 && gate_client(&gate, "nobody", NULL, false, &other) == ENOENT);
+  gate_close(&gate);
+}
+
+/* More room at the device serves who waits. */
+static void resized(void)
+{
+  struct gate gate = {0};
+  struct client *client;
+  struct rates none = rates_of(0, 1, 0);
+  pthread_t thread;
+  bool has_waited;
+  CHECK(gate_open(&gate, &one_at_once) == 0 && gate_start(&gate) == 0 && gate_client(&gate, "a", &none, true, &client) == 0);
+  CHECK(gate_enter(&gate, client, &has_waited) == 0);
+  struct entry entry = {&gate, client, -1};
+  pthread_create(&thread, NULL, enter, &entry);
+  await_queued(&gate, client, 1);
+  gate_resize(&gate, 2, 1);
+  pthread_join(thread, NULL);
+  CHECK(entry.fault == 0 && gate.under_way == 2 && gate.config.most_others == 1);
+  gate_leave(&gate);
+  gate_leave(&gate);
+  gate_close(&gate);
+}
+
 /* A client of the default that nobody uses and that had no request is forgotten at once. */
 static void unused_names(void)
 {
@@ -294,6 +369,9 @@ int main(void)
   most_clients();
   forgotten();
   kept_place();
+  changed();
+  kept_and_not();
+  resized();
   unused_names();
   refused_allocations();
   printf("%d failures\n", failures);

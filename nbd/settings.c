@@ -1,9 +1,13 @@
 #define _GNU_SOURCE
 #include "settings.h"
 
+#include <errno.h>
+#include <stdarg.h>
 #include <stdio.h>
 #include <stdlib.h>
 #include <string.h>
+
+#include "text.h"
 
 #define NBDKIT_API_VERSION 2
 #include <nbdkit-filter.h>
@@ -92,15 +96,31 @@ static const char *last_fields(const char *value)
 
 /* ---- keys */
 
-static int is_bad(const char *key, const char *value, const char *wanted)
+/* An error, with the line of the file that it is in. */
+__attribute__((format(printf, 2, 3))) static void say_error(const struct settings *settings, const char *format, ...)
 {
-  nbdkit_error("%s=%s: wanted is %s", key, value, wanted);
+  char text[1024], file[PRINTABLE_SIZE];
+  va_list words;
+  va_start(words, format);
+  vsnprintf(text, sizeof text, format, words);
+  va_end(words);
+  if (settings->line)
+    nbdkit_error("%s, line %u: %s", text_printable(settings->config, file), settings->line, text);
+  else
+    nbdkit_error("%s", text);
+}
+
+static int is_bad(const struct settings *settings, const char *key, const char *value, const char *wanted)
+{
+  char printable[PRINTABLE_SIZE];
+  say_error(settings, "%s=%s: wanted is %s", key, text_printable(value, printable), wanted);
   return -1;
 }
 
-static int is_faulty(const char *key, const char *value, const char *fault, const char *wanted)
+static int is_faulty(const struct settings *settings, const char *key, const char *value, const char *fault, const char *wanted)
 {
-  nbdkit_error("%s=%s: %s; wanted is %s, in requests a second", key, value, fault, wanted);
+  char printable[PRINTABLE_SIZE];
+  say_error(settings, "%s=%s: %s; wanted is %s, in requests a second", key, text_printable(value, printable), fault, wanted);
   return -1;
 }
 
@@ -112,36 +132,41 @@ bool settings_have(const struct settings *settings, const char *name)
   return false;
 }
 
+static void append(struct settings *settings, struct client_setting *client)
+{
+  struct client_setting **last = &settings->clients;
+  while (*last)
+    last = &(*last)->next;
+  *last = client;
+}
+
 static int add_client(struct settings *settings, const char *key, const char *value)
 {
   struct client_setting client = {0};
   fault_text fault = "a field is missing";
   const char *fields = last_fields(value);
   if (!fields || !take_rates(fields, &client.asked, &client.found, fault))
-    return is_faulty(key, value, fault, "NAME:RESERVATION:WEIGHT:LIMIT");
+    return is_faulty(settings, key, value, fault, "NAME:RESERVATION:WEIGHT:LIMIT");
   client.name = strndup(value, (size_t)(fields - 1 - value));
   struct client_setting *kept = malloc(sizeof *kept);
   if (!client.name || !kept || settings_have(settings, client.name)) {
-    int result = is_bad(key, value, client.name && kept ? "a name that no other client has" : "more memory");
+    int result = is_bad(settings, key, value, client.name && kept ? "a name that no other client has" : "more memory");
     free(client.name);
     free(kept);
     return result;
   }
   *kept = client;
-  struct client_setting **last = &settings->clients;
-  while (*last)
-    last = &(*last)->next;
-  *last = kept;
+  append(settings, kept);
   return 1;
 }
 
 static int set_default(struct settings *settings, const char *key, const char *value)
 {
   if (settings->has_default)
-    return is_bad(key, value, "one default");
+    return is_bad(settings, key, value, "one default");
   fault_text fault;
   if (!take_rates(value, &settings->asked, &settings->found, fault))
-    return is_faulty(key, value, fault, "RESERVATION:WEIGHT:LIMIT");
+    return is_faulty(settings, key, value, fault, "RESERVATION:WEIGHT:LIMIT");
   settings->has_default = true;
   return 1;
 }
@@ -150,7 +175,7 @@ static int set_default_clients(struct settings *settings, const char *key, const
 {
   uint64_t most;
   if (!read_count(value, MOST_CLIENTS, &most))
-    return is_bad(key, value, "1 to 65536 clients");
+    return is_bad(settings, key, value, "1 to 65536 clients");
   settings->gate.most_others = (uint32_t)most;
   return 1;
 }
@@ -159,7 +184,7 @@ static int set_shared(struct settings *settings, const char *key, const char *va
 {
   int shared = nbdkit_parse_bool(value);
   if (shared == -1)
-    return is_bad(key, value, "true or false");
+    return is_bad(settings, key, value, "true or false");
   settings->is_shared = shared;
   return 1;
 }
@@ -168,7 +193,7 @@ static int set_depth(struct settings *settings, const char *key, const char *val
 {
   uint64_t depth;
   if (!read_count(value, MOST_DEPTH, &depth))
-    return is_bad(key, value, "1 to 1048576 requests");
+    return is_bad(settings, key, value, "1 to 1048576 requests");
   settings->gate.depth = (uint32_t)depth;
   return 1;
 }
@@ -176,24 +201,36 @@ static int set_depth(struct settings *settings, const char *key, const char *val
 static int set_at_limit(struct settings *settings, const char *key, const char *value)
 {
   if (strcmp(value, "wait") != 0 && strcmp(value, "allow") != 0)
-    return is_bad(key, value, "wait or allow");
+    return is_bad(settings, key, value, "wait or allow");
   settings->gate.at_limit = strcmp(value, "wait") == 0 ? DMC_WAIT : DMC_ALLOW;
   return 1;
 }
 
-static int set_seconds(uint64_t *seconds, const char *key, const char *value)
+static int set_seconds(const struct settings *settings, uint64_t *seconds, const char *key, const char *value)
 {
-  return read_count(value, MOST_SECONDS, seconds) ? 1 : is_bad(key, value, "1 to 1000000000 seconds");
+  return read_count(value, MOST_SECONDS, seconds) ? 1 : is_bad(settings, key, value, "1 to 1000000000 seconds");
 }
 
-static int set_stats(struct settings *settings, const char *key, const char *value)
+static int set_capacity(struct settings *settings, const char *key, const char *value)
 {
-  char *path = *value ? nbdkit_absolute_path(value) : NULL;
-  if (!path)
-    return is_bad(key, value, "the name of a file");
-  free(settings->stats);
-  settings->stats = path;
+  return read_count(value, UINT32_MAX, &settings->capacity) ? 1 : is_bad(settings, key, value, "1 to 4294967295 requests a second");
+}
+
+static int set_path(const struct settings *settings, char **path, const char *key, const char *value)
+{
+  char *absolute = *value ? nbdkit_absolute_path(value) : NULL;
+  if (!absolute)
+    return is_bad(settings, key, value, "the name of a file");
+  free(*path);
+  *path = absolute;
   return 1;
+}
+
+static int set_config(struct settings *settings, const char *key, const char *value)
+{
+  if (settings->config)
+    return is_bad(settings, key, value, "one file, which names no other");
+  return set_path(settings, &settings->config, key, value);
 }
 
 int settings_read(struct settings *settings, const char *key, const char *value)
@@ -211,15 +248,111 @@ int settings_read(struct settings *settings, const char *key, const char *value)
   if (strcmp(key, "dmclock-at-limit") == 0)
     return set_at_limit(settings, key, value);
   if (strcmp(key, "dmclock-idle") == 0)
-    return set_seconds(&settings->gate.idle_seconds, key, value);
+    return set_seconds(settings, &settings->gate.idle_seconds, key, value);
   if (strcmp(key, "dmclock-erase") == 0)
-    return set_seconds(&settings->gate.erase_seconds, key, value);
+    return set_seconds(settings, &settings->gate.erase_seconds, key, value);
+  if (strcmp(key, "dmclock-capacity") == 0)
+    return set_capacity(settings, key, value);
   if (strcmp(key, "dmclock-stats") == 0)
-    return set_stats(settings, key, value);
+    return set_path(settings, &settings->stats, key, value);
+  if (strcmp(key, "dmclock-metrics") == 0)
+    return set_path(settings, &settings->metrics, key, value);
+  if (strcmp(key, "dmclock-config") == 0)
+    return set_config(settings, key, value);
   if (strncmp(key, "dmclock-", strlen("dmclock-")) == 0)
-    return is_bad(key, value, "another key: dmclock-client, -default, -default-clients, -default-shared, -depth, -at-limit, -idle, -erase or -stats");
+    return is_bad(settings, key, value, "another key: dmclock-client, -default, -default-clients, -default-shared, -depth, -at-limit, -idle, -erase, -capacity, -stats, "
+                                 "-metrics or -config");
   return 0;
 }
+
+/* ---- the file */
+
+/* A line without the blanks around it. */
+static char *trim(char *line)
+{
+  line += strspn(line, " \t\r\n");
+  size_t length = strlen(line);
+  while (length && strchr(" \t\r\n", line[length - 1]))
+    length--;
+  line[length] = 0;
+  return line;
+}
+
+static bool read_line(struct settings *settings, char *line)
+{
+  line = trim(line);
+  if (!*line || *line == '#')
+    return true;
+  char *value = strchr(line, '=');
+  if (value)
+    *value++ = 0;
+  int read = value ? settings_read(settings, line, value) : 0;
+  char printable[PRINTABLE_SIZE];
+  if (read == 0)
+    say_error(settings, "%s: wanted is a setting of this filter, KEY=VALUE", text_printable(line, printable));
+  return read == 1;
+}
+
+static bool read_lines(struct settings *settings, FILE *file)
+{
+  char *line = NULL;
+  size_t room = 0;
+  bool is_read = true;
+  for (settings->line = 1; is_read && getline(&line, &room, file) != -1; settings->line++)
+    is_read = read_line(settings, line);
+  settings->line = 0;
+  free(line);
+  return is_read;
+}
+
+bool settings_read_file(struct settings *settings)
+{
+  if (!settings->config)
+    return true;
+  FILE *file = fopen(settings->config, "re");
+  bool is_read = file && read_lines(settings, file);
+  if (!file || ferror(file)) {
+    char printable[PRINTABLE_SIZE];
+    nbdkit_error("dmclock-config=%s: %s", text_printable(settings->config, printable), strerror(errno));
+    is_read = false;
+  }
+  if (file)
+    fclose(file);
+  return is_read;
+}
+
+static bool copy_text(const char *text, char **copy)
+{
+  *copy = text ? strdup(text) : NULL;
+  return !text || *copy;
+}
+
+static bool copy_client(struct settings *copy, const struct client_setting *client)
+{
+  struct client_setting *made = malloc(sizeof *made);
+  if (!made)
+    return false;
+  *made = *client;
+  made->next = NULL;
+  append(copy, made);
+  return copy_text(client->name, &made->name);
+}
+
+bool settings_copy(const struct settings *settings, struct settings *copy)
+{
+  *copy = *settings;
+  copy->clients = NULL;
+  copy->stats = copy->metrics = copy->config = NULL;
+  bool is_copied = copy_text(settings->stats, &copy->stats) && copy_text(settings->metrics, &copy->metrics) &&
+                   copy_text(settings->config, &copy->config);
+  for (const struct client_setting *client = settings->clients; is_copied && client; client = client->next)
+    is_copied = copy_client(copy, client);
+  if (!is_copied)
+    settings_free(copy);
+  return is_copied;
+}
+
+/* ---- settings together */
 
 bool settings_agree(const struct settings *settings)
 {
@@ -239,7 +372,46 @@ bool settings_agree(const struct settings *settings)
   return true;
 }
 
+static bool is_same_text(const char *one, const char *other)
+{
+  return one && other ? strcmp(one, other) == 0 : one == other;
+}
+
+bool settings_may_follow(const struct settings *settings, const struct settings *others)
+{
+  const char *key = settings->gate.at_limit != others->gate.at_limit           ? "dmclock-at-limit"
+                    : settings->gate.idle_seconds != others->gate.idle_seconds   ? "dmclock-idle"
+                    : settings->gate.erase_seconds != others->gate.erase_seconds ? "dmclock-erase"
+                    : settings->is_shared != others->is_shared                   ? "dmclock-default-shared"
+                    : !is_same_text(settings->stats, others->stats)              ? "dmclock-stats"
+                    : !is_same_text(settings->metrics, others->metrics)          ? "dmclock-metrics"
+                                                                                 : NULL;
+  if (key)
+    nbdkit_error("%s can't change while the filter runs", key);
+  return !key;
+}
+
 /* ---- what the rates became */
+
+/* The reservations of all clients that there may be. */
+static uint64_t reserved(const struct settings *settings)
+{
+  uint64_t others = !settings->has_default ? 0 : settings->is_shared ? 1 : settings->gate.most_others;
+  uint64_t sum = others * settings->found.reservation;
+  for (const struct client_setting *client = settings->clients; client; client = client->next)
+    sum += client->found.reservation;
+  return sum;
+}
+
+static void warn_of_capacity(const struct settings *settings)
+{
+  uint64_t sum = reserved(settings);
+  if (settings->capacity && settings->capacity < sum)
+    nbdkit_error("dmclock: warning: the reservations are %llu requests a second, and dmclock-capacity is %llu: not all can be met%s",
+                 (unsigned long long)sum, (unsigned long long)settings->capacity,
+                 settings->has_default && settings->found.reservation && !settings->is_shared
+                   ? " (dmclock-default counts for each of dmclock-default-clients)" : "");
+}
 
 static void print_rate(const char *name, uint32_t asked, uint32_t found)
 {
@@ -253,7 +425,8 @@ static void print_rate(const char *name, uint32_t asked, uint32_t found)
 
 static void print_rates(const char *name, const struct rates *asked, const struct rates *found)
 {
-  fprintf(stderr, "dmclock: %s", name);
+  char printable[PRINTABLE_SIZE];
+  fprintf(stderr, "dmclock: %s", text_printable(name, printable));
   print_rate("reservation", asked->reservation, found->reservation);
   print_rate("weight", asked->weight, found->weight);
   print_rate("limit", asked->limit, found->limit);
@@ -266,6 +439,7 @@ void settings_print(const struct settings *settings)
     print_rates(client->name, &client->asked, &client->found);
   if (settings->has_default)
     print_rates(settings->is_shared ? "other names together" : "other names, each", &settings->asked, &settings->found);
+  warn_of_capacity(settings);
 }
 
 void settings_free(struct settings *settings)
@@ -277,4 +451,7 @@ void settings_free(struct settings *settings)
     free(client);
   }
   free(settings->stats);
+  free(settings->metrics);
+  free(settings->config);
+  settings->stats = settings->metrics = settings->config = NULL;
 }

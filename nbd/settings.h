@@ -15,8 +15,11 @@ struct settings {
   struct gate_config gate;
   struct client_setting *clients;
   bool has_default, is_shared; /* whether other names are taken, and whether all of them are one client */
-  struct rates asked, found; /* of dmclock-default */
-  char *stats;               /* a file, or NULL */
+  struct rates asked, found;   /* of dmclock-default */
+  uint64_t capacity;           /* requests a second, or 0 */
+  char *stats, *metrics;       /* files, or NULL */
+  char *config;                /* a file with further settings, or NULL */
+  unsigned line;               /* the line of that file which is read; 0 if none is */
 };
 
 /* What holds if no key says otherwise. */
@@ -27,6 +30,13 @@ struct settings {
    the value, and says what is wrong with it. */
 int settings_read(struct settings *, const char *key, const char *value);
 
+/* Reads the file of the settings, if there is one: a setting a line, KEY=VALUE; an empty line, and one that begins with #, says
+   nothing. False after an error that names the line. */
+bool settings_read_file(struct settings *);
+
+/* Makes a copy that is freed by itself. False if memory is short. */
+bool settings_copy(const struct settings *, struct settings *copy);
+
 /* Whether a client of the settings has this name. */
 bool settings_have(const struct settings *, const char *name);
 
@@ -36,7 +46,10 @@ bool settings_have(const struct settings *, const char *name);
 /* Whether the settings agree with each other, after an error that names those that do not. */
 bool settings_agree(const struct settings *);
 
-/* Says what the rates became. */
+/* Whether these settings may take the place of others while the filter runs, after an error that names one that may not change. */
+bool settings_may_follow(const struct settings *, const struct settings *others);
+
+/* Says what the rates became, and warns if the reservations are more than the capacity. */
 void settings_print(const struct settings *);
 
 void settings_free(struct settings *);

@@ -1,0 +1,96 @@
+#define _GNU_SOURCE
+#include "report.h"
+
+#include <errno.h>
+#include <stdlib.h>
+#include <string.h>
+#include <unistd.h>
+
+/* ---- rows */
+
+void report_free(struct report *report)
+{
+  for (size_t i = 0; i < report->count; i++)
+    free(report->rows[i].name);
+  free(report->rows);
+  *report = (struct report){0};
+}
+
+static bool copy_row(struct row *row, const struct client *client)
+{
+  *row = (struct row){.name = strdup(client->name), .rates = client->rates, .requests = client->requests, .beyond = client->beyond,
+                      .queued = client->queued, .waited = client->waited};
+  memcpy(row->grants, client->grants, sizeof row->grants);
+  memcpy(row->buckets, client->buckets, sizeof row->buckets);
+  return row->name != NULL;
+}
+
+/* Copies the clients that have a row of the room: no memory but names is allocated while requests wait for the lock. Returns how many
+   clients there are; fewer rows than that are no use. */
+static size_t copy_rows(struct gate *gate, struct report *report)
+{
+  size_t clients = 0;
+  pthread_mutex_lock(&gate->lock);
+  report->seconds = (double)gate_now(gate) / 1e9;
+  report->depth = gate->config.depth;
+  report->under_way = gate->under_way;
+  for (const struct client *client = gate->first; client; client = client->next)
+    if (clients++ < report->room && copy_row(&report->rows[report->count], client))
+      report->count++;
+  pthread_mutex_unlock(&gate->lock);
+  return clients;
+}
+
+bool report_take(struct gate *gate, struct report *report)
+{
+  size_t clients = 16;
+  *report = (struct report){0};
+  do {
+    report_free(report);
+    report->room = clients + clients / 8;
+    report->rows = malloc(report->room * sizeof *report->rows);
+    if (!report->rows)
+      return false;
+    clients = copy_rows(gate, report);
+  } while (report->room < clients);
+  return report->count == clients;
+}
+
+/* ---- files */
+
+static int write_file(const char *path, const char *text, size_t length)
+{
+  FILE *file = fopen(path, "we");
+  if (!file)
+    return errno;
+  size_t written = fwrite(text, 1, length, file);
+  int fault = written < length ? errno : 0;
+  return fclose(file) ? errno : fault;
+}
+
+static int replace_file(const char *path, const char *text, size_t length)
+{
+  char *beside;
+  if (asprintf(&beside, "%s.new", path) < 0)
+    return ENOMEM;
+  int fault = write_file(beside, text, length);
+  if (!fault && rename(beside, path))
+    fault = errno;
+  if (fault)
+    unlink(beside);
+  free(beside);
+  return fault;
+}
+
+int report_write(const struct report *report, void (*put)(FILE *, const struct report *), const char *path)
+{
+  char *text = NULL;
+  size_t length = 0;
+  FILE *stream = open_memstream(&text, &length);
+  if (!stream)
+    return ENOMEM;
+  put(stream, report);
+  int fault = fclose(stream) ? ENOMEM : replace_file(path, text, length);
+  free(text);
+  return fault;
+}

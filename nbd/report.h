@@ -1,0 +1,36 @@
+/* What a gate did so far, as a copy of one time, and files that are written as a whole. */
+#ifndef DMCLOCK_REPORT_H
+#define DMCLOCK_REPORT_H
+
+#include <stdio.h>
+
+#include "gate.h"
+
+/* A client. */
+struct row {
+  char *name;
+  struct rates rates;
+  uint64_t requests, grants[2], beyond;
+  uint32_t queued;
+  struct times waited;
+  struct buckets buckets[2];
+};
+
+struct report {
+  struct row *rows;
+  size_t count, room;
+  double seconds; /* since the gate was opened */
+  uint32_t depth, under_way;
+};
+
+/* Copies what the clients were granted. Nothing is formatted while requests wait for the gate's lock. False if memory is short; the
+   report is freed in any case. */
+bool report_take(struct gate *, struct report *);
+
+void report_free(struct report *);
+
+/* Writes what `put` writes of the report to a file, by way of another one beside it: who reads the file sees a whole one. Returns 0,
+   or an errno. */
+int report_write(const struct report *, void (*put)(FILE *, const struct report *), const char *path);
+
+#endif

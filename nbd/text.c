@@ -1,0 +1,69 @@
+#include "text.h"
+
+#include <stdbool.h>
+#include <string.h>
+
+/* The bytes of the character of UTF-8 that begins here, or 0 if none does. */
+static size_t character_length(const unsigned char *at)
+{
+  size_t length = *at < 0x80 ? 1 : 0xc2 <= *at && *at < 0xe0 ? 2 : 0xe0 <= *at && *at < 0xf0 ? 3 : 0xf0 <= *at && *at < 0xf5 ? 4 : 0;
+  for (size_t i = 1; i < length; i++)
+    if ((at[i] & 0xc0) != 0x80)
+      return 0;
+  bool is_overlong = (*at == 0xe0 && at[1] < 0xa0) || (*at == 0xf0 && at[1] < 0x90);
+  bool is_beyond = (*at == 0xed && 0xa0 <= at[1]) || (*at == 0xf4 && 0x90 <= at[1]);
+  return is_overlong || is_beyond ? 0 : length;
+}
+
+static bool is_control(unsigned char byte)
+{
+  return byte < 0x20 || byte == 0x7f;
+}
+
+static bool is_quoted(unsigned char byte)
+{
+  return byte == '"' || byte == '\\';
+}
+
+void text_put_json(FILE *text, const char *name)
+{
+  const unsigned char *at = (const unsigned char *)name;
+  putc('"', text);
+  while (*at) {
+    size_t length = character_length(at);
+    if (length == 0)
+      fputs("\\ufffd", text);
+    else if (is_control(*at))
+      fprintf(text, "\\u%04x", *at);
+    else
+      fprintf(text, "%s%.*s", is_quoted(*at) ? "\\" : "", (int)length, (const char *)at);
+    at += length ? length : 1;
+  }
+  putc('"', text);
+}
+
+void text_put_label(FILE *text, const char *name)
+{
+  const unsigned char *at = (const unsigned char *)name;
+  putc('"', text);
+  while (*at) {
+    size_t length = character_length(at);
+    if (*at == '\n')
+      fputs("\\n", text);
+    else if (length == 0 || is_control(*at))
+      fprintf(text, "\\\\x%02x", *at);
+    else
+      fprintf(text, "%s%.*s", is_quoted(*at) ? "\\" : "", (int)length, (const char *)at);
+    at += length ? length : 1;
+  }
+  putc('"', text);
+}
+
+const char *text_printable(const char *name, char text[PRINTABLE_SIZE])
+{
+  size_t length = 0;
+  for (; name[length] && length < PRINTABLE_SIZE - 3; length++)
+    text[length] = ' ' <= name[length] && name[length] <= '~' ? name[length] : '?';
+  memcpy(text + length, name[length] ? ".." : "", name[length] ? 3 : 1);
+  return text;
+}

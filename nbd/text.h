@@ -1,0 +1,20 @@
+/* Names as others can read them. A name is whatever a client sends: any bytes but 0, which should be UTF-8. */
+#ifndef DMCLOCK_TEXT_H
+#define DMCLOCK_TEXT_H
+
+#include <stddef.h>
+#include <stdio.h>
+
+/* Writes a JSON string. A byte that is no UTF-8 is written as the replacement character. */
+void text_put_json(FILE *, const char *name);
+
+/* Writes the value of a Prometheus label. A control character, and a byte that is no UTF-8, are written as \xNN. */
+void text_put_label(FILE *, const char *name);
+
+/* The longest text that `text_printable` returns, with its end. */
+#define PRINTABLE_SIZE 124
+
+/* A name in printable ASCII, for a log: any other byte is a question mark, and a name that is longer is cut off. Returns `text`. */
+const char *text_printable(const char *name, char text[PRINTABLE_SIZE]);
+
+#endif

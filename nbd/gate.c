@@ -3,22 +3,23 @@
 
 #include <errno.h>
 #include <search.h>
+#include <semaphore.h>
 #include <stdio.h>
 #include <stdlib.h>
 #include <string.h>
 #include <time.h>
 
 #define NEVER UINT64_MAX
+#define NO_TOKEN UINT32_MAX
 #define SECOND 1000000000u
 
-/* Where a thread waits for the grant of its request. Slots never move; the token of a request is its slot's index in the list. */
+/* A request that waits for its grant, in the memory of the thread that waits. */
 struct slot {
-  pthread_cond_t wakes;
+  sem_t wakes;
   struct client *client;
   uint64_t entered;
-  uint32_t token;
-  bool is_granted;
-  struct slot *next_free;
+  int fault;               /* an errno, if the gate was stopped before the grant */
+  struct slot *next;       /* of those that are granted at once */
 };
 
 /* ---- the clock */
@@ -86,65 +87,48 @@ static int errno_of(uint32_t code)
   }
 }
 
-/* ---- slots */
+/* ---- tokens: the token of a request is the place of its slot in the list */
 
-/* Reserves memory for one more slot. */
-static int grow_slots(struct gate *gate)
+/* A place without a slot has the next such place. */
+union place {
+  struct slot *slot;
+  uintptr_t next_free;     /* twice its number, and 1: no address of a slot is odd */
+};
+
+static bool is_free(union place place)
 {
-  if (gate->slot_count < gate->slot_room)
-    return 0;
-  uint32_t room = gate->slot_room ? 2 * gate->slot_room : 64;
-  struct slot **slots = realloc(gate->slots, room * sizeof *slots);
-  if (!slots)
+  return place.next_free & 1;
+}
+
+static void free_token(struct gate *gate, uint32_t token)
+{
+  gate->places[token].next_free = 2 * (uintptr_t)gate->free_token + 1;
+  gate->free_token = token;
+}
+
+/* Makes room for twice as many slots. */
+static int add_tokens(struct gate *gate)
+{
+  uint32_t room = gate->tokens ? 2 * gate->tokens : 64;
+  union place *places = realloc(gate->places, room * sizeof *places);
+  if (!places)
     return ENOMEM;
-  gate->slots = slots;
-  gate->slot_room = room;
+  gate->places = places;
+  for (uint32_t token = room; token-- > gate->tokens;)
+    free_token(gate, token);
+  gate->tokens = room;
   return 0;
 }
 
-static int add_slot(struct gate *gate)
+static int take_token(struct gate *gate, struct slot *slot, uint32_t *token)
 {
-  int fault = grow_slots(gate);
+  int fault = gate->free_token == NO_TOKEN ? add_tokens(gate) : 0;
   if (fault)
     return fault;
-  struct slot *slot = calloc(1, sizeof *slot);
-  if (!slot)
-    return ENOMEM;
-  fault = init_condition(&slot->wakes);
-  if (fault) {
-    free(slot);
-    return fault;
-  }
-  slot->token = gate->slot_count;
-  gate->slots[gate->slot_count++] = slot;
-  gate->free_slots = slot;
+  *token = gate->free_token;
+  gate->free_token = (uint32_t)(gate->places[*token].next_free / 2);
+  gate->places[*token].slot = slot;
   return 0;
-}
-
-static int take_slot(struct gate *gate, struct slot **slot)
-{
-  int fault = gate->free_slots ? 0 : add_slot(gate);
-  if (fault)
-    return fault;
-  *slot = gate->free_slots;
-  gate->free_slots = (*slot)->next_free;
-  (*slot)->next_free = NULL;
-  return 0;
-}
-
-static void give_back(struct gate *gate, struct slot *slot)
-{
-  slot->next_free = gate->free_slots;
-  gate->free_slots = slot;
-}
-
-static void free_slots(struct gate *gate)
-{
-  for (uint32_t i = 0; i < gate->slot_count; i++) {
-    pthread_cond_destroy(&gate->slots[i]->wakes);
-    free(gate->slots[i]);
-  }
-  free(gate->slots);
 }
 
 /* ---- grants */
@@ -155,30 +139,37 @@ static void stop(struct gate *gate, int fault)
   if (gate->fault)
     return;
   gate->fault = fault;
-  for (uint32_t i = 0; i < gate->slot_count; i++)
-    pthread_cond_signal(&gate->slots[i]->wakes);
+  for (uint32_t token = 0; token < gate->tokens; token++)
+    if (!is_free(gate->places[token])) {
+      struct slot *slot = gate->places[token].slot;
+      free_token(gate, token);
+      slot->fault = fault;
+      sem_post(&slot->wakes);
+    }
   pthread_cond_signal(&gate->timer_wakes);
   pthread_cond_broadcast(&gate->has_changed);
 }
 
 static void change_rates(struct gate *gate, struct client *client, uint64_t now);
 
-/* A request is granted: its thread may use the device. */
-static void grant(struct gate *gate, const struct dmc_pulled *pulled, uint64_t now)
+/* A request is granted: its thread may use the device. A thread reads the clock before it has the lock, so a request may seem to come
+   after its grant. */
+static struct slot *grant(struct gate *gate, const struct dmc_pulled *pulled, uint64_t now)
 {
-  struct slot *slot = gate->slots[pulled->token];
+  struct slot *slot = gate->places[pulled->token].slot;
   struct client *client = slot->client;
-  uint64_t waited = now - slot->entered;
+  uint64_t waited = slot->entered < now ? now - slot->entered : 0;
+  free_token(gate, pulled->token);
+  gate->queued--;
   client->queued--;
   client->grants[pulled->phase]++;
   client->beyond += pulled->beyond;
   times_count(&client->waited, waited);
   buckets_count(&client->buckets[pulled->phase], waited);
   gate->under_way++;
-  slot->is_granted = true;
-  pthread_cond_signal(&slot->wakes);
   if (client->is_changing && !client->queued)
     change_rates(gate, client, now);
+  return slot;
 }
 
 /* The next request is due later: the timer waits for it. A moment past all clocks is waited for by the next event instead. */
@@ -200,20 +191,40 @@ static void stop_for(struct gate *gate, const char *reason)
   stop(gate, EIO);
 }
 
-/* Grants what the queue grants now, while the device has room. It is called when either may have changed. */
-static void dispatch(struct gate *gate)
+/* Grants what the queue grants now, while the device has room: returns the slots, to be woken without the lock. It is called when
+   either may have changed. */
+static struct slot *dispatch(struct gate *gate, uint64_t now)
 {
+  struct slot *granted = NULL, **last = &granted;
   struct dmc_pulled pulled = {.kind = DMC_GRANTED};
   gate->due = NEVER;
-  while (!gate->fault && gate->under_way < gate->config.depth && pulled.kind == DMC_GRANTED) {
-    uint64_t now = gate_now(gate);
+  while (!gate->fault && gate->queued && gate->under_way < gate->config.depth && pulled.kind == DMC_GRANTED) {
     if (dmc_queue_pull(&gate->queue, moment_of(now), &pulled) != DMC_OK)
       stop_for(gate, "the queue refuses to grant");
-    else if (pulled.kind == DMC_GRANTED)
-      grant(gate, &pulled, now);
-    else if (pulled.kind == DMC_FUTURE)
+    else if (pulled.kind == DMC_GRANTED) {
+      *last = grant(gate, &pulled, now);
+      last = &(*last)->next;
+      *last = NULL;
+    } else if (pulled.kind == DMC_FUTURE)
       wait_for_due(gate, &pulled);
   }
+  return granted;
+}
+
+/* Wakes the threads of slots that are granted, but one's own. A slot is gone once its thread is woken. Returns whether the own one is
+   among them. */
+static bool wake(struct slot *granted, const struct slot *own)
+{
+  bool has_own = false;
+  while (granted) {
+    struct slot *slot = granted;
+    granted = slot->next;
+    if (slot == own)
+      has_own = true;
+    else
+      sem_post(&slot->wakes);
+  }
+  return has_own;
 }
 
 /* ---- the timer */
@@ -250,7 +261,7 @@ static void *keep_time(void *argument)
     if (gate->next_clean <= now)
       clean(gate, now);
     if (gate->due <= now)
-      dispatch(gate);
+      wake(dispatch(gate, now), NULL);
     else
       sleep_until(gate, gate->due < gate->next_clean ? gate->due : gate->next_clean);
   }
@@ -423,45 +434,39 @@ static int change_client(struct gate *gate, const char *name, const struct rates
 
 /* Queues a request of a client. One that the queue does not know, or has forgotten, is registered before. A request of one that
    finds no place is refused for want of memory, since NBD has no other word for it. */
-static int queue_request(struct gate *gate, struct client *client, const struct slot *slot)
+static int queue_request(struct gate *gate, const struct slot *slot, uint32_t token)
 {
-  struct dmc_tags tags;
+  const struct client *client = slot->client;
   uint64_t moment = moment_of(slot->entered);
-  uint32_t code = dmc_queue_add(&gate->queue, client->id, slot->token, 1, 1, moment, &tags);
+  uint32_t code = dmc_queue_add_single(&gate->queue, client->id, token, moment);
   if (code != DMC_UNKNOWN)
     return errno_of(code);
   int fault = register_client(gate, client, slot->entered);
   if (fault)
     return fault == EBUSY ? ENOMEM : fault;
-  return errno_of(dmc_queue_add(&gate->queue, client->id, slot->token, 1, 1, moment, &tags));
+  return errno_of(dmc_queue_add_single(&gate->queue, client->id, token, moment));
 }
 
-/* Queues a request of the client, with a slot where it is waited for. */
-static int submit(struct gate *gate, struct client *client, struct slot *slot)
+/* Queues the request that a slot waits for. */
+static int submit(struct gate *gate, struct slot *slot)
 {
-  slot->client = client;
-  slot->is_granted = false;
-  int fault = queue_request(gate, client, slot);
+  struct client *client = slot->client;
+  uint32_t token;
+  while (client->is_changing && !gate->fault)
+    pthread_cond_wait(&gate->has_changed, &gate->lock);
+  int fault = gate->fault ? gate->fault : take_token(gate, slot, &token);
   if (fault)
     return fault;
+  fault = queue_request(gate, slot, token);
+  if (fault) {
+    free_token(gate, token);
+    return fault;
+  }
+  gate->queued++;
   client->queued++;
   client->requests++;
   client->last_request = slot->entered;
   return 0;
-}
-
-static int wait_in(struct gate *gate, struct client *client, struct slot *slot, bool *has_waited)
-{
-  while (client->is_changing && !gate->fault)
-    pthread_cond_wait(&gate->has_changed, &gate->lock);
-  int fault = gate->fault ? gate->fault : submit(gate, client, slot);
-  if (fault)
-    return fault;
-  dispatch(gate);
-  *has_waited = !slot->is_granted;
-  while (!slot->is_granted && !gate->fault)
-    pthread_cond_wait(&slot->wakes, &gate->lock);
-  return slot->is_granted ? 0 : gate->fault;
 }
 
 /* ---- what callers use */
@@ -472,6 +477,17 @@ static int open_queue(struct gate *gate, const struct gate_config *config)
   return errno_of(dmc_queue_new(&gate->queue, DMC_TICK, hz, config->idle_seconds * hz, config->erase_seconds * hz, config->at_limit));
 }
 
+/* A lock that is held for less than a microsecond: who finds it taken tries for a while before it sleeps. None of these calls can
+   fail, of a lock within a process. */
+static void init_lock(pthread_mutex_t *lock)
+{
+  pthread_mutexattr_t short_time;
+  pthread_mutexattr_init(&short_time);
+  pthread_mutexattr_settype(&short_time, PTHREAD_MUTEX_ADAPTIVE_NP);
+  pthread_mutex_init(lock, &short_time);
+  pthread_mutexattr_destroy(&short_time);
+}
+
 int gate_open(struct gate *gate, const struct gate_config *config)
 {
   gate->config = *config;
@@ -479,10 +495,11 @@ int gate_open(struct gate *gate, const struct gate_config *config)
   gate->due = NEVER;
   gate->next_clean = config->idle_seconds * SECOND / 4;
   gate->last = &gate->first;
+  gate->free_token = NO_TOKEN;
   int fault = open_queue(gate, config);
   if (fault)
     return fault;
-  pthread_mutex_init(&gate->lock, NULL); /* which can't fail, of a plain lock */
+  init_lock(&gate->lock);
   fault = init_condition(&gate->timer_wakes);
   if (fault)
     dmc_queue_free(&gate->queue);
@@ -521,7 +538,7 @@ void gate_close(struct gate *gate)
   if (gate->has_timer)
     pthread_join(gate->timer, NULL);
   free_clients(gate);
-  free_slots(gate);
+  free(gate->places);
   dmc_queue_free(&gate->queue);
   pthread_cond_destroy(&gate->timer_wakes);
   pthread_cond_destroy(&gate->has_changed);
@@ -567,7 +584,7 @@ void gate_resize(struct gate *gate, uint32_t depth, uint32_t most_others)
   pthread_mutex_lock(&gate->lock);
   gate->config.depth = depth;
   gate->config.most_others = most_others;
-  dispatch(gate);
+  wake(dispatch(gate, gate_now(gate)), NULL);
   pthread_mutex_unlock(&gate->lock);
 }
 
@@ -582,23 +599,28 @@ void gate_release(struct gate *gate, struct client *client)
 
 int gate_enter(struct gate *gate, struct client *client, bool *has_waited)
 {
-  struct slot *slot = NULL;
+  struct slot slot = {.client = client, .entered = gate_now(gate)};
+  struct slot *granted = NULL;
+  sem_init(&slot.wakes, 0, 0); /* which can't fail, of 0 */
   pthread_mutex_lock(&gate->lock);
-  int fault = gate->fault ? gate->fault : take_slot(gate, &slot);
-  if (!fault) {
-    slot->entered = gate_now(gate);
-    fault = wait_in(gate, client, slot, has_waited);
-  }
-  if (slot)
-    give_back(gate, slot);
+  int fault = submit(gate, &slot);
+  if (!fault)
+    granted = dispatch(gate, slot.entered);
   pthread_mutex_unlock(&gate->lock);
-  return fault;
+  bool is_granted = wake(granted, &slot);
+  *has_waited = !fault && !is_granted;
+  while (*has_waited && sem_wait(&slot.wakes) == -1)
+    ; /* a signal has come */
+  sem_destroy(&slot.wakes);
+  return fault ? fault : slot.fault;
 }
 
 void gate_leave(struct gate *gate)
 {
+  uint64_t now = gate_now(gate);
   pthread_mutex_lock(&gate->lock);
   gate->under_way--;
-  dispatch(gate);
+  struct slot *granted = dispatch(gate, now);
   pthread_mutex_unlock(&gate->lock);
+  wake(granted, NULL);
 }

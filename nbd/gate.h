@@ -40,7 +40,7 @@ struct client {
   struct client *next, **link; /* the next one, and what points to this one */
 };
 
-struct slot;
+union place;
 
 /* A gate. Its fields are the gate's own. */
 struct gate {
@@ -62,9 +62,9 @@ struct gate {
   uint32_t others;         /* the clients that are not kept */
   struct client *first, **last; /* all clients, in the order in which they came */
   void *names;             /* a tree of them */
-  struct slot **slots;     /* all slots, by the tokens of their requests */
-  uint32_t slot_count, slot_room;
-  struct slot *free_slots;
+  uint32_t queued;         /* requests in the queue */
+  union place *places;     /* where the requests in the queue are waited for, by their tokens */
+  uint32_t tokens, free_token; /* how many places there are, and the first free one */
 };
 
 /* The rates that the queue takes for these: the least reservation at least as great, and the greatest limit and weight at most as

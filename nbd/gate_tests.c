@@ -2,6 +2,7 @@
    an allocation can be refused. */
 #define _GNU_SOURCE
 #include <errno.h>
+#include <stdatomic.h>
 #include <stdio.h>
 #include <stdlib.h>
 #include <string.h>
@@ -310,6 +311,66 @@ static void resized(void)
   gate_close(&gate);
 }
 
+/* How often a thread of `crowded` uses the device, and how many use it at once. */
+#define ROUNDS 2000
+static atomic_uint users, most_users;
+
+struct rounds {
+  struct gate *gate;
+  struct client *client;
+  unsigned served, refused;
+};
+
+static void *use(void *argument)
+{
+  struct rounds *rounds = argument;
+  bool has_waited;
+  for (unsigned i = 0; i < ROUNDS; i++) {
+    if (gate_enter(rounds->gate, rounds->client, &has_waited)) {
+      rounds->refused++;
+      continue;
+    }
+    unsigned now = ++users, most = most_users;
+    while (most < now && !atomic_compare_exchange_weak(&most_users, &most, now))
+      ;
+    rounds->served++;
+    users--;
+    gate_leave(rounds->gate);
+  }
+  return NULL;
+}
+
+/* Many threads: each request is granted once, no more of them are at the device than may be, and a stop ends all that wait. */
+static void crowded(void)
+{
+  struct gate gate = {0};
+  struct gate_config config = one_at_once;
+  config.depth = 3;
+  struct client *clients[2];
+  struct rates none = rates_of(0, 1, 0);
+  struct rounds rounds[16];
+  pthread_t threads[16];
+  unsigned served[2] = {0, 0}, refused = 0;
+  CHECK(gate_open(&gate, &config) == 0 && gate_start(&gate) == 0);
+  CHECK(gate_client(&gate, "a", &none, true, &clients[0]) == 0 && gate_client(&gate, "b", &none, true, &clients[1]) == 0);
+  for (int i = 0; i < 16; i++) {
+    rounds[i] = (struct rounds){.gate = &gate, .client = clients[i % 2]};
+    pthread_create(&threads[i], NULL, use, &rounds[i]);
+  }
+  for (int i = 0; i < 16; i++) {
+    if (i == 14) /* two threads, or none, are left */
+      gate_stop(&gate, ESHUTDOWN);
+    pthread_join(threads[i], NULL);
+    served[i % 2] += rounds[i].served;
+    refused += rounds[i].refused;
+  }
+  for (int i = 0; i < 2; i++)
+    CHECK(clients[i]->grants[DMC_PRIORITY] == served[i] && clients[i]->waited.count == served[i] && clients[i]->queued <= 1);
+  CHECK(14 * ROUNDS <= served[0] + served[1] && served[0] + served[1] + refused == 16 * ROUNDS);
+  CHECK(0 < most_users && most_users <= 3 && gate.under_way == 0);
+  gate_close(&gate);
+}
+
 /* A client of the default that nobody uses and that had no request is forgotten at once. */
 static void unused_names(void)
 {
@@ -369,6 +430,7 @@ int main(void)
   most_clients();
   forgotten();
   kept_place();
+  crowded();
   changed();
   kept_and_not();
   resized();

@@ -114,12 +114,13 @@ function run() {
   if (!settings) return;
   history.replaceState(null, "", toAddress(scene));
   const began = performance.now();
-  let exact;
+  let exact, warnings;
   end = start(settings, ({ rates, progress, result, fault }) => {
     if (rates) {
       exact = rates;
       showRates(rates);
-      list("warnings", warningsOf(settings, rates));
+      warnings = warningsOf(settings, rates);
+      list("warnings", warnings);
     }
     if (progress !== undefined && performance.now() - began > 300) say("Simulating", progress);
     if (fault) {
@@ -130,6 +131,8 @@ function run() {
       shown = { settings, rates: exact, result };
       byId("results").hidden = false;
       draw(shown);
+      list("warnings", [...warnings, ...waitsOf(settings, result)]);
+      byId("nbdkit").textContent = nbdkitSettings(settings);
       const took = duration((performance.now() - began) / 1000);
       say(`${plain(settings.seconds)} seconds with ${plain(result.granted)} grants, simulated in ${took}.`);
     }
@@ -174,6 +177,11 @@ byId("add").addEventListener("click", () => {
   addRow({ name, reservation: "", weight: "1", limit: "", demand: "300", from: "0", until: seconds, window: "64" });
   byKey(rows().at(-1), "name").select();
   changed();
+});
+byId("copy").addEventListener("click", async () => {
+  getSelection().selectAllChildren(byId("nbdkit"));
+  await navigator.clipboard.writeText(byId("nbdkit").textContent);
+  say("The nbdkit settings are copied.");
 });
 byId("form").addEventListener("input", changed);
 byId("form").addEventListener("submit", event => event.preventDefault());

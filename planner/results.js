@@ -4,6 +4,7 @@
 
 const WIDTHS = [0.1, 0.2, 0.5, 1, 2, 5]; // of a column of the pictures, in seconds
 const MOST_COLUMNS = 150;
+const LONG = 2; // seconds without a grant
 
 class Results {
   // A listing has a line for each grant: tick, server, client, token, phase, beyond, wait.
@@ -16,17 +17,55 @@ class Results {
     this.clients = settings.clients.map(() => ({
       byReservation: new Array(columns).fill(0), byWeight: new Array(columns).fill(0),
       bySecond: new Array(settings.seconds).fill(0), waits: [], reserved: 0, last: 0, turnedAway: 0, beyond: 0,
+      waiting: 0, since: 0, othersThen: 0, starved: undefined,
     }));
+    this.weighted = 0; // grants by weight, of all clients
+  }
+
+  sent(time, client) {
+    const its = this.clients[client];
+    if (its.waiting++ === 0) this.beginWait(its, time);
+  }
+
+  // From now on the client waits for a grant.
+  beginWait(its, time) {
+    its.since = time;
+    its.othersThen = this.weightedOfOthers(its);
+  }
+
+  weightedOfOthers(its) {
+    return this.weighted - (its.waits.length - its.reserved);
+  }
+
+  // A client's wait for a grant ends. It counts if it was far longer than the client's share explains, while others were granted by
+  // weight.
+  endWait(id, time) {
+    const its = this.clients[id];
+    const seconds = (time - its.since) / HZ;
+    const others = this.weightedOfOthers(its) - its.othersThen;
+    if (seconds >= this.longWait(id) && others > 0 && seconds > (its.starved?.seconds ?? 0)) its.starved = { seconds, others };
+  }
+
+  longWait(id) {
+    const { capacity, servers } = this.settings;
+    const weights = this.rates.reduce((sum, { weight }) => sum + weight, 0);
+    return Math.max(LONG, 3 * weights / (this.rates[id].weight * capacity * servers));
   }
 
   granted(time, server, grant, wait) {
     const to = this.clients[grant.client];
+    this.endWait(grant.client, time);
     const column = Math.floor(time / (this.width * HZ));
     if (grant.phase === RESERVATION) {
       to.byReservation[column]++;
       to.reserved++;
-    } else to.byWeight[column]++;
+    } else {
+      to.byWeight[column]++;
+      this.weighted++;
+    }
     to.waits.push(wait);
+    to.waiting--;
+    this.beginWait(to, time);
     to.last = time;
     if (grant.beyond) to.beyond++;
     to.bySecond[Math.floor(time / HZ)]++;
@@ -38,6 +77,7 @@ class Results {
   }
 
   summary() {
+    this.clients.forEach((its, id) => { if (its.waiting) this.endWait(id, this.settings.seconds * HZ); });
     return {
       width: this.width,
       granted: this.clients.reduce((sum, { waits }) => sum + waits.length, 0),
@@ -62,6 +102,7 @@ class Results {
       longestWait: waits.length && sorted[waits.length - 1] / HZ,
       byReservation: perSecond(byReservation), byWeight: perSecond(byWeight),
       met: this.met(id),
+      starved: this.clients[id].starved,
     };
   }
 
@@ -69,17 +110,28 @@ class Results {
   met(id) {
     const { reservation } = this.rates[id];
     if (!reservation) return { is: undefined, why: "none" };
-    const { from, until, demand, window } = this.settings.clients[id];
-    const { bySecond, turnedAway } = this.clients[id];
+    const { from, until, demand } = this.settings.clients[id];
+    const { bySecond } = this.clients[id];
     const asked = bySecond.slice(from, until);
     const due = Math.min(reservation, demand);
     const short = asked.filter(granted => granted < due - Math.max(1, 0.05 * due)).length;
     if (!short) return { is: true, why: demand < reservation ? "yes, it asks for less" : "yes" };
-    const { capacity, servers } = this.settings;
+    return { is: false, why: `no, in ${short} of ${asked.length} seconds${this.advice(id, due)}` };
+  }
+
+  // Why a reservation is not met, and what would help.
+  advice(id, due) {
+    const { capacity, servers, depth } = this.settings;
+    const { from, until, window } = this.settings.clients[id];
+    const { waits, turnedAway } = this.clients[id];
+    const text = number => number.toLocaleString("en");
     const most = this.mostReserved(from, until);
-    const reason = most > capacity * servers ? `: ${most.toLocaleString("en")} a second are reserved at once`
-      : turnedAway ? `: its window of ${window.toLocaleString("en")} is too small` : "";
-    return { is: false, why: `no, in ${short} of ${asked.length} seconds${reason}` };
+    if (most > capacity * servers)
+      return `: ${text(most)} a second are reserved at once; lower them by ${text(most - capacity * servers)}`;
+    if (!turnedAway || !waits.length) return "";
+    // As many are under way as come while one is: at the rate that is due, and as long as one took.
+    const took = waits.reduce((sum, wait) => sum + wait, 0) / waits.length / HZ + depth / capacity;
+    return `: its window of ${text(window)} is too small; try ${text(Math.max(window + 1, Math.ceil(due * took)))}`;
   }
 
   // The most that clients who reserve it also ask for at one time of this span. It rises only where a client begins.

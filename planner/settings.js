@@ -8,13 +8,16 @@ const MOST_REQUESTS = 5000000;
 const AT_LIMIT_WORDS = ["wait", "allow"];
 const COUNTING_WORDS = ["others", "all"];
 
-// The fields, in the order of the form and of the address. One with `none` may be left empty.
+// The fields, in the order of the form and of the address. One with `none` may be left empty. One with `absent` may be missing in an
+// address, which then means this.
 const SERVER_FIELDS = [
   { key: "capacity", label: "Capacity", least: 1, most: 100000 },
   { key: "servers", label: "Servers", least: 1, most: 16 },
   { key: "seconds", label: "Seconds", least: 1, most: 600 },
   { key: "atLimit", label: "At the limit", words: AT_LIMIT_WORDS },
   { key: "counting", label: "Stamps count completions", words: COUNTING_WORDS },
+  { key: "depth", label: "Depth", least: 1, most: 1024, absent: "1" },
+  { key: "idle", label: "Idle after seconds", least: 1, most: 100000, absent: "1" },
 ];
 const CLIENT_FIELDS = [
   { key: "name", label: "Name", isName: true },
@@ -32,22 +35,22 @@ const scene = (server, ...clients) => ({
   clients: clients.map(client => Object.fromEntries(CLIENT_FIELDS.map(({ key }, k) => [key, String(client[k])]))),
 });
 const PRESETS = [
-  ["Three tenants", scene([2000, 1, 60, "wait", "others"],
+  ["Three tenants", scene([2000, 1, 60, "wait", "others", 4, 600],
     ["database", 800, 2, "", 1000, 0, 60, 64],
     ["website", "", 3, "", 1600, 15, 45, 64],
     ["backup", 100, 1, 500, 1500, 0, 60, 64])],
-  ["Noisy neighbour", scene([1000, 1, 60, "wait", "others"],
+  ["Noisy neighbour", scene([1000, 1, 60, "wait", "others", 4, 600],
     ["steady", 300, 1, "", 300, 0, 60, 32],
     ["modest", "", 1, "", 250, 0, 60, 32],
     ["noisy", "", 1, "", 4000, 20, 40, 1024])],
-  ["Backlog", scene([1000, 1, 60, "wait", "others"],
+  ["Backlog", scene([1000, 1, 60, "wait", "others", 4, 600],
     ["interactive", 400, 4, "", 700, 0, 60, 32],
     ["nightly batch", "", 1, 300, 20000, 10, 11, 8000])],
-  ["Too much reserved", scene([1000, 1, 60, "wait", "others"],
+  ["Too much reserved", scene([1000, 1, 60, "wait", "others", 4, 600],
     ["first", 600, 1, "", 700, 0, 60, 64],
     ["second", 600, 1, "", 700, 20, 60, 64],
     ["third", "", 4, "", 500, 0, 60, 64])],
-  ["Three servers", scene([600, 3, 60, "wait", "others"],
+  ["Three servers", scene([600, 3, 60, "wait", "others", 4, 600],
     ["database", 800, 2, "", 1000, 0, 60, 96],
     ["website", "", 3, "", 1600, 15, 45, 96],
     ["backup", 100, 1, 500, 1200, 0, 60, 96])],
@@ -77,7 +80,8 @@ function fromAddress(address) {
   } catch {
     return undefined;
   }
-  return SERVER_FIELDS.every(({ key }) => key in found.server) ? found : undefined;
+  for (const { key, absent } of SERVER_FIELDS) found.server[key] ??= absent;
+  return SERVER_FIELDS.every(({ key }) => found.server[key] !== undefined) ? found : undefined;
 }
 
 // ---- what is wrong
@@ -138,4 +142,28 @@ function warningsOf({ capacity, servers, clients }, rates) {
     if (limit && reservation > limit) found.push(`The reservation of ${name} is above its limit: the reservation wins.`);
   });
   return found;
+}
+
+// What a run shows that may surprise: clients that were not granted anything for long, although they asked for it.
+function waitsOf({ clients }, result) {
+  return result.clients.flatMap(({ starved }, id) => starved
+    ? [`For ${plain(starved.seconds)} s nothing was granted to ${clients[id].name}, which waited, while ${plain(starved.others)} `
+      + "requests of others were granted by weight. A reservation, or a shorter time until a client is idle, may help."] : []);
+}
+
+// ---- nbdkit
+
+const MOST_NBDKIT_WEIGHT = 1000;
+
+// The settings as the nbdkit filter takes them, a line each. What it refuses is a comment that says so.
+function nbdkitSettings({ capacity, servers, atLimit, depth, idle, clients }) {
+  const lines = [`dmclock-depth=${depth}`, `dmclock-capacity=${capacity}`, `dmclock-at-limit=${atLimit}`, `dmclock-idle=${idle}`];
+  if (servers > 1) lines.unshift(`# for each of the ${servers} servers; the filter knows of no other server`);
+  if (idle > 900) lines.push(`dmclock-erase=${idle}`);
+  for (const { name, reservation, weight, limit } of clients) {
+    if (weight > MOST_NBDKIT_WEIGHT) lines.push(`# the filter takes weights up to ${MOST_NBDKIT_WEIGHT}`);
+    if (limit && reservation > limit) lines.push("# the filter takes no reservation above the limit");
+    lines.push(`dmclock-client=${name}:${reservation || "-"}:${weight}:${limit || "-"}`);
+  }
+  return lines.join("\n") + "\n";
 }

@@ -3,7 +3,6 @@
 // Servers and clients by the rule of docs/PLANNER.md. Times are ticks. The library decides each grant; twin.c has the same in C.
 
 const NEVER = Infinity;
-const IDLE_AGE = HZ;
 const ERASE_AGE = 1000000 * HZ;
 
 // What the library makes of the rates that were typed: reservations rounded up, limits and weights down, to divisors of HZ.
@@ -15,13 +14,17 @@ function exactRates(library, client) {
   };
 }
 
+// Where in its spacing a client's first request comes, in parts of PHASES: no two of the first clients come together.
+const PHASES = 65536;
+const phaseOf = id => (id + 1) * 40503 % PHASES;
+
 class Client {
-  constructor(library, settings, client) {
+  constructor(library, settings, client, id) {
     this.tracker = library.newTracker(settings.servers, settings.counting);
     this.window = client.window;
     this.spacing = Math.floor(HZ / client.demand);
     this.until = Math.min(client.until, settings.seconds) * HZ;
-    this.next = client.from * HZ; // when it wants to send
+    this.next = client.from * HZ + Math.floor(this.spacing * phaseOf(id) / PHASES); // when it wants to send
     this.underWay = 0;
     this.sent = []; // when, by token
     this.skipIfOver();
@@ -34,27 +37,36 @@ class Client {
 
 class Server {
   constructor(library, settings, rates) {
-    this.queue = library.newQueue(IDLE_AGE, ERASE_AGE, settings.atLimit);
+    this.queue = library.newQueue(settings.idle * HZ, ERASE_AGE, settings.atLimit);
     rates.forEach((its, id) => library.register(this.queue, id, its));
-    this.service = Math.floor(HZ / settings.capacity);
-    this.grant = undefined; // the request that it serves
-    this.next = NEVER; // when that is done, or when it pulls
+    this.service = Math.floor(settings.depth * HZ / settings.capacity);
+    this.depth = settings.depth;
+    this.grants = []; // the requests that it serves, in the order in which they are done
+    this.pulls = NEVER; // when it pulls
+  }
+
+  hasRoom() {
+    return this.grants.length < this.depth;
+  }
+
+  // When something happens: a request is done, or it pulls.
+  get next() {
+    return Math.min(this.grants.length ? this.grants[0].done : NEVER, this.pulls);
   }
 }
 
-// Runs the settings with these rates. It calls watch.granted(time, server, grant, wait), watch.turnedAway(client), and
-// watch.second(time) once a second.
+// Runs the settings with these rates. It calls watch.sent(time, client), watch.granted(time, server, grant, wait),
+// watch.turnedAway(client), and watch.second(time) once a second.
 function simulate(library, settings, rates, watch) {
-  const clients = settings.clients.map(client => new Client(library, settings, client));
+  const clients = settings.clients.map((client, id) => new Client(library, settings, client, id));
   const servers = Array.from({ length: settings.servers }, () => new Server(library, settings, rates));
   let second = HZ;
 
   const complete = (server, id, time) => {
-    const client = clients[server.grant.client];
-    library.respond(client.tracker, id, server.grant.phase);
-    client.underWay--;
-    server.grant = undefined;
-    server.next = time;
+    const { client, phase } = server.grants.shift();
+    library.respond(clients[client].tracker, id, phase);
+    clients[client].underWay--;
+    server.pulls = time;
   };
   const send = (client, id, time) => {
     client.next = time + client.spacing;
@@ -65,16 +77,17 @@ function simulate(library, settings, rates, watch) {
     const server = servers[to];
     library.add(server.queue, id, token, library.stamp(client.tracker, to), time);
     client.underWay++;
-    if (!server.grant) server.next = time;
+    if (server.hasRoom()) server.pulls = time;
+    watch.sent(time, id);
   };
   const pull = (server, id, time) => {
     const pulled = library.pull(server.queue, time);
     if (pulled.due !== undefined) {
-      server.next = pulled.due;
+      server.pulls = pulled.due;
       return;
     }
-    server.grant = pulled;
-    server.next = time + server.service;
+    server.grants.push({ done: time + server.service, client: pulled.client, phase: pulled.phase });
+    if (!server.hasRoom()) server.pulls = NEVER;
     watch.granted(time, id, pulled, time - clients[pulled.client].sent[pulled.token]);
   };
 
@@ -83,13 +96,13 @@ function simulate(library, settings, rates, watch) {
     for (const { next } of clients) if (next < time) time = next;
     for (const { next } of servers) if (next < time) time = next;
     if (time >= settings.seconds * HZ) return;
-    servers.forEach((server, id) => { if (server.grant && server.next === time) complete(server, id, time); });
+    servers.forEach((server, id) => { while (server.grants.length && server.grants[0].done === time) complete(server, id, time); });
     if (time === second) {
       for (const { queue } of servers) library.clean(queue, time);
       watch.second(time);
       second += HZ;
     }
     clients.forEach((client, id) => { if (client.next === time) send(client, id, time); });
-    servers.forEach((server, id) => { if (!server.grant && server.next === time) pull(server, id, time); });
+    servers.forEach((server, id) => { while (server.hasRoom() && server.pulls === time) pull(server, id, time); });
   }
 }

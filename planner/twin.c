@@ -1,6 +1,6 @@
 /* The simulation of the page over libdmclock.a, by the rule of docs/PLANNER.md. It reads the settings as words, a line for the servers
  * and one for each client:
- *     capacity servers seconds wait|allow others|all
+ *     capacity servers seconds wait|allow others|all depth idle
  *     reservation weight limit demand from until window
  * with 0 for no reservation and no limit. It writes what each client's rates became, each grant (tick, server, client, token, phase,
  * beyond, wait), and how many requests of each client were turned away. */
@@ -35,11 +35,18 @@ struct client {
   uint32_t sent, room;
 };
 
+#define MOST_DEPTH 1024
+
+struct grant {
+  uint64_t done;
+  uint32_t client, phase;
+};
+
 struct server {
   struct dmc_queue queue;
-  uint64_t next;
-  bool serves;
-  struct dmc_pulled grant;
+  uint64_t pulls;
+  struct grant grants[MOST_DEPTH]; /* a ring, in the order in which they are done */
+  uint32_t first, serves, depth;
 };
 
 static void must(uint32_t code)
@@ -61,7 +68,7 @@ static void *grown(void *at, size_t count, size_t size)
 static uint64_t earlier(uint64_t one, uint64_t other) { return one < other ? one : other; }
 
 /* Reads a client's line, and makes its rates exact. */
-static bool read_client(struct client *it, uint64_t seconds, uint32_t servers, uint32_t counting)
+static bool read_client(struct client *it, uint64_t number, uint64_t seconds, uint32_t servers, uint32_t counting)
 {
   uint64_t demand, from, until;
   if (scanf("%" SCNu32 "%" SCNu32 "%" SCNu32 "%" SCNu64 "%" SCNu64 "%" SCNu64 "%" SCNu64, &it->reservation, &it->weight, &it->limit,
@@ -76,7 +83,8 @@ static bool read_client(struct client *it, uint64_t seconds, uint32_t servers, u
   must(dmc_tracker_new(&it->tracker, servers, UINT64_C(1) << 62, counting));
   it->spacing = HZ / demand;
   it->until = earlier(until, seconds) * HZ;
-  it->next = from * HZ < it->until ? from * HZ : NEVER;
+  uint64_t first = from * HZ + it->spacing * ((number + 1) * 40503 % 65536) / 65536;
+  it->next = first < it->until ? first : NEVER;
   return true;
 }
 
@@ -97,39 +105,52 @@ static void send(struct client *it, uint32_t id, struct server *servers, uint32_
   must(dmc_tracker_stamp(&it->tracker, to, &stamp));
   must(dmc_queue_add(&servers[to].queue, id, token, stamp.delta, stamp.rho, now, &tags));
   it->under_way++;
-  if (!servers[to].serves)
-    servers[to].next = now;
+  if (servers[to].serves < servers[to].depth)
+    servers[to].pulls = now;
+}
+
+static void complete(struct server *it, uint32_t id, struct client *clients, uint64_t now)
+{
+  const struct grant *grant = &it->grants[it->first];
+  struct client *whose = &clients[grant->client];
+  must(dmc_tracker_respond(&whose->tracker, id, grant->phase));
+  whose->under_way--;
+  it->first = (it->first + 1) % MOST_DEPTH;
+  it->serves--;
+  it->pulls = now;
 }
 
 static void pull(struct server *it, uint32_t id, const struct client *clients, uint64_t service, uint64_t now)
 {
   struct dmc_pulled pulled;
   must(dmc_queue_pull(&it->queue, now, &pulled));
-  it->serves = pulled.kind == DMC_GRANTED;
-  if (it->serves) {
-    it->grant = pulled;
-    it->next = now + service;
+  if (pulled.kind == DMC_GRANTED) {
+    it->grants[(it->first + it->serves) % MOST_DEPTH] = (struct grant){now + service, pulled.client, pulled.phase};
+    if (++it->serves == it->depth)
+      it->pulls = NEVER;
     printf("grant %" PRIu64 " %" PRIu32 " %" PRIu32 " %" PRIu32 " %" PRIu32 " %d %" PRIu64 "\n", now, id, pulled.client, pulled.token,
            pulled.phase, pulled.beyond, now - clients[pulled.client].sent_at[pulled.token]);
   } else {
-    it->next = pulled.kind == DMC_FUTURE && !pulled.due_high ? pulled.due_low : NEVER;
+    it->pulls = pulled.kind == DMC_FUTURE && !pulled.due_high ? pulled.due_low : NEVER;
   }
 }
 
 int main(void)
 {
-  uint64_t capacity, seconds;
-  uint32_t servers, clients = 0;
+  uint64_t capacity, seconds, idle;
+  uint32_t servers, depth, clients = 0;
   char at_limit[8], counting[8];
-  if (scanf("%" SCNu64 "%" SCNu32 "%" SCNu64 "%7s%7s", &capacity, &servers, &seconds, at_limit, counting) != 5 || servers > 16)
+  if (scanf("%" SCNu64 "%" SCNu32 "%" SCNu64 "%7s%7s%" SCNu32 "%" SCNu64, &capacity, &servers, &seconds, at_limit, counting, &depth,
+            &idle) != 7 || servers > 16 || depth > MOST_DEPTH)
     return 2;
   static struct client all[64];
-  while (clients < 64 && read_client(&all[clients], seconds, servers, strcmp(counting, "all") ? DMC_OTHERS : DMC_ALL))
+  while (clients < 64 && read_client(&all[clients], clients, seconds, servers, strcmp(counting, "all") ? DMC_OTHERS : DMC_ALL))
     clients++;
   static struct server list[16];
   for (uint32_t s = 0; s < servers; s++) {
-    list[s].next = NEVER;
-    must(dmc_queue_new(&list[s].queue, DMC_TICK, HZ, HZ, 1000000 * HZ, strcmp(at_limit, "allow") ? DMC_WAIT : DMC_ALLOW));
+    list[s].pulls = NEVER;
+    list[s].depth = depth;
+    must(dmc_queue_new(&list[s].queue, DMC_TICK, HZ, idle * HZ, 1000000 * HZ, strcmp(at_limit, "allow") ? DMC_WAIT : DMC_ALLOW));
     for (uint32_t i = 0; i < clients; i++)
       must(dmc_queue_register(&list[s].queue, i, all[i].reservation, all[i].weight, all[i].limit, 0));
   }
@@ -138,16 +159,12 @@ int main(void)
     for (uint32_t i = 0; i < clients; i++)
       now = earlier(now, all[i].next);
     for (uint32_t s = 0; s < servers; s++)
-      now = earlier(now, list[s].next);
+      now = earlier(now, earlier(list[s].pulls, list[s].serves ? list[s].grants[list[s].first].done : NEVER));
     if (now >= seconds * HZ)
       break;
     for (uint32_t s = 0; s < servers; s++)
-      if (list[s].serves && list[s].next == now) {
-        struct client *whose = &all[list[s].grant.client];
-        must(dmc_tracker_respond(&whose->tracker, s, list[s].grant.phase));
-        whose->under_way--;
-        list[s].serves = false;
-      }
+      while (list[s].serves && list[s].grants[list[s].first].done == now)
+        complete(&list[s], s, all, now);
     if (now == second * HZ) {
       uint32_t idled, erased;
       for (uint32_t s = 0; s < servers; s++)
@@ -158,8 +175,8 @@ int main(void)
       if (all[i].next == now)
         send(&all[i], i, list, servers, now);
     for (uint32_t s = 0; s < servers; s++)
-      if (!list[s].serves && list[s].next == now)
-        pull(&list[s], s, all, HZ / capacity, now);
+      while (list[s].serves < list[s].depth && list[s].pulls == now)
+        pull(&list[s], s, all, depth * HZ / capacity, now);
   }
   for (uint32_t i = 0; i < clients; i++)
     printf("turned away %" PRIu64 "\n", all[i].turned_away);

@@ -89,20 +89,14 @@ static int errno_of(uint32_t code)
 
 /* ---- tokens: the token of a request is the place of its slot in the list */
 
-/* A place without a slot has the next such place. */
-union place {
-  struct slot *slot;
-  uintptr_t next_free;     /* twice its number, and 1: no address of a slot is odd */
+struct place {
+  struct slot *slot;       /* NULL, if the place is free */
+  uint32_t next_free;
 };
-
-static bool is_free(union place place)
-{
-  return place.next_free & 1;
-}
 
 static void free_token(struct gate *gate, uint32_t token)
 {
-  gate->places[token].next_free = 2 * (uintptr_t)gate->free_token + 1;
+  gate->places[token] = (struct place){NULL, gate->free_token};
   gate->free_token = token;
 }
 
@@ -110,7 +104,7 @@ static void free_token(struct gate *gate, uint32_t token)
 static int add_tokens(struct gate *gate)
 {
   uint32_t room = gate->tokens ? 2 * gate->tokens : 64;
-  union place *places = realloc(gate->places, room * sizeof *places);
+  struct place *places = realloc(gate->places, room * sizeof *places);
   if (!places)
     return ENOMEM;
   gate->places = places;
@@ -126,7 +120,7 @@ static int take_token(struct gate *gate, struct slot *slot, uint32_t *token)
   if (fault)
     return fault;
   *token = gate->free_token;
-  gate->free_token = (uint32_t)(gate->places[*token].next_free / 2);
+  gate->free_token = gate->places[*token].next_free;
   gate->places[*token].slot = slot;
   return 0;
 }
@@ -139,13 +133,14 @@ static void stop(struct gate *gate, int fault)
   if (gate->fault)
     return;
   gate->fault = fault;
-  for (uint32_t token = 0; token < gate->tokens; token++)
-    if (!is_free(gate->places[token])) {
-      struct slot *slot = gate->places[token].slot;
-      free_token(gate, token);
-      slot->fault = fault;
-      sem_post(&slot->wakes);
-    }
+  for (uint32_t token = 0; token < gate->tokens; token++) {
+    struct slot *slot = gate->places[token].slot;
+    if (!slot)
+      continue;
+    free_token(gate, token);
+    slot->fault = fault;
+    sem_post(&slot->wakes);
+  }
   pthread_cond_signal(&gate->timer_wakes);
   pthread_cond_broadcast(&gate->has_changed);
 }

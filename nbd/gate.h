@@ -40,7 +40,7 @@ struct client {
   struct client *next, **link; /* the next one, and what points to this one */
 };
 
-union place;
+struct place;
 
 /* A gate. Its fields are the gate's own. */
 struct gate {
@@ -63,7 +63,7 @@ struct gate {
   struct client *first, **last; /* all clients, in the order in which they came */
   void *names;             /* a tree of them */
   uint32_t queued;         /* requests in the queue */
-  union place *places;     /* where the requests in the queue are waited for, by their tokens */
+  struct place *places;    /* where the requests in the queue are waited for, by their tokens */
   uint32_t tokens, free_token; /* how many places there are, and the first free one */
 };
 

@@ -105,17 +105,17 @@ class [[nodiscard]] Result {
   /// A member of the value, where ok() is true.
   T *operator->() noexcept { return &value_; }
 
-  /// The value; throws Error where there is none (and aborts where exceptions are switched off).
+  /// The value; throws Error if there is none (and aborts if exceptions are switched off).
   const T &value() const & {
     check();
     return value_;
   }
-  /// The value; throws Error where there is none (and aborts where exceptions are switched off).
+  /// The value; throws Error if there is none (and aborts if exceptions are switched off).
   T &value() & {
     check();
     return value_;
   }
-  /// The value; throws Error where there is none (and aborts where exceptions are switched off).
+  /// The value; throws Error if there is none (and aborts if exceptions are switched off).
   T value() && {
     check();
     return std::move(value_);

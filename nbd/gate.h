@@ -98,7 +98,7 @@ int gate_change(struct gate *, const char *name, const struct rates *, bool is_k
 /* Gives all clients that are not kept these rates. */
 void gate_change_others(struct gate *, const struct rates *);
 
-/* From now on the device has this many requests at once, and there are so many clients that are not kept. */
+/* From now on the device has this many requests at once, and at most this many clients are not kept. */
 void gate_resize(struct gate *, uint32_t depth, uint32_t most_others);
 
 /* A user of the client less. One that is not kept, and has no user and never had a request, is forgotten. */

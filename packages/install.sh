@@ -2,7 +2,7 @@
 # install.sh install TREE   puts bin, include, lib and share of TREE below $DESTDIR$PREFIX (/usr/local where PREFIX is not set)
 # install.sh uninstall      takes away what an install put there
 #
-# LIBDIR is the folder of the libraries below PREFIX, such as lib64, or the same with PREFIX before it; lib where it is not set.
+# LIBDIR is the folder of the libraries below PREFIX, such as lib64, or the same with PREFIX before it; lib if it is not set.
 #
 # An install leaves a list of its files, and of the folders that it had to make. By it an upgrade and an uninstall take away
 # exactly these; a folder that has something else in it stays.

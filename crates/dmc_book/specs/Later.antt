@@ -24,8 +24,8 @@ worker_numbers w = record {
   granted = w.books.granted.number;
 }
 
--- Every call but a rotation leaves the configuration, the server, the number of the history, how many events were released, how many there may be until more
--- are released, and the numbers of the workers and of the desks. The history only grows.
+-- Every call but a rotation leaves the configuration, the server, the number of the history, how many events were released, how
+-- many there may be until more are released, and the numbers of the workers and of the desks. The history only grows.
 pub record IsLater {T : Type 0} (old new : BookState T) : Type 0 where
   pub config : new.config ≡ old.config
   pub server : new.server ≡ old.server

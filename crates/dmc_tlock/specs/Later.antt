@@ -3,8 +3,8 @@ use Rattle.std.specs.Prelude.{◌≡◌, ◌≤◌, map}
 use Rattle.dmc_shared.specs.Later.{side_numbers}
 use Rattle.dmc_tlock.specs.BookState.{BookState}
 
--- Every call but a rotation leaves the client, the number of the list, the counting form, how far the tracker counts, how many entries were released, how
--- many may be kept, and the numbers of the desks.
+-- Every call but a rotation leaves the client, the number of the list, the counting form, how far the tracker counts, how many
+-- entries were released, how many may be kept, and the numbers of the desks.
 pub record IsLater (old new : BookState) : Type 0 where
   pub client : new.client ≡ old.client
   pub number : new.number ≡ old.number

@@ -22,8 +22,8 @@ pub data AnyState : Type 0 where
 
 -- the opening state with tags of this kind
 abbrev pub opening_with : TagKind → Setting → AnyState
-opening_with kinds.Tick config = ticks (opening config)
-opening_with kinds.Ratio config = ratios (opening config)
+opening_with kinds.Tick config = ticks (opening tick_ops config)
+opening_with kinds.Ratio config = ratios (opening ratio_ops config)
 
 -- how many clients are registered
 abbrev pub clients_in : AnyState → ℕ

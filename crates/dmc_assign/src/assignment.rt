@@ -13,13 +13,14 @@ use dmc_tag::reply::Tags;
 use dmc_tag::tag::Tag;
 use dmc_types::params::ReqParams;
 
-/// The tags of a request of this client that arrives at t: each max(previous + k*spacing, t), with k = rho for R, delta for L and
-/// P (mClock's Algorithm 1, with dmClock's counts). `None` if a sum is no value. They may be pushed.
-pub fn tags_for<T: Tag>(rec: &ClientRec<T>, params: ReqParams, t: T) -> Option<Tags<T>>
-    ensures value { in_range result ≡ rules_of.next_tags T.ops rec.now.spacings rec.now.previous params t }
+/// The tags of a request of this client that arrives at t: R and L are max(previous + k*spacing, t), with k = rho for R and delta
+/// for L, and P is max(previous + delta*spacing, floor), where the floor is t by the clock (mClock's Algorithm 1, with dmClock's
+/// counts). `None` if a sum is no value. They may be pushed.
+pub fn tags_for<T: Tag>(rec: &ClientRec<T>, params: ReqParams, t: T, floor: T) -> Option<Tags<T>>
+    ensures value { in_range result ≡ rules_of.next_tags T.ops rec.now.spacings rec.now.previous params t floor }
     ensures follows { IfSome result (AreNext T.ops rec.now.info rec.now.previous) }
     ensures assigned { (hz : ℕ) (id : ClientId) → spacings_of T.ops hz rec.now.info ≡ Ok rec.now.spacings →
-        in_range result ≡ rules_of.assigned T.ops hz (client_of id rec.now) params t }
+        in_range result ≡ rules_of.assigned T.ops hz (client_of id rec.now) params t floor }
 {
-    next_tags(rec.spacings(), rec.previous(), params, t)
+    next_tags(rec.spacings(), rec.previous(), params, t, floor)
 }

@@ -1,5 +1,5 @@
 -- An add: the tests, the shift of the others, and the state that it leaves.
-use Rattle.std.proofs.Common.{◌≡◌, ℕ, ◌<◌, ◌≤◌, Bool, true, false, List, [], ◌∷◌, length, map, set, get_or, Option, Some, None, is_some, Result, Ok, not, refl, sym, ap, ◌∙◌, subst, arith, length-append}
+use Rattle.std.proofs.Common.{◌≡◌, ℕ, ◌<◌, ◌≤◌, Bool, true, false, ◌&&◌, List, [], ◌∷◌, length, map, set, get_or, Option, Some, None, is_some, Result, Ok, not, refl, sym, ap, ◌∙◌, subst, arith, length-append}
 use Rattle.std.specs.Prelude.{slice_get, if◌then◌else◌, nat_le}
 use Rattle.std.specs.Option.{option_map, ok_or}
 use Rattle.std.proofs.lemmas.List.{length-map, map-set, set-set, get_or-set_same}
@@ -14,8 +14,9 @@ use Rattle.dmc_tag.specs.Outcome.{◌>>=◌, refuse_if}
 use Rattle.dmc_tag.specs.declared.reply.Tags.{Tags}
 use Rattle.dmc_tag.proofs.Outcomes.{goes_on}
 use Rattle.dmc_tag.specs.Tag.{Tagging}
-use Rattle.dmc_tag.specs.State.{State, PlainClient, client_named, queued_requests}
-use Rattle.dmc_tag.specs.Rules.{shifted_by, shifted_client, less_shares, less_share, after_arrival, queued, shift_from, shift_of, can_shift_by, assigned, can_add}
+use Rattle.dmc_tag.specs.State.{State, PlainClient, client_named, queued_requests, is_nothing_queued}
+use Rattle.dmc_tag.specs.Rules.{shifted_by, shifted_client, less_shares, less_share, after_arrival, queued, change_client, progress_added, shift_from, shift_of, share_floor, adjusts, can_shift_by, assigned, add_tags}
+use Rattle.dmc_tag.specs.declared.plain.Progress.{Progress}
 use Rattle.dmc_tag.specs.declared.plain.QueuedRequest.{QueuedRequest}
 use Rattle.dmc_plain.specs.declared.queue.adding.Arrival.{Arrival}
 use Rattle.dmc_plain.specs.internal.Arrivals.{IsArrival, appended, arrived}
@@ -64,7 +65,8 @@ module _ {T : Type 0} (ops : Tagging T) where
   module _ (a b : ℕ) (q old : State T) (view : q ≡ old) (kept : IsKept a b q.clients) (arrival : Arrival T) (h : IsArrival old.clients arrival) (request : QueuedRequest T) (t : ℕ)
       (c d : PlainClient T) (at : c ≡ get_or q.clients arrival.index c) (d_is : d ≡ appended request c)
       (shifted : List (PlainClient T)) (shifted_is : shifted ≡ shifted_by ops arrival.shift (set q.clients arrival.index d))
-      (e f : PlainClient T) (e_at : e ≡ get_or shifted arrival.index e) (f_is : f ≡ arrived request.tags t e) where
+      (e f : PlainClient T) (e_at : e ≡ get_or shifted arrival.index e) (f_is : f ≡ arrived request.tags t e)
+      (progress : Progress T) (counted : progress ≡ progress_added ops q.config.shares (is_nothing_queued q.clients) request.tags.p q.progress) where
     own : IsArrival q.clients arrival
     own = subst (λ (s : State T). IsArrival s.clients arrival) (sym view) h
 
@@ -92,10 +94,11 @@ module _ {T : Type 0} (ops : Tagging T) where
     all : set shifted arrival.index f ≡ set (shifted_by ops arrival.shift q.clients) arrival.index (after_arrival request t own.client)
     all = ap (λ (cs : List (PlainClient T)). set cs arrival.index f) beside ∙ set-set (shifted_by ops arrival.shift q.clients) arrival.index d f ∙ ap (set (shifted_by ops arrival.shift q.clients) arrival.index) now
 
-    pub queued_as : record q { clients = set shifted arrival.index f; last_moment = t } ≡ queued ops old arrival.shift arrival.client request t
+    pub queued_as : record q { clients = set shifted arrival.index f; last_moment = t; progress = progress } ≡ queued ops old arrival.shift arrival.client request t
     queued_as =
         let changes = change_at (after_arrival request t) own.client (shifted_by ops arrival.shift q.clients) arrival.index there (shift_kept a b arrival.shift q.clients kept).apart in
-        ap (λ (cs : List (PlainClient T)). record q { clients = cs; last_moment = t }) (all ∙ changes)
+        ap (λ (cs : List (PlainClient T)). record q { clients = cs; last_moment = t; progress = progress }) (all ∙ changes)
+        ∙ ap (λ (p : Progress T). record q { clients = change_client own.client.id (after_arrival request t) (shifted_by ops arrival.shift q.clients); last_moment = t; progress = p }) counted
         ∙ ap (λ id. queued ops q arrival.shift id request t) own.id
         ∙ ap (λ s. queued ops s arrival.shift arrival.client request t) view
 
@@ -119,14 +122,15 @@ module _ {T : Type 0} (ops : Tagging T) where
     is_named : client_named id old.clients ≡ Some c
     is_named = sym (subst (λ cs. slice_get cs i ≡ client_named id cs) (same ∙ ap (λ (s : State T). s.clients) view) named) ∙ is_at
 
-    pub is_arrival : (shift : Option T) (tags : Tags T) → shift_of ops old.clients c t ≡ Ok shift → IsArrival old.clients (record { client = id; index = i; shift = shift; tags = tags })
-    is_arrival shift tags e = record { client = c; client_at = is_at; id = named_id id c old.clients is_named; idle = by c.idle e } where
-      by : (idle : Bool) → (if idle then shift_from ops t (best_of_all ops by_weight is_any old.clients) else Ok None) ≡ Ok shift → is_some shift ≡ true → idle ≡ true
-      by true e some = refl
-      by false e some = cc
+    pub is_arrival : (shift : Option T) (tags : Tags T) → shift_of ops old.config.shares old.clients c t ≡ Ok shift → IsArrival old.clients (record { client = id; index = i; shift = shift; tags = tags })
+    is_arrival shift tags e = record { client = c; client_at = is_at; id = named_id id c old.clients is_named; idle = by (adjusts old.config.shares) c.idle e } where
+      by : (adjusts idle : Bool) → (if adjusts && idle then shift_from ops t (best_of_all ops by_weight is_any old.clients) else Ok None) ≡ Ok shift → is_some shift ≡ true → idle ≡ true
+      by adjusts true e some = refl
+      by true false e some = cc
+      by false false e some = cc
 
     -- the new tags, or their refusal, are the last of the tests
-    pub assigns : (shift : Option T) → nat_le max_requests (length (queued_requests old.clients)) ≡ false → shift_of ops old.clients c t ≡ Ok shift → can_shift_by ops shift old.clients ≡ true →
-        (result : Result (Tags T) Refusal) → assigned ops old.config.hz c params t ≡ result → (result >>= λ tags. Ok (shift, tags)) ≡ can_add ops old id params t
+    pub assigns : (shift : Option T) → nat_le max_requests (length (queued_requests old.clients)) ≡ false → shift_of ops old.config.shares old.clients c t ≡ Ok shift → can_shift_by ops shift old.clients ≡ true →
+        (result : Result (Tags T) Refusal) → assigned ops old.config.hz c params t (share_floor ops old t) ≡ result → (result >>= λ tags. Ok (shift, tags)) ≡ add_tags ops old id params t
     assigns shift room e can result tags =
         goes_on _ (ap (λ o. ok_or o Unknown) is_named) (goes_on _ (ap (λ b. refuse_if b QueueFull) room) (goes_on _ e (goes_on _ (ap (λ b. refuse_if (not b) Range) can) (ap (λ r. r >>= λ tags. Ok (shift, tags)) (sym tags)))))

@@ -8,6 +8,7 @@ use Rattle.std.proofs.lemmas.Option.{slice_get_read}
 use Rattle.dmc_types.specs.Values.{Rates}
 use Rattle.dmc_types.specs.declared.ids.ClientId.{ClientId}
 use Rattle.dmc_types.specs.declared.command.Command.TheVariants.{Update, Remove}
+use Rattle.dmc_types.specs.declared.config.PhaseType.TheVariants.{Reservation}
 use Rattle.dmc_types.specs.declared.refusal.Refusal.TheVariants.{Unknown}
 use Rattle.dmc_tag.specs.Tag.{Tagging}
 use Rattle.dmc_tag.specs.State.{State, PlainClient, client_named, effective}
@@ -64,14 +65,14 @@ module _ {T : Type 0} (ops : Tagging T) (a b : ℕ) (q old : State T) (view : q 
   own_place = subst (λ (s : State T). IsPlace s.clients place) (sym view) p
 
   pub taken_as : (t : ℕ) (amount : Option T) (d : PlainClient T) → d ≡ reduced_by ops amount (with_requests (remove c.requests place.request) c) →
-      option_map (λ found. taken_out ops old t found amount) (found_at old.clients place) ≡ Some (record q { clients = set q.clients place.client d; last_moment = t })
+      option_map (λ found. taken_out ops old t found Reservation amount) (found_at old.clients place) ≡ Some (record q { clients = set q.clients place.client d; last_moment = t })
   taken_as t amount d e =
       let read = client_read q.clients place own_place c is in
       let found = the_found q.clients place own_place in
       let changes = change_at (λ c. after_grant ops found amount) found.client q.clients place.client own_place.client_at kept.apart in
       let new : d ≡ after_grant ops found amount = e ∙ ap (λ (x : PlainClient T). reduced_by ops amount (with_requests (remove x.requests place.request) x)) read in
-      ap (λ (s : State T). option_map (λ found. taken_out ops s t found amount) (found_at s.clients place)) (sym view)
-      ∙ ap (option_map (λ found. taken_out ops q t found amount)) (found_there q.clients place own_place)
+      ap (λ (s : State T). option_map (λ found. taken_out ops s t found Reservation amount) (found_at s.clients place)) (sym view)
+      ∙ ap (option_map (λ found. taken_out ops q t found Reservation amount)) (found_there q.clients place own_place)
       ∙ ap (λ cs. Some (record q { clients = cs; last_moment = t })) (sym (ap (set q.clients place.client) new ∙ changes))
 
   reduced_id : (amount : Option T) (x : PlainClient T) → (reduced_by ops amount x).id ≡ x.id

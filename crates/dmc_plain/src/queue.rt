@@ -14,6 +14,8 @@ use crate::changes::{Mark, change_all};
 use crate::cleaning::{count_erased, count_idled, erase};
 use crate::client::Client;
 use crate::clients::{count_requests, index_of};
+use dmc_tag::plain::Progress;
+use dmc_tag::progress::no_progress;
 use dmc_tag::reply::{Pulled, Tags};
 use dmc_tag::scheduler::Scheduler;
 use dmc_tag::spacing::{Spacings, spacings_for};
@@ -35,6 +37,7 @@ pub struct PlainQueue<T> {
     config: QueueConfig,
     clients: Vec<Client<T>>,
     last_moment: Moment,
+    progress: Progress<T>,
 }
 
 impl<T> Model for PlainQueue<T> {
@@ -44,20 +47,21 @@ impl<T> Model for PlainQueue<T> {
 
     ghost Value = { State T };
 
-    ghost view = { λ q. record { config = q.config; clients = q.clients.items; last_moment = q.last_moment } };
+    ghost view = { λ q. record { config = q.config; clients = q.clients.items; last_moment = q.last_moment; progress = q.progress } };
 
     ghost invariant = { λ q. IsKept max_clients max_requests q.clients.items };
 }
 
-impl<T> PlainQueue<T> {
+impl<T: Tag> PlainQueue<T> {
     /// An empty queue. It does not allocate.
     pub fn new(alloc: Global, config: QueueConfig) -> PlainQueue<T>
-        ensures { result ≡ opening config }
+        ensures { result ≡ opening T.ops config }
     {
         PlainQueue {
             config,
             clients: Vec::new(alloc),
             last_moment: Moment::zero(),
+            progress: no_progress(),
         }
     }
 
@@ -165,7 +169,7 @@ impl<T: Tag> Scheduler<T> for PlainQueue<T> {
         at: Moment,
     ) -> Result<Tags<T>, QueueFault> {
         let at = self.effective(at);
-        let arrival = self.can_add(client, params, T::of_moment(at))?;
+        let arrival = self.can_add(client, params, at)?;
         self.queue(&arrival, token, at)?;
         Ok(arrival.tags)
     }

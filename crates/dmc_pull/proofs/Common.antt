@@ -11,4 +11,5 @@ pub mod Answered
 pub mod Refused
 pub mod Moved
 pub mod Within
+pub mod Progress
 pub mod FirstRequests

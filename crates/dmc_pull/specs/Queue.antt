@@ -5,6 +5,7 @@ use Rattle.std.specs.List.{AllByRecursion}
 use Rattle.dmc_types.specs.Limits.{max_requests}
 use Rattle.dmc_types.specs.Values.{Setting}
 use Rattle.dmc_types.specs.declared.ids.ClientId.{ClientId}
+use Rattle.dmc_tag.specs.declared.plain.Progress.{Progress}
 use Rattle.dmc_tag.specs.declared.reply.Tags.{Tags}
 use Rattle.dmc_tag.specs.Tag.{Fraction, Tagging}
 use Rattle.dmc_tag.specs.State.{State, queued_requests}
@@ -22,10 +23,12 @@ pub record Queue (T : Type 0) : Type 0 where
   -- what the three indexes hold of each key: its client, the tags of its first request, and the ready mark
   pub heads : List (Option (Head T))
   pub last_moment : ℕ
+  -- the virtual time, and the furthest P
+  pub progress : Progress T
 
 -- the plain state that it represents
 abbrev pub state_of : {T : Type 0} → Queue T → State T
-state_of q = record { config = q.config; clients = clients_in q.roster.entries; last_moment = q.last_moment }
+state_of q = record { config = q.config; clients = clients_in q.roster.entries; last_moment = q.last_moment; progress = q.progress }
 
 -- ---- the index clause
 
@@ -53,6 +56,11 @@ pub record IsKept {T : Type 0} (ops : Tagging T) (fraction : T → Fraction) (is
   pub spacings : spacings_of ops hz rec.info ≡ Ok rec.spacings
   pub values : AllByRecursion (λ tag. is_value (fraction tag)) (share_tags rec)
 
+-- the virtual time and the furthest P are values
+pub record AreValues {T : Type 0} (fraction : T → Fraction) (is_value : Fraction → Type 0) (progress : Progress T) : Type 0 where
+  pub virtual_time : is_value (fraction progress.virtual_time)
+  pub furthest : is_value (fraction progress.furthest)
+
 pub record IsQueue {T : Type 0} (ops : Tagging T) (fraction : T → Fraction) (is_value : Fraction → Type 0) (q : Queue T) (queued : ℕ) : Type 0 where
   pub kept : AllByRecursion (λ e. IsKept ops fraction is_value q.config.hz e.rec) q.roster.entries
   pub distinct : AreDistinct q.roster.entries
@@ -60,3 +68,4 @@ pub record IsQueue {T : Type 0} (ops : Tagging T) (fraction : T → Fraction) (i
   pub in_room : AllByRecursion (λ e. e.key < length q.heads) q.roster.entries
   pub counted : queued ≡ length (queued_requests (clients_in q.roster.entries))
   pub bound : queued ≤ max_requests
+  pub progress : AreValues fraction is_value q.progress

@@ -5,6 +5,7 @@ ghost use Rattle.dmc_adjust.specs.Changes as changes;
 ghost use Rattle.dmc_client.specs.Record.{IsRecord};
 ghost use Rattle.dmc_head_index.specs.Heads.{CanShift};
 ghost use Rattle.dmc_pull.specs.internal.Adding as adding_of;
+ghost use Rattle.dmc_tag.specs.Rules as rules_of;
 
 use dmc_adjust::adjustment::{can_shift, shift};
 use dmc_client::record::ClientRec;
@@ -14,6 +15,7 @@ use dmc_roster::change::{RecordRule, RecordTest};
 use dmc_roster::roster::Roster;
 use dmc_tag::reply::Tags;
 use dmc_tag::tag::Tag;
+use dmc_types::config::Shares;
 use dmc_types::moment::Moment;
 use std::alloc::AllocError;
 
@@ -32,6 +34,16 @@ impl<T: Copy> Clone for Addition<T> {
 
     fn clone(&self) -> Result<Addition<T>, AllocError> {
         Ok(*self)
+    }
+}
+
+/// Whether all others are shifted when an idle client arrives. In virtual time they are not.
+pub fn adjusts(shares: Shares) -> bool
+    ensures { result ≡ rules_of.adjusts shares }
+{
+    match shares {
+        Shares::Clock => true,
+        Shares::Virtual => false,
     }
 }
 

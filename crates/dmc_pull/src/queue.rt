@@ -18,6 +18,8 @@ use dmc_client::record::ClientRec;
 use dmc_head_index::heads::Heads;
 use dmc_index::index::Indexes;
 use dmc_roster::roster::Roster;
+use dmc_tag::plain::Progress;
+use dmc_tag::progress::no_progress;
 use dmc_tag::reply::{Pulled, Tags};
 use dmc_tag::scheduler::Scheduler;
 use dmc_tag::tag::Tag;
@@ -45,6 +47,8 @@ pub struct PullQueue<T: Tag, I: Indexes<T>> {
     queued: usize,
     // Between which two tags each P lies, if that is known.
     range: Option<ShareRange<T>>,
+    // How far the service has come, if shares are in virtual time.
+    progress: Progress<T>,
     last_moment: Moment,
     alloc: Global,
 }
@@ -55,22 +59,23 @@ impl<T: Tag, I: Indexes<T>> Model for PullQueue<T, I> {
 
     ghost Value = { Queue T };
 
-    ghost view = { λ q. record { config = q.config; roster = q.roster; heads = q.heads.0; last_moment = q.last_moment } };
+    ghost view = { λ q. record { config = q.config; roster = q.roster; heads = q.heads.0; last_moment = q.last_moment; progress = q.progress } };
 
-    ghost invariant = { λ q. IsQueue T.ops T.fraction T.is_value (record { config = q.config; roster = q.roster; heads = q.heads.0; last_moment = q.last_moment }) q.queued × AreWithin T.ops q.range q.roster.entries };
+    ghost invariant = { λ q. IsQueue T.ops T.fraction T.is_value (record { config = q.config; roster = q.roster; heads = q.heads.0; last_moment = q.last_moment; progress = q.progress }) q.queued × AreWithin T.ops q.range q.roster.entries };
 }
 
 impl<T: Tag, I: Indexes<T>> PullQueue<T, I> {
     /// An empty queue. It does not allocate.
     pub fn new(alloc: Global, config: QueueConfig) -> PullQueue<T, I>
-        ensures { state_of result ≡ opening config }
+        ensures { state_of result ≡ opening T.ops config }
     {
         PullQueue {
             config,
             roster: Roster::new(alloc),
             heads: Droppable(Heads::new(alloc)),
             queued: 0,
-            range: first_range(),
+            range: first_range(config.shares()),
+            progress: no_progress(),
             last_moment: Moment::zero(),
             alloc,
         }

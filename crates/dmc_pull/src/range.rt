@@ -3,8 +3,10 @@ ghost use Rattle.std.specs.Prelude.{◌≡◌, ⊤};
 ghost use Rattle.dmc_pull.specs.internal.Range as range_of;
 ghost use Rattle.dmc_pull.specs.internal.ShareRange.{IsWithin};
 
+use crate::adding::adjusts;
 use dmc_tag::shifting::has_less;
 use dmc_tag::tag::Tag;
+use dmc_types::config::Shares;
 use dmc_types::moment::Moment;
 use std::alloc::AllocError;
 
@@ -25,11 +27,11 @@ impl<T: Copy> Clone for ShareRange<T> {
     }
 }
 
-/// The range of a queue without clients: 0 alone. It is known only if tags are whole numbers.
-pub fn first_range<T: Tag>() -> Option<ShareRange<T>>
+/// The range of a queue without clients: 0 alone. It is known only if tags are whole numbers, and if there are shifts.
+pub fn first_range<T: Tag>(shares: Shares) -> Option<ShareRange<T>>
     ensures { IsWithin T.ops result (T.ops.of_moment 0) }
 {
-    if !T::is_whole() {
+    if !T::is_whole() || !adjusts(shares) {
         return None;
     }
     let zero = T::of_moment(Moment::zero());

@@ -14,4 +14,4 @@ abbrev pub ◌∕◌ : ℕ → ℕ → Ratio
 n ∕ d = lowest_terms (pos n) (d - 1)
 
 abbrev pub replies : ℕ → List Command → List (Reply Ratio)
-replies hz commands = replies_of ratio_ops (opening (ticks_a_second hz Wait)) commands
+replies hz commands = replies_of ratio_ops (opening ratio_ops (ticks_a_second hz Wait)) commands

@@ -20,6 +20,8 @@ use Rattle.dmc_tag.proofs.PullLaw as pulls
 use Rattle.dmc_tag.proofs.Running as running
 -- a client that has the id of another is that one
 pub use Rattle.dmc_tag.proofs.Active.{same_client}
+-- the last test of an add, that of its client's limit
+pub use Rattle.dmc_tag.proofs.Limited.{tags_refused, over_limit, within_limit, was_tagged}
 -- one command more is one step more
 pub use Rattle.dmc_tag.proofs.Running.{state_after-more}
 -- an order that is the same as a total one is total: so the order of a tag type is
@@ -42,13 +44,13 @@ pub use Rattle.dmc_tag.proofs.Queued.{only_an_add_queues, grants_what_is_queued,
 module _ {T : Type 0} (ops : Tagging T) where
   -- one event more is one step more
   pub after_one_more : (config : Setting) (events : List (Event T)) (e : Event T) → after ops config (events ++ e ∷ []) ≡ (step ops (after ops config events) e.command).0
-  after_one_more config = running.past_more ops (opening config)
+  after_one_more config = running.past_more ops (opening ops config)
 
   pub replays_one_more : (config : Setting) (events : List (Event T)) (e : Event T) → replays ops config events → e.reply ≡ (step ops (after ops config events) e.command).1 → replays ops config (events ++ e ∷ [])
-  replays_one_more config = running.replays_more ops (opening config)
+  replays_one_more config = running.replays_more ops (opening ops config)
 
   pub replayed_one_more : (config : Setting) (events : List (Event T)) (e : Event T) → replays ops config (events ++ e ∷ []) → replays ops config events × (e.reply ≡ (step ops (after ops config events) e.command).1)
-  replayed_one_more config = running.replays_parted ops (opening config)
+  replayed_one_more config = running.replays_parted ops (opening ops config)
 
 -- what the scan for the best of all clients' requests finds is the best
 pub found_is_best_of_all : {T : Type 0} (ops : Tagging T) → IsTotalOrder ops.compare → (tag : QueuedRequest T → Option T) (member : QueuedRequest T → Bool) (clients : List (PlainClient T)) (found : Found T) → best_of_all ops tag member clients ≡ Some found → IsBestOfAll ops tag member clients found

@@ -10,6 +10,7 @@ pub mod FutureLaw
 pub mod PullLaw
 pub mod Active
 pub mod Queued
+pub mod Limited
 pub mod Scaled
 pub mod TagOrder
 pub mod TagValues

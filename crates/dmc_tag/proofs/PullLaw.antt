@@ -3,7 +3,7 @@ use Rattle.std.proofs.Common.{◌≡◌, ℕ, Bool, true, false, not, List, [], 
 use Rattle.std.specs.Prelude.{⊤}
 use Rattle.std.specs.Cmp.{IsTotalOrder}
 use Rattle.dmc_types.specs.declared.config.AtLimit.{AtLimit}
-use Rattle.dmc_types.specs.declared.config.AtLimit.TheVariants.{Wait, Allow}
+use Rattle.dmc_types.specs.declared.config.AtLimit.TheVariants.{Wait, Allow, Reject}
 use Rattle.dmc_types.specs.declared.config.PhaseType.TheVariants as phases
 use Rattle.dmc_types.specs.declared.refusal.Refusal.{Refusal}
 use Rattle.dmc_types.specs.declared.refusal.Refusal.TheVariants.{Range}
@@ -66,7 +66,7 @@ module _ {T : Type 0} (ops : Tagging T) (fraction : T → Fraction) (is_value : 
       let tested = bound (refuse_if (not (rules_of.can_reduce_by ops taken.0 (rules_of.with_requests found.others found.client))) Range) _ amount taken.2 in
       taken.1 ∙ tested.2
 
-  priority_says : (t : ℕ) (s : State T) (found : Found T) (beyond : Bool) (member : QueuedRequest T → Bool) → IsBestOfAll ops by_weight member s.clients found → ((new : State T) → Grants ops t phases.Priority by_weight member s new found.client.id found.request.token → Pulls ops t s new (rules_of.granted found phases.Priority beyond)) → (given : Result (Option T) Refusal) → rules_of.can_grant ops s.config.hz found ≡ given → OnlyRange given → Says t s (given >>= (λ amount. Ok (rules_of.taken_out ops s t found amount, rules_of.granted found phases.Priority beyond)))
+  priority_says : (t : ℕ) (s : State T) (found : Found T) (beyond : Bool) (member : QueuedRequest T → Bool) → IsBestOfAll ops by_weight member s.clients found → ((new : State T) → Grants ops t phases.Priority by_weight member s new found.client.id found.request.token → Pulls ops t s new (rules_of.granted found phases.Priority beyond)) → (given : Result (Option T) Refusal) → rules_of.can_grant ops s.config.hz found ≡ given → OnlyRange given → Says t s (given >>= (λ amount. Ok (rules_of.taken_out ops s t found phases.Priority amount, rules_of.granted found phases.Priority beyond)))
   priority_says t s found beyond member is says (Ok amount) e h =
       says _ (record {
         found = found;
@@ -85,7 +85,8 @@ module _ {T : Type 0} (ops : Tagging T) (fraction : T → Fraction) (is_value : 
       priority_says t s found true is_any (found_is ops o by_weight is_any s.clients found q) (λ new g. (early, free, allow, g)) _ refl (can_grant_range s.config.hz found)
 
   at_limit_says : (t : ℕ) (s : State T) (x : QueuedRequest T) (xs : List (QueuedRequest T)) → queued_requests s.clients ≡ x ∷ xs → NoneEarly t s → NoneFree t s → (mode : AtLimit) → s.config.at_limit ≡ mode → Says t s (rules_of.at_limit ops s t mode x xs)
-  at_limit_says t s x xs e early free Wait m = (early, free, m, subst (λ zs. IsNextDue ops (rules_of.least_due ops x xs) zs) (sym e) (next_due ops fraction is_value exact x xs), refl)
+  at_limit_says t s x xs e early free Wait m = (early, free, (λ allow. cc), subst (λ zs. IsNextDue ops (rules_of.least_due ops x xs) zs) (sym e) (next_due ops fraction is_value exact x xs), refl)
+  at_limit_says t s x xs e early free (Reject threshold) m = (early, free, (λ allow. cc), subst (λ zs. IsNextDue ops (rules_of.least_due ops x xs) zs) (sym e) (next_due ops fraction is_value exact x xs), refl)
   at_limit_says t s x xs e early free Allow m = any_found t s x xs e early free m _ refl
 
   nothing_says : (t : ℕ) (s : State T) (xs : List (QueuedRequest T)) → queued_requests s.clients ≡ xs → NoneEarly t s → NoneFree t s → Says t s (rules_of.nothing_due ops s t xs)

@@ -185,4 +185,4 @@ module _ {T : Type 0} (ops : Tagging T) (fraction : T → Fraction) (is_value : 
 
   -- who has a queued request after a history is active
   pub queued_clients_are_active : (config : Setting) (events : List (Event T)) (id : ClientId) → has_queued id (after ops config events).clients ≡ true → is_active id (after ops config events).clients ≡ true
-  queued_clients_are_active config events id = queued_are_active id (after ops config events).clients (active_from (opening config) (map (λ e. e.command) events) tt)
+  queued_clients_are_active config events id = queued_are_active id (after ops config events).clients (active_from (opening ops config) (map (λ e. e.command) events) tt)

@@ -201,18 +201,18 @@ module _ {T : Type 0} (ops : Tagging T) (fraction : T → Fraction) (is_value : 
         let tag_is : Some found.0 ≡ tag = cc (found.2) in
         subst (λ o. (is_some o ≡ true) × IfSome o (AtMost ops previous)) tag_is (refl, next_tag_not_below previous spacing t found.0 k h found.1)
 
-    pub next_tags_follow : (info : Rates) (spacings : Spacings T) (previous : Previous T) (params : Params) (t : T) (tags : Tags T) → AreSpacings ops info spacings → next_tags ops spacings previous params t ≡ Ok tags → AreNext ops info previous tags
-    next_tags_follow info spacings previous params t tags are e =
+    pub next_tags_follow : (info : Rates) (spacings : Spacings T) (previous : Previous T) (params : Params) (t floor : T) (tags : Tags T) → AreSpacings ops info spacings → next_tags ops spacings previous params t floor ≡ Ok tags → AreNext ops info previous tags
+    next_tags_follow info spacings previous params t floor tags are e =
         let r = bound (next_reservation ops previous.r params.rho spacings.r t) _ tags e in
         let l = bound (next_tag ops previous.l params.delta spacings.l t) _ tags r.2 in
-        let p = bound (next_tag ops previous.p params.delta spacings.p t) _ tags l.2 in
+        let p = bound (next_tag ops previous.p params.delta spacings.p floor) _ tags l.2 in
         let tags_are : record { r = r.0; l = l.0; p = p.0 } ≡ tags = cc (p.2) in
         let reserved = next_reservation_not_below previous.r t params.rho spacings.r r.0 are.r r.1 in
         subst (AreNext ops info previous) tags_are (record {
           reserved = reserved.0 ∙ are.reserved;
           r = reserved.1;
           l = next_tag_not_below previous.l spacings.l t l.0 params.delta are.l l.1;
-          p = next_tag_not_below previous.p spacings.p t p.0 params.delta are.p p.1;
+          p = next_tag_not_below previous.p spacings.p floor p.0 params.delta are.p p.1;
         })
 
   -- ---- spacings

@@ -49,14 +49,13 @@ module _ {T : Type 0} (ops : Tagging T) (fraction : T → Fraction) (is_value : 
       let tag_is : ord_max ops.compare sum.0 t ≡ tag = cc (sum.2) in
       subst (λ c. is_value (fraction c)) tag_is (greater_value sum.0 t (is_lt (ops.compare t sum.0)) (sum_value previous step.0 sum.0 (from_range _ _ sum.1)) h)
 
-  pub weights_are_values : (spacings : Spacings T) (previous : Previous T) (params : Params) (n : ℕ) (tags : Tags T) → n ≤ max_moment → next_tags ops spacings previous params (ops.of_moment n) ≡ Ok tags → is_value (fraction tags.p)
-  weights_are_values spacings previous params n tags h e =
-      let t = ops.of_moment n in
+  pub weights_are_values : (spacings : Spacings T) (previous : Previous T) (params : Params) (t floor : T) (tags : Tags T) → is_value (fraction floor) → next_tags ops spacings previous params t floor ≡ Ok tags → is_value (fraction tags.p)
+  weights_are_values spacings previous params t floor tags h e =
       let r = bound (next_reservation ops previous.r params.rho spacings.r t) _ tags e in
       let l = bound (next_tag ops previous.l params.delta spacings.l t) _ tags r.2 in
-      let p = bound (next_tag ops previous.p params.delta spacings.p t) _ tags l.2 in
+      let p = bound (next_tag ops previous.p params.delta spacings.p floor) _ tags l.2 in
       let share : p.0 ≡ tags.p = cc (p.2) in
-      subst (λ c. is_value (fraction c)) share (next_value previous.p spacings.p t p.0 params.delta (moments_are_values n h) p.1)
+      subst (λ c. is_value (fraction c)) share (next_value previous.p spacings.p floor p.0 params.delta h p.1)
 
   -- ---- two answers of one fraction are one
 

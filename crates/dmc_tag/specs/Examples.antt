@@ -3,7 +3,8 @@ use Rattle.std.specs.Prelude.{ℕ, true, false, Option}
 use Rattle.dmc_types.specs.Limits.{max_moment}
 use Rattle.dmc_types.specs.Values.{Setting}
 use Rattle.dmc_types.specs.declared.config.AtLimit.{AtLimit}
-use Rattle.dmc_types.specs.declared.config.AtLimit.TheVariants.{Wait, Allow}
+use Rattle.dmc_types.specs.declared.config.AtLimit.TheVariants.{Wait, Allow, Reject}
+use Rattle.dmc_types.specs.declared.config.Shares.TheVariants.{Clock, Virtual}
 use Rattle.dmc_types.specs.declared.config.PhaseType.TheVariants as phases
 use Rattle.dmc_types.specs.declared.command.Command.{Command}
 use Rattle.dmc_types.specs.declared.command.Command.TheVariants.{Register, Update, Add, Pull, Remove, Clean}
@@ -13,7 +14,7 @@ use Rattle.dmc_tag.specs.declared.reply.Reply.TheVariants.{Tagged, Granted}
 -- ---- settings
 
 abbrev pub setting : ℕ → ℕ → ℕ → AtLimit → Setting
-setting hz idle erase at = record { hz = hz; idle_age = idle; erase_age = erase; at_limit = at }
+setting hz idle erase at = record { hz = hz; idle_age = idle; erase_age = erase; at_limit = at; shares = Clock }
 
 -- this many ticks a second, and ages that no client reaches
 abbrev pub ticks_a_second : ℕ → AtLimit → Setting
@@ -24,6 +25,17 @@ waiting = ticks_a_second 1000 Wait
 
 abbrev pub allowing : Setting
 allowing = ticks_a_second 1000 Allow
+
+-- adds are refused that would wait for their limit longer than this
+abbrev pub rejecting : ℕ → Setting
+rejecting threshold = ticks_a_second 1000 (Reject threshold)
+
+-- shares in virtual time
+abbrev pub virtually : Setting
+virtually = record waiting { shares = Virtual }
+
+abbrev pub virtually_allowing : Setting
+virtually_allowing = record allowing { shares = Virtual }
 
 -- ---- commands
 

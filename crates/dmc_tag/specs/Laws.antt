@@ -2,7 +2,7 @@
 use Rattle.std.specs.Prelude.{◌≡◌, ℕ, ◌<◌, ◌⊎◌, Bool, true, false, List, [], ◌∷◌, ◌++◌, Option, None, Ok}
 use Rattle.dmc_types.specs.declared.ids.ClientId.{ClientId}
 use Rattle.dmc_types.specs.declared.ids.Token.{Token}
-use Rattle.dmc_types.specs.declared.config.AtLimit.TheVariants.{Wait, Allow}
+use Rattle.dmc_types.specs.declared.config.AtLimit.TheVariants.{Allow}
 use Rattle.dmc_types.specs.declared.config.PhaseType.{PhaseType}
 use Rattle.dmc_types.specs.declared.config.PhaseType.TheVariants as phases
 use Rattle.dmc_types.specs.declared.refusal.Refusal.TheVariants.{Range}
@@ -20,7 +20,8 @@ abbrev pub IsReduction : {T : Type 0} → Tagging T → ℕ → PlainClient T �
 IsReduction ops hz client phases.Reservation reduction = reduction ≡ None
 IsReduction ops hz client phases.Priority reduction = reduction_at ops hz client.info.reservation ≡ Ok reduction
 
--- The best of a set is granted at t, and taken out of its client's requests. The client's R tags are reduced, and all else stays.
+-- The best of a set is granted at t, and taken out of its client's requests. The client's R tags are reduced, under Shares::Virtual
+-- a grant by weight takes the virtual time to its P, and all else stays.
 pub record Grants {T : Type 0} (ops : Tagging T) (t : ℕ) (phase : PhaseType) (tag : QueuedRequest T → Option T) (member : QueuedRequest T → Bool) (old new : State T) (client : ClientId) (token : Token) : Type 0 where
   pub found : Found T
   pub reduction : Option T
@@ -28,7 +29,7 @@ pub record Grants {T : Type 0} (ops : Tagging T) (t : ℕ) (phase : PhaseType) (
   pub client_is : client ≡ found.client.id
   pub token_is : token ≡ found.request.token
   pub reduction_is : IsReduction ops old.config.hz found.client phase reduction
-  pub state_is : new ≡ taken_out ops old t found reduction
+  pub state_is : new ≡ taken_out ops old t found phase reduction
 
 -- some request of the list is early or free at m
 pub record HasDue {T : Type 0} (ops : Tagging T) (m : ℕ) (requests : List (QueuedRequest T)) : Type 0 where
@@ -49,7 +50,7 @@ abbrev pub Pulls : {T : Type 0} → Tagging T → ℕ → State T → State T �
 Pulls ops t old new (Granted client token phases.Reservation beyond) = (beyond ≡ false) × Grants ops t phases.Reservation by_reservation (is_early ops t) old new client token
 Pulls ops t old new (Granted client token phases.Priority false) = HasNone (is_early ops t) (queued_requests old.clients) × Grants ops t phases.Priority by_weight (is_free ops t) old new client token
 Pulls ops t old new (Granted client token phases.Priority true) = HasNone (is_early ops t) (queued_requests old.clients) × HasNone (is_free ops t) (queued_requests old.clients) × (old.config.at_limit ≡ Allow) × Grants ops t phases.Priority by_weight is_any old new client token
-Pulls ops t old new (Later m) = HasNone (is_early ops t) (queued_requests old.clients) × HasNone (is_free ops t) (queued_requests old.clients) × (old.config.at_limit ≡ Wait) × IsNextDue ops m (queued_requests old.clients) × (new ≡ record old { last_moment = t })
+Pulls ops t old new (Later m) = HasNone (is_early ops t) (queued_requests old.clients) × HasNone (is_free ops t) (queued_requests old.clients) × (old.config.at_limit ≡ Allow → ⊥) × IsNextDue ops m (queued_requests old.clients) × (new ≡ record old { last_moment = t })
 Pulls ops t old new Nothing = (queued_requests old.clients ≡ []) × (new ≡ record old { last_moment = t })
 Pulls ops t old new (Refused refusal) = (refusal ≡ Range) × (new ≡ old)
 -- there is no other reply

@@ -20,7 +20,7 @@ replies_of ops s (c ∷ cs) = (step ops s c).1 ∷ replies_of ops ((step ops s c
 
 -- the state after the events' commands, from the opening state on
 abbrev pub after : {T : Type 0} → Tagging T → Setting → List (Event T) → State T
-after ops config events = state_after ops (opening config) (map (λ e. e.command) events)
+after ops config events = state_after ops (opening ops config) (map (λ e. e.command) events)
 
 -- the reply of each event is the one of step, in the state after the events before it
 abbrev pub replays_from : {T : Type 0} → Tagging T → State T → List (Event T) → Type 0
@@ -28,4 +28,4 @@ replays_from ops s [] = ⊤
 replays_from ops s (e ∷ es) = (e.reply ≡ (step ops s e.command).1) × replays_from ops ((step ops s e.command).0) es
 
 abbrev pub replays : {T : Type 0} → Tagging T → Setting → List (Event T) → Type 0
-replays ops config events = replays_from ops (opening config) events
+replays ops config events = replays_from ops (opening ops config) events

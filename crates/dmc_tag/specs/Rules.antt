@@ -1,5 +1,5 @@
 -- The rules of dmClock over the plain state, each under its name.
-use Rattle.std.specs.Prelude.{ℕ, ◌-◌, Bool, true, false, not, ◌&&◌, ◌||◌, List, [], ◌∷◌, ◌++◌, map, length, min, fold, Option, Some, None, is_some, is_none, Result, Ok, if◌then◌else◌, nat_le, ℤ, pos, negsuc, filter, ⊤}
+use Rattle.std.specs.Prelude.{ℕ, ◌+◌, ◌-◌, Bool, true, false, not, ◌&&◌, ◌||◌, List, [], ◌∷◌, ◌++◌, map, length, min, fold, Option, Some, None, is_some, is_none, Result, Ok, if◌then◌else◌, nat_le, nat_lt, ℤ, pos, negsuc, filter, ⊤}
 use Rattle.std.specs.Option.{ok_or, unwrap_or, option_map, option_map_or}
 use Rattle.std.specs.Result.{result_ok}
 use Rattle.std.specs.List.{list_all}
@@ -9,18 +9,21 @@ use Rattle.dmc_types.specs.Values.{Rates, Params}
 use Rattle.dmc_types.specs.declared.ids.ClientId.{ClientId}
 use Rattle.dmc_types.specs.declared.ids.Token.{Token}
 use Rattle.dmc_types.specs.declared.config.AtLimit.{AtLimit}
-use Rattle.dmc_types.specs.declared.config.AtLimit.TheVariants.{Wait, Allow}
+use Rattle.dmc_types.specs.declared.config.AtLimit.TheVariants.{Wait, Allow, Reject}
+use Rattle.dmc_types.specs.declared.config.Shares.{Shares}
+use Rattle.dmc_types.specs.declared.config.Shares.TheVariants.{Clock, Virtual}
 use Rattle.dmc_types.specs.declared.config.PhaseType.{PhaseType}
 use Rattle.dmc_types.specs.declared.config.PhaseType.TheVariants as phases
 use Rattle.dmc_types.specs.declared.refusal.Refusal.{Refusal}
-use Rattle.dmc_types.specs.declared.refusal.Refusal.TheVariants.{Known, Unknown, Clients, QueueFull, Range, Busy}
+use Rattle.dmc_types.specs.declared.refusal.Refusal.TheVariants.{Known, Unknown, Clients, QueueFull, Range, Busy, OverLimit}
 use Rattle.dmc_tag.specs.Tag.{Tagging}
 use Rattle.dmc_tag.specs.Outcome.{◌>>=◌, refuse_if, in_range, exactly}
 use Rattle.dmc_tag.specs.Spacing.{spacings_of}
-use Rattle.dmc_tag.specs.State.{State, PlainClient, is_client, is_busy, client_named, queued_requests}
+use Rattle.dmc_tag.specs.State.{State, PlainClient, is_client, is_busy, client_named, queued_requests, is_nothing_queued}
 use Rattle.dmc_tag.specs.Best.{Found, best_of_all, by_reservation, by_weight, is_early, is_free, is_any}
 use Rattle.dmc_tag.specs.declared.plain.QueuedRequest.{QueuedRequest}
 use Rattle.dmc_tag.specs.declared.plain.Previous.{Previous}
+use Rattle.dmc_tag.specs.declared.plain.Progress.{Progress}
 use Rattle.dmc_tag.specs.declared.spacing.Spacings.{Spacings}
 use Rattle.dmc_tag.specs.declared.reply.Tags.{Tags}
 use Rattle.dmc_tag.specs.declared.reply.Reply.{Reply}
@@ -74,7 +77,33 @@ updated ops s id info t =
     can_update ops s id info
     >>= λ _. Ok (record s { clients = change_client id (with_info info) s.clients; last_moment = t }, Updated)
 
--- ---- Assignment: each tag is max(previous + k*spacing, t), k being rho for R, delta for L and P
+-- ---- Virtual time: under Shares::Virtual a new P is compared with how far the service has come, and not with the clock
+
+-- the virtual time at an arrival: if nothing is queued, it goes on to the furthest P
+abbrev pub virtual_at : {T : Type 0} → Tagging T → Bool → Progress T → T
+virtual_at ops nothing_queued progress = if nothing_queued then ord_max ops.compare progress.virtual_time progress.furthest else progress.virtual_time
+
+-- what the P of a request that arrives at t is compared with
+abbrev pub floor_by : {T : Type 0} → Tagging T → Shares → Bool → Progress T → T → T
+floor_by ops Clock nothing_queued progress t = t
+floor_by ops Virtual nothing_queued progress t = virtual_at ops nothing_queued progress
+
+abbrev pub share_floor : {T : Type 0} → Tagging T → State T → T → T
+share_floor ops s t = floor_by ops s.config.shares (is_nothing_queued s.clients) s.progress t
+
+-- after the arrival of a request with this P
+abbrev pub progress_added : {T : Type 0} → Tagging T → Shares → Bool → T → Progress T → Progress T
+progress_added ops Clock nothing_queued share progress = progress
+progress_added ops Virtual nothing_queued share progress = record { virtual_time = virtual_at ops nothing_queued progress; furthest = ord_max ops.compare progress.furthest share }
+
+-- after a grant of a request with this P: one by weight takes the virtual time to it
+abbrev pub progress_granted : {T : Type 0} → Tagging T → PhaseType → Shares → T → Progress T → Progress T
+progress_granted ops phases.Reservation shares share progress = progress
+progress_granted ops phases.Priority Clock share progress = progress
+progress_granted ops phases.Priority Virtual share progress = record progress { virtual_time = ord_max ops.compare progress.virtual_time share }
+
+-- ---- Assignment: R and L are max(previous + k*spacing, t), k being rho for R and delta for L. P is max(previous + delta*spacing,
+-- floor); under Shares::Clock the floor is t.
 
 abbrev pub next_tag : {T : Type 0} → Tagging T → T → ℕ → T → T → Result T Refusal
 next_tag ops previous k spacing t = do
@@ -87,17 +116,17 @@ abbrev pub next_reservation : {T : Type 0} → Tagging T → T → ℕ → Optio
 next_reservation ops previous k None t = Ok None
 next_reservation ops previous k (Some spacing) t = next_tag ops previous k spacing t >>= λ r. Ok (Some r)
 
-abbrev pub next_tags : {T : Type 0} → Tagging T → Spacings T → Previous T → Params → T → Result (Tags T) Refusal
-next_tags ops spacings previous params t = do
+abbrev pub next_tags : {T : Type 0} → Tagging T → Spacings T → Previous T → Params → (t floor : T) → Result (Tags T) Refusal
+next_tags ops spacings previous params t floor = do
   r ← next_reservation ops previous.r params.rho spacings.r t
   l ← next_tag ops previous.l params.delta spacings.l t
-  p ← next_tag ops previous.p params.delta spacings.p t
+  p ← next_tag ops previous.p params.delta spacings.p floor
   Ok (record { r = r; l = l; p = p })
 
-abbrev pub assigned : {T : Type 0} → Tagging T → ℕ → PlainClient T → Params → T → Result (Tags T) Refusal
-assigned ops hz client params t = do
+abbrev pub assigned : {T : Type 0} → Tagging T → ℕ → PlainClient T → Params → (t floor : T) → Result (Tags T) Refusal
+assigned ops hz client params t floor = do
   spacings ← in_range (result_ok (spacings_of ops hz client.info))
-  next_tags ops spacings client.previous params t
+  next_tags ops spacings client.previous params t floor
 
 -- the new tags become the previous tags; without an R, previous R stays
 abbrev pub previous_after : {T : Type 0} → Tags T → Previous T → Previous T
@@ -138,8 +167,13 @@ abbrev pub shift_from : {T : Type 0} → Tagging T → T → Option (Found T) �
 shift_from ops t None = Ok None
 shift_from ops t (Some least) = in_range (ops.minus least.request.tags.p t) >>= λ amount. Ok (Some amount)
 
-abbrev pub shift_of : {T : Type 0} → Tagging T → List (PlainClient T) → PlainClient T → T → Result (Option T) Refusal
-shift_of ops clients arriving t = if arriving.idle then shift_from ops t (best_of_all ops by_weight is_any clients) else Ok None
+-- there is no adjustment under Virtual
+abbrev pub adjusts : Shares → Bool
+adjusts Clock = true
+adjusts Virtual = false
+
+abbrev pub shift_of : {T : Type 0} → Tagging T → Shares → List (PlainClient T) → PlainClient T → T → Result (Option T) Refusal
+shift_of ops shares clients arriving t = if adjusts shares && arriving.idle then shift_from ops t (best_of_all ops by_weight is_any clients) else Ok None
 
 -- without an amount there is no shift
 abbrev pub can_shift_by : {T : Type 0} → Tagging T → Option T → List (PlainClient T) → Bool
@@ -152,15 +186,34 @@ shifted_by ops (Some amount) clients = map (shifted_client ops amount) clients
 
 -- ---- Add
 
--- the tests of an add, in order, and its effect: the shift of the others and the new tags
-abbrev pub can_add : {T : Type 0} → Tagging T → State T → ClientId → Params → T → Result (Option T × Tags T) Refusal
-can_add ops s id params t = do
+-- the shift of the others and the tags that an add brings, whatever the limit
+abbrev pub add_tags : {T : Type 0} → Tagging T → State T → ClientId → Params → T → Result (Option T × Tags T) Refusal
+add_tags ops s id params t = do
   client ← ok_or (client_named id s.clients) Unknown
   _ ← refuse_if (nat_le max_requests (length (queued_requests s.clients))) QueueFull
-  shift ← shift_of ops s.clients client t
+  shift ← shift_of ops s.config.shares s.clients client t
   _ ← refuse_if (not (can_shift_by ops shift s.clients)) Range
-  tags ← assigned ops s.config.hz client params t
+  tags ← assigned ops s.config.hz client params t (share_floor ops s t)
   Ok (shift, tags)
+
+-- the least whole number that is not below the tag, as a moment
+abbrev pub moment_of : ℤ → ℕ
+moment_of (pos n) = n
+moment_of (negsuc n) = 0
+
+-- Under Reject, a request that comes at t has to be within its limit `threshold` ticks later. (A tag is past a whole number
+-- if its ceiling is.)
+abbrev pub is_over_limit : {T : Type 0} → Tagging T → AtLimit → ℕ → T → Bool
+is_over_limit ops Wait t l = false
+is_over_limit ops Allow t l = false
+is_over_limit ops (Reject threshold) t l = nat_lt (t + threshold) (moment_of (ops.ceil l))
+
+-- the tests of an add, in order, and its effect: the shift of the others and the new tags
+abbrev pub can_add : {T : Type 0} → Tagging T → State T → ClientId → Params → ℕ → Result (Option T × Tags T) Refusal
+can_add ops s id params t = do
+  addition ← add_tags ops s id params (ops.of_moment t)
+  _ ← refuse_if (is_over_limit ops s.config.at_limit t addition.1.l) OverLimit
+  Ok addition
 
 abbrev pub after_arrival : {T : Type 0} → QueuedRequest T → ℕ → PlainClient T → PlainClient T
 after_arrival request t c = record c {
@@ -172,11 +225,15 @@ after_arrival request t c = record c {
 
 -- the state after a shift and an arrival
 abbrev pub queued : {T : Type 0} → Tagging T → State T → Option T → ClientId → QueuedRequest T → ℕ → State T
-queued ops s shift id request t = record s { clients = change_client id (after_arrival request t) (shifted_by ops shift s.clients); last_moment = t }
+queued ops s shift id request t = record s {
+  clients = change_client id (after_arrival request t) (shifted_by ops shift s.clients);
+  last_moment = t;
+  progress = progress_added ops s.config.shares (is_nothing_queued s.clients) request.tags.p s.progress;
+}
 
 abbrev pub added : {T : Type 0} → Tagging T → State T → ClientId → Token → Params → ℕ → Outcome T
 added ops s id token params t =
-    can_add ops s id params (ops.of_moment t)
+    can_add ops s id params t
     >>= λ (shift, tags). Ok (queued ops s shift id (record { token = token; tags = tags }) t, Tagged tags)
 
 -- ---- Reduction: a Priority grant takes one spacing off the R tags of that client
@@ -231,18 +288,17 @@ abbrev pub after_grant : {T : Type 0} → Tagging T → Found T → Option T →
 after_grant ops found amount = reduced_by ops amount (with_requests found.others found.client)
 
 -- the state at t with the client's record after a grant
-abbrev pub taken_out : {T : Type 0} → Tagging T → State T → ℕ → Found T → Option T → State T
-taken_out ops s t found amount = record s { clients = change_client found.client.id (λ c. after_grant ops found amount) s.clients; last_moment = t }
+abbrev pub taken_out : {T : Type 0} → Tagging T → State T → ℕ → Found T → PhaseType → Option T → State T
+taken_out ops s t found phase amount = record s {
+  clients = change_client found.client.id (λ c. after_grant ops found amount) s.clients;
+  last_moment = t;
+  progress = progress_granted ops phase s.config.shares found.request.tags.p s.progress;
+}
 
 abbrev pub grant_priority : {T : Type 0} → Tagging T → State T → ℕ → Found T → Bool → Outcome T
 grant_priority ops s t found beyond =
     can_grant ops s.config.hz found
-    >>= λ amount. Ok (taken_out ops s t found amount, granted found phases.Priority beyond)
-
--- the least whole number that is not below the tag, as a moment
-abbrev pub moment_of : ℤ → ℕ
-moment_of (pos n) = n
-moment_of (negsuc n) = 0
+    >>= λ amount. Ok (taken_out ops s t found phases.Priority amount, granted found phases.Priority beyond)
 
 -- the earlier of two moments, of which one may be absent
 abbrev pub earlier : ℕ → Option ℕ → ℕ
@@ -264,6 +320,7 @@ grant_found ops s t beyond (Some found) = grant_priority ops s t found beyond
 -- no request is early or free, and something is queued
 abbrev pub at_limit : {T : Type 0} → Tagging T → State T → ℕ → AtLimit → QueuedRequest T → List (QueuedRequest T) → Outcome T
 at_limit ops s t Wait x xs = Ok (record s { last_moment = t }, Later (least_due ops x xs))
+at_limit ops s t (Reject threshold) x xs = Ok (record s { last_moment = t }, Later (least_due ops x xs))
 at_limit ops s t Allow x xs = grant_found ops s t true (best_of_all ops by_weight is_any s.clients)
 
 abbrev pub nothing_due : {T : Type 0} → Tagging T → State T → ℕ → List (QueuedRequest T) → Outcome T
@@ -275,7 +332,7 @@ pulled_free ops s t (Some found) = grant_priority ops s t found false
 pulled_free ops s t None = nothing_due ops s t (queued_requests s.clients)
 
 abbrev pub pulled_early : {T : Type 0} → Tagging T → State T → ℕ → Option (Found T) → Outcome T
-pulled_early ops s t (Some found) = Ok (taken_out ops s t found None, granted found phases.Reservation false)
+pulled_early ops s t (Some found) = Ok (taken_out ops s t found phases.Reservation None, granted found phases.Reservation false)
 pulled_early ops s t None = pulled_free ops s t (best_of_all ops by_weight (is_free ops t) s.clients)
 
 -- the best by R of the early ones, else the best by P of the free ones, else as the configuration says

@@ -4,7 +4,9 @@ use Rattle.std.specs.List.{find, list_any}
 use Rattle.std.specs.Option.{option_map_or}
 use Rattle.dmc_types.specs.Values.{Setting, Rates}
 use Rattle.dmc_types.specs.declared.ids.ClientId.{ClientId}
+use Rattle.dmc_tag.specs.Tag.{Tagging}
 use Rattle.dmc_tag.specs.declared.plain.Previous.{Previous}
+use Rattle.dmc_tag.specs.declared.plain.Progress.{Progress}
 use Rattle.dmc_tag.specs.declared.plain.QueuedRequest.{QueuedRequest}
 
 -- a registered client
@@ -24,9 +26,14 @@ pub record State (T : Type 0) : Type 0 where
   pub clients : List (PlainClient T)
   -- the last effective moment
   pub last_moment : ℕ
+  -- the virtual time, and the furthest P; both stay 0 under Shares::Clock
+  pub progress : Progress T
 
-abbrev pub opening : {T : Type 0} → Setting → State T
-opening config = record { config = config; clients = []; last_moment = 0 }
+abbrev pub no_progress : {T : Type 0} → Tagging T → Progress T
+no_progress ops = record { virtual_time = ops.of_moment 0; furthest = ops.of_moment 0 }
+
+abbrev pub opening : {T : Type 0} → Tagging T → Setting → State T
+opening ops config = record { config = config; clients = []; last_moment = 0; progress = no_progress ops }
 
 -- Effective moment
 abbrev pub effective : {T : Type 0} → State T → ℕ → ℕ
@@ -57,3 +64,6 @@ requests_of id clients = option_map_or (λ c. c.requests) (client_named id clien
 -- the requests of all clients, client after client
 abbrev pub queued_requests : {T : Type 0} → List (PlainClient T) → List (QueuedRequest T)
 queued_requests clients = flat_map (λ c. c.requests) clients
+
+abbrev pub is_nothing_queued : {T : Type 0} → List (PlainClient T) → Bool
+is_nothing_queued clients = length (queued_requests clients) == 0

@@ -86,6 +86,6 @@ pub fn plus_commutes<T: Tag>()
 
 /// An assignment gives no tag below the previous one, and an R exactly if there is a reservation.
 pub fn next_tags_follow<T: Tag>()
-    ensures { (info : Rates) (spacings : Spacings T) (previous : Previous T) (params : Params) (t : T) (tags : Tags T) →
-        AreSpacings T.ops info spacings → next_tags T.ops spacings previous params t ≡ Ok tags → AreNext T.ops info previous tags }
+    ensures { (info : Rates) (spacings : Spacings T) (previous : Previous T) (params : Params) (t floor : T) (tags : Tags T) →
+        AreSpacings T.ops info spacings → next_tags T.ops spacings previous params t floor ≡ Ok tags → AreNext T.ops info previous tags }
 {}

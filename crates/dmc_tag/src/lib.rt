@@ -7,6 +7,7 @@ pub mod due;
 pub mod event;
 pub mod laws;
 pub mod plain;
+pub mod progress;
 pub mod rank;
 pub mod reply;
 pub mod run;

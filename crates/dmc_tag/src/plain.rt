@@ -1,4 +1,4 @@
-//! What a plain state keeps of a client: its queued requests and its previous tags.
+//! What a plain state keeps of a client, its queued requests and its previous tags; and how far the service has come.
 ghost use Rattle.std.specs.Prelude.{◌≡◌, ⊤};
 
 use crate::reply::Tags;
@@ -36,6 +36,27 @@ impl<T: Copy> Clone for Previous<T> {
     ghost is_infallible = { λ _. ⊤ };
 
     fn clone(&self) -> Result<Previous<T>, AllocError> {
+        Ok(*self)
+    }
+}
+
+/// How far the service has come, if shares are in virtual time. Under `Shares::Clock` both tags stay 0 (extension: start-time fair
+/// queueing).
+#[derive(Copy, Debug)]
+pub struct Progress<T> {
+    /// The virtual time: the greatest P of all requests that were granted by weight; or what was furthest when a request came and
+    /// found nothing queued, if that is greater.
+    pub virtual_time: T,
+    /// The greatest P of all requests that were queued.
+    pub furthest: T,
+}
+
+impl<T: Copy> Clone for Progress<T> {
+    ghost is_clone = { λ x y. y ≡ x };
+
+    ghost is_infallible = { λ _. ⊤ };
+
+    fn clone(&self) -> Result<Progress<T>, AllocError> {
         Ok(*self)
     }
 }

@@ -8,4 +8,4 @@ use Rattle.dmc_tag.specs.State.{opening}
 use Rattle.dmc_tick.specs.Tick.{tick_ops}
 
 abbrev pub replies : Setting → List Command → List (Reply ℤ)
-replies config commands = replies_of tick_ops (opening config) commands
+replies config commands = replies_of tick_ops (opening tick_ops config) commands

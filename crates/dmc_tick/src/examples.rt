@@ -2,9 +2,9 @@
 ghost use Rattle.std.specs.Prelude.{◌≡◌, ◌∷◌, [], Some, None, pos};
 ghost use Rattle.dmc_types.specs.declared.config.AtLimit.TheVariants.{Wait};
 ghost use Rattle.dmc_types.specs.declared.refusal.Field.TheVariants as fields;
-ghost use Rattle.dmc_types.specs.declared.refusal.Refusal.TheVariants.{Known, Unknown, Inexact, Busy};
+ghost use Rattle.dmc_types.specs.declared.refusal.Refusal.TheVariants.{Known, Unknown, Inexact, Busy, OverLimit};
 ghost use Rattle.dmc_tag.specs.declared.reply.Reply.TheVariants.{Registered, Updated, Later, Nothing, Removed, Cleaned, Refused};
-ghost use Rattle.dmc_tag.specs.Examples.{waiting, allowing, setting, client, update, add, pull, drop_all, clean, tags, by_reservation, by_priority, by_priority_beyond};
+ghost use Rattle.dmc_tag.specs.Examples.{waiting, allowing, rejecting, virtually, virtually_allowing, setting, client, update, add, pull, drop_all, clean, tags, by_reservation, by_priority, by_priority_beyond};
 ghost use Rattle.dmc_tick.specs.Examples.{replies};
 
 /// A request over its limit waits until the limit lets it.
@@ -12,6 +12,15 @@ pub fn granted_at_limit()
     ensures { replies waiting
         (client 1 (Some 10) 1 (Some 20) 0 ∷ add 1 7 1 1 0 ∷ pull 0 ∷ pull 50 ∷ pull 50 ∷ [])
         ≡ (Registered ∷ tags (Some (pos 100)) (pos 50) (pos 1000) ∷ Later 50 ∷ by_priority 1 7 ∷ Nothing ∷ []) }
+{}
+
+/// Under Reject an add is refused if its request would wait for its limit longer than the threshold. A refused add changes
+/// nothing, and comes again later.
+pub fn rejected_over_limit()
+    ensures { replies (rejecting 50)
+        (client 1 None 1 (Some 10) 0 ∷ add 1 11 1 0 0 ∷ add 1 11 1 0 50 ∷ add 1 12 1 0 100 ∷ add 1 12 1 0 150 ∷ pull 150 ∷ pull 199 ∷ [])
+        ≡ (Registered ∷ Refused OverLimit ∷ tags None (pos 100) (pos 1000) ∷ Refused OverLimit ∷
+        tags None (pos 200) (pos 2000) ∷ by_priority 1 11 ∷ Later 200 ∷ []) }
 {}
 
 /// A reservation that is due is granted in the constraint phase.
@@ -120,4 +129,62 @@ pub fn updates()
         ≡ (Registered ∷ tags None (pos 0) (pos 1000) ∷ Updated ∷ tags None (pos 0) (pos 1500) ∷ Refused Busy ∷
         Removed 2 ∷ Updated ∷ tags (Some (pos 100)) (pos 0) (pos 2000) ∷ Refused (Inexact fields.Weight) ∷
         Refused Unknown ∷ []) }
+{}
+
+/// By the clock, a client that found nothing queued is granted until it has caught up with what the other got before it came.
+pub fn newcomer_clock()
+    ensures { replies waiting
+        (client 1 None 1 None 0 ∷ client 2 None 1 None 0 ∷ add 1 11 1 1 0 ∷ add 1 12 1 1 0 ∷ pull 0 ∷ pull 0 ∷
+        add 2 21 1 1 0 ∷ add 1 13 1 1 0 ∷ add 2 22 1 1 0 ∷ pull 0 ∷ pull 0 ∷ pull 0 ∷ [])
+        ≡ (Registered ∷ Registered ∷ tags None (pos 0) (pos 1000) ∷ tags None (pos 0) (pos 2000) ∷ by_priority 1 11 ∷
+        by_priority 1 12 ∷ tags None (pos 0) (pos 1000) ∷ tags None (pos 0) (pos 3000) ∷ tags None (pos 0) (pos 2000) ∷
+        by_priority 2 21 ∷ by_priority 2 22 ∷ by_priority 1 13 ∷ []) }
+{}
+
+/// In virtual time, a client that comes starts where the others are: both are granted in turn at once.
+pub fn newcomer_virtual()
+    ensures { replies virtually
+        (client 1 None 1 None 0 ∷ client 2 None 1 None 0 ∷ add 1 11 1 1 0 ∷ add 1 12 1 1 0 ∷ pull 0 ∷ pull 0 ∷
+        add 2 21 1 1 0 ∷ add 1 13 1 1 0 ∷ add 2 22 1 1 0 ∷ pull 0 ∷ pull 0 ∷ [])
+        ≡ (Registered ∷ Registered ∷ tags None (pos 0) (pos 1000) ∷ tags None (pos 0) (pos 2000) ∷ by_priority 1 11 ∷
+        by_priority 1 12 ∷ tags None (pos 0) (pos 2000) ∷ tags None (pos 0) (pos 3000) ∷ tags None (pos 0) (pos 3000) ∷
+        by_priority 2 21 ∷ by_priority 1 13 ∷ []) }
+{}
+
+/// A client that paused comes back where the others are, however long it was away: it has no credit.
+pub fn pause_virtual()
+    ensures { replies virtually
+        (client 1 None 1 None 0 ∷ client 2 None 1 None 0 ∷ add 1 11 1 1 0 ∷ add 2 21 1 1 0 ∷ add 1 12 1 1 0 ∷
+        add 1 13 1 1 0 ∷ pull 0 ∷ pull 0 ∷ pull 0 ∷ add 2 22 0 0 9000 ∷ add 2 23 1 1 9000 ∷ pull 9000 ∷ pull 9000 ∷
+        pull 9000 ∷ [])
+        ≡ (Registered ∷ Registered ∷ tags None (pos 0) (pos 1000) ∷ tags None (pos 0) (pos 1000) ∷
+        tags None (pos 0) (pos 2000) ∷ tags None (pos 0) (pos 3000) ∷ by_priority 1 11 ∷ by_priority 2 21 ∷
+        by_priority 1 12 ∷ tags None (pos 9000) (pos 2000) ∷ tags None (pos 9000) (pos 3000) ∷ by_priority 2 22 ∷
+        by_priority 1 13 ∷ by_priority 2 23 ∷ []) }
+{}
+
+/// A request that finds nothing queued starts at the furthest P, also if that request left without a grant by weight: here 11 went
+/// by reservation, and 12 was removed.
+pub fn furthest_virtual()
+    ensures { replies virtually
+        (client 1 (Some 10) 1 None 0 ∷ client 2 None 1 None 0 ∷ add 1 11 1 0 0 ∷ add 1 12 1 1 0 ∷ pull 0 ∷ drop_all 1 ∷
+        add 2 21 0 0 0 ∷ [])
+        ≡ (Registered ∷ Registered ∷ tags (Some (pos 0)) (pos 0) (pos 1000) ∷ tags (Some (pos 100)) (pos 0) (pos 2000) ∷
+        by_reservation 1 11 ∷ Removed 1 ∷ tags None (pos 0) (pos 2000) ∷ []) }
+{}
+
+/// A Reservation grant leaves the virtual time.
+pub fn reservation_virtual()
+    ensures { replies virtually
+        (client 1 (Some 10) 1 None 0 ∷ client 2 None 1 None 0 ∷ add 1 11 5 0 0 ∷ add 1 12 1 1 0 ∷ pull 0 ∷ add 2 21 0 0 0 ∷ [])
+        ≡ (Registered ∷ Registered ∷ tags (Some (pos 0)) (pos 0) (pos 5000) ∷ tags (Some (pos 100)) (pos 0) (pos 6000) ∷
+        by_reservation 1 11 ∷ tags None (pos 0) (pos 0) ∷ []) }
+{}
+
+/// A grant beyond the limit counts as any other grant by weight.
+pub fn beyond_virtual()
+    ensures { replies virtually_allowing
+        (client 1 None 1 (Some 10) 0 ∷ client 2 None 1 None 0 ∷ add 1 11 1 1 0 ∷ add 1 12 1 1 0 ∷ pull 0 ∷ add 2 21 0 0 0 ∷ [])
+        ≡ (Registered ∷ Registered ∷ tags None (pos 100) (pos 1000) ∷ tags None (pos 200) (pos 2000) ∷
+        by_priority_beyond 1 11 ∷ tags None (pos 0) (pos 1000) ∷ []) }
 {}

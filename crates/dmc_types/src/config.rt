@@ -2,7 +2,8 @@
 ghost use Rattle.std.specs.Prelude.{◌≡◌, ◌<◌, ◌≤◌, ◌↔◌, ◌⊎◌, IsNone, IfSome};
 ghost use Rattle.dmc_types.specs.Limits.{max_hz, max_moment};
 ghost use Rattle.dmc_types.specs.Rates.{IsGreatestAtMost, IsLeastAtLeast};
-ghost use Rattle.dmc_types.specs.Values.{IsSetting};
+ghost use Rattle.dmc_types.specs.Values.{IsSetting, threshold_of};
+ghost use Rattle.dmc_types.specs.declared.config.Shares.TheVariants as shares_of;
 ghost use Rattle.dmc_types.specs.declared.refusal.ValueFault.{ValueFault};
 
 use crate::limits::{MAX_AGE, MAX_HZ};
@@ -17,6 +18,18 @@ pub enum AtLimit {
     Wait,
     /// It grants the best request by weight, beyond its limit.
     Allow,
+    /// It returns the moment at which a request will be due. An add is refused if its request would wait for its limit longer
+    /// than `threshold` ticks (0 to 2^62) after it came.
+    Reject { threshold: u64 },
+}
+
+/// In which time shares are compared (extension: start-time fair queueing for weights).
+#[derive(Clone, Copy, Debug, PartialEq, Eq)]
+pub enum Shares {
+    /// By the clock, as mClock does: a client that was served more than its share waits while others catch up.
+    Clock,
+    /// In the time of the service: what a client was served before others came is neither a credit nor a debt.
+    Virtual,
 }
 
 /// Which completions a stamp counts.
@@ -47,13 +60,15 @@ pub enum TagKind {
 }
 
 /// A queue's configuration: `hz` ticks a second (1 to 1,000,000,000), the ages in ticks after which a clean marks a
-/// client idle and erases it (1 to 2^62, `idle_age` at most `erase_age`), and what is done at the limit.
+/// client idle and erases it (1 to 2^62, `idle_age` at most `erase_age`), what is done at the limit (a threshold of 0 to 2^62), and
+/// in which time shares are compared.
 #[derive(Clone, Copy, Debug, PartialEq, Eq)]
 pub struct QueueConfig {
     hz: u32,
     idle_age: u64,
     erase_age: u64,
     at_limit: AtLimit,
+    shares: Shares,
 }
 
 impl Model for QueueConfig {
@@ -61,27 +76,27 @@ impl Model for QueueConfig {
 
     ghost Value = { Setting };
 
-    ghost view = { λ c. record { hz = c.hz; idle_age = c.idle_age; erase_age = c.erase_age; at_limit = c.at_limit } };
+    ghost view = { λ c. record { hz = c.hz; idle_age = c.idle_age; erase_age = c.erase_age; at_limit = c.at_limit; shares = c.shares } };
 
-    ghost invariant = { λ c. IsSetting c.hz c.idle_age c.erase_age };
+    ghost invariant = { λ c. IsSetting c.hz c.idle_age c.erase_age c.at_limit };
 
-    ghost inverse = { λ c. record { hz = c.hz; idle_age = c.idle_age; erase_age = c.erase_age; at_limit = c.at_limit } };
+    ghost inverse = { λ c. record { hz = c.hz; idle_age = c.idle_age; erase_age = c.erase_age; at_limit = c.at_limit; shares = c.shares } };
 }
 
 impl QueueConfig {
-    /// A configuration. It is refused `Config` if a value is out of its limits.
+    /// A configuration, with shares by the clock. It is refused `Config` if a value is out of its limits.
     pub fn new(
         hz: u64,
         idle_age: u64,
         erase_age: u64,
         at_limit: AtLimit,
     ) -> Result<QueueConfig, ValueFault>
-        ensures ok { IsSetting hz idle_age erase_age →
-            result ≡ Ok (record { hz = hz; idle_age = idle_age; erase_age = erase_age; at_limit = at_limit }) }
-        ensures refused { (IsSetting hz idle_age erase_age → ⊥) → result ≡ Err ValueFault.Config }
+        ensures ok { IsSetting hz idle_age erase_age at_limit →
+            result ≡ Ok (record { hz = hz; idle_age = idle_age; erase_age = erase_age; at_limit = at_limit; shares = shares_of.Clock }) }
+        ensures refused { (IsSetting hz idle_age erase_age at_limit → ⊥) → result ≡ Err ValueFault.Config }
     {
         let in_order = 1 <= idle_age && idle_age <= erase_age && erase_age <= MAX_AGE;
-        if hz < 1 || hz > MAX_HZ || !in_order {
+        if hz < 1 || hz > MAX_HZ || !in_order || threshold_of(at_limit) > MAX_AGE {
             return Err(ValueFault::Config);
         }
         Ok(QueueConfig {
@@ -89,7 +104,15 @@ impl QueueConfig {
             idle_age,
             erase_age,
             at_limit,
+            shares: Shares::Clock,
         })
+    }
+
+    /// The same configuration with shares by the clock or in virtual time.
+    pub fn with_shares(self, shares: Shares) -> QueueConfig
+        ensures { result ≡ record self { shares = shares } }
+    {
+        QueueConfig { shares, ..self }
     }
 
     /// Ticks a second.
@@ -136,10 +159,28 @@ impl QueueConfig {
         self.erase_age
     }
 
-    /// What a pull does at the limit.
+    /// What is done at the limit.
     pub fn at_limit(self) -> AtLimit
-        ensures { result ≡ self.at_limit }
+        ensures value { result ≡ self.at_limit }
+        ensures limit { threshold_of self.at_limit ≤ max_moment }
     {
         self.at_limit
+    }
+
+    /// In which time shares are compared.
+    pub fn shares(self) -> Shares
+        ensures { result ≡ self.shares }
+    {
+        self.shares
+    }
+}
+
+/// How long a request may wait for its limit; 0 if nothing is refused for it.
+fn threshold_of(at_limit: AtLimit) -> u64
+    ensures { result ≡ threshold_of at_limit }
+{
+    match at_limit {
+        AtLimit::Wait | AtLimit::Allow => 0,
+        AtLimit::Reject { threshold } => threshold,
     }
 }

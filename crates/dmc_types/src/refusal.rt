@@ -58,6 +58,9 @@ pub enum Refusal {
     /// The update gives or takes a reservation while the client has a queued request.
     #[error("the client has a queued request")]
     Busy,
+    /// The request would wait for its client's limit longer than the queue's threshold (`AtLimit::Reject`).
+    #[error("the request is over its client's limit")]
+    OverLimit,
 }
 
 /// The reason why a queue's call that allocates fails.

@@ -2,6 +2,7 @@
 ghost use Rattle.std.specs.Prelude.{◌≡◌, ◌<◌, length, OnOk, OnErr, IfOk, IsOkUnless, vec_len};
 ghost use Rattle.std.specs.Result.{result_map_both};
 ghost use Rattle.dmc_types.specs.Limits.{max_requests};
+ghost use Rattle.dmc_types.specs.declared.config.Shares.TheVariants.{Clock};
 ghost use Rattle.dmc_tag.specs.Rules as rules_of;
 ghost use Rattle.dmc_tag.specs.State.{queued_requests};
 ghost use Rattle.dmc_plain.specs.internal.Arrivals.{IsArrival};
@@ -12,10 +13,13 @@ use crate::client::Client;
 use crate::clients::{self, count_requests, index_of};
 use crate::queue::PlainQueue;
 use dmc_tag::assignment::next_tags;
+use dmc_tag::due::is_over_limit;
 use dmc_tag::plain::QueuedRequest;
+use dmc_tag::progress::{count_arrival, share_floor};
 use dmc_tag::reply::Tags;
 use dmc_tag::spacing::spacings_for;
 use dmc_tag::tag::Tag;
+use dmc_types::config::Shares;
 use dmc_types::ids::{ClientId, Token};
 use dmc_types::limits::MAX_REQUESTS;
 use dmc_types::moment::Moment;
@@ -40,9 +44,30 @@ impl<T: Tag> PlainQueue<T> {
         &self,
         client: ClientId,
         params: ReqParams,
-        t: T,
+        at: Moment,
     ) -> Result<Arrival<T>, Refusal>
-        ensures outcome { result_map_both (λ a. (a.shift, a.tags)) (λ e. e) result ≡ rules_of.can_add T.ops self.now client params t }
+        ensures outcome { result_map_both (λ a. (a.shift, a.tags)) (λ e. e) result ≡ rules_of.can_add T.ops self.now client params at }
+        ensures room { OnOk result (length (queued_requests self.now.clients) < max_requests) }
+        ensures client { IfOk result (λ a. a.client ≡ client) }
+        ensures arrival { IfOk result (IsArrival self.now.clients) }
+    {
+        let arrival = self.add_tags(client, params, T::of_moment(at))?;
+        if self.rejects(&arrival, at) {
+            return Err(Refusal::OverLimit);
+        }
+        Ok(arrival)
+    }
+
+    /// Whether the new request would wait for its limit too long.
+    fn rejects(&self, arrival: &Arrival<T>, at: Moment) -> bool
+        ensures { result ≡ rules_of.is_over_limit T.ops self.now.config.at_limit at arrival.now.tags.l }
+    {
+        is_over_limit(self.config.at_limit(), at, arrival.tags.l)
+    }
+
+    /// The shift of the others and the tags that an add brings, whatever the limit.
+    fn add_tags(&self, client: ClientId, params: ReqParams, t: T) -> Result<Arrival<T>, Refusal>
+        ensures outcome { result_map_both (λ a. (a.shift, a.tags)) (λ e. e) result ≡ rules_of.add_tags T.ops self.now client params t }
         ensures room { OnOk result (length (queued_requests self.now.clients) < max_requests) }
         ensures client { IfOk result (λ a. a.client ≡ client) }
         ensures arrival { IfOk result (IsArrival self.now.clients) }
@@ -54,11 +79,12 @@ impl<T: Tag> PlainQueue<T> {
             return Err(Refusal::QueueFull);
         }
         let arriving = &self.clients[index];
-        let shift = shift_of(&self.clients, arriving, t)?;
+        let shift = shift_of(self.config.shares(), &self.clients, arriving, t)?;
         if !can_shift_by(&self.clients, shift) {
             return Err(Refusal::Range);
         }
-        let tags = assigned(self.config.hz(), arriving, params, t)?;
+        let floor = share_floor(self.config.shares(), &self.progress, self.empty(), t);
+        let tags = assigned(self.config.hz(), arriving, params, t, floor)?;
         Ok(Arrival {
             client,
             index,
@@ -82,9 +108,16 @@ impl<T: Tag> PlainQueue<T> {
         ensures memory { IsOkUnless result QueueFault.Memory }
     {
         let tags = arrival.tags;
+        let nothing_queued = self.empty();
         self.clients[arrival.index].append(QueuedRequest { token, tags })?;
         shift_clients(&mut self.clients, arrival.shift);
         self.clients[arrival.index].arrive(tags, at);
+        count_arrival(
+            self.config.shares(),
+            &mut self.progress,
+            nothing_queued,
+            tags.p,
+        );
         self.last_moment = at;
         Ok(())
     }
@@ -100,9 +133,28 @@ fn can_shift_by<T: Tag>(clients: &[Client<T>], shift: Option<T>) -> bool
     }
 }
 
-/// The amount by which all others are shifted for a client that arrives at t. `None` if it is not idle, or nothing is queued.
-fn shift_of<T: Tag>(clients: &[Client<T>], arriving: &Client<T>, t: T) -> Result<Option<T>, Refusal>
-    ensures { result ≡ rules_of.shift_of T.ops clients.now arriving.now t }
+/// The amount by which all others are shifted for a client that arrives at t. In virtual time there is none.
+fn shift_of<T: Tag>(
+    shares: Shares,
+    clients: &[Client<T>],
+    arriving: &Client<T>,
+    t: T,
+) -> Result<Option<T>, Refusal>
+    ensures { result ≡ rules_of.shift_of T.ops shares clients.now arriving.now t }
+{
+    match shares {
+        Shares::Clock => shift_by_clock(clients, arriving, t),
+        Shares::Virtual => Ok(None),
+    }
+}
+
+/// The amount by which all others are shifted by the clock. `None` if the client is not idle, or nothing is queued.
+fn shift_by_clock<T: Tag>(
+    clients: &[Client<T>],
+    arriving: &Client<T>,
+    t: T,
+) -> Result<Option<T>, Refusal>
+    ensures { result ≡ rules_of.shift_of T.ops Clock clients.now arriving.now t }
 {
     if !arriving.is_idle() {
         return Ok(None);
@@ -125,13 +177,14 @@ fn assigned<T: Tag>(
     client: &Client<T>,
     params: ReqParams,
     t: T,
+    floor: T,
 ) -> Result<Tags<T>, Refusal>
-    ensures { result ≡ rules_of.assigned T.ops hz client.now params t }
+    ensures { result ≡ rules_of.assigned T.ops hz client.now params t floor }
 {
     let Ok(spacings) = spacings_for(hz, client.info()) else {
         return Err(Refusal::Range);
     };
-    next_tags(&spacings, client.previous(), params, t).ok_or(Refusal::Range)
+    next_tags(&spacings, client.previous(), params, t, floor).ok_or(Refusal::Range)
 }
 
 /// Shifts the clients by the amount, if there is one.

@@ -6,6 +6,7 @@ ghost use Rattle.dmc_tag.specs.Best.{best_of_all, by_weight, is_any, is_free};
 ghost use Rattle.dmc_tag.specs.Answers.{sure_call_reply, pull_reply};
 ghost use Rattle.dmc_tag.specs.Rules as rules_of;
 ghost use Rattle.dmc_tag.specs.State.{queued_requests};
+ghost use Rattle.dmc_types.specs.declared.config.PhaseType.TheVariants as phases;
 ghost use Rattle.dmc_plain.specs.internal.Due.{least_due};
 ghost use Rattle.dmc_plain.specs.internal.Places.{found_among, found_at, IsPlace};
 ghost use Rattle.dmc_plain.specs.internal.Settled.{Settles};
@@ -14,27 +15,29 @@ use crate::best::{Place, Set, best_place};
 use crate::client::Client;
 use crate::due::least_due;
 use crate::queue::PlainQueue;
+use dmc_tag::plain::QueuedRequest;
+use dmc_tag::progress::count_grant;
 use dmc_tag::reply::Pulled;
 use dmc_tag::tag::Tag;
 use dmc_types::config::{AtLimit, PhaseType};
-use dmc_types::ids::{ClientId, Token};
+use dmc_types::ids::ClientId;
 use dmc_types::moment::Moment;
 use dmc_types::refusal::Refusal;
 
 impl<T: Tag> PlainQueue<T> {
-    /// The client and the token of the request at a place.
-    fn name_at(&self, place: Place) -> (ClientId, Token)
+    /// The client and the request at a place.
+    fn request_at(&self, place: Place) -> (ClientId, QueuedRequest<T>)
         requires { IsPlace self.now.clients place }
-        ensures { option_map (λ found. (found.client.id, found.request.token)) (found_at self.now.clients place) ≡ Some result }
+        ensures { option_map (λ found. (found.client.id, found.request)) (found_at self.now.clients place) ≡ Some result }
     {
         let client = &self.clients[place.client];
-        (client.id(), client.requests()[place.request].token)
+        (client.id(), client.requests()[place.request])
     }
 
     /// Removes the request at a place, and takes an amount off its client's R tags.
     fn take_out(&mut self, place: Place, amount: Option<T>, at: Moment)
         requires { IsPlace self.old.clients place }
-        ensures { option_map (λ found. rules_of.taken_out T.ops self.old at found amount) (found_at self.old.clients place) ≡ Some self.new }
+        ensures { option_map (λ found. rules_of.taken_out T.ops self.old at found phases.Reservation amount) (found_at self.old.clients place) ≡ Some self.new }
     {
         let client = &mut self.clients[place.client];
         client.take_out(place.request);
@@ -47,11 +50,11 @@ impl<T: Tag> PlainQueue<T> {
         requires { IsPlace self.old.clients place }
         ensures { Settles self.old self.new (rules_of.pulled_early T.ops self.old at (found_at self.old.clients place)) (Some (pull_reply result)) }
     {
-        let (client, token) = self.name_at(place);
+        let (client, request) = self.request_at(place);
         self.take_out(place, None, at);
         Pulled::Returning {
             client,
-            token,
+            token: request.token,
             phase: PhaseType::Reservation,
             beyond: false,
         }
@@ -75,12 +78,13 @@ impl<T: Tag> PlainQueue<T> {
         requires { IsPlace self.old.clients place }
         ensures { Settles self.old self.new (rules_of.grant_found T.ops self.old at beyond (found_at self.old.clients place)) (sure_call_reply pull_reply result) }
     {
-        let (client, token) = self.name_at(place);
+        let (client, request) = self.request_at(place);
         let amount = self.can_grant(place)?;
         self.take_out(place, amount, at);
+        count_grant(self.config.shares(), &mut self.progress, request.tags.p);
         Ok(Pulled::Returning {
             client,
-            token,
+            token: request.token,
             phase: PhaseType::Priority,
             beyond,
         })
@@ -119,7 +123,7 @@ impl<T: Tag> PlainQueue<T> {
     {
         match self.config.at_limit() {
             AtLimit::Allow => self.pull_beyond(at),
-            AtLimit::Wait => Ok(self.report_due(at)),
+            AtLimit::Wait | AtLimit::Reject { .. } => Ok(self.report_due(at)),
         }
     }
 

@@ -11,8 +11,9 @@ use Rattle.dmc_types.specs.Values.{Setting}
 use Rattle.dmc_types.specs.declared.ids.ClientId.{ClientId}
 use Rattle.dmc_tag.specs.Tag.{Fraction, Tagging}
 use Rattle.dmc_tag.specs.Best.{is_due}
-use Rattle.dmc_tag.specs.State.{State, is_client, queued_requests}
-use Rattle.dmc_tag.specs.Rules.{moment_of, can_shift_by, change_client, after_arrival, queued}
+use Rattle.dmc_tag.specs.State.{State, is_client, queued_requests, is_nothing_queued}
+use Rattle.dmc_tag.specs.Rules.{moment_of, can_shift_by, change_client, after_arrival, progress_added, queued}
+use Rattle.dmc_tag.specs.declared.plain.Progress.{Progress}
 use Rattle.dmc_tag.specs.declared.plain.QueuedRequest.{QueuedRequest}
 use Rattle.dmc_client.specs.Record.{Rec, IsRecord, pushed}
 use Rattle.dmc_adjust.specs.Changes.{shifted}
@@ -20,7 +21,7 @@ use Rattle.dmc_roster.specs.Entries.{Entry, Listing, entry_keyed, record_at, wit
 use Rattle.dmc_index.specs.Index.{slot_of_key}
 use Rattle.dmc_head_index.specs.declared.head.Head.{Head}
 use Rattle.dmc_head_index.specs.Heads.{CanShift, IsOthers}
-use Rattle.dmc_pull.specs.Queue.{Queue, IsQueue, IsKept, AreHeads, head_of, unready}
+use Rattle.dmc_pull.specs.Queue.{Queue, IsQueue, IsKept, AreHeads, AreValues, head_of, unready}
 use Rattle.dmc_pull.specs.internal.Queue.{head_at}
 use Rattle.dmc_pull.specs.Represented.{clients_in}
 use Rattle.dmc_pull.proofs.Common.Kept.{due_later}
@@ -138,8 +139,8 @@ module _ {T : Type 0} {ops : Tagging T} (fraction : T → Fraction) (is_value : 
       ∙ ap (λ cs. suc (length (queued_requests cs))) after.moved.clients
       ∙ ap suc (count_shifted ops shift (clients_in es))
 
-  module _ (n : ℕ) (count : n ≡ length (queued_requests (clients_in es))) (room : length (queued_requests (clients_in es)) < max_requests) (v : value request.tags.p) where
-    pub is_queue : (new : List (Option (Head T))) → AreHeads ops at (with_record key (pushed request at e.rec) after.entries) new → length new ≡ length heads → IsQueue ops fraction is_value (record { config = config; roster = roster; heads = new; last_moment = at }) (n + 1)
+  module _ (n : ℕ) (count : n ≡ length (queued_requests (clients_in es))) (room : length (queued_requests (clients_in es)) < max_requests) (v : value request.tags.p) (progress : Progress T) (values : AreValues fraction is_value progress) where
+    pub is_queue : (new : List (Option (Head T))) → AreHeads ops at (with_record key (pushed request at e.rec) after.entries) new → length new ≡ length heads → IsQueue ops fraction is_value (record { config = config; roster = roster; heads = new; last_moment = at; progress = progress }) (n + 1)
     is_queue new are same =
         let came = all_changed after.moved.here (λ f. f.key < length heads) (pushed request at e.rec) after.moved.in_room (found_holds (λ f. f.key < length heads) (λ f. f.key == key) after.entries e after.moved.in_room (split_keyed after.moved.here)) in
         record {
@@ -149,18 +150,21 @@ module _ {T : Type 0} {ops : Tagging T} (fraction : T → Fraction) (is_value : 
           in_room = subst (λ xs. AllByRecursion (λ f. f.key < length new) xs) (sym after.whole) (subst (λ m. AllByRecursion (λ f. f.key < m) (with_record key (pushed request at e.rec) after.entries)) (sym same) came);
           counted = omega (arith, count, counted);
           bound = omega (arith, count, room);
+          progress = values;
         }
 
     module _ (later : t ≤ at) (due_from : (tag : T) (n : ℕ) → is_due ops n (Some tag) ≡ nat_le (moment_of (ops.ceil tag)) n) where
-      pub with_more : (length e.rec.requests == 0) ≡ false → IsQueue ops fraction is_value (record { config = config; roster = roster; heads = heads; last_moment = at }) (n + 1)
+      pub with_more : (length e.rec.requests == 0) ≡ false → IsQueue ops fraction is_value (record { config = config; roster = roster; heads = heads; last_moment = at; progress = progress }) (n + 1)
       with_more some = is_queue heads (heads_more after later due_from some) refl
 
-      pub with_first : (length e.rec.requests == 0) ≡ true → IsQueue ops fraction is_value (record { config = config; roster = roster; heads = slice_set heads key (Some (head_at ops at e.id request.tags)); last_moment = at }) (n + 1)
+      pub with_first : (length e.rec.requests == 0) ≡ true → IsQueue ops fraction is_value (record { config = config; roster = roster; heads = slice_set heads key (Some (head_at ops at e.id request.tags)); last_moment = at; progress = progress }) (n + 1)
       with_first none = is_queue _ (heads_first after later due_from none) (length-set heads key (Some (head_at ops at e.id request.tags)))
 
   -- the plain state
-  pub came_state : (last : ℕ) → let new : State T = record { config = config; clients = clients_in roster.entries; last_moment = at } in new ≡ queued ops (record { config = config; clients = clients_in es; last_moment = last }) shift e.id request at
-  came_state last = ap (λ cs. record { config = config; clients = cs; last_moment = at }) (ap clients_in after.whole ∙ pushed_clients after.moved.here request at ∙ ap (change_client e.id (after_arrival request at)) after.moved.clients)
+  pub came_state : (last : ℕ) (before progress : Progress T) → progress ≡ progress_added ops config.shares (is_nothing_queued (clients_in es)) request.tags.p before → let new : State T = record { config = config; clients = clients_in roster.entries; last_moment = at; progress = progress } in new ≡ queued ops (record { config = config; clients = clients_in es; last_moment = last; progress = before }) shift e.id request at
+  came_state last before progress counts =
+      ap (λ p. record { config = config; clients = clients_in roster.entries; last_moment = at; progress = p }) counts
+      ∙ ap (λ cs. record { config = config; clients = cs; last_moment = at; progress = progress_added ops config.shares (is_nothing_queued (clients_in es)) request.tags.p before }) (ap clients_in after.whole ∙ pushed_clients after.moved.here request at ∙ ap (change_client e.id (after_arrival request at)) after.moved.clients)
 
 -- ---- from what calls answer
 

@@ -55,7 +55,7 @@ module _ {T : Type 0} (ops : Tagging T) (fraction : T → Fraction) (is_value : 
   abbrev Besides : ℕ → Entry T → Type 0
   Besides hz e = (spacings_of ops hz e.rec.info ≡ Ok e.rec.spacings) × AllByRecursion (λ tag. is_value (fraction tag)) (share_tags e.rec)
 
-  pub cleaned_is : DueFromCeil ops → {q : Queue T} {queued : ℕ} → IsQueue ops fraction is_value q queued → AreDistinct q.roster.entries → (roster : Listing T) (at : ℕ) → roster.entries ≡ kept_entries at q.config.idle_age q.config.erase_age q.roster.entries → AllByRecursion (λ e. IsRecord ops e.rec) roster.entries → q.last_moment ≤ at → IsQueue ops fraction is_value (record { config = q.config; roster = roster; heads = q.heads; last_moment = at }) queued
+  pub cleaned_is : DueFromCeil ops → {q : Queue T} {queued : ℕ} → IsQueue ops fraction is_value q queued → AreDistinct q.roster.entries → (roster : Listing T) (at : ℕ) → roster.entries ≡ kept_entries at q.config.idle_age q.config.erase_age q.roster.entries → AllByRecursion (λ e. IsRecord ops e.rec) roster.entries → q.last_moment ≤ at → IsQueue ops fraction is_value (record { config = q.config; roster = roster; heads = q.heads; last_moment = at; progress = q.progress }) queued
   cleaned_is due_from {q} {queued} is distinct roster at e records later =
       let es = q.roster.entries in
       let stay = kept_entries at q.config.idle_age q.config.erase_age es in
@@ -73,12 +73,13 @@ module _ {T : Type 0} (ops : Tagging T) (fraction : T → Fraction) (is_value : 
         in_room = subst (AllByRecursion (λ f. f.key < length q.heads)) (sym e) inside;
         counted = is.counted ∙ ap length (sym (kept_requests at q.config.idle_age q.config.erase_age es) ∙ ap (λ fs. queued_requests (clients_in fs)) (sym e));
         bound = is.bound;
+        progress = is.progress;
       }
 
-  pub cleaned_step : (q : Queue T) (roster : Listing T) (at t idled erased : ℕ) → t ≡ effective (state_of q) at → roster.entries ≡ kept_entries t q.config.idle_age q.config.erase_age q.roster.entries → idled ≡ length (filter (λ e. is_idled t q.config.idle_age q.config.erase_age e.rec) q.roster.entries) → erased ≡ length (filter (λ e. is_stale t q.config.erase_age e.rec) q.roster.entries) → (state_of (record { config = q.config; roster = roster; heads = q.heads; last_moment = t }), clean_reply (idled, erased)) ≡ step ops (state_of q) (Clean at)
+  pub cleaned_step : (q : Queue T) (roster : Listing T) (at t idled erased : ℕ) → t ≡ effective (state_of q) at → roster.entries ≡ kept_entries t q.config.idle_age q.config.erase_age q.roster.entries → idled ≡ length (filter (λ e. is_idled t q.config.idle_age q.config.erase_age e.rec) q.roster.entries) → erased ≡ length (filter (λ e. is_stale t q.config.erase_age e.rec) q.roster.entries) → (state_of (record { config = q.config; roster = roster; heads = q.heads; last_moment = t; progress = q.progress }), clean_reply (idled, erased)) ≡ step ops (state_of q) (Clean at)
   cleaned_step q roster at t idled erased moment e i j =
       let s = state_of q in
       let es = q.roster.entries in
-      let here : (state_of (record { config = q.config; roster = roster; heads = q.heads; last_moment = t }), clean_reply (idled, erased)) ≡ answer_of s (cleaned s t) =
+      let here : (state_of (record { config = q.config; roster = roster; heads = q.heads; last_moment = t; progress = q.progress }), clean_reply (idled, erased)) ≡ answer_of s (cleaned s t) =
       rw (e, i, j, cleaned_clients s t es, count_idled s t es, count_erased s t es) refl in
       here ∙ ap (λ n. answer_of s (cleaned s n)) moment

@@ -68,6 +68,7 @@ module _ {T : Type 0} (ops : Tagging T) (fraction : T → Fraction) (is_value : 
     in_room = all_as (λ e. e.key < length q.heads) (λ e. e.key < length heads) (λ e within. omega arith) q.roster.entries is.in_room;
     counted = is.counted;
     bound = is.bound;
+    progress = is.progress;
   }
 
   -- a client is added last, under a key below the capacity
@@ -85,10 +86,11 @@ module _ {T : Type 0} (ops : Tagging T) (fraction : T → Fraction) (is_value : 
         in_room = subst (AllByRecursion (λ f. f.key < length q.heads)) (sym last) inside;
         counted = is.counted ∙ sym (registered_count es e none) ∙ ap (λ fs. length (queued_requests (clients_in fs))) (sym last);
         bound = is.bound;
+        progress = is.progress;
       }
 
 -- the state after it
-pub registered_state : {T : Type 0} → (q : Queue T) (roster : Listing T) (heads : List (Option (Head T))) (e : Entry T) (at : ℕ) → roster.entries ≡ q.roster.entries ++ e ∷ [] → state_of (record { config = q.config; roster = roster; heads = heads; last_moment = at }) ≡ record (state_of q) { clients = clients_in q.roster.entries ++ client_of e.id e.rec ∷ []; last_moment = at }
+pub registered_state : {T : Type 0} → (q : Queue T) (roster : Listing T) (heads : List (Option (Head T))) (e : Entry T) (at : ℕ) → roster.entries ≡ q.roster.entries ++ e ∷ [] → state_of (record { config = q.config; roster = roster; heads = heads; last_moment = at; progress = q.progress }) ≡ record (state_of q) { clients = clients_in q.roster.entries ++ client_of e.id e.rec ∷ []; last_moment = at }
 registered_state q roster heads e at last = rw (last, registered_clients q.roster.entries e) refl
 
 -- the indexes have capacity for a key

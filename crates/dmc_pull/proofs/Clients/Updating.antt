@@ -88,26 +88,27 @@ abbrev pub with_rates : {T : Type 0} → Rates → Spacings T → Rec T → Rec 
 with_rates info spacings rec = record rec { info = info; spacings = spacings }
 
 module _ {T : Type 0} (ops : Tagging T) (fraction : T → Fraction) (is_value : Fraction → Type 0) where
-  pub updated_is : DueFromCeil ops → {q : Queue T} {queued : ℕ} → IsQueue ops fraction is_value q queued → {id : ClientId} {key : ℕ} → (h : HasClient id key q.roster.entries) (info : Rates) (spacings : Spacings T) → spacings_of ops q.config.hz info ≡ Ok spacings → IsRecord ops (with_rates info spacings h.entry.rec) → (roster : Listing T) → roster ≡ with_record_at q.roster key (with_rates info spacings h.entry.rec) → (at : ℕ) → q.last_moment ≤ at → IsQueue ops fraction is_value (record { config = q.config; roster = roster; heads = q.heads; last_moment = at }) queued
+  pub updated_is : DueFromCeil ops → {q : Queue T} {queued : ℕ} → IsQueue ops fraction is_value q queued → {id : ClientId} {key : ℕ} → (h : HasClient id key q.roster.entries) (info : Rates) (spacings : Spacings T) → spacings_of ops q.config.hz info ≡ Ok spacings → IsRecord ops (with_rates info spacings h.entry.rec) → (roster : Listing T) → roster ≡ with_record_at q.roster key (with_rates info spacings h.entry.rec) → (at : ℕ) → q.last_moment ≤ at → IsQueue ops fraction is_value (record { config = q.config; roster = roster; heads = q.heads; last_moment = at; progress = q.progress }) queued
   updated_is due_from {q} {queued} is {id} {key} h info spacings exact holds roster e at later =
       let rec = with_rates info spacings h.entry.rec in
       let es = q.roster.entries in
       let old = found_holds (λ f. IsKept ops fraction is_value q.config.hz f.rec) (λ f. f.key == key) es h.entry is.kept h.keyed in
       let keeps : IsKept ops fraction is_value q.config.hz rec = record { is_record = holds; spacings = exact; values = old.values } in
       let within = found_holds (λ f. f.key < length q.heads) (λ f. f.key == key) es h.entry is.in_room h.keyed in
-      subst (λ (r : Listing T). IsQueue ops fraction is_value (record { config = q.config; roster = r; heads = q.heads; last_moment = at }) queued) (sym e) (record {
+      subst (λ (r : Listing T). IsQueue ops fraction is_value (record { config = q.config; roster = r; heads = q.heads; last_moment = at; progress = q.progress }) queued) (sym e) (record {
         kept = all_changed h.at (λ f. IsKept ops fraction is_value q.config.hz f.rec) rec is.kept keeps;
         distinct = distinct_changed key rec es is.distinct;
         heads = heads_later ops due_from q.last_moment at later es (with_record key rec es) (read_kept head_of h.at rec refl) q.heads q.heads (λ k. refl) is.heads;
         in_room = all_changed h.at (λ f. f.key < length q.heads) rec is.in_room within;
         counted = omega (arith, is.counted, count_changed h.at rec);
         bound = is.bound;
+        progress = is.progress;
       })
 
-  pub updated_step : (q : Queue T) {id : ClientId} {key : ℕ} (h : HasClient id key q.roster.entries) (info : Rates) (spacings : Spacings T) (roster : Listing T) → roster ≡ with_record_at q.roster key (with_rates info spacings h.entry.rec) → Ok tt ≡ can_update ops (state_of q) id info → (at t : ℕ) → t ≡ effective (state_of q) at → (state_of (record { config = q.config; roster = roster; heads = q.heads; last_moment = t }), Updated) ≡ step ops (state_of q) (Update id info at)
+  pub updated_step : (q : Queue T) {id : ClientId} {key : ℕ} (h : HasClient id key q.roster.entries) (info : Rates) (spacings : Spacings T) (roster : Listing T) → roster ≡ with_record_at q.roster key (with_rates info spacings h.entry.rec) → Ok tt ≡ can_update ops (state_of q) id info → (at t : ℕ) → t ≡ effective (state_of q) at → (state_of (record { config = q.config; roster = roster; heads = q.heads; last_moment = t; progress = q.progress }), Updated) ≡ step ops (state_of q) (Update id info at)
   updated_step q {id} {key} h info spacings roster e may at t moment =
       let rec = with_rates info spacings h.entry.rec in
       let es = q.roster.entries in
       let clients : clients_in (with_record key rec es) ≡ change_client id (with_info info) (clients_in es) = changed_client h.at (with_info info) rec refl ∙ ap (λ i. change_client i (with_info info) (clients_in es)) h.is in
-      let here : (state_of (record { config = q.config; roster = roster; heads = q.heads; last_moment = t }), Updated) ≡ answer_of (state_of q) (updated ops (state_of q) id info t) = rw (← may, e, clients) refl in
+      let here : (state_of (record { config = q.config; roster = roster; heads = q.heads; last_moment = t; progress = q.progress }), Updated) ≡ answer_of (state_of q) (updated ops (state_of q) id info t) = rw (← may, e, clients) refl in
       here ∙ ap (λ n. answer_of (state_of q) (updated ops (state_of q) id info n)) moment

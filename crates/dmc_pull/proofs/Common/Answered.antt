@@ -2,7 +2,7 @@
 use Rattle.std.proofs.Common.{◌≡◌, ℕ, Bool, true, false, List, [], ◌∷◌, Option, Some, None, refl, sym, ap, ◌∙◌, subst}
 use Rattle.std.specs.Prelude.{Result, Ok, Err, is_err, IfOk}
 use Rattle.dmc_types.specs.declared.config.AtLimit.{AtLimit}
-use Rattle.dmc_types.specs.declared.config.AtLimit.TheVariants.{Wait, Allow}
+use Rattle.dmc_types.specs.declared.config.AtLimit.TheVariants.{Wait, Allow, Reject}
 use Rattle.dmc_types.specs.declared.refusal.Refusal.{Refusal}
 use Rattle.dmc_tag.specs.Tag.{Tagging}
 use Rattle.dmc_tag.specs.State.{State, effective, queued_requests}
@@ -39,6 +39,7 @@ module _ {T : Type 0} (ops : Tagging T) (s : State T) (t : ℕ) where
 
   limit_same : (a : AtLimit) (x : QueuedRequest T) (xs : List (QueuedRequest T)) → at_limit ops on t a x xs ≡ at_limit ops s t a x xs
   limit_same Wait x xs = refl
+  limit_same (Reject threshold) x xs = refl
   limit_same Allow x xs = found_same true (best_of_all ops by_weight is_any s.clients)
 
   due_same : (xs : List (QueuedRequest T)) → nothing_due ops on t xs ≡ nothing_due ops s t xs
@@ -56,7 +57,7 @@ module _ {T : Type 0} (ops : Tagging T) (s : State T) (t : ℕ) where
 
   priority_unrefused : (found : Found T) (beyond : Bool) → IsUnrefused (grant_priority ops s t found beyond)
   priority_unrefused found beyond = at (can_grant ops s.config.hz found) where
-    at : (x : Result (Option T) Refusal) → IsUnrefused (x >>= λ amount. Ok (taken_out ops s t found amount, granted found phases.Priority beyond))
+    at : (x : Result (Option T) Refusal) → IsUnrefused (x >>= λ amount. Ok (taken_out ops s t found phases.Priority amount, granted found phases.Priority beyond))
     at (Ok amount) = λ e k. cc
     at (Err fault) = tt
 
@@ -66,6 +67,7 @@ module _ {T : Type 0} (ops : Tagging T) (s : State T) (t : ℕ) where
 
   limit_unrefused : (a : AtLimit) (x : QueuedRequest T) (xs : List (QueuedRequest T)) → IsUnrefused (at_limit ops s t a x xs)
   limit_unrefused Wait x xs = λ e k. cc
+  limit_unrefused (Reject threshold) x xs = λ e k. cc
   limit_unrefused Allow x xs = found_unrefused true (best_of_all ops by_weight is_any s.clients)
 
   due_unrefused : (xs : List (QueuedRequest T)) → IsUnrefused (nothing_due ops s t xs)

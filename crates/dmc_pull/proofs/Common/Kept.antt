@@ -7,25 +7,27 @@ use Rattle.std.proofs.lemmas.Bool.{leb-true, le-leb}
 use Rattle.dmc_types.specs.Values.{Setting}
 use Rattle.dmc_tag.specs.Tag.{Fraction, Tagging}
 use Rattle.dmc_tag.specs.Best.{is_due}
+use Rattle.dmc_tag.specs.declared.plain.Progress.{Progress}
 use Rattle.dmc_roster.specs.Entries.{Entry, Listing}
 use Rattle.dmc_index.specs.Index.{slot_of_key}
 use Rattle.dmc_index.proofs.Slots.{slot_of_key-map}
 use Rattle.dmc_head_index.specs.declared.head.Head.{Head}
 use Rattle.dmc_head_index.specs.Heads as heads_of
 use Rattle.dmc_tag.specs.Rules.{moment_of}
-use Rattle.dmc_pull.specs.Queue.{Queue, IsQueue, AreHeads, unready}
+use Rattle.dmc_pull.specs.Queue.{Queue, IsQueue, AreHeads, AreValues, unready}
 
 module _ {T : Type 0} (ops : Tagging T) (fraction : T → Fraction) (is_value : Fraction → Type 0) where
   -- an empty queue
-  pub empty_is : (config : Setting) (roster : Listing T) (heads : List (Option (Head T))) (last : ℕ) → roster.entries ≡ [] → heads ≡ [] → IsQueue ops fraction is_value (record { config = config; roster = roster; heads = heads; last_moment = last }) 0
-  empty_is config roster heads last e h = subst (λ hs. IsQueue ops fraction is_value (record { config = config; roster = roster; heads = hs; last_moment = last }) 0) (sym h)
-      (subst (λ es. IsQueue ops fraction is_value (record { config = config; roster = record { entries = es; next_key = roster.next_key }; heads = []; last_moment = last }) 0) (sym e) (record {
+  pub empty_is : (config : Setting) (roster : Listing T) (heads : List (Option (Head T))) (last : ℕ) (progress : Progress T) → roster.entries ≡ [] → heads ≡ [] → AreValues fraction is_value progress → IsQueue ops fraction is_value (record { config = config; roster = roster; heads = heads; last_moment = last; progress = progress }) 0
+  empty_is config roster heads last progress e h values = subst (λ hs. IsQueue ops fraction is_value (record { config = config; roster = roster; heads = hs; last_moment = last; progress = progress }) 0) (sym h)
+      (subst (λ es. IsQueue ops fraction is_value (record { config = config; roster = record { entries = es; next_key = roster.next_key }; heads = []; last_moment = last; progress = progress }) 0) (sym e) (record {
         kept = tt;
         distinct = tt;
         heads = record { here = λ key. refl; marks = λ key head here r. none_held key head here };
         in_room = tt;
         counted = refl;
         bound = omega arith;
+        progress = values;
       }))
     where
       none_held : {P : Type 0} (key : ℕ) (head : Head T) → slot_of_key [] key ≡ Some head → P
@@ -58,6 +60,7 @@ module _ {T : Type 0} (ops : Tagging T) (fraction : T → Fraction) (is_value : 
     in_room = subst (λ n. AllByRecursion (λ e. e.key < n) q.roster.entries) (sym size) is.in_room;
     counted = is.counted;
     bound = is.bound;
+    progress = is.progress;
   }
 
 module _ {T : Type 0} (ops : Tagging T) where

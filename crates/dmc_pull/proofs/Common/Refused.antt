@@ -41,7 +41,7 @@ module _ {T : Type 0} (ops : Tagging T) (old : State T) (id : ClientId) where
       no_memory ops old (Register id info at) (λ (done : ⊤). Registered) (Err fault) new fault refl refl memory done err
 
   module _ (token : Token) (params : Params) (at moment : ℕ) (moment_is : moment ≡ effective old at) where
-    pub add_refused : (refusal : Refusal) → can_add ops old id params (ops.of_moment moment) ≡ Err refusal → Err refusal ≡ outcome ops old (Add id token params at)
+    pub add_refused : (refusal : Refusal) → can_add ops old id params moment ≡ Err refusal → Err refusal ≡ outcome ops old (Add id token params at)
     add_refused refusal e =
         sym (ap (added ops old id token params) (sym moment_is)
         ∙ ap (λ tests. tests >>= λ (shift, tags). Ok (queued ops old shift id (record { token = token; tags = tags }) moment, Tagged tags)) e)

@@ -9,6 +9,7 @@ use Rattle.dmc_types.specs.declared.ids.Token.{Token}
 use Rattle.dmc_tag.specs.Tag.{Fraction, Tagging}
 use Rattle.dmc_tag.specs.Best.{Found, is_due}
 use Rattle.dmc_tag.specs.Spacing.{spacings_of}
+use Rattle.dmc_tag.specs.declared.plain.Progress.{Progress}
 use Rattle.dmc_tag.specs.declared.reply.Tags.{Tags}
 use Rattle.dmc_tag.specs.State.{queued_requests}
 use Rattle.dmc_client.specs.Record.{Rec, client_of, IsRecord, share_tags, less_reservations}
@@ -18,7 +19,7 @@ use Rattle.dmc_adjust.specs.Changes.{popped, reduced}
 use Rattle.dmc_index.specs.Index.{slot_of_key}
 use Rattle.dmc_head_index.specs.declared.head.Head.{Head}
 use Rattle.dmc_pull.specs.Represented.{clients_in}
-use Rattle.dmc_pull.specs.Queue.{Queue, IsQueue, IsKept, AreHeads, head_of, unready, unready_head}
+use Rattle.dmc_pull.specs.Queue.{Queue, IsQueue, IsKept, AreHeads, AreValues, head_of, unready, unready_head}
 use Rattle.dmc_pull.specs.internal.Queue.{head_at}
 use Rattle.dmc_pull.specs.internal.Choice.{first_of, first_at, after_grant, IsFirstOf}
 use Rattle.dmc_pull.proofs.Common.Kept.{length_map}
@@ -196,6 +197,12 @@ module _ {T : Type 0} (ops : Tagging T) (fraction : T → Fraction) (is_value : 
     own_kept : IsKept ops fraction is_value q.config.hz waiting.entry.rec
     own_kept = found_holds (λ e. IsKept ops fraction is_value q.config.hz e.rec) (λ e. e.key == key) q.roster.entries waiting.entry is.kept waiting.found
 
+    -- the P of the first request
+    pub first_value : is_value (fraction waiting.request.tags.p)
+    first_value =
+        let shares = λ (l : List (QueuedRequest T)). AllByRecursion (λ tag. is_value (fraction tag)) (map (λ r. r.tags.p) l ++ waiting.entry.rec.previous.p ∷ []) in
+        (subst shares waiting.requests own_kept.values).0
+
     own_room : key < length q.heads
     own_room = subst (λ n. n < length q.heads) (key_is split_of) (found_holds (λ e. e.key < length q.heads) (λ e. e.key == key) q.roster.entries waiting.entry is.in_room waiting.found)
 
@@ -209,21 +216,22 @@ module _ {T : Type 0} (ops : Tagging T) (fraction : T → Fraction) (is_value : 
     pub one_at_least : 1 ≤ queued
     one_at_least = omega (arith, is.counted, size)
 
-    granted_to : q.last_moment ≤ at → IsRecord ops left → (heads : List (Option (Head T))) → heads ≡ slice_set q.heads key (option_map (head_at ops at client) (option_map (λ r. r.tags) (slice_get left.requests 0))) → IsQueue ops fraction is_value (record { config = q.config; roster = with_record_at q.roster key left; heads = heads; last_moment = at }) (queued - 1)
-    granted_to later whole heads e = subst (λ hs. IsQueue ops fraction is_value (record { config = q.config; roster = with_record_at q.roster key left; heads = hs; last_moment = at }) (queued - 1)) (sym e) (record {
+    granted_to : (progress : Progress T) → AreValues fraction is_value progress → q.last_moment ≤ at → IsRecord ops left → (heads : List (Option (Head T))) → heads ≡ slice_set q.heads key (option_map (head_at ops at client) (option_map (λ r. r.tags) (slice_get left.requests 0))) → IsQueue ops fraction is_value (record { config = q.config; roster = with_record_at q.roster key left; heads = heads; last_moment = at; progress = progress }) (queued - 1)
+    granted_to progress values later whole heads e = subst (λ hs. IsQueue ops fraction is_value (record { config = q.config; roster = with_record_at q.roster key left; heads = hs; last_moment = at; progress = progress }) (queued - 1)) (sym e) (record {
       kept = all_changed split_of (λ e. IsKept ops fraction is_value q.config.hz e.rec) left is.kept (grant_kept q.config.hz reduces waiting.entry.rec own_kept whole);
       distinct = distinct_changed key left q.roster.entries is.distinct;
       heads = replaced ops at split_of q.heads (marks_later ops due_from q.last_moment at q.roster.entries q.heads later is.heads) own_room left _ (head_renewed at waiting.entry.id client waiting.client_is (slice_get left.requests 0)) (λ h f r. head_due at client (option_map (λ r. r.tags) (slice_get left.requests 0)) h f r);
       in_room = subst (λ n. AllByRecursion (λ e. e.key < n) (with_record key left q.roster.entries)) (sym (set_length q.heads key (option_map (head_at ops at client) (option_map (λ r. r.tags) (slice_get left.requests 0))))) (all_changed split_of (λ e. e.key < length q.heads) left is.in_room (subst (λ n. n < length q.heads) (sym (key_is split_of)) own_room));
       counted = omega (arith, is.counted, size);
       bound = omega (arith, is.bound);
+      progress = values;
     })
 
     -- what was lent became what a grant leaves
     pub left_as : (lent rec : Rec T) → record_at key q.roster.entries ≡ Some lent → rec ≡ after_grant ops reduces lent → rec ≡ left
     left_as lent rec found is = let same : lent ≡ waiting.entry.rec = cc (found, own_record) in is ∙ ap (after_grant ops reduces) same
 
-    pub granted : q.last_moment ≤ at → (rec : Rec T) → rec ≡ left → IsRecord ops rec → (tags : Option (Tags T)) → tags ≡ option_map (λ r. r.tags) (slice_get rec.requests 0) → (heads : List (Option (Head T))) → heads ≡ slice_set q.heads key (option_map (head_at ops at client) tags) → IsQueue ops fraction is_value (record { config = q.config; roster = with_record_at q.roster key rec; heads = heads; last_moment = at }) (queued - 1)
-    granted later rec same whole tags t heads h =
+    pub granted : (progress : Progress T) → AreValues fraction is_value progress → q.last_moment ≤ at → (rec : Rec T) → rec ≡ left → IsRecord ops rec → (tags : Option (Tags T)) → tags ≡ option_map (λ r. r.tags) (slice_get rec.requests 0) → (heads : List (Option (Head T))) → heads ≡ slice_set q.heads key (option_map (head_at ops at client) tags) → IsQueue ops fraction is_value (record { config = q.config; roster = with_record_at q.roster key rec; heads = heads; last_moment = at; progress = progress }) (queued - 1)
+    granted progress values later rec same whole tags t heads h =
         let own : tags ≡ option_map (λ r. r.tags) (slice_get left.requests 0) = t ∙ ap (λ x. option_map (λ r. r.tags) (slice_get x.requests 0)) same in
-        subst (λ x. IsQueue ops fraction is_value (record { config = q.config; roster = with_record_at q.roster key x; heads = heads; last_moment = at }) (queued - 1)) (sym same) (granted_to later (subst (IsRecord ops) same whole) heads (h ∙ ap (λ o. slice_set q.heads key (option_map (head_at ops at client) o)) own))
+        subst (λ x. IsQueue ops fraction is_value (record { config = q.config; roster = with_record_at q.roster key x; heads = heads; last_moment = at; progress = progress }) (queued - 1)) (sym same) (granted_to progress values later (subst (IsRecord ops) same whole) heads (h ∙ ap (λ o. slice_set q.heads key (option_map (head_at ops at client) o)) own))

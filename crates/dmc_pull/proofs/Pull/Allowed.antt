@@ -15,17 +15,18 @@ use Rattle.dmc_types.specs.declared.refusal.Refusal.TheVariants.{QueueFull, Rang
 use Rattle.dmc_tag.specs.Tag.{Fraction, Tagging}
 use Rattle.dmc_tag.specs.Outcome.{◌>>=◌, in_range}
 use Rattle.dmc_tag.specs.Spacing.{spacings_of}
-use Rattle.dmc_tag.specs.State.{State, client_named, effective, queued_requests}
+use Rattle.dmc_tag.specs.State.{State, client_named, effective, queued_requests, is_nothing_queued}
 use Rattle.dmc_tag.specs.Step.{answer_of, step}
 use Rattle.dmc_tag.specs.declared.reply.Reply.{Reply}
 use Rattle.dmc_tag.specs.declared.reply.Reply.TheVariants.{Tagged}
 use Rattle.dmc_tag.specs.Rules as rules_of
-use Rattle.dmc_tag.specs.Rules.{can_add, can_shift_by, shifted_by, change_client, after_arrival, assigned, added}
+use Rattle.dmc_tag.specs.Rules.{add_tags, can_shift_by, shifted_by, change_client, after_arrival, floor_by, share_floor, progress_added, assigned, added, is_over_limit}
 use Rattle.dmc_tag.specs.declared.reply.Tags.{Tags}
+use Rattle.dmc_tag.proofs.ForCallers.{within_limit}
 use Rattle.dmc_tag.specs.Order.{AreNext}
 use Rattle.dmc_client.specs.Record.{Rec, client_of, share_tags}
 use Rattle.dmc_roster.specs.Entries.{Entry, entry_named, entry_keyed, record_at}
-use Rattle.dmc_pull.specs.internal.Adding.{needed_shift, unless_nothing, Allows, IsAllowed}
+use Rattle.dmc_pull.specs.internal.Adding.{needed_shift, unless_nothing, Brings, IsTagged}
 use Rattle.dmc_pull.specs.Queue.{Queue, IsQueue, IsKept, state_of}
 use Rattle.dmc_pull.specs.Represented.{clients_in}
 use Rattle.dmc_pull.specs.declared.adding.Addition.{Addition}
@@ -43,6 +44,13 @@ module _ {T : Type 0} (ops : Tagging T) (fraction : T → Fraction) (is_value : 
   abbrev entries : List (Entry T)
   entries = q.roster.entries
 
+  -- what the new P is compared with
+  pub floor_is : (at : ℕ) (t floor : T) → t ≡ ops.of_moment at → floor ≡ floor_by ops q.config.shares (queued == 0) q.progress t → floor ≡ share_floor ops (state_of q) (ops.of_moment at)
+  floor_is at t floor moment e =
+      e
+      ∙ ap (floor_by ops q.config.shares (queued == 0) q.progress) moment
+      ∙ ap (λ (n : ℕ). floor_by ops q.config.shares (n == 0) q.progress (ops.of_moment at)) is.counted
+
   -- each P is a value
   all_values : AllByRecursion (λ e. AllByRecursion (λ tag. is_value (fraction tag)) (share_tags e.rec)) entries
   all_values = all_as (λ (e : Entry T). IsKept ops fraction is_value q.config.hz e.rec) (λ e. AllByRecursion (λ tag. is_value (fraction tag)) (share_tags e.rec)) (λ e k. k.values) entries is.kept
@@ -54,15 +62,15 @@ module _ {T : Type 0} (ops : Tagging T) (fraction : T → Fraction) (is_value : 
     shifted_left : (amount : Option T) → shifted_by ops (unless_nothing ops amount) (clients_in entries) ≡ shifted_by ops amount (clients_in entries)
     shifted_left = same_shifted ops (λ tag. is_value (fraction tag)) same off (clients_in entries) (all_clients ops (λ tag. is_value (fraction tag)) entries all_values)
 
-    -- the effect of an add, with the shift left out if it is 0
-    pub added_is : (id : ClientId) (params : Params) (at : ℕ) (addition : Addition T) → Allows ops (state_of q) id params at addition → (token : Token) → added ops (state_of q) id token params at ≡ Ok (rules_of.queued ops (state_of q) addition.shift id (record { token = token; tags = addition.tags }) at, Tagged addition.tags)
-    added_is id params at addition allows token =
-        ap (λ r. r >>= λ (shift, tags). Ok (rules_of.queued ops (state_of q) shift id (record { token = token; tags = tags }) at, Tagged tags)) allows.test
-        ∙ ap (λ cs. Ok (record (state_of q) { clients = change_client id (after_arrival (record { token = token; tags = addition.tags }) at) cs; last_moment = at }, Tagged addition.tags)) (sym (shifted_left allows.full) ∙ ap (λ shift. shifted_by ops shift (clients_in entries)) (sym allows.shift))
+    -- the effect of an add within its limit, with the shift left out if it is 0
+    pub added_is : (id : ClientId) (params : Params) (at : ℕ) (addition : Addition T) → Brings ops (state_of q) id params at addition → is_over_limit ops q.config.at_limit at addition.tags.l ≡ false → (token : Token) → added ops (state_of q) id token params at ≡ Ok (rules_of.queued ops (state_of q) addition.shift id (record { token = token; tags = addition.tags }) at, Tagged addition.tags)
+    added_is id params at addition allows within token =
+        ap (λ r. r >>= λ (shift, tags). Ok (rules_of.queued ops (state_of q) shift id (record { token = token; tags = tags }) at, Tagged tags)) (within_limit ops (state_of q) id params at (allows.full, addition.tags) allows.test within)
+        ∙ ap (λ cs. Ok (record (state_of q) { clients = change_client id (after_arrival (record { token = token; tags = addition.tags }) at) cs; last_moment = at; progress = progress_added ops q.config.shares (is_nothing_queued (clients_in entries)) addition.tags.p q.progress }, Tagged addition.tags)) (sym (shifted_left allows.full) ∙ ap (λ shift. shifted_by ops shift (clients_in entries)) (sym allows.shift))
 
     module _ (id : ClientId) (params : Params) (at : ℕ) (key : ℕ) (entry : entry_keyed key entries ≡ entry_named id entries) (held : is_some (entry_keyed key entries) ≡ true) where
       abbrev test : Result (Option T × Tags T) Refusal
-      test = can_add ops (state_of q) id params (ops.of_moment at)
+      test = add_tags ops (state_of q) id params (ops.of_moment at)
 
       found : (e : Entry T) × (entry_keyed key entries ≡ Some e)
       found = held_entry (entry_keyed key entries) held
@@ -76,12 +84,12 @@ module _ {T : Type 0} (ops : Tagging T) (fraction : T → Fraction) (is_value : 
           let le : nat_le max_requests (length (queued_requests (clients_in entries))) ≡ true = grind (arith, nat_tests) in
           full ops (state_of q) id params (ops.of_moment at) (client_of found.0.id found.0.rec) known le
 
-      module _ (below : queued < max_requests) (r : Result (Option T) Refusal) (t : T) (moment : t ≡ ops.of_moment at) (value : IfSome (entry_keyed key entries) (λ e. r ≡ needed_shift ops (clients_in entries) (client_of e.id e.rec) t)) where
+      module _ (below : queued < max_requests) (r : Result (Option T) Refusal) (t : T) (moment : t ≡ ops.of_moment at) (value : IfSome (entry_keyed key entries) (λ e. r ≡ needed_shift ops q.config.shares (clients_in entries) (client_of e.id e.rec) t)) where
         room : nat_le max_requests (length (queued_requests (clients_in entries))) ≡ false
         room = let counted = is.counted in grind (arith, nat_tests)
 
-        shift_is : r ≡ needed_shift ops (clients_in entries) (client_of found.0.id found.0.rec) (ops.of_moment at)
-        shift_is = if_holds _ (entry_keyed key entries) found.0 found.1 value ∙ ap (needed_shift ops (clients_in entries) (client_of found.0.id found.0.rec)) moment
+        shift_is : r ≡ needed_shift ops q.config.shares (clients_in entries) (client_of found.0.id found.0.rec) (ops.of_moment at)
+        shift_is = if_holds _ (entry_keyed key entries) found.0 found.1 value ∙ ap (needed_shift ops q.config.shares (clients_in entries) (client_of found.0.id found.0.rec)) moment
 
         pub shift_refused : (refusal : Refusal) → r ≡ Err refusal → test ≡ Err refusal
         shift_refused refusal e = no_shift ops (state_of q) id params (ops.of_moment at) (client_of found.0.id found.0.rec) known room refusal (sym e ∙ shift_is)
@@ -96,35 +104,36 @@ module _ {T : Type 0} (ops : Tagging T) (fraction : T → Fraction) (is_value : 
           pub shift_out_of_range : can_shift_by ops shift (clients_in entries) ≡ false → test ≡ Err Range
           shift_out_of_range h = out_of_range ops (state_of q) id params (ops.of_moment at) (client_of found.0.id found.0.rec) known room whole_is.amount whole_is.is (can_is ∙ h)
 
-          module _ (can : can_shift_by ops shift (clients_in entries) ≡ true) (rec : Rec T) (at_key : record_at key entries ≡ Some rec) (tags : Option (Tags T))
-              (gives : (hz : ℕ) (id : ClientId) → spacings_of ops hz rec.info ≡ Ok rec.spacings → in_range tags ≡ assigned ops hz (client_of id rec) params t) where
-            assigned_is : in_range tags ≡ assigned ops q.config.hz (client_of found.0.id found.0.rec) params (ops.of_moment at)
+          module _ (can : can_shift_by ops shift (clients_in entries) ≡ true) (rec : Rec T) (at_key : record_at key entries ≡ Some rec) (tags : Option (Tags T)) (floor : T) (same_floor : floor ≡ share_floor ops (state_of q) (ops.of_moment at))
+              (gives : (hz : ℕ) (id : ClientId) → spacings_of ops hz rec.info ≡ Ok rec.spacings → in_range tags ≡ assigned ops hz (client_of id rec) params t floor) where
+            assigned_is : in_range tags ≡ assigned ops q.config.hz (client_of found.0.id found.0.rec) params (ops.of_moment at) (share_floor ops (state_of q) (ops.of_moment at))
             assigned_is =
                 let one : found.0.rec ≡ rec = record_is key entries found.0 rec found.1 at_key in
                 let kept = found_holds (λ e. IsKept ops fraction is_value q.config.hz e.rec) (λ e. e.key == key) entries found.0 is.kept found.1 in
                 gives q.config.hz found.0.id (subst (λ rec. spacings_of ops q.config.hz rec.info ≡ Ok rec.spacings) one kept.spacings)
-                ∙ ap (λ rec. assigned ops q.config.hz (client_of found.0.id rec) params t) (sym one)
-                ∙ ap (assigned ops q.config.hz (client_of found.0.id found.0.rec) params) moment
+                ∙ ap (λ rec. assigned ops q.config.hz (client_of found.0.id rec) params t floor) (sym one)
+                ∙ ap (λ t. assigned ops q.config.hz (client_of found.0.id found.0.rec) params t floor) moment
+                ∙ ap (assigned ops q.config.hz (client_of found.0.id found.0.rec) params (ops.of_moment at)) same_floor
 
             pub tags_out_of_range : tags ≡ None → test ≡ Err Range
             tags_out_of_range h = no_tags ops (state_of q) id params (ops.of_moment at) (client_of found.0.id found.0.rec) known room whole_is.amount whole_is.is (can_is ∙ can) (ap in_range (sym h) ∙ assigned_is)
 
-            pub allows : (assigned_tags : Tags T) → tags ≡ Some assigned_tags → Allows ops (state_of q) id params at (record { key = key; shift = shift; tags = assigned_tags })
-            allows assigned_tags h = record {
+            brings : (assigned_tags : Tags T) → tags ≡ Some assigned_tags → Brings ops (state_of q) id params at (record { key = key; shift = shift; tags = assigned_tags })
+            brings assigned_tags h = record {
               full = whole_is.amount;
               test = allowed ops (state_of q) id params (ops.of_moment at) (client_of found.0.id found.0.rec) known room whole_is.amount whole_is.is (can_is ∙ can) assigned_tags (ap in_range (sym h) ∙ assigned_is);
               shift = whole_is.left;
             }
 
-            -- the tests passed, and the effect of the add
-            pub is_allowed : (assigned_tags : Tags T) → tags ≡ Some assigned_tags → IfSome tags (AreNext ops rec.info rec.previous) → is_value (fraction assigned_tags.p) → IsAllowed ops fraction is_value q id params at (record { key = key; shift = shift; tags = assigned_tags })
-            is_allowed assigned_tags h follows value =
+            -- the tests passed but for that of the limit
+            pub is_tagged : (assigned_tags : Tags T) → tags ≡ Some assigned_tags → IfSome tags (AreNext ops rec.info rec.previous) → is_value (fraction assigned_tags.p) → IsTagged ops fraction is_value q id params at (record { key = key; shift = shift; tags = assigned_tags })
+            is_tagged assigned_tags h follows value =
                 let counted = is.counted in
-                let tests = allows assigned_tags h in
+                let tests = brings assigned_tags h in
                 let next = if_holds (AreNext ops rec.info rec.previous) tags assigned_tags h follows in
                 let of_key = λ (P : Rec T → Type 0) (holds : P rec). subst (λ o. IfSome o P) (sym at_key) holds in
                 let same = record_is key entries found.0 rec found.1 at_key in
-                let comes = idle_where_shifted ops (clients_in entries) (client_of found.0.id found.0.rec) (ops.of_moment at) shift (sym e ∙ shift_is) in
+                let comes = idle_where_shifted ops q.config.shares (clients_in entries) (client_of found.0.id found.0.rec) (ops.of_moment at) shift (sym e ∙ shift_is) in
                 record {
                   tests = tests;
                   added = added_is id params at (record { key = key; shift = shift; tags = assigned_tags }) tests;

@@ -13,7 +13,7 @@ use Rattle.dmc_tag.specs.Outcome.{◌>>=◌, refuse_if}
 use Rattle.dmc_tag.specs.Spacing.{spacings_of}
 use Rattle.dmc_tag.specs.Best.{Found}
 use Rattle.dmc_tag.specs.Rules as rules_of
-use Rattle.dmc_tag.specs.Rules.{Outcome, taken_out, granted, grant_priority, can_grant, reduction_at, can_reduce_by, with_requests}
+use Rattle.dmc_tag.specs.Rules.{Outcome, taken_out, granted, progress_granted, grant_priority, can_grant, reduction_at, can_reduce_by, with_requests}
 use Rattle.dmc_tag.specs.Step.{answer_of}
 use Rattle.dmc_tag.specs.declared.reply.Reply.TheVariants.{Granted}
 use Rattle.dmc_tag.specs.State.{State}
@@ -28,17 +28,39 @@ use Rattle.dmc_adjust.specs.Changes.{popped}
 use Rattle.dmc_pull.specs.Represented.{clients_in}
 use Rattle.dmc_pull.specs.Queue.{Queue, IsQueue, IsKept, state_of}
 use Rattle.dmc_pull.proofs.Common.Parts.{found_holds}
-use Rattle.dmc_pull.specs.internal.Choice.{first_at, after_grant, IsGrantable, Settles}
+use Rattle.dmc_pull.specs.internal.Choice.{first_at, phase_of, after_grant, IsGrantable, Settles}
 use Rattle.dmc_pull.proofs.Common.Entries.{Split, split, changed_client}
 use Rattle.dmc_pull.proofs.Pull.Picks.{first_chosen}
 use Rattle.dmc_pull.proofs.Common.Replaced.{Waits}
 
 module _ {T : Type 0} (ops : Tagging T) where
-  -- the queue after a grant: the config stays, the record is the granted one's, and the moment is t
+  -- the queue after a grant: the config stays, the record is the granted one's, the moment is t, and the P of the request is counted
   pub record After (old new : Queue T) (key : ℕ) (reduces : Bool) (t : ℕ) : Type 0 where
     pub roster : IfSome (record_at key old.roster.entries) (λ rec. new.roster ≡ with_record_at old.roster key (after_grant ops reduces rec))
     pub config : new.config ≡ old.config
     pub moment : new.last_moment ≡ t
+    pub progress : IfSome (first_at key old.roster.entries) (λ found. new.progress ≡ progress_granted ops (phase_of reduces) old.config.shares found.request.tags.p old.progress)
+
+  -- what is true of each first request
+  of_each : (P : Found T → Type 0) (o : Option (Found T)) → ((found : Found T) → P found) → IfSome o P
+  of_each P None h = tt
+  of_each P (Some found) h = h found
+
+  -- a grant in the constraint phase counts nothing
+  pub counts_nothing : (old new : Queue T) (key : ℕ) → new.progress ≡ old.progress → IfSome (first_at key old.roster.entries) (λ found. new.progress ≡ progress_granted ops (phase_of false) old.config.shares found.request.tags.p old.progress)
+  counts_nothing old new key same = of_each _ (first_at key old.roster.entries) (λ found. same)
+
+  -- a grant in the weight phase is counted first, and then its request is taken out
+  pub counted_then_taken : (old between new : Queue T) (key : ℕ) (t : ℕ)
+      → between.roster ≡ old.roster → between.config ≡ old.config → IfSome (first_at key old.roster.entries) (λ found. between.progress ≡ progress_granted ops phases.Priority old.config.shares found.request.tags.p old.progress)
+      → IfSome (record_at key between.roster.entries) (λ rec. new.roster ≡ with_record_at between.roster key (after_grant ops true rec)) → new.config ≡ between.config → new.last_moment ≡ t → new.progress ≡ between.progress
+      → After old new key true t
+  counted_then_taken old between new key t roster config counted taken same_config moment same_progress = record {
+    roster = subst (λ r. IfSome (record_at key r.entries) (λ rec. new.roster ≡ with_record_at r key (after_grant ops true rec))) roster taken;
+    config = same_config ∙ config;
+    moment = moment;
+    progress = subst (λ p. IfSome (first_at key old.roster.entries) (λ found. p ≡ progress_granted ops phases.Priority old.config.shares found.request.tags.p old.progress)) (sym same_progress) counted;
+  }
 
   module _ (old new : Queue T) (key : ℕ) (client : ClientId) (t : ℕ) (d : AreDistinct old.roster.entries) (w : Waits old.roster.entries key client) where
     abbrev es : List (Entry T)
@@ -57,12 +79,16 @@ module _ {T : Type 0} (ops : Tagging T) where
     same_roster : (reduces : Bool) → After old new key reduces t → new.roster ≡ with_record_at old.roster key (after_grant ops reduces w.entry.rec)
     same_roster reduces a = subst (λ o. IfSome o (λ rec. new.roster ≡ with_record_at old.roster key (after_grant ops reduces rec))) (ap (option_map (λ e. e.rec)) w.found) a.roster
 
-    state_after : (reduces : Bool) (amount : Option T) → client_of w.entry.id (after_grant ops reduces w.entry.rec) ≡ rules_of.after_grant ops first amount → After old new key reduces t → state_of new ≡ taken_out ops (state_of old) t first amount
+    same_progress : (reduces : Bool) → After old new key reduces t → new.progress ≡ progress_granted ops (phase_of reduces) old.config.shares w.request.tags.p old.progress
+    same_progress reduces a = subst (λ o. IfSome o (λ found. new.progress ≡ progress_granted ops (phase_of reduces) old.config.shares found.request.tags.p old.progress)) first_is a.progress
+
+    state_after : (reduces : Bool) (amount : Option T) → client_of w.entry.id (after_grant ops reduces w.entry.rec) ≡ rules_of.after_grant ops first amount → After old new key reduces t → state_of new ≡ taken_out ops (state_of old) t first (phase_of reduces) amount
     state_after reduces amount own a =
-        ap (λ c. record { config = c; clients = clients_in new.roster.entries; last_moment = new.last_moment }) a.config
-        ∙ ap (λ m. record { config = old.config; clients = clients_in new.roster.entries; last_moment = m }) a.moment
-        ∙ ap (λ r. record { config = old.config; clients = clients_in r.entries; last_moment = t }) (same_roster reduces a)
-        ∙ ap (λ cs. record { config = old.config; clients = cs; last_moment = t }) (changed_client own_split (λ c. rules_of.after_grant ops first amount) (after_grant ops reduces w.entry.rec) own)
+        ap (λ c. record { config = c; clients = clients_in new.roster.entries; last_moment = new.last_moment; progress = new.progress }) a.config
+        ∙ ap (λ m. record { config = old.config; clients = clients_in new.roster.entries; last_moment = m; progress = new.progress }) a.moment
+        ∙ ap (λ r. record { config = old.config; clients = clients_in r.entries; last_moment = t; progress = new.progress }) (same_roster reduces a)
+        ∙ ap (λ cs. record { config = old.config; clients = cs; last_moment = t; progress = new.progress }) (changed_client own_split (λ c. rules_of.after_grant ops first amount) (after_grant ops reduces w.entry.rec) own)
+        ∙ ap (λ p. record (taken_out ops (state_of old) t first (phase_of reduces) amount) { progress = p }) (same_progress reduces a)
 
     same_reply : (token : Token) (phase : PhaseType) (beyond : Bool) → token ≡ w.request.token → Granted client token phase beyond ≡ granted first phase beyond
     same_reply token phase beyond e = ap (λ id. Granted id token phase beyond) w.client_is ∙ ap (λ k. Granted w.entry.id k phase beyond) e
@@ -75,9 +101,9 @@ module _ {T : Type 0} (ops : Tagging T) where
 
     -- ---- in the constraint phase
 
-    pub early_settles : (token : Token) → After old new key false t → Some token ≡ option_map (λ found. found.request.token) (first_at key es) → IfSome (first_at key es) (λ found. Settles (state_of old) (state_of new) (Ok (taken_out ops (state_of old) t found None, granted found phases.Reservation false)) (Some (Granted client token phases.Reservation false)))
+    pub early_settles : (token : Token) → After old new key false t → Some token ≡ option_map (λ found. found.request.token) (first_at key es) → IfSome (first_at key es) (λ found. Settles (state_of old) (state_of new) (Ok (taken_out ops (state_of old) t found phases.Reservation None, granted found phases.Reservation false)) (Some (Granted client token phases.Reservation false)))
     early_settles token a k =
-        subst (λ o. IfSome o (λ found. Settles (state_of old) (state_of new) (Ok (taken_out ops (state_of old) t found None, granted found phases.Reservation false)) (Some (Granted client token phases.Reservation false)))) (sym first_is)
+        subst (λ o. IfSome o (λ found. Settles (state_of old) (state_of new) (Ok (taken_out ops (state_of old) t found phases.Reservation None, granted found phases.Reservation false)) (Some (Granted client token phases.Reservation false)))) (sym first_is)
         (pair _ _ _ _ (state_after false None refl a) (same_reply token phases.Reservation false (token_is token k)))
 
     -- ---- in the weight phase
@@ -107,7 +133,7 @@ module _ {T : Type 0} (ops : Tagging T) where
         (subst (λ o. IsGrantable ops (state_of old) first o can) (sym own_rec) e)
 
     abbrev granted_by : Result (Option T) Refusal → Bool → Outcome T
-    granted_by r beyond = r >>= λ amount. Ok (taken_out ops (state_of old) t first amount, granted first phases.Priority beyond)
+    granted_by r beyond = r >>= λ amount. Ok (taken_out ops (state_of old) t first phases.Priority amount, granted first phases.Priority beyond)
 
     reduced_is : (amount : Option T) → client_of w.entry.id (option_map_or (λ taken. less_reservations ops taken (popped w.entry.rec)) amount (popped w.entry.rec)) ≡ rules_of.after_grant ops first amount
     reduced_is None = refl

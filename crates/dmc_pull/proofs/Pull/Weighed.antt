@@ -1,9 +1,10 @@
 -- The result of a pull, from the client that the call in it named: by R, by P, or none.
-use Rattle.std.proofs.Common.{◌≡◌, ℕ, Bool, true, false, List, [], ◌∷◌, Option, Some, None, refl, sym, ap, ◌∙◌, subst}
-use Rattle.std.specs.Prelude.{IfSome, Result, Ok}
+use Rattle.std.proofs.Common.{◌≡◌, ℕ, Bool, true, false, List, [], ◌∷◌, Option, Some, None, refl, inl, inr, sym, ap, ◌∙◌, subst}
+use Rattle.std.specs.Prelude.{IfSome, ◌⊎◌, Result, Ok}
 use Rattle.std.specs.Option.{option_map}
 use Rattle.dmc_types.specs.declared.ids.ClientId.{ClientId}
-use Rattle.dmc_types.specs.declared.config.AtLimit.TheVariants.{Wait, Allow}
+use Rattle.dmc_types.specs.declared.config.AtLimit.{AtLimit}
+use Rattle.dmc_types.specs.declared.config.AtLimit.TheVariants.{Wait, Allow, Reject}
 use Rattle.dmc_types.specs.declared.config.PhaseType.{PhaseType}
 use Rattle.dmc_types.specs.declared.config.PhaseType.TheVariants.{Reservation}
 use Rattle.dmc_types.specs.declared.command.Command.TheVariants.{Pull}
@@ -25,6 +26,11 @@ use Rattle.dmc_pull.specs.declared.granting.PullFault.{PullFault}
 use Rattle.dmc_tag.proofs.ForCallers.{none_of_all}
 
 -- ---- the client that is named
+
+-- the two settings with which a pull waits at the limit
+pub is_not_allowing : (l : AtLimit) → (l ≡ Wait) ⊎ ((threshold : ℕ) × (l ≡ Reject threshold)) → l ≡ Allow → ⊥
+is_not_allowing l (inl wait) allow = let same : Wait ≡ Allow = sym wait ∙ allow in cc (same)
+is_not_allowing l (inr reject) allow = let same : Reject reject.0 ≡ Allow = sym reject.1 ∙ allow in cc (same)
 
 module _ {T : Type 0} (ops : Tagging T) (t : ℕ) (entries : List (Entry T)) (key : ℕ) (client : ClientId) where
   pub has_first : (free : Bool) → ByWeight ops t entries (Some (key, client, free)) → IsFirstOf entries key client
@@ -85,14 +91,18 @@ module _ {T : Type 0} (ops : Tagging T) (s : State T) where
       any_answers none e limit h = subst (λ o. SettlesIf allows s new (pulled_free ops s t o) answer) (sym none) (any_at (queued_requests s.clients) refl first e named limit h)
 
     later_at : {m : ℕ} (xs : List (QueuedRequest T)) → queued_requests s.clients ≡ xs → (o : Option (Found T)) → best_of_all ops by_weight is_any s.clients ≡ o → option_map (λ found. found.client.id) o ≡ Some client
-        → s.config.at_limit ≡ Wait → ((x : QueuedRequest T) (rest : List (QueuedRequest T)) → xs ≡ x ∷ rest → m ≡ least_due ops x rest)
+        → (s.config.at_limit ≡ Allow → ⊥) → ((x : QueuedRequest T) (rest : List (QueuedRequest T)) → xs ≡ x ∷ rest → m ≡ least_due ops x rest)
         → let answer : State T × Reply T = (s, Later m) in answer ≡ answer_of s (nothing_due ops s t xs)
     later_at xs q None e n limit due = cc
     later_at [] q (Some found) e n limit due = absurd (some_queued s.clients found e q)
-    later_at (x ∷ xs) q (Some found) e n limit due = ap (λ (m : ℕ). (s, Later m)) (due x xs refl) ∙ ap (λ l. answer_of s (at_limit ops s t l x xs)) (sym limit)
+    later_at (x ∷ xs) q (Some found) e n limit due = ap (λ (m : ℕ). (s, Later m)) (due x xs refl) ∙ waits s.config.at_limit limit where
+      waits : (l : AtLimit) → (l ≡ Allow → ⊥) → let answer : State T × Reply T = (s, Later (least_due ops x xs)) in answer ≡ answer_of s (at_limit ops s t l x xs)
+      waits Wait never = refl
+      waits (Reject threshold) never = refl
+      waits Allow never = absurd (never refl)
 
     -- none is free, and the moment is returned at which one is due
-    pub later_answers : {m : ℕ} → free ≡ None → best_of_all ops by_weight is_any s.clients ≡ first → s.config.at_limit ≡ Wait
+    pub later_answers : {m : ℕ} → free ≡ None → best_of_all ops by_weight is_any s.clients ≡ first → (s.config.at_limit ≡ Allow → ⊥)
         → ((x : QueuedRequest T) (rest : List (QueuedRequest T)) → queued_requests s.clients ≡ x ∷ rest → m ≡ least_due ops x rest)
         → let answer : State T × Reply T = (s, Later m) in answer ≡ answer_of s (pulled_free ops s t free)
     later_answers none e limit due = later_at (queued_requests s.clients) refl first e named limit due ∙ ap (λ o. answer_of s (pulled_free ops s t o)) (sym none)
@@ -110,7 +120,7 @@ module _ {T : Type 0} (ops : Tagging T) (s : State T) (at t : ℕ) (moment : t �
   -- the grant that the test allows
   pub early_answers : (new : State T) (reply : Reply T) (o : Option (Found T)) → best_of_all ops by_reservation (is_early ops t) s.clients ≡ o
       → option_map (λ found. found.client.id) o ≡ Some client → allows client Reservation ≡ true
-      → IfSome o (λ found. Settles s new (Ok (taken_out ops s t found None, granted found Reservation false)) (Some reply))
+      → IfSome o (λ found. Settles s new (Ok (taken_out ops s t found Reservation None, granted found Reservation false)) (Some reply))
       → let answer : State T × Reply T = (new, reply) in (answer ≡ step ops s (Pull at)) × (is_allowed allows reply ≡ true)
   early_answers new reply None e n allowed h = cc
   early_answers new reply (Some found) e n allowed h = (h ∙ early_step (Some found) e, ap (λ p. is_allowed allows p.1) h ∙ allowed_as true found n allowed)

@@ -75,7 +75,7 @@ pub fewer : {T : Type 0} {id : ClientId} {key : ℕ} {es : List (Entry T)} → (
 fewer h queued count all some = omega (arith, count_changed h.at (emptied h.entry.rec))
 
 module _ {T : Type 0} (ops : Tagging T) (fraction : T → Fraction) (is_value : Fraction → Type 0) where
-  pub removed_is : {q : Queue T} {queued : ℕ} → IsQueue ops fraction is_value q queued → {id : ClientId} {key : ℕ} → (h : HasClient id key q.roster.entries) → IsRecord ops (emptied h.entry.rec) → (roster : Listing T) → roster ≡ with_record_at q.roster key (emptied h.entry.rec) → (heads : List (Option (Head T))) → heads ≡ set q.heads key None → (count : ℕ) → count ≡ length h.entry.rec.requests → IsQueue ops fraction is_value (record { config = q.config; roster = roster; heads = heads; last_moment = q.last_moment }) (queued - count)
+  pub removed_is : {q : Queue T} {queued : ℕ} → IsQueue ops fraction is_value q queued → {id : ClientId} {key : ℕ} → (h : HasClient id key q.roster.entries) → IsRecord ops (emptied h.entry.rec) → (roster : Listing T) → roster ≡ with_record_at q.roster key (emptied h.entry.rec) → (heads : List (Option (Head T))) → heads ≡ set q.heads key None → (count : ℕ) → count ≡ length h.entry.rec.requests → IsQueue ops fraction is_value (record { config = q.config; roster = roster; heads = heads; last_moment = q.last_moment; progress = q.progress }) (queued - count)
   removed_is {q} {queued} is {id} {key} h holds roster e heads cleared count all =
       let rec = emptied h.entry.rec in
       let es = q.roster.entries in
@@ -85,20 +85,21 @@ module _ {T : Type 0} (ops : Tagging T) (fraction : T → Fraction) (is_value : 
       let within = found_holds (λ f. f.key < length q.heads) (λ f. f.key == key) es h.entry is.in_room h.keyed in
       let size = length-set q.heads key None in
       let rest = fewer h queued count is.counted all in
-      subst (λ (r : Listing T). IsQueue ops fraction is_value (record { config = q.config; roster = r; heads = heads; last_moment = q.last_moment }) (queued - count)) (sym e)
-      (subst (λ hs. IsQueue ops fraction is_value (record { config = q.config; roster = with_record_at q.roster key rec; heads = hs; last_moment = q.last_moment }) (queued - count)) (sym cleared) (record {
+      subst (λ (r : Listing T). IsQueue ops fraction is_value (record { config = q.config; roster = r; heads = heads; last_moment = q.last_moment; progress = q.progress }) (queued - count)) (sym e)
+      (subst (λ hs. IsQueue ops fraction is_value (record { config = q.config; roster = with_record_at q.roster key rec; heads = hs; last_moment = q.last_moment; progress = q.progress }) (queued - count)) (sym cleared) (record {
         kept = all_changed h.at (λ f. IsKept ops fraction is_value q.config.hz f.rec) rec is.kept keeps;
         distinct = distinct_changed key rec es is.distinct;
         heads = heads_cleared ops is.heads h;
         in_room = subst (λ n. AllByRecursion (λ f. f.key < n) (with_record key rec es)) (sym size) (all_changed h.at (λ f. f.key < length q.heads) rec is.in_room within);
         counted = omega (arith, rest);
         bound = omega (arith, is.bound);
+        progress = is.progress;
       }))
 
   pub refused_remove : (s : State T) (id : ClientId) → client_named id s.clients ≡ None → (s, Refused Unknown) ≡ step ops s (Remove id)
   refused_remove s id none = rw none refl
 
-  pub removed_step : (q : Queue T) {id : ClientId} {key : ℕ} → (h : HasClient id key q.roster.entries) (roster : Listing T) → roster ≡ with_record_at q.roster key (emptied h.entry.rec) → (heads : List (Option (Head T))) (count : ℕ) → count ≡ length h.entry.rec.requests → (state_of (record { config = q.config; roster = roster; heads = heads; last_moment = q.last_moment }), Removed count) ≡ step ops (state_of q) (Remove id)
+  pub removed_step : (q : Queue T) {id : ClientId} {key : ℕ} → (h : HasClient id key q.roster.entries) (roster : Listing T) → roster ≡ with_record_at q.roster key (emptied h.entry.rec) → (heads : List (Option (Head T))) (count : ℕ) → count ≡ length h.entry.rec.requests → (state_of (record { config = q.config; roster = roster; heads = heads; last_moment = q.last_moment; progress = q.progress }), Removed count) ≡ step ops (state_of q) (Remove id)
   removed_step q {id} {key} h roster e heads count all =
       let rec = emptied h.entry.rec in
       let es = q.roster.entries in

@@ -1,15 +1,16 @@
 -- An add: the shift of all records but one, and the results of its tests.
-use Rattle.std.specs.Prelude.{◌≡◌, ℕ, ◌<◌, ◌==◌, ◌&&◌, true, not, if◌then◌else◌, List, length, map, Option, Some, None, is_some, IfSome, IsSome, Result, Ok, Err}
+use Rattle.std.specs.Prelude.{◌≡◌, ℕ, ◌<◌, ◌==◌, ◌&&◌, true, false, not, if◌then◌else◌, List, length, map, Option, Some, None, is_some, IfSome, IsSome, Result, Ok, Err}
 use Rattle.std.specs.Option.{option_map}
 use Rattle.std.specs.Ordering.{is_eq}
 use Rattle.dmc_types.specs.Limits.{max_requests}
 use Rattle.dmc_types.specs.Values.{Params}
+use Rattle.dmc_types.specs.declared.config.Shares.{Shares}
 use Rattle.dmc_types.specs.declared.ids.ClientId.{ClientId}
 use Rattle.dmc_types.specs.declared.ids.Token.{Token}
 use Rattle.dmc_types.specs.declared.refusal.Refusal.{Refusal}
 use Rattle.dmc_tag.specs.State.{State, PlainClient, queued_requests}
 use Rattle.dmc_tag.specs.Outcome.{◌>>=◌}
-use Rattle.dmc_tag.specs.Rules.{can_add, can_shift_by, shift_of, added, queued}
+use Rattle.dmc_tag.specs.Rules.{add_tags, can_add, is_over_limit, can_shift_by, shift_of, added, queued}
 use Rattle.dmc_tag.specs.Order.{AreNext}
 use Rattle.dmc_tag.specs.declared.reply.Reply.TheVariants.{Tagged}
 use Rattle.dmc_pull.specs.declared.adding.Addition.{Addition}
@@ -39,14 +40,14 @@ abbrev pub unless_nothing : {T : Type 0} → Tagging T → Option T → Option T
 unless_nothing ops None = None
 unless_nothing ops (Some amount) = if is_eq (ops.compare amount (ops.of_moment 0)) then None else Some amount
 
--- the amount by which all others are shifted for a client that arrives at t
-abbrev pub needed_shift : {T : Type 0} → Tagging T → List (PlainClient T) → PlainClient T → T → Result (Option T) Refusal
-needed_shift ops clients arriving t = shift_of ops clients arriving t >>= λ full. Ok (unless_nothing ops full)
+-- the amount by which all others are shifted for a client that arrives at t; under Shares::Virtual there is none
+abbrev pub needed_shift : {T : Type 0} → Tagging T → Shares → List (PlainClient T) → PlainClient T → T → Result (Option T) Refusal
+needed_shift ops shares clients arriving t = shift_of ops shares clients arriving t >>= λ full. Ok (unless_nothing ops full)
 
--- the tests of an add passed: the new tags are these, and so is the shift, which is left out if it is 0
-pub record Allows {T : Type 0} (ops : Tagging T) (s : State T) (id : ClientId) (params : Params) (t : ℕ) (addition : Addition T) : Type 0 where
+-- the tags of an add are these, and so is the shift, which is left out if it is 0
+pub record Brings {T : Type 0} (ops : Tagging T) (s : State T) (id : ClientId) (params : Params) (t : ℕ) (addition : Addition T) : Type 0 where
   pub full : Option T
-  pub test : can_add ops s id params (ops.of_moment t) ≡ Ok (full, addition.tags)
+  pub test : add_tags ops s id params (ops.of_moment t) ≡ Ok (full, addition.tags)
   pub shift : addition.shift ≡ unless_nothing ops full
 
 -- what an add changes, so that its request can be queued
@@ -65,9 +66,20 @@ pub record IsAddition {T : Type 0} (ops : Tagging T) (fraction : T → Fraction)
   -- one more request may be queued
   pub room : length (queued_requests (state_of q).clients) < max_requests
 
--- the tests of an add passed, and its effect
+-- the tests of an add passed but for the last one, that of the limit
+pub record IsTagged {T : Type 0} (ops : Tagging T) (fraction : T → Fraction) (is_value : Fraction → Type 0) (q : Queue T) (client : ClientId) (params : Params) (t : ℕ) (addition : Addition T) : Type 0 where
+  pub tests : Brings ops (state_of q) client params t addition
+  -- within the limit, the plain state afterwards and the reply, for each token
+  pub added : is_over_limit ops q.config.at_limit t addition.tags.l ≡ false → (token : Token) → added ops (state_of q) client token params t ≡
+      Ok (queued ops (state_of q) addition.shift client (record { token = token; tags = addition.tags }) t, Tagged addition.tags)
+  pub fits : IsAddition ops fraction is_value q client addition
+
+abbrev pub AddTags : {T : Type 0} → Tagging T → (T → Fraction) → (Fraction → Type 0) → Queue T → ClientId → Params → ℕ → Result (Addition T) Refusal → Type 0
+AddTags ops fraction is_value q client params t (Ok addition) = IsTagged ops fraction is_value q client params t addition
+AddTags ops fraction is_value q client params t (Err refusal) = add_tags ops (state_of q) client params (ops.of_moment t) ≡ Err refusal
+
+-- all tests of an add passed, and its effect
 pub record IsAllowed {T : Type 0} (ops : Tagging T) (fraction : T → Fraction) (is_value : Fraction → Type 0) (q : Queue T) (client : ClientId) (params : Params) (t : ℕ) (addition : Addition T) : Type 0 where
-  pub tests : Allows ops (state_of q) client params t addition
   -- the plain state afterwards and the reply, for each token
   pub added : (token : Token) → added ops (state_of q) client token params t ≡
       Ok (queued ops (state_of q) addition.shift client (record { token = token; tags = addition.tags }) t, Tagged addition.tags)
@@ -75,4 +87,4 @@ pub record IsAllowed {T : Type 0} (ops : Tagging T) (fraction : T → Fraction) 
 
 abbrev pub CanAdd : {T : Type 0} → Tagging T → (T → Fraction) → (Fraction → Type 0) → Queue T → ClientId → Params → ℕ → Result (Addition T) Refusal → Type 0
 CanAdd ops fraction is_value q client params t (Ok addition) = IsAllowed ops fraction is_value q client params t addition
-CanAdd ops fraction is_value q client params t (Err refusal) = can_add ops (state_of q) client params (ops.of_moment t) ≡ Err refusal
+CanAdd ops fraction is_value q client params t (Err refusal) = can_add ops (state_of q) client params t ≡ Err refusal

@@ -1,6 +1,8 @@
 -- The client whose first request a pull grants.
 use Rattle.std.specs.Prelude.{◌≡◌, ℕ, Bool, true, false, List, [], Option, Some, None, drop, slice_get, if◌then◌else◌, Ok, Err}
 use Rattle.std.specs.Option.{option_map, option_and_then}
+use Rattle.dmc_types.specs.declared.config.PhaseType.{PhaseType}
+use Rattle.dmc_types.specs.declared.config.PhaseType.TheVariants as phases
 use Rattle.dmc_types.specs.declared.ids.ClientId.{ClientId}
 use Rattle.dmc_tag.specs.Tag.{Tagging}
 use Rattle.dmc_tag.specs.State.{State, queued_requests}
@@ -42,6 +44,11 @@ ByWeight ops t entries (Some (key, client, false)) = (best_of_all ops by_weight 
 abbrev pub Settles : {T : Type 0} → State T → State T → Outcome T → Option (Reply T) → Type 0
 Settles old new outcome (Some reply) = (new, reply) ≡ answer_of old outcome
 Settles old new outcome None = ⊥
+
+-- the phase of a grant that reduces, and of one that does not
+abbrev pub phase_of : Bool → PhaseType
+phase_of true = phases.Priority
+phase_of false = phases.Reservation
 
 -- a record after a grant of its first request; in the weight phase it is reduced
 abbrev pub after_grant : {T : Type 0} → Tagging T → Bool → Rec T → Rec T

@@ -4,21 +4,23 @@ ghost use Rattle.std.specs.List.{list_all};
 ghost use Rattle.dmc_adjust.specs.Changes.{is_shiftable};
 ghost use Rattle.dmc_client.specs.Record.{client_of};
 ghost use Rattle.dmc_pull.specs.internal.Adding as adding_of;
-ghost use Rattle.dmc_pull.specs.internal.Adding.{CanAdd, IsAddition};
+ghost use Rattle.dmc_pull.specs.internal.Adding.{AddTags, CanAdd, IsAddition};
 ghost use Rattle.dmc_pull.specs.Queue.{state_of};
 ghost use Rattle.dmc_roster.specs.Entries.{entry_keyed};
 ghost use Rattle.dmc_tag.specs.Rules as rules_of;
 ghost use Rattle.dmc_tag.specs.State.{PlainClient};
 ghost use Rattle.dmc_types.specs.declared.ids.Token.{Token};
 
-use crate::adding::{Addition, Shiftable, shift_others, unless_nothing};
+use crate::adding::{Addition, Shiftable, adjusts, shift_others, unless_nothing};
 use crate::heads::head_at;
 use crate::queue::PullQueue;
 use crate::range::{all_have_less, widen};
 use dmc_adjust::adjustment::shift_for;
 use dmc_assign::assignment::tags_for;
 use dmc_index::index::Indexes;
+use dmc_tag::due::is_over_limit;
 use dmc_tag::plain::QueuedRequest;
+use dmc_tag::progress::{count_arrival, share_floor};
 use dmc_tag::reply::Tags;
 use dmc_tag::tag::Tag;
 use dmc_types::ids::{ClientId, Token};
@@ -29,12 +31,26 @@ use dmc_types::refusal::{QueueFault, Refusal};
 
 impl<T: Tag, I: Indexes<T>> PullQueue<T, I> {
     /// The amount by which all others are shifted for a client that arrives at t, and is idle or not. `None` if it is not idle,
-    /// if nothing is queued, or if the amount is 0.
+    /// if nothing is queued, if shares are in virtual time, or if the amount is 0.
     fn needed_shift(&mut self, idle: bool, t: T) -> Result<Option<T>, Refusal>
-        ensures value { (arriving : PlainClient T) → arriving.idle ≡ idle → result ≡ adding_of.needed_shift T.ops (state_of self.old).clients arriving t }
+        ensures value { (arriving : PlainClient T) → arriving.idle ≡ idle → result ≡ adding_of.needed_shift T.ops (state_of self.old).config.shares (state_of self.old).clients arriving t }
         ensures same { self.new ≡ self.old }
     {
-        if !idle || self.queued == 0 {
+        if idle {
+            return self.shift_for_idle(t);
+        }
+        Ok(None)
+    }
+
+    /// The amount by which all others are shifted for an idle client that arrives at t. `None` if nothing is queued, if shares are
+    /// in virtual time, or if the amount is 0.
+    #[cold]
+    #[inline(never)]
+    fn shift_for_idle(&mut self, t: T) -> Result<Option<T>, Refusal>
+        ensures value { (arriving : PlainClient T) → arriving.idle ≡ true → result ≡ adding_of.needed_shift T.ops (state_of self.old).config.shares (state_of self.old).clients arriving t }
+        ensures same { self.new ≡ self.old }
+    {
+        if self.queued == 0 || !adjusts(self.config.shares()) {
             return Ok(None);
         }
         let Some(least) = self.heads.0.least_share() else {
@@ -75,6 +91,31 @@ impl<T: Tag, I: Indexes<T>> PullQueue<T, I> {
         ensures outcome { CanAdd T.ops T.fraction T.is_value self.old client params at result }
         ensures same { self.new ≡ self.old }
     {
+        let addition = self.add_tags(client, hint, params, at)?;
+        if self.rejects(&addition, at) {
+            return Err(Refusal::OverLimit);
+        }
+        Ok(addition)
+    }
+
+    /// Whether the new request would wait for its limit too long.
+    fn rejects(&self, addition: &Addition<T>, at: Moment) -> bool
+        ensures { result ≡ rules_of.is_over_limit T.ops (state_of self.now).config.at_limit at addition.now.tags.l }
+    {
+        is_over_limit(self.config.at_limit(), at, addition.tags.l)
+    }
+
+    /// The same, whatever the limit.
+    fn add_tags(
+        &mut self,
+        client: ClientId,
+        hint: usize,
+        params: ReqParams,
+        at: Moment,
+    ) -> Result<Addition<T>, Refusal>
+        ensures outcome { AddTags T.ops T.fraction T.is_value self.old client params at result }
+        ensures same { self.new ≡ self.old }
+    {
         let Some(key) = self.roster.find_with_hint(client, hint) else {
             return Err(Refusal::Unknown);
         };
@@ -82,9 +123,10 @@ impl<T: Tag, I: Indexes<T>> PullQueue<T, I> {
             return Err(Refusal::QueueFull);
         }
         let t = T::of_moment(at);
+        let floor = share_floor(self.config.shares(), &self.progress, self.queued == 0, t);
         let rec = self.roster.at(key);
+        let assigned = tags_for(rec, params, t, floor);
         let idle = rec.is_idle();
-        let assigned = tags_for(rec, params, t);
         let shift = self.needed_shift(idle, t)?;
         if !self.can_shift_by(shift) {
             return Err(Refusal::Range);
@@ -95,7 +137,7 @@ impl<T: Tag, I: Indexes<T>> PullQueue<T, I> {
         Ok(Addition { key, shift, tags })
     }
 
-    /// Queues a request, and shifts all others.
+    /// Queues a request, and shifts all others. In virtual time its P is counted.
     pub(super) fn queue(
         &mut self,
         client: ClientId,
@@ -116,8 +158,14 @@ impl<T: Tag, I: Indexes<T>> PullQueue<T, I> {
         if rec.push(QueuedRequest { token, tags }, at).is_err() {
             return Err(QueueFault::Memory);
         }
-        shift_others(&mut self.roster, &mut self.heads.0, shift, key);
         widen(&mut self.range, tags.p, shift);
+        shift_others(&mut self.roster, &mut self.heads.0, shift, key);
+        count_arrival(
+            self.config.shares(),
+            &mut self.progress,
+            self.queued == 0,
+            tags.p,
+        );
         if is_first {
             self.heads.0.insert(key, head_at(client, tags, at));
         }

@@ -24,9 +24,10 @@ use crate::records::{first_tags, grant_first};
 use dmc_adjust::reduction::can_reduce;
 use dmc_index::index::Indexes;
 use dmc_tag::due::is_due;
+use dmc_tag::progress::count_grant;
 use dmc_tag::reply::Pulled;
 use dmc_tag::tag::Tag;
-use dmc_types::config::{AtLimit, PhaseType};
+use dmc_types::config::{AtLimit, PhaseType, Shares};
 use dmc_types::ids::{ClientId, Token};
 use dmc_types::moment::Moment;
 use dmc_types::refusal::Refusal;
@@ -108,13 +109,14 @@ impl<T: Tag, I: Indexes<T>> PullQueue<T, I> {
         ensures roster { IfSome (record_at key self.old.roster.entries) (λ rec. self.new.roster ≡ with_record_at self.old.roster key (after_grant T.ops reduces rec)) }
         ensures config { self.new.config ≡ self.old.config }
         ensures moment { self.new.last_moment ≡ at }
+        ensures progress { self.new.progress ≡ self.old.progress }
     {
         let rec = self.roster.at_mut(key);
         let request = grant_first(rec, reduces).unwrap();
         let tags = first_tags(rec);
-        renew(&mut self.heads.0, key, client, tags, at);
         self.queued -= 1;
         self.last_moment = at;
+        renew(&mut self.heads.0, key, client, tags, at);
         request.token
     }
 
@@ -123,7 +125,7 @@ impl<T: Tag, I: Indexes<T>> PullQueue<T, I> {
         requires first { IsFirstOf self.old.roster.entries key client }
         requires later { self.old.last_moment ≤ at }
         ensures { IfSome (first_at key self.old.roster.entries) (λ found.
-            Settles (state_of self.old) (state_of self.new) (Ok (rules_of.taken_out T.ops (state_of self.old) at found None, rules_of.granted found phases.Reservation false)) (Some (pull_reply result))) }
+            Settles (state_of self.old) (state_of self.new) (Ok (rules_of.taken_out T.ops (state_of self.old) at found phases.Reservation None, rules_of.granted found phases.Reservation false)) (Some (pull_reply result))) }
     {
         let token = self.take_out(key, client, false, at);
         Pulled::Returning {
@@ -145,6 +147,37 @@ impl<T: Tag, I: Indexes<T>> PullQueue<T, I> {
         can_reduce(self.roster.at(key))
     }
 
+    /// Counts a grant by weight of a client's first request. By the clock nothing changes.
+    #[inline(always)]
+    fn count_first(&mut self, key: usize)
+        requires { is_some (first_at key self.old.roster.entries) ≡ true }
+        ensures roster { self.new.roster ≡ self.old.roster }
+        ensures config { self.new.config ≡ self.old.config }
+        ensures moment { self.new.last_moment ≡ self.old.last_moment }
+        ensures progress { IfSome (first_at key self.old.roster.entries) (λ found.
+            self.new.progress ≡ rules_of.progress_granted T.ops phases.Priority self.old.config.shares found.request.tags.p self.old.progress) }
+    {
+        match self.config.shares() {
+            Shares::Clock => {}
+            Shares::Virtual => self.count_first_in_virtual_time(key),
+        }
+    }
+
+    /// Counts a grant by weight of a client's first request, if shares are in virtual time.
+    #[cold]
+    #[inline(never)]
+    fn count_first_in_virtual_time(&mut self, key: usize)
+        requires { is_some (first_at key self.old.roster.entries) ≡ true }
+        ensures roster { self.new.roster ≡ self.old.roster }
+        ensures config { self.new.config ≡ self.old.config }
+        ensures moment { self.new.last_moment ≡ self.old.last_moment }
+        ensures progress { IfSome (first_at key self.old.roster.entries) (λ found.
+            self.new.progress ≡ rules_of.progress_granted T.ops phases.Priority self.old.config.shares found.request.tags.p self.old.progress) }
+    {
+        let request = self.roster.at(key).head().unwrap();
+        count_grant(self.config.shares(), &mut self.progress, request.tags.p);
+    }
+
     /// Grants the first request of a client in the weight phase, if the test allows it.
     #[inline(always)]
     fn grant_priority<A: GrantTest>(
@@ -164,6 +197,7 @@ impl<T: Tag, I: Indexes<T>> PullQueue<T, I> {
         if !test.allows(client, PhaseType::Priority, key) {
             return Err(PullFault::Declined);
         }
+        self.count_first(key);
         let at = self.last_moment();
         let token = self.take_out(key, client, true, at);
         Ok(Pulled::Returning {
@@ -189,7 +223,7 @@ impl<T: Tag, I: Indexes<T>> PullQueue<T, I> {
         }
         match self.config.at_limit() {
             AtLimit::Allow => self.grant_priority(key, client, true, test),
-            AtLimit::Wait => Ok(Pulled::Future(self.next_due())),
+            AtLimit::Wait | AtLimit::Reject { .. } => Ok(Pulled::Future(self.next_due())),
         }
     }
 

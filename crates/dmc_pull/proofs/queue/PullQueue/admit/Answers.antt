@@ -37,4 +37,4 @@ pub returns-clause-ok : goal.returns-clause-ok
 returns-clause-ok g c =
     let q = c.self.inside in
     let last = was_added q.roster c.add.new.self c.args.client c.args.rec c.in_ok-add.field-0 c.in_ok-add.ensures in
-    rw (← c.self.view_is) (registered_state (record { config = q.config; roster = q.roster; heads = q.heads.0; last_moment = q.last_moment }) c.add.new.self c.reserve.new.self (record { id = c.args.client; key = q.roster.next_key; rec = c.args.rec }) c.args.at last)
+    rw (← c.self.view_is) (registered_state (record { config = q.config; roster = q.roster; heads = q.heads.0; last_moment = q.last_moment; progress = q.progress }) c.add.new.self c.reserve.new.self (record { id = c.args.client; key = q.roster.next_key; rec = c.args.rec }) c.args.at last)

@@ -14,7 +14,7 @@ invariant_of-self g c =
     let q = c.self.inside in
     let heads = map (option_map (with_ready_mark ops c.args.at)) q.heads.0 in
     let later : q.last_moment ≤ c.args.at = subst (λ v. v.last_moment ≤ c.args.at) (sym c.self.view_is) c.requires in (
-      subst (λ hs. IsQueue ops g.T.Tag.fraction g.T.Tag.is_value (record { config = q.config; roster = q.roster; heads = hs; last_moment = c.args.at }) q.queued) (sym c.promote.ensures)
+      subst (λ hs. IsQueue ops g.T.Tag.fraction g.T.Tag.is_value (record { config = q.config; roster = q.roster; heads = hs; last_moment = c.args.at; progress = q.progress }) q.queued) (sym c.promote.ensures)
           (same_roster ops g.T.Tag.fraction g.T.Tag.is_value _ q.queued heads c.args.at c.self.invariant.0 (length_map (option_map (with_ready_mark ops c.args.at)) q.heads.0) (promoted ops (due_from_ceil g.T.Tag.ops g.T.Tag.fraction g.T.Tag.is_value g.met.T.Tag.exact) q.last_moment c.args.at q.roster.entries q.heads.0 later c.self.invariant.0.heads)),
       c.self.invariant.1,
     )
@@ -23,5 +23,5 @@ pub returns-clause-marked : goal.returns-clause-marked
 returns-clause-marked g c =
     let ops = g.T.Tag.ops in
     let q = c.self.inside in
-    subst (λ hs. IsMarked ops (record { config = q.config; roster = q.roster; heads = hs; last_moment = c.args.at })) (sym c.promote.ensures)
+    subst (λ hs. IsMarked ops (record { config = q.config; roster = q.roster; heads = hs; last_moment = c.args.at; progress = q.progress })) (sym c.promote.ensures)
     (all_marked ops (due_from_ceil g.T.Tag.ops g.T.Tag.fraction g.T.Tag.is_value g.met.T.Tag.exact) c.args.at q.heads.0)

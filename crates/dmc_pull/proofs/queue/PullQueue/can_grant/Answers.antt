@@ -16,7 +16,7 @@ returns-clause-value g c =
     let ops = g.T.Tag.ops in
     let q = c.self.inside in
     let view = c.self.view_is in
-    let v : Queue g.row.T.Denot = record { config = q.config; roster = q.roster; heads = q.heads.0; last_moment = q.last_moment } in
+    let v : Queue g.row.T.Denot = record { config = q.config; roster = q.roster; heads = q.heads.0; last_moment = q.last_moment; progress = q.progress } in
     let d = c.self.invariant.0.distinct in
     let first = first_named q.roster.entries c.args.key (subst (λ v. is_some (first_at c.args.key v.roster.entries) ≡ true) (sym view) c.requires) in
     let client = first.0 in

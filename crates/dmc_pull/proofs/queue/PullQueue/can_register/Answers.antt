@@ -9,14 +9,14 @@ use Rattle.dmc_pull.proofs.queue.PullQueue.can_register.Goals as goal
 pub returns-then-is_some-clause-outcome : goal.returns-then-is_some-clause-outcome
 returns-then-is_some-clause-outcome g c =
     let q = c.self.inside in
-    let s = state_of (record { config = q.config; roster = q.roster; heads = q.heads.0; last_moment = q.last_moment }) in
+    let s = state_of (record { config = q.config; roster = q.roster; heads = q.heads.0; last_moment = q.last_moment; progress = q.progress }) in
     let known = is_known c.args.client q.roster.entries c.find.result c.find.ensures.key ∙ sym c.is_some.ensures ∙ c.if-is_some.true in
     rw (← c.self.view_is) (refused_known g.T.Tag.ops s c.args.client c.args.info known)
 
 pub returns-in-Err-clause-outcome : goal.returns-in-Err-clause-outcome
 returns-in-Err-clause-outcome g c =
     let q = c.self.inside in
-    let s = state_of (record { config = q.config; roster = q.roster; heads = q.heads.0; last_moment = q.last_moment }) in
+    let s = state_of (record { config = q.config; roster = q.roster; heads = q.heads.0; last_moment = q.last_moment; progress = q.progress }) in
     let known = is_known c.args.client q.roster.entries c.find.result c.find.ensures.key ∙ sym c.is_some.ensures ∙ c.if-is_some.false in
     let inexact = spacings_at g.T.Tag.ops c.args.info c.spacings_for.result c.hz.result q.config.hz c.hz.ensures.value c.spacings_for.ensures.value (Err c.in-Err.field) c.in-Err.is in
     rw (← c.self.view_is) (refused_inexact g.T.Tag.ops s c.args.client c.args.info c.in-Err.field known inexact)
@@ -24,7 +24,7 @@ returns-in-Err-clause-outcome g c =
 pub returns-then-len-clause-outcome : goal.returns-then-len-clause-outcome
 returns-then-len-clause-outcome g c =
     let q = c.self.inside in
-    let s = state_of (record { config = q.config; roster = q.roster; heads = q.heads.0; last_moment = q.last_moment }) in
+    let s = state_of (record { config = q.config; roster = q.roster; heads = q.heads.0; last_moment = q.last_moment; progress = q.progress }) in
     let known = is_known c.args.client q.roster.entries c.find.result c.find.ensures.key ∙ sym c.is_some.ensures ∙ c.if-is_some.false in
     let exact = spacings_at g.T.Tag.ops c.args.info c.spacings_for.result c.hz.result q.config.hz c.hz.ensures.value c.spacings_for.ensures.value (Ok c.in-Ok.spacings) c.in-Ok.is in
     let count = c.len.ensures.value ∙ sym (length_clients q.roster.entries) in
@@ -33,7 +33,7 @@ returns-then-len-clause-outcome g c =
 pub returns-clause-outcome : goal.returns-clause-outcome
 returns-clause-outcome g c =
     let q = c.self.inside in
-    let s = state_of (record { config = q.config; roster = q.roster; heads = q.heads.0; last_moment = q.last_moment }) in
+    let s = state_of (record { config = q.config; roster = q.roster; heads = q.heads.0; last_moment = q.last_moment; progress = q.progress }) in
     let known = is_known c.args.client q.roster.entries c.find.result c.find.ensures.key ∙ sym c.is_some.ensures ∙ c.if-is_some.false in
     let exact = spacings_at g.T.Tag.ops c.args.info c.spacings_for.result c.hz.result q.config.hz c.hz.ensures.value c.spacings_for.ensures.value (Ok c.in-Ok.spacings) c.in-Ok.is in
     let count = c.len.ensures.value ∙ sym (length_clients q.roster.entries) in

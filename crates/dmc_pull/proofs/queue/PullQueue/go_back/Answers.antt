@@ -11,7 +11,7 @@ pub invariant_of-self : goal.invariant_of-self
 invariant_of-self g c =
     let ops = g.T.Tag.ops in
     let q = c.self.inside in (
-      subst (λ hs. IsQueue ops g.T.Tag.fraction g.T.Tag.is_value (record { config = q.config; roster = q.roster; heads = hs; last_moment = c.args.before }) q.queued) (sym c.set_back.ensures)
+      subst (λ hs. IsQueue ops g.T.Tag.fraction g.T.Tag.is_value (record { config = q.config; roster = q.roster; heads = hs; last_moment = c.args.before; progress = q.progress }) q.queued) (sym c.set_back.ensures)
           (same_roster ops g.T.Tag.fraction g.T.Tag.is_value _ q.queued (map (option_map (set_back ops c.args.before)) q.heads.0) c.args.before c.self.invariant.0 (length_map (option_map (set_back ops c.args.before)) q.heads.0) (went_back ops (due_from_ceil g.T.Tag.ops g.T.Tag.fraction g.T.Tag.is_value g.met.T.Tag.exact) q.last_moment c.args.before q.roster.entries q.heads.0 c.self.invariant.0.heads)),
       c.self.invariant.1,
     )

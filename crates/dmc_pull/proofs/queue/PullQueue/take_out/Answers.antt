@@ -35,7 +35,7 @@ invariant_of-self g c =
     let due_from = due_from_ceil g.T.Tag.ops g.T.Tag.fraction g.T.Tag.is_value g.met.T.Tag.exact in
     let rec = c.grant_first.new.rec in
     let same = left_as ops g.T.Tag.fraction g.T.Tag.is_value due_from _ q.queued c.args.key c.args.client c.args.reduces c.args.at d c.self.invariant.0 waiting c.at_mut-rec.result.now rec c.at_mut-rec.ensures.value c.grant_first.ensures.rest in (
-      granted ops g.T.Tag.fraction g.T.Tag.is_value due_from _ q.queued c.args.key c.args.client c.args.reduces c.args.at d c.self.invariant.0 waiting later rec same c.grant_first.ensures.kept c.first_tags-tags.result c.first_tags-tags.ensures c.renew.new.heads c.renew.ensures,
+      granted ops g.T.Tag.fraction g.T.Tag.is_value due_from _ q.queued c.args.key c.args.client c.args.reduces c.args.at d c.self.invariant.0 waiting q.progress c.self.invariant.0.progress later rec same c.grant_first.ensures.kept c.first_tags-tags.result c.first_tags-tags.ensures c.renew.new.heads c.renew.ensures,
       granted_within c.self.invariant.1 d waiting c.args.reduces (with_record_at q.roster c.args.key rec).entries (ap (λ r. (with_record_at q.roster c.args.key r).entries) same),
     )
 
@@ -65,3 +65,6 @@ returns-clause-roster g c =
 
 pub returns-clause-config : goal.returns-clause-config
 returns-clause-config g c = ap (λ v. v.config) c.self.view_is
+
+pub returns-clause-progress : goal.returns-clause-progress
+returns-clause-progress g c = ap (λ v. v.progress) c.self.view_is

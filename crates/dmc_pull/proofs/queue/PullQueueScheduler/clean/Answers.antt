@@ -24,4 +24,4 @@ returns g c =
     let e = rw (c.idle_age-idle_age.ensures.value, c.erase_age-erase_age.ensures.value) at c.age_all.ensures.value in
     let idled = rw (c.idle_age-idle_age.ensures.value, c.erase_age-erase_age.ensures.value) at c.count_idled-idled.ensures.value in
     let erased = rw c.erase_age-erase_age.ensures.value at c.count_erased-erased.ensures.value in
-    rw (← c.self.view_is) (cleaned_step g.T.Tag.ops g.T.Tag.fraction g.T.Tag.is_value (record { config = q.config; roster = q.roster; heads = q.heads.0; last_moment = q.last_moment }) c.age_all.new.roster c.args.at t c.count_idled-idled.result c.count_erased-erased.result moment e idled erased)
+    rw (← c.self.view_is) (cleaned_step g.T.Tag.ops g.T.Tag.fraction g.T.Tag.is_value (record { config = q.config; roster = q.roster; heads = q.heads.0; last_moment = q.last_moment; progress = q.progress }) c.age_all.new.roster c.args.at t c.count_idled-idled.result c.count_erased-erased.result moment e idled erased)

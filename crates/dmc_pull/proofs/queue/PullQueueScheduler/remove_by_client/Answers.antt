@@ -10,7 +10,7 @@ use Rattle.dmc_pull.proofs.queue.PullQueueScheduler.remove_by_client.Goals as go
 pub returns-in_default : goal.returns-in_default
 returns-in_default g c =
     let q = c.self.inside in
-    let s = state_of (record { config = q.config; roster = q.roster; heads = q.heads.0; last_moment = q.last_moment }) in
+    let s = state_of (record { config = q.config; roster = q.roster; heads = q.heads.0; last_moment = q.last_moment; progress = q.progress }) in
     rw (← c.self.view_is) (refused_remove g.T.Tag.ops g.T.Tag.fraction g.T.Tag.is_value s c.args.client (unnamed c.args.client q.roster.entries c.find.result c.find.ensures.key c.in_default.is))
 
 pub clear-requires : goal.clear-requires
@@ -53,4 +53,4 @@ returns g c =
     let h = client_at c.args.client c.in-Some.key q.roster.entries c.in-Some.ensures.entry c.in-Some.ensures.held c.find.ensures.distinct in
     let all = of_lent (λ rec. c.drain-count.result ≡ length rec.requests) c.in-Some.key q.roster.entries h.entry h.keyed c.at_mut.result.now c.at_mut.ensures.value c.drain-count.ensures.count in
     let is = of_lent (λ rec. c.drain-count.new.self ≡ emptied rec) c.in-Some.key q.roster.entries h.entry h.keyed c.at_mut.result.now c.at_mut.ensures.value c.drain-count.ensures.rest in
-    rw (← c.self.view_is) (removed_step g.T.Tag.ops g.T.Tag.fraction g.T.Tag.is_value (record { config = q.config; roster = q.roster; heads = q.heads.0; last_moment = q.last_moment }) h (with_record_at q.roster c.in-Some.key c.drain-count.new.self) (ap (with_record_at q.roster c.in-Some.key) is) c.clear.new.heads c.drain-count.result all)
+    rw (← c.self.view_is) (removed_step g.T.Tag.ops g.T.Tag.fraction g.T.Tag.is_value (record { config = q.config; roster = q.roster; heads = q.heads.0; last_moment = q.last_moment; progress = q.progress }) h (with_record_at q.roster c.in-Some.key c.drain-count.new.self) (ap (with_record_at q.roster c.in-Some.key) is) c.clear.new.heads c.drain-count.result all)

@@ -46,4 +46,4 @@ returns g c =
     let moment = subst (λ x. c.effective-at.result ≡ effective (state_of x) c.args.at) (sym c.self.view_is) c.effective-at.ensures.value in
     let may = subst (λ x. Ok tt ≡ can_update ops (state_of x) c.args.client c.args.info) (sym c.self.view_is) c.in_ok-key.ensures.outcome in
     let is = of_lent (λ rec. c.set_info.new.self ≡ with_rates c.args.info spacings rec) key q.roster.entries h.entry h.keyed c.at_mut.result.now c.at_mut.ensures.value c.set_info.ensures.value in
-    rw (← c.self.view_is) (updated_step ops g.T.Tag.fraction g.T.Tag.is_value (record { config = q.config; roster = q.roster; heads = q.heads.0; last_moment = q.last_moment }) h c.args.info spacings (with_record_at q.roster key c.set_info.new.self) (ap (with_record_at q.roster key) is) may c.args.at c.effective-at.result moment)
+    rw (← c.self.view_is) (updated_step ops g.T.Tag.fraction g.T.Tag.is_value (record { config = q.config; roster = q.roster; heads = q.heads.0; last_moment = q.last_moment; progress = q.progress }) h c.args.info spacings (with_record_at q.roster key c.set_info.new.self) (ap (with_record_at q.roster key) is) may c.args.at c.effective-at.result moment)

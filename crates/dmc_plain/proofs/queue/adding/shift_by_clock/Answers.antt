@@ -1,6 +1,6 @@
 use Rattle.std.proofs.Common.{refl, arith}
 use Rattle.dmc_plain.proofs.Places.{request_within, found_read}
-use Rattle.dmc_plain.proofs.queue.adding.shift_of.Goals as goal
+use Rattle.dmc_plain.proofs.queue.adding.shift_by_clock.Goals as goal
 
 pub bounds-requests-least : goal.bounds-requests-least
 bounds-requests-least g c =

@@ -1,5 +1,5 @@
 -- Ids that are equal, tests, and the result of a chain of results.
-use Rattle.std.proofs.Common.{◌≡◌, Bool, true, false, not, ◌||◌, length, Option, Some, Result, Ok, Err, refl, sym, ap, ◌∙◌, subst}
+use Rattle.std.proofs.Common.{◌≡◌, ℕ, Bool, true, false, not, ◌||◌, length, Option, Some, Result, Ok, Err, refl, sym, ap, ◌∙◌, subst}
 use Rattle.std.specs.List.{find}
 use Rattle.std.specs.Result.{result_ok}
 use Rattle.std.proofs.lemmas.Bool.{eqb-true, eq-eqb, not-false}
@@ -13,9 +13,10 @@ use Rattle.dmc_types.specs.declared.refusal.Refusal.TheVariants.{Unknown, QueueF
 use Rattle.dmc_tag.specs.Tag.{Tagging}
 use Rattle.dmc_tag.specs.Outcome.{◌>>=◌, refuse_if}
 use Rattle.dmc_tag.specs.State.{State, PlainClient, is_client, client_named, queued_requests}
-use Rattle.dmc_tag.specs.Rules.{Outcome, shift_of, can_shift_by, assigned, can_add}
+use Rattle.dmc_tag.specs.Rules.{Outcome, share_floor, shift_of, can_shift_by, assigned, add_tags, can_add, is_over_limit}
 use Rattle.dmc_tag.specs.declared.reply.Tags.{Tags}
 use Rattle.dmc_tag.proofs.TagOrder.{bound, from_option}
+use Rattle.dmc_tag.proofs.Limited.{was_tagged}
 use Rattle.dmc_tag.proofs.Ids.{client_turned}
 
 -- ---- ids
@@ -58,20 +59,35 @@ bind_goes P (Err e) f h k = h e
 
 -- ---- what an accepted add found
 
-pub record AddGives {T : Type 0} (ops : Tagging T) (s : State T) (id : ClientId) (params : Params) (t : T) (x : Option T × Tags T) : Type 0 where
+-- the client, the shift and the tags
+record TagsGive {T : Type 0} (ops : Tagging T) (s : State T) (id : ClientId) (params : Params) (t : T) (x : Option T × Tags T) : Type 0 where
   pub client : PlainClient T
   pub named : client_named id s.clients ≡ Some client
-  pub shift : shift_of ops s.clients client t ≡ Ok x.0
+  pub shift : shift_of ops s.config.shares s.clients client t ≡ Ok x.0
   pub can : can_shift_by ops x.0 s.clients ≡ true
-  pub tags : assigned ops s.config.hz client params t ≡ Ok x.1
+  pub tags : assigned ops s.config.hz client params t (share_floor ops s t) ≡ Ok x.1
 
-pub add_gives : {T : Type 0} (ops : Tagging T) (s : State T) (id : ClientId) (params : Params) (t : T) (x : Option T × Tags T) → can_add ops s id params t ≡ Ok x → AddGives ops s id params t x
-add_gives ops s id params t x e =
+tags_give : {T : Type 0} (ops : Tagging T) (s : State T) (id : ClientId) (params : Params) (t : T) (x : Option T × Tags T) → add_tags ops s id params t ≡ Ok x → TagsGive ops s id params t x
+tags_give ops s id params t x e =
     let c = bound (ok_or (client_named id s.clients) Unknown) _ x e in
     let full = bound (refuse_if (nat_le max_requests (length (queued_requests s.clients))) QueueFull) _ x c.2 in
-    let shift = bound (shift_of ops s.clients c.0 t) _ x full.2 in
+    let shift = bound (shift_of ops s.config.shares s.clients c.0 t) _ x full.2 in
     let range = bound (refuse_if (not (can_shift_by ops shift.0 s.clients)) Range) _ x shift.2 in
-    let tags = bound (assigned ops s.config.hz c.0 params t) _ x range.2 in
+    let tags = bound (assigned ops s.config.hz c.0 params t (share_floor ops s t)) _ x range.2 in
     let shift_is : shift.0 ≡ x.0 = cc (tags.2) in
     let tags_are : tags.0 ≡ x.1 = cc (tags.2) in
     record { client = c.0; named = from_option _ _ _ c.1; shift = shift.1 ∙ ap Ok shift_is; can = subst (λ o. can_shift_by ops o s.clients ≡ true) shift_is (not-false _ (allowed _ Range range.0 range.1)); tags = tags.1 ∙ ap Ok tags_are }
+
+pub record AddGives {T : Type 0} (ops : Tagging T) (s : State T) (id : ClientId) (params : Params) (at : ℕ) (x : Option T × Tags T) : Type 0 where
+  pub client : PlainClient T
+  pub named : client_named id s.clients ≡ Some client
+  pub shift : shift_of ops s.config.shares s.clients client (ops.of_moment at) ≡ Ok x.0
+  pub can : can_shift_by ops x.0 s.clients ≡ true
+  pub tags : assigned ops s.config.hz client params (ops.of_moment at) (share_floor ops s (ops.of_moment at)) ≡ Ok x.1
+  pub within : is_over_limit ops s.config.at_limit at x.1.l ≡ false
+
+pub add_gives : {T : Type 0} (ops : Tagging T) (s : State T) (id : ClientId) (params : Params) (at : ℕ) (x : Option T × Tags T) → can_add ops s id params at ≡ Ok x → AddGives ops s id params at x
+add_gives ops s id params at x may =
+    let was = was_tagged ops s id params at x may in
+    let gives = tags_give ops s id params (ops.of_moment at) x was.0 in
+    record { client = gives.client; named = gives.named; shift = gives.shift; can = gives.can; tags = gives.tags; within = was.1 }

@@ -1,25 +1,26 @@
 -- Whole histories: what stays so in each, and how the requests of a client came and left.
-use Rattle.std.proofs.Common.{◌≡◌, ℕ, ◌≤◌, Bool, true, false, List, [], ◌∷◌, ◌++◌, map, length, drop, Option, Some, None, refl, sym, ap, ◌∙◌, subst, arith, zero, suc, ◌+◌, ◌-◌, ◌<◌, append_assoc, length-append, length-drop}
+use Rattle.std.proofs.Common.{◌≡◌, ℕ, ◌≤◌, true, List, [], ◌∷◌, ◌++◌, map, length, drop, Option, Some, None, refl, sym, ap, ◌∙◌, subst, arith, zero, suc, ◌+◌, ◌-◌, ◌<◌, append_assoc, length-append, length-drop}
 use Rattle.std.specs.Prelude.{⊤, if◌then◌else◌}
 use Rattle.std.specs.Cmp.{IsTotalOrder}
-use Rattle.std.specs.Option.{option_map, option_map_or}
+use Rattle.std.specs.Option.{option_map_or}
 use Rattle.std.proofs.lemmas.List.{append-nil, length-map, map-append}
 use Rattle.dmc_types.specs.Values.{Params, Setting}
 use Rattle.dmc_types.specs.declared.ids.ClientId.{ClientId}
 use Rattle.dmc_types.specs.declared.ids.Token.{Token}
-use Rattle.dmc_types.specs.declared.config.PhaseType.{PhaseType}
+use Rattle.dmc_types.specs.declared.config.Shares.{Shares}
 use Rattle.dmc_types.specs.declared.command.Command.{Command}
 use Rattle.dmc_types.specs.declared.command.Command.TheVariants.{Register, Update, Add, Pull, Remove, Clean}
 use Rattle.dmc_tag.specs.Tag.{Tagging, Fraction, IsExact}
-use Rattle.dmc_tag.specs.State.{State, PlainClient, is_client, client_named, requests_of, effective, opening}
+use Rattle.dmc_tag.specs.State.{State, PlainClient, is_client, client_named, requests_of, opening}
 use Rattle.dmc_tag.specs.Best.{Found}
 use Rattle.dmc_tag.specs.Rules as rules_of
 use Rattle.dmc_tag.specs.Step.{step}
 use Rattle.dmc_tag.specs.declared.plain.QueuedRequest.{QueuedRequest}
 use Rattle.dmc_tag.specs.declared.reply.Reply.{Reply}
+use Rattle.dmc_tag.specs.declared.reply.Tags.{Tags}
 use Rattle.dmc_tag.specs.declared.reply.Reply.TheVariants.{Registered, Updated, Tagged, Granted, Later, Nothing, Removed, Cleaned, Refused}
 use Rattle.dmc_history_laws.specs.Bounds.{Arrival, arrival_of, departed, arrivals, departures, InOrderOfArrival}
-use Rattle.dmc_history_laws.proofs.Becomes.{Says, IsLike, AreLike, IsNext, step_becomes}
+use Rattle.dmc_history_laws.proofs.Becomes.{Says, IsLike, AreLike, step_becomes}
 use Rattle.dmc_history_laws.proofs.InTurn.{AreInTurn}
 use Rattle.dmc_tag.specs.Replay.{replays_from}
 use Rattle.dmc_tag.specs.declared.event.Event.{Event}
@@ -33,14 +34,17 @@ pub all_left : {X : Type 0} (xs : List X) → [] ≡ drop (length xs) (xs ++ [])
 all_left [] = refl
 all_left (x ∷ xs) = all_left xs
 
+-- What is read of a queued request, and what an arrival adds to that: nothing changes it while the request is queued.
+pub record IsKept {T X : Type 0} (ops : Tagging T) (shares : Shares) (read : QueuedRequest T → X) (mark : Arrival → Reply T → X) : Type 0 where
+  pub like : (c d : PlainClient T) → IsLike shares c d → map read d.requests ≡ map read c.requests
+  pub reduced : (amount : T) (r : QueuedRequest T) → read (rules_of.less_reservation ops amount r) ≡ read r
+  pub arrived : (token : Token) (params : Params) (tags : Tags T) → read (record { token = token; tags = tags }) ≡ mark (record { token = token; params = params }) (Tagged tags)
+
+-- so it is with tokens
+pub tokens_kept : {T : Type 0} (ops : Tagging T) (shares : Shares) → IsKept ops shares (λ (r : QueuedRequest T). r.token) (λ a _. a.token)
+tokens_kept ops shares = record { like = λ c d l. l.tokens; reduced = λ _ _. refl; arrived = λ _ _ _. refl }
+
 module _ {T : Type 0} (ops : Tagging T) (order : IsTotalOrder ops.compare) (id : ClientId) where
-  -- the tokens of the client's queued requests
-  abbrev pub tokens_of : State T → List Token
-  tokens_of s = map (λ r. r.token) (requests_of id s.clients)
-
-  abbrev pub tokens_in : List Arrival → List Token
-  tokens_in arrivals = map (λ (a : Arrival). a.token) arrivals
-
   abbrev pub front : {X : Type 0} → List X → Option X
   front [] = None
   front (x ∷ xs) = Some x
@@ -50,32 +54,48 @@ module _ {T : Type 0} (ops : Tagging T) (order : IsTotalOrder ops.compare) (id :
   Takes (Pull at) (Granted client token phase beyond) tokens = is_client id client ≡ true → front tokens ≡ Some token
   Takes c reply tokens = ⊤
 
-  abbrev pub Moves : Command → State T → Reply T → State T → Type 0
-  Moves c s reply new = (tokens_of new ≡ drop (departed id c reply) (tokens_of s ++ tokens_in (arrival_of id c reply))) × (departed id c reply ≤ length (tokens_of s)) × Takes c reply (tokens_of s)
+  module _ {X : Type 0} (read : QueuedRequest T → X) (mark : Arrival → Reply T → X) where
+    -- what is read of the client's queued requests
+    abbrev pub reads_of : State T → List X
+    reads_of s = map read (requests_of id s.clients)
 
-  module _ (s : State T) where
-    -- the tokens of a record
-    abbrev tokens_at : Option (PlainClient T) → List Token
-    tokens_at o = map (λ r. r.token) (option_map_or (λ c. c.requests) o [])
+    -- what its arrivals add to that
+    abbrev pub marks_in : Command → Reply T → List X
+    marks_in c reply = map (λ a. mark a reply) (arrival_of id c reply)
 
-    named_tokens : (new : State T) (o : Option (PlainClient T)) → client_named id new.clients ≡ o → tokens_of new ≡ tokens_at o
-    named_tokens new o e = ap tokens_at e
+    abbrev pub marks : List (Event T) → List X
+    marks [] = []
+    marks (e ∷ es) = marks_in e.command e.reply ++ marks es
 
-    like_tokens : (o p : Option (PlainClient T)) → AreLike o p → tokens_at p ≡ tokens_at o
-    like_tokens None None h = refl
-    like_tokens None (Some d) h = absurd h
-    like_tokens (Some c) None h = ap (map (λ r. r.token)) (sym h)
-    like_tokens (Some c) (Some d) h = h.tokens
+    abbrev pub Moves : Command → State T → Reply T → State T → Type 0
+    Moves c s reply new = (reads_of new ≡ drop (departed id c reply) (reads_of s ++ marks_in c reply)) × (departed id c reply ≤ length (reads_of s)) × Takes c reply (map (λ r. r.token) (requests_of id s.clients))
 
-    moved : (c : Command) (reply : Reply T) (new : State T) (came : List Arrival) (left prior : ℕ) → Says id c reply came left prior → tokens_of new ≡ drop left (tokens_of s ++ tokens_in came) → left ≤ length (tokens_of s) → Takes c reply (tokens_of s) → Moves c s reply new
+  module _ {X : Type 0} (read : QueuedRequest T → X) (mark : Arrival → Reply T → X) (s : State T) (kept : IsKept ops s.config.shares read mark) where
+    abbrev tokens : List Token
+    tokens = map (λ r. r.token) (requests_of id s.clients)
+
+    -- what is read of a record
+    abbrev reads_at : Option (PlainClient T) → List X
+    reads_at o = map read (option_map_or (λ c. c.requests) o [])
+
+    named_reads : (new : State T) (o : Option (PlainClient T)) → client_named id new.clients ≡ o → reads_of read mark new ≡ reads_at o
+    named_reads new o e = ap reads_at e
+
+    like_reads : (o p : Option (PlainClient T)) → AreLike s.config.shares o p → reads_at p ≡ reads_at o
+    like_reads None None h = refl
+    like_reads None (Some d) h = absurd h
+    like_reads (Some c) None h = ap (map read) (sym h)
+    like_reads (Some c) (Some d) h = kept.like c d h
+
+    moved : (c : Command) (reply : Reply T) (new : State T) (came : List Arrival) (left prior : ℕ) → Says id c reply came left prior → reads_of read mark new ≡ drop left (reads_of read mark s ++ map (λ a. mark a reply) came) → left ≤ length (reads_of read mark s) → Takes c reply tokens → Moves read mark c s reply new
     moved c reply new came left prior says now within takes = (
-      now ∙ ap (λ n. drop n (tokens_of s ++ tokens_in came)) (sym says.left_is) ∙ ap (λ them. drop (departed id c reply) (tokens_of s ++ tokens_in them)) (sym says.came_is),
-      subst (λ n. n ≤ length (tokens_of s)) (sym says.left_is) within,
+      now ∙ ap (λ n. drop n (reads_of read mark s ++ map (λ a. mark a reply) came)) (sym says.left_is) ∙ ap (λ them. drop (departed id c reply) (reads_of read mark s ++ map (λ a. mark a reply) them)) (sym says.came_is),
+      subst (λ n. n ≤ length (reads_of read mark s)) (sym says.left_is) within,
       takes,
     )
 
     -- a grant of another client takes none
-    takes_none : (c : Command) (reply : Reply T) → departed id c reply ≡ 0 → Takes c reply (tokens_of s)
+    takes_none : (c : Command) (reply : Reply T) → departed id c reply ≡ 0 → Takes c reply tokens
     takes_none (Register client info at) reply e = tt
     takes_none (Update client info at) reply e = tt
     takes_none (Add client token params at) reply e = tt
@@ -91,26 +111,27 @@ module _ {T : Type 0} (ops : Tagging T) (order : IsTotalOrder ops.compare) (id :
     takes_none (Remove client) reply e = tt
     takes_none (Clean at) reply e = tt
 
-    reduced_tokens : (found : Found T) (amount : Option T) → map (λ r. r.token) (rules_of.after_grant ops found amount).requests ≡ map (λ r. r.token) found.others
-    reduced_tokens found None = refl
-    reduced_tokens found (Some amount) = same found.others where
-      same : (xs : List (QueuedRequest T)) → map (λ r. r.token) (map (rules_of.less_reservation ops amount) xs) ≡ map (λ r. r.token) xs
+    reduced_reads : (found : Found T) (amount : Option T) → map read (rules_of.after_grant ops found amount).requests ≡ map read found.others
+    reduced_reads found None = refl
+    reduced_reads found (Some amount) = same found.others where
+      same : (xs : List (QueuedRequest T)) → map read (map (rules_of.less_reservation ops amount) xs) ≡ map read xs
       same [] = refl
-      same (x ∷ xs) = ap (λ ts. x.token ∷ ts) (same xs)
+      same (x ∷ xs) = ap (λ y. y ∷ map read (map (rules_of.less_reservation ops amount) xs)) (kept.reduced amount x) ∙ ap (λ ys. read x ∷ ys) (same xs)
 
-    pub step_moves : (c : Command) → AreInTurn ops order s → Moves c s ((step ops s c).1) ((step ops s c).0)
-    step_moves c is = step_becomes ops order id s is (λ c reply new. Moves c s reply new)
-        (λ c reply new o says like next. moved c reply new [] 0 0 says (named_tokens new o next.named ∙ like_tokens _ o like ∙ none_left _) (omega arith) (takes_none c reply says.left_is))
-        (λ client info at new own none next. moved (Register client info at) Registered new [] 0 0 (record { came_is = refl; left_is = refl; prior_is = refl }) (named_tokens new _ next.named ∙ ap (λ ts. ts ++ []) (sym (named_tokens s None none))) (omega arith) tt)
-        (λ client info at new c own named next. moved (Update client info at) Updated new [] 0 0 (record { came_is = refl; left_is = refl; prior_is = refl }) (named_tokens new _ next.named ∙ sym (named_tokens s (Some c) named) ∙ none_left _) (omega arith) tt)
-        (λ client token params at new c d tags says named like assigned next last. moved (Add client token params at) (Tagged tags) new _ 0 0 says (named_tokens new _ next.named ∙ map-append (λ (r : QueuedRequest T). r.token) d.requests _ ∙ ap (λ ts. ts ++ token ∷ []) (like.tokens ∙ sym (named_tokens s (Some c) named))) (omega arith) tt)
+    pub step_moves : (c : Command) → AreInTurn ops order s → Moves read mark c s ((step ops s c).1) ((step ops s c).0)
+    step_moves c is = step_becomes ops order id s is (λ c reply new. Moves read mark c s reply new)
+        (λ c reply new o says like next. moved c reply new [] 0 0 says (named_reads new o next.named ∙ like_reads _ o like ∙ none_left _) (omega arith) (takes_none c reply says.left_is))
+        (λ client info at new own none next. moved (Register client info at) Registered new [] 0 0 (record { came_is = refl; left_is = refl; prior_is = refl }) (named_reads new _ next.named ∙ ap (λ ts. ts ++ []) (sym (named_reads s None none))) (omega arith) tt)
+        (λ client info at new c own named next. moved (Update client info at) Updated new [] 0 0 (record { came_is = refl; left_is = refl; prior_is = refl }) (named_reads new _ next.named ∙ sym (named_reads s (Some c) named) ∙ none_left _) (omega arith) tt)
+        (λ client token params at new c d tags says named like assigned next last. moved (Add client token params at) (Tagged tags) new _ 0 0 says (named_reads new _ next.named ∙ map-append read d.requests _ ∙ ap (λ x. map read d.requests ++ x ∷ []) (kept.arrived token params tags) ∙ ap (λ ts. ts ++ mark (record { token = token; params = params }) (Tagged tags) ∷ []) (kept.like c d like ∙ sym (named_reads s (Some c) named))) (omega arith) tt)
         (λ at new found amount phase beyond says g named next.
-        let here : tokens_of s ≡ found.request.token ∷ map (λ r. r.token) found.others = named_tokens s (Some found.client) named ∙ ap (map (λ r. r.token)) g.first in
-        moved (Pull at) (rules_of.granted found phase beyond) new [] 1 _ says (named_tokens new _ next.named ∙ reduced_tokens found amount ∙ none_left _ ∙ ap (λ ts. drop 1 (ts ++ [])) (sym here)) (subst (λ ts. 1 ≤ length ts) (sym here) (omega arith)) (λ own. ap front here))
+        let here : reads_of read mark s ≡ read found.request ∷ map read found.others = named_reads s (Some found.client) named ∙ ap (map read) g.first in
+        let first : tokens ≡ found.request.token ∷ map (λ r. r.token) found.others = ap (λ o. map (λ (r : QueuedRequest T). r.token) (option_map_or (λ (c : PlainClient T). c.requests) o [])) named ∙ ap (map (λ r. r.token)) g.first in
+        moved (Pull at) (rules_of.granted found phase beyond) new [] 1 _ says (named_reads new _ next.named ∙ reduced_reads found amount ∙ none_left _ ∙ ap (λ ts. drop 1 (ts ++ [])) (sym here)) (subst (λ ts. 1 ≤ length ts) (sym here) (omega arith)) (λ own. ap front first))
         (λ client new c says named next.
-        let here = named_tokens s (Some c) named in
-        let size : length (tokens_of s) ≡ length c.requests = ap length here ∙ length-map c.requests (λ (r : QueuedRequest T). r.token) in
-        moved (Remove client) (Removed (length c.requests)) new [] (length c.requests) 0 says (named_tokens new _ next.named ∙ all_left (tokens_of s) ∙ ap (λ n. drop n (tokens_of s ++ [])) size) (omega arith) tt)
+        let here = named_reads s (Some c) named in
+        let size : length (reads_of read mark s) ≡ length c.requests = ap length here ∙ length-map c.requests read in
+        moved (Remove client) (Removed (length c.requests)) new [] (length c.requests) 0 says (named_reads new _ next.named ∙ all_left (reads_of read mark s) ∙ ap (λ n. drop n (reads_of read mark s ++ [])) size) (omega arith) tt)
         c
 
 -- ---- lists
@@ -155,42 +176,64 @@ module _ {T : Type 0} (ops : Tagging T) (fraction : T → Fraction) (is_value : 
   sound_after s [] is = is
   sound_after s (e ∷ es) is = sound_after ((step ops s e.command).0) es (sound_step s e.command is)
 
-  pub sound_opening : IsSound (opening config)
+  pub sound_opening : IsSound (opening ops config)
   sound_opening = record { turn = record { clients = tt; distinct = tt }; same = refl }
 
   module _ (id : ClientId) where
+    module _ {X : Type 0} (read : QueuedRequest T → X) (mark : Arrival → Reply T → X) (kept : IsKept ops config.shares read mark) where
+      pub marks_move : (s : State T) (e : Event T) → IsSound s → e.reply ≡ (step ops s e.command).1 → Moves ops order id read mark e.command s e.reply ((step ops s e.command).0)
+      marks_move s e is h = subst (λ r. Moves ops order id read mark e.command s r ((step ops s e.command).0)) (sym h) (step_moves ops order id read mark s (subst (λ k. IsKept ops k.shares read mark) (sym is.same) kept) e.command is.turn)
+
+      abbrev reads : State T → List X
+      reads s = reads_of ops order id read mark s
+
+      abbrev came : List (Event T) → List X
+      came es = marks ops order id read mark es
+
+      -- queued are those before and those that came, without as many as left; and no more leave than there are
+      pub marks_after : (s : State T) (es : List (Event T)) → IsSound s → replays_from ops s es → (reads (after_from ops s es) ≡ drop (departures id es) (reads s ++ came es)) × (departures id es ≤ length (reads s) + length (arrivals id es))
+      marks_after s [] is h = (none_left _, omega arith)
+      marks_after s (e ∷ es) is h =
+          let next = (step ops s e.command).0 in
+          let moves = marks_move s e is h.0 in
+          let now = marks_in ops order id read mark e.command e.reply in
+          let d = departed id e.command e.reply in
+          let rest = marks_after next es (sound_step s e.command is) h.1 in (
+            rest.0
+                ∙ ap (λ ts. drop (departures id es) (ts ++ came es)) moves.0
+                ∙ drop-more d (departures id es) (reads s ++ now) (came es) (longer d (reads s) now moves.1)
+                ∙ ap (drop (d + departures id es)) (append_assoc (reads s) now (came es)),
+            counts (reads next) (reads s) now (arrival_of id e.command e.reply) (arrivals id es) d (departures id es) (ap length moves.0) moves.1 rest.1 (length-map (arrival_of id e.command e.reply) (λ a. mark a e.reply)),
+          )
+        where
+          counts : (next here now : List X) (mine later : List Arrival) (d ds : ℕ) → length next ≡ length (drop d (here ++ now)) → d ≤ length here → ds ≤ length next + length later → length now ≡ length mine → d + ds ≤ length here + length (mine ++ later)
+          counts next here now mine later d ds e h k n = omega (arith, length-drop d (here ++ now), length-append here now, length-append mine later)
+
+    -- ---- the tokens of the queued requests
+
+    abbrev token_mark : Arrival → Reply T → Token
+    token_mark a reply = a.token
+
     abbrev pub queued : State T → List Token
-    queued s = tokens_of ops order id s
+    queued s = map (λ r. r.token) (requests_of id s.clients)
 
     abbrev pub sent : List Arrival → List Token
-    sent qs = tokens_in ops order id qs
+    sent qs = map (λ (a : Arrival). a.token) qs
 
-    pub event_moves : (s : State T) (e : Event T) → IsSound s → e.reply ≡ (step ops s e.command).1 → Moves ops order id e.command s e.reply ((step ops s e.command).0)
-    event_moves s e is h = subst (λ r. Moves ops order id e.command s r ((step ops s e.command).0)) (sym h) (step_moves ops order id s e.command is.turn)
+    pub event_moves : (s : State T) (e : Event T) → IsSound s → e.reply ≡ (step ops s e.command).1 → Moves ops order id (λ r. r.token) token_mark e.command s e.reply ((step ops s e.command).0)
+    event_moves = marks_move (λ r. r.token) token_mark (tokens_kept ops config.shares)
 
-    -- queued are those before and those that came, without as many as left; and no more leave than there are
+    sent_are : (es : List (Event T)) → marks ops order id (λ r. r.token) token_mark es ≡ sent (arrivals id es)
+    sent_are [] = refl
+    sent_are (e ∷ es) = ap (λ ts. sent (arrival_of id e.command e.reply) ++ ts) (sent_are es) ∙ sym (map-append (λ (a : Arrival). a.token) (arrival_of id e.command e.reply) (arrivals id es))
+
     pub tokens_after : (s : State T) (es : List (Event T)) → IsSound s → replays_from ops s es → (queued (after_from ops s es) ≡ drop (departures id es) (queued s ++ sent (arrivals id es))) × (departures id es ≤ length (queued s) + length (arrivals id es))
-    tokens_after s [] is h = (none_left _, omega arith)
-    tokens_after s (e ∷ es) is h =
-        let next = (step ops s e.command).0 in
-        let moves = event_moves s e is h.0 in
-        let now = arrival_of id e.command e.reply in
-        let d = departed id e.command e.reply in
-        let rest = tokens_after next es (sound_step s e.command is) h.1 in (
-          rest.0
-              ∙ ap (λ ts. drop (departures id es) (ts ++ sent (arrivals id es))) moves.0
-              ∙ drop-more d (departures id es) (queued s ++ sent now) (sent (arrivals id es)) (longer d (queued s) (sent now) moves.1)
-              ∙ ap (drop (d + departures id es)) (append_assoc (queued s) (sent now) (sent (arrivals id es)) ∙ ap (λ ts. queued s ++ ts) (sym (map-append (λ (a : Arrival). a.token) now (arrivals id es)))),
-          counts (queued next) (queued s) (sent now) now (arrivals id es) d (departures id es) (ap length moves.0) moves.1 rest.1 (length-map now (λ (a : Arrival). a.token)),
-        )
-      where
-        counts : (next here now : List Token) (mine later : List Arrival) (d ds : ℕ) → length next ≡ length (drop d (here ++ now)) → d ≤ length here → ds ≤ length next + length later → length now ≡ length mine → d + ds ≤ length here + length (mine ++ later)
-        counts next here now mine later d ds e h k n = omega (arith, length-drop d (here ++ now), length-append here now, length-append mine later)
+    tokens_after s es is h = let all = marks_after (λ r. r.token) token_mark (tokens_kept ops config.shares) s es is h in (all.0 ∙ ap (λ ts. drop (departures id es) (queued s ++ ts)) (sent_are es), all.1)
 
     -- how many are queued
-    pub queued_is : (es : List (Event T)) → replays_from ops (opening config) es → (length (queued (after_from ops (opening config) es)) ≡ length (arrivals id es) - departures id es) × (departures id es ≤ length (arrivals id es))
+    pub queued_is : (es : List (Event T)) → replays_from ops (opening ops config) es → (length (queued (after_from ops (opening ops config) es)) ≡ length (arrivals id es) - departures id es) × (departures id es ≤ length (arrivals id es))
     queued_is es h =
-        let after = tokens_after (opening config) es sound_opening h in
+        let after = tokens_after (opening ops config) es sound_opening h in
         (ap length after.0 ∙ sizes (departures id es) (sent (arrivals id es)) (length-map (arrivals id es) (λ (a : Arrival). a.token)), within after.1)
       where
         sizes : (d : ℕ) (xs : List Token) → length xs ≡ length (arrivals id es) → length (drop d xs) ≡ length (arrivals id es) - d
@@ -200,4 +243,4 @@ module _ {T : Type 0} (ops : Tagging T) (fraction : T → Fraction) (is_value : 
         within h = omega arith
 
   pub in_order_of_arrival : InOrderOfArrival ops config
-  in_order_of_arrival = λ id events replay. (tokens_after id (opening config) events sound_opening replay).0
+  in_order_of_arrival = λ id events replay. (tokens_after id (opening ops config) events sound_opening replay).0

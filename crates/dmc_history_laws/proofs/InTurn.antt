@@ -4,12 +4,12 @@ use Rattle.std.specs.Prelude.{is_some, IfSome, ⊤}
 use Rattle.std.specs.List.{AllByRecursion}
 use Rattle.std.specs.declared.cmp.Ordering.{Ordering}
 use Rattle.std.specs.declared.cmp.Ordering.TheVariants.{Less, Equal, Greater}
-use Rattle.std.specs.Ordering.{is_gt, is_lt, ordering_reverse}
+use Rattle.std.specs.Ordering.{is_gt, is_lt, ordering_reverse, ordering_then}
 use Rattle.std.specs.Cmp.{IsTotalOrder}
 use Rattle.std.proofs.lemmas.Bool.{not-false}
 use Rattle.dmc_types.specs.Values.{Rates}
 use Rattle.dmc_types.specs.declared.config.AtLimit.{AtLimit}
-use Rattle.dmc_types.specs.declared.config.AtLimit.TheVariants.{Wait, Allow}
+use Rattle.dmc_types.specs.declared.config.AtLimit.TheVariants.{Wait, Allow, Reject}
 use Rattle.dmc_types.specs.declared.config.PhaseType.{PhaseType}
 use Rattle.dmc_types.specs.declared.config.PhaseType.TheVariants.{Reservation, Priority}
 use Rattle.dmc_types.specs.declared.refusal.Refusal.{Refusal}
@@ -28,8 +28,9 @@ use Rattle.dmc_tag.specs.declared.plain.QueuedRequest.{QueuedRequest}
 use Rattle.dmc_tag.specs.declared.reply.Tags.{Tags}
 use Rattle.dmc_tag.specs.declared.reply.Reply.TheVariants.{Later, Nothing}
 use Rattle.dmc_tag.proofs.ForCallers.{found_is_best_of_all}
-use Rattle.dmc_lemmas.proofs.Lists.{all_at}
-use Rattle.dmc_tag.proofs.Upto.{IsUpto, due_before}
+use Rattle.dmc_lemmas.proofs.Lists.{all_as, all_at, all_joined}
+use Rattle.dmc_lemmas.proofs.Orderings.{less_if_lt}
+use Rattle.dmc_tag.proofs.Upto.{IsUpto, at_most_itself, due_before}
 use Rattle.dmc_tag.proofs.TagOrder.{bound}
 use Rattle.dmc_history_laws.proofs.Basics.{bind_goes, allowed}
 use Rattle.dmc_history_laws.proofs.Pairs.{Pairwise, AreDistinct, pairs_at}
@@ -84,6 +85,39 @@ module _ {T : Type 0} (ops : Tagging T) (order : IsTotalOrder ops.compare) where
         let of_client : IsInTurn found.client = all_at IsInTurn is.front found.client is.back (subst (AllByRecursion IsInTurn) is.whole turn) in
         first_of_client found.client.requests of_client.pairs found.request found.others is.own
 
+-- what is before in (tag, client) is not above by tag, and what is not before is not below
+not_above : (r q : Ordering) → is_lt (ordering_then r q) ≡ true → is_gt r ≡ false
+not_above Less q e = refl
+not_above Equal q e = refl
+not_above Greater q e = cc
+
+not_below : (r q : Ordering) → is_lt (ordering_then r q) ≡ false → is_lt r ≡ false
+not_below Less q e = cc
+not_below Equal q e = refl
+not_below Greater q e = refl
+
+pub turned_round : (r s : Ordering) → s ≡ ordering_reverse r → is_lt r ≡ false → is_gt s ≡ false
+turned_round Less s e h = cc
+turned_round Equal s e h = ap is_gt e
+turned_round Greater s e h = ap is_gt e
+
+-- the best by weight has the least P of its set
+module _ {T : Type 0} (ops : Tagging T) (order : IsTotalOrder ops.compare) (member : QueuedRequest T → Bool) (Set : QueuedRequest T → Type 0) (within : (x : QueuedRequest T) → Set x → member x ≡ true) where
+  abbrev HasLeast : QueuedRequest T → PlainClient T → Type 0
+  HasLeast r c = AllByRecursion (λ x. Set x → AtMost ops r.tags.p x.tags.p) c.requests
+
+  least_of_one : (c : PlainClient T) (r : QueuedRequest T) (others : List (QueuedRequest T)) → IsBest (is_below ops by_weight) member c.requests r others → HasLeast r c
+  least_of_one c r others is = subst (AllByRecursion (λ x. Set x → AtMost ops r.tags.p x.tags.p)) (sym is.whole) (all_joined _ is.front r is.back
+      (all_as _ _ (λ x h d. ap is_gt (less_if_lt _ (h (within x d)))) is.front is.ahead)
+      (λ d. at_most_itself ops order r.tags.p)
+      (all_as _ _ (λ x h d. turned_round _ _ (order.antisymm r.tags.p x.tags.p) (h (within x d))) is.back is.behind))
+
+  least_of_all : (clients : List (PlainClient T)) (found : Found T) → IsBestOfAll ops by_weight member clients found → AllByRecursion (HasLeast found.request) clients
+  least_of_all clients found is = subst (AllByRecursion (HasLeast found.request)) (sym is.whole) (all_joined _ is.front found.client is.back
+      (all_as _ _ (λ c h. all_as _ _ (λ x k d. not_above (ops.compare found.request.tags.p x.tags.p) _ (k (within x d))) c.requests h) is.front is.ahead)
+      (least_of_one found.client found.request found.others is.own)
+      (all_as _ _ (λ c h. all_as _ _ (λ x k d. turned_round _ _ (order.antisymm found.request.tags.p x.tags.p) (not_below _ _ (k (within x d)))) c.requests h) is.back is.behind))
+
 -- the set that the granted request is taken from
 abbrev pub IsDueIn : {T : Type 0} → Tagging T → ℕ → PhaseType → Bool → QueuedRequest T → Type 0
 IsDueIn ops t Reservation beyond r = is_early ops t r ≡ true
@@ -97,13 +131,15 @@ pub record IsGrant {T : Type 0} (ops : Tagging T) (s : State T) (t : ℕ) (found
   pub whole : s.clients ≡ front ++ found.client ∷ back
   pub first : found.client.requests ≡ found.request ∷ found.others
   pub due : IsDueIn ops t phase beyond found.request
+  -- a grant by weight is of the least P in its set
+  pub least : phase ≡ Priority → AllByRecursion (λ c. AllByRecursion (λ x. IsDueIn ops t Priority beyond x → AtMost ops found.request.tags.p x.tags.p) c.requests) s.clients
   pub reduction : IsReduction ops s.config.hz found.client phase amount
   pub can : rules_of.can_reduce_by ops amount (rules_of.with_requests found.others found.client) ≡ true
 
 -- What holds of each of these holds of every pull.
-module _ {T : Type 0} (ops : Tagging T) (order : IsTotalOrder ops.compare) (s : State T) (t : ℕ) (turn : AllByRecursion (IsInTurn ops order) s.clients) (P : Outcome T → Type 0) (refused : (e : Refusal) → P (Err e)) (waits : (m : ℕ) → P (Ok (record s { last_moment = t }, Later m))) (idles : P (Ok (record s { last_moment = t }, Nothing))) (grants : (found : Found T) (amount : Option T) (phase : PhaseType) (beyond : Bool) → IsGrant ops s t found amount phase beyond → P (Ok (rules_of.taken_out ops s t found amount, rules_of.granted found phase beyond))) where
-  priority : {member : QueuedRequest T → Bool} (beyond : Bool) (found : Found T) → IsBestOfAll ops by_weight member s.clients found → found.client.requests ≡ found.request ∷ found.others → IsDueIn ops t Priority beyond found.request → P (rules_of.grant_priority ops s t found beyond)
-  priority beyond found is first due = bind_goes P (rules_of.can_grant ops s.config.hz found) _ refused (λ amount e.
+module _ {T : Type 0} (ops : Tagging T) (order : IsTotalOrder ops.compare) (s : State T) (t : ℕ) (turn : AllByRecursion (IsInTurn ops order) s.clients) (P : Outcome T → Type 0) (refused : (e : Refusal) → P (Err e)) (waits : (m : ℕ) → P (Ok (record s { last_moment = t }, Later m))) (idles : P (Ok (record s { last_moment = t }, Nothing))) (grants : (found : Found T) (amount : Option T) (phase : PhaseType) (beyond : Bool) → IsGrant ops s t found amount phase beyond → P (Ok (rules_of.taken_out ops s t found phase amount, rules_of.granted found phase beyond))) where
+  priority : (member : QueuedRequest T → Bool) (beyond : Bool) (found : Found T) → ((x : QueuedRequest T) → IsDueIn ops t Priority beyond x → member x ≡ true) → IsBestOfAll ops by_weight member s.clients found → found.client.requests ≡ found.request ∷ found.others → IsDueIn ops t Priority beyond found.request → P (rules_of.grant_priority ops s t found beyond)
+  priority member beyond found set is first due = bind_goes P (rules_of.can_grant ops s.config.hz found) _ refused (λ amount e.
       let given = bound (rules_of.reduction_at ops s.config.hz found.client.info.reservation) _ amount e in
       let range = bound (refuse_if (not (rules_of.can_reduce_by ops given.0 (rules_of.with_requests found.others found.client))) Range) _ amount given.2 in
       let same : given.0 ≡ amount = cc (range.2) in
@@ -113,6 +149,7 @@ module _ {T : Type 0} (ops : Tagging T) (order : IsTotalOrder ops.compare) (s : 
         whole = is.whole;
         first = first;
         due = due;
+        least = λ _. least_of_all ops order member (IsDueIn ops t Priority beyond) set s.clients found is;
         reduction = given.1 ∙ ap Ok same;
         can = subst (λ o. rules_of.can_reduce_by ops o (rules_of.with_requests found.others found.client) ≡ true) same (not-false _ (allowed _ Range range.0 range.1));
       }))
@@ -121,10 +158,11 @@ module _ {T : Type 0} (ops : Tagging T) (order : IsTotalOrder ops.compare) (s : 
   any None q = idles
   any (Some found) q =
       let is = found_is_best_of_all ops order by_weight is_any s.clients found q in
-      priority true found is (first_of_found ops order by_weight is_any (λ x z n. n.p) (λ x z n m. m) s.clients turn found is) tt
+      priority is_any true found (λ x _. refl) is (first_of_found ops order by_weight is_any (λ x z n. n.p) (λ x z n m. m) s.clients turn found is) tt
 
   limit : (x : QueuedRequest T) (xs : List (QueuedRequest T)) → (mode : AtLimit) → P (rules_of.at_limit ops s t mode x xs)
   limit x xs Wait = waits (rules_of.least_due ops x xs)
+  limit x xs (Reject threshold) = waits (rules_of.least_due ops x xs)
   limit x xs Allow = any _ refl
 
   nothing : (xs : List (QueuedRequest T)) → P (rules_of.nothing_due ops s t xs)
@@ -135,7 +173,7 @@ module _ {T : Type 0} (ops : Tagging T) (order : IsTotalOrder ops.compare) (s : 
   free None q = nothing (queued_requests s.clients)
   free (Some found) q =
       let is = found_is_best_of_all ops order by_weight (is_free ops t) s.clients found q in
-      priority false found is (first_of_found ops order by_weight (is_free ops t) (λ x z n. n.p) (λ x z n. due_before ops order t (Some x.tags.l) (Some z.tags.l) n.l) s.clients turn found is) is.own.is_member
+      priority (is_free ops t) false found (λ x d. d) is (first_of_found ops order by_weight (is_free ops t) (λ x z n. n.p) (λ x z n. due_before ops order t (Some x.tags.l) (Some z.tags.l) n.l) s.clients turn found is) is.own.is_member
 
   early : (b : Option (Found T)) → best_of_all ops by_reservation (is_early ops t) s.clients ≡ b → P (rules_of.pulled_early ops s t b)
   early None q = free _ refl
@@ -147,6 +185,7 @@ module _ {T : Type 0} (ops : Tagging T) (order : IsTotalOrder ops.compare) (s : 
         whole = is.whole;
         first = first_of_found ops order by_reservation (is_early ops t) (λ x z n. n.r) (λ x z n. due_before ops order t x.tags.r z.tags.r n.r) s.clients turn found is;
         due = is.own.is_member;
+        least = λ e. cc;
         reduction = refl;
         can = refl;
       })

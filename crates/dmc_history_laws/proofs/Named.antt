@@ -1,16 +1,14 @@
 -- One client's record among those of all: what is found of it after a change of the clients.
-use Rattle.std.proofs.Common.{◌≡◌, Bool, true, false, cond, List, [], ◌∷◌, ◌++◌, map, Option, Some, None, refl, sym, ap, ◌∙◌, subst}
-use Rattle.std.specs.Prelude.{filter, if◌then◌else◌, is_some}
-use Rattle.std.specs.List.{AllByRecursion, find}
+use Rattle.std.proofs.Common.{◌≡◌, Bool, true, false, cond, List, [], ◌∷◌, ◌++◌, map, Option, Some, None, refl, sym, ap, ◌∙◌}
+use Rattle.std.specs.Prelude.{filter, if◌then◌else◌}
+use Rattle.std.specs.List.{AllByRecursion}
 use Rattle.std.specs.Option.{option_map, option_and_then}
 use Rattle.std.proofs.lemmas.Bool.{false_from_ne_true}
 use Rattle.dmc_types.specs.declared.ids.ClientId.{ClientId}
 use Rattle.dmc_tag.specs.State.{PlainClient, is_client, client_named}
 use Rattle.dmc_tag.specs.Rules.{change_client}
-use Rattle.dmc_tag.proofs.Active.{either, same_client}
-use Rattle.dmc_tag.proofs.Ids.{client_turned}
 use Rattle.dmc_lemmas.proofs.Lists.{found_passes}
-use Rattle.dmc_history_laws.proofs.Basics.{same_id, same_too, both_id, named_same}
+use Rattle.dmc_history_laws.proofs.Basics.{same_id, both_id}
 use Rattle.dmc_history_laws.proofs.Pairs.{AreDistinct, Differ}
 
 module _ {T : Type 0} (id : ClientId) where

@@ -1,9 +1,9 @@
 -- The bounds of a history: from right after an add, event by event, to the numbers of the arrivals.
-use Rattle.std.proofs.Common.{◌≡◌, ℕ, ◌<◌, Bool, true, false, map, length, Option, Some, None, Ok, refl, sym, ap, ◌∙◌, subst, arith, zero, suc, ◌+◌, ◌*◌, ◌-◌, ◌≤◌, List, [], ◌∷◌, ◌++◌, drop, take, append_assoc}
-use Rattle.std.specs.Prelude.{⊤, if◌then◌else◌, sum_by}
+use Rattle.std.proofs.Common.{◌≡◌, ℕ, ◌<◌, true, false, map, length, Option, Some, None, Ok, refl, sym, ap, ◌∙◌, subst, arith, zero, suc, ◌+◌, ◌*◌, ◌-◌, ◌≤◌, List, [], ◌∷◌, ◌++◌, drop, take, append_assoc}
+use Rattle.std.specs.Prelude.{if◌then◌else◌, sum_by}
 use Rattle.std.specs.Option.{option_and_then, option_map_or}
 use Rattle.std.specs.Cmp.{IsTotalOrder}
-use Rattle.dmc_types.specs.Values.{Params, Setting}
+use Rattle.dmc_types.specs.Values.{Setting}
 use Rattle.dmc_types.specs.declared.ids.ClientId.{ClientId}
 use Rattle.dmc_types.specs.declared.ids.Token.{Token}
 use Rattle.dmc_types.specs.declared.command.Command.{Command}
@@ -73,7 +73,7 @@ module _ {T : Type 0} (ops : Tagging T) (fraction : T → Fraction) (is_value : 
       (λ client token params at new c d tags says named like given next last arrives has.
       let arrived = rules_of.after_arrival (record { token = token; tags = tags }) (effective s at) d in
       let rated : rate_in side c.info ≡ Some q = ap (rate_in side) (sym like.info) ∙ sym (ap (option_and_then (λ (e : PlainClient T). rate_in side e.info)) next.named) ∙ has in
-      let by = steps_by ops config.hz q c params (ops.of_moment (effective s at)) tags (subst (λ k. rules_of.assigned ops k.hz c params (ops.of_moment (effective s at)) ≡ Ok tags) is.same given) side rated in
+      let by = steps_by ops config.hz q c params (ops.of_moment (effective s at)) (rules_of.share_floor ops s (ops.of_moment (effective s at))) tags (subst (λ k. rules_of.assigned ops k.hz c params (ops.of_moment (effective s at)) (rules_of.share_floor ops s (ops.of_moment (effective s at))) ≡ Ok tags) is.same given) side rated in
       let begun : IsAt fraction config.hz q (effective s at) 0 0 by.tag = subst (λ m. NotBelow (fraction by.tag) m q) (sym (level_opens fraction config.hz q (effective s at))) (next_from ops fraction is_value exact order (previous_in side c.previous) by.spacing by.tag (effective s at) config.hz q _ by.next) in
       subst (λ from. IsPaced ops fraction is_value exact order id side config.hz q from 0 0 (map (λ _. 0) (requests_of id new.clients)) new) (sym last) (record {
         since = omega (arith, last);
@@ -221,7 +221,7 @@ module _ {T : Type 0} (ops : Tagging T) (fraction : T → Fraction) (is_value : 
       × (config.hz * sum_since (count_in side) id (before ++ add ∷ []) second ≤ q * ticks_since ops config (before ++ add ∷ []) second at + config.hz * taken_in side (priorities id second))
   bounded token at before second rest add grant replay arrives has keeps pulls grants =
       let up_to = before ++ add ∷ [] in
-      let start = opening {T = T} config in
+      let start = opening ops config in
       let s0 = after ops config before in
       let s1 = after ops config up_to in
       let s2 = after ops config (up_to ++ second) in

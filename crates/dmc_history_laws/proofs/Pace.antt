@@ -7,7 +7,7 @@ use Rattle.std.specs.Ordering.{is_gt, is_lt, ord_max}
 use Rattle.std.specs.Cmp.{IsTotalOrder}
 use Rattle.std.proofs.lemmas.Int.{ints}
 use Rattle.std.proofs.Math.IntN.{*ℤ_comm}
-use Rattle.dmc_tag.specs.Tag.{Fraction, Tagging, IsExact}
+use Rattle.dmc_tag.specs.Tag.{Fraction, Tagging, IsExact, IsSame, ratio}
 use Rattle.dmc_tag.specs.Order.{AtMost}
 use Rattle.dmc_tag.specs.Outcome.{in_range}
 use Rattle.dmc_tag.specs.Rules.{next_tag}
@@ -19,6 +19,10 @@ use Rattle.dmc_tag.proofs.TagOrder.{positive, bound, from_range, at_most_to, giv
 -- the fraction is not below m/q
 pub record NotBelow (f : Fraction) (m : ℤ) (q : ℕ) : Type 0 where
   pub le : (m *ℤ pos f.denom) ≤ℤ (f.numer *ℤ pos q)
+
+-- nor above it
+pub record NotAbove (f : Fraction) (m : ℤ) (q : ℕ) : Type 0 where
+  pub le : (f.numer *ℤ pos q) ≤ℤ (m *ℤ pos f.denom)
 
 le_of : (x y : ℤ) → x ≡ y → x ≤ℤ y
 le_of x y e = omega (arith, ints)
@@ -47,37 +51,56 @@ raised f g m q some le h = record {
       (le_trans _ _ _ (scaled_le _ _ q le) (le_of _ _ (scaled_swapped g.numer f.denom q))))));
 }
 
--- moved by k/q, where z over both denominators is added and is worth as much
-moved : (a x : Fraction) (d : ℕ) (z m k : ℤ) (q : ℕ) → 0 < a.denom → 0 < d → x.numer *ℤ pos (a.denom * d) ≡ (a.numer *ℤ pos d +ℤ z) *ℤ pos x.denom → z *ℤ pos q ≡ k *ℤ pos (a.denom * d) → NotBelow a m q → NotBelow x (m +ℤ k) q
-moved a x d z m k q some_a some_d same worth h =
+-- x is a moved by k/q: z over both denominators is added, and is worth as much. Then x and (m + k)/q compare as a and m/q do.
+record Moved (a x : Fraction) (d : ℕ) (m k : ℤ) (q : ℕ) : Type 0 where
+  rest : ℤ
+  right : (x.numer *ℤ pos q) *ℤ pos (a.denom * d) ≡ ((a.numer *ℤ pos q) *ℤ pos d) *ℤ pos x.denom +ℤ rest
+  left : ((m +ℤ k) *ℤ pos x.denom) *ℤ pos (a.denom * d) ≡ ((m *ℤ pos a.denom) *ℤ pos d) *ℤ pos x.denom +ℤ rest
+
+moved : (a x : Fraction) (d : ℕ) (z m k : ℤ) (q : ℕ) → x.numer *ℤ pos (a.denom * d) ≡ (a.numer *ℤ pos d +ℤ z) *ℤ pos x.denom → z *ℤ pos q ≡ k *ℤ pos (a.denom * d) → Moved a x d m k q
+moved a x d z m k q same worth =
     let both = a.denom * d in
-    let right : (x.numer *ℤ pos q) *ℤ pos both ≡ ((a.numer *ℤ pos q) *ℤ pos d) *ℤ pos x.denom +ℤ (k *ℤ pos both) *ℤ pos x.denom =
-    scaled_swapped x.numer q both
-    ∙ ap (λ w. w *ℤ pos q) same
-    ∙ scaled_swapped (a.numer *ℤ pos d +ℤ z) x.denom q
-    ∙ ap (λ w. w *ℤ pos x.denom) (scaled_sum (a.numer *ℤ pos d) z q)
-    ∙ ap (λ w. (w +ℤ z *ℤ pos q) *ℤ pos x.denom) (scaled_swapped a.numer d q)
-    ∙ ap (λ w. ((a.numer *ℤ pos q) *ℤ pos d +ℤ w) *ℤ pos x.denom) worth
-    ∙ scaled_sum ((a.numer *ℤ pos q) *ℤ pos d) (k *ℤ pos both) x.denom in
-    let left : ((m +ℤ k) *ℤ pos x.denom) *ℤ pos both ≡ ((m *ℤ pos a.denom) *ℤ pos d) *ℤ pos x.denom +ℤ (k *ℤ pos both) *ℤ pos x.denom =
-    scaled_swapped (m +ℤ k) x.denom both
-    ∙ ap (λ w. w *ℤ pos x.denom) (scaled_sum m k both)
-    ∙ scaled_sum (m *ℤ pos both) (k *ℤ pos both) x.denom
-    ∙ ap (λ w. w *ℤ pos x.denom +ℤ (k *ℤ pos both) *ℤ pos x.denom) (sym (scaled_twice m a.denom d)) in
-    record { le = unscaled_le _ _ both (positive _ _ some_a some_d) (joined _ _ _ _ _ left right (scaled_le _ _ x.denom (scaled_le _ _ d h.le))) } where
-      joined : (x y u v w : ℤ) → x ≡ u +ℤ w → y ≡ v +ℤ w → u ≤ℤ v → x ≤ℤ y
-      joined x y u v w p q h = omega (arith, ints)
+    record {
+      rest = (k *ℤ pos both) *ℤ pos x.denom;
+      right = scaled_swapped x.numer q both
+          ∙ ap (λ w. w *ℤ pos q) same
+          ∙ scaled_swapped (a.numer *ℤ pos d +ℤ z) x.denom q
+          ∙ ap (λ w. w *ℤ pos x.denom) (scaled_sum (a.numer *ℤ pos d) z q)
+          ∙ ap (λ w. (w +ℤ z *ℤ pos q) *ℤ pos x.denom) (scaled_swapped a.numer d q)
+          ∙ ap (λ w. ((a.numer *ℤ pos q) *ℤ pos d +ℤ w) *ℤ pos x.denom) worth
+          ∙ scaled_sum ((a.numer *ℤ pos q) *ℤ pos d) (k *ℤ pos both) x.denom;
+      left = scaled_swapped (m +ℤ k) x.denom both
+          ∙ ap (λ w. w *ℤ pos x.denom) (scaled_sum m k both)
+          ∙ scaled_sum (m *ℤ pos both) (k *ℤ pos both) x.denom
+          ∙ ap (λ w. w *ℤ pos x.denom +ℤ (k *ℤ pos both) *ℤ pos x.denom) (sym (scaled_twice m a.denom d));
+    }
+
+joined : (x y u v w : ℤ) → x ≡ u +ℤ w → y ≡ v +ℤ w → u ≤ℤ v → x ≤ℤ y
+joined x y u v w p q h = omega (arith, ints)
+
+moved_up : (a x : Fraction) (d : ℕ) (m k : ℤ) (q : ℕ) → 0 < a.denom → 0 < d → Moved a x d m k q → NotBelow a m q → NotBelow x (m +ℤ k) q
+moved_up a x d m k q some_a some_d is h = record { le = unscaled_le _ _ (a.denom * d) (positive _ _ some_a some_d) (joined _ _ _ _ _ is.left is.right (scaled_le _ _ x.denom (scaled_le _ _ d h.le))) }
+
+moved_under : (a x : Fraction) (d : ℕ) (m k : ℤ) (q : ℕ) → 0 < a.denom → 0 < d → Moved a x d m k q → NotAbove a m q → NotAbove x (m +ℤ k) q
+moved_under a x d m k q some_a some_d is h = record { le = unscaled_le _ _ (a.denom * d) (positive _ _ some_a some_d) (joined _ _ _ _ _ is.right is.left (scaled_le _ _ x.denom (scaled_le _ _ d h.le))) }
+
+-- what is at most less is at most more, and what is at most the fraction is so too
+at_most_more : (f : Fraction) (m k : ℤ) (q : ℕ) → m ≤ℤ k → NotAbove f m q → NotAbove f k q
+at_most_more f m k q le h = record { le = le_trans _ _ _ h.le (scaled_le _ _ f.denom le) }
+
+pub under_as : (f g : Fraction) (m : ℤ) (q : ℕ) → 0 < g.denom → (f.numer *ℤ pos g.denom) ≤ℤ (g.numer *ℤ pos f.denom) → NotAbove g m q → NotAbove f m q
+under_as f g m q some le h = record { le = (raised g (record { numer = m; denom = q }) f.numer f.denom some h.le (record { le = le })).le }
 
 -- d is worth n/q
 worth_over : (a d : Fraction) (q n : ℕ) → d.numer *ℤ pos q ≡ pos n *ℤ pos d.denom → (d.numer *ℤ pos a.denom) *ℤ pos q ≡ pos n *ℤ pos (a.denom * d.denom)
 worth_over a d q n worth = scaled_swapped d.numer a.denom q ∙ ap (λ w. w *ℤ pos a.denom) worth ∙ scaled_swapped (pos n) d.denom a.denom ∙ scaled_twice (pos n) a.denom d.denom
 
 -- more by n, if n over the rate is added, and less, if it is taken off
-added : (a d x : Fraction) (m : ℤ) (q n : ℕ) → 0 < a.denom → 0 < d.denom → x.numer *ℤ pos (a.denom * d.denom) ≡ (a.numer *ℤ pos d.denom +ℤ d.numer *ℤ pos a.denom) *ℤ pos x.denom → d.numer *ℤ pos q ≡ pos n *ℤ pos d.denom → NotBelow a m q → NotBelow x (m +ℤ pos n) q
-added a d x m q n some_a some_d same worth = moved a x d.denom (d.numer *ℤ pos a.denom) m (pos n) q some_a some_d same (worth_over a d q n worth)
+added : (a d x : Fraction) (m : ℤ) (q n : ℕ) → x.numer *ℤ pos (a.denom * d.denom) ≡ (a.numer *ℤ pos d.denom +ℤ d.numer *ℤ pos a.denom) *ℤ pos x.denom → d.numer *ℤ pos q ≡ pos n *ℤ pos d.denom → Moved a x d.denom m (pos n) q
+added a d x m q n same worth = moved a x d.denom (d.numer *ℤ pos a.denom) m (pos n) q same (worth_over a d q n worth)
 
-taken_off : (a d x : Fraction) (m : ℤ) (q n : ℕ) → 0 < a.denom → 0 < d.denom → x.numer *ℤ pos (a.denom * d.denom) ≡ (a.numer *ℤ pos d.denom -ℤ d.numer *ℤ pos a.denom) *ℤ pos x.denom → d.numer *ℤ pos q ≡ pos n *ℤ pos d.denom → NotBelow a m q → NotBelow x (m -ℤ pos n) q
-taken_off a d x m q n some_a some_d same worth = moved a x d.denom (neg_ℤ (d.numer *ℤ pos a.denom)) m (neg_ℤ (pos n)) q some_a some_d same (scaled_negative (d.numer *ℤ pos a.denom) q ∙ ap neg_ℤ (worth_over a d q n worth) ∙ sym (scaled_negative (pos n) (a.denom * d.denom)))
+taken_off : (a d x : Fraction) (m : ℤ) (q n : ℕ) → x.numer *ℤ pos (a.denom * d.denom) ≡ (a.numer *ℤ pos d.denom -ℤ d.numer *ℤ pos a.denom) *ℤ pos x.denom → d.numer *ℤ pos q ≡ pos n *ℤ pos d.denom → Moved a x d.denom m (neg_ℤ (pos n)) q
+taken_off a d x m q n same worth = moved a x d.denom (neg_ℤ (d.numer *ℤ pos a.denom)) m (neg_ℤ (pos n)) q same (scaled_negative (d.numer *ℤ pos a.denom) q ∙ ap neg_ℤ (worth_over a d q n worth) ∙ sym (scaled_negative (pos n) (a.denom * d.denom)))
 
 -- what is not below more is not below less
 pub lowered : (f : Fraction) (m k : ℤ) (q : ℕ) → k ≤ℤ m → NotBelow f m q → NotBelow f k q
@@ -109,25 +132,58 @@ module _ {T : Type 0} (ops : Tagging T) (fraction : T → Fraction) (is_value : 
         not_true true e = cc
         not_true false e = refl
 
+  pub spacing_worth : (hz q : ℕ) (s : T) → ops.spacing hz q ≡ Some s → IsSame (fraction s) (ratio hz q)
+  spacing_worth hz q s e = given ops fraction is_value exact (ops.spacing hz q) _ s (exact.spacing hz q) e
+
   -- a tag less a spacing
   pub less_by : (a amount x : T) (m : ℤ) (hz q : ℕ) → ops.spacing hz q ≡ Some amount → ops.minus a amount ≡ Some x → NotBelow (fraction a) m q → NotBelow (fraction x) (m -ℤ pos hz) q
-  less_by a amount x m hz q s e h = taken_off (fraction a) (fraction amount) (fraction x) m q hz (exact.denom a) (exact.denom amount) (given ops fraction is_value exact (ops.minus a amount) _ x (exact.minus a amount) e) (given ops fraction is_value exact (ops.spacing hz q) _ amount (exact.spacing hz q) s) h
+  less_by a amount x m hz q s e h = moved_up (fraction a) (fraction x) (fraction amount).denom m (neg_ℤ (pos hz)) q (exact.denom a) (exact.denom amount) (taken_off (fraction a) (fraction amount) (fraction x) m q hz (given ops fraction is_value exact (ops.minus a amount) _ x (exact.minus a amount) e) (spacing_worth hz q amount s)) h
 
   module _ (order : IsTotalOrder ops.compare) where
-    -- the next tag is more by k*hz
-    pub next_paced : (previous spacing tag t : T) (m : ℤ) (hz q k : ℕ) → ops.spacing hz q ≡ Some spacing → next_tag ops previous k spacing t ≡ Ok tag → NotBelow (fraction previous) m q → NotBelow (fraction tag) (m +ℤ pos (hz * k)) q
-    next_paced previous spacing tag t m hz q k s e h =
+    -- the next tag is the greater of t and a sum, which is more by k*hz
+    record Nexts (previous tag t : T) (m : ℤ) (hz q k : ℕ) : Type 0 where
+      sum : T
+      tag_is : ord_max ops.compare sum t ≡ tag
+      d : ℕ
+      some : 0 < d
+      more : Moved (fraction previous) (fraction sum) d m (pos (hz * k)) q
+
+    nexts : (previous spacing tag t : T) (m : ℤ) (hz q k : ℕ) → IsSame (fraction spacing) (ratio hz q) → next_tag ops previous k spacing t ≡ Ok tag → Nexts previous tag t m hz q k
+    nexts previous spacing tag t m hz q k s e =
         let step = bound (in_range (ops.steps spacing k)) _ tag e in
         let sum = bound (in_range (ops.plus previous step.0)) _ tag step.2 in
-        let tag_is : ord_max ops.compare sum.0 t ≡ tag = cc (sum.2) in
         let fs = fraction spacing in
         let fd = fraction step.0 in
-        let worth = steps_worth fd.numer fs.numer fd.denom fs.denom k hz q (exact.denom spacing) (given ops fraction is_value exact (ops.steps spacing k) _ step.0 (exact.steps spacing k) (from_range _ _ step.1)) (given ops fraction is_value exact (ops.spacing hz q) _ spacing (exact.spacing hz q) s) in
-        let more = added (fraction previous) fd (fraction sum.0) m q (hz * k) (exact.denom previous) (exact.denom step.0) (given ops fraction is_value exact (ops.plus previous step.0) _ sum.0 (exact.plus previous step.0) (from_range _ _ sum.1)) worth h in
-        subst (λ x. NotBelow (fraction x) (m +ℤ pos (hz * k)) q) tag_is (greater sum.0 t _ refl more) where
-          greater : (sum t : T) (b : Bool) → is_lt (ops.compare t sum) ≡ b → NotBelow (fraction sum) (m +ℤ pos (hz * k)) q → NotBelow (fraction (cond b sum t)) (m +ℤ pos (hz * k)) q
-          greater sum t true e h = h
-          greater sum t false e h = raised (fraction sum) (fraction t) _ q (exact.denom sum) (at_most_to ops fraction is_value exact sum t (not_behind ops fraction is_value exact order sum t _ refl e)) h
+        let worth = steps_worth fd.numer fs.numer fd.denom fs.denom k hz q (exact.denom spacing) (given ops fraction is_value exact (ops.steps spacing k) _ step.0 (exact.steps spacing k) (from_range _ _ step.1)) s in
+        record {
+          sum = sum.0;
+          tag_is = cc (sum.2);
+          d = fd.denom;
+          some = exact.denom step.0;
+          more = added (fraction previous) fd (fraction sum.0) m q (hz * k) (given ops fraction is_value exact (ops.plus previous step.0) _ sum.0 (exact.plus previous step.0) (from_range _ _ sum.1)) worth;
+        }
+
+    -- so it is more by as much, at least
+    pub next_paced : (previous spacing tag t : T) (m : ℤ) (hz q k : ℕ) → IsSame (fraction spacing) (ratio hz q) → next_tag ops previous k spacing t ≡ Ok tag → NotBelow (fraction previous) m q → NotBelow (fraction tag) (m +ℤ pos (hz * k)) q
+    next_paced previous spacing tag t m hz q k s e h =
+        let n = nexts previous spacing tag t m hz q k s e in
+        let up = moved_up (fraction previous) (fraction n.sum) n.d m _ q (exact.denom previous) n.some n.more h in
+        subst (λ x. NotBelow (fraction x) (m +ℤ pos (hz * k)) q) n.tag_is (greater n.sum _ refl up) where
+          greater : (sum : T) (b : Bool) → is_lt (ops.compare t sum) ≡ b → NotBelow (fraction sum) (m +ℤ pos (hz * k)) q → NotBelow (fraction (cond b sum t)) (m +ℤ pos (hz * k)) q
+          greater sum true e h = h
+          greater sum false e h = raised (fraction sum) (fraction t) _ q (exact.denom sum) (at_most_to ops fraction is_value exact sum t (not_behind ops fraction is_value exact order sum t _ refl e)) h
+
+    -- and at most, if t is not above the previous tag
+    pub next_at_most : (previous spacing tag t : T) (m : ℤ) (hz q k : ℕ) → IsSame (fraction spacing) (ratio hz q) → next_tag ops previous k spacing t ≡ Ok tag → AtMost ops t previous → NotAbove (fraction previous) m q → NotAbove (fraction tag) (m +ℤ pos (hz * k)) q
+    next_at_most previous spacing tag t m hz q k s e under h =
+        let n = nexts previous spacing tag t m hz q k s e in
+        let up = moved_under (fraction previous) (fraction n.sum) n.d m _ q (exact.denom previous) n.some n.more h in
+        subst (λ x. NotAbove (fraction x) (m +ℤ pos (hz * k)) q) n.tag_is (greater n.sum (is_lt (ops.compare t n.sum)) up) where
+          greater : (sum : T) (b : Bool) → NotAbove (fraction sum) (m +ℤ pos (hz * k)) q → NotAbove (fraction (cond b sum t)) (m +ℤ pos (hz * k)) q
+          greater sum true h = h
+          greater sum false _ = at_most_more (fraction t) m _ q (more m (hz * k)) (under_as (fraction t) (fraction previous) m q (exact.denom previous) (at_most_to ops fraction is_value exact t previous under) h) where
+            more : (m : ℤ) (n : ℕ) → m ≤ℤ (m +ℤ pos n)
+            more m n = omega (arith, ints)
 
     -- and not below the moment
     pub next_from : (previous spacing tag : T) (t hz q k : ℕ) → next_tag ops previous k spacing (ops.of_moment t) ≡ Ok tag → NotBelow (fraction tag) (pos (q * t)) q

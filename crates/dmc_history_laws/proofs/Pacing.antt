@@ -1,5 +1,5 @@
 -- Each command keeps a client's tags at the level of what was sent and taken off since one of its adds.
-use Rattle.std.proofs.Common.{◌≡◌, ℕ, zero, suc, ◌+◌, ◌*◌, ◌-◌, ◌≤◌, max, Bool, true, false, List, [], ◌∷◌, ◌++◌, map, length, drop, Option, Some, None, Ok, refl, sym, ap, ◌∙◌, subst, arith}
+use Rattle.std.proofs.Common.{◌≡◌, ℕ, zero, suc, ◌+◌, ◌*◌, ◌-◌, ◌≤◌, Bool, true, false, List, [], ◌∷◌, ◌++◌, map, length, drop, Option, Some, None, Ok, refl, sym, ap, ◌∙◌, subst, arith}
 use Rattle.std.proofs.lemmas.List.{append-nil, length-map, map-append}
 use Rattle.std.specs.Prelude.{pos, ◌-ℤ◌, ◌≤ℤ◌, IfSome}
 use Rattle.std.specs.Cmp.{IsTotalOrder}
@@ -8,8 +8,9 @@ use Rattle.dmc_types.specs.Values.{Params}
 use Rattle.dmc_types.specs.declared.ids.ClientId.{ClientId}
 use Rattle.dmc_types.specs.declared.ids.Token.{Token}
 use Rattle.dmc_types.specs.declared.config.PhaseType.{PhaseType}
+use Rattle.dmc_types.specs.declared.config.Shares.{Shares}
 use Rattle.dmc_types.specs.declared.command.Command.{Command}
-use Rattle.dmc_types.specs.declared.command.Command.TheVariants.{Register, Update, Add, Pull, Remove}
+use Rattle.dmc_types.specs.declared.command.Command.TheVariants.{Add, Pull, Remove}
 use Rattle.dmc_tag.specs.Tag.{Fraction, Tagging, IsExact}
 use Rattle.dmc_tag.specs.State.{State, PlainClient, client_named, effective}
 use Rattle.dmc_tag.specs.Best.{Found, is_due}
@@ -18,13 +19,13 @@ use Rattle.dmc_tag.specs.Rules as rules_of
 use Rattle.dmc_tag.specs.Step.{step}
 use Rattle.dmc_tag.specs.declared.plain.QueuedRequest.{QueuedRequest}
 use Rattle.dmc_tag.specs.declared.reply.Reply.{Reply}
-use Rattle.dmc_tag.specs.declared.reply.Reply.TheVariants.{Registered, Updated, Tagged, Removed}
+use Rattle.dmc_tag.specs.declared.reply.Reply.TheVariants.{Tagged, Removed}
 use Rattle.dmc_tag.specs.declared.reply.Tags.{Tags}
 use Rattle.dmc_history_laws.specs.Bounds.{Keeps, Arrival, arrival_of, departed, prioritized}
 use Rattle.dmc_history_laws.proofs.Becomes.{grants_in, Says, IsLike, AreLike, IsNext, step_becomes}
-use Rattle.dmc_history_laws.proofs.Histories.{none_left, all_left}
+use Rattle.dmc_history_laws.proofs.Histories.{all_left}
 use Rattle.dmc_history_laws.proofs.InTurn.{IsGrant, AreInTurn}
-use Rattle.dmc_history_laws.proofs.Pace.{NotBelow, next_paced, due_within}
+use Rattle.dmc_history_laws.proofs.Pace.{NotBelow, spacing_worth, next_paced, due_within}
 use Rattle.dmc_history_laws.proofs.Reducing.{off, tags_of, late_reduced, previous_reduced, info_reduced}
 use Rattle.dmc_history_laws.proofs.Side.{Side, limits, reservations, tag_in, previous_in, rate_in, count_in, taken_in, steps_by, previous_of, IsAt, IsLate, AreLate, level, level_sent, late_more, late_rest, late_length}
 
@@ -77,25 +78,25 @@ module _ {T : Type 0} (ops : Tagging T) (fraction : T → Fraction) (is_value : 
   quiet taken sent waiting new h = subst (λ n. IsPaced n sent (waiting ++ []) new) (none_taken taken) (subst (λ ws. IsPaced taken sent ws new) (sym (append-nil waiting)) h)
 
   -- a record that differs in P and in its mark alone
-  same_tags : (side : Side) (c d : PlainClient T) → IsLike c d → map (λ (r : QueuedRequest T). tag_in side r.tags) d.requests ≡ map (λ (r : QueuedRequest T). tag_in side r.tags) c.requests
+  same_tags : (side : Side) {shares : Shares} (c d : PlainClient T) → IsLike shares c d → map (λ (r : QueuedRequest T). tag_in side r.tags) d.requests ≡ map (λ (r : QueuedRequest T). tag_in side r.tags) c.requests
   same_tags limits c d like = some_of d.requests ∙ ap (map Some) like.limits ∙ sym (some_of c.requests) where
     some_of : (xs : List (QueuedRequest T)) → map (λ (r : QueuedRequest T). Some r.tags.l) xs ≡ map Some (map (λ (r : QueuedRequest T). r.tags.l) xs)
     some_of [] = refl
     some_of (x ∷ xs) = ap (λ ts. Some x.tags.l ∷ ts) (some_of xs)
   same_tags reservations c d like = like.reservations
 
-  same_previous : (side : Side) (c d : PlainClient T) → IsLike c d → previous_in side d.previous ≡ previous_in side c.previous
+  same_previous : (side : Side) {shares : Shares} (c d : PlainClient T) → IsLike shares c d → previous_in side d.previous ≡ previous_in side c.previous
   same_previous limits c d like = like.previous_l
   same_previous reservations c d like = like.previous_r
 
-  like_paced : (taken sent : ℕ) (c d : PlainClient T) → IsLike c d → IsPacedClient taken sent c → IsPacedClient taken sent d
+  like_paced : (taken sent : ℕ) {shares : Shares} (c d : PlainClient T) → IsLike shares c d → IsPacedClient taken sent c → IsPacedClient taken sent d
   like_paced taken sent c d like h = record { rated = ap (rate_in side) like.info ∙ h.rated; at = subst (IsAt fraction hz q from taken sent) (sym (same_previous side c d like)) h.at }
 
-  like_record : (taken sent : ℕ) (waiting : List ℕ) (o p : Option (PlainClient T)) → AreLike o p → IsPacedRecord taken sent waiting o → IsPacedRecord taken sent waiting p
-  like_record taken sent waiting None None like h = h
-  like_record taken sent waiting None (Some d) like h = absurd like
-  like_record taken sent waiting (Some c) None like h = record { client = tt; waits = subst (λ xs. AreLate fraction hz q from taken (map (λ (r : QueuedRequest T). tag_in side r.tags) xs) waiting) like h.waits }
-  like_record taken sent waiting (Some c) (Some d) like h = record { client = like_paced taken sent c d like h.client; waits = subst (λ ts. AreLate fraction hz q from taken ts waiting) (sym (same_tags side c d like)) h.waits }
+  like_record : (taken sent : ℕ) (waiting : List ℕ) (shares : Shares) (o p : Option (PlainClient T)) → AreLike shares o p → IsPacedRecord taken sent waiting o → IsPacedRecord taken sent waiting p
+  like_record taken sent waiting shares None None like h = h
+  like_record taken sent waiting shares None (Some d) like h = absurd like
+  like_record taken sent waiting shares (Some c) None like h = record { client = tt; waits = subst (λ xs. AreLate fraction hz q from taken (map (λ (r : QueuedRequest T). tag_in side r.tags) xs) waiting) like h.waits }
+  like_record taken sent waiting shares (Some c) (Some d) like h = record { client = like_paced taken sent c d like h.client; waits = subst (λ ts. AreLate fraction hz q from taken ts waiting) (sym (same_tags side c d like)) h.waits }
 
   -- ---- the steps
 
@@ -112,12 +113,12 @@ module _ {T : Type 0} (ops : Tagging T) (fraction : T → Fraction) (is_value : 
 
     -- ---- an add
 
-    arrived : (token : Token) (params : Params) (t : ℕ) (c d : PlainClient T) (tags : Tags T) → client_named id s.clients ≡ Some c → IsLike c d → rules_of.assigned ops s.config.hz c params (ops.of_moment t) ≡ Ok tags → IsPacedRecord taken (sent + count_in side params) (waiting ++ (sent + count_in side params) ∷ []) (Some (rules_of.after_arrival (record { token = token; tags = tags }) t d))
-    arrived token params t c d tags named like given =
+    arrived : (token : Token) (params : Params) (t : ℕ) (floor : T) (c d : PlainClient T) (tags : Tags T) → client_named id s.clients ≡ Some c → IsLike s.config.shares c d → rules_of.assigned ops s.config.hz c params (ops.of_moment t) floor ≡ Ok tags → IsPacedRecord taken (sent + count_in side params) (waiting ++ (sent + count_in side params) ∷ []) (Some (rules_of.after_arrival (record { token = token; tags = tags }) t d))
+    arrived token params t floor c d tags named like given =
         let mine = own_of c named in
         let count = count_in side params in
-        let by = steps_by ops hz q c params (ops.of_moment t) tags (subst (λ h. rules_of.assigned ops h c params (ops.of_moment t) ≡ Ok tags) hz_is given) side mine.client.rated in
-        let next = next_paced ops fraction is_value exact order (previous_in side c.previous) by.spacing by.tag (ops.of_moment t) (level fraction hz q from taken sent) hz q count by.spaced by.next mine.client.at in
+        let by = steps_by ops hz q c params (ops.of_moment t) floor tags (subst (λ h. rules_of.assigned ops h c params (ops.of_moment t) floor ≡ Ok tags) hz_is given) side mine.client.rated in
+        let next = next_paced ops fraction is_value exact order (previous_in side c.previous) by.spacing by.tag (ops.of_moment t) (level fraction hz q from taken sent) hz q count (spacing_worth ops fraction is_value exact hz q by.spacing by.spaced) by.next mine.client.at in
         let at : IsAt fraction hz q from taken (sent + count) by.tag = subst (λ m. NotBelow (fraction by.tag) m q) (level_sent fraction hz q from taken sent count) next in
         record {
           client = record { rated = ap (rate_in side) like.info ∙ mine.client.rated; at = subst (IsAt fraction hz q from taken (sent + count)) (sym (previous_of side tags d.previous by.tag by.tag_is)) at };
@@ -161,10 +162,10 @@ module _ {T : Type 0} (ops : Tagging T) (fraction : T → Fraction) (is_value : 
 
     pub step_goes : AreInTurn ops order s → (c : Command) → Paces taken sent waiting c ((step ops s c).1) ((step ops s c).0)
     step_goes turn = step_becomes ops order id s turn (Paces taken sent waiting)
-        (λ c reply new o says like next. by_says c reply new [] 0 0 says (quiet taken sent waiting new (next_paced_state new o taken sent waiting next (like_record taken sent waiting _ o like is.own))))
+        (λ c reply new o says like next. by_says c reply new [] 0 0 says (quiet taken sent waiting new (next_paced_state new o taken sent waiting next (like_record taken sent waiting s.config.shares _ o like is.own))))
         (λ client info at new own none next keeps. not_both keeps own)
         (λ client info at new c own named next keeps. not_both keeps own)
-        (λ client token params at new c d tags says named like given next last. by_says (Add client token params at) (Tagged tags) new _ 0 0 says (same_level _ _ new (next_paced_state new _ taken _ _ next (arrived token params (effective s at) c d tags named like given))))
+        (λ client token params at new c d tags says named like given next last. by_says (Add client token params at) (Tagged tags) new _ 0 0 says (same_level _ _ new (next_paced_state new _ taken _ _ next (arrived token params (effective s at) _ c d tags named like given))))
         (λ at new found amount phase beyond says g named next. by_says (Pull at) (rules_of.granted found phase beyond) new [] 1 _ says (next_paced_state new _ _ sent _ next (granted (effective s at) found amount phase beyond g named)))
         (λ client new c says named next. by_says (Remove client) (Removed (length c.requests)) new [] (length c.requests) 0 says (same_level sent _ new (next_paced_state new _ taken sent _ next (removed c named))))
 

@@ -73,14 +73,14 @@ pub record Steps {T : Type 0} (ops : Tagging T) (side : Side) (hz q : ℕ) (prev
   pub tag_is : tag_in side tags ≡ Some tag
   pub next : next_tag ops (previous_in side previous) (count_in side params) spacing t ≡ Ok tag
 
-module _ {T : Type 0} (ops : Tagging T) (hz q : ℕ) (c : PlainClient T) (params : Params) (t : T) (tags : Tags T) (e : assigned ops hz c params t ≡ Ok tags) where
+module _ {T : Type 0} (ops : Tagging T) (hz q : ℕ) (c : PlainClient T) (params : Params) (t floor : T) (tags : Tags T) (e : assigned ops hz c params t floor ≡ Ok tags) where
   pub steps_by : (side : Side) → rate_in side c.info ≡ Some q → Steps ops side hz q c.previous params t tags
   steps_by side rated =
       let sp = bound (in_range (result_ok (spacings_of ops hz c.info))) _ tags e in
       let spacings = from_ok _ _ (from_range _ _ sp.1) in
       let r = bound (next_reservation ops c.previous.r params.rho sp.0.r t) _ tags sp.2 in
       let l = bound (next_tag ops c.previous.l params.delta sp.0.l t) _ tags r.2 in
-      let p = bound (next_tag ops c.previous.p params.delta sp.0.p t) _ tags l.2 in
+      let p = bound (next_tag ops c.previous.p params.delta sp.0.p floor) _ tags l.2 in
       let rs = bound (optional_spacing ops hz Reservation c.info.reservation) _ sp.0 spacings in
       let ps = bound (spacing_of ops hz Weight c.info.weight) _ sp.0 rs.2 in
       let ls = bound (optional_spacing ops hz Limit c.info.limit) _ sp.0 ps.2 in

@@ -5,7 +5,6 @@ use Rattle.std.specs.Cmp.{IsTotalOrder}
 use Rattle.std.proofs.lemmas.List.{take-append-le}
 use Rattle.dmc_types.specs.Values.{Params, Setting}
 use Rattle.dmc_types.specs.declared.ids.ClientId.{ClientId}
-use Rattle.dmc_types.specs.declared.ids.Token.{Token}
 use Rattle.dmc_types.specs.declared.config.PhaseType.{PhaseType}
 use Rattle.dmc_tag.specs.Tag.{Tagging, Fraction, IsExact}
 use Rattle.dmc_tag.specs.State.{effective}
@@ -25,19 +24,19 @@ module _ {X : Type 0} where
   take_one zero (y ∷ xs) x e = let same : y ≡ x = cc in ap (λ z. z ∷ []) same
   take_one (suc n) (y ∷ xs) x e = ap (λ zs. y ∷ zs) (take_one n xs x e)
 
-  cut_at : (n : ℕ) (xs : List X) (x : X) → slice_get xs n ≡ Some x → xs ≡ take n xs ++ x ∷ drop (suc n) xs
+  pub cut_at : (n : ℕ) (xs : List X) (x : X) → slice_get xs n ≡ Some x → xs ≡ take n xs ++ x ∷ drop (suc n) xs
   cut_at n [] x e = cc
   cut_at zero (y ∷ xs) x e = let same : y ≡ x = cc in ap (λ z. z ∷ xs) same
   cut_at (suc n) (y ∷ xs) x e = ap (λ zs. y ∷ zs) (cut_at n xs x e)
 
-  take_both : (n m : ℕ) (xs : List X) → n ≤ m → take n xs ++ drop n (take m xs) ≡ take m xs
+  pub take_both : (n m : ℕ) (xs : List X) → n ≤ m → take n xs ++ drop n (take m xs) ≡ take m xs
   take_both zero m xs h = refl
   take_both (suc n) zero xs h = absurd (omega (arith, h))
   take_both (suc n) (suc m) [] h = refl
   take_both (suc n) (suc m) (x ∷ xs) h = ap (λ zs. x ∷ zs) (take_both n m xs (omega (arith, h)))
 
   -- what is taken of a list behind its first part
-  behind : (ys zs : List X) (k : ℕ) → drop (length ys) (take k (ys ++ zs)) ≡ take (k - length ys) zs
+  pub behind : (ys zs : List X) (k : ℕ) → drop (length ys) (take k (ys ++ zs)) ≡ take (k - length ys) zs
   behind [] zs k = let e : k ≡ k - 0 = omega arith in ap (λ n. take n zs) e
   behind (y ∷ ys) zs zero = let e : 0 ≡ 0 - suc (length ys) = omega arith in ap (λ n. take n zs) e
   behind (y ∷ ys) zs (suc k) = let e : k - length ys ≡ suc k - suc (length ys) = omega arith in behind ys zs k ∙ ap (λ n. take n zs) e

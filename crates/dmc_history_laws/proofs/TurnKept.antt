@@ -1,16 +1,16 @@
 -- What keeps the requests of a client in order of their tags.
-use Rattle.std.proofs.Common.{◌≡◌, ℕ, Bool, true, false, not, ◌&&◌, ◌||◌, List, [], ◌∷◌, ◌++◌, map, Option, Some, None, refl, sym, ap, ◌∙◌, subst, inl, inr}
+use Rattle.std.proofs.Common.{◌≡◌, ℕ, Bool, true, false, ◌&&◌, ◌||◌, List, [], ◌∷◌, Option, Some, None, refl, sym, ap, ◌∙◌, subst, inl, inr}
 use Rattle.std.specs.Prelude.{◌⊎◌, if◌then◌else◌, is_some, IfSome}
 use Rattle.std.specs.Option.{unwrap_or, option_map, option_map_or}
-use Rattle.std.specs.List.{AllByRecursion, list_all}
+use Rattle.std.specs.List.{AllByRecursion}
 use Rattle.std.specs.Ordering.{is_gt}
 use Rattle.std.specs.Cmp.{IsTotalOrder}
-use Rattle.std.proofs.lemmas.Bool.{and_parts, or_left}
+use Rattle.std.proofs.lemmas.Bool.{and_parts}
 use Rattle.std.proofs.lemmas.Cmp.{upto}
 use Rattle.dmc_types.specs.Values.{Rates}
 use Rattle.dmc_tag.specs.Tag.{Fraction, Tagging, IsExact}
 use Rattle.dmc_tag.specs.Order.{AtMost, AreNext}
-use Rattle.dmc_tag.specs.State.{State, PlainClient, is_busy}
+use Rattle.dmc_tag.specs.State.{PlainClient, is_busy}
 use Rattle.dmc_tag.specs.Rules as rules_of
 use Rattle.dmc_tag.specs.declared.plain.QueuedRequest.{QueuedRequest}
 use Rattle.dmc_tag.specs.declared.reply.Tags.{Tags}

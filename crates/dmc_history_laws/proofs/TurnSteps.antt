@@ -1,7 +1,7 @@
 -- Each command keeps the requests of each client in order of their tags.
-use Rattle.std.proofs.Common.{◌≡◌, ℕ, zero, suc, ◌<◌, Bool, true, false, not, ◌&&◌, ◌||◌, List, [], ◌∷◌, map, Option, Some, None, Ok, refl, sym, ap, ◌∙◌, subst, arith, inl, inr}
+use Rattle.std.proofs.Common.{◌≡◌, ℕ, zero, suc, ◌<◌, Bool, true, false, not, ◌&&◌, ◌||◌, List, [], map, Option, Some, None, Ok, refl, sym, ap, ◌∙◌, subst, arith, inl, inr}
 use Rattle.std.specs.Prelude.{◌⊎◌, pos, ◌*ℤ◌, ⊤, if◌then◌else◌, is_some, IfSome, filter, nat_le, ◌-◌}
-use Rattle.std.specs.List.{AllByRecursion, list_all}
+use Rattle.std.specs.List.{AllByRecursion}
 use Rattle.std.specs.Option.{ok_or, option_map}
 use Rattle.std.specs.Result.{result_ok}
 use Rattle.std.specs.Cmp.{IsTotalOrder}
@@ -13,6 +13,7 @@ use Rattle.dmc_types.specs.declared.ids.Token.{Token}
 use Rattle.dmc_types.specs.declared.refusal.Refusal.TheVariants.{Known, Unknown, Busy}
 use Rattle.dmc_types.specs.declared.refusal.Field.{Field}
 use Rattle.dmc_types.specs.declared.refusal.Field.TheVariants.{Reservation, Weight, Limit}
+use Rattle.dmc_types.specs.declared.config.Shares.{Shares}
 use Rattle.dmc_types.specs.declared.command.Command.{Command}
 use Rattle.dmc_types.specs.declared.command.Command.TheVariants.{Register, Update, Add, Pull, Remove, Clean}
 use Rattle.dmc_tag.specs.Tag.{Fraction, Tagging, IsExact}
@@ -24,6 +25,7 @@ use Rattle.dmc_tag.specs.Best.{Found, best_of_all, by_weight, is_any}
 use Rattle.dmc_tag.specs.Rules as rules_of
 use Rattle.dmc_tag.specs.Rules.{Outcome}
 use Rattle.dmc_tag.specs.Step.{answer_of, outcome}
+use Rattle.dmc_tag.specs.declared.plain.Progress.{Progress}
 use Rattle.dmc_tag.specs.declared.plain.QueuedRequest.{QueuedRequest}
 use Rattle.dmc_tag.specs.declared.spacing.Spacings.{Spacings}
 use Rattle.dmc_tag.specs.declared.reply.Tags.{Tags}
@@ -65,11 +67,11 @@ module _ {T : Type 0} (ops : Tagging T) (fraction : T → Fraction) (is_value : 
         limited = optional_rate hz Limit info.limit l.0 some l.1;
       }
 
-  assigned_next : (hz : ℕ) (c : PlainClient T) (params : Params) (t : T) (tags : Tags T) → 0 < hz → rules_of.assigned ops hz c params t ≡ Ok tags → AreNext ops c.info c.previous tags
-  assigned_next hz c params t tags some e =
+  pub assigned_next : (hz : ℕ) (c : PlainClient T) (params : Params) (t floor : T) (tags : Tags T) → 0 < hz → rules_of.assigned ops hz c params t floor ≡ Ok tags → AreNext ops c.info c.previous tags
+  assigned_next hz c params t floor tags some e =
       let sp = bound (in_range (result_ok (spacings_of ops hz c.info))) _ tags e in
       let spaced = from_ok _ _ (from_range _ _ sp.1) in
-      next_tags_follow ops fraction is_value exact order c.info sp.0 c.previous params t tags (spacings_not_below ops fraction is_value exact hz c.info sp.0 (rates_of hz c.info sp.0 some spaced) spaced) sp.2
+      next_tags_follow ops fraction is_value exact order c.info sp.0 c.previous params t floor tags (spacings_not_below ops fraction is_value exact hz c.info sp.0 (rates_of hz c.info sp.0 some spaced) spaced) sp.2
 
   -- ---- outcomes
 
@@ -78,6 +80,10 @@ module _ {T : Type 0} (ops : Tagging T) (fraction : T → Fraction) (is_value : 
 
   abbrev Stays : State T → Outcome T → Type 0
   Stays s o = Turn ((answer_of s o).0) × (((answer_of s o).0).config ≡ s.config)
+
+  -- the virtual time does not matter for that
+  progressed : (s : State T) (progress : Progress T) → Turn s → Turn (record s { progress = progress })
+  progressed s progress is = record { clients = is.clients; distinct = is.distinct }
 
   -- a change of each client keeps its turn and its id
   changed : (s : State T) (f : PlainClient T → PlainClient T) (t : ℕ) → AllByRecursion (λ c. IsInTurn ops order (f c)) s.clients → ((c : PlainClient T) → (f c).id ≡ c.id) → Turn s → Turn (record s { clients = map f s.clients; last_moment = t })
@@ -126,30 +132,31 @@ module _ {T : Type 0} (ops : Tagging T) (fraction : T → Fraction) (is_value : 
       (shifted_id amount) is
 
   -- there is a shift only if the arriving client is idle
-  shift_idle : (clients : List (PlainClient T)) (c : PlainClient T) (t amount : T) → rules_of.shift_of ops clients c t ≡ Ok (Some amount) → c.idle ≡ true
-  shift_idle clients c t amount e = at c.idle refl e where
-    at : (b : Bool) → c.idle ≡ b → (if b then rules_of.shift_from ops t (best_of_all ops by_weight is_any clients) else Ok None) ≡ Ok (Some amount) → c.idle ≡ true
-    at true i e = i
-    at false i e = cc
+  shift_idle : (shares : Shares) (clients : List (PlainClient T)) (c : PlainClient T) (t amount : T) → rules_of.shift_of ops shares clients c t ≡ Ok (Some amount) → c.idle ≡ true
+  shift_idle shares clients c t amount e = at (rules_of.adjusts shares) c.idle refl e where
+    at : (a b : Bool) → c.idle ≡ b → (if a && b then rules_of.shift_from ops t (best_of_all ops by_weight is_any clients) else Ok None) ≡ Ok (Some amount) → c.idle ≡ true
+    at true true i e = i
+    at true false i e = cc
+    at false b i e = cc
 
-  idle_or_next : (shift : Option T) (clients : List (PlainClient T)) (c : PlainClient T) (t : T) (tags : Tags T) → rules_of.shift_of ops clients c t ≡ Ok shift → AreNext ops c.info c.previous tags → ((left_by shift c).idle ≡ true) ⊎ AreNext ops (left_by shift c).info (left_by shift c).previous tags
-  idle_or_next None clients c t tags e next = inr next
-  idle_or_next (Some amount) clients c t tags e next = let idle = shift_idle clients c t amount e in inl (either (λ z. z.idle ≡ true) c.idle c _ idle idle)
+  idle_or_next : (shift : Option T) (shares : Shares) (clients : List (PlainClient T)) (c : PlainClient T) (t : T) (tags : Tags T) → rules_of.shift_of ops shares clients c t ≡ Ok shift → AreNext ops c.info c.previous tags → ((left_by shift c).idle ≡ true) ⊎ AreNext ops (left_by shift c).info (left_by shift c).previous tags
+  idle_or_next None shares clients c t tags e next = inr next
+  idle_or_next (Some amount) shares clients c t tags e next = let idle = shift_idle shares clients c t amount e in inl (either (λ z. z.idle ≡ true) c.idle c _ idle idle)
 
   add_stays : (s : State T) (client : ClientId) (token : Token) (params : Params) (t : ℕ) → 0 < s.config.hz → Turn s → Stays s (rules_of.added ops s client token params t)
-  add_stays s client token params t some is = bind_goes (Stays s) (rules_of.can_add ops s client params (ops.of_moment t)) _ (λ e. (is, refl)) (λ x e. (at x e, refl)) where
-    at : (x : Option T × Tags T) → rules_of.can_add ops s client params (ops.of_moment t) ≡ Ok x → Turn (rules_of.queued ops s x.0 client (record { token = token; tags = x.1 }) t)
+  add_stays s client token params t some is = bind_goes (Stays s) (rules_of.can_add ops s client params t) _ (λ e. (is, refl)) (λ x e. (at x e, refl)) where
+    at : (x : Option T × Tags T) → rules_of.can_add ops s client params t ≡ Ok x → Turn (rules_of.queued ops s x.0 client (record { token = token; tags = x.1 }) t)
     at x e =
-        let c = add_gives ops s client params (ops.of_moment t) x e in
+        let c = add_gives ops s client params t x e in
         let moved = shifted_turn s x.0 c.can is in
         let r : QueuedRequest T = record { token = token; tags = x.1 } in
         let left = left_by x.0 c.client in
-        let next = assigned_next s.config.hz c.client params (ops.of_moment t) x.1 some c.tags in
+        let next = assigned_next s.config.hz c.client params (ops.of_moment t) _ x.1 some c.tags in
         let named = named_shifted x.0 client s.clients c.client c.named in
         let reserved : is_some x.1.r ≡ is_some left.info.reservation = next.reserved ∙ ap (λ i. is_some i.reservation) (sym (info_shifted x.0 c.client)) in
         let here : State T = record s { clients = rules_of.shifted_by ops x.0 s.clients } in
         let of_left : IsInTurn ops order left = found_turn here.clients client left named moved.clients in
-        one_changed here client (rules_of.after_arrival r t) left t named (turn_arrived ops order fraction is_value exact left r t reserved (idle_or_next x.0 s.clients c.client (ops.of_moment t) x.1 c.shift next) of_left) (λ d _. refl) moved
+        progressed _ _ (one_changed here client (rules_of.after_arrival r t) left t named (turn_arrived ops order fraction is_value exact left r t reserved (idle_or_next x.0 s.config.shares s.clients c.client (ops.of_moment t) x.1 c.shift next) of_left) (λ d _. refl) moved)
 
   -- ---- update
 
@@ -165,13 +172,13 @@ module _ {T : Type 0} (ops : Tagging T) (fraction : T → Fraction) (is_value : 
 
   -- ---- pull
 
-  grant_stays : (s : State T) (t : ℕ) (found : Found T) (amount : Option T) (phase : _) (beyond : Bool) → IsGrant ops s t found amount phase beyond → Turn s → Turn (rules_of.taken_out ops s t found amount)
+  grant_stays : (s : State T) (t : ℕ) (found : Found T) (amount : Option T) (phase : _) (beyond : Bool) → IsGrant ops s t found amount phase beyond → Turn s → Turn (rules_of.taken_out ops s t found phase amount)
   grant_stays s t found amount phase beyond g is =
       let of_found : IsInTurn ops order found.client = all_at (IsInTurn ops order) g.front found.client g.back (subst (AllByRecursion (IsInTurn ops order)) g.whole is.clients) in
       let after : IsInTurn ops order (rules_of.after_grant ops found amount) = turn_reduced ops order fraction is_value exact (rules_of.with_requests found.others found.client) amount g.can (turn_without_first ops order found.client found.request found.others g.first of_found) in
-      changed s (λ d. if is_client found.client.id d.id then rules_of.after_grant ops found amount else d) t
+      progressed _ _ (changed s (λ d. if is_client found.client.id d.id then rules_of.after_grant ops found amount else d) t
       (all_as (IsInTurn ops order) _ (λ d h. either (IsInTurn ops order) (is_client found.client.id d.id) _ d after h) s.clients is.clients)
-      (λ d. kept d (is_client found.client.id d.id) refl) is
+      (λ d. kept d (is_client found.client.id d.id) refl) is)
     where
       kept : (d : PlainClient T) (b : Bool) → is_client found.client.id d.id ≡ b → (if b then rules_of.after_grant ops found amount else d).id ≡ d.id
       kept d true e = granted_id ops found amount ∙ sym (same_client found.client.id d.id e)

@@ -1,11 +1,15 @@
 //! The laws on small histories: each contract holds by computation.
-ghost use Rattle.std.specs.Prelude.{◌≡◌, ◌+◌, ◌*◌, ◌++◌, ◌∷◌, [], map, nat_le, false};
+ghost use Rattle.std.specs.Prelude.{◌≡◌, ◌+◌, ◌*◌, ◌++◌, ◌∷◌, [], map, nat_le, false, true, pos};
+ghost use Rattle.std.specs.Ordering.{is_gt};
 ghost use Rattle.dmc_tag.specs.Replay.{after, replays};
 ghost use Rattle.dmc_tag.specs.State.{requests_of};
-ghost use Rattle.dmc_tag.specs.Examples.{waiting, allowing};
-ghost use Rattle.dmc_tick.specs.Tick.{tick_ops};
+ghost use Rattle.dmc_tag.specs.Order.{AtMost};
+ghost use Rattle.dmc_tag.specs.Examples.{waiting, allowing, virtually};
+ghost use Rattle.dmc_tag.specs.Tag.{whole};
+ghost use Rattle.dmc_tick.specs.Tick.{tick_ops, tick_fraction};
 ghost use Rattle.dmc_history_laws.specs.Bounds.{arrivals, between, priorities, sum_of, ticks};
-ghost use Rattle.dmc_history_laws.specs.Examples.{first_client, limited, waits, limit_history, limit_span, beyond_history, reservation_history, priority_history, priority_span, both_history};
+ghost use Rattle.dmc_history_laws.specs.Shares.{first_queued, last_arrived, spaced_after};
+ghost use Rattle.dmc_history_laws.specs.Examples.{first_client, limited, waits, limit_history, limit_span, beyond_history, reservation_history, priority_history, priority_span, both_history, request, shared, credit_history, clock_credit_history, second_client, competing, debt_history, held_back_history};
 
 /// Up to a grant at the limit both sides are 1,000. Under `Allow` the grant at 0 is beyond the limit: there the sides are 1,000
 /// and 0, and the law says nothing of such grants.
@@ -34,4 +38,24 @@ pub fn reservation_bound()
 /// After the first request was granted, the second and the third are queued.
 pub fn in_order_of_arrival()
     ensures { map (λ r. r.token) (requests_of first_client (after tick_ops waiting (limited ++ waits)).clients) ≡ record { 0 = 2 } ∷ record { 0 = 3 } ∷ [] }
+{}
+
+/// A request was granted by weight at 1,000, and the next one has P 1,000, though it is the first of its client and has delta 0. By
+/// the clock its P is 0: the client has a credit.
+pub fn no_credit()
+    ensures replayed { replays tick_ops virtually credit_history }
+    ensures not_below { AtMost tick_ops (request 11 (pos 1000)).tags.p (shared (pos 1000)).p }
+    ensures replayed_clock { replays tick_ops waiting clock_credit_history }
+    ensures below { is_gt (tick_ops.compare (pos 1000) (shared (pos 0)).p) ≡ true }
+{}
+
+/// Client 2 joins at event 5, and both sides are 3,000: client 1's a_2 has P 2,000 and its a_3 delta 1, client 2's a_1 has P 1,000
+/// and its a_2 and a_3 have delta 1. If a limit holds client 2 back, the sides are 2,000 and 1,000: the law says nothing of that.
+pub fn no_debt()
+    ensures replayed { replays tick_ops virtually debt_history }
+    ensures ahead { spaced_after 1000 1 (sum_of (λ p. p.delta) (first_queued first_client competing.first debt_history) (first_queued first_client competing.last debt_history) (arrivals first_client debt_history)) (tick_fraction competing.x.tags.p) ≡ whole 3000 }
+    ensures behind { spaced_after 1000 1 (sum_of (λ p. p.delta) (last_arrived second_client competing.joined debt_history) (first_queued second_client competing.last debt_history) (arrivals second_client debt_history)) (tick_fraction competing.h.p) ≡ whole 3000 }
+    ensures replayed_back { replays tick_ops virtually held_back_history }
+    ensures ahead_back { spaced_after 1000 1 (sum_of (λ p. p.delta) (first_queued first_client 5 held_back_history) (first_queued first_client 6 held_back_history) (arrivals first_client held_back_history)) (tick_fraction (pos 1000)) ≡ whole 2000 }
+    ensures behind_back { spaced_after 1000 1 (sum_of (λ p. p.delta) (last_arrived second_client 2 held_back_history) (first_queued second_client 6 held_back_history) (arrivals second_client held_back_history)) (tick_fraction (pos 1000)) ≡ whole 1000 }
 {}

@@ -1,7 +1,11 @@
 //! Laws of every history that replays. Each law is the contract of a function that does nothing.
-ghost use Rattle.std.specs.Prelude.{◌<◌};
+ghost use Rattle.std.specs.Prelude.{◌≡◌, ℕ, ◌<◌};
 ghost use Rattle.dmc_types.specs.Values.{Setting};
+ghost use Rattle.dmc_types.specs.declared.config.AtLimit.TheVariants.{Reject};
+ghost use Rattle.dmc_types.specs.declared.config.Shares.TheVariants.{Virtual};
 ghost use Rattle.dmc_history_laws.specs.Bounds.{InOrderOfArrival, LimitBound, ReservationBound};
+ghost use Rattle.dmc_history_laws.specs.Rejecting.{AreAddedInTime, AreQueuedInTime, IsFutureInTime};
+ghost use Rattle.dmc_history_laws.specs.Shares.{NoCredit, NoDebt};
 
 use dmc_tag::tag::Tag;
 
@@ -20,4 +24,25 @@ pub fn histories_keep_to_limits<T: Tag>()
 /// .. a_k, less hz for each Priority grant of the client after a_i, is at most the reservation times the ticks between.
 pub fn histories_keep_to_reservations<T: Tag>()
     ensures { (config : Setting) → 0 < config.hz → ReservationBound T.ops config }
+{}
+
+/// With shares in virtual time nobody has a credit: the P of a request that arrives is at least the P of every request that was
+/// granted by weight before it. Whoever comes, or comes back, starts where the others are (extension: start-time fair queueing).
+pub fn shares_give_no_credit<T: Tag>()
+    ensures { (config : Setting) → 0 < config.hz → config.shares ≡ Virtual → NoCredit T.ops config }
+{}
+
+/// With shares in virtual time nobody has a debt: whoever asks all the time, and is within its limit, is never behind another's
+/// service by weight by more than where both began (extension: start-time fair queueing).
+pub fn shares_leave_no_debt<T: Tag>()
+    ensures { (config : Setting) → 0 < config.hz → config.shares ≡ Virtual → NoDebt T.ops T.fraction config }
+{}
+
+/// If adds are refused at the limit, nobody waits longer for a limit than the threshold: the L of a request is at most `threshold`
+/// ticks past the moment of its add, and so a Future is at most `threshold` ticks past the last arrival of each client with a
+/// queued request (extension: Ceph's `AtLimit::Reject`).
+pub fn nobody_waits_past_the_threshold<T: Tag>()
+    ensures added { (config : Setting) → 0 < config.hz → (threshold : ℕ) → config.at_limit ≡ Reject threshold → AreAddedInTime T.ops config threshold }
+    ensures queued { (config : Setting) → 0 < config.hz → (threshold : ℕ) → config.at_limit ≡ Reject threshold → AreQueuedInTime T.ops config threshold }
+    ensures future { (config : Setting) → 0 < config.hz → (threshold : ℕ) → config.at_limit ≡ Reject threshold → IsFutureInTime T.ops config threshold }
 {}

@@ -58,9 +58,9 @@ not_tagged (replies.Refused refusal) other pair = refl
 -- a queue that wants memory for an add would tag the message
 added_accepted : {T : Type 0} (ops : Tagging T) (u : State T) (id : ClientId) (token : Token) (params : Params) (at : ℕ)
     → IsOk (step_outcome ops u (commands.Add id token params at)) → is_accepting (Served ((step ops u (commands.Add id token params at)).1)) ≡ true
-added_accepted {T} ops u id token params at h = by (can_add ops u id params (ops.of_moment (effective u at))) refl h
+added_accepted {T} ops u id token params at h = by (can_add ops u id params (effective u at)) refl h
   where
-    by : (r : Result (Option T × Tags T) Refusal) → can_add ops u id params (ops.of_moment (effective u at)) ≡ r → IsOk (step_outcome ops u (commands.Add id token params at))
+    by : (r : Result (Option T × Tags T) Refusal) → can_add ops u id params (effective u at) ≡ r → IsOk (step_outcome ops u (commands.Add id token params at))
         → is_accepting (Served ((step ops u (commands.Add id token params at)).1)) ≡ true
     by (Ok (shift, tags)) e h = rw e refl
     by (Err refusal) e h = let none = rw e at h in absurd (none_ok none)

@@ -3,7 +3,7 @@ use Rattle.std.proofs.Common.{◌≡◌, ◌-◌, ◌<◌, ◌≤◌, true, fals
 use Rattle.std.specs.Prelude.{Result, IsErrOf, ◌↔◌, ⊤}
 use Rattle.std.proofs.lemmas.Bool.{ltb-true, lt-ltb, eqb-true, false_from_ne_true}
 use Rattle.std.proofs.lemmas.List.{length-set}
-use Rattle.dmc_types.specs.Values.{Params}
+use Rattle.dmc_types.specs.Values.{Params, Counts}
 use Rattle.dmc_types.specs.declared.ids.ServerId.{ServerId}
 use Rattle.dmc_types.specs.declared.ids.Token.{Token}
 use Rattle.dmc_types.specs.declared.config.Counting.{Counting}
@@ -71,7 +71,7 @@ module _ (T : Type 0) (h : Held) (s : ServerId) (token : Token) where
     track_full : h.tracker.completions.delta ≤ h.tracker.most → (counting : Counting) (c : Client) → Matches counting h c
         → IsStampFull h.tracker.counting h.tracker.most s c.list → stamp {T = T} counting s token c ≡ Err TrackFull
     track_full counted counting c m full =
-        let few : (completions c.list).delta ≤ max_completions = omega (arith, counted, m.most, ap (λ (p : Params). p.delta) m.tracker.completed) in
+        let few : (completions c.list).delta ≤ max_completions = omega (arith, counted, m.most, ap (λ (p : Counts). p.delta) m.tracker.completed) in
         rw (room_too counting h c s m room, stamp_is_full s c.list counting few (rw (m.form, m.most) at full)) refl
 
     ok : (counting : Counting) (c : Client) → Matches counting h c → (IsStampFull h.tracker.counting h.tracker.most s c.list → ⊥)

@@ -81,7 +81,7 @@ module _ {T : Type 0} (ops : Tagging T) where
 
 -- the state that the first clients of a scene register to
 abbrev pub after_first : {T : Type 0} → Tagging T → SceneValue → ℕ → State T
-after_first ops scene i = state_after ops (opening scene.config) (map registration (map named_rates (take i scene.clients)))
+after_first ops scene i = state_after ops (opening ops scene.config) (map registration (map named_rates (take i scene.clients)))
 
 pub record HaveRegistered {T : Type 0} (ops : Tagging T) (scene : SceneValue) (i : ℕ) : Type 0 where
   pub config : (after_first ops scene i).config ≡ scene.config
@@ -104,7 +104,7 @@ next_registers {T} ops scene i x apart spaced limit within is h =
     let before = map registration (map named_rates (take i cs)) in
     let more : map registration (map named_rates (take (i + 1) cs)) ≡ before ++ registration (named_rates x) ∷ [] =
     ap (map registration) (take_one_more named_rates cs i x within is) ∙ map-append registration (map named_rates (take i cs)) (named_rates x ∷ []) in
-    let stepped : after_first ops scene (i + 1) ≡ (step ops u (Register x.id x.info 0)).0 = ap (state_after ops (opening scene.config)) more ∙ state_after-more ops (opening scene.config) before (registration (named_rates x)) in
+    let stepped : after_first ops scene (i + 1) ≡ (step ops u (Register x.id x.info 0)).0 = ap (state_after ops (opening ops scene.config)) more ∙ state_after-more ops (opening ops scene.config) before (registration (named_rates x)) in
     let next : after_first ops scene (i + 1) ≡ _ = stepped ∙ ap (λ (p : State T × Reply T). p.0) ruled in (
       ruled ∙ ap (λ (v : State T). (v, Registered)) (sym next),
       record {

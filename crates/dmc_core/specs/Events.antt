@@ -143,7 +143,7 @@ registration client = commands.Register client.0 client.1 0
 abbrev pub opening_run : {T : Type 0} → Tagging T → Setting → Counting → ℕ → List (ClientId × Rates) → Run T
 opening_run ops config counting servers clients = record {
   counting = counting;
-  servers = replicate servers (state_after ops (opening config) (map registration clients));
+  servers = replicate servers (state_after ops (opening ops config) (map registration clients));
   clients = map (λ c. record { id = c.0; list = []; pairs = replicate servers no_pair }) clients;
 }
 

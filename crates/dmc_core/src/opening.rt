@@ -36,7 +36,7 @@ fn open_clients(alloc: Global, scene: &Scene) -> Result<Vec<CoreClient>, AllocEr
 
 /// Registers the clients of a scene at a new queue. None is refused: their ids differ, and their rates have spacings.
 fn register_all<T: Tag, Q: Scheduler<T>>(queue: &mut Q, scene: &Scene) -> Result<(), AllocError>
-    requires opens { Q.state queue.old ≡ opening scene.now.config }
+    requires opens { Q.state queue.old ≡ opening T.ops scene.now.config }
     requires spaced { HaveSpacings T.ops scene.now }
     ensures { OnOk result (Q.state queue.new ≡ opening_state T.ops scene.now) }
 {
@@ -55,7 +55,7 @@ fn open_server<T: Tag, Q: Scheduler<T> + Drop>(
     mut queue: Q,
     scene: &Scene,
 ) -> Result<CoreServer<Q>, AllocError>
-    requires opens { Q.state queue ≡ opening scene.now.config }
+    requires opens { Q.state queue ≡ opening T.ops scene.now.config }
     requires spaced { HaveSpacings T.ops scene.now }
     ensures { IfOk result (λ server. (Q.state server.queue ≡ opening_state T.ops scene.now) × (server.full ≡ 0)) }
 {

@@ -4,7 +4,7 @@ use Rattle.std.specs.Prelude.{slice_get, sum_by, if◌then◌else◌}
 use Rattle.std.proofs.lemmas.List.Sums.{sum_by-cons, sum_by_push}
 use Rattle.std.proofs.lemmas.List.{append-nil, length-map, take-append-drop, take-append-le}
 use Rattle.std.proofs.lemmas.Option.{slice_get_within}
-use Rattle.dmc_types.specs.Values.{Params, no_counts}
+use Rattle.dmc_types.specs.Values.{Params, Counts, no_counts, counts_of}
 use Rattle.dmc_types.specs.declared.ids.ClientId.{ClientId}
 use Rattle.dmc_types.specs.declared.ids.ServerId.{ServerId}
 use Rattle.dmc_types.specs.declared.command.Command.{Command}
@@ -42,9 +42,9 @@ module _ (s : ServerId) where
       let to_stamp = before ++ Stamp q params ∷ [] in
       let kept = skipped-none All s [] to_stamp (skips-stamp s before q params ∙ unskipped) in
       let whole = sym all ∙ ap (λ x. plus (plus x (skipped All s to_stamp)) (pending All s to_stamp)) more
-      ∙ ap (λ x. plus (plus (plus (sent s before) params) x) (pending All s to_stamp)) kept
-      ∙ ap (plus (plus (plus (sent s before) params) no_counts)) none in
-      let delta = ap (λ (x : Params). x.delta) (sym same ∙ whole) in
+      ∙ ap (λ x. plus (plus (plus (sent s before) (counts_of params)) x) (pending All s to_stamp)) kept
+      ∙ ap (plus (plus (plus (sent s before) (counts_of params)) no_counts)) none in
+      let delta = ap (λ (x : Counts). x.delta) (sym same ∙ whole) in
       omega (arith, delta)
 
   abbrev Upto : List TrackerEvent → List TrackerEvent → ℕ → Type 0
@@ -57,16 +57,16 @@ module _ (s : ServerId) where
       ap (λ xs. (completions xs).delta) (sym (append_assoc before (e ∷ []) (before_stamp s i es))) ∙ rest ∙ ap (λ n. n + deltas (take (suc i) (stamps_to s es))) same
 
   at_response : (before es : List TrackerEvent) (q : ServerId) (phase : PhaseType) (i : ℕ) → Upto (before ++ Response q phase ∷ []) es i → Upto before (Response q phase ∷ es) i
-  at_response before es q phase zero rest = past before es (Response q phase) zero (ap (λ (x : Params). x.delta) (sent-response s before q phase)) rest
-  at_response before es q phase (suc i) rest = past before es (Response q phase) (suc i) (ap (λ (x : Params). x.delta) (sent-response s before q phase)) rest
+  at_response before es q phase zero rest = past before es (Response q phase) zero (ap (λ (x : Counts). x.delta) (sent-response s before q phase)) rest
+  at_response before es q phase (suc i) rest = past before es (Response q phase) (suc i) (ap (λ (x : Counts). x.delta) (sent-response s before q phase)) rest
 
   at_skip : (before es : List TrackerEvent) (q : ServerId) (i : ℕ) → Upto (before ++ Skip q ∷ []) es i → Upto before (Skip q ∷ es) i
-  at_skip before es q zero rest = past before es (Skip q) zero (ap (λ (x : Params). x.delta) (sent-skip s before q)) rest
-  at_skip before es q (suc i) rest = past before es (Skip q) (suc i) (ap (λ (x : Params). x.delta) (sent-skip s before q)) rest
+  at_skip before es q zero rest = past before es (Skip q) zero (ap (λ (x : Counts). x.delta) (sent-skip s before q)) rest
+  at_skip before es q (suc i) rest = past before es (Skip q) (suc i) (ap (λ (x : Counts). x.delta) (sent-skip s before q)) rest
 
   at_other : (before es : List TrackerEvent) (q : ServerId) (params : Params) → (q.0 == s.0) ≡ false → (i : ℕ) → Upto (before ++ Stamp q params ∷ []) es i → Upto before (Stamp q params ∷ es) i
-  at_other before es q params e zero rest = rw e (past before es (Stamp q params) zero (ap (λ (x : Params). x.delta) (sent-stamp_other s before q params e)) rest)
-  at_other before es q params e (suc i) rest = rw e (past before es (Stamp q params) (suc i) (ap (λ (x : Params). x.delta) (sent-stamp_other s before q params e)) rest)
+  at_other before es q params e zero rest = rw e (past before es (Stamp q params) zero (ap (λ (x : Counts). x.delta) (sent-stamp_other s before q params e)) rest)
+  at_other before es q params e (suc i) rest = rw e (past before es (Stamp q params) (suc i) (ap (λ (x : Counts). x.delta) (sent-stamp_other s before q params e)) rest)
 
   at_first : (before es : List TrackerEvent) (q : ServerId) (params : Params) → (q.0 == s.0) ≡ true → IsTracked All (before ++ Stamp q params ∷ es) → skips s before ≡ 0 → Upto before (Stamp q params ∷ es) zero
   at_first before es q params e tracked unskipped =
@@ -79,7 +79,7 @@ module _ (s : ServerId) where
   at_later : (before es : List TrackerEvent) (q : ServerId) (params : Params) → (q.0 == s.0) ≡ true → (i : ℕ) → Upto (before ++ Stamp q params ∷ []) es i → Upto before (Stamp q params ∷ es) (suc i)
   at_later before es q params e i rest =
       let sum = sum_by-cons (λ (p : Params). p.delta) params (take (suc i) (stamps_to s es)) in
-      let more = ap (λ (x : Params). x.delta) (sent-stamp_same s before q params e) in
+      let more = ap (λ (x : Counts). x.delta) (sent-stamp_same s before q params e) in
       let joined = ap (λ xs. (completions xs).delta) (sym (append_assoc before (Stamp q params ∷ []) (before_stamp s i es))) in
       let all : (sent s (before ++ Stamp q params ∷ [])).delta + deltas (take (suc i) (stamps_to s es)) ≡ (sent s before).delta + deltas (params ∷ take (suc i) (stamps_to s es)) = omega (arith, sum, more) in
       rw e (joined ∙ rest ∙ all)

@@ -129,7 +129,7 @@ module _ {T : Type 0} (ops : Tagging T) where
 
   pub histories_replay : HistoriesReplay ops
   histories_replay = λ scene s events within.
-      let u = opening scene.config in
+      let u = opening ops scene.config in
       let cs = map named_rates scene.clients in
       let registered = registrations ops u cs in
       let opened = at_replicate scene.servers s.0 (state_after ops u (map registration cs)) within ∙ ap (λ xs. Some (state_after ops u xs)) (sym (registrations_are u cs)) in

@@ -211,8 +211,8 @@ module _ {T : Type 0} (ops : Tagging T) (scene : SceneValue) (id : ClientId) (s 
   follows events =
       let later = history_from ops s (opening_of ops scene) events in
       let same : arrivals id (history ops scene s events) ≡ arrivals id later =
-      arrivals-append id (registrations ops (opening scene.config) (map named_rates scene.clients)) later
-      ∙ ap (λ qs. qs ++ arrivals id later) (registered_none (opening scene.config) (map named_rates scene.clients)) in
+      arrivals-append id (registrations ops (opening ops scene.config) (map named_rates scene.clients)) later
+      ∙ ap (λ qs. qs ++ arrivals id later) (registered_none (opening ops scene.config) (map named_rates scene.clients)) in
       subst (λ qs. AreFollowed ops scene.counting id s (params_of qs) (run_of ops scene events)) (sym same) (events_follow ops scene.counting id s [] (opening_of ops scene) events opening_follows)
 
 pub arrivals_follow : {T : Type 0} (ops : Tagging T) → ArrivalsFollowStamps ops

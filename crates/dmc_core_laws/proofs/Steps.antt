@@ -57,7 +57,7 @@ module _ {T Q : Type 0} (ops : Tagging T) (state : Q → State T) where
   history_is : (scene : SceneValue) (opened new : CoreValue Q) (steps : List (CoreEvent × Answer T)) (s : ServerId) → RepresentsRun state opened (opening_of ops scene) → Steps ops state opened steps new
       → replied_history ops scene s steps ≡ history ops scene s (replied_events steps)
   history_is scene opened new steps s opens h =
-      ap (λ es. registrations ops (opening scene.config) (map named_rates scene.clients) ++ es) (replied_is s (opening_of ops scene) (heard steps) (stay (opening_of ops scene) opened new steps opens h).answers)
+      ap (λ es. registrations ops (opening ops scene.config) (map named_rates scene.clients) ++ es) (replied_is s (opening_of ops scene) (heard steps) (stay (opening_of ops scene) opened new steps opens h).answers)
 
 -- ---- the bounds
 

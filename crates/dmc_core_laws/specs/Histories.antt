@@ -82,7 +82,7 @@ history_from ops s run (e ∷ es) =
     recorded_events (is_server s (server_named e)) (queue_command run e) ((cluster_step ops run e).1) ++ history_from ops s ((cluster_step ops run e).0) es
 
 abbrev pub history : {T : Type 0} → Tagging T → SceneValue → ServerId → List CoreEvent → List (Event T)
-history ops scene s events = registrations ops (opening scene.config) (map named_rates scene.clients) ++ history_from ops s (opening_of ops scene) events
+history ops scene s events = registrations ops (opening ops scene.config) (map named_rates scene.clients) ++ history_from ops s (opening_of ops scene) events
 
 -- The history of a server replays, and the state after it by the rules is the server's plain state.
 pub record Replays {T : Type 0} (ops : Tagging T) (scene : SceneValue) (s : ServerId) (events : List CoreEvent) : Type 0 where

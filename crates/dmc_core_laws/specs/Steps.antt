@@ -53,7 +53,7 @@ replied_from ops s run (x ∷ xs) = recorded_events (is_server s (server_named x
 
 -- the history of a server, with the core's replies
 abbrev pub replied_history : {T : Type 0} → Tagging T → SceneValue → ServerId → List (CoreEvent × Answer T) → List (Event T)
-replied_history ops scene s steps = registrations ops (opening scene.config) (map named_rates scene.clients) ++ replied_from ops s (opening_of ops scene) (heard steps)
+replied_history ops scene s steps = registrations ops (opening ops scene.config) (map named_rates scene.clients) ++ replied_from ops s (opening_of ops scene) (heard steps)
 
 -- of each core that opened for a scene and was called with these events
 abbrev pub LimitOfCores : {T Q : Type 0} → Tagging T → (Q → State T) → Type 0

@@ -5,7 +5,7 @@ use Rattle.std.specs.Prelude.{sum_by}
 use Rattle.std.proofs.lemmas.List.{length-map}
 use Rattle.std.proofs.lemmas.Simd.{map-map}
 use Rattle.std.proofs.lemmas.Option.{get_or_from_slice_get, slice_get-get_or, slice_get_within}
-use Rattle.dmc_types.specs.Values.{Params}
+use Rattle.dmc_types.specs.Values.{Counts}
 use Rattle.dmc_types.specs.declared.ids.ServerId.{ServerId}
 use Rattle.dmc_types.specs.declared.config.Counting.{Counting}
 use Rattle.dmc_types.specs.declared.config.Counting.TheVariants.{All, Others}
@@ -42,14 +42,14 @@ use Rattle.dmc_settle.proofs.Sums.{sum_to, sum_places, same_sum, one_of_sum}
 sent_within_due : (b : tracker_book.BookState) (s : ServerId) → s.0 < length b.desks → IsConsistent b → (sent s b.events).delta ≤ (due b.tracker.counting s b.events).delta
 sent_within_due b s within h =
     let here = ap (λ (x : ServerNumbers). x.sent.delta) (h.represents.each s (omega (arith, within, h.servers))) in
-    let sum = ap (λ (x : Params). x.delta) (h.balanced s within) in
+    let sum = ap (λ (x : Counts). x.delta) (h.balanced s within) in
     omega (arith, here, sum)
 
 within_bound : (counting : Counting) (c : ClientReport) (n : ℕ) (s : ServerId) (events : List TrackerEvent) → n ≤ (due counting s events).delta
     → c.completed ≡ (completions events).delta → stamps s events ≤ c.sent + c.held.stamps → n ≤ delta_bound counting c
 within_bound All c n s events small completed few = omega (arith, small, completed)
 within_bound Others c n s events small completed few =
-    let parts = ap (λ (x : Params). x.delta) (completions-by_server events s) in
+    let parts = ap (λ (x : Counts). x.delta) (completions-by_server events s) in
     omega (arith, small, completed, few, parts)
 
 -- one of the tills that are left, and all

@@ -3,7 +3,7 @@ use Rattle.std.proofs.Common.{◌≡◌, ℕ, ◌+◌, ◌<◌, ◌≤◌, List,
 use Rattle.std.specs.Prelude.{slice_set, sum_by}
 use Rattle.std.proofs.lemmas.List.Sums.{sum_by-set}
 use Rattle.std.proofs.lemmas.List.{length-append, length-set}
-use Rattle.dmc_types.specs.Values.{Params}
+use Rattle.dmc_types.specs.Values.{Counts}
 use Rattle.dmc_types.specs.declared.ids.ServerId.{ServerId}
 use Rattle.dmc_types.specs.declared.config.Counting.{Counting}
 use Rattle.dmc_types.specs.declared.config.Counting.TheVariants.{All, Others}
@@ -47,8 +47,8 @@ one_response Priority desk = omega arith
 
 one_completed : (s : ServerId) (phase : PhaseType) (events : List TrackerEvent)
     → (completions (events ++ Response s phase ∷ [])).delta ≡ (completions events).delta + 1
-one_completed s Reservation events = ap (λ (x : Params). x.delta) (completions-response events s Reservation)
-one_completed s Priority events = ap (λ (x : Params). x.delta) (completions-response events s Priority)
+one_completed s Reservation events = ap (λ (x : Counts). x.delta) (completions-response events s Reservation)
+one_completed s Priority events = ap (λ (x : Counts). x.delta) (completions-response events s Priority)
 
 pub IsConsistent-stamp : (b : BookState) (s : ServerId) → s.0 < length b.desks → length b.events < b.first + b.max_events → IsConsistent b
     → IsConsistent (book_after_stamp s b)
@@ -68,7 +68,7 @@ IsConsistent-stamp b s within room h =
           (IsDesk-stamp_other b.client b.events s params);
       servers = servers;
       completed =
-          let kept = ap (λ (x : Params). x.delta) (completions-stamp b.events s params) in
+          let kept = ap (λ (x : Counts). x.delta) (completions-stamp b.events s params) in
           let sums = responded_set b.desks s (side_after_stamp params (desk_at b.desks s)) 0 within (omega arith) in
           omega (arith, kept, sums, h.completed);
       released = omega (arith, h.released, length-append b.events (Stamp s params ∷ []));
@@ -91,7 +91,7 @@ IsConsistent-skip b s within room h =
       represents = represents;
       desks = λ q q_in. IsDesk-skip b.client b.events q s (desk_at b.desks q) (h.desks q q_in);
       servers = servers;
-      completed = ap (λ (x : Params). x.delta) (completions-skip b.events s) ∙ h.completed;
+      completed = ap (λ (x : Counts). x.delta) (completions-skip b.events s) ∙ h.completed;
       released = omega (arith, h.released, length-append b.events (Skip s ∷ []));
       few = h.few;
       within = omega (arith, length-append b.events (Skip s ∷ []));

@@ -5,7 +5,7 @@ use Rattle.std.specs.Borrow.{MutBor}
 use Rattle.std.specs.Prelude.{Option, Some, None, IsSome, IfSome}
 use Rattle.std.proofs.lemmas.Bool.Decides.{eqb_tells}
 use Rattle.std.proofs.lemmas.Bool.{eq-eqb}
-use Rattle.dmc_types.specs.Values.{Params}
+use Rattle.dmc_types.specs.Values.{Params, Counts}
 use Rattle.dmc_types.specs.declared.ids.ServerId.{ServerId}
 use Rattle.dmc_types.specs.declared.config.PhaseType.{PhaseType}
 use Rattle.dmc_types.specs.declared.config.PhaseType.TheVariants.{Reservation, Priority}
@@ -39,8 +39,8 @@ module _ (events : List TrackerEvent) (s : ServerId) where
       let sums = sent-stamp_same s events s p here in
       record {
         stamps = more _ _ 1 _ (stamps-stamp_same s events s p here) h.stamps;
-        delta = more _ _ p.delta _ (ap (λ (x : Params). x.delta) sums) h.delta;
-        rho = more _ _ p.rho _ (ap (λ (x : Params). x.rho) sums) h.rho;
+        delta = more _ _ p.delta _ (ap (λ (x : Counts). x.delta) sums) h.delta;
+        rho = more _ _ p.rho _ (ap (λ (x : Counts). x.rho) sums) h.rho;
       }
 
   books-stamp_other : (q : ServerId) (p : Params) (b : StampAccounts) → (q.0 == s.0) ≡ false → AreStampBooks events s b
@@ -49,8 +49,8 @@ module _ (events : List TrackerEvent) (s : ServerId) where
       let sums = sent-stamp_other s events q p there in
       record {
         stamps = same _ _ _ (stamps-stamp_other s events q p there) h.stamps;
-        delta = same _ _ _ (ap (λ (x : Params). x.delta) sums) h.delta;
-        rho = same _ _ _ (ap (λ (x : Params). x.rho) sums) h.rho;
+        delta = same _ _ _ (ap (λ (x : Counts). x.delta) sums) h.delta;
+        rho = same _ _ _ (ap (λ (x : Counts). x.rho) sums) h.rho;
       }
 
   books-skip : (q : ServerId) (b : StampAccounts) → AreStampBooks events s b → AreStampBooks (events ++ Skip q ∷ []) s b
@@ -58,8 +58,8 @@ module _ (events : List TrackerEvent) (s : ServerId) where
       let sums = sent-skip s events q in
       record {
         stamps = same _ _ _ (stamps-skip s events q) h.stamps;
-        delta = same _ _ _ (ap (λ (x : Params). x.delta) sums) h.delta;
-        rho = same _ _ _ (ap (λ (x : Params). x.rho) sums) h.rho;
+        delta = same _ _ _ (ap (λ (x : Counts). x.delta) sums) h.delta;
+        rho = same _ _ _ (ap (λ (x : Counts). x.rho) sums) h.rho;
       }
 
   books-response : (q : ServerId) (phase : PhaseType) (b : StampAccounts) → AreStampBooks events s b
@@ -68,8 +68,8 @@ module _ (events : List TrackerEvent) (s : ServerId) where
       let sums = sent-response s events q phase in
       record {
         stamps = same _ _ _ (stamps-response s events q phase) h.stamps;
-        delta = same _ _ _ (ap (λ (x : Params). x.delta) sums) h.delta;
-        rho = same _ _ _ (ap (λ (x : Params). x.rho) sums) h.rho;
+        delta = same _ _ _ (ap (λ (x : Counts). x.delta) sums) h.delta;
+        rho = same _ _ _ (ap (λ (x : Counts). x.rho) sums) h.rho;
       }
 
   -- the grant tills: a stamp, a skip, a response of their server, a response of another

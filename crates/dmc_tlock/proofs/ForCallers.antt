@@ -2,7 +2,7 @@
 use Rattle.std.proofs.Common.{ℕ, ◌+◌, ◌<◌, ◌≤◌, List, [], ◌∷◌, length, Bool, true, false, cond, ap, arith}
 use Rattle.std.specs.Prelude.{◌==◌}
 use Rattle.std.proofs.lemmas.List.Sums.{sum_by-cons}
-use Rattle.dmc_types.specs.Values.{Params}
+use Rattle.dmc_types.specs.Values.{Counts}
 use Rattle.dmc_types.specs.declared.ids.ServerId.{ServerId}
 use Rattle.dmc_types.specs.declared.config.Counting.{Counting}
 use Rattle.dmc_types.specs.declared.config.Counting.TheVariants.{All, Others}
@@ -46,8 +46,8 @@ due-le All s events = (let few = stamps_and_completions s events in (omega (arit
 due-le Others s events =
     let few = stamps_and_completions s events in
     let by_server = completions-by_server events s in
-    let all = ap (λ (x : Params). x.delta) by_server in
-    let constraint = ap (λ (x : Params). x.rho) by_server in
+    let all = ap (λ (x : Counts). x.delta) by_server in
+    let constraint = ap (λ (x : Counts). x.rho) by_server in
     (omega (arith, few, all), omega (arith, few, constraint))
 
 -- what the stamp books of a server total is at most n
@@ -63,8 +63,8 @@ has_room b s within h =
     let delta_sent = ap (λ (x : ServerNumbers). x.sent.delta) there in
     let rho_sent = ap (λ (x : ServerNumbers). x.sent.rho) there in
     let sum = h.balanced s within in
-    let delta_sum = ap (λ (x : Params). x.delta) sum in
-    let rho_sum = ap (λ (x : Params). x.rho) sum in
+    let delta_sum = ap (λ (x : Counts). x.delta) sum in
+    let rho_sum = ap (λ (x : Counts). x.rho) sum in
     let few = due-le b.tracker.counting s b.events in
     let n = stamps-le-length s b.events in
     record {

@@ -1,6 +1,6 @@
 -- What is read off a consistent book's tracker and desk is what its list has.
 use Rattle.std.proofs.Common.{◌≡◌, ℕ, ◌+◌, ◌<◌, ◌≤◌, List, length, ap, ◌∙◌, arith}
-use Rattle.dmc_types.specs.Values.{Params}
+use Rattle.dmc_types.specs.Values.{Counts}
 use Rattle.dmc_types.specs.declared.ids.ServerId.{ServerId}
 use Rattle.dmc_types.specs.declared.config.Counting.{Counting}
 use Rattle.dmc_types.specs.declared.config.Counting.TheVariants.{All, Others}
@@ -30,11 +30,11 @@ module _ (b : BookState) (s : ServerId) (within : s.0 < length b.desks) (h : IsC
   completed_delta : b.tracker.completions.delta ≡ (others s b.events).delta + ((desk_at b.desks s).held.reservation.amount + (desk_at b.desks s).held.priority.amount)
   completed_delta =
       let held = (h.desks s within).held in
-      omega (arith, ap (λ (x : Params). x.delta) (completions-by_server b.events s), ap (λ (x : Params). x.delta) h.represents.completed, held.reservation, held.priority)
+      omega (arith, ap (λ (x : Counts). x.delta) (completions-by_server b.events s), ap (λ (x : Counts). x.delta) h.represents.completed, held.reservation, held.priority)
 
   completed_rho : b.tracker.completions.rho ≡ (others s b.events).rho + (desk_at b.desks s).held.reservation.amount
   completed_rho =
-      omega (arith, ap (λ (x : Params). x.rho) (completions-by_server b.events s), ap (λ (x : Params). x.rho) h.represents.completed, (h.desks s within).held.reservation)
+      omega (arith, ap (λ (x : Counts). x.rho) (completions-by_server b.events s), ap (λ (x : Counts). x.rho) h.represents.completed, (h.desks s within).held.reservation)
 
   pub readable : IsReadable b.tracker (desk_at b.desks s) s
   readable = record {
@@ -60,8 +60,8 @@ module _ (b : BookState) (s : ServerId) (within : s.0 < length b.desks) (h : IsC
       let d = h.desks s within in
       let there = h.represents.each s (omega (arith, h.servers)) in
       let sent = ap (λ (x : ServerNumbers). x.sent) there in
-      let delta = ap (λ (p : ℕ × ℕ). p.0) t.sent ∙ ap (λ (x : Params). x.delta) sent in
-      let rho = ap (λ (p : ℕ × ℕ). p.1) t.sent ∙ ap (λ (x : Params). x.rho) sent in
+      let delta = ap (λ (p : ℕ × ℕ). p.0) t.sent ∙ ap (λ (x : Counts). x.delta) sent in
+      let rho = ap (λ (p : ℕ × ℕ). p.1) t.sent ∙ ap (λ (x : Counts). x.rho) sent in
       record {
         stamps = omega (arith, few.stamps, t.stamps);
         delta = omega (arith, few.delta, d.books.delta.total, delta);
@@ -69,17 +69,17 @@ module _ (b : BookState) (s : ServerId) (within : s.0 < length b.desks) (h : IsC
       }
 
 -- the sums of what is told
-sums_read : (counting : Counting) (s : ServerId) (events : List TrackerEvent) (sent skipped pending : Params) (status : TrackStatus)
+sums_read : (counting : Counting) (s : ServerId) (events : List TrackerEvent) (sent skipped pending : Counts) (status : TrackStatus)
     → status.counting ≡ counting → plus (plus sent skipped) pending ≡ due counting s events → status.sent ≡ pair_of sent
     → status.skipped ≡ pair_of skipped → status.pending ≡ pair_of pending → status.completions ≡ pair_of (completions events) → status.stamps ≡ stamps s events
     → status.others ≡ pair_of (others s events) → AreSums status
 sums_read All s events sent skipped pending status form sum a k b c n o =
-    let all = ap (λ (x : Params). x.delta) sum in
-    let constraint = ap (λ (x : Params). x.rho) sum in
+    let all = ap (λ (x : Counts). x.delta) sum in
+    let constraint = ap (λ (x : Counts). x.rho) sum in
     rw (form, a, k, b, c) (record { all = all; constraint = constraint })
 sums_read Others s events sent skipped pending status form sum a k b c n o =
-    let all = ap (λ (x : Params). x.delta) sum in
-    let constraint = ap (λ (x : Params). x.rho) sum in
+    let all = ap (λ (x : Counts). x.delta) sum in
+    let constraint = ap (λ (x : Counts). x.rho) sum in
     rw (form, a, k, b, n, o) (record { all = all; constraint = constraint })
 
 pub AreSums-status : (b : BookState) (s : ServerId) → s.0 < length b.desks → IsConsistent b → (status : TrackStatus) → IsStatusOf b s status

@@ -1,7 +1,7 @@
 -- What holds of every tracker book: the invariant of its type.
 use Rattle.std.specs.Prelude.{◌≡◌, ℕ, ◌+◌, ◌<◌, ◌≤◌, List, length, sum_by}
 use Rattle.dmc_types.specs.Limits.{max_events}
-use Rattle.dmc_types.specs.Values.{Params}
+use Rattle.dmc_types.specs.Values.{Counts}
 use Rattle.dmc_types.specs.declared.ids.ServerId.{ServerId}
 use Rattle.dmc_types.specs.declared.config.Counting.{Counting}
 use Rattle.dmc_types.specs.declared.config.Counting.TheVariants.{All, Others}
@@ -16,7 +16,7 @@ use Rattle.dmc_tlock.specs.BookState.{BookState, desk_at}
 
 -- what was sent to s, what was skipped and what is pending there, together: the completions; in `Others` the stamps to s
 -- and the completions at the other servers
-abbrev pub due : Counting → ServerId → List TrackerEvent → Params
+abbrev pub due : Counting → ServerId → List TrackerEvent → Counts
 due All s events = completions events
 due Others s events = plus (record { delta = stamps s events; rho = stamps s events }) (others s events)
 

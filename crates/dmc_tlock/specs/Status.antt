@@ -1,6 +1,6 @@
 -- What `status` returns.
 use Rattle.std.specs.Prelude.{◌≡◌, ℕ, ◌+◌, ◌≤◌}
-use Rattle.dmc_types.specs.Values.{Params}
+use Rattle.dmc_types.specs.Values.{Counts}
 use Rattle.dmc_types.specs.declared.ids.ServerId.{ServerId}
 use Rattle.dmc_types.specs.declared.config.Counting.{Counting}
 use Rattle.dmc_types.specs.declared.config.Counting.TheVariants.{All, Others}
@@ -10,8 +10,8 @@ use Rattle.dmc_ledger.specs.Bundles.{StampHoldings}
 use Rattle.dmc_tlock.specs.BookState.{BookState}
 use Rattle.dmc_tlock.specs.declared.status.TrackStatus.{TrackStatus}
 
-abbrev pub pair_of : Params → ℕ × ℕ
-pair_of params = (params.delta, params.rho)
+abbrev pub pair_of : Counts → ℕ × ℕ
+pair_of counts = (counts.delta, counts.rho)
 
 -- the numbers of the tracker and of its list, seen from s
 pub record IsStatusOf (b : BookState) (s : ServerId) (status : TrackStatus) : Type 0 where

@@ -1,7 +1,7 @@
 -- How many responses and stamps a tracker's list has, and the completions at one server.
 use Rattle.std.proofs.Common.{◌≡◌, ℕ, ◌+◌, ◌≤◌, List, [], ◌∷◌, ◌++◌, length, refl, sym, ap, ◌∙◌, arith, true, false, cond, ◌==◌}
 use Rattle.std.proofs.lemmas.List.Sums.{sum_by_push, count_by-le-length}
-use Rattle.dmc_types.specs.Values.{Params, no_counts}
+use Rattle.dmc_types.specs.Values.{Params, Counts, no_counts}
 use Rattle.dmc_types.specs.declared.ids.ServerId.{ServerId}
 use Rattle.dmc_types.specs.declared.config.Counting.TheVariants.{Others}
 use Rattle.dmc_types.specs.declared.config.PhaseType.{PhaseType}
@@ -9,10 +9,10 @@ use Rattle.dmc_types.specs.declared.config.PhaseType.TheVariants.{Reservation, P
 use Rattle.dmc_tracker.specs.declared.event.TrackerEvent.{TrackerEvent}
 use Rattle.dmc_tracker.specs.declared.event.TrackerEvent.TheVariants.{Stamp, Skip, Response}
 use Rattle.dmc_tracker.specs.TrackerList.{plus, one_in, completed_by, counted_by, is_stamp_to, is_response_in, completions, completions_at, others, responses, stamps}
-use Rattle.dmc_tracker.proofs.ListLemmas.{same_params, plus-none, total-push, snoc}
+use Rattle.dmc_tracker.proofs.ListLemmas.{same_counts, plus-none, total-push, snoc}
 
 -- what an entry completes at s
-abbrev completed_at : ServerId → TrackerEvent → Params
+abbrev completed_at : ServerId → TrackerEvent → Counts
 completed_at s e = record {
   delta = cond (is_response_in s Reservation e) 1 0 + cond (is_response_in s Priority e) 1 0;
   rho = cond (is_response_in s Reservation e) 1 0;
@@ -20,12 +20,12 @@ completed_at s e = record {
 
 -- a response completes at its own server, and there alone
 completed_at-same : (q s : ServerId) (phase : PhaseType) → (q.0 == s.0) ≡ true → completed_at s (Response q phase) ≡ one_in phase
-completed_at-same q s Reservation here = same_params _ _ (ap (λ b. cond b 1 0 + 0) here) (ap (λ b. cond b 1 0) here)
-completed_at-same q s Priority here = same_params _ _ (ap (λ b. 0 + cond b 1 0) here) refl
+completed_at-same q s Reservation here = same_counts _ _ (ap (λ b. cond b 1 0 + 0) here) (ap (λ b. cond b 1 0) here)
+completed_at-same q s Priority here = same_counts _ _ (ap (λ b. 0 + cond b 1 0) here) refl
 
 completed_at-other : (q s : ServerId) (phase : PhaseType) → (q.0 == s.0) ≡ false → completed_at s (Response q phase) ≡ no_counts
-completed_at-other q s Reservation there = same_params _ _ (ap (λ b. cond b 1 0 + 0) there) (ap (λ b. cond b 1 0) there)
-completed_at-other q s Priority there = same_params _ _ (ap (λ b. 0 + cond b 1 0) there) refl
+completed_at-other q s Reservation there = same_counts _ _ (ap (λ b. cond b 1 0 + 0) there) (ap (λ b. cond b 1 0) there)
+completed_at-other q s Priority there = same_counts _ _ (ap (λ b. 0 + cond b 1 0) there) refl
 
 -- an entry completes at s or elsewhere
 completed_by-parts : (s : ServerId) (e : TrackerEvent) → plus (completed_at s e) (counted_by Others s e) ≡ completed_by e
@@ -42,8 +42,8 @@ completed_by-parts s (Response q Priority) =
       | false ↦ refl
     ]
 
-plus-plus : (a x b y : Params) → plus (plus a x) (plus b y) ≡ plus (plus a b) (plus x y)
-plus-plus a x b y = same_params _ _ (omega arith) (omega arith)
+plus-plus : (a x b y : Counts) → plus (plus a x) (plus b y) ≡ plus (plus a b) (plus x y)
+plus-plus a x b y = same_counts _ _ (omega arith) (omega arith)
 
 module _ (s : ServerId) (events : List TrackerEvent) where
   responses-push : (phase : PhaseType) (e : TrackerEvent)
@@ -86,7 +86,7 @@ module _ (s : ServerId) (events : List TrackerEvent) where
   -- the completions at s
   completions_at-push : (e : TrackerEvent) → completions_at s (events ++ e ∷ []) ≡ plus (completions_at s events) (completed_at s e)
   completions_at-push e =
-      same_params _ _ (omega (arith, responses-push Reservation e, responses-push Priority e)) (responses-push Reservation e)
+      same_counts _ _ (omega (arith, responses-push Reservation e, responses-push Priority e)) (responses-push Reservation e)
 
   pub completions_at-stamp : (q : ServerId) (params : Params) → completions_at s (events ++ Stamp q params ∷ []) ≡ completions_at s events
   completions_at-stamp q params = completions_at-push (Stamp q params) ∙ plus-none (completions_at s events)

@@ -1,7 +1,7 @@
 -- The definitions, computed on two lists of two servers: stamp 0, response 0 reservation, stamp 1, response 1 priority,
 -- stamp 0, in each form.
 use Rattle.std.proofs.Common.{◌≡◌, ℕ, ◌^◌, List, [], ◌∷◌, ◌++◌, refl, arith, inl, inr}
-use Rattle.dmc_types.specs.Values.{Params}
+use Rattle.dmc_types.specs.Values.{Params, Counts}
 use Rattle.dmc_types.specs.declared.ids.ServerId.{ServerId}
 use Rattle.dmc_types.specs.declared.config.Counting.TheVariants.{All, Others}
 use Rattle.dmc_types.specs.declared.config.PhaseType.TheVariants.{Reservation, Priority}
@@ -9,26 +9,29 @@ use Rattle.dmc_tracker.specs.declared.event.TrackerEvent.{TrackerEvent}
 use Rattle.dmc_tracker.specs.declared.event.TrackerEvent.TheVariants.{Stamp, Skip, Response}
 use Rattle.dmc_tracker.specs.TrackerList.{completions, completions_at, others, responses, stamps, skips, sent, skipped, pending, demanded, IsComplete, IsStampFull, IsTooMuch}
 
-abbrev counts : ℕ → ℕ → Params
+abbrev counts : ℕ → ℕ → Counts
 counts delta rho = record { delta = delta; rho = rho }
+
+abbrev params : ℕ → ℕ → Params
+params delta rho = record { delta = delta; rho = rho }
 
 abbrev server : ℕ → ServerId
 server n = record { 0 = n }
 
 abbrev in_all : List TrackerEvent
 in_all =
-    Stamp (server 0) (counts 0 0) ∷ (Response (server 0) Reservation ∷ (Stamp (server 1) (counts 1 1)
+    Stamp (server 0) (params 0 0) ∷ (Response (server 0) Reservation ∷ (Stamp (server 1) (params 1 1)
     ∷ (Response (server 1) Priority ∷ [])))
 
 abbrev in_others : List TrackerEvent
 in_others =
-    Stamp (server 0) (counts 1 1) ∷ (Response (server 0) Reservation ∷ (Stamp (server 1) (counts 2 2)
+    Stamp (server 0) (params 1 1) ∷ (Response (server 0) Reservation ∷ (Stamp (server 1) (params 2 2)
     ∷ (Response (server 1) Priority ∷ [])))
 
 completions-all : completions in_all ≡ counts 2 1
 completions-all = refl
 
-demanded-all : demanded All (server 0) in_all ≡ counts 2 1
+demanded-all : demanded All (server 0) in_all ≡ params 2 1
 demanded-all = refl
 
 sent-all : sent (server 1) in_all ≡ counts 1 1
@@ -37,7 +40,7 @@ sent-all = refl
 pending-all : pending All (server 1) in_all ≡ counts 1 0
 pending-all = refl
 
-demanded-others : demanded Others (server 0) in_others ≡ counts 2 1
+demanded-others : demanded Others (server 0) in_others ≡ params 2 1
 demanded-others = refl
 
 sent-others : sent (server 1) in_others ≡ counts 2 2
@@ -114,7 +117,7 @@ skipped_in_others = in_others ++ (Skip (server 0) ∷ (Response (server 1) Prior
 skipped-others : skipped Others (server 0) skipped_in_others ≡ counts 1 0
 skipped-others = refl
 
-demanded-after_skip : demanded Others (server 0) skipped_in_others ≡ counts 2 1
+demanded-after_skip : demanded Others (server 0) skipped_in_others ≡ params 2 1
 demanded-after_skip = refl
 
 stamps-after_skip : stamps (server 0) skipped_in_others ≡ 1

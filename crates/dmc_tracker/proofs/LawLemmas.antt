@@ -3,7 +3,7 @@ use Rattle.std.proofs.Common.{◌≡◌, ℕ, ◌+◌, ◌≤◌, List, [], ◌�
 use Rattle.std.proofs.lemmas.List.Sums.{sum_by_push, sum_by-append}
 use Rattle.std.proofs.lemmas.Bool.{eq-eqb}
 use Rattle.std.proofs.lemmas.Bool.Decides.{eqb_tells}
-use Rattle.dmc_types.specs.Values.{Params, no_counts}
+use Rattle.dmc_types.specs.Values.{Params, Counts, no_counts, counts_of}
 use Rattle.dmc_types.specs.declared.ids.ServerId.{ServerId}
 use Rattle.dmc_types.specs.declared.config.Counting.{Counting}
 use Rattle.dmc_types.specs.declared.config.Counting.TheVariants.{All, Others}
@@ -12,7 +12,7 @@ use Rattle.dmc_tracker.specs.declared.event.TrackerEvent.{TrackerEvent}
 use Rattle.dmc_tracker.specs.declared.event.TrackerEvent.TheVariants.{Stamp, Skip, Response}
 use Rattle.dmc_tracker.specs.TrackerList.{plus, total, one_in, completed_by, counted_by, sent_by, is_stamp_to, own_share, completions, others, stamps, sent, skipped, skipped_after, pending, demanded, IsTracked}
 use Rattle.dmc_tracker.proofs.RepresentsLemmas.{same_server}
-use Rattle.dmc_tracker.proofs.ListLemmas.{same_params, plus-none, none-plus, total-push, snoc, completions-stamp, completions-skip, completions-response, sent-response, sent-stamp_same, sent-stamp_other, sent-skip, pending-response, pending-stamp_same, pending-stamp_other, pending-skip_same, pending-skip_other, skipped-append, skipped-stamp, skipped-response, skipped-skip_same, skipped-skip_other}
+use Rattle.dmc_tracker.proofs.ListLemmas.{same_counts, plus-none, none-plus, total-push, snoc, completions-stamp, completions-skip, completions-response, sent-response, sent-stamp_same, sent-stamp_other, sent-skip, pending-response, pending-stamp_same, pending-stamp_other, pending-skip_same, pending-skip_other, skipped-append, skipped-stamp, skipped-response, skipped-skip_same, skipped-skip_other}
 
 -- the front of a tracked list is tracked
 pub IsTracked-front : (counting : Counting) (events more : List TrackerEvent) → IsTracked counting (events ++ more) → IsTracked counting events
@@ -20,7 +20,7 @@ IsTracked-front counting events more h = λ before after s params e.
     h before (after ++ more) s params (ap (λ xs. xs ++ more) e ∙ append_assoc before (Stamp s params ∷ after) more)
 
 -- what the stamps to s count for their own requests
-abbrev own_by : Counting → ServerId → TrackerEvent → Params
+abbrev own_by : Counting → ServerId → TrackerEvent → Counts
 own_by counting s (Stamp server params) = cond (server.0 == s.0) (own_share counting) no_counts
 own_by counting s (Skip server) = no_counts
 own_by counting s (Response server phase) = no_counts
@@ -33,26 +33,26 @@ IsSum counting s events =
 
 -- one entry more: a part k becomes pending, or a stamp sends all that is pending and its own share, or a skip skips all
 -- that is pending
-grows : (S K P O C k S' K' P' O' C' : Params) → S' ≡ S → K' ≡ K → P' ≡ plus P k → O' ≡ plus O no_counts → C' ≡ plus C k
+grows : (S K P O C k S' K' P' O' C' : Counts) → S' ≡ S → K' ≡ K → P' ≡ plus P k → O' ≡ plus O no_counts → C' ≡ plus C k
     → plus (plus S K) P ≡ plus O C → plus (plus S' K') P' ≡ plus O' C'
 grows S K P O C k S' K' P' O' C' s l p o c h =
-    let d = ap (λ (x : Params). x.delta) h in
-    let r = ap (λ (x : Params). x.rho) h in
-    rw (s, l, p, o, c) (same_params _ _ (omega (arith, d)) (omega (arith, r)))
+    let d = ap (λ (x : Counts). x.delta) h in
+    let r = ap (λ (x : Counts). x.rho) h in
+    rw (s, l, p, o, c) (same_counts _ _ (omega (arith, d)) (omega (arith, r)))
 
-sends : (S K P O C k share S' K' P' O' C' : Params) → k ≡ plus P share → S' ≡ plus S k → K' ≡ K → P' ≡ no_counts → O' ≡ plus O share
+sends : (S K P O C k share S' K' P' O' C' : Counts) → k ≡ plus P share → S' ≡ plus S k → K' ≡ K → P' ≡ no_counts → O' ≡ plus O share
     → C' ≡ plus C no_counts → plus (plus S K) P ≡ plus O C → plus (plus S' K') P' ≡ plus O' C'
 sends S K P O C k share S' K' P' O' C' e s l p o c h =
-    let d = ap (λ (x : Params). x.delta) h in
-    let r = ap (λ (x : Params). x.rho) h in
-    rw (s, l, p, o, c, e) (same_params _ _ (omega (arith, d)) (omega (arith, r)))
+    let d = ap (λ (x : Counts). x.delta) h in
+    let r = ap (λ (x : Counts). x.rho) h in
+    rw (s, l, p, o, c, e) (same_counts _ _ (omega (arith, d)) (omega (arith, r)))
 
-passes : (S K P O C S' K' P' O' C' : Params) → S' ≡ S → K' ≡ plus K P → P' ≡ no_counts → O' ≡ plus O no_counts → C' ≡ plus C no_counts
+passes : (S K P O C S' K' P' O' C' : Counts) → S' ≡ S → K' ≡ plus K P → P' ≡ no_counts → O' ≡ plus O no_counts → C' ≡ plus C no_counts
     → plus (plus S K) P ≡ plus O C → plus (plus S' K') P' ≡ plus O' C'
 passes S K P O C S' K' P' O' C' s l p o c h =
-    let d = ap (λ (x : Params). x.delta) h in
-    let r = ap (λ (x : Params). x.rho) h in
-    rw (s, l, p, o, c) (same_params _ _ (omega (arith, d)) (omega (arith, r)))
+    let d = ap (λ (x : Counts). x.delta) h in
+    let r = ap (λ (x : Counts). x.rho) h in
+    rw (s, l, p, o, c) (same_counts _ _ (omega (arith, d)) (omega (arith, r)))
 
 sums-push : (counting : Counting) (s : ServerId) (events : List TrackerEvent) (e : TrackerEvent)
     → (IsTracked counting events → IsSum counting s events) → IsTracked counting (events ++ e ∷ []) → IsSum counting s (events ++ e ∷ [])
@@ -68,8 +68,8 @@ sums-push counting s events (Stamp q params) h tracked =
     let counted = total-push (counted_by counting s) events (Stamp q params) in
     elim (eqb_tells q.0 s.0) [
       | inl here ↦
-          sends _ _ _ _ _ params (own_share counting) _ _ _ _ _
-          (tracked events [] q params refl ∙ ap (λ x. demanded counting x events) (same_server q s here.1))
+          sends _ _ _ _ _ (counts_of params) (own_share counting) _ _ _ _ _
+          (ap counts_of (tracked events [] q params refl ∙ ap (λ x. demanded counting x events) (same_server q s here.1)))
           (sent-stamp_same s events q params here.0) (skipped-stamp counting s events q params)
           (pending-stamp_same counting s events q params here.0)
           (own ∙ ap (λ b. plus (total (own_by counting s) events) (cond b (own_share counting) no_counts)) here.0)
@@ -130,7 +130,7 @@ counted-all s events = snoc (λ es. total (counted_by All s) es ≡ completions 
         total-push (counted_by All s) es (Skip q) ∙ ap (λ x. plus x no_counts) h
         ∙ sym (total-push completed_by es (Skip q))
 
-abbrev pair : ℕ → Params
+abbrev pair : ℕ → Counts
 pair n = record { delta = n; rho = n }
 
 -- in `Others` each stamp to s has a share of 1
@@ -217,9 +217,9 @@ IsTracked-skip counting events s h = λ before after q params e.
       | inr w ↦ absurd (let differ = w.1 in cc)
     ]
 
-total-append : (f : TrackerEvent → Params) (xs ys : List TrackerEvent) → total f (xs ++ ys) ≡ plus (total f xs) (total f ys)
+total-append : (f : TrackerEvent → Counts) (xs ys : List TrackerEvent) → total f (xs ++ ys) ≡ plus (total f xs) (total f ys)
 total-append f xs ys =
-    same_params _ _ (sum_by-append (λ x. (f x).delta) xs ys) (sum_by-append (λ x. (f x).rho) xs ys)
+    same_counts _ _ (sum_by-append (λ x. (f x).delta) xs ys) (sum_by-append (λ x. (f x).rho) xs ys)
 
 -- up to a stamp to s, all completions were sent to s or skipped there
 sent-all : (s : ServerId) (params : Params) (events : List TrackerEvent) → IsTracked All (events ++ Stamp s params ∷ [])
@@ -232,8 +232,8 @@ sent-all s params events h =
     ∙ completions-stamp events s params
 
 -- two sums of which each has a part before and a part after
-pairs : (A B C D : Params) → plus (plus A C) (plus B D) ≡ plus (plus A B) (plus C D)
-pairs A B C D = same_params _ _ (omega arith) (omega arith)
+pairs : (A B C D : Counts) → plus (plus A C) (plus B D) ≡ plus (plus A B) (plus C D)
+pairs A B C D = same_counts _ _ (omega arith) (omega arith)
 
 pub sent-between : (before between after : List TrackerEvent) (s : ServerId) (first last : Params)
     → IsTracked All (before ++ Stamp s first ∷ (between ++ Stamp s last ∷ after))
@@ -267,28 +267,28 @@ pending-le counting s events = snoc (λ es. (pending counting s es).delta ≤ (c
     step : (es : List TrackerEvent) (e : TrackerEvent) → (pending counting s es).delta ≤ (completions es).delta
         → (pending counting s (es ++ e ∷ [])).delta ≤ (completions (es ++ e ∷ [])).delta
     step es (Response q phase) h =
-        let grown = ap (λ (x : Params). x.delta) (pending-response counting s es q phase) in
-        let more = ap (λ (x : Params). x.delta) (completions-response es q phase) in
+        let grown = ap (λ (x : Counts). x.delta) (pending-response counting s es q phase) in
+        let more = ap (λ (x : Counts). x.delta) (completions-response es q phase) in
         omega (arith, h, grown, more, part counting q phase)
     step es (Stamp q params) h =
-        let same = ap (λ (x : Params). x.delta) (completions-stamp es q params) in
+        let same = ap (λ (x : Counts). x.delta) (completions-stamp es q params) in
         elim (eqb_tells q.0 s.0) [
           | inl here ↦
-              (let none = ap (λ (x : Params). x.delta) (pending-stamp_same counting s es q params here.0) in omega (arith, none, same))
+              (let none = ap (λ (x : Counts). x.delta) (pending-stamp_same counting s es q params here.0) in omega (arith, none, same))
           | inr there ↦
-              (let kept = ap (λ (x : Params). x.delta) (pending-stamp_other counting s es q params there.0) in omega (arith, h, kept, same))
+              (let kept = ap (λ (x : Counts). x.delta) (pending-stamp_other counting s es q params there.0) in omega (arith, h, kept, same))
         ]
     step es (Skip q) h =
-        let same = ap (λ (x : Params). x.delta) (completions-skip es q) in
+        let same = ap (λ (x : Counts). x.delta) (completions-skip es q) in
         elim (eqb_tells q.0 s.0) [
           | inl here ↦
-              (let none = ap (λ (x : Params). x.delta) (pending-skip_same counting s es q here.0) in omega (arith, none, same))
+              (let none = ap (λ (x : Counts). x.delta) (pending-skip_same counting s es q here.0) in omega (arith, none, same))
           | inr there ↦
-              (let kept = ap (λ (x : Params). x.delta) (pending-skip_other counting s es q there.0) in omega (arith, h, kept, same))
+              (let kept = ap (λ (x : Counts). x.delta) (pending-skip_other counting s es q there.0) in omega (arith, h, kept, same))
         ]
 
 pub next-all : (events : List TrackerEvent) (s : ServerId) → IsTracked All events
     → (sent s events).delta + (demanded All s events).delta ≤ (completions events).delta
 next-all events s h =
-    let e = ap (λ (x : Params). x.delta) (sums-all s events h) in
+    let e = ap (λ (x : Counts). x.delta) (sums-all s events h) in
     omega (arith, e)

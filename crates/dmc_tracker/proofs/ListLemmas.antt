@@ -4,7 +4,7 @@ use Rattle.std.specs.List.{after_last, suffix_len, prefix_len}
 use Rattle.std.proofs.lemmas.List.{length-append, append-nil, drop-append-le, reverse-append}
 use Rattle.std.proofs.lemmas.List.Sums.{sum_by-cons, sum_by_push, suffix_len-le-length}
 use Rattle.std.proofs.Math.Seq.{drop-length}
-use Rattle.dmc_types.specs.Values.{Params, no_counts}
+use Rattle.dmc_types.specs.Values.{Params, Counts, no_counts, counts_of}
 use Rattle.dmc_types.specs.declared.ids.ServerId.{ServerId}
 use Rattle.dmc_types.specs.declared.config.Counting.{Counting}
 use Rattle.dmc_types.specs.declared.config.PhaseType.{PhaseType}
@@ -12,19 +12,19 @@ use Rattle.dmc_tracker.specs.declared.event.TrackerEvent.{TrackerEvent}
 use Rattle.dmc_tracker.specs.declared.event.TrackerEvent.TheVariants.{Stamp, Skip, Response}
 use Rattle.dmc_tracker.specs.TrackerList.{plus, total, one_in, completed_by, counted_by, sent_by, is_stamp_to, is_skip_of, is_mark_of, completions, stamps, skips, sent, pending, skipped_by, skipped_after, skipped}
 
-pub same_params : (a b : Params) → a.delta ≡ b.delta → a.rho ≡ b.rho → a ≡ b
-same_params a b d r = ap (λ x. record { delta = x; rho = a.rho }) d ∙ ap (λ x. record { delta = b.delta; rho = x }) r
+pub same_counts : (a b : Counts) → a.delta ≡ b.delta → a.rho ≡ b.rho → a ≡ b
+same_counts a b d r = ap (λ x. record { delta = x; rho = a.rho }) d ∙ ap (λ x. record { delta = b.delta; rho = x }) r
 
-pub plus-none : (a : Params) → plus a no_counts ≡ a
-plus-none a = same_params _ _ (omega arith) (omega arith)
+pub plus-none : (a : Counts) → plus a no_counts ≡ a
+plus-none a = same_counts _ _ (omega arith) (omega arith)
 
-pub none-plus : (a : Params) → plus no_counts a ≡ a
-none-plus a = same_params _ _ (omega arith) (omega arith)
+pub none-plus : (a : Counts) → plus no_counts a ≡ a
+none-plus a = same_counts _ _ (omega arith) (omega arith)
 
-pub total-push : (f : TrackerEvent → Params) (events : List TrackerEvent) (e : TrackerEvent)
+pub total-push : (f : TrackerEvent → Counts) (events : List TrackerEvent) (e : TrackerEvent)
     → total f (events ++ e ∷ []) ≡ plus (total f events) (f e)
 total-push f events e =
-    same_params _ _ (sum_by_push (λ x. (f x).delta) events e) (sum_by_push (λ x. (f x).rho) events e)
+    same_counts _ _ (sum_by_push (λ x. (f x).delta) events e) (sum_by_push (λ x. (f x).rho) events e)
 
 -- induction over a list from its end
 pub snoc : (P : List TrackerEvent → Type 0) → P [] → ((events : List TrackerEvent) (e : TrackerEvent) → P events → P (events ++ e ∷ []))
@@ -72,14 +72,14 @@ module _ (s : ServerId) (events : List TrackerEvent) where
   sent-skip q = total-push (sent_by s) events (Skip q) ∙ plus-none (sent s events)
 
   pub sent-stamp_same : (q : ServerId) (params : Params) → (q.0 == s.0) ≡ true
-      → sent s (events ++ Stamp q params ∷ []) ≡ plus (sent s events) params
+      → sent s (events ++ Stamp q params ∷ []) ≡ plus (sent s events) (counts_of params)
   sent-stamp_same q params here =
-      total-push (sent_by s) events (Stamp q params) ∙ ap (λ b. plus (sent s events) (cond b params no_counts)) here
+      total-push (sent_by s) events (Stamp q params) ∙ ap (λ b. plus (sent s events) (cond b (counts_of params) no_counts)) here
 
   pub sent-stamp_other : (q : ServerId) (params : Params) → (q.0 == s.0) ≡ false
       → sent s (events ++ Stamp q params ∷ []) ≡ sent s events
   sent-stamp_other q params there =
-      total-push (sent_by s) events (Stamp q params) ∙ ap (λ b. plus (sent s events) (cond b params no_counts)) there
+      total-push (sent_by s) events (Stamp q params) ∙ ap (λ b. plus (sent s events) (cond b (counts_of params) no_counts)) there
       ∙ plus-none (sent s events)
 
   -- how many stamps there are
@@ -151,8 +151,8 @@ module _ (counting : Counting) (s : ServerId) (events : List TrackerEvent) where
       → pending counting s (events ++ Skip q ∷ []) ≡ pending counting s events
   pending-skip_other q there = pending-same (Skip q) there refl
 
-plus-assoc : (a b c : Params) → plus (plus a b) c ≡ plus a (plus b c)
-plus-assoc a b c = same_params _ _ (omega arith) (omega arith)
+plus-assoc : (a b c : Counts) → plus (plus a b) c ≡ plus a (plus b c)
+plus-assoc a b c = same_counts _ _ (omega arith) (omega arith)
 
 module _ (counting : Counting) (s : ServerId) where
   -- what is skipped, by a list after another, and by one more entry

@@ -3,7 +3,7 @@ use Rattle.std.proofs.Common.{◌≡◌, ℕ, ◌<◌, List, [], ◌∷◌, ◌+
 use Rattle.std.proofs.lemmas.List.{get_or-set_same, get_or-set_other, get_or-map, get_or-replicate, length-map, length-replicate, length-set}
 use Rattle.std.proofs.lemmas.Bool.Decides.{eqb_tells}
 use Rattle.std.proofs.lemmas.Bool.{eq-eqb}
-use Rattle.dmc_types.specs.Values.{Params, no_counts}
+use Rattle.dmc_types.specs.Values.{Params, no_counts, counts_of, params_with}
 use Rattle.dmc_types.specs.declared.ids.ServerId.{ServerId}
 use Rattle.dmc_types.specs.declared.config.Counting.{Counting}
 use Rattle.dmc_types.specs.declared.config.Counting.TheVariants.{All, Others}
@@ -11,7 +11,7 @@ use Rattle.dmc_types.specs.declared.config.PhaseType.{PhaseType}
 use Rattle.dmc_tracker.specs.declared.event.TrackerEvent.{TrackerEvent}
 use Rattle.dmc_tracker.specs.declared.event.TrackerEvent.TheVariants.{Stamp, Skip, Response}
 use Rattle.dmc_tracker.specs.TrackerList.{plus, one_in, counted_by, own_share, sent, skipped, pending, demanded}
-use Rattle.dmc_tracker.specs.Numbers.{Numbers, ServerNumbers, no_numbers, new_numbers, numbers_at, next_params, after_stamp, after_skip, after_response, grown, servers_grown, numbers_of, RepresentsEvents}
+use Rattle.dmc_tracker.specs.Numbers.{Numbers, ServerNumbers, no_numbers, new_numbers, numbers_at, next_counts, next_params, after_stamp, after_skip, after_response, grown, servers_grown, numbers_of, RepresentsEvents}
 use Rattle.dmc_tracker.proofs.ListLemmas.{plus-none, completions-response, completions-stamp, completions-skip, sent-response, sent-stamp_same, sent-stamp_other, sent-skip, pending-response, pending-stamp_same, pending-stamp_other, pending-skip_same, pending-skip_other, skipped-stamp, skipped-response, skipped-skip_same, skipped-skip_other}
 
 pub same_numbers : (a b : ServerNumbers) → a.sent ≡ b.sent → a.skipped ≡ b.skipped → a.pending ≡ b.pending → a ≡ b
@@ -27,7 +27,7 @@ module _ (counting : Counting) (events : List TrackerEvent) (s : ServerId) where
   -- the numbers after a stamp to s, of s and of another
   numbers_of-stamp_same : (q : ServerId) (params : Params) → q ≡ s
       → numbers_of counting q (events ++ Stamp s params ∷ [])
-      ≡ record { sent = plus (sent s events) params; skipped = skipped counting s events; pending = no_counts }
+      ≡ record { sent = plus (sent s events) (counts_of params); skipped = skipped counting s events; pending = no_counts }
   numbers_of-stamp_same q params e =
       ap (λ x. numbers_of counting x (events ++ Stamp s params ∷ [])) e
       ∙ same_numbers _ _ (sent-stamp_same s events s params (eq-eqb s.0 s.0 refl)) (skipped-stamp counting s events s params)
@@ -65,7 +65,7 @@ module _ (counting : Counting) (events : List TrackerEvent) (s : ServerId) where
 pub next_params-represents : (numbers : Numbers) (events : List TrackerEvent) (s : ServerId) → s.0 < length numbers.servers
     → RepresentsEvents numbers events → next_params numbers s ≡ demanded numbers.counting s events
 next_params-represents numbers events s within h =
-    ap (λ (x : ServerNumbers). plus x.pending (own_share numbers.counting)) (h.each s within)
+    ap (λ (x : ServerNumbers). params_with (plus x.pending (own_share numbers.counting))) (h.each s within)
 
 get_or_here : (servers : List ServerNumbers) (i j : ℕ) (x : ServerNumbers) → i ≡ j → i < length servers
     → get_or (set servers i x) j no_numbers ≡ x
@@ -75,13 +75,13 @@ pub RepresentsEvents-stamp : (numbers : Numbers) (events : List TrackerEvent) (s
     → RepresentsEvents numbers events → RepresentsEvents (after_stamp s numbers) (events ++ Stamp s (next_params numbers s) ∷ [])
 RepresentsEvents-stamp numbers events s within h =
     let params = next_params numbers s in
-    let stamped : ServerNumbers = record { sent = plus (numbers_at numbers s).sent params; skipped = (numbers_at numbers s).skipped; pending = no_counts } in
+    let stamped : ServerNumbers = record { sent = plus (numbers_at numbers s).sent (next_counts numbers s); skipped = (numbers_at numbers s).skipped; pending = no_counts } in
     record {
       completed = h.completed ∙ sym (completions-stamp events s params);
       each = λ q inside. elim (eqb_tells s.0 q.0) [
         | inl here ↦
             get_or_here numbers.servers s.0 q.0 stamped here.1 within
-            ∙ ap (λ (x : ServerNumbers). let y : ServerNumbers = record { sent = plus x.sent params; skipped = x.skipped; pending = no_counts } in y) (h.each s within)
+            ∙ ap (λ (x : ServerNumbers). let y : ServerNumbers = record { sent = plus x.sent (next_counts numbers s); skipped = x.skipped; pending = no_counts } in y) (h.each s within)
             ∙ sym (numbers_of-stamp_same numbers.counting events s q params (sym (same_server s q here.1)))
         | inr there ↦
             get_or-set_other numbers.servers s.0 q.0 stamped no_numbers (λ e. there.1 (sym e))

@@ -5,7 +5,7 @@ use Rattle.std.proofs.lemmas.List.{get_or-map, map-set, length-replicate}
 use Rattle.std.proofs.lemmas.List.Elements.{All-set, All-replicate}
 use Rattle.std.proofs.lemmas.List.{length-set}
 use Rattle.std.proofs.Math.Seq.{map-set_same}
-use Rattle.dmc_types.specs.Values.{Params, no_counts}
+use Rattle.dmc_types.specs.Values.{Counts, no_counts}
 use Rattle.dmc_types.specs.declared.ids.ServerId.{ServerId}
 use Rattle.dmc_types.specs.declared.config.Counting.{Counting}
 use Rattle.dmc_types.specs.declared.config.Counting.TheVariants.{All, Others}
@@ -13,27 +13,27 @@ use Rattle.dmc_types.specs.declared.config.PhaseType.{PhaseType}
 use Rattle.dmc_types.specs.declared.config.PhaseType.TheVariants.{Reservation, Priority}
 use Rattle.dmc_tracker.specs.declared.server.ServerCounts.{ServerCounts}
 use Rattle.dmc_tracker.specs.TrackerList.{plus, one_in, own_share}
-use Rattle.dmc_tracker.specs.Numbers.{Numbers, ServerNumbers, no_numbers, new_numbers, numbers_at, next_params, after_stamp, after_skip, after_response, grown, servers_grown, AreLimits}
+use Rattle.dmc_tracker.specs.Numbers.{Numbers, ServerNumbers, no_numbers, new_numbers, numbers_at, next_counts, after_stamp, after_skip, after_response, grown, servers_grown, AreLimits}
 use Rattle.dmc_tracker.specs.Server.{minus, IsPart, counted_at, numbers_now, view_of, IsKept, AreKept}
-use Rattle.dmc_tracker.proofs.ListLemmas.{same_params}
+use Rattle.dmc_tracker.proofs.ListLemmas.{same_counts}
 use Rattle.dmc_tracker.proofs.RepresentsLemmas.{same_numbers}
 
-minus_self : (a : Params) → minus a a ≡ no_counts
-minus_self a = same_params _ _ (omega arith) (omega arith)
+minus_self : (a : Counts) → minus a a ≡ no_counts
+minus_self a = same_counts _ _ (omega arith) (omega arith)
 
 -- counts that grow together
-minus-plus : (a b k : Params) → IsPart b a → minus (plus a k) b ≡ plus (minus a b) k
-minus-plus a b k h = same_params _ _ (omega (arith, h.delta)) (omega (arith, h.rho))
+minus-plus : (a b k : Counts) → IsPart b a → minus (plus a k) b ≡ plus (minus a b) k
+minus-plus a b k h = same_counts _ _ (omega (arith, h.delta)) (omega (arith, h.rho))
 
-minus-both : (a b k : Params) → minus (plus a k) (plus b k) ≡ minus a b
-minus-both a b k = same_params _ _ (omega arith) (omega arith)
+minus-both : (a b k : Counts) → minus (plus a k) (plus b k) ≡ minus a b
+minus-both a b k = same_counts _ _ (omega arith) (omega arith)
 
 -- a stamp that carries params
-abbrev stamped : Counting → Params → Params → ServerCounts → ServerCounts
+abbrev stamped : Counting → Counts → Counts → ServerCounts → ServerCounts
 stamped counting comps params x = record x { sent = plus x.sent params; mark = counted_at counting comps x }
 
 -- a skip
-abbrev passed : Counting → Params → ServerCounts → ServerCounts
+abbrev passed : Counting → Counts → ServerCounts → ServerCounts
 passed counting comps x =
     record x { skipped = plus x.skipped (numbers_now counting comps x).pending; mark = counted_at counting comps x }
 
@@ -42,25 +42,25 @@ abbrev answered : PhaseType → ServerCounts → ServerCounts
 answered phase x = record x { own = plus x.own (one_in phase) }
 
 -- what contracts see of a server, after a stamp, after a skip and after a response
-now-stamped : (counting : Counting) (comps params : Params) (x : ServerCounts)
+now-stamped : (counting : Counting) (comps params : Counts) (x : ServerCounts)
     → numbers_now counting comps (stamped counting comps params x) ≡ record { sent = plus x.sent params; skipped = x.skipped; pending = no_counts }
 now-stamped All comps params x = same_numbers _ _ refl refl (minus_self comps)
 now-stamped Others comps params x = same_numbers _ _ refl refl (minus_self (minus comps x.own))
 
-now-passed : (counting : Counting) (comps : Params) (x : ServerCounts)
+now-passed : (counting : Counting) (comps : Counts) (x : ServerCounts)
     → numbers_now counting comps (passed counting comps x)
     ≡ record { sent = x.sent; skipped = plus x.skipped (numbers_now counting comps x).pending; pending = no_counts }
 now-passed All comps x = same_numbers _ _ refl refl (minus_self comps)
 now-passed Others comps x = same_numbers _ _ refl refl (minus_self (minus comps x.own))
 
-now-grown : (counting : Counting) (most : ℕ) (comps : Params) (phase : PhaseType) (x : ServerCounts) → IsKept counting most comps x
+now-grown : (counting : Counting) (most : ℕ) (comps : Counts) (phase : PhaseType) (x : ServerCounts) → IsKept counting most comps x
     → numbers_now counting (plus comps (one_in phase)) x ≡ grown phase (numbers_now counting comps x)
 now-grown All most comps phase x h = same_numbers _ _ refl refl (minus-plus comps x.mark (one_in phase) h.mark)
 now-grown Others most comps phase x h =
     same_numbers _ _ refl refl (ap (λ c. minus c x.mark) (minus-plus comps x.own (one_in phase) h.own)
     ∙ minus-plus (minus comps x.own) x.mark (one_in phase) h.mark)
 
-map-grown : (counting : Counting) (most : ℕ) (comps : Params) (phase : PhaseType) (servers : List ServerCounts)
+map-grown : (counting : Counting) (most : ℕ) (comps : Counts) (phase : PhaseType) (servers : List ServerCounts)
     → Each (IsKept counting most comps) servers
     → map (numbers_now counting (plus comps (one_in phase))) servers ≡ map (grown phase) (map (numbers_now counting comps) servers)
 map-grown counting most comps phase [] h = refl
@@ -69,25 +69,25 @@ map-grown counting most comps phase (x ∷ servers) h =
     ∙ ap (λ ys. grown phase (numbers_now counting comps x) ∷ ys)
     (map-grown counting most comps phase servers (λ k e inside. h (suc k) e (omega arith)))
 
-now-answered : (comps : Params) (phase : PhaseType) (x : ServerCounts)
+now-answered : (comps : Counts) (phase : PhaseType) (x : ServerCounts)
     → numbers_now Others (plus comps (one_in phase)) (answered phase x) ≡ numbers_now Others comps x
 now-answered comps phase x = same_numbers _ _ refl refl (ap (λ c. minus c x.mark) (minus-both comps x.own (one_in phase)))
 
 -- the numbers that contracts see of a server
-pub seen_at : (counting : Counting) (most : ℕ) (comps : Params) (servers : List ServerCounts) (s : ServerId) (x : ServerCounts)
+pub seen_at : (counting : Counting) (most : ℕ) (comps : Counts) (servers : List ServerCounts) (s : ServerId) (x : ServerCounts)
     → s.0 < length servers → x ≡ get_or servers s.0 x
     → numbers_at (view_of counting most comps servers) s ≡ numbers_now counting comps x
 seen_at counting most comps servers s x within at =
     get_or-map (numbers_now counting comps) servers s.0 x no_numbers within ∙ ap (numbers_now counting comps) (sym at)
 
-pub next_params-view : (counting : Counting) (most : ℕ) (comps : Params) (servers : List ServerCounts) (s : ServerId) (x : ServerCounts)
+pub next_counts-view : (counting : Counting) (most : ℕ) (comps : Counts) (servers : List ServerCounts) (s : ServerId) (x : ServerCounts)
     → s.0 < length servers → x ≡ get_or servers s.0 x
-    → next_params (view_of counting most comps servers) s ≡ plus (numbers_now counting comps x).pending (own_share counting)
-next_params-view counting most comps servers s x within at =
+    → next_counts (view_of counting most comps servers) s ≡ plus (numbers_now counting comps x).pending (own_share counting)
+next_counts-view counting most comps servers s x within at =
     ap (λ (n : ServerNumbers). plus n.pending (own_share counting)) (seen_at counting most comps servers s x within at)
 
 -- a stamp
-pub view-stamp : (counting : Counting) (most : ℕ) (comps params : Params) (servers : List ServerCounts) (s : ServerId) (x : ServerCounts)
+pub view-stamp : (counting : Counting) (most : ℕ) (comps params : Counts) (servers : List ServerCounts) (s : ServerId) (x : ServerCounts)
     → s.0 < length servers → x ≡ get_or servers s.0 x
     → params ≡ plus (numbers_now counting comps x).pending (own_share counting)
     → view_of counting most comps (set servers s.0 (stamped counting comps params x)) ≡ after_stamp s (view_of counting most comps servers)
@@ -97,12 +97,12 @@ view-stamp counting most comps params servers s x within at e =
     ap (λ (ys : List ServerNumbers). let n : Numbers = record view { servers = ys } in n) (
     map-set f servers s.0 (stamped counting comps params x)
     ∙ ap (λ (y : ServerNumbers). set (map f servers) s.0 y) (now-stamped counting comps params x)
-    ∙ ap (λ (p : Params). let y : ServerNumbers = record { sent = plus x.sent p; skipped = x.skipped; pending = no_counts } in set (map f servers) s.0 y) e
+    ∙ ap (λ (p : Counts). let y : ServerNumbers = record { sent = plus x.sent p; skipped = x.skipped; pending = no_counts } in set (map f servers) s.0 y) e
     ∙ ap (λ (n : ServerNumbers). let y : ServerNumbers = record { sent = plus n.sent (plus n.pending (own_share counting)); skipped = n.skipped; pending = no_counts } in set (map f servers) s.0 y)
     (sym (seen_at counting most comps servers s x within at)))
 
 -- a skip
-pub view-skip : (counting : Counting) (most : ℕ) (comps : Params) (servers : List ServerCounts) (s : ServerId) (x : ServerCounts)
+pub view-skip : (counting : Counting) (most : ℕ) (comps : Counts) (servers : List ServerCounts) (s : ServerId) (x : ServerCounts)
     → s.0 < length servers → x ≡ get_or servers s.0 x
     → view_of counting most comps (set servers s.0 (passed counting comps x)) ≡ after_skip s (view_of counting most comps servers)
 view-skip counting most comps servers s x within at =
@@ -114,11 +114,11 @@ view-skip counting most comps servers s x within at =
     ∙ ap (λ (n : ServerNumbers). let y : ServerNumbers = record { sent = n.sent; skipped = plus n.skipped n.pending; pending = no_counts } in set (map f servers) s.0 y)
     (sym (seen_at counting most comps servers s x within at)))
 
-part_itself : (a : Params) → IsPart a a
+part_itself : (a : Counts) → IsPart a a
 part_itself a = record { delta = omega arith; rho = omega arith; rest = omega arith }
 
 -- a mark that is set to what is counted
-mark_itself : (counting : Counting) (comps : Params) (x y : ServerCounts) → x.own ≡ y.own → IsPart (counted_at counting comps x) (counted_at counting comps y)
+mark_itself : (counting : Counting) (comps : Counts) (x y : ServerCounts) → x.own ≡ y.own → IsPart (counted_at counting comps x) (counted_at counting comps y)
 mark_itself All comps x y e = part_itself comps
 mark_itself Others comps x y e = rw e (part_itself (minus comps y.own))
 
@@ -127,30 +127,30 @@ own_rho All = omega arith
 own_rho Others = omega arith
 
 -- in `All`, what a stamp and a skip pass on is all that is counted
-stamped_all : (counting : Counting) (most : ℕ) (comps params : Params) (x : ServerCounts) → IsKept counting most comps x
+stamped_all : (counting : Counting) (most : ℕ) (comps params : Counts) (x : ServerCounts) → IsKept counting most comps x
     → params ≡ plus (numbers_now counting comps x).pending (own_share counting) → counting ≡ All → plus (plus x.sent params) x.skipped ≡ counted_at counting comps x
 stamped_all All most comps params x h e form =
-    let d = ap (λ (p : Params). p.delta) e in
-    let r = ap (λ (p : Params). p.rho) e in
-    let sent = ap (λ (p : Params). p.delta) (h.sent_all refl) in
-    let sent_rho = ap (λ (p : Params). p.rho) (h.sent_all refl) in
-    same_params _ _ (omega (arith, h.mark.delta)) (omega (arith, h.mark.rho))
+    let d = ap (λ (p : Counts). p.delta) e in
+    let r = ap (λ (p : Counts). p.rho) e in
+    let sent = ap (λ (p : Counts). p.delta) (h.sent_all refl) in
+    let sent_rho = ap (λ (p : Counts). p.rho) (h.sent_all refl) in
+    same_counts _ _ (omega (arith, h.mark.delta)) (omega (arith, h.mark.rho))
 stamped_all Others most comps params x h e form = absurd (cc)
 
-passed_all : (counting : Counting) (most : ℕ) (comps : Params) (x : ServerCounts) → IsKept counting most comps x
+passed_all : (counting : Counting) (most : ℕ) (comps : Counts) (x : ServerCounts) → IsKept counting most comps x
     → counting ≡ All → plus x.sent (plus x.skipped (numbers_now counting comps x).pending) ≡ counted_at counting comps x
 passed_all All most comps x h form =
-    let sent = ap (λ (p : Params). p.delta) (h.sent_all refl) in
-    let sent_rho = ap (λ (p : Params). p.rho) (h.sent_all refl) in
-    same_params _ _ (omega (arith, sent, h.mark.delta)) (omega (arith, sent_rho, h.mark.rho))
+    let sent = ap (λ (p : Counts). p.delta) (h.sent_all refl) in
+    let sent_rho = ap (λ (p : Counts). p.rho) (h.sent_all refl) in
+    same_counts _ _ (omega (arith, sent, h.mark.delta)) (omega (arith, sent_rho, h.mark.rho))
 passed_all Others most comps x h form = absurd (cc)
 
-IsKept-stamped : (counting : Counting) (most : ℕ) (comps params : Params) (x : ServerCounts) → IsKept counting most comps x
+IsKept-stamped : (counting : Counting) (most : ℕ) (comps params : Counts) (x : ServerCounts) → IsKept counting most comps x
     → params ≡ plus (numbers_now counting comps x).pending (own_share counting) → x.sent.delta + params.delta ≤ most
     → IsKept counting most comps (stamped counting comps params x)
 IsKept-stamped counting most comps params x h e bound =
-    let d = ap (λ (p : Params). p.delta) e in
-    let r = ap (λ (p : Params). p.rho) e in
+    let d = ap (λ (p : Counts). p.delta) e in
+    let r = ap (λ (p : Counts). p.rho) e in
     record {
       own = h.own;
       mark = mark_itself counting comps x (stamped counting comps params x) refl;
@@ -161,7 +161,7 @@ IsKept-stamped counting most comps params x h e bound =
       sent_all = stamped_all counting most comps params x h e;
     }
 
-IsKept-passed : (counting : Counting) (most : ℕ) (comps : Params) (x : ServerCounts) → IsKept counting most comps x
+IsKept-passed : (counting : Counting) (most : ℕ) (comps : Counts) (x : ServerCounts) → IsKept counting most comps x
     → IsKept counting most comps (passed counting comps x)
 IsKept-passed counting most comps x h = record {
   own = h.own;
@@ -174,7 +174,7 @@ IsKept-passed counting most comps x h = record {
 }
 
 -- the counts of one server are others
-AreKept-set : (counting : Counting) (most : ℕ) (comps : Params) (servers : List ServerCounts) (s : ServerId) (new : ServerCounts) → AreKept counting most comps servers
+AreKept-set : (counting : Counting) (most : ℕ) (comps : Counts) (servers : List ServerCounts) (s : ServerId) (new : ServerCounts) → AreKept counting most comps servers
     → IsKept counting most comps new → AreKept counting most comps (set servers s.0 new)
 AreKept-set counting most comps servers s new kept now = record {
   some_most = kept.some_most;
@@ -187,28 +187,28 @@ AreKept-set counting most comps servers s new kept now = record {
 }
 
 -- a stamp that takes what is sent to its server no further than `most`
-pub AreKept-stamp : (counting : Counting) (most : ℕ) (comps params : Params) (servers : List ServerCounts) (s : ServerId) (x : ServerCounts)
+pub AreKept-stamp : (counting : Counting) (most : ℕ) (comps params : Counts) (servers : List ServerCounts) (s : ServerId) (x : ServerCounts)
     → AreKept counting most comps servers → s.0 < length servers → x ≡ get_or servers s.0 x
     → params ≡ plus (numbers_now counting comps x).pending (own_share counting) → x.sent.delta + params.delta ≤ most
     → AreKept counting most comps (set servers s.0 (stamped counting comps params x))
 AreKept-stamp counting most comps params servers s x kept within at e bound =
     AreKept-set counting most comps servers s (stamped counting comps params x) kept (IsKept-stamped counting most comps params x (rw at (kept.each s.0 x within)) e bound)
 
-pub AreKept-skip : (counting : Counting) (most : ℕ) (comps : Params) (servers : List ServerCounts) (s : ServerId) (x : ServerCounts)
+pub AreKept-skip : (counting : Counting) (most : ℕ) (comps : Counts) (servers : List ServerCounts) (s : ServerId) (x : ServerCounts)
     → AreKept counting most comps servers → s.0 < length servers → x ≡ get_or servers s.0 x
     → AreKept counting most comps (set servers s.0 (passed counting comps x))
 AreKept-skip counting most comps servers s x kept within at =
     AreKept-set counting most comps servers s (passed counting comps x) kept (IsKept-passed counting most comps x (rw at (kept.each s.0 x within)))
 
 -- a part stays one if the whole grows, and if both do
-part-grown : (part whole k : Params) → k.rho ≤ k.delta → IsPart part whole → IsPart part (plus whole k)
+part-grown : (part whole k : Counts) → k.rho ≤ k.delta → IsPart part whole → IsPart part (plus whole k)
 part-grown part whole k rho h = record {
   delta = omega (arith, h.delta);
   rho = omega (arith, h.rho);
   rest = omega (arith, h.rest, rho);
 }
 
-part-both : (part whole k : Params) → IsPart part whole → IsPart (plus part k) (plus whole k)
+part-both : (part whole k : Counts) → IsPart part whole → IsPart (plus part k) (plus whole k)
 part-both part whole k h = record {
   delta = omega (arith, h.delta);
   rho = omega (arith, h.rho);
@@ -223,19 +223,19 @@ pub one_delta : (phase : PhaseType) → (one_in phase).delta ≡ 1
 one_delta Reservation = refl
 one_delta Priority = refl
 
-mark-grown : (counting : Counting) (most : ℕ) (comps : Params) (phase : PhaseType) (x : ServerCounts) → IsKept counting most comps x
+mark-grown : (counting : Counting) (most : ℕ) (comps : Counts) (phase : PhaseType) (x : ServerCounts) → IsKept counting most comps x
     → IsPart x.mark (counted_at counting (plus comps (one_in phase)) x)
 mark-grown All most comps phase x h = part-grown x.mark comps (one_in phase) (one_rho phase) h.mark
 mark-grown Others most comps phase x h =
     rw (minus-plus comps x.own (one_in phase) h.own) (part-grown x.mark (minus comps x.own) (one_in phase) (one_rho phase) h.mark)
 
-mark-answered : (counting : Counting) (most : ℕ) (comps : Params) (phase : PhaseType) (x : ServerCounts) → IsKept counting most comps x
+mark-answered : (counting : Counting) (most : ℕ) (comps : Counts) (phase : PhaseType) (x : ServerCounts) → IsKept counting most comps x
     → IsPart x.mark (counted_at counting (plus comps (one_in phase)) (answered phase x))
 mark-answered All most comps phase x h = part-grown x.mark comps (one_in phase) (one_rho phase) h.mark
 mark-answered Others most comps phase x h = rw (minus-both comps x.own (one_in phase)) h.mark
 
 -- a response if the completions are fewer than `most`
-pub AreKept-response : (counting : Counting) (most : ℕ) (comps : Params) (servers : List ServerCounts) (s : ServerId) (x : ServerCounts)
+pub AreKept-response : (counting : Counting) (most : ℕ) (comps : Counts) (servers : List ServerCounts) (s : ServerId) (x : ServerCounts)
     (phase : PhaseType) → AreKept counting most comps servers → s.0 < length servers → x ≡ get_or servers s.0 x → comps.delta < most
     → AreKept counting most (plus comps (one_in phase)) (set servers s.0 (answered phase x))
 AreKept-response counting most comps servers s x phase kept within at fewer =
@@ -274,7 +274,7 @@ AreKept-response counting most comps servers s x phase kept within at fewer =
     }
 
 -- a response, seen at all servers
-servers-response : (counting : Counting) (most : ℕ) (comps : Params) (servers : List ServerCounts) (s : ServerId) (x : ServerCounts)
+servers-response : (counting : Counting) (most : ℕ) (comps : Counts) (servers : List ServerCounts) (s : ServerId) (x : ServerCounts)
     (phase : PhaseType) → AreKept counting most comps servers → s.0 < length servers → x ≡ get_or servers s.0 x
     → map (numbers_now counting (plus comps (one_in phase))) (set servers s.0 (answered phase x))
     ≡ servers_grown counting s phase (map (numbers_now counting comps) servers)
@@ -290,7 +290,7 @@ servers-response Others most comps servers s x phase kept within at =
     ∙ ap (λ (y : ServerNumbers). set (map (grown phase) (map f servers)) s.0 y)
     (now-answered comps phase x ∙ sym (seen_at Others most comps servers s x within at))
 
-pub view-response : (counting : Counting) (most : ℕ) (comps : Params) (servers : List ServerCounts) (s : ServerId) (x : ServerCounts)
+pub view-response : (counting : Counting) (most : ℕ) (comps : Counts) (servers : List ServerCounts) (s : ServerId) (x : ServerCounts)
     (phase : PhaseType) → AreKept counting most comps servers → s.0 < length servers → x ≡ get_or servers s.0 x
     → view_of counting most (plus comps (one_in phase)) (set servers s.0 (answered phase x))
     ≡ after_response s phase (view_of counting most comps servers)

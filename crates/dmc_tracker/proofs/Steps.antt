@@ -6,7 +6,7 @@ use Rattle.std.proofs.lemmas.Bool.{cases_lt}
 use Rattle.std.proofs.lemmas.Option.{slice_get-map, slice_get-get_or, slice_get_past}
 use Rattle.std.proofs.lemmas.List.{length-map, length-set}
 use Rattle.dmc_types.specs.Limits.{max_count}
-use Rattle.dmc_types.specs.Values.{Params}
+use Rattle.dmc_types.specs.Values.{Params, Counts, params_with}
 use Rattle.dmc_types.specs.declared.ids.ServerId.{ServerId}
 use Rattle.dmc_types.specs.declared.config.Counting.{Counting}
 use Rattle.dmc_types.specs.declared.config.Counting.TheVariants.{All, Others}
@@ -16,9 +16,9 @@ use Rattle.dmc_tracker.specs.declared.tracker.TrackFault.TheVariants.{NoServer, 
 use Rattle.dmc_tracker.specs.declared.event.TrackerEvent.{TrackerEvent}
 use Rattle.dmc_tracker.specs.declared.event.TrackerEvent.TheVariants.{Stamp, Skip, Response}
 use Rattle.dmc_tracker.specs.TrackerList.{plus, one_in, own_share, demanded, IsComplete, IsStampFull, IsTooMuch}
-use Rattle.dmc_tracker.specs.Numbers.{Numbers, ServerNumbers, pending_pair, numbers_at, next_params, after_stamp, after_skip, after_response, IsFullAt, RepresentsEvents, Keeps}
+use Rattle.dmc_tracker.specs.Numbers.{Numbers, ServerNumbers, pending_pair, numbers_at, next_counts, next_params, after_stamp, after_skip, after_response, IsFullAt, RepresentsEvents, Keeps}
 use Rattle.dmc_tracker.specs.Server.{minus, IsPart, counted_at, numbers_now, view_of, IsKept, AreKept}
-use Rattle.dmc_tracker.proofs.ServerLemmas.{seen_at, next_params-view, view-stamp, AreKept-stamp, view-skip, AreKept-skip, AreKept-response, view-response, one_delta, one_rho}
+use Rattle.dmc_tracker.proofs.ServerLemmas.{seen_at, next_counts-view, view-stamp, AreKept-stamp, view-skip, AreKept-skip, AreKept-response, view-response, one_delta, one_rho}
 use Rattle.dmc_tracker.proofs.RepresentsLemmas.{next_params-represents, RepresentsEvents-stamp, RepresentsEvents-skip, RepresentsEvents-response}
 
 -- ---- what the result says of a refusal
@@ -44,7 +44,7 @@ full_is_not_no_server e = cc
 pub not_past : {a b : ℕ} → a < b → b ≤ a → ⊥
 not_past l m = omega arith
 
-module _ {counting : Counting} {most : ℕ} {comps : Params} {items : List ServerCounts} {now : Numbers} (kept : AreKept counting most comps items) (view : view_of counting most comps items ≡ now) where
+module _ {counting : Counting} {most : ℕ} {comps : Counts} {items : List ServerCounts} {now : Numbers} (kept : AreKept counting most comps items) (view : view_of counting most comps items ≡ now) where
   pub as_many : length now.servers ≡ length items
   as_many = ap (λ (n : Numbers). length n.servers) (sym view) ∙ length-map items (numbers_now counting comps)
 
@@ -62,7 +62,7 @@ module _ {counting : Counting} {most : ℕ} {comps : Params} {items : List Serve
         sym (ap (λ (n : Numbers). n.completions.delta) view) ∙ full ∙ ap (λ (n : Numbers). n.most) view
 
     pub all_counted_by_list : {events : List TrackerEvent} → RepresentsEvents now events → IsComplete now.most events
-    all_counted_by_list represents = ap (λ (p : Params). p.delta) (sym represents.completed) ∙ all_counted
+    all_counted_by_list represents = ap (λ (p : Counts). p.delta) (sym represents.completed) ∙ all_counted
 
   module _ (fewer : comps.delta ≢ most) where
     pub more_to_count : now.completions.delta < now.most
@@ -73,7 +73,7 @@ module _ {counting : Counting} {most : ℕ} {comps : Params} {items : List Serve
     not_all_counted all = omega (arith, more_to_count, all)
 
     pub not_complete : {events : List TrackerEvent} → RepresentsEvents now events → IsComplete now.most events → ⊥
-    not_complete represents all = omega (arith, more_to_count, all, ap (λ (p : Params). p.delta) represents.completed)
+    not_complete represents all = omega (arith, more_to_count, all, ap (λ (p : Counts). p.delta) represents.completed)
 
   -- what contracts see of the server at a place
   read_server : (i : ℕ) {found : Option ServerCounts} → slice_get items i ≡ found → slice_get now.servers i ≡ option_map (numbers_now counting comps) found
@@ -84,7 +84,7 @@ module _ {counting : Counting} {most : ℕ} {comps : Params} {items : List Serve
   none_pending {i = i} past e = e ∙ sym (ap (option_map pending_pair) (read_server i (slice_get_past items i past)))
 
   -- a call that writes one server
-  pub keeps_all : (comps' : Params) (i : ℕ) (y : ServerCounts) → Keeps now (view_of counting most comps' (set items i y))
+  pub keeps_all : (comps' : Counts) (i : ℕ) (y : ServerCounts) → Keeps now (view_of counting most comps' (set items i y))
   keeps_all comps' i y = record {
     counting = ap (λ (n : Numbers). n.counting) view;
     most = ap (λ (n : Numbers). n.most) view;
@@ -106,17 +106,17 @@ module _ {counting : Counting} {most : ℕ} {comps : Params} {items : List Serve
     pub own_part : IsPart x.own comps
     own_part = kept_at.own
 
-    pub mark_part : {counted : Params} → counted ≡ counted_at counting comps x → IsPart x.mark counted
+    pub mark_part : {counted : Counts} → counted ≡ counted_at counting comps x → IsPart x.mark counted
     mark_part e = rw e kept_at.mark
 
-    pub pending_there : {counted left : Params} → counted ≡ counted_at counting comps x → left ≡ minus counted x.mark → {d r : ℕ} → ◌≡◌ {A = Params} (record { delta = d; rho = r }) left → ◌≡◌ {A = Option (ℕ × ℕ)} (Some (d, r)) (option_map pending_pair (slice_get now.servers s.0))
+    pub pending_there : {counted left : Counts} → counted ≡ counted_at counting comps x → left ≡ minus counted x.mark → {d r : ℕ} → ◌≡◌ {A = Counts} (record { delta = d; rho = r }) left → ◌≡◌ {A = Option (ℕ × ℕ)} (Some (d, r)) (option_map pending_pair (slice_get now.servers s.0))
     pending_there counted_is left_is e =
-        ap {B = Option (ℕ × ℕ)} (λ (p : Params). Some (p.delta, p.rho)) (e ∙ left_is ∙ ap (λ c. minus c x.mark) counted_is)
+        ap {B = Option (ℕ × ℕ)} (λ (p : Counts). Some (p.delta, p.rho)) (e ∙ left_is ∙ ap (λ c. minus c x.mark) counted_is)
         ∙ sym (ap (option_map pending_pair) (read_server s.0 (slice_get-get_or items s.0 x inside ∙ ap Some (sym at))))
 
     -- ---- a response
 
-    module _ (phase : PhaseType) {one : Params} (one_is : one ≡ one_in phase) (not_full : now.completions.delta ≢ now.most) where
+    module _ (phase : PhaseType) {one : Counts} (one_is : one ≡ one_in phase) (not_full : now.completions.delta ≢ now.most) where
       room_for_one : comps.delta < most
       room_for_one = omega (arith, not_full, kept.completions_most, ap (λ (n : Numbers). n.completions.delta) view, ap (λ (n : Numbers). n.most) view)
 
@@ -131,7 +131,7 @@ module _ {counting : Counting} {most : ℕ} {comps : Params} {items : List Serve
       own_fits =
           (omega (arith, comps_fit.0, own_part.delta), omega (arith, comps_fit.1, own_part.rho))
 
-      module _ {comps' own' : Params} (comps_are : comps' ≡ plus comps one) (own_is : own' ≡ plus x.own one) where
+      module _ {comps' own' : Counts} (comps_are : comps' ≡ plus comps one) (own_is : own' ≡ plus x.own one) where
         pub response_kept : AreKept counting most comps' (set items s.0 (record { sent = x.sent; skipped = x.skipped; own = own'; mark = x.mark }))
         response_kept =
             rw (comps_are, own_is, one_is) (AreKept-response counting most comps items s x phase kept inside at room_for_one)
@@ -142,7 +142,7 @@ module _ {counting : Counting} {most : ℕ} {comps : Params} {items : List Serve
 
     -- ---- what is pending, and a skip
 
-    module _ {counted left : Params} (counted_is : counted ≡ counted_at counting comps x) (left_is : left ≡ minus counted x.mark) where
+    module _ {counted left : Counts} (counted_is : counted ≡ counted_at counting comps x) (left_is : left ≡ minus counted x.mark) where
       part : IsPart x.mark counted
       part = mark_part counted_is
 
@@ -158,7 +158,7 @@ module _ {counting : Counting} {most : ℕ} {comps : Params} {items : List Serve
       -- with what was skipped it is no more than the completions
       left_most : x.skipped.delta + left.delta ≤ most
       left_most =
-          let is = ap (λ (p : Params). p.delta) left_is in
+          let is = ap (λ (p : Counts). p.delta) left_is in
           omega (arith, is, part.delta, kept_at.skipped_mark, counted_comps, kept.completions_most)
 
       pub skipped_fits : (x.skipped.delta + left.delta < 2 ^ 64) × (x.skipped.rho + left.rho < 2 ^ 64)
@@ -167,7 +167,7 @@ module _ {counting : Counting} {most : ℕ} {comps : Params} {items : List Serve
         omega (arith, left_most, left_rho, kept_at.skipped_rho, kept.max_limit),
       )
 
-      module _ {skipped' : Params} (skipped_is : skipped' ≡ plus x.skipped left) where
+      module _ {skipped' : Counts} (skipped_is : skipped' ≡ plus x.skipped left) where
         pub skip_kept : AreKept counting most comps (set items s.0 (record { sent = x.sent; skipped = skipped'; own = x.own; mark = counted }))
         skip_kept = rw (skipped_is, left_is, counted_is) (AreKept-skip counting most comps items s x kept inside at)
 
@@ -176,11 +176,11 @@ module _ {counting : Counting} {most : ℕ} {comps : Params} {items : List Serve
 
       -- ---- a stamp
 
-      module _ {own : Params} (own_is : own ≡ own_share counting) where
-        next_is : next_params now s ≡ plus left own
+      module _ {own : Counts} (own_is : own ≡ own_share counting) where
+        next_is : next_counts now s ≡ plus left own
         next_is =
-            ap (λ n. next_params n s) (sym view)
-            ∙ next_params-view counting most comps items s x inside at
+            ap (λ n. next_counts n s) (sym view)
+            ∙ next_counts-view counting most comps items s x inside at
             ∙ rw (left_is, counted_is, own_is) refl
 
         share : (own.rho ≤ own.delta) × (own.delta ≤ 1)
@@ -195,11 +195,11 @@ module _ {counting : Counting} {most : ℕ} {comps : Params} {items : List Serve
           omega (arith, left_most, left_rho, share, kept.max_limit),
         )
 
-        module _ {params : Params} (params_is : params ≡ plus left own) where
+        module _ {params : Counts} (params_is : params ≡ plus left own) where
           params_delta : params.delta ≡ left.delta + own.delta
-          params_delta = ap (λ (p : Params). p.delta) params_is
+          params_delta = ap (λ (p : Counts). p.delta) params_is
 
-          carried : params ≡ next_params now s
+          carried : params ≡ next_counts now s
           carried = params_is ∙ sym next_is
 
           is_params : params.rho ≤ params.delta
@@ -217,11 +217,11 @@ module _ {counting : Counting} {most : ℕ} {comps : Params} {items : List Serve
           pub sum_fits : x.sent.delta + params.delta < 2 ^ 64
           sum_fits = omega (arith, params_delta, left_most, share, kept_at.sent_most, kept.max_limit)
 
-          seen_full : IsTooMuch counting most x.sent.delta params.delta ≡ IsTooMuch now.counting now.most (numbers_at now s).sent.delta (next_params now s).delta
+          seen_full : IsTooMuch counting most x.sent.delta params.delta ≡ IsTooMuch now.counting now.most (numbers_at now s).sent.delta (next_counts now s).delta
           seen_full =
               ap (λ (n : Numbers). IsTooMuch n.counting n.most x.sent.delta params.delta) view
               ∙ ap (λ n. IsTooMuch now.counting now.most n params.delta) (sym sent_now)
-              ∙ ap (λ (p : Params). IsTooMuch now.counting now.most (numbers_at now s).sent.delta p.delta) carried
+              ∙ ap (λ (p : Counts). IsTooMuch now.counting now.most (numbers_at now s).sent.delta p.delta) carried
 
           pub is_full : IsTooMuch counting most x.sent.delta params.delta → IsFullAt now s
           is_full h = record { within = within; past = subst (λ (t : Type 0). t) seen_full h }
@@ -235,9 +235,9 @@ module _ {counting : Counting} {most : ℕ} {comps : Params} {items : List Serve
               by : (form : Counting) → (form ≡ All → plus x.sent x.skipped ≡ x.mark) → own ≡ own_share form
                   → (IsTooMuch form most x.sent.delta params.delta → ⊥) → (params.delta ≤ max_count) × (x.sent.delta + params.delta ≤ most)
               by All sums none fits =
-                  let sum = ap (λ (p : Params). p.delta) (sums refl) in
-                  let zero = ap (λ (p : Params). p.delta) none in
-                  let is = ap (λ (p : Params). p.delta) left_is in (
+                  let sum = ap (λ (p : Counts). p.delta) (sums refl) in
+                  let zero = ap (λ (p : Counts). p.delta) none in
+                  let is = ap (λ (p : Counts). p.delta) left_is in (
                     elim (cases_lt max_count params.delta) [ inl l ↦ absurd (fits l) | inr l ↦ l ],
                     omega (arith, params_delta, is, zero, sum, part.delta, counted_comps, kept.completions_most),
                   )
@@ -246,12 +246,12 @@ module _ {counting : Counting} {most : ℕ} {comps : Params} {items : List Serve
                 elim (cases_lt most (x.sent.delta + params.delta)) [ inl l ↦ absurd (fits (inr l)) | inr l ↦ l ],
               )
 
-            pub sent_bound : (numbers_at now s).sent.delta + (next_params now s).delta ≤ now.most
+            pub sent_bound : (numbers_at now s).sent.delta + (next_counts now s).delta ≤ now.most
             sent_bound =
-                omega (arith, bounds.1, sent_now, ap (λ (p : Params). p.delta) carried, ap (λ (n : Numbers). n.most) view)
+                omega (arith, bounds.1, sent_now, ap (λ (p : Counts). p.delta) carried, ap (λ (n : Numbers). n.most) view)
 
-            pub count_bound : (next_params now s).delta ≤ max_count
-            count_bound = omega (arith, bounds.0, ap (λ (p : Params). p.delta) carried)
+            pub count_bound : (next_counts now s).delta ≤ max_count
+            count_bound = omega (arith, bounds.0, ap (λ (p : Counts). p.delta) carried)
 
           -- ---- what the test let through
 
@@ -271,30 +271,34 @@ module _ {counting : Counting} {most : ℕ} {comps : Params} {items : List Serve
                 let d : params.delta < 2 ^ 32 = omega (arith, limits.0) in
                 (d, omega (arith, d, is_params))
 
-            pub stamp_kept : {sent' : Params} → sent' ≡ plus x.sent params → AreKept counting most comps (set items s.0 (record { sent = sent'; skipped = x.skipped; own = x.own; mark = counted }))
+            pub stamp_kept : {sent' : Counts} → sent' ≡ plus x.sent params → AreKept counting most comps (set items s.0 (record { sent = sent'; skipped = x.skipped; own = x.own; mark = counted }))
             stamp_kept e =
                 rw (e, counted_is) (AreKept-stamp counting most comps params items s x kept inside at computed room)
 
-            pub stamp_seen : {sent' : Params} → sent' ≡ plus x.sent params → view_of counting most comps (set items s.0 (record { sent = sent'; skipped = x.skipped; own = x.own; mark = counted })) ≡ after_stamp s now
+            pub stamp_seen : {sent' : Counts} → sent' ≡ plus x.sent params → view_of counting most comps (set items s.0 (record { sent = sent'; skipped = x.skipped; own = x.own; mark = counted })) ≡ after_stamp s now
             stamp_seen e =
                 rw (e, counted_is) (view-stamp counting most comps params items s x inside at computed) ∙ ap (after_stamp s) view
 
-            made_is : {E : Type 0} {d r : ℕ} {made : Result Params E} → ◌≡◌ {A = Params} (record { delta = d; rho = r }) params → (r ≤ d → made ≡ Ok (record { delta = d; rho = r })) → made ≡ Ok params
+            made_is : {E : Type 0} {d r : ℕ} {made : Result Params E} → ◌≡◌ {A = Counts} (record { delta = d; rho = r }) params → (r ≤ d → made ≡ Ok (record { delta = d; rho = r })) → made ≡ Ok (params_with params)
             made_is e ok =
-                ok (omega (arith, ap (λ (p : Params). p.delta) e, ap (λ (p : Params). p.rho) e, is_params)) ∙ ap Ok e
+                ok (omega (arith, ap (λ (p : Counts). p.delta) e, ap (λ (p : Counts). p.rho) e, is_params))
+                ∙ ap {B = Result Params _} (λ (p : Counts). Ok (params_with p)) e
 
             -- what is handed out is what was computed
-            module _ {E : Type 0} {d r : ℕ} {made : Result Params E} (e : ◌≡◌ {A = Params} (record { delta = d; rho = r }) params) (ok : r ≤ d → made ≡ Ok (record { delta = d; rho = r })) where
+            module _ {E : Type 0} {d r : ℕ} {made : Result Params E} (e : ◌≡◌ {A = Counts} (record { delta = d; rho = r }) params) (ok : r ≤ d → made ≡ Ok (record { delta = d; rho = r })) where
               pub is_made : IsOk made
               is_made = ap is_ok (made_is e ok)
 
               pub handed_out : {given : Params} → made ≡ Ok given → given ≡ next_params now s
-              handed_out {given} h = let same : ◌≡◌ {A = Result Params E} (Ok given) (Ok params) = sym h ∙ made_is e ok in cc (carried)
+              handed_out {given} h =
+                  let same : ◌≡◌ {A = Result Params E} (Ok given) (Ok (params_with params)) = sym h ∙ made_is e ok in
+                  let its : given ≡ params_with params = cc in
+                  its ∙ ap params_with carried
 
 -- the list after a stamp
 pub represents_after : {now new : Numbers} {s : ServerId} {params : Params} → s.0 < length now.servers → new ≡ after_stamp s now → params ≡ next_params now s
     → (events : List TrackerEvent) → RepresentsEvents now events → (params ≡ demanded now.counting s events) × RepresentsEvents new (events ++ Stamp s params ∷ [])
-represents_after {now} {s = s} within e p events represents =
+represents_after {now} {s = s} {params = params} within e p events represents =
     (p ∙ next_params-represents now events s within represents, rw (e, p) (RepresentsEvents-stamp now events s within represents))
 
 -- the list after a skip
@@ -307,7 +311,7 @@ represents_after_response {now} s phase e events represents = rw e (RepresentsEv
 
 -- what is full by the numbers is so by the list
 module _ {now : Numbers} {s : ServerId} {events : List TrackerEvent} (represents : RepresentsEvents now events) where
-  same_test : s.0 < length now.servers → IsTooMuch now.counting now.most (numbers_at now s).sent.delta (next_params now s).delta ≡ IsStampFull now.counting now.most s events
+  same_test : s.0 < length now.servers → IsTooMuch now.counting now.most (numbers_at now s).sent.delta (next_counts now s).delta ≡ IsStampFull now.counting now.most s events
   same_test within =
       ap (λ (n : ServerNumbers). IsTooMuch now.counting now.most n.sent.delta (plus n.pending (own_share now.counting)).delta) (represents.each s within)
 

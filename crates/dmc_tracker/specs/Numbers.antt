@@ -1,7 +1,7 @@
 -- What contracts see of a tracker: the numbers of a tracker list, and no list.
 use Rattle.std.specs.Prelude.{◌≡◌, ℕ, ◌<◌, ◌≤◌, List, length, map, replicate, slice_set, slice_index_or}
 use Rattle.dmc_types.specs.Limits.{max_completions, max_servers}
-use Rattle.dmc_types.specs.Values.{Params, no_counts}
+use Rattle.dmc_types.specs.Values.{Params, Counts, no_counts, params_with}
 use Rattle.dmc_types.specs.declared.ids.ServerId.{ServerId}
 use Rattle.dmc_types.specs.declared.config.Counting.{Counting}
 use Rattle.dmc_types.specs.declared.config.Counting.TheVariants.{All, Others}
@@ -11,14 +11,14 @@ use Rattle.dmc_tracker.specs.TrackerList.{plus, one_in, own_share, completions, 
 
 -- what was sent to a server, what was skipped and what is pending there
 pub record ServerNumbers : Type 0 where
-  pub sent : Params
-  pub skipped : Params
-  pub pending : Params
+  pub sent : Counts
+  pub skipped : Counts
+  pub pending : Counts
 
 pub record Numbers : Type 0 where
   pub counting : Counting
   pub most : ℕ
-  pub completions : Params
+  pub completions : Counts
   pub servers : List ServerNumbers
 
 abbrev pub no_numbers : ServerNumbers
@@ -53,20 +53,23 @@ pending_pair server = (server.pending.delta, server.pending.rho)
 abbrev pub numbers_at : Numbers → ServerId → ServerNumbers
 numbers_at numbers s = slice_index_or numbers.servers s.0 no_numbers
 
--- what the next stamp to s carries
+-- what the next stamp to s counts, and what it carries
+abbrev pub next_counts : Numbers → ServerId → Counts
+next_counts numbers s = plus (numbers_at numbers s).pending (own_share numbers.counting)
+
 abbrev pub next_params : Numbers → ServerId → Params
-next_params numbers s = plus (numbers_at numbers s).pending (own_share numbers.counting)
+next_params numbers s = params_with (next_counts numbers s)
 
 -- the delta of the next stamp to s is too much
 pub record IsFullAt (numbers : Numbers) (s : ServerId) : Type 0 where
   pub within : s.0 < length numbers.servers
-  pub past : IsTooMuch numbers.counting numbers.most (numbers_at numbers s).sent.delta (next_params numbers s).delta
+  pub past : IsTooMuch numbers.counting numbers.most (numbers_at numbers s).sent.delta (next_counts numbers s).delta
 
 -- a stamp to s sends what was pending there, and its own share
 abbrev pub after_stamp : ServerId → Numbers → Numbers
 after_stamp s numbers = record numbers {
   servers = slice_set numbers.servers s.0 (record {
-    sent = plus (numbers_at numbers s).sent (next_params numbers s);
+    sent = plus (numbers_at numbers s).sent (next_counts numbers s);
     skipped = (numbers_at numbers s).skipped;
     pending = no_counts;
   });

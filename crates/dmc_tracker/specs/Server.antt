@@ -1,29 +1,29 @@
 -- What a tracker keeps for a server, in the place of a list. No public clause cites this module.
 use Rattle.std.specs.Prelude.{◌≡◌, ℕ, ◌+◌, ◌-◌, ◌<◌, ◌≤◌, List, length, map, All as Each}
 use Rattle.dmc_types.specs.Limits.{max_completions, max_servers}
-use Rattle.dmc_types.specs.Values.{Params}
+use Rattle.dmc_types.specs.Values.{Counts}
 use Rattle.dmc_types.specs.declared.config.Counting.{Counting}
 use Rattle.dmc_types.specs.declared.config.Counting.TheVariants.{All, Others}
 use Rattle.dmc_tracker.specs.declared.server.ServerCounts.{ServerCounts}
 use Rattle.dmc_tracker.specs.TrackerList.{plus}
 use Rattle.dmc_tracker.specs.Numbers.{Numbers, ServerNumbers}
 
-abbrev pub minus : Params → Params → Params
+abbrev pub minus : Counts → Counts → Counts
 minus a b = record { delta = a.delta - b.delta; rho = a.rho - b.rho }
 
 -- the first counts are a part of the second: so are their parts in the constraint phase, and what is left of them
-pub record IsPart (part whole : Params) : Type 0 where
+pub record IsPart (part whole : Counts) : Type 0 where
   pub delta : part.delta ≤ whole.delta
   pub rho : part.rho ≤ whole.rho
   pub rest : part.delta + whole.rho ≤ whole.delta + part.rho
 
 -- the completions that the stamps to a server count
-abbrev pub counted_at : Counting → Params → ServerCounts → Params
+abbrev pub counted_at : Counting → Counts → ServerCounts → Counts
 counted_at All completions server = completions
 counted_at Others completions server = minus completions server.own
 
 -- what contracts see of it
-abbrev pub numbers_now : Counting → Params → ServerCounts → ServerNumbers
+abbrev pub numbers_now : Counting → Counts → ServerCounts → ServerNumbers
 numbers_now counting completions server = record {
   sent = server.sent;
   skipped = server.skipped;
@@ -31,7 +31,7 @@ numbers_now counting completions server = record {
 }
 
 -- what contracts see of a tracker
-abbrev pub view_of : Counting → ℕ → Params → List ServerCounts → Numbers
+abbrev pub view_of : Counting → ℕ → Counts → List ServerCounts → Numbers
 view_of counting most completions servers = record {
   counting = counting;
   most = most;
@@ -39,7 +39,7 @@ view_of counting most completions servers = record {
   servers = map (numbers_now counting completions) servers;
 }
 
-pub record IsKept (counting : Counting) (most : ℕ) (completions : Params) (server : ServerCounts) : Type 0 where
+pub record IsKept (counting : Counting) (most : ℕ) (completions : Counts) (server : ServerCounts) : Type 0 where
   pub own : IsPart server.own completions
   pub mark : IsPart server.mark (counted_at counting completions server)
   pub sent_rho : server.sent.rho ≤ server.sent.delta
@@ -48,7 +48,7 @@ pub record IsKept (counting : Counting) (most : ℕ) (completions : Params) (ser
   pub skipped_mark : server.skipped.delta ≤ server.mark.delta
   pub sent_all : counting ≡ All → plus server.sent server.skipped ≡ server.mark
 
-pub record AreKept (counting : Counting) (most : ℕ) (completions : Params) (servers : List ServerCounts) : Type 0 where
+pub record AreKept (counting : Counting) (most : ℕ) (completions : Counts) (servers : List ServerCounts) : Type 0 where
   pub some_most : 0 < most
   pub max_limit : most ≤ max_completions
   pub some_servers : 0 < length servers

@@ -3,7 +3,7 @@
 use Rattle.std.specs.Prelude.{◌≡◌, ℕ, ◌+◌, ◌<◌, ◌⊎◌, ◌==◌, Bool, false, if◌then◌else◌, List, [], ◌∷◌, ◌++◌, sum_by, count_by}
 use Rattle.std.specs.List.{after_last}
 use Rattle.dmc_types.specs.Limits.{max_count}
-use Rattle.dmc_types.specs.Values.{Params, no_counts}
+use Rattle.dmc_types.specs.Values.{Params, Counts, no_counts, counts_of, params_with}
 use Rattle.dmc_types.specs.declared.ids.ServerId.{ServerId}
 use Rattle.dmc_types.specs.declared.config.Counting.{Counting}
 use Rattle.dmc_types.specs.declared.config.Counting.TheVariants.{All, Others}
@@ -12,34 +12,34 @@ use Rattle.dmc_types.specs.declared.config.PhaseType.TheVariants.{Reservation, P
 use Rattle.dmc_tracker.specs.declared.event.TrackerEvent.{TrackerEvent}
 use Rattle.dmc_tracker.specs.declared.event.TrackerEvent.TheVariants.{Stamp, Skip, Response}
 
-abbrev pub plus : Params → Params → Params
+abbrev pub plus : Counts → Counts → Counts
 plus a b = record { delta = a.delta + b.delta; rho = a.rho + b.rho }
 
 -- the sum of what each entry of a list counts
-abbrev pub total : (TrackerEvent → Params) → List TrackerEvent → Params
+abbrev pub total : (TrackerEvent → Counts) → List TrackerEvent → Counts
 total f events = record { delta = sum_by (λ e. (f e).delta) events; rho = sum_by (λ e. (f e).rho) events }
 
 -- one response in a phase
-abbrev pub one_in : PhaseType → Params
+abbrev pub one_in : PhaseType → Counts
 one_in Reservation = record { delta = 1; rho = 1 }
 one_in Priority = record { delta = 1; rho = 0 }
 
 -- what an entry completes
-abbrev pub completed_by : TrackerEvent → Params
+abbrev pub completed_by : TrackerEvent → Counts
 completed_by (Stamp server params) = no_counts
 completed_by (Skip server) = no_counts
 completed_by (Response server phase) = one_in phase
 
 -- what an entry counts for the next stamp to s: in `Others` the responses of s count nothing
-abbrev pub counted_by : Counting → ServerId → TrackerEvent → Params
+abbrev pub counted_by : Counting → ServerId → TrackerEvent → Counts
 counted_by counting s (Stamp server params) = no_counts
 counted_by counting s (Skip server) = no_counts
 counted_by All s (Response server phase) = one_in phase
 counted_by Others s (Response server phase) = if server.0 == s.0 then no_counts else one_in phase
 
 -- what an entry sends to s
-abbrev pub sent_by : ServerId → TrackerEvent → Params
-sent_by s (Stamp server params) = if server.0 == s.0 then params else no_counts
+abbrev pub sent_by : ServerId → TrackerEvent → Counts
+sent_by s (Stamp server params) = if server.0 == s.0 then counts_of params else no_counts
 sent_by s (Skip server) = no_counts
 sent_by s (Response server phase) = no_counts
 
@@ -68,16 +68,16 @@ is_response_in s Priority (Response server Reservation) = false
 is_response_in s Priority (Response server Priority) = server.0 == s.0
 
 -- what a stamp counts for its own request
-abbrev pub own_share : Counting → Params
+abbrev pub own_share : Counting → Counts
 own_share All = no_counts
 own_share Others = record { delta = 1; rho = 1 }
 
 -- the completions at all servers
-abbrev pub completions : List TrackerEvent → Params
+abbrev pub completions : List TrackerEvent → Counts
 completions events = total completed_by events
 
 -- the completions at servers other than s
-abbrev pub others : ServerId → List TrackerEvent → Params
+abbrev pub others : ServerId → List TrackerEvent → Counts
 others s events = total (counted_by Others s) events
 
 -- how many responses of s in a phase there are
@@ -85,7 +85,7 @@ abbrev pub responses : ServerId → PhaseType → List TrackerEvent → ℕ
 responses s phase events = count_by (is_response_in s phase) events
 
 -- the completions at s
-abbrev pub completions_at : ServerId → List TrackerEvent → Params
+abbrev pub completions_at : ServerId → List TrackerEvent → Counts
 completions_at s events = record {
   delta = responses s Reservation events + responses s Priority events;
   rho = responses s Reservation events;
@@ -100,30 +100,30 @@ abbrev pub skips : ServerId → List TrackerEvent → ℕ
 skips s events = count_by (is_skip_of s) events
 
 -- the sum of the counts stamped to s
-abbrev pub sent : ServerId → List TrackerEvent → Params
+abbrev pub sent : ServerId → List TrackerEvent → Counts
 sent s events = total (sent_by s) events
 
 -- the responses after the last stamp or skip of s, or all if there is none, as the form counts them
-abbrev pub pending : Counting → ServerId → List TrackerEvent → Params
+abbrev pub pending : Counting → ServerId → List TrackerEvent → Counts
 pending counting s events = total (counted_by counting s) (after_last (is_mark_of s) events)
 
 -- what an entry skips at s, after the entries before it: a skip of s skips all that is pending there
-abbrev pub skipped_by : Counting → ServerId → List TrackerEvent → TrackerEvent → Params
+abbrev pub skipped_by : Counting → ServerId → List TrackerEvent → TrackerEvent → Counts
 skipped_by counting s before (Stamp server params) = no_counts
 skipped_by counting s before (Skip server) = if server.0 == s.0 then pending counting s before else no_counts
 skipped_by counting s before (Response server phase) = no_counts
 
 -- the sum of what the entries of a list skip at s, after the entries before them
-abbrev pub skipped_after : Counting → ServerId → (before events : List TrackerEvent) → Params
+abbrev pub skipped_after : Counting → ServerId → (before events : List TrackerEvent) → Counts
 skipped_after counting s before [] = no_counts
 skipped_after counting s before (e ∷ es) = plus (skipped_by counting s before e) (skipped_after counting s (before ++ e ∷ []) es)
 
-abbrev pub skipped : Counting → ServerId → List TrackerEvent → Params
+abbrev pub skipped : Counting → ServerId → List TrackerEvent → Counts
 skipped counting s events = skipped_after counting s [] events
 
 -- what a stamp to s must carry after these entries
 abbrev pub demanded : Counting → ServerId → List TrackerEvent → Params
-demanded counting s events = plus (pending counting s events) (own_share counting)
+demanded counting s events = params_with (plus (pending counting s events) (own_share counting))
 
 -- each stamp of the list carries what the entries before it demand
 abbrev pub IsTracked : Counting → List TrackerEvent → Type 0

@@ -15,9 +15,9 @@ pub struct Counts {
 }
 
 impl Model for Counts {
-    ghost use Rattle.dmc_types.specs.Values.{Params};
+    ghost use Rattle.dmc_types.specs.Values.{Counts};
 
-    ghost Value = { Params };
+    ghost Value = { Counts };
 
     ghost view = { λ c. record { delta = c.delta; rho = c.rho } };
 

@@ -13,7 +13,7 @@ use Rattle.dmc_core.specs.Opening.{named_rates}
 
 -- each server's plain state
 abbrev pub opening_state : {T : Type 0} → Tagging T → SceneValue → State T
-opening_state ops scene = state_after ops (opening scene.config) (map registration (map named_rates scene.clients))
+opening_state ops scene = state_after ops (opening ops scene.config) (map registration (map named_rates scene.clients))
 
 -- a client as the core holds it: nothing is counted, and nothing is under way
 abbrev pub opening_client : Counting → ℕ → ClientValue → Held

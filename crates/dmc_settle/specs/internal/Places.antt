@@ -3,6 +3,7 @@ use Rattle.std.specs.Prelude.{ℕ, false, List, [], map, slice_index_or}
 use Rattle.std.specs.Global.{Vec}
 use Rattle.dmc_types.specs.Values.{Setting, no_counts}
 use Rattle.dmc_types.specs.declared.config.AtLimit.TheVariants.{Wait}
+use Rattle.dmc_types.specs.declared.config.Shares.TheVariants.{Clock}
 use Rattle.dmc_types.specs.declared.config.Counting.TheVariants.{All}
 use Rattle.dmc_ledger.specs.Bundles.{ClientSide, client_side}
 use Rattle.dmc_ledger.specs.declared.desk.ClientDesk.{ClientDesk}
@@ -13,7 +14,7 @@ use Rattle.dmc_book.specs.declared.pass.WorkerPass.{WorkerPass}
 
 -- the default of a place without a book
 abbrev pub no_setting : Setting
-no_setting = record { hz = 0; idle_age = 0; erase_age = 0; at_limit = Wait }
+no_setting = record { hz = 0; idle_age = 0; erase_age = 0; at_limit = Wait; shares = Clock }
 
 abbrev pub no_book : {T : Type 0} → BookState T
 no_book = record { config = no_setting; server = 0; number = 0; history = []; first = 0; most = 0; workers = []; desks = []; closed = false }

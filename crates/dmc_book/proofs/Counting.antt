@@ -20,13 +20,14 @@ use Rattle.dmc_shared.specs.Segmented.{Segmented}
 use Rattle.dmc_ledger.specs.Accounts.{Account, total_of}
 use Rattle.dmc_ledger.specs.Bundles.{ClientSide}
 use Rattle.dmc_ledger.specs.Moves.{after_issue}
-use Rattle.dmc_book.specs.declared.counts.Numbers.{Numbers}
-use Rattle.dmc_book.specs.Counts.{accepted, count, numbers_of, no_numbers, worker_adds, stamps_added, delta_added, rho_added, grants_added, units_for, grant_in, is_miss, one_if}
+use Rattle.dmc_book.specs.Counts.{CountedBook, accepted, count, counted_books, max_added, numbers_of, no_numbers, worker_adds, stamps_added, delta_added, rho_added, grants_added, units_for, grant_in, is_miss, one_if}
 use Rattle.dmc_book.specs.internal.Counts.{IsSmall}
 use Rattle.dmc_book.specs.BookState.{AccountsState, PassState, WorkerSide, accounts_of, no_desk, no_worker, state_of}
-use Rattle.dmc_book.specs.Consistent.{AreConsistent, AreTokensFit, IsCounted, IsReplayed, IsWorker, IsDesk, AreWorkersApart, AreClientsApart, AreDesks, AreWithin, HasDesk, HasLeft, IsSeated, reaching}
+use Rattle.dmc_book.specs.Consistent.{AreConsistent, AreTokensFit, IsCounted, IsReplayed, IsWorker, IsDesk, AreWorkersApart, AreClientsApart, AreDesks, AreWithin, HasDesk, HasLeft, IsOpenBook, IsSeated, reaching}
 use Rattle.dmc_book.specs.internal.Consistent.{AreGrantsWithin, max_before}
-use Rattle.dmc_book.specs.Settling.{IsGathered}
+use Rattle.dmc_book.specs.PerCount.{WorkerCounts, EachCount}
+use Rattle.dmc_book.specs.Settling.{HasGathered, IsGathered}
+use Rattle.dmc_book.proofs.PerCountLemmas.{each_both, each_same, each_with}
 use Rattle.dmc_book.proofs.RenewingLemmas.{all_there, worker_there}
 use Rattle.dmc_book.proofs.WorkerLemmas.{unmoved_at}
 use Rattle.dmc_book.specs.Moves.{IsEnrolled, IsOpen, book_after, worker_after, desk_after}
@@ -35,21 +36,25 @@ use Rattle.dmc_lemmas.proofs.Lists.{all_as, all_both, all_mapped, all_next, posi
 
 -- ---- the counts
 
-small_adds : (n : Numbers) → IsSmall n → (b : Bool) → IsSmall (if b then n else no_numbers)
+small_adds : (n : WorkerCounts ℕ) → IsSmall n → (b : Bool) → IsSmall (if b then n else no_numbers)
 small_adds n h true = h
-small_adds n h false = record { calls = omega arith; misses = omega arith; tokens = omega arith; grants = omega arith; granted = omega arith }
+small_adds n h false = each_same (λ k. k ≤ max_added) 0 (omega arith)
 
 pub one_at_most : (b : Bool) → one_if b ≤ 1
 one_at_most true = omega arith
 one_at_most false = omega arith
 
-one_of : (n : Numbers) → n.calls ≤ 1 → n.misses ≤ 1 → n.grants ≤ 1 → (b : Bool) → ((if b then n else no_numbers).calls ≤ 1) × ((if b then n else no_numbers).misses ≤ 1) × ((if b then n else no_numbers).grants ≤ 1)
+one_of : (n : WorkerCounts ℕ) → n.calls ≤ 1 → n.misses ≤ 1 → n.grants ≤ 1 → (b : Bool) → ((if b then n else no_numbers).calls ≤ 1) × ((if b then n else no_numbers).misses ≤ 1) × ((if b then n else no_numbers).grants ≤ 1)
 one_of n c m g true = (c, m, g)
 one_of n c m g false = (omega arith, omega arith, omega arith)
 
 unit_at_most : (client : ℕ) (phase : PhaseType) (o : Option (ClientId × PhaseType)) → units_for client phase o ≤ 1
 unit_at_most client phase None = omega arith
 unit_at_most client phase (Some grant) = one_at_most _
+
+-- no book of a worker counts from later on than its sums of tokens were renewed
+all_within : (T : Type 0) (n : ℕ) (w : WorkerSide) → w.renewed ≤ n → EachCount (λ (c : CountedBook T). c.from ≤ n) (counted_books w)
+all_within T n w within = (omega arith, omega arith, within, omega arith, within)
 
 module _ {T : Type 0} where
   count_more : (adds : Event T → ℕ) (es : List (Event T)) (e : Event T) → count adds (es ++ e ∷ []) ≡ count adds es + adds e
@@ -73,30 +78,25 @@ module _ {T : Type 0} where
   worker_more : (es : List (Event T)) (e : Event T) → (w : WorkerSide) → IsWorker es w → IsWorker (es ++ e ∷ []) (worker_after e w)
   worker_more es e w h = record {
     renewed = let long : length (es ++ e ∷ []) ≡ length es + 1 = length-append es (e ∷ []) in omega (arith, h.renewed, long);
-    calls = counted_more (λ e. (worker_adds w.worker e).calls) es e 1 w.books.calls h.calls;
-    misses = counted_more (λ e. (worker_adds w.worker e).misses) es e 1 w.books.misses h.misses;
-    tokens = since_more (λ e. (worker_adds w.worker e).tokens) es e w.renewed 1 w.books.tokens h.renewed h.tokens;
-    grants = counted_more (λ e. (worker_adds w.worker e).grants) es e 1 w.books.grants h.grants;
-    granted = since_more (λ e. (worker_adds w.worker e).granted) es e w.renewed 1 w.books.granted h.renewed h.granted;
+    books = each_with (λ c. c.from ≤ length es) (IsOpenBook es) (λ c. IsCounted c.adds (drop c.from (es ++ e ∷ [])) 1 (after_issue (c.adds e) c.book))
+        (λ c within is. since_more c.adds es e c.from 1 c.book within is) (counted_books w) (all_within T (length es) w h.renewed) h.books;
   }
 
-  gathered_more : (adds : Event T → ℕ) (es : List (Event T)) (e : Event T) (book : Account) → adds e ≡ 0 → IsGathered adds es book → IsGathered adds (es ++ e ∷ []) book
-  gathered_more adds es e book none h = record { gathered = (let more = count_more adds es e in omega (arith, more, none, h.gathered)); held = h.held; open_tills = h.open_tills }
+  gathered_since : (adds : Event T → ℕ) (es : List (Event T)) (e : Event T) (n : ℕ) (book : Account) → n ≤ length es → adds e ≡ 0 → IsGathered adds (drop n es) book → IsGathered adds (drop n (es ++ e ∷ [])) book
+  gathered_since adds es e n book within none h =
+      let more = ap (count adds) (drop-append-le n es (e ∷ []) within) ∙ count_more adds (drop n es) e in
+      record { gathered = omega (arith, more, none, h.gathered); held = h.held; open_tills = h.open_tills }
 
   -- an event of another worker leaves one that was dismissed
   left_more : (es : List (Event T)) (e : Event T) (w : WorkerSide) → (e.worker.0 == w.worker) ≡ false → HasLeft es w → HasLeft (es ++ e ∷ []) w
   left_more es e w other h =
       let none : worker_adds w.worker e ≡ no_numbers = ap (λ b. if b then numbers_of e.command e.reply else no_numbers) other in
-      let since : drop w.renewed (es ++ e ∷ []) ≡ drop w.renewed es ++ e ∷ [] = drop-append-le w.renewed es (e ∷ []) h.renewed in
+      let adds_none : EachCount (λ (c : CountedBook T). c.adds e ≡ 0) (counted_books w) = subst (EachCount (λ k. k ≡ 0)) (sym none) (each_same (λ k. k ≡ 0) 0 refl) in
       let long : length (es ++ e ∷ []) ≡ length es + 1 = length-append es (e ∷ []) in
       record {
-        settled = record {
-          calls = gathered_more _ es e w.books.calls (ap (λ (n : Numbers). n.calls) none) h.settled.calls;
-          misses = gathered_more _ es e w.books.misses (ap (λ (n : Numbers). n.misses) none) h.settled.misses;
-          tokens = subst (λ (xs : List (Event T)). IsGathered (λ x. (worker_adds w.worker x).tokens) xs w.books.tokens) (sym since) (gathered_more _ (drop w.renewed es) e w.books.tokens (ap (λ (n : Numbers). n.tokens) none) h.settled.tokens);
-          grants = gathered_more _ es e w.books.grants (ap (λ (n : Numbers). n.grants) none) h.settled.grants;
-          granted = subst (λ (xs : List (Event T)). IsGathered (λ x. (worker_adds w.worker x).granted) xs w.books.granted) (sym since) (gathered_more _ (drop w.renewed es) e w.books.granted (ap (λ (n : Numbers). n.granted) none) h.settled.granted);
-        };
+        settled = each_with (λ c. (c.from ≤ length es) × (c.adds e ≡ 0)) (HasGathered es) (HasGathered (es ++ e ∷ []))
+            (λ c known was. gathered_since c.adds es e c.from c.book known.0 known.1 was) (counted_books w)
+            (each_both (λ c. c.from ≤ length es) (λ c. c.adds e ≡ 0) (counted_books w) (all_within T (length es) w h.renewed) adds_none) h.settled;
         renewed = omega (arith, h.renewed, long);
         reach = h.reach;
       }
@@ -105,7 +105,7 @@ module _ {T : Type 0} where
       → IsWorker (es ++ e ∷ []) (worker_after e w) ⊎ HasLeft (es ++ e ∷ []) (worker_after e w)
   either_more es e w others (inl h) = inl (worker_more es e w h)
   either_more es e w others (inr h) =
-      let other = others h.settled.calls.open_tills in
+      let other = others h.settled.0.open_tills in
       inr (subst (HasLeft (es ++ e ∷ [])) (sym (unmoved_at e w _ refl other)) (left_more es e w other h))
 
   desk_more : (es : List (Event T)) (e : Event T) (server passes : ℕ) (d : ClientSide) → IsDesk es server passes d → IsDesk (es ++ e ∷ []) server passes (desk_after e d)
@@ -154,13 +154,13 @@ module _ {T : Type 0} (a : AccountsState T) (h : AreConsistent a) (fewer : lengt
   tokens_below total fit = omega (arith, fit, fewer, h.limit)
 
   worker_fits : (w : WorkerSide) → IsWorker a.history w → AreTokensFit a.first (length a.history) w.books → AreWithin max_before w.books
-  worker_fits w is fit = record {
-    calls = few_fit _ (λ e. (one_each w.worker e).0) a.history 1 w.books.calls short is.calls;
-    misses = few_fit _ (λ e. (one_each w.worker e).1) a.history 1 w.books.misses short is.misses;
-    tokens = tokens_below (total_of w.books.tokens) fit.tokens;
-    grants = few_fit _ (λ e. (one_each w.worker e).2) a.history 1 w.books.grants short is.grants;
-    granted = tokens_below (total_of w.books.granted) fit.granted;
-  }
+  worker_fits w is fit = (
+    few_fit _ (λ e. (one_each w.worker e).0) a.history 1 w.books.calls short is.books.0,
+    few_fit _ (λ e. (one_each w.worker e).1) a.history 1 w.books.misses short is.books.1,
+    tokens_below (total_of w.books.tokens) fit.tokens,
+    few_fit _ (λ e. (one_each w.worker e).2) a.history 1 w.books.grants short is.books.3,
+    tokens_below (total_of w.books.granted) fit.granted,
+  )
 
   -- the books of a worker that is enrolled can count one event more
   pub workers_fit : (p : PassState) → IsEnrolled a.workers p → AreWithin max_before (slice_index_or a.workers p.place no_worker).books
@@ -207,7 +207,7 @@ module _ {T : Type 0} (e : Event T) where
   tokens_more : (first events : ℕ) (w : WorkerSide) → IsSmall (numbers_of e.command e.reply) → AreTokensFit first events w.books → AreTokensFit first (events + 1) ((worker_after e w).books)
   tokens_more first events w small h =
       let adds = small_adds (numbers_of e.command e.reply) small (e.worker.0 == w.worker) in
-      record { tokens = omega (arith, adds.tokens, h.tokens); granted = omega (arith, adds.granted, h.granted) }
+      record { tokens = omega (arith, adds.2, h.tokens); granted = omega (arith, adds.4, h.granted) }
 
   -- what was written to the parts of accounts is consistent
   pub consistent_recorded : (a : AccountsState T) (h : Segmented (Event T)) (workers : List WorkerSide) (desks : List ClientSide)

@@ -4,7 +4,7 @@ use Rattle.std.specs.Prelude.{◌==◌, if◌then◌else◌}
 use Rattle.std.specs.List.{AllByRecursion, position}
 use Rattle.std.proofs.lemmas.List.Quantifiers.{position-Some}
 use Rattle.std.proofs.lemmas.Bool.{eq-eqb, eqb-true}
-use Rattle.dmc_types.specs.Values.{Params, no_counts}
+use Rattle.dmc_types.specs.Values.{Params, no_counts, counts_of}
 use Rattle.dmc_types.specs.declared.ids.ClientId.{ClientId}
 use Rattle.dmc_types.specs.declared.config.PhaseType.{PhaseType}
 use Rattle.dmc_types.specs.declared.config.PhaseType.TheVariants.{Reservation, Priority}
@@ -22,7 +22,7 @@ use Rattle.dmc_book.specs.BookState.{no_desk}
 use Rattle.dmc_book.specs.Calls.{AreAlike, IsForDesk}
 use Rattle.dmc_book.specs.Consistent.{AreClientsApart}
 use Rattle.dmc_book.specs.internal.Consistent.{AreGrantsWithin}
-use Rattle.dmc_book.specs.Counts.{accepted, grant_in, grants_added, stamps_added, delta_added, rho_added, stamps_for, params_for, units_for, one_if, is_phase}
+use Rattle.dmc_book.specs.Counts.{accepted, grant_in, grants_added, stamps_added, delta_added, rho_added, stamps_for, counts_for, units_for, one_if, is_phase}
 use Rattle.dmc_book.specs.Moves.{desk_after, desk_place, same_place, takes_at, is_unit_of, unit_at}
 use Rattle.dmc_book.proofs.WorkerLemmas.{issue_none}
 use Rattle.dmc_lemmas.proofs.Lists.{map_unmoved, all_as, position_map}
@@ -99,8 +99,8 @@ module _ {T : Type 0} (e : Event T) where
       each (d ∷ ds) = (
         idle_stays d (record {
           stamps = ap (stamps_for d.client) a;
-          delta = ap (λ o. (params_for d.client o).delta) a;
-          rho = ap (λ o. (params_for d.client o).rho) a;
+          delta = ap (λ o. (counts_for d.client o).delta) a;
+          rho = ap (λ o. (counts_for d.client o).rho) a;
           reservation = ap (units_for d.client Reservation) g;
           priority = ap (units_for d.client Priority) g;
         }),
@@ -111,8 +111,8 @@ module _ {T : Type 0} (e : Event T) where
     pub stamp_idle : (d : ClientSide) → (client.0 == d.client) ≡ false → IsIdle d
     stamp_idle d h = record {
       stamps = ap (stamps_for d.client) a ∙ ap one_if h;
-      delta = ap (λ o. (params_for d.client o).delta) a ∙ ap (λ b. (if b then params else no_counts).delta) h;
-      rho = ap (λ o. (params_for d.client o).rho) a ∙ ap (λ b. (if b then params else no_counts).rho) h;
+      delta = ap (λ o. (counts_for d.client o).delta) a ∙ ap (λ b. (if b then counts_of params else no_counts).delta) h;
+      rho = ap (λ o. (counts_for d.client o).rho) a ∙ ap (λ b. (if b then counts_of params else no_counts).rho) h;
       reservation = ap (units_for d.client Reservation) g;
       priority = ap (units_for d.client Priority) g;
     }
@@ -121,8 +121,8 @@ module _ {T : Type 0} (e : Event T) where
     stamp_taken d same =
         let h : (client.0 == d.client) ≡ true = eq-eqb client.0 d.client (sym same) in
         let s : stamps_added d.client e ≡ 1 = ap (stamps_for d.client) a ∙ ap one_if h in
-        let x : delta_added d.client e ≡ params.delta = ap (λ o. (params_for d.client o).delta) a ∙ ap (λ b. (if b then params else no_counts).delta) h in
-        let y : rho_added d.client e ≡ params.rho = ap (λ o. (params_for d.client o).rho) a ∙ ap (λ b. (if b then params else no_counts).rho) h in
+        let x : delta_added d.client e ≡ params.delta = ap (λ o. (counts_for d.client o).delta) a ∙ ap (λ b. (if b then counts_of params else no_counts).delta) h in
+        let y : rho_added d.client e ≡ params.rho = ap (λ o. (counts_for d.client o).rho) a ∙ ap (λ b. (if b then counts_of params else no_counts).rho) h in
         rw (
           ap (λ n. with_more n d.held.stamps) s,
           ap (λ n. with_more n d.held.delta) x,
@@ -135,8 +135,8 @@ module _ {T : Type 0} (e : Event T) where
     pub grant_idle : (d : ClientSide) → (client.0 == d.client) ≡ false → IsIdle d
     grant_idle d h = record {
       stamps = ap (stamps_for d.client) a;
-      delta = ap (λ o. (params_for d.client o).delta) a;
-      rho = ap (λ o. (params_for d.client o).rho) a;
+      delta = ap (λ o. (counts_for d.client o).delta) a;
+      rho = ap (λ o. (counts_for d.client o).rho) a;
       reservation = ap (units_for d.client Reservation) g ∙ ap (λ b. one_if (b && is_phase Reservation phase)) h;
       priority = ap (units_for d.client Priority) g ∙ ap (λ b. one_if (b && is_phase Priority phase)) h;
     }
@@ -150,8 +150,8 @@ module _ {T : Type 0} (e : Event T) where
         let h : (client.0 == d.client) ≡ true = eq-eqb client.0 d.client (sym same) in
         rw (
           ap (λ n. with_more n d.held.stamps) (ap (stamps_for d.client) a) ∙ more_none d.held.stamps,
-          ap (λ n. with_more n d.held.delta) (ap (λ o. (params_for d.client o).delta) a) ∙ more_none d.held.delta,
-          ap (λ n. with_more n d.held.rho) (ap (λ o. (params_for d.client o).rho) a) ∙ more_none d.held.rho,
+          ap (λ n. with_more n d.held.delta) (ap (λ o. (counts_for d.client o).delta) a) ∙ more_none d.held.delta,
+          ap (λ n. with_more n d.held.rho) (ap (λ o. (counts_for d.client o).rho) a) ∙ more_none d.held.rho,
           ap (λ n. after_issue n d.books.reservation) (ap (units_for d.client Reservation) g ∙ ap (λ b. one_if (b && is_phase Reservation phase)) h),
           ap (λ n. after_issue n d.books.priority) (ap (units_for d.client Priority) g ∙ ap (λ b. one_if (b && is_phase Priority phase)) h),
         )

@@ -16,7 +16,7 @@ use Rattle.dmc_book.specs.internal.Enrolling.{accounts_enrolled}
 use Rattle.dmc_book.specs.Moves.{IsOpen}
 use Rattle.dmc_book.specs.Opening.{desk_with_tills, new_worker}
 use Rattle.dmc_book.specs.internal.Opening.{HaveRoom}
-use Rattle.dmc_book.specs.declared.counts.Numbers.{Numbers}
+use Rattle.dmc_book.specs.PerCount.{WorkerCounts}
 use Rattle.dmc_book.proofs.ExtendingLemmas.{apart_from, desk_opened, has_from, reached_at_most}
 use Rattle.dmc_book.proofs.JoiningLemmas.{nothing_counted}
 
@@ -30,7 +30,7 @@ module _ {T : Type 0} (ws : List WorkerSide) (w : ℕ) (unknown : IsSeated ws w 
   other : (e : Event T) → IsSeated ws e.worker.0 → (e.worker.0 == w) ≡ false
   other e is = either_false (e.worker.0 == w) (λ same. unknown (subst (IsSeated ws) (eqb-true e.worker.0 w same) is))
 
-  module _ (number : Numbers → ℕ) (none : number no_numbers ≡ 0) where
+  module _ (number : WorkerCounts ℕ → ℕ) (none : number no_numbers ≡ 0) where
     not_counted : count (λ e. number (worker_adds w e)) es ≡ 0
     not_counted = nothing_counted (λ e. number (worker_adds w e)) es
         (all_as _ _ (λ e is. ap (λ b. number (if b then numbers_of e.command e.reply else no_numbers)) (other e is) ∙ none) es seated)
@@ -40,12 +40,8 @@ module _ {T : Type 0} (ws : List WorkerSide) (w : ℕ) (unknown : IsSeated ws w 
 
   begins_all : (reach n : ℕ) → IsWorker es (new_worker reach n (record { 0 = w }))
   begins_all reach n = record {
-    calls = begins (λ m. m.calls) refl n;
-    misses = begins (λ m. m.misses) refl (n + 1);
     renewed = omega arith;
-    tokens = begins (λ m. m.tokens) refl (n + 2);
-    grants = begins (λ m. m.grants) refl (n + 3);
-    granted = begins (λ m. m.granted) refl (n + 4);
+    books = (begins (λ m. m.calls) refl n, begins (λ m. m.misses) refl (n + 1), begins (λ m. m.tokens) refl (n + 2), begins (λ m. m.grants) refl (n + 3), begins (λ m. m.granted) refl (n + 4));
   }
 
 -- ---- a worker more

@@ -159,7 +159,7 @@ module _ {T : Type 0} (a : AccountsState T) (place : ℕ) (within : place < leng
       let counted = worker_there a place within still h in
       let many = as_many_from from a.desks in
       record {
-        workers = all_set (λ x. IsWorker a.history x ⊎ HasLeft a.history x) a.workers place v h.workers (inl (record { calls = counted.calls; misses = counted.misses; renewed = counted.renewed; tokens = counted.tokens; grants = counted.grants; granted = counted.granted }));
+        workers = all_set (λ x. IsWorker a.history x ⊎ HasLeft a.history x) a.workers place v h.workers (inl (record { renewed = counted.renewed; books = counted.books }));
         desks = extended_desks;
         reach = all_set (λ x. x.reach ≤ length (desks_from from a.desks)) a.workers place v (all_as _ _ (λ x l. omega (arith, l, many)) a.workers h.reach) (omega (arith, many));
         workers_apart = apart_set a.workers place v within refl h.workers_apart;

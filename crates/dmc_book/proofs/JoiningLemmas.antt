@@ -6,7 +6,7 @@ use Rattle.std.proofs.lemmas.Bool.{cases_lt, eqb-true, le-ltb, lt-ltb, ltb-false
 use Rattle.std.proofs.lemmas.List.{get_or_append_left, map-append}
 use Rattle.std.proofs.Math.Seq.{get_or-append_seam}
 use Rattle.indexmap.specs.IndexSet.{insert_key}
-use Rattle.dmc_types.specs.Values.{Params, no_counts}
+use Rattle.dmc_types.specs.Values.{Params, Counts, no_counts, counts_of}
 use Rattle.dmc_types.specs.declared.ids.ClientId.{ClientId}
 use Rattle.dmc_types.specs.declared.config.PhaseType.{PhaseType}
 use Rattle.dmc_types.specs.declared.config.PhaseType.TheVariants.{Reservation, Priority}
@@ -18,7 +18,7 @@ use Rattle.dmc_ledger.specs.declared.desk.ClientDesk.{ClientDesk}
 use Rattle.dmc_shared.specs.Segmented.{Segmented}
 use Rattle.dmc_book.specs.BookState.{AccountsState, WorkerSide, accounts_of, no_desk}
 use Rattle.dmc_book.specs.Consistent.{AreClientsApart, AreConsistent, AreDesks, HasDesk, IsCounted, IsDesk, reaching}
-use Rattle.dmc_book.specs.Counts.{accepted, count, delta_added, grant_in, grants_added, is_phase, one_if, params_for, rho_added, stamps_added, stamps_for, units_for}
+use Rattle.dmc_book.specs.Counts.{accepted, count, delta_added, grant_in, grants_added, is_phase, one_if, counts_for, rho_added, stamps_added, stamps_for, units_for}
 use Rattle.dmc_book.specs.Joining.{IsUnissued, IsUnused}
 use Rattle.dmc_book.specs.internal.Joining.{accounts_admitted}
 use Rattle.dmc_book.specs.Moves.{desk_place}
@@ -81,9 +81,9 @@ module _ (ds : List ClientSide) (c : ℕ) (none : desk_place c ds ≡ None) wher
   no_stamps None h = refl
   no_stamps (Some stamp) h = ap one_if (other stamp.0.0 h)
 
-  no_params : (o : Option (ClientId × Params)) → HasDesk ds o → params_for c o ≡ no_counts
-  no_params None h = refl
-  no_params (Some stamp) h = ap (λ b. if b then stamp.1 else no_counts) (other stamp.0.0 h)
+  no_counts_for : (o : Option (ClientId × Params)) → HasDesk ds o → counts_for c o ≡ no_counts
+  no_counts_for None h = refl
+  no_counts_for (Some stamp) h = ap (λ b. if b then counts_of stamp.1 else no_counts) (other stamp.0.0 h)
 
 module _ {T : Type 0} (adds : Event T → ℕ) (es : List (Event T)) where
   unissued : (book : Account) → IsUnissued book → count adds es ≡ 0 → IsCounted adds es 1 book
@@ -100,8 +100,8 @@ module _ {T : Type 0} (a : AccountsState T) (h : AreConsistent a) (d : ClientSid
   last_desk = record {
     its_server = unused.its_server;
     stamps = unused.stamps ∙ sym (none_queued (stamps_added d.client) (λ e. no_stamps a.desks d.client none (accepted e)));
-    delta = unused.delta ∙ sym (none_queued (delta_added d.client) (λ e has. ap (λ (p : Params). p.delta) (no_params a.desks d.client none (accepted e) has)));
-    rho = unused.rho ∙ sym (none_queued (rho_added d.client) (λ e has. ap (λ (p : Params). p.rho) (no_params a.desks d.client none (accepted e) has)));
+    delta = unused.delta ∙ sym (none_queued (delta_added d.client) (λ e has. ap (λ (p : Counts). p.delta) (no_counts_for a.desks d.client none (accepted e) has)));
+    rho = unused.rho ∙ sym (none_queued (rho_added d.client) (λ e has. ap (λ (p : Counts). p.rho) (no_counts_for a.desks d.client none (accepted e) has)));
     reservation = unissued (grants_added d.client Reservation) a.history d.books.reservation unused.reservation (none_granted Reservation);
     priority = unissued (grants_added d.client Priority) a.history d.books.priority unused.priority (none_granted Priority);
   }

@@ -8,6 +8,7 @@ mod GrantLemmas
 mod JoiningLemmas
 mod LeavingLemmas
 mod OpeningLemmas
+mod PerCountLemmas
 mod RenewingLemmas
 mod RotatingLemmas
 mod RunLemmas

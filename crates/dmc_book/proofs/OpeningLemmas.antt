@@ -21,6 +21,7 @@ use Rattle.dmc_book.specs.Consistent.{AreConsistent, AreTokensFit, HasLeft, IsCo
 use Rattle.dmc_book.specs.Joining.{id_of}
 use Rattle.dmc_book.specs.Moves.{IsOpen}
 use Rattle.dmc_book.specs.Opening.{AreApart, AreNamedOnce, IsNewDesk, desk_with_tills, with_tills, new_unit, new_worker, new_workers, new_pass, new_passes, new_accounts_state}
+use Rattle.dmc_book.specs.PerCount.{books_per_worker}
 use Rattle.dmc_book.specs.internal.Opening.{HaveRoom}
 use Rattle.std.proofs.lemmas.Bool.{or_parts}
 
@@ -121,24 +122,17 @@ module _ {T : Type 0} where
 workers_counted : (T : Type 0) (r n : ℕ) (ws : List WorkerId) → AllByRecursion (λ w. IsWorker {T = T} [] w ⊎ HasLeft {T = T} [] w) (new_workers r n ws)
 workers_counted T r n [] = tt
 workers_counted T r n (w ∷ ws) = (
-  inl (record {
-    calls = new_counted _ n;
-    misses = new_counted _ (n + 1);
-    renewed = omega arith;
-    tokens = new_counted _ (n + 2);
-    grants = new_counted _ (n + 3);
-    granted = new_counted _ (n + 4);
-  }),
-  workers_counted T r (n + 5) ws,
+  inl (record { renewed = omega arith; books = (new_counted _ _, new_counted _ _, new_counted _ _, new_counted _ _, new_counted _ _) }),
+  workers_counted T r (n + books_per_worker) ws,
 )
 
 others_apart : (r n : ℕ) (w : WorkerId) (ws : List WorkerId) → AllByRecursion (λ (o : WorkerId). (o.0 == w.0) ≡ false) ws → AllByRecursion (λ (o : WorkerSide). (o.worker == w.0) ≡ false) (new_workers r n ws)
 others_apart r n w [] h = tt
-others_apart r n w (v ∷ ws) h = (h.0, others_apart r (n + 5) w ws h.1)
+others_apart r n w (v ∷ ws) h = (h.0, others_apart r (n + books_per_worker) w ws h.1)
 
 opened_workers_apart : (r n : ℕ) (ws : List WorkerId) → AreApart (λ (w : WorkerId). w.0) ws → AreWorkersApart (new_workers r n ws)
 opened_workers_apart r n [] h = tt
-opened_workers_apart r n (w ∷ ws) h = (others_apart r (n + 5) w ws h.0, opened_workers_apart r (n + 5) ws h.1)
+opened_workers_apart r n (w ∷ ws) h = (others_apart r (n + books_per_worker) w ws h.0, opened_workers_apart r (n + books_per_worker) ws h.1)
 
 opened_clients_apart : (k : ℕ) (ds : List ClientSide) → AreApart (λ (d : ClientSide). d.client) ds → AreClientsApart (map (desk_with_tills k) ds)
 opened_clients_apart k [] h = tt
@@ -146,23 +140,23 @@ opened_clients_apart k (d ∷ ds) h = (all_mapped _ _ (desk_with_tills k) (λ o 
 
 as_many_workers : (r n : ℕ) (ws : List WorkerId) → length (new_workers r n ws) ≡ length ws
 as_many_workers r n [] = refl
-as_many_workers r n (w ∷ ws) = ap suc (as_many_workers r (n + 5) ws)
+as_many_workers r n (w ∷ ws) = ap suc (as_many_workers r (n + books_per_worker) ws)
 
 -- each pass has tills of each desk
 all_reaching : (k r n : ℕ) (ws : List WorkerId) → k < r → reaching k (new_workers r n ws) ≡ length ws
 all_reaching k r n [] below = refl
 all_reaching k r n (w ∷ ws) below =
     let here : one_if (nat_lt k r) ≡ 1 = ap one_if (lt-ltb k r below) in
-    let rest = all_reaching k r (n + 5) ws below in
+    let rest = all_reaching k r (n + books_per_worker) ws below in
     omega (arith, here, rest)
 
 all_in_reach : (r n : ℕ) (ws : List WorkerId) → AllByRecursion (λ w. w.reach ≤ r) (new_workers r n ws)
 all_in_reach r n [] = tt
-all_in_reach r n (w ∷ ws) = (omega arith, all_in_reach r (n + 5) ws)
+all_in_reach r n (w ∷ ws) = (omega arith, all_in_reach r (n + books_per_worker) ws)
 
 tokens_low : (r n : ℕ) (ws : List WorkerId) → AllByRecursion (λ w. IsOpen w → AreTokensFit 0 0 w.books) (new_workers r n ws)
 tokens_low r n [] = tt
-tokens_low r n (w ∷ ws) = (λ still. record { tokens = omega arith; granted = omega arith }, tokens_low r (n + 5) ws)
+tokens_low r n (w ∷ ws) = (λ still. record { tokens = omega arith; granted = omega arith }, tokens_low r (n + books_per_worker) ws)
 
 new_desk_at : (server : ℕ) (ds : List ClientSide) (k : ℕ) → AllByRecursion (IsNewDesk server) ds → k < length ds → IsNewDesk server (slice_index_or ds k no_desk)
 new_desk_at server [] k new l = absurd (omega (arith, l))
@@ -212,50 +206,50 @@ module _ {T : Type 0} where
   }
 
 -- the queue of an empty history
-pub replayed_new : {T : Type 0} (ops : Tagging T) (q : State T) (config : Setting) → q ≡ opening config → IsReplayed ops q config []
+pub replayed_new : {T : Type 0} (ops : Tagging T) (q : State T) (config : Setting) → q ≡ opening ops config → IsReplayed ops q config []
 replayed_new ops q config is = record { state = is; replaying = tt }
 
 -- ---- one worker more
 
-pub workers_more : (r n : ℕ) (ws : List WorkerId) (w : WorkerId) → new_workers r n (ws ++ w ∷ []) ≡ new_workers r n ws ++ new_worker r (n + 5 * length ws) w ∷ []
-workers_more r n [] w = let e : n ≡ n + 5 * 0 = omega arith in ap (λ k. new_worker r k w ∷ []) e
+pub workers_more : (r n : ℕ) (ws : List WorkerId) (w : WorkerId) → new_workers r n (ws ++ w ∷ []) ≡ new_workers r n ws ++ new_worker r (n + books_per_worker * length ws) w ∷ []
+workers_more r n [] w = let e : n ≡ n + books_per_worker * 0 = omega arith in ap (λ k. new_worker r k w ∷ []) e
 workers_more r n (v ∷ ws) w =
-    let e : (n + 5) + 5 * length ws ≡ n + 5 * suc (length ws) = omega arith in
-    ap (λ xs. new_worker r n v ∷ xs) (workers_more r (n + 5) ws w ∙ ap (λ k. new_workers r (n + 5) ws ++ new_worker r k w ∷ []) e)
+    let e : (n + books_per_worker) + books_per_worker * length ws ≡ n + books_per_worker * suc (length ws) = omega arith in
+    ap (λ xs. new_worker r n v ∷ xs) (workers_more r (n + books_per_worker) ws w ∙ ap (λ k. new_workers r (n + books_per_worker) ws ++ new_worker r k w ∷ []) e)
 
 module _ (clients : List ClientId) (ds : List ClientSide) where
-  pub passes_more : (place n : ℕ) (ws : List WorkerId) (w : WorkerId) → new_passes place n clients ds (ws ++ w ∷ []) ≡ new_passes place n clients ds ws ++ new_pass (place + length ws) (n + 5 * length ws) clients ds w ∷ []
+  pub passes_more : (place n : ℕ) (ws : List WorkerId) (w : WorkerId) → new_passes place n clients ds (ws ++ w ∷ []) ≡ new_passes place n clients ds ws ++ new_pass (place + length ws) (n + books_per_worker * length ws) clients ds w ∷ []
   passes_more place n [] w =
-      let e : n ≡ n + 5 * 0 = omega arith in
+      let e : n ≡ n + books_per_worker * 0 = omega arith in
       let p : place ≡ place + 0 = omega arith in
-      ap (λ k. new_pass place k clients ds w ∷ []) e ∙ ap (λ k. new_pass k (n + 5 * 0) clients ds w ∷ []) p
+      ap (λ k. new_pass place k clients ds w ∷ []) e ∙ ap (λ k. new_pass k (n + books_per_worker * 0) clients ds w ∷ []) p
   passes_more place n (v ∷ ws) w =
-      let e : (n + 5) + 5 * length ws ≡ n + 5 * suc (length ws) = omega arith in
+      let e : (n + books_per_worker) + books_per_worker * length ws ≡ n + books_per_worker * suc (length ws) = omega arith in
       let p : (place + 1) + length ws ≡ place + suc (length ws) = omega arith in
-      let first = new_passes (place + 1) (n + 5) clients ds ws in
+      let first = new_passes (place + 1) (n + books_per_worker) clients ds ws in
       ap (λ xs. new_pass place n clients ds v ∷ xs)
-      (passes_more (place + 1) (n + 5) ws w
+      (passes_more (place + 1) (n + books_per_worker) ws w
       ∙ ap (λ k. first ++ new_pass ((place + 1) + length ws) k clients ds w ∷ []) e
-      ∙ ap (λ k. first ++ new_pass k (n + 5 * suc (length ws)) clients ds w ∷ []) p)
+      ∙ ap (λ k. first ++ new_pass k (n + books_per_worker * suc (length ws)) clients ds w ∷ []) p)
 
 -- the next in their order, of which the first i are there
 module _ (ws : List WorkerId) (i : ℕ) (w : WorkerId) (within : i < length ws) (is : w ≡ get_or ws i w) (n : ℕ) where
   so_many : length (take i ws) ≡ i
   so_many = length-take-le i ws (omega (arith, within))
 
-  pub workers_next : (r : ℕ) (old : List WorkerSide) (s : WorkerSide) → old ≡ new_workers r n (take i ws) → s ≡ new_worker r (n + 5 * i) w → old ++ s ∷ [] ≡ new_workers r n (take (i + 1) ws)
+  pub workers_next : (r : ℕ) (old : List WorkerSide) (s : WorkerSide) → old ≡ new_workers r n (take i ws) → s ≡ new_worker r (n + books_per_worker * i) w → old ++ s ∷ [] ≡ new_workers r n (take (i + 1) ws)
   workers_next r old s so_far this =
       ap (λ xs. xs ++ s ∷ []) so_far
-      ∙ ap (λ x. new_workers r n (take i ws) ++ x ∷ []) (this ∙ ap (λ k. new_worker r (n + 5 * k) w) (sym so_many))
+      ∙ ap (λ x. new_workers r n (take i ws) ++ x ∷ []) (this ∙ ap (λ k. new_worker r (n + books_per_worker * k) w) (sym so_many))
       ∙ sym (workers_more r n (take i ws) w)
       ∙ ap (new_workers r n) (sym (taken ws i w within is))
 
-  pub passes_next : (clients : List ClientId) (ds : List ClientSide) (old : List PassState) (s : PassState) → old ≡ new_passes 0 n clients ds (take i ws) → s ≡ new_pass i (n + 5 * i) clients ds w → old ++ s ∷ [] ≡ new_passes 0 n clients ds (take (i + 1) ws)
+  pub passes_next : (clients : List ClientId) (ds : List ClientSide) (old : List PassState) (s : PassState) → old ≡ new_passes 0 n clients ds (take i ws) → s ≡ new_pass i (n + books_per_worker * i) clients ds w → old ++ s ∷ [] ≡ new_passes 0 n clients ds (take (i + 1) ws)
   passes_next clients ds old s so_far this =
       let k = length (take i ws) in
       let zero_more : k ≡ 0 + k = omega arith in
       ap (λ xs. xs ++ s ∷ []) so_far
-      ∙ ap (λ x. new_passes 0 n clients ds (take i ws) ++ x ∷ []) (this ∙ ap (λ m. new_pass m (n + 5 * m) clients ds w) (sym so_many) ∙ ap (λ m. new_pass m (n + 5 * k) clients ds w) zero_more)
+      ∙ ap (λ x. new_passes 0 n clients ds (take i ws) ++ x ∷ []) (this ∙ ap (λ m. new_pass m (n + books_per_worker * m) clients ds w) (sym so_many) ∙ ap (λ m. new_pass m (n + books_per_worker * k) clients ds w) zero_more)
       ∙ sym (passes_more clients ds 0 n (take i ws) w)
       ∙ ap (new_passes 0 n clients ds) (sym (taken ws i w within is))
 

@@ -53,12 +53,8 @@ module _ {T : Type 0} where
 
   renewed_counts : (es : List (Event T)) (w : WorkerSide) → IsWorker es w → IsWorker es (renewed_worker (length es) w)
   renewed_counts es w h = record {
-    calls = h.calls;
-    misses = h.misses;
     renewed = omega arith;
-    tokens = begun _ es w.books.tokens.number;
-    grants = h.grants;
-    granted = begun _ es w.books.granted.number;
+    books = (h.books.0, h.books.1, begun _ es w.books.tokens.number, h.books.3, begun _ es w.books.granted.number);
   }
 
   -- the worker at a place is counted, if it was not dismissed
@@ -66,7 +62,7 @@ module _ {T : Type 0} where
   worker_there a place within still h = counted (slice_index_or a.workers place no_worker) still (all_there (λ w. IsWorker a.history w ⊎ HasLeft a.history w) a.workers place within h.workers) where
     counted : (w : WorkerSide) → IsOpen w → IsWorker a.history w ⊎ HasLeft a.history w → IsWorker a.history w
     counted w still (inl is) = is
-    counted w still (inr left) = absurd (omega (arith, still, left.settled.calls.open_tills))
+    counted w still (inr left) = absurd (omega (arith, still, left.settled.0.open_tills))
 
   pub consistent_renewed : (a : AccountsState T) (place : ℕ) → place < length a.workers → IsOpen (slice_index_or a.workers place no_worker) → AreConsistent a → AreConsistent (accounts_renewed place a)
   consistent_renewed a place within still h =

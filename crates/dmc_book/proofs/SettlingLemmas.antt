@@ -6,15 +6,17 @@ use Rattle.std.proofs.lemmas.Bool.{cases_lt, le-ltb, lt-ltb}
 use Rattle.std.proofs.lemmas.List.{get_or_past, map-append}
 use Rattle.dmc_types.specs.declared.config.PhaseType.TheVariants.{Reservation, Priority}
 use Rattle.dmc_tag.specs.declared.event.Event.{Event}
-use Rattle.dmc_ledger.specs.Accounts.{Account, after_closing}
+use Rattle.dmc_ledger.specs.Accounts.{Account, Holding, after_closing}
 use Rattle.dmc_ledger.specs.Bundles.{ClientSide, GrantHoldings}
-use Rattle.dmc_book.specs.BookState.{PassState, WorkerAccounts, WorkerSide, WorkerHoldings, no_desk, no_unit, no_worker}
-use Rattle.dmc_book.specs.Consistent.{AreDesks, HasLeft, IsCounted, IsWorker, reaching}
-use Rattle.dmc_book.specs.Counts.{one_if}
+use Rattle.dmc_book.specs.PerCount.{WorkerCounts, map_counts}
+use Rattle.dmc_book.specs.BookState.{PassState, WorkerSide, no_desk, no_unit, no_worker}
+use Rattle.dmc_book.specs.Consistent.{AreDesks, HasLeft, IsCounted, IsOpenBook, IsWorker, reaching}
+use Rattle.dmc_book.specs.Counts.{counted_books, one_if}
 use Rattle.dmc_book.specs.Moves.{AreOf, IsEnrolled}
-use Rattle.dmc_book.specs.Settling.{AreDeskUnits, AreSettledDesks, AreUnitsTakenIn, IsDeskTakenIn, IsGathered, IsSettledBook, IsSettledWorker, IsTakenIn, closed_accounts, closed_worker, left_in, open_passes}
+use Rattle.dmc_book.specs.Settling.{AreDeskUnits, AreSettledDesks, AreUnitsTakenIn, HasGathered, IsDeskTakenIn, IsGathered, IsSettledBook, IsSettledWorker, IsTakenIn, closed_worker, left_in, open_passes}
 use Rattle.dmc_book.specs.internal.Settling.{AreOneOpen, ArePassesTakenIn, IsOpenOrShut, IsShut, having}
 use Rattle.dmc_lemmas.proofs.Lists.{all_append, all_as, all_at, all_mapped}
+use Rattle.dmc_book.proofs.PerCountLemmas.{each_as, map_same}
 use Rattle.dmc_book.proofs.OpeningLemmas.{all_popped, seam, split, taken}
 
 -- ---- one after the other
@@ -72,9 +74,9 @@ one_at (w ∷ ws) zero h l = h.0
 one_at (w ∷ ws) (suc i) h l = one_at ws i h.1 (omega (arith, l))
 
 -- the pass of a worker that is here
-its_tills : (t : WorkerHoldings) (w v : WorkerSide) → (v ≡ w) ⊎ (v ≡ closed_worker w) → AreOf t w.books → AreOf t v.books
+its_tills : (t : WorkerCounts Holding) (w v : WorkerSide) → (v ≡ w) ⊎ (v ≡ closed_worker w) → AreOf t w.books → AreOf t v.books
 its_tills t w v (inl same) h = subst (λ (x : WorkerSide). AreOf t x.books) (sym same) h
-its_tills t w v (inr shut) h = subst (λ (x : WorkerSide). AreOf t x.books) (sym shut) (record { calls = h.calls; misses = h.misses; tokens = h.tokens; grants = h.grants; granted = h.granted })
+its_tills t w v (inr shut) h = subst (λ (x : WorkerSide). AreOf t x.books) (sym shut) h
 
 pub tills_at : (p : PassState) (ws vs : List WorkerSide) → ArePartly ws vs → IsEnrolled ws p → AreOf p.tills (slice_index_or vs p.place no_worker).books
 tills_at p ws vs h e = its_tills p.tills (slice_index_or ws p.place no_worker) (slice_index_or vs p.place no_worker) (partly_at ws vs p.place h e.within) e.its_tills
@@ -123,7 +125,7 @@ none_open n h = by_case (cases_lt 0 n) where
 
 -- and if none is open, all are
 all_shut : (w v : WorkerSide) → (v ≡ w) ⊎ (v ≡ closed_worker w) → IsOpenOrShut w → v.books.calls.open_tills ≡ 0 → v ≡ closed_worker w
-all_shut w v (inl same) (inl one) none = (let e : v.books.calls.open_tills ≡ w.books.calls.open_tills = ap (λ (x : WorkerSide). x.books.calls.open_tills) same in absurd (omega (arith, one.calls, none, e)))
+all_shut w v (inl same) (inl one) none = (let e : v.books.calls.open_tills ≡ w.books.calls.open_tills = ap (λ (x : WorkerSide). x.books.calls.open_tills) same in absurd (omega (arith, one.0, none, e)))
 all_shut w v (inl same) (inr shut) none = same ∙ sym shut.closed
 all_shut w v (inr shut) one none = shut
 
@@ -155,7 +157,7 @@ still_reaching k [] = 0
 still_reaching k (w ∷ ws) = if_open w.books.calls.open_tills (one_if (nat_lt k w.reach)) + still_reaching k ws
 
 reached_before : (k : ℕ) (w : WorkerSide) → IsOpenOrShut w → if_open w.books.calls.open_tills (one_if (nat_lt k w.reach)) ≡ one_if (nat_lt k w.reach)
-reached_before k w (inl one) = ap (λ n. if_open n (one_if (nat_lt k w.reach))) one.calls
+reached_before k w (inl one) = ap (λ n. if_open n (one_if (nat_lt k w.reach))) one.0
 reached_before k w (inr shut) = ap (λ n. if_open n (one_if (nat_lt k w.reach))) shut.none_open ∙ sym (ap one_if (le-ltb k w.reach (omega (arith, shut.reach))))
 
 pub reaching_start : (k : ℕ) (ws : List WorkerSide) → AllByRecursion IsOpenOrShut ws → still_reaching k ws ≡ reaching k ws
@@ -239,11 +241,6 @@ account_closed b none shut =
     ∙ ap (λ (n : ℕ). let a : Account = record { number = b.number; gathered = b.gathered; held = n; open_tills = 0 } in a) (sym none)
     ∙ ap (λ (n : ℕ). let a : Account = record { number = b.number; gathered = b.gathered; held = b.held; open_tills = n } in a) (sym shut)
 
-closed_before : (b : WorkerAccounts) → b.calls.held ≡ 0 → b.calls.open_tills ≡ 0 → b.misses.held ≡ 0 → b.misses.open_tills ≡ 0 → b.tokens.held ≡ 0 → b.tokens.open_tills ≡ 0
-    → b.grants.held ≡ 0 → b.grants.open_tills ≡ 0 → b.granted.held ≡ 0 → b.granted.open_tills ≡ 0 → closed_accounts b ≡ b
-closed_before b c1 c2 m1 m2 t1 t2 g1 g2 s1 s2 =
-    rw (account_closed b.calls c1 c2, account_closed b.misses m1 m2, account_closed b.tokens t1 t2, account_closed b.grants g1 g2, account_closed b.granted s1 s2) refl
-
 -- ---- a consistent book's workers and desks, once its passes are gathered
 
 module _ {T : Type 0} where
@@ -251,20 +248,19 @@ module _ {T : Type 0} where
   gathered_all adds es b h = record { gathered = h.total; held = refl; open_tills = refl }
 
   pub settled_worker : (es : List (Event T)) (w : WorkerSide) → IsWorker es w → IsSettledWorker es (closed_worker w)
-  settled_worker es w h = record {
-    calls = gathered_all _ es w.books.calls h.calls;
-    misses = gathered_all _ es w.books.misses h.misses;
-    tokens = gathered_all _ (drop w.renewed es) w.books.tokens h.tokens;
-    grants = gathered_all _ es w.books.grants h.grants;
-    granted = gathered_all _ (drop w.renewed es) w.books.granted h.granted;
-  }
+  settled_worker es w h = each_as (IsOpenBook es) (λ c. IsGathered c.adds (drop c.from es) (after_closing c.book))
+      (λ c is. gathered_all c.adds (drop c.from es) c.book is) (counted_books w) h.books
+
+  closed_before : (es : List (Event T)) (w : WorkerSide) → HasLeft es w → map_counts after_closing w.books ≡ w.books
+  closed_before es w h = map_same after_closing w.books (
+      each_as (HasGathered es) (λ c. after_closing c.book ≡ c.book) (λ c was. account_closed c.book was.held was.open_tills) (counted_books w) h.settled)
 
   -- one that was dismissed is closed before
   left_is_shut : (es : List (Event T)) (w : WorkerSide) → HasLeft es w → IsShut w
   left_is_shut es w h = record {
-    closed = ap (λ (bs : WorkerAccounts). let v : WorkerSide = record w { reach = 0; books = bs } in v) (closed_before w.books h.settled.calls.held h.settled.calls.open_tills h.settled.misses.held h.settled.misses.open_tills h.settled.tokens.held h.settled.tokens.open_tills h.settled.grants.held h.settled.grants.open_tills h.settled.granted.held h.settled.granted.open_tills)
+    closed = ap (λ (bs : WorkerCounts Account). let v : WorkerSide = record w { reach = 0; books = bs } in v) (closed_before es w h)
         ∙ ap (λ (n : ℕ). let v : WorkerSide = record w { reach = n } in v) (sym h.reach);
-    none_open = h.settled.calls.open_tills;
+    none_open = h.settled.0.open_tills;
     reach = h.reach;
   }
 
@@ -276,13 +272,7 @@ module _ {T : Type 0} where
   settled_workers es ws h = all_mapped (λ w. IsWorker es w ⊎ HasLeft es w) (IsSettledWorker es) closed_worker (settled_either es) ws h
 
   pub one_open : (es : List (Event T)) (w : WorkerSide) → IsWorker es w → AreOneOpen w.books
-  one_open es w is = record {
-    calls = is.calls.open_tills;
-    misses = is.misses.open_tills;
-    tokens = is.tokens.open_tills;
-    grants = is.grants.open_tills;
-    granted = is.granted.open_tills;
-  }
+  one_open es w is = each_as (IsOpenBook es) (λ c. c.book.open_tills ≡ 1) (λ c is. is.open_tills) (counted_books w) is.books
 
   open_or_shut : (es : List (Event T)) (w : WorkerSide) → IsWorker es w ⊎ HasLeft es w → IsOpenOrShut w
   open_or_shut es w (inl is) = inl (one_open es w is)

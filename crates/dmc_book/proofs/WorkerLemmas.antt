@@ -6,23 +6,25 @@ use Rattle.std.proofs.lemmas.Bool.{eq-eqb}
 use Rattle.dmc_tag.specs.declared.event.Event.{Event}
 use Rattle.dmc_ledger.specs.Accounts.{Account}
 use Rattle.dmc_ledger.specs.Moves.{after_issue}
+use Rattle.dmc_book.specs.PerCount.{WorkerCounts}
 use Rattle.dmc_book.specs.Counts.{numbers_of, no_numbers}
-use Rattle.dmc_book.specs.BookState.{WorkerAccounts, WorkerSide, worker_side, worker_accounts, no_worker}
+use Rattle.dmc_book.specs.BookState.{WorkerSide, worker_side, no_worker}
 use Rattle.dmc_book.specs.Consistent.{AreWorkersApart}
 use Rattle.dmc_book.specs.Moves.{worker_after, books_after}
 use Rattle.dmc_book.specs.declared.seat.Seat.{Seat}
+use Rattle.dmc_book.proofs.PerCountLemmas.{map_same}
 use Rattle.dmc_lemmas.proofs.Lists.{map_unmoved, all_as}
 use Rattle.dmc_lemmas.proofs.Booleans.{eqb_turned}
 
 pub issue_none : (a : Account) → after_issue 0 a ≡ a
 issue_none a = let e : a.held + 0 ≡ a.held = omega arith in ap (λ (n : ℕ). record a { held = n }) e
 
-books_none : (b : WorkerAccounts) → books_after no_numbers b ≡ b
-books_none b = rw (issue_none b.calls, issue_none b.misses, issue_none b.tokens, issue_none b.grants, issue_none b.granted) refl
+books_none : (b : WorkerCounts Account) → books_after no_numbers b ≡ b
+books_none b = map_same (after_issue 0) b (issue_none b.calls, issue_none b.misses, issue_none b.tokens, issue_none b.grants, issue_none b.granted)
 
 module _ {T : Type 0} (e : Event T) where
   pub unmoved_at : (w : WorkerSide) (b : Bool) → (e.worker.0 == w.worker) ≡ b → b ≡ false → worker_after e w ≡ w
-  unmoved_at w b is none = rw (is ∙ none) (ap (λ (bs : WorkerAccounts). record w { books = bs }) (books_none w.books))
+  unmoved_at w b is none = rw (is ∙ none) (ap (λ (bs : WorkerCounts Account). record w { books = bs }) (books_none w.books))
 
   unmoved : (n : ℕ) → n ≡ e.worker.0 → (other : WorkerSide) → (other.worker == n) ≡ false → worker_after e other ≡ other
   unmoved n same other h = unmoved_at other _ refl (eqb_turned e.worker.0 other.worker false (ap (λ (v : ℕ). other.worker == v) (sym same) ∙ h))
@@ -33,7 +35,7 @@ module _ {T : Type 0} (e : Event T) where
   others x (y ∷ ys) (suc i) w h here = others x ys i (omega (arith, w)) h.1 here
 
   module _ {S : Type 0} where
-    pub counted_workers : (ss : List (Seat S)) (i : ℕ) (d new : Seat S) → i < length ss → (slice_index_or (map worker_side ss) i no_worker).worker ≡ e.worker.0 → AreWorkersApart (map worker_side ss) → new.worker ≡ (slice_index_or ss i d).worker → new.renewed ≡ (slice_index_or ss i d).renewed → new.reach ≡ (slice_index_or ss i d).reach → worker_accounts new.books ≡ books_after (numbers_of e.command e.reply) (worker_accounts ((slice_index_or ss i d).books)) → map worker_side (slice_set ss i new) ≡ map (worker_after e) (map worker_side ss)
+    pub counted_workers : (ss : List (Seat S)) (i : ℕ) (d new : Seat S) → i < length ss → (slice_index_or (map worker_side ss) i no_worker).worker ≡ e.worker.0 → AreWorkersApart (map worker_side ss) → new.worker ≡ (slice_index_or ss i d).worker → new.renewed ≡ (slice_index_or ss i d).renewed → new.reach ≡ (slice_index_or ss i d).reach → new.books ≡ books_after (numbers_of e.command e.reply) (slice_index_or ss i d).books → map worker_side (slice_set ss i new) ≡ map (worker_after e) (map worker_side ss)
     counted_workers [] i d new l here apart w r n b = absurd (omega (arith, l))
     counted_workers (x ∷ xs) zero d new l here apart w r n b =
         let is : (e.worker.0 == x.worker.0) ≡ true = eq-eqb e.worker.0 x.worker.0 (sym here) in

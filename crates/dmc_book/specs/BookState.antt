@@ -7,25 +7,9 @@ use Rattle.dmc_tag.specs.declared.event.Event.{Event}
 use Rattle.dmc_shared.specs.Segmented.{Segmented}
 use Rattle.dmc_ledger.specs.Accounts.{Account, Holding, no_account, no_holding}
 use Rattle.dmc_ledger.specs.Bundles.{ClientSide, GrantHoldings, grant_holdings}
-use Rattle.dmc_book.specs.declared.seat.WorkerBooks.{WorkerBooks}
-use Rattle.dmc_book.specs.declared.seat.WorkerTills.{WorkerTills}
 use Rattle.dmc_book.specs.declared.seat.Seat.{Seat}
 use Rattle.dmc_book.specs.declared.pass.WorkerPass.{WorkerPass}
-
--- a worker's five books, and its five tills of them
-pub record WorkerAccounts : Type 0 where
-  pub calls : Account
-  pub misses : Account
-  pub tokens : Account
-  pub grants : Account
-  pub granted : Account
-
-pub record WorkerHoldings : Type 0 where
-  pub calls : Holding
-  pub misses : Holding
-  pub tokens : Holding
-  pub grants : Holding
-  pub granted : Holding
+use Rattle.dmc_book.specs.PerCount.{WorkerCounts, for_each}
 
 -- An enrolled worker; how many events were recorded when its sums of tokens were last renewed; of how many desks its pass has
 -- tills, which are the first ones; and its books.
@@ -33,7 +17,7 @@ pub record WorkerSide : Type 0 where
   pub worker : ℕ
   pub renewed : ℕ
   pub reach : ℕ
-  pub books : WorkerAccounts
+  pub books : WorkerCounts Account
 
 -- The number of the server; the number of the history in the set-up, the history, how many of its events were released, how many there may be until more
 -- are released, and for how many more a place is reserved; the workers; and the desk of each client.
@@ -59,29 +43,23 @@ pub record BookState (T : Type 0) : Type 0 where
   pub desks : List ClientSide
   pub closed : Bool
 
--- a worker's pass: the worker and its place in the book, its five tills, and for each desk that it reaches a till of each phase
+-- a worker's pass: the worker and its place in the book, its tills, and for each desk that it reaches a till of each phase
 pub record PassState : Type 0 where
   pub worker : ℕ
   pub place : ℕ
-  pub tills : WorkerHoldings
+  pub tills : WorkerCounts Holding
   pub clients : List ClientId
   pub units : List GrantHoldings
 
 module _ {S : Type 0} where
-  abbrev pub worker_accounts : WorkerBooks S → WorkerAccounts
-  worker_accounts b = record { calls = b.calls; misses = b.misses; tokens = b.tokens; grants = b.grants; granted = b.granted }
-
-  abbrev pub worker_holdings : WorkerTills S → WorkerHoldings
-  worker_holdings t = record { calls = t.calls; misses = t.misses; tokens = t.tokens; grants = t.grants; granted = t.granted }
-
   abbrev pub worker_side : Seat S → WorkerSide
-  worker_side s = record { worker = s.worker.0; renewed = s.renewed; reach = s.reach; books = worker_accounts s.books }
+  worker_side s = record { worker = s.worker.0; renewed = s.renewed; reach = s.reach; books = s.books }
 
   abbrev pub pass_state : WorkerPass S → PassState
   pass_state p = record {
     worker = p.worker.0;
     place = p.place;
-    tills = worker_holdings p.tills;
+    tills = p.tills;
     clients = (arc_value p.clients).keys;
     units = map grant_holdings p.units.items;
   }
@@ -115,12 +93,7 @@ state_of config accounts closed = record {
 
 -- the default of a place without a worker, a desk, a unit
 abbrev pub no_worker : WorkerSide
-no_worker = record {
-  worker = 0;
-  renewed = 0;
-  reach = 0;
-  books = record { calls = no_account; misses = no_account; tokens = no_account; grants = no_account; granted = no_account };
-}
+no_worker = record { worker = 0; renewed = 0; reach = 0; books = for_each no_account }
 
 abbrev pub no_desk : ClientSide
 no_desk = record {

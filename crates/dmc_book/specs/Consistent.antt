@@ -12,9 +12,10 @@ use Rattle.dmc_tag.specs.declared.event.Event.{Event}
 use Rattle.dmc_shared.specs.Segmented.{max_released}
 use Rattle.dmc_ledger.specs.Accounts.{Account, total_of}
 use Rattle.dmc_ledger.specs.Bundles.{ClientSide}
-use Rattle.dmc_book.specs.BookState.{AccountsState, WorkerAccounts, WorkerSide, no_desk}
-use Rattle.dmc_book.specs.Counts.{accepted, max_added, one_if, count, worker_adds, stamps_added, delta_added, rho_added, grant_in, grants_added}
+use Rattle.dmc_book.specs.BookState.{AccountsState, WorkerSide, no_desk}
+use Rattle.dmc_book.specs.Counts.{CountedBook, accepted, max_added, one_if, count, counted_books, stamps_added, delta_added, rho_added, grant_in, grants_added}
 use Rattle.dmc_book.specs.Moves.{IsOpen, desk_place}
+use Rattle.dmc_book.specs.PerCount.{WorkerCounts, EachCount}
 use Rattle.dmc_book.specs.Settling.{IsSettledWorker}
 
 -- The book totals what the events add. Nothing of it is gathered, and this number of its tills is open.
@@ -23,14 +24,14 @@ pub record IsCounted {T : Type 0} (adds : Event T → ℕ) (history : List (Even
   pub gathered : book.gathered ≡ 0
   pub open_tills : book.open_tills ≡ tills
 
--- The five books of a worker, each with one till open: that of its pass. Those of its tokens count since they were last renewed.
+-- the same of a book of a worker, of which one till is open: that of the worker's pass
+abbrev pub IsOpenBook : {T : Type 0} → List (Event T) → CountedBook T → Type 0
+IsOpenBook history c = IsCounted c.adds (drop c.from history) 1 c.book
+
+-- Each of the worker's books is such a one, and its sums of tokens were last renewed within the history.
 pub record IsWorker {T : Type 0} (history : List (Event T)) (w : WorkerSide) : Type 0 where
-  pub calls : IsCounted (λ e. (worker_adds w.worker e).calls) history 1 w.books.calls
-  pub misses : IsCounted (λ e. (worker_adds w.worker e).misses) history 1 w.books.misses
   pub renewed : w.renewed ≤ length history
-  pub tokens : IsCounted (λ e. (worker_adds w.worker e).tokens) (drop w.renewed history) 1 w.books.tokens
-  pub grants : IsCounted (λ e. (worker_adds w.worker e).grants) history 1 w.books.grants
-  pub granted : IsCounted (λ e. (worker_adds w.worker e).granted) (drop w.renewed history) 1 w.books.granted
+  pub books : EachCount (IsOpenBook history) (counted_books w)
 
 -- A worker that was dismissed: what was gathered of its pass is all that was counted of it, and the pass reaches no desk.
 pub record HasLeft {T : Type 0} (history : List (Event T)) (w : WorkerSide) : Type 0 where
@@ -77,7 +78,7 @@ IsSeated workers worker = list_any (λ w. worker == w.worker) workers ≡ true
 
 -- Sums of tokens grow faster than a history, since a token is any number up to 2^32-1. What they had grown to when events were
 -- last released leaves them room for the events that are kept.
-pub record AreTokensFit (first events : ℕ) (books : WorkerAccounts) : Type 0 where
+pub record AreTokensFit (first events : ℕ) (books : WorkerCounts Account) : Type 0 where
   pub tokens : total_of books.tokens + first * max_added ≤ 2 ^ 62 + events * max_added
   pub granted : total_of books.granted + first * max_added ≤ 2 ^ 62 + events * max_added
 
@@ -104,9 +105,5 @@ pub record IsReplayed {T : Type 0} (ops : Tagging T) (queue : State T) (config :
   pub replaying : replays ops config history
 
 -- none of the totals is past a bound
-pub record AreWithin (n : ℕ) (books : WorkerAccounts) : Type 0 where
-  pub calls : total_of books.calls ≤ n
-  pub misses : total_of books.misses ≤ n
-  pub tokens : total_of books.tokens ≤ n
-  pub grants : total_of books.grants ≤ n
-  pub granted : total_of books.granted ≤ n
+abbrev pub AreWithin : ℕ → WorkerCounts Account → Type 0
+AreWithin n books = EachCount (λ book. total_of book ≤ n) books

@@ -1,6 +1,6 @@
 -- Counts over a queue's history: what each event adds to a count, and the sums.
 use Rattle.std.specs.Prelude.{ℕ, ◌+◌, ◌-◌, ◌^◌, ◌==◌, ◌&&◌, Bool, true, false, if◌then◌else◌, List, [], ◌∷◌, Option, Some, None, is_some}
-use Rattle.dmc_types.specs.Values.{Params, no_counts}
+use Rattle.dmc_types.specs.Values.{Params, Counts, no_counts, counts_of}
 use Rattle.dmc_types.specs.declared.ids.ClientId.{ClientId}
 use Rattle.dmc_types.specs.declared.config.PhaseType.{PhaseType}
 use Rattle.dmc_types.specs.declared.config.PhaseType.TheVariants.{Reservation, Priority}
@@ -9,7 +9,9 @@ use Rattle.dmc_types.specs.declared.command.Command.TheVariants.{Register, Updat
 use Rattle.dmc_tag.specs.declared.event.Event.{Event}
 use Rattle.dmc_tag.specs.declared.reply.Reply.{Reply}
 use Rattle.dmc_tag.specs.declared.reply.Reply.TheVariants.{Registered, Updated, Tagged, Granted, Later, Nothing, Removed, Cleaned, Refused}
-use Rattle.dmc_book.specs.declared.counts.Numbers.{Numbers}
+use Rattle.dmc_ledger.specs.Accounts.{Account}
+use Rattle.dmc_book.specs.BookState.{WorkerSide}
+use Rattle.dmc_book.specs.PerCount.{WorkerCounts, for_each}
 
 -- the most that an event adds to a book
 abbrev pub max_added : ℕ
@@ -89,7 +91,7 @@ stamp_in (Clean at) = None
 
 -- ---- what an event adds to the counts of its worker: calls, misses, tokens of accepted adds, grants, tokens of grants
 
-abbrev pub numbers_of : {T : Type 0} → Command → Reply T → Numbers
+abbrev pub numbers_of : {T : Type 0} → Command → Reply T → WorkerCounts ℕ
 numbers_of command reply = record {
   calls = 1;
   misses = one_if (is_miss reply);
@@ -98,12 +100,28 @@ numbers_of command reply = record {
   granted = token_granted reply;
 }
 
-abbrev pub no_numbers : Numbers
-no_numbers = record { calls = 0; misses = 0; tokens = 0; grants = 0; granted = 0 }
+abbrev pub no_numbers : WorkerCounts ℕ
+no_numbers = for_each 0
 
 -- and to those of each worker
-abbrev pub worker_adds : {T : Type 0} → ℕ → Event T → Numbers
+abbrev pub worker_adds : {T : Type 0} → ℕ → Event T → WorkerCounts ℕ
 worker_adds worker e = if e.worker.0 == worker then numbers_of e.command e.reply else no_numbers
+
+-- A book of a worker: what each event adds to it, from which event on, and the book.
+pub record CountedBook (T : Type 0) : Type 0 where
+  pub adds : Event T → ℕ
+  pub from : ℕ
+  pub book : Account
+
+-- the books of a worker, of which those of its tokens count since they were last renewed
+abbrev pub counted_books : {T : Type 0} → WorkerSide → WorkerCounts (CountedBook T)
+counted_books w = record {
+  calls = record { adds = λ e. (worker_adds w.worker e).calls; from = 0; book = w.books.calls };
+  misses = record { adds = λ e. (worker_adds w.worker e).misses; from = 0; book = w.books.misses };
+  tokens = record { adds = λ e. (worker_adds w.worker e).tokens; from = w.renewed; book = w.books.tokens };
+  grants = record { adds = λ e. (worker_adds w.worker e).grants; from = 0; book = w.books.grants };
+  granted = record { adds = λ e. (worker_adds w.worker e).granted; from = w.renewed; book = w.books.granted };
+}
 
 -- ---- what an event adds to the counts of a client
 
@@ -115,9 +133,9 @@ abbrev pub stamps_for : ℕ → Option (ClientId × Params) → ℕ
 stamps_for client None = 0
 stamps_for client (Some stamp) = one_if (stamp.0.0 == client)
 
-abbrev pub params_for : ℕ → Option (ClientId × Params) → Params
-params_for client None = no_counts
-params_for client (Some stamp) = if stamp.0.0 == client then stamp.1 else no_counts
+abbrev pub counts_for : ℕ → Option (ClientId × Params) → Counts
+counts_for client None = no_counts
+counts_for client (Some stamp) = if stamp.0.0 == client then counts_of stamp.1 else no_counts
 
 abbrev pub is_phase : PhaseType → PhaseType → Bool
 is_phase Reservation Reservation = true
@@ -134,10 +152,10 @@ abbrev pub stamps_added : {T : Type 0} → ℕ → Event T → ℕ
 stamps_added client e = stamps_for client (accepted e)
 
 abbrev pub delta_added : {T : Type 0} → ℕ → Event T → ℕ
-delta_added client e = (params_for client (accepted e)).delta
+delta_added client e = (counts_for client (accepted e)).delta
 
 abbrev pub rho_added : {T : Type 0} → ℕ → Event T → ℕ
-rho_added client e = (params_for client (accepted e)).rho
+rho_added client e = (counts_for client (accepted e)).rho
 
 abbrev pub grants_added : {T : Type 0} → ℕ → PhaseType → Event T → ℕ
 grants_added client phase e = units_for client phase (grant_in e.reply)

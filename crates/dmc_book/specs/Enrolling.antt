@@ -4,11 +4,12 @@ use Rattle.dmc_types.specs.Limits.{max_workers}
 use Rattle.dmc_types.specs.declared.ids.WorkerId.{WorkerId}
 use Rattle.dmc_book.specs.BookState.{BookState}
 use Rattle.dmc_book.specs.Opening.{desk_with_tills, new_worker}
+use Rattle.dmc_book.specs.PerCount.{books_per_worker}
 
--- one worker more may be enrolled, and the mint has five books left
+-- one worker more may be enrolled, and the mint has a worker's books left
 pub record AreSeatLimits (workers left : ℕ) : Type 0 where
   pub few : workers < max_workers
-  pub books : 5 ≤ left
+  pub books : books_per_worker ≤ left
 
 abbrev pub book_enrolled : {T : Type 0} → ℕ → WorkerId → BookState T → BookState T
 book_enrolled n w b = record b {

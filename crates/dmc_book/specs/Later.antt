@@ -3,26 +3,13 @@
 use Rattle.std.specs.Prelude.{◌≡◌, ◌≤◌, ℕ, ◌+◌, List, ◌++◌, map}
 use Rattle.dmc_tag.specs.declared.event.Event.{Event}
 use Rattle.dmc_shared.specs.Later.{desk_numbers}
+use Rattle.dmc_ledger.specs.Accounts.{Account}
 use Rattle.dmc_book.specs.BookState.{BookState, WorkerSide}
+use Rattle.dmc_book.specs.PerCount.{WorkerCounts, map_counts}
 
--- the worker, and the numbers of its five books
-pub record WorkerNumbers : Type 0 where
-  pub worker : ℕ
-  pub calls : ℕ
-  pub misses : ℕ
-  pub tokens : ℕ
-  pub grants : ℕ
-  pub granted : ℕ
-
-abbrev pub worker_numbers : WorkerSide → WorkerNumbers
-worker_numbers w = record {
-  worker = w.worker;
-  calls = w.books.calls.number;
-  misses = w.books.misses.number;
-  tokens = w.books.tokens.number;
-  grants = w.books.grants.number;
-  granted = w.books.granted.number;
-}
+-- the worker, and the numbers of its books
+abbrev pub worker_numbers : WorkerSide → ℕ × WorkerCounts ℕ
+worker_numbers w = (w.worker, map_counts (λ (book : Account). book.number) w.books)
 
 -- Every call but a rotation leaves the configuration, the server, the number of the history, how many events were released, how
 -- many there may be until more are released, and the numbers of the workers and of the desks. The history only grows.

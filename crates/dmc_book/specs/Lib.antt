@@ -21,6 +21,8 @@ pub mod Lending
 pub mod Moves
 -- A queue's book that is made.
 pub mod Opening
+-- One thing for each count of a worker.
+pub mod PerCount
 -- Sums of tokens that begin anew.
 pub mod Renewing
 -- A queue's book that releases events.

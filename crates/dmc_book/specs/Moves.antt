@@ -7,30 +7,19 @@ use Rattle.dmc_types.specs.declared.config.PhaseType.TheVariants.{Reservation, P
 use Rattle.dmc_types.specs.declared.command.Command.{Command}
 use Rattle.dmc_tag.specs.declared.event.Event.{Event}
 use Rattle.dmc_tag.specs.declared.reply.Reply.{Reply}
+use Rattle.dmc_ledger.specs.Accounts.{Account, Holding}
 use Rattle.dmc_ledger.specs.Bundles.{ClientSide, GrantHoldings}
 use Rattle.dmc_ledger.specs.Moves.{after_issue, with_more, till_in, book_in, tills_after_response}
-use Rattle.dmc_book.specs.declared.counts.Numbers.{Numbers}
-use Rattle.dmc_book.specs.BookState.{WorkerAccounts, WorkerHoldings, WorkerSide, BookState, PassState, no_worker, no_unit}
+use Rattle.dmc_book.specs.BookState.{WorkerSide, BookState, PassState, no_worker, no_unit}
 use Rattle.dmc_book.specs.Counts.{numbers_of, worker_adds, stamps_added, delta_added, rho_added, grants_added, grant_in}
+use Rattle.dmc_book.specs.PerCount.{WorkerCounts, EachPair, zip_counts}
 
--- each of the five books issues its number, into its till
-abbrev pub books_after : Numbers → WorkerAccounts → WorkerAccounts
-books_after n books = record {
-  calls = after_issue n.calls books.calls;
-  misses = after_issue n.misses books.misses;
-  tokens = after_issue n.tokens books.tokens;
-  grants = after_issue n.grants books.grants;
-  granted = after_issue n.granted books.granted;
-}
+-- each book of a worker issues its number, into its till
+abbrev pub books_after : WorkerCounts ℕ → WorkerCounts Account → WorkerCounts Account
+books_after n books = zip_counts after_issue n books
 
-abbrev pub tills_after : Numbers → WorkerHoldings → WorkerHoldings
-tills_after n tills = record {
-  calls = with_more n.calls tills.calls;
-  misses = with_more n.misses tills.misses;
-  tokens = with_more n.tokens tills.tokens;
-  grants = with_more n.grants tills.grants;
-  granted = with_more n.granted tills.granted;
-}
+abbrev pub tills_after : WorkerCounts ℕ → WorkerCounts Holding → WorkerCounts Holding
+tills_after n tills = zip_counts with_more n tills
 
 -- each worker's books and each desk count what the event adds to their counts
 abbrev pub worker_after : {T : Type 0} → Event T → WorkerSide → WorkerSide
@@ -84,18 +73,14 @@ pass_after command reply p = record p {
 -- ---- whose pass it is
 
 -- the tills are of these books
-pub record AreOf (tills : WorkerHoldings) (books : WorkerAccounts) : Type 0 where
-  pub calls : tills.calls.number ≡ books.calls.number
-  pub misses : tills.misses.number ≡ books.misses.number
-  pub tokens : tills.tokens.number ≡ books.tokens.number
-  pub grants : tills.grants.number ≡ books.grants.number
-  pub granted : tills.granted.number ≡ books.granted.number
+abbrev pub AreOf : WorkerCounts Holding → WorkerCounts Account → Type 0
+AreOf tills books = EachPair (λ (till : Holding) (book : Account). till.number ≡ book.number) tills books
 
 -- a till of the worker's books is open: it was not dismissed
 abbrev pub IsOpen : WorkerSide → Type 0
 IsOpen w = 0 < w.books.calls.open_tills
 
--- the pass is of a worker that is enrolled, and its five tills are of that worker's books
+-- the pass is of a worker that is enrolled, and its tills are of that worker's books
 pub record IsEnrolled (workers : List WorkerSide) (p : PassState) : Type 0 where
   pub within : p.place < length workers
   pub its_worker : (slice_index_or workers p.place no_worker).worker ≡ p.worker

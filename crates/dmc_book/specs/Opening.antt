@@ -7,18 +7,19 @@ use Rattle.dmc_types.specs.declared.ids.ClientId.{ClientId}
 use Rattle.dmc_types.specs.declared.ids.WorkerId.{WorkerId}
 use Rattle.dmc_ledger.specs.Accounts.{Account, new_book, new_till}
 use Rattle.dmc_ledger.specs.Bundles.{ClientSide, GrantHoldings, new_client_side}
-use Rattle.dmc_book.specs.BookState.{AccountsState, BookState, PassState, WorkerAccounts, WorkerHoldings, WorkerSide, state_of}
+use Rattle.dmc_book.specs.BookState.{AccountsState, BookState, PassState, WorkerSide, state_of}
+use Rattle.dmc_book.specs.PerCount.{books_per_worker, map_counts, numbers_from}
 
 -- the desk is this server's, as `open_pair` gave it
 abbrev pub IsNewDesk : ℕ → ClientSide → Type 0
 IsNewDesk server d = (n : ℕ) × (d ≡ new_client_side d.client server n)
 
--- the limits of a history, of the desks, and of the numbers that the mint has left: five for each worker, and the history's
+-- the limits of a history, of the desks, and of the numbers that the mint has left: those of the workers' books, and the history's
 pub record AreBookLimits (workers desks left most : ℕ) : Type 0 where
   pub some_events : 0 < most
   pub events_limit : most ≤ max_events
   pub desks_limit : desks ≤ max_clients
-  pub books : 5 * workers + 1 ≤ left
+  pub books : books_per_worker * workers + 1 ≤ left
 
 -- no number is named twice
 abbrev pub AreApart : {X : Type 0} → (X → ℕ) → List X → Type 0
@@ -30,33 +31,14 @@ pub record AreNamedOnce (workers : List WorkerId) (desks : List ClientSide) : Ty
   pub workers_once : AreApart (λ (w : WorkerId). w.0) workers
   pub clients_once : AreApart (λ (d : ClientSide). d.client) desks
 
--- a worker's five books from the n-th on, each with one till open, and these tills
-abbrev pub new_accounts : ℕ → WorkerAccounts
-new_accounts n = record {
-  calls = new_book n;
-  misses = new_book (n + 1);
-  tokens = new_book (n + 2);
-  grants = new_book (n + 3);
-  granted = new_book (n + 4);
-}
-
-abbrev pub new_holdings : ℕ → WorkerHoldings
-new_holdings n = record {
-  calls = new_till n;
-  misses = new_till (n + 1);
-  tokens = new_till (n + 2);
-  grants = new_till (n + 3);
-  granted = new_till (n + 4);
-}
-
--- a worker whose pass reaches this many desks
+-- a worker whose books are those from the n-th on, each with one till open, and whose pass reaches this many desks
 abbrev pub new_worker : ℕ → ℕ → WorkerId → WorkerSide
-new_worker reach n w = record { worker = w.0; renewed = 0; reach = reach; books = new_accounts n }
+new_worker reach n w = record { worker = w.0; renewed = 0; reach = reach; books = map_counts new_book (numbers_from n) }
 
 -- the workers, whose books are the next of the mint
 abbrev pub new_workers : ℕ → ℕ → List WorkerId → List WorkerSide
 new_workers reach n [] = []
-new_workers reach n (w ∷ ws) = new_worker reach n w ∷ new_workers reach (n + 5) ws
+new_workers reach n (w ∷ ws) = new_worker reach n w ∷ new_workers reach (n + books_per_worker) ws
 
 -- this number of tills more is open of a desk's grant books
 abbrev pub with_tills : ℕ → Account → Account
@@ -76,7 +58,7 @@ abbrev pub new_pass : ℕ → ℕ → List ClientId → List ClientSide → Work
 new_pass place n clients desks w = record {
   worker = w.0;
   place = place;
-  tills = new_holdings n;
+  tills = map_counts new_till (numbers_from n);
   clients = clients;
   units = map new_unit desks;
 }
@@ -84,14 +66,14 @@ new_pass place n clients desks w = record {
 -- the passes of the workers, in their order
 abbrev pub new_passes : ℕ → ℕ → List ClientId → List ClientSide → List WorkerId → List PassState
 new_passes place n clients desks [] = []
-new_passes place n clients desks (w ∷ ws) = new_pass place n clients desks w ∷ new_passes (place + 1) (n + 5) clients desks ws
+new_passes place n clients desks (w ∷ ws) = new_pass place n clients desks w ∷ new_passes (place + 1) (n + books_per_worker) clients desks ws
 
 -- accounts of an empty history, whose number follows those of the workers' books; each desk has a till open for each worker beside
 -- the held ones
 abbrev pub new_accounts_state : {T : Type 0} → ℕ → ℕ → ℕ → List WorkerId → List ClientSide → AccountsState T
 new_accounts_state server most n workers desks = record {
   server = server;
-  number = n + 5 * length workers;
+  number = n + books_per_worker * length workers;
   history = [];
   first = 0;
   most = most;

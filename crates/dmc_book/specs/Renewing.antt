@@ -1,7 +1,8 @@
 -- Sums of tokens that begin anew.
 use Rattle.std.specs.Prelude.{ℕ, length, slice_index_or, slice_set}
-use Rattle.dmc_ledger.specs.Accounts.{new_book, new_till}
-use Rattle.dmc_book.specs.BookState.{BookState, PassState, WorkerHoldings, WorkerSide, no_worker}
+use Rattle.dmc_ledger.specs.Accounts.{Holding, new_book, new_till}
+use Rattle.dmc_book.specs.PerCount.{WorkerCounts}
+use Rattle.dmc_book.specs.BookState.{BookState, PassState, WorkerSide, no_worker}
 
 -- the worker, whose two sums of tokens begin anew after this number of events
 abbrev pub renewed_worker : ℕ → WorkerSide → WorkerSide
@@ -11,7 +12,7 @@ renewed_worker events w = record w {
 }
 
 -- the two tills of a pass hold nothing then
-abbrev pub renewed_tills : WorkerHoldings → WorkerHoldings
+abbrev pub renewed_tills : WorkerCounts Holding → WorkerCounts Holding
 renewed_tills tills = record tills { tokens = new_till tills.tokens.number; granted = new_till tills.granted.number }
 
 abbrev pub renewed_pass : PassState → PassState

@@ -3,12 +3,13 @@ use Rattle.std.specs.Prelude.{ℕ, ◌+◌, ◌-◌, ◌<◌, ◌≤◌, ◌^◌
 use Rattle.std.specs.List.{AllByRecursion}
 use Rattle.dmc_shared.specs.Segmented.{max_released}
 use Rattle.dmc_queue_history.specs.Segmented.{SegmentState}
-use Rattle.dmc_ledger.specs.Accounts.{total_of}
-use Rattle.dmc_book.specs.BookState.{BookState, WorkerAccounts, WorkerSide}
+use Rattle.dmc_ledger.specs.Accounts.{Account, total_of}
+use Rattle.dmc_book.specs.PerCount.{WorkerCounts}
+use Rattle.dmc_book.specs.BookState.{BookState, WorkerSide}
 use Rattle.dmc_book.specs.Moves.{IsOpen}
 
 -- the sums of tokens leave room for the events that may be kept next
-pub record AreTokensLow (books : WorkerAccounts) : Type 0 where
+pub record AreTokensLow (books : WorkerCounts Account) : Type 0 where
   pub tokens : total_of books.tokens ≤ 2 ^ 62
   pub granted : total_of books.granted ≤ 2 ^ 62
 

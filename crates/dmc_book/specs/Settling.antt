@@ -7,9 +7,10 @@ use Rattle.dmc_tag.specs.declared.event.Event.{Event}
 use Rattle.dmc_ledger.specs.Accounts.{Account, after_closing, total_of}
 use Rattle.dmc_ledger.specs.Bundles.{ClientSide, GrantAccounts, GrantHoldings}
 use Rattle.dmc_ledger.specs.Moves.{till_in}
-use Rattle.dmc_book.specs.BookState.{BookState, PassState, WorkerAccounts, WorkerSide, no_desk, no_unit, no_worker}
-use Rattle.dmc_book.specs.Counts.{count, one_if, worker_adds, stamps_added, delta_added, rho_added, grants_added, phase_grants}
+use Rattle.dmc_book.specs.BookState.{BookState, PassState, WorkerSide, no_desk, no_unit, no_worker}
+use Rattle.dmc_book.specs.Counts.{CountedBook, count, counted_books, one_if, stamps_added, delta_added, rho_added, grants_added, phase_grants}
 use Rattle.dmc_book.specs.Moves.{IsEnrolled}
+use Rattle.dmc_book.specs.PerCount.{EachCount, map_counts}
 
 -- ---- whose passes they are
 
@@ -48,17 +49,8 @@ AreGrantsOfDesks history desks = (phase : PhaseType) →
     sum_by (λ d. count (grants_added d.client phase) history) desks ≡ count (phase_grants phase) history
 
 -- a worker whose pass is gathered, and reaches no desk
-abbrev pub closed_accounts : WorkerAccounts → WorkerAccounts
-closed_accounts books = record {
-  calls = after_closing books.calls;
-  misses = after_closing books.misses;
-  tokens = after_closing books.tokens;
-  grants = after_closing books.grants;
-  granted = after_closing books.granted;
-}
-
 abbrev pub closed_worker : WorkerSide → WorkerSide
-closed_worker w = record w { reach = 0; books = closed_accounts w.books }
+closed_worker w = record w { reach = 0; books = map_counts after_closing w.books }
 
 -- what was gathered is what the events add, and no till is open
 pub record IsGathered {T : Type 0} (adds : Event T → ℕ) (history : List (Event T)) (book : Account) : Type 0 where
@@ -66,13 +58,13 @@ pub record IsGathered {T : Type 0} (adds : Event T → ℕ) (history : List (Eve
   pub held : book.held ≡ 0
   pub open_tills : book.open_tills ≡ 0
 
--- The numbers of a worker's pass are its counts over the history, those of its tokens since they were last renewed.
-pub record IsSettledWorker {T : Type 0} (history : List (Event T)) (w : WorkerSide) : Type 0 where
-  pub calls : IsGathered (λ e. (worker_adds w.worker e).calls) history w.books.calls
-  pub misses : IsGathered (λ e. (worker_adds w.worker e).misses) history w.books.misses
-  pub tokens : IsGathered (λ e. (worker_adds w.worker e).tokens) (drop w.renewed history) w.books.tokens
-  pub grants : IsGathered (λ e. (worker_adds w.worker e).grants) history w.books.grants
-  pub granted : IsGathered (λ e. (worker_adds w.worker e).granted) (drop w.renewed history) w.books.granted
+-- the same of a book of a worker
+abbrev pub HasGathered : {T : Type 0} → List (Event T) → CountedBook T → Type 0
+HasGathered history c = IsGathered c.adds (drop c.from history) c.book
+
+-- The numbers of a worker's pass are its counts over the history.
+abbrev pub IsSettledWorker : {T : Type 0} → List (Event T) → WorkerSide → Type 0
+IsSettledWorker history w = EachCount (HasGathered history) (counted_books w)
 
 -- ---- the desks
 

@@ -41,7 +41,7 @@ use dmc_types::moment::Moment;
 use indexmap::IndexSet;
 use std::marker::Model;
 
-/// The history of a server's queue, five books for each enrolled worker, and a desk for each client.
+/// The history of a server's queue, the books of each enrolled worker, and a desk for each client.
 ///
 /// What holds of all accounts is the invariant of the type: the books of each worker total its counts over the history, and
 /// each desk holds what the history took from its client and totals what it granted.

@@ -10,6 +10,7 @@ ghost use Rattle.dmc_book.specs.Calls.{LacksMemory, Ran, Strays, is_add, lacks_d
 ghost use Rattle.dmc_book.specs.Later.{IsLater, IsReleased};
 ghost use Rattle.dmc_book.specs.Moves.{IsEnrolled, takes};
 ghost use Rattle.dmc_book.specs.Opening.{AreBookLimits, AreNamedOnce, IsNewDesk, new_passes, new_state};
+ghost use Rattle.dmc_book.specs.PerCount.{books_per_worker};
 ghost use Rattle.dmc_book.specs.Renewing.{book_renewed, renewed_pass};
 ghost use Rattle.dmc_book.specs.Rotating.{MayRotate, after_rotating, segment_of};
 ghost use Rattle.dmc_book.specs.internal.Runs.{Runs};
@@ -43,7 +44,7 @@ use std::marker::Model;
 #[derive(Drop)]
 pub(crate) struct Droppable<P>(pub(crate) P);
 
-/// A server's queue with its history, five books for each enrolled worker, and a desk for each client.
+/// A server's queue with its history, the books of each enrolled worker, and a desk for each client.
 ///
 /// What holds of every book is the invariant of its type, and of its accounts: the three indexes hold exactly the clients with a
 /// queued request, the history replays, the books of each worker total its counts over the history, and each desk holds what
@@ -77,7 +78,7 @@ impl<T: Tag, I: Indexes<T>, S: Setup> Lasting for QueueBook<T, I, S> {
 impl<T: Tag, I: Indexes<T>, S: Setup> QueueBook<T, I, S> {
     /// A book of an empty queue, which is open, and a pass for each worker, in their order, which holds nothing. The desks are
     /// this server's, as `open_pair` gave them; beside the held till of each of their books each pass has one. The book keeps
-    /// at most `most` events (1 to 2^30). The mint gives five numbers to each worker, and one to the history.
+    /// at most `most` events (1 to 2^30). The mint gives `BOOKS_PER_WORKER` numbers to each worker, and one to the history.
     ///
     /// Refused `Limit`, `Twice`, `Memory`, with the desks returned and the mint as it was. Names are compared in memory that
     /// is allocated for it: if there is none, names that are there twice are refused `Memory`.
@@ -96,8 +97,8 @@ impl<T: Tag, I: Indexes<T>, S: Setup> QueueBook<T, I, S> {
             made.0 ≡ new_state config server.0 most mint.old.opened workers.now (map client_side desks.items)) }
         ensures passes { IfOk result (λ made. map pass_state made.1.items
             ≡ new_passes 0 mint.old.opened (map (λ d. d.client) desks.items) (map client_side desks.items) workers.now) }
-        ensures opened { OnOk result (mint.new.opened ≡ mint.old.opened + (5 * length workers.now + 1)) }
-        ensures left { OnOk result (mint.new.left + (5 * length workers.now + 1) ≡ mint.old.left) }
+        ensures opened { OnOk result (mint.new.opened ≡ mint.old.opened + (books_per_worker * length workers.now + 1)) }
+        ensures left { OnOk result (mint.new.left + (books_per_worker * length workers.now + 1) ≡ mint.old.left) }
         ensures once { OnOk result (AreNamedOnce workers.now (map client_side desks.items)) }
         ensures back { IfErr result (λ fault. fault.desks ≡ desks) }
         ensures mint_kept { OnErr result (mint.new ≡ mint.old) }

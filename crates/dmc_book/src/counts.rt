@@ -3,20 +3,11 @@ ghost use Rattle.std.specs.Prelude.{◌≡◌};
 ghost use Rattle.dmc_book.specs.Counts as counts;
 ghost use Rattle.dmc_book.specs.internal.Counts.{IsSmall};
 
+use crate::per_count::WorkerCounts;
 use dmc_tag::reply::Reply;
 use dmc_types::command::Command;
 use dmc_types::config::PhaseType;
 use dmc_types::ids::{ClientId, Token};
-
-/// What an event adds to the five counts of its worker.
-#[derive(Clone, Copy)]
-pub(crate) struct Numbers {
-    pub(crate) calls: u32,
-    pub(crate) misses: u32,
-    pub(crate) tokens: u32,
-    pub(crate) grants: u32,
-    pub(crate) granted: u32,
-}
 
 /// The token of an add that was accepted, else 0.
 fn token_added<T: Copy>(command: &Command, reply: &Reply<T>) -> u32
@@ -72,13 +63,13 @@ pub(crate) fn grant_in<T: Copy>(reply: &Reply<T>) -> Option<(ClientId, PhaseType
     }
 }
 
-/// What an event of this command and this reply adds.
+/// What an event of this command and this reply adds to the counts of its worker.
 #[inline(always)]
-pub(crate) fn numbers_of<T: Copy>(command: &Command, reply: &Reply<T>) -> Numbers
+pub(crate) fn numbers_of<T: Copy>(command: &Command, reply: &Reply<T>) -> WorkerCounts<u32>
     ensures value { result ≡ counts.numbers_of command.now reply.now }
     ensures small { IsSmall result }
 {
-    Numbers {
+    WorkerCounts {
         calls: 1,
         misses: u32::from(is_miss(reply)),
         tokens: token_added(command, reply),

@@ -7,6 +7,7 @@ ghost use Rattle.dmc_book.specs.Enrolling.{AreSeatLimits, book_enrolled};
 ghost use Rattle.dmc_book.specs.internal.Enrolling.{IsAgainstWorker, accounts_enrolled};
 ghost use Rattle.dmc_book.specs.Joining.{id_of};
 ghost use Rattle.dmc_book.specs.Opening.{AreApart, desk_with_tills, new_pass, new_worker};
+ghost use Rattle.dmc_book.specs.PerCount.{books_per_worker};
 ghost use Rattle.dmc_book.specs.internal.Opening.{HaveRoom};
 ghost use Rattle.dmc_book.specs.internal.Rooms.{IsRoom};
 
@@ -15,6 +16,7 @@ use crate::book::QueueBook;
 use crate::fault::EnrolFault;
 use crate::opening::{PassRoom, name_clients, open_one, room_for};
 use crate::pass::WorkerPass;
+use crate::per_count::BOOKS_PER_WORKER;
 use crate::seat::Seat;
 use dmc_index::index::Indexes;
 use dmc_ledger::desk::ClientDesk;
@@ -30,7 +32,7 @@ const MAX_WORKERS: usize = 4_294_967_294;
 
 impl<T: Tag, I: Indexes<T>, S: Setup> QueueBook<T, I, S> {
     /// Enrols a worker that was not enrolled here before: its pass holds nothing, and has tills of each desk. The mint gives it
-    /// five numbers. It takes a time, and memory, that grow with the numbers of workers and of desks.
+    /// `BOOKS_PER_WORKER` numbers. It takes a time, and memory, that grow with the numbers of workers and of desks.
     ///
     /// Refused `Known`, `Limit`, `Memory`, with the book and the mint as they were.
     pub fn enrol(
@@ -42,7 +44,7 @@ impl<T: Tag, I: Indexes<T>, S: Setup> QueueBook<T, I, S> {
         ensures book { OnOk result (self.new ≡ book_enrolled mint.old.opened worker self.old) }
         ensures pass { IfOk result (λ pass.
             pass_state pass ≡ new_pass (length self.old.workers) mint.old.opened (map id_of self.old.desks) self.old.desks worker) }
-        ensures mint { OnOk result (mint.new ≡ record { opened = mint.old.opened + 5; left = mint.old.left - 5 }) }
+        ensures mint { OnOk result (mint.new ≡ record { opened = mint.old.opened + books_per_worker; left = mint.old.left - books_per_worker }) }
         ensures kept { OnErr result (self.new ≡ self.old) }
         ensures mint_kept { OnErr result (mint.new ≡ mint.old) }
         ensures known { IsErrOf result EnrolFault.Known ↔ IsSeated self.old.workers worker.0 }
@@ -64,7 +66,7 @@ impl<T: Tag, S: Setup> Accounts<T, S> {
         ensures accounts { OnOk result (self.new ≡ accounts_enrolled mint.old.opened worker self.old) }
         ensures pass { IfOk result (λ pass.
             pass_state pass ≡ new_pass (length self.old.workers) mint.old.opened (map id_of self.old.desks) self.old.desks worker) }
-        ensures mint { OnOk result (mint.new ≡ record { opened = mint.old.opened + 5; left = mint.old.left - 5 }) }
+        ensures mint { OnOk result (mint.new ≡ record { opened = mint.old.opened + books_per_worker; left = mint.old.left - books_per_worker }) }
         ensures kept { OnErr result (self.new ≡ self.old) }
         ensures mint_kept { OnErr result (mint.new ≡ mint.old) }
         ensures known { IsErrOf result EnrolFault.Known ↔ IsSeated self.old.workers worker.0 }
@@ -101,7 +103,7 @@ fn fault_against<S: Setup>(workers: &[Seat<S>], worker: WorkerId, left: u64) -> 
     if is_seated(workers, worker) {
         return Some(EnrolFault::Known);
     }
-    if workers.len() >= MAX_WORKERS || left < 5 {
+    if workers.len() >= MAX_WORKERS || left < BOOKS_PER_WORKER {
         return Some(EnrolFault::Limit);
     }
     None
@@ -135,7 +137,7 @@ fn open_seat<S: Setup>(
     mint: &mut Mint<S>,
     room: PassRoom<S>,
 ) -> WorkerPass<S>
-    requires left { 5 ≤ mint.old.left }
+    requires left { books_per_worker ≤ mint.old.left }
     requires some_left { (k : ℕ) → k < length desks.old → HaveRoom (slice_index_or (map client_side desks.old) k no_desk).books }
     requires room { IsRoom (map (λ d. d.client) desks.old) room }
     requires seat { length workers.old.items < vec_capacity workers.old }
@@ -144,7 +146,7 @@ fn open_seat<S: Setup>(
     ensures desks { map client_side desks.new ≡ map (desk_with_tills 1) (map client_side desks.old) }
     ensures pass { pass_state result
         ≡ new_pass (length workers.old.items) mint.old.opened (map (λ d. d.client) desks.old) (map client_side desks.old) worker }
-    ensures mint { mint.new ≡ record { opened = mint.old.opened + 5; left = mint.old.left - 5 } }
+    ensures mint { mint.new ≡ record { opened = mint.old.opened + books_per_worker; left = mint.old.left - books_per_worker } }
 {
     let (seat, pass) = open_one(mint, worker, workers.len(), desks, room);
     workers.push(seat).unwrap();

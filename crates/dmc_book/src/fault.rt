@@ -96,7 +96,7 @@ pub struct SubmitFault {
 /// Why a queue's book could not be made.
 #[derive(Clone, Copy, Debug, PartialEq, Eq, Error)]
 pub enum NewFault {
-    /// `most` is not 1 to 2^30, there are more than 65,536 desks, or the mint has fewer books left than five for each worker.
+    /// `most` is not 1 to 2^30, there are more than 65,536 desks, or the mint has fewer books left than the workers have.
     #[error("the events, the desks or the books are past their limits")]
     Limit,
     /// A worker or a client is named twice.
@@ -167,7 +167,7 @@ pub enum EnrolFault {
     /// A worker of this number is enrolled, or was.
     #[error("the worker is enrolled, or was")]
     Known,
-    /// There are 2^32-2 workers, or the mint has fewer than five books left.
+    /// There are 2^32-2 workers, or the mint has fewer than `BOOKS_PER_WORKER` books left.
     #[error("the workers or the books are past their limits")]
     Limit,
     /// The allocator refused a growth.

@@ -23,7 +23,7 @@ pub fn history_replays<T: Tag, I: Indexes<T>, S: Setup>(book: &QueueBook<T, I, S
     let _ = &book.queue;
 }
 
-/// The counts: the five books of each worker total its counts over the history, or were gathered at them if it was
+/// The counts: the books of each worker total its counts over the history, or were gathered at them if it was
 /// dismissed; and each desk holds the stamps, deltas and
 /// rhos of its client's accepted adds and totals its grants of each phase.
 pub fn history_is_counted<T: Tag, I: Indexes<T>, S: Setup>(book: &QueueBook<T, I, S>)

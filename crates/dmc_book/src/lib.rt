@@ -16,6 +16,7 @@ mod names;
 mod opening;
 mod parts;
 pub mod pass;
+pub mod per_count;
 mod pulling;
 pub mod seat;
 pub mod settled;

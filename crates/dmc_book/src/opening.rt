@@ -5,14 +5,16 @@ ghost use Rattle.std.specs.Arc.{arc_value};
 ghost use Rattle.dmc_types.specs.Limits.{max_events, max_workers};
 ghost use Rattle.dmc_ledger.specs.Accounts.{new_book, new_till};
 ghost use Rattle.dmc_ledger.specs.Bundles.{client_side, grant_holdings};
-ghost use Rattle.dmc_book.specs.BookState.{pass_state, worker_accounts, worker_holdings, worker_side, no_desk};
-ghost use Rattle.dmc_book.specs.Opening.{AreApart, AreBookLimits, AreNamedOnce, IsNewDesk, desk_with_tills, new_accounts, new_accounts_state, new_holdings, new_pass, new_passes, new_unit, new_worker, new_workers};
+ghost use Rattle.dmc_book.specs.BookState.{pass_state, worker_side, no_desk};
+ghost use Rattle.dmc_book.specs.Opening.{AreApart, AreBookLimits, AreNamedOnce, IsNewDesk, desk_with_tills, new_accounts_state, new_pass, new_passes, new_unit, new_worker, new_workers};
+ghost use Rattle.dmc_book.specs.PerCount.{books_per_worker, map_counts, numbers_from};
 ghost use Rattle.dmc_book.specs.internal.Opening.{HaveRoom};
 ghost use Rattle.dmc_book.specs.internal.Rooms.{IsRoom, IsRoomFor};
 
 use crate::accounts::Accounts;
 use crate::fault::NewFault;
 use crate::pass::WorkerPass;
+use crate::per_count::{BOOKS_PER_WORKER, WorkerCounts};
 use crate::seat::{Seat, WorkerBooks, WorkerTills};
 use dmc_ledger::book::Book;
 use dmc_ledger::bundle::GrantTills;
@@ -111,7 +113,7 @@ fn are_limits(workers: usize, desks: usize, left: u64, most: u32) -> bool
         && most <= MAX_EVENTS
         && desks <= MAX_DESKS
         && 0 < left
-        && workers as u64 <= (left - 1) / 5
+        && workers as u64 <= (left - 1) / BOOKS_PER_WORKER
 }
 
 /// The clients of the desks, in order: refused `Twice`, `Memory`.
@@ -215,26 +217,26 @@ fn open_book<S: Setup>(mint: &mut Mint<S>) -> (Book<S>, Till<S>)
     (book, till)
 }
 
-/// The five books of a worker, and a till of each.
+/// The books of a worker, and a till of each.
 fn open_worker<S: Setup>(mint: &mut Mint<S>) -> (WorkerBooks<S>, WorkerTills<S>)
-    requires { 5 ≤ mint.old.left }
-    ensures books { worker_accounts result.0 ≡ new_accounts mint.old.opened }
-    ensures tills { worker_holdings result.1 ≡ new_holdings mint.old.opened }
-    ensures mint { mint.new ≡ record { opened = mint.old.opened + 5; left = mint.old.left - 5 } }
+    requires { books_per_worker ≤ mint.old.left }
+    ensures books { result.0 ≡ map_counts new_book (numbers_from mint.old.opened) }
+    ensures tills { result.1 ≡ map_counts new_till (numbers_from mint.old.opened) }
+    ensures mint { mint.new ≡ record { opened = mint.old.opened + books_per_worker; left = mint.old.left - books_per_worker } }
 {
     let (calls, calls_till) = open_book(mint);
     let (misses, misses_till) = open_book(mint);
     let (tokens, tokens_till) = open_book(mint);
     let (grants, grants_till) = open_book(mint);
     let (granted, granted_till) = open_book(mint);
-    let books = WorkerBooks {
+    let books = WorkerCounts {
         calls,
         misses,
         tokens,
         grants,
         granted,
     };
-    let tills = WorkerTills {
+    let tills = WorkerCounts {
         calls: calls_till,
         misses: misses_till,
         tokens: tokens_till,
@@ -283,14 +285,14 @@ pub(crate) fn open_one<S: Setup>(
     desks: &mut [ClientDesk<S>],
     room: PassRoom<S>,
 ) -> (Seat<S>, WorkerPass<S>)
-    requires left { 5 ≤ mint.old.left }
+    requires left { books_per_worker ≤ mint.old.left }
     requires some_left { (k : ℕ) → k < length desks.old → HaveRoom (slice_index_or (map client_side desks.old) k no_desk).books }
     requires empty { length room.units.items ≡ 0 }
     requires room { length desks.old ≤ vec_capacity room.units }
     ensures seat { worker_side result.0 ≡ new_worker (length desks.old) mint.old.opened worker }
     ensures pass { pass_state result.1 ≡ new_pass place mint.old.opened (arc_value room.clients).keys (map client_side desks.old) worker }
     ensures desks { map client_side desks.new ≡ map (desk_with_tills 1) (map client_side desks.old) }
-    ensures mint { mint.new ≡ record { opened = mint.old.opened + 5; left = mint.old.left - 5 } }
+    ensures mint { mint.new ≡ record { opened = mint.old.opened + books_per_worker; left = mint.old.left - books_per_worker } }
 {
     let PassRoom { clients, mut units } = room;
     let (books, tills) = open_worker(mint);
@@ -322,7 +324,7 @@ pub(crate) fn open_workers<S: Setup>(
     passes: &mut Vec<WorkerPass<S>>,
 )
     requires few { length workers.now ≤ max_workers }
-    requires left { 5 * length workers.now ≤ mint.old.left }
+    requires left { books_per_worker * length workers.now ≤ mint.old.left }
     requires new { (server : ℕ) × AllByRecursion (IsNewDesk server) (map client_side desks.old) }
     requires rooms { AllByRecursion (IsRoom (map (λ d. d.client) desks.old)) rooms.items }
     requires as_many { length rooms.items ≡ length workers.now }
@@ -332,8 +334,8 @@ pub(crate) fn open_workers<S: Setup>(
     ensures passes { map pass_state passes.new.items
         ≡ new_passes 0 mint.old.opened (map (λ d. d.client) desks.old) (map client_side desks.old) workers.now }
     ensures desks { map client_side desks.new ≡ map (desk_with_tills (length workers.now)) (map client_side desks.old) }
-    ensures opened { mint.new.opened ≡ mint.old.opened + 5 * length workers.now }
-    ensures left { mint.new.left + 5 * length workers.now ≡ mint.old.left }
+    ensures opened { mint.new.opened ≡ mint.old.opened + books_per_worker * length workers.now }
+    ensures left { mint.new.left + books_per_worker * length workers.now ≡ mint.old.left }
 {
     let mut rooms = rooms;
     for place in 0..workers.len() {
@@ -355,7 +357,7 @@ pub(crate) fn open_accounts<T: Tag, S: Setup>(
     parts: Parts<T, S>,
 ) -> (Accounts<T, S>, Vec<WorkerPass<S>>)
     requires few { length workers.now ≤ max_workers }
-    requires left { 5 * length workers.now + 1 ≤ mint.old.left }
+    requires left { books_per_worker * length workers.now + 1 ≤ mint.old.left }
     requires new { AllByRecursion (IsNewDesk server.0) (map client_side desks.items) }
     requires once { AreNamedOnce workers.now (map client_side desks.items) }
     requires empty { parts.history.events ≡ [] }
@@ -367,8 +369,8 @@ pub(crate) fn open_accounts<T: Tag, S: Setup>(
     ensures accounts { result.0 ≡ new_accounts_state server.0 parts.history.most mint.old.opened workers.now (map client_side desks.items) }
     ensures passes { map pass_state result.1.items
         ≡ new_passes 0 mint.old.opened (map (λ d. d.client) desks.items) (map client_side desks.items) workers.now }
-    ensures opened { mint.new.opened ≡ mint.old.opened + (5 * length workers.now + 1) }
-    ensures left { mint.new.left + (5 * length workers.now + 1) ≡ mint.old.left }
+    ensures opened { mint.new.opened ≡ mint.old.opened + (books_per_worker * length workers.now + 1) }
+    ensures left { mint.new.left + (books_per_worker * length workers.now + 1) ≡ mint.old.left }
 {
     let Parts {
         history,

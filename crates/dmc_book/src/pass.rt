@@ -24,7 +24,7 @@ use std::sync::Arc;
 /// A sum of tokens past this one is to be renewed.
 const RENEWAL: u64 = 1 << 61;
 
-/// A worker's tills: five of its own counts, and for each client with a desk one for the grants of each phase.
+/// A worker's tills: one of each of its own counts, and for each client with a desk one for the grants of each phase.
 ///
 /// A till of grants is lent to whoever responds. What was lent may come back changed: that is found out when it is next
 /// used, or when the pass is settled.

@@ -3,7 +3,7 @@ ghost use Rattle.std.specs.Prelude.{◌≡◌, ◌+◌, ◌≤◌, ◌<◌, ◌^
 ghost use Rattle.std.specs.List.{AllByRecursion};
 ghost use Rattle.dmc_ledger.specs.Accounts.{total_of};
 ghost use Rattle.dmc_ledger.specs.Moves.{after_issue, with_more};
-ghost use Rattle.dmc_book.specs.BookState.{worker_accounts, worker_holdings, worker_side, pass_state, no_worker};
+ghost use Rattle.dmc_book.specs.BookState.{worker_side, pass_state, no_worker};
 ghost use Rattle.dmc_book.specs.Consistent.{AreWorkersApart, AreWithin};
 ghost use Rattle.dmc_book.specs.internal.Consistent.{max_before};
 ghost use Rattle.dmc_book.specs.Renewing.{renewed_tills, renewed_worker};
@@ -12,33 +12,20 @@ ghost use Rattle.dmc_book.specs.Counts as counts;
 ghost use Rattle.dmc_book.specs.internal.Counts.{IsSmall};
 ghost use Rattle.dmc_book.specs.Moves.{AreOf, IsEnrolled, IsOpen, books_after, tills_after, worker_after};
 
-use crate::counts::{Numbers, numbers_of};
+use crate::counts::numbers_of;
 use crate::pass::WorkerPass;
+use crate::per_count::WorkerCounts;
 use dmc_ledger::book::Book;
 use dmc_ledger::setup::Setup;
 use dmc_ledger::till::Till;
 use dmc_tag::event::Event;
 use dmc_types::ids::WorkerId;
 
-/// The books of a worker: its calls, its misses, the tokens of the adds accepted from it, its grants, and their tokens.
-#[derive(Drop)]
-pub(crate) struct WorkerBooks<S: Setup> {
-    pub(crate) calls: Book<S>,
-    pub(crate) misses: Book<S>,
-    pub(crate) tokens: Book<S>,
-    pub(crate) grants: Book<S>,
-    pub(crate) granted: Book<S>,
-}
+/// The books of a worker.
+pub(crate) type WorkerBooks<S> = WorkerCounts<Book<S>>;
 
 /// The worker's tills of them.
-#[derive(Drop)]
-pub(crate) struct WorkerTills<S: Setup> {
-    pub(crate) calls: Till<S>,
-    pub(crate) misses: Till<S>,
-    pub(crate) tokens: Till<S>,
-    pub(crate) grants: Till<S>,
-    pub(crate) granted: Till<S>,
-}
+pub(crate) type WorkerTills<S> = WorkerCounts<Till<S>>;
 
 /// An enrolled worker, with the books of its counts. A settled book returns it: what was gathered of its pass is then all
 /// that was counted of the worker.
@@ -109,13 +96,17 @@ pub(crate) fn credit<S: Setup>(book: &mut Book<S>, till: &mut Till<S>, amount: u
     };
 }
 
-/// Adds to the five books and to their tills.
+/// Adds to a worker's books and to their tills.
 #[inline(always)]
-fn credit_all<S: Setup>(books: &mut WorkerBooks<S>, tills: &mut WorkerTills<S>, numbers: Numbers)
-    requires its { AreOf (worker_holdings tills.old) (worker_accounts books.old) }
-    requires fits { AreWithin max_before (worker_accounts books.old) }
-    ensures books { worker_accounts books.new ≡ books_after numbers (worker_accounts books.old) }
-    ensures tills { worker_holdings tills.new ≡ tills_after numbers (worker_holdings tills.old) }
+fn credit_all<S: Setup>(
+    books: &mut WorkerBooks<S>,
+    tills: &mut WorkerTills<S>,
+    numbers: WorkerCounts<u32>,
+)
+    requires its { AreOf tills.old books.old }
+    requires fits { AreWithin max_before books.old }
+    ensures books { books.new ≡ books_after numbers books.old }
+    ensures tills { tills.new ≡ tills_after numbers tills.old }
 {
     credit(&mut books.calls, &mut tills.calls, numbers.calls);
     credit(&mut books.misses, &mut tills.misses, numbers.misses);
@@ -126,8 +117,8 @@ fn credit_all<S: Setup>(books: &mut WorkerBooks<S>, tills: &mut WorkerTills<S>, 
 
 /// Whether the tills are of these books.
 pub(crate) fn are_of<S: Setup>(tills: &WorkerTills<S>, books: &WorkerBooks<S>) -> bool
-    ensures of { IsTrue result ↔ AreOf (worker_holdings tills.now) (worker_accounts books.now) }
-    ensures some_open { IsTrue result → 0 < (worker_accounts books.now).calls.open_tills }
+    ensures of { IsTrue result ↔ AreOf tills.now books.now }
+    ensures some_open { IsTrue result → 0 < books.now.calls.open_tills }
 {
     if tills.calls.number() != books.calls.number() {
         return false;
@@ -161,12 +152,12 @@ pub(crate) fn count<T: Copy, S: Setup>(
 )
     requires within { place < length workers.old.items }
     requires its_worker { (slice_index_or (map worker_side workers.old.items) place no_worker).worker ≡ event.now.worker.0 }
-    requires its_tills { AreOf (worker_holdings tills.old) (slice_index_or (map worker_side workers.old.items) place no_worker).books }
+    requires its_tills { AreOf tills.old (slice_index_or (map worker_side workers.old.items) place no_worker).books }
     requires fits { AreWithin max_before (slice_index_or (map worker_side workers.old.items) place no_worker).books }
     requires apart { AreWorkersApart (map worker_side workers.old.items) }
     ensures workers { map worker_side workers.new.items ≡ map (worker_after event.now) (map worker_side workers.old.items) }
     ensures small { IsSmall (counts.numbers_of event.now.command event.now.reply) }
-    ensures tills { worker_holdings tills.new ≡ tills_after (counts.numbers_of event.now.command event.now.reply) (worker_holdings tills.old) }
+    ensures tills { tills.new ≡ tills_after (counts.numbers_of event.now.command event.now.reply) tills.old }
 {
     let numbers = numbers_of(&event.command, &event.reply);
     credit_all(&mut workers[place].books, tills, numbers);
@@ -178,13 +169,13 @@ pub(crate) fn renew_seat<S: Setup>(
     tills: &mut WorkerTills<S>,
     events: u64,
 ) -> (u64, u64)
-    requires its_tills { AreOf (worker_holdings tills.old) (worker_side seat.old).books }
+    requires its_tills { AreOf tills.old (worker_side seat.old).books }
     requires tokens_open { (worker_side seat.old).books.tokens.open_tills ≡ 1 }
     requires granted_open { (worker_side seat.old).books.granted.open_tills ≡ 1 }
     ensures seat { worker_side seat.new ≡ renewed_worker events (worker_side seat.old) }
-    ensures tills { worker_holdings tills.new ≡ renewed_tills (worker_holdings tills.old) }
-    ensures tokens { (worker_side seat.old).books.tokens.gathered + (worker_holdings tills.old).tokens.amount ≡ result.0 }
-    ensures granted { (worker_side seat.old).books.granted.gathered + (worker_holdings tills.old).granted.amount ≡ result.1 }
+    ensures tills { tills.new ≡ renewed_tills tills.old }
+    ensures tokens { (worker_side seat.old).books.tokens.gathered + tills.old.tokens.amount ≡ result.0 }
+    ensures granted { (worker_side seat.old).books.granted.gathered + tills.old.granted.amount ≡ result.1 }
 {
     seat.renewed = events;
     let tokens = seat.books.tokens.restart(&mut tills.tokens);

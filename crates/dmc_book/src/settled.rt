@@ -4,10 +4,11 @@ ghost use Rattle.std.specs.List.{AllByRecursion};
 ghost use Rattle.dmc_types.specs.Limits.{max_events};
 ghost use Rattle.dmc_ledger.specs.Accounts.{after_closing};
 ghost use Rattle.dmc_ledger.specs.Bundles.{client_side, grant_accounts, grant_holdings};
-ghost use Rattle.dmc_book.specs.BookState.{pass_state, worker_accounts, worker_holdings, worker_side, no_desk, no_worker};
+ghost use Rattle.dmc_book.specs.BookState.{pass_state, worker_side, no_desk, no_worker};
 ghost use Rattle.dmc_book.specs.Consistent.{reaching};
 ghost use Rattle.dmc_book.specs.Moves.{AreOf};
-ghost use Rattle.dmc_book.specs.Settling.{AreDeskUnits, AreGrantsOfDesks, AreOwn, AreSettledDesks, AreUnitsOf, AreUnitsTakenIn, IsDeskTakenIn, IsOwn, IsSettledWorker, IsTakenIn, closed_accounts, closed_worker, open_passes};
+ghost use Rattle.dmc_book.specs.PerCount.{map_counts};
+ghost use Rattle.dmc_book.specs.Settling.{AreDeskUnits, AreGrantsOfDesks, AreOwn, AreSettledDesks, AreUnitsOf, AreUnitsTakenIn, IsDeskTakenIn, IsOwn, IsSettledWorker, IsTakenIn, closed_worker, open_passes};
 ghost use Rattle.dmc_book.specs.internal.Settling.{AreOneOpen, ArePassesTakenIn, IsOpenOrShut, accounts_settled, having};
 
 use crate::accounts::Accounts;
@@ -134,22 +135,15 @@ fn take_till<S: Setup>(book: &mut Book<S>, till: Till<S>)
 
 /// Gathers the tills of a worker.
 fn take_tills<S: Setup>(books: &mut WorkerBooks<S>, tills: WorkerTills<S>)
-    requires { AreOf (worker_holdings tills) (worker_accounts books.old) }
-    ensures some { 0 < (worker_accounts books.old).calls.open_tills }
-    ensures only { AreOneOpen (worker_accounts books.old) → worker_accounts books.new ≡ closed_accounts (worker_accounts books.old) }
+    requires { AreOf tills books.old }
+    ensures some { 0 < books.old.calls.open_tills }
+    ensures only { AreOneOpen books.old → books.new ≡ map_counts after_closing books.old }
 {
-    let WorkerTills {
-        calls,
-        misses,
-        tokens,
-        grants,
-        granted,
-    } = tills;
-    take_till(&mut books.calls, calls);
-    take_till(&mut books.misses, misses);
-    take_till(&mut books.tokens, tokens);
-    take_till(&mut books.grants, grants);
-    take_till(&mut books.granted, granted);
+    take_till(&mut books.calls, tills.calls);
+    take_till(&mut books.misses, tills.misses);
+    take_till(&mut books.tokens, tills.tokens);
+    take_till(&mut books.grants, tills.grants);
+    take_till(&mut books.granted, tills.granted);
 }
 
 /// Gathers the tills of a desk.

@@ -34,7 +34,7 @@ module _ {T : Type 0} (ops : Tagging T) where
 
   -- what replays differs nowhere
   pub no_difference : (config : Setting) (events : List (Event T)) (i : ℕ) → DiffersAt ops config events i → replays ops config events → ⊥
-  no_difference config events i d h = d.other (at_from (opening config) events i d.event h d.at)
+  no_difference config events i d h = d.other (at_from (opening ops config) events i d.event h d.at)
 
   -- a difference stays the first
   pub differs_on : (config : Setting) (events more : List (Event T)) (i : ℕ) → DiffersAt ops config events i → DiffersAt ops config (events ++ more) i

@@ -82,7 +82,11 @@ pub record Covers (tills : StampHoldings) (params : Params) : Type 0 where
   pub its_delta : params.delta ≤ tills.delta.amount
   pub its_rho : params.rho ≤ tills.rho.amount
 
--- The pair of a client and a server, as it is opened with the five books from the n-th on. The list has the number of the
+-- how many books the desks of a client and a server have
+abbrev pub books_per_pair : ℕ
+books_per_pair = 5
+
+-- The pair of a client and a server, as it is opened with the books from the n-th on. The list has the number of the
 -- book of stamps.
 abbrev pub new_client_side : ℕ → ℕ → ℕ → ClientSide
 new_client_side client server n = record {

@@ -2,7 +2,7 @@
 //! has taken in.
 ghost use Rattle.std.specs.Prelude.{◌≡◌, ◌+◌, ◌-◌, ◌<◌, ◌↔◌, IfOk, OnOk, OnErr, IsErr};
 ghost use Rattle.dmc_ledger.specs.Accounts.{after_closing, new_book, new_till};
-ghost use Rattle.dmc_ledger.specs.Bundles.{IsOnlyTill, IsPair, client_side, server_side, stamp_accounts, grant_accounts, new_client_side, new_server_side, closed_stamps, closed_grants};
+ghost use Rattle.dmc_ledger.specs.Bundles.{IsOnlyTill, IsPair, books_per_pair, client_side, server_side, stamp_accounts, grant_accounts, new_client_side, new_server_side, closed_stamps, closed_grants};
 
 use crate::book::Book;
 use crate::bundle::{GrantBooks, GrantTills, StampBooks, StampTills};
@@ -33,20 +33,23 @@ pub struct ServerDesk<S: Setup> {
     pub list: Option<BlankList<S>>,
 }
 
-/// The desks of a client at a server, with five new books. Each book has one open till, at the other desk. It is refused `Full`
-/// if fewer than five books are left.
+/// How many books the desks of a client and a server have: of stamps, deltas, rhos, and the grants of each phase.
+pub const BOOKS_PER_PAIR: u64 = 5;
+
+/// The desks of a client at a server, with new books. Each book has one open till, at the other desk. It is refused `Full` if
+/// fewer than `BOOKS_PER_PAIR` books are left.
 pub fn open_pair<S: Setup>(
     mint: &mut Mint<S>,
     client: ClientId,
     server: ServerId,
 ) -> Result<(ClientDesk<S>, ServerDesk<S>), Full>
-    ensures full { IsErr result ↔ (mint.old.left < 5) }
+    ensures full { IsErr result ↔ (mint.old.left < books_per_pair) }
     ensures client_desk { IfOk result (λ pair. client_side pair.0 ≡ new_client_side client.0 server.0 mint.old.opened) }
     ensures server_desk { IfOk result (λ pair. server_side pair.1 ≡ new_server_side client.0 server.0 mint.old.opened) }
-    ensures mint { OnOk result (mint.new ≡ record { opened = mint.old.opened + 5; left = mint.old.left - 5 }) }
+    ensures mint { OnOk result (mint.new ≡ record { opened = mint.old.opened + books_per_pair; left = mint.old.left - books_per_pair }) }
     ensures kept { OnErr result (mint.new ≡ mint.old) }
 {
-    if mint.left() < 5 {
+    if mint.left() < BOOKS_PER_PAIR {
         return Err(Full);
     }
     let ((stamps, list), stamp_till) = open_first(mint);

@@ -12,14 +12,13 @@ use Rattle.dmc_tag.specs.declared.reply.Pulled.{Pulled}
 use Rattle.dmc_tag.specs.declared.reply.Reply.{Reply}
 use Rattle.dmc_tag.specs.declared.reply.Reply.TheVariants.{Refused}
 use Rattle.dmc_ledger.specs.Bundles.{ClientSide}
-use Rattle.dmc_book.specs.BookState.{PassState, WorkerHoldings}
+use Rattle.dmc_book.specs.BookState.{PassState}
 use Rattle.dmc_book.specs.Joining.{id_of, pass_extended}
 use Rattle.dmc_book.specs.Opening.{new_pass}
 use Rattle.dmc_book.specs.Moves.{pass_after}
 use Rattle.dmc_book.specs.declared.fault.RunFault.TheVariants as run
 use Rattle.dmc_book.specs.declared.fault.SubmitCause.{SubmitCause}
 use Rattle.dmc_book.specs.declared.fault.SubmitCause.TheVariants as submit
-use Rattle.dmc_book.specs.declared.status.Status.{Status}
 use Rattle.dmc_book.specs.declared.fault.RunOrRange.{RunOrRange}
 use Rattle.dmc_book.specs.declared.fault.RunOrRange.TheVariants as pull
 
@@ -47,14 +46,6 @@ SubmitReplied ops before later command submit.HistoryFull = later ≡ before
 SubmitReplied ops before later command submit.Memory = later ≡ before
 SubmitReplied ops before later command (submit.Refused refusal) = Replied ops before later command (Refused refusal)
 
--- what the pass's five tills hold
-pub record IsStatusOf (tills : WorkerHoldings) (status : Status) : Type 0 where
-  pub calls : status.calls ≡ tills.calls.amount
-  pub misses : status.misses ≡ tills.misses.amount
-  pub tokens : status.tokens ≡ tills.tokens.amount
-  pub grants : status.grants ≡ tills.grants.amount
-  pub granted : status.granted ≡ tills.granted.amount
-
 -- ---- pulls through the lock
 
 -- The queue returned, if only Range; or the pull was not passed to it, and never because a desk is missing.
@@ -70,7 +61,7 @@ pub record IsExtended (before later : PassState) : Type 0 where
   pub desks : List ClientSide
   pub pass : later ≡ pass_extended desks before
 
--- the pass of a worker whose five books are the next of the mint: it holds nothing, and has tills of each desk
+-- the pass of a worker whose books are the next of the mint: it holds nothing, and has tills of each desk
 pub record IsNewPass (n : ℕ) (worker : WorkerId) (pass : PassState) : Type 0 where
   pub place : ℕ
   pub desks : List ClientSide

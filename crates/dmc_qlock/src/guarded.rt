@@ -10,6 +10,7 @@ ghost use Rattle.dmc_book.specs.BookState.{pass_state};
 ghost use Rattle.dmc_book.specs.Calls.{is_add};
 ghost use Rattle.dmc_book.specs.Joining.{IsUnused};
 ghost use Rattle.dmc_book.specs.Leaving.{HoldsNothing};
+ghost use Rattle.dmc_book.specs.PerCount.{books_per_worker};
 ghost use Rattle.dmc_book.specs.Renewing.{renewed_pass};
 ghost use Rattle.dmc_qlock.specs.Calls.{Replied, IsExtended, IsNewPass, PullReplied, SubmitReplied, is_pull, registers};
 ghost use Rattle.dmc_qlock.specs.internal.Calls.{must_wait};
@@ -208,7 +209,7 @@ impl<T: Tag, I: Indexes<T>, S: Setup> Guarded<QueueBook<T, I, S>, NoWitness> {
         mint: &mut Mint<S>,
     ) -> Result<WorkerPass<S>, EnrolFault>
         ensures pass { IfOk result (λ pass. IsNewPass mint.old.opened worker (pass_state pass)) }
-        ensures mint { OnOk result (mint.new ≡ record { opened = mint.old.opened + 5; left = mint.old.left - 5 }) }
+        ensures mint { OnOk result (mint.new ≡ record { opened = mint.old.opened + books_per_worker; left = mint.old.left - books_per_worker }) }
         ensures kept { OnErr result (mint.new ≡ mint.old) }
     {
         self.book.enrol(alloc, worker, mint)

@@ -9,8 +9,10 @@ ghost use Rattle.dmc_book.specs.BookState.{pass_state};
 ghost use Rattle.dmc_book.specs.Calls.{is_add};
 ghost use Rattle.dmc_book.specs.Joining.{IsUnused};
 ghost use Rattle.dmc_book.specs.Leaving.{HoldsNothing};
+ghost use Rattle.dmc_book.specs.PerCount.{books_per_worker};
 ghost use Rattle.dmc_book.specs.Renewing.{renewed_pass};
-ghost use Rattle.dmc_qlock.specs.Calls.{Replied, IsExtended, IsNewPass, IsStatusOf, PullReplied, SubmitReplied, is_pull, registers};
+ghost use Rattle.dmc_book.specs.Status.{AreHeld, counts_in};
+ghost use Rattle.dmc_qlock.specs.Calls.{Replied, IsExtended, IsNewPass, PullReplied, SubmitReplied, is_pull, registers};
 
 use crate::fault::RunOrRange;
 use crate::guarded::Guarded;
@@ -236,7 +238,7 @@ impl<T: Tag, I: Indexes<T>, S: Setup, W: Witness<QueueBook<T, I, S>>> LockedQueu
 
     /// What the pass holds of the worker's counts, and the book's numbers; refused `Stranger` alone.
     pub fn status<R: Wait>(&self, rt: &R, pass: &WorkerPass<S>) -> Result<Status, RunFault>
-        ensures held { IfOk result (λ status. IsStatusOf (pass_state pass.now).tills status) }
+        ensures held { IfOk result (λ status. AreHeld (counts_in status) (pass_state pass.now).tills) }
         ensures stranger { IfErr result (λ fault. fault ≡ RunFault.Stranger) }
     {
         self.guarded.lock(rt).book.status(pass)
@@ -315,7 +317,7 @@ impl<T: Tag, I: Indexes<T>, S: Setup> LockedQueue<QueueBook<T, I, S>, NoWitness>
     }
 
     /// Enrols a worker that was not enrolled here before: its pass holds nothing, and has tills of each desk. The mint gives it
-    /// five numbers. The lock is held for a time that grows with the numbers of workers and of desks.
+    /// `BOOKS_PER_WORKER` numbers. The lock is held for a time that grows with the numbers of workers and of desks.
     ///
     /// Refused `Known`, `Limit`, `Memory`, with the mint as it was.
     pub fn enrol<R: Wait>(
@@ -326,7 +328,7 @@ impl<T: Tag, I: Indexes<T>, S: Setup> LockedQueue<QueueBook<T, I, S>, NoWitness>
         mint: &mut Mint<S>,
     ) -> Result<WorkerPass<S>, EnrolFault>
         ensures pass { IfOk result (λ pass. IsNewPass mint.old.opened worker (pass_state pass)) }
-        ensures mint { OnOk result (mint.new ≡ record { opened = mint.old.opened + 5; left = mint.old.left - 5 }) }
+        ensures mint { OnOk result (mint.new ≡ record { opened = mint.old.opened + books_per_worker; left = mint.old.left - books_per_worker }) }
         ensures kept { OnErr result (mint.new ≡ mint.old) }
     {
         self.guarded.lock(rt).enrol(alloc, worker, mint)

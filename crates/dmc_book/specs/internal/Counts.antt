@@ -1,12 +1,8 @@
 -- How much an event adds to a count.
-use Rattle.std.specs.Prelude.{◌≤◌}
-use Rattle.dmc_book.specs.declared.counts.Numbers.{Numbers}
+use Rattle.std.specs.Prelude.{ℕ, ◌≤◌}
 use Rattle.dmc_book.specs.Counts.{max_added}
+use Rattle.dmc_book.specs.PerCount.{WorkerCounts, EachCount}
 
 -- each number fits an u32
-pub record IsSmall (n : Numbers) : Type 0 where
-  pub calls : n.calls ≤ max_added
-  pub misses : n.misses ≤ max_added
-  pub tokens : n.tokens ≤ max_added
-  pub grants : n.grants ≤ max_added
-  pub granted : n.granted ≤ max_added
+abbrev pub IsSmall : WorkerCounts ℕ → Type 0
+IsSmall numbers = EachCount (λ n. n ≤ max_added) numbers

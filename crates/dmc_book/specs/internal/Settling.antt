@@ -1,20 +1,18 @@
 -- The accounts while a book is settled.
 use Rattle.std.specs.Prelude.{◌≡◌, ℕ, ◌+◌, ◌<◌, ◌⊎◌, nat_lt, List, [], ◌∷◌, length, slice_index_or}
 use Rattle.dmc_types.specs.declared.config.PhaseType.TheVariants.{Reservation, Priority}
+use Rattle.dmc_ledger.specs.Accounts.{Account}
 use Rattle.dmc_ledger.specs.Bundles.{ClientSide}
-use Rattle.dmc_book.specs.BookState.{AccountsState, PassState, WorkerAccounts, WorkerSide, no_desk}
+use Rattle.dmc_book.specs.BookState.{AccountsState, PassState, WorkerSide, no_desk}
 use Rattle.dmc_book.specs.Counts.{one_if}
+use Rattle.dmc_book.specs.PerCount.{WorkerCounts, EachCount}
 use Rattle.dmc_book.specs.Settling.{IsDeskTakenIn, closed_worker, left_in}
 
 -- ---- the workers
 
--- each of the five books has one till open
-pub record AreOneOpen (books : WorkerAccounts) : Type 0 where
-  pub calls : books.calls.open_tills ≡ 1
-  pub misses : books.misses.open_tills ≡ 1
-  pub tokens : books.tokens.open_tills ≡ 1
-  pub grants : books.grants.open_tills ≡ 1
-  pub granted : books.granted.open_tills ≡ 1
+-- each of the books has one till open
+abbrev pub AreOneOpen : WorkerCounts Account → Type 0
+AreOneOpen books = EachCount (λ (book : Account). book.open_tills ≡ 1) books
 
 -- the worker's pass was gathered before: that changes nothing more of it
 pub record IsShut (w : WorkerSide) : Type 0 where

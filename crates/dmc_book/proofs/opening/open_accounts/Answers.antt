@@ -4,6 +4,7 @@ use Rattle.dmc_ledger.specs.Bundles.{ClientSide, client_side}
 use Rattle.dmc_ledger.specs.declared.desk.ClientDesk.{ClientDesk}
 use Rattle.dmc_lemmas.proofs.Lists.{lent_back}
 use Rattle.dmc_book.specs.Opening.{IsNewDesk, desk_with_tills, new_workers}
+use Rattle.dmc_book.specs.PerCount.{books_per_worker}
 use Rattle.dmc_book.proofs.OpeningLemmas.{as_many_desks, consistent_new, names_stay}
 use Rattle.dmc_book.proofs.opening.open_accounts.Goals as goal
 
@@ -26,7 +27,7 @@ invariant_of-accounts g c =
     let as_many : length new ≡ length items = as_many_desks n new items opened in
     let back = lent_back new (drop (length new) items) c.args.desks.len (as_many ∙ sym c.args.desks.ok.0) in
     let seats = c.open_workers.ensures.seats ∙ ap (λ (xs : List (ClientDesk g.row.S.Denot)). new_workers (length (map f xs)) c.args.mint.now.opened c.args.workers.now) same in
-    let number : c.in-Ok.number ≡ c.args.mint.now.opened + 5 * n = c.in-Ok.ensures.list.0 ∙ c.open_workers.ensures.opened in
+    let number : c.in-Ok.number ≡ c.args.mint.now.opened + books_per_worker * n = c.in-Ok.ensures.list.0 ∙ c.open_workers.ensures.opened in
     rw (back, opened, seats, c.new.ensures, number, c.requires.no_room) (
       consistent_new c.args.server.0 c.args.parts.history.most c.args.mint.now.opened c.args.workers.now start c.requires.new c.requires.once c.requires.limit c.requires.few,
       c.requires.clients ∙ sym (names_stay n new items opened),

@@ -7,6 +7,7 @@ use Rattle.dmc_ledger.specs.Bundles.{ClientSide, client_side}
 use Rattle.dmc_ledger.specs.declared.desk.ClientDesk.{ClientDesk}
 use Rattle.dmc_book.specs.BookState.{pass_state, worker_side}
 use Rattle.dmc_book.specs.Opening.{desk_with_tills, new_pass, new_passes, new_worker, new_workers}
+use Rattle.dmc_book.specs.PerCount.{books_per_worker}
 use Rattle.dmc_book.specs.internal.Rooms.{IsRoom}
 use Rattle.dmc_book.proofs.OpeningLemmas.{all_popped, as_many_desks, desks_more, desks_none, pass_as, passes_next, room_for_one, workers_next}
 use Rattle.dmc_book.proofs.opening.open_workers.Goals as goal
@@ -43,11 +44,11 @@ loop-place-preserved g c =
     let fewer : length c.loop-place.rooms.items ≡ length c.pop.new.self.items + 1 = rw popped (length-append c.pop.new.self.items (c.in-Some.room ∷ [])) in
     let seated : c.push.new.self.items ≡ c.loop-place.seats.items ++ c.open_one-seat.result.0 ∷ [] = search rules in
     let passed : c.push-in-loop-place.new.self.items ≡ c.loop-place.passes.items ++ c.open_one-seat.result.1 ∷ [] = search rules in
-    let seat : worker_side c.open_one-seat.result.0 ≡ new_worker r (c.args.mint.now.opened + 5 * i) w =
-    c.open_one-seat.ensures.seat ∙ ap (λ n. new_worker (length c.loop-place.desks) n w) inv.opened ∙ ap (λ n. new_worker n (c.args.mint.now.opened + 5 * i) w) all in
-    let pass : pass_state c.open_one-seat.result.1 ≡ new_pass i (c.args.mint.now.opened + 5 * i) names start w =
+    let seat : worker_side c.open_one-seat.result.0 ≡ new_worker r (c.args.mint.now.opened + books_per_worker * i) w =
+    c.open_one-seat.ensures.seat ∙ ap (λ n. new_worker (length c.loop-place.desks) n w) inv.opened ∙ ap (λ n. new_worker n (c.args.mint.now.opened + books_per_worker * i) w) all in
+    let pass : pass_state c.open_one-seat.result.1 ≡ new_pass i (c.args.mint.now.opened + books_per_worker * i) names start w =
     c.open_one-seat.ensures.pass ∙ ap (λ n. new_pass i n (arc_value c.in-Some.room.clients).keys (map client_side c.loop-place.desks) w) inv.opened
-    ∙ pass_as i (c.args.mint.now.opened + 5 * i) i (arc_value c.in-Some.room.clients).keys names (map client_side c.loop-place.desks) start w left.1.named inv.desks in
+    ∙ pass_as i (c.args.mint.now.opened + books_per_worker * i) i (arc_value c.in-Some.room.clients).keys names (map client_side c.loop-place.desks) start w left.1.named inv.desks in
     record {
       rooms = left.0;
       rooms_left = omega (arith, fewer, inv.rooms_left);

@@ -4,6 +4,7 @@ use Rattle.std.specs.List.{AllByRecursion}
 use Rattle.dmc_ledger.specs.Bundles.{client_side}
 use Rattle.dmc_book.specs.BookState.{pass_state, worker_side}
 use Rattle.dmc_book.specs.Opening.{desk_with_tills, new_passes, new_workers}
+use Rattle.dmc_book.specs.PerCount.{books_per_worker}
 use Rattle.dmc_book.specs.internal.Rooms.{IsRoom}
 use Rattle.dmc_book.proofs.opening.open_workers.Given as goal
 
@@ -18,6 +19,6 @@ invariant-loop-place g l = record {
   seats : map worker_side l.seats.items ≡ new_workers (length (map client_side l.fn.desks)) l.fn.mint.opened (take l.place l.fn.workers);
   passes : map pass_state l.passes.items ≡ new_passes 0 l.fn.mint.opened (map (λ d. d.client) l.fn.desks) (map client_side l.fn.desks) (take l.place l.fn.workers);
   desks : map client_side l.desks ≡ map (desk_with_tills l.place) (map client_side l.fn.desks);
-  opened : l.mint.opened ≡ l.fn.mint.opened + 5 * l.place;
-  left : l.mint.left + 5 * l.place ≡ l.fn.mint.left;
+  opened : l.mint.opened ≡ l.fn.mint.opened + books_per_worker * l.place;
+  left : l.mint.left + books_per_worker * l.place ≡ l.fn.mint.left;
 }

@@ -62,14 +62,14 @@ loop-pass-preserved g c =
     let fewer : length c.loop-pass.passes.items ≡ length c.pop.new.self.items + 1 = ap length popped ∙ length-append c.pop.new.self.items (c.in-Some.pass ∷ []) in
     let reach : length p.units ≡ (slice_index_or vs p.place no_worker).reach = left.1.reach ∙ sym (ap (λ (w : WorkerSide). w.reach) (open_at ws vs p.place inv.workers within some)) in
     let reached : (k : ℕ) → one_if (nat_lt k (length p.units)) ≡ one_if (nat_lt k (slice_index_or vs p.place no_worker).reach) = λ k. ap (λ n. one_if (nat_lt k n)) reach in
-    let less = open_less vs p.place (closed_worker (slice_index_or vs p.place no_worker)) inside refl one.calls in
+    let less = open_less vs p.place (closed_worker (slice_index_or vs p.place no_worker)) inside refl one.0 in
     record {
       workers = subst (ArePartly ws) (sym closed) (partly_more ws vs p.place inv.workers within some);
       still_open = ap open_passes closed ∙ omega (arith, less, inv.still_open, fewer);
       own = left.0;
       taken = p ∷ inv.taken;
       all = all_after (IsOwn ws ds) pass_state c.loop-pass.passes.items c.pop.new.self.items c.in-Some.pass popped (map pass_state c.args.passes.items) inv.taken inv.all;
-      tills = λ k. subst (λ (xs : List WorkerSide). having k (p ∷ inv.taken) + still_reaching k xs ≡ reaching k ws) (sym closed) (omega (arith, inv.tills k, reached k, reaching_less k vs p.place (closed_worker (slice_index_or vs p.place no_worker)) inside refl one.calls));
+      tills = λ k. subst (λ (xs : List WorkerSide). having k (p ∷ inv.taken) + still_reaching k xs ≡ reaching k ws) (sym closed) (omega (arith, inv.tills k, reached k, reaching_less k vs p.place (closed_worker (slice_index_or vs p.place no_worker)) inside refl one.0));
       desks = passes_more p inv.taken ds es (map client_side c.take_pass.new.desks) inv.desks c.take_pass.ensures.desks;
     }
 

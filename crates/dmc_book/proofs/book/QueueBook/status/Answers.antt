@@ -7,11 +7,7 @@ returns-clause-status g c =
     let clients = ap (λ (s : State g.row.T.Denot). length s.clients) c.self.invariant.state in
     let requests = ap (λ (s : State g.row.T.Denot). length (queued_requests s.clients)) c.self.invariant.state in
     rw (← c.self.view_is) (record {
-      calls = search rules;
-      misses = search rules;
-      tokens = search rules;
-      grants = search rules;
-      granted = search rules;
+      counts = search rules;
       clients = c.client_count.ensures ∙ clients;
       requests = c.request_count.ensures ∙ requests;
       events = search rules;

@@ -8,6 +8,8 @@ use Rattle.dmc_types.specs.declared.config.AtLimit.{AtLimit}
 use Rattle.dmc_types.specs.declared.config.AtLimit.TheVariants.{Wait, Allow}
 use Rattle.dmc_types.specs.declared.config.Counting.{Counting}
 use Rattle.dmc_types.specs.declared.config.Counting.TheVariants.{All, Others}
+use Rattle.dmc_types.specs.declared.config.Shares.{Shares}
+use Rattle.dmc_types.specs.declared.config.Shares.TheVariants.{Clock, Virtual}
 use Rattle.dmc_types.specs.declared.config.TagKind.{TagKind}
 use Rattle.dmc_types.specs.declared.config.TagKind.TheVariants.{Tick, Ratio}
 use Rattle.dmc_tag.specs.Outcome.{◌>>=◌}
@@ -37,6 +39,12 @@ abbrev pub at_limit_named : List ℕ → Option AtLimit
 at_limit_named text =
     if bytes_eq text (codes "wait") then Some Wait
     else if bytes_eq text (codes "allow") then Some Allow
+    else None
+
+abbrev pub shares_named : List ℕ → Option Shares
+shares_named text =
+    if bytes_eq text (codes "clock") then Some Clock
+    else if bytes_eq text (codes "virtual") then Some Virtual
     else None
 
 -- a rate that has a spacing
@@ -116,10 +124,11 @@ scene_of table = do
   sizes ← sizes_of table
   counting ← defaulted All as_str counting_named key.Counting table
   at_limit ← defaulted Wait as_str at_limit_named key.AtLimit table
+  shares ← defaulted Clock as_str shares_named key.Shares table
   tables ← required as_tables some_clients key.Client table
   clients ← clients_of tags ages.hz [] tables
   Ok (record {
-    config = record { hz = ages.hz; idle_age = ages.idle_age; erase_age = ages.erase_age; at_limit = at_limit };
+    config = record { hz = ages.hz; idle_age = ages.idle_age; erase_age = ages.erase_age; at_limit = at_limit; shares = shares };
     tags = tags;
     servers = sizes.servers;
     workers = sizes.workers;

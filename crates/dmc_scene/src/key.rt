@@ -27,6 +27,8 @@ pub enum Key {
     Counting,
     /// What a pull does while each queued request is over its client's limit.
     AtLimit,
+    /// In which time shares are compared.
+    Shares,
     /// The list of the clients.
     Client,
     /// A client's id.
@@ -60,6 +62,7 @@ impl Key {
             Key::MaxPulls => "max_pulls",
             Key::Counting => "counting",
             Key::AtLimit => "at_limit",
+            Key::Shares => "shares",
             Key::Client => "client",
             Key::Id => "id",
             Key::Reservation => "reservation",

@@ -5,4 +5,5 @@ pub mod client;
 pub mod fault;
 mod held;
 pub mod key;
+mod modes;
 pub mod scene;

@@ -3,22 +3,22 @@ ghost use Rattle.std.specs.Prelude.{◌≡◌, ◌≢◌, ◌<◌, ◌≤◌, �
 ghost use Rattle.std.specs.Option.{ok_or};
 ghost use Rattle.std.specs.Result.{result_map_both};
 ghost use Rattle.dmc_types.specs.Limits.{max_hz, max_step, limit_of_pulls, max_scene_bytes, max_scene_clients, max_server_workers, max_servers};
-ghost use Rattle.toml.specs.Data.{as_str, as_array};
+ghost use Rattle.toml.specs.Data.{as_array};
 ghost use Rattle.toml.specs.Parse.{parse_document};
 ghost use Rattle.toml.specs.View.{view, items_view, table_view};
-ghost use Rattle.dmc_types.specs.declared.config.Counting.TheVariants as counting;
-ghost use Rattle.dmc_types.specs.declared.config.AtLimit.TheVariants as at_limit;
 ghost use Rattle.dmc_scene.specs.declared.fault.SceneFault.TheVariants.{Kind, Memory};
-ghost use Rattle.dmc_types.specs.Values.{IsSetting};
+ghost use Rattle.dmc_types.specs.Values.{IsSetting, threshold_of};
+ghost use Rattle.dmc_types.specs.declared.config.AtLimit.TheVariants as limits;
 ghost use Rattle.dmc_scene.specs.SceneValue.{AreApart, AreSizes, AreSpaced};
-ghost use Rattle.dmc_scene.specs.Keys.{required, defaulted};
-ghost use Rattle.dmc_scene.specs.Reading.{tags_named, counting_named, at_limit_named, are_tables, tables_in, as_tables, some_clients, clients_of, ages_of, sizes_of, scene_of, scene_in};
+ghost use Rattle.dmc_scene.specs.Keys.{required};
+ghost use Rattle.dmc_scene.specs.Reading.{are_tables, tables_in, as_tables, some_clients, clients_of, ages_of, sizes_of, scene_of, scene_in};
 
 use crate::client::{SceneClient, read_client};
 use crate::fault::SceneFault;
-use crate::held::{integer, integer_or, required, text_of, value_at};
+use crate::held::{integer, integer_or, required};
 use crate::key::Key;
-use dmc_types::config::{AtLimit, Counting, QueueConfig, TagKind};
+use crate::modes::{read_at_limit, read_counting, read_shares, read_tags};
+use dmc_types::config::{AtLimit, Counting, QueueConfig, Shares, TagKind};
 use dmc_types::limits::{MAX_AGE, MAX_HZ, MAX_SERVERS};
 use std::alloc::Global;
 use std::marker::Model;
@@ -79,7 +79,7 @@ impl Model for Scene {
 }
 
 impl Scene {
-    /// The configuration of each queue: hz, the ages, and what is done at the limit.
+    /// The configuration of each queue: hz, the ages, what is done at the limit, and in which time shares are compared.
     pub fn config(&self) -> QueueConfig
         ensures { result ≡ self.now.config }
     {
@@ -197,7 +197,7 @@ fn read_table(alloc: Global, table: &Table) -> Result<Scene, SceneFault>
     let tags = read_tags(table)?;
     let sizes = read_sizes(table)?;
     let counting = read_counting(table)?;
-    let config = config_of(ages, read_at_limit(table)?);
+    let config = config_of(ages, read_at_limit(table)?, read_shares(table)?);
     let clients = read_clients(alloc, tags, ages.hz, client_tables(table)?)?;
     Ok(Scene {
         config,
@@ -223,7 +223,7 @@ struct Ages {
 /// The ticks a second, and the ages. An age is by default the greatest.
 fn read_ages(table: &Table) -> Result<Ages, SceneFault>
     ensures value { result ≡ ages_of (table_view table.now) }
-    ensures setting { IfOk result (λ ages. IsSetting ages.hz ages.idle_age ages.erase_age) }
+    ensures setting { IfOk result (λ ages. IsSetting ages.hz ages.idle_age ages.erase_age limits.Wait) }
 {
     let hz = integer(table, Key::Hz, 1, MAX_HZ)? as u32;
     let idle_age = integer_or(table, Key::IdleAge, MAX_AGE, 1, MAX_AGE)?;
@@ -235,12 +235,15 @@ fn read_ages(table: &Table) -> Result<Ages, SceneFault>
     })
 }
 
-/// The configuration with these ages.
-fn config_of(ages: Ages, at_limit: AtLimit) -> QueueConfig
-    requires { IsSetting ages.hz ages.idle_age ages.erase_age }
-    ensures { result ≡ record { hz = ages.hz; idle_age = ages.idle_age; erase_age = ages.erase_age; at_limit = at_limit } }
+/// The configuration with these ages. A scene refuses nothing at the limit.
+fn config_of(ages: Ages, at_limit: AtLimit, shares: Shares) -> QueueConfig
+    requires setting { IsSetting ages.hz ages.idle_age ages.erase_age limits.Wait }
+    requires limit { threshold_of at_limit ≡ 0 }
+    ensures { result ≡ record { hz = ages.hz; idle_age = ages.idle_age; erase_age = ages.erase_age; at_limit = at_limit; shares = shares } }
 {
-    QueueConfig::new(u64::from(ages.hz), ages.idle_age, ages.erase_age, at_limit).unwrap()
+    QueueConfig::new(u64::from(ages.hz), ages.idle_age, ages.erase_age, at_limit)
+        .unwrap()
+        .with_shares(shares)
 }
 
 /// The numbers of a scene besides those of its configuration and its clients.
@@ -269,68 +272,6 @@ fn read_sizes(table: &Table) -> Result<Sizes, SceneFault>
         seed,
         max_pulls,
     })
-}
-
-fn tags_named(text: &str) -> Option<TagKind>
-    ensures { result ≡ tags_named text.now }
-{
-    match text {
-        "tick" => Some(TagKind::Tick),
-        "ratio" => Some(TagKind::Ratio),
-        _ => None,
-    }
-}
-
-fn counting_named(text: &str) -> Option<Counting>
-    ensures { result ≡ counting_named text.now }
-{
-    match text {
-        "all" => Some(Counting::All),
-        "others" => Some(Counting::Others),
-        _ => None,
-    }
-}
-
-fn at_limit_named(text: &str) -> Option<AtLimit>
-    ensures { result ≡ at_limit_named text.now }
-{
-    match text {
-        "wait" => Some(AtLimit::Wait),
-        "allow" => Some(AtLimit::Allow),
-        _ => None,
-    }
-}
-
-/// The tags at their key.
-fn read_tags(table: &Table) -> Result<TagKind, SceneFault>
-    ensures { result ≡ required as_str tags_named Key.Tags (table_view table.now) }
-{
-    let text = text_of(required(table, Key::Tags)?, Key::Tags)?;
-    tags_named(text).ok_or(SceneFault::Value(Key::Tags))
-}
-
-/// The counting form at its key, by default `All`.
-fn read_counting(table: &Table) -> Result<Counting, SceneFault>
-    ensures { result ≡ defaulted counting.All as_str counting_named Key.Counting (table_view table.now) }
-{
-    match value_at(table, Key::Counting) {
-        None => Ok(Counting::All),
-        Some(value) => counting_named(text_of(value, Key::Counting)?).ok_or(SceneFault::Value(
-            Key::Counting,
-        )),
-    }
-}
-
-/// What is done at the limit, at its key, by default `Wait`.
-fn read_at_limit(table: &Table) -> Result<AtLimit, SceneFault>
-    ensures { result ≡ defaulted at_limit.Wait as_str at_limit_named Key.AtLimit (table_view table.now) }
-{
-    match value_at(table, Key::AtLimit) {
-        None => Ok(AtLimit::Wait),
-        Some(value) => at_limit_named(text_of(value, Key::AtLimit)?).ok_or(SceneFault::Value(
-            Key::AtLimit,
-        )),
-    }
 }
 
 /// Whether each of the values is a table.

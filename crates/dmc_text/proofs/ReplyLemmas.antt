@@ -168,6 +168,7 @@ module _ {T : Type 0} (made : ℤ → ℕ → Option T) (text : T → List ℕ) 
   back_refused refusals.QueueFull = refused refusals.QueueFull (given 160 _ refl refl refl) refl
   back_refused refusals.Range = refused refusals.Range (given 160 _ refl refl refl) refl
   back_refused refusals.Busy = refused refusals.Busy (given 160 _ refl refl refl) refl
+  back_refused refusals.OverLimit = refused refusals.OverLimit (given 160 _ refl refl refl) refl
 
   -- a grant whose last words are these
   granted_words : (c : ClientId) (k : Token) (w : List ℕ) (ws : List (List ℕ)) → c.0 < 2 ^ 32 → k.0 < 2 ^ 32 → AreWords 15 (w ∷ ws) → AreWords 160 (codes "grant" ∷ decimal c.0 ∷ decimal k.0 ∷ w ∷ ws)

@@ -1,7 +1,7 @@
 -- The replies of steps can be written: no grant by reservation is beyond its limit.
 use Rattle.std.proofs.Common.{ℕ, Bool, true, false, List, [], ◌∷◌, Option, Some, None, Result, Ok, Err, refl}
 use Rattle.dmc_types.specs.declared.config.AtLimit.{AtLimit}
-use Rattle.dmc_types.specs.declared.config.AtLimit.TheVariants.{Wait, Allow}
+use Rattle.dmc_types.specs.declared.config.AtLimit.TheVariants.{Wait, Allow, Reject}
 use Rattle.dmc_types.specs.declared.refusal.Refusal.{Refusal}
 use Rattle.dmc_types.specs.declared.command.Command.{Command}
 use Rattle.dmc_types.specs.declared.command.Command.TheVariants.{Register, Update, Add, Pull, Remove, Clean}
@@ -27,6 +27,7 @@ writable_found ops u s t (Some found) = writable_priority ops u s t found true
 
 writable_limit : {T : Type 0} (ops : Tagging T) (u s : State T) (t : ℕ) (kind : AtLimit) (x : QueuedRequest T) (xs : List (QueuedRequest T)) → IsWritable ((answer_of u (at_limit ops s t kind x xs)).1)
 writable_limit ops u s t Wait x xs = tt
+writable_limit ops u s t (Reject threshold) x xs = tt
 writable_limit ops u s t Allow x xs = writable_found ops u s t (best_of_all ops by_weight is_any s.clients)
 
 writable_none : {T : Type 0} (ops : Tagging T) (u s : State T) (t : ℕ) (requests : List (QueuedRequest T)) → IsWritable ((answer_of u (nothing_due ops s t requests)).1)
@@ -45,7 +46,7 @@ writable_early ops u s t None = writable_free ops u s t (best_of_all ops by_weig
 pub writable : {T : Type 0} (ops : Tagging T) (s : State T) (command : Command) → IsWritable ((step ops s command).1)
 writable ops s (Register client info at) = writable_of s (can_register ops s client info) _ (λ a. tt)
 writable ops s (Update client info at) = writable_of s (can_update ops s client info) _ (λ a. tt)
-writable ops s (Add client token params at) = writable_of s (can_add ops s client params (ops.of_moment (effective s at))) _ (λ a. tt)
+writable ops s (Add client token params at) = writable_of s (can_add ops s client params (effective s at)) _ (λ a. tt)
 writable ops s (Pull at) = writable_early ops s s (effective s at) (best_of_all ops by_reservation (is_early ops (effective s at)) s.clients)
 writable ops s (Remove client) = writable_of s (can_remove s client) _ (λ a. tt)
 writable ops s (Clean at) = tt

@@ -11,9 +11,11 @@ use Rattle.std.specs.Fmt.{decimal}
 use Rattle.std.proofs.lemmas.Bool.{le-leb}
 use Rattle.std.proofs.lemmas.Bool.Decides.{nat_tests}
 use Rattle.dmc_types.specs.Limits.{max_hz, max_moment, max_line_bytes}
-use Rattle.dmc_types.specs.Values.{Params, Rates, Setting, IsRate, AreRates, IsSetting}
+use Rattle.dmc_types.specs.Values.{Params, Rates, Setting, IsRate, AreRates, IsSetting, threshold_of}
 use Rattle.dmc_types.specs.declared.config.AtLimit.{AtLimit}
-use Rattle.dmc_types.specs.declared.config.AtLimit.TheVariants.{Wait, Allow}
+use Rattle.dmc_types.specs.declared.config.AtLimit.TheVariants.{Wait, Allow, Reject}
+use Rattle.dmc_types.specs.declared.config.Shares.{Shares}
+use Rattle.dmc_types.specs.declared.config.Shares.TheVariants.{Clock, Virtual}
 use Rattle.dmc_types.specs.declared.ids.ClientId.{ClientId}
 use Rattle.dmc_types.specs.declared.ids.ServerId.{ServerId}
 use Rattle.dmc_types.specs.declared.ids.Token.{Token}
@@ -29,13 +31,13 @@ use Rattle.dmc_text.specs.declared.line.LineKind.TheVariants as kinds
 use Rattle.dmc_text.specs.declared.event_line.EventLine.TheVariants as event_lines
 use Rattle.dmc_text.specs.Answers.{◌>>=◌}
 use Rattle.dmc_text.specs.Words.{words}
-use Rattle.dmc_text.specs.Lines.{kind, kind_of, line_of_kind, line_of, line_of_words, line_of_command, alone, heading, setting, figure, configured}
+use Rattle.dmc_text.specs.Lines.{kind, kind_of, line_of_kind, line_of, line_of_words, line_of_command, alone, heading, setting, figure, configured, is_reject, is_virtual}
 use Rattle.dmc_text.specs.Commands.{registering, updating, adding, pulling, dropping, cleaning, phrase, command, small, long, optional, moment, params, rates, is_rate}
 use Rattle.dmc_text.specs.Replies.{saying, reply_said, reply_words, reply_text, reply_of}
 use Rattle.dmc_text.specs.EventLines.{answer_words, event_words as words_of_event, event_said, event_line_of_kind, event_of, header_words as words_of_header, header_said, header_of}
 use Rattle.dmc_text.specs.RoundTrip.{AreWords, IsReadBack, IsAskedAgain, IsHeaderAgain}
 use Rattle.dmc_text.specs.internal.RoundTrip.{IsInfoAgain}
-use Rattle.dmc_text.specs.Written.{config_words, config_text, rate_word, command_words, command_text, event_words, event_text, header_words}
+use Rattle.dmc_text.specs.Written.{config_words, config_text, limit_words, shares_words, rate_word, command_words, command_text, event_words, event_text, header_words}
 use Rattle.dmc_text.proofs.TextLemmas.{words_joined, number_again}
 use Rattle.dmc_text.proofs.LineWords.{given, shorter, and_more, and_some, both_some, join_some, number_word, small_word, apart, decimal_means, is_line}
 
@@ -182,7 +184,7 @@ line_again c a =
 
 -- ---- the configuration
 
-setting_again : (c : Setting) → IsSetting c.hz c.idle_age c.erase_age → configured c.hz c.idle_age c.erase_age c.at_limit ≡ Ok c
+setting_again : (c : Setting) → IsSetting c.hz c.idle_age c.erase_age c.at_limit → configured c.hz c.idle_age c.erase_age c.at_limit c.shares ≡ Ok c
 unfolding configured
 setting_again c is =
     let a : ltb 0 c.hz ≡ true = grind (arith, nat_tests, is.some_hz) in
@@ -190,38 +192,95 @@ setting_again c is =
     let d : ltb 0 c.idle_age ≡ true = grind (arith, nat_tests, is.some_age) in
     let e : leb c.idle_age c.erase_age ≡ true = le-leb c.idle_age c.erase_age is.in_order in
     let f : leb c.erase_age max_moment ≡ true = le-leb c.erase_age max_moment is.age_limit in
-    rw (a, b, d, e, f) refl
+    let g : leb (threshold_of c.at_limit) max_moment ≡ true = le-leb (threshold_of c.at_limit) max_moment is.threshold_limit in
+    rw (a, b, d, e, f, g) refl
 
-config_kind : (hz idle erase : ℕ) (at_limit : AtLimit) → IsSetting hz idle erase
-    → kind false (config_words (record { hz = hz; idle_age = idle; erase_age = erase; at_limit = at_limit })) ≡ Ok (kinds.Config (record { hz = hz; idle_age = idle; erase_age = erase; at_limit = at_limit }))
+-- the first age is not the word `reject`
+not_reject : (age : ℕ) → age < 2 ^ 64 → is_reject (decimal age) ≡ false
+not_reject age small = apart (2 ^ 64) age (codes "reject") (is_reject (decimal age)) refl (omega (arith, small)) (omega (arith, small)) refl
+
+config_kind : (hz idle erase : ℕ) (at_limit : AtLimit) (shares : Shares) → IsSetting hz idle erase at_limit
+    → kind false (config_words (record { hz = hz; idle_age = idle; erase_age = erase; at_limit = at_limit; shares = shares })) ≡ Ok (kinds.Config (record { hz = hz; idle_age = idle; erase_age = erase; at_limit = at_limit; shares = shares }))
 unfolding heading setting
-config_kind hz idle erase Wait is =
+config_kind hz idle erase Wait Clock is =
+    let ages = not_reject idle (omega (arith, is.in_order, is.age_limit)) in
+    let other : is_virtual (decimal erase) ≡ false = apart (2 ^ 64) erase (codes "virtual") (is_virtual (decimal erase)) refl (omega (arith, is.age_limit)) (omega (arith, is.age_limit)) refl in
     rw (
+      ages,
+      other,
       figure_again hz (omega (arith, is.hz_limit)),
       figure_again idle (omega (arith, is.in_order, is.age_limit)),
       figure_again erase (omega (arith, is.age_limit)),
-      setting_again (record { hz = hz; idle_age = idle; erase_age = erase; at_limit = Wait }) is,
+      setting_again (record { hz = hz; idle_age = idle; erase_age = erase; at_limit = Wait; shares = Clock }) is,
     ) refl
-config_kind hz idle erase Allow is =
+config_kind hz idle erase Wait Virtual is =
+    let ages = not_reject idle (omega (arith, is.in_order, is.age_limit)) in
     rw (
+      ages,
       figure_again hz (omega (arith, is.hz_limit)),
       figure_again idle (omega (arith, is.in_order, is.age_limit)),
       figure_again erase (omega (arith, is.age_limit)),
-      setting_again (record { hz = hz; idle_age = idle; erase_age = erase; at_limit = Allow }) is,
+      setting_again (record { hz = hz; idle_age = idle; erase_age = erase; at_limit = Wait; shares = Virtual }) is,
+    ) refl
+config_kind hz idle erase Allow Clock is =
+    let ages = not_reject idle (omega (arith, is.in_order, is.age_limit)) in
+    rw (
+      ages,
+      figure_again hz (omega (arith, is.hz_limit)),
+      figure_again idle (omega (arith, is.in_order, is.age_limit)),
+      figure_again erase (omega (arith, is.age_limit)),
+      setting_again (record { hz = hz; idle_age = idle; erase_age = erase; at_limit = Allow; shares = Clock }) is,
+    ) refl
+config_kind hz idle erase Allow Virtual is =
+    let ages = not_reject idle (omega (arith, is.in_order, is.age_limit)) in
+    rw (
+      ages,
+      figure_again hz (omega (arith, is.hz_limit)),
+      figure_again idle (omega (arith, is.in_order, is.age_limit)),
+      figure_again erase (omega (arith, is.age_limit)),
+      setting_again (record { hz = hz; idle_age = idle; erase_age = erase; at_limit = Allow; shares = Virtual }) is,
+    ) refl
+config_kind hz idle erase (Reject threshold) Clock is =
+    let ages = not_reject idle (omega (arith, is.in_order, is.age_limit)) in
+    rw (
+      ages,
+      figure_again threshold (omega (arith, is.threshold_limit)),
+      figure_again hz (omega (arith, is.hz_limit)),
+      figure_again idle (omega (arith, is.in_order, is.age_limit)),
+      figure_again erase (omega (arith, is.age_limit)),
+      setting_again (record { hz = hz; idle_age = idle; erase_age = erase; at_limit = Reject threshold; shares = Clock }) is,
+    ) refl
+config_kind hz idle erase (Reject threshold) Virtual is =
+    let ages = not_reject idle (omega (arith, is.in_order, is.age_limit)) in
+    rw (
+      ages,
+      figure_again threshold (omega (arith, is.threshold_limit)),
+      figure_again hz (omega (arith, is.hz_limit)),
+      figure_again idle (omega (arith, is.in_order, is.age_limit)),
+      figure_again erase (omega (arith, is.age_limit)),
+      setting_again (record { hz = hz; idle_age = idle; erase_age = erase; at_limit = Reject threshold; shares = Virtual }) is,
     ) refl
 
-config_fits : (hz idle erase : ℕ) (at_limit : AtLimit) → IsSetting hz idle erase → AreWords max_line_bytes (config_words (record { hz = hz; idle_age = idle; erase_age = erase; at_limit = at_limit }))
-config_fits hz idle erase Wait is =
+config_fits : (hz idle erase : ℕ) (at_limit : AtLimit) (shares : Shares) → IsSetting hz idle erase at_limit → AreWords max_line_bytes (config_words (record { hz = hz; idle_age = idle; erase_age = erase; at_limit = at_limit; shares = shares }))
+config_fits hz idle erase at_limit shares is =
     let first = number_word 10 hz (omega arith) (omega (arith, is.hz_limit)) (omega (arith, is.hz_limit)) in
-    let ages = and_more 19 19 (moment_word idle (omega (arith, is.in_order, is.age_limit))) (moment_word erase is.age_limit) in
-    shorter 53 256 (and_more 2 50 (given 2 (codes "hz" ∷ []) refl refl refl) (and_more 10 39 first ages)) (omega arith)
-config_fits hz idle erase Allow is =
-    let first = number_word 10 hz (omega arith) (omega (arith, is.hz_limit)) (omega (arith, is.hz_limit)) in
-    let ages = and_more 19 25 (moment_word idle (omega (arith, is.in_order, is.age_limit))) (and_more 19 5 (moment_word erase is.age_limit) (given 5 (codes "allow" ∷ []) refl refl refl)) in
-    shorter 59 256 (and_more 2 56 (given 2 (codes "hz" ∷ []) refl refl refl) (and_more 10 45 first ages)) (omega arith)
+    let ages = and_more 19 54 (moment_word idle (omega (arith, is.in_order, is.age_limit))) (erase_fits at_limit shares is.threshold_limit) in
+    shorter 88 256 (and_more 2 85 (given 2 (codes "hz" ∷ []) refl refl refl) (and_more 10 74 first ages)) (omega arith)
+  where
+    last : AreWords 19 (decimal erase ∷ [])
+    last = moment_word erase is.age_limit
 
-pub config_again : (c : Setting) → IsSetting c.hz c.idle_age c.erase_age → kind_of false (config_text c) ≡ Ok (kinds.Config c)
-config_again c is = kind_by false (config_words c) (config_fits c.hz c.idle_age c.erase_age c.at_limit is) ∙ config_kind c.hz c.idle_age c.erase_age c.at_limit is
+    erase_fits : (at_limit : AtLimit) (shares : Shares) → threshold_of at_limit ≤ max_moment → AreWords 54 (decimal erase ∷ limit_words at_limit ++ shares_words shares)
+    erase_fits Wait Clock small = shorter 19 54 last (omega arith)
+    erase_fits Wait Virtual small = shorter 27 54 (and_more 19 7 last (given 7 (codes "virtual" ∷ []) refl refl refl)) (omega arith)
+    erase_fits Allow Clock small = shorter 25 54 (and_more 19 5 last (given 5 (codes "allow" ∷ []) refl refl refl)) (omega arith)
+    erase_fits Allow Virtual small = shorter 33 54 (and_more 19 13 last (given 13 (codes "allow" ∷ codes "virtual" ∷ []) refl refl refl)) (omega arith)
+    erase_fits (Reject threshold) Clock small = shorter 46 54 (and_more 19 26 last (and_more 6 19 (given 6 (codes "reject" ∷ []) refl refl refl) (moment_word threshold small))) (omega arith)
+    erase_fits (Reject threshold) Virtual small =
+        and_more 19 34 last (and_more 6 27 (given 6 (codes "reject" ∷ []) refl refl refl) (and_more 19 7 (moment_word threshold small) (given 7 (codes "virtual" ∷ []) refl refl refl)))
+
+pub config_again : (c : Setting) → IsSetting c.hz c.idle_age c.erase_age c.at_limit → kind_of false (config_text c) ≡ Ok (kinds.Config c)
+config_again c is = kind_by false (config_words c) (config_fits c.hz c.idle_age c.erase_age c.at_limit c.shares is) ∙ config_kind c.hz c.idle_age c.erase_age c.at_limit c.shares is
 
 -- ---- headers
 

@@ -1,17 +1,19 @@
 -- The lines of a script.
-use Rattle.std.specs.Prelude.{ℕ, ◌^◌, ◌==◌, Bool, false, ◌&&◌, List, [], ◌∷◌, length, Option, Some, None, Result, Ok, Err, nat_lt, nat_le, if◌then◌else◌, codes}
+use Rattle.std.specs.Prelude.{ℕ, ◌^◌, ◌==◌, Bool, false, not, ◌&&◌, List, [], ◌∷◌, length, Option, Some, None, Result, Ok, Err, nat_lt, nat_le, if◌then◌else◌, codes}
 use Rattle.std.specs.List.{list_all}
 use Rattle.std.specs.Option.{ok_or}
 use Rattle.dmc_types.specs.Limits.{max_hz, max_moment, max_line_bytes}
 use Rattle.std.specs.Str.{bytes_eq}
 use Rattle.dmc_types.specs.declared.config.AtLimit.{AtLimit}
-use Rattle.dmc_types.specs.declared.config.AtLimit.TheVariants.{Wait, Allow}
+use Rattle.dmc_types.specs.declared.config.AtLimit.TheVariants.{Wait, Allow, Reject}
+use Rattle.dmc_types.specs.declared.config.Shares.{Shares}
+use Rattle.dmc_types.specs.declared.config.Shares.TheVariants.{Clock, Virtual}
 use Rattle.dmc_text.specs.declared.cause.LineCause.{LineCause}
 use Rattle.dmc_text.specs.declared.cause.LineCause.TheVariants.{Bytes, Hz, Words, Number}
 use Rattle.dmc_text.specs.declared.command.CommandFault.{CommandFault}
 use Rattle.dmc_text.specs.declared.command.CommandFault.TheVariants as unread
 use Rattle.dmc_types.specs.declared.command.Command.{Command}
-use Rattle.dmc_types.specs.Values.{Setting}
+use Rattle.dmc_types.specs.Values.{Setting, threshold_of}
 use Rattle.dmc_text.specs.declared.line.LineKind.{LineKind}
 use Rattle.dmc_text.specs.declared.line.LineKind.TheVariants as kinds
 use Rattle.dmc_text.specs.declared.line.Line.{Line}
@@ -37,25 +39,52 @@ pub record Heading : Type 0 where
   pub hz : List ℕ
   pub ages : Option (List ℕ × List ℕ)
   pub at_limit : AtLimit
+  pub shares : Shares
 
--- the last words of an hz line: nothing, or `allow`
-abbrev pub limit_of : List (List ℕ) → Result AtLimit LineCause
-limit_of [] = Ok Wait
-limit_of (last ∷ []) = if bytes_eq last (codes "allow") then Ok Allow else Err Words
-limit_of (a ∷ b ∷ ws) = Err Words
+abbrev pub is_virtual : List ℕ → Bool
+is_virtual word = bytes_eq word (codes "virtual")
 
-abbrev pub with_limit : List ℕ → Option (List ℕ × List ℕ) → List (List ℕ) → Result Heading LineCause
-with_limit hz ages last = limit_of last >>= λ at_limit. Ok (record { hz = hz; ages = ages; at_limit = at_limit })
-
--- the words after `hz`: H or H IDLE ERASE, and `allow` or nothing
-unfoldable pub heading : List (List ℕ) → Result Heading LineCause
-heading [] = Err Words
-heading (h ∷ []) = with_limit h None []
-heading (h ∷ last ∷ []) = with_limit h None (last ∷ [])
-heading (h ∷ idle ∷ erase ∷ last) = with_limit h (Some (idle, erase)) last
+-- the last word of an hz line: nothing, or `virtual`
+abbrev pub shares_of : List (List ℕ) → Result Shares LineCause
+shares_of [] = Ok Clock
+shares_of (last ∷ []) = if is_virtual last then Ok Virtual else Err Words
+shares_of (a ∷ b ∷ ws) = Err Words
 
 unfoldable pub figure : List ℕ → Result ℕ LineCause
 figure word = ok_or (number (2 ^ 64) word) Number
+
+abbrev pub is_reject : List ℕ → Bool
+is_reject word = bytes_eq word (codes "reject")
+
+-- the words behind `reject`: the threshold, and the last word
+abbrev pub rejecting : List (List ℕ) → Result (AtLimit × Shares) LineCause
+rejecting [] = Err Words
+rejecting (n ∷ ws) = do
+  shares ← shares_of ws
+  threshold ← figure n
+  Ok (Reject threshold, shares)
+
+-- the last words of an hz line: `allow`, `reject N` or neither, and `virtual` or not
+abbrev pub modes_of : List (List ℕ) → Result (AtLimit × Shares) LineCause
+modes_of [] = Ok (Wait, Clock)
+modes_of (w ∷ ws) =
+    if bytes_eq w (codes "allow") then shares_of ws >>= (λ shares. Ok (Allow, shares))
+    else (if is_reject w then rejecting ws else shares_of (w ∷ ws) >>= (λ shares. Ok (Wait, shares)))
+
+abbrev pub with_modes : List ℕ → Option (List ℕ × List ℕ) → List (List ℕ) → Result Heading LineCause
+with_modes hz ages last = modes_of last >>= λ modes. Ok (record { hz = hz; ages = ages; at_limit = modes.0; shares = modes.1 })
+
+-- whether two words behind H are the ages: the first is not `reject`, and the second is not the last word and `virtual`
+abbrev pub are_ages : List ℕ → List ℕ → List (List ℕ) → Bool
+are_ages a b [] = not (is_reject a) && not (is_virtual b)
+are_ages a b (w ∷ ws) = not (is_reject a)
+
+-- the words after `hz`: H or H IDLE ERASE, and then the modes
+unfoldable pub heading : List (List ℕ) → Result Heading LineCause
+heading [] = Err Words
+heading (h ∷ []) = with_modes h None []
+heading (h ∷ last ∷ []) = with_modes h None (last ∷ [])
+heading (h ∷ a ∷ b ∷ ws) = if are_ages a b ws then with_modes h (Some (a, b)) ws else with_modes h None (a ∷ b ∷ ws)
 
 -- the ages that are given, or otherwise the greatest
 abbrev pub ages_of : Option (List ℕ × List ℕ) → Result (ℕ × ℕ) LineCause
@@ -66,17 +95,17 @@ ages_of (Some words) = do
   Ok (idle, erase)
 
 -- a configuration within its limits
-unfoldable pub configured : ℕ → ℕ → ℕ → AtLimit → Result Setting LineCause
-configured hz idle erase at_limit =
-    if nat_lt 0 hz && nat_le hz max_hz && nat_lt 0 idle && nat_le idle erase && nat_le erase max_moment
-    then Ok (record { hz = hz; idle_age = idle; erase_age = erase; at_limit = at_limit })
+unfoldable pub configured : ℕ → ℕ → ℕ → AtLimit → Shares → Result Setting LineCause
+configured hz idle erase at_limit shares =
+    if nat_lt 0 hz && nat_le hz max_hz && nat_lt 0 idle && nat_le idle erase && nat_le erase max_moment && nat_le (threshold_of at_limit) max_moment
+    then Ok (record { hz = hz; idle_age = idle; erase_age = erase; at_limit = at_limit; shares = shares })
     else Err Hz
 
 unfoldable pub setting : Heading → Result Setting LineCause
 setting h = do
   hz ← figure h.hz
   ages ← ages_of h.ages
-  configured hz ages.0 ages.1 h.at_limit
+  configured hz ages.0 ages.1 h.at_limit h.shares
 
 -- ---- commands
 

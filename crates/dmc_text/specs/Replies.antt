@@ -9,7 +9,7 @@ use Rattle.dmc_types.specs.declared.config.PhaseType.TheVariants as phases
 use Rattle.dmc_types.specs.declared.refusal.Field.{Field}
 use Rattle.dmc_types.specs.declared.refusal.Field.TheVariants as fields
 use Rattle.dmc_types.specs.declared.refusal.Refusal.{Refusal}
-use Rattle.dmc_types.specs.declared.refusal.Refusal.TheVariants.{Known, Unknown, Inexact, Clients, QueueFull, Range, Busy}
+use Rattle.dmc_types.specs.declared.refusal.Refusal.TheVariants.{Known, Unknown, Inexact, Clients, QueueFull, Range, Busy, OverLimit}
 use Rattle.dmc_tag.specs.declared.reply.Reply.{Reply}
 use Rattle.dmc_tag.specs.declared.reply.Reply.TheVariants.{Registered, Updated, Tagged, Granted, Later, Nothing, Removed, Cleaned, Refused}
 use Rattle.dmc_text.specs.declared.cause.LineCause.{LineCause}
@@ -37,6 +37,7 @@ refusal_words Clients = codes "clients" ∷ []
 refusal_words QueueFull = codes "full" ∷ []
 refusal_words Range = codes "range" ∷ []
 refusal_words Busy = codes "busy" ∷ []
+refusal_words OverLimit = codes "over" ∷ codes "limit" ∷ []
 
 -- no grant by reservation is beyond its limit
 abbrev pub grant_words : PhaseType → Bool → List (List ℕ)
@@ -161,7 +162,9 @@ plain_refusal w =
 abbrev pub refusal_of : List (List ℕ) → Result Refusal LineCause
 refusal_of [] = Err Words
 refusal_of (w ∷ []) = plain_refusal w
-refusal_of (w ∷ f ∷ []) = if bytes_eq w (codes "inexact") then (field_of f >>= λ x. Ok (Inexact x)) else Err Words
+refusal_of (w ∷ f ∷ []) =
+    if bytes_eq w (codes "inexact") then (field_of f >>= λ x. Ok (Inexact x))
+    else (if bytes_eq w (codes "over") && bytes_eq f (codes "limit") then Ok OverLimit else Err Words)
 refusal_of (w ∷ f ∷ x ∷ ws) = Err Words
 
 abbrev pub saying_of : ReplyName → List (List ℕ) → Result Saying LineCause

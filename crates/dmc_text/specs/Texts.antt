@@ -79,7 +79,7 @@ with_line_end line = line ++ 10 ∷ []
 abbrev pub written : {T : Type 0} → Tagging T → (T → List ℕ) → Option (State T) → List Line → List ℕ
 written ops text s [] = []
 written ops text s (Skip ∷ lines) = written ops text s lines
-written ops text s (Config config ∷ lines) = written ops text (Some (opening config)) lines
+written ops text s (Config config ∷ lines) = written ops text (Some (opening ops config)) lines
 written ops text s (Value fault ∷ lines) = with_line_end (value_text fault) ++ written ops text s lines
 written ops text None (Ask command ∷ lines) = written ops text None lines
 written ops text (Some s) (Ask command ∷ lines) = with_line_end (reply_text text ((step ops s command).1)) ++ written ops text (Some ((step ops s command).0)) lines

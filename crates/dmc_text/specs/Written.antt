@@ -4,7 +4,9 @@ use Rattle.std.specs.List.{join_with_byte}
 use Rattle.std.specs.Fmt.{decimal}
 use Rattle.dmc_types.specs.Values.{Rates, Setting}
 use Rattle.dmc_types.specs.declared.config.AtLimit.{AtLimit}
-use Rattle.dmc_types.specs.declared.config.AtLimit.TheVariants.{Wait, Allow}
+use Rattle.dmc_types.specs.declared.config.AtLimit.TheVariants.{Wait, Allow, Reject}
+use Rattle.dmc_types.specs.declared.config.Shares.{Shares}
+use Rattle.dmc_types.specs.declared.config.Shares.TheVariants.{Clock, Virtual}
 use Rattle.dmc_types.specs.declared.ids.ClientId.{ClientId}
 use Rattle.dmc_types.specs.declared.command.Command.{Command}
 use Rattle.dmc_types.specs.declared.command.Command.TheVariants.{Register, Update, Add, Pull, Remove, Clean}
@@ -13,14 +15,20 @@ use Rattle.dmc_text.specs.Replies.{reply_words}
 
 -- ---- the configuration
 
--- `allow` if a pull grants beyond limits
+-- `allow` if a pull grants beyond limits, `reject` and the threshold if adds are refused at the limit
 abbrev pub limit_words : AtLimit → List (List ℕ)
 limit_words Wait = []
 limit_words Allow = codes "allow" ∷ []
+limit_words (Reject threshold) = codes "reject" ∷ decimal threshold ∷ []
+
+-- `virtual` if shares are in virtual time
+abbrev pub shares_words : Shares → List (List ℕ)
+shares_words Clock = []
+shares_words Virtual = codes "virtual" ∷ []
 
 -- both ages are always written
 abbrev pub config_words : Setting → List (List ℕ)
-config_words c = codes "hz" ∷ decimal c.hz ∷ decimal c.idle_age ∷ decimal c.erase_age ∷ limit_words c.at_limit
+config_words c = codes "hz" ∷ decimal c.hz ∷ decimal c.idle_age ∷ decimal c.erase_age ∷ limit_words c.at_limit ++ shares_words c.shares
 
 abbrev pub config_text : Setting → List ℕ
 config_text c = join_with_byte 32 (config_words c)

@@ -1,6 +1,8 @@
 //! Worked examples on the definitions: each contract holds by computation.
 ghost use Rattle.std.specs.Prelude.{◌≡◌, ◌∷◌, [], true, false, codes, pos, negsuc, Some, None, Ok, Err};
-ghost use Rattle.dmc_types.specs.declared.config.AtLimit.TheVariants.{Allow};
+ghost use Rattle.dmc_types.specs.Limits.{max_moment};
+ghost use Rattle.dmc_types.specs.declared.config.AtLimit.TheVariants.{Wait, Allow, Reject};
+ghost use Rattle.dmc_types.specs.declared.config.Shares.TheVariants.{Clock, Virtual};
 ghost use Rattle.dmc_types.specs.declared.config.PhaseType.TheVariants.{Priority};
 ghost use Rattle.dmc_types.specs.declared.refusal.ValueFault.TheVariants as faults;
 ghost use Rattle.dmc_types.specs.declared.command.Command.TheVariants.{Pull, Register, Remove};
@@ -55,7 +57,19 @@ pub fn lines_of_a_script()
     ensures rate { line_of true (codes "client 2 0 1 - 0") ≡ Ok (Value faults.Rate) }
     ensures pull { line_of true (codes "pull 50") ≡ Ok (Ask (Pull 50)) }
     ensures dropped { line_of true (codes "drop 7") ≡ Ok (Ask (Remove (record { 0 = 7 }))) }
-    ensures allow { line_of false (codes "hz 1000 1 2 allow") ≡ Ok (Config (record { hz = 1000; idle_age = 1; erase_age = 2; at_limit = Allow })) }
+    ensures allow { line_of false (codes "hz 1000 1 2 allow") ≡ Ok (Config (record { hz = 1000; idle_age = 1; erase_age = 2; at_limit = Allow; shares = Clock })) }
+    ensures virtual_time { line_of false (codes "hz 1000 1 2 virtual") ≡ Ok (Config (record { hz = 1000; idle_age = 1; erase_age = 2; at_limit = Wait; shares = Virtual })) }
+    ensures both { line_of false (codes "hz 1000 1 2 allow virtual") ≡ Ok (Config (record { hz = 1000; idle_age = 1; erase_age = 2; at_limit = Allow; shares = Virtual })) }
+    ensures no_ages { line_of false (codes "hz 1000 allow virtual") ≡ Ok (Config (record { hz = 1000; idle_age = max_moment; erase_age = max_moment; at_limit = Allow; shares = Virtual })) }
+    ensures no_limit { line_of false (codes "hz 1000 virtual") ≡ Ok (Config (record { hz = 1000; idle_age = max_moment; erase_age = max_moment; at_limit = Wait; shares = Virtual })) }
+    ensures virtual_first { line_of false (codes "hz 1000 virtual allow") ≡ Err causes.Number }
+    ensures one_age { line_of false (codes "hz 1000 5 virtual") ≡ Err causes.Words }
+    ensures one_age_allow { line_of false (codes "hz 1000 5 allow") ≡ Err causes.Number }
+    ensures reject { line_of false (codes "hz 1000 1 2 reject 50") ≡ Ok (Config (record { hz = 1000; idle_age = 1; erase_age = 2; at_limit = Reject 50; shares = Clock })) }
+    ensures reject_no_ages { line_of false (codes "hz 1000 reject 50 virtual") ≡ Ok (Config (record { hz = 1000; idle_age = max_moment; erase_age = max_moment; at_limit = Reject 50; shares = Virtual })) }
+    ensures reject_nothing { line_of false (codes "hz 1000 reject") ≡ Err causes.Words }
+    ensures reject_no_number { line_of false (codes "hz 1000 reject -1") ≡ Err causes.Number }
+    ensures reject_past_limit { line_of false (codes "hz 1000 reject 4611686018427387905") ≡ Err causes.Hz }
 {}
 
 /// The text of each kind of reply is its words, separated by one space each.
@@ -68,7 +82,8 @@ pub fn texts_of_replies()
 
 /// The text of each kind of line is its words, separated by one space each.
 pub fn texts_of_lines()
-    ensures config { config_text (record { hz = 1000; idle_age = 1; erase_age = 2; at_limit = Allow }) ≡ codes "hz 1000 1 2 allow" }
+    ensures config { config_text (record { hz = 1000; idle_age = 1; erase_age = 2; at_limit = Allow; shares = Clock }) ≡ codes "hz 1000 1 2 allow" }
+    ensures virtual_time { config_text (record { hz = 1000; idle_age = 1; erase_age = 2; at_limit = Allow; shares = Virtual }) ≡ codes "hz 1000 1 2 allow virtual" }
     ensures register { command_text (Register (record { 0 = 7 }) (record { reservation = Some 10; weight = 2; limit = None }) 5) ≡ codes "client 7 10 2 - 5" }
     ensures event { event_text in_ticks (record { worker = record { 0 = 3 }; command = Pull 5; reply = Later 50 }) ≡ codes "3 pull 5 = future 50" }
     ensures header { header_text 3 12 ≡ codes "# server 3 first 12" }

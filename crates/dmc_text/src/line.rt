@@ -4,7 +4,7 @@ ghost use Rattle.std.specs.List.{list_all};
 ghost use Rattle.dmc_text.specs.Words.{words};
 ghost use Rattle.dmc_text.specs.Commands.{command, seen};
 ghost use Rattle.dmc_text.specs.Answers.{Gives};
-ghost use Rattle.dmc_text.specs.Lines.{is_line_byte, limit_of, is_clean, heading, figure, ages_of, configured, setting, line_of_command, line_of_words, is_comment, kind_of, line_of};
+ghost use Rattle.dmc_text.specs.Lines.{are_ages, is_line_byte, modes_of, rejecting, shares_of, with_modes, is_clean, heading, figure, ages_of, configured, setting, line_of_command, line_of_words, is_comment, kind_of, line_of};
 ghost use Rattle.dmc_text.specs.internal.Lines.{seen_ages, seen_heading};
 
 use crate::cause::LineCause;
@@ -12,7 +12,7 @@ use crate::command::{CommandFault, CommandWords, command_words, next_word, read_
 use crate::number::read_u64;
 use crate::word::{first_word, spells};
 use dmc_types::command::Command;
-use dmc_types::config::{AtLimit, QueueConfig};
+use dmc_types::config::{AtLimit, QueueConfig, Shares};
 use dmc_types::limits::MAX_AGE;
 use dmc_types::refusal::ValueFault;
 
@@ -49,6 +49,7 @@ struct ConfigWords<'a> {
     hz: &'a [u8],
     ages: Option<(&'a [u8], &'a [u8])>,
     at_limit: AtLimit,
+    shares: Shares,
 }
 
 /// Whether a line may have this byte.
@@ -95,10 +96,14 @@ fn configured(
     idle_age: u64,
     erase_age: u64,
     at_limit: AtLimit,
+    shares: Shares,
 ) -> Result<QueueConfig, LineCause>
-    ensures { result ≡ configured hz idle_age erase_age at_limit }
+    ensures { result ≡ configured hz idle_age erase_age at_limit shares }
 {
-    QueueConfig::new(hz, idle_age, erase_age, at_limit).map_err(|_| LineCause::Hz)
+    match QueueConfig::new(hz, idle_age, erase_age, at_limit) {
+        Ok(config) => Ok(config.with_shares(shares)),
+        Err(_) => Err(LineCause::Hz),
+    }
 }
 
 /// The line of a command's words.
@@ -124,17 +129,70 @@ fn parse_command(line: &[u8]) -> Result<Line, LineCause>
     to_line(command)
 }
 
-/// Whether an `hz` line ends with `allow`, which is then its last part alone.
-fn at_limit(text: &[u8]) -> Result<AtLimit, LineCause>
-    ensures { result ≡ limit_of (words text.now) }
+/// Whether an `hz` line ends with `virtual`, which is then all that is left of it.
+fn shares(text: &[u8]) -> Result<Shares, LineCause>
+    ensures { result ≡ shares_of (words text.now) }
 {
     let Some((last, rest)) = first_word(text) else {
-        return Ok(AtLimit::Wait);
+        return Ok(Shares::Clock);
     };
-    if !spells(last, b"allow") || first_word(rest).is_some() {
+    if !spells(last, b"virtual") || first_word(rest).is_some() {
         return Err(LineCause::Words);
     }
-    Ok(AtLimit::Allow)
+    Ok(Shares::Virtual)
+}
+
+/// The last words of an `hz` line: what is done at the limit, and in which time shares are compared.
+fn modes(text: &[u8]) -> Result<(AtLimit, Shares), LineCause>
+    ensures { result ≡ modes_of (words text.now) }
+{
+    let Some((word, rest)) = first_word(text) else {
+        return Ok((AtLimit::Wait, Shares::Clock));
+    };
+    if spells(word, b"allow") {
+        return Ok((AtLimit::Allow, shares(rest)?));
+    }
+    if spells(word, b"reject") {
+        return rejecting(rest);
+    }
+    Ok((AtLimit::Wait, shares(text)?))
+}
+
+/// The words behind `reject`: the threshold, and in which time shares are compared.
+fn rejecting(text: &[u8]) -> Result<(AtLimit, Shares), LineCause>
+    ensures { result ≡ rejecting (words text.now) }
+{
+    let (threshold, rest) = next_word(text)?;
+    let shares = shares(rest)?;
+    let threshold = figure(threshold)?;
+    Ok((AtLimit::Reject { threshold }, shares))
+}
+
+/// The words of an `hz` line without its modes, and the modes in the text behind them.
+fn with_modes<'a>(
+    hz: &'a [u8],
+    ages: Option<(&'a [u8], &'a [u8])>,
+    text: &[u8],
+) -> Result<ConfigWords<'a>, LineCause>
+    ensures { Gives seen_heading result (with_modes hz.now (seen_ages ages.entry) (words text.now)) }
+{
+    let (at_limit, shares) = modes(text)?;
+    Ok(ConfigWords {
+        hz,
+        ages,
+        at_limit,
+        shares,
+    })
+}
+
+/// Whether two words are the ages: the first is not `reject`, and the second is not the last word and `virtual`.
+fn are_ages(first: &[u8], second: &[u8], behind: &[u8]) -> bool
+    ensures { result ≡ are_ages first.now second.now (words behind.now) }
+{
+    if spells(first, b"reject") {
+        return false;
+    }
+    first_word(behind).is_some() || !spells(second, b"virtual")
 }
 
 /// The words after `hz`.
@@ -144,24 +202,15 @@ fn config_words(text: &[u8]) -> Result<ConfigWords<'_>, LineCause>
 {
     let (hz, rest) = next_word(text)?;
     let Some((idle, behind)) = first_word(rest) else {
-        return Ok(ConfigWords {
-            hz,
-            ages: None,
-            at_limit: AtLimit::Wait,
-        });
+        return with_modes(hz, None, rest);
     };
     let Some((erase, behind)) = first_word(behind) else {
-        return Ok(ConfigWords {
-            hz,
-            ages: None,
-            at_limit: at_limit(rest)?,
-        });
+        return with_modes(hz, None, rest);
     };
-    Ok(ConfigWords {
-        hz,
-        ages: Some((idle, erase)),
-        at_limit: at_limit(behind)?,
-    })
+    if !are_ages(idle, erase, behind) {
+        return with_modes(hz, None, rest);
+    }
+    with_modes(hz, Some((idle, erase)), behind)
 }
 
 /// The ages that are given, or otherwise the greatest.
@@ -181,7 +230,7 @@ fn read_config(words: ConfigWords<'_>) -> Result<QueueConfig, LineCause>
 {
     let hz = figure(words.hz)?;
     let (idle_age, erase_age) = ages_of(words.ages)?;
-    configured(hz, idle_age, erase_age, words.at_limit)
+    configured(hz, idle_age, erase_age, words.at_limit, words.shares)
 }
 
 /// The kind of a line, without its LF. `has_config`: an `hz` line was read before.

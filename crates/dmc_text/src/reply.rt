@@ -217,13 +217,19 @@ fn plain_refusal(word: &[u8]) -> Result<Refusal, LineCause>
 }
 
 /// The refusal that two words and the rest name.
-fn inexact(word: &[u8], field: &[u8], text: &[u8]) -> Result<Refusal, LineCause>
-    ensures { result ≡ refusal_of (word.now ∷ field.now ∷ words text.now) }
+fn refusal_of_two(word: &[u8], second: &[u8], text: &[u8]) -> Result<Refusal, LineCause>
+    ensures { result ≡ refusal_of (word.now ∷ second.now ∷ words text.now) }
 {
-    if !spells(word, b"inexact") || first_word(text).is_some() {
+    if first_word(text).is_some() {
         return Err(LineCause::Words);
     }
-    Ok(Refusal::Inexact(field_of(field)?))
+    if spells(word, b"inexact") {
+        return Ok(Refusal::Inexact(field_of(second)?));
+    }
+    if spells(word, b"over") && spells(second, b"limit") {
+        return Ok(Refusal::OverLimit);
+    }
+    Err(LineCause::Words)
 }
 
 /// The refusal that the words after `refused` name.
@@ -233,7 +239,7 @@ fn refusal_of(text: &[u8]) -> Result<Refusal, LineCause>
     let (word, rest) = next_word(text)?;
     match first_word(rest) {
         None => plain_refusal(word),
-        Some((field, rest)) => inexact(word, field, rest),
+        Some((second, rest)) => refusal_of_two(word, second, rest),
     }
 }
 

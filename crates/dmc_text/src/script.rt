@@ -36,7 +36,7 @@ pub trait QueueMaker<T: Tag> {
 
     /// A queue in the opening state of a configuration.
     fn make(&mut self, config: QueueConfig) -> Self::Queue
-        ensures { Self.Queue.state result ≡ opening config };
+        ensures { Self.Queue.state result ≡ opening T.ops config };
 }
 
 /// The text of a refused value.

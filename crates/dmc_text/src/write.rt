@@ -45,6 +45,7 @@ fn refusal_text(refusal: Refusal) -> &'static [u8]
         Refusal::QueueFull => b"refused full",
         Refusal::Range => b"refused range",
         Refusal::Busy => b"refused busy",
+        Refusal::OverLimit => b"refused over limit",
     }
 }
 

@@ -19,7 +19,7 @@ use crate::tag::TagText;
 use crate::write::write_reply;
 use dmc_tag::event::Event;
 use dmc_types::command::Command;
-use dmc_types::config::{AtLimit, QueueConfig};
+use dmc_types::config::{AtLimit, QueueConfig, Shares};
 use dmc_types::ids::{ClientId, ServerId, Token, WorkerId};
 use dmc_types::info::ClientInfo;
 use dmc_types::moment::Moment;
@@ -35,9 +35,19 @@ pub fn write_config<W: io::Write>(config: QueueConfig, out: &mut W) -> io::Resul
     let hz = config.hz();
     let idle = config.idle_age();
     let erase = config.erase_age();
-    match config.at_limit() {
-        AtLimit::Wait => write!(out, "hz {hz} {idle} {erase}\n"),
-        AtLimit::Allow => write!(out, "hz {hz} {idle} {erase} allow\n"),
+    match (config.at_limit(), config.shares()) {
+        (AtLimit::Wait, Shares::Clock) => write!(out, "hz {hz} {idle} {erase}\n"),
+        (AtLimit::Wait, Shares::Virtual) => write!(out, "hz {hz} {idle} {erase} virtual\n"),
+        (AtLimit::Allow, Shares::Clock) => write!(out, "hz {hz} {idle} {erase} allow\n"),
+        (AtLimit::Allow, Shares::Virtual) => {
+            write!(out, "hz {hz} {idle} {erase} allow virtual\n")
+        }
+        (AtLimit::Reject { threshold }, Shares::Clock) => {
+            write!(out, "hz {hz} {idle} {erase} reject {threshold}\n")
+        }
+        (AtLimit::Reject { threshold }, Shares::Virtual) => {
+            write!(out, "hz {hz} {idle} {erase} reject {threshold} virtual\n")
+        }
     }
 }
 

@@ -10,4 +10,4 @@ abbrev pub seen_ages : Option (Bor (List ℕ) × Bor (List ℕ)) → Option (Lis
 seen_ages ages = option_map (λ x. (x.0.now, x.1.now)) ages
 
 abbrev pub seen_heading : ConfigWords → Heading
-seen_heading c = record { hz = c.hz.now; ages = seen_ages c.ages; at_limit = c.at_limit }
+seen_heading c = record { hz = c.hz.now; ages = seen_ages c.ages; at_limit = c.at_limit; shares = c.shares }

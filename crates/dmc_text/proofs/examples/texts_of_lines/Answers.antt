@@ -18,3 +18,7 @@ returns-clause-event c = refl
 pub returns-clause-header : goal.returns-clause-header
 unfolding digits
 returns-clause-header c = refl
+
+pub returns-clause-virtual_time : goal.returns-clause-virtual_time
+unfolding digits
+returns-clause-virtual_time c = refl

@@ -24,12 +24,15 @@ def c_type(rust, handle):
     if rust.startswith("&mut "):
         inner = rust[len("&mut "):]
         return ("struct " + handle if inner == "Handle" else c_type(inner, handle)) + " *"
+    if rust.startswith("&"):
+        return "const " + c_type(rust[1:], handle) + " *"
     return "struct " + snake(rust)
 
 
 def structs():
-    """The fields of each struct that C reads, and of the two that it holds."""
-    for name, body in re.findall(r"#\[repr\(C\)\]\s*(?:#\[.*\]\s*)?pub struct (\w+) \{\n(.*?)\n\}", read("outputs.rt"), re.S):
+    """The fields of each struct that C writes or reads, and of the two that it holds."""
+    sources = read("reading.rt") + read("outputs.rt")
+    for name, body in re.findall(r"#\[repr\(C\)\]\s*(?:#\[.*\]\s*)?pub struct (\w+) \{\n(.*?)\n\}", sources, re.S):
         yield snake(name), re.findall(r"pub (\w+): ([^,]+),", body)
     body = re.search(r"pub struct Handle \{\n(.*?)\n\}", read("handle.rt"), re.S).group(1)
     fields = re.findall(r"^    (\w+): ([^,]+),", body, re.M)
@@ -56,6 +59,11 @@ def codes():
         yield "DMC_" + word, int(number)
 
 
+def constant(file, name):
+    """The text of a constant of dmc_types."""
+    return re.search(rf"{name} = ([^;]+);", (SRC.parent.parent / "dmc_types" / "src" / file).read_text()).group(1)
+
+
 def main():
     header = (Path(__file__).resolve().parent / "dmclock.h").read_text()
     print('#include "dmclock.h"\n#include <stddef.h>')
@@ -77,8 +85,8 @@ def main():
         sys.exit(f"exports differ: {sorted(declared ^ found)}")
     if told != given:
         sys.exit(f"codes differ: {sorted(set(told.items()) ^ set(given.items()))}")
-    fine = re.search(r"FINE_HZ: u32 = ([\d_]+);", (SRC.parent.parent / "dmc_types" / "src" / "rates.rt").read_text()).group(1)
-    given["DMC_FINE_HZ"] = fine.replace("_", "")
+    given["DMC_FINE_HZ"] = constant("rates.rt", "FINE_HZ: u32").replace("_", "")
+    given["DMC_MAX_AGE"] = constant("limits.rt", "MAX_MOMENT: u64").replace("1 <<", "UINT64_C(1) <<")
     major, minor, patch = map(int, (SRC.parent.parent.parent / "VERSION").read_text().split("."))
     given["DMC_VERSION"] = str(major * 10000 + minor * 100 + patch)
     for name, number in given.items():

@@ -23,8 +23,8 @@
 extern "C" {
 #endif
 
-/* The version of this header, 0.1.0: major * 10000 + minor * 100 + patch. dmc_version() returns that of the library. */
-#define DMC_VERSION 100
+/* The version of this header, 0.2.0: major * 10000 + minor * 100 + patch. dmc_version() returns that of the library. */
+#define DMC_VERSION 200
 uint32_t dmc_version(void);
 
 /* What is held: set by `new` and ended by `free`. */
@@ -65,13 +65,18 @@ enum dmc_code {
   DMC_QUEUE_FULL = 26, /* 2^20 requests are queued */
   DMC_RANGE = 27,      /* a sum that the call needs is no value of the tags */
   DMC_BUSY = 28,       /* an update gives or takes a reservation while the client has a queued request */
+  DMC_OVER_LIMIT = 29, /* with DMC_REJECT: the request would wait for its client's limit longer than the threshold */
 
   DMC_NO_SERVER = 30, /* the tracker has no such server */
   DMC_TRACK_FULL = 31 /* a count of the tracker would pass its `most`, or a stamp's delta 2^32-1 */
 };
 
 enum dmc_tag_kind { DMC_TICK = 0, DMC_RATIO = 1 };  /* whole ticks: rates divide hz; fractions: any rate */
-enum dmc_at_limit { DMC_WAIT = 0, DMC_ALLOW = 1 };  /* at the limit a pull returns when one is due; or grants beyond it */
+/* at the limit a pull returns when one is due; or grants beyond it; or an add is refused that would wait too long */
+enum dmc_at_limit { DMC_WAIT = 0, DMC_ALLOW = 1, DMC_REJECT = 2 };
+/* shares are compared by the clock, as mClock does; or in the time of the service, in which what a client got before others came is
+   neither a credit nor a debt */
+enum dmc_shares   { DMC_CLOCK = 0, DMC_VIRTUAL = 1 };
 enum dmc_counting { DMC_ALL = 0, DMC_OTHERS = 1 };  /* a stamp counts the completions at all servers, or at the others */
 enum dmc_phase    { DMC_RESERVATION = 0, DMC_PRIORITY = 1 };
 enum dmc_kind     { DMC_GRANTED = 0, DMC_FUTURE = 1, DMC_NOTHING = 2 };
@@ -85,9 +90,31 @@ struct dmc_stamp  { uint32_t delta, rho; };
 /* of a server: what its next stamp would count, and what was sent to it; of all: completions, and those by reservation */
 struct dmc_track  { uint64_t pending_delta, pending_rho, sent_delta, sent_rho, completions, reservation; };
 
-/* An empty queue: hz 1 to 1,000,000,000, ages 1 to 2^62, idle_age at most erase_age. DMC_HELD, DMC_BAD_CONFIG, DMC_MEMORY. */
-uint32_t dmc_queue_new(struct dmc_queue *, uint32_t tag_kind, uint64_t hz, uint64_t idle_age, uint64_t erase_age,
-                       uint32_t at_limit);
+/* The configuration of a queue. It starts as DMC_CONFIG(hz), and the caller changes what is to be otherwise. */
+struct dmc_config {
+  uint64_t hz;        /* ticks a second: 1 to 1,000,000,000 */
+  uint64_t idle_age;  /* after this many ticks without a request dmc_queue_clean marks a client idle: 1 to DMC_MAX_AGE */
+  uint64_t erase_age; /* and erases it: idle_age to DMC_MAX_AGE */
+  uint64_t threshold; /* with DMC_REJECT how long a request may wait for its limit, in ticks: 0 to DMC_MAX_AGE; otherwise 0 */
+  uint32_t tag_kind;  /* enum dmc_tag_kind */
+  uint32_t at_limit;  /* enum dmc_at_limit */
+  uint32_t shares;    /* enum dmc_shares */
+};
+
+/* The greatest age, 2^62 ticks, which no client reaches. */
+#define DMC_MAX_AGE (UINT64_C(1) << 62)
+
+/* The defaults: no client becomes idle or is erased, tags are whole ticks, a client at its limit waits, shares are by the clock. */
+#define DMC_CONFIG(hz) { (hz), DMC_MAX_AGE, DMC_MAX_AGE, 0, DMC_TICK, DMC_WAIT, DMC_CLOCK }
+
+/* The same as a value: DMC_CONFIG is an initializer, which C does not assign. */
+static inline struct dmc_config dmc_config_of(uint64_t hz) {
+  struct dmc_config config = DMC_CONFIG(hz);
+  return config;
+}
+
+/* Makes a queue of no clients. DMC_HELD, DMC_BAD_CONFIG, DMC_MEMORY. */
+uint32_t dmc_queue_new(struct dmc_queue *, const struct dmc_config *);
 
 /* Ends what is held; nothing where none is. */
 void dmc_queue_free(struct dmc_queue *);
@@ -103,7 +130,7 @@ uint32_t dmc_queue_update(struct dmc_queue *, uint32_t client, uint32_t reservat
                           uint64_t at);
 
 /* Queues a request with the counts of its stamp, and writes its tags. DMC_NONE_HELD, DMC_BAD_MOMENT, DMC_BAD_PARAMS,
-   DMC_UNKNOWN, DMC_QUEUE_FULL, DMC_RANGE, DMC_MEMORY. */
+   DMC_UNKNOWN, DMC_QUEUE_FULL, DMC_RANGE, DMC_OVER_LIMIT, DMC_MEMORY. */
 uint32_t dmc_queue_add(struct dmc_queue *, uint32_t client, uint32_t token, uint32_t delta, uint32_t rho, uint64_t at,
                        struct dmc_tags *);
 
@@ -155,9 +182,9 @@ uint32_t dmc_tracker_status(struct dmc_tracker *, uint32_t server, struct dmc_tr
    1,000,000 the next one is at most 2.2% further. A tick is 1.36 ns. */
 #define DMC_FINE_HZ 735134400
 
-/* The greatest rate at most this one that divides hz, as tick tags need: for a limit, and for a weight. Clients have shares by
-   their weights while the sum of the weights is less than the requests that are granted in a second, so weights are small numbers.
-   DMC_BAD_CONFIG, DMC_BAD_RATE (a rate of 0). */
+/* The greatest rate at most this one that divides hz, as tick tags need: for a limit, and for a weight. With DMC_CLOCK clients have
+   shares by their weights while the sum of the weights is less than the requests that are granted in a second, so weights are small
+   numbers. DMC_BAD_CONFIG, DMC_BAD_RATE (a rate of 0). */
 uint32_t dmc_rate_at_most(uint64_t hz, uint32_t rate, uint32_t *found);
 
 /* The least rate at least this one that divides hz: for a reservation. DMC_BAD_CONFIG, DMC_BAD_RATE (a rate of 0, or past hz). */
@@ -196,6 +223,7 @@ static inline const char *dmc_text(uint32_t code) {
     case DMC_QUEUE_FULL: return "queue full";
     case DMC_RANGE: return "range";
     case DMC_BUSY: return "busy";
+    case DMC_OVER_LIMIT: return "over limit";
     case DMC_NO_SERVER: return "no server";
     case DMC_TRACK_FULL: return "tracker full";
     default: return "no code";

@@ -4,7 +4,9 @@
 /// A server has a Queue, a client a Tracker. No call throws: a call that is refused has changed nothing and says why by its
 /// Code. The one that throws is Result::value(), for callers who like exceptions.
 ///
-///     auto queue = dmclock::Queue::make({1000, 600000, 1200000}).value();  // 1,000 ticks a second
+///     dmclock::QueueConfig config = {1000};  // 1,000 ticks a second
+///     config.shares = dmclock::Shares::Virtual;
+///     auto queue = dmclock::Queue::make(config).value();
 ///     auto code = queue.register_client(client, {10, 1, std::nullopt}, now);
 ///     auto tags = queue.add_request(client, token, params, now);
 ///     auto pulled = queue.pull_request(now);
@@ -48,7 +50,8 @@ enum class Code : std::uint32_t {
   Clients = DMC_CLIENTS,                        ///< 65,536 clients are registered
   QueueFull = DMC_QUEUE_FULL,                   ///< 2^20 requests are queued
   Range = DMC_RANGE,                            ///< a sum that the call needs is no value of the tags
-  Busy = DMC_BUSY,          ///< an update gives or takes a reservation while the client has a queued request
+  Busy = DMC_BUSY,            ///< an update gives or takes a reservation while the client has a queued request
+  OverLimit = DMC_OVER_LIMIT, ///< with AtLimit::Reject: the request would wait for its client's limit longer than the threshold
   NoServer = DMC_NO_SERVER, ///< the tracker has no such server
   TrackFull = DMC_TRACK_FULL ///< a count of the tracker would pass its `most`, or a stamp's delta 2^32-1
 };
@@ -59,8 +62,13 @@ inline const char *text(Code code) noexcept { return dmc_text(static_cast<std::u
 /// Whether tags are whole ticks, for rates that divide hz, or fractions, for any rate.
 enum class TagKind : std::uint32_t { Tick = DMC_TICK, Ratio = DMC_RATIO };
 
-/// At the limit: a pull says when the next request is due, or grants the best by weight beyond its limit.
-enum class AtLimit : std::uint32_t { Wait = DMC_WAIT, Allow = DMC_ALLOW };
+/// At the limit: a pull says when the next request is due, or grants the best by weight beyond its limit; or an add is refused
+/// that would wait for its limit longer than QueueConfig::threshold.
+enum class AtLimit : std::uint32_t { Wait = DMC_WAIT, Allow = DMC_ALLOW, Reject = DMC_REJECT };
+
+/// How shares are compared: by the clock, as mClock does, or in the time of the service, in which what a client got before
+/// others came is neither a credit nor a debt.
+enum class Shares : std::uint32_t { Clock = DMC_CLOCK, Virtual = DMC_VIRTUAL };
 
 /// Which completions a stamp counts: those at all servers, or the request itself and those at the others.
 enum class Counting : std::uint32_t { All = DMC_ALL, Others = DMC_OTHERS };
@@ -311,11 +319,13 @@ struct ReqParams {
 
 /// How a queue is set up.
 struct QueueConfig {
-  std::uint64_t hz;                 ///< ticks a second, 1 to 1,000,000,000
-  std::uint64_t idle_age;           ///< ticks without a request until clean() marks a client idle, 1 to 2^62
-  std::uint64_t erase_age;          ///< ticks without a request until clean() erases it, idle_age to 2^62
-  AtLimit at_limit = AtLimit::Wait; ///< what a pull does where all are at their limits
-  TagKind tags = TagKind::Tick;     ///< whole ticks or fractions
+  std::uint64_t hz;                      ///< ticks a second, 1 to 1,000,000,000
+  std::uint64_t idle_age = DMC_MAX_AGE;  ///< ticks without a request until clean() marks a client idle, 1 to DMC_MAX_AGE
+  std::uint64_t erase_age = DMC_MAX_AGE; ///< ticks without a request until clean() erases it, idle_age to DMC_MAX_AGE
+  AtLimit at_limit = AtLimit::Wait;      ///< what is done at the limit
+  TagKind tags = TagKind::Tick;          ///< whole ticks or fractions
+  Shares shares = Shares::Clock;         ///< by the clock or in the time of the service
+  std::uint64_t threshold = 0;           ///< with AtLimit::Reject how many ticks a request may wait for its limit, 0 to 2^62
 };
 
 /// What a tracker knows of a server, and its completions at all servers.
@@ -363,10 +373,14 @@ class Queue {
  public:
   /// A queue with no client. BadConfig, Memory.
   static Result<Queue> make(const QueueConfig &config) noexcept {
-    return Calls::of<Queue>([&](Queue *queue) {
-      return dmc_queue_new(&queue->queue_, static_cast<std::uint32_t>(config.tags), config.hz, config.idle_age,
-                           config.erase_age, static_cast<std::uint32_t>(config.at_limit));
-    });
+    dmc_config asked = dmc_config_of(config.hz);
+    asked.idle_age = config.idle_age;
+    asked.erase_age = config.erase_age;
+    asked.tag_kind = static_cast<std::uint32_t>(config.tags);
+    asked.at_limit = static_cast<std::uint32_t>(config.at_limit);
+    asked.threshold = config.threshold;
+    asked.shares = static_cast<std::uint32_t>(config.shares);
+    return Calls::of<Queue>([&](Queue *queue) { return dmc_queue_new(&queue->queue_, &asked); });
   }
 
   /// No queue: each call is NoneHeld.

@@ -67,11 +67,13 @@ static void show_status(struct dmc_tracker *tracker, uint32_t client) {
 
 /* A cluster of two servers: client 0 has a reservation, client 1 a limit, client 2 a third of a rate for its weight. */
 static void run_cluster(uint32_t counting) {
+  struct dmc_config config = DMC_CONFIG(1000);
   struct dmc_queue queues[SERVERS] = {DMC_QUEUE_NONE, DMC_QUEUE_NONE};
   struct dmc_tracker trackers[CLIENTS] = {DMC_TRACKER_NONE, DMC_TRACKER_NONE, DMC_TRACKER_NONE};
   printf("-- counting %s\n", counting == DMC_ALL ? "all" : "others");
+  config.tag_kind = DMC_RATIO;
   for (uint32_t server = 0; server < SERVERS; server++) {
-    must(dmc_queue_new(&queues[server], DMC_RATIO, 1000, 600000, 1200000, DMC_WAIT));
+    must(dmc_queue_new(&queues[server], &config));
     must(dmc_queue_register(&queues[server], 0, 10, 1, 0, 0));
     must(dmc_queue_register(&queues[server], 1, 0, 2, 20, 0));
     must(dmc_queue_register(&queues[server], 2, 0, 3, 0, 0));
@@ -96,15 +98,16 @@ static void run_cluster(uint32_t counting) {
 
 /* A call that is not accepted returns a code, and has changed nothing. */
 static void run_refusals(void) {
+  const struct dmc_config config = DMC_CONFIG(1000), no_ticks = DMC_CONFIG(0);
   struct dmc_queue queue = DMC_QUEUE_NONE;
   struct dmc_tracker tracker = DMC_TRACKER_NONE;
   struct dmc_tags tags;
   struct dmc_stamp stamp;
   printf("-- refusals\n");
   printf("an add to no queue: %s\n", dmc_text(dmc_queue_add(&queue, 1, 1, 0, 0, 0, &tags)));
-  printf("0 ticks a second: %s\n", dmc_text(dmc_queue_new(&queue, DMC_TICK, 0, 1, 1, DMC_WAIT)));
-  must(dmc_queue_new(&queue, DMC_TICK, 1000, 600000, 1200000, DMC_WAIT));
-  printf("a second queue in one struct: %s\n", dmc_text(dmc_queue_new(&queue, DMC_TICK, 1000, 600000, 1200000, DMC_WAIT)));
+  printf("0 ticks a second: %s\n", dmc_text(dmc_queue_new(&queue, &no_ticks)));
+  must(dmc_queue_new(&queue, &config));
+  printf("a second queue in one struct: %s\n", dmc_text(dmc_queue_new(&queue, &config)));
   printf("a weight of 0: %s\n", dmc_text(dmc_queue_register(&queue, 1, 0, 0, 0, 0)));
   printf("a third of a tick: %s\n", dmc_text(dmc_queue_register(&queue, 1, 0, 3, 0, 0)));
   must(dmc_queue_register(&queue, 1, 0, 1, 0, 0));

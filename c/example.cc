@@ -10,7 +10,9 @@ int main() {
   const ClientId client(1);
   const ServerId server(0);
   try {
-    Queue queue = Queue::make({1000, 600000, 1200000, AtLimit::Allow}).value();
+    QueueConfig config = {1000};
+    config.at_limit = AtLimit::Allow;
+    Queue queue = Queue::make(config).value();
     Tracker tracker = Tracker::make(1, 1000, Counting::All).value();
     const ClientInfo info = {10, 1, 20};  // at least 10 requests a second, a weight of 1, at most 20
     if (Code code = queue.register_client(client, info, Moment(0)); code != Code::Ok) throw Error(code);

@@ -59,9 +59,7 @@ enum verb { CLIENT, UPDATE, ADD, PULL, DROP, CLEAN };
 /* a line of a script; a rate of 0 is none */
 struct line { enum verb verb; uint64_t a, b, c, d, e; };
 
-struct setting { uint32_t tags; uint64_t hz, idle_age, erase_age; uint32_t limit; };
-
-static const struct setting ticks = {DMC_TICK, 1000, 600000, 1200000, DMC_WAIT};
+static const struct dmc_config ticks = DMC_CONFIG(1000);
 
 static char text[4096];
 
@@ -147,11 +145,11 @@ static uint32_t run_line(struct dmc_queue *queue, struct line l) {
 }
 
 /* the replies to a script; a command at which an allocation failed is given again */
-static const char *replies(struct setting s, const struct line *lines, size_t count) {
+static const char *replies(struct dmc_config config, const struct line *lines, size_t count) {
   struct dmc_queue queue = DMC_QUEUE_NONE;
   text[0] = 0;
-  uint32_t made = code(dmc_queue_new(&queue, s.tags, s.hz, s.idle_age, s.erase_age, s.limit));
-  if (made == DMC_MEMORY) made = dmc_queue_new(&queue, s.tags, s.hz, s.idle_age, s.erase_age, s.limit);
+  uint32_t made = code(dmc_queue_new(&queue, &config));
+  if (made == DMC_MEMORY) made = dmc_queue_new(&queue, &config);
   if (made != DMC_OK) return dmc_text(made);
   for (size_t i = 0; i < count; i++) {
     if (i > 0) write_text("; ");
@@ -165,18 +163,19 @@ static const char *replies(struct setting s, const struct line *lines, size_t co
   return text;
 }
 
-#define RUN(name, setting, want, ...)                                                          \
+#define RUN(name, config, want, ...)                                                           \
   do {                                                                                         \
     const struct line lines[] = {__VA_ARGS__};                                                 \
-    expect_text(name, replies(setting, lines, sizeof lines / sizeof *lines), want);            \
+    expect_text(name, replies(config, lines, sizeof lines / sizeof *lines), want);             \
   } while (0)
 
 static void run_scripts(void) {
-  struct setting allow = ticks, ratios = ticks, second = ticks, aged = ticks;
-  allow.limit = DMC_ALLOW;
-  ratios.tags = DMC_RATIO;
-  second.tags = DMC_RATIO;
-  second.hz = 1;
+  struct dmc_config allow = ticks, reject = ticks, ratios = ticks, second = dmc_config_of(1), aged = ticks;
+  allow.at_limit = DMC_ALLOW;
+  reject.at_limit = DMC_REJECT;
+  reject.threshold = 50;
+  ratios.tag_kind = DMC_RATIO;
+  second.tag_kind = DMC_RATIO;
   aged.idle_age = 100;
   aged.erase_age = 1000;
   RUN("granted_by_reservation", ticks, "ok; tags 0 0 0; grant 1 9 reservation",
@@ -187,6 +186,10 @@ static void run_scripts(void) {
       "ok; tags 100 50 1000; tags 200 100 2000; grant 1 1 priority beyond; grant 1 2 reservation; none",
       {CLIENT, 1, 10, 1, 20, 0}, {ADD, 1, 1, 1, 1, 0}, {ADD, 1, 2, 1, 1, 0}, {PULL, 0, 0, 0, 0, 0}, {PULL, 100, 0, 0, 0, 0},
       {PULL, 100, 0, 0, 0, 0});
+  RUN("refused_over_limit", reject,
+      "ok; refused over limit; tags - 100 1000; refused over limit; tags - 200 2000; grant 1 11 priority; future 200",
+      {CLIENT, 1, 0, 1, 10, 0}, {ADD, 1, 11, 1, 0, 0}, {ADD, 1, 11, 1, 0, 50}, {ADD, 1, 12, 1, 0, 100}, {ADD, 1, 12, 1, 0, 150},
+      {PULL, 150, 0, 0, 0, 0}, {PULL, 199, 0, 0, 0, 0});
   RUN("updates", ticks,
       "ok; tags - 0 1000; updated; tags - 0 1500; refused busy; dropped 2; updated; tags 100 0 2000; "
       "refused inexact weight; refused unknown",
@@ -211,6 +214,59 @@ static void run_scripts(void) {
       {CLIENT, 2, 3, 3, 3, 0}, {CLIENT, 2, 10, 3, 3, 0}, {CLIENT, 2, 10, 1, 3, 0}, {ADD, 2, 1, 0, 1, UINT64_MAX},
       {ADD, 2, 1, 0, 1, 0}, {ADD, 2, 1, 0, 0, 0}, {PULL, UINT64_MAX, 0, 0, 0, 0}, {CLEAN, UINT64_MAX, 0, 0, 0, 0},
       {DROP, 2, 0, 0, 0, 0});
+}
+
+/* ---- configurations */
+
+/* A client is alone, and another comes. */
+#define NEWCOMER                                                                                                             \
+  {CLIENT, 1, 0, 1, 0, 0}, {CLIENT, 2, 0, 1, 0, 0}, {ADD, 1, 11, 1, 1, 0}, {ADD, 1, 12, 1, 1, 0}, {PULL, 0, 0, 0, 0, 0},     \
+      {PULL, 0, 0, 0, 0, 0}, {ADD, 2, 21, 1, 1, 0}, {ADD, 1, 13, 1, 1, 0}, {ADD, 2, 22, 1, 1, 0}, {PULL, 0, 0, 0, 0, 0},     \
+      {PULL, 0, 0, 0, 0, 0}, {PULL, 0, 0, 0, 0, 0}
+
+static void run_newcomers(void) {
+  struct dmc_config served = ticks;
+  served.shares = DMC_VIRTUAL;
+  RUN("newcomer_clock", ticks,
+      "ok; ok; tags - 0 1000; tags - 0 2000; grant 1 11 priority; grant 1 12 priority; tags - 0 1000; tags - 0 3000; "
+      "tags - 0 2000; grant 2 21 priority; grant 2 22 priority; grant 1 13 priority",
+      NEWCOMER);
+  RUN("newcomer_virtual", served,
+      "ok; ok; tags - 0 1000; tags - 0 2000; grant 1 11 priority; grant 1 12 priority; tags - 0 2000; tags - 0 3000; "
+      "tags - 0 3000; grant 2 21 priority; grant 1 13 priority; grant 2 22 priority",
+      NEWCOMER);
+}
+
+/* Whether a queue is refused that is asked for so. */
+static bool is_refused_config(struct dmc_config config) {
+  struct dmc_queue queue = DMC_QUEUE_NONE;
+  return code(dmc_queue_new(&queue, &config)) == DMC_BAD_CONFIG && queue.held == 0;
+}
+
+static void run_configs(void) {
+  struct dmc_config config = dmc_config_of(DMC_FINE_HZ);
+  expect("the defaults", config.hz == DMC_FINE_HZ && config.idle_age == DMC_MAX_AGE && config.erase_age == DMC_MAX_AGE && config.threshold == 0 &&
+                             config.tag_kind == DMC_TICK && config.at_limit == DMC_WAIT && config.shares == DMC_CLOCK);
+  expect("ticks a second", is_refused_config(dmc_config_of(0)) && is_refused_config(dmc_config_of(1000000001)));
+  config.erase_age = DMC_MAX_AGE + 1;
+  expect("an age past the greatest", is_refused_config(config));
+  config.erase_age = DMC_MAX_AGE - 1;
+  expect("idle after it is erased", is_refused_config(config));
+  config = dmc_config_of(1000);
+  config.tag_kind = 2;
+  expect("no kind of tags", is_refused_config(config));
+  config = dmc_config_of(1000);
+  config.at_limit = 3;
+  expect("nothing at the limit", is_refused_config(config));
+  config.at_limit = DMC_REJECT;
+  config.threshold = DMC_MAX_AGE + 1;
+  expect("a threshold past the greatest", is_refused_config(config));
+  config = dmc_config_of(1000);
+  config.shares = 2;
+  expect("no shares", is_refused_config(config));
+  config = dmc_config_of(1000);
+  config.threshold = 1;
+  expect("a threshold", is_refused_config(config));
 }
 
 /* ---- trackers */
@@ -304,7 +360,7 @@ static void run_limits(void) {
   struct dmc_queue queue = DMC_QUEUE_NONE;
   struct dmc_tags tags;
   struct dmc_pulled pulled;
-  uint32_t wrong = dmc_queue_new(&queue, DMC_TICK, 1000, 1, 1, DMC_WAIT), clients, requests;
+  uint32_t wrong = dmc_queue_new(&queue, &ticks), clients, requests;
   for (uint32_t client = 0; client < 65536; client++) wrong |= dmc_queue_register(&queue, client, 0, 1, 0, 0);
   expect("65,537 clients", code(dmc_queue_register(&queue, 65536, 0, 1, 0, 0)) == DMC_CLIENTS);
   for (uint32_t token = 0; token < 1048576; token++) wrong |= dmc_queue_add(&queue, 1, token, 1, 0, 0, &tags);
@@ -342,7 +398,7 @@ static void run_codes(void) {
   static const uint32_t codes[] = {
     DMC_OK, DMC_MEMORY, DMC_NONE_HELD, DMC_HELD, DMC_BAD_MOMENT, DMC_BAD_PARAMS, DMC_BAD_RATE, DMC_BAD_CONFIG, DMC_BAD_PHASE,
     DMC_LIMIT, DMC_KNOWN, DMC_UNKNOWN, DMC_INEXACT_RESERVATION, DMC_INEXACT_WEIGHT, DMC_INEXACT_LIMIT, DMC_CLIENTS,
-    DMC_QUEUE_FULL, DMC_RANGE, DMC_BUSY, DMC_NO_SERVER, DMC_TRACK_FULL};
+    DMC_QUEUE_FULL, DMC_RANGE, DMC_BUSY, DMC_OVER_LIMIT, DMC_NO_SERVER, DMC_TRACK_FULL};
   uint32_t count = 0;
   bool all = true;
   for (size_t i = 0; i < sizeof codes / sizeof *codes; i++) all = all && met[codes[i]];
@@ -414,7 +470,7 @@ static void run_structs(void) {
   memset(&queue, 0, sizeof queue);
   memset(&tracker, 0, sizeof tracker);
   expect("zeros hold nothing", code(dmc_queue_counts(&queue, &clients, &requests)) == DMC_NONE_HELD && code(dmc_tracker_skip(&tracker, 0)) == DMC_NONE_HELD);
-  expect("zeros take what is made", code(dmc_queue_new(&queue, DMC_TICK, 1000, 1000, 1000, DMC_WAIT)) == DMC_OK && code(dmc_tracker_new(&tracker, 1, 9, DMC_ALL)) == DMC_OK);
+  expect("zeros take what is made", code(dmc_queue_new(&queue, &ticks)) == DMC_OK && code(dmc_tracker_new(&tracker, 1, 9, DMC_ALL)) == DMC_OK);
   old = queue;
   queue = dmc_queue_none();
   old_tracker = tracker;
@@ -430,6 +486,8 @@ static void run_structs(void) {
 int main(void) {
   run_structs();
   run_scripts();
+  run_newcomers();
+  run_configs();
   run_trackers();
   run_rates();
   run_clocks();

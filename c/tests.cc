@@ -126,9 +126,11 @@ static std::string replies(const QueueConfig &config, const std::string &script)
   return all;
 }
 
-static const QueueConfig ticks = {1000, 600000, 1200000};
+static const QueueConfig ticks = {1000};
 
-static QueueConfig with(std::uint64_t hz, AtLimit at_limit, TagKind tags) { return {hz, 600000, 1200000, at_limit, tags}; }
+static QueueConfig with(std::uint64_t hz, AtLimit at_limit, TagKind tags) {
+  return {hz, DMC_MAX_AGE, DMC_MAX_AGE, at_limit, tags};
+}
 
 static void run_scripts() {
   const std::string greatest = "18446744073709551615";
@@ -140,6 +142,13 @@ static void run_scripts() {
               replies(with(1000, AtLimit::Allow, TagKind::Tick),
                       "client 1 10 1 20 0; add 1 1 1 1 0; add 1 2 1 1 0; pull 0; pull 100; pull 100"),
               "ok; tags 100 50 1000; tags 200 100 2000; grant 1 1 priority beyond; grant 1 2 reservation; none");
+  QueueConfig reject = with(1000, AtLimit::Reject, TagKind::Tick);
+  reject.threshold = 50;
+  expect_text("refused_over_limit",
+              replies(reject, "client 1 - 1 10 0; add 1 11 1 0 0; add 1 11 1 0 50; add 1 12 1 0 100; add 1 12 1 0 150; "
+                              "pull 150; pull 199"),
+              "ok; refused over limit; tags - 100 1000; refused over limit; tags - 200 2000; grant 1 11 priority; "
+              "future 200");
   expect_text("updates",
               replies(ticks,
                       "client 1 - 1 - 0; add 1 1 1 0 0; update 1 - 2 - 0; add 1 2 1 0 0; update 1 10 2 - 0; drop 1; "
@@ -169,6 +178,31 @@ static void run_scripts() {
   expect_text("a rate of 0 that is there",
               replies(ticks, "client 1 0 1 - 0; client 1 - 1 0 " + greatest + "; client 1 - 1 - 0; update 1 0 1 - 0; update 1 - 1 0 0"),
               "refused bad rate; refused bad moment; ok; refused bad rate; refused bad rate");
+}
+
+// A client is alone, and another comes.
+static void run_newcomers() {
+  const std::string newcomer =
+      "client 1 - 1 - 0; client 2 - 1 - 0; add 1 11 1 1 0; add 1 12 1 1 0; pull 0; pull 0; add 2 21 1 1 0; add 1 13 1 1 0; "
+      "add 2 22 1 1 0; pull 0; pull 0; pull 0";
+  const std::string alone = "ok; ok; tags - 0 1000; tags - 0 2000; grant 1 11 priority; grant 1 12 priority; ";
+  expect_text("newcomer_clock", replies(ticks, newcomer),
+              alone + "tags - 0 1000; tags - 0 3000; tags - 0 2000; grant 2 21 priority; grant 2 22 priority; grant 1 13 priority");
+  QueueConfig served = ticks;
+  served.shares = Shares::Virtual;
+  expect_text("newcomer_virtual", replies(served, newcomer),
+              alone + "tags - 0 2000; tags - 0 3000; tags - 0 3000; grant 2 21 priority; grant 1 13 priority; grant 2 22 priority");
+}
+
+static void run_configs() {
+  QueueConfig config = ticks;
+  config.shares = static_cast<Shares>(2);
+  const bool shares = Queue::make(config).code() == Code::BadConfig;
+  expect("a configuration out of its limits", shares && Queue::make({0}).code() == Code::BadConfig &&
+                                                  Queue::make({1000, 2, 1}).code() == Code::BadConfig &&
+                                                  Queue::make({1000, 1, DMC_MAX_AGE + 1}).code() == Code::BadConfig &&
+                                                  Queue::make(with(1000, AtLimit::Wait, static_cast<TagKind>(2))).code() == Code::BadConfig &&
+                                                  Queue::make(with(1000, static_cast<AtLimit>(3), TagKind::Tick)).code() == Code::BadConfig);
 }
 
 // ---- trackers
@@ -236,7 +270,7 @@ static void run_trackers() {
 
 static void run_limits() {
   const Moment zero(0);
-  Queue queue = Queue::make({1000, 1, 1}).value();
+  Queue queue = Queue::make(ticks).value();
   bool all = true;
   for (std::uint32_t client = 0; client < 65536; client++)
     all = queue.register_client(ClientId(client), {std::nullopt, 1, std::nullopt}, zero) == Code::Ok && all;
@@ -304,7 +338,7 @@ static void run_moves() {
 }
 
 static void run_results() {
-  const Result<Queue> none = Queue::make({0, 1, 1});
+  const Result<Queue> none = Queue::make({0});
   bool thrown = false;
   try {
     none.value();
@@ -349,6 +383,8 @@ static void run_tags() {
 
 int main() {
   run_scripts();
+  run_newcomers();
+  run_configs();
   run_trackers();
   run_rates();
   run_limits();

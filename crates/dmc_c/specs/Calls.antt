@@ -21,6 +21,7 @@ use Rattle.dmc_c.specs.declared.fault.Fault.TheVariants as faults
 use Rattle.dmc_c.specs.declared.kept.Kept.{Kept}
 use Rattle.dmc_c.specs.declared.kept.Kept.TheVariants.{Queue, Tracker}
 use Rattle.dmc_c.specs.declared.outputs.DmcTrack.{DmcTrack}
+use Rattle.dmc_c.specs.declared.reading.DmcConfig.{DmcConfig}
 use Rattle.dmc_c.specs.Reading.{tag_kind, config_of, counting}
 use Rattle.dmc_c.specs.Outputs.{track_of}
 
@@ -131,10 +132,10 @@ track_held s (Some kept) = track_at s kept
 -- ---- new queues and trackers
 
 -- the opening state of a queue
-abbrev pub new_queue : (tags hz idle_age erase_age limit : ℕ) → Result AnyState Fault
-new_queue tags hz idle_age erase_age limit = do
-  kind ← tag_kind tags
-  config ← config_of hz idle_age erase_age limit
+abbrev pub new_queue : DmcConfig → Result AnyState Fault
+new_queue asked = do
+  kind ← tag_kind asked.tag_kind
+  config ← config_of asked
   Ok (opening_with kind config)
 
 -- the numbers of a tracker's empty list

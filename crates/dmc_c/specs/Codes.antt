@@ -2,7 +2,7 @@
 use Rattle.std.specs.Prelude.{ℕ, Result, Ok, Err}
 use Rattle.dmc_types.specs.declared.refusal.Field.TheVariants as fields
 use Rattle.dmc_types.specs.declared.refusal.Refusal.{Refusal}
-use Rattle.dmc_types.specs.declared.refusal.Refusal.TheVariants.{Known, Unknown, Inexact, Clients, QueueFull, Range, Busy}
+use Rattle.dmc_types.specs.declared.refusal.Refusal.TheVariants.{Known, Unknown, Inexact, Clients, QueueFull, Range, Busy, OverLimit}
 use Rattle.dmc_types.specs.declared.refusal.ValueFault.TheVariants as values
 use Rattle.dmc_tag.specs.Tag.{Fraction}
 use Rattle.dmc_tag.specs.declared.reply.Reply.{Reply}
@@ -40,6 +40,7 @@ refusal_number Clients = 25
 refusal_number QueueFull = 26
 refusal_number Range = 27
 refusal_number Busy = 28
+refusal_number OverLimit = 29
 
 -- the code of a call
 abbrev pub code_of : {X : Type 0} → Result X Fault → ℕ

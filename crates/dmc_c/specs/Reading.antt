@@ -1,14 +1,16 @@
 -- What numbers from C say. The values are judged in the order moment, params, rate.
 use Rattle.std.specs.Prelude.{ℕ, ◌==◌, ◌&&◌, Option, Some, None, Result, Ok, Err, nat_lt, nat_le, if◌then◌else◌}
 use Rattle.dmc_types.specs.Limits.{max_hz, max_moment}
-use Rattle.dmc_types.specs.Values.{Params, Rates, Setting}
+use Rattle.dmc_types.specs.Values.{Params, Rates, Setting, threshold_of}
 use Rattle.dmc_types.specs.declared.ids.ClientId.{ClientId}
 use Rattle.dmc_types.specs.declared.config.AtLimit.{AtLimit}
-use Rattle.dmc_types.specs.declared.config.AtLimit.TheVariants.{Wait, Allow}
+use Rattle.dmc_types.specs.declared.config.AtLimit.TheVariants.{Wait, Allow, Reject}
 use Rattle.dmc_types.specs.declared.config.Counting.{Counting}
 use Rattle.dmc_types.specs.declared.config.Counting.TheVariants.{All, Others}
 use Rattle.dmc_types.specs.declared.config.PhaseType.{PhaseType}
 use Rattle.dmc_types.specs.declared.config.PhaseType.TheVariants.{Reservation, Priority}
+use Rattle.dmc_types.specs.declared.config.Shares.{Shares}
+use Rattle.dmc_types.specs.declared.config.Shares.TheVariants.{Clock, Virtual}
 use Rattle.dmc_types.specs.declared.config.TagKind.{TagKind}
 use Rattle.dmc_types.specs.declared.config.TagKind.TheVariants.{Tick, Ratio}
 use Rattle.dmc_types.specs.declared.refusal.ValueFault.TheVariants as faults
@@ -17,6 +19,7 @@ use Rattle.dmc_types.specs.declared.command.Command.TheVariants as commands
 use Rattle.dmc_tag.specs.Outcome.{◌>>=◌}
 use Rattle.dmc_c.specs.declared.fault.Fault.{Fault}
 use Rattle.dmc_c.specs.declared.fault.Fault.TheVariants.{Value, Phase}
+use Rattle.dmc_c.specs.declared.reading.DmcConfig.{DmcConfig}
 
 -- ---- values
 
@@ -69,18 +72,27 @@ clean_command at = moment at >>= λ t. Ok (commands.Clean t)
 abbrev pub tag_kind : ℕ → Result TagKind Fault
 tag_kind n = if n == 0 then Ok Tick else (if n == 1 then Ok Ratio else Err (Value faults.Config))
 
-abbrev pub at_limit : ℕ → Result AtLimit Fault
-at_limit n = if n == 0 then Ok Wait else (if n == 1 then Ok Allow else Err (Value faults.Config))
+-- a threshold of a setting that has none is 0
+abbrev pub at_limit : (number threshold : ℕ) → Result AtLimit Fault
+at_limit n threshold =
+    if n == 2 then Ok (Reject threshold)
+    else (if threshold == 0 then (if n == 0 then Ok Wait else (if n == 1 then Ok Allow else Err (Value faults.Config))) else Err (Value faults.Config))
+
+abbrev pub shares : ℕ → Result Shares Fault
+shares n = if n == 0 then Ok Clock else (if n == 1 then Ok Virtual else Err (Value faults.Config))
 
 -- the limits of a configuration
-unfoldable pub setting : (hz idle_age erase_age : ℕ) → AtLimit → Result Setting Fault
-setting hz idle_age erase_age limit =
-    if nat_lt 0 hz && nat_le hz max_hz && nat_lt 0 idle_age && nat_le idle_age erase_age && nat_le erase_age max_moment
-    then Ok (record { hz = hz; idle_age = idle_age; erase_age = erase_age; at_limit = limit })
+unfoldable pub setting : (hz idle_age erase_age : ℕ) → AtLimit → Shares → Result Setting Fault
+setting hz idle_age erase_age limit share =
+    if nat_lt 0 hz && nat_le hz max_hz && nat_lt 0 idle_age && nat_le idle_age erase_age && nat_le erase_age max_moment && nat_le (threshold_of limit) max_moment
+    then Ok (record { hz = hz; idle_age = idle_age; erase_age = erase_age; at_limit = limit; shares = share })
     else Err (Value faults.Config)
 
-abbrev pub config_of : (hz idle_age erase_age limit : ℕ) → Result Setting Fault
-config_of hz idle_age erase_age limit = at_limit limit >>= λ past. setting hz idle_age erase_age past
+abbrev pub config_of : DmcConfig → Result Setting Fault
+config_of asked = do
+  past ← at_limit asked.at_limit asked.threshold
+  share ← shares asked.shares
+  setting asked.hz asked.idle_age asked.erase_age past share
 
 abbrev pub counting : ℕ → Result Counting Fault
 counting n = if n == 0 then Ok All else (if n == 1 then Ok Others else Err (Value faults.Config))

@@ -108,6 +108,7 @@ fn refusal_number(refusal: Refusal) -> u32
         Refusal::QueueFull => 26,
         Refusal::Range => 27,
         Refusal::Busy => 28,
+        Refusal::OverLimit => 29,
     }
 }
 

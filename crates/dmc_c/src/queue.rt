@@ -15,7 +15,7 @@ use crate::outputs::{
     DmcPulled, DmcTags, write_cleaned, write_counts, write_pulled, write_removed, write_tags,
 };
 use crate::reading::{
-    add_command, clean_command, pull_command, queue_config, register_command, tag_kind,
+    DmcConfig, add_command, clean_command, pull_command, queue_config, register_command, tag_kind,
     update_command,
 };
 use dmc_any_queue::any_queue::AnyQueue;
@@ -26,35 +26,20 @@ use dmc_types::ids::ClientId;
 use std::alloc::Global;
 
 /// A queue that nothing was asked of yet.
-fn make_queue(
-    tags: u32,
-    hz: u64,
-    idle_age: u64,
-    erase_age: u64,
-    limit: u32,
-    alloc: Global,
-) -> Result<AnyQueue, Fault>
-    ensures { result ≡ new_queue tags hz idle_age erase_age limit }
+fn make_queue(asked: &DmcConfig, alloc: Global) -> Result<AnyQueue, Fault>
+    ensures { result ≡ new_queue asked.now }
 {
-    let tags = tag_kind(tags)?;
-    let config = queue_config(hz, idle_age, erase_age, limit)?;
+    let tags = tag_kind(asked.tag_kind)?;
+    let config = queue_config(asked)?;
     Ok(AnyQueue::new(alloc, tags, config))
 }
 
 /// Makes a queue where nothing is held.
-fn open_queue(
-    queue: &mut Handle,
-    tags: u32,
-    hz: u64,
-    idle_age: u64,
-    erase_age: u64,
-    limit: u32,
-    alloc: Global,
-) -> Result<(), Fault>
-    ensures { Opens (queue_opened (new_queue tags hz idle_age erase_age limit)) queue.old.value queue.new.value result }
+fn open_queue(queue: &mut Handle, asked: &DmcConfig, alloc: Global) -> Result<(), Fault>
+    ensures { Opens (queue_opened (new_queue asked.now)) queue.old.value queue.new.value result }
 {
     check_vacant(queue, alloc)?;
-    let made = make_queue(tags, hz, idle_age, erase_age, limit, alloc)?;
+    let made = make_queue(asked, alloc)?;
     fill(queue, Kept::Queue(made), alloc)
 }
 
@@ -90,19 +75,11 @@ fn count(queue: &mut Handle, alloc: Global) -> Result<(u32, u32), Fault>
 
 /// Makes an empty queue: `DMC_HELD`, `DMC_BAD_CONFIG`, `DMC_MEMORY`.
 #[unsafe(no_mangle)]
-pub extern "C" fn dmc_queue_new(
-    queue: &mut Handle,
-    tag_kind: u32,
-    hz: u64,
-    idle_age: u64,
-    erase_age: u64,
-    at_limit: u32,
-    alloc: Global,
-) -> u32
-    ensures { (answer : Result ⊤ Fault) × Opens (queue_opened (new_queue tag_kind hz idle_age erase_age at_limit)) queue.old.value queue.new.value answer
+pub extern "C" fn dmc_queue_new(queue: &mut Handle, config: &DmcConfig, alloc: Global) -> u32
+    ensures { (answer : Result ⊤ Fault) × Opens (queue_opened (new_queue config.now)) queue.old.value queue.new.value answer
         × (result ≡ code_of answer) }
 {
-    let answer = open_queue(queue, tag_kind, hz, idle_age, erase_age, at_limit, alloc);
+    let answer = open_queue(queue, config, alloc);
     code_of(&answer)
 }
 

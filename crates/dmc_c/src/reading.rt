@@ -1,15 +1,28 @@
 //! What numbers from C say: commands and settings. The values are judged in the order moment, params, rate.
 ghost use Rattle.std.specs.Prelude.{◌≡◌};
-ghost use Rattle.dmc_c.specs.Reading.{moment, params, rate_of, rates, register_command, update_command, add_command, pull_command, clean_command, tag_kind, at_limit, setting, config_of, counting, phase};
+ghost use Rattle.dmc_c.specs.Reading.{moment, params, rate_of, rates, register_command, update_command, add_command, pull_command, clean_command, tag_kind, at_limit, shares, setting, config_of, counting, phase};
 
 use crate::fault::Fault;
 use dmc_types::command::Command;
-use dmc_types::config::{AtLimit, Counting, PhaseType, QueueConfig, TagKind};
+use dmc_types::config::{AtLimit, Counting, PhaseType, QueueConfig, Shares, TagKind};
 use dmc_types::ids::{ClientId, Token};
 use dmc_types::info::ClientInfo;
 use dmc_types::moment::Moment;
 use dmc_types::params::ReqParams;
 use dmc_types::refusal::ValueFault;
+
+/// What a queue is asked to be.
+#[repr(C)]
+#[derive(Clone, Copy)]
+pub struct DmcConfig {
+    pub hz: u64,
+    pub idle_age: u64,
+    pub erase_age: u64,
+    pub threshold: u64,
+    pub tag_kind: u32,
+    pub at_limit: u32,
+    pub shares: u32,
+}
 
 /// A rate, if 0 is none.
 fn rate_of(rate: u32) -> Option<u32>
@@ -104,36 +117,51 @@ pub fn tag_kind(number: u32) -> Result<TagKind, Fault>
     }
 }
 
-/// What a number says of the limit.
-fn at_limit(number: u32) -> Result<AtLimit, Fault>
-    ensures { result ≡ at_limit number }
+/// What a number says of the limit. Where adds are not refused there, the threshold has to be 0.
+fn at_limit(number: u32, threshold: u64) -> Result<AtLimit, Fault>
+    ensures { result ≡ at_limit number threshold }
+{
+    match (number, threshold) {
+        (2, threshold) => Ok(AtLimit::Reject { threshold }),
+        (0, 0) => Ok(AtLimit::Wait),
+        (1, 0) => Ok(AtLimit::Allow),
+        _ => Err(Fault::Value(ValueFault::Config)),
+    }
+}
+
+/// The shares that a number names.
+fn shares(number: u32) -> Result<Shares, Fault>
+    ensures { result ≡ shares number }
 {
     match number {
-        0 => Ok(AtLimit::Wait),
-        1 => Ok(AtLimit::Allow),
+        0 => Ok(Shares::Clock),
+        1 => Ok(Shares::Virtual),
         _ => Err(Fault::Value(ValueFault::Config)),
     }
 }
 
 /// A configuration within its limits.
 #[tactic(auto, unfolding(crate::specs::Reading::setting))]
-fn setting(hz: u64, idle_age: u64, erase_age: u64, at_limit: AtLimit) -> Result<QueueConfig, Fault>
-    ensures { result ≡ setting hz idle_age erase_age at_limit }
-{
-    QueueConfig::new(hz, idle_age, erase_age, at_limit).map_err(Fault::Value)
-}
-
-/// A configuration, if a number says what is done at the limit.
-pub fn queue_config(
+fn setting(
     hz: u64,
     idle_age: u64,
     erase_age: u64,
-    limit: u32,
+    at_limit: AtLimit,
+    shares: Shares,
 ) -> Result<QueueConfig, Fault>
-    ensures { result ≡ config_of hz idle_age erase_age limit }
+    ensures { result ≡ setting hz idle_age erase_age at_limit shares }
 {
-    let limit = at_limit(limit)?;
-    setting(hz, idle_age, erase_age, limit)
+    let config = QueueConfig::new(hz, idle_age, erase_age, at_limit)?;
+    Ok(config.with_shares(shares))
+}
+
+/// A configuration, if numbers say what is done at the limit and in which time shares are compared.
+pub fn queue_config(asked: &DmcConfig) -> Result<QueueConfig, Fault>
+    ensures { result ≡ config_of asked.now }
+{
+    let limit = at_limit(asked.at_limit, asked.threshold)?;
+    let shares = shares(asked.shares)?;
+    setting(asked.hz, asked.idle_age, asked.erase_age, limit, shares)
 }
 
 /// The completions that a number names.
@@ -157,3 +185,6 @@ pub fn phase(number: u32) -> Result<PhaseType, Fault>
         _ => Err(Fault::Phase),
     }
 }
+
+// The size of the header's struct.
+const _: () = prove!(size_of::<DmcConfig>() == 48);

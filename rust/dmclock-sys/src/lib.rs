@@ -9,7 +9,7 @@
 
 use core::ffi::c_void;
 
-pub const DMC_VERSION: u32 = 100;
+pub const DMC_VERSION: u32 = 200;
 
 pub const DMC_OK: u32 = 0;
 pub const DMC_MEMORY: u32 = 1;
@@ -30,6 +30,7 @@ pub const DMC_CLIENTS: u32 = 25;
 pub const DMC_QUEUE_FULL: u32 = 26;
 pub const DMC_RANGE: u32 = 27;
 pub const DMC_BUSY: u32 = 28;
+pub const DMC_OVER_LIMIT: u32 = 29;
 pub const DMC_NO_SERVER: u32 = 30;
 pub const DMC_TRACK_FULL: u32 = 31;
 
@@ -37,6 +38,9 @@ pub const DMC_TICK: u32 = 0;
 pub const DMC_RATIO: u32 = 1;
 pub const DMC_WAIT: u32 = 0;
 pub const DMC_ALLOW: u32 = 1;
+pub const DMC_REJECT: u32 = 2;
+pub const DMC_CLOCK: u32 = 0;
+pub const DMC_VIRTUAL: u32 = 1;
 pub const DMC_ALL: u32 = 0;
 pub const DMC_OTHERS: u32 = 1;
 pub const DMC_RESERVATION: u32 = 0;
@@ -45,6 +49,7 @@ pub const DMC_GRANTED: u32 = 0;
 pub const DMC_FUTURE: u32 = 1;
 pub const DMC_NOTHING: u32 = 2;
 
+pub const DMC_MAX_AGE: u64 = 1 << 62;
 pub const DMC_FINE_HZ: u32 = 735_134_400;
 
 #[repr(C)]
@@ -70,6 +75,30 @@ pub const DMC_TRACKER_NONE: dmc_tracker = dmc_tracker {
     at: core::ptr::null_mut(),
     held: 0,
 };
+
+#[repr(C)]
+#[derive(Clone, Copy, Debug)]
+pub struct dmc_config {
+    pub hz: u64,
+    pub idle_age: u64,
+    pub erase_age: u64,
+    pub threshold: u64,
+    pub tag_kind: u32,
+    pub at_limit: u32,
+    pub shares: u32,
+}
+
+pub const fn dmc_config_of(hz: u64) -> dmc_config {
+    dmc_config {
+        hz,
+        idle_age: DMC_MAX_AGE,
+        erase_age: DMC_MAX_AGE,
+        threshold: 0,
+        tag_kind: DMC_TICK,
+        at_limit: DMC_WAIT,
+        shares: DMC_CLOCK,
+    }
+}
 
 #[repr(C)]
 #[derive(Clone, Copy, Debug)]
@@ -121,14 +150,7 @@ pub struct dmc_track {
 extern "C" {
     pub fn dmc_version() -> u32;
 
-    pub fn dmc_queue_new(
-        queue: *mut dmc_queue,
-        tag_kind: u32,
-        hz: u64,
-        idle_age: u64,
-        erase_age: u64,
-        at_limit: u32,
-    ) -> u32;
+    pub fn dmc_queue_new(queue: *mut dmc_queue, config: *const dmc_config) -> u32;
     pub fn dmc_queue_free(queue: *mut dmc_queue);
     pub fn dmc_queue_register(
         queue: *mut dmc_queue,

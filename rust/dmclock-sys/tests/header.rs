@@ -34,7 +34,10 @@ fn between<'a>(text: &'a str, from: &'a str, to: &'a str) -> impl Iterator<Item 
 fn rust_type(words: &str) -> String {
     let words = words.replace("struct ", "");
     if let Some(to) = words.strip_suffix('*') {
-        return format!("*mut {}", rust_type(to));
+        return match to.strip_prefix("const ") {
+            Some(to) => format!("*const {}", rust_type(to)),
+            None => format!("*mut {}", rust_type(to)),
+        };
     }
     match words.trim() {
         "void" => "c_void",
@@ -104,15 +107,17 @@ fn numbers() {
     }
     for line in between(&header, "#define DMC_", "\n").filter(|line| !line.contains('{')) {
         let (name, number) = line.split_once(' ').unwrap();
-        wanted.insert(format!("DMC_{name}"), number.trim().to_string());
+        let number = number.trim().replace("UINT64_C(1)", "1");
+        let number = number.trim_matches(|c| c == '(' || c == ')');
+        wanted.insert(format!("DMC_{name}"), number.to_string());
     }
-    let consts = between(&declared, "pub const ", ";").filter(|text| text.contains(": u32 = "));
+    let consts = between(&declared, "pub const ", ";");
     let found: BTreeMap<_, _> = consts
-        .map(|text| text.split_once(": u32 = ").unwrap())
+        .filter_map(|text| text.split_once(": u32 = ").or(text.split_once(": u64 = ")))
         .map(|(name, number)| (name.to_string(), number.replace('_', "")))
         .collect();
     assert_eq!(found, wanted);
-    assert_eq!(found.len(), 34);
+    assert_eq!(found.len(), 39);
 }
 
 #[test]
@@ -127,8 +132,8 @@ fn structs() {
         .map(|(name, body)| (name.trim().to_string(), rust_pairs(body)))
         .collect();
     assert_eq!(found, wanted);
-    assert_eq!(found.len(), 7);
-    assert_eq!(declared.matches("#[repr(C)]").count(), 7);
+    assert_eq!(found.len(), 8);
+    assert_eq!(declared.matches("#[repr(C)]").count(), 8);
 }
 
 #[test]

@@ -89,7 +89,8 @@ impl BackEnd {
 /// Runs it, and writes what was served.
 pub fn run(out: &mut impl Write) -> Result<(), Box<dyn Error>> {
     let minute = 60 * u64::from(FINE_HZ);
-    let config = QueueConfig::new(FINE_HZ.into(), minute, 10 * minute, AtLimit::Wait)?;
+    let config = QueueConfig::new(FINE_HZ.into(), minute, 10 * minute, AtLimit::Wait)?
+        .with_shares(Shares::Virtual);
     // In requests a second, rounded to rates that are exact: a reservation up, a limit down.
     let reservation = config.rate_at_least(1234);
     let limit = config.rate_at_most(777);

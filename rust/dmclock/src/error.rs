@@ -80,6 +80,8 @@ errors! {
         Hz = "hz is not 1 to 1,000,000,000";
         /// The idle age is 0 or past the erase age, or the erase age is past 2^62.
         Ages = "the ages are not 1 to 2^62, the idle age at most the erase age";
+        /// The threshold is past 2^62.
+        Threshold = "the threshold is past 2^62";
     }
 
     /// Why [`Queue::new`](crate::Queue::new) makes no queue.
@@ -130,6 +132,9 @@ errors! {
         QueueFull = "2^20 requests are queued", DMC_QUEUE_FULL;
         /// A sum that the call needs is no value of the tags.
         Range = "a sum is no value of the tags", DMC_RANGE;
+        /// With [`AtLimit::Reject`](crate::AtLimit::Reject): the request would wait for its limit
+        /// longer than the threshold. It may come again later, with the same stamp.
+        OverLimit = "the request is over its client's limit", DMC_OVER_LIMIT;
         /// An allocation failed.
         Memory = "out of memory", DMC_MEMORY;
     }

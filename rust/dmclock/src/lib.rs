@@ -15,7 +15,8 @@
 //! # fn main() -> Result<(), Box<dyn std::error::Error>> {
 //! # let (client, server, token, nanos) = (ClientId(1), ServerId(0), Token(1), 5_000_000);
 //! let minute = 60 * u64::from(FINE_HZ); // a fine clock, for rates that an operator typed
-//! let config = QueueConfig::new(u64::from(FINE_HZ), minute, 10 * minute, AtLimit::Wait)?;
+//! let config = QueueConfig::new(u64::from(FINE_HZ), minute, 10 * minute, AtLimit::Wait)?
+//!     .with_shares(Shares::Virtual);
 //! let mut queue = Queue::new(TagKind::Tick, config)?;
 //! // in requests a second: at least 1,234 reserved, a weight of 2, a limit of at most 5,000
 //! let info = ClientInfo::new(config.rate_at_least(1234), 2, config.rate_at_most(5000))?;
@@ -52,5 +53,5 @@ pub use tag::{Tag, Tags};
 pub use tracker::{TrackStatus, Tracker};
 pub use values::{
     nanos_until, rate_at_least, rate_at_most, AtLimit, ClientId, ClientInfo, Counting, Moment,
-    PhaseType, QueueConfig, ReqParams, ServerId, TagKind, Token, FINE_HZ,
+    PhaseType, QueueConfig, ReqParams, ServerId, Shares, TagKind, Token, FINE_HZ,
 };

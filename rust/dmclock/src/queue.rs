@@ -6,7 +6,7 @@ use crate::error::{
 };
 use crate::tag::Tags;
 use crate::values::{
-    AtLimit, ClientId, ClientInfo, Moment, PhaseType, QueueConfig, ReqParams, TagKind, Token,
+    ClientId, ClientInfo, Moment, PhaseType, QueueConfig, ReqParams, TagKind, Token,
 };
 use dmclock_sys as sys;
 use std::cell::UnsafeCell;
@@ -23,7 +23,7 @@ pub enum Pulled {
         token: Token,
         /// Why it is granted, which the client's tracker is to count.
         phase: PhaseType,
-        /// Whether it is past its client's limit ([`AtLimit::Allow`]).
+        /// Whether it is past its client's limit ([`AtLimit::Allow`](crate::AtLimit::Allow)).
         beyond: bool,
     },
     /// No request is due before this moment, in ticks, and one is due then.
@@ -106,20 +106,10 @@ unsafe impl Send for Queue {}
 impl Queue {
     /// A queue with no client.
     pub fn new(tags: TagKind, config: QueueConfig) -> Result<Queue, QueueError> {
-        let tags = match tags {
-            TagKind::Tick => sys::DMC_TICK,
-            TagKind::Ratio => sys::DMC_RATIO,
-        };
-        let at_limit = match config.at_limit() {
-            AtLimit::Wait => sys::DMC_WAIT,
-            AtLimit::Allow => sys::DMC_ALLOW,
-        };
-        let (hz, idle, erase) = (config.hz().into(), config.idle_age(), config.erase_age());
+        let asked = config.asked(tags);
         let mut queue = sys::DMC_QUEUE_NONE;
-        // SAFETY: the pointer is a reference, and the struct is its `NONE`.
-        QueueError::check(unsafe {
-            sys::dmc_queue_new(&mut queue, tags, hz, idle, erase, at_limit)
-        })?;
+        // SAFETY: the pointers are references, and the struct is its `NONE`.
+        QueueError::check(unsafe { sys::dmc_queue_new(&mut queue, &asked) })?;
         let queue = UnsafeCell::new(queue);
         Ok(Queue { queue })
     }

@@ -183,6 +183,24 @@ pub enum AtLimit {
     Wait,
     /// It grants the best by weight.
     Allow,
+    /// It says when the next one is due, and
+    /// [`add_request`](crate::Queue::add_request) refuses a request that would wait for its limit
+    /// longer than this.
+    Reject {
+        /// Ticks, 0 to 2^62.
+        threshold: u64,
+    },
+}
+
+/// In which time shares are compared.
+#[derive(Clone, Copy, Debug, PartialEq, Eq, Hash)]
+pub enum Shares {
+    /// By the clock, as mClock does: a client that was served more than its share waits while
+    /// others catch up.
+    Clock,
+    /// In the time of the service: what a client got before others came is neither a credit nor a
+    /// debt.
+    Virtual,
 }
 
 /// Which completions a stamp counts.
@@ -210,12 +228,13 @@ pub struct QueueConfig {
     idle_age: u64,
     erase_age: u64,
     at_limit: AtLimit,
+    shares: Shares,
 }
 
 impl QueueConfig {
     /// Ticks a second (1 to 1,000,000,000), after how many ticks without a request
     /// [`clean`](crate::Queue::clean) marks a client idle and erases it (1 to 2^62, the first at
-    /// most the second), and what a pull does at the limit.
+    /// most the second), and what is done at the limit. Shares are by the clock.
     pub const fn new(
         hz: u64,
         idle_age: u64,
@@ -228,12 +247,47 @@ impl QueueConfig {
         if idle_age == 0 || idle_age > erase_age || erase_age > 1 << 62 {
             return Err(ConfigError::Ages);
         }
+        if let AtLimit::Reject { threshold } = at_limit {
+            if threshold > 1 << 62 {
+                return Err(ConfigError::Threshold);
+            }
+        }
         Ok(QueueConfig {
             hz: hz as u32,
             idle_age,
             erase_age,
             at_limit,
+            shares: Shares::Clock,
         })
+    }
+
+    /// The same with shares by the clock or in the time of the service.
+    pub const fn with_shares(self, shares: Shares) -> QueueConfig {
+        QueueConfig { shares, ..self }
+    }
+
+    /// What the library is asked for.
+    pub(crate) fn asked(self, tags: TagKind) -> sys::dmc_config {
+        let (at_limit, threshold) = match self.at_limit {
+            AtLimit::Wait => (sys::DMC_WAIT, 0),
+            AtLimit::Allow => (sys::DMC_ALLOW, 0),
+            AtLimit::Reject { threshold } => (sys::DMC_REJECT, threshold),
+        };
+        sys::dmc_config {
+            threshold,
+            at_limit,
+            idle_age: self.idle_age,
+            erase_age: self.erase_age,
+            tag_kind: match tags {
+                TagKind::Tick => sys::DMC_TICK,
+                TagKind::Ratio => sys::DMC_RATIO,
+            },
+            shares: match self.shares {
+                Shares::Clock => sys::DMC_CLOCK,
+                Shares::Virtual => sys::DMC_VIRTUAL,
+            },
+            ..sys::dmc_config_of(self.hz.into())
+        }
     }
 
     /// Ticks a second.
@@ -251,9 +305,14 @@ impl QueueConfig {
         self.erase_age
     }
 
-    /// What a pull does at the limit.
+    /// What is done at the limit.
     pub const fn at_limit(self) -> AtLimit {
         self.at_limit
+    }
+
+    /// In which time shares are compared.
+    pub const fn shares(self) -> Shares {
+        self.shares
     }
 
     /// The greatest rate at most this one that divides hz: for a limit. `None` for a rate of 0.

@@ -98,7 +98,12 @@ fn settings() {
         let mut raw = dmclock_sys::DMC_QUEUE_NONE;
         // SAFETY: the pointers are references; what is made is freed.
         let code = unsafe {
-            let code = dmclock_sys::dmc_queue_new(&mut raw, 0, hz, idle, erase, 0);
+            let config = dmclock_sys::dmc_config {
+                idle_age: idle,
+                erase_age: erase,
+                ..dmclock_sys::dmc_config_of(hz)
+            };
+            let code = dmclock_sys::dmc_queue_new(&mut raw, &config);
             dmclock_sys::dmc_queue_free(&mut raw);
             code
         };
@@ -109,6 +114,9 @@ fn settings() {
             Queue::new(TagKind::Tick, config).unwrap();
         }
     }
+    let reject = |threshold| QueueConfig::new(1000, 1, 1, AtLimit::Reject { threshold });
+    assert_eq!(reject(last + 1).err(), Some(ConfigError::Threshold));
+    Queue::new(TagKind::Tick, reject(last).unwrap()).unwrap();
 }
 
 #[test]

@@ -5,7 +5,7 @@ mod slow;
 
 use dmclock::{
     rate_at_most, AddError, AtLimit, ClientId, ClientInfo, Moment, PhaseType, PullError, Pulled,
-    Queue, QueueConfig, RegisterError, RemoveError, ReqParams, Tag, TagKind, Tags, Token,
+    Queue, QueueConfig, RegisterError, RemoveError, ReqParams, Shares, Tag, TagKind, Tags, Token,
     UpdateError, FINE_HZ,
 };
 use slow::{Fraction, Slow, SlowTags};
@@ -78,8 +78,12 @@ impl Run {
             last.min(idle.saturating_mul(9)),
             last,
         ]);
-        let at_limit = random.pick(&[AtLimit::Wait, AtLimit::Wait, AtLimit::Allow]);
-        self.config = QueueConfig::new(hz.into(), idle, erase, at_limit).unwrap();
+        let threshold = random.pick(&[0, 1, u64::from(hz) / 10, u64::from(hz), last]);
+        let reject = AtLimit::Reject { threshold };
+        let at_limit = random.pick(&[AtLimit::Wait, AtLimit::Wait, AtLimit::Allow, reject]);
+        let shares = random.pick(&[Shares::Clock, Shares::Virtual]);
+        let config = QueueConfig::new(hz.into(), idle, erase, at_limit).unwrap();
+        self.config = config.with_shares(shares);
         self.pace = 1 + random.pick(&[0, 3, u64::from(hz) / 10, u64::from(hz)]);
         self.now = random.pick(&[0, 0, 0, 12_345, last - 100 * self.pace.min(last / 200)]);
         self.rates = match self.kind {
@@ -237,6 +241,7 @@ fn add_name(reply: Result<Tags, AddError>) -> &'static str {
         Ok(_) => "tags",
         Err(AddError::Unknown) => "add unknown",
         Err(AddError::Range) => "add range",
+        Err(AddError::OverLimit) => "add over limit",
         Err(other) => panic!("{other}"),
     }
 }
@@ -282,6 +287,7 @@ fn compare(kind: TagKind) -> BTreeMap<&'static str, u32> {
 
 /// The replies that both kinds of tags have.
 const REPLIES: &[&str] = &[
+    "add over limit",
     "add unknown",
     "beyond",
     "busy",

@@ -2,8 +2,8 @@
 
 use dmclock::{
     AddError, AtLimit, Cleaned, ClientId, ClientInfo, Counting, Moment, PhaseType, Pulled, Queue,
-    QueueConfig, RegisterError, ReqParams, ServerId, StampError, TagKind, Tags, Token, Tracker,
-    UpdateError,
+    QueueConfig, RegisterError, ReqParams, ServerId, Shares, StampError, TagKind, Tags, Token,
+    Tracker, UpdateError,
 };
 use std::str::SplitWhitespace;
 
@@ -130,6 +130,17 @@ fn allowed_beyond() {
 }
 
 #[test]
+fn refused_over_limit() {
+    let script = "client 1 - 1 10 0; add 1 11 1 0 0; add 1 11 1 0 50; add 1 12 1 0 100; \
+                  add 1 12 1 0 150; pull 150; pull 199";
+    let reject = AtLimit::Reject { threshold: 50 };
+    let replies = run(TagKind::Tick, setting(1000, reject), script);
+    let wanted = "ok; refused OverLimit; tags - 100 1000; refused OverLimit; tags - 200 2000; \
+                  grant 1 11 priority; future 200";
+    assert_eq!(replies, wanted);
+}
+
+#[test]
 fn updates() {
     let replies = ticks(
         "client 1 - 1 - 0; add 1 1 1 0 0; update 1 - 2 - 0; add 1 2 1 0 0; update 1 10 2 - 0; \
@@ -137,6 +148,29 @@ fn updates() {
     );
     let wanted = "ok; tags - 0 1000; updated; tags - 0 1500; refused Busy; dropped 2; updated; \
                   tags 100 0 2000; refused InexactWeight; refused Unknown";
+    assert_eq!(replies, wanted);
+}
+
+/// A client is alone, and another comes.
+const NEWCOMER: &str = "client 1 - 1 - 0; client 2 - 1 - 0; add 1 11 1 1 0; add 1 12 1 1 0; \
+                        pull 0; pull 0; add 2 21 1 1 0; add 1 13 1 1 0; add 2 22 1 1 0; pull 0; \
+                        pull 0; pull 0";
+
+#[test]
+fn newcomer_clock() {
+    let wanted = "ok; ok; tags - 0 1000; tags - 0 2000; grant 1 11 priority; grant 1 12 priority; \
+                  tags - 0 1000; tags - 0 3000; tags - 0 2000; grant 2 21 priority; \
+                  grant 2 22 priority; grant 1 13 priority";
+    assert_eq!(ticks(NEWCOMER), wanted);
+}
+
+#[test]
+fn newcomer_virtual() {
+    let config = setting(1000, AtLimit::Wait).with_shares(Shares::Virtual);
+    let replies = run(TagKind::Tick, config, NEWCOMER);
+    let wanted = "ok; ok; tags - 0 1000; tags - 0 2000; grant 1 11 priority; grant 1 12 priority; \
+                  tags - 0 2000; tags - 0 3000; tags - 0 3000; grant 2 21 priority; \
+                  grant 1 13 priority; grant 2 22 priority";
     assert_eq!(replies, wanted);
 }
 

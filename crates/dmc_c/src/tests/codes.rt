@@ -5,6 +5,7 @@ use crate::queue::{
     dmc_queue_add, dmc_queue_clean, dmc_queue_counts, dmc_queue_free, dmc_queue_new,
     dmc_queue_pull, dmc_queue_register, dmc_queue_remove, dmc_queue_update,
 };
+use crate::reading::DmcConfig;
 use crate::tests::run::{Line, RATIOS, TICKS, no_pull, no_tags, not_memory, replies};
 use crate::tracker::{dmc_tracker_new, dmc_tracker_respond};
 use Line::{Add, Clean, Client, Pull, Update};
@@ -32,8 +33,13 @@ fn held_or_not(rt: HostRuntime) -> Result<(), Fail> {
     let mut queue = Handle::none();
     let before = none_held(&mut queue, alloc);
     dmc_queue_free(&mut queue, alloc);
-    let made = dmc_queue_new(&mut queue, 0, 1000, 1, 1, 0, alloc);
-    let again = dmc_queue_new(&mut queue, 9, 0, 0, 0, 9, alloc);
+    let made = dmc_queue_new(&mut queue, &TICKS, alloc);
+    let wrong = DmcConfig {
+        hz: 0,
+        shares: 9,
+        ..TICKS
+    };
+    let again = dmc_queue_new(&mut queue, &wrong, alloc);
     let no_tracker = dmc_tracker_respond(&mut queue, 0, 9, alloc);
     dmc_queue_free(&mut queue, alloc);
     let after = none_held(&mut queue, alloc);
@@ -48,22 +54,57 @@ fn held_or_not(rt: HostRuntime) -> Result<(), Fail> {
     Ok(())
 }
 
-/// A configuration out of its limits, and numbers that name nothing.
-#[test]
-fn bad_configs(rt: HostRuntime) -> Result<(), Fail> {
-    let alloc = rt.alloc();
+/// The code of a queue that is asked for.
+fn made(config: DmcConfig, alloc: Global) -> u32 {
     let mut queue = Handle::none();
-    let codes = [
-        dmc_queue_new(&mut queue, 2, 1000, 1, 1, 0, alloc),
-        dmc_queue_new(&mut queue, 0, 1000, 1, 1, 2, alloc),
-        dmc_queue_new(&mut queue, 0, 0, 1, 1, 0, alloc),
-        dmc_queue_new(&mut queue, 0, 5_000_000_000, 1, 1, 0, alloc),
-        dmc_queue_new(&mut queue, 1, 1000, 2, 1, 0, alloc),
-        dmc_queue_new(&mut queue, 1, 1000, 1, 1 << 63, 1, alloc),
-    ];
+    let code = dmc_queue_new(&mut queue, &config, alloc);
     queue.end(alloc);
-    assert_eq!(rt; codes, [13; 6]);
-    Ok(())
+    code
+}
+
+/// Numbers that name nothing, a threshold where adds are not refused at the limit, and one that is past 2^62.
+#[test]
+fn bad_numbers(rt: HostRuntime) {
+    let numbers = [
+        (2, 0, 0, 0),
+        (0, 3, 0, 0),
+        (0, 0, 2, 0),
+        (0, 0, 0, 1),
+        (0, 1, 0, 1),
+        (0, 2, 0, (1 << 62) + 1),
+    ];
+    for (tag_kind, at_limit, shares, threshold) in numbers {
+        let config = DmcConfig {
+            tag_kind,
+            at_limit,
+            shares,
+            threshold,
+            ..TICKS
+        };
+        let code = made(config, rt.alloc());
+        assert_eq!(rt; code, 13);
+    }
+}
+
+/// A configuration out of its limits.
+#[test]
+fn bad_configs(rt: HostRuntime) {
+    let limits = [
+        (0, 1, 1),
+        (5_000_000_000, 1, 1),
+        (1000, 2, 1),
+        (1000, 1, 1 << 63),
+    ];
+    for (hz, idle_age, erase_age) in limits {
+        let config = DmcConfig {
+            hz,
+            idle_age,
+            erase_age,
+            ..RATIOS
+        };
+        let code = made(config, rt.alloc());
+        assert_eq!(rt; code, 13);
+    }
 }
 
 /// The values in their order, and what a queue of ticks refuses.
@@ -106,11 +147,11 @@ fn far_future(rt: HostRuntime) -> Result<(), Fail> {
         Add(1, 2, u32::MAX, 0, 0),
         Pull(0),
     ];
-    let setting = crate::tests::run::Setting {
+    let fine = DmcConfig {
         hz: 1_000_000_000,
         ..RATIOS
     };
-    let written = replies(rt.alloc(), setting, &far)?;
+    let written = replies(rt.alloc(), fine, &far)?;
     assert_eq!(rt;
         written.as_str(),
         "ok; tags - 4294967295000000000 4294967295000000000; tags - 8589934590000000000 8589934590000000000; future 4294967295000000000"
@@ -129,7 +170,7 @@ fn memory_code(rt: HostRuntime) -> Result<(), Fail> {
 /// Fills a queue with clients and requests, and answers the codes of one more of each, then the counts.
 fn fill_queue(queue: &mut Handle, alloc: Global) -> Result<[u32; 8], AllocError> {
     let mut tags = no_tags();
-    let mut wrong = not_memory(dmc_queue_new(queue, 0, 1000, 1, 1, 0, alloc))?;
+    let mut wrong = not_memory(dmc_queue_new(queue, &TICKS, alloc))?;
     for client in 0..65_536 {
         wrong |= not_memory(dmc_queue_register(queue, client, 0, 1, 0, 0, alloc))?;
     }

@@ -1,5 +1,6 @@
 //! The worked examples of scripts, through the exports.
-use crate::tests::run::{Line, RATIOS, Setting, TICKS, replies};
+use crate::reading::DmcConfig;
+use crate::tests::run::{Line, RATIOS, TICKS, replies};
 use Line::{Add, Clean, Client, Drop, Pull, Update};
 use std::test::Fail;
 
@@ -33,7 +34,10 @@ fn granted_at_limit(rt: HostRuntime) -> Result<(), Fail> {
 
 #[test]
 fn allowed_beyond(rt: HostRuntime) -> Result<(), Fail> {
-    let allow = Setting { limit: 1, ..TICKS };
+    let allow = DmcConfig {
+        at_limit: 1,
+        ..TICKS
+    };
     let lines = [
         Client(1, 10, 1, 20, 0),
         Add(1, 1, 1, 1, 0),
@@ -46,6 +50,30 @@ fn allowed_beyond(rt: HostRuntime) -> Result<(), Fail> {
     assert_eq!(rt;
         written.as_str(),
         "ok; tags 100 50 1000; tags 200 100 2000; grant 1 1 priority beyond; grant 1 2 reservation; none"
+    );
+    Ok(())
+}
+
+#[test]
+fn refused_over_limit(rt: HostRuntime) -> Result<(), Fail> {
+    let reject = DmcConfig {
+        at_limit: 2,
+        threshold: 50,
+        ..TICKS
+    };
+    let lines = [
+        Client(1, 0, 1, 10, 0),
+        Add(1, 11, 1, 0, 0),
+        Add(1, 11, 1, 0, 50),
+        Add(1, 12, 1, 0, 100),
+        Add(1, 12, 1, 0, 150),
+        Pull(150),
+        Pull(199),
+    ];
+    let written = replies(rt.alloc(), reject, &lines)?;
+    assert_eq!(rt;
+        written.as_str(),
+        "ok; code 29; tags - 100 1000; code 29; tags - 200 2000; grant 1 11 priority; future 200"
     );
     Ok(())
 }
@@ -91,7 +119,7 @@ fn exact_thirds(rt: HostRuntime) -> Result<(), Fail> {
 
 #[test]
 fn idle_then_erased(rt: HostRuntime) -> Result<(), Fail> {
-    let aged = Setting {
+    let aged = DmcConfig {
         idle_age: 100,
         erase_age: 1000,
         ..TICKS
@@ -118,7 +146,7 @@ fn idle_then_erased(rt: HostRuntime) -> Result<(), Fail> {
 
 #[test]
 fn reduction_out_of_range(rt: HostRuntime) -> Result<(), Fail> {
-    let second = Setting { hz: 1, ..RATIOS };
+    let second = DmcConfig { hz: 1, ..RATIOS };
     let lines = [
         Client(1, 65537, 1, 0, 0),
         Add(1, 1, 1, 1, 0),
@@ -132,6 +160,43 @@ fn reduction_out_of_range(rt: HostRuntime) -> Result<(), Fail> {
     assert_eq!(rt;
         written.as_str(),
         "ok; tags 1/65537 0 1; tags 2/65537 0 2; updated; code 27; grant 1 1 reservation; grant 1 2 reservation"
+    );
+    Ok(())
+}
+
+/// A client is alone, and another comes.
+const NEWCOMER: [Line; 12] = [
+    Client(1, 0, 1, 0, 0),
+    Client(2, 0, 1, 0, 0),
+    Add(1, 11, 1, 1, 0),
+    Add(1, 12, 1, 1, 0),
+    Pull(0),
+    Pull(0),
+    Add(2, 21, 1, 1, 0),
+    Add(1, 13, 1, 1, 0),
+    Add(2, 22, 1, 1, 0),
+    Pull(0),
+    Pull(0),
+    Pull(0),
+];
+
+#[test]
+fn newcomer_clock(rt: HostRuntime) -> Result<(), Fail> {
+    let written = replies(rt.alloc(), TICKS, &NEWCOMER)?;
+    assert_eq!(rt;
+        written.as_str(),
+        "ok; ok; tags - 0 1000; tags - 0 2000; grant 1 11 priority; grant 1 12 priority; tags - 0 1000; tags - 0 3000; tags - 0 2000; grant 2 21 priority; grant 2 22 priority; grant 1 13 priority"
+    );
+    Ok(())
+}
+
+#[test]
+fn newcomer_virtual(rt: HostRuntime) -> Result<(), Fail> {
+    let served = DmcConfig { shares: 1, ..TICKS };
+    let written = replies(rt.alloc(), served, &NEWCOMER)?;
+    assert_eq!(rt;
+        written.as_str(),
+        "ok; ok; tags - 0 1000; tags - 0 2000; grant 1 11 priority; grant 1 12 priority; tags - 0 2000; tags - 0 3000; tags - 0 3000; grant 2 21 priority; grant 1 13 priority; grant 2 22 priority"
     );
     Ok(())
 }

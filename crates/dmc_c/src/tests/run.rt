@@ -5,29 +5,25 @@ use crate::queue::{
     dmc_queue_add, dmc_queue_clean, dmc_queue_free, dmc_queue_new, dmc_queue_pull,
     dmc_queue_register, dmc_queue_remove, dmc_queue_update,
 };
+use crate::reading::DmcConfig;
 use std::alloc::{AllocError, Global};
 
-/// What `dmc_queue_new` is asked.
-#[derive(Clone, Copy)]
-pub struct Setting {
-    pub tags: u32,
-    pub hz: u64,
-    pub idle_age: u64,
-    pub erase_age: u64,
-    pub limit: u32,
-}
-
 /// A thousand whole ticks a second.
-pub const TICKS: Setting = Setting {
-    tags: 0,
+pub const TICKS: DmcConfig = DmcConfig {
     hz: 1000,
     idle_age: 600_000,
     erase_age: 1_200_000,
-    limit: 0,
+    threshold: 0,
+    tag_kind: 0,
+    at_limit: 0,
+    shares: 0,
 };
 
 /// A thousand ticks a second, and exact fractions of them.
-pub const RATIOS: Setting = Setting { tags: 1, ..TICKS };
+pub const RATIOS: DmcConfig = DmcConfig {
+    tag_kind: 1,
+    ..TICKS
+};
 
 /// A line of a script; a rate of 0 is none.
 #[derive(Clone, Copy)]
@@ -71,9 +67,9 @@ pub fn no_pull() -> DmcPulled {
 }
 
 /// The texts of the replies to a script at a new queue, which ends after it.
-pub fn replies(alloc: Global, setting: Setting, lines: &[Line]) -> Result<String, AllocError> {
+pub fn replies(alloc: Global, config: DmcConfig, lines: &[Line]) -> Result<String, AllocError> {
     let mut queue = Handle::none();
-    let written = run_all(&mut queue, setting, lines, alloc);
+    let written = run_all(&mut queue, &config, lines, alloc);
     dmc_queue_free(&mut queue, alloc);
     queue.end(alloc);
     written
@@ -82,19 +78,11 @@ pub fn replies(alloc: Global, setting: Setting, lines: &[Line]) -> Result<String
 /// Makes the queue, and runs the lines.
 fn run_all(
     queue: &mut Handle,
-    setting: Setting,
+    config: &DmcConfig,
     lines: &[Line],
     alloc: Global,
 ) -> Result<String, AllocError> {
-    let code = dmc_queue_new(
-        queue,
-        setting.tags,
-        setting.hz,
-        setting.idle_age,
-        setting.erase_age,
-        setting.limit,
-        alloc,
-    );
+    let code = dmc_queue_new(queue, config, alloc);
     if not_memory(code)? != 0 {
         return format!(in alloc; "code {code}");
     }

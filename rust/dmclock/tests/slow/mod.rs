@@ -3,7 +3,7 @@
 
 use dmclock::{
     AddError, AtLimit, Cleaned, ClientId, ClientInfo, Moment, PhaseType, PullError, Pulled,
-    QueueConfig, RegisterError, RemoveError, ReqParams, TagKind, Token, UpdateError,
+    QueueConfig, RegisterError, RemoveError, ReqParams, Shares, TagKind, Token, UpdateError,
 };
 use std::cmp::Ordering;
 
@@ -109,6 +109,9 @@ pub struct Slow {
     requests: Vec<Request>,
     clients: Vec<Client>,
     last: u64,
+    /// The virtual time, and the greatest share that was queued; both stay 0 by the clock.
+    virtual_time: Fraction,
+    furthest: Fraction,
 }
 
 /// Which rate has no spacing.
@@ -126,6 +129,8 @@ impl Slow {
             requests: Vec::new(),
             clients: Vec::new(),
             last: 0,
+            virtual_time: Fraction::whole(0),
+            furthest: Fraction::whole(0),
         }
     }
 
@@ -225,10 +230,11 @@ impl Slow {
         Ok(())
     }
 
-    /// The queue with all that is not idle shifted, so that the least share begins at `t`.
+    /// By the clock: the queue with all that is not idle shifted, so that the least share begins at
+    /// `t`.
     fn adjusted(&self, place: usize, t: u64) -> Option<(Vec<Request>, Vec<Client>)> {
         let (mut requests, mut clients) = (self.requests.clone(), self.clients.clone());
-        if !self.clients[place].idle {
+        if !self.clients[place].idle || self.config.shares() == Shares::Virtual {
             return Some((requests, clients));
         }
         let least = match self.requests.iter().map(|request| request.tags.p).min() {
@@ -248,13 +254,29 @@ impl Slow {
         Some((requests, clients))
     }
 
-    /// A tag: max(previous + count * spacing, t).
-    fn next(&self, previous: Fraction, count: u32, rate: Option<u32>, t: u64) -> Option<Fraction> {
+    /// What a share is at least: the clock's time, or the virtual time, which goes on to the
+    /// furthest share where nothing is queued.
+    fn least_share(&self, t: u64) -> Fraction {
+        match self.config.shares() {
+            Shares::Clock => Fraction::whole(t),
+            Shares::Virtual if self.requests.is_empty() => self.virtual_time.max(self.furthest),
+            Shares::Virtual => self.virtual_time,
+        }
+    }
+
+    /// A tag: max(previous + count * spacing, least).
+    fn next(
+        &self,
+        previous: Fraction,
+        count: u32,
+        rate: Option<u32>,
+        least: Fraction,
+    ) -> Option<Fraction> {
         let step = match rate {
             Some(rate) => self.spacing(rate)?.times(self.kind, count)?,
             None => Fraction::whole(0),
         };
-        Some(previous.plus(self.kind, step)?.max(Fraction::whole(t)))
+        Some(previous.plus(self.kind, step)?.max(least))
     }
 
     pub fn add_request(
@@ -271,20 +293,26 @@ impl Slow {
         }
         let (mut requests, mut clients) = self.adjusted(place, t).ok_or(AddError::Range)?;
         let Client { info, previous, .. } = clients[place].clone();
+        let (now, least) = (Fraction::whole(t), self.least_share(t));
         let r = match info.reservation() {
             Some(rate) => Some(
-                self.next(previous.r.unwrap(), params.rho(), Some(rate), t)
+                self.next(previous.r.unwrap(), params.rho(), Some(rate), now)
                     .ok_or(AddError::Range)?,
             ),
             None => None,
         };
-        let l = self.next(previous.l, params.delta(), info.limit(), t);
-        let p = self.next(previous.p, params.delta(), Some(info.weight()), t);
+        let l = self.next(previous.l, params.delta(), info.limit(), now);
+        let p = self.next(previous.p, params.delta(), Some(info.weight()), least);
         let tags = SlowTags {
             r,
             l: l.ok_or(AddError::Range)?,
             p: p.ok_or(AddError::Range)?,
         };
+        if let AtLimit::Reject { threshold } = self.config.at_limit() {
+            if tags.l.ceil() > u128::from(t) + u128::from(threshold) {
+                return Err(AddError::OverLimit);
+            }
+        }
         let client = &mut clients[place];
         client.previous = SlowTags {
             r: tags.r.or(previous.r),
@@ -298,6 +326,9 @@ impl Slow {
             tags,
         });
         (self.requests, self.clients, self.last) = (requests, clients, t);
+        if self.config.shares() == Shares::Virtual {
+            (self.virtual_time, self.furthest) = (least, self.furthest.max(tags.p));
+        }
         Ok(tags)
     }
 
@@ -335,6 +366,9 @@ impl Slow {
             clients[owner].previous.r = Some(less(previous).ok_or(PullError::Range)?);
         }
         (self.requests, self.clients, self.last) = (requests, clients, t);
+        if self.config.shares() == Shares::Virtual {
+            self.virtual_time = self.virtual_time.max(granted.tags.p);
+        }
         Ok(Pulled::Returning {
             client: granted.client,
             token: granted.token,
@@ -364,7 +398,7 @@ impl Slow {
             self.config.at_limit(),
         ) {
             (Some(place), AtLimit::Allow) => self.grant_by_weight(place, true, t),
-            (Some(_), AtLimit::Wait) => {
+            (Some(_), AtLimit::Wait | AtLimit::Reject { .. }) => {
                 self.last = t;
                 let tags = self.requests.iter().map(|request| request.tags);
                 let due = tags.flat_map(|tags| tags.r.into_iter().chain([tags.l]));

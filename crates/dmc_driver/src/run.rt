@@ -11,6 +11,7 @@ use crate::ending::end;
 use crate::fault::DriveFault;
 use crate::within::{count_histories, count_within, keep_consistent, keep_to_most};
 use dmc_book::book::QueueBook;
+use dmc_book::per_count::BOOKS_PER_WORKER;
 use dmc_driver_threads::limits::Limits;
 use dmc_driver_threads::moments::Moments;
 use dmc_driver_threads::origin::Origin;
@@ -18,6 +19,7 @@ use dmc_driver_threads::remains::Remains;
 use dmc_driver_threads::service::Service;
 use dmc_driver_threads::workers::run_workers;
 use dmc_index::index::Indexes;
+use dmc_ledger::desk::BOOKS_PER_PAIR;
 use dmc_ledger::mint::Blank;
 use dmc_ledger::setup::Setup;
 use dmc_scene::scene::Scene;
@@ -79,8 +81,8 @@ where
     run_in::<T, Brand, R, V, M>(rt, alloc, blank, scene, service, moments, limits)
 }
 
-/// How many books a run opens: five of each client at each server, five of each worker that a server enrols, and the number of
-/// each server's history.
+/// How many books a run opens: those of each client at each server, those of each worker that a server enrols, and the number
+/// of each server's history.
 fn books_of(scene: &Scene) -> u64
     ensures value { result ≡ books_of scene.now }
     ensures some { 0 < result }
@@ -88,7 +90,8 @@ fn books_of(scene: &Scene) -> u64
 {
     let clients = scene.clients().len() as u64;
     let servers = u64::from(scene.servers());
-    let at_each = 5 * (2 * clients + u64::from(scene.workers())) + 1;
+    let workers = clients + u64::from(scene.workers());
+    let at_each = BOOKS_PER_PAIR * clients + BOOKS_PER_WORKER * workers + 1;
     servers * at_each
 }
 

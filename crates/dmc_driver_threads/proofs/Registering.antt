@@ -18,6 +18,7 @@ use Rattle.dmc_book.specs.BookState.{BookState, PassState, WorkerSide, no_worker
 use Rattle.dmc_book.specs.Calls.{Ran, event_of}
 use Rattle.dmc_book.specs.Counts.{numbers_of}
 use Rattle.dmc_book.specs.Moves.{AreOf, IsEnrolled, IsOpen, desk_after, desk_place, pass_after, tills_after, worker_after}
+use Rattle.dmc_book.specs.PerCount.{books_per_worker}
 use Rattle.dmc_book.specs.Opening.{desk_with_tills, new_pass, new_passes, new_state, new_workers}
 use Rattle.dmc_book.specs.declared.pass.WorkerPass.{WorkerPass}
 use Rattle.dmc_scene.specs.SceneValue.{ClientValue, SceneValue}
@@ -51,7 +52,7 @@ new_book_is {T} scene limits book config server most n ws ds is configured limit
 
 as_many : (place n : ℕ) (names : List ClientId) (ds : List ClientSide) (ws : List WorkerId) → length (new_passes place n names ds ws) ≡ length ws
 as_many place n names ds [] = refl
-as_many place n names ds (w ∷ ws) = ap suc (as_many (place + 1) (n + 5) names ds ws)
+as_many place n names ds (w ∷ ws) = ap suc (as_many (place + 1) (n + books_per_worker) names ds ws)
 
 first_new : (reach n : ℕ) (names : List ClientId) (ds : List ClientSide) (ws : List WorkerId) (p : PassState) → slice_get (new_passes 0 n names ds ws) 0 ≡ Some p
     → IsEnrolled (new_workers reach n ws) p
@@ -59,7 +60,7 @@ first_new reach n names ds [] p at = absurd (none-some p at)
 first_new reach n names ds (w ∷ ws) p at = subst (IsEnrolled (new_workers reach n (w ∷ ws))) (same_Some (new_pass 0 n names ds w) p at) (record {
   within = omega arith;
   its_worker = refl;
-  its_tills = record { calls = refl; misses = refl; tokens = refl; grants = refl; granted = refl };
+  its_tills = (refl, refl, refl, refl, refl);
   still = omega arith;
 })
 
@@ -109,13 +110,7 @@ enrolled_after e command reply ws p h =
     record {
       within = omega (arith, h.within, length-map ws (worker_after e));
       its_worker = ap (λ (w : WorkerSide). w.worker) at ∙ h.its_worker;
-      its_tills = subst (λ (w : WorkerSide). AreOf (tills_after (numbers_of command reply) p.tills) w.books) (sym at) (record {
-        calls = h.its_tills.calls;
-        misses = h.its_tills.misses;
-        tokens = h.its_tills.tokens;
-        grants = h.its_tills.grants;
-        granted = h.its_tills.granted;
-      });
+      its_tills = subst (λ (w : WorkerSide). AreOf (tills_after (numbers_of command reply) p.tills) w.books) (sym at) h.its_tills;
       still = subst IsOpen (sym at) h.still;
     }
 

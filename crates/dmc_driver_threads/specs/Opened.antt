@@ -5,17 +5,19 @@ use Rattle.std.proofs.lemmas.List.{append_assoc, map-append}
 use Rattle.dmc_types.specs.declared.command.Command.{Command}
 use Rattle.dmc_types.specs.declared.command.Command.TheVariants.{Register}
 use Rattle.dmc_tag.specs.declared.event.Event.{Event}
+use Rattle.dmc_ledger.specs.Bundles.{books_per_pair}
 use Rattle.dmc_tlock.specs.BookState as tracker_book
 use Rattle.dmc_tlock.specs.Later as tracker_later
 use Rattle.dmc_book.specs.BookState.{BookState}
 use Rattle.dmc_book.specs.Later.{IsLater}
+use Rattle.dmc_book.specs.PerCount.{books_per_worker}
 use Rattle.dmc_scene.specs.SceneValue.{ClientValue, SceneValue}
 use Rattle.dmc_driver_threads.specs.LimitsValue.{LimitsValue}
 
--- how many books a run opens: five of each client at each server, five of each worker that a server enrols, which are the clients'
--- and its own, and one of each server's history
+-- how many books a run opens: those of each client at each server, those of each worker that a server enrols, which are the
+-- clients' and its own, and one of each server's history
 abbrev pub books_of : SceneValue → ℕ
-books_of scene = scene.servers * (5 * (2 * length scene.clients + scene.workers) + 1)
+books_of scene = scene.servers * (books_per_pair * length scene.clients + books_per_worker * (length scene.clients + scene.workers) + 1)
 
 -- the command that registers a client of a scene: with its rates, at moment 0
 abbrev pub registration : ClientValue → Command

@@ -5,6 +5,7 @@ use Rattle.dmc_types.specs.declared.ids.WorkerId.{WorkerId}
 use Rattle.dmc_book.specs.BookState.{BookState, PassState, WorkerSide, pass_state}
 use Rattle.dmc_book.specs.Moves.{IsEnrolled}
 use Rattle.dmc_book.specs.Opening.{AreApart}
+use Rattle.dmc_book.specs.PerCount.{books_per_worker}
 use Rattle.dmc_book.specs.declared.pass.WorkerPass.{WorkerPass}
 use Rattle.dmc_scene.specs.SceneValue.{SceneValue}
 use Rattle.dmc_driver_threads.specs.LimitsValue.{LimitsValue}
@@ -14,9 +15,9 @@ use Rattle.dmc_driver_threads.specs.internal.Desks.{ids_of}
 abbrev pub enrolled : SceneValue → ℕ
 enrolled scene = length scene.clients + scene.workers
 
--- how many books a server's book opens: five of each worker, and that of its history
+-- how many books a server's book opens: those of each worker, and that of its history
 abbrev pub books_of_server : SceneValue → ℕ
-books_of_server scene = 5 * enrolled scene + 1
+books_of_server scene = books_per_worker * enrolled scene + 1
 
 -- workers of different numbers, all of them below this one
 pub record AreNumbered (next : ℕ) (workers : List WorkerId) : Type 0 where

@@ -1,6 +1,7 @@
 -- The value if no run was opened.
 use Rattle.std.specs.Prelude.{[]}
 use Rattle.dmc_types.specs.declared.config.AtLimit.TheVariants.{Wait}
+use Rattle.dmc_types.specs.declared.config.Shares.TheVariants.{Clock}
 use Rattle.dmc_types.specs.declared.config.Counting.TheVariants.{All}
 use Rattle.dmc_types.specs.declared.config.TagKind.TheVariants.{Tick}
 use Rattle.dmc_scene.specs.SceneValue.{SceneValue}
@@ -8,7 +9,7 @@ use Rattle.dmc_driver_threads.specs.LimitsValue.{LimitsValue}
 
 abbrev pub no_scene : SceneValue
 no_scene = record {
-  config = record { hz = 0; idle_age = 0; erase_age = 0; at_limit = Wait };
+  config = record { hz = 0; idle_age = 0; erase_age = 0; at_limit = Wait; shares = Clock };
   tags = Tick;
   servers = 0;
   workers = 0;

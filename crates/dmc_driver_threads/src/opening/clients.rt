@@ -2,6 +2,7 @@
 ghost use Rattle.std.specs.Prelude.{◌≡◌, ◌+◌, ◌*◌, ◌<◌, ◌≤◌, [], length, map, OnOk};
 ghost use Rattle.std.specs.List.{range_with_len};
 ghost use Rattle.dmc_types.specs.Limits.{max_servers};
+ghost use Rattle.dmc_ledger.specs.Bundles.{books_per_pair};
 ghost use Rattle.dmc_driver_threads.specs.internal.Desks.{ids_of, queues_of, with_client};
 
 use super::desks::{QueueDesks, TrackerDesks, open_pairs};
@@ -72,10 +73,10 @@ impl<'a> Opening<'a> {
         requires queues { queues.old ≡ queues_of (length queues.old) [] }
         requires some { 0 < length queues.old }
         requires few { length queues.old ≤ max_servers }
-        requires left { length self.now.scene.now.clients * (5 * length queues.old) ≤ mint.old.left }
+        requires left { length self.now.scene.now.clients * (books_per_pair * length queues.old) ≤ mint.old.left }
         requires jobs { senders.old.jobs.items ≡ [] }
         ensures queues { OnOk result (queues.new ≡ queues_of (length queues.old) (ids_of self.now.scene.now.clients)) }
-        ensures left { OnOk result (mint.new.left + length self.now.scene.now.clients * (5 * length queues.old) ≡ mint.old.left) }
+        ensures left { OnOk result (mint.new.left + length self.now.scene.now.clients * (books_per_pair * length queues.old) ≡ mint.old.left) }
         ensures jobs { OnOk result (length senders.new.jobs.items ≡ length self.now.scene.now.clients) }
         ensures queues_kept { OnOk result (length cluster.new.queues.items ≡ length cluster.old.queues.items) }
         ensures trackers { OnOk result
@@ -101,9 +102,9 @@ impl<'a> Opening<'a> {
         requires servers { map (λ q. q.server) queues.old ≡ range_with_len 0 (length queues.old) }
         requires some { 0 < length queues.old }
         requires few { length queues.old ≤ max_servers }
-        requires left { 5 * length queues.old ≤ mint.old.left }
+        requires left { books_per_pair * length queues.old ≤ mint.old.left }
         ensures queues { OnOk result (queues.new ≡ map (with_client client.id.0) queues.old) }
-        ensures left { OnOk result (mint.new.left + 5 * length queues.old ≡ mint.old.left) }
+        ensures left { OnOk result (mint.new.left + books_per_pair * length queues.old ≡ mint.old.left) }
         ensures jobs { OnOk result (length senders.new.jobs.items ≡ length senders.old.jobs.items + 1) }
         ensures queues_kept { OnOk result (length cluster.new.queues.items ≡ length cluster.old.queues.items) }
         ensures trackers { OnOk result (length cluster.new.trackers.items ≡ length cluster.old.trackers.items + 1) }

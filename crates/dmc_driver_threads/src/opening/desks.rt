@@ -2,7 +2,7 @@
 ghost use Rattle.std.specs.Prelude.{◌≡◌, ◌+◌, ◌*◌, ◌<◌, ◌≤◌, ℕ, [], length, map, IfOk, OnOk};
 ghost use Rattle.std.specs.List.{range_with_len};
 ghost use Rattle.dmc_types.specs.Limits.{max_servers};
-ghost use Rattle.dmc_ledger.specs.Bundles.{client_side, server_side, new_server_side};
+ghost use Rattle.dmc_ledger.specs.Bundles.{books_per_pair, client_side, server_side, new_server_side};
 ghost use Rattle.dmc_book.specs.Opening.{IsNewDesk};
 ghost use Rattle.dmc_driver_threads.specs.internal.Desks.{queue_of, queues_of, with_client, with_server};
 
@@ -118,10 +118,10 @@ pub(crate) fn open_pairs<S: Setup>(
     queues: &mut [QueueDesks<S>],
 ) -> Result<TrackerDesks<S>, AllocError>
     requires servers { map (λ q. q.server) queues.old ≡ range_with_len 0 (length queues.old) }
-    requires left { 5 * length queues.old ≤ mint.old.left }
+    requires left { books_per_pair * length queues.old ≤ mint.old.left }
     ensures queues { OnOk result (queues.new ≡ map (with_client client.0) queues.old) }
     ensures sides { IfOk result (λ sides. sides ≡ record { client = client.0; servers = length queues.old }) }
-    ensures left { OnOk result (mint.new.left + 5 * length queues.old ≡ mint.old.left) }
+    ensures left { OnOk result (mint.new.left + books_per_pair * length queues.old ≡ mint.old.left) }
 {
     let mut sides = TrackerDesks::new(alloc, client, queues.len())?;
     for queue in queues.iter_mut() {
@@ -137,10 +137,10 @@ fn open_next<S: Setup>(
     sides: &mut TrackerDesks<S>,
 ) -> Result<(), AllocError>
     requires server { queue.old.server ≡ sides.old.servers }
-    requires left { 5 ≤ mint.old.left }
+    requires left { books_per_pair ≤ mint.old.left }
     ensures queue { OnOk result (queue.new ≡ with_client sides.old.client queue.old) }
     ensures sides { OnOk result (sides.new ≡ with_server sides.old) }
-    ensures left { OnOk result (mint.new.left + 5 ≡ mint.old.left) }
+    ensures left { OnOk result (mint.new.left + books_per_pair ≡ mint.old.left) }
 {
     let Ok((desk, side)) = open_pair(mint, sides.client, queue.server) else {
         unreachable!()

@@ -5,6 +5,7 @@ ghost use Rattle.dmc_types.specs.Limits.{max_scene_clients, max_server_workers, 
 ghost use Rattle.dmc_ledger.specs.Bundles.{client_side};
 ghost use Rattle.dmc_book.specs.BookState.{pass_state};
 ghost use Rattle.dmc_book.specs.Opening.{AreApart, AreBookLimits, AreNamedOnce, IsNewDesk, new_passes, new_state};
+ghost use Rattle.dmc_book.specs.PerCount.{books_per_worker};
 ghost use Rattle.dmc_driver_threads.specs.Opened.{IsOpenedBook, commands_of, registration};
 ghost use Rattle.dmc_driver_threads.specs.internal.Books.{AreNumbered, IsFirstEnrolled, IsNewBook, IsSetAsBefore, books_of_server, enrolled};
 ghost use Rattle.dmc_driver_threads.specs.internal.Desks.{ids_of, queues_of};
@@ -275,7 +276,7 @@ fn make_book<T: Tag, I: Indexes<T>, S: Setup>(
         made.0 ≡ new_state config server.0 most mint.old.opened workers.now (map client_side desks.items)) }
     ensures passes { IfOk result (λ made. map pass_state made.1.items
         ≡ new_passes 0 mint.old.opened (map (λ d. d.client) desks.items) (map client_side desks.items) workers.now) }
-    ensures left { OnOk result (mint.new.left + (5 * length workers.now + 1) ≡ mint.old.left) }
+    ensures left { OnOk result (mint.new.left + (books_per_worker * length workers.now + 1) ≡ mint.old.left) }
 {
     match QueueBook::new(alloc, config, server, workers, desks, mint, most) {
         Ok(made) => Ok(made),

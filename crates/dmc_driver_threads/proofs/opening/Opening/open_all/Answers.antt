@@ -1,5 +1,6 @@
 use Rattle.std.proofs.Common.{◌≡◌, ℕ, ◌+◌, ◌*◌, ◌≤◌, List, [], length, map, drop, sym, ap, ◌∙◌, subst, arith}
 use Rattle.dmc_lemmas.proofs.Lists.{lent_back}
+use Rattle.dmc_ledger.specs.Bundles.{books_per_pair}
 use Rattle.dmc_settle.specs.declared.report.ClientReport.{ClientReport}
 use Rattle.dmc_driver_threads.specs.internal.Desks.{QueueDesksValue, ids_of, queues_of}
 use Rattle.dmc_driver_threads.proofs.DeskLemmas.{as_many_queues}
@@ -29,8 +30,8 @@ pub open_clients-requires-clause-left : goal.open_clients-requires-clause-left
 open_clients-requires-clause-left g c =
     let scene = c.args.self.now.scene.now in
     let a = (goal.at.open_clients-requires-clause-left g c).After-deref_mut in
-    let enough : length scene.clients * (5 * scene.servers) ≤ c.args.mint.now.left = omega (arith, c.requires.numbers) in
-    subst (λ (n : ℕ). length scene.clients * (5 * n) ≤ c.args.mint.now.left) (sym (long g a)) enough
+    let enough : length scene.clients * (books_per_pair * scene.servers) ≤ c.args.mint.now.left = omega (arith, c.requires.numbers) in
+    subst (λ (n : ℕ). length scene.clients * (books_per_pair * n) ≤ c.args.mint.now.left) (sym (long g a)) enough
 
 pub open_servers-requires-clause-desks : goal.open_servers-requires-clause-desks
 open_servers-requires-clause-desks g c =
@@ -49,8 +50,8 @@ pub open_servers-requires-clause-left : goal.open_servers-requires-clause-left
 open_servers-requires-clause-left g c =
     let scene = c.args.self.now.scene.now in
     let a = (goal.at.open_servers-requires-clause-left g c).After-deref_mut in
-    let opened : c.open_clients.new.mint.left + length scene.clients * (5 * scene.servers) ≡ c.args.mint.now.left =
-    subst (λ (n : ℕ). c.open_clients.new.mint.left + length scene.clients * (5 * n) ≡ c.args.mint.now.left) (long g a) c.in_ok-open_clients.ensures.left in
+    let opened : c.open_clients.new.mint.left + length scene.clients * (books_per_pair * scene.servers) ≡ c.args.mint.now.left =
+    subst (λ (n : ℕ). c.open_clients.new.mint.left + length scene.clients * (books_per_pair * n) ≡ c.args.mint.now.left) (long g a) c.in_ok-open_clients.ensures.left in
     omega (arith, opened, c.requires.numbers)
 
 pub returns-clause-rows : goal.returns-clause-rows

@@ -1,5 +1,6 @@
 use Rattle.std.proofs.Common.{◌≡◌, ◌*◌, ◌<◌, ◌≤◌, List, length, map, get_or, sym, ap, ◌∙◌, arith}
 use Rattle.std.specs.List.{range_with_len}
+use Rattle.dmc_ledger.specs.Bundles.{books_per_pair}
 use Rattle.dmc_scene.specs.SceneValue.{ClientValue}
 use Rattle.dmc_driver_threads.specs.internal.Desks.{QueueDesksValue}
 use Rattle.dmc_driver_threads.proofs.DeskLemmas.{next_client, one_turn, servers_of}
@@ -18,7 +19,7 @@ open_client-requires-clause-left g c =
     let i = c.loop-client.client-index in
     let same : length c.loop-client.queues ≡ n = omega arith in
     let within : i < length cs = omega (arith, ap (λ (xs : List ClientValue). length xs) c.clients-client-items.ensures.value) in
-    let each : 5 * n ≤ c.loop-client.mint.left = one_turn i (length cs) (5 * n) c.loop-client.mint.left c.args.mint.now.left within c.loop-client.invariant.left c.requires.left in
+    let each : books_per_pair * n ≤ c.loop-client.mint.left = one_turn i (length cs) (books_per_pair * n) c.loop-client.mint.left c.args.mint.now.left within c.loop-client.invariant.left c.requires.left in
     omega (arith, same, each)
 
 pub loop-client-preserved : goal.loop-client-preserved

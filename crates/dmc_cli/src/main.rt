@@ -4,12 +4,13 @@
 use dmc_text::watched::Watched;
 use dmc_tool::fault::Fault;
 use dmc_tool::fault_line::write_fault;
+use dmc_tool::inputs::SystemFiles;
 use dmc_tool::tool::run_tool;
 use std::io::ErrorKind;
 use std::process::ExitCode;
 use std::{env, io};
 
-/// Runs the tool that the program's words name, on the standard streams.
+/// Runs what the program's words ask for, on the standard streams.
 fn main(rt: HostRuntime) -> ExitCode {
     let mut fault_writer = Watched::new(rt.stderr());
     let words = match program_words(&rt) {
@@ -20,6 +21,7 @@ fn main(rt: HostRuntime) -> ExitCode {
     let mut writer = Watched::new(io::writer(&rt));
     let status = run_tool(
         &rt,
+        &SystemFiles::new(&rt),
         words.as_slice(),
         &mut reader,
         &mut writer,

@@ -8,7 +8,7 @@ use dmc_text::reply::read_reply;
 use dmc_text::write::write_reply;
 use dmc_tick::tick::TickTag;
 use dmc_types::command::Command;
-use dmc_types::config::{AtLimit, PhaseType, QueueConfig};
+use dmc_types::config::{AtLimit, PhaseType, QueueConfig, Shares};
 use dmc_types::ids::{ClientId, Token};
 use dmc_types::info::ClientInfo;
 use dmc_types::moment::Moment;
@@ -70,6 +70,31 @@ fn hz_lines(rt: HostRuntime) -> Result<(), Fail> {
     says_first(&rt, b"hz 1000 1 2 allow", Ok(Line::Config(both)));
     says_first(&rt, b"hz 1000 1 2 wait", Err(LineCause::Words));
     says_first(&rt, b"hz 1000 5 allow", Err(LineCause::Number));
+    says_first(
+        &rt,
+        b"hz 1000 virtual",
+        Ok(Line::Config(waits.with_shares(Shares::Virtual))),
+    );
+    says_first(
+        &rt,
+        b"hz 1000 allow virtual",
+        Ok(Line::Config(allows.with_shares(Shares::Virtual))),
+    );
+    says_first(
+        &rt,
+        b"hz 1000 1 2 virtual",
+        Ok(Line::Config(ages.with_shares(Shares::Virtual))),
+    );
+    says_first(
+        &rt,
+        b"hz 1000 1 2 allow virtual",
+        Ok(Line::Config(both.with_shares(Shares::Virtual))),
+    );
+    says_first(&rt, b"hz 1000 virtual allow", Err(LineCause::Number));
+    says_first(&rt, b"hz 1000 1 2 virtual allow", Err(LineCause::Words));
+    says_first(&rt, b"hz 1000 5 virtual", Err(LineCause::Words));
+    says_first(&rt, b"hz 1000 virtual virtual", Err(LineCause::Words));
+    says_first(&rt, b"hz virtual", Err(LineCause::Number));
     says_first(&rt, b"hz 5000000000", Err(LineCause::Hz));
     says_first(&rt, b"hzz 1000", Err(LineCause::Hz));
     says_first(&rt, b"pull 0", Err(LineCause::Hz));

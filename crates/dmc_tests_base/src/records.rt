@@ -39,7 +39,7 @@ fn record_at_greatest(alloc: Global) -> Result<ClientRec<TickTag>, Fail> {
 /// The P that the next request gets at moment 0, in ticks.
 fn next_share(rec: &ClientRec<TickTag>, params: ReqParams) -> Option<i128> {
     let zero = TickTag::of_moment(Moment::zero());
-    let tags = tags_for(rec, params, zero)?;
+    let tags = tags_for(rec, params, zero, zero)?;
     Some(tags.p.ticks())
 }
 

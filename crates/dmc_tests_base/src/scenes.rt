@@ -3,7 +3,7 @@ use crate::same::assert_same;
 use dmc_scene::fault::SceneFault;
 use dmc_scene::key::Key;
 use dmc_scene::scene::{Scene, read_scene};
-use dmc_types::config::{AtLimit, Counting, QueueConfig, TagKind};
+use dmc_types::config::{AtLimit, Counting, QueueConfig, Shares, TagKind};
 use dmc_types::ids::ClientId;
 use dmc_types::info::ClientInfo;
 use std::alloc::{AllocError, Global};
@@ -179,7 +179,7 @@ fn scene_faults(rt: HostRuntime) -> Result<(), Fail> {
 }
 
 /// Changes of the scene, each with the fault that it makes.
-const CHANGES: [(&str, &str, SceneFault); 11] = [
+const CHANGES: [(&str, &str, SceneFault); 13] = [
     ("hz = 1000\n", "", SceneFault::Missing(Key::Hz)),
     ("hz = 1000", "hz = \"1000\"", SceneFault::Kind(Key::Hz)),
     ("hz = 1000", "hz = -1", SceneFault::Value(Key::Hz)),
@@ -210,6 +210,12 @@ const CHANGES: [(&str, &str, SceneFault); 11] = [
         "at_limit = true\nstep",
         SceneFault::Kind(Key::AtLimit),
     ),
+    ("step", "shares = 1\nstep", SceneFault::Kind(Key::Shares)),
+    (
+        "step",
+        "shares = \"real\"\nstep",
+        SceneFault::Value(Key::Shares),
+    ),
     (
         "window = 1",
         "window = 1025",
@@ -219,7 +225,8 @@ const CHANGES: [(&str, &str, SceneFault); 11] = [
 
 /// The scene in ratios, with thirds.
 fn thirds(alloc: Global) -> Result<Scene, SceneFault> {
-    let ratios = "tags = \"ratio\"\ncounting = \"others\"\nat_limit = \"allow\"";
+    let ratios =
+        "tags = \"ratio\"\ncounting = \"others\"\nat_limit = \"allow\"\nshares = \"virtual\"";
     let text = changed(alloc, TWO_CLIENTS, "tags = \"tick\"", ratios)?;
     let text = changed(alloc, &text, "weight = 1", "weight = 3\nlimit = 20")?;
     read_scene(alloc, text.as_bytes())
@@ -234,6 +241,7 @@ fn changed_scenes(rt: HostRuntime) -> Result<(), Fail> {
     assert_same(&rt, &scene.tags(), &TagKind::Ratio);
     assert_same(&rt, &scene.counting(), &Counting::Others);
     assert_same(&rt, &scene.config().at_limit(), &AtLimit::Allow);
+    assert_same(&rt, &scene.config().shares(), &Shares::Virtual);
     let info = ClientInfo::new(Some(10), 3, Some(20))?;
     assert_same(&rt, &scene.clients()[0].info(), &info);
     Ok(())

@@ -9,7 +9,7 @@ use dmc_text::tag::TagText;
 use dmc_text::write_line::{write_command, write_config, write_event, write_header};
 use dmc_tick::tick::TickTag;
 use dmc_types::command::Command;
-use dmc_types::config::{AtLimit, PhaseType, QueueConfig};
+use dmc_types::config::{AtLimit, PhaseType, QueueConfig, Shares};
 use dmc_types::ids::{ClientId, ServerId, Token, WorkerId};
 use dmc_types::info::ClientInfo;
 use dmc_types::moment::Moment;
@@ -62,9 +62,10 @@ fn is_config<R: AllocGlobal + Abort>(
     rt: &R,
     idle_age: u64,
     at_limit: AtLimit,
+    shares: Shares,
     line: &[u8],
 ) -> Result<(), Fail> {
-    let config = QueueConfig::new(1000, idle_age, 1 << 62, at_limit)?;
+    let config = QueueConfig::new(1000, idle_age, 1 << 62, at_limit)?.with_shares(shares);
     let mut out = Vec::with_capacity(rt.alloc(), ROOM)?;
     write_config(config, &mut out)?;
     assert_same(rt, &out.pop(), &Some(b'\n'));
@@ -75,12 +76,47 @@ fn is_config<R: AllocGlobal + Abort>(
 
 #[test]
 fn configurations_written(rt: HostRuntime) -> Result<(), Fail> {
-    is_config(&rt, 1, AtLimit::Wait, b"hz 1000 1 4611686018427387904")?;
+    is_config(
+        &rt,
+        1,
+        AtLimit::Wait,
+        Shares::Clock,
+        b"hz 1000 1 4611686018427387904",
+    )?;
+    is_config(
+        &rt,
+        1,
+        AtLimit::Wait,
+        Shares::Virtual,
+        b"hz 1000 1 4611686018427387904 virtual",
+    )?;
     is_config(
         &rt,
         1 << 62,
         AtLimit::Allow,
+        Shares::Clock,
         b"hz 1000 4611686018427387904 4611686018427387904 allow",
+    )?;
+    is_config(
+        &rt,
+        1 << 62,
+        AtLimit::Allow,
+        Shares::Virtual,
+        b"hz 1000 4611686018427387904 4611686018427387904 allow virtual",
+    )?;
+    is_config(
+        &rt,
+        1,
+        AtLimit::Reject { threshold: 0 },
+        Shares::Clock,
+        b"hz 1000 1 4611686018427387904 reject 0",
+    )?;
+    is_config(
+        &rt,
+        1 << 62,
+        AtLimit::Reject { threshold: 1 << 62 },
+        Shares::Virtual,
+        b"hz 1000 4611686018427387904 4611686018427387904 reject 4611686018427387904 virtual",
     )
 }
 

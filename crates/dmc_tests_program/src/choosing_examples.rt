@@ -238,3 +238,30 @@ fn two_processes(rt: HostRuntime) -> Result<(), Fail> {
          tags - 0 2000",
     )
 }
+
+#[test]
+fn newcomer_clock(rt: HostRuntime) -> Result<(), Fail> {
+    gives(
+        &rt,
+        "tick",
+        "hz 1000; client 1 - 1 - 0; client 2 - 1 - 0; add 1 11 1 1 0; add 1 12 1 1 0; pull 0; \
+         pull 0; add 2 21 1 1 0; add 1 13 1 1 0; add 2 22 1 1 0; pull 0; pull 0; pull 0",
+        "ok; ok; tags - 0 1000; tags - 0 2000; grant 1 11 priority; grant 1 12 priority; tags \
+         - 0 1000; tags - 0 3000; tags - 0 2000; grant 2 21 priority; grant 2 22 priority; \
+         grant 1 13 priority",
+    )
+}
+
+#[test]
+fn newcomer_virtual(rt: HostRuntime) -> Result<(), Fail> {
+    gives(
+        &rt,
+        "tick",
+        "hz 1000 virtual; client 1 - 1 - 0; client 2 - 1 - 0; add 1 11 1 1 0; add 1 12 1 1 0; \
+         pull 0; pull 0; add 2 21 1 1 0; add 1 13 1 1 0; add 2 22 1 1 0; pull 0; pull 0; pull \
+         0",
+        "ok; ok; tags - 0 1000; tags - 0 2000; grant 1 11 priority; grant 1 12 priority; tags \
+         - 0 2000; tags - 0 3000; tags - 0 3000; grant 2 21 priority; grant 1 13 priority; \
+         grant 2 22 priority",
+    )
+}

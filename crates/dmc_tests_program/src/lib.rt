@@ -10,6 +10,8 @@ mod event_examples;
 #[cfg(test)]
 mod examples;
 #[cfg(test)]
+mod files;
+#[cfg(test)]
 mod queues;
 #[cfg(test)]
 mod replays;

@@ -1,7 +1,10 @@
 //! Runs of the program in the tests: what they read, and what they have to write. The capacity for all that is written is
 //! reserved before a run, so that an allocation failure is never reported as a failed write.
+ghost use Rattle.std.specs.Prelude.{⊤};
+
 use crate::same::assert_same;
 use dmc_text::watched::Watched;
+use dmc_tool::inputs::Inputs;
 use dmc_tool::tool::run_tool;
 use std::alloc::{AllocError, Global};
 use std::convert::AsStr;
@@ -33,17 +36,47 @@ pub fn lines(alloc: Global, text: &str) -> Result<Vec<u8>, AllocError> {
     Ok(bytes)
 }
 
+/// The files that a run finds: one of this name, with these bytes.
+#[derive(Clone, Copy)]
+pub struct OneFile<'a> {
+    pub name: &'a str,
+    pub bytes: &'a [u8],
+}
+
+impl<'a> Inputs for OneFile<'a> {
+    type Input = &'a [u8];
+
+    ghost is_opened = { λ _ _ _. ⊤ };
+
+    ghost is_refused = { λ _ _. ⊤ };
+
+    fn open(&self, name: &str) -> io::Result<&'a [u8]> {
+        if name != self.name {
+            return Err(io::Error::from(io::ErrorKind::NotFound));
+        }
+        Ok(self.bytes)
+    }
+}
+
+/// A file that no run names.
+const UNNAMED: OneFile<'static> = OneFile {
+    name: "",
+    bytes: b"",
+};
+
 /// Runs the program on these words over these streams, watched, and returns its status. No test relies on what the contract says
 /// of the streams.
-fn status_of<T: AllocGlobal + Threads + Wait + Sync, S: AsStr, R: Read, W: Write, E: Write>(
-    rt: &T,
-    words: &[S],
-    reader: &mut R,
-    writer: &mut W,
-    fault_writer: &mut E,
-) -> u8 {
+fn status_of<
+    T: AllocGlobal + Threads + Wait + Sync,
+    I: Inputs,
+    S: AsStr,
+    R: Read,
+    W: Write,
+    E: Write,
+>(rt: &T, inputs: &I, words: &[S], reader: &mut R, writer: &mut W, fault_writer: &mut E) -> u8 {
     run_tool(
         rt,
+        inputs,
         words,
         &mut Watched::new(reader),
         &mut Watched::new(writer),
@@ -59,8 +92,20 @@ pub fn status_with_fault<T: AllocGlobal + Threads + Wait + Sync + Abort, R: Read
     writer: &mut W,
     fault: &[u8],
 ) -> Result<u8, Fail> {
+    status_on_file(rt, &UNNAMED, words, reader, writer, fault)
+}
+
+/// The same, if there is a file that the words may name.
+fn status_on_file<T: AllocGlobal + Threads + Wait + Sync + Abort, R: Read, W: Write>(
+    rt: &T,
+    file: &OneFile<'_>,
+    words: &[&str],
+    reader: &mut R,
+    writer: &mut W,
+    fault: &[u8],
+) -> Result<u8, Fail> {
     let mut observed = Vec::with_capacity(rt.alloc(), ROOM)?;
-    let status = status_of(rt, words, reader, writer, &mut observed);
+    let status = status_of(rt, file, words, reader, writer, &mut observed);
     if observed.as_slice() == b"dmclock: memory\n".as_slice() {
         return Err(AllocError.into());
     }
@@ -80,6 +125,24 @@ pub fn runs<T: AllocGlobal + Threads + Wait + Sync + Abort>(
     let mut reader = input;
     let mut written = Vec::with_capacity(rt.alloc(), ROOM)?;
     let ended = status_with_fault(rt, words, &mut reader, &mut written, fault)?;
+    assert_same(rt, &written.as_slice(), &output);
+    assert_same(rt, &ended, &status);
+    Ok(())
+}
+
+/// Runs the program on these words and this file, with an input that fails at each read, and checks all that it writes and its
+/// status. An allocation failure is an error.
+pub fn runs_on_file<T: AllocGlobal + Threads + Wait + Sync + Abort>(
+    rt: &T,
+    file: &OneFile<'_>,
+    words: &[&str],
+    output: &[u8],
+    fault: &[u8],
+    status: u8,
+) -> Result<(), Fail> {
+    let mut reader = FailingReader::new(b"", 0);
+    let mut written = Vec::with_capacity(rt.alloc(), ROOM)?;
+    let ended = status_on_file(rt, file, words, &mut reader, &mut written, fault)?;
     assert_same(rt, &written.as_slice(), &output);
     assert_same(rt, &ended, &status);
     Ok(())

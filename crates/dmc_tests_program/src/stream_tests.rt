@@ -108,8 +108,8 @@ const REFUSED: [&[&str]; 12] = [
     &["--help"],
     &["-h"],
     &["help"],
-    &["script", "check"],
-    &["check", "--tags", "tick", "ratio"],
+    &["script", "check", "sim"],
+    &["check", "--tags", "tick", "ratio", "whole"],
     &["sim", "--tags", "tick"],
     &["run", "--tags", "tick"],
 ];

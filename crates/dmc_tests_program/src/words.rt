@@ -1,4 +1,4 @@
-//! What no clause says: which words ask for a tool, and the texts of the faults.
+//! What no clause says: which words ask for what, and the texts of the faults.
 use crate::runs::ROOM;
 use crate::same::assert_same;
 use dmc_scene::key::Key;
@@ -6,36 +6,54 @@ use dmc_text::cause::LineCause;
 use dmc_text::watched::Watched;
 use dmc_tool::fault::Fault;
 use dmc_tool::fault_line::write_fault;
-use dmc_tool::words::{Tool, ToolCommand, WordsFault, read_words};
+use dmc_tool::words::{Request, Tool, ToolCommand, WordsFault, read_words};
 use dmc_types::config::TagKind;
 use std::alloc::Global;
 use std::process::Abort;
 use std::test::Fail;
 
-/// The tool that is asked for, or none at a usage fault.
-fn ask(alloc: Global, words: &[&str]) -> Result<Option<Tool>, WordsFault> {
+/// What is asked for, or nothing at a usage fault.
+fn ask<'a>(alloc: Global, words: &'a [&'a str]) -> Result<Option<Request<'a>>, WordsFault> {
     match read_words(alloc, words) {
         Err(WordsFault::Usage) => Ok(None),
         answer => answer.map(Some),
     }
 }
 
-fn tool(command: ToolCommand, tags: TagKind) -> Option<Tool> {
-    Some(Tool { command, tags })
+fn tool<'a>(command: ToolCommand, tags: TagKind) -> Option<Request<'a>> {
+    let tool = Tool { command, tags };
+    Some(Request::Tool {
+        tool,
+        file: None,
+        is_explained: false,
+    })
 }
 
-/// The words ask for this tool, or for none.
+/// A tool on ticks that reads the file of this name.
+fn tool_on(command: ToolCommand, name: &str) -> Option<Request<'_>> {
+    let tool = Tool {
+        command,
+        tags: TagKind::Tick,
+    };
+    Some(Request::Tool {
+        tool,
+        file: Some(name),
+        is_explained: false,
+    })
+}
+
+/// The words ask for this, or for nothing.
 fn asks<R: AllocGlobal + Abort>(
     rt: &R,
     words: &[&str],
-    wanted: Option<Tool>,
+    wanted: Option<Request<'_>>,
 ) -> Result<(), WordsFault> {
     let asked = ask(rt.alloc(), words)?;
     assert_same(rt, &asked, &wanted);
     Ok(())
 }
 
-/// Each of these words asks for no tool.
+/// Each of these words asks for nothing.
 fn ask_for_none<R: AllocGlobal + Abort>(rt: &R, faults: &[&[&str]]) -> Result<(), WordsFault> {
     for words in faults {
         asks(rt, words, None)?;
@@ -67,11 +85,23 @@ fn words_of_a_check(rt: HostRuntime) -> Result<(), Fail> {
 #[test]
 fn words_of_a_simulation(rt: HostRuntime) -> Result<(), Fail> {
     asks(&rt, &["sim"], tool(ToolCommand::Sim, TagKind::Tick))?;
-    asks(&rt, &["sim", "two_clients"], None)?;
+    asks(&rt, &["sim", "scene"], tool_on(ToolCommand::Sim, "scene"))?;
     Ok(())
 }
 
-/// Words that ask for no tool.
+#[test]
+fn words_of_a_file(rt: HostRuntime) -> Result<(), Fail> {
+    let script = tool_on(ToolCommand::Script, "check");
+    asks(&rt, &["script", "check"], script)?;
+    asks(&rt, &["script", "check", "--tags", "tick"], script)?;
+    asks(&rt, &["script", "--tags", "tick", "check"], script)?;
+    asks(&rt, &["script", "--", "check"], script)?;
+    let file = tool_on(ToolCommand::Run, "--tags");
+    asks(&rt, &["run", "--", "--tags"], file)?;
+    Ok(())
+}
+
+/// Words that ask for nothing.
 const FAULTS: &[&[&str]] = &[
     &[],
     &[""],
@@ -80,14 +110,16 @@ const FAULTS: &[&[&str]] = &[
     &["checks"],
     &["check", "--tags", "whole"],
     &["Script"],
-    &["script", "check"],
+    &["script", "one", "other"],
     &["script", "--tags"],
     &["script", "--tags", "whole"],
-    &["script", "--tags", "tick", "ratio"],
     &["script", "--tags", "tick", "--tags", "tick"],
     &["--tags", "tick", "script"],
     &["script", "--tag", "tick"],
     &["sim", "--tags", "tick"],
+    &["--version", "script"],
+    &["--version", "--version"],
+    &["script", "--version"],
 ];
 
 #[test]
@@ -100,7 +132,6 @@ const HELP: &[&[&str]] = &[
     &["help"],
     &["-h"],
     &["--help"],
-    &["--version"],
     &["script", "--help"],
     &["help", "script"],
 ];
@@ -108,6 +139,37 @@ const HELP: &[&[&str]] = &[
 #[test]
 fn calls_for_help(rt: HostRuntime) -> Result<(), Fail> {
     Ok(ask_for_none(&rt, HELP)?)
+}
+
+#[test]
+fn words_of_an_explanation(rt: HostRuntime) -> Result<(), Fail> {
+    let tool = Tool {
+        command: ToolCommand::Check,
+        tags: TagKind::Ratio,
+    };
+    let check = Some(Request::Tool {
+        tool,
+        file: Some("events"),
+        is_explained: true,
+    });
+    asks(
+        &rt,
+        &["check", "--explain", "--tags", "ratio", "events"],
+        check,
+    )?;
+    asks(
+        &rt,
+        &["check", "events", "--tags=ratio", "--explain"],
+        check,
+    )?;
+    asks(&rt, &["check", "--explain", "--explain"], None)?;
+    asks(&rt, &["--explain", "check"], None)?;
+    Ok(())
+}
+
+#[test]
+fn words_of_the_version(rt: HostRuntime) -> Result<(), Fail> {
+    Ok(asks(&rt, &["--version"], Some(Request::Version))?)
 }
 
 // A run takes no option: its tags are those of the scene.

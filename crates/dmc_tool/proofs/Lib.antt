@@ -3,5 +3,7 @@ pub mod RunLemmas
 pub mod RunEnds
 pub mod SimLemmas
 pub mod NoteLemmas
+pub mod RequestLemmas
+pub mod ExplainLemmas
 pub mod FaultLineLemmas
 pub mod VerdictRows

@@ -1,5 +1,5 @@
 -- What is written to the fault writer.
-use Rattle.std.specs.Prelude.{◌≡◌, ℕ, Bool, true, false, List, [], ◌∷◌, ◌++◌, codes, Option, Some, None, Result, Ok, Err}
+use Rattle.std.specs.Prelude.{◌≡◌, ℕ, Bool, true, false, List, [], ◌∷◌, ◌++◌, codes, Option, Some, None}
 use Rattle.std.specs.Fmt.{decimal}
 use Rattle.std.specs.Io.KnownBytes.{Appends}
 use Rattle.dmc_scene.specs.Keys.{name_of}
@@ -10,7 +10,6 @@ use Rattle.dmc_tool.specs.Faults.{cause_word}
 use Rattle.dmc_tool.specs.declared.fault.Fault.{Fault}
 use Rattle.dmc_tool.specs.declared.fault.Fault.TheVariants as fault
 use Rattle.dmc_tool.specs.declared.fault.FaultText.{FaultText}
-use Rattle.dmc_tool.specs.declared.outcome.Outcome.{Outcome}
 
 -- ---- texts
 
@@ -45,11 +44,10 @@ abbrev pub Sends : {W : Type 0} → (W → Option (List ℕ)) → List ℕ → (
 Sends held bytes old new true = Appends (held (stream_of old)) (held (stream_of new)) bytes × IsCalm old new
 Sends held bytes old new false = AppendsSome (held (stream_of old)) (held (stream_of new)) bytes × (failed new ≡ true)
 
--- a fault's text is written as one line, up to where the writer fails
-abbrev pub WritesFault : {W : Type 0} → (W → Option (List ℕ)) → Fault → (old new : Watched W) → Type 0
-WritesFault held fault old new = (is_sent : Bool) × Sends held (with_line_end (fault_text fault)) old new is_sent
+-- these bytes are written, up to where the writer fails
+abbrev pub WritesLines : {W : Type 0} → (W → Option (List ℕ)) → List ℕ → (old new : Watched W) → Type 0
+WritesLines held bytes old new = (is_sent : Bool) × Sends held bytes old new is_sent
 
--- a run without a fault does not use the fault writer
-abbrev pub WritesEnd : {W : Type 0} → (W → Option (List ℕ)) → Result Outcome Fault → (old new : Watched W) → Type 0
-WritesEnd held (Ok outcome) old new = new ≡ old
-WritesEnd held (Err fault) old new = WritesFault held fault old new
+-- a fault's text is written as one line
+abbrev pub WritesFault : {W : Type 0} → (W → Option (List ℕ)) → Fault → (old new : Watched W) → Type 0
+WritesFault held fault old new = WritesLines held (with_line_end (fault_text fault)) old new

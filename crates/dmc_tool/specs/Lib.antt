@@ -1,3 +1,5 @@
+-- What explains a fault: a line behind its own, which names what is wrong and says what was expected.
+pub mod Explanations
 -- The exit status of each fault, and the word of a line's cause.
 pub mod Faults
 -- Whether the streams of a run failed, by how the run ends. Read and Write are reported only if the reader or the writer

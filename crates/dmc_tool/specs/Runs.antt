@@ -1,5 +1,5 @@
 -- One run of the program, by what its words ask for.
-use Rattle.std.specs.Prelude.{◌≡◌, ◌⊎◌, ◌==◌, ℕ, ℤ, List, Option, Some, None, Result, Ok, Err, ⊤, if◌then◌else◌}
+use Rattle.std.specs.Prelude.{◌≡◌, ◌⊎◌, ◌==◌, ℕ, ℤ, Bool, true, false, slice_get, List, [], ◌∷◌, ◌++◌, codes, Option, Some, None, Result, Ok, Err, ⊤, if◌then◌else◌}
 use Rattle.std.specs.Io.KnownBytes.{Keeps}
 use Rattle.dmc_types.specs.declared.config.TagKind.{TagKind}
 use Rattle.dmc_types.specs.declared.config.TagKind.TheVariants as kinds
@@ -8,13 +8,13 @@ use Rattle.dmc_ratio.specs.Ratio.{Ratio, ratio_ops}
 use Rattle.dmc_text.specs.declared.script.ScriptFault.{ScriptFault}
 use Rattle.dmc_text.specs.RatioText.{ratio_if_lowest}
 use Rattle.dmc_text.specs.Replies.{in_ticks, tag_text}
-use Rattle.dmc_text.specs.Texts.{RunsAs}
-use Rattle.dmc_text.specs.Watching.{stream_of}
+use Rattle.dmc_text.specs.Texts.{RunsAs, with_line_end}
+use Rattle.dmc_text.specs.Watching.{stream_of, failed}
 use Rattle.dmc_text.specs.declared.watched.Watched.{Watched}
 use Rattle.dmc_check.specs.declared.check.Verdict.{Verdict}
 use Rattle.dmc_check.specs.EventTexts.{ChecksAs}
 use Rattle.dmc_tool.specs.declared.fault.Fault.{Fault}
-use Rattle.dmc_tool.specs.declared.fault.Fault.TheVariants.{Usage, Memory}
+use Rattle.dmc_tool.specs.declared.fault.Fault.TheVariants.{Usage, Read, Write, Memory}
 use Rattle.dmc_tool.specs.declared.outcome.Outcome.{Outcome}
 use Rattle.dmc_tool.specs.declared.outcome.Outcome.TheVariants.{Done}
 use Rattle.dmc_tool.specs.declared.words.Tool.{Tool}
@@ -25,7 +25,11 @@ use Rattle.dmc_tool.specs.Outcomes as outcomes
 use Rattle.dmc_tool.specs.Notes.{WordsNoted}
 use Rattle.dmc_tool.specs.SceneRuns.{RunsRun}
 use Rattle.dmc_tool.specs.Sims.{RunsSim}
-use Rattle.dmc_tool.specs.FaultLine.{WritesEnd}
+use Rattle.dmc_tool.specs.Explanations.{explanation, word_explanation}
+use Rattle.dmc_tool.specs.FaultLine.{Sends, WritesFault, WritesLines, fault_text}
+use Rattle.dmc_tool.specs.Words.{Asked, IsLongestPart, ask_tool, ask_version, explains, has_explain}
+use Rattle.clap.specs.Words.{Text}
+use Rattle.dmc_tool.specs.declared.version.TheConstants.{VERSION}
 
 -- ---- tags of a kind
 
@@ -76,12 +80,79 @@ abbrev pub RunsWords : Option Tool → (before after old new : Option (List ℕ)
 RunsWords None before after old new end = Keeps before after × Keeps old new × ((end ≡ Err Usage) ⊎ (end ≡ Err Memory))
 RunsWords (Some tool) before after old new end = RunsCommand tool.command tool.tags before after old new end
 
--- A run, by its exit status: what it reads and writes, whether its streams fail, and what it writes of its fault. The first
--- arguments say which bytes the reader has left, and which the writer and the fault writer have taken.
-pub record RunsTool {R W E : Type 0} (left : R → Option (List ℕ)) (held : W → Option (List ℕ)) (heard : E → Option (List ℕ)) (tool : Option Tool)
-    (before after : Watched R) (old new : Watched W) (quiet loud : Watched E) (status : ℕ) : Type 0 where
+-- what a tool, or none, reads and writes by the end of its run, and whether its streams fail
+abbrev pub RunsOn : {R W : Type 0} → (R → Option (List ℕ)) → (W → Option (List ℕ)) → Option Tool → (before after : Watched R) → (old new : Watched W) → Result Outcome Fault → Type 0
+RunsOn left held tool before after old new end =
+    RunsWords tool (left (stream_of before)) (left (stream_of after)) (held (stream_of old)) (held (stream_of new)) end
+    × WordsNoted left tool before after old new end
+
+-- Which files can be opened: whether this is the one of a name, as it was opened, and whether the one of a name can't be opened.
+pub record Opening (I : Type 0) : Type 1 where
+  pub is_opened : List ℕ → I → Type 0
+  pub is_refused : List ℕ → Type 0
+
+-- A tool runs on the file of a name. If it can't be opened, that is reported as Read, and nothing is written, as at a failed
+-- allocation.
+abbrev pub RunsOnFile : {I W : Type 0} → Opening I → (I → Option (List ℕ)) → (W → Option (List ℕ)) → Tool → List ℕ → (old new : Watched W) → Result Outcome Fault → Type 0
+RunsOnFile {I} opens left held tool name old new end =
+    ((before : Watched I) × (after : Watched I) × opens.is_opened name (stream_of before) × (failed before ≡ false) × RunsOn left held (Some tool) before after old new end)
+    ⊎ ((new ≡ old) × ((opens.is_refused name × (end ≡ Err Read)) ⊎ (end ≡ Err Memory)))
+
+-- the line of the version
+abbrev pub version_line : List ℕ
+version_line = codes "dmclock " ++ (VERSION.now ++ 10 ∷ [])
+
+-- The version is written, or the writer fails after a first part of it, or an allocation failed before.
+abbrev pub WritesVersion : {W : Type 0} → (W → Option (List ℕ)) → (old new : Watched W) → Result Outcome Fault → Type 0
+WritesVersion held old new end =
+    ((end ≡ Ok Done) × Sends held version_line old new true)
+    ⊎ (((end ≡ Err Write) × Sends held version_line old new false)
+    ⊎ ((end ≡ Err Memory) × (new ≡ old)))
+
+-- What is asked for runs, by its end. The first arguments say which files can be opened, which bytes a file and the reader have
+-- left, and which the writer has taken.
+abbrev pub RunsAsked : {I R W : Type 0} → Opening I → (I → Option (List ℕ)) → (R → Option (List ℕ)) → (W → Option (List ℕ)) → Option Asked
+    → (before after : Watched R) → (old new : Watched W) → Result Outcome Fault → Type 0
+RunsAsked opens left_of left held None before after old new end = RunsOn left held None before after old new end
+RunsAsked opens left_of left held (Some ask_version) before after old new end = (after ≡ before) × WritesVersion held old new end
+RunsAsked opens left_of left held (Some (ask_tool tool None is_explained)) before after old new end = RunsOn left held (Some tool) before after old new end
+RunsAsked opens left_of left held (Some (ask_tool tool (Some name) is_explained)) before after old new end = (after ≡ before) × RunsOnFile opens left_of held tool name old new end
+
+-- ---- what is reported
+
+-- a fault is reported, and explained if that is asked for
+abbrev pub Reports : {E : Type 0} → (E → Option (List ℕ)) → Bool → Fault → (quiet loud : Watched E) → Type 0
+Reports heard false fault quiet loud = WritesFault heard fault quiet loud
+Reports heard true fault quiet loud = WritesLines heard (with_line_end (fault_text fault) ++ explanation fault) quiet loud
+
+-- a usage fault is reported, and explained if the words ask for that: by the first that is not as in the usage
+abbrev pub ReportsUsage : {E : Type 0} → (E → Option (List ℕ)) → List ToolCommand → List Text → Bool → (quiet loud : Watched E) → Type 0
+ReportsUsage heard written words false quiet loud = WritesFault heard Usage quiet loud
+ReportsUsage heard written words true quiet loud =
+    (count : ℕ) × IsLongestPart written words count × WritesLines heard (with_line_end (fault_text Usage) ++ word_explanation (slice_get words count)) quiet loud
+
+-- the fault of words that ask for nothing is reported
+abbrev pub ReportsWords : {E : Type 0} → (E → Option (List ℕ)) → List ToolCommand → List Text → Fault → (quiet loud : Watched E) → Type 0
+ReportsWords heard written words Usage quiet loud = ReportsUsage heard written words (has_explain words) quiet loud
+ReportsWords heard written words fault quiet loud = WritesFault heard fault quiet loud
+
+abbrev pub ReportsFault : {E : Type 0} → (E → Option (List ℕ)) → List ToolCommand → List Text → Option Asked → Fault → (quiet loud : Watched E) → Type 0
+ReportsFault heard written words None fault quiet loud = ReportsWords heard written words fault quiet loud
+ReportsFault heard written words (Some asks) fault quiet loud = Reports heard (explains asks) fault quiet loud
+
+-- a run without a fault does not use the fault writer
+abbrev pub ReportsEnd : {E : Type 0} → (E → Option (List ℕ)) → List ToolCommand → List Text → Option Asked → Result Outcome Fault → (quiet loud : Watched E) → Type 0
+ReportsEnd heard written words asks (Ok outcome) quiet loud = loud ≡ quiet
+ReportsEnd heard written words asks (Err fault) quiet loud = ReportsFault heard written words asks fault quiet loud
+
+-- ---- a run of the program
+
+-- What the words ask for runs, by its exit status: what is read and written, whether its streams fail, and what is reported. The
+-- first arguments are those of RunsAsked, and which bytes the fault writer has taken.
+pub record RunsProgram {I R W E : Type 0} (opens : Opening I) (left_of : I → Option (List ℕ)) (left : R → Option (List ℕ)) (held : W → Option (List ℕ))
+    (heard : E → Option (List ℕ)) (written : List ToolCommand) (words : List Text) (asks : Option Asked) (before after : Watched R) (old new : Watched W)
+    (quiet loud : Watched E) (status : ℕ) : Type 0 where
   pub end : Result Outcome Fault
-  pub runs : RunsWords tool (left (stream_of before)) (left (stream_of after)) (held (stream_of old)) (held (stream_of new)) end
-  pub notes : WordsNoted left tool before after old new end
-  pub faults : WritesEnd heard end quiet loud
+  pub runs : RunsAsked opens left_of left held asks before after old new end
+  pub reports : ReportsEnd heard written words asks end quiet loud
   pub status_is : status ≡ exit_status end

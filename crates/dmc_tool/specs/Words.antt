@@ -1,12 +1,16 @@
 -- What the words of the command line ask for, as clap matches them.
-use Rattle.std.specs.Prelude.{List, [], ◌∷◌, Option, Some, None, codes, find, if◌then◌else◌, option_and_then, option_map, true}
+use Rattle.std.specs.Prelude.{◌≡◌, ◌≢◌, ◌<◌, ℕ, Bool, length, take, List, [], ◌∷◌, Option, Some, None, codes, find, if◌then◌else◌, is_some, option_and_then, option_map, true, false}
+use Rattle.std.specs.List.{list_any}
 use Rattle.std.specs.Option.{option_map_or}
 use Rattle.std.specs.Str.{bytes_eq}
-use Rattle.clap.specs.Words.{App, Kinds, Row, Text, fault_of, first_of, new_app, new_rule, subcommand_of, with_rule, with_subcommand}
+use Rattle.clap.specs.Words.{App, Kinds, Row, Rule, Text, fault_of, first_of, matches_of, new_app, new_rule, subcommand_of, with_rule, with_subcommand}
+use Rattle.clap.specs.declared.builder.action.ArgAction.TheVariants.{SetTrue}
 use Rattle.clap.specs.declared.error.kind.ErrorKind.{ErrorKind}
 use Rattle.clap.specs.declared.error.kind.ErrorKind.TheVariants as kind
 use Rattle.dmc_types.specs.declared.config.TagKind.{TagKind}
 use Rattle.dmc_types.specs.declared.config.TagKind.TheVariants.{Tick, Ratio}
+use Rattle.dmc_tool.specs.declared.words.Request.{Request}
+use Rattle.dmc_tool.specs.declared.words.Request.TheVariants as request
 use Rattle.dmc_tool.specs.declared.words.Tool.{Tool}
 use Rattle.dmc_tool.specs.declared.words.ToolCommand.{ToolCommand}
 use Rattle.dmc_tool.specs.declared.words.ToolCommand.TheVariants.{Script, Check, Sim, Run}
@@ -26,20 +30,46 @@ kind_named word =
     if bytes_eq word (codes "tick") then Some Tick
     else (if bytes_eq word (codes "ratio") then Some Ratio else None)
 
+-- ---- what is asked for
+
+-- the version, or a tool, the name of the file that it reads, if that is not standard input, and whether a fault is explained
+pub data Asked : Type 0 where
+  ask_version : Asked
+  ask_tool : Tool → Option Text → Bool → Asked
+
+abbrev pub asked : Request → Asked
+asked request.Version = ask_version
+asked (request.Tool tool file is_explained) = ask_tool tool (option_map (λ s. s.now) file) is_explained
+
+-- whether a fault is explained
+abbrev pub explains : Asked → Bool
+explains ask_version = false
+explains (ask_tool tool file is_explained) = is_explained
+
 -- ---- what clap gets
 
--- a command with the option `--tags`
-abbrev pub tagged_app : Text → App
-tagged_app name = with_rule (new_app name) (record (new_rule (codes "tags")) { long = Some (codes "tags") })
+-- an option with a value, a flag, and a word that is no option
+abbrev pub option_rule : Text → Rule
+option_rule name = record (new_rule name) { long = Some name }
 
--- the words do not begin with the program's name, a command has to be named, and there is no help
+abbrev pub flag_rule : Text → Rule
+flag_rule name = record (new_rule name) { long = Some name; action = Some SetTrue }
+
+-- a command that takes the name of a file, and the flag `--explain`
+abbrev pub plain_app : Text → App
+plain_app name = with_rule (with_rule (new_app name) (new_rule (codes "file"))) (flag_rule (codes "explain"))
+
+-- a command that takes the option `--tags` too
+abbrev pub tagged_app : Text → App
+tagged_app name = with_rule (plain_app name) (option_rule (codes "tags"))
+
+-- the words do not begin with the program's name, and there is no help
 abbrev pub bare : App → App
 bare app = record app {
   top = record app.top {
     no_binary_name = true;
     disable_help_flag = true;
     disable_help_subcommand = true;
-    subcommand_required = true;
   };
 }
 
@@ -48,10 +78,10 @@ program_app =
     with_subcommand
     (with_subcommand
     (with_subcommand
-    (with_subcommand (bare (new_app (codes "dmclock"))) (tagged_app (name_of Script)).top)
+    (with_subcommand (with_rule (bare (new_app (codes "dmclock"))) (flag_rule (codes "version"))) (tagged_app (name_of Script)).top)
     (tagged_app (name_of Check)).top)
-    (new_app (name_of Sim)).top)
-    (new_app (name_of Run)).top
+    (plain_app (name_of Sim)).top)
+    (plain_app (name_of Run)).top
 
 -- ---- what clap returns
 
@@ -59,23 +89,51 @@ abbrev pub if_no_fault : {X : Type 0} → Kinds → Option X → Option X
 if_no_fault [] x = x
 if_no_fault (k ∷ ks) x = None
 
--- clap's match of the words: the command that is named and what its options are given
-unfoldable pub match_of : List Text → Option (Text × List Row)
-match_of words = if_no_fault (fault_of program_app words) (subcommand_of program_app words)
+-- clap's match of the words: what the program's own options are given, and the command that is named with what its own are given
+unfoldable pub match_of : List Text → Option (List Row × Option (Text × List Row))
+match_of words = if_no_fault (fault_of program_app words) (Some (matches_of program_app words, subcommand_of program_app words))
+
+-- whether a flag is given
+abbrev pub flag_in : Text → List Row → Bool
+flag_in name rows = option_map_or (λ given. bytes_eq given (codes "true")) (first_of name rows) false
 
 -- the tags of a match, ticks if none are named
 abbrev pub tags_in : List Row → Option TagKind
 tags_in rows = option_map_or kind_named (first_of (codes "tags") rows) (Some Tick)
 
 -- the tool of a match whose command is written
-abbrev pub tool_in : List ToolCommand → Option (Text × List Row) → Option Tool
-tool_in written = option_and_then (λ m.
+abbrev pub tool_in : List ToolCommand → Text × List Row → Option Tool
+tool_in written m =
     option_and_then (λ c. option_map (λ t. record { command = c; tags = t }) (tags_in m.1))
-    (find (λ c. bytes_eq (name_of c) m.0) written))
+    (find (λ c. bytes_eq (name_of c) m.0) written)
 
--- the tool that the words ask for
-abbrev pub tool_of_words : List ToolCommand → List Text → Option Tool
-tool_of_words written words = tool_in written (match_of words)
+-- what the command of a match asks for
+abbrev pub command_in : List ToolCommand → Text × List Row → Option Asked
+command_in written m = option_map (λ t. ask_tool t (first_of (codes "file") m.1) (flag_in (codes "explain") m.1)) (tool_in written m)
+
+-- what a match asks for: the version is asked for alone, or a command
+abbrev pub asked_in : List ToolCommand → List Row × Option (Text × List Row) → Option Asked
+asked_in written m =
+    if flag_in (codes "version") m.0 then (if is_some m.1 then None else Some ask_version)
+    else option_and_then (command_in written) m.1
+
+-- what the words ask for
+abbrev pub asked_by_words : List ToolCommand → List Text → Option Asked
+asked_by_words written words = option_and_then (asked_in written) (match_of words)
+
+-- ---- words that ask for nothing
+
+-- The most words that ask for something, of the first words but not of all, or 0 if there are none: the word behind them is the
+-- first that is not as in the usage.
+pub record IsLongestPart (written : List ToolCommand) (words : List Text) (count : ℕ) : Type 0 where
+  pub asks : 0 < count → asked_by_words written (take count words) ≢ None
+  pub longest : (n : ℕ) → count < n → n < length words → asked_by_words written (take n words) ≡ None
+
+-- whether the words ask for an explanation, whatever else they say
+abbrev pub has_explain : List Text → Bool
+has_explain = list_any (λ word. bytes_eq word (codes "--explain"))
+
+-- ---- faults
 
 -- the fault for an error of clap
 abbrev pub fault_at : ErrorKind → WordsFault

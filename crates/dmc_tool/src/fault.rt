@@ -4,6 +4,7 @@ ghost use Rattle.dmc_scene.specs.Keys.{name_of};
 ghost use Rattle.dmc_text.specs.Texts.{with_line_end};
 ghost use Rattle.dmc_tool.specs.Faults.{cause_word, fault_of_words, status_of};
 ghost use Rattle.dmc_tool.specs.FaultLine.{fault_text, line_of};
+ghost use Rattle.dmc_tool.specs.Explanations.{expected_of_key, expected_of_line, explanation, line_if_any};
 
 use crate::words::WordsFault;
 use dmc_scene::key::Key;
@@ -40,17 +41,17 @@ pub enum Fault {
     Stopped,
 }
 
-/// The text of a fault in parts: a head, then a number if it has one, then a tail, which may be empty.
+/// The text of a line in parts: a head, then a number if it has one, then a tail, which may be empty.
 #[derive(Clone, Copy)]
-pub(crate) struct FaultText {
+pub(crate) struct FaultText<'a> {
     pub(crate) head: &'static str,
     pub(crate) number: Option<u64>,
-    pub(crate) tail: &'static str,
+    pub(crate) tail: &'a str,
 }
 
 impl Fault {
     /// The text of the fault.
-    pub(crate) fn text(&self) -> FaultText
+    pub(crate) fn text(&self) -> FaultText<'static>
         ensures { line_of result ≡ with_line_end (fault_text self.now) }
     {
         match self {
@@ -71,6 +72,40 @@ impl Fault {
             Fault::Range => plain("dmclock: refused range"),
             Fault::TurnsOut => plain("dmclock: turns out"),
             Fault::Stopped => plain("dmclock: stopped"),
+        }
+    }
+
+    /// The text that says what was expected. A usage fault has none of its own, and of a failed allocation there is none.
+    pub(crate) fn explanation(&self) -> Option<FaultText<'static>>
+        ensures { line_if_any result ≡ explanation self.now }
+    {
+        match self {
+            Fault::Usage | Fault::Memory => None,
+            Fault::Line { number, cause } => Some(FaultText {
+                head: "dmclock: line ",
+                number: Some(*number),
+                tail: expected_of_line(*cause),
+            }),
+            Fault::SceneMissing(key) | Fault::SceneKind(key) | Fault::SceneValue(key) => {
+                Some(plain(expected_of_key(*key)))
+            }
+            Fault::Read => Some(plain(
+                "dmclock: input: expected a file or a stream that can be read, of at most 2^32 bytes",
+            )),
+            Fault::Write => Some(plain("dmclock: output: expected a stream that can be written")),
+            Fault::SceneText => Some(plain(
+                "dmclock: input: expected a scene in TOML, of at most 2^20 bytes",
+            )),
+            Fault::Torn => Some(plain("dmclock: run: expected what was set up to come back")),
+            Fault::Range => Some(plain(
+                "dmclock: tags: expected each sum to be one of their values",
+            )),
+            Fault::TurnsOut => Some(plain(
+                "dmclock: key max_pulls: expected enough turns for all requests",
+            )),
+            Fault::Stopped => Some(plain(
+                "dmclock: workers: expected none to stop before all requests were completed",
+            )),
         }
     }
 
@@ -98,7 +133,7 @@ impl From<WordsFault> for Fault {
 }
 
 /// A text that has only a head.
-fn plain(head: &'static str) -> FaultText
+fn plain(head: &'static str) -> FaultText<'static>
     ensures { line_of result ≡ with_line_end head.now }
 {
     FaultText {
@@ -109,7 +144,7 @@ fn plain(head: &'static str) -> FaultText
 }
 
 /// A text whose tail is the name of a key.
-fn of_key(head: &'static str, key: Key) -> FaultText
+fn of_key(head: &'static str, key: Key) -> FaultText<'static>
     ensures { line_of result ≡ with_line_end (head.now ++ name_of key) }
 {
     FaultText {
@@ -128,5 +163,49 @@ fn cause_text(cause: LineCause) -> &'static str
         LineCause::Hz => " hz",
         LineCause::Words => " words",
         LineCause::Number => " number",
+    }
+}
+
+/// What is expected of a line, by the cause of its fault.
+fn expected_of_line(cause: LineCause) -> &'static str
+    ensures { result.now ≡ expected_of_line cause }
+{
+    match cause {
+        LineCause::Bytes => ": expected bytes from 32 to 126, and at most 256 of them",
+        LineCause::Hz => ": expected one hz line, before all others and within its limits",
+        LineCause::Words => ": expected one of the forms that dmclock(1) lists",
+        LineCause::Number =>
+            ": expected a number in digits, without a leading 0, that fits its type",
+    }
+}
+
+/// What is expected of a key.
+fn expected_of_key(key: Key) -> &'static str
+    ensures { result.now ≡ expected_of_key key }
+{
+    match key {
+        Key::Hz => "dmclock: key hz: expected an integer from 1 to 1000000000",
+        Key::IdleAge => "dmclock: key idle_age: expected an integer from 1 to 2^62",
+        Key::EraseAge => "dmclock: key erase_age: expected an integer from idle_age to 2^62",
+        Key::Tags => "dmclock: key tags: expected the text tick or ratio",
+        Key::Servers => "dmclock: key servers: expected an integer from 1 to 64",
+        Key::Workers => "dmclock: key workers: expected an integer from 1 to 16",
+        Key::Step => "dmclock: key step: expected an integer from 1 to 1000000000",
+        Key::Seed => "dmclock: key seed: expected an integer from 0 to 2^63-1",
+        Key::MaxPulls => "dmclock: key max_pulls: expected an integer from 1 to 2^30",
+        Key::Counting => "dmclock: key counting: expected the text all or others",
+        Key::AtLimit => "dmclock: key at_limit: expected the text wait or allow",
+        Key::Shares => "dmclock: key shares: expected the text clock or virtual",
+        Key::Client => "dmclock: key client: expected a list of 1 to 256 tables",
+        Key::Id =>
+            "dmclock: key id: expected an integer from 0 to 2^32-1, another one for each client",
+        Key::Reservation =>
+            "dmclock: key reservation: expected an integer from 1 to 2^32-1, with ticks one that divides hz",
+        Key::Weight =>
+            "dmclock: key weight: expected an integer from 1 to 2^32-1, with ticks one that divides hz",
+        Key::Limit =>
+            "dmclock: key limit: expected an integer from 1 to 2^32-1, with ticks one that divides hz",
+        Key::Requests => "dmclock: key requests: expected an integer from 0 to 1000000",
+        Key::Window => "dmclock: key window: expected an integer from 1 to 1024",
     }
 }

@@ -20,7 +20,7 @@ pub fn write_fault<W: Write>(fault: Fault, fault_writer: &mut Watched<W>) -> u8
 }
 
 /// Sends the line of the parts of a text. Returns false if the writer fails.
-fn send_text<W: Write>(text: &FaultText, writer: &mut Watched<W>) -> bool
+pub(crate) fn send_text<W: Write>(text: &FaultText<'_>, writer: &mut Watched<W>) -> bool
     ensures { Sends W.contents (line_of text.now) writer.old writer.new result }
 {
     if !send_part(text.head.as_bytes(), writer) {

@@ -2,8 +2,10 @@
 #![tactic(auto)]
 
 mod check;
+mod explain;
 pub mod fault;
 pub mod fault_line;
+pub mod inputs;
 mod makers;
 mod outcome;
 mod run;
@@ -14,4 +16,5 @@ mod script;
 mod sim;
 pub mod tool;
 pub mod verdicts;
+pub mod version;
 pub mod words;

@@ -1,15 +1,20 @@
 //! One run of the program, over any streams.
-ghost use Rattle.std.specs.Prelude.{◌≡◌, ◌≤◌, map};
+ghost use Rattle.std.specs.Prelude.{◌≡◌, ◌≤◌, Some, map};
 ghost use Rattle.dmc_text.specs.Watching.{stream_of};
-ghost use Rattle.dmc_tool.specs.Notes.{CheckNoted, CommandNoted, ScriptNoted, WordsNoted};
-ghost use Rattle.dmc_tool.specs.Runs.{RunsCommand, RunsTool, RunsWords};
-ghost use Rattle.dmc_tool.specs.Words.{tool_of_words};
+ghost use Rattle.dmc_tool.specs.Notes.{CheckNoted, CommandNoted, ScriptNoted};
+ghost use Rattle.dmc_tool.specs.Faults.{status_of};
+ghost use Rattle.dmc_tool.specs.Runs.{Reports, RunsAsked, RunsCommand, RunsOnFile, RunsProgram};
+ghost use Rattle.dmc_tool.specs.internal.Reported.{RefusesWords, RunsReported};
+ghost use Rattle.dmc_tool.specs.Words.{asked, asked_by_words};
 ghost use Rattle.dmc_tool.specs.declared.words.ToolCommand.TheVariants.{Check, Script};
 
+use crate::explain::{has_explain, longest_part, word_at, write_explained, write_usage};
 use crate::fault::Fault;
 use crate::fault_line::write_fault;
+use crate::inputs::Inputs;
 use crate::outcome::Outcome;
-use crate::words::{Tool, ToolCommand, WRITTEN, read_words};
+use crate::version::write_version;
+use crate::words::{Request, Tool, ToolCommand, WRITTEN, WordsFault, read_words};
 use crate::{check, run, script, sim};
 use dmc_text::watched::Watched;
 use dmc_types::config::TagKind;
@@ -19,39 +24,122 @@ use std::io::{Read, Write};
 use std::sync::Wait;
 use std::thread::Threads;
 
-/// Runs the tool that the words name. Replies and verdicts go to the writer, a fault's text to the fault writer as one line. The
-/// words are those after the program's name. It returns the exit status: 0 if all is done, 1 at a fault, 2 if the words
-/// name no tool, 3 if events do not replay, 4 if a simulation or a run ended early.
-pub fn run_tool<T: AllocGlobal + Threads + Wait + Sync, S: AsStr, R: Read, W: Write, E: Write>(
+/// Runs what the words ask for: a tool, on the reader or on the file that they name, or the version, which is written. Replies and
+/// verdicts go to the writer, a fault's text to the fault writer as one line, with a second that explains it if the words ask for
+/// that. The words are those after the program's name. A file that can't be opened is reported as `Read`. It returns the exit
+/// status: 0 if all is done, 1 at a fault, 2 if the words ask for nothing, 3 if events do not replay, 4 if a simulation or a run
+/// ended early.
+pub fn run_tool<
+    T: AllocGlobal + Threads + Wait + Sync,
+    I: Inputs,
+    S: AsStr,
+    R: Read,
+    W: Write,
+    E: Write,
+>(
     rt: &T,
+    inputs: &I,
     words: &[S],
     reader: &mut Watched<R>,
     writer: &mut Watched<W>,
     fault_writer: &mut Watched<E>,
 ) -> u8
-    ensures runs { RunsTool R.remaining W.contents E.contents (tool_of_words WRITTEN (map S.text words.now))
+    ensures runs { RunsProgram (record { is_opened = I.is_opened inputs.now; is_refused = I.is_refused inputs.now }) I.Input.remaining R.remaining W.contents E.contents WRITTEN (map S.text words.now) (asked_by_words WRITTEN (map S.text words.now))
         reader.old reader.new writer.old writer.new fault_writer.old fault_writer.new result }
     ensures status { result ≤ 4 }
 {
-    match run_words(rt, words, reader, writer) {
-        Ok(outcome) => outcome.status(),
-        Err(fault) => write_fault(fault, fault_writer),
+    match read_words(rt.alloc(), words) {
+        Ok(request) => run_reported(rt, inputs, request, reader, writer, fault_writer),
+        Err(WordsFault::Usage) => refuse_words(rt.alloc(), words, fault_writer),
+        Err(WordsFault::Memory) => write_fault(Fault::Memory, fault_writer),
     }
 }
 
-/// Runs the tool that the words name.
-fn run_words<T: AllocGlobal + Threads + Wait + Sync, S: AsStr, R: Read, W: Write>(
+/// Reports words that ask for nothing, and returns the exit status.
+fn refuse_words<S: AsStr, E: Write>(alloc: Global, words: &[S], fault_writer: &mut Watched<E>) -> u8
+    ensures { RefusesWords E.contents WRITTEN (map S.text words.now) fault_writer.old fault_writer.new result }
+{
+    if !has_explain(words) {
+        return write_fault(Fault::Usage, fault_writer);
+    }
+    match longest_part(alloc, words) {
+        Ok(count) => write_usage(word_at(words, count), fault_writer),
+        Err(_) => write_fault(Fault::Memory, fault_writer),
+    }
+}
+
+/// Runs what is asked for, reports its fault, and returns the exit status.
+fn run_reported<T: AllocGlobal + Threads + Wait + Sync, I: Inputs, R: Read, W: Write, E: Write>(
     rt: &T,
-    words: &[S],
+    inputs: &I,
+    request: Request<'_>,
+    reader: &mut Watched<R>,
+    writer: &mut Watched<W>,
+    fault_writer: &mut Watched<E>,
+) -> u8
+    ensures { RunsReported (record { is_opened = I.is_opened inputs.now; is_refused = I.is_refused inputs.now }) I.Input.remaining R.remaining W.contents E.contents (asked request.entry)
+        reader.old reader.new writer.old writer.new fault_writer.old fault_writer.new result }
+{
+    let is_explained = request.is_explained();
+    match run_request(rt, inputs, request, reader, writer) {
+        Ok(outcome) => outcome.status(),
+        Err(fault) => report(fault, is_explained, fault_writer),
+    }
+}
+
+/// Reports a fault, and explains it if that is asked for. Returns the exit status.
+fn report<E: Write>(fault: Fault, is_explained: bool, fault_writer: &mut Watched<E>) -> u8
+    ensures status { result ≡ status_of fault }
+    ensures text { Reports E.contents is_explained fault fault_writer.old fault_writer.new }
+{
+    if is_explained {
+        write_explained(fault, fault_writer)
+    } else {
+        write_fault(fault, fault_writer)
+    }
+}
+
+/// Runs what is asked for.
+fn run_request<T: AllocGlobal + Threads + Wait + Sync, I: Inputs, R: Read, W: Write>(
+    rt: &T,
+    inputs: &I,
+    request: Request<'_>,
     reader: &mut Watched<R>,
     writer: &mut Watched<W>,
 ) -> Result<Outcome, Fault>
-    ensures bytes { RunsWords (tool_of_words WRITTEN (map S.text words.now))
-        (R.remaining (stream_of reader.old)) (R.remaining (stream_of reader.new)) (W.contents (stream_of writer.old)) (W.contents (stream_of writer.new)) result }
-    ensures notes { WordsNoted R.remaining (tool_of_words WRITTEN (map S.text words.now)) reader.old reader.new writer.old writer.new result }
+    ensures { RunsAsked (record { is_opened = I.is_opened inputs.now; is_refused = I.is_refused inputs.now }) I.Input.remaining R.remaining W.contents (Some (asked request.entry))
+        reader.old reader.new writer.old writer.new result }
 {
-    let tool = read_words(rt.alloc(), words)?;
-    run_command(rt, tool, reader, writer)
+    match request {
+        Request::Version => write_version(writer),
+        Request::Tool {
+            tool,
+            file: None,
+            ..
+        } => run_command(rt, tool, reader, writer),
+        Request::Tool {
+            tool,
+            file: Some(name),
+            ..
+        } => run_on_file(rt, inputs, tool, name, writer),
+    }
+}
+
+/// Runs the command of a tool on the file of this name.
+fn run_on_file<T: AllocGlobal + Threads + Wait + Sync, I: Inputs, W: Write>(
+    rt: &T,
+    inputs: &I,
+    tool: Tool,
+    name: &str,
+    writer: &mut Watched<W>,
+) -> Result<Outcome, Fault>
+    ensures { RunsOnFile (record { is_opened = I.is_opened inputs.now; is_refused = I.is_refused inputs.now }) I.Input.remaining W.contents tool name.now writer.old writer.new result }
+{
+    let Ok(input) = inputs.open(name) else {
+        return Err(Fault::Read);
+    };
+    let mut reader = Watched::new(input);
+    run_command(rt, tool, &mut reader, writer)
 }
 
 /// Runs the command of a tool.

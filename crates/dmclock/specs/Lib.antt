@@ -3,7 +3,9 @@ pub use Rattle.dmc_book.specs.BookState
 pub use Rattle.dmc_book.specs.Consistent
 pub use Rattle.dmc_book.specs.Counts
 pub use Rattle.dmc_book.specs.Opening
+pub use Rattle.dmc_book.specs.PerCount
 pub use Rattle.dmc_history_laws.specs.Bounds
+pub use Rattle.dmc_history_laws.specs.Shares
 pub use Rattle.dmc_head_index.specs.Heads
 pub use Rattle.dmc_index.specs.Index
 pub use Rattle.dmc_ledger.specs.Bundles

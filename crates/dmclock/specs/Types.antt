@@ -4,6 +4,7 @@ pub use Rattle.dmc_types.specs.declared.ids.ServerId.{ServerId}
 pub use Rattle.dmc_types.specs.declared.ids.Token.{Token}
 pub use Rattle.dmc_types.specs.declared.ids.WorkerId.{WorkerId}
 pub use Rattle.dmc_types.specs.declared.config.PhaseType.{PhaseType}
+pub use Rattle.dmc_types.specs.declared.config.Shares.{Shares}
 pub use Rattle.dmc_types.specs.declared.command.Command.{Command}
 pub use Rattle.dmc_tag.specs.declared.event.Event.{Event}
 pub use Rattle.dmc_tag.specs.declared.rank.TagRank.{TagRank}

@@ -25,7 +25,7 @@ pub use dmc_tick::tick::TickTag;
 pub use dmc_tracker::tracker::{MakeFault, ServiceTracker, TrackFault};
 pub use dmc_types::clock::nanos_until;
 pub use dmc_types::command::Command;
-pub use dmc_types::config::{AtLimit, Counting, PhaseType, QueueConfig};
+pub use dmc_types::config::{AtLimit, Counting, PhaseType, QueueConfig, Shares};
 pub use dmc_types::ids::{ClientId, ServerId, Token, WorkerId};
 pub use dmc_types::info::ClientInfo;
 pub use dmc_types::limits;

@@ -4,7 +4,7 @@ ghost use Rattle.std.specs.Prelude.{◌≡◌, ◌+◌, OnOk};
 use anyhow::{Result, bail};
 use dmclock::{
     AtLimit, ClientId, ClientInfo, Counting, FINE_HZ, Moment, Pulled, QueueConfig, Scheduler,
-    ServerId, ServiceTracker, TickQueue, TickTag, Token, rate_at_least, rate_at_most,
+    ServerId, ServiceTracker, Shares, TickQueue, TickTag, Token, rate_at_least, rate_at_most,
 };
 use std::alloc::Global;
 
@@ -12,6 +12,7 @@ use std::alloc::Global;
 pub fn serve_first(alloc: Global) -> Result<()> {
     let minute = 60 * u64::from(FINE_HZ); // a fine clock, for rates that an operator typed
     let config = QueueConfig::new(u64::from(FINE_HZ), minute, 10 * minute, AtLimit::Wait)?;
+    let config = config.with_shares(Shares::Virtual); // who comes starts where the others are
     let mut tracker = ServiceTracker::new(alloc, 1, 1_000_000, Counting::All)?;
     serve_one(&mut TickQueue::new(alloc, config), &mut tracker)
 }

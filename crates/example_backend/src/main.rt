@@ -9,7 +9,7 @@ ghost use Rattle.std.specs.Prelude.{◌≡◌, ◌+◌, OnOk};
 use anyhow::{Result, bail};
 use dmclock::{
     AtLimit, ClientId, ClientInfo, Counting, FINE_HZ, Moment, PhaseType, Pulled, QueueConfig,
-    Scheduler, ServerId, ServiceTracker, TickQueue, TickTag, Token, nanos_until,
+    Scheduler, ServerId, ServiceTracker, Shares, TickQueue, TickTag, Token, nanos_until,
 };
 use std::alloc::Global;
 use std::rt::Clock;
@@ -127,31 +127,45 @@ fn join<Q: Scheduler<TickTag>>(
     Ok(())
 }
 
+/// A fine clock, and shares in virtual time. A client is idle after a minute and erased after ten.
+fn config() -> Result<QueueConfig> {
+    let minute = 60 * u64::from(FINE_HZ);
+    let config = QueueConfig::new(u64::from(FINE_HZ), minute, 10 * minute, AtLimit::Wait)?;
+    Ok(config.with_shares(Shares::Virtual))
+}
+
+/// Registers these clients, and serves them until nothing is queued.
+fn serve_clients<Q: Scheduler<TickTag>>(
+    rt: &HostRuntime,
+    queue: &mut Q,
+    all: &mut Vec<Client>,
+    infos: [ClientInfo; 3],
+) -> Result<()> {
+    let start = Instant::now(rt)?;
+    for info in infos {
+        join(rt.alloc(), queue, all, info, now(rt, &start)?)?;
+    }
+    serve_all(rt, &start, queue, all)?;
+    for client in all.iter() {
+        println!(rt; "client {}: {} served", client.id.0, client.served)?;
+    }
+    Ok(())
+}
+
 fn main(rt: HostRuntime) -> Result<()> {
     first::serve_first(rt.alloc())?;
     println!(&rt; "the first request is served")?;
 
-    let minute = 60 * u64::from(FINE_HZ);
-    let config = QueueConfig::new(u64::from(FINE_HZ), minute, 10 * minute, AtLimit::Wait)?;
+    let config = config()?;
     // What the operator asked for, in requests a second, rounded to rates that are exact: a reservation up, a limit down.
     let reservation = config.rate_at_least(1_234);
     let limit = config.rate_at_most(777);
     println!(&rt; "1234 reserved: {reservation:?}, at most 777: {limit:?}")?;
-
-    let start = Instant::now(&rt)?;
-    let mut queue = TickQueue::new(rt.alloc(), config);
-    let mut all = Vec::new(rt.alloc());
     let infos = [
         ClientInfo::new(reservation, 1, None)?,
         ClientInfo::new(None, 2, None)?,
         ClientInfo::new(None, 2, limit)?,
     ];
-    for info in infos {
-        join(rt.alloc(), &mut queue, &mut all, info, now(&rt, &start)?)?;
-    }
-    serve_all(&rt, &start, &mut queue, &mut all)?;
-    for client in &all {
-        println!(&rt; "client {}: {} served", client.id.0, client.served)?;
-    }
-    Ok(())
+    let mut queue = TickQueue::new(rt.alloc(), config);
+    serve_clients(&rt, &mut queue, &mut Vec::new(rt.alloc()), infos)
 }

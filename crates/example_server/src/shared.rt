@@ -2,7 +2,7 @@
 use crate::flow::{Backlog, Served};
 use anyhow::{Result, bail};
 use dmclock::locks::{Setup, TickLock, TrackerLock};
-use dmclock::{AtLimit, ClientId, FINE_HZ, Moment, QueueConfig, ServerId};
+use dmclock::{AtLimit, ClientId, FINE_HZ, Moment, QueueConfig, ServerId, Shares};
 use std::alloc::Global;
 use std::rt::Clock;
 use std::sync::Wait;
@@ -31,7 +31,8 @@ pub struct Shared<S: Setup> {
 /// The configuration of the server's queue.
 pub fn config() -> Result<QueueConfig> {
     let minute = 60 * u64::from(FINE_HZ);
-    Ok(QueueConfig::new(u64::from(FINE_HZ), minute, 10 * minute, AtLimit::Wait)?)
+    let config = QueueConfig::new(u64::from(FINE_HZ), minute, 10 * minute, AtLimit::Wait)?;
+    Ok(config.with_shares(Shares::Virtual))
 }
 
 impl<S: Setup> Shared<S> {

@@ -96,6 +96,17 @@ fn allowed_beyond(rt: HostRuntime) -> Result<(), Fail> {
 }
 
 #[test]
+fn refused_over_limit(rt: HostRuntime) -> Result<(), Fail> {
+    gives(
+        &rt,
+        BOTH,
+        "hz 1000 reject 50; client 1 - 1 10 0; add 1 11 1 0 0; add 1 11 1 0 50; add 1 12 1 0 100; add 1 12 1 0 150; \
+         pull 150; pull 199",
+        "ok; refused over limit; tags - 100 1000; refused over limit; tags - 200 2000; grant 1 11 priority; future 200",
+    )
+}
+
+#[test]
 fn marks_set_back(rt: HostRuntime) -> Result<(), Fail> {
     gives(
         &rt,

@@ -8,11 +8,10 @@ use Rattle.dmc_tool.proofs.words.bare_program.Goals as goal
 
 pub returns : goal.returns
 returns c =
-    let fields : out-Command c.subcommand_required.result ≡ record (out-Command c.new.result) {
+    let fields : out-Command c.disable_help_subcommand.result ≡ record (out-Command c.new.result) {
       no_binary_name = true;
       disable_help_flag = true;
       disable_help_subcommand = true;
-      subcommand_required = true;
     } = search rules in
-    let bare_is : app_of c.subcommand_required.result ≡ bare (app_of c.new.result) = ap app_of_fields fields in
+    let bare_is : app_of c.disable_help_subcommand.result ≡ bare (app_of c.new.result) = ap app_of_fields fields in
     bare_is ∙ ap bare c.new.ensures.app

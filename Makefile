@@ -45,7 +45,7 @@ soak:
 refusals:
 	scripts/refusals
 
-# The library for C, C++ and Rust, c/out/libdmclock.a and libdmclock.so.0: builds it and runs the examples and tests in C and C++.
+# The library for C, C++ and Rust, c/out/libdmclock.a and libdmclock.so.0.2: builds it and runs the examples and tests in C and C++.
 c:
 	c/build
 
@@ -62,6 +62,16 @@ uninstall:
 dist:
 	packages/dist
 
+# The archive into release/, from a clean clone in which make test passed. Commit what it changes there.
+release:
+	packages/release
+
+# What a new user does with the archive of release/, without the toolchain. INSTALL=1 installs packages that are missing.
+try:
+	@packages/released > /dev/null
+	packages/needs try
+	packages/try "$$(packages/released)"
+
 # Tests of the archive: what a new user does with it, the linters, instructions from C++ and Rust. INSTALL=1 installs what is missing.
 packages:
 	packages/needs
@@ -76,6 +86,12 @@ nbd:
 	nbd/build
 	nbd/tests
 
+# The module for nginx, nginx/out/ngx_http_dmclock_module.so: builds it and runs its tests. INSTALL=1 installs packages that are missing.
+nginx:
+	nginx/packages
+	nginx/build
+	nginx/tests
+
 # The planner, out/dmclock-planner.html, a page that shows what rates will do: builds and tests it. INSTALL=1 installs Chromium.
 planner:
 	planner/packages
@@ -86,4 +102,4 @@ planner:
 picture:
 	scripts/picture examples/three_clients.script > docs/grants.svg
 
-.PHONY: help program test gate mutations check quick demo examples soak refusals c install uninstall dist packages nbd planner picture
+.PHONY: help program test gate mutations check quick demo examples soak refusals c install uninstall dist release try packages nbd nginx planner picture

@@ -5,10 +5,11 @@
 uint32_t plugin_grants(uint32_t token);
 
 uint32_t plugin_grants(uint32_t token) {
+  const struct dmc_config config = DMC_CONFIG(1000);
   struct dmc_queue queue = DMC_QUEUE_NONE;
   struct dmc_tags tags;
   struct dmc_pulled pulled = {0};
-  uint32_t code = dmc_queue_new(&queue, DMC_TICK, 1000, 600000, 1200000, DMC_WAIT);
+  uint32_t code = dmc_queue_new(&queue, &config);
   if (code == DMC_OK) code = dmc_queue_register(&queue, 1, 10, 1, 0, 0);
   if (code == DMC_OK) code = dmc_queue_add(&queue, 1, token, 1, 0, 0, &tags);
   if (code == DMC_OK) code = dmc_queue_pull(&queue, 0, &pulled);

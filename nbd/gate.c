@@ -57,23 +57,6 @@ static int init_condition(pthread_cond_t *condition)
   return fault;
 }
 
-/* ---- rates */
-
-bool gate_rates(const struct rates *asked, struct rates *found)
-{
-  struct rates rates = {0, 0, 0};
-  if (asked->reservation && dmc_rate_at_least(DMC_FINE_HZ, asked->reservation, &rates.reservation) != DMC_OK)
-    return false;
-  if (asked->limit && dmc_rate_at_most(DMC_FINE_HZ, asked->limit, &rates.limit) != DMC_OK)
-    return false;
-  if (dmc_rate_at_most(DMC_FINE_HZ, asked->weight, &rates.weight) != DMC_OK)
-    return false;
-  if (asked->limit && asked->reservation <= asked->limit && rates.limit < rates.reservation)
-    rates.reservation = rates.limit;
-  *found = rates;
-  return true;
-}
-
 /* ---- the queue's codes */
 
 static int errno_of(uint32_t code)
@@ -81,6 +64,7 @@ static int errno_of(uint32_t code)
   switch (code) {
     case DMC_OK: return 0;
     case DMC_MEMORY:
+    case DMC_OVER_LIMIT:
     case DMC_QUEUE_FULL: return ENOMEM;
     case DMC_CLIENTS: return EBUSY;
     default: return EIO;
@@ -428,18 +412,20 @@ static int change_client(struct gate *gate, const char *name, const struct rates
 }
 
 /* Queues a request of a client. One that the queue does not know, or has forgotten, is registered before. A request of one that
-   finds no place is refused for want of memory, since NBD has no other word for it. */
+   finds no place, and one over its limit, is refused for want of memory, since NBD has no other word for it. */
 static int queue_request(struct gate *gate, const struct slot *slot, uint32_t token)
 {
-  const struct client *client = slot->client;
+  struct client *client = slot->client;
   uint64_t moment = moment_of(slot->entered);
   uint32_t code = dmc_queue_add_single(&gate->queue, client->id, token, moment);
-  if (code != DMC_UNKNOWN)
-    return errno_of(code);
-  int fault = register_client(gate, client, slot->entered);
-  if (fault)
-    return fault == EBUSY ? ENOMEM : fault;
-  return errno_of(dmc_queue_add_single(&gate->queue, client->id, token, moment));
+  if (code == DMC_UNKNOWN) {
+    int fault = register_client(gate, client, slot->entered);
+    if (fault)
+      return fault == EBUSY ? ENOMEM : fault;
+    code = dmc_queue_add_single(&gate->queue, client->id, token, moment);
+  }
+  client->refused += code == DMC_OVER_LIMIT;
+  return errno_of(code);
 }
 
 /* Queues the request that a slot waits for. */
@@ -468,8 +454,13 @@ static int submit(struct gate *gate, struct slot *slot)
 
 static int open_queue(struct gate *gate, const struct gate_config *config)
 {
-  uint64_t hz = DMC_FINE_HZ;
-  return errno_of(dmc_queue_new(&gate->queue, DMC_TICK, hz, config->idle_seconds * hz, config->erase_seconds * hz, config->at_limit));
+  struct dmc_config asked = DMC_CONFIG(DMC_FINE_HZ);
+  asked.idle_age = config->idle_seconds * asked.hz;
+  asked.erase_age = config->erase_seconds * asked.hz;
+  asked.at_limit = config->at_limit;
+  asked.threshold = moment_of(config->threshold_millis * (SECOND / 1000));
+  asked.shares = config->shares;
+  return errno_of(dmc_queue_new(&gate->queue, &asked));
 }
 
 /* A lock that is held for less than a microsecond: who finds it taken tries for a while before it sleeps. None of these calls can

@@ -8,16 +8,14 @@
 #include <stdint.h>
 
 #include "dmclock.h"
+#include "rates.h"
 #include "times.h"
-
-/* Rates in requests a second. A reservation or a limit of 0 is none; a weight is 1 or more. */
-struct rates {
-  uint32_t reservation, weight, limit;
-};
 
 struct gate_config {
   uint32_t depth;
   enum dmc_at_limit at_limit;
+  uint64_t threshold_millis; /* under DMC_REJECT, how long a request may wait for its client's limit */
+  enum dmc_shares shares;
   uint64_t idle_seconds, erase_seconds; /* how long without a request until a client is idle, and until it is forgotten */
   uint32_t most_others;    /* the most clients that are not kept */
 };
@@ -34,6 +32,7 @@ struct client {
   uint32_t queued;
   uint64_t requests, grants[2]; /* the grants by dmc_phase */
   uint64_t beyond;         /* those of them beyond the limit */
+  uint64_t refused;        /* requests that came over the limit, and are not among `requests` */
   uint64_t last_request;   /* nanoseconds of the gate's clock */
   struct times waited;     /* from entering to the grant */
   struct buckets buckets[2]; /* the same, by dmc_phase */
@@ -67,12 +66,6 @@ struct gate {
   uint32_t tokens, free_token; /* how many places there are, and the first free one */
 };
 
-/* The rates that the queue takes for these: the least reservation at least as great, and the greatest limit and weight at most as
-   great. A reservation that is not above the limit is at most the rate that the limit becomes, so a reservation that is the limit
-   is a fixed rate. False if one of them is none that the queue has. Clients have shares by their weights while the sum of the
-   weights is less than the requests that the device serves in a second; so weights are small numbers, of which 1 to 18 are exact. */
-bool gate_rates(const struct rates *asked, struct rates *found);
-
 /* A gate with no client. Returns 0, or an errno. The gate is zeroed before. */
 int gate_open(struct gate *, const struct gate_config *);
 
@@ -85,7 +78,7 @@ void gate_stop(struct gate *, int fault);
 /* Ends the timer and frees all. Nobody is in the gate. */
 void gate_close(struct gate *);
 
-/* The client of this name, for one more user. If there is none, one is made with these rates, as `gate_rates` finds them: one that
+/* The client of this name, for one more user. If there is none, one is made with these rates, as `rates_round` finds them: one that
    is kept is registered at once and never forgotten, any other at its first request. Returns 0; else ENOENT if there is none and
    rates is NULL, EBUSY if there are the most clients of its kind, or another errno. */
 int gate_client(struct gate *, const char *name, const struct rates *, bool is_kept, struct client **);
@@ -104,8 +97,9 @@ void gate_resize(struct gate *, uint32_t depth, uint32_t most_others);
 /* A user of the client less. One that is not kept, and has no user and never had a request, is forgotten. */
 void gate_release(struct gate *, struct client *);
 
-/* Waits for a request of the client until it is granted. Returns 0, and whether it had to wait; else ENOMEM, where an allocation
-   failed or the queue is full, or the errno that the gate was stopped with. After 0, and only then, `gate_leave` must follow. */
+/* Waits for a request of the client until it is granted. Returns 0, and whether it had to wait; else ENOMEM if an allocation failed,
+   the queue is full or the request is over the client's limit, or the errno that the gate was stopped with. After 0, and only then,
+   `gate_leave` must follow. */
 int gate_enter(struct gate *, struct client *, bool *has_waited);
 
 /* The device is done with a request. */

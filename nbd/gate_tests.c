@@ -57,12 +57,13 @@ char *__wrap_strdup(const char *text)
 
 /* ---- tests */
 
-static const struct gate_config one_at_once = {.depth = 1, .at_limit = DMC_WAIT, .idle_seconds = 60, .erase_seconds = 60, .most_others = 65536};
+static const struct gate_config one_at_once = {
+  .depth = 1, .at_limit = DMC_WAIT, .shares = DMC_VIRTUAL, .idle_seconds = 60, .erase_seconds = 60, .most_others = 65536};
 
 static struct rates rates_of(uint32_t reservation, uint32_t weight, uint32_t limit)
 {
   struct rates asked = {reservation, weight, limit}, found = {0, 0, 0};
-  CHECK(gate_rates(&asked, &found));
+  CHECK(rates_round(&asked, &found));
   return found;
 }
 
@@ -75,9 +76,9 @@ static void rates(void)
   found = rates_of(0, 19, 0);
   CHECK(found.reservation == 0 && found.limit == 0 && found.weight == 18);
   struct rates asked = {DMC_FINE_HZ + 1u, 1, 0};
-  CHECK(!gate_rates(&asked, &found));
+  CHECK(!rates_round(&asked, &found));
   asked = (struct rates){0, 0, 0};
-  CHECK(!gate_rates(&asked, &found));
+  CHECK(!rates_round(&asked, &found));
 }
 
 static void percentiles(void)
@@ -152,6 +153,31 @@ static void waiting(void)
   gate_close(&gate);
 }
 
+/* A request that would wait for its limit longer than the threshold is refused at once, and leaves no trace but a count. */
+static void over_limit(void)
+{
+  struct gate gate = {0};
+  struct gate_config config = one_at_once;
+  struct client *slow, *other;
+  struct rates once = rates_of(0, 1, 1), none = rates_of(0, 1, 0);
+  pthread_t thread;
+  bool has_waited = true;
+  config.at_limit = DMC_REJECT;
+  config.threshold_millis = 1000;
+  CHECK(gate_open(&gate, &config) == 0 && gate_start(&gate) == 0);
+  CHECK(gate_client(&gate, "slow", &once, true, &slow) == 0 && gate_client(&gate, "other", &none, true, &other) == 0);
+  struct entry entry = {&gate, slow, -1};
+  pthread_create(&thread, NULL, enter, &entry); /* due at the first second */
+  await_queued(&gate, slow, 1);
+  CHECK(gate_enter(&gate, slow, &has_waited) == ENOMEM && !has_waited); /* would be due at the second one */
+  CHECK(gate.queued == 1 && slow->queued == 1 && slow->requests == 1 && slow->refused == 1);
+  CHECK(gate_enter(&gate, other, &has_waited) == 0 && !has_waited && other->refused == 0);
+  gate_leave(&gate);
+  pthread_join(thread, NULL);
+  CHECK(entry.fault == 0 && slow->grants[DMC_PRIORITY] == 1);
+  gate_close(&gate);
+}
+
 /* At its limit a client waits for the timer. */
 static void due_later(void)
 {
@@ -193,7 +219,8 @@ static void forgotten(void)
   struct gate gate = {0};
   struct client *used, *unused, *kept;
   struct rates none = rates_of(0, 1, 0);
-  struct gate_config config = {.depth = 1, .at_limit = DMC_WAIT, .idle_seconds = 1, .erase_seconds = 1, .most_others = 65536};
+  struct gate_config config = one_at_once;
+  config.idle_seconds = config.erase_seconds = 1;
   bool has_waited;
   CHECK(gate_open(&gate, &config) == 0 && gate_start(&gate) == 0);
   CHECK(gate_client(&gate, "used", &none, false, &used) == 0);
@@ -219,7 +246,8 @@ static void kept_place(void)
   struct gate gate = {0};
   struct client *kept, *other;
   struct rates none = rates_of(0, 1, 0);
-  struct gate_config config = {.depth = 1, .at_limit = DMC_WAIT, .idle_seconds = 1, .erase_seconds = 1, .most_others = 65536};
+  struct gate_config config = one_at_once;
+  config.idle_seconds = config.erase_seconds = 1;
   bool has_waited;
   uint32_t code = DMC_OK, others = 0;
   CHECK(gate_open(&gate, &config) == 0 && gate_start(&gate) == 0);
@@ -392,6 +420,131 @@ static void unused_names(void)
   gate_close(&gate);
 }
 
+/* ---- shares: two clients of weight 1 before a device with four slots, each for a millisecond */
+
+#define MOST_THREADS 16
+
+/* A client, whose threads use the device until they are told to rest. */
+struct user {
+  struct gate *gate;
+  struct client *client;
+  atomic_bool is_resting;
+  unsigned threads;
+  pthread_t ids[MOST_THREADS];
+};
+
+struct pair {
+  struct gate gate;
+  struct user first, second;
+};
+
+static void *use_device(void *argument)
+{
+  struct user *user = argument;
+  bool has_waited;
+  while (!user->is_resting && gate_enter(user->gate, user->client, &has_waited) == 0) {
+    usleep(1000);
+    gate_leave(user->gate);
+  }
+  return NULL;
+}
+
+static void begin(struct user *user, unsigned threads)
+{
+  user->is_resting = false;
+  user->threads = threads;
+  for (unsigned i = 0; i < threads; i++)
+    pthread_create(&user->ids[i], NULL, use_device, user);
+}
+
+static void rest(struct user *user)
+{
+  user->is_resting = true;
+  for (unsigned i = 0; i < user->threads; i++)
+    pthread_join(user->ids[i], NULL);
+}
+
+static void open_pair(struct pair *pair, enum dmc_shares shares)
+{
+  struct gate_config config = one_at_once;
+  struct rates none = rates_of(0, 1, 0);
+  config.depth = 4;
+  config.shares = shares;
+  memset(pair, 0, sizeof *pair);
+  pair->first.gate = pair->second.gate = &pair->gate;
+  CHECK(gate_open(&pair->gate, &config) == 0 && gate_start(&pair->gate) == 0);
+  CHECK(gate_client(&pair->gate, "first", &none, true, &pair->first.client) == 0);
+  CHECK(gate_client(&pair->gate, "second", &none, true, &pair->second.client) == 0);
+}
+
+static void close_pair(struct pair *pair)
+{
+  gate_stop(&pair->gate, ESHUTDOWN);
+  rest(&pair->first);
+  rest(&pair->second);
+  gate_close(&pair->gate);
+}
+
+static uint64_t grants_of(const struct user *user)
+{
+  pthread_mutex_lock(&user->gate->lock);
+  uint64_t grants = user->client->grants[DMC_PRIORITY];
+  pthread_mutex_unlock(&user->gate->lock);
+  return grants;
+}
+
+/* How much of what is granted in the next half second goes to the first, in hundredths. */
+static uint64_t part_of_first(const struct pair *pair)
+{
+  uint64_t first = grants_of(&pair->first), second = grants_of(&pair->second);
+  usleep(500000);
+  first = grants_of(&pair->first) - first;
+  second = grants_of(&pair->second) - second;
+  return 100 * first / (first + second + 1);
+}
+
+/* The first is alone for a second at the device's depth, and the second comes. */
+static uint64_t newcomer(enum dmc_shares shares)
+{
+  static struct pair pair;
+  open_pair(&pair, shares);
+  begin(&pair.first, 4);
+  sleep(1);
+  begin(&pair.second, MOST_THREADS);
+  uint64_t part = part_of_first(&pair);
+  close_pair(&pair);
+  return part;
+}
+
+/* Both are busy, and the second pauses for a second, after which it is not idle. */
+static uint64_t pause_of_second(enum dmc_shares shares)
+{
+  static struct pair pair;
+  open_pair(&pair, shares);
+  begin(&pair.first, MOST_THREADS);
+  begin(&pair.second, MOST_THREADS);
+  usleep(200000);
+  rest(&pair.second);
+  sleep(1);
+  begin(&pair.second, MOST_THREADS);
+  uint64_t part = part_of_first(&pair);
+  close_pair(&pair);
+  return part;
+}
+
+/* In virtual time who was alone has half as soon as another comes, or comes back. By the clock it has nothing for as long as it was
+   alone. */
+static void shares(void)
+{
+  uint64_t half = newcomer(DMC_VIRTUAL), nothing = newcomer(DMC_CLOCK);
+  CHECK(30 <= half && half <= 70 && nothing <= 10);
+  half = pause_of_second(DMC_VIRTUAL);
+  nothing = pause_of_second(DMC_CLOCK);
+  CHECK(30 <= half && half <= 70 && nothing <= 10);
+}
+
+/* ---- memory */
+
 /* Whichever allocation is refused, the result is ENOMEM, and the same call then succeeds. */
 static void refused_allocations(void)
 {
@@ -427,6 +580,7 @@ int main(void)
   percentiles();
   waiting();
   due_later();
+  over_limit();
   most_clients();
   forgotten();
   kept_place();
@@ -435,6 +589,7 @@ int main(void)
   kept_and_not();
   resized();
   unused_names();
+  shares();
   refused_allocations();
   printf("%d failures\n", failures);
   return failures != 0;

@@ -33,6 +33,7 @@ static void put_each(FILE *text, const struct report *report, const char *name, 
 
 static uint64_t requests_of(const struct row *client) { return client->requests; }
 static uint64_t beyond_of(const struct row *client) { return client->beyond; }
+static uint64_t refused_of(const struct row *client) { return client->refused; }
 static uint64_t queued_of(const struct row *client) { return client->queued; }
 static uint64_t reservation_of(const struct row *client) { return client->rates.reservation; }
 static uint64_t weight_of(const struct row *client) { return client->rates.weight; }
@@ -78,9 +79,10 @@ static void put_waits(FILE *text, const struct report *report)
 
 void metrics_put(FILE *text, const struct report *report)
 {
-  put_each(text, report, "dmclock_requests_total", "counter", "Requests that came.", requests_of, false);
+  put_each(text, report, "dmclock_requests_total", "counter", "Requests that were queued.", requests_of, false);
   put_grants(text, report);
   put_each(text, report, "dmclock_beyond_total", "counter", "Grants beyond the client's limit (dmclock-at-limit=allow).", beyond_of, false);
+  put_each(text, report, "dmclock_refused_total", "counter", "Requests over the client's limit (dmclock-at-limit=reject).", refused_of, false);
   put_waits(text, report);
   put_each(text, report, "dmclock_queued", "gauge", "Requests that wait.", queued_of, false);
   put_each(text, report, "dmclock_reservation", "gauge", "The client's reservation, in requests a second.", reservation_of, true);

@@ -19,7 +19,7 @@ void report_free(struct report *report)
 static bool copy_row(struct row *row, const struct client *client)
 {
   *row = (struct row){.name = strdup(client->name), .rates = client->rates, .requests = client->requests, .beyond = client->beyond,
-                      .queued = client->queued, .waited = client->waited};
+                      .refused = client->refused, .queued = client->queued, .waited = client->waited};
   memcpy(row->grants, client->grants, sizeof row->grants);
   memcpy(row->buckets, client->buckets, sizeof row->buckets);
   return row->name != NULL;

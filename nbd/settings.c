@@ -13,31 +13,16 @@
 #include <nbdkit-filter.h>
 
 #define MOST_SECONDS 1000000000u
+#define MOST_MILLIS 1000000000u
 #define MOST_DEPTH (1u << 20)
-#define MOST_WEIGHT 1000
 #define MOST_CLIENTS 65536
 
 /* ---- values */
 
-/* Decimal digits alone, and no more than `most`. */
-static bool read_number(const char *text, size_t length, uint64_t most, uint64_t *number)
-{
-  uint64_t value = 0;
-  for (size_t i = 0; i < length; i++) {
-    if (text[i] < '0' || '9' < text[i])
-      return false;
-    value = 10 * value + (uint64_t)(text[i] - '0');
-    if (most < value)
-      return false;
-  }
-  *number = value;
-  return length > 0;
-}
-
 /* A number from 1 on. */
 static bool read_count(const char *value, uint64_t most, uint64_t *count)
 {
-  return read_number(value, strlen(value), most, count) && *count > 0;
+  return text_read_number(value, strlen(value), most, count) && *count > 0;
 }
 
 /* ---- rates */
@@ -53,7 +38,7 @@ static bool read_field(const char *name, const char *text, size_t length, uint32
 {
   uint64_t number = 0;
   bool is_none = is_optional && length == 1 && text[0] == '-';
-  if (!is_none && (!read_number(text, length, most, &number) || number == 0))
+  if (!is_none && (!text_read_number(text, length, most, &number) || number == 0))
     return FAULT(fault, "the %s \"%.*s\" is not a number from 1 to %u%s", name, length < 40 ? (int)length : 40, text, most,
                  is_optional ? ", nor - for none" : "");
   *rate = (uint32_t)number;
@@ -81,7 +66,7 @@ static bool take_rates(const char *value, struct rates *asked, struct rates *fou
     return false;
   if (asked->limit && asked->limit < asked->reservation)
     return FAULT(fault, "the reservation %u is above the limit %u", asked->reservation, asked->limit);
-  return gate_rates(asked, found) || FAULT(fault, "the queue has no such rate");
+  return rates_round(asked, found) || FAULT(fault, "the queue has no such rate");
 }
 
 /* Where the last three fields of NAME:RESERVATION:WEIGHT:LIMIT begin; a name may have colons. NULL if there are none. */
@@ -198,11 +183,29 @@ static int set_depth(struct settings *settings, const char *key, const char *val
   return 1;
 }
 
+/* reject:MS */
+static bool read_threshold(const char *value, uint64_t *millis)
+{
+  size_t word = strlen("reject:");
+  return strncmp(value, "reject:", word) == 0 && text_read_number(value + word, strlen(value + word), MOST_MILLIS, millis);
+}
+
 static int set_at_limit(struct settings *settings, const char *key, const char *value)
 {
-  if (strcmp(value, "wait") != 0 && strcmp(value, "allow") != 0)
-    return is_bad(settings, key, value, "wait or allow");
-  settings->gate.at_limit = strcmp(value, "wait") == 0 ? DMC_WAIT : DMC_ALLOW;
+  uint64_t millis = 0;
+  bool is_reject = read_threshold(value, &millis);
+  if (!is_reject && strcmp(value, "wait") != 0 && strcmp(value, "allow") != 0)
+    return is_bad(settings, key, value, "wait, allow or reject:MS with 0 to 1000000000 milliseconds");
+  settings->gate.at_limit = is_reject ? DMC_REJECT : strcmp(value, "wait") == 0 ? DMC_WAIT : DMC_ALLOW;
+  settings->gate.threshold_millis = millis;
+  return 1;
+}
+
+static int set_shares(struct settings *settings, const char *key, const char *value)
+{
+  if (strcmp(value, "virtual") != 0 && strcmp(value, "clock") != 0)
+    return is_bad(settings, key, value, "virtual or clock");
+  settings->gate.shares = strcmp(value, "virtual") == 0 ? DMC_VIRTUAL : DMC_CLOCK;
   return 1;
 }
 
@@ -247,6 +250,8 @@ int settings_read(struct settings *settings, const char *key, const char *value)
     return set_depth(settings, key, value);
   if (strcmp(key, "dmclock-at-limit") == 0)
     return set_at_limit(settings, key, value);
+  if (strcmp(key, "dmclock-shares") == 0)
+    return set_shares(settings, key, value);
   if (strcmp(key, "dmclock-idle") == 0)
     return set_seconds(settings, &settings->gate.idle_seconds, key, value);
   if (strcmp(key, "dmclock-erase") == 0)
@@ -260,8 +265,8 @@ int settings_read(struct settings *settings, const char *key, const char *value)
   if (strcmp(key, "dmclock-config") == 0)
     return set_config(settings, key, value);
   if (strncmp(key, "dmclock-", strlen("dmclock-")) == 0)
-    return is_bad(settings, key, value, "another key: dmclock-client, -default, -default-clients, -default-shared, -depth, -at-limit, -idle, -erase, -capacity, -stats, "
-                                 "-metrics or -config");
+    return is_bad(settings, key, value, "another key: dmclock-client, -default, -default-clients, -default-shared, -depth, -at-limit, -shares, -idle, -erase, "
+                                 "-capacity, -stats, -metrics or -config");
   return 0;
 }
 
@@ -379,7 +384,9 @@ static bool is_same_text(const char *one, const char *other)
 
 bool settings_may_follow(const struct settings *settings, const struct settings *others)
 {
-  const char *key = settings->gate.at_limit != others->gate.at_limit           ? "dmclock-at-limit"
+  bool is_same_at_limit = settings->gate.at_limit == others->gate.at_limit && settings->gate.threshold_millis == others->gate.threshold_millis;
+  const char *key = !is_same_at_limit                                            ? "dmclock-at-limit"
+                    : settings->gate.shares != others->gate.shares               ? "dmclock-shares"
                     : settings->gate.idle_seconds != others->gate.idle_seconds   ? "dmclock-idle"
                     : settings->gate.erase_seconds != others->gate.erase_seconds ? "dmclock-erase"
                     : settings->is_shared != others->is_shared                   ? "dmclock-default-shared"

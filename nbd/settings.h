@@ -24,7 +24,7 @@ struct settings {
 
 /* What holds if no key says otherwise. */
 #define SETTINGS_DEFAULT \
-  { .gate = {.depth = 4, .at_limit = DMC_WAIT, .idle_seconds = 5, .erase_seconds = 900, .most_others = 1000} }
+  { .gate = {.depth = 4, .at_limit = DMC_WAIT, .shares = DMC_VIRTUAL, .idle_seconds = 5, .erase_seconds = 900, .most_others = 1000} }
 
 /* Reads a key and its value. Returns 1 if the key is one of the filter, 0 if it is not, and -1 after an error that names the key and
    the value, and says what is wrong with it. */

@@ -1,6 +1,5 @@
 #include "text.h"
 
-#include <stdbool.h>
 #include <string.h>
 
 /* The bytes of the character of UTF-8 that begins here, or 0 if none does. */
@@ -66,4 +65,17 @@ const char *text_printable(const char *name, char text[PRINTABLE_SIZE])
     text[length] = ' ' <= name[length] && name[length] <= '~' ? name[length] : '?';
   memcpy(text + length, name[length] ? ".." : "", name[length] ? 3 : 1);
   return text;
+}
+
+bool text_read_number(const char *text, size_t length, uint64_t most, uint64_t *number)
+{
+  uint64_t value = 0;
+  for (size_t i = 0; i < length; i++) {
+    uint64_t digit = (uint64_t)(text[i] - '0');
+    if (text[i] < '0' || '9' < text[i] || most < digit || (most - digit) / 10 < value)
+      return false;
+    value = 10 * value + digit;
+  }
+  *number = value;
+  return length > 0;
 }

@@ -1,0 +1,451 @@
+/* A front: requests to the servers of an upstream carry a stamp of their tenant, and the responses are counted. nginx makes a request
+   before it selects the server, and the stamp is for that server. So the request's head gets room for the stamp when the selection
+   begins, and the counts are written when a server is selected, again for each further one that is tried. */
+#include "module.h"
+
+#include "stamp.h"
+
+/* How many columns a count takes, filled up by blanks before it, as HTTP allows. */
+#define COUNT_COLUMNS 10
+#define ROOM (sizeof DELTA_HEADER ": 0123456789\r\n" RHO_HEADER ": 0123456789\r\n" - 1)
+
+struct front_upstream {
+  struct front_tracker *tracker;
+  ngx_http_upstream_init_pt init_upstream;
+  ngx_http_upstream_init_peer_pt init_peer;
+};
+
+/* A request to an upstream. */
+struct passage {
+  struct front_tracker *tracker;
+  ngx_http_upstream_t *upstream;
+  const char *name;               /* of the tenant */
+  u_char *delta, *rho;            /* where the counts are written; NULL if there is no room for them */
+  struct try try;
+  bool is_under_way;              /* whether the try has no outcome yet */
+  void *data;                     /* what the selection of the upstream has, and calls */
+  ngx_event_get_peer_pt get;
+  ngx_event_free_peer_pt free;
+#if (NGX_HTTP_SSL)
+  ngx_event_set_peer_session_pt set_session;
+  ngx_event_save_peer_session_pt save_session;
+#endif
+};
+
+static ngx_http_output_header_filter_pt next_header_filter;
+
+/* ---- the head of the request to the server */
+
+/* The end of a line, past its line feed. */
+static u_char *line_end(u_char *at, u_char *last)
+{
+  u_char *feed = memchr(at, '\n', (size_t)(last - at));
+  return feed ? feed + 1 : last;
+}
+
+static bool is_stamp_line(const u_char *at, const u_char *end)
+{
+  size_t length = sizeof STAMP_HEADERS - 1;
+  return (*at | 0x20) == STAMP_HEADERS[0] && (size_t)(end - at) >= length &&
+         ngx_strncasecmp((u_char *)at, (u_char *)STAMP_HEADERS, length) == 0;
+}
+
+/* Copies the head without the stamps that came from outside, up to the empty line, and what is after it: a body may be there. */
+static u_char *copy_without_stamps(u_char *to, u_char *at, u_char *last)
+{
+  u_char *end = line_end(at, last);
+  for (; at < last && *at != '\r' && *at != '\n'; at = end, end = line_end(at, last))
+    if (!is_stamp_line(at, end))
+      to = ngx_cpymem(to, at, end - at);
+  return ngx_cpymem(to, at, last - at);
+}
+
+static u_char *put_header(u_char *to, const char *header, u_char **count)
+{
+  *count = ngx_cpymem(to, header, strlen(header));
+  return ngx_cpymem(*count, "         0\r\n", COUNT_COLUMNS + 2);
+}
+
+/* Makes the head anew, with room for a stamp after its first line. It stays in the first buffer, where nginx expects it, and a
+   further try sends that buffer again from its start. */
+static bool make_head(ngx_http_request_t *r, struct passage *passage)
+{
+  ngx_buf_t *head = r->upstream->request_bufs->buf;
+  u_char *line = line_end(head->start, head->last);
+  u_char *start = ngx_pnalloc(r->pool, (size_t)(head->last - head->start) + ROOM);
+  if (!start)
+    return false;
+  u_char *to = ngx_cpymem(start, head->start, line - head->start);
+  if (passage->tracker) {
+    to = put_header(to, DELTA_HEADER ": ", &passage->delta);
+    to = put_header(to, RHO_HEADER ": ", &passage->rho);
+  }
+  to = copy_without_stamps(to, line, head->last);
+  head->start = head->pos = start;
+  head->last = head->end = to;
+  return true;
+}
+
+/* Writes a count into its columns, with at least one digit. */
+static void write_count(u_char *at, uint32_t count)
+{
+  memset(at, ' ', COUNT_COLUMNS);
+  u_char *digit = at + COUNT_COLUMNS;
+  do
+    *--digit = (u_char)('0' + count % 10);
+  while (count /= 10);
+}
+
+/* ---- stamps */
+
+/* The number of a server; the number of all if it is none of them. */
+static uint32_t server_of(const struct front_tracker *tracker, struct sockaddr *address, socklen_t length)
+{
+  ngx_addr_t *servers = tracker->servers.elts;
+  uint32_t server = 0;
+  while (server < tracker->servers.nelts &&
+         ngx_cmp_sockaddr(servers[server].sockaddr, servers[server].socklen, address, length, 1) != NGX_OK)
+    server++;
+  return server;
+}
+
+/* Stamps the request for the server that is selected. Without a stamp it counts for one there. */
+static void stamp(struct passage *passage, ngx_peer_connection_t *peer)
+{
+  struct front_tracker *tracker = passage->tracker;
+  uint32_t server = server_of(tracker, peer->sockaddr, peer->socklen);
+  struct dmc_stamp written = {1, 1};
+  passage->is_under_way = server < tracker->servers.nelts && tenants_begin(&tracker->tenants, passage->name, server, &passage->try);
+  if (passage->is_under_way)
+    written = passage->try.stamp;
+  else {
+    tracker->tenants.unstamped++;
+    ngx_log_error(NGX_LOG_WARN, peer->log, 0, "dmclock tracker \"%V\": no stamp for the server \"%V\": %s", &tracker->name, peer->name,
+                  server < tracker->servers.nelts ? "every tenant has a request under way, or memory is short"
+                                                  : "it is none of the tracker's");
+  }
+  write_count(passage->delta, written.delta);
+  write_count(passage->rho, written.rho);
+}
+
+static const ngx_str_t *find_header(const ngx_list_part_t *part, const char *name)
+{
+  const ngx_table_elt_t *headers = part->elts;
+  for (ngx_uint_t i = 0; i < part->nelts; i++) {
+    ngx_str_t key = {headers[i].key.len, headers[i].lowcase_key};
+    if (headers[i].hash && is_word(&key, name))
+      return &headers[i].value;
+  }
+  return NULL;
+}
+
+static const ngx_str_t *phase_of(const ngx_http_upstream_t *upstream)
+{
+  const ngx_str_t *phase = NULL;
+  for (const ngx_list_part_t *part = &upstream->headers_in.headers.part; part && !phase; part = part->next)
+    phase = find_header(part, PHASE_HEADER);
+  return phase;
+}
+
+/* What became of a try. Without a connection, what nginx knows is of an earlier one. A request that was sent only in part is not in
+   the queue yet, if the server reads bodies before; a connection that was kept and ends without a response, in time, was closed before
+   the request came. Any other request without a response is in the queue, and is granted in its turn, whoever waits for it: it counts. */
+static enum outcome outcome_of_try(const struct passage *passage, const ngx_peer_connection_t *peer, ngx_uint_t state)
+{
+  const ngx_http_upstream_t *upstream = passage->upstream;
+  if (!peer->connection || !upstream->request_sent)
+    return OUTCOME_RETURNED;
+  if (upstream->headers_in.status_n) {
+    const ngx_str_t *phase = phase_of(upstream);
+    return phase ? outcome_of((const char *)phase->data, phase->len) : outcome_of(NULL, 0);
+  }
+  bool is_closed_before = peer->cached && (state & NGX_PEER_FAILED) && !peer->connection->read->timedout;
+  return is_closed_before || !upstream->request_body_sent ? OUTCOME_RETURNED : OUTCOME_PRIORITY;
+}
+
+/* ---- what nginx calls in place of the upstream's selection */
+
+/* NGX_OK is a server that is to be connected, and NGX_DONE a connection that was kept. */
+static ngx_int_t get_peer(ngx_peer_connection_t *peer, void *data)
+{
+  struct passage *passage = data;
+  ngx_int_t result = passage->get(peer, passage->data);
+  if (result == NGX_OK || result == NGX_DONE)
+    stamp(passage, peer);
+  return result;
+}
+
+static void free_peer(ngx_peer_connection_t *peer, void *data, ngx_uint_t state)
+{
+  struct passage *passage = data;
+  if (passage->is_under_way)
+    tenants_end(&passage->tracker->tenants, &passage->try, outcome_of_try(passage, peer, state));
+  passage->is_under_way = false;
+  passage->free(peer, passage->data, state);
+}
+
+#if (NGX_HTTP_SSL)
+static ngx_int_t set_session(ngx_peer_connection_t *peer, void *data)
+{
+  struct passage *passage = data;
+  return passage->set_session(peer, passage->data);
+}
+
+static void save_session(ngx_peer_connection_t *peer, void *data)
+{
+  struct passage *passage = data;
+  passage->save_session(peer, passage->data);
+}
+#endif
+
+static void wrap_peer(ngx_peer_connection_t *peer, struct passage *passage)
+{
+  passage->data = peer->data;
+  passage->get = peer->get;
+  passage->free = peer->free;
+  peer->data = passage;
+  peer->get = get_peer;
+  peer->free = free_peer;
+#if (NGX_HTTP_SSL)
+  passage->set_session = peer->set_session;
+  passage->save_session = peer->save_session;
+  peer->set_session = set_session;
+  peer->save_session = save_session;
+#endif
+}
+
+/* The tenant of a request. False if its name is too long. */
+static bool find_name(ngx_http_request_t *r, struct passage *passage)
+{
+  ngx_str_t name;
+  if (ngx_http_complex_value(r, &passage->tracker->key, &name) != NGX_OK || name.len >= NAME_SIZE)
+    return false;
+  char *text = ngx_pnalloc(r->pool, name.len + 1);
+  passage->name = text;
+  return text && name_copy(&name, text);
+}
+
+/* Only HTTP/1 has a head that is known here; gRPC, FastCGI and others go without a stamp. */
+static bool is_http(const ngx_http_upstream_t *upstream)
+{
+  static const char version[] = " HTTP/1.";
+  if (upstream->schema.len < 4 || memcmp(upstream->schema.data, "http", 4) != 0 || !upstream->request_bufs)
+    return false;
+  const ngx_buf_t *head = upstream->request_bufs->buf;
+  const u_char *end = line_end(head->start, head->last);
+  size_t length = sizeof version - 1 + sizeof "1\r\n" - 1;
+  return (size_t)(end - head->start) > length && memcmp(end - length, version, sizeof version - 1) == 0;
+}
+
+static ngx_int_t init_peer(ngx_http_request_t *r, ngx_http_upstream_srv_conf_t *server)
+{
+  struct front_upstream *front = ngx_http_conf_upstream_srv_conf(server, ngx_http_dmclock_track_module);
+  if (front->init_peer(r, server) != NGX_OK)
+    return NGX_ERROR;
+  struct passage *passage = ngx_pcalloc(r->pool, sizeof *passage);
+  if (!passage)
+    return NGX_ERROR;
+  passage->tracker = front->tracker;
+  passage->upstream = r->upstream;
+  ngx_http_set_ctx(r, passage, ngx_http_dmclock_track_module);
+  bool is_known = is_http(r->upstream);
+  if (!is_known || !find_name(r, passage)) {
+    front->tracker->tenants.unstamped++;
+    passage->tracker = NULL;
+    ngx_log_error(NGX_LOG_WARN, r->connection->log, 0, "dmclock tracker \"%V\": no stamp: %s", &front->tracker->name,
+                  is_known ? "the tenant's name is too long" : "the request is not of HTTP/1");
+  }
+  if (is_known && !make_head(r, passage))
+    return NGX_ERROR;
+  if (passage->tracker)
+    wrap_peer(&r->upstream->peer, passage);
+  return NGX_OK;
+}
+
+static void drop_phase(const ngx_list_part_t *part)
+{
+  ngx_table_elt_t *headers = part->elts;
+  for (ngx_uint_t i = 0; i < part->nelts; i++)
+    if (headers[i].key.len == sizeof PHASE_HEADER - 1 &&
+        ngx_strncasecmp(headers[i].key.data, (u_char *)PHASE_HEADER, sizeof PHASE_HEADER - 1) == 0)
+      headers[i].hash = 0;
+}
+
+void drop_phases(ngx_http_request_t *r)
+{
+  for (const ngx_list_part_t *part = &r->headers_out.headers.part; part; part = part->next)
+    drop_phase(part);
+}
+
+/* What a server said of a stamp is for this front alone. */
+static ngx_int_t filter_header(ngx_http_request_t *r)
+{
+  if (ngx_http_get_module_ctx(r, ngx_http_dmclock_track_module))
+    drop_phases(r);
+  return next_header_filter(r);
+}
+
+/* ---- the directives */
+
+static struct front_tracker *find_tracker(const struct front_main *front, const ngx_str_t *name)
+{
+  struct front_tracker **trackers = front->trackers.elts;
+  for (ngx_uint_t i = 0; i < front->trackers.nelts; i++)
+    if (trackers[i]->name.len == name->len && memcmp(trackers[i]->name.data, name->data, name->len) == 0)
+      return trackers[i];
+  return NULL;
+}
+
+static char *set_all(ngx_conf_t *cf, void *tracker, const ngx_str_t *word, const ngx_str_t *value)
+{
+  ((struct front_tracker *)tracker)->tenants.counting = DMC_ALL;
+  return NGX_CONF_OK;
+}
+
+/* Which is so if nothing is said. */
+static char *set_others(ngx_conf_t *cf, void *tracker, const ngx_str_t *word, const ngx_str_t *value)
+{
+  if (((struct front_tracker *)tracker)->tenants.counting == DMC_ALL)
+    return params_bad(cf, word, "one of all and others");
+  return NGX_CONF_OK;
+}
+
+static char *set_tenants(ngx_conf_t *cf, void *tracker, const ngx_str_t *word, const ngx_str_t *value)
+{
+  return params_number(cf, word, value, MOST_CLIENTS, &((struct front_tracker *)tracker)->tenants.most);
+}
+
+static const struct param tracker_params[] = {{"all", set_all}, {"others", set_others}, {"tenants=", set_tenants}, {NULL, NULL}};
+
+/* dmclock_tracker NAME KEY [all | others] [tenants=N] */
+static char *tracker_directive(ngx_conf_t *cf, ngx_command_t *command, void *main)
+{
+  struct front_main *front = main;
+  ngx_str_t *words = cf->args->elts;
+  if (words[1].len == 0 || find_tracker(front, &words[1]))
+    return params_bad(cf, &words[1], "a name that no other tracker has");
+  struct front_tracker *tracker = ngx_pcalloc(cf->pool, sizeof *tracker), **kept = ngx_array_push(&front->trackers);
+  if (!tracker || !kept || ngx_array_init(&tracker->servers, cf->pool, 4, sizeof(ngx_addr_t)) != NGX_OK)
+    return NGX_CONF_ERROR;
+  *kept = tracker;
+  tracker->name = words[1];
+  tracker->tenants.name = text_of(cf, &words[1]);
+  tracker->tenants.counting = DMC_OTHERS;
+  tracker->tenants.most = 1024;
+  ngx_http_compile_complex_value_t compile = {.cf = cf, .value = &words[2], .complex_value = &tracker->key};
+  if (!tracker->tenants.name || ngx_http_compile_complex_value(&compile) != NGX_OK)
+    return NGX_CONF_ERROR;
+  return params_read(cf, 3, tracker_params, tracker);
+}
+
+static ngx_int_t add_server(ngx_conf_t *cf, struct front_tracker *tracker, const ngx_addr_t *address)
+{
+  uint32_t place = server_of(tracker, address->sockaddr, address->socklen);
+  if (place < tracker->servers.nelts)
+    return NGX_OK;
+  if (place == MOST_SERVERS) {
+    ngx_log_error(NGX_LOG_EMERG, cf->log, 0, "dmclock_tracker \"%V\" has more than %d servers", &tracker->name, MOST_SERVERS);
+    return NGX_ERROR;
+  }
+  ngx_addr_t *server = ngx_array_push(&tracker->servers);
+  if (!server)
+    return NGX_ERROR;
+  *server = *address;
+  tracker->tenants.servers = place + 1;
+  tracker->tenants.server_names[place] = text_of(cf, &address->name);
+  return tracker->tenants.server_names[place] ? NGX_OK : NGX_ERROR;
+}
+
+static ngx_int_t add_servers(ngx_conf_t *cf, struct front_tracker *tracker, const ngx_http_upstream_server_t *server)
+{
+  ngx_int_t result = NGX_OK;
+  for (ngx_uint_t i = 0; i < server->naddrs && result == NGX_OK; i++)
+    result = add_server(cf, tracker, &server->addrs[i]);
+  return result;
+}
+
+static ngx_int_t init_upstream(ngx_conf_t *cf, ngx_http_upstream_srv_conf_t *upstream)
+{
+  struct front_upstream *front = ngx_http_conf_upstream_srv_conf(upstream, ngx_http_dmclock_track_module);
+  ngx_http_upstream_server_t *servers = upstream->servers->elts;
+  ngx_int_t result = front->init_upstream(cf, upstream);
+  front->init_peer = upstream->peer.init;
+  upstream->peer.init = init_peer;
+  for (ngx_uint_t i = 0; i < upstream->servers->nelts && result == NGX_OK; i++)
+    result = add_servers(cf, front->tracker, &servers[i]);
+  return result;
+}
+
+/* dmclock_track NAME */
+static char *track_directive(ngx_conf_t *cf, ngx_command_t *command, void *where)
+{
+  struct front_upstream *front = where;
+  struct front_main *main = ngx_http_conf_get_module_main_conf(cf, ngx_http_dmclock_track_module);
+  ngx_http_upstream_srv_conf_t *upstream = ngx_http_conf_get_module_srv_conf(cf, ngx_http_upstream_module);
+  ngx_str_t *words = cf->args->elts;
+  if (front->tracker)
+    return "is duplicate";
+  front->tracker = find_tracker(main, &words[1]);
+  if (!front->tracker)
+    return params_bad(cf, &words[1], "the name of a dmclock_tracker that is declared before");
+  ngx_http_upstream_srv_conf_t **kept = ngx_array_push(&main->upstreams);
+  if (!kept)
+    return NGX_CONF_ERROR;
+  *kept = upstream;
+  front->init_upstream = upstream->peer.init_upstream ? upstream->peer.init_upstream : ngx_http_upstream_init_round_robin;
+  upstream->peer.init_upstream = init_upstream;
+  return NGX_CONF_OK;
+}
+
+/* ---- the module */
+
+static void *create_main(ngx_conf_t *cf)
+{
+  struct front_main *front = ngx_pcalloc(cf->pool, sizeof *front);
+  bool is_made = front && ngx_array_init(&front->trackers, cf->pool, 2, sizeof(struct front_tracker *)) == NGX_OK &&
+                 ngx_array_init(&front->upstreams, cf->pool, 2, sizeof(ngx_http_upstream_srv_conf_t *)) == NGX_OK;
+  return is_made ? front : NULL;
+}
+
+static void *create_upstream(ngx_conf_t *cf)
+{
+  return ngx_pcalloc(cf->pool, sizeof(struct front_upstream));
+}
+
+/* What comes after dmclock_track in an upstream would select servers around it, or in its place: requests then had no stamps, or the
+   stamps of other servers. */
+static ngx_int_t finish(ngx_conf_t *cf)
+{
+  struct front_main *front = ngx_http_conf_get_module_main_conf(cf, ngx_http_dmclock_track_module);
+  ngx_http_upstream_srv_conf_t **upstreams = front->upstreams.elts;
+  for (ngx_uint_t i = 0; i < front->upstreams.nelts; i++)
+    if (upstreams[i]->peer.init_upstream != init_upstream) {
+      ngx_log_error(NGX_LOG_EMERG, cf->log, 0,
+                    "dmclock_track has to be the last one of the directives of the upstream \"%V\" that select a server or keep "
+                    "connections", &upstreams[i]->host);
+      return NGX_ERROR;
+    }
+  next_header_filter = ngx_http_top_header_filter;
+  ngx_http_top_header_filter = filter_header;
+  return NGX_OK;
+}
+
+static void close_trackers(ngx_cycle_t *cycle)
+{
+  struct front_main *front = ngx_http_cycle_get_module_main_conf(cycle, ngx_http_dmclock_track_module);
+  struct front_tracker **trackers = front ? front->trackers.elts : NULL;
+  for (ngx_uint_t i = 0; front && i < front->trackers.nelts; i++)
+    tenants_close(&trackers[i]->tenants);
+}
+
+static ngx_command_t commands[] = {
+  {ngx_string("dmclock_tracker"), NGX_HTTP_MAIN_CONF | NGX_CONF_2MORE, tracker_directive, NGX_HTTP_MAIN_CONF_OFFSET, 0, NULL},
+  {ngx_string("dmclock_track"), NGX_HTTP_UPS_CONF | NGX_CONF_TAKE1, track_directive, NGX_HTTP_SRV_CONF_OFFSET, 0, NULL},
+  ngx_null_command
+};
+
+static ngx_http_module_t context = {NULL, finish, create_main, NULL, create_upstream, NULL, NULL, NULL};
+
+ngx_module_t ngx_http_dmclock_track_module = {
+  NGX_MODULE_V1, &context, commands, NGX_HTTP_MODULE, NULL, NULL, NULL, NULL, NULL, close_trackers, NULL, NGX_MODULE_V1_PADDING
+};

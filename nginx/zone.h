@@ -1,0 +1,128 @@
+/* A zone: a proved dmClock queue before a device, for one thread. A request enters with its client, waits until the queue grants it,
+   uses the device, and leaves. The device has at most `depth` requests at once. All times are in nanoseconds since the zone was
+   opened, and none is before the last one. */
+#ifndef DMCLOCK_ZONE_H
+#define DMCLOCK_ZONE_H
+
+#include <stdbool.h>
+#include <stddef.h>
+#include <stdint.h>
+
+#include "dmclock.h"
+#include "rates.h"
+#include "times.h"
+
+/* The most clients and the most requests that a queue has. */
+#define MOST_CLIENTS 65536
+#define MOST_QUEUED (1u << 20)
+
+struct zone_config {
+  const char *name;
+  uint32_t depth;
+  uint32_t most_queued;    /* requests in the queue */
+  uint32_t most_of_client; /* those of one client */
+  uint32_t most_others;    /* clients that are not kept */
+  enum dmc_at_limit at_limit;
+  uint64_t threshold;      /* with DMC_REJECT how long a request may wait for its client's limit; otherwise 0 */
+  enum dmc_shares shares;
+  uint64_t timeout;        /* how long a request waits until it expires; NEVER if it does not */
+  uint64_t idle, erase;    /* how long without a request until a client is idle, and until it is forgotten */
+};
+
+/* A client, from its first `zone_client` on. */
+struct client {
+  char *name;
+  struct rates rates;
+  uint32_t id;
+  bool is_kept;            /* it is never forgotten */
+  uint32_t queued;         /* requests in the queue, those that have left or expired among them */
+  uint32_t under_way;
+  uint64_t requests, grants[2]; /* the grants by dmc_phase */
+  uint64_t beyond;         /* those of them beyond the limit */
+  uint64_t refused, left, expired; /* requests that were not queued; that left while they waited; that waited for too long */
+  uint64_t last_request;
+  struct buckets waited[2]; /* from entering to the grant, by dmc_phase */
+  struct client *next, **link; /* the next one, and what points to this one */
+};
+
+enum request_state { REQUEST_NEW, REQUEST_WAITS, REQUEST_GRANTED, REQUEST_EXPIRED, REQUEST_ENDED };
+
+/* A request, in the caller's memory, which stays where it is until the request has left. Starts as zeros. */
+struct request {
+  struct client *client;
+  enum request_state state;
+  enum dmc_phase phase;    /* of the grant */
+  uint32_t token;
+  uint64_t entered;
+  struct request *next, **link; /* of those that wait, in the order in which they came; or of those that are woken at once */
+};
+
+struct place;
+
+/* Starts as zeros. */
+struct zone {
+  struct zone_config config;
+  struct dmc_queue queue;
+  uint32_t under_way;      /* requests at the device */
+  uint32_t waiting;        /* requests that wait */
+  uint32_t queued;         /* requests in the queue, those that have left or expired among them */
+  uint64_t due;            /* when the next request is due; NEVER if that is not known */
+  uint64_t next_clean;
+  uint64_t stamped, untrusted, malformed; /* requests by their stamps, and requests of names that are no client: the caller counts them */
+  uint64_t unknown;
+  const char *fault;       /* why nothing is granted any more, once the queue refused what it can't refuse */
+  uint32_t next_id;
+  uint32_t kept, others;   /* clients that are kept, and those that are not */
+  struct client *first, **last_client; /* all clients, in the order in which they came */
+  struct client *spare;    /* those that were forgotten */
+  void *names;             /* a tree of them */
+  struct request *waits, **last_wait;
+  struct place *places;    /* the requests in the queue, by their tokens */
+  uint32_t tokens, free_token; /* how many places there are, and the first free one */
+};
+
+/* Why a request is not queued. */
+enum refusal {
+  REFUSED_NOT,
+  REFUSED_FULL,            /* the queue has its most requests */
+  REFUSED_CLIENT_FULL,     /* the client has its most requests in it */
+  REFUSED_CLIENTS,         /* the queue has its most clients */
+  REFUSED_LIMIT,           /* it would wait for its client's limit longer than the threshold */
+  REFUSED_MEMORY,
+  REFUSED_FAULT            /* the queue refuses what it can't refuse */
+};
+
+/* A zone with no client. False if memory is short. */
+bool zone_open(struct zone *, const struct zone_config *);
+
+/* Frees all. No request is in the zone. */
+void zone_close(struct zone *);
+
+/* The client of a name; NULL if there is none. */
+struct client *zone_find(const struct zone *, const char *name);
+
+/* Makes a client that the zone does not have. NULL if memory is short, or if there are the most clients of its
+   kind. */
+struct client *zone_client(struct zone *, const char *name, const struct rates *, bool is_kept, uint64_t now);
+
+/* Queues a request with the counts of its stamp. If it is refused, it is as it was. Else it waits or is granted, and so may others
+   be: these are in the list `woken`, and so is it, if it is granted. */
+enum refusal zone_enter(struct zone *, struct request *, struct client *, struct dmc_stamp, uint64_t now, struct request **woken);
+
+/* A request leaves: the device is done with it, or its caller no longer waits for it. The queue keeps one that was waiting: its grant
+   passes to the next. Returns those that are granted now. */
+struct request *zone_leave(struct zone *, struct request *, uint64_t now);
+
+/* Grants what is due, and ends waits that took too long. Returns the requests that are granted or have expired. */
+struct request *zone_turn(struct zone *, uint64_t now);
+
+/* When `zone_turn` has to be called next. */
+uint64_t zone_next_turn(const struct zone *);
+
+/* How long until the queue may have room, as far as the queue says it; 0 if it does not. */
+uint64_t zone_retry_after(const struct zone *, uint64_t now);
+
+/* A text for a refusal. */
+const char *refusal_text(enum refusal);
+
+#endif

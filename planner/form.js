@@ -8,6 +8,7 @@ const rows = () => [...byId("clients").children];
 const WORDS = {
   wait: "wait until one is due", allow: "grant beyond it",
   others: "at the other servers", all: "at all servers",
+  virtual: "in virtual time", clock: "by the clock",
 };
 
 // ---- the fields
@@ -115,7 +116,7 @@ function run() {
   history.replaceState(null, "", toAddress(scene));
   const began = performance.now();
   let exact, warnings;
-  end = start(settings, ({ rates, progress, result, fault }) => {
+  end = start(settings, ({ rates, progress, result, other, fault }) => {
     if (rates) {
       exact = rates;
       showRates(rates);
@@ -136,7 +137,11 @@ function run() {
       const took = duration((performance.now() - began) / 1000);
       say(`${plain(settings.seconds)} seconds with ${plain(result.granted)} grants, simulated in ${took}.`);
     }
-    if (fault || result) end();
+    if (other) {
+      shown.other = other;
+      drawCompared(shown);
+    }
+    if (fault || other) end();
   });
 }
 

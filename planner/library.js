@@ -5,6 +5,7 @@
 const HZ = 735134400; // DMC_FINE_HZ
 const TICK = 0; // DMC_TICK
 const AT_LIMIT = { wait: 0, allow: 1 };
+const SHARES = { clock: 0, virtual: 1 };
 const COUNTING = { all: 0, others: 1 };
 const RESERVATION = 0; // DMC_RESERVATION
 const GRANTED = 0; // DMC_GRANTED
@@ -13,10 +14,12 @@ const TEXTS = new Map([
   [1, "out of memory"], [2, "none held"], [3, "held already"], [10, "bad moment"], [11, "bad params"], [12, "bad rate"],
   [13, "bad config"], [14, "bad phase"], [15, "limit"], [20, "known"], [21, "unknown"], [22, "inexact reservation"],
   [23, "inexact weight"], [24, "inexact limit"], [25, "clients"], [26, "queue full"], [27, "range"], [28, "busy"],
+  [29, "over limit"],
   [30, "no server"], [31, "tracker full"],
 ]);
 // Of the structs: their bytes, and where their fields are, in words of 32 bits.
 const HANDLE = { bytes: 16 };
+const CONFIG = { bytes: 48, hz: 0, idleAge: 2, eraseAge: 4, tagKind: 8, atLimit: 9, shares: 10 };
 const STAMP = { bytes: 8, delta: 0, rho: 1 };
 const TAGS = { bytes: 80 };
 const PULLED = { bytes: 40, kind: 0, client: 1, token: 2, phase: 3, beyond: 4, dueLow: 6, dueHigh: 8 };
@@ -30,6 +33,7 @@ class Library {
     this.bytes = new Uint8Array();
     this.number = this.room(4);
     this.other = this.room(4);
+    this.config = this.room(CONFIG.bytes);
     this.stamped = this.room(STAMP.bytes);
     this.tags = this.room(TAGS.bytes);
     this.pulled = this.room(PULLED.bytes);
@@ -74,9 +78,15 @@ class Library {
     return this.word(this.number);
   }
 
-  newQueue(idleAge, eraseAge, atLimit) {
+  newQueue(idleAge, eraseAge, atLimit, shares) {
     const queue = this.room(HANDLE.bytes);
-    this.must(this.calls.dmc_queue_new(queue, TICK, BigInt(HZ), BigInt(idleAge), BigInt(eraseAge), AT_LIMIT[atLimit]));
+    const at = Number(this.config) / 4;
+    for (const [field, number] of [[CONFIG.hz, HZ], [CONFIG.idleAge, idleAge], [CONFIG.eraseAge, eraseAge]])
+      this.longs[(at + field) / 2] = BigInt(number);
+    this.words[at + CONFIG.tagKind] = TICK;
+    this.words[at + CONFIG.atLimit] = AT_LIMIT[atLimit];
+    this.words[at + CONFIG.shares] = SHARES[shares];
+    this.must(this.calls.dmc_queue_new(queue, this.config));
     return queue;
   }
 

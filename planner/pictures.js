@@ -7,6 +7,7 @@ const SVG = ["svg", "path", "text", "clipPath", "rect"];
 const MARGIN = { left: 46, right: 10, top: 8, bottom: 22 };
 const TOPS = [1, 1.2, 1.5, 2, 2.5, 3, 4, 5, 6, 8, 10];
 const STEPS = [1, 2, 5, 10, 20, 30, 60, 120];
+const SHARES_TITLES = { virtual: "In virtual time", clock: "By the clock" };
 
 const byId = id => document.getElementById(id);
 
@@ -61,23 +62,54 @@ function area({ x, y }, lows, highs, width, seconds) {
 
 const sums = (ones, others) => ones.map((one, k) => one + others[k]);
 
+// The rates of the first client, of the first two, and so on, from none to all.
+function levelsOf({ clients }) {
+  const levels = [clients[0].byWeight.map(() => 0)];
+  for (const its of clients) levels.push(sums(levels.at(-1), grantedOf(its)));
+  return levels;
+}
+
+const topOf = ({ capacity, servers }, ...results) =>
+  roundUp(Math.max(capacity * servers * 1.02, ...results.flatMap(result => levelsOf(result).at(-1))));
+
+// All clients of a result, stacked, below what the servers have.
+function stacked({ capacity, servers, seconds }, result, width, top) {
+  const at = axes(width, Math.max(180, Math.min(280, width * 0.5)), top, seconds);
+  const levels = levelsOf(result);
+  result.clients.forEach((_, id) =>
+    at.svg.append(make("path", { class: "stack", style: colorOf(id), d: area(at, levels[id], levels[id + 1], result.width, seconds) })));
+  at.svg.append(make("path", { class: "line whole", d: `M${at.x(0)} ${at.y(capacity * servers)}H${at.x(seconds)}` }));
+  return at.svg;
+}
+
+const keyOf = clients => make("ul", { class: "key", "aria-hidden": "true" },
+  ...clients.map(({ name }, id) => make("li", {}, chip(id), ` ${name}`)),
+  make("li", {}, make("i", { class: "line reservation" }), "what the servers have"));
+
 function drawAll({ settings, result }) {
   const { capacity, servers, seconds, clients } = settings;
   const most = capacity * servers;
-  const levels = [result.clients[0].byWeight.map(() => 0)];
-  for (const { byReservation, byWeight } of result.clients) levels.push(sums(levels.at(-1), sums(byReservation, byWeight)));
   const figure = byId("all");
-  figure.replaceChildren();
-  figure.append(make("ul", { class: "key", "aria-hidden": "true" }, ...clients.map(({ name }, id) => make("li", {}, chip(id), ` ${name}`)),
-    make("li", {}, make("i", { class: "line reservation" }), "what the servers have")));
-  const width = figure.clientWidth - 32;
-  const at = axes(width, Math.max(180, Math.min(280, width * 0.5)), roundUp(Math.max(most * 1.02, ...levels.at(-1))), seconds);
-  clients.forEach((_, id) =>
-    at.svg.append(make("path", { class: "stack", style: colorOf(id), d: area(at, levels[id], levels[id + 1], result.width, seconds) })));
-  at.svg.append(make("path", { class: "line whole", d: `M${at.x(0)} ${at.y(most)}H${at.x(seconds)}` }));
+  figure.replaceChildren(keyOf(clients));
+  const svg = stacked(settings, result, figure.clientWidth - 32, topOf(settings, result));
   const used = result.granted / (most * seconds);
   const caption = `Requests a second. Of the ${plain(most)} a second that the servers have, ${percent(used)} are granted.`;
-  figure.append(at.svg, make("figcaption", {}, caption));
+  figure.append(svg, make("figcaption", {}, caption));
+}
+
+// Both kinds of shares beside each other, if the results differ.
+function drawCompared({ settings, result, other }) {
+  const found = other && differenceOf(settings, result, other);
+  byId("compared").hidden = !found;
+  if (!found) return;
+  const figure = byId("both");
+  const pair = make("div", { class: "pair" }, make("div", {}), make("div", {}));
+  figure.replaceChildren(keyOf(settings.clients), pair, make("figcaption", {}, differenceText(settings, found)));
+  const width = pair.firstChild.clientWidth;
+  const top = topOf(settings, result, other);
+  const plot = shares => make("div", {}, make("b", {}, SHARES_TITLES[shares]),
+    stacked(settings, shares === settings.shares ? result : other, width, top));
+  pair.replaceChildren(...SHARES_WORDS.map(plot));
 }
 
 function sentenceOf({ reservation, weight, limit, demand }, rates, its) {
@@ -96,7 +128,7 @@ function drawClient({ settings, rates, result }, id, width, top) {
   const { name, from, until, demand } = settings.clients[id];
   const { reservation, limit } = rates[id];
   const its = result.clients[id];
-  const both = sums(its.byReservation, its.byWeight);
+  const both = grantedOf(its);
   const at = axes(width, 150, top, seconds);
   at.svg.append(make("clipPath", { id: `inside${id}` }, make("rect", { x: 0, y: at.y(top) - 1, width, height: at.y(0) - at.y(top) + 1 })));
   const draw = (kind, d) => at.svg.append(make("path", { class: kind, d, style: colorOf(id), "clip-path": `url(#inside${id})` }));
@@ -113,7 +145,7 @@ function drawClient({ settings, rates, result }, id, width, top) {
 function drawEach(run) {
   const { settings, rates, result } = run;
   const most = settings.capacity * settings.servers;
-  const seen = result.clients.flatMap(({ byReservation, byWeight }) => sums(byReservation, byWeight));
+  const seen = result.clients.flatMap(grantedOf);
   const lines = rates.flatMap(({ reservation, limit }) => [reservation, limit]).filter(rate => rate <= most);
   const top = roundUp(Math.max(1, ...seen, ...lines) * 1.04);
   const grid = byId("each");
@@ -134,6 +166,7 @@ function drawTable({ settings, result }) {
 
 function draw(run) {
   drawAll(run);
+  drawCompared(run);
   drawEach(run);
   drawTable(run);
 }

@@ -7,6 +7,7 @@ const MOST_CLIENTS = 64;
 const MOST_REQUESTS = 5000000;
 const AT_LIMIT_WORDS = ["wait", "allow"];
 const COUNTING_WORDS = ["others", "all"];
+const SHARES_WORDS = ["virtual", "clock"];
 
 // The fields, in the order of the form and of the address. One with `none` may be left empty. One with `absent` may be missing in an
 // address, which then means this.
@@ -17,7 +18,8 @@ const SERVER_FIELDS = [
   { key: "atLimit", label: "At the limit", words: AT_LIMIT_WORDS },
   { key: "counting", label: "Stamps count completions", words: COUNTING_WORDS },
   { key: "depth", label: "Depth", least: 1, most: 1024, absent: "1" },
-  { key: "idle", label: "Idle after seconds", least: 1, most: 100000, absent: "1" },
+  { key: "idle", label: "Idle after seconds", least: 1, most: 100000, absent: "5" },
+  { key: "shares", label: "Shares are compared", words: SHARES_WORDS, absent: "virtual" },
 ];
 const CLIENT_FIELDS = [
   { key: "name", label: "Name", isName: true },
@@ -35,22 +37,22 @@ const scene = (server, ...clients) => ({
   clients: clients.map(client => Object.fromEntries(CLIENT_FIELDS.map(({ key }, k) => [key, String(client[k])]))),
 });
 const PRESETS = [
-  ["Three tenants", scene([2000, 1, 60, "wait", "others", 4, 600],
+  ["Three tenants", scene([2000, 1, 60, "wait", "others", 4, 5, "virtual"],
     ["database", 800, 2, "", 1000, 0, 60, 64],
     ["website", "", 3, "", 1600, 15, 45, 64],
     ["backup", 100, 1, 500, 1500, 0, 60, 64])],
-  ["Noisy neighbour", scene([1000, 1, 60, "wait", "others", 4, 600],
+  ["Noisy neighbour", scene([1000, 1, 60, "wait", "others", 4, 5, "virtual"],
     ["steady", 300, 1, "", 300, 0, 60, 32],
     ["modest", "", 1, "", 250, 0, 60, 32],
     ["noisy", "", 1, "", 4000, 20, 40, 1024])],
-  ["Backlog", scene([1000, 1, 60, "wait", "others", 4, 600],
+  ["Backlog", scene([1000, 1, 60, "wait", "others", 4, 5, "virtual"],
     ["interactive", 400, 4, "", 700, 0, 60, 32],
     ["nightly batch", "", 1, 300, 20000, 10, 11, 8000])],
-  ["Too much reserved", scene([1000, 1, 60, "wait", "others", 4, 600],
+  ["Too much reserved", scene([1000, 1, 60, "wait", "others", 4, 5, "virtual"],
     ["first", 600, 1, "", 700, 0, 60, 64],
     ["second", 600, 1, "", 700, 20, 60, 64],
     ["third", "", 4, "", 500, 0, 60, 64])],
-  ["Three servers", scene([600, 3, 60, "wait", "others", 4, 600],
+  ["Three servers", scene([600, 3, 60, "wait", "others", 4, 5, "virtual"],
     ["database", 800, 2, "", 1000, 0, 60, 96],
     ["website", "", 3, "", 1600, 15, 45, 96],
     ["backup", 100, 1, 500, 1200, 0, 60, 96])],
@@ -130,13 +132,13 @@ function checkTogether({ seconds, clients }, faults) {
 }
 
 // What is right but may surprise, given what the rates became.
-function warningsOf({ capacity, servers, clients }, rates) {
+function warningsOf({ capacity, servers, shares, clients }, rates) {
   const whole = capacity * servers;
   const weights = rates.reduce((sum, { weight }) => sum + weight, 0);
   const found = [];
-  if (weights > whole)
+  if (shares === "clock" && weights > whole)
     found.push(`The weights sum to ${plain(weights)}, which is more than the ${plain(whole)} requests a second that are served: `
-      + "clients don't get shares by them. A weight is a rate as well; take small numbers such as 1, 2 and 3.");
+      + "by the clock, clients don't get shares by them. Take small numbers such as 1, 2 and 3, or virtual time.");
   clients.forEach(({ name }, id) => {
     const { reservation, limit } = rates[id];
     if (limit && reservation > limit) found.push(`The reservation of ${name} is above its limit: the reservation wins.`);
@@ -145,10 +147,11 @@ function warningsOf({ capacity, servers, clients }, rates) {
 }
 
 // What a run shows that may surprise: clients that were not granted anything for long, although they asked for it.
-function waitsOf({ clients }, result) {
+function waitsOf({ shares, clients }, result) {
+  const advice = shares === "clock" ? "A reservation, virtual time, or a shorter time until a client is idle, may help." : "A reservation may help.";
   return result.clients.flatMap(({ starved }, id) => starved
     ? [`For ${plain(starved.seconds)} s nothing was granted to ${clients[id].name}, which waited, while ${plain(starved.others)} `
-      + "requests of others were granted by weight. A reservation, or a shorter time until a client is idle, may help."] : []);
+      + `requests of others were granted by weight. ${advice}`] : []);
 }
 
 // ---- nbdkit
@@ -156,8 +159,9 @@ function waitsOf({ clients }, result) {
 const MOST_NBDKIT_WEIGHT = 1000;
 
 // The settings as the nbdkit filter takes them, a line each. What it refuses is a comment that says so.
-function nbdkitSettings({ capacity, servers, atLimit, depth, idle, clients }) {
-  const lines = [`dmclock-depth=${depth}`, `dmclock-capacity=${capacity}`, `dmclock-at-limit=${atLimit}`, `dmclock-idle=${idle}`];
+function nbdkitSettings({ capacity, servers, atLimit, depth, idle, shares, clients }) {
+  const lines = [`dmclock-depth=${depth}`, `dmclock-capacity=${capacity}`, `dmclock-at-limit=${atLimit}`, `dmclock-shares=${shares}`,
+    `dmclock-idle=${idle}`];
   if (servers > 1) lines.unshift(`# for each of the ${servers} servers; the filter knows of no other server`);
   if (idle > 900) lines.push(`dmclock-erase=${idle}`);
   for (const { name, reservation, weight, limit } of clients) {

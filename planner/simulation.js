@@ -37,7 +37,7 @@ class Client {
 
 class Server {
   constructor(library, settings, rates) {
-    this.queue = library.newQueue(settings.idle * HZ, ERASE_AGE, settings.atLimit);
+    this.queue = library.newQueue(settings.idle * HZ, ERASE_AGE, settings.atLimit, settings.shares);
     rates.forEach((its, id) => library.register(this.queue, id, its));
     this.service = Math.floor(settings.depth * HZ / settings.capacity);
     this.depth = settings.depth;

@@ -1,6 +1,6 @@
 /* The simulation of the page over libdmclock.a, by the rule of docs/PLANNER.md. It reads the settings as words, a line for the servers
  * and one for each client:
- *     capacity servers seconds wait|allow others|all depth idle
+ *     capacity servers seconds wait|allow others|all depth idle virtual|clock
  *     reservation weight limit demand from until window
  * with 0 for no reservation and no limit. It writes what each client's rates became, each grant (tick, server, client, token, phase,
  * beyond, wait), and how many requests of each client were turned away. */
@@ -17,6 +17,10 @@
 
 /* What library.js reads. */
 _Static_assert(sizeof(struct dmc_queue) == 16 && sizeof(struct dmc_tracker) == 16, "HANDLE");
+_Static_assert(sizeof(struct dmc_config) == 48 && offsetof(struct dmc_config, hz) == 0, "CONFIG");
+_Static_assert(offsetof(struct dmc_config, idle_age) == 8 && offsetof(struct dmc_config, erase_age) == 16, "CONFIG");
+_Static_assert(offsetof(struct dmc_config, threshold) == 24 && offsetof(struct dmc_config, tag_kind) == 32, "CONFIG");
+_Static_assert(offsetof(struct dmc_config, at_limit) == 36 && offsetof(struct dmc_config, shares) == 40, "CONFIG");
 _Static_assert(sizeof(struct dmc_stamp) == 8 && offsetof(struct dmc_stamp, rho) == 4, "STAMP");
 _Static_assert(sizeof(struct dmc_tags) == 80, "TAGS");
 _Static_assert(sizeof(struct dmc_pulled) == 40, "PULLED");
@@ -25,6 +29,7 @@ _Static_assert(offsetof(struct dmc_pulled, token) == 8 && offsetof(struct dmc_pu
 _Static_assert(offsetof(struct dmc_pulled, beyond) == 16 && offsetof(struct dmc_pulled, due_low) == 24, "PULLED");
 _Static_assert(offsetof(struct dmc_pulled, due_high) == 32, "PULLED");
 _Static_assert(DMC_FINE_HZ == 735134400 && DMC_TICK == 0 && DMC_WAIT == 0 && DMC_ALLOW == 1, "numbers");
+_Static_assert(DMC_CLOCK == 0 && DMC_VIRTUAL == 1, "numbers");
 _Static_assert(DMC_ALL == 0 && DMC_OTHERS == 1 && DMC_RESERVATION == 0 && DMC_GRANTED == 0 && DMC_FUTURE == 1, "numbers");
 
 struct client {
@@ -139,18 +144,23 @@ int main(void)
 {
   uint64_t capacity, seconds, idle;
   uint32_t servers, depth, clients = 0;
-  char at_limit[8], counting[8];
-  if (scanf("%" SCNu64 "%" SCNu32 "%" SCNu64 "%7s%7s%" SCNu32 "%" SCNu64, &capacity, &servers, &seconds, at_limit, counting, &depth,
-            &idle) != 7 || servers > 16 || depth > MOST_DEPTH)
+  char at_limit[8], counting[8], shares[8];
+  if (scanf("%" SCNu64 "%" SCNu32 "%" SCNu64 "%7s%7s%" SCNu32 "%" SCNu64 "%7s", &capacity, &servers, &seconds, at_limit, counting, &depth,
+            &idle, shares) != 8 || servers > 16 || depth > MOST_DEPTH)
     return 2;
   static struct client all[64];
   while (clients < 64 && read_client(&all[clients], clients, seconds, servers, strcmp(counting, "all") ? DMC_OTHERS : DMC_ALL))
     clients++;
   static struct server list[16];
+  struct dmc_config config = DMC_CONFIG(HZ);
+  config.idle_age = idle * HZ;
+  config.erase_age = 1000000 * HZ;
+  config.at_limit = strcmp(at_limit, "allow") ? DMC_WAIT : DMC_ALLOW;
+  config.shares = strcmp(shares, "clock") ? DMC_VIRTUAL : DMC_CLOCK;
   for (uint32_t s = 0; s < servers; s++) {
     list[s].pulls = NEVER;
     list[s].depth = depth;
-    must(dmc_queue_new(&list[s].queue, DMC_TICK, HZ, idle * HZ, 1000000 * HZ, strcmp(at_limit, "allow") ? DMC_WAIT : DMC_ALLOW));
+    must(dmc_queue_new(&list[s].queue, &config));
     for (uint32_t i = 0; i < clients; i++)
       must(dmc_queue_register(&list[s].queue, i, all[i].reservation, all[i].weight, all[i].limit, 0));
   }

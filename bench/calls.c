@@ -61,8 +61,9 @@ int main(int count, char **words) {
   if (count < 3) return 2;
   uint32_t clients = (uint32_t)atoi(words[1]), rounds = (uint32_t)atoi(words[2]);
   uint32_t limit = count > 3 ? (uint32_t)atoi(words[3]) : 0;
+  const struct dmc_config config = DMC_CONFIG(HZ);
   struct dmc_queue queue = DMC_QUEUE_NONE;
-  must(dmc_queue_new(&queue, DMC_TICK, HZ, 1, 1, DMC_WAIT));
+  must(dmc_queue_new(&queue, &config));
   uint64_t begun = nanos();
   for (uint32_t id = 0; id < clients; id++) must(dmc_queue_register(&queue, id, 10, 1, limit, 0));
   tell("register", clients, nanos() - begun);

@@ -38,7 +38,7 @@ static std::uint64_t serve(Queue &queue, std::uint32_t clients, std::uint32_t ro
 int main(int count, char **words) {
   if (count < 3) return 2;
   const auto clients = static_cast<std::uint32_t>(std::atoi(words[1])), rounds = static_cast<std::uint32_t>(std::atoi(words[2]));
-  Queue queue = Queue::make({hz, 1, 1}).value();
+  Queue queue = Queue::make({hz}).value();
   for (std::uint32_t id = 0; id < clients; id++)
     if (Code code = queue.register_client(ClientId(id), {10, 1, std::nullopt}, Moment(0)); code != Code::Ok) throw Error(code);
   for (std::uint32_t id = 0; id < clients; id++) add(queue, ClientId(id), Moment(0));

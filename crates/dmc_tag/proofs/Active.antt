@@ -30,7 +30,7 @@ module _ {T : Type 0} where
 
   -- ---- a list of requests with one in it is not empty
 
-  filled : (front : List (QueuedRequest T)) (r : QueuedRequest T) (back : List (QueuedRequest T)) → not (length (front ++ r ∷ back) == 0) ≡ true
+  pub filled : (front : List (QueuedRequest T)) (r : QueuedRequest T) (back : List (QueuedRequest T)) → not (length (front ++ r ∷ back) == 0) ≡ true
   filled [] r back = ap not (ne_eqb (length (r ∷ back)) 0 (λ e. omega arith))
   filled (x ∷ front) r back = ap not (ne_eqb (length (x ∷ front ++ r ∷ back)) 0 (λ e. omega arith))
 

@@ -15,5 +15,7 @@ pub mod Scaled
 pub mod TagOrder
 pub mod TagValues
 pub mod TakenOff
+pub mod Cancels
+pub mod Unfallen
 pub mod Refusals
 pub mod ForCallers

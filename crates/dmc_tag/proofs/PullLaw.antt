@@ -41,12 +41,12 @@ range_if true x = refl
 range_if false x = tt
 
 module _ {T : Type 0} (ops : Tagging T) (fraction : T → Fraction) (is_value : Fraction → Type 0) (exact : IsExact ops fraction is_value) (o : IsTotalOrder ops.compare) where
-  range_at : (hz : ℕ) (rate : Option ℕ) → OnlyRange (rules_of.reduction_at ops hz rate)
-  range_at hz None = tt
-  range_at hz (Some rate) = range_bind (in_range (ops.spacing hz rate)) _ (range_of (ops.spacing hz rate)) (λ _. tt)
+  range_at : (hz : ℕ) (rate : Option ℕ) (cost : ℕ) → OnlyRange (rules_of.reduction_at ops hz rate cost)
+  range_at hz None cost = tt
+  range_at hz (Some rate) cost = range_bind (in_range (ops.spacing hz rate)) _ (range_of (ops.spacing hz rate)) (λ spacing. range_bind (in_range (ops.steps spacing cost)) _ (range_of (ops.steps spacing cost)) (λ _. tt))
 
   can_grant_range : (hz : ℕ) (found : Found T) → OnlyRange (rules_of.can_grant ops hz found)
-  can_grant_range hz found = range_bind (rules_of.reduction_at ops hz found.client.info.reservation) _ (range_at hz _) (λ amount. range_if (not (rules_of.can_reduce_by ops amount (rules_of.with_requests found.others found.client))) amount)
+  can_grant_range hz found = range_bind (rules_of.reduction_at ops hz found.client.info.reservation found.request.cost) _ (range_at hz _ _) (λ amount. range_if (not (rules_of.can_reduce_by ops amount (rules_of.with_requests found.others found.client))) amount)
 
   -- the state and the reply of an outcome are those of a pull
   abbrev Says : ℕ → State T → Outcome T → Type 0
@@ -60,13 +60,13 @@ module _ {T : Type 0} (ops : Tagging T) (fraction : T → Fraction) (is_value : 
   NoneFree t s = HasNone (is_free ops t) (queued_requests s.clients)
 
   -- the amount that is taken off is that of the rule
-  reduction_given : (hz : ℕ) (found : Found T) (amount : Option T) → rules_of.can_grant ops hz found ≡ Ok amount → rules_of.reduction_at ops hz found.client.info.reservation ≡ Ok amount
+  reduction_given : (hz : ℕ) (found : Found T) (amount : Option T) → rules_of.can_grant ops hz found ≡ Ok amount → rules_of.reduction_at ops hz found.client.info.reservation found.request.cost ≡ Ok amount
   reduction_given hz found amount e =
-      let taken = bound (rules_of.reduction_at ops hz found.client.info.reservation) _ amount e in
+      let taken = bound (rules_of.reduction_at ops hz found.client.info.reservation found.request.cost) _ amount e in
       let tested = bound (refuse_if (not (rules_of.can_reduce_by ops taken.0 (rules_of.with_requests found.others found.client))) Range) _ amount taken.2 in
       taken.1 ∙ tested.2
 
-  priority_says : (t : ℕ) (s : State T) (found : Found T) (beyond : Bool) (member : QueuedRequest T → Bool) → IsBestOfAll ops by_weight member s.clients found → ((new : State T) → Grants ops t phases.Priority by_weight member s new found.client.id found.request.token → Pulls ops t s new (rules_of.granted found phases.Priority beyond)) → (given : Result (Option T) Refusal) → rules_of.can_grant ops s.config.hz found ≡ given → OnlyRange given → Says t s (given >>= (λ amount. Ok (rules_of.taken_out ops s t found phases.Priority amount, rules_of.granted found phases.Priority beyond)))
+  priority_says : (t : ℕ) (s : State T) (found : Found T) (beyond : Bool) (member : QueuedRequest T → Bool) → IsBestOfAll ops by_weight member s.clients found → ((new : State T) → Grants ops t phases.Priority by_weight member s new found.client.id found.request.token found.request.cost → Pulls ops t s new (rules_of.granted found phases.Priority beyond)) → (given : Result (Option T) Refusal) → rules_of.can_grant ops s.config.hz found ≡ given → OnlyRange given → Says t s (given >>= (λ amount. Ok (rules_of.taken_out ops s t found phases.Priority amount, rules_of.granted found phases.Priority beyond)))
   priority_says t s found beyond member is says (Ok amount) e h =
       says _ (record {
         found = found;
@@ -74,6 +74,7 @@ module _ {T : Type 0} (ops : Tagging T) (fraction : T → Fraction) (is_value : 
         best = is;
         client_is = refl;
         token_is = refl;
+        cost_is = refl;
         reduction_is = reduction_given s.config.hz found amount e;
         state_is = refl;
       })
@@ -107,6 +108,7 @@ module _ {T : Type 0} (ops : Tagging T) (fraction : T → Fraction) (is_value : 
       best = found_is ops o by_reservation (is_early ops t) s.clients found q;
       client_is = refl;
       token_is = refl;
+      cost_is = refl;
       reduction_is = refl;
       state_is = refl;
     },

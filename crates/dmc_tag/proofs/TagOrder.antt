@@ -43,7 +43,7 @@ pub positive : (a b : ℕ) → 0 < a → 0 < b → 0 < a * b
 positive a b p q = let scaled : 0 * b < a * b = mul-lt-mul_of_pos_right p q in omega arith
 
 -- two fractions less a third are ordered as the fractions are
-less_ordered : (fa fb fs fx fy : Fraction) → 0 < fa.denom → 0 < fb.denom → 0 < fs.denom → 0 < fx.denom → 0 < fy.denom → IsSame fx (difference_of fa fs) → IsSame fy (difference_of fb fs) → fraction_cmp fx fy ≡ fraction_cmp fa fb
+pub less_ordered : (fa fb fs fx fy : Fraction) → 0 < fa.denom → 0 < fb.denom → 0 < fs.denom → 0 < fx.denom → 0 < fy.denom → IsSame fx (difference_of fa fs) → IsSame fy (difference_of fb fs) → fraction_cmp fx fy ≡ fraction_cmp fa fb
 less_ordered fa fb fs fx fy da db ds dx dy p q =
     let scale = (fa.denom * fs.denom) * (fb.denom * fs.denom) in
     let left = fs.denom * fs.denom * fx.denom * fy.denom in
@@ -65,7 +65,7 @@ less_ordered fa fb fs fx fy da db ds dx dy p q =
     ∙ sym (less_cmp ((fa.numer *ℤ pos fb.denom) *ℤ pos left) ((fb.numer *ℤ pos fa.denom) *ℤ pos left) taken)
     ∙ sym (scaled_cmp (fa.numer *ℤ pos fb.denom) (fb.numer *ℤ pos fa.denom) left some_left)
 
-abbrev negated : Fraction → Fraction
+abbrev pub negated : Fraction → Fraction
 negated f = record { numer = neg_ℤ f.numer; denom = f.denom }
 
 -- a sum is the difference from the negated
@@ -115,7 +115,7 @@ module _ {T : Type 0} (ops : Tagging T) (fraction : T → Fraction) (is_value : 
 
   -- ---- not below 0
 
-  is_up_to : (x y : ℤ) (r : Ordering) → r ≡ int_cmp x y → is_gt r ≡ false → x ≤ℤ y
+  pub is_up_to : (x y : ℤ) (r : Ordering) → r ≡ int_cmp x y → is_gt r ≡ false → x ≤ℤ y
   is_up_to x y Less e h = let below = int_ranked x y Less e in omega (arith, ints)
   is_up_to x y Equal e h = let same = int_ranked x y Equal e in omega (arith, ints)
   is_up_to x y Greater e h = cc
@@ -127,7 +127,7 @@ module _ {T : Type 0} (ops : Tagging T) (fraction : T → Fraction) (is_value : 
   at_most_to a b h = is_up_to _ _ _ (exact.order a b) h
 
   -- 0 is at most the tag exactly if its numerator is not below 0
-  zero_to : (a : T) → AtMost ops (ops.of_moment 0) a → pos 0 ≤ℤ (fraction a).numer
+  pub zero_to : (a : T) → AtMost ops (ops.of_moment 0) a → pos 0 ≤ℤ (fraction a).numer
   zero_to a h =
       let zero = fraction (ops.of_moment 0) in
       let none : zero.numer ≡ pos 0 = zero_of zero.numer zero.denom (exact.of_moment 0) in
@@ -136,7 +136,7 @@ module _ {T : Type 0} (ops : Tagging T) (fraction : T → Fraction) (is_value : 
         zero_times : (d : ℕ) (z : ℤ) → (pos 0 *ℤ pos d) ≤ℤ z → pos 0 ≤ℤ z
         zero_times d z h = let e : 0 * d ≡ 0 = omega arith in subst (λ n. pos n ≤ℤ z) e h
 
-  zero_from : (a : T) → pos 0 ≤ℤ (fraction a).numer → AtMost ops (ops.of_moment 0) a
+  pub zero_from : (a : T) → pos 0 ≤ℤ (fraction a).numer → AtMost ops (ops.of_moment 0) a
   zero_from a h =
       let zero = fraction (ops.of_moment 0) in
       let none : zero.numer ≡ pos 0 = zero_of zero.numer zero.denom (exact.of_moment 0) in
@@ -152,7 +152,7 @@ module _ {T : Type 0} (ops : Tagging T) (fraction : T → Fraction) (is_value : 
       zero_from s (at_least_zero (fraction s).numer rate some up)
 
   -- nor are steps of a spacing that is not
-  steps_not_below : (s d : T) (k : ℕ) → AtMost ops (ops.of_moment 0) s → ops.steps s k ≡ Some d → pos 0 ≤ℤ (fraction d).numer
+  pub steps_not_below : (s d : T) (k : ℕ) → AtMost ops (ops.of_moment 0) s → ops.steps s k ≡ Some d → pos 0 ≤ℤ (fraction d).numer
   steps_not_below s d k h e =
       let same : (fraction d).numer *ℤ pos (fraction s).denom ≡ (pos k *ℤ (fraction s).numer) *ℤ pos (fraction d).denom = given (ops.steps s k) _ d (exact.steps s k) e in
       let times : pos 0 ≤ℤ (pos k *ℤ (fraction s).numer) = subst (λ z. pos 0 ≤ℤ z) (*ℤ_comm (fraction s).numer (pos k)) (zero_scaled (fraction s).numer k (zero_to s h)) in

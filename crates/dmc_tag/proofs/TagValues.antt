@@ -59,7 +59,7 @@ module _ {T : Type 0} (ops : Tagging T) (fraction : T → Fraction) (is_value : 
 
   -- ---- two answers of one fraction are one
 
-  one_tag : (a b : T) (f : Fraction) → 0 < f.denom → IsSame (fraction a) f → IsSame (fraction b) f → a ≡ b
+  pub one_tag : (a b : T) (f : Fraction) → 0 < f.denom → IsSame (fraction a) f → IsSame (fraction b) f → a ≡ b
   one_tag a b f some g h =
       let j = fraction a in
       let k = fraction b in
@@ -93,7 +93,7 @@ module _ {T : Type 0} (ops : Tagging T) (fraction : T → Fraction) (is_value : 
       taken : (x y : ℤ) → y ≡ pos 0 → x -ℤ y ≡ x
       taken x y e = omega (arith, ints)
 
-  same_less : (a : T) → IsSame (fraction a) (difference_of (fraction a) (fraction (ops.of_moment 0)))
+  pub same_less : (a : T) → IsSame (fraction a) (difference_of (fraction a) (fraction (ops.of_moment 0)))
   same_less a =
       let z = fraction (ops.of_moment 0) in
       let f = fraction a in

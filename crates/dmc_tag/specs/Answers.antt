@@ -20,7 +20,7 @@ sure_call_reply reply_of (Ok x) = Some (reply_of x)
 sure_call_reply reply_of (Err refusal) = Some (Refused refusal)
 
 abbrev pub pull_reply : {T : Type 0} → Pulled → Reply T
-pull_reply (pulls.Returning client token phase beyond) = Granted client token phase beyond
+pull_reply (pulls.Returning client token phase beyond cost) = Granted client token phase beyond cost
 pull_reply (pulls.Future m) = Later m
 pull_reply pulls.Nothing = Nothing
 

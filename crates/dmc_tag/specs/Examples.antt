@@ -4,10 +4,11 @@ use Rattle.dmc_types.specs.Limits.{max_moment}
 use Rattle.dmc_types.specs.Values.{Setting}
 use Rattle.dmc_types.specs.declared.config.AtLimit.{AtLimit}
 use Rattle.dmc_types.specs.declared.config.AtLimit.TheVariants.{Wait, Allow, Reject}
+use Rattle.dmc_types.specs.declared.config.Counting.{Counting}
 use Rattle.dmc_types.specs.declared.config.Shares.TheVariants.{Clock, Virtual}
 use Rattle.dmc_types.specs.declared.config.PhaseType.TheVariants as phases
 use Rattle.dmc_types.specs.declared.command.Command.{Command}
-use Rattle.dmc_types.specs.declared.command.Command.TheVariants.{Register, Update, Add, Pull, Remove, Clean}
+use Rattle.dmc_types.specs.declared.command.Command.TheVariants.{Register, Update, Add, Pull, Remove, Cancel, Clean}
 use Rattle.dmc_tag.specs.declared.reply.Reply.{Reply}
 use Rattle.dmc_tag.specs.declared.reply.Reply.TheVariants.{Tagged, Granted}
 
@@ -45,14 +46,20 @@ client c r w l t = Register (record { 0 = c }) (record { reservation = r; weight
 abbrev pub update : ℕ → Option ℕ → ℕ → Option ℕ → ℕ → Command
 update c r w l t = Update (record { 0 = c }) (record { reservation = r; weight = w; limit = l }) t
 
+abbrev pub add_of_cost : ℕ → ℕ → ℕ → ℕ → ℕ → ℕ → Command
+add_of_cost cost c token delta rho t = Add (record { 0 = c }) (record { 0 = token }) (record { delta = delta; rho = rho; cost = cost }) t
+
 abbrev pub add : ℕ → ℕ → ℕ → ℕ → ℕ → Command
-add c token delta rho t = Add (record { 0 = c }) (record { 0 = token }) (record { delta = delta; rho = rho }) t
+add c token delta rho t = add_of_cost 1 c token delta rho t
 
 abbrev pub pull : ℕ → Command
 pull t = Pull t
 
 abbrev pub drop_all : ℕ → Command
 drop_all c = Remove (record { 0 = c })
+
+abbrev pub cancel : ℕ → ℕ → Counting → Command
+cancel c token counting = Cancel (record { 0 = c }) (record { 0 = token }) counting
 
 abbrev pub clean : ℕ → Command
 clean t = Clean t
@@ -62,11 +69,17 @@ clean t = Clean t
 abbrev pub tags : {T : Type 0} → Option T → T → T → Reply T
 tags r l p = Tagged (record { r = r; l = l; p = p })
 
+abbrev pub by_reservation_of_cost : {T : Type 0} → ℕ → ℕ → ℕ → Reply T
+by_reservation_of_cost cost c token = Granted (record { 0 = c }) (record { 0 = token }) phases.Reservation false cost
+
 abbrev pub by_reservation : {T : Type 0} → ℕ → ℕ → Reply T
-by_reservation c token = Granted (record { 0 = c }) (record { 0 = token }) phases.Reservation false
+by_reservation c token = by_reservation_of_cost 1 c token
+
+abbrev pub by_priority_of_cost : {T : Type 0} → ℕ → ℕ → ℕ → Reply T
+by_priority_of_cost cost c token = Granted (record { 0 = c }) (record { 0 = token }) phases.Priority false cost
 
 abbrev pub by_priority : {T : Type 0} → ℕ → ℕ → Reply T
-by_priority c token = Granted (record { 0 = c }) (record { 0 = token }) phases.Priority false
+by_priority c token = by_priority_of_cost 1 c token
 
 abbrev pub by_priority_beyond : {T : Type 0} → ℕ → ℕ → Reply T
-by_priority_beyond c token = Granted (record { 0 = c }) (record { 0 = token }) phases.Priority true
+by_priority_beyond c token = Granted (record { 0 = c }) (record { 0 = token }) phases.Priority true 1

@@ -15,6 +15,8 @@ pub mod State
 pub mod Best
 -- The rules of dmClock over the plain state, each under its name.
 pub mod Rules
+-- Cancel: requests that are taken back give back what they were charged, if their stamps counted it.
+pub mod Cancel
 -- One command: the state after it and the reply that the rules give. A refused command leaves the state.
 pub mod Step
 -- Whole runs: the state and the replies after a list of commands, and whether recorded replies are those.

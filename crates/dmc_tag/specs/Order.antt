@@ -4,6 +4,7 @@ use Rattle.std.specs.Ordering.{is_gt}
 use Rattle.dmc_types.specs.Values.{Rates}
 use Rattle.dmc_tag.specs.Tag.{Tagging}
 use Rattle.dmc_tag.specs.declared.plain.Previous.{Previous}
+use Rattle.dmc_tag.specs.declared.plain.Slack.{Slack}
 use Rattle.dmc_tag.specs.declared.spacing.Spacings.{Spacings}
 use Rattle.dmc_tag.specs.declared.reply.Tags.{Tags}
 
@@ -24,3 +25,9 @@ pub record AreNext {T : Type 0} (ops : Tagging T) (info : Rates) (previous : Pre
   pub r : IfSome tags.r (AtMost ops previous.r)
   pub l : AtMost ops previous.l tags.l
   pub p : AtMost ops previous.p tags.p
+
+-- no slack is below 0
+pub record NotBelow {T : Type 0} (ops : Tagging T) (slack : Slack T) : Type 0 where
+  pub r : AtMost ops (ops.of_moment 0) slack.r
+  pub l : AtMost ops (ops.of_moment 0) slack.l
+  pub p : AtMost ops (ops.of_moment 0) slack.p

@@ -3,7 +3,7 @@ use Rattle.std.specs.Prelude.{◌≡◌, Bool, true, false, List, []}
 use Rattle.std.specs.List.{AllByRecursion}
 use Rattle.dmc_types.specs.declared.ids.ClientId.{ClientId}
 use Rattle.dmc_types.specs.declared.command.Command.{Command}
-use Rattle.dmc_types.specs.declared.command.Command.TheVariants.{Register, Update, Add, Pull, Remove, Clean}
+use Rattle.dmc_types.specs.declared.command.Command.TheVariants.{Register, Update, Add, Pull, Remove, Cancel, Clean}
 use Rattle.dmc_tag.specs.State.{PlainClient, is_client}
 
 -- an idle client has nothing queued
@@ -17,4 +17,5 @@ is_add_of id (Update client info at) = false
 is_add_of id (Add client token params at) = is_client id client
 is_add_of id (Pull at) = false
 is_add_of id (Remove client) = false
+is_add_of id (Cancel client token counting) = false
 is_add_of id (Clean at) = false

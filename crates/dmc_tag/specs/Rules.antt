@@ -3,7 +3,7 @@ use Rattle.std.specs.Prelude.{ℕ, ◌+◌, ◌-◌, Bool, true, false, not, ◌
 use Rattle.std.specs.Option.{ok_or, unwrap_or, option_map, option_map_or}
 use Rattle.std.specs.Result.{result_ok}
 use Rattle.std.specs.List.{list_all}
-use Rattle.std.specs.Ordering.{ord_max}
+use Rattle.std.specs.Ordering.{ord_max, ord_min}
 use Rattle.dmc_types.specs.Limits.{max_clients, max_requests}
 use Rattle.dmc_types.specs.Values.{Rates, Params}
 use Rattle.dmc_types.specs.declared.ids.ClientId.{ClientId}
@@ -23,6 +23,7 @@ use Rattle.dmc_tag.specs.State.{State, PlainClient, is_client, is_busy, client_n
 use Rattle.dmc_tag.specs.Best.{Found, best_of_all, by_reservation, by_weight, is_early, is_free, is_any}
 use Rattle.dmc_tag.specs.declared.plain.QueuedRequest.{QueuedRequest}
 use Rattle.dmc_tag.specs.declared.plain.Previous.{Previous}
+use Rattle.dmc_tag.specs.declared.plain.Slack.{Slack}
 use Rattle.dmc_tag.specs.declared.plain.Progress.{Progress}
 use Rattle.dmc_tag.specs.declared.spacing.Spacings.{Spacings}
 use Rattle.dmc_tag.specs.declared.reply.Tags.{Tags}
@@ -39,10 +40,15 @@ change_client id f clients = map (λ c. if is_client id c.id then f c else c) cl
 
 -- ---- Register
 
+-- before the first request all is 0
+abbrev pub no_previous : {T : Type 0} → Tagging T → Previous T
+no_previous ops =
+    let zero_tag = ops.of_moment 0 in
+    record { r = zero_tag; l = zero_tag; p = zero_tag; slack = record { r = zero_tag; l = zero_tag; p = zero_tag }; cancelled = false }
+
 abbrev pub newcomer : {T : Type 0} → Tagging T → ClientId → Rates → ℕ → PlainClient T
 newcomer ops id info t =
-    let zero_tag = ops.of_moment 0 in
-    record { id = id; info = info; previous = record { r = zero_tag; l = zero_tag; p = zero_tag }; idle = true; last_arrival = t; requests = [] }
+    record { id = id; info = info; previous = no_previous ops; idle = true; last_arrival = t; requests = [] }
 
 -- the tests of a registration, in order
 abbrev pub can_register : {T : Type 0} → Tagging T → State T → ClientId → Rates → Result ⊤ Refusal
@@ -129,8 +135,26 @@ assigned ops hz client params t floor = do
   next_tags ops spacings client.previous params t floor
 
 -- the new tags become the previous tags; without an R, previous R stays
-abbrev pub previous_after : {T : Type 0} → Tags T → Previous T → Previous T
-previous_after tags previous = record { r = unwrap_or tags.r previous.r; l = tags.l; p = tags.p }
+abbrev pub previous_after : {T : Type 0} → Tags T → Slack T → Previous T → Previous T
+previous_after tags slack previous = record { r = unwrap_or tags.r previous.r; l = tags.l; p = tags.p; slack = slack; cancelled = false }
+
+-- ---- Slack: how far a tag may fall if requests before it are cancelled
+
+-- a tag less another, or nothing if that is no value
+abbrev pub above : {T : Type 0} → Tagging T → (tag floor : T) → T
+above ops tag floor = unwrap_or (ops.minus tag floor) (ops.of_moment 0)
+
+-- behind a cancelled request it is at most what that had left
+abbrev pub slack_behind : {T : Type 0} → Tagging T → Bool → (left slack : T) → T
+slack_behind ops cancelled left slack = if cancelled then ord_min ops.compare left slack else slack
+
+-- at its arrival a tag less what it was compared with: t, and floor for P; without an R it is that of the previous R
+abbrev pub slack_of : {T : Type 0} → Tagging T → Previous T → Tags T → (t floor : T) → Slack T
+slack_of ops previous tags t floor = record {
+  r = option_map_or (λ r. slack_behind ops previous.cancelled previous.slack.r (above ops r t)) tags.r previous.slack.r;
+  l = slack_behind ops previous.cancelled previous.slack.l (above ops tags.l t);
+  p = slack_behind ops previous.cancelled previous.slack.p (above ops tags.p floor);
+}
 
 -- ---- Adjustment: the P of all clients that are not idle are shifted, so that the least P is t
 
@@ -186,15 +210,25 @@ shifted_by ops (Some amount) clients = map (shifted_client ops amount) clients
 
 -- ---- Add
 
--- the shift of the others and the tags that an add brings, whatever the limit
-abbrev pub add_tags : {T : Type 0} → Tagging T → State T → ClientId → Params → T → Result (Option T × Tags T) Refusal
+-- what an add brings: the shift of the others, and the tags and the slack of the request
+pub record Addition (T : Type 0) : Type 0 where
+  pub shift : Option T
+  pub tags : Tags T
+  pub slack : Slack T
+
+-- the tags and the slack of a request that arrives at t
+abbrev pub addition_with : {T : Type 0} → Tagging T → Option T → Previous T → (t floor : T) → Tags T → Addition T
+addition_with ops shift previous t floor tags = record { shift = shift; tags = tags; slack = slack_of ops previous tags t floor }
+
+-- what an add brings, whatever the limit
+abbrev pub add_tags : {T : Type 0} → Tagging T → State T → ClientId → Params → T → Result (Addition T) Refusal
 add_tags ops s id params t = do
   client ← ok_or (client_named id s.clients) Unknown
   _ ← refuse_if (nat_le max_requests (length (queued_requests s.clients))) QueueFull
   shift ← shift_of ops s.config.shares s.clients client t
   _ ← refuse_if (not (can_shift_by ops shift s.clients)) Range
   tags ← assigned ops s.config.hz client params t (share_floor ops s t)
-  Ok (shift, tags)
+  Ok (addition_with ops shift client.previous t (share_floor ops s t) tags)
 
 -- the least whole number that is not below the tag, as a moment
 abbrev pub moment_of : ℤ → ℕ
@@ -208,16 +242,16 @@ is_over_limit ops Wait t l = false
 is_over_limit ops Allow t l = false
 is_over_limit ops (Reject threshold) t l = nat_lt (t + threshold) (moment_of (ops.ceil l))
 
--- the tests of an add, in order, and its effect: the shift of the others and the new tags
-abbrev pub can_add : {T : Type 0} → Tagging T → State T → ClientId → Params → ℕ → Result (Option T × Tags T) Refusal
+-- the tests of an add, in order, and what it brings
+abbrev pub can_add : {T : Type 0} → Tagging T → State T → ClientId → Params → ℕ → Result (Addition T) Refusal
 can_add ops s id params t = do
   addition ← add_tags ops s id params (ops.of_moment t)
-  _ ← refuse_if (is_over_limit ops s.config.at_limit t addition.1.l) OverLimit
+  _ ← refuse_if (is_over_limit ops s.config.at_limit t addition.tags.l) OverLimit
   Ok addition
 
 abbrev pub after_arrival : {T : Type 0} → QueuedRequest T → ℕ → PlainClient T → PlainClient T
 after_arrival request t c = record c {
-  previous = previous_after request.tags c.previous;
+  previous = previous_after request.tags request.slack c.previous;
   idle = false;
   last_arrival = t;
   requests = c.requests ++ request ∷ [];
@@ -231,12 +265,15 @@ queued ops s shift id request t = record s {
   progress = progress_added ops s.config.shares (is_nothing_queued s.clients) request.tags.p s.progress;
 }
 
+abbrev pub request_of : {T : Type 0} → Token → ℕ → Addition T → QueuedRequest T
+request_of token cost addition = record { token = token; cost = cost; tags = addition.tags; slack = addition.slack }
+
 abbrev pub added : {T : Type 0} → Tagging T → State T → ClientId → Token → Params → ℕ → Outcome T
 added ops s id token params t =
     can_add ops s id params t
-    >>= λ (shift, tags). Ok (queued ops s shift id (record { token = token; tags = tags }) t, Tagged tags)
+    >>= λ addition. Ok (queued ops s addition.shift id (request_of token params.cost addition) t, Tagged addition.tags)
 
--- ---- Reduction: a Priority grant takes one spacing off the R tags of that client
+-- ---- Reduction: a Priority grant takes a spacing for each unit of its cost off the R tags of that client
 
 -- the R of a request less an amount
 abbrev pub less_reservation : {T : Type 0} → Tagging T → T → QueuedRequest T → QueuedRequest T
@@ -254,9 +291,12 @@ abbrev pub has_less_reservations : {T : Type 0} → Tagging T → T → PlainCli
 has_less_reservations ops amount c = list_all (λ r. option_map_or (has_less ops amount) r.tags.r true) c.requests && has_less ops amount c.previous.r
 
 -- the rate at the grant counts; without a reservation nothing is subtracted
-abbrev pub reduction_at : {T : Type 0} → Tagging T → ℕ → Option ℕ → Result (Option T) Refusal
-reduction_at ops hz None = Ok None
-reduction_at ops hz (Some rate) = in_range (ops.spacing hz rate) >>= λ amount. Ok (Some amount)
+abbrev pub reduction_at : {T : Type 0} → Tagging T → ℕ → Option ℕ → ℕ → Result (Option T) Refusal
+reduction_at ops hz None cost = Ok None
+reduction_at ops hz (Some rate) cost = do
+  spacing ← in_range (ops.spacing hz rate)
+  amount ← in_range (ops.steps spacing cost)
+  Ok (Some amount)
 
 -- without an amount there is no reduction
 abbrev pub can_reduce_by : {T : Type 0} → Tagging T → Option T → PlainClient T → Bool
@@ -274,12 +314,12 @@ abbrev pub with_requests : {T : Type 0} → List (QueuedRequest T) → PlainClie
 with_requests requests c = record c { requests = requests }
 
 abbrev pub granted : {T : Type 0} → Found T → PhaseType → Bool → Reply T
-granted found phase beyond = Granted found.client.id found.request.token phase beyond
+granted found phase beyond = Granted found.client.id found.request.token phase beyond found.request.cost
 
 -- the test of a reduction, and the amount that is taken off
 abbrev pub can_grant : {T : Type 0} → Tagging T → ℕ → Found T → Result (Option T) Refusal
 can_grant ops hz found = do
-  amount ← reduction_at ops hz found.client.info.reservation
+  amount ← reduction_at ops hz found.client.info.reservation found.request.cost
   _ ← refuse_if (not (can_reduce_by ops amount (with_requests found.others found.client))) Range
   Ok amount
 

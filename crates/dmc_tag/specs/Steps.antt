@@ -2,7 +2,7 @@
 use Rattle.std.specs.Prelude.{◌≡◌, ℕ, Bool, true, false, IsTrue, Option, Some, None, List, IsOk, slice_get}
 use Rattle.std.specs.Option.{option_map_or}
 use Rattle.dmc_types.specs.declared.command.Command.{Command}
-use Rattle.dmc_types.specs.declared.command.Command.TheVariants.{Register, Update, Add, Pull, Remove, Clean}
+use Rattle.dmc_types.specs.declared.command.Command.TheVariants.{Register, Update, Add, Pull, Remove, Cancel, Clean}
 use Rattle.dmc_tag.specs.Tag.{Tagging}
 use Rattle.dmc_tag.specs.State.{State}
 use Rattle.dmc_tag.specs.Step.{outcome, step}
@@ -16,6 +16,7 @@ may_grow (Update client info at) = false
 may_grow (Add client token params at) = true
 may_grow (Pull at) = false
 may_grow (Remove client) = false
+may_grow (Cancel client token counting) = false
 may_grow (Clean at) = false
 
 -- whether the command at an index is one of these

@@ -45,22 +45,31 @@ pub fn pulled<T>(answer: Result<Pulled, Refusal>) -> Reply<T>
     ensures { Some result ≡ sure_call_reply pull_reply answer }
 {
     match answer {
-        Ok(
-            Pulled::Returning {
-                client,
-                token,
-                phase,
-                beyond,
-            },
-        ) => Reply::Granted {
+        Ok(pulled) => pulled_reply(&pulled),
+        Err(refusal) => Reply::Refused(refusal),
+    }
+}
+
+/// What an accepted pull returned, as a reply.
+fn pulled_reply<T>(pulled: &Pulled) -> Reply<T>
+    ensures { result ≡ pull_reply pulled.now }
+{
+    match *pulled {
+        Pulled::Returning {
             client,
             token,
             phase,
             beyond,
+            cost,
+        } => Reply::Granted {
+            client,
+            token,
+            phase,
+            beyond,
+            cost,
         },
-        Ok(Pulled::Future(moment)) => Reply::Later(moment),
-        Ok(Pulled::Nothing) => Reply::Nothing,
-        Err(refusal) => Reply::Refused(refusal),
+        Pulled::Future(moment) => Reply::Later(moment),
+        Pulled::Nothing => Reply::Nothing,
     }
 }
 

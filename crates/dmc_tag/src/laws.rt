@@ -48,13 +48,13 @@ pub fn only_an_add_queues<T: Tag>()
 
 /// A client that is granted had a queued request.
 pub fn grants_what_is_queued<T: Tag>()
-    ensures { (s : State T) (command : Command) (client : ClientId) (token : Token) (phase : PhaseType) (beyond : Bool) →
-        (step T.ops s command).1 ≡ replies.Granted client token phase beyond → has_queued client s.clients ≡ true }
+    ensures { (s : State T) (command : Command) (client : ClientId) (token : Token) (phase : PhaseType) (beyond : Bool) (cost : ℕ) →
+        (step T.ops s command).1 ≡ replies.Granted client token phase beyond cost → has_queued client s.clients ≡ true }
 {}
 
 /// The request that is granted is in its set, and no member of the set is before it in (tag, client, arrival). The reply to a pull
-/// says which set it was, and that the sets before it have no member. A grant in the weight phase takes hz/r off the R tags of
-/// its client, one in the constraint phase takes nothing off, and all else stays.
+/// says which set it was, and that the sets before it have no member. A grant in the weight phase takes hz/r for each unit of its cost
+/// off the R tags of its client, one in the constraint phase takes nothing off, and all else stays.
 pub fn pulls_grant_the_best<T: Tag>()
     ensures { (s : State T) (at : ℕ) → Pulls T.ops (effective s at) s ((step T.ops s (commands.Pull at)).0) ((step T.ops s (commands.Pull at)).1) }
 {}

@@ -3,6 +3,7 @@
 
 pub mod answers;
 pub mod assignment;
+pub mod cancel;
 pub mod due;
 pub mod event;
 pub mod laws;

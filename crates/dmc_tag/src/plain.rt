@@ -2,14 +2,36 @@
 ghost use Rattle.std.specs.Prelude.{◌≡◌, ⊤};
 
 use crate::reply::Tags;
+use dmc_types::cost::Cost;
 use dmc_types::ids::Token;
 use std::alloc::AllocError;
+
+/// How far each tag of a request may fall if requests before it are cancelled (extension): when it arrives, the tag less what it
+/// was compared with. Without an R it is that of the previous R.
+#[derive(Copy, Debug)]
+pub struct Slack<T> {
+    pub r: T,
+    pub l: T,
+    pub p: T,
+}
+
+impl<T: Copy> Clone for Slack<T> {
+    ghost is_clone = { λ x y. y ≡ x };
+
+    ghost is_infallible = { λ _. ⊤ };
+
+    fn clone(&self) -> Result<Slack<T>, AllocError> {
+        Ok(*self)
+    }
+}
 
 /// A queued request of a client.
 #[derive(Copy, Debug)]
 pub struct QueuedRequest<T> {
     pub token: Token,
+    pub cost: Cost,
     pub tags: Tags<T>,
+    pub slack: Slack<T>,
 }
 
 impl<T: Copy> Clone for QueuedRequest<T> {
@@ -28,6 +50,10 @@ pub struct Previous<T> {
     pub r: T,
     pub l: T,
     pub p: T,
+    /// The slack of that request.
+    pub slack: Slack<T>,
+    /// Whether it was cancelled.
+    pub cancelled: bool,
 }
 
 impl<T: Copy> Clone for Previous<T> {

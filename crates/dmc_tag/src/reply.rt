@@ -2,6 +2,7 @@
 ghost use Rattle.std.specs.Prelude.{◌≡◌, ⊤};
 
 use dmc_types::config::PhaseType;
+use dmc_types::cost::Cost;
 use dmc_types::ids::{ClientId, Token};
 use dmc_types::refusal::Refusal;
 use std::alloc::AllocError;
@@ -33,6 +34,7 @@ pub enum Pulled {
         token: Token,
         phase: PhaseType,
         beyond: bool,
+        cost: Cost,
     },
     /// No request is due before this moment, in ticks, and one is due then.
     Future(u128),
@@ -53,6 +55,7 @@ pub enum Reply<T> {
         token: Token,
         phase: PhaseType,
         beyond: bool,
+        cost: Cost,
     },
     /// No request is due before this moment, in ticks, and one is due then.
     Later(u128),

@@ -11,6 +11,7 @@ use crate::answers;
 use crate::reply::{Pulled, Reply, Tags};
 use crate::tag::Tag;
 use dmc_types::command::Command;
+use dmc_types::config::Counting;
 use dmc_types::ids::{ClientId, Token};
 use dmc_types::info::ClientInfo;
 use dmc_types::moment::Moment;
@@ -69,6 +70,13 @@ pub trait Scheduler<T: Tag> {
         ensures { Steps T.ops (state self.old) (state self.new) (commands.Remove client)
             (sure_call_reply replies.Removed result) };
 
+    /// Takes back a client's queued requests with this token, wherever they are, and returns how many. If their stamps counted
+    /// their own cost (`Counting::Others`), what they were charged is given back to the client's later requests. It is refused
+    /// `Unknown`.
+    fn cancel(&mut self, client: ClientId, token: Token, counting: Counting) -> Result<u32, Refusal>
+        ensures { Steps T.ops (state self.old) (state self.new) (commands.Cancel client token counting)
+            (sure_call_reply replies.Removed result) };
+
     /// Marks idle clients and erases old ones. Returns how many became idle and how many were erased.
     fn clean(&mut self, at: Moment) -> (u32, u32)
         ensures { Steps T.ops (state self.old) (state self.new) (commands.Clean at) (Some (clean_reply result)) };
@@ -112,6 +120,11 @@ pub fn apply_to<T: Tag, Q: Scheduler<T>>(
         } => answers::tagged(queue.add_request(client, token, params, at)),
         Command::Pull { at } => Ok(answers::pulled(queue.pull_request(at))),
         Command::Remove { client } => Ok(answers::removed(queue.remove_by_client(client))),
+        Command::Cancel {
+            client,
+            token,
+            counting,
+        } => Ok(answers::removed(queue.cancel(client, token, counting))),
         Command::Clean { at } => Ok(answers::cleaned(queue.clean(at))),
     }
 }

@@ -1,10 +1,11 @@
 //! Worked examples on the definitions: each contract holds by computation.
 ghost use Rattle.std.specs.Prelude.{◌≡◌, ◌∷◌, [], Some, None, pos};
 ghost use Rattle.dmc_types.specs.declared.config.AtLimit.TheVariants.{Wait};
+ghost use Rattle.dmc_types.specs.declared.config.Counting.TheVariants.{All, Others};
 ghost use Rattle.dmc_types.specs.declared.refusal.Field.TheVariants as fields;
 ghost use Rattle.dmc_types.specs.declared.refusal.Refusal.TheVariants.{Known, Unknown, Inexact, Busy, OverLimit};
 ghost use Rattle.dmc_tag.specs.declared.reply.Reply.TheVariants.{Registered, Updated, Later, Nothing, Removed, Cleaned, Refused};
-ghost use Rattle.dmc_tag.specs.Examples.{waiting, allowing, rejecting, virtually, virtually_allowing, setting, client, update, add, pull, drop_all, clean, tags, by_reservation, by_priority, by_priority_beyond};
+ghost use Rattle.dmc_tag.specs.Examples.{add_of_cost, by_reservation_of_cost, by_priority_of_cost, waiting, allowing, rejecting, virtually, virtually_allowing, setting, client, update, add, pull, drop_all, cancel, clean, tags, by_reservation, by_priority, by_priority_beyond};
 ghost use Rattle.dmc_tick.specs.Examples.{replies};
 
 /// A request over its limit waits until the limit lets it.
@@ -83,6 +84,28 @@ pub fn dropped_requests()
         (client 1 None 1 None 0 ∷ add 1 1 1 0 0 ∷ add 1 2 1 0 0 ∷ drop_all 1 ∷ drop_all 1 ∷ add 1 3 1 0 0 ∷ [])
         ≡ (Registered ∷ tags None (pos 0) (pos 1000) ∷ tags None (pos 0) (pos 2000) ∷ Removed 2 ∷ Removed 0 ∷
         tags None (pos 0) (pos 3000) ∷ []) }
+{}
+
+/// A cancelled request gives back to the client's later requests what it was charged, if their stamps counted it: the limits
+/// of the requests behind it fall, but none below the moment of its arrival.
+pub fn cancelled()
+    ensures others { replies waiting
+        (client 1 None 1 (Some 10) 0 ∷ add 1 11 1 1 0 ∷ add 1 12 1 1 0 ∷ add 1 13 1 1 0 ∷ add 1 14 1 1 250 ∷
+        cancel 1 12 Others ∷ pull 100 ∷ pull 200 ∷ pull 299 ∷ cancel 1 14 Others ∷ add 1 15 1 1 299 ∷ [])
+        ≡ (Registered ∷ tags None (pos 100) (pos 1000) ∷ tags None (pos 200) (pos 2000) ∷
+        tags None (pos 300) (pos 3000) ∷ tags None (pos 400) (pos 4000) ∷ Removed 1 ∷ by_priority 1 11 ∷
+        by_priority 1 13 ∷ Later 300 ∷ Removed 1 ∷ tags None (pos 350) (pos 3000) ∷ []) }
+    ensures idle_between { replies waiting
+        (client 1 None 1 (Some 10) 0 ∷ add 1 11 1 1 0 ∷ add 1 12 1 1 200 ∷ add 1 13 1 1 200 ∷ cancel 1 12 Others ∷
+        cancel 1 11 Others ∷ pull 250 ∷ pull 300 ∷ [])
+        ≡ (Registered ∷ tags None (pos 100) (pos 1000) ∷ tags None (pos 200) (pos 2000) ∷
+        tags None (pos 300) (pos 3000) ∷ Removed 1 ∷ Removed 1 ∷ Later 300 ∷ by_priority 1 13 ∷ []) }
+    ensures all { replies waiting
+        (client 1 None 1 (Some 10) 0 ∷ add 1 11 1 1 0 ∷ add 1 12 1 1 0 ∷ add 1 13 1 1 0 ∷ add 1 14 1 1 250 ∷
+        cancel 1 12 All ∷ pull 100 ∷ pull 200 ∷ pull 299 ∷ pull 300 ∷ [])
+        ≡ (Registered ∷ tags None (pos 100) (pos 1000) ∷ tags None (pos 200) (pos 2000) ∷
+        tags None (pos 300) (pos 3000) ∷ tags None (pos 400) (pos 4000) ∷ Removed 1 ∷ by_priority 1 11 ∷
+        Later 300 ∷ Later 300 ∷ by_priority 1 13 ∷ []) }
 {}
 
 /// A clean marks a client idle, and later erases it.
@@ -187,4 +210,29 @@ pub fn beyond_virtual()
         (client 1 None 1 (Some 10) 0 ∷ client 2 None 1 None 0 ∷ add 1 11 1 1 0 ∷ add 1 12 1 1 0 ∷ pull 0 ∷ add 2 21 0 0 0 ∷ [])
         ≡ (Registered ∷ Registered ∷ tags None (pos 100) (pos 1000) ∷ tags None (pos 200) (pos 2000) ∷
         by_priority_beyond 1 11 ∷ tags None (pos 0) (pos 1000) ∷ []) }
+{}
+
+/// The cost of a request comes back in the reply of its grant. It enters the tags by the counts of the next stamp alone: 12 takes
+/// four spacings, for the 4 of 11.
+pub fn cost_returned()
+    ensures { replies waiting
+        (client 1 (Some 100) 1 None 0 ∷ client 2 None 1 None 0 ∷ add_of_cost 4 1 11 0 0 0 ∷ add_of_cost 4 1 12 4 0 0 ∷
+        add 2 21 0 0 0 ∷ pull 0 ∷ pull 0 ∷ pull 0 ∷ [])
+        ≡ (Registered ∷ Registered ∷ tags (Some (pos 0)) (pos 0) (pos 0) ∷ tags (Some (pos 0)) (pos 0) (pos 4000) ∷
+        tags None (pos 0) (pos 0) ∷ by_reservation_of_cost 4 1 11 ∷ by_reservation_of_cost 4 1 12 ∷ by_priority 2 21 ∷ []) }
+{}
+
+/// A grant by weight takes a spacing for each unit of its cost off the R tags of its client: 400 for the 4 of 12, so that 13 is due
+/// at 800, and not yet at 799.
+pub fn cost_reduces()
+    ensures by_weight { replies waiting
+        (client 1 (Some 10) 1 None 0 ∷ add 1 11 0 0 0 ∷ add_of_cost 4 1 12 8 8 0 ∷ add 1 13 4 4 0 ∷ pull 0 ∷ pull 0 ∷
+        pull 799 ∷ [])
+        ≡ (Registered ∷ tags (Some (pos 0)) (pos 0) (pos 0) ∷ tags (Some (pos 800)) (pos 0) (pos 8000) ∷
+        tags (Some (pos 1200)) (pos 0) (pos 12000) ∷ by_reservation 1 11 ∷ by_priority_of_cost 4 1 12 ∷ by_priority 1 13 ∷ []) }
+    ensures by_reservation { replies waiting
+        (client 1 (Some 10) 1 None 0 ∷ add 1 11 0 0 0 ∷ add_of_cost 4 1 12 8 8 0 ∷ add 1 13 4 4 0 ∷ pull 0 ∷ pull 0 ∷
+        pull 800 ∷ [])
+        ≡ (Registered ∷ tags (Some (pos 0)) (pos 0) (pos 0) ∷ tags (Some (pos 800)) (pos 0) (pos 8000) ∷
+        tags (Some (pos 1200)) (pos 0) (pos 12000) ∷ by_reservation 1 11 ∷ by_priority_of_cost 4 1 12 ∷ by_reservation 1 13 ∷ []) }
 {}

@@ -1,14 +1,17 @@
 -- What contracts see of the checked values.
-use Rattle.std.specs.Prelude.{ℕ, ◌≤◌, ◌<◌, Option, IfSome}
+use Rattle.std.specs.Prelude.{ℕ, ◌+◌, ◌-◌, ◌≤◌, ◌<◌, Option, IfSome}
 use Rattle.dmc_types.specs.Limits.{max_hz, max_moment}
 use Rattle.dmc_types.specs.declared.config.AtLimit.{AtLimit}
 use Rattle.dmc_types.specs.declared.config.AtLimit.TheVariants.{Wait, Allow, Reject}
 use Rattle.dmc_types.specs.declared.config.Shares.{Shares}
+use Rattle.dmc_types.specs.declared.config.Counting.{Counting}
+use Rattle.dmc_types.specs.declared.config.Counting.TheVariants.{All, Others}
 
--- what a request carries: the two counts of its stamp
+-- what a request carries: the two counts of its stamp, and its cost
 pub record Params : Type 0 where
   pub delta : ℕ
   pub rho : ℕ
+  pub cost : ℕ
 
 -- sums of deltas and of rhos
 pub record Counts : Type 0 where
@@ -18,12 +21,25 @@ pub record Counts : Type 0 where
 abbrev pub no_counts : Counts
 no_counts = record { delta = 0; rho = 0 }
 
--- the counts of a request, and the request of these counts
+-- the counts of a request, and the request of these counts and this cost
 abbrev pub counts_of : Params → Counts
 counts_of params = record { delta = params.delta; rho = params.rho }
 
-abbrev pub params_with : Counts → Params
-params_with counts = record { delta = counts.delta; rho = counts.rho }
+abbrev pub params_with : Counts → ℕ → Params
+params_with counts cost = record { delta = counts.delta; rho = counts.rho; cost = cost }
+
+-- what a request of this cost adds to the counts of its own stamp
+abbrev pub own_count : Counting → ℕ → ℕ
+own_count All cost = 0
+own_count Others cost = cost
+
+-- the request with the counts of another one besides, which no server took: without what that one added itself
+abbrev pub with_returned : Counting → Params → Params → Params
+with_returned counting returned params = record {
+  delta = params.delta + (returned.delta - own_count counting returned.cost);
+  rho = params.rho + (returned.rho - own_count counting returned.cost);
+  cost = params.cost;
+}
 
 -- the rates of a client, in requests a second
 pub record Rates : Type 0 where

@@ -1,4 +1,5 @@
 //! The commands of a queue.
+use crate::config::Counting;
 use crate::ids::{ClientId, Token};
 use crate::info::ClientInfo;
 use crate::moment::Moment;
@@ -33,6 +34,12 @@ pub enum Command {
     /// Removes a client's queued requests.
     Remove {
         client: ClientId,
+    },
+    /// Takes back a client's queued requests with a token, and what they were charged if their stamps counted it.
+    Cancel {
+        client: ClientId,
+        token: Token,
+        counting: Counting,
     },
     /// Marks clients idle, and erases old ones.
     Clean {

@@ -15,6 +15,9 @@ pub enum ValueFault {
     /// Rho is above delta.
     #[error("rho is past delta")]
     Params,
+    /// The cost is 0.
+    #[error("the cost is 0")]
+    Cost,
     /// A rate is 0.
     #[error("the rate is 0")]
     Rate,

@@ -28,7 +28,7 @@ module _ {A : Type 0} where
   popped_empty None later (x ∷ rest) items less e = let longer : length (x ∷ rest) ≡ length rest = ap length (less ∙ ap (drop 1) items) in absurd (omega arith)
   popped_empty (Some y) later (x ∷ rest) items less e = absurd (no_none y e)
 
-  next_first : (next : Option A) (rest : List A) → cons_option next rest ≡ option_to_list next ++ rest
+  pub next_first : (next : Option A) (rest : List A) → cons_option next rest ≡ option_to_list next ++ rest
   next_first None rest = refl
   next_first (Some x) rest = refl
 

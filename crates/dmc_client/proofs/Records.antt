@@ -9,8 +9,9 @@ use Rattle.std.proofs.lemmas.List.Folds.{list_all-append, list_all-map}
 use Rattle.std.proofs.lemmas.List.{map-append, append-nil}
 use Rattle.dmc_types.specs.Values.{Rates}
 use Rattle.dmc_tag.specs.Tag.{Tagging}
-use Rattle.dmc_tag.specs.Order.{AtMost, AreSpacings, AreNext}
-use Rattle.dmc_tag.specs.Rules.{less, has_less, previous_after, changes_reservation, less_share, less_reservation}
+use Rattle.dmc_tag.specs.Order.{AtMost, AreSpacings, AreNext, NotBelow}
+use Rattle.dmc_tag.proofs.Upto.{at_most_itself}
+use Rattle.dmc_tag.specs.Rules.{no_previous, less, has_less, previous_after, changes_reservation, less_share, less_reservation}
 use Rattle.dmc_tag.specs.declared.plain.Previous.{Previous}
 use Rattle.dmc_tag.specs.declared.spacing.Spacings.{Spacings}
 use Rattle.dmc_tag.specs.declared.plain.QueuedRequest.{QueuedRequest}
@@ -27,6 +28,12 @@ pub all_rest : {X : Type 0} (P : X → Type 0) (xs : List X) → AllByRecursion 
 all_rest P [] h = tt
 all_rest P (x ∷ xs) h = h.1
 
+-- ---- before the first request
+
+module _ {T : Type 0} (ops : Tagging T) (order : IsTotalOrder ops.compare) where
+  pub nothing_not_below : NotBelow ops (no_previous ops).slack
+  nothing_not_below = let zero = at_most_itself ops order (ops.of_moment 0) in record { r = zero; l = zero; p = zero }
+
 -- ---- a request is queued
 
 module _ {T : Type 0} (ops : Tagging T) (order : IsTotalOrder ops.compare) where
@@ -34,8 +41,8 @@ module _ {T : Type 0} (ops : Tagging T) (order : IsTotalOrder ops.compare) where
   next_reservations tags None previous k h = subst (λ xs. InOrder ops (xs ++ previous ∷ [])) (sym (append-nil tags)) h
   next_reservations tags (Some r) previous k h = in_order-next ops order tags previous r h k
 
-  pub pushed_record : (rec : Rec T) (request : QueuedRequest T) (at : ℕ) → IsRecord ops rec → AreNext ops rec.info rec.previous request.tags → IsRecord ops (pushed request at rec)
-  pushed_record rec request at is next = record {
+  pub pushed_record : (rec : Rec T) (request : QueuedRequest T) (at : ℕ) → IsRecord ops rec → AreNext ops rec.info rec.previous request.tags → NotBelow ops request.slack → IsRecord ops (pushed request at rec)
+  pushed_record rec request at is next slack = record {
     spacings = is.spacings;
     reserved = all_next _ rec.requests request is.reserved next.reserved;
     reservations =
@@ -48,6 +55,8 @@ module _ {T : Type 0} (ops : Tagging T) (order : IsTotalOrder ops.compare) where
         let kept = in_order-next ops order (map (λ r. r.tags.p) rec.requests) rec.previous.p request.tags.p is.shares next.p in
         subst (λ xs. InOrder ops (xs ++ request.tags.p ∷ [])) (sym (map-append (λ r. r.tags.p) rec.requests (request ∷ []))) kept;
     idle = λ e. cc (e);
+    slacks = all_next _ rec.requests request is.slacks slack;
+    slack = slack;
   }
 
 -- ---- the queue changes alone
@@ -69,7 +78,7 @@ taken (Ok a) old new h e = h
 taken (Err b) old new h e = cc
 
 pub pushed_view : {T A E : Type 0} (result : Result A E) (rec view : Rec T) (request : QueuedRequest T) (at : ℕ) (requests : List (QueuedRequest T)) (previous : Previous T) →
-    rec ≡ view → OnOk result (requests ≡ rec.requests ++ request ∷ []) → false ≡ is_err result → previous ≡ previous_after request.tags rec.previous →
+    rec ≡ view → OnOk result (requests ≡ rec.requests ++ request ∷ []) → false ≡ is_err result → previous ≡ previous_after request.tags request.slack rec.previous →
     record rec { previous = previous; idle = false; last_arrival = at; requests = requests } ≡ pushed request at view
 pushed_view result rec view request at requests previous v h e p =
     ap (λ xs. record rec { previous = previous; idle = false; last_arrival = at; requests = xs }) (taken result (rec.requests ++ request ∷ []) requests h e)
@@ -77,14 +86,16 @@ pushed_view result rec view request at requests previous v h e p =
     ∙ ap (pushed request at) v
 
 module _ {T : Type 0} (ops : Tagging T) where
-  pub empty_record : (rec : Rec T) → AreSpacings ops rec.info rec.spacings → rec.requests ≡ [] → IsRecord ops rec
-  empty_record rec are none = record {
+  pub empty_record : (rec : Rec T) → AreSpacings ops rec.info rec.spacings → NotBelow ops rec.previous.slack → rec.requests ≡ [] → IsRecord ops rec
+  empty_record rec are slack none = record {
     spacings = are;
     reserved = subst (AllByRecursion (λ r. is_some r.tags.r ≡ is_some rec.info.reservation)) (sym none) tt;
     reservations = subst (λ xs. InOrder ops (filter_map (λ r. r.tags.r) xs ++ rec.previous.r ∷ [])) (sym none) (tt, tt);
     limits = subst (λ xs. InOrder ops (map (λ r. r.tags.l) xs ++ rec.previous.l ∷ [])) (sym none) (tt, tt);
     shares = subst (λ xs. InOrder ops (map (λ r. r.tags.p) xs ++ rec.previous.p ∷ [])) (sym none) (tt, tt);
     idle = λ e. none;
+    slacks = subst (AllByRecursion (λ r. NotBelow ops r.slack)) (sym none) tt;
+    slack = slack;
   }
 
   pub refused_record : {A E : Type 0} (result : Result A E) (rec : Rec T) (requests : List (QueuedRequest T)) → IsRecord ops rec → OnErr result (requests ≡ rec.requests) →
@@ -109,6 +120,8 @@ module _ {T : Type 0} (ops : Tagging T) where
     limits = by_map (λ r. r.tags.l) rec.previous.l rec.requests is.limits;
     shares = by_map (λ r. r.tags.p) rec.previous.p rec.requests is.shares;
     idle = λ e. ap (drop 1) (is.idle e);
+    slacks = all_rest _ rec.requests is.slacks;
+    slack = is.slack;
   } where
     reservations : (requests : List (QueuedRequest T)) → InOrder ops (filter_map (λ r. r.tags.r) requests ++ rec.previous.r ∷ []) → InOrder ops (filter_map (λ r. r.tags.r) (drop 1 requests) ++ rec.previous.r ∷ [])
     reservations [] h = h
@@ -130,6 +143,8 @@ module _ {T : Type 0} (ops : Tagging T) where
     limits = is.limits;
     shares = is.shares;
     idle = is.idle;
+    slacks = is.slacks;
+    slack = is.slack;
   }
 
 -- ---- an amount is taken off
@@ -211,6 +226,8 @@ module _ {T : Type 0} (ops : Tagging T) (amount : T) where
       limits = subst (λ xs. InOrder ops (xs ++ rec.previous.l ∷ [])) (sym (map_map (λ r. r.tags.l) (less_share ops amount) (λ r. r.tags.l) (λ r. refl) rec.requests)) is.limits;
       shares = subst (InOrder ops) (sym (shares_are rec)) (in_order-less ops keeps amount (share_tags rec) (shares_have_less rec ∙ e) is.shares);
       idle = λ h. ap (map (less_share ops amount)) (is.idle h);
+      slacks = all_mapped _ _ (less_share ops amount) (λ r h. h) rec.requests is.slacks;
+      slack = is.slack;
     }
 
     -- if the previous one less the amount is this
@@ -228,4 +245,6 @@ module _ {T : Type 0} (ops : Tagging T) (amount : T) where
       limits = subst (λ xs. InOrder ops (xs ++ rec.previous.l ∷ [])) (sym (map_map (λ r. r.tags.l) (less_reservation ops amount) (λ r. r.tags.l) (λ r. refl) rec.requests)) is.limits;
       shares = subst (λ xs. InOrder ops (xs ++ rec.previous.p ∷ [])) (sym (map_map (λ r. r.tags.p) (less_reservation ops amount) (λ r. r.tags.p) (λ r. refl) rec.requests)) is.shares;
       idle = λ h. ap (map (less_reservation ops amount)) (is.idle h);
+      slacks = all_mapped _ _ (less_reservation ops amount) (λ r h. h) rec.requests is.slacks;
+      slack = is.slack;
     }

@@ -1,14 +1,17 @@
 -- What contracts see of a client's record, what it represents in a plain state, and its invariant.
-use Rattle.std.specs.Prelude.{◌≡◌, ℕ, Bool, true, false, ◌&&◌, List, [], ◌∷◌, ◌++◌, map, is_some, filter_map}
+use Rattle.std.specs.Prelude.{◌≡◌, ℕ, Bool, true, false, ◌&&◌, ◌||◌, List, [], ◌∷◌, ◌++◌, map, is_some, filter_map}
 use Rattle.std.specs.Option.{option_map_or}
 use Rattle.std.specs.List.{list_all, AllByRecursion}
 use Rattle.dmc_types.specs.Values.{Rates}
 use Rattle.dmc_types.specs.declared.ids.ClientId.{ClientId}
+use Rattle.dmc_types.specs.declared.ids.Token.{Token}
 use Rattle.dmc_tag.specs.Tag.{Tagging}
-use Rattle.dmc_tag.specs.Order.{AreSpacings}
+use Rattle.dmc_tag.specs.Order.{AreSpacings, NotBelow}
 use Rattle.dmc_tag.specs.State.{PlainClient}
-use Rattle.dmc_tag.specs.Rules.{previous_after, less, has_less, less_share, less_reservation}
+use Rattle.dmc_tag.specs.Cancel.{staying, befores_after, no_befores, last_has_token, fallen_previous}
+use Rattle.dmc_tag.specs.Rules.{no_previous, previous_after, less, has_less, less_share, less_reservation}
 use Rattle.dmc_tag.specs.declared.plain.Previous.{Previous}
+use Rattle.dmc_tag.specs.declared.plain.Slack.{Slack}
 use Rattle.dmc_tag.specs.declared.spacing.Spacings.{Spacings}
 use Rattle.dmc_tag.specs.declared.plain.QueuedRequest.{QueuedRequest}
 use Rattle.dmc_client.specs.Order.{InOrder}
@@ -49,22 +52,31 @@ pub record IsRecord {T : Type 0} (ops : Tagging T) (rec : Rec T) : Type 0 where
   pub limits : InOrder ops (limit_tags rec)
   pub shares : InOrder ops (share_tags rec)
   pub idle : rec.idle ≡ true → rec.requests ≡ []
+  -- no slack is below 0
+  pub slacks : AllByRecursion (λ r. NotBelow ops r.slack) rec.requests
+  pub slack : NotBelow ops rec.previous.slack
 
 -- ---- what a record becomes by a call
 
 -- a client that is registered at a moment
 abbrev pub registered_at : {T : Type 0} → Tagging T → Rates → Spacings T → ℕ → Rec T
 registered_at ops info spacings at =
-    let zero_tag = ops.of_moment 0 in
-    record { info = info; spacings = spacings; previous = record { r = zero_tag; l = zero_tag; p = zero_tag }; idle = true; last_arrival = at; requests = [] }
+    record { info = info; spacings = spacings; previous = no_previous ops; idle = true; last_arrival = at; requests = [] }
 
 -- a request arrives at a moment
 abbrev pub pushed : {T : Type 0} → QueuedRequest T → ℕ → Rec T → Rec T
 pushed request at rec = record rec {
-  previous = previous_after request.tags rec.previous;
+  previous = previous_after request.tags request.slack rec.previous;
   idle = false;
   last_arrival = at;
   requests = rec.requests ++ request ∷ [];
+}
+
+-- the requests with a token are taken back
+abbrev pub without_token : {T : Type 0} → Tagging T → Token → (ℕ → Slack T) → Rec T → Rec T
+without_token ops token charged rec = record rec {
+  previous = fallen_previous ops (befores_after ops token charged no_befores rec.requests) (rec.previous.cancelled || last_has_token token rec.requests) rec.previous;
+  requests = staying ops token charged no_befores rec.requests;
 }
 
 -- each P less an amount

@@ -1,16 +1,22 @@
 //! The queued requests of a client, whose R tags are all reduced at once.
-ghost use Rattle.std.specs.Prelude.{◌≡◌, ◌==◌, ◌++◌, ◌∷◌, [], true, drop, length, map, slice_get, if◌then◌else◌, OnOk, OnErr, IfSome, Some};
-ghost use Rattle.std.specs.List.{list_all};
+ghost use Rattle.std.specs.Prelude.{◌≡◌, ◌==◌, ◌++◌, ◌∷◌, [], true, drop, is_some, length, map, slice_get, if◌then◌else◌, OnOk, OnErr, IfSome, Some};
+ghost use Rattle.std.specs.List.{list_all, AllByRecursion};
 ghost use Rattle.std.specs.Option.{option_map_or};
 ghost use Rattle.dmc_client.specs.internal.Deferred as deferred_of;
+ghost use Rattle.dmc_client.specs.internal.Passed.{IsOfRecord};
+ghost use Rattle.dmc_tag.specs.Cancel.{staying, befores_after, no_befores, charges_of};
 ghost use Rattle.dmc_tag.specs.Rules as rules_of;
 
 use crate::stored::StoredRequests;
 use crate::subtraction::reservation_has_less;
+use dmc_tag::cancel::Befores;
 use dmc_tag::plain::QueuedRequest;
 use dmc_tag::reply::Tags;
 use dmc_tag::shifting::less;
+use dmc_tag::spacing::Spacings;
 use dmc_tag::tag::Tag;
+use dmc_types::config::Counting;
+use dmc_types::ids::Token;
 use std::alloc::{AllocError, Global};
 use std::collections::VecDeque;
 use std::marker::Model;
@@ -60,6 +66,8 @@ impl<T: Tag> RequestQueue<T> {
     }
 
     /// The request that arrived first.
+    // Inlined: callers read a part of the request, and need no copy of it.
+    #[inline(always)]
     pub fn front(&self) -> Option<QueuedRequest<T>>
         ensures { result ≡ slice_get self.now 0 }
     {
@@ -70,6 +78,8 @@ impl<T: Tag> RequestQueue<T> {
     }
 
     /// Removes the request that arrived first.
+    // Inlined: callers read a part of the request, and need no copy of it.
+    #[inline(always)]
     pub fn pop_front(&mut self) -> Option<QueuedRequest<T>>
         ensures value { result ≡ slice_get self.old 0 }
         ensures rest { self.new ≡ drop 1 self.old }
@@ -88,6 +98,18 @@ impl<T: Tag> RequestQueue<T> {
     {
         self.stored.clear();
         self.deferred = None;
+    }
+
+    /// Takes back the requests with a token. Returns what became of the tags of the last request.
+    #[inline(never)]
+    pub fn cancel(&mut self, token: Token, counting: Counting, spacings: &Spacings<T>) -> Befores<T>
+        requires { AllByRecursion (IsOfRecord T.ops (is_some spacings.now.r)) self.old }
+        ensures rest { self.new ≡ staying T.ops token (charges_of T.ops counting (Some spacings.now)) no_befores self.old }
+        ensures last { result ≡ befores_after T.ops token (charges_of T.ops counting (Some spacings.now)) no_befores self.old }
+    {
+        settle(&mut self.stored, self.deferred);
+        self.deferred = None;
+        self.stored.cancel(token, counting, spacings)
     }
 
     /// The number of queued requests.

@@ -1,16 +1,21 @@
 //! The record of a client.
-ghost use Rattle.std.specs.Prelude.{◌≡◌, ◌==◌, true, length, [], drop, slice_get, if◌then◌else◌, OnOk, OnErr};
-ghost use Rattle.dmc_tag.specs.Order.{AreSpacings, AreNext};
+ghost use Rattle.std.specs.Prelude.{◌≡◌, ◌==◌, ◌||◌, true, false, Some, length, [], drop, filter, slice_get, if◌then◌else◌, OnOk, OnErr};
+ghost use Rattle.dmc_tag.specs.Cancel.{has_token, charges_of, fallen_previous};
+ghost use Rattle.std.specs.Option.{option_map_or};
+ghost use Rattle.dmc_tag.specs.Order.{AreSpacings, AreNext, NotBelow};
 ghost use Rattle.dmc_tag.specs.Rules.{changes_reservation};
 ghost use Rattle.dmc_client.specs.Record as record_of;
 ghost use Rattle.dmc_client.specs.Record.{IsRecord};
 
 use crate::queue::RequestQueue;
-use dmc_tag::assignment::previous_after;
+use dmc_tag::assignment::{no_previous, previous_after};
+use dmc_tag::cancel::Befores;
 use dmc_tag::plain::{Previous, QueuedRequest};
 use dmc_tag::shifting::{has_less, less};
 use dmc_tag::spacing::Spacings;
 use dmc_tag::tag::Tag;
+use dmc_types::config::Counting;
+use dmc_types::ids::Token;
 use dmc_types::info::ClientInfo;
 use dmc_types::moment::Moment;
 use std::alloc::{AllocError, Global};
@@ -47,16 +52,10 @@ impl<T: Tag> ClientRec<T> {
         ensures value { result ≡ record_of.registered_at T.ops info spacings at }
         ensures kept { IsRecord T.ops result }
     {
-        let zero = T::of_moment(Moment::zero());
-        let previous = Previous {
-            r: zero,
-            l: zero,
-            p: zero,
-        };
         ClientRec {
             info,
             spacings,
-            previous,
+            previous: no_previous(),
             idle: true,
             last_arrival: at,
             queue: RequestQueue::new(alloc),
@@ -66,7 +65,8 @@ impl<T: Tag> ClientRec<T> {
     /// Queues a request that arrives at a moment. Its tags become the previous ones, and the client is not idle. An allocation
     /// failure changes nothing.
     pub fn push(&mut self, request: QueuedRequest<T>, at: Moment) -> Result<(), AllocError>
-        requires { AreNext T.ops self.old.info self.old.previous request.tags }
+        requires next { AreNext T.ops self.old.info self.old.previous request.tags }
+        requires slack { NotBelow T.ops request.slack }
         ensures ok { OnOk result (self.new ≡ record_of.pushed request at self.old) }
         ensures err { OnErr result (self.new ≡ self.old) }
         ensures kept { IsRecord T.ops self.new }
@@ -74,13 +74,15 @@ impl<T: Tag> ClientRec<T> {
         if self.queue.push(request).is_err() {
             return Err(AllocError);
         }
-        self.previous = previous_after(request.tags, self.previous);
+        self.previous = previous_after(request.tags, request.slack, self.previous);
         self.idle = false;
         self.last_arrival = at;
         Ok(())
     }
 
     /// The queued request that arrived first.
+    // Inlined: callers read a part of the request, and need no copy of it.
+    #[inline(always)]
     pub fn head(&self) -> Option<QueuedRequest<T>>
         ensures value { result ≡ slice_get self.now.requests 0 }
         ensures kept { IsRecord T.ops self.now }
@@ -89,6 +91,8 @@ impl<T: Tag> ClientRec<T> {
     }
 
     /// Removes the queued request that arrived first.
+    // Inlined: callers read a part of the request, and need no copy of it.
+    #[inline(always)]
     pub fn pop(&mut self) -> Option<QueuedRequest<T>>
         ensures value { result ≡ slice_get self.old.requests 0 }
         ensures rest { self.new ≡ record self.old { requests = drop 1 self.old.requests } }
@@ -106,6 +110,19 @@ impl<T: Tag> ClientRec<T> {
         let count = self.queue.len();
         self.queue.clear();
         count
+    }
+
+    /// Takes back the queued requests with a token, and returns how many. What each was charged by its own share is given back
+    /// to those behind it, if its stamp counted that.
+    pub fn cancel(&mut self, token: Token, counting: Counting) -> usize
+        ensures count { result ≡ length (filter (has_token token) self.old.requests) }
+        ensures rest { self.new ≡ record_of.without_token T.ops token (charges_of T.ops counting (Some self.old.spacings)) self.old }
+        ensures kept { IsRecord T.ops self.new }
+    {
+        let count = self.queue.len();
+        let befores = self.queue.cancel(token, counting, &self.spacings);
+        self.previous = behind(&befores, self.previous);
+        count - self.queue.len()
     }
 
     /// The number of queued requests.
@@ -139,7 +156,8 @@ impl<T: Tag> ClientRec<T> {
 
     /// The tags of the last request, less what has been subtracted since.
     pub fn previous(&self) -> &Previous<T>
-        ensures { result.now ≡ self.now.previous }
+        ensures value { result.now ≡ self.now.previous }
+        ensures kept { IsRecord T.ops self.now }
     {
         &self.previous
     }
@@ -218,6 +236,8 @@ impl<T: Tag> ClientRec<T> {
     }
 
     /// Takes the amount off the R of each request and off the previous R.
+    // Inlined: the amount is not copied.
+    #[inline(always)]
     pub fn subtract_from_reservations(&mut self, amount: T)
         requires { record_of.has_less_reservations T.ops amount self.old ≡ true }
         ensures value { self.new ≡ record_of.less_reservations T.ops amount self.old }
@@ -226,4 +246,13 @@ impl<T: Tag> ClientRec<T> {
         self.queue.subtract_reservations(amount);
         self.previous.r = less(self.previous.r, amount);
     }
+}
+
+/// What becomes of the previous tags behind all requests. They are of a cancelled request if they were before, or if the last
+/// queued one is cancelled.
+fn behind<T: Tag>(befores: &Befores<T>, previous: Previous<T>) -> Previous<T>
+    ensures { result ≡ fallen_previous T.ops befores.now (previous.cancelled || option_map_or (λ before. before.cancelled) befores.now.l false) previous }
+{
+    let cancelled = previous.cancelled || befores.is_last_cancelled();
+    befores.last(cancelled, previous)
 }

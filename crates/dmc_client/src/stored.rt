@@ -1,14 +1,21 @@
 //! The requests as a client's queue stores them.
-ghost use Rattle.std.specs.Prelude.{◌≡◌, ◌==◌, ◌++◌, ◌∷◌, [], drop, length, map, slice_get, if◌then◌else◌, OnOk, OnErr};
-ghost use Rattle.std.specs.List.{list_all};
+ghost use Rattle.std.specs.Prelude.{◌≡◌, ◌==◌, ◌++◌, ◌∷◌, [], Some, drop, is_some, length, map, slice_get, if◌then◌else◌, OnOk, OnErr};
+ghost use Rattle.std.specs.List.{list_all, AllByRecursion};
+ghost use Rattle.dmc_client.specs.internal.Passed.{IsOfRecord};
+ghost use Rattle.dmc_tag.specs.Cancel.{staying, befores_after, no_befores, charges_of};
 ghost use Rattle.dmc_tag.specs.Rules as rules_of;
 
+use crate::cancelling::{cancel_all, pass};
 use crate::subtraction::{
     checked_less_share, less_reservation, shares_have_less, subtract_reservations, subtract_shares,
 };
+use dmc_tag::cancel::Befores;
 use dmc_tag::plain::QueuedRequest;
 use dmc_tag::shifting::has_less;
+use dmc_tag::spacing::Spacings;
 use dmc_tag::tag::Tag;
+use dmc_types::config::Counting;
+use dmc_types::ids::Token;
 use std::alloc::{AllocError, Global};
 use std::collections::VecDeque;
 use std::marker::Model;
@@ -61,6 +68,8 @@ impl<T: Tag> StoredRequests<T> {
     }
 
     /// Removes the request that arrived first.
+    // Inlined: callers read a part of the request, and need no copy of it.
+    #[inline(always)]
     pub fn pop(&mut self) -> Option<QueuedRequest<T>>
         ensures value { result ≡ slice_get self.old 0 }
         ensures rest { self.new ≡ drop 1 self.old }
@@ -93,6 +102,27 @@ impl<T: Tag> StoredRequests<T> {
     {
         self.first = None;
         self.later.clear();
+    }
+
+    /// Takes back the requests with a token. Returns what became of the tags of the last request.
+    pub fn cancel(&mut self, token: Token, counting: Counting, spacings: &Spacings<T>) -> Befores<T>
+        requires { AllByRecursion (IsOfRecord T.ops (is_some spacings.now.r)) self.old }
+        ensures rest { self.new ≡ staying T.ops token (charges_of T.ops counting (Some spacings.now)) no_befores self.old }
+        ensures last { result ≡ befores_after T.ops token (charges_of T.ops counting (Some spacings.now)) no_befores self.old }
+    {
+        let mut befores = Befores::none();
+        let Some(first) = self.first else {
+            return befores;
+        };
+        let mut passed = first;
+        pass(&mut befores, token, counting, spacings, &mut passed);
+        cancel_all(&mut self.later, token, counting, spacings, &mut befores);
+        if first.token != token {
+            self.first = Some(passed);
+            return befores;
+        }
+        self.first = self.later.pop_front();
+        befores
     }
 
     /// The number of stored requests.

@@ -15,9 +15,10 @@ use Rattle.dmc_tag.specs.declared.reply.Tags.{Tags}
 use Rattle.dmc_tag.proofs.Outcomes.{goes_on}
 use Rattle.dmc_tag.specs.Tag.{Tagging}
 use Rattle.dmc_tag.specs.State.{State, PlainClient, client_named, queued_requests, is_nothing_queued}
-use Rattle.dmc_tag.specs.Rules.{shifted_by, shifted_client, less_shares, less_share, after_arrival, queued, change_client, progress_added, shift_from, shift_of, share_floor, adjusts, can_shift_by, assigned, add_tags}
+use Rattle.dmc_tag.specs.Rules.{shifted_by, shifted_client, less_shares, less_share, after_arrival, queued, change_client, progress_added, shift_from, shift_of, share_floor, adjusts, can_shift_by, assigned, addition_with, add_tags}
 use Rattle.dmc_tag.specs.declared.plain.Progress.{Progress}
 use Rattle.dmc_tag.specs.declared.plain.QueuedRequest.{QueuedRequest}
+use Rattle.dmc_tag.specs.declared.plain.Slack.{Slack}
 use Rattle.dmc_plain.specs.declared.queue.adding.Arrival.{Arrival}
 use Rattle.dmc_plain.specs.internal.Arrivals.{IsArrival, appended, arrived}
 use Rattle.dmc_plain.specs.internal.Kept.{IsKept}
@@ -65,7 +66,7 @@ module _ {T : Type 0} (ops : Tagging T) where
   module _ (a b : ℕ) (q old : State T) (view : q ≡ old) (kept : IsKept a b q.clients) (arrival : Arrival T) (h : IsArrival old.clients arrival) (request : QueuedRequest T) (t : ℕ)
       (c d : PlainClient T) (at : c ≡ get_or q.clients arrival.index c) (d_is : d ≡ appended request c)
       (shifted : List (PlainClient T)) (shifted_is : shifted ≡ shifted_by ops arrival.shift (set q.clients arrival.index d))
-      (e f : PlainClient T) (e_at : e ≡ get_or shifted arrival.index e) (f_is : f ≡ arrived request.tags t e)
+      (e f : PlainClient T) (e_at : e ≡ get_or shifted arrival.index e) (f_is : f ≡ arrived request.tags request.slack t e)
       (progress : Progress T) (counted : progress ≡ progress_added ops q.config.shares (is_nothing_queued q.clients) request.tags.p q.progress) where
     own : IsArrival q.clients arrival
     own = subst (λ (s : State T). IsArrival s.clients arrival) (sym view) h
@@ -89,7 +90,7 @@ module _ {T : Type 0} (ops : Tagging T) where
         ∙ get_or-set_same (shifted_by ops arrival.shift q.clients) arrival.index d e (slice_get_within (shifted_by ops arrival.shift q.clients) arrival.index own.client there)
 
     now : f ≡ after_arrival request t own.client
-    now = f_is ∙ ap (arrived request.tags t) (was ∙ d_is ∙ ap (appended request) is_own)
+    now = f_is ∙ ap (arrived request.tags request.slack t) (was ∙ d_is ∙ ap (appended request) is_own)
 
     all : set shifted arrival.index f ≡ set (shifted_by ops arrival.shift q.clients) arrival.index (after_arrival request t own.client)
     all = ap (λ (cs : List (PlainClient T)). set cs arrival.index f) beside ∙ set-set (shifted_by ops arrival.shift q.clients) arrival.index d f ∙ ap (set (shifted_by ops arrival.shift q.clients) arrival.index) now
@@ -122,8 +123,8 @@ module _ {T : Type 0} (ops : Tagging T) where
     is_named : client_named id old.clients ≡ Some c
     is_named = sym (subst (λ cs. slice_get cs i ≡ client_named id cs) (same ∙ ap (λ (s : State T). s.clients) view) named) ∙ is_at
 
-    pub is_arrival : (shift : Option T) (tags : Tags T) → shift_of ops old.config.shares old.clients c t ≡ Ok shift → IsArrival old.clients (record { client = id; index = i; shift = shift; tags = tags })
-    is_arrival shift tags e = record { client = c; client_at = is_at; id = named_id id c old.clients is_named; idle = by (adjusts old.config.shares) c.idle e } where
+    pub is_arrival : (shift : Option T) (tags : Tags T) (slack : Slack T) → shift_of ops old.config.shares old.clients c t ≡ Ok shift → IsArrival old.clients (record { client = id; index = i; shift = shift; tags = tags; slack = slack })
+    is_arrival shift tags slack e = record { client = c; client_at = is_at; id = named_id id c old.clients is_named; idle = by (adjusts old.config.shares) c.idle e } where
       by : (adjusts idle : Bool) → (if adjusts && idle then shift_from ops t (best_of_all ops by_weight is_any old.clients) else Ok None) ≡ Ok shift → is_some shift ≡ true → idle ≡ true
       by adjusts true e some = refl
       by true false e some = cc
@@ -131,6 +132,6 @@ module _ {T : Type 0} (ops : Tagging T) where
 
     -- the new tags, or their refusal, are the last of the tests
     pub assigns : (shift : Option T) → nat_le max_requests (length (queued_requests old.clients)) ≡ false → shift_of ops old.config.shares old.clients c t ≡ Ok shift → can_shift_by ops shift old.clients ≡ true →
-        (result : Result (Tags T) Refusal) → assigned ops old.config.hz c params t (share_floor ops old t) ≡ result → (result >>= λ tags. Ok (shift, tags)) ≡ add_tags ops old id params t
+        (result : Result (Tags T) Refusal) → assigned ops old.config.hz c params t (share_floor ops old t) ≡ result → (result >>= λ tags. Ok (addition_with ops shift c.previous t (share_floor ops old t) tags)) ≡ add_tags ops old id params t
     assigns shift room e can result tags =
-        goes_on _ (ap (λ o. ok_or o Unknown) is_named) (goes_on _ (ap (λ b. refuse_if b QueueFull) room) (goes_on _ e (goes_on _ (ap (λ b. refuse_if (not b) Range) can) (ap (λ r. r >>= λ tags. Ok (shift, tags)) (sym tags)))))
+        goes_on _ (ap (λ o. ok_or o Unknown) is_named) (goes_on _ (ap (λ b. refuse_if b QueueFull) room) (goes_on _ e (goes_on _ (ap (λ b. refuse_if (not b) Range) can) (ap (λ r. r >>= λ tags. Ok (addition_with ops shift c.previous t (share_floor ops old t) tags)) (sym tags)))))

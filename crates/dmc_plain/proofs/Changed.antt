@@ -1,19 +1,22 @@
 -- The state that a call leaves, once its tests have passed.
 use Rattle.std.proofs.Common.{◌≡◌, ℕ, ◌<◌, ◌≤◌, [], length, set, get_or, Option, Some, None, Ok, refl, sym, ap, ◌∙◌, subst, arith}
-use Rattle.std.specs.Prelude.{slice_get, remove}
+use Rattle.std.specs.Prelude.{filter, slice_get, remove}
 use Rattle.std.specs.Option.{option_map, ok_or}
 use Rattle.std.proofs.lemmas.List.{length-map}
 use Rattle.std.proofs.lemmas.List.Edits.{length-remove}
 use Rattle.std.proofs.lemmas.Option.{slice_get_read}
 use Rattle.dmc_types.specs.Values.{Rates}
+use Rattle.dmc_types.specs.declared.config.Counting.{Counting}
 use Rattle.dmc_types.specs.declared.ids.ClientId.{ClientId}
-use Rattle.dmc_types.specs.declared.command.Command.TheVariants.{Update, Remove}
+use Rattle.dmc_types.specs.declared.ids.Token.{Token}
+use Rattle.dmc_types.specs.declared.command.Command.TheVariants.{Update, Remove, Cancel}
 use Rattle.dmc_types.specs.declared.config.PhaseType.TheVariants.{Reservation}
 use Rattle.dmc_types.specs.declared.refusal.Refusal.TheVariants.{Unknown}
 use Rattle.dmc_tag.specs.Tag.{Tagging}
 use Rattle.dmc_tag.specs.State.{State, PlainClient, client_named, effective}
 use Rattle.dmc_tag.specs.Outcome.{◌>>=◌}
 use Rattle.dmc_tag.specs.Rules.{can_update, change_client, with_info, with_requests, reduced_by, after_grant, taken_out, less_reservation}
+use Rattle.dmc_tag.specs.Cancel.{has_token, without_token, charged_to}
 use Rattle.dmc_tag.specs.Step.{step, answer_of}
 use Rattle.dmc_tag.specs.declared.reply.Reply.TheVariants.{Updated, Removed}
 use Rattle.dmc_plain.specs.declared.best.Place.{Place}
@@ -57,6 +60,16 @@ module _ {T : Type 0} (a b : ℕ) (q old : State T) (view : q ≡ old) (kept : I
       let found : client_named id old.clients ≡ Some c = sym named ∙ ap (λ (s : State T). slice_get s.clients i) (sym view) ∙ there in
       rw (changed (with_requests []) d e, id_is id named, view)
       (sym (ap (λ o. answer_of old (ok_or o Unknown >>= (λ client. Ok (record old { clients = change_client id (with_requests []) old.clients }, Removed (length client.requests))))) found))
+
+  -- ---- a client's requests with a token are taken back
+
+  pub cancelled_as : (ops : Tagging T) (id : ClientId) (token : Token) (counting : Counting) (hz : ℕ) (d : PlainClient T) → slice_get old.clients i ≡ client_named id old.clients → hz ≡ q.config.hz →
+      d ≡ without_token ops token (charged_to ops hz counting c) c →
+      (record q { clients = set q.clients i d }, Removed (length (filter (has_token token) c.requests))) ≡ step ops old (Cancel id token counting)
+  cancelled_as ops id token counting hz d named rate e =
+      let found : client_named id old.clients ≡ Some c = sym named ∙ ap (λ (s : State T). slice_get s.clients i) (sym view) ∙ there in
+      rw (changed (λ c. without_token ops token (charged_to ops hz counting c) c) d e, id_is id named, rate, view)
+      (sym (ap (λ o. answer_of old (ok_or o Unknown >>= (λ client. Ok (record old { clients = change_client id (λ c. without_token ops token (charged_to ops old.config.hz counting c) c) old.clients }, Removed (length (filter (has_token token) client.requests)))))) found))
 
 -- ---- a request is taken out
 

@@ -7,3 +7,4 @@ pub mod Changed
 pub mod Added
 pub mod Beyond
 pub mod Cleaned
+pub mod Cancelled

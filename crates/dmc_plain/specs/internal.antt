@@ -6,6 +6,8 @@ pub mod Sets
 pub mod Places
 -- An arrival in two parts: the request is queued, which may fail, before others are shifted; the rest is recorded after that.
 pub mod Arrivals
+-- A cancel in two parts: each request is changed, and then those with the token are removed.
+pub mod Passed
 -- When something is due.
 pub mod Due
 -- Which requests a reduction may change.

@@ -3,16 +3,19 @@ ghost use Rattle.std.specs.Prelude.{◌≡◌, ◌<◌, ◌||◌, [], length, re
 ghost use Rattle.dmc_types.specs.declared.refusal.QueueFault.{QueueFault};
 ghost use Rattle.dmc_tag.specs.State as state;
 ghost use Rattle.dmc_tag.specs.Rules as rules_of;
+ghost use Rattle.dmc_tag.specs.Cancel.{last_has_token, without_token, charged_to};
 ghost use Rattle.dmc_plain.specs.internal.Arrivals as arrivals;
 
 use crate::changes::{RequestReduction, RequestShift, change_all};
-use crate::requests;
-use dmc_tag::assignment::previous_after;
-use dmc_tag::plain::{Previous, QueuedRequest};
+use crate::{cancelling, requests};
+use dmc_tag::assignment::{no_previous, previous_after};
+use dmc_tag::plain::{Previous, QueuedRequest, Slack};
 use dmc_tag::reply::Tags;
 use dmc_tag::shifting::{has_less, less};
+use dmc_tag::spacing::spacings_for;
 use dmc_tag::tag::Tag;
-use dmc_types::ids::ClientId;
+use dmc_types::config::Counting;
+use dmc_types::ids::{ClientId, Token};
 use dmc_types::info::ClientInfo;
 use dmc_types::moment::Moment;
 use dmc_types::refusal::QueueFault;
@@ -108,15 +111,10 @@ impl<T: Tag> Client<T> {
     pub fn newcomer(alloc: Global, id: ClientId, info: ClientInfo, at: Moment) -> Client<T>
         ensures { result ≡ rules_of.newcomer T.ops id info at }
     {
-        let zero = T::of_moment(Moment::zero());
         Client {
             id,
             info,
-            previous: Previous {
-                r: zero,
-                l: zero,
-                p: zero,
-            },
+            previous: no_previous(),
             idle: true,
             last_arrival: at,
             requests: Vec::new(alloc),
@@ -135,11 +133,11 @@ impl<T: Tag> Client<T> {
         Ok(())
     }
 
-    /// Records the arrival of a request with these tags.
-    pub fn arrive(&mut self, tags: Tags<T>, at: Moment)
-        ensures { self.new ≡ arrivals.arrived tags at self.old }
+    /// Records the arrival of a request with these tags and this slack.
+    pub fn arrive(&mut self, tags: Tags<T>, slack: Slack<T>, at: Moment)
+        ensures { self.new ≡ arrivals.arrived tags slack at self.old }
     {
-        self.previous = previous_after(tags, self.previous);
+        self.previous = previous_after(tags, slack, self.previous);
         self.idle = false;
         self.last_arrival = at;
     }
@@ -199,5 +197,22 @@ impl<T: Tag> Client<T> {
         ensures { self.new ≡ rules_of.with_requests [] self.old }
     {
         self.requests.clear();
+    }
+
+    /// Whether the client's last request is cancelled when its requests with a token are.
+    fn is_last_cancelled(&self, token: Token) -> bool
+        ensures { result ≡ (self.now.previous.cancelled || last_has_token token self.now.requests) }
+    {
+        self.previous.cancelled || cancelling::is_last(&self.requests, token)
+    }
+
+    /// Takes back the client's requests with a token. Under `Counting::Others` those behind them fall by what they were charged.
+    pub fn cancel(&mut self, token: Token, counting: Counting, hz: u32)
+        ensures { self.new ≡ without_token T.ops token (charged_to T.ops hz counting self.old) self.old }
+    {
+        let cancelled = self.is_last_cancelled(token);
+        let spacings = spacings_for(hz, self.info).ok();
+        let befores = cancelling::take_back(&mut self.requests, token, counting, spacings);
+        self.previous = befores.last(cancelled, self.previous);
     }
 }

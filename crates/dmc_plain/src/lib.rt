@@ -2,6 +2,7 @@
 #![tactic(auto)]
 
 mod best;
+mod cancelling;
 mod changes;
 mod cleaning;
 mod client;

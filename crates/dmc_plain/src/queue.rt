@@ -10,6 +10,7 @@ mod adding;
 mod pulling;
 
 use crate::best::{Set, best_place};
+use crate::cancelling::count;
 use crate::changes::{Mark, change_all};
 use crate::cleaning::{count_erased, count_idled, erase};
 use crate::client::Client;
@@ -20,7 +21,7 @@ use dmc_tag::reply::{Pulled, Tags};
 use dmc_tag::scheduler::Scheduler;
 use dmc_tag::spacing::{Spacings, spacings_for};
 use dmc_tag::tag::Tag;
-use dmc_types::config::QueueConfig;
+use dmc_types::config::{Counting, QueueConfig};
 use dmc_types::ids::{ClientId, Token};
 use dmc_types::info::ClientInfo;
 use dmc_types::limits::MAX_CLIENTS;
@@ -170,7 +171,7 @@ impl<T: Tag> Scheduler<T> for PlainQueue<T> {
     ) -> Result<Tags<T>, QueueFault> {
         let at = self.effective(at);
         let arrival = self.can_add(client, params, at)?;
-        self.queue(&arrival, token, at)?;
+        self.queue(&arrival, token, params.cost(), at)?;
         Ok(arrival.tags)
     }
 
@@ -190,6 +191,22 @@ impl<T: Tag> Scheduler<T> for PlainQueue<T> {
         let count = client.requests().len();
         client.clear();
         Ok(count as u32)
+    }
+
+    fn cancel(
+        &mut self,
+        client: ClientId,
+        token: Token,
+        counting: Counting,
+    ) -> Result<u32, Refusal> {
+        let Some(index) = index_of(&self.clients, client) else {
+            return Err(Refusal::Unknown);
+        };
+        let hz = self.config.hz();
+        let owner = &mut self.clients[index];
+        let taken = count(owner.requests(), token);
+        owner.cancel(token, counting, hz);
+        Ok(taken as u32)
     }
 
     fn clean(&mut self, at: Moment) -> (u32, u32) {

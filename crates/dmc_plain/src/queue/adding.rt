@@ -5,21 +5,22 @@ ghost use Rattle.dmc_types.specs.Limits.{max_requests};
 ghost use Rattle.dmc_types.specs.declared.config.Shares.TheVariants.{Clock};
 ghost use Rattle.dmc_tag.specs.Rules as rules_of;
 ghost use Rattle.dmc_tag.specs.State.{queued_requests};
-ghost use Rattle.dmc_plain.specs.internal.Arrivals.{IsArrival};
+ghost use Rattle.dmc_plain.specs.internal.Arrivals.{IsArrival, addition_of};
 
 use crate::best::{Set, best_place};
 use crate::changes::{ClientShift, change_all};
 use crate::client::Client;
 use crate::clients::{self, count_requests, index_of};
 use crate::queue::PlainQueue;
-use dmc_tag::assignment::next_tags;
+use dmc_tag::assignment::{next_tags, slack_of};
 use dmc_tag::due::is_over_limit;
-use dmc_tag::plain::QueuedRequest;
+use dmc_tag::plain::{QueuedRequest, Slack};
 use dmc_tag::progress::{count_arrival, share_floor};
 use dmc_tag::reply::Tags;
 use dmc_tag::spacing::spacings_for;
 use dmc_tag::tag::Tag;
 use dmc_types::config::Shares;
+use dmc_types::cost::Cost;
 use dmc_types::ids::{ClientId, Token};
 use dmc_types::limits::MAX_REQUESTS;
 use dmc_types::moment::Moment;
@@ -36,17 +37,19 @@ pub(super) struct Arrival<T> {
     shift: Option<T>,
     /// The tags of the new request.
     pub(super) tags: Tags<T>,
+    /// Their slack.
+    slack: Slack<T>,
 }
 
 impl<T: Tag> PlainQueue<T> {
-    /// The tests of an add, and its effect: the shift of the others and the new tags.
+    /// The tests of an add, and its effect: the shift of the others, and the new tags and their slack.
     pub(super) fn can_add(
         &self,
         client: ClientId,
         params: ReqParams,
         at: Moment,
     ) -> Result<Arrival<T>, Refusal>
-        ensures outcome { result_map_both (λ a. (a.shift, a.tags)) (λ e. e) result ≡ rules_of.can_add T.ops self.now client params at }
+        ensures outcome { result_map_both addition_of (λ e. e) result ≡ rules_of.can_add T.ops self.now client params at }
         ensures room { OnOk result (length (queued_requests self.now.clients) < max_requests) }
         ensures client { IfOk result (λ a. a.client ≡ client) }
         ensures arrival { IfOk result (IsArrival self.now.clients) }
@@ -65,9 +68,9 @@ impl<T: Tag> PlainQueue<T> {
         is_over_limit(self.config.at_limit(), at, arrival.tags.l)
     }
 
-    /// The shift of the others and the tags that an add brings, whatever the limit.
+    /// The shift of the others, the tags and the slack that an add brings, whatever the limit.
     fn add_tags(&self, client: ClientId, params: ReqParams, t: T) -> Result<Arrival<T>, Refusal>
-        ensures outcome { result_map_both (λ a. (a.shift, a.tags)) (λ e. e) result ≡ rules_of.add_tags T.ops self.now client params t }
+        ensures outcome { result_map_both addition_of (λ e. e) result ≡ rules_of.add_tags T.ops self.now client params t }
         ensures room { OnOk result (length (queued_requests self.now.clients) < max_requests) }
         ensures client { IfOk result (λ a. a.client ≡ client) }
         ensures arrival { IfOk result (IsArrival self.now.clients) }
@@ -85,11 +88,13 @@ impl<T: Tag> PlainQueue<T> {
         }
         let floor = share_floor(self.config.shares(), &self.progress, self.empty(), t);
         let tags = assigned(self.config.hz(), arriving, params, t, floor)?;
+        let slack = slack_of(arriving.previous(), tags, t, floor);
         Ok(Arrival {
             client,
             index,
             shift,
             tags,
+            slack,
         })
     }
 
@@ -99,19 +104,26 @@ impl<T: Tag> PlainQueue<T> {
         &mut self,
         arrival: &Arrival<T>,
         token: Token,
+        cost: Cost,
         at: Moment,
     ) -> Result<(), QueueFault>
         requires room { length (queued_requests self.old.clients) < max_requests }
         requires arrival { IsArrival self.old.clients arrival.now }
-        ensures ok { OnOk result (self.new ≡ rules_of.queued T.ops self.old arrival.now.shift arrival.now.client (record { token = token; tags = arrival.now.tags }) at) }
+        ensures ok { OnOk result (self.new ≡ rules_of.queued T.ops self.old arrival.now.shift arrival.now.client (rules_of.request_of token cost (addition_of arrival.now)) at) }
         ensures err { OnErr result (self.new ≡ self.old) }
         ensures memory { IsOkUnless result QueueFault.Memory }
     {
         let tags = arrival.tags;
+        let slack = arrival.slack;
         let nothing_queued = self.empty();
-        self.clients[arrival.index].append(QueuedRequest { token, tags })?;
+        self.clients[arrival.index].append(QueuedRequest {
+            token,
+            cost,
+            tags,
+            slack,
+        })?;
         shift_clients(&mut self.clients, arrival.shift);
-        self.clients[arrival.index].arrive(tags, at);
+        self.clients[arrival.index].arrive(tags, slack, at);
         count_arrival(
             self.config.shares(),
             &mut self.progress,

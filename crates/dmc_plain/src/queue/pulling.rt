@@ -12,7 +12,6 @@ ghost use Rattle.dmc_plain.specs.internal.Places.{found_among, found_at, IsPlace
 ghost use Rattle.dmc_plain.specs.internal.Settled.{Settles};
 
 use crate::best::{Place, Set, best_place};
-use crate::client::Client;
 use crate::due::least_due;
 use crate::queue::PlainQueue;
 use dmc_tag::plain::QueuedRequest;
@@ -20,6 +19,7 @@ use dmc_tag::progress::count_grant;
 use dmc_tag::reply::Pulled;
 use dmc_tag::tag::Tag;
 use dmc_types::config::{AtLimit, PhaseType};
+use dmc_types::cost::Cost;
 use dmc_types::ids::ClientId;
 use dmc_types::moment::Moment;
 use dmc_types::refusal::Refusal;
@@ -57,6 +57,7 @@ impl<T: Tag> PlainQueue<T> {
             token: request.token,
             phase: PhaseType::Reservation,
             beyond: false,
+            cost: request.cost,
         }
     }
 
@@ -66,7 +67,8 @@ impl<T: Tag> PlainQueue<T> {
         ensures { option_map (rules_of.can_grant T.ops self.now.config.hz) (found_at self.now.clients place) ≡ Some result }
     {
         let client = &self.clients[place.client];
-        let amount = reduction_for(self.config.hz(), client)?;
+        let cost = client.requests()[place.request].cost;
+        let amount = reduction_for(self.config.hz(), client.info().reservation(), cost)?;
         if !client.can_reduce_without(place.request, amount) {
             return Err(Refusal::Range);
         }
@@ -87,6 +89,7 @@ impl<T: Tag> PlainQueue<T> {
             token: request.token,
             phase: PhaseType::Priority,
             beyond,
+            cost: request.cost,
         })
     }
 
@@ -147,15 +150,19 @@ fn due_at(due: Option<u128>) -> Pulled
     }
 }
 
-/// What a Priority grant takes off its client's R tags: one spacing, and nothing without a reservation.
-fn reduction_for<T: Tag>(hz: u32, client: &Client<T>) -> Result<Option<T>, Refusal>
-    ensures { result ≡ rules_of.reduction_at T.ops hz client.now.info.reservation }
+/// What a Priority grant of a request of this cost takes off its client's R tags: a spacing for each unit, and nothing without a
+/// reservation.
+fn reduction_for<T: Tag>(
+    hz: u32,
+    reservation: Option<u32>,
+    cost: Cost,
+) -> Result<Option<T>, Refusal>
+    ensures { result ≡ rules_of.reduction_at T.ops hz reservation cost }
 {
-    let Some(rate) = client.info().reservation() else {
+    let Some(rate) = reservation else {
         return Ok(None);
     };
-    match T::spacing(hz, rate) {
-        None => Err(Refusal::Range),
-        Some(amount) => Ok(Some(amount)),
-    }
+    let spacing = T::spacing(hz, rate).ok_or(Refusal::Range)?;
+    let amount = spacing.steps(cost.units()).ok_or(Refusal::Range)?;
+    Ok(Some(amount))
 }

@@ -3,7 +3,7 @@ use Rattle.dmc_client.proofs.Records.{with_requests, empty_record}
 use Rattle.dmc_client.proofs.record.ClientRec.drain.Goals as goal
 
 pub invariant_of-self : goal.invariant_of-self
-invariant_of-self g c = empty_record g.T.Tag.ops _ c.self.invariant.spacings c.clear.ensures
+invariant_of-self g c = empty_record g.T.Tag.ops _ c.self.invariant.spacings c.self.invariant.slack c.clear.ensures
 
 pub returns-clause-count : goal.returns-clause-count
 returns-clause-count g c = c.len-count.ensures ∙ ap (λ rec. length rec.requests) c.self.view_is

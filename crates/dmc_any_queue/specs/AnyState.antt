@@ -45,7 +45,7 @@ abbrev pub in_fractions : {T : Type 0} → (T → Fraction) → Reply T → Repl
 in_fractions fraction Registered = Registered
 in_fractions fraction Updated = Updated
 in_fractions fraction (Tagged tags) = Tagged (tags_in_fractions fraction tags)
-in_fractions fraction (Granted client token phase beyond) = Granted client token phase beyond
+in_fractions fraction (Granted client token phase beyond cost) = Granted client token phase beyond cost
 in_fractions fraction (Later due) = Later due
 in_fractions fraction Nothing = Nothing
 in_fractions fraction (Removed count) = Removed count

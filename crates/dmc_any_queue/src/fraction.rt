@@ -80,11 +80,13 @@ pub fn in_fractions<T: AsFraction>(reply: Reply<T>) -> Reply<TagFraction>
             token,
             phase,
             beyond,
+            cost,
         } => Reply::Granted {
             client,
             token,
             phase,
             beyond,
+            cost,
         },
         Reply::Later(due) => Reply::Later(due),
         Reply::Nothing => Reply::Nothing,

@@ -3,4 +3,5 @@ pub mod Add
 pub mod Pull
 pub mod Clean
 pub mod Remove
+pub mod Cancel
 pub mod Clients

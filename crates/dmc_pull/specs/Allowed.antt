@@ -19,7 +19,7 @@ abbrev pub is_allowed : {T : Type 0} → (ClientId → PhaseType → Bool) → R
 is_allowed allows Registered = true
 is_allowed allows Updated = true
 is_allowed allows (Tagged tags) = true
-is_allowed allows (Granted client token phase beyond) = allows client phase
+is_allowed allows (Granted client token phase beyond cost) = allows client phase
 is_allowed allows (Later m) = true
 is_allowed allows Nothing = true
 is_allowed allows (Removed count) = true

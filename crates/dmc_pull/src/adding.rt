@@ -13,18 +13,20 @@ use dmc_head_index::heads::Heads;
 use dmc_index::index::Indexes;
 use dmc_roster::change::{RecordRule, RecordTest};
 use dmc_roster::roster::Roster;
+use dmc_tag::plain::Slack;
 use dmc_tag::reply::Tags;
 use dmc_tag::tag::Tag;
 use dmc_types::config::Shares;
 use dmc_types::moment::Moment;
 use std::alloc::AllocError;
 
-/// The effect of an add: the key of its client, the amount by which all others are shifted, and the new tags.
+/// The effect of an add: the key of its client, the amount by which all others are shifted, and the new tags with their slack.
 #[derive(Copy)]
 pub struct Addition<T> {
     pub key: usize,
     pub shift: Option<T>,
     pub tags: Tags<T>,
+    pub slack: Slack<T>,
 }
 
 impl<T: Copy> Clone for Addition<T> {

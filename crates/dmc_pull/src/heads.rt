@@ -1,5 +1,5 @@
 //! The heads of a queue's clients.
-ghost use Rattle.std.specs.Prelude.{◌≡◌, ◌==◌, not, None, Some, slice_set, is_some};
+ghost use Rattle.std.specs.Prelude.{◌≡◌, ◌==◌, true, not, if◌then◌else◌, None, Some, slice_set, is_some};
 ghost use Rattle.std.specs.Option.{option_map};
 ghost use Rattle.dmc_index.specs.Index.{slot_of_key};
 ghost use Rattle.dmc_pull.specs.internal.Queue as queue_of;
@@ -26,6 +26,8 @@ pub fn head_at<T: Tag>(client: ClientId, tags: Tags<T>, at: Moment) -> Head<T>
 }
 
 /// Changes the head of a client whose first request was removed, to that of the next request or to none.
+// Inlined: the tags are not copied.
+#[inline(always)]
 pub fn renew<T: Tag, I: Indexes<T>>(
     heads: &mut Heads<T, I>,
     key: usize,
@@ -39,6 +41,25 @@ pub fn renew<T: Tag, I: Indexes<T>>(
     match tags {
         None => heads.remove(key),
         Some(tags) => heads.change(key, head_at(client, tags, at)),
+    }
+}
+
+/// Changes the head of a client that had this many requests queued, to that of its first request or to none. A client without any
+/// has no head.
+pub fn renew_queued<T: Tag, I: Indexes<T>>(
+    heads: &mut Heads<T, I>,
+    queued: usize,
+    key: usize,
+    client: ClientId,
+    tags: Option<Tags<T>>,
+    at: Moment,
+)
+    requires head { option_map (λ h. h.client) (slot_of_key heads.old key) ≡ (if queued == 0 then None else Some client) }
+    requires none { (queued == 0) ≡ true → tags ≡ None }
+    ensures { heads.new ≡ slice_set heads.old key (option_map (queue_of.head_at T.ops at client) tags) }
+{
+    if queued > 0 {
+        renew(heads, key, client, tags, at);
     }
 }
 

@@ -12,8 +12,9 @@ mod registering;
 
 use crate::cleaning::{age_all, count_erased, count_idled};
 use crate::granting::{AllowAll, PullFault};
-use crate::heads::clear;
-use crate::range::{ShareRange, first_range};
+use crate::heads::{clear, renew_queued};
+use crate::range::{ShareRange, first_range, widen_between};
+use crate::records::first_tags;
 use dmc_client::record::ClientRec;
 use dmc_head_index::heads::Heads;
 use dmc_index::index::Indexes;
@@ -23,7 +24,7 @@ use dmc_tag::progress::no_progress;
 use dmc_tag::reply::{Pulled, Tags};
 use dmc_tag::scheduler::Scheduler;
 use dmc_tag::tag::Tag;
-use dmc_types::config::QueueConfig;
+use dmc_types::config::{Counting, QueueConfig};
 use dmc_types::ids::{ClientId, Token};
 use dmc_types::info::ClientInfo;
 use dmc_types::moment::Moment;
@@ -192,7 +193,7 @@ impl<T: Tag, I: Indexes<T>> Scheduler<T> for PullQueue<T, I> {
         let at = self.effective(at);
         let addition = self.can_add(client, hint, params, at)?;
         let tags = addition.tags;
-        self.queue(client, token, addition, at)?;
+        self.queue(client, token, params.cost(), addition, at)?;
         Ok(tags)
     }
 
@@ -211,6 +212,32 @@ impl<T: Tag, I: Indexes<T>> Scheduler<T> for PullQueue<T, I> {
         let count = self.roster.at_mut(key).drain();
         clear(&mut self.heads.0, key, count);
         self.queued -= count;
+        Ok(count as u32)
+    }
+
+    fn cancel(
+        &mut self,
+        client: ClientId,
+        token: Token,
+        counting: Counting,
+    ) -> Result<u32, Refusal> {
+        let Some(key) = self.roster.find(client) else {
+            return Err(Refusal::Unknown);
+        };
+        let rec = self.roster.at_mut(key);
+        let queued = rec.len();
+        let count = rec.cancel(token, counting);
+        let tags = first_tags(rec);
+        widen_between(&mut self.range, tags, rec.previous().p);
+        self.queued -= count;
+        renew_queued(
+            &mut self.heads.0,
+            queued,
+            key,
+            client,
+            tags,
+            self.last_moment,
+        );
         Ok(count as u32)
     }
 

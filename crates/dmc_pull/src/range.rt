@@ -1,9 +1,11 @@
 //! Between which two tags the P tags of a queue lie.
 ghost use Rattle.std.specs.Prelude.{◌≡◌, ⊤};
+ghost use Rattle.std.specs.Option.{option_map};
 ghost use Rattle.dmc_pull.specs.internal.Range as range_of;
 ghost use Rattle.dmc_pull.specs.internal.ShareRange.{IsWithin};
 
 use crate::adding::adjusts;
+use dmc_tag::reply::Tags;
 use dmc_tag::shifting::has_less;
 use dmc_tag::tag::Tag;
 use dmc_types::config::Shares;
@@ -52,6 +54,20 @@ pub fn widen<T: Tag>(range: &mut Option<ShareRange<T>>, share: T, shift: Option<
     include(known, share);
     if let Some(amount) = shift {
         *range = with_less(*known, amount);
+    }
+}
+
+/// Widens the range for a client of which requests were taken back: none of its P is below that of its first request, or above the
+/// previous one.
+pub fn widen_between<T: Tag>(range: &mut Option<ShareRange<T>>, first: Option<Tags<T>>, previous: T)
+    ensures { range.new ≡ option_map (range_of.with_shares_between T.ops first previous) range.old }
+{
+    let Some(known) = range else {
+        return;
+    };
+    include(known, previous);
+    if let Some(first) = first {
+        include(known, first.p);
     }
 }
 

@@ -9,7 +9,6 @@ ghost use Rattle.dmc_tag.specs.Rules.{changes_reservation};
 ghost use Rattle.dmc_pull.specs.internal.Choice.{after_grant};
 ghost use Rattle.dmc_roster.specs.Entries.{entry_keyed, record_at, with_record_at, AreDistinct};
 
-use dmc_adjust::reduction::reduce;
 use dmc_client::record::ClientRec;
 use dmc_roster::roster::Roster;
 use dmc_tag::plain::QueuedRequest;
@@ -38,16 +37,18 @@ pub fn first_tags<T: Tag>(rec: &ClientRec<T>) -> Option<Tags<T>>
     }
 }
 
-/// Removes the client's first request. In the weight phase the spacing of its reservation is taken off its R tags.
-pub fn grant_first<T: Tag>(rec: &mut ClientRec<T>, reduces: bool) -> Option<QueuedRequest<T>>
-    requires { reduces ≡ true → changes.is_reducible T.ops (changes.popped rec.old) ≡ true }
+/// Removes the client's first request, and takes an amount off its R tags.
+// Inlined: callers read a part of the request, and need no copy of it.
+#[inline(always)]
+pub fn grant_first<T: Tag>(rec: &mut ClientRec<T>, amount: Option<T>) -> Option<QueuedRequest<T>>
+    requires { changes.is_reducible T.ops amount (changes.popped rec.old) ≡ true }
     ensures value { result ≡ slice_get rec.old.requests 0 }
-    ensures rest { rec.new ≡ after_grant T.ops reduces rec.old }
+    ensures rest { rec.new ≡ after_grant T.ops amount rec.old }
     ensures kept { IsRecord T.ops rec.new }
 {
     let request = rec.pop();
-    if reduces {
-        reduce(rec);
+    if let Some(amount) = amount {
+        rec.subtract_from_reservations(amount);
     }
     request
 }

@@ -15,7 +15,7 @@ use Rattle.dmc_tag.specs.Tag.{Tagging}
 use Rattle.dmc_tag.specs.Outcome.{◌>>=◌, refuse_if, in_range}
 use Rattle.dmc_tag.specs.State.{PlainClient, State, client_named, queued_requests}
 use Rattle.dmc_tag.specs.Best.{Found, best_of_all, by_weight, is_any, HasNone}
-use Rattle.dmc_tag.specs.Rules.{add_tags, can_shift_by, adjusts, shift_of, shift_from, share_floor, assigned}
+use Rattle.dmc_tag.specs.Rules.{Addition, addition_with, add_tags, can_shift_by, adjusts, shift_of, shift_from, share_floor, assigned}
 use Rattle.dmc_tag.specs.declared.reply.Tags.{Tags}
 use Rattle.dmc_client.specs.Record.{IsRecord, client_of}
 use Rattle.dmc_roster.specs.Entries.{Entry, entry_named, AreDistinct}
@@ -114,10 +114,10 @@ module _ {T : Type 0} (ops : Tagging T) where
 
   module _ (s : State T) (id : ClientId) (params : Params) (t : T) where
     -- what is left of them, with a client, and with a shift
-    abbrev with_shift : PlainClient T → Option T → Result (Option T × Tags T) Refusal
-    with_shift client shift = refuse_if (not (can_shift_by ops shift s.clients)) Range >>= λ _. (assigned ops s.config.hz client params t (share_floor ops s t) >>= λ tags. Ok (shift, tags))
+    abbrev with_shift : PlainClient T → Option T → Result (Addition T) Refusal
+    with_shift client shift = refuse_if (not (can_shift_by ops shift s.clients)) Range >>= λ _. (assigned ops s.config.hz client params t (share_floor ops s t) >>= λ tags. Ok (addition_with ops shift client.previous t (share_floor ops s t) tags))
 
-    abbrev with_client : PlainClient T → Result (Option T × Tags T) Refusal
+    abbrev with_client : PlainClient T → Result (Addition T) Refusal
     with_client client = refuse_if (nat_le max_requests (length (queued_requests s.clients))) QueueFull >>= λ _. (shift_of ops s.config.shares s.clients client t >>= with_shift client)
 
     pub unknown : client_named id s.clients ≡ None → add_tags ops s id params t ≡ Err Unknown
@@ -158,14 +158,14 @@ module _ {T : Type 0} (ops : Tagging T) where
           shifts = roomy ∙ ap (λ o. o >>= with_shift client) is
 
           pub out_of_range : can_shift_by ops amount s.clients ≡ false → add_tags ops s id params t ≡ Err Range
-          out_of_range e = shifts ∙ ap (λ b. refuse_if (not b) Range >>= λ _. (assigned ops s.config.hz client params t (share_floor ops s t) >>= λ tags. Ok (amount, tags))) e
+          out_of_range e = shifts ∙ ap (λ b. refuse_if (not b) Range >>= λ _. (assigned ops s.config.hz client params t (share_floor ops s t) >>= λ tags. Ok (addition_with ops amount client.previous t (share_floor ops s t) tags))) e
 
           module _ (can : can_shift_by ops amount s.clients ≡ true) where
-            assigns : add_tags ops s id params t ≡ (assigned ops s.config.hz client params t (share_floor ops s t) >>= λ tags. Ok (amount, tags))
-            assigns = shifts ∙ ap (λ b. refuse_if (not b) Range >>= λ _. (assigned ops s.config.hz client params t (share_floor ops s t) >>= λ tags. Ok (amount, tags))) can
+            assigns : add_tags ops s id params t ≡ (assigned ops s.config.hz client params t (share_floor ops s t) >>= λ tags. Ok (addition_with ops amount client.previous t (share_floor ops s t) tags))
+            assigns = shifts ∙ ap (λ b. refuse_if (not b) Range >>= λ _. (assigned ops s.config.hz client params t (share_floor ops s t) >>= λ tags. Ok (addition_with ops amount client.previous t (share_floor ops s t) tags))) can
 
             pub no_tags : in_range None ≡ assigned ops s.config.hz client params t (share_floor ops s t) → add_tags ops s id params t ≡ Err Range
-            no_tags e = assigns ∙ ap (λ o. o >>= λ tags. Ok (amount, tags)) (sym e)
+            no_tags e = assigns ∙ ap (λ o. o >>= λ tags. Ok (addition_with ops amount client.previous t (share_floor ops s t) tags)) (sym e)
 
-            pub allowed : (tags : Tags T) → in_range (Some tags) ≡ assigned ops s.config.hz client params t (share_floor ops s t) → add_tags ops s id params t ≡ Ok (amount, tags)
-            allowed tags e = assigns ∙ ap (λ o. o >>= λ tags. Ok (amount, tags)) (sym e)
+            pub allowed : (tags : Tags T) → in_range (Some tags) ≡ assigned ops s.config.hz client params t (share_floor ops s t) → add_tags ops s id params t ≡ Ok (addition_with ops amount client.previous t (share_floor ops s t) tags)
+            allowed tags e = assigns ∙ ap (λ o. o >>= λ tags. Ok (addition_with ops amount client.previous t (share_floor ops s t) tags)) (sym e)

@@ -46,13 +46,13 @@ module _ {T : Type 0} (ops : Tagging T) (order : IsTotalOrder ops.compare) where
 
   -- ---- a wider range
 
-  wider : (share : T) (range : ShareRange T) (tag : T) → IsWithin ops (Some range) tag → IsWithin ops (Some (with_share ops share range)) tag
+  pub wider : (share : T) (range : ShareRange T) (tag : T) → IsWithin ops (Some range) tag → IsWithin ops (Some (with_share ops share range)) tag
   wider share range tag h = (
     upto order (lesser ops range.least share) range.least tag (below_both range.least share).0 h.0,
     upto order tag range.greatest (greater ops range.greatest share) h.1 (above_both range.greatest share).0,
   )
 
-  has_share : (share : T) (range : ShareRange T) → IsWithin ops (Some (with_share ops share range)) share
+  pub has_share : (share : T) (range : ShareRange T) → IsWithin ops (Some (with_share ops share range)) share
   has_share share range = ((below_both range.least share).1, (above_both range.greatest share).1)
 
   module _ (fraction : T → Fraction) (is_value : Fraction → Type 0) (exact : IsExact ops fraction is_value) (amount : T) where

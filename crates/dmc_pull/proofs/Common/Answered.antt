@@ -81,7 +81,7 @@ module _ {T : Type 0} (ops : Tagging T) (s : State T) (t : ℕ) where
   -- ---- from the state at the moment to the one before
 
   never_refused : (x : Pulled) (e : Refusal) {P : Type 0} → pull_reply {T = T} x ≡ Refused e → P
-  never_refused (pulls.Returning c k p b) e h = cc
+  never_refused (pulls.Returning c k p b n) e h = cc
   never_refused (pulls.Future m) e h = cc
   never_refused pulls.Nothing e h = cc
 

@@ -12,7 +12,7 @@ use Rattle.dmc_tag.specs.Tag.{Tagging}
 use Rattle.dmc_tag.specs.Answers.{call_reply}
 use Rattle.dmc_tag.specs.State.{PlainClient, State, effective}
 use Rattle.dmc_tag.specs.Outcome.{◌>>=◌}
-use Rattle.dmc_tag.specs.Rules.{Outcome, can_register, registered, newcomer, can_add, added, queued}
+use Rattle.dmc_tag.specs.Rules.{Outcome, can_register, registered, newcomer, can_add, added, queued, request_of}
 use Rattle.dmc_tag.specs.Step.{answer_of, outcome}
 use Rattle.dmc_tag.specs.Steps.{Steps}
 use Rattle.dmc_tag.specs.declared.reply.Reply.{Reply}
@@ -44,7 +44,7 @@ module _ {T : Type 0} (ops : Tagging T) (old : State T) (id : ClientId) where
     pub add_refused : (refusal : Refusal) → can_add ops old id params moment ≡ Err refusal → Err refusal ≡ outcome ops old (Add id token params at)
     add_refused refusal e =
         sym (ap (added ops old id token params) (sym moment_is)
-        ∙ ap (λ tests. tests >>= λ (shift, tags). Ok (queued ops old shift id (record { token = token; tags = tags }) moment, Tagged tags)) e)
+        ∙ ap (λ tests. tests >>= λ addition. Ok (queued ops old addition.shift id (request_of token params.cost addition) moment, Tagged addition.tags)) e)
 
     pub add_done : (answer : State T × Reply T) → added ops old id token params moment ≡ Ok answer → IsOk (outcome ops old (Add id token params at))
     add_done answer e = ap is_ok (ap (added ops old id token params) (sym moment_is) ∙ e)

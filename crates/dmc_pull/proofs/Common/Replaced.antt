@@ -1,21 +1,20 @@
 -- One client's record and head replaced.
 use Rattle.std.proofs.Common.{◌≡◌, ℕ, zero, suc, ◌-◌, ◌≤◌, ◌<◌, Bool, true, false, List, [], ◌∷◌, ◌++◌, map, length, Option, Some, None, refl, sym, ap, ◌∙◌, subst, arith}
 use Rattle.std.specs.Prelude.{◌==◌, slice_set, slice_get, is_some, drop, nat_le, Ok}
-use Rattle.std.specs.Option.{option_map, option_map_or, option_and_then}
+use Rattle.std.specs.Option.{option_map, option_and_then}
 use Rattle.std.specs.List.{AllByRecursion}
 use Rattle.std.proofs.lemmas.Bool.{eqb-true, eqb-false}
 use Rattle.dmc_types.specs.declared.ids.ClientId.{ClientId}
-use Rattle.dmc_types.specs.declared.ids.Token.{Token}
 use Rattle.dmc_tag.specs.Tag.{Fraction, Tagging}
 use Rattle.dmc_tag.specs.Best.{Found, is_due}
 use Rattle.dmc_tag.specs.Spacing.{spacings_of}
 use Rattle.dmc_tag.specs.declared.plain.Progress.{Progress}
 use Rattle.dmc_tag.specs.declared.reply.Tags.{Tags}
 use Rattle.dmc_tag.specs.State.{queued_requests}
-use Rattle.dmc_client.specs.Record.{Rec, client_of, IsRecord, share_tags, less_reservations}
+use Rattle.dmc_client.specs.Record.{Rec, client_of, IsRecord, share_tags}
 use Rattle.dmc_tag.specs.declared.plain.QueuedRequest.{QueuedRequest}
 use Rattle.dmc_roster.specs.Entries.{Entry, entry_keyed, record_at, with_record, with_record_at, AreDistinct}
-use Rattle.dmc_adjust.specs.Changes.{popped, reduced}
+use Rattle.dmc_adjust.specs.Changes.{popped}
 use Rattle.dmc_index.specs.Index.{slot_of_key}
 use Rattle.dmc_head_index.specs.declared.head.Head.{Head}
 use Rattle.dmc_pull.specs.Represented.{clients_in}
@@ -107,22 +106,19 @@ pub request_is : {T : Type 0} {es : List (Entry T)} {key : ℕ} {client : Client
     → option_and_then (λ (rec : Rec T). slice_get rec.requests 0) (record_at key es) ≡ Some w.request
 request_is {T} w = ap (λ o. option_and_then (λ (rec : Rec T). slice_get rec.requests 0) (option_map (λ e. e.rec) o)) w.found ∙ ap (λ l. slice_get l 0) w.requests
 
--- the token of the first request
+-- the first request
 module _ {T : Type 0} (es : List (Entry T)) (key : ℕ) where
-  abbrev token_of : Option (QueuedRequest T) → Option Token
-  token_of = option_map (λ r. r.token)
+  abbrev request_found : Option (Found T) → Option (QueuedRequest T)
+  request_found = option_map (λ found. found.request)
 
-  abbrev token_found : Option (Found T) → Option Token
-  token_found = option_map (λ found. found.request.token)
-
-  pub first_token : token_of (option_and_then (λ rec. slice_get rec.requests 0) (record_at key es)) ≡ token_found (first_at key es)
-  first_token = at (entry_keyed key es) where
-    of_slot : (e : Entry T) (x : Option (QueuedRequest T)) → token_of x ≡ token_found (option_map (λ r. record { client = client_of e.id e.rec; request = r; others = drop 1 e.rec.requests }) x)
+  pub first_request : option_and_then (λ rec. slice_get rec.requests 0) (record_at key es) ≡ request_found (first_at key es)
+  first_request = at (entry_keyed key es) where
+    of_slot : (e : Entry T) (x : Option (QueuedRequest T)) → x ≡ request_found (option_map (λ r. record { client = client_of e.id e.rec; request = r; others = drop 1 e.rec.requests }) x)
     of_slot e None = refl
     of_slot e (Some r) = refl
 
     at : (o : Option (Entry T))
-        → token_of (option_and_then (λ (rec : Rec T). slice_get rec.requests 0) (option_map (λ e. e.rec) o)) ≡ token_found (option_and_then first_of o)
+        → option_and_then (λ (rec : Rec T). slice_get rec.requests 0) (option_map (λ e. e.rec) o) ≡ request_found (option_and_then first_of o)
     at None = refl
     at (Some e) = of_slot e (slice_get e.rec.requests 0)
 
@@ -133,63 +129,48 @@ module _ {T : Type 0} (ops : Tagging T) where
   map_shares amount [] = refl
   map_shares amount (r ∷ qs) = ap (λ l. r.tags.p ∷ l) (map_shares amount qs)
 
-  reduced_shares : (rec : Rec T) → share_tags (reduced ops rec) ≡ share_tags rec
-  reduced_shares rec = at rec.spacings.r refl where
-    at : (o : Option T) → rec.spacings.r ≡ o → share_tags (reduced ops rec) ≡ share_tags rec
-    at None e = ap (λ o. share_tags (option_map_or (λ amount. less_reservations ops amount rec) o rec)) e
-    at (Some amount) e = ap (λ o. share_tags (option_map_or (λ amount. less_reservations ops amount rec) o rec)) e ∙ ap (λ l. l ++ rec.previous.p ∷ []) (map_shares amount rec.requests)
+  pub grant_shares : (amount : Option T) (rec : Rec T) → share_tags (after_grant ops amount rec) ≡ share_tags (popped rec)
+  grant_shares None rec = refl
+  grant_shares (Some amount) rec = ap (λ l. l ++ rec.previous.p ∷ []) (map_shares amount (drop 1 rec.requests))
 
-  pub grant_shares : (reduces : Bool) (rec : Rec T) → share_tags (after_grant ops reduces rec) ≡ share_tags (popped rec)
-  grant_shares true rec = reduced_shares (popped rec)
-  grant_shares false rec = refl
+  pub grant_info : (amount : Option T) (rec : Rec T) → ((after_grant ops amount rec).info ≡ rec.info) × ((after_grant ops amount rec).spacings ≡ rec.spacings)
+  grant_info None rec = (refl, refl)
+  grant_info (Some amount) rec = (refl, refl)
 
-  reduced_info : (rec : Rec T) → ((reduced ops rec).info ≡ rec.info) × ((reduced ops rec).spacings ≡ rec.spacings)
-  reduced_info rec = at rec.spacings.r where
-    at : (o : Option T) → ((option_map_or (λ amount. less_reservations ops amount rec) o rec).info ≡ rec.info) × ((option_map_or (λ amount. less_reservations ops amount rec) o rec).spacings ≡ rec.spacings)
-    at None = (refl, refl)
-    at (Some amount) = (refl, refl)
-
-  pub grant_info : (reduces : Bool) (rec : Rec T) → ((after_grant ops reduces rec).info ≡ rec.info) × ((after_grant ops reduces rec).spacings ≡ rec.spacings)
-  grant_info true rec = reduced_info (popped rec)
-  grant_info false rec = (refl, refl)
-
-  pub grant_length : (reduces : Bool) (rec : Rec T) → length (after_grant ops reduces rec).requests ≡ length (drop 1 rec.requests)
-  grant_length false rec = refl
-  grant_length true rec = at rec.spacings.r where
-    at : (o : Option T) → length (option_map_or (λ amount. less_reservations ops amount (popped rec)) o (popped rec)).requests ≡ length (drop 1 rec.requests)
-    at None = refl
-    at (Some amount) = length_map (less_reservation ops amount) (drop 1 rec.requests)
+  pub grant_length : (amount : Option T) (rec : Rec T) → length (after_grant ops amount rec).requests ≡ length (drop 1 rec.requests)
+  grant_length None rec = refl
+  grant_length (Some amount) rec = length_map (less_reservation ops amount) (drop 1 rec.requests)
 
 pub popped_values : {T : Type 0} (P : T → Type 0) (prev : T) (qs : List (QueuedRequest T)) → AllByRecursion P (map (λ r. r.tags.p) qs ++ prev ∷ []) → AllByRecursion P (map (λ r. r.tags.p) (drop 1 qs) ++ prev ∷ [])
 popped_values P prev [] h = h
 popped_values P prev (r ∷ qs) h = h.1
 
 module _ {T : Type 0} (ops : Tagging T) (fraction : T → Fraction) (is_value : Fraction → Type 0) where
-  pub grant_kept : (hz : ℕ) (reduces : Bool) (rec : Rec T) → IsKept ops fraction is_value hz rec → IsRecord ops (after_grant ops reduces rec) → IsKept ops fraction is_value hz (after_grant ops reduces rec)
-  grant_kept hz reduces rec k is = record {
+  pub grant_kept : (hz : ℕ) (amount : Option T) (rec : Rec T) → IsKept ops fraction is_value hz rec → IsRecord ops (after_grant ops amount rec) → IsKept ops fraction is_value hz (after_grant ops amount rec)
+  grant_kept hz amount rec k is = record {
     is_record = is;
     spacings =
-        let same = grant_info ops reduces rec in
+        let same = grant_info ops amount rec in
         ap (spacings_of ops hz) same.0 ∙ k.spacings ∙ ap Ok (sym same.1);
-    values = subst (AllByRecursion (λ tag. is_value (fraction tag))) (sym (grant_shares ops reduces rec)) (popped_values (λ tag. is_value (fraction tag)) rec.previous.p rec.requests k.values);
+    values = subst (AllByRecursion (λ tag. is_value (fraction tag))) (sym (grant_shares ops amount rec)) (popped_values (λ tag. is_value (fraction tag)) rec.previous.p rec.requests k.values);
   }
 
   -- ---- the queue after a grant
 
-  head_renewed : (at : ℕ) (id client : ClientId) → client ≡ id → (x : Option (QueuedRequest T)) → option_map unready (option_map (head_at ops at client) (option_map (λ r. r.tags) x)) ≡ option_map (λ r. unready_head id r.tags) x
+  pub head_renewed : (at : ℕ) (id client : ClientId) → client ≡ id → (x : Option (QueuedRequest T)) → option_map unready (option_map (head_at ops at client) (option_map (λ r. r.tags) x)) ≡ option_map (λ r. unready_head id r.tags) x
   head_renewed at id client e None = refl
   head_renewed at id client e (Some r) = ap (λ c. Some (unready_head c r.tags)) e
 
-  head_due : (at : ℕ) (client : ClientId) (tags : Option (Tags T)) (h : Head T) → option_map (head_at ops at client) tags ≡ Some h → h.ready ≡ true → is_due ops at (Some h.tags.l) ≡ true
+  pub head_due : (at : ℕ) (client : ClientId) (tags : Option (Tags T)) (h : Head T) → option_map (head_at ops at client) tags ≡ Some h → h.ready ≡ true → is_due ops at (Some h.tags.l) ≡ true
   head_due at client None h e r = cc
   head_due at client (Some tags) h e r = let own : head_at ops at client tags ≡ h = cc (e) in subst (λ x. x.ready ≡ true → is_due ops at (Some x.tags.l) ≡ true) own (λ due. due) r
 
-  module _ (due_from : (tag : T) (n : ℕ) → is_due ops n (Some tag) ≡ nat_le (moment_of (ops.ceil tag)) n) (q : Queue T) (queued : ℕ) (key : ℕ) (client : ClientId) (reduces : Bool) (at : ℕ) (d : AreDistinct q.roster.entries) (is : IsQueue ops fraction is_value q queued) (waiting : Waits q.roster.entries key client) where
+  module _ (due_from : (tag : T) (n : ℕ) → is_due ops n (Some tag) ≡ nat_le (moment_of (ops.ceil tag)) n) (q : Queue T) (queued : ℕ) (key : ℕ) (client : ClientId) (amount : Option T) (at : ℕ) (d : AreDistinct q.roster.entries) (is : IsQueue ops fraction is_value q queued) (waiting : Waits q.roster.entries key client) where
     split_of : Split key waiting.entry q.roster.entries
     split_of = split key q.roster.entries waiting.entry waiting.found d
 
     abbrev pub left : Rec T
-    left = after_grant ops reduces waiting.entry.rec
+    left = after_grant ops amount waiting.entry.rec
 
     pub own_record : record_at key q.roster.entries ≡ Some waiting.entry.rec
     own_record = ap (option_map (λ e. e.rec)) waiting.found
@@ -210,7 +191,7 @@ module _ {T : Type 0} (ops : Tagging T) (fraction : T → Fraction) (is_value : 
     size =
         let change = count_changed split_of left in
         let one : length waiting.entry.rec.requests ≡ suc (length waiting.rest) = ap length waiting.requests in
-        let other : length left.requests ≡ length waiting.rest = grant_length ops reduces waiting.entry.rec ∙ ap (λ l. length (drop 1 l)) waiting.requests in
+        let other : length left.requests ≡ length waiting.rest = grant_length ops amount waiting.entry.rec ∙ ap (λ l. length (drop 1 l)) waiting.requests in
         omega (arith, change, one, other)
 
     pub one_at_least : 1 ≤ queued
@@ -218,7 +199,7 @@ module _ {T : Type 0} (ops : Tagging T) (fraction : T → Fraction) (is_value : 
 
     granted_to : (progress : Progress T) → AreValues fraction is_value progress → q.last_moment ≤ at → IsRecord ops left → (heads : List (Option (Head T))) → heads ≡ slice_set q.heads key (option_map (head_at ops at client) (option_map (λ r. r.tags) (slice_get left.requests 0))) → IsQueue ops fraction is_value (record { config = q.config; roster = with_record_at q.roster key left; heads = heads; last_moment = at; progress = progress }) (queued - 1)
     granted_to progress values later whole heads e = subst (λ hs. IsQueue ops fraction is_value (record { config = q.config; roster = with_record_at q.roster key left; heads = hs; last_moment = at; progress = progress }) (queued - 1)) (sym e) (record {
-      kept = all_changed split_of (λ e. IsKept ops fraction is_value q.config.hz e.rec) left is.kept (grant_kept q.config.hz reduces waiting.entry.rec own_kept whole);
+      kept = all_changed split_of (λ e. IsKept ops fraction is_value q.config.hz e.rec) left is.kept (grant_kept q.config.hz amount waiting.entry.rec own_kept whole);
       distinct = distinct_changed key left q.roster.entries is.distinct;
       heads = replaced ops at split_of q.heads (marks_later ops due_from q.last_moment at q.roster.entries q.heads later is.heads) own_room left _ (head_renewed at waiting.entry.id client waiting.client_is (slice_get left.requests 0)) (λ h f r. head_due at client (option_map (λ r. r.tags) (slice_get left.requests 0)) h f r);
       in_room = subst (λ n. AllByRecursion (λ e. e.key < n) (with_record key left q.roster.entries)) (sym (set_length q.heads key (option_map (head_at ops at client) (option_map (λ r. r.tags) (slice_get left.requests 0))))) (all_changed split_of (λ e. e.key < length q.heads) left is.in_room (subst (λ n. n < length q.heads) (sym (key_is split_of)) own_room));
@@ -228,8 +209,8 @@ module _ {T : Type 0} (ops : Tagging T) (fraction : T → Fraction) (is_value : 
     })
 
     -- what was lent became what a grant leaves
-    pub left_as : (lent rec : Rec T) → record_at key q.roster.entries ≡ Some lent → rec ≡ after_grant ops reduces lent → rec ≡ left
-    left_as lent rec found is = let same : lent ≡ waiting.entry.rec = cc (found, own_record) in is ∙ ap (after_grant ops reduces) same
+    pub left_as : (lent rec : Rec T) → record_at key q.roster.entries ≡ Some lent → rec ≡ after_grant ops amount lent → rec ≡ left
+    left_as lent rec found is = let same : lent ≡ waiting.entry.rec = cc (found, own_record) in is ∙ ap (after_grant ops amount) same
 
     pub granted : (progress : Progress T) → AreValues fraction is_value progress → q.last_moment ≤ at → (rec : Rec T) → rec ≡ left → IsRecord ops rec → (tags : Option (Tags T)) → tags ≡ option_map (λ r. r.tags) (slice_get rec.requests 0) → (heads : List (Option (Head T))) → heads ≡ slice_set q.heads key (option_map (head_at ops at client) tags) → IsQueue ops fraction is_value (record { config = q.config; roster = with_record_at q.roster key rec; heads = heads; last_moment = at; progress = progress }) (queued - 1)
     granted progress values later rec same whole tags t heads h =

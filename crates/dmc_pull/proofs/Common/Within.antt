@@ -1,5 +1,5 @@
 -- The P tags stay in their range if records change.
-use Rattle.std.proofs.Common.{◌≡◌, ℕ, Bool, List, [], ◌∷◌, ◌++◌, map, Option, Some, sym, subst}
+use Rattle.std.proofs.Common.{◌≡◌, ℕ, List, [], ◌∷◌, ◌++◌, map, Option, Some, sym, subst}
 use Rattle.std.specs.Prelude.{◌==◌}
 use Rattle.std.specs.List.{AllByRecursion}
 use Rattle.dmc_tag.specs.Tag.{Tagging}
@@ -43,8 +43,8 @@ module _ {T : Type 0} {ops : Tagging T} {range : Option (ShareRange T)} {es : Li
     emptied_within = changed_within (record (e.rec) { requests = [] }) (all_back (IsWithin ops range) (map (λ r. r.tags.p) e.rec.requests) (e.rec.previous.p ∷ []))
 
   -- a client's first request is granted
-  pub granted_within : {key : ℕ} {client : ClientId} (distinct : AreDistinct es) (waiting : Waits es key client) (reduces : Bool) (now : List (Entry T)) → now ≡ with_record key (after_grant ops reduces waiting.entry.rec) es → AreWithin ops range now
-  granted_within {key} distinct waiting reduces =
+  pub granted_within : {key : ℕ} {client : ClientId} (distinct : AreDistinct es) (waiting : Waits es key client) (amount : Option T) (now : List (Entry T)) → now ≡ with_record key (after_grant ops amount waiting.entry.rec) es → AreWithin ops range now
+  granted_within {key} distinct waiting amount =
       let rec = waiting.entry.rec in
-      changed_within (split key es waiting.entry waiting.found distinct) waiting.found (after_grant ops reduces rec)
-      (λ h. subst (AllByRecursion (IsWithin ops range)) (sym (grant_shares ops reduces rec)) (popped_values (IsWithin ops range) rec.previous.p rec.requests h))
+      changed_within (split key es waiting.entry waiting.found distinct) waiting.found (after_grant ops amount rec)
+      (λ h. subst (AllByRecursion (IsWithin ops range)) (sym (grant_shares ops amount rec)) (popped_values (IsWithin ops range) rec.previous.p rec.requests h))

@@ -20,10 +20,11 @@ use Rattle.dmc_tag.specs.Step.{answer_of, step}
 use Rattle.dmc_tag.specs.declared.reply.Reply.{Reply}
 use Rattle.dmc_tag.specs.declared.reply.Reply.TheVariants.{Tagged}
 use Rattle.dmc_tag.specs.Rules as rules_of
-use Rattle.dmc_tag.specs.Rules.{add_tags, can_shift_by, shifted_by, change_client, after_arrival, floor_by, share_floor, progress_added, assigned, added, is_over_limit}
+use Rattle.dmc_tag.specs.Rules.{add_tags, can_shift_by, shifted_by, change_client, after_arrival, floor_by, share_floor, progress_added, assigned, added, is_over_limit, slack_of}
 use Rattle.dmc_tag.specs.declared.reply.Tags.{Tags}
 use Rattle.dmc_tag.proofs.ForCallers.{within_limit}
-use Rattle.dmc_tag.specs.Order.{AreNext}
+use Rattle.dmc_tag.specs.Order.{AreNext, NotBelow}
+use Rattle.dmc_tag.specs.declared.plain.Slack.{Slack}
 use Rattle.dmc_client.specs.Record.{Rec, client_of, share_tags}
 use Rattle.dmc_roster.specs.Entries.{Entry, entry_named, entry_keyed, record_at}
 use Rattle.dmc_pull.specs.internal.Adding.{needed_shift, unless_nothing, Brings, IsTagged}
@@ -63,13 +64,13 @@ module _ {T : Type 0} (ops : Tagging T) (fraction : T → Fraction) (is_value : 
     shifted_left = same_shifted ops (λ tag. is_value (fraction tag)) same off (clients_in entries) (all_clients ops (λ tag. is_value (fraction tag)) entries all_values)
 
     -- the effect of an add within its limit, with the shift left out if it is 0
-    pub added_is : (id : ClientId) (params : Params) (at : ℕ) (addition : Addition T) → Brings ops (state_of q) id params at addition → is_over_limit ops q.config.at_limit at addition.tags.l ≡ false → (token : Token) → added ops (state_of q) id token params at ≡ Ok (rules_of.queued ops (state_of q) addition.shift id (record { token = token; tags = addition.tags }) at, Tagged addition.tags)
+    pub added_is : (id : ClientId) (params : Params) (at : ℕ) (addition : Addition T) → Brings ops (state_of q) id params at addition → is_over_limit ops q.config.at_limit at addition.tags.l ≡ false → (token : Token) → added ops (state_of q) id token params at ≡ Ok (rules_of.queued ops (state_of q) addition.shift id (record { token = token; cost = params.cost; tags = addition.tags; slack = addition.slack }) at, Tagged addition.tags)
     added_is id params at addition allows within token =
-        ap (λ r. r >>= λ (shift, tags). Ok (rules_of.queued ops (state_of q) shift id (record { token = token; tags = tags }) at, Tagged tags)) (within_limit ops (state_of q) id params at (allows.full, addition.tags) allows.test within)
-        ∙ ap (λ cs. Ok (record (state_of q) { clients = change_client id (after_arrival (record { token = token; tags = addition.tags }) at) cs; last_moment = at; progress = progress_added ops q.config.shares (is_nothing_queued (clients_in entries)) addition.tags.p q.progress }, Tagged addition.tags)) (sym (shifted_left allows.full) ∙ ap (λ shift. shifted_by ops shift (clients_in entries)) (sym allows.shift))
+        ap (λ r. r >>= λ brought. Ok (rules_of.queued ops (state_of q) brought.shift id (rules_of.request_of token params.cost brought) at, Tagged brought.tags)) (within_limit ops (state_of q) id params at (record { shift = allows.full; tags = addition.tags; slack = addition.slack }) allows.test within)
+        ∙ ap (λ cs. Ok (record (state_of q) { clients = change_client id (after_arrival (record { token = token; cost = params.cost; tags = addition.tags; slack = addition.slack }) at) cs; last_moment = at; progress = progress_added ops q.config.shares (is_nothing_queued (clients_in entries)) addition.tags.p q.progress }, Tagged addition.tags)) (sym (shifted_left allows.full) ∙ ap (λ shift. shifted_by ops shift (clients_in entries)) (sym allows.shift))
 
     module _ (id : ClientId) (params : Params) (at : ℕ) (key : ℕ) (entry : entry_keyed key entries ≡ entry_named id entries) (held : is_some (entry_keyed key entries) ≡ true) where
-      abbrev test : Result (Option T × Tags T) Refusal
+      abbrev test : Result (rules_of.Addition T) Refusal
       test = add_tags ops (state_of q) id params (ops.of_moment at)
 
       found : (e : Entry T) × (entry_keyed key entries ≡ Some e)
@@ -115,32 +116,44 @@ module _ {T : Type 0} (ops : Tagging T) (fraction : T → Fraction) (is_value : 
                 ∙ ap (λ t. assigned ops q.config.hz (client_of found.0.id found.0.rec) params t floor) moment
                 ∙ ap (assigned ops q.config.hz (client_of found.0.id found.0.rec) params (ops.of_moment at)) same_floor
 
+            -- the slack is that of a request of the client
+            slack_is : (assigned_tags : Tags T) (slack : Slack T) → slack ≡ slack_of ops rec.previous assigned_tags t floor → slack ≡ slack_of ops (client_of found.0.id found.0.rec).previous assigned_tags (ops.of_moment at) (share_floor ops (state_of q) (ops.of_moment at))
+            slack_is assigned_tags slack left =
+                left
+                ∙ ap (λ rec. slack_of ops rec.previous assigned_tags t floor) (sym (record_is key entries found.0 rec found.1 at_key))
+                ∙ ap (λ t. slack_of ops found.0.rec.previous assigned_tags t floor) moment
+                ∙ ap (slack_of ops found.0.rec.previous assigned_tags (ops.of_moment at)) same_floor
+
             pub tags_out_of_range : tags ≡ None → test ≡ Err Range
             tags_out_of_range h = no_tags ops (state_of q) id params (ops.of_moment at) (client_of found.0.id found.0.rec) known room whole_is.amount whole_is.is (can_is ∙ can) (ap in_range (sym h) ∙ assigned_is)
 
-            brings : (assigned_tags : Tags T) → tags ≡ Some assigned_tags → Brings ops (state_of q) id params at (record { key = key; shift = shift; tags = assigned_tags })
-            brings assigned_tags h = record {
+            brings : (assigned_tags : Tags T) (slack : Slack T) → tags ≡ Some assigned_tags → slack ≡ slack_of ops rec.previous assigned_tags t floor → Brings ops (state_of q) id params at (record { key = key; shift = shift; tags = assigned_tags; slack = slack })
+            brings assigned_tags slack h left = record {
               full = whole_is.amount;
-              test = allowed ops (state_of q) id params (ops.of_moment at) (client_of found.0.id found.0.rec) known room whole_is.amount whole_is.is (can_is ∙ can) assigned_tags (ap in_range (sym h) ∙ assigned_is);
+              test =
+                  allowed ops (state_of q) id params (ops.of_moment at) (client_of found.0.id found.0.rec) known room whole_is.amount whole_is.is (can_is ∙ can) assigned_tags (ap in_range (sym h) ∙ assigned_is)
+                  ∙ ap (λ slack. Ok (record { shift = whole_is.amount; tags = assigned_tags; slack = slack })) (sym (slack_is assigned_tags slack left));
               shift = whole_is.left;
             }
 
             -- the tests passed but for that of the limit
-            pub is_tagged : (assigned_tags : Tags T) → tags ≡ Some assigned_tags → IfSome tags (AreNext ops rec.info rec.previous) → is_value (fraction assigned_tags.p) → IsTagged ops fraction is_value q id params at (record { key = key; shift = shift; tags = assigned_tags })
-            is_tagged assigned_tags h follows value =
+            pub is_tagged : (assigned_tags : Tags T) (slack : Slack T) → tags ≡ Some assigned_tags → slack ≡ slack_of ops rec.previous assigned_tags t floor → NotBelow ops slack → IfSome tags (AreNext ops rec.info rec.previous) → is_value (fraction assigned_tags.p) →
+                IsTagged ops fraction is_value q id params at (record { key = key; shift = shift; tags = assigned_tags; slack = slack })
+            is_tagged assigned_tags slack h left not_below follows value =
                 let counted = is.counted in
-                let tests = brings assigned_tags h in
+                let tests = brings assigned_tags slack h left in
                 let next = if_holds (AreNext ops rec.info rec.previous) tags assigned_tags h follows in
                 let of_key = λ (P : Rec T → Type 0) (holds : P rec). subst (λ o. IfSome o P) (sym at_key) holds in
                 let same = record_is key entries found.0 rec found.1 at_key in
                 let comes = idle_where_shifted ops q.config.shares (clients_in entries) (client_of found.0.id found.0.rec) (ops.of_moment at) shift (sym e ∙ shift_is) in
                 record {
                   tests = tests;
-                  added = added_is id params at (record { key = key; shift = shift; tags = assigned_tags }) tests;
+                  added = added_is id params at (record { key = key; shift = shift; tags = assigned_tags; slack = slack }) tests;
                   fits = record {
                     key = entry;
                     held = held;
                     next = of_key (λ rec. AreNext ops rec.info rec.previous assigned_tags) next;
+                    slack = not_below;
                     idle = λ some. of_key (λ rec. rec.idle ≡ true) (ap (λ rec. rec.idle) (sym same) ∙ comes some);
                     shiftable = can;
                     value = value;

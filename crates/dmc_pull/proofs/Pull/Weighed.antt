@@ -137,7 +137,7 @@ passes_all : {T : Type 0} (reply : Reply T) → is_allowed (λ client phase. tru
 passes_all Registered = refl
 passes_all Updated = refl
 passes_all (Tagged tags) = refl
-passes_all (Granted client token phase beyond) = refl
+passes_all (Granted client token phase beyond cost) = refl
 passes_all (Later m) = refl
 passes_all Nothing = refl
 passes_all (Removed count) = refl

@@ -11,7 +11,7 @@ use Rattle.dmc_types.specs.declared.refusal.Refusal.{Refusal}
 use Rattle.dmc_tag.specs.State.{State, PlainClient, queued_requests}
 use Rattle.dmc_tag.specs.Outcome.{◌>>=◌}
 use Rattle.dmc_tag.specs.Rules.{add_tags, can_add, is_over_limit, can_shift_by, shift_of, added, queued}
-use Rattle.dmc_tag.specs.Order.{AreNext}
+use Rattle.dmc_tag.specs.Order.{AreNext, NotBelow}
 use Rattle.dmc_tag.specs.declared.reply.Reply.TheVariants.{Tagged}
 use Rattle.dmc_pull.specs.declared.adding.Addition.{Addition}
 use Rattle.dmc_pull.specs.Queue.{Queue, state_of}
@@ -44,10 +44,10 @@ unless_nothing ops (Some amount) = if is_eq (ops.compare amount (ops.of_moment 0
 abbrev pub needed_shift : {T : Type 0} → Tagging T → Shares → List (PlainClient T) → PlainClient T → T → Result (Option T) Refusal
 needed_shift ops shares clients arriving t = shift_of ops shares clients arriving t >>= λ full. Ok (unless_nothing ops full)
 
--- the tags of an add are these, and so is the shift, which is left out if it is 0
+-- the tags of an add and their slack are these, and so is the shift, which is left out if it is 0
 pub record Brings {T : Type 0} (ops : Tagging T) (s : State T) (id : ClientId) (params : Params) (t : ℕ) (addition : Addition T) : Type 0 where
   pub full : Option T
-  pub test : add_tags ops s id params (ops.of_moment t) ≡ Ok (full, addition.tags)
+  pub test : add_tags ops s id params (ops.of_moment t) ≡ Ok (record { shift = full; tags = addition.tags; slack = addition.slack })
   pub shift : addition.shift ≡ unless_nothing ops full
 
 -- what an add changes, so that its request can be queued
@@ -57,6 +57,7 @@ pub record IsAddition {T : Type 0} (ops : Tagging T) (fraction : T → Fraction)
   pub held : is_some (entry_keyed addition.key q.roster.entries) ≡ true
   -- its tags follow the client's last ones
   pub next : IfSome (record_at addition.key q.roster.entries) (λ rec. AreNext ops rec.info rec.previous addition.tags)
+  pub slack : NotBelow ops addition.slack
   -- others are shifted for an idle client alone
   pub idle : IsSome addition.shift → IfSome (record_at addition.key q.roster.entries) (λ rec. rec.idle ≡ true)
   -- each tag that the shift changes stays a value
@@ -71,7 +72,7 @@ pub record IsTagged {T : Type 0} (ops : Tagging T) (fraction : T → Fraction) (
   pub tests : Brings ops (state_of q) client params t addition
   -- within the limit, the plain state afterwards and the reply, for each token
   pub added : is_over_limit ops q.config.at_limit t addition.tags.l ≡ false → (token : Token) → added ops (state_of q) client token params t ≡
-      Ok (queued ops (state_of q) addition.shift client (record { token = token; tags = addition.tags }) t, Tagged addition.tags)
+      Ok (queued ops (state_of q) addition.shift client (record { token = token; cost = params.cost; tags = addition.tags; slack = addition.slack }) t, Tagged addition.tags)
   pub fits : IsAddition ops fraction is_value q client addition
 
 abbrev pub AddTags : {T : Type 0} → Tagging T → (T → Fraction) → (Fraction → Type 0) → Queue T → ClientId → Params → ℕ → Result (Addition T) Refusal → Type 0
@@ -82,7 +83,7 @@ AddTags ops fraction is_value q client params t (Err refusal) = add_tags ops (st
 pub record IsAllowed {T : Type 0} (ops : Tagging T) (fraction : T → Fraction) (is_value : Fraction → Type 0) (q : Queue T) (client : ClientId) (params : Params) (t : ℕ) (addition : Addition T) : Type 0 where
   -- the plain state afterwards and the reply, for each token
   pub added : (token : Token) → added ops (state_of q) client token params t ≡
-      Ok (queued ops (state_of q) addition.shift client (record { token = token; tags = addition.tags }) t, Tagged addition.tags)
+      Ok (queued ops (state_of q) addition.shift client (record { token = token; cost = params.cost; tags = addition.tags; slack = addition.slack }) t, Tagged addition.tags)
   pub fits : IsAddition ops fraction is_value q client addition
 
 abbrev pub CanAdd : {T : Type 0} → Tagging T → (T → Fraction) → (Fraction → Type 0) → Queue T → ClientId → Params → ℕ → Result (Addition T) Refusal → Type 0

@@ -1,14 +1,11 @@
 -- The client whose first request a pull grants.
-use Rattle.std.specs.Prelude.{◌≡◌, ℕ, Bool, true, false, List, [], Option, Some, None, drop, slice_get, if◌then◌else◌, Ok, Err}
+use Rattle.std.specs.Prelude.{◌≡◌, ℕ, Bool, true, false, List, [], Option, Some, None, drop, slice_get}
 use Rattle.std.specs.Option.{option_map, option_and_then}
-use Rattle.dmc_types.specs.declared.config.PhaseType.{PhaseType}
-use Rattle.dmc_types.specs.declared.config.PhaseType.TheVariants as phases
 use Rattle.dmc_types.specs.declared.ids.ClientId.{ClientId}
 use Rattle.dmc_tag.specs.Tag.{Tagging}
 use Rattle.dmc_tag.specs.State.{State, queued_requests}
 use Rattle.dmc_tag.specs.Best.{Found, best_of_all, by_reservation, by_weight, is_early, is_free, is_any}
-use Rattle.dmc_types.specs.declared.refusal.Refusal.TheVariants.{Range}
-use Rattle.dmc_tag.specs.Rules.{Outcome, can_grant}
+use Rattle.dmc_tag.specs.Rules.{Outcome}
 use Rattle.dmc_tag.specs.Step.{answer_of}
 use Rattle.dmc_tag.specs.declared.reply.Reply.{Reply}
 use Rattle.dmc_client.specs.Record.{Rec, client_of}
@@ -45,16 +42,6 @@ abbrev pub Settles : {T : Type 0} → State T → State T → Outcome T → Opti
 Settles old new outcome (Some reply) = (new, reply) ≡ answer_of old outcome
 Settles old new outcome None = ⊥
 
--- the phase of a grant that reduces, and of one that does not
-abbrev pub phase_of : Bool → PhaseType
-phase_of true = phases.Priority
-phase_of false = phases.Reservation
-
--- a record after a grant of its first request; in the weight phase it is reduced
-abbrev pub after_grant : {T : Type 0} → Tagging T → Bool → Rec T → Rec T
-after_grant ops reduces rec = if reduces then reduced ops (popped rec) else popped rec
-
--- the test of a grant in the weight phase: the amount is the spacing of the reservation
-abbrev pub IsGrantable : {T : Type 0} → Tagging T → State T → Found T → Option (Rec T) → Bool → Type 0
-IsGrantable ops s found None can = ⊥
-IsGrantable ops s found (Some rec) can = can_grant ops s.config.hz found ≡ (if can then Ok rec.spacings.r else Err Range)
+-- a record after a grant of its first request, reduced by an amount
+abbrev pub after_grant : {T : Type 0} → Tagging T → Option T → Rec T → Rec T
+after_grant ops amount rec = reduced ops amount (popped rec)

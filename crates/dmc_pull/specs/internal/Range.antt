@@ -5,6 +5,7 @@ use Rattle.std.specs.Ordering.{is_gt}
 use Rattle.dmc_tag.specs.Tag.{Tagging}
 use Rattle.dmc_tag.specs.Rules.{has_less}
 use Rattle.dmc_head_index.specs.Least.{lesser}
+use Rattle.dmc_tag.specs.declared.reply.Tags.{Tags}
 use Rattle.dmc_pull.specs.declared.range.ShareRange.{ShareRange}
 
 abbrev pub greater : {T : Type 0} → Tagging T → T → T → T
@@ -13,6 +14,11 @@ greater ops a b = if is_gt (ops.compare a b) then a else b
 -- the range with one more tag
 abbrev pub with_share : {T : Type 0} → Tagging T → T → ShareRange T → ShareRange T
 with_share ops share range = record { least = lesser ops range.least share; greatest = greater ops range.greatest share }
+
+-- the range with the P of a first request, if there is one, and a previous P
+abbrev pub with_shares_between : {T : Type 0} → Tagging T → Option (Tags T) → T → ShareRange T → ShareRange T
+with_shares_between ops None previous range = with_share ops previous range
+with_shares_between ops (Some first) previous range = with_share ops first.p (with_share ops previous range)
 
 -- the range after an amount was taken off each tag
 abbrev pub with_less : {T : Type 0} → Tagging T → T → ShareRange T → Option (ShareRange T)

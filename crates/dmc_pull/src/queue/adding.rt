@@ -16,13 +16,14 @@ use crate::heads::head_at;
 use crate::queue::PullQueue;
 use crate::range::{all_have_less, widen};
 use dmc_adjust::adjustment::shift_for;
-use dmc_assign::assignment::tags_for;
+use dmc_assign::assignment::{slack_for, tags_for};
 use dmc_index::index::Indexes;
 use dmc_tag::due::is_over_limit;
 use dmc_tag::plain::QueuedRequest;
 use dmc_tag::progress::{count_arrival, share_floor};
 use dmc_tag::reply::Tags;
 use dmc_tag::tag::Tag;
+use dmc_types::cost::Cost;
 use dmc_types::ids::{ClientId, Token};
 use dmc_types::limits::MAX_REQUESTS;
 use dmc_types::moment::Moment;
@@ -134,7 +135,13 @@ impl<T: Tag, I: Indexes<T>> PullQueue<T, I> {
         let Some(tags) = assigned else {
             return Err(Refusal::Range);
         };
-        Ok(Addition { key, shift, tags })
+        let slack = slack_for(self.roster.at(key), tags, t, floor);
+        Ok(Addition {
+            key,
+            shift,
+            tags,
+            slack,
+        })
     }
 
     /// Queues a request, and shifts all others. In virtual time its P is counted.
@@ -142,20 +149,32 @@ impl<T: Tag, I: Indexes<T>> PullQueue<T, I> {
         &mut self,
         client: ClientId,
         token: Token,
+        cost: Cost,
         addition: Addition<T>,
         at: Moment,
     ) -> Result<(), QueueFault>
         requires addition { IsAddition T.ops T.fraction T.is_value self.old client addition }
         requires later { self.old.last_moment ≤ at }
         ensures ok { OnOk result (state_of self.new ≡
-            rules_of.queued T.ops (state_of self.old) addition.shift client (record { token = token; tags = addition.tags }) at) }
+            rules_of.queued T.ops (state_of self.old) addition.shift client (record { token = token; cost = cost; tags = addition.tags; slack = addition.slack }) at) }
         ensures err { OnErr result (self.new ≡ self.old) }
         ensures memory { IsOkUnless result QueueFault.Memory }
     {
-        let Addition { key, shift, tags } = addition;
+        let Addition {
+            key,
+            shift,
+            tags,
+            slack,
+        } = addition;
+        let request = QueuedRequest {
+            token,
+            cost,
+            tags,
+            slack,
+        };
         let rec = self.roster.at_mut(key);
         let is_first = rec.is_empty();
-        if rec.push(QueuedRequest { token, tags }, at).is_err() {
+        if rec.push(request, at).is_err() {
             return Err(QueueFault::Memory);
         }
         widen(&mut self.range, tags.p, shift);

@@ -1,10 +1,10 @@
 //! A pull of the indexed queue.
-ghost use Rattle.std.specs.Prelude.{◌≡◌, ◌≤◌, List, ◌∷◌, false, true, Some, None, Ok, is_some, IfSome};
+ghost use Rattle.std.specs.Prelude.{◌≡◌, ◌≤◌, List, ◌∷◌, false, true, Some, None, Ok, is_some, IfSome, IfOk};
 ghost use Rattle.std.specs.Option.{option_map};
 ghost use Rattle.dmc_adjust.specs.Changes as changes;
 ghost use Rattle.dmc_pull.specs.Allowed.{PullsIf};
 ghost use Rattle.dmc_pull.specs.internal.Allowed.{SettlesIf};
-ghost use Rattle.dmc_pull.specs.internal.Choice.{first_at, after_grant, IsFirstOf, Early, ByWeight, IsGrantable, Settles};
+ghost use Rattle.dmc_pull.specs.internal.Choice.{first_at, after_grant, IsFirstOf, Early, ByWeight, Settles};
 ghost use Rattle.dmc_pull.specs.Queue.{state_of};
 ghost use Rattle.dmc_pull.specs.internal.Queue.{IsMarked};
 ghost use Rattle.dmc_pull.specs.Represented.{clients_in};
@@ -14,21 +14,21 @@ ghost use Rattle.dmc_tag.specs.Best.{best_of_all, by_reservation, by_weight, is_
 ghost use Rattle.dmc_tag.specs.Rules as rules_of;
 ghost use Rattle.dmc_tag.specs.State.{queued_requests};
 ghost use Rattle.dmc_tag.specs.declared.plain.QueuedRequest.{QueuedRequest};
-ghost use Rattle.dmc_types.specs.declared.ids.Token.{Token};
 ghost use Rattle.dmc_types.specs.declared.config.PhaseType.TheVariants as phases;
 
 use crate::granting::{GrantTest, PullFault};
 use crate::heads::{due_moment, renew};
 use crate::queue::PullQueue;
 use crate::records::{first_tags, grant_first};
-use dmc_adjust::reduction::can_reduce;
+use dmc_adjust::reduction::reduction_for;
 use dmc_index::index::Indexes;
 use dmc_tag::due::is_due;
+use dmc_tag::plain::QueuedRequest;
 use dmc_tag::progress::count_grant;
 use dmc_tag::reply::Pulled;
 use dmc_tag::tag::Tag;
 use dmc_types::config::{AtLimit, PhaseType, Shares};
-use dmc_types::ids::{ClientId, Token};
+use dmc_types::ids::ClientId;
 use dmc_types::moment::Moment;
 use dmc_types::refusal::Refusal;
 
@@ -98,26 +98,33 @@ impl<T: Tag, I: Indexes<T>> PullQueue<T, I> {
         }
     }
 
-    /// Removes the first request of a client, and returns its token. In the weight phase the spacing of the client's reservation
-    /// is taken off the R of its others.
-    fn take_out(&mut self, key: usize, client: ClientId, reduces: bool, at: Moment) -> Token
+    /// Removes the first request of a client, and takes an amount off the R of its others.
+    // Inlined: callers read a part of the request, and need no copy of it.
+    #[inline(always)]
+    fn take_out(
+        &mut self,
+        key: usize,
+        client: ClientId,
+        amount: Option<T>,
+        at: Moment,
+    ) -> QueuedRequest<T>
         requires first { IsFirstOf self.old.roster.entries key client }
-        requires reducible { reduces ≡ true → IfSome (record_at key self.old.roster.entries) (λ rec. changes.is_reducible T.ops (changes.popped rec) ≡ true) }
+        requires reducible { IfSome (record_at key self.old.roster.entries) (λ rec. changes.is_reducible T.ops amount (changes.popped rec) ≡ true) }
         requires later { self.old.last_moment ≤ at }
         ensures distinct { AreDistinct self.old.roster.entries }
-        ensures token { Some result ≡ option_map (λ found. found.request.token) (first_at key self.old.roster.entries) }
-        ensures roster { IfSome (record_at key self.old.roster.entries) (λ rec. self.new.roster ≡ with_record_at self.old.roster key (after_grant T.ops reduces rec)) }
+        ensures request { Some result ≡ option_map (λ found. found.request) (first_at key self.old.roster.entries) }
+        ensures roster { IfSome (record_at key self.old.roster.entries) (λ rec. self.new.roster ≡ with_record_at self.old.roster key (after_grant T.ops amount rec)) }
         ensures config { self.new.config ≡ self.old.config }
         ensures moment { self.new.last_moment ≡ at }
         ensures progress { self.new.progress ≡ self.old.progress }
     {
         let rec = self.roster.at_mut(key);
-        let request = grant_first(rec, reduces).unwrap();
+        let request = grant_first(rec, amount).unwrap();
         let tags = first_tags(rec);
         self.queued -= 1;
         self.last_moment = at;
         renew(&mut self.heads.0, key, client, tags, at);
-        request.token
+        request
     }
 
     /// Grants the first request of a client in the constraint phase.
@@ -127,24 +134,29 @@ impl<T: Tag, I: Indexes<T>> PullQueue<T, I> {
         ensures { IfSome (first_at key self.old.roster.entries) (λ found.
             Settles (state_of self.old) (state_of self.new) (Ok (rules_of.taken_out T.ops (state_of self.old) at found phases.Reservation None, rules_of.granted found phases.Reservation false)) (Some (pull_reply result))) }
     {
-        let token = self.take_out(key, client, false, at);
+        let request = self.take_out(key, client, None, at);
         Pulled::Returning {
             client,
-            token,
+            token: request.token,
             phase: PhaseType::Reservation,
             beyond: false,
+            cost: request.cost,
         }
     }
 
-    /// Whether a grant in the weight phase keeps each tag of the client a value.
-    fn can_grant(&self, key: usize) -> bool
+    /// What a grant of a client's first request in the weight phase takes off its R tags. It is refused `Range`.
+    // Inlined: the amount is not copied.
+    #[inline(always)]
+    fn can_grant(&self, key: usize) -> Result<Option<T>, Refusal>
         requires { is_some (first_at key self.now.roster.entries) ≡ true }
         ensures distinct { AreDistinct self.now.roster.entries }
-        ensures reducible { result ≡ true → IfSome (record_at key self.now.roster.entries) (λ rec. changes.is_reducible T.ops (changes.popped rec) ≡ true) }
-        ensures value { IfSome (first_at key self.now.roster.entries) (λ found.
-            IsGrantable T.ops (state_of self.now) found (record_at key self.now.roster.entries) result) }
+        ensures reducible { IfOk result (λ amount.
+            IfSome (record_at key self.now.roster.entries) (λ rec. changes.is_reducible T.ops amount (changes.popped rec) ≡ true)) }
+        ensures value { IfSome (first_at key self.now.roster.entries) (λ found. result ≡ rules_of.can_grant T.ops self.now.config.hz found) }
     {
-        can_reduce(self.roster.at(key))
+        let rec = self.roster.at(key);
+        let request = rec.head().unwrap();
+        reduction_for(rec, request.cost)
     }
 
     /// Counts a grant by weight of a client's first request. By the clock nothing changes.
@@ -191,20 +203,22 @@ impl<T: Tag, I: Indexes<T>> PullQueue<T, I> {
         ensures { IfSome (first_at key self.old.roster.entries) (λ found.
             SettlesIf (A.allows test.now) (state_of self.old) (state_of self.new) (rules_of.grant_priority T.ops (state_of self.old) self.old.last_moment found beyond) result) }
     {
-        if !self.can_grant(key) {
-            return Err(PullFault::Refused(Refusal::Range));
-        }
+        let amount = match self.can_grant(key) {
+            Ok(amount) => amount,
+            Err(refusal) => return Err(PullFault::Refused(refusal)),
+        };
         if !test.allows(client, PhaseType::Priority, key) {
             return Err(PullFault::Declined);
         }
         self.count_first(key);
         let at = self.last_moment();
-        let token = self.take_out(key, client, true, at);
+        let request = self.take_out(key, client, amount, at);
         Ok(Pulled::Returning {
             client,
-            token,
+            token: request.token,
             phase: PhaseType::Priority,
             beyond,
+            cost: request.cost,
         })
     }
 

@@ -1,9 +1,5 @@
-use Rattle.std.proofs.Common.{◌≡◌, ◌∙◌, false, sym, ap, subst}
-use Rattle.dmc_tag.proofs.ForCallers.{over_limit, tags_refused}
+use Rattle.std.proofs.Common.{◌≡◌, false, sym, subst}
 use Rattle.dmc_tag.specs.Rules.{is_over_limit}
-use Rattle.dmc_pull.specs.internal.Adding.{CanAdd}
-use Rattle.dmc_pull.specs.Queue.{state_of}
-use Rattle.dmc_lemmas.proofs.Options.{err_is}
 use Rattle.dmc_pull.proofs.queue.PullQueue.can_add.Goals as goal
 
 pub returns-clause-outcome : goal.returns-clause-outcome

@@ -1,5 +1,5 @@
-use Rattle.std.proofs.Common.{◌≡◌, sym, ap, ◌∙◌, subst}
-use Rattle.std.specs.Prelude.{is_some, true, false, slice_get, IfSome}
+use Rattle.std.proofs.Common.{◌≡◌, None, sym, ap, ◌∙◌, subst}
+use Rattle.std.specs.Prelude.{is_some, true, slice_get, IfSome}
 use Rattle.std.specs.Option.{option_and_then}
 use Rattle.dmc_tag.specs.Rules.{progress_granted}
 use Rattle.dmc_types.specs.declared.config.PhaseType.TheVariants as phases
@@ -23,7 +23,7 @@ invariant_of-self g c =
     let due_from = due_from_ceil ops g.T.Tag.fraction g.T.Tag.is_value g.met.T.Tag.exact in
     let read = ap (option_and_then (λ rec. slice_get rec.requests 0)) c.at.ensures.value in
     let request = same_some (sym c.head.ensures.value ∙ c.unwrap-request.ensures) (sym read ∙ request_is waiting) in
-    let share = subst (λ r. g.T.Tag.is_value (g.T.Tag.fraction r.tags.p)) (sym request) (first_value ops g.T.Tag.fraction g.T.Tag.is_value due_from _ q.queued c.args.key first.0 false q.last_moment is.distinct is waiting) in
+    let share = subst (λ r. g.T.Tag.is_value (g.T.Tag.fraction r.tags.p)) (sym request) (first_value ops g.T.Tag.fraction g.T.Tag.is_value due_from _ q.queued c.args.key first.0 None q.last_moment is.distinct is waiting) in
     let values = subst (AreValues g.T.Tag.fraction g.T.Tag.is_value) (sym c.count_grant.ensures) (granted_values ops g.T.Tag.fraction g.T.Tag.is_value phases.Priority _ _ _ is.progress share) in (
       record { kept = is.kept; distinct = is.distinct; heads = is.heads; in_room = is.in_room; counted = is.counted; bound = is.bound; progress = values },
       c.self.invariant.1,

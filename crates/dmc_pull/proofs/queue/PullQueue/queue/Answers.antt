@@ -30,7 +30,7 @@ abbrev queue_before : (g : Over) → After-shift_others g → Queue g.row.T.Deno
 queue_before g c = let q = c.self.inside in record { config = q.config; roster = q.roster; heads = q.heads.0; last_moment = q.last_moment; progress = q.progress }
 
 abbrev arriving : (g : Over) → After-shift_others g → QueuedRequest g.row.T.Denot
-arriving g c = record { token = c.args.token; tags = c.args.addition.tags }
+arriving g c = record { token = c.args.token; cost = c.args.cost; tags = c.args.addition.tags; slack = c.args.addition.slack }
 
 addition_is : (g : Over) (c : After-shift_others g) → IsAddition g.T.Tag.ops g.T.Tag.fraction g.T.Tag.is_value (queue_before g c) c.args.client c.args.addition
 addition_is g c = subst (λ q. IsAddition g.T.Tag.ops g.T.Tag.fraction g.T.Tag.is_value q c.args.client c.args.addition) (sym c.self.view_is) c.requires.addition
@@ -54,7 +54,10 @@ after g c =
 pub push-requires : goal.push-requires
 push-requires g c =
     let found = ap (λ q. record_at c.args.addition.key q.roster.entries) (sym c.self.view_is) ∙ c.at_mut-rec.ensures.value in
-    subst (λ o. IfSome o (λ rec. AreNext g.T.Tag.ops rec.info rec.previous c.args.addition.tags)) found c.requires.addition.next
+    record {
+      next = subst (λ o. IfSome o (λ rec. AreNext g.T.Tag.ops rec.info rec.previous c.args.addition.tags)) found c.requires.addition.next;
+      slack = c.requires.addition.slack;
+    }
 
 pub invariant_of-self : goal.invariant_of-self
 invariant_of-self g c =

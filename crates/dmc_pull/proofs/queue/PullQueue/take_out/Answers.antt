@@ -6,15 +6,15 @@ use Rattle.dmc_tag.proofs.ForCallers.{due_from_ceil}
 use Rattle.dmc_adjust.specs.Changes.{is_reducible, popped}
 use Rattle.dmc_roster.specs.Entries.{record_at, with_record_at, AreDistinct}
 use Rattle.dmc_pull.specs.internal.Choice.{IsFirstOf, first_at, after_grant}
-use Rattle.dmc_pull.proofs.Common.Replaced.{waits, request_is, first_token, left_as, one_at_least, granted}
+use Rattle.dmc_pull.proofs.Common.Replaced.{waits, request_is, first_request, left_as, one_at_least, granted}
 use Rattle.dmc_pull.proofs.Clients.Updating.{said_of}
 use Rattle.dmc_pull.proofs.Common.Within.{granted_within}
 use Rattle.dmc_pull.proofs.queue.PullQueue.take_out.Goals as goal
 
 pub grant_first-requires : goal.grant_first-requires
-grant_first-requires g c = λ reduces.
+grant_first-requires g c =
     let found = ap (λ v. record_at c.args.key v.roster.entries) (sym c.self.view_is) ∙ c.at_mut-rec.ensures.value in
-    subst (λ o. IfSome o (λ rec. is_reducible g.T.Tag.ops (popped rec) ≡ true)) found (c.requires.reducible reduces)
+    subst (λ o. IfSome o (λ rec. is_reducible g.T.Tag.ops c.args.amount (popped rec) ≡ true)) found c.requires.reducible
 
 pub overflow_sub-self : goal.overflow_sub-self
 overflow_sub-self g c =
@@ -22,7 +22,7 @@ overflow_sub-self g c =
     let q = c.self.inside in
     let d = c.self.invariant.0.distinct in
     let first : IsFirstOf q.roster.entries c.args.key c.args.client = subst (λ v. IsFirstOf v.roster.entries c.args.key c.args.client) (sym c.self.view_is) c.requires.first in
-    one_at_least ops g.T.Tag.fraction g.T.Tag.is_value (due_from_ceil g.T.Tag.ops g.T.Tag.fraction g.T.Tag.is_value g.met.T.Tag.exact) _ q.queued c.args.key c.args.client c.args.reduces c.args.at d c.self.invariant.0 (waits q.roster.entries c.args.key c.args.client first)
+    one_at_least ops g.T.Tag.fraction g.T.Tag.is_value (due_from_ceil g.T.Tag.ops g.T.Tag.fraction g.T.Tag.is_value g.met.T.Tag.exact) _ q.queued c.args.key c.args.client c.args.amount c.args.at d c.self.invariant.0 (waits q.roster.entries c.args.key c.args.client first)
 
 pub invariant_of-self : goal.invariant_of-self
 invariant_of-self g c =
@@ -34,9 +34,9 @@ invariant_of-self g c =
     let waiting = waits q.roster.entries c.args.key c.args.client first in
     let due_from = due_from_ceil g.T.Tag.ops g.T.Tag.fraction g.T.Tag.is_value g.met.T.Tag.exact in
     let rec = c.grant_first.new.rec in
-    let same = left_as ops g.T.Tag.fraction g.T.Tag.is_value due_from _ q.queued c.args.key c.args.client c.args.reduces c.args.at d c.self.invariant.0 waiting c.at_mut-rec.result.now rec c.at_mut-rec.ensures.value c.grant_first.ensures.rest in (
-      granted ops g.T.Tag.fraction g.T.Tag.is_value due_from _ q.queued c.args.key c.args.client c.args.reduces c.args.at d c.self.invariant.0 waiting q.progress c.self.invariant.0.progress later rec same c.grant_first.ensures.kept c.first_tags-tags.result c.first_tags-tags.ensures c.renew.new.heads c.renew.ensures,
-      granted_within c.self.invariant.1 d waiting c.args.reduces (with_record_at q.roster c.args.key rec).entries (ap (λ r. (with_record_at q.roster c.args.key r).entries) same),
+    let same = left_as ops g.T.Tag.fraction g.T.Tag.is_value due_from _ q.queued c.args.key c.args.client c.args.amount c.args.at d c.self.invariant.0 waiting c.at_mut-rec.result.now rec c.at_mut-rec.ensures.value c.grant_first.ensures.rest in (
+      granted ops g.T.Tag.fraction g.T.Tag.is_value due_from _ q.queued c.args.key c.args.client c.args.amount c.args.at d c.self.invariant.0 waiting q.progress c.self.invariant.0.progress later rec same c.grant_first.ensures.kept c.first_tags-tags.result c.first_tags-tags.ensures c.renew.new.heads c.renew.ensures,
+      granted_within c.self.invariant.1 d waiting c.args.amount (with_record_at q.roster c.args.key rec).entries (ap (λ r. (with_record_at q.roster c.args.key r).entries) same),
     )
 
 pub unwrap-request-requires : goal.unwrap-request-requires
@@ -49,19 +49,21 @@ unwrap-request-requires g c =
 pub returns-clause-distinct : goal.returns-clause-distinct
 returns-clause-distinct g c = subst (λ v. AreDistinct v.roster.entries) c.self.view_is c.self.invariant.0.distinct
 
-pub returns-clause-token : goal.returns-clause-token
-returns-clause-token g c =
+pub returns-clause-request : goal.returns-clause-request
+returns-clause-request g c =
     let read = ap (option_and_then (λ rec. slice_get rec.requests 0)) c.at_mut-rec.ensures.value in
-    ap (option_map (λ r. r.token)) (sym c.unwrap-request.ensures ∙ c.grant_first.ensures.value ∙ sym read)
-    ∙ first_token c.self.inside.roster.entries c.args.key
-    ∙ ap (λ v. option_map (λ found. found.request.token) (first_at c.args.key v.roster.entries)) c.self.view_is
+    sym c.unwrap-request.ensures
+    ∙ c.grant_first.ensures.value
+    ∙ sym read
+    ∙ first_request c.self.inside.roster.entries c.args.key
+    ∙ ap (λ v. option_map (λ found. found.request) (first_at c.args.key v.roster.entries)) c.self.view_is
 
 pub returns-clause-roster : goal.returns-clause-roster
 returns-clause-roster g c =
     let q = c.self.inside in
     let roster = with_record_at q.roster c.args.key c.grant_first.new.rec in
-    subst (λ v. IfSome (record_at c.args.key v.roster.entries) (λ rec. roster ≡ with_record_at v.roster c.args.key (after_grant g.T.Tag.ops c.args.reduces rec)))
-    c.self.view_is (said_of (λ rec. roster ≡ with_record_at q.roster c.args.key (after_grant g.T.Tag.ops c.args.reduces rec)) c.args.key q.roster.entries c.at_mut-rec.result.now c.at_mut-rec.ensures.value (ap (with_record_at q.roster c.args.key) c.grant_first.ensures.rest))
+    subst (λ v. IfSome (record_at c.args.key v.roster.entries) (λ rec. roster ≡ with_record_at v.roster c.args.key (after_grant g.T.Tag.ops c.args.amount rec)))
+    c.self.view_is (said_of (λ rec. roster ≡ with_record_at q.roster c.args.key (after_grant g.T.Tag.ops c.args.amount rec)) c.args.key q.roster.entries c.at_mut-rec.result.now c.at_mut-rec.ensures.value (ap (with_record_at q.roster c.args.key) c.grant_first.ensures.rest))
 
 pub returns-clause-config : goal.returns-clause-config
 returns-clause-config g c = ap (λ v. v.config) c.self.view_is

@@ -21,10 +21,11 @@ returns g c =
     let old = state_of c.args.self.now in
     let addition = c.in_ok-addition.addition in
     let at = c.effective-at.result in
-    let after : State g.row.T.Denot → State g.row.T.Denot = λ s. queued ops s addition.shift c.args.client (record { token = c.args.token; tags = addition.tags }) at in
+    let after : State g.row.T.Denot → State g.row.T.Denot = λ s. queued ops s addition.shift c.args.client (record { token = c.args.token; cost = c.args.params.cost; tags = addition.tags; slack = addition.slack }) at in
     let step = step_of_add ops old c.args.client c.args.token c.args.params c.args.at at (after old, Tagged addition.tags) c.effective-at.ensures.value (c.in_ok-addition.ensures.outcome.added c.args.token) in
     let answer : State g.row.T.Denot → State g.row.T.Denot × Reply g.row.T.Denot = λ s. (s, Tagged addition.tags) in
-    ap answer (c.in_ok-queue.ensures.ok ∙ ap (λ q. after (state_of q)) c.in_ok-addition.ensures.same) ∙ sym step
+    let asked = ap (λ cost. queued ops (state_of c.can_add.new.self) addition.shift c.args.client (record { token = c.args.token; cost = cost; tags = addition.tags; slack = addition.slack }) at) c.cost.ensures in
+    ap answer (c.in_ok-queue.ensures.ok ∙ asked ∙ ap (λ q. after (state_of q)) c.in_ok-addition.ensures.same) ∙ sym step
 
 pub returns-in_err-addition : goal.returns-in_err-addition
 returns-in_err-addition g c =

@@ -1,0 +1,3 @@
+-- Requests that are taken back.
+pub mod TakenBack
+pub mod InRange
